@@ -1,0 +1,88 @@
+-- Laws of rules as data: nothing is broken exactly when every test is false, and in a list whose numbers rise the first one
+-- found is the least. `firsts` is the rule set by which code with the same tests in the same order is shown to meet a list.
+-- Assumes nothing.
+use mathlib.Core.Path.{_≡_, refl, sym, _∙_}
+use mathlib.Core.Bool.{Bool, true, false, not, true≢false}
+use mathlib.Core.List.{List, [], _∷_}
+use Prim.Native.Nat.{ℕ, zero, suc, _≤_, _<_, zero-le, suc-le-suc}
+use native.Mathlib.Nat.{le-of-suc-le-suc, not-suc-le-zero, le-refl, le-trans, le-of-lt}
+use native.Mathlib.Omega.{arith}
+use lib.ListN.{length, getD}
+use lib.Dec.{leb, ltb, eqb}
+use borrow.Author.Tests.{le-leb, lt-leb, eq-eqb, ne-eqb, lt-ltb, le-ltb, ltb-true}
+use Rattle.base.specs.If.{both}
+use Rattle.base.specs.Broken.{Rule, _when_, first, firstBroken}
+use Rattle.base.proofs.IfLaws.{by-cases, both-first, both-second, not-via, not-not-via, both-true, both-not-left, both-not-right, either-left, either-right, either-false}
+
+pub first-broken : (b : Bool) (n later : ℕ) → b ≡ true → first b n later ≡ n
+unfolding first
+first-broken b n later e = rw e
+
+pub first-kept : (b : Bool) (n later found : ℕ) → b ≡ false → later ≡ found → first b n later ≡ found
+unfolding first
+first-kept b n later found e h = rw e h
+
+pub ruleset firsts = (refl, first-broken, first-kept, both-true, both-not-left, both-not-right, either-left, either-right, either-false, not-via, not-not-via, le-leb, lt-leb, eq-eqb, ne-eqb, lt-ltb, le-ltb)
+
+-- a rule that stands past the end of a list
+abbrev pub sound : Rule
+sound = 0 when false
+
+-- no rule of the list has the number 0, which says that none is broken
+abbrev pub Numbered : List Rule → Type 0
+Numbered [] = Unit {0}
+Numbered (r ∷ rs) = (0 < r .number) × Numbered rs
+
+-- the numbers rise from the front to the back, none is below the least
+abbrev pub Rising : ℕ → List Rule → Type 0
+Rising least [] = Unit {0}
+Rising least (r ∷ rs) = (least ≤ r .number) × Rising (r .number) rs
+
+-- every test is false: nothing is broken
+pub none-broken : (rs : List Rule) → ((i : ℕ) → getD rs i sound .broken ≡ false) → firstBroken rs ≡ 0
+none-broken [] h = refl
+none-broken (r ∷ rs) h = first-kept _ _ _ _ (h zero) (none-broken rs (λ (i : ℕ). h (suc i)))
+
+-- nothing is broken: every test is false
+pub all-kept : (rs : List Rule) → Numbered rs → firstBroken rs ≡ 0 → (i : ℕ) → getD rs i sound .broken ≡ false
+all-kept [] n e i = refl
+all-kept (r ∷ rs) n e i = by-cases _ (r .broken) (λ (b : r .broken ≡ true). never b) (λ (b : r .broken ≡ false). kept (all-kept rs (n .1)) b i)
+  where
+    never : r .broken ≡ true → getD (r ∷ rs) i sound .broken ≡ false
+    never b =
+        let z : r .number ≡ 0 = sym (first-broken _ _ _ b) ∙ e in
+        let p : 0 < r .number = n .0 in
+        absurd (omega arith)
+
+    kept : (firstBroken rs ≡ 0 → (j : ℕ) → getD rs j sound .broken ≡ false) → r .broken ≡ false → (j : ℕ) → getD (r ∷ rs) j sound .broken ≡ false
+    kept later b zero = b
+    kept later b (suc j) = later (sym (first-kept _ _ _ _ b refl) ∙ e) j
+
+-- what is found is the number of a broken rule of the list
+pub found-broken : (rs : List Rule) (n : ℕ) → firstBroken rs ≡ n → 0 < n → (i : ℕ) × (i < length rs) × (getD rs i sound .broken ≡ true) × (getD rs i sound .number ≡ n)
+found-broken [] n e p = absurd (omega arith)
+found-broken (r ∷ rs) n e p =
+    by-cases _ (r .broken)
+    (λ (b : r .broken ≡ true). (zero, suc-le-suc zero-le, b, sym (first-broken _ _ _ b) ∙ e))
+    (λ (b : r .broken ≡ false). later (found-broken rs n (sym (first-kept _ _ _ _ b refl) ∙ e) p))
+  where
+    later : ((i : ℕ) × (i < length rs) × (getD rs i sound .broken ≡ true) × (getD rs i sound .number ≡ n)) → (i : ℕ) × (i < length (r ∷ rs)) × (getD (r ∷ rs) i sound .broken ≡ true) × (getD (r ∷ rs) i sound .number ≡ n)
+    later f = (suc (f .0), suc-le-suc (f .1), f .2, f .3)
+
+rising-least : (rs : List Rule) (least : ℕ) → Rising least rs → (i : ℕ) → i < length rs → least ≤ getD rs i sound .number
+rising-least [] least h i g = absurd (not-suc-le-zero g)
+rising-least (r ∷ rs) least h zero g = h .0
+rising-least (r ∷ rs) least h (suc i) g = le-trans (h .0) (rising-least rs (r .number) (h .1) i (le-of-suc-le-suc g))
+
+-- in a list that rises what is found is the least of all that is broken
+pub found-least : (rs : List Rule) (least : ℕ) → Rising least rs → (i : ℕ) → i < length rs → getD rs i sound .broken ≡ true → firstBroken rs ≤ getD rs i sound .number
+found-least [] least h i g b = absurd (not-suc-le-zero g)
+found-least (r ∷ rs) least h i g b = by-cases _ (r .broken) (λ (t : r .broken ≡ true). rw (first-broken _ (r .number) (firstBroken rs) t) (head i g)) (λ (t : r .broken ≡ false). tail (found-least rs (r .number) (h .1)) i g b t)
+  where
+    head : (j : ℕ) → j < length (r ∷ rs) → r .number ≤ getD (r ∷ rs) j sound .number
+    head zero k = le-refl (r .number)
+    head (suc j) k = rising-least rs (r .number) (h .1) j (le-of-suc-le-suc k)
+
+    tail : ((j : ℕ) → j < length rs → getD rs j sound .broken ≡ true → firstBroken rs ≤ getD rs j sound .number) → (j : ℕ) → j < length (r ∷ rs) → getD (r ∷ rs) j sound .broken ≡ true → r .broken ≡ false → firstBroken (r ∷ rs) ≤ getD (r ∷ rs) j sound .number
+    tail later zero k c t = absurd (true≢false (sym c ∙ t))
+    tail later (suc j) k c t = rw (first-kept _ (r .number) (firstBroken rs) (firstBroken rs) t refl) (later j (le-of-suc-le-suc k) c)

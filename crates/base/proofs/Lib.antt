@@ -1,0 +1,4 @@
+pub mod IfLaws
+pub mod RunLaws
+pub mod BrokenLaws
+pub mod StoreLaws

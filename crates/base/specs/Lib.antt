@@ -1,0 +1,4 @@
+pub mod If
+pub mod Bytes
+pub mod Runs
+pub mod Broken
