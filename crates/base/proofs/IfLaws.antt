@@ -60,6 +60,11 @@ pub either-rest : (a b : Bool) → a ≡ false → either a b ≡ b
 unfolding either
 either-rest a b e = rw e
 
+pub either-comes : (a b : Bool) → b ≡ false → either a b ≡ a
+unfolding either
+either-comes true b e = refl
+either-comes false b e = e
+
 pub both-first : (a b : Bool) → both a b ≡ true → a ≡ true
 unfolding both
 both-first true b e = refl

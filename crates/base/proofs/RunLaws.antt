@@ -1,7 +1,7 @@
 -- Laws of runs: the three that a loop over bytes needs (go on, stop, past the end), and what a run says of its bytes.
 -- Assumes nothing.
 use mathlib.Core.Path.{_≡_, refl, sym, _∙_, ap}
-use mathlib.Core.Bool.{Bool, true, false, true≢false}
+use mathlib.Core.Bool.{Bool, true, false, not, true≢false}
 use mathlib.Core.List.{List, [], _∷_, _++_}
 use Prim.Native.Nat.{ℕ, zero, suc, _+_, _-_, _≤_, _<_, zero-le, suc-le-suc}
 use native.Mathlib.Nat.{le-of-suc-le-suc}
@@ -10,7 +10,7 @@ use native.Mathlib.Omega.{arith}
 use lib.ListN.{length, take, drop, getD, drop-of-length-le}
 use lib.Seq.{drop-cons}
 use lib.Dec.{eqb}
-use borrow.Author.Tests.{eqb-true, eq-eqb}
+use borrow.Author.Tests.{eqb-true, eq-eqb, not-true, not-false}
 use Rattle.base.specs.If.{if_then_else_, both}
 use Rattle.base.specs.Runs.{run, all, same}
 use Rattle.base.proofs.IfLaws.{if-true, if-false, by-test, by-cases, both-true, both-first, both-second}
@@ -107,3 +107,11 @@ same-equal (b ∷ s) (c ∷ t) e =
     let h : b ≡ c = eqb-true b c (both-first _ _ e) in
     let k : s ≡ t = same-equal s t (both-second _ _ e) in
     cc
+
+-- the same three with the answer of a test in between, as a loop of code has it
+module _ (p : ℕ → Bool) (s : List ℕ) (i end : ℕ) (t : Bool) (inv : i + run p (drop i s) ≡ end) (h : i < length s) (told : t ≡ p (getD s i 0)) where
+  pub tested-on : not t ≡ false → i + 1 + run p (drop (i + 1) s) ≡ end
+  tested-on e = reach-on p s i end inv h (sym told ∙ not-false t e)
+
+  pub tested-stop : not t ≡ true → i ≡ end
+  tested-stop e = reach-stop p s i end inv h (sym told ∙ not-true t e)

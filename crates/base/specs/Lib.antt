@@ -2,3 +2,4 @@ pub mod If
 pub mod Bytes
 pub mod Runs
 pub mod Broken
+pub mod Class

@@ -5,6 +5,7 @@ ghost use Prim.Native.Nat.{_+_, _-_, _≤_};
 ghost use lib.ListN.{length, take, replicate};
 ghost use lib.Seq.{sets};
 ghost use Rattle.base.specs.Bytes.{isBlank, isDigit, isCapital, isSmall, isLetter, small};
+ghost use Rattle.base.specs.Class.{isFilled, isNamed, isPrinted, isBefore, isContent, inClass, runEnd};
 
 // A space or a TAB.
 pub fn is_blank(b: u8) -> bool
@@ -69,6 +70,97 @@ pub fn small(b: u8) -> u8
         return b + 32;
     }
     b
+}
+
+// What a run of bytes is made of.
+pub enum Class {
+    Blank,
+    // Not blank.
+    Filled,
+    // Neither blank nor `=`.
+    Named,
+    Digit,
+    Letter,
+    // What a line may hold.
+    Printed,
+    // Any byte but this one.
+    Before(u8),
+    // Any byte but this comment byte and those of a terminator.
+    Content(u8),
+}
+
+pub fn is_filled(b: u8) -> bool
+    ensures { λ r. ⌜ r ≡ isFilled b ⌝ }
+{
+    if b == 32 {
+        return false;
+    }
+    b != 9
+}
+
+pub fn is_named(b: u8) -> bool
+    ensures { λ r. ⌜ r ≡ isNamed b ⌝ }
+{
+    if b == 32 {
+        return false;
+    }
+    if b == 9 {
+        return false;
+    }
+    b != 61
+}
+
+pub fn is_printed(b: u8) -> bool
+    ensures { λ r. ⌜ r ≡ isPrinted b ⌝ }
+{
+    if b == 9 {
+        return true;
+    }
+    if b < 32 {
+        return false;
+    }
+    b <= 126
+}
+
+pub fn is_content(comment: u8, b: u8) -> bool
+    ensures { λ r. ⌜ r ≡ isContent comment b ⌝ }
+{
+    if b == comment {
+        return false;
+    }
+    if b == 10 {
+        return false;
+    }
+    b != 13
+}
+
+pub fn in_class(class: Class, b: u8) -> bool
+    ensures { λ r. ⌜ r ≡ inClass class b ⌝ }
+{
+    match class {
+        Class::Blank => is_blank(b),
+        Class::Filled => is_filled(b),
+        Class::Named => is_named(b),
+        Class::Digit => is_digit(b),
+        Class::Letter => is_letter(b),
+        Class::Printed => is_printed(b),
+        Class::Before(stop) => b != stop,
+        Class::Content(comment) => is_content(comment, b),
+    }
+}
+
+// Where the run of a class that starts at `from` ends.
+pub fn skip(class: Class, s: &[u8], from: usize) -> usize
+    ensures { λ r. ⌜ r ≡ runEnd (inClass class) (now (s .entry)) from ⌝ }
+{
+    let mut i = from;
+    while i < s.len() {
+        if !in_class(class, s[i]) {
+            return i;
+        }
+        i += 1;
+    }
+    i
 }
 
 // Stores the words one after another, the first at `at`.
