@@ -4,16 +4,17 @@ use mathlib.Core.Path.{_≡_, refl, sym, _∙_, ap}
 use mathlib.Core.Bool.{Bool, true, false, not, true≢false}
 use mathlib.Core.List.{List, [], _∷_, _++_}
 use Prim.Native.Nat.{ℕ, zero, suc, _+_, _-_, _≤_, _<_, zero-le, suc-le-suc}
-use native.Mathlib.Nat.{le-of-suc-le-suc}
+use native.Mathlib.Nat.{le-of-suc-le-suc, zero-add, suc-add, le-refl}
 use native.Mathlib.Numerals.{add-one}
 use native.Mathlib.Omega.{arith}
-use lib.ListN.{length, take, drop, getD, drop-of-length-le}
-use lib.Seq.{drop-cons}
+use lib.ListN.{length, take, drop, getD, drop-of-length-le, length-drop, List·getD-eq-default}
+use lib.Seq.{drop-cons, drop-drop, getD-drop, length-take-le}
 use lib.Dec.{eqb}
-use borrow.Author.Tests.{eqb-true, eq-eqb, not-true, not-false}
+use borrow.Author.Tests.{eqb-true, eq-eqb, ne-eqb, not-true, not-false}
 use Rattle.base.specs.If.{if_then_else_, both}
 use Rattle.base.specs.Runs.{run, all, same}
-use Rattle.base.proofs.IfLaws.{if-true, if-false, by-test, by-cases, both-true, both-first, both-second}
+use Rattle.base.specs.Class.{runEnd}
+use Rattle.base.proofs.IfLaws.{if-true, if-false, by-test, by-cases, both-true, both-not-left, both-not-right, both-rest, both-first, both-second}
 
 pub run-cons : (p : ℕ → Bool) (b : ℕ) (s : List ℕ) → run p (b ∷ s) ≡ (if p b then suc (run p s) else zero)
 unfolding run
@@ -115,3 +116,131 @@ module _ (p : ℕ → Bool) (s : List ℕ) (i end : ℕ) (t : Bool) (inv : i + r
 
   pub tested-stop : not t ≡ true → i ≡ end
   tested-stop e = reach-stop p s i end inv h (sym told ∙ not-true t e)
+
+-- a run goes on through another whose bytes all pass its test too
+run-split : (p q : ℕ → Bool) → ((b : ℕ) → p b ≡ true → q b ≡ true) → (s : List ℕ) → run q s ≡ run p s + run q (drop (run p s) s)
+run-split p q h [] = rw (run-nil p, run-nil q)
+run-split p q h (b ∷ s) = by-cases _ (p b) (λ (e : p b ≡ true). goes e (run-split p q h s)) (λ (e : p b ≡ false). rw (run-stops p b s e) (sym (zero-add (run q (b ∷ s)))))
+  where
+    goes : p b ≡ true → run q s ≡ run p s + run q (drop (run p s) s) → run q (b ∷ s) ≡ run p (b ∷ s) + run q (drop (run p (b ∷ s)) (b ∷ s))
+    goes e k = rw (run-goes p b s e, run-goes q b s (h b e), suc-add) (ap suc k)
+
+pub run-through : (p q : ℕ → Bool) → ((b : ℕ) → p b ≡ true → q b ≡ true) → (s : List ℕ) (at : ℕ) → runEnd q s (runEnd p s at) ≡ runEnd q s at
+run-through p q h s at =
+    let k : run q (drop at s) ≡ run p (drop at s) + run q (drop (run p (drop at s)) (drop at s)) = run-split p q h (drop at s) in
+    let d : drop (run p (drop at s)) (drop at s) ≡ drop (at + run p (drop at s)) s = drop-drop (run p (drop at s)) at s in
+    let m : run q (drop at s) ≡ run p (drop at s) + run q (drop (at + run p (drop at s)) s) = rw d at k in
+    omega arith
+
+-- a wider test never stops earlier
+pub run-wider : (p q : ℕ → Bool) → ((b : ℕ) → p b ≡ true → q b ≡ true) → (s : List ℕ) → run p s ≤ run q s
+run-wider p q h s =
+    let k : run q s ≡ run p s + run q (drop (run p s) s) = run-split p q h s in
+    omega arith
+
+-- a run that ends within a part is the same in the part
+pub run-take : (p : ℕ → Bool) (s : List ℕ) (n : ℕ) → run p s ≤ n → run p (take n s) ≡ run p s
+run-take p [] zero h = refl
+run-take p [] (suc n) h = refl
+run-take p (b ∷ s) zero h =
+    let e : run p (b ∷ s) ≡ 0 = omega arith in
+    run-nil p ∙ sym e
+run-take p (b ∷ s) (suc n) h = by-cases _ (p b) (λ (e : p b ≡ true). goes e (run-take p s n)) (λ (e : p b ≡ false). rw (run-stops p b s e) (run-stops p b (take n s) e))
+  where
+    goes : p b ≡ true → (run p s ≤ n → run p (take n s) ≡ run p s) → run p (b ∷ take n s) ≡ run p (b ∷ s)
+    goes e k = rw (run-goes p b s e, run-goes p b (take n s) e) (ap suc (k (le-of-suc-le-suc (rw (run-goes p b s e) at h))))
+
+-- the byte at the end of a run does not pass
+pub run-end-at : (p : ℕ → Bool) (s : List ℕ) (from : ℕ) → runEnd p s from < length s → p (getD s (runEnd p s from) 0) ≡ false
+run-end-at p s from h =
+    let l : length (drop from s) ≡ length s - from = length-drop from s in
+    let g : run p (drop from s) < length (drop from s) = omega arith in
+    rw (getD-drop from s (run p (drop from s)) 0) at (run-end p (drop from s) g)
+
+pub all-nil : (p : ℕ → Bool) → all p [] ≡ true
+unfolding all
+all-nil p = refl
+
+pub all-cons : (p : ℕ → Bool) (b : ℕ) (s : List ℕ) → all p (b ∷ s) ≡ both (p b) (all p s)
+unfolding all
+all-cons p b s = refl
+
+-- every byte passes exactly when the run goes to the end
+pub all-run : (p : ℕ → Bool) (s : List ℕ) → all p s ≡ true → run p s ≡ length s
+all-run p [] e = run-nil p
+all-run p (b ∷ s) e =
+    let f : both (p b) (all p s) ≡ true = rw (all-cons p b s) at e in
+    run-goes p b s (both-first _ _ f) ∙ ap suc (all-run p s (both-second _ _ f))
+
+pub run-whole : (p : ℕ → Bool) (s : List ℕ) → run p s ≡ length s → all p s ≡ true
+run-whole p [] e = all-nil p
+run-whole p (b ∷ s) e = by-cases _ (p b) (λ (f : p b ≡ true). goes f (run-whole p s)) (λ (f : p b ≡ false). stops f)
+  where
+    goes : p b ≡ true → (run p s ≡ length s → all p s ≡ true) → all p (b ∷ s) ≡ true
+    goes f k =
+        let g : suc (run p s) ≡ suc (length s) = sym (run-goes p b s f) ∙ e in
+        let h : run p s ≡ length s = omega arith in
+        all-cons p b s ∙ both-true _ _ f (k h)
+
+    stops : p b ≡ false → all p (b ∷ s) ≡ true
+    stops f =
+        let g : 0 ≡ suc (length s) = sym (run-stops p b s f) ∙ e in
+        absurd (omega arith)
+
+pub run-short : (p : ℕ → Bool) (s : List ℕ) → run p s < length s → all p s ≡ false
+run-short p s h = by-cases (all p s ≡ false) (all p s) (λ (e : all p s ≡ true). let k : run p s ≡ length s = all-run p s e in absurd (omega arith)) (λ (e : all p s ≡ false). e)
+
+-- the bytes of a run, cut off, all pass
+pub all-take : (p : ℕ → Bool) (s : List ℕ) → all p (take (run p s) s) ≡ true
+all-take p s =
+    let r : run p (take (run p s) s) ≡ run p s = run-take p s (run p s) (le-refl (run p s)) in
+    let l : length (take (run p s) s) ≡ run p s = length-take-le (run p s) s (run-le p s) in
+    run-whole p (take (run p s) s) (r ∙ sym l)
+
+-- a whole run stops at the first byte after it that does not pass
+pub run-append : (p : ℕ → Bool) (x : List ℕ) (b : ℕ) (y : List ℕ) → all p x ≡ true → p b ≡ false → run p (x ++ (b ∷ y)) ≡ length x
+run-append p [] b y e f = run-stops p b y f
+run-append p (a ∷ x) b y e f =
+    let g : both (p a) (all p x) ≡ true = rw (all-cons p a x) at e in
+    run-goes p a (x ++ (b ∷ y)) (both-first _ _ g) ∙ ap suc (run-append p x b y (both-second _ _ g) f)
+
+-- ---- two lists compared
+
+pub same-nil : same [] [] ≡ true
+unfolding same
+same-nil = refl
+
+same-cons : (b c : ℕ) (s t : List ℕ) → same (b ∷ s) (c ∷ t) ≡ both (eqb b c) (same s t)
+unfolding same
+same-cons b c s t = refl
+
+pub same-longer : (s t : List ℕ) → (length s ≡ length t → ⊥) → same s t ≡ false
+unfolding same
+same-longer [] [] h = absurd (h refl)
+same-longer [] (c ∷ t) h = refl
+same-longer (b ∷ s) [] h = refl
+same-longer (b ∷ s) (c ∷ t) h = both-not-right _ _ (same-longer s t (λ (e : length s ≡ length t). h (ap suc e)))
+
+-- a loop that has found the same bytes before i
+module _ (s t : List ℕ) (i : ℕ) (answer : Bool) (inv : same (drop i s) (drop i t) ≡ answer) (long : length s ≡ length t) where
+  pub same-on : i < length s → getD s i 0 ≡ getD t i 0 → same (drop (i + 1) s) (drop (i + 1) t) ≡ answer
+  same-on h e =
+      let g : i < length t = omega arith in
+      let k : same (getD s i 0 ∷ drop (suc i) s) (getD t i 0 ∷ drop (suc i) t) ≡ answer = rw (drop-cons s i 0 h, drop-cons t i 0 g) at inv in
+      rw (add-one) (sym (both-rest _ _ (eq-eqb _ _ e)) ∙ sym (same-cons _ _ _ _) ∙ k)
+
+  pub same-stop : i < length s → (getD s i 0 ≡ getD t i 0 → ⊥) → false ≡ answer
+  same-stop h e =
+      let g : i < length t = omega arith in
+      let k : same (getD s i 0 ∷ drop (suc i) s) (getD t i 0 ∷ drop (suc i) t) ≡ answer = rw (drop-cons s i 0 h, drop-cons t i 0 g) at inv in
+      sym (both-not-left _ _ (ne-eqb _ _ e)) ∙ sym (same-cons _ _ _ _) ∙ k
+
+  pub same-past : length s ≤ i → true ≡ answer
+  same-past h =
+      let g : length t ≤ i = omega arith in
+      let k : same [] [] ≡ answer = rw (drop-of-length-le s h, drop-of-length-le t g) at inv in
+      sym same-nil ∙ k
+
+-- past the end there is no byte
+pub none-past : (s : List ℕ) (i : ℕ) → length s ≤ i → 0 ≡ getD s i 0
+none-past s i h = sym (List·getD-eq-default s 0 h)

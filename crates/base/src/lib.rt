@@ -2,7 +2,7 @@
 ghost use mathlib.Core.Path.{_≡_};
 ghost use mathlib.Core.List.{_++_};
 ghost use Prim.Native.Nat.{_+_, _-_, _≤_};
-ghost use lib.ListN.{length, take, replicate};
+ghost use lib.ListN.{length, getD, take, replicate};
 ghost use lib.Seq.{sets};
 ghost use Rattle.base.specs.Bytes.{isBlank, isDigit, isCapital, isSmall, isLetter, small};
 ghost use Rattle.base.specs.Class.{isFilled, isNamed, isPrinted, isBefore, isContent, inClass, runEnd};
@@ -147,6 +147,16 @@ pub fn in_class(class: Class, b: u8) -> bool
         Class::Before(stop) => b != stop,
         Class::Content(comment) => is_content(comment, b),
     }
+}
+
+// The byte at a place, 0 past the end: no text that is read holds a 0, so a test against any other byte fails there.
+pub fn byte_at(s: &[u8], i: usize) -> u8
+    ensures { λ r. ⌜ r ≡ getD (now (s .entry)) i 0 ⌝ }
+{
+    if i < s.len() {
+        return s[i];
+    }
+    0
 }
 
 // Where the run of a class that starts at `from` ends.

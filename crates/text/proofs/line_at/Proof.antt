@@ -1,0 +1,24 @@
+-- `text::line_at` meets its contract: the LF found from the end of the content is the line's.
+-- Assumes nothing.
+use Rattle.text.proofs.LineLaws.{line-ended, line-unended}
+use borrow.Author.Needs.{needs}
+use Rattle.text.proofs.line_at.Statement.{statement}
+use Rattle.text.proofs.line_at.Tie as tie
+
+skip-requires : tie.Need-skip-requires
+skip-requires c κs = search needs
+
+skip-requires-2 : tie.Need-skip-requires-2
+skip-requires-2 c κs = search needs
+
+add-t10 : tie.Need-add-t10
+add-t10 c = search needs
+
+returns : tie.Need-returns
+returns c = search line-ended
+
+returns-2 : tie.Need-returns-2
+returns-2 c = search line-unended
+
+pub line-at-spec : {M : Type 1} → statement M
+line-at-spec = tie.close (tie.spec skip-requires skip-requires-2 add-t10 returns returns-2)

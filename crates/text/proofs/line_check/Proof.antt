@@ -1,0 +1,58 @@
+-- `text::line_check` meets its contract: each `return` by what stops the run of bytes that a line may hold.
+-- Assumes nothing.
+use Prim.Native.Nat.{_≤_}
+use native.Mathlib.Omega.{arith}
+use denote.Ref.{now}
+use lib.ListN.{length}
+use Rattle.text.proofs.ByteLaws.{line-bad-byte, last-long, last-unended, line-long, line-fine, stop-fits, terminator-at-most}
+use borrow.Author.Needs.{needs}
+use Rattle.text.proofs.line_check.Statement.{statement}
+use Rattle.text.proofs.line_check.Tie as tie
+
+skip-requires : tie.Need-skip-requires
+skip-requires c κs = search needs
+
+terminator-at-requires : tie.Need-terminator-at-requires
+terminator-at-requires c κs = search stop-fits
+
+add-next : tie.Need-add-next
+add-next c =
+    let s : c .before .skip .result ≤ length (now (c .before .before .before .args .text)) = search stop-fits in
+    let w : c .terminator-at .result ≤ 2 = search terminator-at-most in
+    omega arith
+
+returns : tie.Need-returns
+returns c = search line-bad-byte
+
+sub-if3 : tie.Need-sub-if3
+sub-if3 c = search needs
+
+returns-2 : tie.Need-returns-2
+returns-2 c = search last-long
+
+returns-3 : tie.Need-returns-3
+returns-3 c = search last-unended
+
+sub-if4 : tie.Need-sub-if4
+sub-if4 c = search needs
+
+returns-4 : tie.Need-returns-4
+returns-4 c = search line-long
+
+returns-5 : tie.Need-returns-5
+returns-5 c = search line-fine
+
+pub line-check-spec : {M : Type 1} → statement M
+line-check-spec =
+    tie.close
+    (tie.spec
+    skip-requires
+    terminator-at-requires
+    add-next
+    returns
+    sub-if3
+    returns-2
+    returns-3
+    sub-if4
+    returns-4
+    returns-5)

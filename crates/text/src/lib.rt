@@ -1,0 +1,174 @@
+// Lines, words and the rules for bytes: documents 000, 3 and 01, "Lines and keywords" and rules 1 to 4.
+ghost use mathlib.Core.Path.{_≡_};
+ghost use Prim.Native.Nat.{_-_, _<_, _≤_};
+ghost use lib.ListN.{length};
+ghost use Rattle.base.specs.Runs.{same};
+ghost use Rattle.text.specs.Lines.{lineAt};
+ghost use Rattle.base.specs.Class.{inClass};
+ghost use Rattle.text.specs.Words.{wordAt, lastWord, backRun};
+ghost use Rattle.text.specs.ByteRules.{byteRules, terminatorAt, Judges};
+use base::Class;
+
+const LINE_FEED: u8 = 10;
+
+const CARRIAGE_RETURN: u8 = 13;
+
+const MOST_BYTES: usize = 1048576;
+
+const MOST_CHARACTERS: usize = 120;
+
+// Of one line: where its content ends, and where the next line starts.
+pub struct Line {
+    pub content: usize,
+    pub next: usize,
+}
+
+// Where a word starts, and where it ends.
+pub struct Span {
+    pub start: usize,
+    pub end: usize,
+}
+
+// What rules 1 to 4 say of a text: nothing is broken, or which rule at which line.
+pub enum Checked {
+    Fine,
+    Refused(u64, u64),
+}
+
+// The line that starts at `at`. The search for its LF starts where the content ends, so that each byte is read once.
+pub fn line_at(text: &[u8], at: usize, comment: u8) -> Line
+    ensures { λ r. ⌜ r ≡ lineAt comment (now (text .entry)) at ⌝ }
+{
+    let content = base::skip(Class::Content(comment), text, at);
+    let end = base::skip(Class::Before(LINE_FEED), text, content);
+    if end < text.len() {
+        Line {
+            content,
+            next: end + 1,
+        }
+    } else {
+        Line { content, next: end }
+    }
+}
+
+// The first word at or after `from`: the first of a line from 0, the next from the end of the one before.
+pub fn word_at(s: &[u8], from: usize) -> Span
+    ensures { λ r. ⌜ r ≡ wordAt (now (s .entry)) from ⌝ }
+{
+    let start = base::skip(Class::Blank, s, from);
+    Span {
+        start,
+        end: base::skip(Class::Filled, s, start),
+    }
+}
+
+// Where the run of a class that ends at `from` starts.
+fn skip_back(class: Class, s: &[u8], from: usize) -> usize
+    requires { ⌜ from ≤ length (now s) ⌝ }
+    ensures { λ r. ⌜ r ≡ from - backRun (inClass class) (now (s .entry)) from ⌝ }
+{
+    let mut i = from;
+    while 0 < i {
+        if !base::in_class(class, s[i - 1]) {
+            return i;
+        }
+        i -= 1;
+    }
+    i
+}
+
+// The last word of a line.
+pub fn last_word(s: &[u8]) -> Span
+    ensures { λ r. ⌜ r ≡ lastWord (now (s .entry)) ⌝ }
+{
+    let end = skip_back(Class::Blank, s, s.len());
+    Span {
+        start: skip_back(Class::Filled, s, end),
+        end,
+    }
+}
+
+// Whether two words have the same bytes.
+pub fn same_bytes(a: &[u8], b: &[u8]) -> bool
+    ensures { λ r. ⌜ r ≡ same (now (a .entry)) (now (b .entry)) ⌝ }
+{
+    if a.len() != b.len() {
+        return false;
+    }
+    let mut i = 0;
+    while i < a.len() {
+        if a[i] != b[i] {
+            return false;
+        }
+        i += 1;
+    }
+    true
+}
+
+// How long the terminator at `i` is: LF, CR LF, or none.
+fn terminator_at(text: &[u8], i: usize) -> usize
+    requires { ⌜ i ≤ length (now text) ⌝ }
+    ensures { λ r. ⌜ r ≡ terminatorAt (now (text .entry)) i ⌝ }
+{
+    let b = base::byte_at(text, i);
+    if b == LINE_FEED {
+        return 1;
+    }
+    if b != CARRIAGE_RETURN {
+        return 0;
+    }
+    if base::byte_at(text, i + 1) == LINE_FEED {
+        return 2;
+    }
+    0
+}
+
+// What rules 2 to 4 say of one line, 0 for nothing, and where the next one starts.
+struct LineCheck {
+    number: u64,
+    next: usize,
+}
+
+// The characters of a line are a run of bytes that a line may hold. Where they stop at no terminator a bad byte stands, and rule 2
+// is the lowest: nothing after it needs to be looked at.
+fn line_check(text: &[u8], at: usize) -> LineCheck
+    requires { ⌜ at < length (now text) ⌝ }
+    ensures { λ r. ⌜ Judges (now (text .entry)) at (r .number) (r .next) ⌝ }
+{
+    let stop = base::skip(Class::Printed, text, at);
+    let terminator = terminator_at(text, stop);
+    let next = stop + terminator;
+    if terminator == 0 {
+        if stop < text.len() {
+            return LineCheck { number: 2, next };
+        }
+        if MOST_CHARACTERS < stop - at {
+            return LineCheck { number: 3, next };
+        }
+        return LineCheck { number: 4, next };
+    }
+    if MOST_CHARACTERS < stop - at {
+        return LineCheck { number: 3, next };
+    }
+    LineCheck { number: 0, next }
+}
+
+// Rules 1 to 4 over a whole text.
+pub fn check_bytes(text: &[u8]) -> Checked
+    ensures { λ r. ⌜ r ≡ byteRules (now (text .entry)) ⌝ }
+{
+    if MOST_BYTES < text.len() {
+        return Checked::Refused(1, 0);
+    }
+    let mut at = 0;
+    let mut line = 1;
+    while at < text.len() {
+        let check = line_check(text, at);
+        if check.number != 0 {
+            return Checked::Refused(check.number, line);
+        }
+        at = check.next;
+        line += 1;
+    }
+    Checked::Fine
+}
