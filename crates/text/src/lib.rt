@@ -138,16 +138,17 @@ fn line_check(text: &[u8], at: usize) -> LineCheck
     let stop = base::skip(Class::Printed, text, at);
     let terminator = terminator_at(text, stop);
     let next = stop + terminator;
+    let characters = stop - at;
     if terminator == 0 {
         if stop < text.len() {
             return LineCheck { number: 2, next };
         }
-        if MOST_CHARACTERS < stop - at {
+        if MOST_CHARACTERS < characters {
             return LineCheck { number: 3, next };
         }
         return LineCheck { number: 4, next };
     }
-    if MOST_CHARACTERS < stop - at {
+    if MOST_CHARACTERS < characters {
         return LineCheck { number: 3, next };
     }
     LineCheck { number: 0, next }

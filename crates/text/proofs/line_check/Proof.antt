@@ -21,20 +21,17 @@ add-next c =
     let w : c .terminator-at .result ≤ 2 = search terminator-at-most in
     omega arith
 
+sub-characters : tie.Need-sub-characters
+sub-characters c = search needs
+
 returns : tie.Need-returns
 returns c = search line-bad-byte
-
-sub-if3 : tie.Need-sub-if3
-sub-if3 c = search needs
 
 returns-2 : tie.Need-returns-2
 returns-2 c = search last-long
 
 returns-3 : tie.Need-returns-3
 returns-3 c = search last-unended
-
-sub-if4 : tie.Need-sub-if4
-sub-if4 c = search needs
 
 returns-4 : tie.Need-returns-4
 returns-4 c = search line-long
@@ -49,10 +46,9 @@ line-check-spec =
     skip-requires
     terminator-at-requires
     add-next
+    sub-characters
     returns
-    sub-if3
     returns-2
     returns-3
-    sub-if4
     returns-4
     returns-5)
