@@ -12,7 +12,7 @@ use lib.Dec.{leb, ltb, eqb}
 use borrow.Author.Tests.{le-leb, lt-leb, eq-eqb, ne-eqb, lt-ltb, le-ltb, ltb-true}
 use Rattle.base.specs.If.{both}
 use Rattle.base.specs.Broken.{Rule, _when_, first, firstBroken}
-use Rattle.base.proofs.IfLaws.{by-cases, both-first, both-second, not-via, not-not-via, both-true, both-not-left, both-not-right, either-left, either-right, either-false}
+use Rattle.base.proofs.IfLaws.{by-cases, both-first, both-second, not-via, not-not-via, both-true, both-not-left, both-not-right, either-left, either-right, either-false, Yes, No, tests}
 
 pub first-broken : (b : Bool) (n later : ℕ) → b ≡ true → first b n later ≡ n
 unfolding first
@@ -86,3 +86,21 @@ found-least (r ∷ rs) least h i g b = by-cases _ (r .broken) (λ (t : r .broken
     tail : ((j : ℕ) → j < length rs → getD rs j sound .broken ≡ true → firstBroken rs ≤ getD rs j sound .number) → (j : ℕ) → j < length (r ∷ rs) → getD (r ∷ rs) j sound .broken ≡ true → r .broken ≡ false → firstBroken (r ∷ rs) ≤ getD (r ∷ rs) j sound .number
     tail later zero k c t = absurd (true≢false (sym c ∙ t))
     tail later (suc j) k c t = rw (first-kept _ (r .number) (firstBroken rs) (firstBroken rs) t refl) (later j (le-of-suc-le-suc k) c)
+
+-- ---- what code finds by one test after the other: the premises are what it knows at a `return`, the conclusion is the contract
+
+module _ (b : Bool) (n later : ℕ) where
+  pub gives-first : b ≡ true → n ≡ first b n later
+  gives-first e = sym (first-broken b n later e)
+
+  pub gives-later : (found : ℕ) → b ≡ false → found ≡ later → found ≡ first b n later
+  gives-later found e h = sym (first-kept b n later found e (sym h))
+
+  pub is-broken : Yes b → n ≡ first b n later
+  is-broken h = gives-first (h .holds)
+
+  pub is-kept : (found : ℕ) → No b → found ≡ later → found ≡ first b n later
+  is-kept found h k = gives-later found (h .fails) k
+
+-- `search rules` answers every `return` of a function that has the tests of a list in the list's order
+pub ruleset rules = (refl, is-broken, is-kept, tests)

@@ -1,10 +1,10 @@
 -- Laws of the conditional and of the two joined tests. `ifs` is the rule set that settles most small predicates.
 -- Assumes nothing.
-use mathlib.Core.Path.{_≡_, refl, sym}
+use mathlib.Core.Path.{_≡_, refl, sym, _∙_, ap}
 use mathlib.Core.Bool.{Bool, true, false, not, true≢false}
 use Prim.Native.Nat.{ℕ, _≤_, _<_}
 use lib.Dec.{leb, ltb, eqb}
-use borrow.Author.Tests.{le-leb, lt-leb, eq-eqb, ne-eqb, lt-ltb, le-ltb}
+use borrow.Author.Tests.{le-leb, lt-leb, eq-eqb, ne-eqb, lt-ltb, le-ltb, not-true, not-false}
 use Rattle.base.specs.If.{if_then_else_, both, either}
 
 pub if-true : {A : Type 0} {b : Bool} (x y : A) → b ≡ true → (if b then x else y) ≡ x
@@ -92,3 +92,120 @@ pub not-not-via : {b : Bool} → b ≡ true → not b ≡ false
 not-not-via e = rw e
 
 pub ruleset ifs = (refl, if-true, if-false, both-true, both-not-left, both-not-right, either-left, either-right, either-false, not-via, not-not-via, le-leb, lt-leb, eq-eqb, ne-eqb, lt-ltb, le-ltb)
+
+-- ---- what code finds by one test after the other
+
+-- A test of a definition that holds, and one that does not. They are records so that a search looks for what a test needs only where a
+-- test is to be settled, and nowhere else.
+pub record Yes (a : Bool) : Type 0 where
+  pub holds : a ≡ true
+
+pub record No (a : Bool) : Type 0 where
+  pub fails : a ≡ false
+
+-- by a comparison of numbers in the code
+module _ (m n : ℕ) where
+  pub yes-eq : m ≡ n → Yes (eqb m n)
+  yes-eq h = record { holds = eq-eqb m n h }
+
+  pub no-ne : (m ≡ n → ⊥) → No (eqb m n)
+  no-ne h = record { fails = ne-eqb m n h }
+
+  pub yes-le : m ≤ n → Yes (leb m n)
+  yes-le h = record { holds = le-leb m n h }
+
+  pub no-gt : n < m → No (leb m n)
+  no-gt h = record { fails = lt-leb m n h }
+
+  pub yes-lt : m < n → Yes (ltb m n)
+  yes-lt h = record { holds = lt-ltb m n h }
+
+  pub no-ge : n ≤ m → No (ltb m n)
+  no-ge h = record { fails = le-ltb m n h }
+
+-- by a bool that the code has, also turned round
+module _ (a : Bool) where
+  pub yes-is : a ≡ true → Yes a
+  yes-is h = record { holds = h }
+
+  pub no-is : a ≡ false → No a
+  no-is h = record { fails = h }
+
+  pub yes-turned : not a ≡ false → Yes a
+  yes-turned h = record { holds = not-false a h }
+
+  pub no-turned : not a ≡ true → No a
+  no-turned h = record { fails = not-true a h }
+
+  pub yes-not : No a → Yes (not a)
+  yes-not h = record { holds = not-via (h .fails) }
+
+  pub no-not : Yes a → No (not a)
+  no-not h = record { fails = not-not-via (h .holds) }
+
+  pub yes-both : (b : Bool) → Yes a → Yes b → Yes (both a b)
+  yes-both b h k = record { holds = both-true a b (h .holds) (k .holds) }
+
+  pub no-either : (b : Bool) → No a → No b → No (either a b)
+  no-either b h k = record { fails = either-false a b (h .fails) (k .fails) }
+
+-- by a call's answer r, told to be the test
+module _ (a r : Bool) (told : r ≡ a) where
+  pub yes-told : r ≡ true → Yes a
+  yes-told h = record { holds = sym told ∙ h }
+
+  pub no-told : r ≡ false → No a
+  no-told h = record { fails = sym told ∙ h }
+
+  pub yes-told-turned : not r ≡ false → Yes a
+  yes-told-turned h = record { holds = sym told ∙ not-false r h }
+
+  pub no-told-turned : not r ≡ true → No a
+  no-told-turned h = record { fails = sym told ∙ not-true r h }
+
+-- by a call's number n, told to be the number that is compared
+module _ (number n m : ℕ) (told : n ≡ number) where
+  pub yes-eq-told : n ≡ m → Yes (eqb number m)
+  yes-eq-told h = record { holds = eq-eqb number m (sym told ∙ h) }
+
+  pub no-ne-told : (n ≡ m → ⊥) → No (eqb number m)
+  no-ne-told h = record { fails = ne-eqb number m (λ (k : number ≡ m). h (told ∙ k)) }
+
+pub ruleset tests = (yes-eq-told, no-ne-told, yes-eq, no-ne, yes-le, no-gt, yes-lt, no-ge, yes-is, no-is, yes-turned, no-turned, yes-told, no-told, yes-told-turned, no-told-turned, yes-not, no-not, yes-both, no-either)
+
+-- `search chain` answers every `return` of an if-chain whose tests stand as its definition has them
+module _ (a b : Bool) where
+  pub found-yes : Yes a → true ≡ either a b
+  found-yes h = sym (either-left a b (h .holds))
+
+  pub found-no : (answer : Bool) → No a → answer ≡ b → answer ≡ either a b
+  found-no answer h k = k ∙ sym (either-rest a b (h .fails))
+
+  pub refused-no : No a → false ≡ both a b
+  refused-no h = sym (both-not-left a b (h .fails))
+
+  pub refused-yes : (answer : Bool) → Yes a → answer ≡ b → answer ≡ both a b
+  refused-yes answer h k = k ∙ sym (both-rest a b (h .holds))
+
+module _ {A : Type 0} (b : Bool) (x y answer : A) where
+  pub chosen-yes : Yes b → answer ≡ x → answer ≡ (if b then x else y)
+  chosen-yes h k = k ∙ sym (if-true x y (h .holds))
+
+  pub chosen-no : No b → answer ≡ y → answer ≡ (if b then x else y)
+  chosen-no h k = k ∙ sym (if-false x y (h .fails))
+
+-- where the last test stands alone
+pub answer-yes : (a : Bool) → Yes a → true ≡ a
+answer-yes a h = sym (h .holds)
+
+pub answer-no : (a : Bool) → No a → false ≡ a
+answer-no a h = sym (h .fails)
+
+-- where it is a call's answer turned round, or compared with a number
+pub turned : (a r : Bool) → r ≡ a → not r ≡ not a
+turned a r e = ap not e
+
+pub compared : (number n m : ℕ) → n ≡ number → eqb n m ≡ eqb number m
+compared number n m e = ap (λ (k : ℕ). eqb k m) e
+
+pub ruleset chain = (refl, turned, compared, found-yes, found-no, refused-no, refused-yes, chosen-yes, chosen-no, answer-yes, answer-no, tests)

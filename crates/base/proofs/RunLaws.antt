@@ -3,7 +3,9 @@
 use mathlib.Core.Path.{_≡_, refl, sym, _∙_, ap}
 use mathlib.Core.Bool.{Bool, true, false, not, true≢false}
 use mathlib.Core.List.{List, [], _∷_, _++_}
-use Prim.Native.Nat.{ℕ, zero, suc, _+_, _-_, _≤_, _<_, zero-le, suc-le-suc}
+use Prim.Native.Nat.{ℕ, zero, suc, _+_, _-_, _*_, _^_, _≤_, _<_, zero-le, suc-le-suc}
+use mir.Syntax.{w64}
+use mir.Val.{Fits}
 use native.Mathlib.Nat.{le-of-suc-le-suc, zero-add, suc-add, le-refl}
 use native.Mathlib.Numerals.{add-one}
 use native.Mathlib.Omega.{arith}
@@ -244,3 +246,21 @@ module _ (s t : List ℕ) (i : ℕ) (answer : Bool) (inv : same (drop i s) (drop
 -- past the end there is no byte
 pub none-past : (s : List ℕ) (i : ℕ) → length s ≤ i → 0 ≡ getD s i 0
 none-past s i h = sym (List·getD-eq-default s 0 h)
+
+-- ---- going from run to run: what `skip` answers stays within the list, and one past it is further on
+
+module _ (p : ℕ → Bool) (s : List ℕ) (at end : ℕ) (within : at < length s) (told : end ≡ runEnd p s at) where
+  pub run-starts : at ≤ end
+  run-starts = omega arith
+
+  pub run-ends : end ≤ length s
+  run-ends =
+      let h : run p (drop at s) ≤ length (drop at s) = run-le p (drop at s) in
+      let n : length (drop at s) ≡ length s - at = length-drop at s in
+      omega arith
+
+  pub next-fits : length s * 1 < 2 ^ 63 → Fits w64 (end + 1)
+  next-fits h = omega (arith, run-ends)
+
+  pub next-less : length s - (end + 1) < length s - at
+  next-less = omega (arith, run-starts)

@@ -4,11 +4,11 @@ ghost use mathlib.Core.List.{_++_};
 ghost use Prim.Native.Nat.{_+_, _-_, _≤_};
 ghost use lib.ListN.{length, getD, take, replicate};
 ghost use lib.Seq.{sets};
-ghost use Rattle.base.specs.Bytes.{isBlank, isDigit, isCapital, isSmall, isLetter, small};
+ghost use Rattle.base.specs.Bytes.{isBlank, isDigit, isCapital, isSmall, isLetter};
 ghost use Rattle.base.specs.Class.{isFilled, isNamed, isPrinted, isBefore, isContent, inClass, runEnd};
 
 // A space or a TAB.
-pub fn is_blank(b: u8) -> bool
+fn is_blank(b: u8) -> bool
     ensures { λ r. ⌜ r ≡ isBlank b ⌝ }
 {
     if b == 32 {
@@ -20,56 +20,37 @@ pub fn is_blank(b: u8) -> bool
 pub fn is_digit(b: u8) -> bool
     ensures { λ r. ⌜ r ≡ isDigit b ⌝ }
 {
-    if b < 48 {
+    if b < b'0' {
         return false;
     }
-    b <= 57
+    b <= b'9'
 }
 
 pub fn is_capital(b: u8) -> bool
     ensures { λ r. ⌜ r ≡ isCapital b ⌝ }
 {
-    if b < 65 {
+    if b < b'A' {
         return false;
     }
-    b <= 90
+    b <= b'Z'
 }
 
 pub fn is_small(b: u8) -> bool
     ensures { λ r. ⌜ r ≡ isSmall b ⌝ }
 {
-    if b < 97 {
+    if b < b'a' {
         return false;
     }
-    b <= 122
+    b <= b'z'
 }
 
 pub fn is_letter(b: u8) -> bool
     ensures { λ r. ⌜ r ≡ isLetter b ⌝ }
 {
-    if b < 65 {
-        return false;
-    }
-    if b <= 90 {
+    if is_capital(b) {
         return true;
     }
-    if b < 97 {
-        return false;
-    }
-    b <= 122
-}
-
-// A capital letter as its small one, any other byte as it is.
-pub fn small(b: u8) -> u8
-    ensures { λ r. ⌜ r ≡ small b ⌝ }
-{
-    if b < 65 {
-        return b;
-    }
-    if b <= 90 {
-        return b + 32;
-    }
-    b
+    is_small(b)
 }
 
 // What a run of bytes is made of.
@@ -89,7 +70,7 @@ pub enum Class {
     Content(u8),
 }
 
-pub fn is_filled(b: u8) -> bool
+fn is_filled(b: u8) -> bool
     ensures { λ r. ⌜ r ≡ isFilled b ⌝ }
 {
     if b == 32 {
@@ -98,7 +79,7 @@ pub fn is_filled(b: u8) -> bool
     b != 9
 }
 
-pub fn is_named(b: u8) -> bool
+fn is_named(b: u8) -> bool
     ensures { λ r. ⌜ r ≡ isNamed b ⌝ }
 {
     if b == 32 {
@@ -110,7 +91,7 @@ pub fn is_named(b: u8) -> bool
     b != 61
 }
 
-pub fn is_printed(b: u8) -> bool
+fn is_printed(b: u8) -> bool
     ensures { λ r. ⌜ r ≡ isPrinted b ⌝ }
 {
     if b == 9 {
@@ -122,7 +103,7 @@ pub fn is_printed(b: u8) -> bool
     b <= 126
 }
 
-pub fn is_content(comment: u8, b: u8) -> bool
+fn is_content(comment: u8, b: u8) -> bool
     ensures { λ r. ⌜ r ≡ isContent comment b ⌝ }
 {
     if b == comment {
@@ -153,10 +134,10 @@ pub fn in_class(class: Class, b: u8) -> bool
 pub fn byte_at(s: &[u8], i: usize) -> u8
     ensures { λ r. ⌜ r ≡ getD (now (s .entry)) i 0 ⌝ }
 {
-    if i < s.len() {
-        return s[i];
+    if s.len() <= i {
+        return 0;
     }
-    0
+    s[i]
 }
 
 // Where the run of a class that starts at `from` ends.

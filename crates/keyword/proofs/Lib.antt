@@ -1,1 +1,9 @@
+pub mod TableLaws
+pub mod ByteLaws
+pub mod AllLaws
+pub mod LookupLaws
+pub mod KeyLaws
+pub mod WordLaws
+pub mod BracketLaws
+pub mod AnswerLaws
 pub mod Readings

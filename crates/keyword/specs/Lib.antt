@@ -1,2 +1,4 @@
 pub mod Names
 pub mod Bracket
+pub mod Lookup
+pub mod Reading

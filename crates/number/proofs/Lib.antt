@@ -1,1 +1,12 @@
-pub mod Readings
+pub mod WordLaws
+pub mod CappedLaws
+pub mod DigitLaws
+pub mod SignLaws
+pub mod SizeLaws
+pub mod ExponentLaws
+pub mod AllLaws
+pub mod IntegerLaws
+pub mod ValueLaws
+pub mod ReadLaws
+pub mod NumberLaws
+pub mod Starred

@@ -1,3 +1,4 @@
 pub mod Number
 pub mod Integer
 pub mod ValueWord
+pub mod Capped

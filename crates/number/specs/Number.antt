@@ -133,3 +133,14 @@ exponentFrom s d = exponentOf s (d .end)
 unfoldable pub numberOf : List ℕ → Number
 numberOf s =
     numberFrom s (digitsOf s) (exponentFrom s (digitsOf s)) (scaleOf (getD s (exponentFrom s (digitsOf s) .end) 0))
+
+-- whether a number is well formed, and within its bounds where it is
+abbrev pub isFormed : Number → Bool
+isFormed (Value w) = true
+isFormed Malformed = false
+isFormed Range = true
+
+abbrev pub isBounded : Number → Bool
+isBounded (Value w) = true
+isBounded Malformed = true
+isBounded Range = false

@@ -1,4 +1,19 @@
 // Document 01, "Numbers": a word read as a number or an integer, and the value word that the table holds.
+// Words of any length are read in one pass: numbers too great to matter are cut on the way, which changes no answer.
+ghost use mathlib.Core.Path.{_≡_};
+ghost use mathlib.Core.Bool.{true};
+ghost use Prim.Native.Nat.{_+_, _-_, _*_, _<_, _≤_, min};
+ghost use lib.ListN.{length, drop, getD};
+ghost use Rattle.base.specs.If.{if_then_else_};
+ghost use Rattle.base.specs.Bytes.{within};
+ghost use Rattle.number.specs.Number.{isSign, isMinus, isE, pastSign, goesOn, noDigits, withPoint, withDigit, withByte, scan, noExponent, exponentOf, scaleOf, raised, lowered, valueAs, wellFormed, numberOf, isFormed, isBounded};
+ghost use Rattle.number.specs.Integer.{wholeOf};
+ghost use Rattle.number.specs.ValueWord.{valueWord, decimalOf, isDecimal, isValueWord};
+ghost use Rattle.number.specs.Capped.{exponentCap, countCap, cappedDigits, cappedExponent, sizeAt, raising, lowering, Kept, Bounded};
+use base::Class;
+
+// Digits read so far: the number that they write, the same up to the last digit that is not 0, the zeros after that one, how many
+// stand after the point, whether there is a digit and a point, and where they end.
 pub struct Digits {
     pub all: u64,
     pub size: u64,
@@ -9,30 +24,489 @@ pub struct Digits {
     pub end: usize,
 }
 
+// An exponent, 0 where there is none, and where the letters after it start.
 pub struct Exponent {
     pub size: u64,
     pub negative: bool,
     pub end: usize,
 }
 
+// The power of ten of a letter: what raises and what lowers, one of them 0.
 pub struct Scale {
     pub up: u64,
     pub down: u64,
 }
 
+// What a word says as a number: its value word, or that it is malformed (13) or out of range (14).
 pub enum Number {
     Value(u64),
     Malformed,
     Range,
 }
 
+// Whether a word is an integer, and which.
 pub struct Whole {
     pub formed: bool,
     pub value: u64,
 }
 
+// The parts of a value word: the sign, m's size, and k + 64.
 pub struct Decimal {
     pub negative: bool,
     pub size: u64,
     pub shifted: u64,
+}
+
+// "256 times m's size, plus 2(k+64), plus 1 if negative"; `shifted` is k + 64.
+pub fn value_word(negative: bool, size: u64, shifted: u64) -> u64
+    requires { ⌜ size < 1_000_000_000_000_000 ⌝ ∗ ⌜ shifted < 128 ⌝ }
+    ensures { λ r. ⌜ r ≡ valueWord negative size shifted ⌝ }
+{
+    let word = 256 * size + 2 * shifted;
+    if negative {
+        return word + 1;
+    }
+    word
+}
+
+// The three parts of a word.
+pub fn decimal_of(word: u64) -> Decimal
+    ensures { λ r. ⌜ r ≡ decimalOf word ⌝ }
+{
+    Decimal {
+        negative: word % 2 == 1,
+        size: word / 256,
+        shifted: word / 2 % 128,
+    }
+}
+
+// From 1 to 15 digits, the last not 0, and k from -60 to 60.
+fn is_decimal(d: Decimal) -> bool
+    ensures { λ r. ⌜ r ≡ isDecimal d ⌝ }
+{
+    if d.size < 1 {
+        return false;
+    }
+    if d.size > 999_999_999_999_999 {
+        return false;
+    }
+    if d.size % 10 == 0 {
+        return false;
+    }
+    if d.shifted < 4 {
+        return false;
+    }
+    d.shifted <= 124
+}
+
+// A word that `value_word` makes of a number: what a sound table holds.
+pub fn is_value_word(word: u64) -> bool
+    ensures { λ r. ⌜ r ≡ isValueWord word ⌝ }
+{
+    if word == 128 {
+        return true;
+    }
+    is_decimal(decimal_of(word))
+}
+
+// A byte as a word, so that its arithmetic asks nothing of the byte's own width.
+fn wide(b: u8) -> u64
+    ensures { λ r. ⌜ r ≡ b ⌝ }
+{
+    b as u64
+}
+
+// A number with one digit more, cut at ten times `tenth`.
+fn extended(number: u64, digit: u64, tenth: u64) -> u64
+    requires { ⌜ digit ≤ 9 ⌝ ∗ ⌜ tenth ≤ 1_000_000_000_000_000_000 ⌝ }
+    ensures { λ r. ⌜ r ≡ min (10 * number + digit) (10 * tenth) ⌝ }
+{
+    if number < tenth {
+        return 10 * number + digit;
+    }
+    10 * tenth
+}
+
+// A count that goes up only where it is told to.
+fn counted(count: u64, more: bool) -> u64
+    requires { ⌜ count < countCap ⌝ }
+    ensures { λ r. ⌜ r ≡ (if more then count + 1 else count) ⌝ }
+{
+    if more {
+        return count + 1;
+    }
+    count
+}
+
+// No digit read yet, the next byte at `from`.
+fn no_digits(from: usize) -> Digits
+    ensures { λ r. ⌜ r ≡ noDigits from ⌝ }
+{
+    Digits {
+        all: 0,
+        size: 0,
+        zeros: 0,
+        fraction: 0,
+        some: false,
+        point: false,
+        end: from,
+    }
+}
+
+// "digits with at most one point": whether the digits go on with this byte.
+fn goes_on(d: Digits, b: u8) -> bool
+    ensures { λ r. ⌜ r ≡ goesOn d b ⌝ }
+{
+    if base::is_digit(b) {
+        return true;
+    }
+    if b != b'.' {
+        return false;
+    }
+    !d.point
+}
+
+// The point passed over.
+fn with_point(d: Digits) -> Digits
+    requires { ⌜ Kept d ⌝ ∗ ⌜ d .end < countCap ⌝ }
+    ensures { λ r. ⌜ r ≡ cappedDigits (withPoint d) ⌝ }
+{
+    Digits {
+        all: d.all,
+        size: d.size,
+        zeros: d.zeros,
+        fraction: d.fraction,
+        some: d.some,
+        point: true,
+        end: d.end + 1,
+    }
+}
+
+// One digit more. A 0 leaves the size as it is: only a later digit that is not 0 makes it part of m.
+fn with_digit(d: Digits, digit: u64) -> Digits
+    requires { ⌜ Kept d ⌝ ∗ ⌜ d .end < countCap ⌝ ∗ ⌜ digit ≤ 9 ⌝ }
+    ensures { λ r. ⌜ r ≡ cappedDigits (withDigit d digit) ⌝ }
+{
+    let all = extended(d.all, digit, 100_000_000_000_000);
+    let fraction = counted(d.fraction, d.point);
+    if digit == 0 {
+        let frozen = d.size;
+        return Digits {
+            all: all,
+            size: frozen,
+            zeros: d.zeros + 1,
+            fraction: fraction,
+            some: true,
+            point: d.point,
+            end: d.end + 1,
+        };
+    }
+    Digits {
+        all: all,
+        size: all,
+        zeros: 0,
+        fraction: fraction,
+        some: true,
+        point: d.point,
+        end: d.end + 1,
+    }
+}
+
+// The digits with one byte more, with which they go on.
+fn with_byte(d: Digits, b: u8) -> Digits
+    requires { ⌜ Kept d ⌝ ∗ ⌜ d .end < countCap ⌝ ∗ ⌜ goesOn d b ≡ true ⌝ }
+    ensures { λ r. ⌜ r ≡ cappedDigits (withByte d b) ⌝ }
+{
+    if b == b'.' {
+        return with_point(d);
+    }
+    with_digit(d, wide(b) - 48)
+}
+
+// The digits that stand at `from`, in one pass.
+fn read_digits(s: &[u8], from: usize) -> Digits
+    ensures { λ r. ⌜ r ≡ cappedDigits (scan (drop from (now (s .entry))) (noDigits from)) ⌝ }
+{
+    let mut d = no_digits(from);
+    let mut i = from;
+    while i < s.len() {
+        let b = s[i];
+        if !goes_on(d, b) {
+            return d;
+        }
+        d = with_byte(d, b);
+        i += 1;
+    }
+    d
+}
+
+// "Optional sign": + or -.
+fn is_sign(b: u8) -> bool
+    ensures { λ r. ⌜ r ≡ isSign b ⌝ }
+{
+    if b == b'+' {
+        return true;
+    }
+    b == b'-'
+}
+
+// Where what follows an optional sign at `from` starts.
+fn past_sign(s: &[u8], from: usize) -> usize
+    ensures { λ r. ⌜ r ≡ pastSign (now (s .entry)) from ⌝ }
+{
+    if from >= s.len() {
+        return from;
+    }
+    if is_sign(s[from]) {
+        return from + 1;
+    }
+    from
+}
+
+// Whether a minus stands at `at`.
+fn minus_at(s: &[u8], at: usize) -> bool
+    ensures { λ r. ⌜ r ≡ isMinus (getD (now (s .entry)) at 0) ⌝ }
+{
+    if at >= s.len() {
+        return false;
+    }
+    s[at] == b'-'
+}
+
+// The number that the run of digits at `from` writes, as an exponent of the sign told, in one pass.
+fn read_size(s: &[u8], from: usize, negative: bool) -> Exponent
+    ensures { λ r. ⌜ r ≡ cappedExponent (sizeAt (now (s .entry)) from negative) ⌝ }
+{
+    let mut size: u64 = 0;
+    let mut i = from;
+    while i < s.len() {
+        let b = s[i];
+        if !base::is_digit(b) {
+            return Exponent {
+                size: size,
+                negative: negative,
+                end: i,
+            };
+        }
+        size = extended(size, wide(b) - 48, 1_000_000_000_000_000_000);
+        i += 1;
+    }
+    Exponent {
+        size: size,
+        negative: negative,
+        end: i,
+    }
+}
+
+// "e or E".
+fn is_e(b: u8) -> bool
+    ensures { λ r. ⌜ r ≡ isE b ⌝ }
+{
+    if b == b'e' {
+        return true;
+    }
+    b == b'E'
+}
+
+// No exponent: the letters start at `from`.
+fn no_exponent(from: usize) -> Exponent
+    ensures { λ r. ⌜ r ≡ noExponent from ⌝ }
+{
+    Exponent {
+        size: 0,
+        negative: false,
+        end: from,
+    }
+}
+
+// "e or E with optional sign and digits, if digits follow".
+fn read_exponent(s: &[u8], from: usize) -> Exponent
+    ensures { λ r. ⌜ r ≡ cappedExponent (exponentOf (now (s .entry)) from) ⌝ }
+{
+    if from >= s.len() {
+        return no_exponent(from);
+    }
+    if !is_e(s[from]) {
+        return no_exponent(from);
+    }
+    let digits = past_sign(s, from + 1);
+    let x = read_size(s, digits, minus_at(s, from + 1));
+    if x.end == digits {
+        return no_exponent(from);
+    }
+    x
+}
+
+// "Integers: digits, 1 to 9 of them".
+pub fn read_integer(s: &[u8]) -> Whole
+    ensures { λ r. ⌜ r ≡ wholeOf (now (s .entry)) ⌝ }
+{
+    if s.len() < 1 {
+        return Whole {
+            formed: false,
+            value: 0,
+        };
+    }
+    if s.len() > 9 {
+        return Whole {
+            formed: false,
+            value: 0,
+        };
+    }
+    let x = read_size(s, 0, false);
+    if x.end != s.len() {
+        return Whole {
+            formed: false,
+            value: 0,
+        };
+    }
+    Whole {
+        formed: true,
+        value: x.size,
+    }
+}
+
+// "the first scaling by T G M k m u n p f (12, 9, 6, 3, -3, -6, -9, -12, -15), any other letter by nothing".
+fn scale_of(b: u8) -> Scale
+    ensures { λ r. ⌜ r ≡ scaleOf b ⌝ }
+{
+    match b {
+        b'T' => Scale { up: 12, down: 0 },
+        b'G' => Scale { up: 9, down: 0 },
+        b'M' => Scale { up: 6, down: 0 },
+        b'k' => Scale { up: 3, down: 0 },
+        b'm' => Scale { up: 0, down: 3 },
+        b'u' => Scale { up: 0, down: 6 },
+        b'n' => Scale { up: 0, down: 9 },
+        b'p' => Scale { up: 0, down: 12 },
+        b'f' => Scale { up: 0, down: 15 },
+        _ => Scale { up: 0, down: 0 },
+    }
+}
+
+// The scale of the letter that stands at `at`: none past the end.
+fn scale_at(s: &[u8], at: usize) -> Scale
+    ensures { λ r. ⌜ r ≡ scaleOf (getD (now (s .entry)) at 0) ⌝ }
+{
+    if at >= s.len() {
+        return scale_of(0);
+    }
+    scale_of(s[at])
+}
+
+// "at least one digit", "then letters only".
+fn well_formed(s: &[u8], d: Digits, x: Exponent) -> bool
+    requires { ⌜ x .end ≤ length (now s) ⌝ }
+    ensures { λ r. ⌜ r ≡ wellFormed (now (s .entry)) d x ⌝ }
+{
+    if !d.some {
+        return false;
+    }
+    let end = x.end;
+    base::skip(Class::Letter, s, end) == s.len()
+}
+
+// What the exponent adds to the power of ten.
+fn raising(x: Exponent) -> u64
+    ensures { λ r. ⌜ r ≡ raising x ⌝ }
+{
+    if x.negative {
+        return 0;
+    }
+    x.size
+}
+
+// What the exponent takes from the power of ten.
+fn lowering(x: Exponent) -> u64
+    ensures { λ r. ⌜ r ≡ lowering x ⌝ }
+{
+    if x.negative {
+        return x.size;
+    }
+    0
+}
+
+// A count of bytes, an exponent and a letter's power together, the first two cut so that no sum wraps.
+fn power(count: u64, size: u64, scale: u64) -> u64
+    requires { ⌜ count < countCap ⌝ ∗ ⌜ size ≤ exponentCap ⌝ ∗ ⌜ scale ≤ 15 ⌝ }
+    ensures { λ r. ⌜ r ≡ min (count + size) exponentCap + scale ⌝ }
+{
+    if size < 10_000_000_000_000_000_000 - count {
+        return count + size + scale;
+    }
+    10_000_000_000_000_000_000 + scale
+}
+
+// "Non-zero: at most 15 digits in m, k from -60 to 60"; k is `up` less `down`.
+fn judged(negative: bool, size: u64, up: u64, down: u64) -> Number
+    requires { ⌜ up ≤ exponentCap + 15 ⌝ ∗ ⌜ down ≤ exponentCap + 15 ⌝ }
+    ensures { λ r. ⌜ r ≡ valueAs negative size up down ⌝ }
+{
+    if size == 0 {
+        return Number::Value(128);
+    }
+    if size >= 1_000_000_000_000_000 {
+        return Number::Range;
+    }
+    if down > up + 60 {
+        return Number::Range;
+    }
+    if up > down + 60 {
+        return Number::Range;
+    }
+    Number::Value(value_word(negative, size, up + 64 - down))
+}
+
+// The value of a well-formed number.
+fn value_of(negative: bool, d: Digits, x: Exponent, c: Scale) -> Number
+    requires { ⌜ Bounded d x c ⌝ }
+    ensures { λ r. ⌜ r ≡ valueAs negative (d .size) (raised d x c) (lowered d x c) ⌝ }
+{
+    let up = power(d.zeros, raising(x), c.up);
+    let down = power(d.fraction, lowering(x), c.down);
+    judged(negative, d.size, up, down)
+}
+
+// The number that a word writes, for words of any length.
+pub fn read_number(s: &[u8]) -> Number
+    ensures { λ r. ⌜ r ≡ numberOf (now (s .entry)) ⌝ }
+{
+    let d = read_digits(s, past_sign(s, 0));
+    let x = read_exponent(s, d.end);
+    if !well_formed(s, d, x) {
+        return Number::Malformed;
+    }
+    value_of(minus_at(s, 0), d, x, scale_at(s, x.end))
+}
+
+// 13 is for a word that is no number.
+pub fn is_formed(n: Number) -> bool
+    ensures { λ r. ⌜ r ≡ isFormed n ⌝ }
+{
+    match n {
+        Number::Value(_) => true,
+        Number::Malformed => false,
+        Number::Range => true,
+    }
+}
+
+// 14 is for a number out of its bounds; a word that is none breaks no bounds.
+pub fn is_bounded(n: Number) -> bool
+    ensures { λ r. ⌜ r ≡ isBounded n ⌝ }
+{
+    match n {
+        Number::Value(_) => true,
+        Number::Malformed => true,
+        Number::Range => false,
+    }
+}
+
+// From `low` to `high`, both counted: the bounds of an integer.
+pub fn is_within(low: u64, high: u64, value: u64) -> bool
+    ensures { λ r. ⌜ r ≡ within low high value ⌝ }
+{
+    if value < low {
+        return false;
+    }
+    value <= high
 }

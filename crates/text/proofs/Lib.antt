@@ -1,3 +1,4 @@
 pub mod LineLaws
 pub mod WordLaws
 pub mod ByteLaws
+pub mod FormLaws

@@ -2,21 +2,23 @@
 -- Assumes nothing.
 use mathlib.Core.Path.{_≡_, refl, sym, _∙_, ap}
 use mathlib.Core.Bool.{Bool, true, false, not}
-use mathlib.Core.List.{List, [], _∷_, reverse, reverse-append}
-use Prim.Native.Nat.{ℕ, zero, suc, _+_, _-_, _≤_, _<_, zero-le, suc-le-suc}
+use mathlib.Core.List.{List, [], _∷_, map, reverse, reverse-append}
+use Prim.Native.Nat.{ℕ, zero, suc, _+_, _-_, _≤_, _<_, min, zero-le}
 use native.Mathlib.Nat.{not-suc-le-zero, add-zero, add-suc, suc-add, add-assoc}
 use native.Mathlib.Omega.{arith}
 use lib.ListN.{length, take, drop, getD, length-drop, drop-of-length-le}
-use lib.Seq.{drop-drop, getD-drop, take-suc}
-use borrow.Author.Tests.{not-true, not-false}
+use lib.Seq.{drop-drop, getD-drop, take-suc, take-nil}
+use lib.Dec.{ltb}
+use borrow.Author.Tests.{not-true, not-false, ltb-true, ltb-false}
 use Rattle.base.specs.If.{if_then_else_}
 use Rattle.base.specs.Bytes.{isBlank}
 use Rattle.base.specs.Runs.{run}
 use Rattle.base.specs.Class.{isFilled, runEnd}
 use Rattle.base.proofs.IfLaws.{if-true, if-false, by-cases, not-via, not-not-via}
-use Rattle.base.proofs.RunLaws.{run-nil, run-goes, run-stops, run-end-at}
-use Rattle.text.specs.Words.{Word, goesOn, grown, wordsFrom, wordAt, backRun}
+use Rattle.base.proofs.RunLaws.{run-nil, run-goes, run-stops, run-le, run-on, run-end-at}
+use Rattle.text.specs.Words.{Word, goesOn, grown, wordsFrom, wordAt, backRun, words, firstOf, secondOf, fewOf, markedBy}
 use Rattle.text.specs.declared.Span.{Span}
+use Rattle.text.specs.declared.Few.{Few}
 
 filled-not : (b : ℕ) → isBlank b ≡ true → isFilled b ≡ false
 unfolding isFilled
@@ -130,3 +132,161 @@ module _ (p : ℕ → Bool) (s : List ℕ) (i end : ℕ) (t : Bool) (inv : i - b
 
 pub back-past : (p : ℕ → Bool) (s : List ℕ) (i end : ℕ) → i - backRun p s i ≡ end → i ≤ 0 → i ≡ end
 back-past p s i end inv h = omega arith
+
+-- ---- the words of a line, as their bytes
+
+-- the words from a place on
+abbrev pub wordsAfter : List ℕ → ℕ → List (List ℕ)
+wordsAfter s from = map (λ (w : Word). w .text) (wordsFrom (0 + from) (drop from s))
+
+words-whole : (s : List ℕ) → wordsAfter s 0 ≡ words s
+words-whole s = refl
+
+pub after-at : (s : List ℕ) (from : ℕ) → wordAt s from .start < length s → wordsAfter s from ≡ markedBy s (wordAt s from) ∷ wordsAfter s (wordAt s from .end)
+after-at s from h = ap (map (λ (w : Word). w .text)) (words-at 0 s from h)
+
+pub after-none : (s : List ℕ) (from : ℕ) → length s ≤ wordAt s from .start → wordsAfter s from ≡ []
+after-none s from h = ap (map (λ (w : Word). w .text)) (words-none 0 s from h)
+
+-- where no word is left the span is empty
+part-none : (s : List ℕ) (from : ℕ) → length s ≤ wordAt s from .start → markedBy s (wordAt s from) ≡ []
+unfolding wordAt
+part-none s from h =
+    let n : ℕ = runEnd isFilled s (runEnd isBlank s from) - runEnd isBlank s from in
+    ap (take n) (drop-of-length-le s h) ∙ take-nil n
+
+first-after : (s : List ℕ) (from : ℕ) → firstOf (wordsAfter s from) ≡ markedBy s (wordAt s from)
+first-after s from =
+    by-cases _ (ltb (wordAt s from .start) (length s)) (λ (e : ltb (wordAt s from .start) (length s) ≡ true). ap firstOf (after-at s from (ltb-true _ _ e)))
+    (λ (e : ltb (wordAt s from .start) (length s) ≡ false). ap firstOf (after-none s from (ltb-false _ _ e)) ∙ sym (part-none s from (ltb-false _ _ e)))
+
+start-on : (s : List ℕ) (from : ℕ) → from ≤ wordAt s from .start
+unfolding wordAt
+start-on s from = omega arith
+
+end-on : (s : List ℕ) (from : ℕ) → wordAt s from .start ≤ wordAt s from .end
+unfolding wordAt
+end-on s from = omega arith
+
+-- what the spans of a line's first two words mark
+pub few-first : (s : List ℕ) → markedBy s (fewOf s .first) ≡ firstOf (words s)
+unfolding fewOf
+few-first s = sym (first-after s 0)
+
+pub few-second : (s : List ℕ) → markedBy s (fewOf s .second) ≡ secondOf (words s)
+unfolding fewOf
+few-second s =
+    let one : ℕ = wordAt s 0 .end in
+    let a : wordAt s 0 .start ≤ one = end-on s 0 in
+    let b : one ≤ wordAt s one .start = start-on s one in
+    by-cases (markedBy s (wordAt s one) ≡ secondOf (words s)) (ltb (wordAt s 0 .start) (length s))
+    (λ (e : ltb (wordAt s 0 .start) (length s) ≡ true). sym (ap secondOf (after-at s 0 (ltb-true _ _ e)) ∙ first-after s one))
+    (λ (e : ltb (wordAt s 0 .start) (length s) ≡ false).
+    let g : length s ≤ wordAt s 0 .start = ltb-false _ _ e in
+    part-none s one (omega arith) ∙ sym (ap secondOf (after-none s 0 g)))
+
+-- the spans of a line's first two words lie within it
+within-line : (s : List ℕ) (from : ℕ) → from ≤ length s → wordAt s from .end ≤ length s
+unfolding wordAt
+within-line s from h =
+    let st : ℕ = runEnd isBlank s from in
+    let a : run isBlank (drop from s) ≤ length (drop from s) = run-le isBlank (drop from s) in
+    let b : length (drop from s) ≡ length s - from = length-drop from s in
+    let c : run isFilled (drop st s) ≤ length (drop st s) = run-le isFilled (drop st s) in
+    let d : length (drop st s) ≡ length s - st = length-drop st s in
+    omega arith
+
+module _ (s : List ℕ) (few : Few) (told : few ≡ fewOf s) where
+  pub first-ordered : few .first .start ≤ few .first .end
+  unfolding fewOf
+  first-ordered = rw told (end-on s 0)
+
+  pub first-within : few .first .end ≤ length s
+  unfolding fewOf
+  first-within = rw told (within-line s 0 zero-le)
+
+  pub second-ordered : few .second .start ≤ few .second .end
+  unfolding fewOf
+  second-ordered = rw told (end-on s (wordAt s 0 .end))
+
+  pub second-within : few .second .end ≤ length s
+  unfolding fewOf
+  second-within = rw told (within-line s (wordAt s 0 .end) (within-line s 0 zero-le))
+
+  pub first-marked : markedBy s (few .first) ≡ firstOf (words s)
+  first-marked = rw told (few-first s)
+
+  pub second-marked : markedBy s (few .second) ≡ secondOf (words s)
+  second-marked = rw told (few-second s)
+
+-- a line has at most three words that count
+pub few-most : (s : List ℕ) → fewOf s .count ≤ 3
+unfolding fewOf
+few-most s = omega arith
+
+-- how many words there are, told by the first place at which none is left
+module _ (s : List ℕ) (first second third : Span) (one : first ≡ wordAt s 0) (two : second ≡ wordAt s (first .end)) (three : third ≡ wordAt s (second .end)) where
+  few-counted : (n : ℕ) → min 3 (length (words s)) ≡ n → record { count = n; first = first; second = second } ≡ fewOf s
+  unfolding fewOf
+  few-counted n e =
+      let f : second ≡ wordAt s (wordAt s 0 .end) = two ∙ ap (λ (w : Span). wordAt s (w .end)) one in
+      λ i. record { count = sym e i; first = one i; second = f i }
+
+  pub few-none : length s ≤ first .start → record { count = 0; first = first; second = second } ≡ fewOf s
+  few-none h =
+      let w : words s ≡ [] = after-none s 0 (rw one at h) in
+      let l : length (words s) ≡ 0 = ap length w in
+      few-counted 0 (omega arith)
+
+  first-there : first .start < length s → words s ≡ markedBy s first ∷ wordsAfter s (first .end)
+  first-there h = rw one (after-at s 0 (rw one at h))
+
+  second-there : second .start < length s → wordsAfter s (first .end) ≡ markedBy s second ∷ wordsAfter s (second .end)
+  second-there h = rw two (after-at s (first .end) (rw two at h))
+
+  pub few-one : first .start < length s → length s ≤ second .start → record { count = 1; first = first; second = second } ≡ fewOf s
+  few-one h k =
+      let n : length (wordsAfter s (first .end)) ≡ 0 = ap length (after-none s (first .end) (rw two at k)) in
+      let l : length (words s) ≡ suc (length (wordsAfter s (first .end))) = ap length (first-there h) in
+      few-counted 1 (omega arith)
+
+  pub few-two : first .start < length s → second .start < length s → length s ≤ third .start → record { count = 2; first = first; second = second } ≡ fewOf s
+  few-two h g k =
+      let n : length (wordsAfter s (second .end)) ≡ 0 = ap length (after-none s (second .end) (rw three at k)) in
+      let m : length (wordsAfter s (first .end)) ≡ suc (length (wordsAfter s (second .end))) = ap length (second-there g) in
+      let l : length (words s) ≡ suc (length (wordsAfter s (first .end))) = ap length (first-there h) in
+      few-counted 2 (omega arith)
+
+  third-there : third .start < length s → wordsAfter s (second .end) ≡ markedBy s third ∷ wordsAfter s (third .end)
+  third-there h = rw three (after-at s (second .end) (rw three at h))
+
+  pub few-three : first .start < length s → second .start < length s → third .start < length s → record { count = 3; first = first; second = second } ≡ fewOf s
+  few-three h g k =
+      let n : length (wordsAfter s (second .end)) ≡ suc (length (wordsAfter s (third .end))) = ap length (third-there k) in
+      let m : length (wordsAfter s (first .end)) ≡ suc (length (wordsAfter s (second .end))) = ap length (second-there g) in
+      let l : length (words s) ≡ suc (length (wordsAfter s (first .end))) = ap length (first-there h) in
+      few-counted 3 (omega arith)
+
+-- past the end of a line there is no word; a word that is there has a byte, and lies within the line
+pub after-past : (s : List ℕ) (from : ℕ) → length s ≤ from → wordsAfter s from ≡ []
+after-past s from h =
+    let a : from ≤ wordAt s from .start = start-on s from in
+    after-none s from (omega arith)
+
+pub end-past : (s : List ℕ) (from : ℕ) (word : Span) → word ≡ wordAt s from → word .start < length s → from < word .end
+unfolding wordAt
+end-past s from word e h =
+    let st : ℕ = runEnd isBlank s from in
+    let g : st < length s = rw e at h in
+    let b : isBlank (getD s st 0) ≡ false = run-end-at isBlank s from g in
+    let r : run isFilled (drop st s) ≡ suc (run isFilled (drop (st + 1) s)) = run-on isFilled s st g (blank-not _ b) in
+    rw e (omega arith)
+
+pub word-ordered : (s : List ℕ) (from : ℕ) (word : Span) → word ≡ wordAt s from → word .start ≤ word .end
+word-ordered s from word e = rw e (end-on s from)
+
+pub word-within : (s : List ℕ) (from : ℕ) (word : Span) → word ≡ wordAt s from → from ≤ length s → word .end ≤ length s
+word-within s from word e h = rw e (within-line s from h)
+
+pub first-at : (s : List ℕ) (word : Span) (part : List ℕ) → word ≡ wordAt s 0 → part ≡ markedBy s word → part ≡ firstOf (words s)
+first-at s word part e h = h ∙ ap (markedBy s) e ∙ sym (first-after s 0)

@@ -5,7 +5,7 @@ ghost use lib.ListN.{length};
 ghost use Rattle.base.specs.Runs.{same};
 ghost use Rattle.text.specs.Lines.{lineAt};
 ghost use Rattle.base.specs.Class.{inClass};
-ghost use Rattle.text.specs.Words.{wordAt, lastWord, backRun};
+ghost use Rattle.text.specs.Words.{wordAt, lastWord, backRun, fewOf, words, firstOf, markedBy, toEquals};
 ghost use Rattle.text.specs.ByteRules.{byteRules, terminatorAt, Judges};
 use base::Class;
 
@@ -27,6 +27,13 @@ pub struct Line {
 pub struct Span {
     pub start: usize,
     pub end: usize,
+}
+
+// A line's first two words, and how many it has: 3 stands for all above 2.
+pub struct Few {
+    pub count: u64,
+    pub first: Span,
+    pub second: Span,
 }
 
 // What rules 1 to 4 say of a text: nothing is broken, or which rule at which line.
@@ -172,4 +179,64 @@ pub fn check_bytes(text: &[u8]) -> Checked
         line += 1;
     }
     Checked::Fine
+}
+
+// The first two words of a line, with one look past them.
+pub fn few_words(s: &[u8]) -> Few
+    ensures { λ r. ⌜ r ≡ fewOf (now (s .entry)) ⌝ }
+{
+    let first = word_at(s, 0);
+    let second = word_at(s, first.end);
+    let third = word_at(s, second.end);
+    if s.len() <= first.start {
+        return Few {
+            count: 0,
+            first,
+            second,
+        };
+    }
+    if s.len() <= second.start {
+        return Few {
+            count: 1,
+            first,
+            second,
+        };
+    }
+    if s.len() <= third.start {
+        return Few {
+            count: 2,
+            first,
+            second,
+        };
+    }
+    Few {
+        count: 3,
+        first,
+        second,
+    }
+}
+
+// The bytes that a span marks.
+pub fn marked(s: &[u8], w: Span) -> &[u8]
+    requires { ⌜ (w .start ≤ w .end) × (w .end ≤ length (now s)) ⌝ }
+    ensures { λ r. ⌜ now r ≡ markedBy (now (s .entry)) w ⌝ }
+{
+    let start = w.start;
+    let end = w.end;
+    &s[start..end]
+}
+
+// The first word of a line.
+pub fn first_word(s: &[u8]) -> &[u8]
+    ensures { λ r. ⌜ now r ≡ firstOf (words (now (s .entry))) ⌝ }
+{
+    let word = word_at(s, 0);
+    marked(s, word)
+}
+
+// Where the first `=` stands, or the line's end where there is none.
+pub fn equals_at(content: &[u8]) -> usize
+    ensures { λ r. ⌜ r ≡ toEquals (now (content .entry)) ⌝ }
+{
+    base::skip(Class::Before(b'='), content, 0)
 }

@@ -1,27 +1,24 @@
--- `base::is_letter` meets its contract: each `return` by the tests that led there.
+-- `base::is_letter` meets its contract: each `return` by what the two classes answered.
 -- Assumes nothing.
-use Prim.Native.Nat.{_<_}
-use native.Mathlib.Omega.{arith}
-use Rattle.base.specs.Bytes.{isLetter, isCapital, isSmall, within}
-use Rattle.base.proofs.IfLaws.{ifs, either-rest, both-rest}
+use Rattle.base.specs.Bytes.{isLetter}
+use Rattle.base.proofs.IfLaws.{chain}
+use borrow.Author.Needs.{needs}
 use Rattle.base.proofs.is_letter.Statement.{statement}
 use Rattle.base.proofs.is_letter.Tie as tie
 
+is-capital-requires : tie.Need-is-capital-requires
+is-capital-requires c κs = search needs
+
 returns : tie.Need-returns
-unfolding isLetter isCapital isSmall within
-returns c = let h : c .before .args .b < 97 = omega arith in search (ifs, h)
+unfolding isLetter
+returns c = search chain
+
+is-small-requires : tie.Need-is-small-requires
+is-small-requires c κs = search needs
 
 returns-2 : tie.Need-returns-2
-unfolding isLetter isCapital isSmall within
-returns-2 c = search ifs
-
-returns-3 : tie.Need-returns-3
-unfolding isLetter isCapital isSmall within
-returns-3 c = search ifs
-
-returns-4 : tie.Need-returns-4
-unfolding isLetter isCapital isSmall within
-returns-4 c = search (ifs, either-rest, both-rest)
+unfolding isLetter
+returns-2 c = search chain
 
 pub is-letter-spec : {M : Type 1} → statement M
-is-letter-spec = tie.close (tie.spec returns returns-2 returns-3 returns-4)
+is-letter-spec = tie.close (tie.spec is-capital-requires returns is-small-requires returns-2)
