@@ -1,0 +1,13 @@
+-- `head::wrong_line` meets its contract.
+-- Assumes nothing.
+use borrow.Author.Needs.{needs}
+use Rattle.head.specs.Head.{wrongLine}
+use Rattle.head.proofs.wrong_line.Statement.{statement}
+use Rattle.head.proofs.wrong_line.Tie as tie
+
+returns : tie.Need-returns
+unfolding wrongLine
+returns c = search needs
+
+pub wrong-line-spec : {M : Type 1} → statement M
+wrong-line-spec = tie.close (tie.spec returns)

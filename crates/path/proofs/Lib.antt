@@ -1,0 +1,4 @@
+pub mod SectionLaws
+pub mod LineLaws
+pub mod RuleLaws
+pub mod DepthLaws

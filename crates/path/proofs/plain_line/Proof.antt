@@ -1,0 +1,13 @@
+-- `path::plain_line` meets its contract.
+-- Assumes nothing.
+use borrow.Author.Needs.{needs}
+use Rattle.path.specs.Path.{plainLine}
+use Rattle.path.proofs.plain_line.Statement.{statement}
+use Rattle.path.proofs.plain_line.Tie as tie
+
+returns : tie.Need-returns
+unfolding plainLine
+returns c = search needs
+
+pub plain-line-spec : {M : Type 1} → statement M
+plain-line-spec = tie.close (tie.spec returns)

@@ -1,0 +1,17 @@
+-- `pin_map::is_size` meets its contract: each `return` by the tests that led there.
+-- Assumes nothing.
+use Rattle.base.specs.Bytes.{within}
+use Rattle.base.proofs.IfLaws.{ifs, both-rest}
+use Rattle.pin_map.proofs.is_size.Statement.{statement}
+use Rattle.pin_map.proofs.is_size.Tie as tie
+
+returns : tie.Need-returns
+unfolding within
+returns c = search (ifs, both-rest)
+
+returns-2 : tie.Need-returns-2
+unfolding within
+returns-2 c = search (ifs, both-rest)
+
+pub is-size-spec : {M : Type 1} → statement M
+is-size-spec = tie.close (tie.spec returns returns-2)

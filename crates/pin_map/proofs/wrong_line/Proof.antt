@@ -1,0 +1,13 @@
+-- `pin_map::wrong_line` meets its contract: its rest is wrong, and no rule after that is broken.
+-- Assumes nothing.
+use borrow.Author.Needs.{needs}
+use Rattle.pin_map.specs.PinMap.{wrongLine}
+use Rattle.pin_map.proofs.wrong_line.Statement.{statement}
+use Rattle.pin_map.proofs.wrong_line.Tie as tie
+
+returns : tie.Need-returns
+unfolding wrongLine
+returns c = search needs
+
+pub wrong-line-spec : {M : Type 1} → statement M
+wrong-line-spec = tie.close (tie.spec returns)
