@@ -1,0 +1,6 @@
+pub mod StepLaws
+pub mod KeptLaws
+pub mod WalkLaws
+pub mod ReadingLaws
+pub mod OutsideLaws
+pub mod CountLaws

@@ -1,0 +1,343 @@
+-- Laws of one line: what the rule and the next state are in each place, and what code that has judged a line has to show.
+-- Assumes nothing.
+use mathlib.Core.Path.{_≡_, refl, sym, _∙_, ap}
+use mathlib.Core.Bool.{Bool, true, false, not}
+use mathlib.Core.List.{List, [], _∷_}
+use Prim.Native.Nat.{ℕ, _+_, _-_, _≤_, _<_}
+use native.Mathlib.Omega.{arith}
+use lib.Dec.{eqb}
+use borrow.Author.Tests.{eq-eqb, ne-eqb, eqb-true, eqb-false, ltb-false}
+use Rattle.base.specs.If.{if_then_else_, both, either}
+use Rattle.base.proofs.IfLaws.{if-true, if-false, by-cases, either-rest}
+use Rattle.text.specs.Words.{words, firstOf, lastEnd, lastWord}
+use Rattle.place.specs.Place.{movedByLine, isText}
+use Rattle.place.specs.Place as place
+use Rattle.argument.specs.Argument.{isReserved}
+use Rattle.head.specs.Head.{headLineOf, headRule, headNext}
+use Rattle.head.specs.declared.Head.{Head}
+use Rattle.head.specs.declared.HeadLine.{HeadLine}
+use Rattle.path.specs.Path.{pathLineOf, pathRule, pathNext, isStep}
+use Rattle.path.specs.declared.Path.{Path}
+use Rattle.path.specs.declared.PathLine.{PathLine}
+use Rattle.pin_map.specs.PinMap.{mapLineOf, mapRule, mapNext, pinRule, withPin}
+use Rattle.pin_map.specs.declared.Map.{Map}
+use Rattle.pin_map.specs.declared.MapLine.{MapLine}
+use Rattle.matrix.specs.Matrix.{dataLineOf, dataRule, dataNext, mostValues}
+use Rattle.pin_map.proofs.MapLaws.{pin-fits}
+use Rattle.reading.proofs.KeptLaws.{data-fits}
+use Rattle.matrix.specs.declared.Matrix.{Matrix}
+use Rattle.matrix.specs.declared.DataLine.{DataLine}
+use Rattle.block.specs.Keywords.{oneMoreIf, keywordRule, keywordNext}
+use Rattle.block.specs.Kept.{Kept, Countable, mostLines}
+use Rattle.block.proofs.KeptLaws.{keyword-bounds, kept-countable}
+use Rattle.argument.specs.Argument.{isOutOfBounds}
+use Rattle.base.specs.Bytes.{isBlank}
+use Rattle.base.specs.Runs.{run, all}
+use Rattle.base.specs.Class.{runEnd}
+use Rattle.base.proofs.RunLaws.{run-whole, all-run}
+use Rattle.text.specs.Lines.{isBlankLine}
+use Rattle.text.specs.declared.Span.{Span}
+use Rattle.keyword.specs.Bracket.{bracketOf}
+use Rattle.keyword.specs.declared.Bracket.{Bracket}
+use lib.ListN.{length, take, drop}
+use native.Mathlib.Nat.{zero-add}
+use Rattle.block.specs.declared.Counts.{Counts}
+use Rattle.block.specs.declared.State.{State}
+use Rattle.reading.specs.declared.Step.{Step}
+use Rattle.reading.specs.Reading.{listRule, lineRule, countsAfterLine, lineNext, goes, breaks, judged, lineStep, keywordStep, argumentFrom, bracketStep, beforeStep}
+
+-- ---- a line judged
+
+module _ (k : ℕ) (next s : State) where
+  judged-stops : (k ≡ 0 → ⊥) → breaks k s ≡ judged k next s
+  unfolding judged
+  judged-stops h = sym (if-false _ _ (ne-eqb _ _ h))
+
+  judged-goes : k ≡ 0 → goes next ≡ judged k next s
+  unfolding judged
+  judged-goes h = sym (if-true _ _ (eq-eqb _ _ h))
+
+module _ (content : List ℕ) (s : State) (k : ℕ) (rule : k ≡ lineRule content s) where
+  line-stops : (k ≡ 0 → ⊥) → breaks k s ≡ lineStep content s
+  unfolding lineStep
+  line-stops h = judged-stops k (lineNext content s) s h ∙ ap (λ (n : ℕ). judged n (lineNext content s) s) rule
+
+  line-goes : k ≡ 0 → (next : State) → next ≡ lineNext content s → goes next ≡ lineStep content s
+  unfolding lineStep
+  line-goes h next e = ap goes e ∙ judged-goes k (lineNext content s) s h ∙ ap (λ (n : ℕ). judged n (lineNext content s) s) rule
+
+-- ---- the rule of each place
+
+module _ (content : List ℕ) (s : State) where
+  rule-matrix : s .place ≡ place.matrix → lineRule content s ≡ dataRule (dataLineOf (s .matrix .form) content) (s .matrix) (s .counts .values)
+  unfolding lineRule isText either if_then_else_
+  rule-matrix e = rw e
+
+  rule-path : s .place ≡ place.path → lineRule content s ≡ pathRule (pathLineOf content) (s .path) (s .counts .steps)
+  unfolding lineRule isText either if_then_else_
+  rule-path e = rw e
+
+  rule-pins : s .place ≡ place.pins → lineRule content s ≡ pinRule content (s .map) (s .counts .pins)
+  unfolding lineRule isText either if_then_else_
+  rule-pins e = rw e
+
+  rule-map : s .place ≡ place.mapHead → lineRule content s ≡ mapRule (mapLineOf content) (s .map)
+  unfolding lineRule isText either if_then_else_
+  rule-map e = rw e
+
+  rule-head : s .place ≡ place.head → lineRule content s ≡ headRule (headLineOf content) (s .head)
+  unfolding lineRule isText either if_then_else_
+  rule-head e = rw e
+
+  rule-list : s .place ≡ place.list → lineRule content s ≡ listRule content
+  unfolding lineRule isText either if_then_else_
+  rule-list e = rw e
+
+-- ---- the next state of each place
+
+abbrev withPlace : State → ℕ → State
+withPlace s p = record { place = p; seen = s .seen; head = s .head; path = s .path; map = s .map; section = s .section; matrix = s .matrix; counts = s .counts }
+
+abbrev withHead : State → Head → State
+withHead s h = record { place = s .place; seen = s .seen; head = h; path = s .path; map = s .map; section = s .section; matrix = s .matrix; counts = s .counts }
+
+abbrev withSteps : Counts → ℕ → Counts
+withSteps c n = record { models = c .models; steps = n; maps = c .maps; pins = c .pins; sections = c .sections; matrices = c .matrices; values = c .values }
+
+abbrev withPath : State → Path → ℕ → State
+withPath s p n = record { place = s .place; seen = s .seen; head = s .head; path = p; map = s .map; section = s .section; matrix = s .matrix; counts = withSteps (s .counts) n }
+
+abbrev withMap : State → ℕ → Map → State
+withMap s p m = record { place = p; seen = s .seen; head = s .head; path = s .path; map = m; section = s .section; matrix = s .matrix; counts = s .counts }
+
+abbrev withPins : Counts → ℕ → Counts
+withPins c n = record { models = c .models; steps = c .steps; maps = c .maps; pins = n; sections = c .sections; matrices = c .matrices; values = c .values }
+
+abbrev withPinned : State → Map → ℕ → State
+withPinned s m n = record { place = s .place; seen = s .seen; head = s .head; path = s .path; map = m; section = s .section; matrix = s .matrix; counts = withPins (s .counts) n }
+
+abbrev withValues : Counts → ℕ → Counts
+withValues c n = record { models = c .models; steps = c .steps; maps = c .maps; pins = c .pins; sections = c .sections; matrices = c .matrices; values = n }
+
+abbrev withMatrix : State → Matrix → ℕ → State
+withMatrix s m n = record { place = s .place; seen = s .seen; head = s .head; path = s .path; map = s .map; section = s .section; matrix = m; counts = withValues (s .counts) n }
+
+module _ (content : List ℕ) (s : State) where
+  next-head : s .place ≡ place.head → withHead s (headNext (headLineOf content) (s .head)) ≡ lineNext content s
+  unfolding lineNext countsAfterLine movedByLine oneMoreIf both if_then_else_
+  next-head e = rw e
+
+  next-path : s .place ≡ place.path → withPath s (pathNext (pathLineOf content) (s .path)) (oneMoreIf (isStep (pathLineOf content)) (s .counts .steps)) ≡ lineNext content s
+  unfolding lineNext countsAfterLine movedByLine oneMoreIf both if_then_else_
+  next-path e = rw e
+
+  next-map : s .place ≡ place.mapHead → withMap s (movedByLine (s .place) (firstOf (words content))) (mapNext (mapLineOf content) (s .map)) ≡ lineNext content s
+  unfolding lineNext countsAfterLine oneMoreIf both if_then_else_
+  next-map e = rw e
+
+  next-pin : s .place ≡ place.pins → withPinned s (withPin (s .map)) (s .counts .pins + 1) ≡ lineNext content s
+  unfolding lineNext countsAfterLine movedByLine oneMoreIf both if_then_else_
+  next-pin e = rw e
+
+  next-data : s .place ≡ place.matrix → withMatrix s (dataNext (dataLineOf (s .matrix .form) content) (s .matrix)) (s .counts .values + dataLineOf (s .matrix .form) content .numbers) ≡ lineNext content s
+  unfolding lineNext countsAfterLine movedByLine oneMoreIf both if_then_else_
+  next-data e = rw e
+
+  -- in a place that takes a line and remembers nothing of it
+  next-same : (p : ℕ) → s .place ≡ p → withPlace s p ≡ lineNext content s → s ≡ lineNext content s
+  next-same p e h = (λ i. withPlace s (e i)) ∙ h
+
+  next-list : s .place ≡ place.list → withPlace s place.list ≡ lineNext content s
+  unfolding lineNext countsAfterLine movedByLine oneMoreIf both if_then_else_
+  next-list e = rw e
+
+  next-header : s .place ≡ place.headerText → withPlace s place.headerText ≡ lineNext content s
+  unfolding lineNext countsAfterLine movedByLine oneMoreIf both if_then_else_
+  next-header e = rw e
+
+  next-family : s .place ≡ place.familyText → withPlace s place.familyText ≡ lineNext content s
+  unfolding lineNext countsAfterLine movedByLine oneMoreIf both if_then_else_
+  next-family e = rw e
+
+  next-model : s .place ≡ place.modelText → withPlace s place.modelText ≡ lineNext content s
+  unfolding lineNext countsAfterLine movedByLine oneMoreIf both if_then_else_
+  next-model e = rw e
+
+  next-text : isText (s .place) ≡ true → s ≡ lineNext content s
+  unfolding isText
+  next-text t =
+      by-cases (s ≡ lineNext content s) (eqb (s .place) place.headerText)
+      (λ (e : eqb (s .place) place.headerText ≡ true). next-same place.headerText (eqb-true _ _ e) (next-header (eqb-true _ _ e)))
+      (λ (e : eqb (s .place) place.headerText ≡ false).
+      by-cases (s ≡ lineNext content s) (eqb (s .place) place.familyText)
+      (λ (f : eqb (s .place) place.familyText ≡ true). next-same place.familyText (eqb-true _ _ f) (next-family (eqb-true _ _ f)))
+      (λ (f : eqb (s .place) place.familyText ≡ false).
+      let g : eqb (s .place) place.modelText ≡ true = sym (either-rest _ _ e ∙ either-rest _ _ f) ∙ t in
+      next-same place.modelText (eqb-true _ _ g) (next-model (eqb-true _ _ g))))
+
+-- ---- what code that has judged a line has to show, place by place
+
+module _ (content : List ℕ) (s : State) (r : Step) where
+  module _ (here : s .place ≡ place.head) (l : HeadLine) (read : l ≡ headLineOf content) (k : ℕ) (rule : k ≡ headRule l (s .head)) where
+    head-rule : k ≡ lineRule content s
+    head-rule = rule ∙ ap (λ (x : HeadLine). headRule x (s .head)) read ∙ sym (rule-head content s here)
+
+    pub head-stops : (k ≡ 0 → ⊥) → r ≡ breaks k s → r ≡ lineStep content s
+    head-stops h e = e ∙ line-stops content s k head-rule h
+
+    pub head-goes : k ≡ 0 → (next : Head) → next ≡ headNext l (s .head) → r ≡ goes (withHead s next) → r ≡ lineStep content s
+    head-goes h next told e =
+        e ∙ line-goes content s k head-rule h (withHead s next) (ap (withHead s) (told ∙ ap (λ (x : HeadLine). headNext x (s .head)) read) ∙ next-head content s here)
+
+  module _ (here : s .place ≡ place.path) (l : PathLine) (read : l ≡ pathLineOf content) (k : ℕ) (rule : k ≡ pathRule l (s .path) (s .counts .steps)) where
+    path-rule : k ≡ lineRule content s
+    path-rule = rule ∙ ap (λ (x : PathLine). pathRule x (s .path) (s .counts .steps)) read ∙ sym (rule-path content s here)
+
+    pub path-stops : (k ≡ 0 → ⊥) → r ≡ breaks k s → r ≡ lineStep content s
+    path-stops h e = e ∙ line-stops content s k path-rule h
+
+    pub path-goes : k ≡ 0 → (b : Bool) → b ≡ isStep l → (steps : ℕ) → steps ≡ oneMoreIf b (s .counts .steps) → (next : Path) → next ≡ pathNext l (s .path) → r ≡ goes (withPath s next steps) → r ≡ lineStep content s
+    path-goes h b step steps count next told e =
+        let c : steps ≡ oneMoreIf (isStep (pathLineOf content)) (s .counts .steps) = count ∙ ap (λ (x : Bool). oneMoreIf x (s .counts .steps)) (step ∙ ap isStep read) in
+        let p : next ≡ pathNext (pathLineOf content) (s .path) = told ∙ ap (λ (x : PathLine). pathNext x (s .path)) read in
+        e ∙ line-goes content s k path-rule h (withPath s next steps) ((λ i. withPath s (p i) (c i)) ∙ next-path content s here)
+
+  module _ (here : s .place ≡ place.mapHead) (l : MapLine) (read : l ≡ mapLineOf content) (k : ℕ) (rule : k ≡ mapRule l (s .map)) where
+    map-rule : k ≡ lineRule content s
+    map-rule = rule ∙ ap (λ (x : MapLine). mapRule x (s .map)) read ∙ sym (rule-map content s here)
+
+    pub map-stops : (k ≡ 0 → ⊥) → r ≡ breaks k s → r ≡ lineStep content s
+    map-stops h e = e ∙ line-stops content s k map-rule h
+
+    pub map-goes : k ≡ 0 → (first : List ℕ) → first ≡ firstOf (words content) → (p : ℕ) → p ≡ movedByLine (s .place) first → (next : Map) → next ≡ mapNext l (s .map) → r ≡ goes (withMap s p next) → r ≡ lineStep content s
+    map-goes h first word p move next told e =
+        let q : p ≡ movedByLine (s .place) (firstOf (words content)) = move ∙ ap (movedByLine (s .place)) word in
+        let m : next ≡ mapNext (mapLineOf content) (s .map) = told ∙ ap (λ (x : MapLine). mapNext x (s .map)) read in
+        e ∙ line-goes content s k map-rule h (withMap s p next) ((λ i. withMap s (q i) (m i)) ∙ next-map content s here)
+
+  module _ (here : s .place ≡ place.pins) (k : ℕ) (rule : k ≡ pinRule content (s .map) (s .counts .pins)) where
+    pin-rule : k ≡ lineRule content s
+    pin-rule = rule ∙ sym (rule-pins content s here)
+
+    pub pin-stops : (k ≡ 0 → ⊥) → r ≡ breaks k s → r ≡ lineStep content s
+    pin-stops h e = e ∙ line-stops content s k pin-rule h
+
+    pub pin-goes : k ≡ 0 → (next : Map) → next ≡ withPin (s .map) → r ≡ goes (withPinned s next (s .counts .pins + 1)) → r ≡ lineStep content s
+    pin-goes h next told e =
+        e ∙ line-goes content s k pin-rule h (withPinned s next (s .counts .pins + 1)) ((λ i. withPinned s (told i) (s .counts .pins + 1)) ∙ next-pin content s here)
+
+  module _ (here : s .place ≡ place.matrix) (l : DataLine) (read : l ≡ dataLineOf (s .matrix .form) content) (k : ℕ) (rule : k ≡ dataRule l (s .matrix) (s .counts .values)) where
+    data-rule : k ≡ lineRule content s
+    data-rule = rule ∙ ap (λ (x : DataLine). dataRule x (s .matrix) (s .counts .values)) read ∙ sym (rule-matrix content s here)
+
+    pub data-stops : (k ≡ 0 → ⊥) → r ≡ breaks k s → r ≡ lineStep content s
+    data-stops h e = e ∙ line-stops content s k data-rule h
+
+    pub data-goes : k ≡ 0 → (next : Matrix) → next ≡ dataNext l (s .matrix) → r ≡ goes (withMatrix s next (s .counts .values + l .numbers)) → r ≡ lineStep content s
+    data-goes h next told e =
+        let m : next ≡ dataNext (dataLineOf (s .matrix .form) content) (s .matrix) = told ∙ ap (λ (x : DataLine). dataNext x (s .matrix)) read in
+        e ∙ line-goes content s k data-rule h (withMatrix s next (s .counts .values + l .numbers)) ((λ i. withMatrix s (m i) (s .counts .values + read i .numbers)) ∙ next-data content s here)
+
+  module _ (here : s .place ≡ place.list) (first : List ℕ) (word : first ≡ firstOf (words content)) (b : Bool) (told : b ≡ isReserved first) where
+    list-rule : (k : ℕ) → (if b then 11 else 0) ≡ k → k ≡ lineRule content s
+    unfolding listRule
+    list-rule k e = sym (rule-list content s here ∙ ap (λ (x : Bool). if x then 11 else 0) (sym (told ∙ ap isReserved word)) ∙ e)
+
+    pub list-stops : b ≡ true → r ≡ breaks 11 s → r ≡ lineStep content s
+    list-stops h e = e ∙ line-stops content s 11 (list-rule 11 (if-true _ _ h)) (λ (z : 11 ≡ 0). omega arith)
+
+    pub list-goes : b ≡ false → r ≡ goes s → r ≡ lineStep content s
+    list-goes h e = e ∙ line-goes content s 0 (list-rule 0 (if-false _ _ h)) refl s (next-same content s place.list here (next-list content s here))
+
+  pub text-goes : (b : Bool) → b ≡ isText (s .place) → b ≡ true → r ≡ goes s → r ≡ lineStep content s
+  unfolding lineRule
+  text-goes b told h e = e ∙ line-goes content s 0 (sym (if-true _ _ (sym told ∙ h))) refl s (next-text content s (sym told ∙ h))
+
+  pub other-stops : (s .place ≡ place.matrix → ⊥) → (s .place ≡ place.path → ⊥) → (s .place ≡ place.pins → ⊥) → (s .place ≡ place.list → ⊥) → (s .place ≡ place.mapHead → ⊥) → (s .place ≡ place.head → ⊥) → (b : Bool) → b ≡ isText (s .place) → b ≡ false → r ≡ breaks 12 s → r ≡ lineStep content s
+  unfolding lineRule
+  other-stops m p n l d h b told f e =
+      e ∙ line-stops content s 12
+      (sym (if-false _ _ (sym told ∙ f) ∙ if-false _ _ (ne-eqb _ _ m) ∙ if-false _ _ (ne-eqb _ _ p) ∙ if-false _ _ (ne-eqb _ _ n) ∙ if-false _ _ (ne-eqb _ _ d) ∙ if-false _ _ (ne-eqb _ _ h) ∙ if-false _ _ (ne-eqb _ _ l)))
+      (λ (z : 12 ≡ 0). omega arith)
+
+-- ---- sums that fit, from a rule that broke nothing
+
+pub pins-small : (content : List ℕ) (m : Map) (total k : ℕ) → k ≡ pinRule content m total → k ≡ 0 → m .pins < 4_294_967_296
+pins-small content m total k rule e =
+    let h : m .pins < 256 = pin-fits content m total (sym rule ∙ e) in
+    omega arith
+
+pub values-small : (l : DataLine) (m : Matrix) (values k : ℕ) → k ≡ dataRule l m values → k ≡ 0 → values + l .numbers ≤ mostValues
+values-small l m values k rule e = data-fits l m values (sym rule ∙ e)
+
+-- ---- keyword lines
+
+module _ (k : ℕ) (argument : List ℕ) (s : State) (n : ℕ) (rule : n ≡ keywordRule k argument s) (r : Step) where
+  pub keyword-stops : (n ≡ 0 → ⊥) → r ≡ breaks n s → r ≡ keywordStep k argument s
+  unfolding keywordStep
+  keyword-stops h e = e ∙ judged-stops n (keywordNext k argument s) s h ∙ ap (λ (x : ℕ). judged x (keywordNext k argument s) s) rule
+
+  pub keyword-goes : n ≡ 0 → (next : State) → next ≡ keywordNext k argument s → r ≡ goes next → r ≡ keywordStep k argument s
+  unfolding keywordStep
+  keyword-goes h next told e = e ∙ ap goes told ∙ judged-goes n (keywordNext k argument s) s h ∙ ap (λ (x : ℕ). judged x (keywordNext k argument s) s) rule
+
+pub keyword-inside : (k : ℕ) (argument : List ℕ) (s : State) (n : ℕ) → n ≡ keywordRule k argument s → n ≡ 0 → isOutOfBounds k argument ≡ false
+keyword-inside k argument s n rule e = keyword-bounds k argument s (sym rule ∙ e)
+
+pub all-countable : (s : State) → Kept mostLines s → Countable (s .counts)
+all-countable s kept = kept-countable mostLines s kept (omega arith)
+
+-- ---- arguments
+
+last-within : (content : List ℕ) → lastEnd content ≤ length content
+unfolding lastEnd
+last-within content = omega arith
+
+module _ (content : List ℕ) (start : ℕ) (last : Span) (found : last ≡ lastWord content) where
+  end-told : last .end ≡ lastEnd content
+  unfolding lastWord
+  end-told = ap (λ (w : Span). w .end) found
+
+  pub argument-within : last .end ≤ length content
+  argument-within =
+      let e : last .end ≡ lastEnd content = end-told in
+      let h : lastEnd content ≤ length content = last-within content in
+      omega arith
+
+  pub argument-none : last .end ≤ start → take 0 content ≡ argumentFrom content start
+  unfolding argumentFrom
+  argument-none h =
+      let e : last .end ≡ lastEnd content = end-told in
+      let z : lastEnd content - start ≡ 0 = omega arith in
+      rw z
+
+  pub argument-there : take (last .end - start) (drop start content) ≡ argumentFrom content start
+  unfolding argumentFrom
+  argument-there = ap (λ (n : ℕ). take (n - start) (drop start content)) end-told
+
+-- a keyword by the argument that was cut
+pub named-told : (k : ℕ) (content : List ℕ) (start : ℕ) (s : State) (argument : List ℕ) (r : Step) → argument ≡ argumentFrom content start → r ≡ keywordStep k argument s → r ≡ keywordStep k (argumentFrom content start) s
+named-told k content start s argument r cut e = e ∙ ap (λ (x : List ℕ). keywordStep k x s) cut
+
+-- ---- brackets
+
+module _ (content : List ℕ) (s : State) (r : Step) (b : Bracket) (read : b ≡ bracketOf content) where
+  -- by the case that was read
+  pub bracket-told : (c : Bracket) → b ≡ c → r ≡ bracketStep c content s → r ≡ bracketStep (bracketOf content) content s
+  bracket-told c e h = h ∙ ap (λ (x : Bracket). bracketStep x content s) (sym e ∙ read)
+
+  pub before-told : (c : Bracket) → b ≡ c → r ≡ beforeStep c content s → r ≡ beforeStep (bracketOf content) content s
+  before-told c e h = h ∙ ap (λ (x : Bracket). beforeStep x content s) (sym e ∙ read)
+
+-- ---- blank lines
+
+pub blank-told : (content : List ℕ) (n : ℕ) → n ≡ runEnd isBlank content 0 → eqb n (length content) ≡ isBlankLine content
+unfolding isBlankLine
+blank-told content n e =
+    let z : n ≡ run isBlank content = e ∙ zero-add (run isBlank content) in
+    by-cases (eqb n (length content) ≡ all isBlank content) (eqb n (length content))
+    (λ (h : eqb n (length content) ≡ true). h ∙ sym (run-whole isBlank content (sym z ∙ eqb-true _ _ h)))
+    (λ (h : eqb n (length content) ≡ false).
+    by-cases (eqb n (length content) ≡ all isBlank content) (all isBlank content)
+    (λ (a : all isBlank content ≡ true). absurd (eqb-false n (length content) h (z ∙ all-run isBlank content a)))
+    (λ (a : all isBlank content ≡ false). h ∙ sym a))

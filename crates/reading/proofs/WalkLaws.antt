@@ -1,0 +1,251 @@
+-- Laws of the walk over the lines: what one line does, what a step that breaks nothing keeps, and how walks join.
+-- Assumes nothing.
+use mathlib.Core.Path.{_≡_, refl, sym, _∙_, ap, subst}
+use mathlib.Core.Bool.{Bool, true, false}
+use mathlib.Core.List.{List, [], _∷_}
+use Prim.Native.Nat.{ℕ, suc, _+_, _-_, _≤_, _<_, zero-le}
+use native.Mathlib.Nat.{le-refl}
+use native.Mathlib.Omega.{arith}
+use lib.ListN.{length, take, drop, length-drop, drop-of-length-le}
+use lib.Dec.{eqb}
+use borrow.Author.Tests.{eq-eqb, ne-eqb, eqb-true, eqb-false}
+use Rattle.base.specs.If.{if_then_else_}
+use Rattle.base.specs.Runs.{run as run′}
+use Rattle.base.specs.Class.{isContent}
+use Rattle.base.proofs.IfLaws.{if-true, if-false, by-cases}
+use Rattle.base.proofs.RunLaws.{run-le}
+use Rattle.text.specs.Lines.{Raw, lines, contentOf, isBlankLine, lineAt}
+use Rattle.text.specs.declared.Line.{Line}
+use Rattle.text.proofs.LineLaws.{firstOf, lines-at, next-on, next-within, content-at}
+use Rattle.block.specs.Kept.{Kept, mostLines}
+use Rattle.block.proofs.KeptLaws.{start-kept, keyword-kept, kept-more}
+use Rattle.block.specs.State.{startState}
+use Rattle.block.specs.Keywords.{keywordRule, keywordNext}
+use Rattle.block.specs.declared.State.{State}
+use Rattle.keyword.specs.Names.{beginHeader}
+use Rattle.keyword.specs.Bracket.{bracketOf}
+use Rattle.keyword.specs.declared.Bracket.{Bracket}
+use Rattle.keyword.specs.declared.Bracket.the-variants.{Plain, Indented, Bad, Unknown, Later, Keyword}
+use Rattle.place.specs.Place.{isText, before, done}
+use Rattle.reading.specs.Reading.{
+  commentByte,
+  goes,
+  breaks,
+  judged,
+  lineRule,
+  lineNext,
+  lineStep,
+  keywordStep,
+  argumentFrom,
+  bracketStep,
+  beforeStep,
+  stepOf,
+  onward,
+  run,
+  atEnd,
+  readingOf,
+}
+use Rattle.reading.specs.Walk.{resume, Onward, Reached, Continued}
+use Rattle.reading.specs.declared.Step.{Step}
+use Rattle.reading.specs.declared.Walk.{Walk}
+use Rattle.reading.specs.declared.Reading.{Reading}
+use Rattle.reading.specs.declared.Reading.the-variants.{Read, Refused}
+use Rattle.reading.proofs.KeptLaws.{line-kept}
+
+-- ---- what a line that breaks nothing keeps
+
+-- a step keeps what the reading keeps
+abbrev Keeps : ℕ → Step → Type 0
+Keeps n step = step .number ≡ 0 → Kept (n + 1) (step .state)
+
+keeps-goes : (n : ℕ) (s : State) → Kept n s → Keeps n (goes s)
+unfolding goes
+keeps-goes n s k z = kept-more n (n + 1) s k (omega arith)
+
+keeps-breaks : (n k : ℕ) (s : State) → 0 < k → Keeps n (breaks k s)
+unfolding breaks
+keeps-breaks n k s h z = absurd (omega arith)
+
+keeps-judged : (n k : ℕ) (next s : State) → (k ≡ 0 → Kept (n + 1) next) → Keeps n (judged k next s)
+unfolding judged goes breaks
+keeps-judged n k next s h =
+    by-cases (Keeps n (judged k next s)) (eqb k 0)
+    (λ (e : eqb k 0 ≡ true). rw (if-true {b = eqb k 0} (goes next) (breaks k s) e) (λ (z : _≡_ {A = ℕ} 0 0). h (eqb-true _ _ e)))
+    (λ (e : eqb k 0 ≡ false). rw (if-false {b = eqb k 0} (goes next) (breaks k s) e) (λ (z : k ≡ 0). absurd (eqb-false k 0 e z)))
+
+keeps-line : (n : ℕ) (content : List ℕ) (s : State) → Kept n s → Keeps n (lineStep content s)
+unfolding lineStep
+keeps-line n content s k = keeps-judged n (lineRule content s) (lineNext content s) s (line-kept n content s k)
+
+keeps-keyword : (n k : ℕ) (argument : List ℕ) (s : State) → Kept n s → Keeps n (keywordStep k argument s)
+unfolding keywordStep
+keeps-keyword n k argument s kept = keeps-judged n (keywordRule k argument s) (keywordNext k argument s) s (keyword-kept n k argument s kept)
+
+-- whichever of two steps a test chooses
+keeps-if : (n : ℕ) (b : Bool) (x y : Step) → Keeps n x → Keeps n y → Keeps n (if b then x else y)
+unfolding if_then_else_
+keeps-if n true x y h k = h
+keeps-if n false x y h k = k
+
+keeps-bracket : (n : ℕ) (b : Bracket) (content : List ℕ) (s : State) → Kept n s → Keeps n (bracketStep b content s)
+keeps-bracket n Plain content s k = keeps-line n content s k
+keeps-bracket n Indented content s k = keeps-if n (isText (s .place)) _ _ (keeps-line n content s k) (keeps-breaks n 6 s (omega arith))
+keeps-bracket n Bad content s k = keeps-breaks n 6 s (omega arith)
+keeps-bracket n Unknown content s k = keeps-breaks n 7 s (omega arith)
+keeps-bracket n Later content s k = keeps-breaks n 8 s (omega arith)
+keeps-bracket n (Keyword key start) content s k = keeps-keyword n key (argumentFrom content start) s k
+
+keeps-before : (n : ℕ) (b : Bracket) (content : List ℕ) (s : State) → Kept n s → Keeps n (beforeStep b content s)
+keeps-before n Plain content s k = keeps-goes n s k
+keeps-before n Indented content s k = keeps-goes n s k
+keeps-before n Bad content s k = keeps-goes n s k
+keeps-before n Unknown content s k = keeps-goes n s k
+keeps-before n Later content s k = keeps-goes n s k
+keeps-before n (Keyword key start) content s k = keeps-if n (eqb key beginHeader) _ _ (keeps-keyword n key (argumentFrom content start) s k) (keeps-goes n s k)
+
+pub step-kept : (n : ℕ) (content : List ℕ) (s : State) → Kept n s → Keeps n (stepOf content s)
+unfolding stepOf
+step-kept n content s k =
+    keeps-if n (isBlankLine content) _ _ (keeps-goes n s k)
+    (keeps-if n (eqb (s .place) done) _ _ (keeps-goes n s k)
+    (keeps-if n (eqb (s .place) before) _ _ (keeps-before n (bracketOf content) content s k) (keeps-bracket n (bracketOf content) content s k)))
+
+-- ---- one line
+
+run-cons : (n : ℕ) (l : Raw) (ls : List Raw) (s : State) → run n (l ∷ ls) s ≡ onward (stepOf (contentOf commentByte (l .bytes)) s) n (run (n + 1) ls)
+unfolding run
+run-cons n l ls s = refl
+
+module _ (t : List ℕ) (at line : ℕ) (s : State) (h : at < length t) (on : Onward t at line s) (here : Line) (found : here ≡ lineAt commentByte t at) where
+  -- what the code cuts is the line's content
+  content-told : take (here .content - at) (drop at t) ≡ contentOf commentByte (firstOf (drop at t) .bytes)
+  content-told = ap (λ (l : Line). take (l .content - at) (drop at t)) found ∙ sym (content-at commentByte t at)
+
+  module _ (step : Step) (taken : step ≡ stepOf (take (here .content - at) (drop at t)) s) where
+    step-told : step ≡ stepOf (contentOf commentByte (firstOf (drop at t) .bytes)) s
+    step-told = taken ∙ ap (λ (c : List ℕ). stepOf c s) content-told
+
+    line-run : run line (lines (drop at t)) s ≡ onward step line (run (line + 1) (lines (drop (here .next) t)))
+    line-run =
+        ap (λ (ls : List Raw). run line ls s) (lines-at commentByte t at h)
+        ∙ run-cons line (firstOf (drop at t)) (lines (drop (lineAt commentByte t at .next) t)) s
+        ∙ (λ i. onward (sym step-told i) line (run (line + 1) (lines (drop (sym found i .next) t))))
+
+    pub line-broken : (step .number ≡ 0 → ⊥) → Reached t at line s (record { number = step .number; at = here .next; line = line; state = step .state })
+    unfolding resume onward
+    line-broken z =
+        record {
+          same = if-false _ _ (ne-eqb _ _ z) ∙ sym (line-run ∙ if-false _ _ (ne-eqb _ _ z));
+          further = λ (e : step .number ≡ 0). absurd (z e);
+          onward = λ (e : step .number ≡ 0). absurd (z e);
+        }
+
+    pub line-taken : step .number ≡ 0 → Reached t at line s (record { number = 0; at = here .next; line = line + 1; state = step .state })
+    unfolding resume onward
+    line-taken z =
+        let f : at < here .next = rw found (next-on commentByte t at h) in
+        let w : here .next ≤ length t = rw found (next-within commentByte t at h) in
+        let c : line ≤ at + 1 = on .counted in
+        record {
+          same = if-true _ _ (eq-eqb 0 0 refl) ∙ sym (line-run ∙ if-true _ _ (eq-eqb _ _ z));
+          further = λ (e : _≡_ {A = ℕ} 0 0). f;
+          onward = λ (e : _≡_ {A = ℕ} 0 0). record { within = w; counted = omega arith; kept = kept-next z };
+        }
+      where
+        kept-next : step .number ≡ 0 → Kept (line + 1) (step .state)
+        kept-next z = rw taken (step-kept line (take (here .content - at) (drop at t)) s (on .kept) (rw taken at z))
+
+-- a text is short enough that every count can be raised
+pub kept-all : (t : List ℕ) (at line : ℕ) (s : State) → at < length t → length t < 9_223_372_036_854_775_808 → Onward t at line s → Kept mostLines s
+kept-all t at line s h l on =
+    let c : line ≤ at + 1 = on .counted in
+    kept-more line mostLines s (on .kept) (omega arith)
+
+-- ---- walks that join
+
+pub walk-starts : (t : List ℕ) (at line : ℕ) (s : State) (w : Walk) → Reached t at line s w → Continued t w w
+walk-starts t at line s w r =
+    record { same = refl; from = λ (e : w .number ≡ 0). e; further = λ (e : w .number ≡ 0). le-refl (w .at); onward = r .onward }
+
+pub walk-ends : (t : List ℕ) (at line : ℕ) (s : State) (w v : Walk) → Reached t at line s w → Continued t w v → Reached t at line s v
+walk-ends t at line s w v r c =
+    record {
+      same = c .same ∙ r .same;
+      further = λ (e : v .number ≡ 0). let a : at < w .at = r .further (c .from e) in let b : w .at ≤ v .at = c .further e in omega arith;
+      onward = c .onward;
+    }
+
+-- a walk that goes on from where another has come
+pub walk-joins : (t : List ℕ) (w v u : Walk) → Continued t w v → v .number ≡ 0 → Reached t (v .at) (v .line) (v .state) u → Continued t w u
+unfolding resume
+walk-joins t w v u c z r =
+    record {
+      same = r .same ∙ sym (if-true _ _ (eq-eqb _ _ z)) ∙ c .same;
+      from = λ (e : u .number ≡ 0). c .from z;
+      further = λ (e : u .number ≡ 0). let a : v .at < u .at = r .further e in let b : w .at ≤ v .at = c .further z in omega arith;
+      onward = r .onward;
+    }
+
+-- how much a walk has left to go: nothing once a rule is broken
+pub left-of : List ℕ → Walk → ℕ
+left-of t w = if eqb (w .number) 0 then suc (length t - w .at) else 0
+
+pub left-falls : (t : List ℕ) (v u : Walk) → v .number ≡ 0 → v .at < length t → Reached t (v .at) (v .line) (v .state) u → left-of t u < left-of t v
+unfolding left-of
+left-falls t v u z h r =
+    let a : left-of t v ≡ suc (length t - v .at) = if-true _ _ (eq-eqb _ _ z) in
+    by-cases (left-of t u < left-of t v) (eqb (u .number) 0)
+    (λ (e : eqb (u .number) 0 ≡ true).
+    let b : left-of t u ≡ suc (length t - u .at) = if-true _ _ e in
+    let f : v .at < u .at = r .further (eqb-true _ _ e) in
+    omega arith)
+    (λ (e : eqb (u .number) 0 ≡ false).
+    let b : left-of t u ≡ 0 = if-false _ _ e in
+    omega arith)
+
+-- ---- the part of the text that a line's content is
+
+module _ (t : List ℕ) (at : ℕ) (here : Line) (found : here ≡ lineAt commentByte t at) where
+  pub content-start : at ≤ here .content
+  unfolding lineAt
+  content-start = rw found (omega arith)
+
+  pub content-within : at < length t → here .content ≤ length t
+  unfolding lineAt
+  content-within h =
+      let l : length (drop at t) ≡ length t - at = length-drop at t in
+      let r : run′ (isContent commentByte) (drop at t) ≤ length (drop at t) = run-le (isContent commentByte) (drop at t) in
+      rw found (omega arith)
+
+pub goes-from : (t : List ℕ) (w v : Walk) → Continued t w v → v .number ≡ 0 → Onward t (v .at) (v .line) (v .state)
+goes-from t w v c z = c .onward z
+
+-- ---- the whole text
+
+pub reading-starts : (t : List ℕ) (s : State) → s ≡ startState → Onward t 0 1 s
+reading-starts t s e = record { within = zero-le; counted = omega arith; kept = rw e (kept-more 0 1 startState start-kept (omega arith)) }
+
+pub reading-whole : (t : List ℕ) (s : State) → s ≡ startState → run 1 (lines (drop 0 t)) s ≡ readingOf t
+unfolding readingOf
+reading-whole t s e = ap (run 1 (lines t)) e
+
+module _ (t : List ℕ) (at line : ℕ) (s : State) (answer : Reading) (rest : run line (lines (drop at t)) s ≡ answer) where
+  pub reading-ends : length t ≤ at → (r : Reading) → r ≡ atEnd s → r ≡ answer
+  unfolding run lines
+  reading-ends h r e = e ∙ rw (drop-of-length-le t h) at rest
+
+  module _ (w : Walk) (reached : Reached t at line s w) where
+    pub reading-stops : (w .number ≡ 0 → ⊥) → Refused (w .number) (w .line) ≡ answer
+    unfolding resume
+    reading-stops z = sym (if-false _ _ (ne-eqb _ _ z)) ∙ reached .same ∙ rest
+
+    module _ (z : w .number ≡ 0) where
+      pub reading-on : run (w .line) (lines (drop (w .at) t)) (w .state) ≡ answer
+      unfolding resume
+      reading-on = sym (if-true _ _ (eq-eqb _ _ z)) ∙ reached .same ∙ rest
+
+      pub reading-onward : Onward t (w .at) (w .line) (w .state)
+      reading-onward = reached .onward z
+
+      pub reading-further : at < w .at
+      reading-further = reached .further z

@@ -1,0 +1,15 @@
+-- `reading::is_blank_line` meets its contract: the run of blanks from the start is the whole line.
+-- Assumes nothing.
+use Rattle.reading.proofs.StepLaws.{blank-told}
+use borrow.Author.Needs.{needs}
+use Rattle.reading.proofs.is_blank_line.Statement.{statement}
+use Rattle.reading.proofs.is_blank_line.Tie as tie
+
+skip-requires : tie.Need-skip-requires
+skip-requires c κs = search needs
+
+returns : tie.Need-returns
+returns c = search blank-told
+
+pub is-blank-line-spec : {M : Type 1} → statement M
+is-blank-line-spec = tie.close (tie.spec skip-requires returns)

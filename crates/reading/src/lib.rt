@@ -1,0 +1,386 @@
+// The forward reading: every line of a text in its place, rules 5 to 17.
+ghost use mathlib.Core.Path.{_≡_};
+ghost use Prim.Native.Nat.{_+_, _≤_, _<_};
+ghost use lib.ListN.{length};
+ghost use Rattle.place.specs.Place as place;
+ghost use Rattle.block.specs.Kept.{Kept, mostLines};
+ghost use Rattle.reading.specs.Reading.{listRule, goes, breaks, lineStep, keywordStep, argumentFrom, bracketStep, beforeStep, stepOf, atEnd, readingOf};
+ghost use Rattle.text.specs.Lines.{isBlankLine};
+ghost use Rattle.keyword.specs.Bracket.{bracketOf};
+ghost use Rattle.keyword.specs.declared.Bracket.the-variants.{Indented, Keyword};
+ghost use Rattle.reading.specs.Walk.{Reached, Onward};
+use base::Class;
+use block::Counts;
+use block::State;
+use keyword::Bracket;
+
+// "From `|` on, a line is comment".
+const COMMENT: u8 = b'|';
+
+// "to a depth of 8".
+const DEEPEST: u64 = 8;
+
+// What one line comes to: the number of the rule that it breaks, 0 for none, and what is remembered after it.
+pub struct Step {
+    pub number: u64,
+    pub state: State,
+}
+
+// What a text comes to in the group 5 to 17.
+pub enum Reading {
+    Read(Counts),
+    Refused(u64, u64),
+}
+
+// How far a walk over the lines has come: where it goes on, at which line and in which state; or the rule broken, and its line.
+pub struct Walk {
+    pub number: u64,
+    pub at: usize,
+    pub line: u64,
+    pub state: State,
+}
+
+fn goes_on(s: State) -> Step
+    ensures { λ r. ⌜ r ≡ goes s ⌝ }
+{
+    Step {
+        number: 0,
+        state: s,
+    }
+}
+
+fn stops(number: u64, s: State) -> Step
+    ensures { λ r. ⌜ r ≡ breaks number s ⌝ }
+{
+    Step { number, state: s }
+}
+
+// ---- lines without a keyword, place by place
+
+// A list line: its first word is never a reserved one.
+fn list_step(content: &[u8], s: State) -> Step
+    requires { ⌜ s .place ≡ place.list ⌝ }
+    ensures { λ r. ⌜ r ≡ lineStep (now (content .entry)) s ⌝ }
+{
+    if argument::is_reserved(text::first_word(content)) {
+        return stops(11, s);
+    }
+    goes_on(s)
+}
+
+fn head_step(content: &[u8], s: State) -> Step
+    requires { ⌜ s .place ≡ place.head ⌝ }
+    ensures { λ r. ⌜ r ≡ lineStep (now (content .entry)) s ⌝ }
+{
+    let line = head::head_line(content);
+    let head = s.head;
+    let number = head::head_rule(line, head);
+    if number != 0 {
+        return stops(number, s);
+    }
+    let mut next = s;
+    next.head = head::head_next(line, head);
+    goes_on(next)
+}
+
+fn path_step(content: &[u8], s: State) -> Step
+    requires { ⌜ (s .place ≡ place.path) × Kept mostLines s ⌝ }
+    ensures { λ r. ⌜ r ≡ lineStep (now (content .entry)) s ⌝ }
+{
+    let line = path::path_line(content);
+    let path = s.path;
+    let mut counts = s.counts;
+    let number = path::path_rule(line, path, counts.steps);
+    if number != 0 {
+        return stops(number, s);
+    }
+    counts.steps = block::one_more_if(path::is_step(line), counts.steps);
+    let mut next = s;
+    next.path = path::path_next(line, path);
+    next.counts = counts;
+    goes_on(next)
+}
+
+fn map_step(content: &[u8], s: State) -> Step
+    requires { ⌜ s .place ≡ place.mapHead ⌝ }
+    ensures { λ r. ⌜ r ≡ lineStep (now (content .entry)) s ⌝ }
+{
+    let line = pin_map::map_line(content);
+    let map = s.map;
+    let number = pin_map::map_rule(line, map);
+    if number != 0 {
+        return stops(number, s);
+    }
+    let mut next = s;
+    next.place = place::moved_by_line(s.place, text::first_word(content));
+    next.map = pin_map::map_next(line, map);
+    goes_on(next)
+}
+
+fn pin_step(content: &[u8], s: State) -> Step
+    requires { ⌜ (s .place ≡ place.pins) × Kept mostLines s ⌝ }
+    ensures { λ r. ⌜ r ≡ lineStep (now (content .entry)) s ⌝ }
+{
+    let map = s.map;
+    let mut counts = s.counts;
+    let number = pin_map::pin_rule(content, map, counts.pins);
+    if number != 0 {
+        return stops(number, s);
+    }
+    counts.pins = counts.pins + 1;
+    let mut next = s;
+    next.map = pin_map::with_pin(map);
+    next.counts = counts;
+    goes_on(next)
+}
+
+fn data_step(content: &[u8], s: State) -> Step
+    requires { ⌜ s .place ≡ place.matrix ⌝ }
+    ensures { λ r. ⌜ r ≡ lineStep (now (content .entry)) s ⌝ }
+{
+    let matrix = s.matrix;
+    let mut counts = s.counts;
+    let line = matrix::data_line(matrix.form, content);
+    let number = matrix::data_rule(line, matrix, counts.values);
+    if number != 0 {
+        return stops(number, s);
+    }
+    counts.values = counts.values + line.numbers;
+    let mut next = s;
+    next.matrix = matrix::data_next(line, matrix);
+    next.counts = counts;
+    goes_on(next)
+}
+
+// A line without a keyword: what its place takes. Data lines come first, since most lines of a file are such.
+fn line_step(content: &[u8], s: State) -> Step
+    requires { ⌜ Kept mostLines s ⌝ }
+    ensures { λ r. ⌜ r ≡ lineStep (now (content .entry)) s ⌝ }
+{
+    if s.place == place::MATRIX {
+        return data_step(content, s);
+    }
+    if s.place == place::PATH {
+        return path_step(content, s);
+    }
+    if s.place == place::PINS {
+        return pin_step(content, s);
+    }
+    if s.place == place::LIST {
+        return list_step(content, s);
+    }
+    if s.place == place::MAP_HEAD {
+        return map_step(content, s);
+    }
+    if s.place == place::HEAD {
+        return head_step(content, s);
+    }
+    if place::is_text(s.place) {
+        return goes_on(s);
+    }
+    stops(12, s)
+}
+
+// ---- one line
+
+// A keyword line: the rules that it may break, then what is remembered.
+fn keyword_step(key: u64, argument: &[u8], s: State) -> Step
+    requires { ⌜ Kept mostLines s ⌝ }
+    ensures { λ r. ⌜ r ≡ keywordStep key (now (argument .entry)) s ⌝ }
+{
+    let number = block::keyword_rule(key, argument, s);
+    if number != 0 {
+        return stops(number, s);
+    }
+    goes_on(block::keyword_next(key, argument, s))
+}
+
+// The argument of a keyword, without the blanks at its ends.
+fn argument_of(content: &[u8], start: usize) -> &[u8]
+    ensures { λ r. ⌜ now r ≡ argumentFrom (now (content .entry)) start ⌝ }
+{
+    let last = text::last_word(content);
+    let end = last.end;
+    if end <= start {
+        return &content[..0];
+    }
+    &content[start..end]
+}
+
+fn named_step(key: u64, start: usize, content: &[u8], s: State) -> Step
+    requires { ⌜ Kept mostLines s ⌝ }
+    ensures { λ r. ⌜ r ≡ keywordStep key (argumentFrom (now (content .entry)) start) s ⌝ }
+{
+    keyword_step(key, argument_of(content, start), s)
+}
+
+// An indented bracket is text in a text block, and bad elsewhere.
+fn indented_step(content: &[u8], s: State) -> Step
+    requires { ⌜ Kept mostLines s ⌝ }
+    ensures { λ r. ⌜ r ≡ bracketStep Indented (now (content .entry)) s ⌝ }
+{
+    if place::is_text(s.place) {
+        return line_step(content, s);
+    }
+    stops(6, s)
+}
+
+fn bracket_step(content: &[u8], s: State) -> Step
+    requires { ⌜ Kept mostLines s ⌝ }
+    ensures { λ r. ⌜ r ≡ bracketStep (bracketOf (now (content .entry))) (now (content .entry)) s ⌝ }
+{
+    match keyword::read_bracket(content) {
+        Bracket::Plain => line_step(content, s),
+        Bracket::Indented => indented_step(content, s),
+        Bracket::Bad => stops(6, s),
+        Bracket::Unknown => stops(7, s),
+        Bracket::Later => stops(8, s),
+        Bracket::Keyword(key, start) => named_step(key, start, content, s),
+    }
+}
+
+// [Begin Header] is looked for; every other keyword is passed over.
+fn opening_step(key: u64, start: usize, content: &[u8], s: State) -> Step
+    requires { ⌜ Kept mostLines s ⌝ }
+    ensures { λ r. ⌜ r ≡ beforeStep (Keyword key start) (now (content .entry)) s ⌝ }
+{
+    if key == keyword::BEGIN_HEADER {
+        return named_step(key, start, content, s);
+    }
+    goes_on(s)
+}
+
+fn before_step(content: &[u8], s: State) -> Step
+    requires { ⌜ Kept mostLines s ⌝ }
+    ensures { λ r. ⌜ r ≡ beforeStep (bracketOf (now (content .entry))) (now (content .entry)) s ⌝ }
+{
+    match keyword::read_bracket(content) {
+        Bracket::Plain => goes_on(s),
+        Bracket::Indented => goes_on(s),
+        Bracket::Bad => goes_on(s),
+        Bracket::Unknown => goes_on(s),
+        Bracket::Later => goes_on(s),
+        Bracket::Keyword(key, start) => opening_step(key, start, content, s),
+    }
+}
+
+fn is_blank_line(content: &[u8]) -> bool
+    ensures { λ r. ⌜ r ≡ isBlankLine (now (content .entry)) ⌝ }
+{
+    base::skip(Class::Blank, content, 0) == content.len()
+}
+
+// One line, given by its content.
+fn take_line(content: &[u8], s: State) -> Step
+    requires { ⌜ Kept mostLines s ⌝ }
+    ensures { λ r. ⌜ r ≡ stepOf (now (content .entry)) s ⌝ }
+{
+    if is_blank_line(content) {
+        return goes_on(s);
+    }
+    if s.place == place::DONE {
+        return goes_on(s);
+    }
+    if s.place == place::BEFORE {
+        return before_step(content, s);
+    }
+    bracket_step(content, s)
+}
+
+// ---- the whole text
+
+// The line at a place: each byte of it is gone over a bounded number of times.
+fn read_line(text: &[u8], at: usize, line: u64, s: State) -> Walk
+    requires { ⌜ (at < length (now text)) × Onward (now text) at line s ⌝ }
+    ensures { λ r. ⌜ Reached (now (text .entry)) at line s r ⌝ }
+{
+    let here = text::line_at(text, at, COMMENT);
+    let content = here.content;
+    let taken = take_line(&text[at..content], s);
+    let state = taken.state;
+    if taken.number != 0 {
+        return Walk {
+            number: taken.number,
+            at: here.next,
+            line,
+            state,
+        };
+    }
+    Walk {
+        number: 0,
+        at: here.next,
+        line: line + 1,
+        state,
+    }
+}
+
+// How many fork blocks are open.
+fn depth_of(s: State) -> u64 {
+    let path = s.path;
+    path.depth
+}
+
+// The lines of a block, up to the line that closes it. "A block may hold further blocks, to a depth of 8": an inner block is read by
+// the same function, and the depth still left falls. The file itself is the outermost block.
+fn read_block(text: &[u8], at: usize, line: u64, s: State, left: u64) -> Walk
+    requires { ⌜ (at < length (now text)) × Onward (now text) at line s ⌝ }
+    ensures { λ r. ⌜ Reached (now (text .entry)) at line s r ⌝ }
+{
+    let mut walk = read_line(text, at, line, s);
+    let mut depth = depth_of(s);
+    loop {
+        if walk.number != 0 {
+            return walk;
+        }
+        let here = walk.at;
+        if text.len() <= here {
+            return walk;
+        }
+        let state = walk.state;
+        let next = depth_of(state);
+        if next < depth {
+            return walk;
+        }
+        if depth < next {
+            if 0 < left {
+                walk = read_block(text, here, walk.line, state, left - 1);
+                continue;
+            }
+        }
+        depth = next;
+        walk = read_line(text, here, walk.line, state);
+    }
+}
+
+fn at_end(s: State) -> Reading
+    ensures { λ r. ⌜ r ≡ atEnd s ⌝ }
+{
+    if s.place == place::DONE {
+        let counts = s.counts;
+        return Reading::Read(counts);
+    }
+    if s.place == place::BEFORE {
+        return Reading::Refused(5, 0);
+    }
+    Reading::Refused(10, 0)
+}
+
+// Rules 5 to 17 over a whole text: the counts of all records, or the rule that is broken first and its line.
+pub fn read(text: &[u8]) -> Reading
+    ensures { λ r. ⌜ r ≡ readingOf (now (text .entry)) ⌝ }
+{
+    let mut at = 0;
+    let mut line = 1;
+    let mut s = block::start_state();
+    while at < text.len() {
+        let walk = read_block(text, at, line, s, DEEPEST);
+        if walk.number != 0 {
+            return Reading::Refused(walk.number, walk.line);
+        }
+        at = walk.at;
+        line = walk.line;
+        let state = walk.state;
+        s = state;
+    }
+    at_end(s)
+}
