@@ -268,23 +268,13 @@ pub fn is_bad_integer(key: u64, argument: &[u8]) -> bool
     !whole.formed
 }
 
-// "[Row] .. 1 to 256".
-fn is_row(number: u64) -> bool
-    ensures { λ r. ⌜ r ≡ within 1 256 number ⌝ }
-{
-    if number < 1 {
-        return false;
-    }
-    number <= 256
-}
-
 // 14 of a keyword line: "[Row] .. 1 to 256; B 0 to 255".
 pub fn is_out_of_bounds(key: u64, argument: &[u8]) -> bool
     ensures { λ r. ⌜ r ≡ isOutOfBounds key (now (argument .entry)) ⌝ }
 {
     if key == keyword::ROW {
         let whole = number::read_integer(argument);
-        return !is_row(whole.value);
+        return !number::is_within(1, 256, whole.value);
     }
     if key == keyword::BANDWIDTH {
         let whole = number::read_integer(argument);

@@ -125,16 +125,6 @@ fn list_line(content: &[u8]) -> MapLine
     }
 }
 
-// "Num_of_rows, Num_of_columns .. 1 to 256".
-fn is_size(number: u64) -> bool
-    ensures { λ r. ⌜ r ≡ within 1 256 number ⌝ }
-{
-    if number < 1 {
-        return false;
-    }
-    number <= 256
-}
-
 // "`Num_of_columns = c` and `Num_of_rows = r`": one word on each side of the sign.
 fn size_line(says: u64, content: &[u8]) -> MapLine
     ensures { λ r. ⌜ r ≡ sizeLine says (now (content .entry)) ⌝ }
@@ -155,7 +145,7 @@ fn size_line(says: u64, content: &[u8]) -> MapLine
     }
     let first = right.first;
     let whole = number::read_integer(text::marked(rest, first));
-    let bounded = is_size(whole.value);
+    let bounded = number::is_within(1, 256, whole.value);
     MapLine {
         says,
         right: true,

@@ -54,8 +54,8 @@ marked-requires c κs = search (first-ordered, first-within)
 read-integer-requires : tie.Need-read-integer-requires
 read-integer-requires c κs = search needs
 
-is-size-requires : tie.Need-is-size-requires
-is-size-requires c κs = search needs
+is-within-requires : tie.Need-is-within-requires
+is-within-requires c κs = search needs
 
 returns-4 : tie.Need-returns-4
 returns-4 c = search size-given
@@ -80,5 +80,5 @@ size-line-spec =
     returns-3
     marked-requires
     read-integer-requires
-    is-size-requires
+    is-within-requires
     returns-4)
