@@ -13,15 +13,15 @@ use text::Few;
 // What a line of a path says: Model_pinmap is an end.
 const NOTHING: u64 = 0;
 
-const END: u64 = 1;
+pub const END: u64 = 1;
 
-const SIDE: u64 = 2;
+pub const SIDE: u64 = 2;
 
-const SECTION: u64 = 3;
+pub const SECTION: u64 = 3;
 
-const FORK: u64 = 4;
+pub const FORK: u64 = 4;
 
-const ENDFORK: u64 = 5;
+pub const ENDFORK: u64 = 5;
 
 // How far a path has come: its first end still to come, its first Section still to come, its items, its closing end read.
 const STARTING: u64 = 0;
@@ -57,7 +57,7 @@ pub struct PathLine {
 }
 
 // A line is known by its first word.
-fn saying_of(word: &[u8]) -> u64
+pub fn saying_of(word: &[u8]) -> u64
     ensures { λ r. ⌜ r ≡ sayingOf (now (word .entry)) ⌝ }
 {
     if text::same_bytes(word, b"Section") {

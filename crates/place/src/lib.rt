@@ -243,7 +243,7 @@ fn is_in_header(place: u64) -> bool
     place == HEADER_TEXT
 }
 
-fn is_in_family(place: u64) -> bool
+pub fn is_in_family(place: u64) -> bool
     ensures { λ r. ⌜ r ≡ isInFamily place ⌝ }
 {
     if place == FAMILY {
@@ -261,7 +261,7 @@ fn is_in_family(place: u64) -> bool
     place == PINS
 }
 
-fn is_in_model(place: u64) -> bool
+pub fn is_in_model(place: u64) -> bool
     ensures { λ r. ⌜ r ≡ isInModel place ⌝ }
 {
     if place == HEAD {

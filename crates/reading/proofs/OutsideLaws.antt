@@ -186,20 +186,20 @@ closed-flat s closed e =
     let h : s .path .depth ≤ 0 = ltb-false 0 (s .path .depth) (sym (both-rest _ _ b) ∙ closed) in
     omega arith
 
-keyword-flat : (s : State) → Outside s → isForkOpen s ≡ false → s .path .depth ≡ 0
+pub keyword-flat : (s : State) → Outside s → isForkOpen s ≡ false → s .path .depth ≡ 0
 keyword-flat s h closed =
     by-cases (s .path .depth ≡ 0) (eqb (s .place) place.path)
     (λ (e : eqb (s .place) place.path ≡ true). closed-flat s closed (eqb-true _ _ e))
     (λ (e : eqb (s .place) place.path ≡ false). h .flat (eqb-false _ _ e))
 
-path-flat : (k : ℕ) (p : Path) → p .depth ≡ 0 → pathAfter k p .depth ≡ 0
+pub path-flat : (k : ℕ) (p : Path) → p .depth ≡ 0 → pathAfter k p .depth ≡ 0
 unfolding pathAfter
 path-flat k p h =
     by-test (λ (q : Path). q .depth ≡ 0) (eqb k treePathDescription) newPath p
     (λ (e : eqb k treePathDescription ≡ true). new-outside)
     (λ (e : eqb k treePathDescription ≡ false). h)
 
-keyword-outside : (k : ℕ) (argument : List ℕ) (s : State) → Met k s → Outside s → keywordRule k argument s ≡ 0 → Outside (keywordNext k argument s)
+pub keyword-outside : (k : ℕ) (argument : List ℕ) (s : State) → Met k s → Outside s → keywordRule k argument s ≡ 0 → Outside (keywordNext k argument s)
 unfolding keywordNext
 keyword-outside k argument s met h kept =
     let f : s .path .depth ≡ 0 = keyword-flat s h (keyword-closed k argument s kept) in
@@ -212,7 +212,7 @@ path-stays p first e =
     let n : eqb p place.mapHead ≡ false = ne-eqb p place.mapHead (λ (g : p ≡ place.mapHead). omega arith) in
     if-false _ _ n ∙ e
 
-line-outside : (content : List ℕ) (s : State) → Outside s → lineRule content s ≡ 0 → Outside (lineNext content s)
+pub line-outside : (content : List ℕ) (s : State) → Outside s → lineRule content s ≡ 0 → Outside (lineNext content s)
 unfolding lineNext
 line-outside content s h kept =
     record {

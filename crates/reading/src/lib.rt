@@ -196,7 +196,7 @@ fn keyword_step(key: u64, argument: &[u8], s: State) -> Step
 }
 
 // The argument of a keyword, without the blanks at its ends.
-fn argument_of(content: &[u8], start: usize) -> &[u8]
+pub fn argument_of(content: &[u8], start: usize) -> &[u8]
     ensures { λ r. ⌜ now r ≡ argumentFrom (now (content .entry)) start ⌝ }
 {
     let last = text::last_word(content);
@@ -264,7 +264,7 @@ fn before_step(content: &[u8], s: State) -> Step
     }
 }
 
-fn is_blank_line(content: &[u8]) -> bool
+pub fn is_blank_line(content: &[u8]) -> bool
     ensures { λ r. ⌜ r ≡ isBlankLine (now (content .entry)) ⌝ }
 {
     base::skip(Class::Blank, content, 0) == content.len()

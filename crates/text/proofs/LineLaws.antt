@@ -157,6 +157,15 @@ module _ (comment : ℕ) (t : List ℕ) (at : ℕ) (h : at < length t) where
       let s : at + suc (run (isBefore lineFeed) (drop at t)) ≡ at + run (isBefore lineFeed) (drop at t) + 1 = omega arith in
       feed-past t (at + run (isBefore lineFeed) (drop at t)) g ∙ sym s
 
+  -- or at the end of the text, where it has none
+  pub next-unended : firstOf (drop at t) .ended ≡ false → length t ≤ lineAt comment t at .next
+  unfolding lineAt
+  next-unended e =
+      let l : length (drop at t) ≡ length t - at = length-drop at t in
+      let k : length (drop at t) ≤ run (isBefore lineFeed) (drop at t) = ltb-false _ _ e in
+      let g : length t ≤ at + run (isBefore lineFeed) (drop at t) = omega arith in
+      rw (feed-none t (at + run (isBefore lineFeed) (drop at t)) g) g
+
 -- ---- the content of the line at a place
 
 content-of : (comment : ℕ) (u : List ℕ) → contentOf comment (take (run (isBefore lineFeed) u) u) ≡ take (run (isContent comment) u) u

@@ -1,0 +1,43 @@
+-- `document::place_after` meets its contract: by the first word of a line without a keyword, else by the keyword.
+-- Assumes nothing.
+use Rattle.document.proofs.FoundLaws.{place-plain, place-keyed}
+use borrow.Author.Needs.{needs}
+use Rattle.document.proofs.place_after.Statement.{statement}
+use Rattle.document.proofs.place_after.Tie as tie
+
+sub-first-word : tie.Need-sub-first-word
+sub-first-word c = search needs
+
+part-first-word-start : tie.Need-part-first-word-start
+part-first-word-start c = search needs
+
+part-first-word-end : tie.Need-part-first-word-end
+part-first-word-end c = search needs
+
+first-word-requires : tie.Need-first-word-requires
+first-word-requires c κs = search needs
+
+moved-by-line-requires : tie.Need-moved-by-line-requires
+moved-by-line-requires c κs = search needs
+
+returns : tie.Need-returns
+returns c = search place-plain
+
+moved-requires : tie.Need-moved-requires
+moved-requires c κs = search needs
+
+returns-2 : tie.Need-returns-2
+returns-2 c = search place-keyed
+
+pub place-after-spec : {M : Type 1} → statement M
+place-after-spec =
+    tie.close
+    (tie.spec
+    sub-first-word
+    part-first-word-start
+    part-first-word-end
+    first-word-requires
+    moved-by-line-requires
+    returns
+    moved-requires
+    returns-2)

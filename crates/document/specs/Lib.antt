@@ -1,0 +1,5 @@
+pub mod Lines
+pub mod Document
+pub mod Records
+pub mod Holds
+pub mod Found

@@ -1,0 +1,157 @@
+// The lines of a text that say something, and the words of such a line, found where they stand.
+ghost use mathlib.Core.Path.{_≡_};
+ghost use Prim.Native.Nat.{_+_, _≤_};
+ghost use lib.ListN.{length};
+ghost use Rattle.text.specs.Words.{wordsFrom};
+ghost use Rattle.block.specs.Kept.{mostLines};
+ghost use Rattle.document.specs.Lines.{keyIn, argumentIn, firstWord, secondWord, placeAfter, argumentOf};
+ghost use Rattle.document.specs.Found.{markOf, markAt, Finds, Located, contentIn, lineIn};
+use keyword::Bracket;
+use text::Span;
+
+// "From `|` on, a line is comment".
+const COMMENT: u8 = b'|';
+
+// What stands for the keyword of a line that has none.
+pub const PLAIN: u64 = 41;
+
+// A line that says something: its number, where it and its content end, and what its bracket says.
+pub struct Found {
+    pub there: bool,
+    pub number: u64,
+    pub at: usize,
+    pub end: usize,
+    pub next: usize,
+    pub key: u64,
+    pub argument: usize,
+}
+
+// A word of the text: where it starts, and how many bytes it has.
+pub struct Mark {
+    pub start: usize,
+    pub size: usize,
+}
+
+// The keyword in a bracket.
+fn key_in(bracket: Bracket) -> u64
+    ensures { λ r. ⌜ r ≡ keyIn bracket ⌝ }
+{
+    match bracket {
+        Bracket::Plain => PLAIN,
+        Bracket::Indented => PLAIN,
+        Bracket::Bad => keyword::UNKNOWN,
+        Bracket::Unknown => keyword::UNKNOWN,
+        Bracket::Later => keyword::UNKNOWN,
+        Bracket::Keyword(key, _start) => key,
+    }
+}
+
+// Where the argument after a bracket starts.
+fn argument_in(bracket: Bracket) -> usize
+    ensures { λ r. ⌜ r ≡ argumentIn bracket ⌝ }
+{
+    match bracket {
+        Bracket::Plain => 0,
+        Bracket::Indented => 0,
+        Bracket::Bad => 0,
+        Bracket::Unknown => 0,
+        Bracket::Later => 0,
+        Bracket::Keyword(_key, start) => start,
+    }
+}
+
+// The first line from a byte on that says something: blank lines and comments are passed over.
+pub fn next_line(text: &[u8], at: usize, number: u64) -> Found
+    requires { ⌜ (at ≤ length (now text)) × (number ≤ at + 1) ⌝ }
+    ensures { λ r. ⌜ Finds (now (text .entry)) number at r ⌝ }
+{
+    let mut here = at;
+    let mut line = number;
+    while here < text.len() {
+        let ends = text::line_at(text, here, COMMENT);
+        let end = ends.content;
+        if !reading::is_blank_line(&text[here..end]) {
+            let bracket = keyword::read_bracket(&text[here..end]);
+            return Found {
+                there: true,
+                number: line,
+                at: here,
+                end,
+                next: ends.next,
+                key: key_in(bracket),
+                argument: argument_in(bracket),
+            };
+        }
+        here = ends.next;
+        line += 1;
+    }
+    Found {
+        there: false,
+        number: line,
+        at: here,
+        end: here,
+        next: here,
+        key: PLAIN,
+        argument: 0,
+    }
+}
+
+// Where a line leads from a place.
+pub fn place_after(place: u64, text: &[u8], line: Found) -> u64
+    requires { ⌜ Located (now text) line ⌝ }
+    ensures { λ r. ⌜ r ≡ placeAfter place (contentIn (now (text .entry)) line) ⌝ }
+{
+    if line.key == PLAIN {
+        let at = line.at;
+        let end = line.end;
+        return place::moved_by_line(place, text::first_word(&text[at..end]));
+    }
+    place::moved(place, line.key)
+}
+
+// A word of a part of the text that starts at `offset`: no word is 0 0.
+fn mark_of(s: &[u8], offset: usize, word: Span) -> Mark
+    requires { ⌜ (offset + length (now s) ≤ mostLines) × (word .start ≤ word .end) × (word .end ≤ length (now s)) ⌝ }
+    ensures { λ r. ⌜ r ≡ markAt (now (s .entry)) offset word ⌝ }
+{
+    if s.len() <= word.start {
+        return Mark { start: 0, size: 0 };
+    }
+    Mark {
+        start: offset + word.start,
+        size: word.end - word.start,
+    }
+}
+
+// The first word of a part of the text.
+pub fn first_mark(s: &[u8], offset: usize) -> Mark
+    requires { ⌜ offset + length (now s) ≤ mostLines ⌝ }
+    ensures { λ r. ⌜ r ≡ markOf (firstWord (wordsFrom offset (now (s .entry)))) ⌝ }
+{
+    let word = text::word_at(s, 0);
+    mark_of(s, offset, word)
+}
+
+// The second one.
+pub fn second_mark(s: &[u8], offset: usize) -> Mark
+    requires { ⌜ offset + length (now s) ≤ mostLines ⌝ }
+    ensures { λ r. ⌜ r ≡ markOf (secondWord (wordsFrom offset (now (s .entry)))) ⌝ }
+{
+    let first = text::word_at(s, 0);
+    let word = text::word_at(s, first.end);
+    mark_of(s, offset, word)
+}
+
+// The argument of a line's keyword.
+pub fn argument_mark(text: &[u8], line: Found) -> Mark
+    requires { ⌜ Located (now text) line ⌝ }
+    ensures { λ r. ⌜ r ≡ markOf (argumentOf (lineIn (now (text .entry)) line 0)) ⌝ }
+{
+    let at = line.at;
+    let end = line.end;
+    let argument = reading::argument_of(&text[at..end], line.argument);
+    Mark {
+        start: at + line.argument,
+        size: argument.len(),
+    }
+}

@@ -1,0 +1,74 @@
+// The filling of a lent table: the forward reading, the room, and the records of all parts.
+ghost use mathlib.Core.Path.{_≡_};
+ghost use mathlib.Core.List.{_++_};
+ghost use Prim.Native.Nat.{_-_, _≤_};
+ghost use lib.ListN.{length, replicate};
+ghost use Rattle.table.specs.Layout.{widths, needed};
+ghost use Rattle.reading.specs.Reading.{readingOf};
+ghost use Rattle.reading.specs.declared.Reading.the-variants.{Read};
+ghost use Rattle.document.specs.Holds.{countsOf};
+ghost use Rattle.document.specs.Records.{tableOf};
+ghost use Rattle.filling.specs.Filled.{filledOf, tableFor};
+use block::Counts;
+use reading::Reading;
+
+// A text stored, with the words used, or the rule that it breaks and its line.
+pub enum Filled {
+    Stored(usize),
+    Refused(u64, u64),
+}
+
+// The counts of the forward reading in the order of the parts.
+fn counts_of(counts: Counts) -> [u64; 7]
+    ensures { λ r. ⌜ r ≡ countsOf counts ⌝ }
+{
+    [
+        counts.models,
+        counts.steps,
+        counts.maps,
+        counts.pins,
+        counts.sections,
+        counts.matrices,
+        counts.values,
+    ]
+}
+
+// The records of all parts, in a table of zeros that is long enough. Models come last, since their steps point at maps and sections.
+fn fill(text: &[u8], table: &mut [u64], counts: Counts)
+    requires { ⌜ (readingOf (now text) ≡ Read counts) × (needed widths (countsOf counts) ≤ length (now table)) × (now table ≡ replicate (length (now table)) 0) ⌝ }
+    ensures { λ _. ⌜ now (table .exit) ≡ tableOf (now (text .entry)) ++ replicate (length (now (table .entry)) - length (tableOf (now (text .entry)))) 0 ⌝ }
+{
+    let filling = table::open_parts(table, counts_of(counts));
+    let bases = filling.bases;
+    let low = bases[table::MAPS] - 1;
+    let walk = maps::fill_maps(text, table, filling);
+    let filled = sections::fill_sections(text, table, walk);
+    models::fill_models(text, table, filled, low);
+}
+
+// A text that reads to its end: its records, if the table has room for them.
+fn store(text: &[u8], table: &mut [u64], counts: Counts) -> Filled
+    requires { ⌜ readingOf (now text) ≡ Read counts ⌝ }
+    ensures { λ r. ⌜ (r ≡ filledOf (now (text .entry)) (length (now (table .entry)))) × (now (table .exit) ≡ tableFor (now (text .entry)) (length (now (table .entry))) r) ⌝ }
+{
+    base::zero_all(table);
+    let words = table::words_needed(counts_of(counts));
+    if table.len() < words {
+        return Filled::Refused(18, 0);
+    }
+    fill(text, table, counts);
+    Filled::Stored(words)
+}
+
+// Rules 5 to 18 over a text and a lent table: what the text says is stored, or nothing.
+pub fn fill_table(text: &[u8], table: &mut [u64]) -> Filled
+    ensures { λ r. ⌜ (r ≡ filledOf (now (text .entry)) (length (now (table .entry)))) × (now (table .exit) ≡ tableFor (now (text .entry)) (length (now (table .entry))) r) ⌝ }
+{
+    match reading::read(text) {
+        Reading::Read(counts) => store(text, table, counts),
+        Reading::Refused(number, line) => {
+            base::zero_all(table);
+            Filled::Refused(number, line)
+        }
+    }
+}

@@ -1,0 +1,257 @@
+-- Laws of the numbers of one line: a value's record, and the numbers one after another.
+-- Assumes nothing.
+use mathlib.Core.Path.{_≡_, refl, sym, _∙_, ap}
+use mathlib.Core.Bool.{true, false}
+use mathlib.Core.List.{List, [], _∷_, _++_}
+use Prim.Native.Nat.{ℕ, suc, _+_, _-_, _*_, _≤_, _<_}
+use native.Mathlib.Omega.{arith}
+use lib.ListN.{length, getD}
+use lib.Dec.{eqb}
+use lib.Seq.{sets}
+use Rattle.base.specs.If.{if_then_else_}
+use Rattle.base.proofs.IfLaws.{if-true, if-false, by-cases}
+use Rattle.text.specs.Words.{words, firstOf, secondOf, wordAt, markedBy, fewOf}
+use Rattle.text.specs.declared.Span.{Span}
+use Rattle.text.specs.declared.Few.{Few}
+use Rattle.text.proofs.WordLaws.{wordsAfter, after-at, after-none, after-past, end-past, word-within, first-marked, second-marked}
+use Rattle.number.specs.Number.{numberOf}
+use Rattle.number.specs.Integer.{wholeOf}
+use Rattle.number.specs.declared.Number.{Number}
+use Rattle.number.specs.declared.Whole.{Whole}
+use Rattle.matrix.specs.Matrix.{diagonal}
+use Rattle.table.specs.Layout.{widths}
+use Rattle.table.specs.Filling.{partOf, widthOf, position, counted, Fits}
+use Rattle.table.specs.declared.Filling.{Filling}
+use Rattle.table.proofs.FillingLaws.{fits-first}
+use Rattle.document.specs.Document.{Value, wordIn, nextRow, numbersAt, sparseAt}
+use Rattle.storing.specs.Writes.{valueWrite}
+use Rattle.storing.specs.Stores.{Stores}
+use Rattle.storing.proofs.StoreLaws.{
+  put-asked,
+  put-stored,
+  counts-kept,
+  count-after,
+  Pending,
+  pending-start,
+  pending-step,
+  pending-done,
+  pending-same,
+}
+use Rattle.matrices.specs.declared.Spot.{Spot}
+use Rattle.matrices.specs.Numbers.{
+  Counted,
+  numberHere,
+  PutsNumber,
+  FillsNumber,
+  rowAfter,
+  numberWrites,
+  PutsNumbers,
+  FillsNumbers,
+  PutsSparse,
+  FillsSparse,
+}
+
+-- ---- one value
+
+pub value-asked : (v : Value) (f : Filling) (size : ℕ) → Fits size f (valueWrite v ∷ []) →
+    (6 < length widths) × (_≡_ {A = ℕ} 3 (widthOf 6)) × (position f 6 + widthOf 6 ≤ size)
+unfolding valueWrite
+value-asked v f size h = put-asked f [] (valueWrite v) size 6 (valueWrite v .words) h refl refl
+
+module _ (row column : ℕ) (word : List ℕ) (number : Number) (is-number : number ≡ numberOf word) (value : ℕ)
+    (is-value : value ≡ wordIn number) where
+  value-words : _≡_ {A = List ℕ} (row ∷ column ∷ value ∷ [])
+      (valueWrite (record { row = row; column = column; word = wordIn (numberOf word) }) .words)
+  unfolding valueWrite
+  value-words = ap (λ (n : ℕ). row ∷ column ∷ n ∷ []) (is-value ∙ ap wordIn is-number)
+
+  pub value-stored :
+      (f r : Filling) (table table' : List ℕ) → r ≡ counted f 6 → table' ≡ sets table (position f 6) (row ∷ column ∷ value ∷ []) →
+      Stores f table (valueWrite (record { row = row; column = column; word = wordIn (numberOf word) }) ∷ []) r table'
+  unfolding valueWrite
+  value-stored f r table table' k h =
+      put-stored f table (valueWrite (record { row = row; column = column; word = wordIn (numberOf word) })) 6
+      (row ∷ column ∷ value ∷ []) r table' refl value-words k h
+
+-- ---- rows and columns
+
+-- a value that fits leaves room for the sums
+module _ (word table : List ℕ) (s : Spot) (puts : PutsNumber word table s) where
+  pub values-few : 3 * getD (s .filling .counts) 6 0 + 3 ≤ length table
+  unfolding position widthOf
+  values-few =
+      let p : (6 < length widths) × (_≡_ {A = ℕ} 3 (widthOf 6)) × (position (s .filling) 6 + widthOf 6 ≤ length table) =
+      value-asked (numberHere word s) (s .filling) (length table) (puts .fits) in
+      let q : getD (s .filling .bases) 6 0 + 3 * getD (s .filling .counts) 6 0 + 3 ≤ length table = p .2 in
+      omega arith
+
+value-part : (v : Value) → length (partOf 6 (valueWrite v ∷ [])) ≡ 1
+unfolding partOf valueWrite if_then_else_
+value-part v = refl
+
+-- a value more
+value-counted : (s : Spot) (v : Value) (f : Filling) (table table' : List ℕ) → Counted s →
+    Stores (s .filling) table (valueWrite v ∷ []) f table' →
+    (length (f .counts) ≡ 7) × (getD (f .counts) 6 0 ≡ getD (s .filling .counts) 6 0 + 1)
+value-counted s v f table table' counted stores =
+    let h : 6 < length (s .filling .counts) = rw (counted .seven) (omega arith) in (
+      ap (λ (x : Filling). length (x .counts)) (stores .filled) ∙ counts-kept (valueWrite v ∷ []) (s .filling) ∙ counted .seven,
+      ap (λ (x : Filling). getD (x .counts) 6 0) (stores .filled) ∙ count-after 6 (valueWrite v ∷ []) (s .filling) h
+          ∙ ap (λ (n : ℕ). getD (s .filling .counts) 6 0 + n) (value-part v),
+    )
+
+pub counted-on : (s r : Spot) (v : Value) (table table' : List ℕ) → Counted s →
+    Stores (s .filling) table (valueWrite v ∷ []) (r .filling) table' → r .row ≤ s .row + 1 → r .column ≤ s .column + 1 → Counted r
+counted-on s r v table table' counted stores e f =
+    let n : (length (r .filling .counts) ≡ 7) × (getD (r .filling .counts) 6 0 ≡ getD (s .filling .counts) 6 0 + 1) =
+    value-counted s v (r .filling) table table' counted stores in
+    let a : s .row ≤ 1_000_000_000 + getD (s .filling .counts) 6 0 = counted .row in
+    let b : s .column ≤ 1_000_000_000 + getD (s .filling .counts) 6 0 = counted .column in
+    let m : getD (r .filling .counts) 6 0 ≡ getD (s .filling .counts) 6 0 + 1 = n .1 in
+    record { seven = n .0; row = omega arith; column = omega arith }
+
+-- ---- the numbers of a line
+
+row-on : (form r n : ℕ) → rowAfter form (nextRow form r) n ≡ rowAfter form r (suc n)
+unfolding nextRow
+row-on form r n =
+    by-cases _ (eqb form diagonal)
+    (λ (e : eqb form diagonal ≡ true).
+    let s : nextRow form r ≡ r + 1 = if-true _ _ e in
+    let k : nextRow form r + n ≡ r + suc n = omega arith in
+    if-true _ _ e ∙ k ∙ sym (if-true _ _ e))
+    (λ (e : eqb form diagonal ≡ false). if-false _ _ e ∙ if-false _ _ e ∙ sym (if-false _ _ e))
+
+row-same : (form r n : ℕ) → n ≡ 0 → rowAfter form r n ≡ r
+row-same form r n z =
+    by-cases _ (eqb form diagonal)
+    (λ (e : eqb form diagonal ≡ true). let k : r + n ≡ r = omega arith in if-true _ _ e ∙ k)
+    (λ (e : eqb form diagonal ≡ false). if-false _ _ e)
+
+row-most : (form r : ℕ) → nextRow form r ≤ r + 1
+unfolding nextRow
+row-most form r =
+    by-cases _ (eqb form diagonal)
+    (λ (e : eqb form diagonal ≡ true). let s : nextRow form r ≡ r + 1 = if-true _ _ e in omega arith)
+    (λ (e : eqb form diagonal ≡ false). let s : nextRow form r ≡ r = if-false _ _ e in omega arith)
+
+numbers-none : (form : ℕ) (s : Spot) → numberWrites form s [] ≡ []
+unfolding numbersAt
+numbers-none form s = refl
+
+numbers-more : (form : ℕ) (s r : Spot) (w : List ℕ) (ws : List (List ℕ)) → r .row ≡ nextRow form (s .row) → r .column ≡ s .column + 1 →
+    numberWrites form s (w ∷ ws) ≡ (valueWrite (numberHere w s) ∷ []) ++ numberWrites form r ws
+unfolding numbersAt
+numbers-more form s r w ws e f = rw (e, f)
+
+-- the numbers that are left give what all of them give
+pub record NumbersLeft (form : ℕ) (content : List ℕ) (s₀ : Spot) (table₀ : List ℕ) (at : ℕ) (s : Spot) (table : List ℕ) : Type 0 where
+  pub pending : Pending (length table₀) (s₀ .filling) table₀ (numberWrites form s₀ (words content)) (s .filling) table
+      (numberWrites form s (wordsAfter content at))
+  pub row : rowAfter form (s .row) (length (wordsAfter content at)) ≡ rowAfter form (s₀ .row) (length (words content))
+  pub column : s .column + length (wordsAfter content at) ≡ s₀ .column + length (words content)
+  pub counted : Counted s
+  pub within : at ≤ length content
+
+pub numbers-start : (form : ℕ) (content table : List ℕ) (s : Spot) → PutsNumbers form content table s →
+    NumbersLeft form content s table 0 s table
+numbers-start form content table s puts =
+    record {
+      pending = pending-start (length table) (s .filling) table (numberWrites form s (words content)) (puts .fits);
+      row = refl;
+      column = refl;
+      counted = puts .counted;
+      within = omega arith;
+    }
+
+module _ (form : ℕ) (content : List ℕ) (s₀ : Spot) (table₀ : List ℕ) (at : ℕ) (s : Spot) (table : List ℕ)
+    (left : NumbersLeft form content s₀ table₀ at s table) where
+  numbers-done : wordsAfter content at ≡ [] → FillsNumbers form content table₀ s₀ s table
+  numbers-done e =
+      let n : length (wordsAfter content at) ≡ 0 = ap length e in
+      let c : s .column + length (wordsAfter content at) ≡ s₀ .column + length (words content) = left .column in
+      record {
+        stores =
+            pending-done (length table₀) (s₀ .filling) table₀ _ (s .filling) table
+            (pending-same (length table₀) (s₀ .filling) table₀ _ (s .filling) table _ []
+            (ap (numberWrites form s) e ∙ numbers-none form s) (left .pending));
+        row-is = sym (row-same form (s .row) _ n) ∙ left .row;
+        column-is = omega arith;
+        counted = left .counted;
+      }
+
+  pub numbers-past : length content ≤ at → FillsNumbers form content table₀ s₀ s table
+  numbers-past h = numbers-done (after-past content at h)
+
+  module _ (word : Span) (is-word : word ≡ wordAt content at) where
+    pub numbers-end : length content ≤ word .start → FillsNumbers form content table₀ s₀ s table
+    numbers-end h = numbers-done (after-none content at (rw is-word at h))
+
+    pub numbers-less : word .start < length content → at < length content → length content - word .end < length content - at
+    numbers-less there h = let g : at < word .end = end-past content at word is-word there in omega arith
+
+    module _ (there : word .start < length content) (part : List ℕ) (is-part : part ≡ markedBy content word) where
+      words-here : wordsAfter content at ≡ part ∷ wordsAfter content (word .end)
+      words-here = rw (is-part, is-word) (after-at content at (rw is-word at there))
+
+      pending-here : (r : Spot) → r .row ≡ nextRow form (s .row) → r .column ≡ s .column + 1 →
+          Pending (length table₀) (s₀ .filling) table₀ (numberWrites form s₀ (words content)) (s .filling) table
+          ((valueWrite (numberHere part s) ∷ []) ++ numberWrites form r (wordsAfter content (word .end)))
+      pending-here r e f =
+          pending-same (length table₀) (s₀ .filling) table₀ _ (s .filling) table _ _
+          (ap (numberWrites form s) words-here ∙ numbers-more form s r part (wordsAfter content (word .end)) e f) (left .pending)
+
+      pub numbers-puts : PutsNumber part table s
+      numbers-puts =
+          let v : Spot = record { row = nextRow form (s .row); column = s .column + 1; filling = s .filling } in
+          record {
+            counted = left .counted;
+            fits = rw (left .pending .long)
+                (fits-first (length table₀) (s .filling) (valueWrite (numberHere part s) ∷ []) _ (pending-here v refl refl .fits));
+          }
+
+      module _ (r : Spot) (table' : List ℕ) (fills : FillsNumber form part table s r table') where
+        pub numbers-on : NumbersLeft form content s₀ table₀ (word .end) r table'
+        numbers-on =
+            let n : length (wordsAfter content at) ≡ suc (length (wordsAfter content (word .end))) = ap length words-here in
+            let c : s .column + length (wordsAfter content at) ≡ s₀ .column + length (words content) = left .column in
+            let d : r .column ≡ s .column + 1 = fills .column-is in
+            let e : r .row ≤ s .row + 1 = rw (fills .row-is) (row-most form (s .row)) in
+            record {
+              pending =
+                  pending-step (length table₀) (s₀ .filling) table₀ _ (s .filling) table _ _ (r .filling) table'
+                  (pending-here r (fills .row-is) (fills .column-is)) (fills .stores);
+              row = ap (λ (x : ℕ). rowAfter form x (length (wordsAfter content (word .end)))) (fills .row-is) ∙ row-on form (s .row) _
+                  ∙ ap (rowAfter form (s .row)) (sym n) ∙ left .row;
+              column = omega arith;
+              counted = counted-on s r (numberHere part s) table table' (left .counted) (fills .stores) e (omega arith);
+              within = word-within content at word is-word (left .within);
+            }
+
+-- ---- a line of a Sparse_matrix
+
+module _ (content : List ℕ) (row : ℕ) (few : Few) (is-few : few ≡ fewOf content) (first second : List ℕ)
+    (is-first : first ≡ markedBy content (few .first)) (is-second : second ≡ markedBy content (few .second)) (whole : Whole)
+    (is-whole : whole ≡ wholeOf first) where
+  column-told : whole .value ≡ wholeOf (firstOf (words content)) .value
+  column-told = ap (λ (x : Whole). x .value) (is-whole ∙ ap wholeOf (is-first ∙ first-marked content few is-few))
+
+  sparse-value : _≡_ {A = Value} (record { row = row; column = whole .value; word = wordIn (numberOf second) })
+      (sparseAt row (words content))
+  unfolding sparseAt
+  sparse-value =
+      let s : second ≡ secondOf (words content) = is-second ∙ second-marked content few is-few in
+      λ i. record { row = row; column = column-told i; word = wordIn (numberOf (s i)) }
+
+  pub sparse-puts : (table : List ℕ) (f : Filling) → PutsSparse content row table f →
+      Fits (length table) f (valueWrite (record { row = row; column = whole .value; word = wordIn (numberOf second) }) ∷ [])
+  sparse-puts table f puts = rw sparse-value (puts .fits)
+
+  pub sparse-fills : (table : List ℕ) (f r : Filling) (table' : List ℕ) →
+      Stores f table (valueWrite (record { row = row; column = whole .value; word = wordIn (numberOf second) }) ∷ []) r table' →
+      FillsSparse content row table f (record { column = whole .value; filling = r }) table'
+  sparse-fills table f r table' s =
+      record {
+        stores = rw sparse-value at s;
+        column-is = column-told;
+      }

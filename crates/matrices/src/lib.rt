@@ -1,0 +1,365 @@
+// The matrices of a section and their values, stored in a table.
+ghost use mathlib.Core.Path.{_≡_};
+ghost use mathlib.Core.List.{[], _∷_};
+ghost use Prim.Native.Nat.{_<_, max};
+ghost use lib.ListN.{length};
+ghost use lib.Dec.{eqb};
+ghost use Rattle.base.specs.If.{if_then_else_, either};
+ghost use Rattle.number.specs.Number.{numberOf};
+ghost use Rattle.place.specs.Place.{keepsMatrix};
+ghost use Rattle.argument.specs.Argument.{formOf};
+ghost use Rattle.matrix.specs.Matrix.{diagonal};
+ghost use Rattle.table.specs.Filling.{Fits};
+ghost use Rattle.document.specs.Lines.{plain, argumentOf};
+ghost use Rattle.document.specs.Found.{Located, lineIn};
+ghost use Rattle.document.specs.Document.{wordIn, nextRow, givenBy};
+ghost use Rattle.storing.specs.Writes.{valueWrite};
+ghost use Rattle.storing.specs.Stores.{Stores};
+ghost use Rattle.matrices.specs.Told.{firstTold, toldOr};
+ghost use Rattle.matrices.specs.Numbers.{PutsNumber, FillsNumber, PutsNumbers, FillsNumbers, PutsSparse, FillsSparse};
+ghost use Rattle.matrices.specs.Matrices.{withRow, withBandwidth, TakesLine, TakesData, TakenLine, PutsValues, FillsValues, PutsMatrix, FillsMatrix};
+use document::Found;
+use number::Number;
+use table::Filling;
+
+// What the first of many tells, if one has told anything.
+pub struct First {
+    pub told: bool,
+    pub value: u64,
+}
+
+// Where the next number of a matrix stands, and where its record goes.
+pub struct Spot {
+    pub row: u64,
+    pub column: u64,
+    pub filling: Filling,
+}
+
+// A line of a Sparse_matrix: the column that it names, and where the next record goes.
+pub struct Placing {
+    pub column: u64,
+    pub filling: Filling,
+}
+
+// How far the lines of a matrix have been read: where to go on, and what they have said. Of [Bandwidth] the first counts, of rows and
+// columns the greatest that is named.
+pub struct MatrixWalk {
+    pub at: usize,
+    pub number: u64,
+    pub bandwidth: First,
+    pub greatest: u64,
+    pub spot: Spot,
+}
+
+// A matrix that is stored: where the lines go on behind it, and its conductors.
+pub struct Stored {
+    pub at: usize,
+    pub number: u64,
+    pub conductors: u64,
+    pub filling: Filling,
+}
+
+// One more tells something: it counts where none has before.
+pub fn first_told(first: First, value: u64) -> First
+    ensures { λ r. ⌜ r ≡ firstTold first value ⌝ }
+{
+    if first.told {
+        return first;
+    }
+    First { told: true, value }
+}
+
+// What was told, 0 where nothing was.
+pub fn told_in(first: First) -> u64
+    ensures { λ r. ⌜ r ≡ toldOr first 0 ⌝ }
+{
+    if first.told {
+        return first.value;
+    }
+    0
+}
+
+fn greater(a: u64, b: u64) -> u64
+    ensures { λ r. ⌜ r ≡ max a b ⌝ }
+{
+    if a < b { b } else { a }
+}
+
+// The value word of a number.
+fn value_in(number: Number) -> u64
+    ensures { λ r. ⌜ r ≡ wordIn number ⌝ }
+{
+    match number {
+        Number::Value(word) => word,
+        Number::Malformed => 0,
+        Number::Range => 0,
+    }
+}
+
+// A number of a matrix, at its row and column.
+fn put_value(word: &[u8], row: u64, column: u64, table: &mut [u64], filling: Filling) -> Filling
+    requires { ⌜ Fits (length (now table)) filling (valueWrite (record { row = row; column = column; word = wordIn (numberOf (now word)) }) ∷ []) ⌝ }
+    ensures { λ r. ⌜ Stores filling (now (table .entry)) (valueWrite (record { row = row; column = column; word = wordIn (numberOf (now (word .entry))) }) ∷ []) r (now (table .exit)) ⌝ }
+{
+    let number = number::read_number(word);
+    let words = [row, column, value_in(number)];
+    table::put_record(table, filling, table::VALUES, &words)
+}
+
+// Down the diagonal, else along the row.
+fn next_row(form: u64, row: u64) -> u64
+    requires { ⌜ row < 18_446_744_073_709_551_615 ⌝ }
+    ensures { λ r. ⌜ r ≡ nextRow form row ⌝ }
+{
+    if form == matrix::DIAGONAL {
+        return row + 1;
+    }
+    row
+}
+
+// A number where the last one has led to.
+fn put_number(word: &[u8], form: u64, table: &mut [u64], spot: Spot) -> Spot
+    requires { ⌜ PutsNumber (now word) (now table) spot ⌝ }
+    ensures { λ r. ⌜ FillsNumber form (now (word .entry)) (now (table .entry)) spot r (now (table .exit)) ⌝ }
+{
+    let row = spot.row;
+    let column = spot.column;
+    let filling = spot.filling;
+    let filled = put_value(word, row, column, table, filling);
+    Spot {
+        row: next_row(form, row),
+        column: column + 1,
+        filling: filled,
+    }
+}
+
+// The numbers of a line: each word is read once.
+fn fill_numbers(content: &[u8], form: u64, table: &mut [u64], spot: Spot) -> Spot
+    requires { ⌜ PutsNumbers form (now content) (now table) spot ⌝ }
+    ensures { λ r. ⌜ FillsNumbers form (now (content .entry)) (now (table .entry)) spot r (now (table .exit)) ⌝ }
+{
+    let mut at = 0;
+    let mut next = spot;
+    while at < content.len() {
+        let word = text::word_at(content, at);
+        if content.len() <= word.start {
+            return next;
+        }
+        next = put_number(text::marked(content, word), form, table, next);
+        at = word.end;
+    }
+    next
+}
+
+// A line of a Sparse_matrix: "lines `column value`".
+fn fill_sparse(content: &[u8], row: u64, table: &mut [u64], filling: Filling) -> Placing
+    requires { ⌜ PutsSparse (now content) row (now table) filling ⌝ }
+    ensures { λ r. ⌜ FillsSparse (now (content .entry)) row (now (table .entry)) filling r (now (table .exit)) ⌝ }
+{
+    let few = text::few_words(content);
+    let column = number::read_integer(text::marked(content, few.first));
+    Placing {
+        column: column.value,
+        filling: put_value(
+            text::marked(content, few.second),
+            row,
+            column.value,
+            table,
+            filling,
+        ),
+    }
+}
+
+// The integer after [Row] or [Bandwidth].
+fn given_by(text: &[u8], line: Found) -> u64
+    requires { ⌜ Located (now text) line ⌝ }
+    ensures { λ r. ⌜ r ≡ givenBy (lineIn (now (text .entry)) line 0) ⌝ }
+{
+    let at = line.at;
+    let end = line.end;
+    let whole = number::read_integer(reading::argument_of(&text[at..end], line.argument));
+    whole.value
+}
+
+// [Row] i: the next number stands at (i, i).
+fn take_row(text: &[u8], line: Found, walk: MatrixWalk) -> MatrixWalk
+    requires { ⌜ Located (now text) line ⌝ }
+    ensures { λ r. ⌜ r ≡ withRow (givenBy (lineIn (now (text .entry)) line 0)) line walk ⌝ }
+{
+    let spot = walk.spot;
+    let bandwidth = walk.bandwidth;
+    let filling = spot.filling;
+    let row = given_by(text, line);
+    let next = Spot {
+        row,
+        column: row,
+        filling,
+    };
+    MatrixWalk {
+        at: line.next,
+        number: line.number + 1,
+        bandwidth,
+        greatest: greater(walk.greatest, row),
+        spot: next,
+    }
+}
+
+// [Bandwidth] stands once; where it does not, the first counts.
+fn take_bandwidth(text: &[u8], line: Found, walk: MatrixWalk) -> MatrixWalk
+    requires { ⌜ Located (now text) line ⌝ }
+    ensures { λ r. ⌜ r ≡ withBandwidth (givenBy (lineIn (now (text .entry)) line 0)) line walk ⌝ }
+{
+    let spot = walk.spot;
+    let before = walk.bandwidth;
+    let bandwidth = first_told(before, given_by(text, line));
+    MatrixWalk {
+        at: line.next,
+        number: line.number + 1,
+        bandwidth,
+        greatest: walk.greatest,
+        spot,
+    }
+}
+
+// A line without a keyword: a column and a value of a Sparse_matrix, else numbers.
+fn take_data(text: &[u8], line: Found, form: u64, table: &mut [u64], walk: MatrixWalk) -> MatrixWalk
+    requires { ⌜ TakesData (now text) line form (now table) walk ⌝ }
+    ensures { λ r. ⌜ TakenLine (now (text .entry)) line form (now (table .entry)) walk r (now (table .exit)) ⌝ }
+{
+    let at = line.at;
+    let end = line.end;
+    let spot = walk.spot;
+    let bandwidth = walk.bandwidth;
+    if form == matrix::SPARSE {
+        let filling = spot.filling;
+        let placing = fill_sparse(&text[at..end], spot.row, table, filling);
+        let filled = placing.filling;
+        let next = Spot {
+            row: spot.row,
+            column: spot.column,
+            filling: filled,
+        };
+        return MatrixWalk {
+            at: line.next,
+            number: line.number + 1,
+            bandwidth,
+            greatest: greater(walk.greatest, placing.column),
+            spot: next,
+        };
+    }
+    let next = fill_numbers(&text[at..end], form, table, spot);
+    MatrixWalk {
+        at: line.next,
+        number: line.number + 1,
+        bandwidth,
+        greatest: walk.greatest,
+        spot: next,
+    }
+}
+
+// A line of a matrix, by its keyword.
+fn take_line(text: &[u8], line: Found, form: u64, table: &mut [u64], walk: MatrixWalk) -> MatrixWalk
+    requires { ⌜ TakesLine (now text) line form (now table) walk ⌝ }
+    ensures { λ r. ⌜ TakenLine (now (text .entry)) line form (now (table .entry)) walk r (now (table .exit)) ⌝ }
+{
+    if line.key == keyword::ROW {
+        return take_row(text, line, walk);
+    }
+    if line.key == keyword::BANDWIDTH {
+        return take_bandwidth(text, line, walk);
+    }
+    take_data(text, line, form, table, walk)
+}
+
+// The first keyword that is not [Row] or [Bandwidth] ends a matrix.
+fn stays_in_matrix(key: u64) -> bool
+    ensures { λ r. ⌜ r ≡ either (eqb key plain) (keepsMatrix key) ⌝ }
+{
+    if key == document::PLAIN {
+        return true;
+    }
+    place::keeps_matrix(key)
+}
+
+// The lines of a matrix, from below its keyword.
+fn fill_values(
+    text: &[u8],
+    at: usize,
+    number: u64,
+    form: u64,
+    table: &mut [u64],
+    filling: Filling,
+) -> MatrixWalk
+    requires { ⌜ PutsValues (now text) number at form (now table) filling ⌝ }
+    ensures { λ r. ⌜ FillsValues (now (text .entry)) number at form (now (table .entry)) filling r (now (table .exit)) ⌝ }
+{
+    let bandwidth = First {
+        told: false,
+        value: 0,
+    };
+    let spot = Spot {
+        row: 1,
+        column: 1,
+        filling,
+    };
+    let mut walk = MatrixWalk {
+        at,
+        number,
+        bandwidth,
+        greatest: 0,
+        spot,
+    };
+    loop {
+        let line = document::next_line(text, walk.at, walk.number);
+        if !line.there {
+            return walk;
+        }
+        if !stays_in_matrix(line.key) {
+            return walk;
+        }
+        walk = take_line(text, line, form, table, walk);
+    }
+}
+
+// The form of a matrix, after its keyword.
+fn form_at(text: &[u8], line: Found) -> u64
+    requires { ⌜ Located (now text) line ⌝ }
+    ensures { λ r. ⌜ r ≡ formOf (argumentOf (lineIn (now (text .entry)) line 0) .text) ⌝ }
+{
+    let at = line.at;
+    let end = line.end;
+    argument::form_of(reading::argument_of(&text[at..end], line.argument))
+}
+
+// N of a matrix: its numbers down the diagonal, else the greatest row or column that it names.
+fn conductors_in(form: u64, values: u64, greatest: u64) -> u64
+    ensures { λ r. ⌜ r ≡ (if eqb form diagonal then values else greatest) ⌝ }
+{
+    if form == matrix::DIAGONAL {
+        return values;
+    }
+    greatest
+}
+
+// A matrix: its values, and behind them its own record.
+pub fn fill_matrix(text: &[u8], line: Found, table: &mut [u64], filling: Filling) -> Stored
+    requires { ⌜ PutsMatrix (now text) line (now table) filling ⌝ }
+    ensures { λ r. ⌜ FillsMatrix (now (text .entry)) line (now (table .entry)) filling r (now (table .exit)) ⌝ }
+{
+    let before = filling.counts;
+    let first = before[table::VALUES];
+    let form = form_at(text, line);
+    let walk = fill_values(text, line.next, line.number + 1, form, table, filling);
+    let spot = walk.spot;
+    let bandwidth = walk.bandwidth;
+    let filled = spot.filling;
+    let after = filled.counts;
+    let values = after[table::VALUES] - first;
+    let words = [form, told_in(bandwidth), first, values, line.number];
+    Stored {
+        at: walk.at,
+        number: walk.number,
+        conductors: conductors_in(form, values, walk.greatest),
+        filling: table::put_record(table, filled, table::MATRICES, &words),
+    }
+}

@@ -1,0 +1,4 @@
+pub mod LineLaws
+pub mod WalkLaws
+pub mod ModelLaws
+pub mod PassLaws

@@ -1,0 +1,247 @@
+// The models of a text with their steps, stored in a table that holds the maps and sections already.
+ghost use mathlib.Core.Path.{_≡_};
+ghost use mathlib.Core.List.{[], _∷_};
+ghost use lib.ListN.{length};
+ghost use lib.Dec.{eqb};
+ghost use Rattle.base.specs.If.{both};
+ghost use Rattle.keyword.specs.Names.{beginIcmModel};
+ghost use Rattle.place.specs.Place.{isInFamily};
+ghost use Rattle.place.specs.Place as place;
+ghost use Rattle.table.specs.Filling.{Fits};
+ghost use Rattle.document.specs.Lines.{plain};
+ghost use Rattle.document.specs.Document.{documentOf, headIn};
+ghost use Rattle.document.specs.Found.{Located, lineIn};
+ghost use Rattle.storing.specs.Stores.{Stores};
+ghost use Rattle.models.specs.Models.{modelsOf, Points, Open, Next, OnPath, Taken, Reached, ReadsModel, FitsModel, FillsModel, ReadyModel, PassesModel};
+use document::Found;
+use head::Head;
+use storing::Walk;
+use table::Filling;
+
+// "A block may hold further blocks, to a depth of 8".
+const DEEPEST: u64 = 8;
+
+// What a line says that stands in no path.
+const NOTHING: u64 = 0;
+
+// How far the lines of a model have been gone over: where to go on, what the last line said in a path, and what the head has said.
+pub struct ModelWalk {
+    pub at: usize,
+    pub number: u64,
+    pub place: u64,
+    pub says: u64,
+    pub head: Head,
+    pub filling: Filling,
+}
+
+// ---- one line of a model
+
+// Whether a line is one of the block `block`: it stands there, and has no keyword.
+fn stands_in(block: u64, place: u64, key: u64) -> bool
+    ensures { λ r. ⌜ r ≡ both (eqb place block) (eqb key plain) ⌝ }
+{
+    if place != block {
+        return false;
+    }
+    key == document::PLAIN
+}
+
+// What the head has said after a line.
+fn head_after(text: &[u8], line: Found, place: u64, head: Head) -> Head
+    requires { ⌜ Located (now text) line ⌝ }
+    ensures { λ r. ⌜ r ≡ headIn head (lineIn (now (text .entry)) line place ∷ []) ⌝ }
+{
+    if !stands_in(place::HEAD, place, line.key) {
+        return head;
+    }
+    let at = line.at;
+    let end = line.end;
+    let said = head::head_line(&text[at..end]);
+    head::head_next(said, head)
+}
+
+// A line of the path: its step is stored.
+fn take_step(text: &[u8], line: Found, table: &mut [u64], walk: ModelWalk) -> ModelWalk
+    requires { ⌜ OnPath (now text) line walk (now table) ⌝ }
+    ensures { λ r. ⌜ Taken (now (text .entry)) line walk (now (table .entry)) r (now (table .exit)) ⌝ }
+{
+    let at = line.at;
+    let end = line.end;
+    let head = walk.head;
+    let filling = walk.filling;
+    let says = path::saying_of(text::first_word(&text[at..end]));
+    ModelWalk {
+        at: line.next,
+        number: line.number + 1,
+        place: place::PATH,
+        says,
+        head,
+        filling: steps::put_step(text, line, says, table, filling),
+    }
+}
+
+fn take_line(text: &[u8], line: Found, table: &mut [u64], walk: ModelWalk) -> ModelWalk
+    requires { ⌜ Next (now text) line walk (now table) ⌝ }
+    ensures { λ r. ⌜ Reached (now (text .entry)) walk (now (table .entry)) r (now (table .exit)) ⌝ }
+{
+    if stands_in(place::PATH, walk.place, line.key) {
+        return take_step(text, line, table, walk);
+    }
+    let head = walk.head;
+    let filling = walk.filling;
+    ModelWalk {
+        at: line.next,
+        number: line.number + 1,
+        place: document::place_after(walk.place, text, line),
+        says: NOTHING,
+        head: head_after(text, line, walk.place, head),
+        filling,
+    }
+}
+
+// ---- all lines of a model
+
+// The lines of a fork block, from its first line up to the Endfork that closes it. An inner block is gone over by the same function, and
+// the depth still left falls. The model itself is the outermost block.
+fn fill_block(text: &[u8], line: Found, table: &mut [u64], start: ModelWalk, left: u64) -> ModelWalk
+    requires { ⌜ Next (now text) line start (now table) ⌝ }
+    ensures { λ r. ⌜ Reached (now (text .entry)) start (now (table .entry)) r (now (table .exit)) ⌝ }
+{
+    let mut walk = take_line(text, line, table, start);
+    let mut says = walk.says;
+    loop {
+        if says == path::ENDFORK {
+            return walk;
+        }
+        let next = document::next_line(text, walk.at, walk.number);
+        if !next.there {
+            return walk;
+        }
+        if !place::is_in_model(walk.place) {
+            return walk;
+        }
+        if says == path::FORK {
+            if 0 < left {
+                walk = fill_block(text, next, table, walk, left - 1);
+                says = NOTHING;
+                continue;
+            }
+        }
+        walk = take_line(text, next, table, walk);
+        says = walk.says;
+    }
+}
+
+// The lines of a model, from below its keyword up to its end.
+fn fill_steps(text: &[u8], at: usize, number: u64, table: &mut [u64], filling: Filling) -> ModelWalk
+    requires { ⌜ Open (now text) number at place.head filling (now table) ⌝ }
+    ensures { λ r. ⌜ ReadsModel (now (text .entry)) number at filling (now (table .entry)) r (now (table .exit)) ⌝ }
+{
+    let mut walk = ModelWalk {
+        at,
+        number,
+        place: place::HEAD,
+        says: NOTHING,
+        head: head::new_head(),
+        filling,
+    };
+    loop {
+        let line = document::next_line(text, walk.at, walk.number);
+        if !line.there {
+            return walk;
+        }
+        if !place::is_in_model(walk.place) {
+            return walk;
+        }
+        walk = fill_block(text, line, table, walk, DEEPEST);
+    }
+}
+
+// ---- models
+
+// A model: its steps, and behind them its own record.
+fn fill_model(text: &[u8], line: Found, table: &mut [u64], filling: Filling) -> ModelWalk
+    requires { ⌜ FitsModel (now text) line filling (now table) ⌝ }
+    ensures { λ r. ⌜ FillsModel (now (text .entry)) line filling (now (table .entry)) r (now (table .exit)) ⌝ }
+{
+    let before = filling.counts;
+    let first = before[table::STEPS];
+    let walk = fill_steps(text, line.next, line.number + 1, table, filling);
+    let head = walk.head;
+    let filled = walk.filling;
+    let after = filled.counts;
+    let mark = document::argument_mark(text, line);
+    let words = [
+        mark.start as u64,
+        mark.size as u64,
+        storing::one_less(head.kind),
+        first,
+        after[table::STEPS] - first,
+    ];
+    ModelWalk {
+        at: walk.at,
+        number: walk.number,
+        place: walk.place,
+        says: walk.says,
+        head,
+        filling: table::put_record(table, filled, table::MODELS, &words),
+    }
+}
+
+// A model is opened in the family alone.
+fn opens_model(place: u64, key: u64) -> bool
+    ensures { λ r. ⌜ r ≡ both (isInFamily place) (eqb key beginIcmModel) ⌝ }
+{
+    if !place::is_in_family(place) {
+        return false;
+    }
+    key == keyword::BEGIN_ICM_MODEL
+}
+
+// A line of the text, and the model that it opens if it opens one.
+fn pass_model(text: &[u8], line: Found, table: &mut [u64], walk: Walk) -> Walk
+    requires { ⌜ ReadyModel (now text) line walk (now table) ⌝ }
+    ensures { λ r. ⌜ PassesModel (now (text .entry)) line walk (now (table .entry)) r (now (table .exit)) ⌝ }
+{
+    let filling = walk.filling;
+    if opens_model(walk.place, line.key) {
+        let model = fill_model(text, line, table, filling);
+        let filled = model.filling;
+        return Walk {
+            at: model.at,
+            number: model.number,
+            place: model.place,
+            filling: filled,
+        };
+    }
+    Walk {
+        at: line.next,
+        number: line.number + 1,
+        place: document::place_after(walk.place, text, line),
+        filling,
+    }
+}
+
+// All models. Their records lie below `low`, those that their steps point at above it.
+pub fn fill_models(text: &[u8], table: &mut [u64], filling: Filling, low: usize) -> Filling
+    requires { ⌜ (length (filling .counts) ≡ 7) × Points (now text) low filling (now table) × Fits low filling (modelsOf (now text) filling (documentOf (now text) .models)) ⌝ }
+    ensures { λ r. ⌜ Stores filling (now (table .entry)) (modelsOf (now (text .entry)) filling (documentOf (now (text .entry)) .models)) r (now (table .exit)) ⌝ }
+{
+    let mut walk = Walk {
+        at: 0,
+        number: 1,
+        place: place::BEFORE,
+        filling,
+    };
+    loop {
+        let filled = walk.filling;
+        if walk.place == place::AFTER {
+            return filled;
+        }
+        let line = document::next_line(text, walk.at, walk.number);
+        if !line.there {
+            return filled;
+        }
+        walk = pass_model(text, line, table, walk);
+    }
+}

@@ -1,0 +1,88 @@
+// The lines of a text that write the records of a table: where a rule is broken.
+ghost use mathlib.Core.Path.{_≡_};
+ghost use lib.Dec.{eqb};
+ghost use Prim.Native.Nat.{_-_};
+ghost use Rattle.base.specs.If.{if_then_else_, both};
+ghost use Rattle.document.specs.Lines.{significant};
+ghost use Rattle.rules.specs.Nth.{writesAt, nthLine};
+
+// What a line breaks of the rules 19 to 27, 0 for nothing.
+pub struct Finding {
+    pub number: u64,
+    pub line: u64,
+}
+
+// Whether a line with this keyword in this place writes a record of a part.
+fn writes_at(part: usize, place: u64, key: u64) -> bool
+    ensures { λ r. ⌜ r ≡ writesAt part place key ⌝ }
+{
+    if part == table::MODELS {
+        if !place::is_in_family(place) {
+            return false;
+        }
+        return key == keyword::BEGIN_ICM_MODEL;
+    }
+    if part == table::MAPS {
+        if !place::is_in_family(place) {
+            return false;
+        }
+        return key == keyword::ICM_PIN_MAP;
+    }
+    if part == table::SECTIONS {
+        if place != place::AFTER {
+            return false;
+        }
+        return key == keyword::BEGIN_ICM_SECTION;
+    }
+    if place != place::PINS {
+        return false;
+    }
+    key == document::PLAIN
+}
+
+// The last of those still to be counted is reached.
+fn is_last(writes: bool, left: u64) -> bool
+    ensures { λ r. ⌜ r ≡ both writes (eqb left 0) ⌝ }
+{
+    if !writes {
+        return false;
+    }
+    left == 0
+}
+
+// One less to be counted if the line writes one.
+fn less_if(writes: bool, left: u64) -> u64
+    ensures { λ r. ⌜ r ≡ (if writes then left - 1 else left) ⌝ }
+{
+    if !writes {
+        return left;
+    }
+    if left == 0 {
+        return 0;
+    }
+    left - 1
+}
+
+// The line that writes the record of a part that is numbered `index`.
+pub fn nth_line(text: &[u8], part: usize, index: u64) -> u64
+    ensures { λ r. ⌜ r ≡ nthLine part index (significant (now (text .entry))) ⌝ }
+{
+    let mut left = index;
+    let mut at = 0;
+    let mut number = 1;
+    let mut place = place::BEFORE;
+    loop {
+        let line = document::next_line(text, at, number);
+        if !line.there {
+            return 0;
+        }
+        let writes = writes_at(part, place, line.key);
+        if is_last(writes, left) {
+            return line.number;
+        }
+        left = less_if(writes, left);
+        place = document::place_after(place, text, line);
+        at = line.next;
+        number = line.number + 1;
+    }
+}

@@ -1,0 +1,267 @@
+// The sections of a text with their matrices and values, stored in a table.
+ghost use mathlib.Core.Path.{_≡_};
+ghost use Prim.Native.Nat.{_<_};
+ghost use lib.ListN.{length};
+ghost use lib.Dec.{eqb};
+ghost use Rattle.base.specs.If.{both, either};
+ghost use Rattle.keyword.specs.Names.{beginIcmSection};
+ghost use Rattle.place.specs.Place.{opensMatrix};
+ghost use Rattle.place.specs.Place as places;
+ghost use Rattle.table.specs.Filling.{Fits};
+ghost use Rattle.document.specs.Document.{kindOf, sectionAt};
+ghost use Rattle.document.specs.Found.{Located};
+ghost use Rattle.storing.specs.Stores.{Stores, Placed, Passes, Ready};
+ghost use Rattle.sections.specs.Sections.{sectionsOf, sectionsLeft};
+ghost use Rattle.sections.specs.Section.{kindsWith, methodAt, methodAfter, TakesLine, TakesMatrix, TakenLine, PutsLines, FillsLines, PutsSection, FillsSection};
+use document::Found;
+use matrices::First;
+use storing::Walk;
+use table::Filling;
+
+// How far the lines of a section have been read: where to go on, and what they have said. The first method counts, N is that of the first
+// matrix, and of each kind the first matrix is kept, as its index plus 1, or 0.
+pub struct SectionWalk {
+    pub at: usize,
+    pub number: u64,
+    pub place: u64,
+    pub method: First,
+    pub conductors: First,
+    pub kinds: [u64; 4],
+    pub filling: Filling,
+}
+
+// "R L G C".
+fn kind_of(key: u64) -> usize
+    ensures { λ r. ⌜ r ≡ kindOf key ⌝ }
+{
+    if key == keyword::RESISTANCE_MATRIX {
+        return 0;
+    }
+    if key == keyword::INDUCTANCE_MATRIX {
+        return 1;
+    }
+    if key == keyword::CONDUCTANCE_MATRIX {
+        return 2;
+    }
+    3
+}
+
+// A matrix of a kind, kept where it is the first.
+fn with_kind(kinds: [u64; 4], kind: usize, index: u64) -> [u64; 4]
+    requires { ⌜ kind < 4 ⌝ }
+    ensures { λ r. ⌜ r ≡ kindsWith kinds kind index ⌝ }
+{
+    if kinds[kind] == 0 {
+        let mut next = kinds;
+        next[kind] = index;
+        return next;
+    }
+    kinds
+}
+
+// Past [Derivation Method] a section holds matrices.
+fn holds_matrices(place: u64) -> bool
+    ensures { λ r. ⌜ r ≡ either (eqb place places.section) (eqb place places.matrix) ⌝ }
+{
+    if place == place::SECTION {
+        return true;
+    }
+    place == place::MATRIX
+}
+
+// Whether a line read in a place is a section's.
+fn is_in_section(place: u64) -> bool
+    ensures { λ r. ⌜ r ≡ either (eqb place places.sectionHead) (either (eqb place places.section) (eqb place places.matrix)) ⌝ }
+{
+    if place == place::SECTION_HEAD {
+        return true;
+    }
+    holds_matrices(place)
+}
+
+// Whether a keyword opens a matrix where it stands.
+fn opens_matrix(place: u64, key: u64) -> bool
+    ensures { λ r. ⌜ r ≡ both (either (eqb place places.section) (eqb place places.matrix)) (opensMatrix key) ⌝ }
+{
+    if !holds_matrices(place) {
+        return false;
+    }
+    place::opens_matrix(key)
+}
+
+// The argument of [Derivation Method].
+fn method_at(text: &[u8], line: Found) -> u64
+    requires { ⌜ Located (now text) line ⌝ }
+    ensures { λ r. ⌜ r ≡ methodAt (now (text .entry)) line ⌝ }
+{
+    let at = line.at;
+    let end = line.end;
+    argument::method_of(reading::argument_of(&text[at..end], line.argument))
+}
+
+// The first [Derivation Method] counts.
+fn method_after(text: &[u8], line: Found, method: First) -> First
+    requires { ⌜ Located (now text) line ⌝ }
+    ensures { λ r. ⌜ r ≡ methodAfter (now (text .entry)) line method ⌝ }
+{
+    if line.key == keyword::DERIVATION_METHOD {
+        return matrices::first_told(method, method_at(text, line));
+    }
+    method
+}
+
+// A matrix: the lines go on behind its own.
+fn take_matrix(text: &[u8], line: Found, table: &mut [u64], walk: SectionWalk) -> SectionWalk
+    requires { ⌜ TakesMatrix (now text) line (now table) walk ⌝ }
+    ensures { λ r. ⌜ TakenLine (now (text .entry)) line (now (table .entry)) walk r (now (table .exit)) ⌝ }
+{
+    let filling = walk.filling;
+    let method = walk.method;
+    let before = walk.conductors;
+    let kept = walk.kinds;
+    let stored = matrices::fill_matrix(text, line, table, filling);
+    let filled = stored.filling;
+    let counts = filled.counts;
+    let conductors = matrices::first_told(before, stored.conductors);
+    let kinds = with_kind(kept, kind_of(line.key), counts[table::MATRICES]);
+    SectionWalk {
+        at: stored.at,
+        number: stored.number,
+        place: place::MATRIX,
+        method,
+        conductors,
+        kinds,
+        filling: filled,
+    }
+}
+
+// A line of a section, and the matrix that it opens if it opens one.
+fn take_line(text: &[u8], line: Found, table: &mut [u64], walk: SectionWalk) -> SectionWalk
+    requires { ⌜ TakesLine (now text) line (now table) walk ⌝ }
+    ensures { λ r. ⌜ TakenLine (now (text .entry)) line (now (table .entry)) walk r (now (table .exit)) ⌝ }
+{
+    if opens_matrix(walk.place, line.key) {
+        return take_matrix(text, line, table, walk);
+    }
+    let before = walk.method;
+    let conductors = walk.conductors;
+    let kinds = walk.kinds;
+    let filling = walk.filling;
+    let method = method_after(text, line, before);
+    SectionWalk {
+        at: line.next,
+        number: line.number + 1,
+        place: document::place_after(walk.place, text, line),
+        method,
+        conductors,
+        kinds,
+        filling,
+    }
+}
+
+// The lines of a section, from below its keyword.
+fn fill_lines(
+    text: &[u8],
+    at: usize,
+    number: u64,
+    table: &mut [u64],
+    filling: Filling,
+) -> SectionWalk
+    requires { ⌜ PutsLines (now text) number at (now table) filling ⌝ }
+    ensures { λ r. ⌜ FillsLines (now (text .entry)) number at (now (table .entry)) filling r (now (table .exit)) ⌝ }
+{
+    let untold = First {
+        told: false,
+        value: 0,
+    };
+    let mut walk = SectionWalk {
+        at,
+        number,
+        place: place::SECTION_HEAD,
+        method: untold,
+        conductors: untold,
+        kinds: [0; 4],
+        filling,
+    };
+    loop {
+        let line = document::next_line(text, walk.at, walk.number);
+        if !line.there {
+            return walk;
+        }
+        if !is_in_section(walk.place) {
+            return walk;
+        }
+        walk = take_line(text, line, table, walk);
+    }
+}
+
+// A section: its matrices with their values, and behind them its own record.
+fn fill_section(text: &[u8], line: Found, table: &mut [u64], filling: Filling) -> Walk
+    requires { ⌜ PutsSection (now text) line (now table) filling ⌝ }
+    ensures { λ r. ⌜ FillsSection (now (text .entry)) line (now (table .entry)) filling r (now (table .exit)) ⌝ }
+{
+    let walk = fill_lines(text, line.next, line.number + 1, table, filling);
+    let filled = walk.filling;
+    let method = walk.method;
+    let conductors = walk.conductors;
+    let kinds = walk.kinds;
+    let mark = document::argument_mark(text, line);
+    let words = [
+        mark.start as u64,
+        mark.size as u64,
+        matrices::told_in(method),
+        matrices::told_in(conductors),
+        kinds[0],
+        kinds[1],
+        kinds[2],
+        kinds[3],
+    ];
+    Walk {
+        at: walk.at,
+        number: walk.number,
+        place: walk.place,
+        filling: table::put_record(table, filled, table::SECTIONS, &words),
+    }
+}
+
+// Sections stand behind the family.
+fn opens_section(place: u64, key: u64) -> bool
+    ensures { λ r. ⌜ r ≡ both (eqb place places.after) (eqb key beginIcmSection) ⌝ }
+{
+    if place != place::AFTER {
+        return false;
+    }
+    key == keyword::BEGIN_ICM_SECTION
+}
+
+// A line, and the section that it opens if it opens one.
+fn pass_section(text: &[u8], line: Found, table: &mut [u64], walk: Walk) -> Walk
+    requires { ⌜ Ready sectionAt sectionsOf (now text) line walk (now table) ⌝ }
+    ensures { λ r. ⌜ Passes sectionAt sectionsOf (now (text .entry)) line walk (now (table .entry)) r (now (table .exit)) ⌝ }
+{
+    let filling = walk.filling;
+    if opens_section(walk.place, line.key) {
+        return fill_section(text, line, table, filling);
+    }
+    Walk {
+        at: line.next,
+        number: line.number + 1,
+        place: document::place_after(walk.place, text, line),
+        filling,
+    }
+}
+
+// All sections, from where the walk has come.
+pub fn fill_sections(text: &[u8], table: &mut [u64], walk: Walk) -> Filling
+    requires { ⌜ Placed (now text) (walk .number) (walk .at) × (length (walk .filling .counts) ≡ 7) × Fits (length (now table)) (walk .filling) (sectionsOf (walk .filling) (sectionsLeft (now text) walk)) ⌝ }
+    ensures { λ r. ⌜ Stores (walk .filling) (now (table .entry)) (sectionsOf (walk .filling) (sectionsLeft (now (text .entry)) walk)) r (now (table .exit)) ⌝ }
+{
+    let mut next = walk;
+    loop {
+        let line = document::next_line(text, next.at, next.number);
+        if !line.there {
+            return next.filling;
+        }
+        next = pass_section(text, line, table, next);
+    }
+}

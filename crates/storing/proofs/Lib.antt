@@ -1,0 +1,5 @@
+pub mod StoreLaws
+pub mod LineLaws
+pub mod LateLaws
+pub mod BlockLaws
+pub mod WriteLaws

@@ -1,0 +1,4 @@
+pub mod LayoutLaws
+pub mod PartlyLaws
+pub mod FillingLaws
+pub mod StoreLaws

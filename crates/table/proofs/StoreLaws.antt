@@ -1,0 +1,201 @@
+-- Laws by which the code meets its contracts: a loop over the parts, the counts and bases that it stores, and the place of one record.
+-- Assumes nothing.
+use mathlib.Core.Path.{_≡_, refl, sym, _∙_, ap}
+use mathlib.Core.List.{List, [], _∷_, _++_, append-assoc, append-nil}
+use Prim.Native.Nat.{ℕ, zero, suc, _+_, _-_, _*_, _^_, _≤_, _<_}
+use mir.Syntax.{w64}
+use mir.Val.{Fits}
+use native.Mathlib.Nat.{zero-add, mul-le-mul, mul-suc, mul-comm, le-mul-of-pos-right}
+use native.Mathlib.Numerals.{add-one}
+use native.Mathlib.Omega.{arith}
+use lib.ListN.{length, drop, getD, set, replicate, length-append, length-replicate, replicate-append-replicate, drop-of-length-le}
+use lib.Seq.{sets, drop-cons, sets-eq, set-at}
+use Rattle.table.specs.declared.Filling.{Filling}
+use Rattle.table.specs.Layout.{widths, needed}
+use Rattle.table.specs.Filling.{headed, basesFrom, startFilling, Few, position, widthOf}
+
+-- ---- a loop over the parts: the words before a part, and what it and those after it need
+
+needed-on : (ws counts : List ℕ) (part at goal : ℕ) → part < length ws → part < length counts →
+    at + needed (drop part ws) (drop part counts) ≡ goal →
+    at + 1 + getD ws part 0 * getD counts part 0 + needed (drop (part + 1) ws) (drop (part + 1) counts) ≡ goal
+unfolding needed
+needed-on ws counts part at goal h k e =
+    let n : at + needed (getD ws part 0 ∷ drop (suc part) ws) (getD counts part 0 ∷ drop (suc part) counts) ≡ goal =
+    rw (drop-cons ws part 0 h, drop-cons counts part 0 k) at e in
+    rw (add-one part) (omega arith)
+
+module _ (counts : List ℕ) (part at : ℕ) (long : length counts ≡ 7)
+    (inv : at + needed (drop part widths) (drop part counts) ≡ needed widths counts) where
+  pub part-on : part < 7 →
+      at + 1 + getD widths part 0 * getD counts part 0 + needed (drop (part + 1) widths) (drop (part + 1) counts) ≡ needed widths counts
+  part-on h =
+      let k : part < length counts = omega arith in
+      needed-on widths counts part at (needed widths counts) h k inv
+
+  -- the part itself is among what is needed
+  part-within : part < 7 → at + 1 + getD widths part 0 * getD counts part 0 ≤ needed widths counts
+  part-within h =
+      omega (arith, part-on h)
+
+  -- so its count stands within a table that is as long as one with the room
+  pub place-within : (table entry : List ℕ) → part < 7 → length table ≡ length entry → needed widths counts ≤ length entry → at < length table
+  place-within table entry h e room = omega (arith, part-within h)
+
+  pub parts-done : 7 ≤ part → at ≡ needed widths counts
+  unfolding needed
+  parts-done h =
+      let e : drop part widths ≡ [] = drop-of-length-le widths h in
+      let f : at + needed [] (drop part counts) ≡ needed widths counts = rw e at inv in
+      omega arith
+
+-- ---- few records need few words
+
+pub widths-small : (p : ℕ) → getD widths p 0 ≤ 8
+widths-small zero = omega arith
+widths-small (suc zero) = omega arith
+widths-small (suc (suc zero)) = omega arith
+widths-small (suc (suc (suc zero))) = omega arith
+widths-small (suc (suc (suc (suc zero)))) = omega arith
+widths-small (suc (suc (suc (suc (suc zero))))) = omega arith
+widths-small (suc (suc (suc (suc (suc (suc zero)))))) = omega arith
+widths-small (suc (suc (suc (suc (suc (suc (suc p))))))) = omega arith
+
+needed-small : (ws counts : List ℕ) → ((p : ℕ) → getD ws p 0 ≤ 8) → ((p : ℕ) → getD counts p 0 ≤ 65_536) →
+    needed ws counts ≤ 524_289 * length ws
+unfolding needed
+needed-small [] counts h k = omega arith
+needed-small (w ∷ ws) [] h k = omega arith
+needed-small (w ∷ ws) (c ∷ counts) h k =
+    let m : w * c ≤ 8 * 65_536 = mul-le-mul (h zero) (k zero) in
+    let n : needed ws counts ≤ 524_289 * length ws = needed-small ws counts (λ (p : ℕ). h (suc p)) (λ (p : ℕ). k (suc p)) in
+    omega arith
+
+needed-few : (counts : List ℕ) → Few counts → needed widths counts ≤ 3_670_023
+needed-few counts h = needed-small widths counts widths-small (h .few)
+
+module _ (counts : List ℕ) (part at : ℕ) (long : length counts ≡ 7) (few : Few counts) (h : part < 7)
+    (inv : at + needed (drop part widths) (drop part counts) ≡ needed widths counts) where
+  pub place-fits : Fits w64 (at * 8)
+  place-fits = omega (arith, part-within counts part at long inv h, needed-few counts few)
+
+  pub first-fits : Fits w64 (at + 1)
+  first-fits = omega (arith, part-within counts part at long inv h, needed-few counts few)
+
+  pub part-fits : Fits w64 (getD widths part 0 * getD counts part 0)
+  part-fits = omega (arith, part-within counts part at long inv h, needed-few counts few)
+
+  pub sum-fits : Fits w64 (at + 1 + getD widths part 0 * getD counts part 0)
+  sum-fits = omega (arith, part-within counts part at long inv h, needed-few counts few)
+
+-- ---- the place of one record
+
+widths-some : (p : ℕ) → p < length widths → 0 < getD widths p 0
+widths-some zero h = omega arith
+widths-some (suc zero) h = omega arith
+widths-some (suc (suc zero)) h = omega arith
+widths-some (suc (suc (suc zero))) h = omega arith
+widths-some (suc (suc (suc (suc zero)))) h = omega arith
+widths-some (suc (suc (suc (suc (suc zero))))) h = omega arith
+widths-some (suc (suc (suc (suc (suc (suc zero)))))) h = omega arith
+widths-some (suc (suc (suc (suc (suc (suc (suc p))))))) h = absurd (omega arith)
+
+-- every record has a word at least, so a table that holds them is as long as there are records
+records-words : (w n : ℕ) → 0 < w → suc n ≤ w * n + w
+records-words w n h = rw (← mul-suc w n, mul-comm w (suc n)) (le-mul-of-pos-right (suc n) h)
+
+pub count-fits : (f : Filling) (p : ℕ) (table : List ℕ) → p < length widths → position f p + widthOf p ≤ length table →
+    length table * 8 < 2 ^ 63 → Fits w64 (getD (f .counts) p 0 + 1)
+unfolding position widthOf
+count-fits f p table h room small = omega (arith, records-words (getD widths p 0) (getD (f .counts) p 0) (widths-some p h))
+
+-- ---- the counts stored, each where its part begins
+
+-- what stands before `at` is right, zeros come after it, and what the parts that are left ask for completes the table
+pub record Opened (ws counts table : List ℕ) (at spare : ℕ) (goal : List ℕ) : Type 0 where
+  pub front : List ℕ
+  pub is : table ≡ front ++ replicate (needed ws counts + spare) 0
+  pub place : length front ≡ at
+  pub whole : front ++ headed ws counts ≡ goal
+
+set-zeros : (front : List ℕ) (at n left c : ℕ) → length front ≡ at →
+    set (front ++ replicate (suc (n + left)) 0) at c ≡ (front ++ (c ∷ replicate n 0)) ++ replicate left 0
+set-zeros front at n left c e =
+    set-at front 0 (replicate (n + left) 0) c at e
+    ∙ rw (append-assoc front (c ∷ replicate n 0) (replicate left 0), replicate-append-replicate {A = ℕ} n left 0)
+
+-- one count stored: it and the zeros of its part's records are right too
+opened-next : (w c : ℕ) (ws counts table : List ℕ) (at spare : ℕ) (goal : List ℕ) →
+    Opened (w ∷ ws) (c ∷ counts) table at spare goal → Opened ws counts (set table at c) (at + 1 + w * c) spare goal
+unfolding needed headed
+opened-next w c ws counts table at spare goal opened =
+    let n : 1 + w * c + needed ws counts + spare ≡ suc (w * c + (needed ws counts + spare)) = omega arith in
+    let e : table ≡ opened .front ++ replicate (suc (w * c + (needed ws counts + spare))) 0 = rw n at (opened .is) in
+    let z : length (replicate {A = ℕ} (w * c) 0) ≡ w * c = length-replicate (w * c) 0 in
+    let l : length (opened .front) ≡ at = opened .place in
+    record {
+      front = opened .front ++ (c ∷ replicate (w * c) 0);
+      is = rw e (set-zeros (opened .front) at (w * c) (needed ws counts + spare) c (opened .place));
+      place = length-append (opened .front) (c ∷ replicate (w * c) 0) ∙ omega arith;
+      whole = append-assoc (opened .front) (c ∷ replicate (w * c) 0) (headed ws counts) ∙ opened .whole;
+    }
+
+pub opened-start : (counts table : List ℕ) → needed widths counts ≤ length table → table ≡ replicate (length table) 0 →
+    Opened widths counts table 0 (length table - needed widths counts) (headed widths counts)
+opened-start counts table h e =
+    let n : length table ≡ needed widths counts + (length table - needed widths counts) = omega arith in
+    record { front = []; is = e ∙ ap (λ (k : ℕ). replicate k 0) n; place = refl; whole = refl }
+
+pub opened-on : (counts table : List ℕ) (at part spare : ℕ) (goal : List ℕ) → length counts ≡ 7 → part < 7 →
+    Opened (drop part widths) (drop part counts) table at spare goal →
+    Opened (drop (part + 1) widths) (drop (part + 1) counts) (set table at (getD counts part 0))
+    (at + 1 + getD widths part 0 * getD counts part 0) spare goal
+opened-on counts table at part spare goal long h opened =
+    let k : part < length counts = omega arith in
+    rw (add-one part)
+    (opened-next (getD widths part 0) (getD counts part 0) (drop (suc part) widths) (drop (suc part) counts) table at spare goal
+    (rw (drop-cons widths part 0 h, drop-cons counts part 0 k) at opened))
+
+pub opened-done : (counts table : List ℕ) (at part spare : ℕ) (goal : List ℕ) → 7 ≤ part →
+    Opened (drop part widths) (drop part counts) table at spare goal → table ≡ goal ++ replicate spare 0
+unfolding needed headed
+opened-done counts table at part spare goal h opened =
+    let e : drop part widths ≡ [] = drop-of-length-le widths h in
+    let o : Opened [] (drop part counts) table at spare goal = rw e at opened in
+    o .is ∙ rw (zero-add spare, ← o .whole, append-nil (o .front))
+
+-- ---- where the records begin, stored one part after the other
+
+length-bases : (at : ℕ) (ws counts : List ℕ) → length counts ≡ length ws → length (basesFrom at ws counts) ≡ length ws
+unfolding basesFrom
+length-bases at [] counts e = refl
+length-bases at (w ∷ ws) [] e = absurd (omega arith)
+length-bases at (w ∷ ws) (c ∷ counts) e =
+    let l : length counts ≡ length ws = omega arith in
+    ap suc (length-bases (at + 1 + w * c) ws counts l)
+
+sets-whole : (old new : List ℕ) → length old ≡ length new → sets old 0 new ≡ new
+sets-whole old new e =
+    let h : 0 + length new ≤ length old = omega arith in
+    let k : length old ≤ 0 + length new = omega arith in
+    sets-eq new old 0 h ∙ rw (drop-of-length-le old k, append-nil new)
+
+pub bases-start : (counts : List ℕ) → length counts ≡ 7 → sets (replicate 7 0) 0 (basesFrom 0 widths counts) ≡ basesFrom 0 widths counts
+bases-start counts long = sets-whole (replicate 7 0) (basesFrom 0 widths counts) (sym (length-bases 0 widths counts long))
+
+pub bases-on : (counts bases : List ℕ) (at part : ℕ) (goal : List ℕ) → length counts ≡ 7 → part < 7 →
+    sets bases part (basesFrom at (drop part widths) (drop part counts)) ≡ goal →
+    sets (set bases part (at + 1)) (part + 1)
+    (basesFrom (at + 1 + getD widths part 0 * getD counts part 0) (drop (part + 1) widths) (drop (part + 1) counts)) ≡ goal
+unfolding basesFrom
+bases-on counts bases at part goal long h e =
+    let k : part < length counts = omega arith in
+    rw (add-one part) (rw (drop-cons widths part 0 h, drop-cons counts part 0 k) at e)
+
+pub bases-done : (counts bases : List ℕ) (at part : ℕ) → 7 ≤ part →
+    sets bases part (basesFrom at (drop part widths) (drop part counts)) ≡ basesFrom 0 widths counts →
+    record { bases = bases; counts = replicate 7 0 } ≡ startFilling counts
+unfolding basesFrom startFilling
+bases-done counts bases at part h e =
+    let n : bases ≡ basesFrom 0 widths counts = rw (drop-of-length-le widths h) at e in
+    rw n

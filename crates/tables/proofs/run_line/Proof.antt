@@ -1,0 +1,51 @@
+-- `tables::run_line` is safe and ends: both words lie within the line.
+-- Assumes nothing.
+use Rattle.text.proofs.FormLaws.{marks}
+use borrow.Author.Needs.{needs}
+use Rattle.tables.proofs.run_line.Statement.{statement}
+use Rattle.tables.proofs.run_line.Tie as tie
+
+few-words-requires : tie.Need-few-words-requires
+few-words-requires c κs = search needs
+
+marked-requires : tie.Need-marked-requires
+marked-requires c κs = search marks
+
+marked-requires-2 : tie.Need-marked-requires-2
+marked-requires-2 c κs = search marks
+
+write-all-requires : tie.Need-write-all-requires
+write-all-requires c κs = search needs
+
+slice-aggregate-write-all : tie.Need-slice-aggregate-write-all
+slice-aggregate-write-all c = search needs
+
+write-all-requires-2 : tie.Need-write-all-requires-2
+write-all-requires-2 c κs = search needs
+
+write-all-requires-3 : tie.Need-write-all-requires-3
+write-all-requires-3 c κs = search needs
+
+read-integer-requires : tie.Need-read-integer-requires
+read-integer-requires c κs = search needs
+
+run-file-requires : tie.Need-run-file-requires
+run-file-requires c κs = search needs
+
+returns : tie.Need-returns
+returns c = search needs
+
+pub run-line-spec : {M : Type 1} → statement M
+run-line-spec =
+    tie.close
+    (tie.spec
+    few-words-requires
+    marked-requires
+    marked-requires-2
+    write-all-requires
+    slice-aggregate-write-all
+    write-all-requires-2
+    write-all-requires-3
+    read-integer-requires
+    run-file-requires
+    returns)
