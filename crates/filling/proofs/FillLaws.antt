@@ -4,7 +4,7 @@
 use mathlib.Core.Path.{_≡_, refl, sym, _∙_, ap}
 use mathlib.Core.Bool.{true, false}
 use mathlib.Core.List.{List, [], _∷_, _++_, map, append-nil}
-use Prim.Native.Nat.{ℕ, zero, suc, _+_, _-_, _*_, _≤_, _<_}
+use Prim.Native.Nat.{ℕ, zero, suc, min, _+_, _-_, _*_, _≤_, _<_}
 use native.Mathlib.Nat.{le-refl}
 use native.Mathlib.Omega.{arith}
 use lib.ListN.{length, drop, getD, replicate, length-append, length-replicate, length-map}
@@ -23,7 +23,7 @@ use Rattle.document.specs.Records.{flatten, partsOf, tableOf, mapRecords, secti
 use Rattle.document.specs.Holds.{countsOf}
 use Rattle.document.proofs.RecordLaws.{records-wide}
 use Rattle.document.proofs.CountLaws.{counts-agree}
-use Rattle.models.specs.Models.{Points}
+use Rattle.steps.specs.Steps.{lowOf, Aims}
 use Rattle.name.proofs.NameLaws.{baseOf, records-at}
 use Rattle.storing.specs.Writes.{mapsWrites, sectionsWrites, modelsWrites, blocksWrites, writesOf}
 use Rattle.storing.specs.Stores.{Stores}
@@ -172,16 +172,16 @@ module _ (t : List ℕ) (c : Counts) (reads : readingOf t ≡ Read c) (size : �
       models-from = ap (λ (n : ℕ). modelsWrites (d .maps) (d .sections) n (d .models)) no-steps
 
       -- what the models' records lie below
-      abbrev pub low : ℕ
+      abbrev low : ℕ
       low = getD (f₀ .bases) maps 0 - 1
 
       bases-are : f₂ .bases ≡ basesFrom 0 widths (countsOf c)
       unfolding startFilling
       bases-are = ap (λ (f : Filling). f .bases) after-blocks ∙ bases-kept (blocksWrites d) f₀
 
-      pub models-fit : Fits low f₂ (modelsWrites (d .maps) (d .sections) (stored f₂ steps) (d .models))
+      models-low : Fits low f₂ (modelsWrites (d .maps) (d .sections) (stored f₂ steps) (d .models))
       unfolding writesOf startFilling
-      models-fit =
+      models-low =
           rw (models-from, after-blocks)
           (rw counts-are at (fits-below parts (records-wide (flatten d)) (blocksWrites d) (modelsWrites (d .maps) (d .sections) 0 (d .models)) 2 (writes-told d) (writes-known d) (omega arith) (models-below (d .maps) (d .sections) 0 (d .models))))
 
@@ -190,7 +190,7 @@ module _ (t : List ℕ) (c : Counts) (reads : readingOf t ≡ Read c) (size : �
       unfolding writesOf
       drop-low =
           let s : tableAfter (modelsWrites (d .maps) (d .sections) 0 (d .models)) f₂ t₂ ≡ layout parts ++ replicate spare 0 = (λ i. tableAfter (modelsWrites (d .maps) (d .sections) 0 (d .models)) (blocks-done .filled i) (blocks-done .stored i)) ∙ sym (after-append (blocksWrites d) (modelsWrites (d .maps) (d .sections) 0 (d .models)) f₀ t₀) ∙ all-stored in
-          sym (kept-above low f₂ (modelsWrites (d .maps) (d .sections) 0 (d .models)) t₂ (rw models-from at models-fit)) ∙ ap (drop low) s
+          sym (kept-above low f₂ (modelsWrites (d .maps) (d .sections) 0 (d .models)) t₂ (rw models-from at models-low)) ∙ ap (drop low) s
 
       module _ (p : ℕ) (h : p < 7) where
         base-is : getD (f₂ .bases) p 0 ≡ baseOf (flatten d) p
@@ -244,9 +244,9 @@ module _ (t : List ℕ) (c : Counts) (reads : readingOf t ≡ Read c) (size : �
       unfolding needed countsOf
       room-is = room
 
-      pub points : Points t low f₂ t₂
+      pub aims : Aims t f₂ t₂
       unfolding widthOf partsOf flatten
-      points =
+      aims =
           let b : getD (f₂ .bases) maps 0 ≡ 0 + 1 + 5 * c .models + 1 + 6 * c .steps + 1 = map-base in
           let s : getD (f₂ .bases) sections 0 ≡ 0 + 1 + 5 * c .models + 1 + 6 * c .steps + 1 + 7 * c .maps + 1 + 2 * c .pins + 1 = section-base in
           let l : low ≡ 0 + 1 + 5 * c .models + 1 + 6 * c .steps + 1 - 1 = low-is in
@@ -259,12 +259,18 @@ module _ (t : List ℕ) (c : Counts) (reads : readingOf t ≡ Read c) (size : �
           record {
             maps-there = part-there maps (omega arith) (omega arith) maps-counted;
             sections-there = part-there sections (omega arith) (omega arith) sections-counted;
-            maps-above = omega arith;
-            sections-above = omega arith;
             maps-room = omega arith;
             sections-room = omega arith;
-            low-room = omega arith;
           }
+
+      -- the models' records lie below both
+      pub models-fit : Fits (lowOf f₂) f₂ (modelsWrites (d .maps) (d .sections) (stored f₂ steps) (d .models))
+      unfolding lowOf
+      models-fit =
+          let b : getD (f₂ .bases) maps 0 ≡ 0 + 1 + 5 * c .models + 1 + 6 * c .steps + 1 = map-base in
+          let s : getD (f₂ .bases) sections 0 ≡ 0 + 1 + 5 * c .models + 1 + 6 * c .steps + 1 + 7 * c .maps + 1 + 2 * c .pins + 1 = section-base in
+          let l : low ≡ 0 + 1 + 5 * c .models + 1 + 6 * c .steps + 1 - 1 = low-is in
+          fits-wider low (min (getD (f₂ .bases) maps 0) (getD (f₂ .bases) sections 0)) f₂ _ (omega arith) models-low
 
       -- ---- all of it
 

@@ -26,11 +26,12 @@ use Rattle.storing.specs.Stores.{Stores, Placed}
 use Rattle.storing.specs.declared.Walk.{Walk}
 use Rattle.maps.specs.Maps.{mapsOf, FillsMaps}
 use Rattle.sections.specs.Sections.{sectionsOf, sectionsLeft}
-use Rattle.models.specs.Models.{modelsOf, Points}
+use Rattle.steps.specs.Steps.{lowOf, Aims}
+use Rattle.models.specs.Models.{modelsOf}
 use Rattle.filling.specs.Filled.{afterReading, filledOf, tableFor}
 use Rattle.filling.specs.declared.Filled.{Filled}
 use Rattle.filling.specs.declared.Filled.the-variants.{Stored, Refused}
-use Rattle.filling.proofs.FillLaws.{start-long, layout-long, maps-fit, seven-maps, sections-fit, seven-blocks, models-fit, points, all-filled}
+use Rattle.filling.proofs.FillLaws.{start-long, layout-long, maps-fit, seven-maps, sections-fit, seven-blocks, models-fit, aims, all-filled}
 
 module _ (t : List ℕ) (c : Counts) (reads : readingOf t ≡ reading.Read c) where
   -- no count is above the bound of values
@@ -67,10 +68,6 @@ module _ (t : List ℕ) (c : Counts) (reads : readingOf t ≡ reading.Read c) wh
     pub opened-table : (size : ℕ) (table : List ℕ) → table ≡ headed widths many ++ replicate (size - needed widths many) 0 → table ≡ headed widths (countsOf c) ++ replicate (size - needed widths (countsOf c)) 0
     opened-table size table e = rw is-many at e
 
-  pub low-some : (f : Filling) → f ≡ startFilling (countsOf c) → 1 ≤ getD (f .bases) maps 0
-  unfolding startFilling basesFrom countsOf
-  low-some f e = let b : getD (f .bases) maps 0 ≡ 0 + 1 + 5 * c .models + 1 + 6 * c .steps + 1 = ap (λ (x : Filling). getD (x .bases) 2 0) e in omega arith
-
   -- ---- one call after another
 
   module _ (size : ℕ) (room : needed widths (countsOf c) ≤ size) (f : Filling) (is-f : f ≡ startFilling (countsOf c)) (table : List ℕ) (is-table : table ≡ headed widths (countsOf c) ++ replicate (size - needed widths (countsOf c)) 0) where
@@ -91,15 +88,13 @@ module _ (t : List ℕ) (c : Counts) (reads : readingOf t ≡ reading.Read c) wh
         sections-are : Stores (w .filling) t₁ (sectionsOf (w .filling) (documentOf t .sections)) f₂ t₂
         sections-are = rw (fills .sections) stores
 
-        low-is : getD (startFilling (countsOf c) .bases) maps 0 - 1 ≡ getD (f .bases) maps 0 - 1
-        low-is = ap (λ (x : Filling). getD (x .bases) maps 0 - 1) (sym is-f)
-
-        pub models-ready : (length (f₂ .counts) ≡ 7) × Points t (getD (f .bases) maps 0 - 1) f₂ t₂ × Fits (getD (f .bases) maps 0 - 1) f₂ (modelsOf t f₂ (documentOf t .models))
-        models-ready = (
-          seven-blocks t c reads size room (w .filling) t₁ maps-are f₂ t₂ sections-are,
-          rw low-is at (points t c reads size room (w .filling) t₁ maps-are f₂ t₂ sections-are),
-          rw low-is at (models-fit t c reads size room (w .filling) t₁ maps-are f₂ t₂ sections-are),
-        )
+        pub models-ready : (length (f₂ .counts) ≡ 7) × Aims t f₂ t₂ × Fits (lowOf f₂) f₂ (modelsOf t f₂ (documentOf t .models))
+        models-ready =
+            (
+              seven-blocks t c reads size room (w .filling) t₁ maps-are f₂ t₂ sections-are,
+              aims t c reads size room (w .filling) t₁ maps-are f₂ t₂ sections-are,
+              models-fit t c reads size room (w .filling) t₁ maps-are f₂ t₂ sections-are,
+            )
 
         pub table-filled : (f₃ : Filling) (t₃ : List ℕ) → Stores f₂ t₂ (modelsOf t f₂ (documentOf t .models)) f₃ t₃ → t₃ ≡ tableOf t ++ replicate (size - length (tableOf t)) 0
         table-filled f₃ t₃ s =

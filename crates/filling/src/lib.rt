@@ -39,11 +39,9 @@ fn fill(text: &[u8], table: &mut [u64], counts: Counts)
     ensures { λ _. ⌜ now (table .exit) ≡ tableOf (now (text .entry)) ++ replicate (length (now (table .entry)) - length (tableOf (now (text .entry)))) 0 ⌝ }
 {
     let filling = table::open_parts(table, counts_of(counts));
-    let bases = filling.bases;
-    let low = bases[table::MAPS] - 1;
     let walk = maps::fill_maps(text, table, filling);
     let filled = sections::fill_sections(text, table, walk);
-    models::fill_models(text, table, filled, low);
+    models::fill_models(text, table, filled);
 }
 
 // A text that reads to its end: its records, if the table has room for them.

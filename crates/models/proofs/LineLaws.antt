@@ -2,14 +2,14 @@
 -- Assumes nothing.
 use mathlib.Core.Path.{_≡_, refl, sym, _∙_, ap}
 use mathlib.Core.Bool.{Bool, true, false, not}
-use mathlib.Core.List.{List, [], _∷_, _++_, map, append-assoc, map-append}
+use mathlib.Core.List.{List, [], _∷_, _++_, append-assoc, map-append}
 use Prim.Native.Nat.{ℕ, _+_, _≤_, _<_}
 use native.Mathlib.Omega.{arith}
 use lib.ListN.{length}
 use lib.Dec.{eqb}
 use borrow.Author.Tests.{eq-eqb, ne-eqb, eqb-true, not-true, not-false}
-use Rattle.base.specs.If.{if_then_else_, both, either}
-use Rattle.base.proofs.IfLaws.{if-true, if-false, by-cases, both-first, both-second, both-not-left, either-rest, either-none-first, either-none-second}
+use Rattle.base.specs.If.{both}
+use Rattle.base.proofs.IfLaws.{if-true, if-false, by-cases, both-first, both-second, both-not-left, either-none-first, either-none-second}
 use Rattle.text.specs.Words.{words, firstOf}
 use Rattle.place.specs.Place.{isInModel}
 use Rattle.place.specs.Place as place
@@ -18,21 +18,21 @@ use Rattle.head.specs.declared.Head.{Head}
 use Rattle.head.specs.declared.HeadLine.{HeadLine}
 use Rattle.path.specs.Path.{sayingOf}
 use Rattle.path.specs.Path as path
-use Rattle.table.specs.Filling.{Write, fillingAfter, Fits}
+use Rattle.table.specs.Filling.{fillingAfter, Fits}
 use Rattle.table.specs.declared.Filling.{Filling}
 use Rattle.table.proofs.FillingLaws.{fits-first, fits-rest}
-use Rattle.document.specs.Lines.{Line, plain, keyAt, keyOf, placeAfter, linesAt, significant, standsIn, gather, upTo}
+use Rattle.document.specs.Lines.{Line, plain, keyOf, placeAfter, linesAt, standsIn, gather, upTo}
 use Rattle.document.specs.Document.{Step, headIn, sayingAt, sideIn, stepOf, stepsIn, inModel}
-use Rattle.document.specs.Found.{contentIn, lineIn, linesBehind, Located, Finds}
+use Rattle.document.specs.Found.{contentIn, lineIn, linesBehind, Located}
 use Rattle.document.specs.declared.Found.{Found}
 use Rattle.document.proofs.OrderLaws.{maps-behind}
 use Rattle.steps.specs.Steps.{stepIn, stepWrites, lowOf, stepsAt, Told}
 use Rattle.steps.proofs.StepLaws.{path-stays}
 use Rattle.steps.proofs.AimLaws.{bases-kept, low-same, steps-below, aims-kept}
-use Rattle.storing.specs.Stores.{Stores, Placed}
+use Rattle.storing.specs.Stores.{Stores}
 use Rattle.storing.proofs.StoreLaws.{stores-none}
 use Rattle.storing.proofs.LineLaws.{up-on, up-stops, up-none, gather-on}
-use Rattle.models.specs.Models.{Last, modelLines, modelSteps, linesLeft, Open, Next, OnPath, Taken, Continued, Reached}
+use Rattle.models.specs.Models.{modelLines, modelSteps, linesLeft, Open, Next, OnPath, Taken, Reached}
 use Rattle.models.specs.declared.ModelWalk.{ModelWalk}
 
 -- ---- a line by its place
@@ -46,11 +46,13 @@ module _ (l : Line) where
   says-not : standsIn place.path l ≡ false → (n : ℕ) → (_≡_ {A = ℕ} 0 n → ⊥) → eqb (sayingAt l) n ≡ false
   says-not e n h = ne-eqb _ n (λ (k : sayingAt l ≡ n). h (sym (silent e) ∙ k))
 
-  pub no-step : standsIn place.path l ≡ false → (ls : List Line) → stepOf l ls ≡ []
+  no-step : standsIn place.path l ≡ false → (ls : List Line) → stepOf l ls ≡ []
   unfolding stepOf
   no-step e ls =
-      if-false _ _ (says-not e 1 (λ (k : _≡_ {A = ℕ} 0 1). omega arith)) ∙ if-false _ _ (says-not e 3 (λ (k : _≡_ {A = ℕ} 0 3). omega arith))
-      ∙ if-false _ _ (says-not e 4 (λ (k : _≡_ {A = ℕ} 0 4). omega arith)) ∙ if-false _ _ (says-not e 5 (λ (k : _≡_ {A = ℕ} 0 5). omega arith))
+      if-false _ _ (says-not e 1 (λ (k : _≡_ {A = ℕ} 0 1). omega arith))
+      ∙ if-false _ _ (says-not e 3 (λ (k : _≡_ {A = ℕ} 0 3). omega arith))
+      ∙ if-false _ _ (says-not e 4 (λ (k : _≡_ {A = ℕ} 0 4). omega arith))
+      ∙ if-false _ _ (says-not e 5 (λ (k : _≡_ {A = ℕ} 0 5). omega arith))
 
   outside-path : inModel l ≡ false → standsIn place.path l ≡ false
   unfolding inModel isInModel standsIn
@@ -70,7 +72,8 @@ unfolding stepOf
 step-side l ls ms e = rw e
 
 -- the steps of a model's lines, the first one taken off
-steps-on : (t : List ℕ) (l : Line) (ls : List Line) → inModel l ≡ true → modelSteps t (l ∷ ls) ≡ stepWrites t (stepOf l ls) ++ modelSteps t ls
+steps-on : (t : List ℕ) (l : Line) (ls : List Line) → inModel l ≡ true →
+    modelSteps t (l ∷ ls) ≡ stepWrites t (stepOf l ls) ++ modelSteps t ls
 unfolding stepsIn
 steps-on t l ls e =
     ap (λ (x : List Line). stepWrites t (gather stepOf x)) (up-on inModel l ls e)
@@ -98,15 +101,16 @@ module _ (t : List ℕ) (line : Found) (located : Located t line) (p : ℕ) wher
     unfolding headIn
     head-kept h = sym (if-false _ _ (stands-told 8 is told ∙ not-true is h))
 
-    pub head-said : not is ≡ false → (said : HeadLine) → said ≡ headLineOf (contentIn t line) → (r : Head) → r ≡ headNext said head → r ≡ headIn head (lineIn t line p ∷ [])
+    pub head-said : not is ≡ false → (said : HeadLine) → said ≡ headLineOf (contentIn t line) → (r : Head) → r ≡ headNext said head →
+        r ≡ headIn head (lineIn t line p ∷ [])
     unfolding headIn
-    head-said h said is-said r e = e ∙ ap (λ (x : HeadLine). headNext x head) is-said ∙ sym (if-true _ _ (stands-told 8 is told ∙ not-false is h))
+    head-said h said is-said r e =
+        e ∙ ap (λ (x : HeadLine). headNext x head) is-said ∙ sym (if-true _ _ (stands-told 8 is told ∙ not-false is h))
 
 -- ---- a line of the path
 
-module _ (t : List ℕ) (line : Found) (table : List ℕ) (w : ModelWalk)
-    (on : OnPath t line w table)
-    (word : List ℕ) (is-word : word ≡ firstOf (words (contentIn t line))) (says : ℕ) (told : says ≡ sayingOf word) where
+module _ (t : List ℕ) (line : Found) (table : List ℕ) (w : ModelWalk) (on : OnPath t line w table) (word : List ℕ)
+    (is-word : word ≡ firstOf (words (contentIn t line))) (says : ℕ) (told : says ≡ sayingOf word) where
   pub step-told : Told t line says (w .filling) table
   step-told = record { key = on .key; word = told ∙ ap sayingOf is-word; ready = on .says }
 
@@ -114,13 +118,16 @@ module _ (t : List ℕ) (line : Found) (table : List ℕ) (w : ModelWalk)
   unfolding standsIn
   no-head = both-not-left _ _ (ne-eqb _ _ (λ (e : w .place ≡ 8). let z : _≡_ {A = ℕ} 9 8 = sym (on .place-is) ∙ e in omega arith))
 
-  pub step-taken : (f : Filling) (table' : List ℕ) → Stores (w .filling) table (stepWrites t (stepsAt t line)) f table' → Taken t line w table (record { at = line .next; number = line .number + 1; place = 9; says = says; head = w .head; filling = f }) table'
+  pub step-taken : (f : Filling) (table' : List ℕ) → Stores (w .filling) table (stepWrites t (stepsAt t line)) f table' →
+      Taken t line w table (record { at = line .next; number = line .number + 1; place = 9; says = says; head = w .head; filling = f }) table'
   unfolding headIn
   step-taken f table' s =
       record {
         steps = rw (on .place-is) s;
         head = sym (if-false _ _ no-head);
-        place-is = sym (ap (λ (p : ℕ). placeAfter p (contentIn t line)) (on .place-is) ∙ path-stays (contentIn t line) (eq-eqb _ _ (sym (on .says .aimed .located .key-is) ∙ on .key)));
+        place-is =
+            sym (ap (λ (p : ℕ). placeAfter p (contentIn t line)) (on .place-is)
+            ∙ path-stays (contentIn t line) (eq-eqb _ _ (sym (on .says .aimed .located .key-is) ∙ on .key)));
         at-is = refl;
         number-is = refl;
       }
@@ -134,8 +141,12 @@ module _ (t : List ℕ) (line : Found) (w : ModelWalk) (table : List ℕ) (next 
   abbrev behind : List Line
   behind = linesBehind t line (w .place)
 
-  found : Located t line
-  found = next .finds .located (next .there)
+  -- behind the line, no step stored
+  abbrev passed : ℕ → Head → ModelWalk
+  passed p head = record { at = line .next; number = line .number + 1; place = p; says = 0; head = head; filling = w .filling }
+
+  pub next-located : Located t line
+  next-located = next .finds .located (next .there)
 
   lines-here : linesLeft t w ≡ here ∷ behind
   lines-here = next .finds .same-there (next .there) (w .place)
@@ -150,16 +161,14 @@ module _ (t : List ℕ) (line : Found) (w : ModelWalk) (table : List ℕ) (next 
   fits-here : Fits (lowOf (w .filling)) (w .filling) (stepWrites t (stepOf here behind) ++ modelSteps t behind)
   fits-here = rw steps-here at (next .opened .fits)
 
-  pub next-located : Located t line
-  next-located = found
-
   module _ (is : Bool) (told : is ≡ both (eqb (w .place) 9) (eqb (line .key) plain)) where
     pub next-says : is ≡ true → OnPath t line w table
     next-says h =
         let b : both (eqb (w .place) 9) (eqb (line .key) plain) ≡ true = sym told ∙ h in
         let p : w .place ≡ 9 = eqb-true _ _ (both-first _ _ b) in
         let k : line .key ≡ plain = eqb-true _ _ (both-second _ _ b) in
-        let fits : Fits (lowOf (w .filling)) (w .filling) (stepWrites t (stepOf here behind)) = fits-first (lowOf (w .filling)) (w .filling) _ _ fits-here in
+        let fits : Fits (lowOf (w .filling)) (w .filling) (stepWrites t (stepOf here behind)) =
+        fits-first (lowOf (w .filling)) (w .filling) _ _ fits-here in
         record {
           place-is = p;
           key = k;
@@ -167,8 +176,10 @@ module _ (t : List ℕ) (line : Found) (w : ModelWalk) (table : List ℕ) (next 
               record {
                 aimed =
                     record {
-                      located = found;
-                      order = maps-behind t (next .opened .last .before) (w .number) (w .at) (w .place) line (next .finds) (next .there) (next .opened .last .all) k;
+                      located = next-located;
+                      order =
+                          maps-behind t (next .opened .last .before) (w .number) (w .at) (w .place) line (next .finds) (next .there)
+                          (next .opened .last .all) k;
                       aims = next .opened .aims;
                     };
                 fits = rw p at fits;
@@ -176,11 +187,12 @@ module _ (t : List ℕ) (line : Found) (w : ModelWalk) (table : List ℕ) (next 
         }
 
     -- a line of no path
-    other-taken : is ≡ false → (p : ℕ) → p ≡ placeAfter (w .place) (contentIn t line) → (head : Head) → head ≡ headIn (w .head) (here ∷ []) →
-        Taken t line w table (record { at = line .next; number = line .number + 1; place = p; says = 0; head = head; filling = w .filling }) table
+    other-taken : is ≡ false → (p : ℕ) → p ≡ placeAfter (w .place) (contentIn t line) → (head : Head) →
+        head ≡ headIn (w .head) (here ∷ []) →
+        Taken t line w table (passed p head) table
     other-taken h p is-place head is-head =
         record {
-          steps = rw (no-step here (stands-told t line found (w .place) 9 is told ∙ h) behind) (stores-none (w .filling) table);
+          steps = rw (no-step here (stands-told t line next-located (w .place) 9 is told ∙ h) behind) (stores-none (w .filling) table);
           head = is-head;
           place-is = is-place;
           at-is = refl;
@@ -199,10 +211,11 @@ module _ (t : List ℕ) (line : Found) (w : ModelWalk) (table : List ℕ) (next 
     open-next =
         let a : v .at ≡ line .next = taken .at-is in
         let m : v .number ≡ line .number + 1 = taken .number-is in
-        let c : line .at < line .next = found .further in
-        let d : line .next ≤ length t = found .next-within in
-        let q : line .number ≤ line .at + 1 = found .counted in
-        let fits : Fits (lowOf (w .filling)) (fillingAfter (stepWrites t (stepOf here behind)) (w .filling)) (modelSteps t behind) = fits-rest (lowOf (w .filling)) (w .filling) _ _ fits-here in
+        let c : line .at < line .next = next-located .further in
+        let d : line .next ≤ length t = next-located .next-within in
+        let q : line .number ≤ line .at + 1 = next-located .counted in
+        let fits : Fits (lowOf (w .filling)) (fillingAfter (stepWrites t (stepOf here behind)) (w .filling)) (modelSteps t behind) =
+        fits-rest (lowOf (w .filling)) (w .filling) _ _ fits-here in
         record {
           placed = record { within = omega arith; counted = omega arith };
           last =
@@ -213,7 +226,9 @@ module _ (t : List ℕ) (line : Found) (w : ModelWalk) (table : List ℕ) (next 
                     ∙ ap (λ (ls : List Line). next .opened .last .before ++ ls) (lines-here ∙ ap (λ (ls : List Line). here ∷ ls) lines-next)
                     ∙ sym (append-assoc (next .opened .last .before) (here ∷ []) (linesLeft t v));
               };
-          aims = aims-kept t (w .filling) table _ (steps-below t (stepOf here behind)) (fits-first (lowOf (w .filling)) (w .filling) _ _ fits-here) (v .filling) table' (taken .steps) (next .opened .aims);
+          aims =
+              aims-kept t (w .filling) table _ (steps-below t (stepOf here behind))
+              (fits-first (lowOf (w .filling)) (w .filling) _ _ fits-here) (v .filling) table' (taken .steps) (next .opened .aims);
           fits = rw (low-next, taken .steps .filled, ← lines-next) fits;
         }
 
@@ -221,13 +236,15 @@ module _ (t : List ℕ) (line : Found) (w : ModelWalk) (table : List ℕ) (next 
     taken-reached =
         let a : v .at ≡ line .next = taken .at-is in
         let b : w .at ≤ line .at = next .finds .behind (next .there) in
-        let c : line .at < line .next = found .further in
+        let c : line .at < line .next = next-located .further in
         record {
           continued =
               record {
                 over = here ∷ [];
                 all = lines-here ∙ ap (λ (ls : List Line). here ∷ ls) lines-next;
-                inner = ap modelLines lines-here ∙ up-on inModel here behind inside-here ∙ ap (λ (ls : List Line). here ∷ modelLines ls) lines-next;
+                inner =
+                    ap modelLines lines-here ∙ up-on inModel here behind inside-here
+                    ∙ ap (λ (ls : List Line). here ∷ modelLines ls) lines-next;
                 written = stepWrites t (stepOf here behind);
                 steps = steps-here ∙ ap (λ (ls : List Line). stepWrites t (stepOf here behind) ++ modelSteps t ls) lines-next;
                 stores = taken .steps;
@@ -242,6 +259,7 @@ module _ (t : List ℕ) (line : Found) (w : ModelWalk) (table : List ℕ) (next 
         }
 
   module _ (is : Bool) (told : is ≡ both (eqb (w .place) 9) (eqb (line .key) plain)) (h : is ≡ false) where
-    pub other-reached : (p : ℕ) → p ≡ placeAfter (w .place) (contentIn t line) → (head : Head) → head ≡ headIn (w .head) (lineIn t line (w .place) ∷ []) →
-        Reached t w table (record { at = line .next; number = line .number + 1; place = p; says = 0; head = head; filling = w .filling }) table
+    pub other-reached : (p : ℕ) → p ≡ placeAfter (w .place) (contentIn t line) → (head : Head) →
+        head ≡ headIn (w .head) (lineIn t line (w .place) ∷ []) →
+        Reached t w table (passed p head) table
     other-reached p is-place head is-head = taken-reached _ table (other-taken is told h p is-place head is-head)

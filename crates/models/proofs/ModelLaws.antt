@@ -21,7 +21,6 @@ use Rattle.document.specs.declared.Found.{Found}
 use Rattle.document.specs.declared.Mark.{Mark}
 use Rattle.steps.specs.Steps.{lowOf}
 use Rattle.storing.specs.Writes.{modelWrite, modelWrites, modelsWrites}
-use Rattle.storing.specs.Stores.{Stores}
 use Rattle.storing.proofs.StoreLaws.{put-asked, put-stored, stores-join, counts-kept}
 use Rattle.storing.proofs.WriteLaws.{steps-stored, steps-counted}
 use Rattle.storing.proofs.BlockLaws.{Storable}
@@ -55,7 +54,8 @@ module _ (t : List ℕ) (line : Found) (f : Filling) (table : List ℕ) (fits : 
     unfolding modelOf
     model-counted =
         ap (λ (x : Filling). getD (x .counts) 1 0) (reads .steps .filled)
-        ∙ steps-stored f (fits .seven) (documentOf t .maps) (documentOf t .sections) (stepsIn (modelLines (linesAt t (line .number + 1) (line .next) place.head)))
+        ∙ steps-stored f (fits .seven) (documentOf t .maps) (documentOf t .sections)
+        (stepsIn (modelLines (linesAt t (line .number + 1) (line .next) place.head)))
 
     pub model-asked : (0 < length widths) × (_≡_ {A = ℕ} 5 (widthOf 0)) × (position (w .filling) 0 + widthOf 0 ≤ length table')
     unfolding modelWrite lowOf
@@ -67,22 +67,29 @@ module _ (t : List ℕ) (line : Found) (f : Filling) (table : List ℕ) (fits : 
         (asked .0, asked .1, omega (arith, asked .2, fits .aims .maps-room))
 
     module _ (mark : Mark) (is-mark : mark ≡ markOf (argumentOf (lineIn t line 0))) (type : ℕ) (is-type : type ≡ w .head .kind - 1) where
-      model-words : _≡_ {A = List ℕ} (mark .start ∷ mark .size ∷ type ∷ getD (f .counts) 1 0 ∷ (getD (w .filling .counts) 1 0 - getD (f .counts) 1 0) ∷ []) (own t line f .words)
+      model-words : _≡_ {A = List ℕ}
+          (mark .start ∷ mark .size ∷ type ∷ getD (f .counts) 1 0 ∷ (getD (w .filling .counts) 1 0 - getD (f .counts) 1 0) ∷ [])
+          (own t line f .words)
       unfolding modelWrite modelRecord modelOf markOf
       model-words =
           let c : getD (w .filling .counts) 1 0 ≡ getD (f .counts) 1 0 + length (modelBelow t line .steps) = model-counted in
           let n : getD (w .filling .counts) 1 0 - getD (f .counts) 1 0 ≡ length (modelBelow t line .steps) = omega arith in
-          let k : type ≡ headIn newHead (modelLines (linesAt t (line .number + 1) (line .next) place.head)) .kind - 1 = is-type ∙ ap (λ (h : Head). h .kind - 1) (reads .head) in
+          let k : type ≡ headIn newHead (modelLines (linesAt t (line .number + 1) (line .next) place.head)) .kind - 1 =
+          is-type ∙ ap (λ (h : Head). h .kind - 1) (reads .head) in
           λ i. is-mark i .start ∷ is-mark i .size ∷ k i ∷ getD (f .counts) 1 0 ∷ n i ∷ []
 
       pub model-filled :
           (r : Filling) (table'' : List ℕ) → r ≡ counted (w .filling) 0 →
-          table'' ≡ sets table' (position (w .filling) 0) (mark .start ∷ mark .size ∷ type ∷ getD (f .counts) 1 0 ∷ (getD (w .filling .counts) 1 0 - getD (f .counts) 1 0) ∷ []) →
-          FillsModel t line f table (record { at = w .at; number = w .number; place = w .place; says = w .says; head = w .head; filling = r }) table''
+          table'' ≡ sets table' (position (w .filling) 0)
+          (mark .start ∷ mark .size ∷ type ∷ getD (f .counts) 1 0 ∷ (getD (w .filling .counts) 1 0 - getD (f .counts) 1 0) ∷ []) →
+          FillsModel t line f table
+          (record { at = w .at; number = w .number; place = w .place; says = w .says; head = w .head; filling = r }) table''
       unfolding modelWrites modelWrite modelOf
       model-filled r table'' k h =
           record {
-            model = stores-join f (w .filling) r table table' table'' _ (own t line f ∷ []) (reads .steps) (put-stored (w .filling) table' (own t line f) 0 _ r table'' refl model-words k h);
+            model =
+                stores-join f (w .filling) r table table' table'' _ (own t line f ∷ []) (reads .steps)
+                (put-stored (w .filling) table' (own t line f) 0 _ r table'' refl model-words k h);
             rest = reads .rest;
             placed = reads .placed;
             onward = reads .onward;
@@ -96,7 +103,8 @@ module _ (t : List ℕ) where
   after f m = fillingAfter (modelIn t f m) f
 
   models-next : (f : Filling) (m : Model) (ms ns : List Model) → getD (after f m .counts) 1 0 ≡ getD (f .counts) 1 0 + length (m .steps) →
-      modelsOf t (after f m) (ms ++ ns) ≡ modelsOf t (after f m) ms ++ modelsOf t (fillingAfter (modelsOf t (after f m) ms) (after f m)) ns →
+      modelsOf t (after f m) (ms ++ ns)
+      ≡ modelsOf t (after f m) ms ++ modelsOf t (fillingAfter (modelsOf t (after f m) ms) (after f m)) ns →
       modelsOf t f (m ∷ (ms ++ ns)) ≡ modelsOf t f (m ∷ ms) ++ modelsOf t (fillingAfter (modelsOf t f (m ∷ ms)) f) ns
   unfolding modelsWrites
   models-next f m ms ns c e =
@@ -109,7 +117,8 @@ module _ (t : List ℕ) where
   unfolding modelsWrites
   models-none f = refl
 
-  models-split : (f : Filling) (ms ns : List Model) → length (f .counts) ≡ 7 → modelsOf t f (ms ++ ns) ≡ modelsOf t f ms ++ modelsOf t (fillingAfter (modelsOf t f ms) f) ns
+  models-split : (f : Filling) (ms ns : List Model) → length (f .counts) ≡ 7 →
+      modelsOf t f (ms ++ ns) ≡ modelsOf t f ms ++ modelsOf t (fillingAfter (modelsOf t f ms) f) ns
   unfolding modelsWrites fillingAfter
   models-split f [] ns seven = refl
   models-split f (m ∷ ms) ns seven =

@@ -8,49 +8,66 @@ use native.Mathlib.Nat.{le-refl}
 use native.Mathlib.Omega.{arith}
 use lib.ListN.{length, getD}
 use lib.Dec.{eqb}
-use borrow.Author.Tests.{eq-eqb, ne-eqb, eqb-true, not-false}
+use borrow.Author.Tests.{ne-eqb, eqb-true, not-false}
 use Rattle.base.specs.If.{if_then_else_, both, either}
-use Rattle.base.proofs.IfLaws.{if-true, if-false, by-cases, both-first, both-second, both-not-left, either-false, either-rest}
+use Rattle.base.proofs.IfLaws.{if-true, if-false, by-cases, both-first, both-second, both-not-left, either-rest}
 use Rattle.keyword.specs.Names.{beginIcmModel}
 use Rattle.place.specs.Place.{isInFamily, isInModel, moved, inFamily}
 use Rattle.place.specs.Place as place
-use Rattle.table.specs.Filling.{Write, widthOf, fillingAfter, Fits}
+use Rattle.table.specs.Filling.{widthOf, Fits}
 use Rattle.table.specs.declared.Filling.{Filling}
 use Rattle.table.proofs.FillingLaws.{fits-wider}
-use Rattle.document.specs.Lines.{Line, plain, keyAt, keyOf, placeAfter, linesAt, significant, gather, upTo, argumentOf}
-use Rattle.document.specs.Document.{Model, inModel, opensModel, modelOf, modelAt, documentOf, documentIn}
-use Rattle.document.specs.Found.{contentIn, lineIn, linesBehind, Located, Finds}
+use Rattle.document.specs.Lines.{Line, plain, keyAt, keyOf, placeAfter, linesAt, significant, gather, argumentOf}
+use Rattle.document.specs.Document.{inModel, opensModel, modelOf, modelAt, documentOf, documentIn}
+use Rattle.document.specs.Found.{contentIn, lineIn, linesBehind, Finds}
 use Rattle.document.specs.declared.Found.{Found}
 use Rattle.steps.specs.Steps.{lowOf, Aims}
 use Rattle.steps.proofs.AimLaws.{bases-kept, low-same, aims-kept}
 use Rattle.storing.specs.Writes.{modelsWrites}
-use Rattle.storing.specs.Stores.{Stores, Placed}
+use Rattle.storing.specs.Stores.{Stores}
 use Rattle.storing.specs.declared.Walk.{Walk}
 use Rattle.storing.proofs.StoreLaws.{stores-none}
 use Rattle.storing.proofs.LineLaws.{quiet}
 use Rattle.storing.proofs.LateLaws.{late-quiet, late-model}
 use Rattle.storing.proofs.WriteLaws.{models-below}
 use Rattle.storing.proofs.BlockLaws.{BlocksLeft, blocks-start, blocks-done, blocks-end, block-fits, blocks-on, blocks-less}
-use Rattle.models.specs.Models.{modelsOf, Points, Last, modelLines, linesLeft, modelBelow, modelIn, FitsModel, FillsModel, ReadyModel, PassesModel}
+use Rattle.models.specs.Models.{
+  modelsOf,
+  Last,
+  modelLines,
+  linesLeft,
+  modelBelow,
+  modelIn,
+  FitsModel,
+  FillsModel,
+  ReadyModel,
+  PassesModel,
+}
 use Rattle.models.specs.declared.ModelWalk.{ModelWalk}
 use Rattle.models.proofs.ModelLaws.{models-none, models-storable}
 
--- in the family, [Begin ICM Model] leads into a model
-leads-from : (p q : ℕ) → eqb p q ≡ true → moved q beginIcmModel ≡ place.head → moved p beginIcmModel ≡ place.head
-leads-from p q e h = ap (λ (x : ℕ). moved x beginIcmModel) (eqb-true p q e) ∙ h
+-- from every place of the family a keyword leads where the family says
+family-from : (k p q : ℕ) → eqb p q ≡ true → moved q k ≡ inFamily k → moved p k ≡ inFamily k
+family-from k p q e h = ap (λ (x : ℕ). moved x k) (eqb-true p q e) ∙ h
 
-leads-family : (moved 5 beginIcmModel ≡ place.head) × (moved 6 beginIcmModel ≡ place.head) × (moved 7 beginIcmModel ≡ place.head) × (moved 11 beginIcmModel ≡ place.head) × (moved 12 beginIcmModel ≡ place.head)
-unfolding moved inFamily isInFamily isInModel if_then_else_ either
-leads-family = (refl, refl, refl, refl, refl)
+family-places : (k : ℕ) →
+    (moved 5 k ≡ inFamily k) × (moved 6 k ≡ inFamily k) × (moved 7 k ≡ inFamily k) × (moved 11 k ≡ inFamily k) × (moved 12 k ≡ inFamily k)
+unfolding moved isInFamily isInModel if_then_else_ either
+family-places k = (refl, refl, refl, refl, refl)
 
-leads-in : (p : ℕ) → isInFamily p ≡ true → moved p beginIcmModel ≡ place.head
+family-leads : (k p : ℕ) → isInFamily p ≡ true → moved p k ≡ inFamily k
 unfolding isInFamily
-leads-in p h =
-    by-cases _ (eqb p 5) (λ (a : eqb p 5 ≡ true). leads-from p 5 a (leads-family .0)) (λ (a : eqb p 5 ≡ false).
-    by-cases _ (eqb p 6) (λ (b : eqb p 6 ≡ true). leads-from p 6 b (leads-family .1)) (λ (b : eqb p 6 ≡ false).
-    by-cases _ (eqb p 7) (λ (c : eqb p 7 ≡ true). leads-from p 7 c (leads-family .2)) (λ (c : eqb p 7 ≡ false).
-    by-cases _ (eqb p 11) (λ (d : eqb p 11 ≡ true). leads-from p 11 d (leads-family .3)) (λ (d : eqb p 11 ≡ false).
-    leads-from p 12 (sym (either-rest _ _ a ∙ either-rest _ _ b ∙ either-rest _ _ c ∙ either-rest _ _ d) ∙ h) (leads-family .4)))))
+family-leads k p h =
+    by-cases _ (eqb p 5) (λ (a : eqb p 5 ≡ true). family-from k p 5 a (family-places k .0)) (λ (a : eqb p 5 ≡ false).
+    by-cases _ (eqb p 6) (λ (b : eqb p 6 ≡ true). family-from k p 6 b (family-places k .1)) (λ (b : eqb p 6 ≡ false).
+    by-cases _ (eqb p 7) (λ (c : eqb p 7 ≡ true). family-from k p 7 c (family-places k .2)) (λ (c : eqb p 7 ≡ false).
+    by-cases _ (eqb p 11) (λ (d : eqb p 11 ≡ true). family-from k p 11 d (family-places k .3)) (λ (d : eqb p 11 ≡ false).
+    family-from k p 12 (sym (either-rest _ _ a ∙ either-rest _ _ b ∙ either-rest _ _ c ∙ either-rest _ _ d) ∙ h) (family-places k .4)))))
+
+-- [Begin ICM Model] into a model
+leads-in : (p : ℕ) → isInFamily p ≡ true → moved p beginIcmModel ≡ place.head
+unfolding inFamily if_then_else_
+leads-in p h = family-leads beginIcmModel p h
 
 -- the places of a model are none of the family's
 not-family : (p q : ℕ) → eqb p q ≡ true → isInFamily q ≡ false → isInFamily p ≡ false
@@ -95,7 +112,8 @@ module _ (t : List ℕ) (line : Found) (w : Walk) (table : List ℕ) (ready : Re
       unfolding modelAt
       none-here = if-false _ _ (opens-here ∙ h)
 
-      pub pass-line : (p : ℕ) → p ≡ placeAfter (w .place) (contentIn t line) → PassesModel t line w table (record { at = line .next; number = line .number + 1; place = p; filling = w .filling }) table
+      pub pass-line : (p : ℕ) → p ≡ placeAfter (w .place) (contentIn t line) →
+          PassesModel t line w table (record { at = line .next; number = line .number + 1; place = p; filling = w .filling }) table
       pass-line p e =
           let n : line .number ≤ line .at + 1 = ready .located .counted in
           let f : line .at < line .next = ready .located .further in
@@ -147,13 +165,16 @@ module _ (t : List ℕ) (line : Found) (w : Walk) (table : List ℕ) (ready : Re
         rest-is : behind ≡ modelLines (linesAt t (line .number + 1) (line .next) place.head) ++ linesLeft t m
         rest-is = behind-is ∙ fills .rest
 
-        pub pass-opening : PassesModel t line w table (record { at = m .at; number = m .number; place = m .place; filling = m .filling }) table'
+        pub pass-opening :
+            PassesModel t line w table (record { at = m .at; number = m .number; place = m .place; filling = m .filling }) table'
         pass-opening =
             record {
               passes =
                   record {
                     stores = rw writes-here (fills .model);
-                    rest = ap (gather modelAt) rest-is ∙ quiet modelAt inModel model-quiet (linesAt t (line .number + 1) (line .next) place.head) (linesLeft t m);
+                    rest =
+                        ap (gather modelAt) rest-is
+                        ∙ quiet modelAt inModel model-quiet (linesAt t (line .number + 1) (line .next) place.head) (linesLeft t m);
                     placed = fills .placed;
                     onward = fills .onward;
                   };
@@ -162,7 +183,8 @@ module _ (t : List ℕ) (line : Found) (w : Walk) (table : List ℕ) (ready : Re
                     before = ready .last .before ++ modelLines (linesAt t (line .number + 1) (line .next) place.head);
                     all =
                         ready .last .all ∙ ap (λ (ls : List Line). ready .last .before ++ ls) rest-is
-                        ∙ sym (append-assoc (ready .last .before) (modelLines (linesAt t (line .number + 1) (line .next) place.head)) (linesLeft t m));
+                        ∙ sym (append-assoc (ready .last .before) (modelLines (linesAt t (line .number + 1) (line .next) place.head))
+                        (linesLeft t m));
                   };
             }
 
@@ -174,46 +196,39 @@ pub record ModelsLeft (t : List ℕ) (f₀ : Filling) (table₀ : List ℕ) (w :
   pub last : Last t (linesAt t (w .number) (w .at) (w .place))
   pub aims : Aims t (w .filling) table
 
--- what is stored below `low` is stored below all that a step points at
-module _ (t : List ℕ) (low : ℕ) (f : Filling) (table : List ℕ) (points : Points t low f table) where
-  low-below : low ≤ lowOf f
-  unfolding lowOf
-  low-below = omega (arith, points .maps-above, points .sections-above)
-
-  points-aims : Aims t f table
-  unfolding widthOf
-  points-aims =
-      record {
-        maps-there = points .maps-there;
-        sections-there = points .sections-there;
-        maps-room = points .maps-room;
-        sections-room = points .sections-room;
-      }
-
 pub models-start :
-    (t : List ℕ) (low : ℕ) (f : Filling) (table : List ℕ) →
-    (length (f .counts) ≡ 7) × Points t low f table × Fits low f (modelsOf t f (documentOf t .models)) → ModelsLeft t f table (record { at = 0; number = 1; place = 0; filling = f }) table
+    (t : List ℕ) (f : Filling) (table : List ℕ) →
+    (length (f .counts) ≡ 7) × Aims t f table × Fits (lowOf f) f (modelsOf t f (documentOf t .models)) →
+    ModelsLeft t f table (record { at = 0; number = 1; place = 0; filling = f }) table
 unfolding documentOf documentIn significant
-models-start t low f table (seven, points, fits) =
+models-start t f table (seven, aims, fits) =
     record {
-      left = blocks-start modelAt (modelsOf t) (lowOf f) t f table (documentOf t .models) 0 1 0 seven (fits-wider low (lowOf f) f _ (low-below t low f table points) fits) refl (record { within = zero-le; counted = omega arith });
+      left =
+          blocks-start modelAt (modelsOf t) (lowOf f) t f table (documentOf t .models) 0 1 0 seven fits refl
+          (record { within = zero-le; counted = omega arith });
       last = record { before = []; all = refl };
-      aims = points-aims t low f table points;
+      aims = aims;
     }
 
 module _ (t : List ℕ) (f₀ : Filling) (table₀ : List ℕ) (w : Walk) (table : List ℕ) (models : ModelsLeft t f₀ table₀ w table) where
   pub models-after : w .place ≡ place.after → Stores f₀ table₀ (modelsOf t f₀ (documentOf t .models)) (w .filling) table
-  models-after h = blocks-done modelAt (modelsOf t) (models-storable t) (lowOf f₀) t f₀ table₀ (documentOf t .models) w table (models .left) (late-quiet modelAt late-model t (w .number) (w .at) (w .place) (omega (arith, h)))
+  models-after h =
+      blocks-done modelAt (modelsOf t) (models-storable t) (lowOf f₀) t f₀ table₀ (documentOf t .models) w table (models .left)
+      (late-quiet modelAt late-model t (w .number) (w .at) (w .place) (omega (arith, h)))
 
   pub models-long : length table ≡ length table₀
   models-long = models .left .pending .long
 
   low-left : lowOf (w .filling) ≡ lowOf f₀
-  low-left = low-same f₀ (w .filling) (sym (bases-kept _ (w .filling)) ∙ ap (λ (f : Filling). f .bases) (models .left .pending .counts) ∙ bases-kept _ f₀)
+  low-left =
+      low-same f₀ (w .filling)
+      (sym (bases-kept _ (w .filling)) ∙ ap (λ (f : Filling). f .bases) (models .left .pending .counts) ∙ bases-kept _ f₀)
 
   module _ (line : Found) (finds : Finds t (w .number) (w .at) line) where
     pub models-end : not (line .there) ≡ true → Stores f₀ table₀ (modelsOf t f₀ (documentOf t .models)) (w .filling) table
-    models-end h = blocks-end modelAt (modelsOf t) (models-storable t) (lowOf f₀) t f₀ table₀ (documentOf t .models) w table (models .left) line finds h
+    models-end h =
+        blocks-end modelAt (modelsOf t) (models-storable t) (lowOf f₀) t f₀ table₀ (documentOf t .models) w table
+        (models .left) line finds h
 
     module _ (there : not (line .there) ≡ false) where
       abbrev first : Line
@@ -235,19 +250,26 @@ module _ (t : List ℕ) (f₀ : Filling) (table₀ : List ℕ) (w : Walk) (table
                       ∙ sym (append-assoc (models .last .before) (first ∷ []) (linesBehind t line (w .place)));
                 };
             aims = models .aims;
-            fits = rw low-left (block-fits modelAt (modelsOf t) (models-storable t) (lowOf f₀) t f₀ table₀ (documentOf t .models) w table (models .left) line finds there);
+            fits =
+                rw low-left (block-fits modelAt (modelsOf t) (models-storable t) (lowOf f₀) t f₀ table₀ (documentOf t .models) w table
+                (models .left) line finds there);
           }
 
       module _ (v : Walk) (table' : List ℕ) (passes : PassesModel t line w table v table') where
         pub models-on : ModelsLeft t f₀ table₀ v table'
         models-on =
             record {
-              left = blocks-on modelAt (modelsOf t) (models-storable t) (lowOf f₀) t f₀ table₀ (documentOf t .models) w table (models .left) line finds there v table' (passes .passes);
+              left =
+                  blocks-on modelAt (modelsOf t) (models-storable t) (lowOf f₀) t f₀ table₀ (documentOf t .models) w table
+                  (models .left) line finds there v table' (passes .passes);
               last = passes .last;
               aims =
-                  aims-kept t (w .filling) table _ (models-below (documentOf t .maps) (documentOf t .sections) (getD (w .filling .counts) 1 0) (modelAt first (linesBehind t line (w .place)))) (models-ready .fits) (v .filling) table'
-                  (passes .passes .stores) (models .aims);
+                  aims-kept t (w .filling) table _
+                  (models-below (documentOf t .maps) (documentOf t .sections) (getD (w .filling .counts) 1 0) _) (models-ready .fits)
+                  (v .filling) table' (passes .passes .stores) (models .aims);
             }
 
         pub models-less : length t - v .at < length t - w .at
-        models-less = blocks-less modelAt (modelsOf t) (models-storable t) (lowOf f₀) t f₀ table₀ (documentOf t .models) w table (models .left) line finds there v table' (passes .passes)
+        models-less =
+            blocks-less modelAt (modelsOf t) (models-storable t) (lowOf f₀) t f₀ table₀ (documentOf t .models) w table
+            (models .left) line finds there v table' (passes .passes)

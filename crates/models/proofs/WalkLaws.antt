@@ -2,8 +2,8 @@
 -- Assumes nothing.
 use mathlib.Core.Path.{_≡_, refl, sym, _∙_, ap}
 use mathlib.Core.Bool.{Bool, true, false, not}
-use mathlib.Core.List.{List, [], _∷_, _++_, append-assoc, append-nil}
-use Prim.Native.Nat.{ℕ, _+_, _-_, _≤_, _<_}
+use mathlib.Core.List.{List, [], _++_, append-assoc, append-nil}
+use Prim.Native.Nat.{ℕ, _-_, _≤_, _<_}
 use native.Mathlib.Nat.{le-refl}
 use native.Mathlib.Omega.{arith}
 use lib.ListN.{length}
@@ -15,19 +15,19 @@ use Rattle.head.specs.declared.Head.{Head}
 use Rattle.table.specs.Filling.{Write}
 use Rattle.table.specs.declared.Filling.{Filling}
 use Rattle.table.proofs.FillingLaws.{length-after}
-use Rattle.document.specs.Lines.{Line, linesAt, gather, upTo}
+use Rattle.document.specs.Lines.{Line, linesAt, gather}
 use Rattle.document.specs.Document.{headIn, stepOf, stepsIn, inModel}
 use Rattle.document.specs.Found.{lineIn, linesBehind, Finds}
 use Rattle.document.specs.declared.Found.{Found}
 use Rattle.steps.specs.Steps.{stepWrites}
-use Rattle.storing.specs.Stores.{Stores}
 use Rattle.storing.proofs.StoreLaws.{stores-none, stores-join}
 use Rattle.storing.proofs.LineLaws.{up-none, up-stops}
 use Rattle.models.specs.Models.{modelLines, modelSteps, linesLeft, Open, Next, Continued, Reached, ReadsModel}
 use Rattle.models.specs.declared.ModelWalk.{ModelWalk}
 
 module _ (t : List ℕ) where
-  continued-start : (w : ModelWalk) (table : List ℕ) → Open t (w .number) (w .at) (w .place) (w .filling) table → Continued t w table w table
+  continued-start : (w : ModelWalk) (table : List ℕ) → Open t (w .number) (w .at) (w .place) (w .filling) table →
+      Continued t w table w table
   continued-start w table o =
       record {
         over = [];
@@ -41,7 +41,8 @@ module _ (t : List ℕ) where
         opened = o;
       }
 
-  module _ (w : ModelWalk) (table : List ℕ) (v : ModelWalk) (table' : List ℕ) (u : ModelWalk) (table'' : List ℕ) (a : Continued t w table v table') (b : Continued t v table' u table'') where
+  module _ (w : ModelWalk) (table : List ℕ) (v : ModelWalk) (table' : List ℕ) (u : ModelWalk) (table'' : List ℕ)
+      (a : Continued t w table v table') (b : Continued t v table' u table'') where
     continued-join : Continued t w table u table''
     continued-join =
         let c : w .at ≤ v .at = a .onward in
@@ -49,10 +50,15 @@ module _ (t : List ℕ) where
         record {
           over = a .over ++ b .over;
           all = a .all ∙ ap (λ (ls : List Line). a .over ++ ls) (b .all) ∙ sym (append-assoc (a .over) (b .over) (linesLeft t u));
-          inner = a .inner ∙ ap (λ (ls : List Line). a .over ++ ls) (b .inner) ∙ sym (append-assoc (a .over) (b .over) (modelLines (linesLeft t u)));
+          inner =
+              a .inner ∙ ap (λ (ls : List Line). a .over ++ ls) (b .inner)
+              ∙ sym (append-assoc (a .over) (b .over) (modelLines (linesLeft t u)));
           written = a .written ++ b .written;
-          steps = a .steps ∙ ap (λ (ws : List Write). a .written ++ ws) (b .steps) ∙ sym (append-assoc (a .written) (b .written) (modelSteps t (linesLeft t u)));
-          stores = stores-join (w .filling) (v .filling) (u .filling) table table' table'' (a .written) (b .written) (a .stores) (b .stores);
+          steps =
+              a .steps ∙ ap (λ (ws : List Write). a .written ++ ws) (b .steps)
+              ∙ sym (append-assoc (a .written) (b .written) (modelSteps t (linesLeft t u)));
+          stores =
+              stores-join (w .filling) (v .filling) (u .filling) table table' table'' (a .written) (b .written) (a .stores) (b .stores);
           head = b .head ∙ a .head;
           onward = omega arith;
           opened = b .opened;
@@ -60,10 +66,12 @@ module _ (t : List ℕ) where
 
   -- ---- a block
 
-  pub walk-starts : (s : ModelWalk) (table : List ℕ) (w : ModelWalk) (table' : List ℕ) → Reached t s table w table' → Continued t w table' w table'
+  pub walk-starts : (s : ModelWalk) (table : List ℕ) (w : ModelWalk) (table' : List ℕ) → Reached t s table w table' →
+      Continued t w table' w table'
   walk-starts s table w table' r = continued-start w table' (r .continued .opened)
 
-  pub walk-ends : (s : ModelWalk) (table : List ℕ) (w : ModelWalk) (table' : List ℕ) (v : ModelWalk) (table'' : List ℕ) → Reached t s table w table' → Continued t w table' v table'' → Reached t s table v table''
+  pub walk-ends : (s : ModelWalk) (table : List ℕ) (w : ModelWalk) (table' : List ℕ) (v : ModelWalk) (table'' : List ℕ) →
+      Reached t s table w table' → Continued t w table' v table'' → Reached t s table v table''
   walk-ends s table w table' v table'' r c =
       let a : s .at < w .at = r .further in
       let b : w .at ≤ v .at = c .onward in
@@ -76,7 +84,8 @@ module _ (t : List ℕ) where
     pub walk-joins : (u : ModelWalk) (table'' : List ℕ) → Reached t v table' u table'' → Continued t w table u table''
     walk-joins u table'' r = continued-join w table v table' u table'' c (r .continued)
 
-    pub walk-next : (line : Found) → Finds t (v .number) (v .at) line → not (line .there) ≡ false → (is : Bool) → is ≡ isInModel (v .place) → not is ≡ false → Next t line v table'
+    pub walk-next : (line : Found) → Finds t (v .number) (v .at) line → not (line .there) ≡ false → (is : Bool) → is ≡ isInModel (v .place) →
+        not is ≡ false → Next t line v table'
     walk-next line finds there is told h =
         record {
           opened = c .opened;
@@ -85,10 +94,12 @@ module _ (t : List ℕ) where
           inside = sym told ∙ not-false is h;
         }
 
-  pub block-long : (s : ModelWalk) (table : List ℕ) (w : ModelWalk) (table' : List ℕ) (v : ModelWalk) (table'' : List ℕ) → Reached t s table w table' → Continued t w table' v table'' → length table'' ≡ length table
+  pub block-long : (s : ModelWalk) (table : List ℕ) (w : ModelWalk) (table' : List ℕ) (v : ModelWalk) (table'' : List ℕ) →
+      Reached t s table w table' → Continued t w table' v table'' → length table'' ≡ length table
   block-long s table w table' v table'' r c = walk-long w table' v table'' c ∙ walk-long s table w table' (r .continued)
 
-  pub walk-less : (w : ModelWalk) (table : List ℕ) (v : ModelWalk) (table' : List ℕ) → Reached t w table v table' → length t - v .at < length t - w .at
+  pub walk-less : (w : ModelWalk) (table : List ℕ) (v : ModelWalk) (table' : List ℕ) → Reached t w table v table' →
+      length t - v .at < length t - w .at
   walk-less w table v table' r =
       let a : w .at < v .at = r .further in
       let b : v .at ≤ length t = r .continued .opened .placed .within in
@@ -111,8 +122,10 @@ module _ (t : List ℕ) (n at : ℕ) (f : Filling) (table : List ℕ) (head : He
     ends : modelLines (linesLeft t w) ≡ [] → ReadsModel t n at f table w table'
     unfolding headIn
     ends e =
-        let b : modelLines (linesAt t n at place.head) ≡ c .over = c .inner ∙ ap (λ (ls : List Line). c .over ++ ls) e ∙ append-nil (c .over) in
-        let s : modelSteps t (linesAt t n at place.head) ≡ c .written = c .steps ∙ ap (λ (ws : List Write). c .written ++ ws) (no-steps e) ∙ append-nil (c .written) in
+        let b : modelLines (linesAt t n at place.head) ≡ c .over =
+        c .inner ∙ ap (λ (ls : List Line). c .over ++ ls) e ∙ append-nil (c .over) in
+        let s : modelSteps t (linesAt t n at place.head) ≡ c .written =
+        c .steps ∙ ap (λ (ws : List Write). c .written ++ ws) (no-steps e) ∙ append-nil (c .written) in
         record {
           steps = rw s (c .stores);
           head = ap (headIn (w .head)) (sym e) ∙ c .head ∙ ap (λ (h : Head). headIn h (modelLines (linesAt t n at place.head))) new;
@@ -129,7 +142,8 @@ module _ (t : List ℕ) (n at : ℕ) (f : Filling) (table : List ℕ) (head : He
       unfolding inModel
       outside e = e
 
-      pub model-closes : not (line .there) ≡ false → (is : Bool) → is ≡ isInModel (w .place) → not is ≡ true → ReadsModel t n at f table w table'
+      pub model-closes : not (line .there) ≡ false → (is : Bool) → is ≡ isInModel (w .place) → not is ≡ true →
+          ReadsModel t n at f table w table'
       model-closes there is told h =
           ends
           (ap modelLines (finds .same-there (not-false (line .there) there) (w .place))

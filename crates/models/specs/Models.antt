@@ -26,16 +26,6 @@ use Rattle.models.specs.declared.ModelWalk.{ModelWalk}
 abbrev pub modelsOf : List ℕ → Filling → List Model → List Write
 modelsOf t f ms = modelsWrites (documentOf t .maps) (documentOf t .sections) (getD (f .counts) steps 0) ms
 
--- the table holds the maps and the sections of the text, all above the word `low`
-pub record Points (t : List ℕ) (low : ℕ) (f : Filling) (table : List ℕ) : Type 0 where
-  pub maps-there : chopped (widthOf maps) (getD (f .counts) maps 0) (drop (getD (f .bases) maps 0) table) ≡ map mapWords (mapRecords 0 (documentOf t .maps))
-  pub sections-there : chopped (widthOf sections) (getD (f .counts) sections 0) (drop (getD (f .bases) sections 0) table) ≡ map sectionWords (sectionRecords 0 (documentOf t .sections))
-  pub maps-above : low ≤ getD (f .bases) maps 0
-  pub sections-above : low ≤ getD (f .bases) sections 0
-  pub maps-room : getD (f .bases) maps 0 + widthOf maps * getD (f .counts) maps 0 ≤ length table
-  pub sections-room : getD (f .bases) sections 0 + widthOf sections * getD (f .counts) sections 0 ≤ length table
-  pub low-room : low ≤ length table
-
 -- ---- the lines of a model
 
 -- these lines are the last ones of the text
@@ -76,7 +66,8 @@ pub record OnPath (t : List ℕ) (line : Found) (w : ModelWalk) (table : List �
 
 -- a line is gone over: its step is stored
 pub record Taken (t : List ℕ) (line : Found) (w : ModelWalk) (table : List ℕ) (v : ModelWalk) (table' : List ℕ) : Type 0 where
-  pub steps : Stores (w .filling) table (stepWrites t (stepOf (lineIn t line (w .place)) (linesBehind t line (w .place)))) (v .filling) table'
+  pub steps : Stores (w .filling) table (stepWrites t (stepOf (lineIn t line (w .place)) (linesBehind t line (w .place))))
+      (v .filling) table'
   pub head : v .head ≡ headIn (w .head) (lineIn t line (w .place) ∷ [])
   pub place-is : v .place ≡ placeAfter (w .place) (contentIn t line)
   pub at-is : v .at ≡ line .next
@@ -127,7 +118,8 @@ pub record FitsModel (t : List ℕ) (line : Found) (f : Filling) (table : List �
 -- it is stored, and the lines go on behind its own
 pub record FillsModel (t : List ℕ) (line : Found) (f : Filling) (table : List ℕ) (w : ModelWalk) (table' : List ℕ) : Type 0 where
   pub model : Stores f table (modelIn t f (modelBelow t line)) (w .filling) table'
-  pub rest : linesAt t (line .number + 1) (line .next) place.head ≡ modelLines (linesAt t (line .number + 1) (line .next) place.head) ++ linesLeft t w
+  pub rest : linesAt t (line .number + 1) (line .next) place.head
+      ≡ modelLines (linesAt t (line .number + 1) (line .next) place.head) ++ linesLeft t w
   pub placed : Placed t (w .number) (w .at)
   pub onward : line .next ≤ w .at
 
@@ -137,7 +129,8 @@ pub record ReadyModel (t : List ℕ) (line : Found) (w : Walk) (table : List ℕ
   pub seven : length (w .filling .counts) ≡ 7
   pub last : Last t (linesBehind t line (w .place))
   pub aims : Aims t (w .filling) table
-  pub fits : Fits (lowOf (w .filling)) (w .filling) (modelsOf t (w .filling) (modelAt (lineIn t line (w .place)) (linesBehind t line (w .place))))
+  pub fits : Fits (lowOf (w .filling)) (w .filling)
+      (modelsOf t (w .filling) (modelAt (lineIn t line (w .place)) (linesBehind t line (w .place))))
 
 -- the line is gone over, with its model
 pub record PassesModel (t : List ℕ) (line : Found) (w : Walk) (table : List ℕ) (v : Walk) (table' : List ℕ) : Type 0 where

@@ -12,7 +12,8 @@ ghost use Rattle.document.specs.Lines.{plain};
 ghost use Rattle.document.specs.Document.{documentOf, headIn};
 ghost use Rattle.document.specs.Found.{Located, lineIn};
 ghost use Rattle.storing.specs.Stores.{Stores};
-ghost use Rattle.models.specs.Models.{modelsOf, Points, Open, Next, OnPath, Taken, Reached, ReadsModel, FitsModel, FillsModel, ReadyModel, PassesModel};
+ghost use Rattle.steps.specs.Steps.{lowOf, Aims};
+ghost use Rattle.models.specs.Models.{modelsOf, Open, Next, OnPath, Taken, Reached, ReadsModel, FitsModel, FillsModel, ReadyModel, PassesModel};
 use document::Found;
 use head::Head;
 use storing::Walk;
@@ -222,9 +223,9 @@ fn pass_model(text: &[u8], line: Found, table: &mut [u64], walk: Walk) -> Walk
     }
 }
 
-// All models. Their records lie below `low`, those that their steps point at above it.
-pub fn fill_models(text: &[u8], table: &mut [u64], filling: Filling, low: usize) -> Filling
-    requires { ⌜ (length (filling .counts) ≡ 7) × Points (now text) low filling (now table) × Fits low filling (modelsOf (now text) filling (documentOf (now text) .models)) ⌝ }
+// All models. Their records lie below those that their steps point at.
+pub fn fill_models(text: &[u8], table: &mut [u64], filling: Filling) -> Filling
+    requires { ⌜ (length (filling .counts) ≡ 7) × Aims (now text) filling (now table) × Fits (lowOf filling) filling (modelsOf (now text) filling (documentOf (now text) .models)) ⌝ }
     ensures { λ r. ⌜ Stores filling (now (table .entry)) (modelsOf (now (text .entry)) filling (documentOf (now (text .entry)) .models)) r (now (table .exit)) ⌝ }
 {
     let mut walk = Walk {

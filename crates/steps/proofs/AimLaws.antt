@@ -1,7 +1,7 @@
 -- Laws of records stored below those that steps point at: the maps and the sections stay in the table as they are.
 -- Assumes nothing.
-use mathlib.Core.Path.{_≡_, refl, sym, _∙_, ap}
-use mathlib.Core.List.{List, [], _∷_, map}
+use mathlib.Core.Path.{_≡_, refl, _∙_, ap}
+use mathlib.Core.List.{List, [], _∷_}
 use Prim.Native.Nat.{ℕ, _+_, _-_, _*_, _≤_}
 use native.Mathlib.Omega.{arith}
 use lib.ListN.{length, drop, getD}
@@ -20,7 +20,8 @@ unfolding fillingAfter counted
 bases-kept [] f = refl
 bases-kept (w ∷ ws) f = bases-kept ws (counted f (w .part))
 
-count-kept : (q : ℕ) (ws : List Write) (f : Filling) → Below q ws → (p : ℕ) → q ≤ p → getD (fillingAfter ws f .counts) p 0 ≡ getD (f .counts) p 0
+count-kept : (q : ℕ) (ws : List Write) (f : Filling) → Below q ws → (p : ℕ) → q ≤ p →
+    getD (fillingAfter ws f .counts) p 0 ≡ getD (f .counts) p 0
 unfolding fillingAfter counted
 count-kept q [] f Below.none p h = refl
 count-kept q (w ∷ ws) f (Below.more k below) p h =
@@ -45,7 +46,12 @@ module _ (t : List ℕ) (f : Filling) (table : List ℕ) (ws : List Write) (belo
     behind-same : drop (getD (f .bases) p 0) (tableAfter ws f table) ≡ drop (getD (f .bases) p 0) table
     behind-same =
         let b : lowOf f + (getD (f .bases) p 0 - lowOf f) ≡ getD (f .bases) p 0 = omega arith in
-        rw (← b, ← drop-drop (getD (f .bases) p 0 - lowOf f) (lowOf f) (tableAfter ws f table), ← drop-drop (getD (f .bases) p 0 - lowOf f) (lowOf f) table)
+        rw (
+          ← b,
+          ← drop-drop (getD (f .bases) p 0 - lowOf f) (lowOf f) (tableAfter ws f table),
+          ← drop-drop (getD (f .bases) p 0 - lowOf f)
+              (lowOf f) table,
+        )
         (ap (drop (getD (f .bases) p 0 - lowOf f)) (kept-above (lowOf f) f ws table fits))
 
     records-same :

@@ -1,28 +1,27 @@
 -- Laws of steps stored: what they point at, their records, and which of them a line says.
 -- Assumes nothing.
 use mathlib.Core.Path.{_≡_, refl, sym, _∙_, ap}
-use mathlib.Core.Bool.{Bool, true, false}
-use mathlib.Core.List.{List, [], _∷_, map}
+use mathlib.Core.Bool.{true, false}
+use mathlib.Core.List.{List, [], _∷_}
 use Prim.Native.Nat.{ℕ, _+_, _-_, _*_, _≤_, _<_}
 use native.Mathlib.Omega.{arith}
 use lib.ListN.{length, take, drop, getD, length-drop}
 use lib.Seq.{sets, length-take-le}
 use lib.Dec.{ltb, leb, eqb}
 use borrow.Author.Tests.{eq-eqb, ne-eqb}
-use Rattle.base.specs.If.{if_then_else_}
 use Rattle.base.proofs.IfLaws.{if-true, if-false}
 use Rattle.text.specs.Words.{Word, wordsFrom}
 use Rattle.place.specs.Place.{movedByLine}
 use Rattle.place.specs.Place as place
 use Rattle.table.specs.Layout.{widths}
-use Rattle.table.specs.Filling.{widthOf, position, counted, Fits}
+use Rattle.table.specs.Filling.{widthOf, position, counted}
 use Rattle.table.specs.declared.Filling.{Filling}
-use Rattle.document.specs.Lines.{Line, plain, keyAt, placeAfter, linesAt, wordsOf, rightWordsOf, noWord, secondWord}
-use Rattle.document.specs.Document.{Step, Map, Section, documentOf, amountOf, sayingAt, sideIn, stepOf}
+use Rattle.document.specs.Lines.{plain, keyAt, placeAfter, linesAt, wordsOf, rightWordsOf, noWord, secondWord}
+use Rattle.document.specs.Document.{Step, Map, documentOf, amountOf, sayingAt, sideIn, stepOf}
 use Rattle.document.specs.Records.{indexOf, targetOf, stepRecord}
 use Rattle.document.specs.Holds.{Each, Stands}
 use Rattle.document.specs.Holds.Each.{none, more}
-use Rattle.document.specs.Found.{markOf, contentIn, linesBehind, Located}
+use Rattle.document.specs.Found.{markOf, contentIn, linesBehind}
 use Rattle.document.specs.declared.Found.{Found}
 use Rattle.document.specs.declared.Mark.{Mark}
 use Rattle.document.proofs.StandsLaws.{LineStands, second-word-stands, right-word-stands, MapStands, all-stand}
@@ -41,7 +40,6 @@ use Rattle.steps.specs.Steps.{
   stepIn,
   stepWrites,
   lowOf,
-  Aims,
   Aimed,
   Says,
   Told,
@@ -55,7 +53,8 @@ each-both : {A : Type 0} {P Q R : A → Type 0} → ((x : A) → P x → Q x →
 each-both gives none none = none
 each-both gives (more {x = x} h hs) (more k ks) = more (gives x h k) (each-both gives hs ks)
 
-pub found-marked : (t table : List ℕ) (base width count after : ℕ) (mark : Mark) (name : List ℕ) → name ≡ nameAt t (mark .start) (mark .size) → (r : ℕ) →
+pub found-marked : (t table : List ℕ) (base width count after : ℕ) (mark : Mark) (name : List ℕ) →
+    name ≡ nameAt t (mark .start) (mark .size) → (r : ℕ) →
     r ≡ findIn t table base width count name after → r ≡ findIn t table base width count (nameAt t (mark .start) (mark .size)) after
 found-marked t table base width count after mark name e r h = h ∙ ap (λ (w : List ℕ). findIn t table base width count w after) e
 
@@ -111,7 +110,8 @@ fork-told t kind line h =
 -- ---- one step stored
 
 module _ (t : List ℕ) (line : Found) (f : Filling) (table : List ℕ) (s : Step) where
-  pub step-asked : Says t line f table (s ∷ []) → (1 < length widths) × (_≡_ {A = ℕ} 6 (widthOf 1)) × (position f 1 + widthOf 1 ≤ length table)
+  pub step-asked : Says t line f table (s ∷ []) → (1 < length widths) × (_≡_ {A = ℕ} 6 (widthOf 1)) ×
+      (position f 1 + widthOf 1 ≤ length table)
   unfolding stepWrite lowOf
   step-asked says =
       let m : getD (f .bases) 2 0 + 7 * getD (f .counts) 2 0 ≤ length table = says .aimed .aims .maps-room in
@@ -120,7 +120,8 @@ module _ (t : List ℕ) (line : Found) (f : Filling) (table : List ℕ) (s : Ste
       (asked .0, asked .1, omega (arith, asked .2))
 
   -- its words, by what is known of each
-  step-stored : (words : List ℕ) → words ≡ s .kind ∷ targetIn t s ∷ s .amount ∷ s .side .start ∷ length (s .side .text) ∷ s .line ∷ [] → (r : Filling) (table' : List ℕ) →
+  step-stored : (words : List ℕ) →
+      words ≡ s .kind ∷ targetIn t s ∷ s .amount ∷ s .side .start ∷ length (s .side .text) ∷ s .line ∷ [] → (r : Filling) (table' : List ℕ) →
       r ≡ counted f 1 → table' ≡ sets table (position f 1) words → Stores f table (stepWrites t (s ∷ [])) r table'
   unfolding stepWrite stepRecord
   step-stored words e r table' k h = put-stored f table (stepIn t s) 1 words r table' refl e k h
@@ -146,7 +147,8 @@ module _ (t : List ℕ) (line : Found) (f : Filling) (table : List ℕ) (r : Fil
       Stores f table (stepWrites t (forkStep kind line ∷ [])) r table'
   unfolding noWord
   fork-stored kind (above, says) h =
-      step-stored t line f table (forkStep kind line) _ (λ i. kind ∷ fork-told t kind line above i ∷ 0 ∷ 0 ∷ 0 ∷ line .number ∷ []) r table' k h
+      step-stored t line f table (forkStep kind line) _
+      (λ i. kind ∷ fork-told t kind line above i ∷ 0 ∷ 0 ∷ 0 ∷ line .number ∷ []) r table' k h
 
 -- ---- the step that a line says
 
@@ -155,37 +157,43 @@ pub path-stays : (content : List ℕ) → eqb (keyAt content) plain ≡ true →
 unfolding placeAfter movedByLine
 path-stays content e = if-true _ _ e ∙ if-false _ _ (ne-eqb 9 11 (λ (h : _≡_ {A = ℕ} 9 11). omega arith))
 
-module _ (t : List ℕ) (line : Found) (says : ℕ) (f : Filling) (table : List ℕ)
-    (told : Told t line says f table) where
-  pub behind-path : linesBehind t line place.path ≡ pathBehind t line
-  behind-path = ap (linesAt t (line .number + 1) (line .next)) (path-stays (contentIn t line) (eq-eqb _ _ (sym (told .ready .aimed .located .key-is) ∙ told .key)))
+module _ (t : List ℕ) (line : Found) (says : ℕ) (f : Filling) (table : List ℕ) (told : Told t line says f table) where
+  behind-path : linesBehind t line place.path ≡ pathBehind t line
+  behind-path =
+      ap (linesAt t (line .number + 1) (line .next))
+      (path-stays (contentIn t line) (eq-eqb _ _ (sym (told .ready .aimed .located .key-is) ∙ told .key)))
 
   says-here : sayingAt (pathLine t line) ≡ says
   says-here = path-says t line (told .ready .aimed .located) (told .key) ∙ sym (told .word)
 
-  yes : (n : ℕ) → says ≡ n → eqb (sayingAt (pathLine t line)) n ≡ true
-  yes n e = eq-eqb _ n (says-here ∙ e)
+  said : (n : ℕ) → says ≡ n → eqb (sayingAt (pathLine t line)) n ≡ true
+  said n e = eq-eqb _ n (says-here ∙ e)
 
-  no : (n : ℕ) → (says ≡ n → ⊥) → eqb (sayingAt (pathLine t line)) n ≡ false
-  no n h = ne-eqb _ n (λ (e : sayingAt (pathLine t line) ≡ n). h (sym says-here ∙ e))
+  unsaid : (n : ℕ) → (says ≡ n → ⊥) → eqb (sayingAt (pathLine t line)) n ≡ false
+  unsaid n h = ne-eqb _ n (λ (e : sayingAt (pathLine t line) ≡ n). h (sym says-here ∙ e))
 
   -- by the steps that the line says, told otherwise
   says-else : (xs : List Step) → stepsAt t line ≡ xs → Says t line f table xs
   says-else xs e = rw e at (told .ready)
 
-  stores-else : (xs : List Step) → stepsAt t line ≡ xs → (r : Filling) (table' : List ℕ) → Stores f table (stepWrites t xs) r table' → Stores f table (stepWrites t (stepsAt t line)) r table'
+  stores-else : (xs : List Step) → stepsAt t line ≡ xs → (r : Filling) (table' : List ℕ) → Stores f table (stepWrites t xs) r table' →
+      Stores f table (stepWrites t (stepsAt t line)) r table'
   stores-else xs e r table' h = rw e h
 
   -- an end
   module _ (is : says ≡ 1) where
     end-here : stepsAt t line ≡ endStep t line ∷ []
     unfolding stepOf
-    end-here = if-true _ _ (yes 1 is) ∙ ap (λ (ls : List Line). record { kind = 0; name = secondWord (wordsOf (pathLine t line)); mult = false; amount = 0; side = sideIn ls; line = line .number } ∷ []) behind-path
+    end-here =
+        if-true _ _ (said 1 is)
+        ∙ ap (λ (w : Word). record { kind = 0; name = endStep t line .name; mult = false; amount = 0; side = w; line = line .number } ∷ [])
+        (ap sideIn behind-path)
 
     pub says-end : Says t line f table (endStep t line ∷ [])
     says-end = says-else _ end-here
 
-    pub end-put : (r : Filling) (table' : List ℕ) → Stores f table (stepWrites t (endStep t line ∷ [])) r table' → Stores f table (stepWrites t (stepsAt t line)) r table'
+    pub end-put : (r : Filling) (table' : List ℕ) → Stores f table (stepWrites t (endStep t line ∷ [])) r table' →
+        Stores f table (stepWrites t (stepsAt t line)) r table'
     end-put r table' h = stores-else _ end-here r table' h
 
   module _ (not-end : says ≡ 1 → ⊥) where
@@ -193,12 +201,13 @@ module _ (t : List ℕ) (line : Found) (says : ℕ) (f : Filling) (table : List 
     module _ (is : says ≡ 3) where
       section-here : stepsAt t line ≡ sectionStep t line ∷ []
       unfolding stepOf
-      section-here = if-false _ _ (no 1 not-end) ∙ if-true _ _ (yes 3 is)
+      section-here = if-false _ _ (unsaid 1 not-end) ∙ if-true _ _ (said 3 is)
 
       pub says-section : Says t line f table (sectionStep t line ∷ [])
       says-section = says-else _ section-here
 
-      pub section-put : (r : Filling) (table' : List ℕ) → Stores f table (stepWrites t (sectionStep t line ∷ [])) r table' → Stores f table (stepWrites t (stepsAt t line)) r table'
+      pub section-put : (r : Filling) (table' : List ℕ) → Stores f table (stepWrites t (sectionStep t line ∷ [])) r table' →
+          Stores f table (stepWrites t (stepsAt t line)) r table'
       section-put r table' h = stores-else _ section-here r table' h
 
     module _ (not-section : says ≡ 3 → ⊥) where
@@ -206,12 +215,13 @@ module _ (t : List ℕ) (line : Found) (says : ℕ) (f : Filling) (table : List 
       module _ (is : says ≡ 4) where
         fork-here : stepsAt t line ≡ forkStep 2 line ∷ []
         unfolding stepOf
-        fork-here = if-false _ _ (no 1 not-end) ∙ if-false _ _ (no 3 not-section) ∙ if-true _ _ (yes 4 is)
+        fork-here = if-false _ _ (unsaid 1 not-end) ∙ if-false _ _ (unsaid 3 not-section) ∙ if-true _ _ (said 4 is)
 
         pub says-fork : Says t line f table (forkStep 2 line ∷ [])
         says-fork = says-else _ fork-here
 
-        pub fork-put : (r : Filling) (table' : List ℕ) → Stores f table (stepWrites t (forkStep 2 line ∷ [])) r table' → Stores f table (stepWrites t (stepsAt t line)) r table'
+        pub fork-put : (r : Filling) (table' : List ℕ) → Stores f table (stepWrites t (forkStep 2 line ∷ [])) r table' →
+            Stores f table (stepWrites t (stepsAt t line)) r table'
         fork-put r table' h = stores-else _ fork-here r table' h
 
       module _ (not-fork : says ≡ 4 → ⊥) where
@@ -219,12 +229,15 @@ module _ (t : List ℕ) (line : Found) (says : ℕ) (f : Filling) (table : List 
         module _ (is : says ≡ 5) where
           endfork-here : stepsAt t line ≡ forkStep 3 line ∷ []
           unfolding stepOf
-          endfork-here = if-false _ _ (no 1 not-end) ∙ if-false _ _ (no 3 not-section) ∙ if-false _ _ (no 4 not-fork) ∙ if-true _ _ (yes 5 is)
+          endfork-here =
+              if-false _ _ (unsaid 1 not-end) ∙ if-false _ _ (unsaid 3 not-section) ∙ if-false _ _ (unsaid 4 not-fork)
+              ∙ if-true _ _ (said 5 is)
 
           pub says-endfork : Says t line f table (forkStep 3 line ∷ [])
           says-endfork = says-else _ endfork-here
 
-          pub endfork-put : (r : Filling) (table' : List ℕ) → Stores f table (stepWrites t (forkStep 3 line ∷ [])) r table' → Stores f table (stepWrites t (stepsAt t line)) r table'
+          pub endfork-put : (r : Filling) (table' : List ℕ) → Stores f table (stepWrites t (forkStep 3 line ∷ [])) r table' →
+              Stores f table (stepWrites t (stepsAt t line)) r table'
           endfork-put r table' h = stores-else _ endfork-here r table' h
 
         -- nothing
@@ -232,5 +245,6 @@ module _ (t : List ℕ) (line : Found) (says : ℕ) (f : Filling) (table : List 
         unfolding stepOf
         none-put not-endfork =
             stores-else []
-            (if-false _ _ (no 1 not-end) ∙ if-false _ _ (no 3 not-section) ∙ if-false _ _ (no 4 not-fork) ∙ if-false _ _ (no 5 not-endfork)) f table
+            (if-false _ _ (unsaid 1 not-end) ∙ if-false _ _ (unsaid 3 not-section) ∙ if-false _ _ (unsaid 4 not-fork)
+            ∙ if-false _ _ (unsaid 5 not-endfork)) f table
             (stores-none f table)

@@ -3,32 +3,28 @@
 use mathlib.Core.Path.{_≡_, refl, sym, _∙_, ap}
 use mathlib.Core.Bool.{Bool, true, false, not}
 use mathlib.Core.List.{List, [], _∷_}
-use Prim.Native.Nat.{ℕ, _+_, _-_, _≤_, _<_}
+use Prim.Native.Nat.{ℕ, _+_, _-_, _≤_}
 use native.Mathlib.Omega.{arith}
 use lib.ListN.{length, take, drop, drop-of-length-le}
 use lib.Dec.{eqb}
 use borrow.Author.Tests.{eq-eqb, ne-eqb, eqb-true, eqb-false, not-true, not-false}
 use Rattle.base.specs.If.{if_then_else_, both, either}
 use Rattle.base.specs.Bytes.{bytes, within}
-use Rattle.base.specs.Runs.{same, run, all}
+use Rattle.base.specs.Runs.{same}
 use Rattle.base.proofs.IfLaws.{if-true, if-false, by-test, by-cases, both-true, both-not-right}
-use Rattle.text.specs.Words.{Word, wordsFrom, words, firstOf, secondOf, fewOf, markedBy, toEquals, rightOf, leftOf}
+use Rattle.text.specs.Words.{wordsFrom, words, firstOf, secondOf, fewOf, markedBy, toEquals, rightOf, leftOf}
 use Rattle.text.specs.declared.Few.{Few}
 use Rattle.text.proofs.WordLaws.{second-marked}
 use Rattle.text.proofs.FormLaws.{part-from, left-words, right-words}
 use Rattle.number.specs.Number.{
   numberOf,
   isSign,
-  isE,
   pastSign,
   noDigits,
   scan,
-  noExponent,
-  exponentOf,
   wellFormed,
   numberFrom,
   digitsOf,
-  exponentFrom,
 }
 use Rattle.number.specs.Integer.{isInteger, wholeOf}
 use Rattle.number.specs.declared.Number.{Number}
@@ -36,15 +32,15 @@ use Rattle.number.specs.declared.Whole.{Whole}
 use Rattle.place.specs.Place as place
 use Rattle.path.specs.Path.{sayingOf, isMult}
 use Rattle.path.specs.Path as path
-use Rattle.document.specs.Lines.{Line, plain, keyOf, linesAt, wordsOf, rightWordsOf, noWord, secondWord, standsIn}
+use Rattle.document.specs.Lines.{plain, keyOf, linesAt, wordsOf, rightWordsOf, noWord, secondWord, standsIn}
 use Rattle.document.specs.Document.{wordIn, sayingAt, amountOf, sideIn}
-use Rattle.document.specs.Found.{markOf, contentIn, lineIn, linesBehind, Located, Finds}
+use Rattle.document.specs.Found.{markOf, contentIn, Located, Finds}
 use Rattle.document.specs.declared.Found.{Found}
 use Rattle.document.specs.declared.Mark.{Mark}
 use Rattle.steps.specs.Steps.{pathLine}
 
 -- what is not other than a number is that number
-pub eq-of-not-not : (m n : ℕ) → ((m ≡ n → ⊥) → ⊥) → m ≡ n
+eq-of-not-not : (m n : ℕ) → ((m ≡ n → ⊥) → ⊥) → m ≡ n
 eq-of-not-not m n h =
     by-cases (m ≡ n) (eqb m n) (λ (e : eqb m n ≡ true). eqb-true m n e)
     (λ (e : eqb m n ≡ false). absurd (h (λ (k : m ≡ n). eqb-false m n e k)))
@@ -112,7 +108,8 @@ module _ (t : List ℕ) (line : Found) (sign : ℕ) (at : sign ≡ toEquals (con
   right-none h = rw (behind-none (contentIn t line) sign at h) no-mark
 
   pub right-some : (r : Mark) →
-      r ≡ markOf (secondWord (wordsFrom (line .at + (sign + 1)) (take (length (contentIn t line) - (sign + 1)) (drop (sign + 1) (contentIn t line))))) →
+      r ≡ markOf (secondWord (wordsFrom (line .at + (sign + 1))
+      (take (length (contentIn t line) - (sign + 1)) (drop (sign + 1) (contentIn t line))))) →
       r ≡ markOf (secondWord (rightWordsOf (pathLine t line)))
   unfolding rightWordsOf
   right-some r h =
@@ -131,20 +128,23 @@ module _ (t : List ℕ) (line : Found) (located : Located t line) where
   unfolding sayingAt standsIn keyOf
   keyed-says k = if-false _ _ (both-not-right _ _ (ne-eqb _ _ (λ (e : _≡_ {A = ℕ} _ plain). k (located .key-is ∙ e))))
 
-  no-side : (n : ℕ) → sayingAt (pathLine t line) ≡ n → (n ≡ path.side → ⊥) → record { start = 0; size = 0 } ≡ markOf (sideIn (pathLine t line ∷ []))
+  no-side : (n : ℕ) → sayingAt (pathLine t line) ≡ n → (n ≡ path.side → ⊥) →
+      record { start = 0; size = 0 } ≡ markOf (sideIn (pathLine t line ∷ []))
   no-side n e h = no-mark ∙ ap markOf (sym (if-false _ _ (ne-eqb _ _ (λ (k : sayingAt (pathLine t line) ≡ path.side). h (sym e ∙ k)))))
 
   pub side-keyed : (line .key ≡ 41 → ⊥) → record { start = 0; size = 0 } ≡ markOf (sideIn (pathLine t line ∷ []))
   side-keyed k = no-side 0 (keyed-says k) (λ (e : _≡_ {A = ℕ} 0 2). omega arith)
 
-  module _ (k : (line .key ≡ 41 → ⊥) → ⊥) (word : List ℕ) (is-word : word ≡ firstOf (words (contentIn t line))) (says : ℕ) (told : says ≡ sayingOf word) where
+  module _ (k : (line .key ≡ 41 → ⊥) → ⊥) (word : List ℕ) (is-word : word ≡ firstOf (words (contentIn t line))) (says : ℕ)
+      (told : says ≡ sayingOf word) where
     says-here : sayingAt (pathLine t line) ≡ says
     says-here = path-says (eq-of-not-not (line .key) 41 k) ∙ sym (told ∙ ap sayingOf is-word)
 
     pub side-other : (says ≡ 2 → ⊥) → record { start = 0; size = 0 } ≡ markOf (sideIn (pathLine t line ∷ []))
     side-other h = no-side says says-here h
 
-    pub side-told : ((says ≡ 2 → ⊥) → ⊥) → (r : Mark) → r ≡ markOf (secondWord (wordsFrom (line .at) (contentIn t line))) → r ≡ markOf (sideIn (pathLine t line ∷ []))
+    pub side-told : ((says ≡ 2 → ⊥) → ⊥) → (r : Mark) → r ≡ markOf (secondWord (wordsFrom (line .at) (contentIn t line))) →
+        r ≡ markOf (sideIn (pathLine t line ∷ []))
     unfolding wordsOf
     side-told h r e = e ∙ ap markOf (sym (if-true _ _ (eq-eqb _ _ (says-here ∙ eq-of-not-not says 2 h))))
 

@@ -4,7 +4,7 @@
 use Prim.Native.Nat.{ℕ, _+_, _*_, _≤_, min}
 use mathlib.Core.Path.{_≡_}
 use mathlib.Core.Bool.{false}
-use mathlib.Core.List.{List, [], _∷_, map}
+use mathlib.Core.List.{List, map}
 use lib.ListN.{length, getD, drop}
 use lib.Dec.{leb, ltb}
 use Rattle.text.specs.Words.{words, firstOf}
@@ -32,11 +32,25 @@ pathBehind t line = linesAt t (line .number + 1) (line .next) place.path
 
 abbrev pub endStep : List ℕ → Found → Step
 endStep t line =
-    record { kind = endKind; name = secondWord (wordsOf (pathLine t line)); mult = false; amount = 0; side = sideIn (pathBehind t line); line = line .number }
+    record {
+      kind = endKind;
+      name = secondWord (wordsOf (pathLine t line));
+      mult = false;
+      amount = 0;
+      side = sideIn (pathBehind t line);
+      line = line .number;
+    }
 
 abbrev pub sectionStep : List ℕ → Found → Step
 sectionStep t line =
-    record { kind = sectionKind; name = secondWord (rightWordsOf (pathLine t line)); mult = isMult (contentIn t line); amount = amountOf (contentIn t line); side = noWord; line = line .number }
+    record {
+      kind = sectionKind;
+      name = secondWord (rightWordsOf (pathLine t line));
+      mult = isMult (contentIn t line);
+      amount = amountOf (contentIn t line);
+      side = noWord;
+      line = line .number;
+    }
 
 -- a fork or an endfork
 abbrev pub forkStep : ℕ → Found → Step
@@ -60,8 +74,10 @@ lowOf f = min (getD (f .bases) maps 0) (getD (f .bases) sections 0)
 
 -- the table holds the maps and the sections of the text
 pub record Aims (t : List ℕ) (f : Filling) (table : List ℕ) : Type 0 where
-  pub maps-there : chopped 7 (getD (f .counts) maps 0) (drop (getD (f .bases) maps 0) table) ≡ map mapWords (mapRecords 0 (documentOf t .maps))
-  pub sections-there : chopped 8 (getD (f .counts) sections 0) (drop (getD (f .bases) sections 0) table) ≡ map sectionWords (sectionRecords 0 (documentOf t .sections))
+  pub maps-there : chopped 7 (getD (f .counts) maps 0) (drop (getD (f .bases) maps 0) table)
+      ≡ map mapWords (mapRecords 0 (documentOf t .maps))
+  pub sections-there : chopped 8 (getD (f .counts) sections 0) (drop (getD (f .bases) sections 0) table)
+      ≡ map sectionWords (sectionRecords 0 (documentOf t .sections))
   pub maps-room : getD (f .bases) maps 0 + 7 * getD (f .counts) maps 0 ≤ length table
   pub sections-room : getD (f .bases) sections 0 + 8 * getD (f .counts) sections 0 ≤ length table
 

@@ -177,7 +177,14 @@ fill-block-fill-block-requires : (t : ℕ) → fill-block-lts.Need-fill-block-re
   fill-block-below t,
   fill-block.Post,
 ) (fill-block-at t) fill-block.Post fill-block-Inv-loop fill-block-μ-loop
-fill-block-fill-block-requires t c κs = (omega arith, walk-next _ _ _ (c .before .before .before .before .before .before .before .before .before .loop .walk) _ (c .before .before .before .before .before .before .before .before .before .loop .inv) _ (c .before .before .before .before .before .before .before .next-line .ensures) (c .before .before .before .before .before .if2 .left) _ (c .before .before .before .before .is-in-model .ensures) (c .before .before .before .if3 .left))
+fill-block-fill-block-requires t c κs = (
+  omega arith,
+  walk-next _ _ _ (c .before .before .before .before .before .before .before .before .before .loop .walk) _
+      (c .before .before .before .before .before .before .before .before .before .loop .inv) _
+      (c .before .before .before .before .before .before .before .next-line .ensures)
+      (c .before .before .before .before .before .if2 .left) _ (c .before .before .before .before .is-in-model .ensures)
+      (c .before .before .before .if3 .left),
+)
 
 fill-block-loop-less : (t : ℕ) → fill-block-lts.Need-loop-less (
   take-line-reads.Asked,
@@ -213,7 +220,11 @@ fill-block-take-line-requires-2 : (t : ℕ) → fill-block-lts.Need-take-line-re
   fill-block-below t,
   fill-block.Post,
 ) (fill-block-at t) fill-block.Post fill-block-Inv-loop fill-block-μ-loop
-fill-block-take-line-requires-2 t c κs = walk-next _ _ _ (c .before .before .before .before .before .before .before .before .loop .walk) _ (c .before .before .before .before .before .before .before .before .loop .inv) _ (c .before .before .before .before .before .before .next-line .ensures) (c .before .before .before .before .if2 .left) _ (c .before .before .before .is-in-model .ensures) (c .before .before .if3 .left)
+fill-block-take-line-requires-2 t c κs =
+    walk-next _ _ _ (c .before .before .before .before .before .before .before .before .loop .walk) _
+    (c .before .before .before .before .before .before .before .before .loop .inv) _
+    (c .before .before .before .before .before .before .next-line .ensures) (c .before .before .before .before .if2 .left) _
+    (c .before .before .before .is-in-model .ensures) (c .before .before .if3 .left)
 
 fill-block-loop-less-2 : (t : ℕ) → fill-block-lts.Need-loop-less-2 (
   take-line-reads.Asked,

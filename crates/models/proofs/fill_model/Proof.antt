@@ -25,13 +25,24 @@ array-read-t22 : tie.Need-array-read-t22
 array-read-t22 c = search needs
 
 sub-t23 : tie.Need-sub-t23
-sub-t23 c = omega (arith, model-counted _ (c .before .before .before .before .before .before .before .before .before .before .before .before .before .args .line) _ _ (c .before .before .before .before .before .before .before .before .before .before .before .before .before .pre) _ _ (c .before .before .before .before .before .before .before .fill-steps .ensures))
+sub-t23 c =
+    omega (
+      arith,
+      model-counted _
+          (c .before .before .before .before .before .before .before .before .before .before .before .before .before .args .line) _ _
+          (c .before .before .before .before .before .before .before .before .before .before .before .before .before .pre) _ _
+          (c .before .before .before .before .before .before .before .fill-steps .ensures),
+    )
 
 slice-aggregate-put-record : tie.Need-slice-aggregate-put-record
 slice-aggregate-put-record c = search needs
 
 put-record-requires : tie.Need-put-record-requires
-put-record-requires c κs = model-asked _ (c .before .before .before .before .before .before .before .before .before .before .before .before .before .before .before .args .line) _ _ (c .before .before .before .before .before .before .before .before .before .before .before .before .before .before .before .pre) _ _ (c .before .before .before .before .before .before .before .before .before .fill-steps .ensures)
+put-record-requires c κs =
+    model-asked _
+    (c .before .before .before .before .before .before .before .before .before .before .before .before .before .before .before .args .line)
+    _ _ (c .before .before .before .before .before .before .before .before .before .before .before .before .before .before .before .pre)
+    _ _ (c .before .before .before .before .before .before .before .before .before .fill-steps .ensures)
 
 same-length : tie.Need-same-length
 same-length c = search needs

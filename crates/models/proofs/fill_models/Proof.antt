@@ -3,18 +3,27 @@
 use borrow.Author.Needs.{needs}
 use Prim.Native.Nat.{_-_}
 use lib.ListN.{length}
-use Rattle.models.proofs.PassLaws.{ModelsLeft, models-start, models-after, models-long, models-end, models-ready, models-on, models-less}
+use Rattle.models.proofs.PassLaws.{
+  ModelsLeft,
+  models-start,
+  models-after,
+  models-long,
+  models-end,
+  models-ready,
+  models-on,
+  models-less,
+}
 use Rattle.models.proofs.fill_models.Statement.{statement}
 use Rattle.models.proofs.fill_models.Tie as tie
 
 abbrev Inv-loop : tie.InvT-loop
-Inv-loop text table₀ low walk₀ table walk = ModelsLeft text (walk₀ .filling) table₀ walk table
+Inv-loop text table₀ walk₀ table walk = ModelsLeft text (walk₀ .filling) table₀ walk table
 
 abbrev μ-loop : tie.MeasureT-loop
-μ-loop text table₀ low walk₀ table walk = length text - walk .at
+μ-loop text table₀ walk₀ table walk = length text - walk .at
 
 loop-holds : tie.Need-loop-holds Inv-loop μ-loop
-loop-holds c = models-start _ _ (c .before .before .args .filling) _ (c .before .before .pre)
+loop-holds c = models-start _ (c .before .before .args .filling) _ (c .before .before .pre)
 
 same-length : tie.Need-same-length Inv-loop μ-loop
 same-length c = search models-long

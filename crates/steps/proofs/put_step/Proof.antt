@@ -1,6 +1,16 @@
 -- `steps::put_step` meets its contract: each step by what the line says.
 -- Assumes nothing.
-use Rattle.steps.proofs.StepLaws.{says-end, end-put, says-section, section-put, says-fork, fork-put, says-endfork, endfork-put, none-put}
+use Rattle.steps.proofs.StepLaws.{
+  says-end,
+  end-put,
+  says-section,
+  section-put,
+  says-fork,
+  fork-put,
+  says-endfork,
+  endfork-put,
+  none-put,
+}
 use borrow.Author.Needs.{needs}
 use Rattle.steps.proofs.put_step.Statement.{statement}
 use Rattle.steps.proofs.put_step.Tie as tie
@@ -42,7 +52,10 @@ returns-4 : tie.Need-returns-4
 returns-4 c = search endfork-put
 
 returns-5 : tie.Need-returns-5
-returns-5 c = none-put _ (c .before .before .before .before .before .before .args .line) _ (c .before .before .before .before .before .before .args .filling) _ (c .before .before .before .before .before .before .pre) (c .before .before .before .if1 .left) (c .before .before .if2 .left) (c .before .if3 .left) (c .if4 .left)
+returns-5 c =
+    none-put _ (c .before .before .before .before .before .before .args .line) _
+    (c .before .before .before .before .before .before .args .filling) _ (c .before .before .before .before .before .before .pre)
+    (c .before .before .before .if1 .left) (c .before .before .if2 .left) (c .before .if3 .left) (c .if4 .left)
 
 pub put-step-spec : {M : Type 1} → statement M
 put-step-spec =
