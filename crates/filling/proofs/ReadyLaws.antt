@@ -89,12 +89,11 @@ module _ (t : List ℕ) (c : Counts) (reads : readingOf t ≡ reading.Read c) wh
         sections-are = rw (fills .sections) stores
 
         pub models-ready : (length (f₂ .counts) ≡ 7) × Aims t f₂ t₂ × Fits (lowOf f₂) f₂ (modelsOf t f₂ (documentOf t .models))
-        models-ready =
-            (
-              seven-blocks t c reads size room (w .filling) t₁ maps-are f₂ t₂ sections-are,
-              aims t c reads size room (w .filling) t₁ maps-are f₂ t₂ sections-are,
-              models-fit t c reads size room (w .filling) t₁ maps-are f₂ t₂ sections-are,
-            )
+        models-ready = (
+          seven-blocks t c reads size room (w .filling) t₁ maps-are f₂ t₂ sections-are,
+          aims t c reads size room (w .filling) t₁ maps-are f₂ t₂ sections-are,
+          models-fit t c reads size room (w .filling) t₁ maps-are f₂ t₂ sections-are,
+        )
 
         pub table-filled : (f₃ : Filling) (t₃ : List ℕ) → Stores f₂ t₂ (modelsOf t f₂ (documentOf t .models)) f₃ t₃ → t₃ ≡ tableOf t ++ replicate (size - length (tableOf t)) 0
         table-filled f₃ t₃ s =
