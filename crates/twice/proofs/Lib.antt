@@ -1,1 +1,2 @@
 pub mod TwiceLaws
+pub mod NamesLaws
