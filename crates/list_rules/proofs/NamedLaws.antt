@@ -50,13 +50,13 @@ same-turned s t =
 -- ---- the first model of a name
 
 -- the names of models, and the first one that is this
-abbrev texts : List Model → List (List ℕ)
+abbrev pub texts : List Model → List (List ℕ)
 texts ms = map (λ (m : Model). m .name .text) ms
 
-abbrev first : List ℕ → List Model → ℕ
+abbrev pub first : List ℕ → List Model → ℕ
 first name ms = indexOf (λ (m : Model). same name (m .name .text)) ms
 
-first-has : (name : List ℕ) (ms : List Model) → first name ms < length ms → getD (texts ms) (first name ms) [] ≡ name
+pub first-has : (name : List ℕ) (ms : List Model) → first name ms < length ms → getD (texts ms) (first name ms) [] ≡ name
 unfolding indexOf
 first-has name [] h = absurd (not-suc-le-zero h)
 first-has name (m ∷ ms) h =

@@ -1,0 +1,187 @@
+-- Laws of the lines that are looked for by their numbers, and that a step's line says whether it is one of a Mult.
+-- Assumes nothing.
+use mathlib.Core.Path.{_≡_, refl, sym, _∙_, ap}
+use mathlib.Core.Bool.{Bool, true, false, not}
+use mathlib.Core.List.{List, [], _∷_}
+use Prim.Native.Nat.{ℕ, _+_, _-_, _≤_, _<_, zero-le}
+use native.Mathlib.Nat.{le-refl}
+use native.Mathlib.Omega.{arith}
+use lib.ListN.{length, take, drop}
+use lib.Dec.{ltb, eqb}
+use borrow.Author.Tests.{lt-ltb, le-ltb, eqb-true, not-true, not-false}
+use Rattle.base.specs.If.{if_then_else_}
+use Rattle.base.specs.Bytes.{bytes}
+use Rattle.base.specs.Runs.{run, same}
+use Rattle.base.proofs.IfLaws.{if-true, if-false, by-cases, by-test}
+use Rattle.text.specs.Lines.{Raw, lines, contentOf, isBlankLine}
+use Rattle.text.specs.Words.{wordsFrom, words, secondOf, leftOf, fewOf, markedBy, toEquals}
+use Rattle.text.specs.declared.Few.{Few}
+use Rattle.text.proofs.WordLaws.{second-marked}
+use Rattle.text.proofs.FormLaws.{left-words}
+use Rattle.place.specs.Place as place
+use Rattle.path.specs.Path.{isMult}
+use Rattle.path.specs.Path as path
+use Rattle.reading.specs.Reading.{commentByte}
+use Rattle.document.specs.Lines.{Line, placeAfter, linesFrom, linesAt, significant, gather, upTo}
+use Rattle.document.specs.Document.{Step, Model, sectionKind, sayingAt, stepOf, stepsIn, opensModel, inModel, modelOf, modelAt, documentIn, documentOf}
+use Rattle.document.specs.Found.{contentIn, lineIn, linesBehind, Located, Finds}
+use Rattle.document.specs.declared.Found.{Found}
+use Rattle.document.specs.Holds.{Each}
+use Rattle.document.specs.Holds.Each.{none, more}
+use Rattle.document.proofs.Goes.{lines-blank, lines-said, lines-none}
+use Rattle.document.proofs.StandsLaws.{Laid, laid, each-join, each-gather, each-if, each-up}
+use Rattle.document.proofs.StandsLaws.Laid.{onward}
+use Rattle.rules.proofs.RisingLaws.{Rising, numbers, all-least}
+use Rattle.rules.proofs.RisingLaws.Rising.{flat, rise}
+use Rattle.rules.proofs.OrderLaws.{lines-rise}
+use Rattle.model_rules.specs.Cursor.{contentAt, Cursor, Tells}
+use Rattle.model_rules.specs.declared.Told.{Told}
+
+-- ---- Mult before the sign
+
+pub mult-told :
+    (content : List ℕ) (sign : ℕ) → sign ≡ toEquals content → (few : Few) → few ≡ fewOf (take sign content) →
+    (unit : List ℕ) → unit ≡ markedBy (take sign content) (few .second) → (r : Bool) → r ≡ same unit (bytes "Mult") → r ≡ isMult content
+unfolding isMult
+mult-told content sign at few told unit there r is =
+    is
+    ∙ ap (λ (w : List ℕ). same w (bytes "Mult")) (there ∙ second-marked (take sign content) few told)
+    ∙ ap (λ (ws : List (List ℕ)). same (secondOf ws) (bytes "Mult")) (left-words content sign at)
+
+no-mult : isMult [] ≡ false
+unfolding isMult leftOf wordsFrom run same
+no-mult = refl
+
+-- ---- the line of a number
+
+-- the places of the lines do not come into it
+places-free : (m n at p q : ℕ) (rs : List Raw) → contentAt m (linesFrom n at p rs) ≡ contentAt m (linesFrom n at q rs)
+unfolding contentAt
+places-free m n at p q [] = ap (contentAt m) (lines-none n at p ∙ sym (lines-none n at q))
+places-free m n at p q (r ∷ rs) =
+    by-cases _ (isBlankLine (contentOf commentByte (r .bytes)))
+    (λ (b : isBlankLine (contentOf commentByte (r .bytes)) ≡ true).
+    ap (contentAt m) (lines-blank n at p r rs b) ∙ places-free m (n + 1) (at + length (r .bytes) + 1) p q rs ∙ ap (contentAt m) (sym (lines-blank n at q r rs b)))
+    (λ (b : isBlankLine (contentOf commentByte (r .bytes)) ≡ false).
+    ap (contentAt m) (lines-said n at p r rs b)
+    ∙ ap (λ (later : List ℕ). if ltb n m then later else contentOf commentByte (r .bytes)) (places-free m (n + 1) (at + length (r .bytes) + 1) _ _ rs)
+    ∙ ap (contentAt m) (sym (lines-said n at q r rs b)))
+
+place-free : (t : List ℕ) (m n at p q : ℕ) → contentAt m (linesAt t n at p) ≡ contentAt m (linesAt t n at q)
+unfolding linesAt
+place-free t m n at p q = places-free m n at p q (lines (drop at t))
+
+module _ (m : ℕ) (l : Line) (ls : List Line) where
+  content-here : m ≤ l .number → contentAt m (l ∷ ls) ≡ l .content
+  unfolding contentAt
+  content-here h = if-false _ _ (le-ltb _ _ h)
+
+  content-later : l .number < m → contentAt m (l ∷ ls) ≡ contentAt m ls
+  unfolding contentAt
+  content-later h = if-true _ _ (lt-ltb _ _ h)
+
+content-none : (m : ℕ) → contentAt m [] ≡ []
+unfolding contentAt
+content-none m = refl
+
+-- ---- the search
+
+pub cursor-starts : (t : List ℕ) → Cursor t 0 1
+unfolding significant
+cursor-starts t = record { within = zero-le; counted = omega arith; valid = λ (m : ℕ) (h : 1 ≤ m). refl }
+
+-- lines below the one that is wanted are passed over
+pub record Seeks (t : List ℕ) (wanted at n : ℕ) : Type 0 where
+  pub cursor : Cursor t at n
+  pub low : n ≤ wanted
+
+first-low : {t : List ℕ} {n at : ℕ} {l : Line} {ls : List Line} → Laid t n at (l ∷ ls) → n ≤ l .number
+first-low (onward end h k lies rest) = h
+
+module _ (t : List ℕ) (wanted at n : ℕ) (seeks : Seeks t wanted at n) (line : Found) (finds : Finds t n at line) where
+  pub seek-ends : not (line .there) ≡ true → Tells t wanted (record { mult = false; at = at; number = n })
+  seek-ends h =
+      let e : contentAt wanted (significant t) ≡ [] =
+      sym (seeks .cursor .valid wanted (seeks .low)) ∙ ap (contentAt wanted) (finds .same-none (not-true (line .there) h) place.before) ∙ content-none wanted in
+      record { mult = sym (ap isMult e ∙ no-mult); cursor = seeks .cursor; low = seeks .low }
+
+  module _ (there : not (line .there) ≡ false) where
+    pub located : Located t line
+    located = finds .located (not-false (line .there) there)
+
+    here : linesAt t n at place.before ≡ lineIn t line place.before ∷ linesBehind t line place.before
+    here = finds .same-there (not-false (line .there) there) place.before
+
+    number-low : n ≤ line .number
+    number-low = first-low (rw here at (laid t n at place.before))
+
+    pub number-small : line .number ≤ length t
+    number-small = omega (arith, located .counted, located .further, located .next-within)
+
+    pub seek-less : length t - line .next < length t - at
+    seek-less = omega (arith, finds .behind (not-false (line .there) there), located .further, located .next-within)
+
+    pub seek-found : wanted ≤ line .number → (mult : Bool) → mult ≡ isMult (contentIn t line) → Tells t wanted (record { mult = mult; at = at; number = n })
+    seek-found h mult told =
+        let e : contentAt wanted (significant t) ≡ contentIn t line =
+        sym (seeks .cursor .valid wanted (seeks .low)) ∙ ap (contentAt wanted) here ∙ content-here wanted (lineIn t line place.before) _ h in
+        record { mult = told ∙ ap isMult (sym e); cursor = seeks .cursor; low = seeks .low }
+
+    pub seek-on : line .number < wanted → Seeks t wanted (line .next) (line .number + 1)
+    seek-on h =
+        let b : line .number ≤ line .at + 1 = located .counted in
+        let f : line .at < line .next = located .further in
+        let k : n ≤ line .number = number-low in
+        record {
+          cursor =
+              record {
+                within = located .next-within;
+                counted = omega arith;
+                valid =
+                    λ (m : ℕ) (g : line .number + 1 ≤ m).
+                    place-free t m (line .number + 1) (line .next) place.before (placeAfter place.before (contentIn t line))
+                    ∙ sym (content-later m (lineIn t line place.before) (linesBehind t line place.before) (omega arith))
+                    ∙ ap (contentAt m) (sym here)
+                    ∙ seeks .cursor .valid m (omega arith);
+              };
+          low = omega arith;
+        }
+
+-- ---- the line of a step
+
+-- lines whose numbers rise are found by their numbers
+found-all : {least : ℕ} (ls : List Line) → Rising least (numbers ls) → Each (λ (l : Line). contentAt (l .number) ls ≡ l .content) ls
+found-all [] h = none
+found-all (l ∷ ls) (rise h rest) =
+    more (content-here (l .number) l ls (le-refl (l .number)))
+    (each-join
+    (λ (x : Line) (e : contentAt (x .number) ls ≡ x .content) (k : l .number + 1 ≤ x .number).
+    content-later (x .number) l ls (omega arith) ∙ e)
+    (found-all ls rest) (all-least (λ (x : Line). x .number) ls rest))
+
+-- a step over a section is one of a Mult where its line says so
+abbrev pub MultSaid : List ℕ → Step → Type 0
+MultSaid t s = s .kind ≡ sectionKind → isMult (contentAt (s .line) (significant t)) ≡ s .mult
+
+module _ (t : List ℕ) where
+  abbrev Found' : Line → Type 0
+  Found' l = contentAt (l .number) (significant t) ≡ l .content
+
+  step-said : (l : Line) (ls : List Line) → Found' l → Each Found' ls → Each (MultSaid t) (stepOf l ls)
+  unfolding stepOf
+  step-said l ls h hs =
+      by-test (Each (MultSaid t)) (eqb (sayingAt l) path.end) _ _ (λ e. more (λ (k : _≡_ {A = ℕ} 0 1). absurd (omega arith)) none)
+      (λ e.
+      by-test (Each (MultSaid t)) (eqb (sayingAt l) path.section) _ _ (λ f. more (λ (k : _≡_ {A = ℕ} 1 1). ap isMult h) none)
+      (λ f.
+      by-test (Each (MultSaid t)) (eqb (sayingAt l) path.fork) _ _ (λ g. more (λ (k : _≡_ {A = ℕ} 2 1). absurd (omega arith)) none)
+      (λ g. each-if (eqb (sayingAt l) path.endfork) _ (λ i. λ (k : _≡_ {A = ℕ} 3 1). absurd (omega arith)))))
+
+  model-said : (l : Line) (ls : List Line) → Found' l → Each Found' ls → Each (λ (m : Model). Each (MultSaid t) (m .steps)) (modelAt l ls)
+  unfolding modelAt modelOf stepsIn
+  model-said l ls h hs =
+      each-if (opensModel l) _ (λ (e : opensModel l ≡ true). each-gather Found' stepOf step-said (each-up inModel hs))
+
+  pub all-said : Each (λ (m : Model). Each (MultSaid t) (m .steps)) (documentOf t .models)
+  unfolding documentOf documentIn
+  all-said = each-gather Found' modelAt model-said (found-all (significant t) (lines-rise t))

@@ -1,0 +1,4 @@
+pub mod CursorLaws
+pub mod ModelLaws
+pub mod StepsLaws
+pub mod WalkLaws

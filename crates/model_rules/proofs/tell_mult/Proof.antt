@@ -1,0 +1,53 @@
+-- `model_rules::tell_mult` meets its contract. The loop's invariant: the lines passed over are numbered below the one wanted.
+-- Assumes nothing.
+use borrow.Author.Needs.{needs}
+use Prim.Native.Nat.{_-_}
+use lib.ListN.{length}
+use Rattle.model_rules.proofs.CursorLaws.{Seeks, seek-ends, located, number-small, seek-less, seek-found, seek-on}
+use Rattle.model_rules.proofs.tell_mult.Statement.{statement}
+use Rattle.model_rules.proofs.tell_mult.Tie as tie
+
+abbrev Inv-loop : tie.InvT-loop
+Inv-loop text at number wanted here₀ next₀ here next = Seeks text wanted here next
+
+abbrev μ-loop : tie.MeasureT-loop
+μ-loop text at number wanted here₀ next₀ here next = length text - here
+
+loop-holds : tie.Need-loop-holds Inv-loop μ-loop
+loop-holds c = search needs
+
+next-line-requires : tie.Need-next-line-requires Inv-loop μ-loop
+next-line-requires c κs = search needs
+
+returns : tie.Need-returns Inv-loop μ-loop
+returns c = search seek-ends
+
+says-mult-requires : tie.Need-says-mult-requires Inv-loop μ-loop
+says-mult-requires c κs = search located
+
+returns-2 : tie.Need-returns-2 Inv-loop μ-loop
+returns-2 c = search seek-found
+
+add-next : tie.Need-add-next Inv-loop μ-loop
+add-next c = search (number-small, needs)
+
+loop-less : tie.Need-loop-less Inv-loop μ-loop
+loop-less c = search seek-less
+
+loop-again : tie.Need-loop-again Inv-loop μ-loop
+loop-again c = search seek-on
+
+pub tell-mult-spec : {M : Type 1} → statement M
+tell-mult-spec =
+    tie.close
+    (tie.spec
+    Inv-loop
+    μ-loop
+    loop-holds
+    next-line-requires
+    returns
+    says-mult-requires
+    returns-2
+    add-next
+    loop-less
+    loop-again)

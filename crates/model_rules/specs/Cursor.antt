@@ -1,0 +1,31 @@
+-- A place of the text from which lines are looked for by their numbers: the table does not hold whether a step is one of a Mult, its line
+-- says it.
+-- Assumes nothing.
+use Prim.Native.Nat.{ℕ, _+_, _≤_}
+use mathlib.Core.Path.{_≡_}
+use mathlib.Core.Bool.{Bool, true, false}
+use mathlib.Core.List.{List, [], _∷_}
+use lib.ListN.{length}
+use lib.Dec.{ltb}
+use Rattle.base.specs.If.{if_then_else_}
+use Rattle.place.specs.Place as place
+use Rattle.path.specs.Path.{isMult}
+use Rattle.document.specs.Lines.{Line, linesAt, significant}
+use Rattle.model_rules.specs.declared.Told.{Told}
+
+-- what the line of a number says; that of the next line where there is none
+unfoldable pub contentAt : ℕ → List Line → List ℕ
+contentAt m [] = []
+contentAt m (l ∷ ls) = if ltb (l .number) m then contentAt m ls else l .content
+
+-- from here the lines numbered so or higher are found as from the start of the text
+pub record Cursor (t : List ℕ) (at number : ℕ) : Type 0 where
+  pub within : at ≤ length t
+  pub counted : number ≤ at + 1
+  pub valid : (m : ℕ) → number ≤ m → contentAt m (linesAt t number at place.before) ≡ contentAt m (significant t)
+
+-- the line of a number says it, and the search may go on from where it ended
+pub record Tells (t : List ℕ) (wanted : ℕ) (r : Told) : Type 0 where
+  pub mult : r .mult ≡ isMult (contentAt wanted (significant t))
+  pub cursor : Cursor t (r .at) (r .number)
+  pub low : r .number ≤ wanted

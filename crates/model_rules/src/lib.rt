@@ -1,0 +1,206 @@
+// Rules 19 to 26 of models and their steps.
+ghost use mathlib.Core.Path.{_≡_};
+ghost use Prim.Native.Nat.{_+_, _*_, _≤_, _<_};
+ghost use lib.ListN.{length, getD};
+ghost use Rattle.path.specs.Path.{isMult};
+ghost use Rattle.table.specs.Layout.{models};
+ghost use Rattle.view.specs.View.{viewOf};
+ghost use Rattle.document.specs.Document.{documentOf};
+ghost use Rattle.document.specs.Found.{Located, contentIn};
+ghost use Rattle.rules.specs.Rules.{firstIn, modelFindings};
+ghost use Rattle.rules.specs.Filled.{Filled};
+ghost use Rattle.list_rules.specs.Listed.{Listed};
+ghost use Rattle.model_rules.specs.Cursor.{Cursor, Tells};
+ghost use Rattle.model_rules.specs.Models.{ModelRoom, ownerAt, modelRuleAt, Awaits, StepsTold};
+use document::Found;
+use rules::Finding;
+use step_rules::Owner;
+use view::View;
+
+// "19 TWICE", "20 LIST".
+const TWICE: u64 = 19;
+
+const LIST: u64 = 20;
+
+// How many words a record of a model has, and one of a step.
+const MODEL_WORDS: usize = 5;
+
+const STEP_WORDS: usize = 6;
+
+// Whether the line that was asked for says Mult, and where the search for the next one goes on.
+pub struct Told {
+    pub mult: bool,
+    pub at: usize,
+    pub number: u64,
+}
+
+// What the steps of a model break first, and where the search for the lines of the next model's steps goes on.
+pub struct StepsFinding {
+    pub number: u64,
+    pub line: u64,
+    pub at: usize,
+    pub next: u64,
+}
+
+// ---- what the table does not hold
+
+// "`Section Mult=n name`, `Section Len=v name`".
+fn is_mult(content: &[u8]) -> bool
+    ensures { λ r. ⌜ r ≡ isMult (now (content .entry)) ⌝ }
+{
+    let sign = text::equals_at(content);
+    let left = &content[..sign];
+    let few = text::few_words(left);
+    let unit = few.second;
+    text::same_bytes(text::marked(left, unit), b"Mult")
+}
+
+fn says_mult(text: &[u8], line: Found) -> bool
+    requires { ⌜ Located (now text) line ⌝ }
+    ensures { λ r. ⌜ r ≡ isMult (contentIn (now (text .entry)) line) ⌝ }
+{
+    let at = line.at;
+    let end = line.end;
+    is_mult(&text[at..end])
+}
+
+// Whether the line of a number is one of a Mult. The search stops before that line, so that all of them together go over the text once.
+fn tell_mult(text: &[u8], at: usize, number: u64, wanted: u64) -> Told
+    requires { ⌜ Cursor (now text) at number × (number ≤ wanted) ⌝ }
+    ensures { λ r. ⌜ Tells (now (text .entry)) wanted r ⌝ }
+{
+    let mut here = at;
+    let mut next = number;
+    loop {
+        let line = document::next_line(text, here, next);
+        if !line.there {
+            return Told {
+                mult: false,
+                at: here,
+                number: next,
+            };
+        }
+        if wanted <= line.number {
+            return Told {
+                mult: says_mult(text, line),
+                at: here,
+                number: next,
+            };
+        }
+        here = line.next;
+        next = line.number + 1;
+    }
+}
+
+// ---- one model
+
+// A model by its number: 20 is asked of the first model of a name alone, whose flag the list raises.
+fn model_rule(text: &[u8], table: &[u64], view: View, listed: [bool; 65], index: u64) -> u64
+    requires { ⌜ ModelRoom (now table) view index ⌝ }
+    ensures { λ r. ⌜ r ≡ modelRuleAt (now (text .entry)) (now (table .entry)) view listed index ⌝ }
+{
+    let bases = view.bases;
+    if twice::is_twice(text, table, bases[table::MODELS], MODEL_WORDS, index) {
+        return TWICE;
+    }
+    let flag = index as usize;
+    if !listed[flag] {
+        return LIST;
+    }
+    0
+}
+
+// What a model says for its steps.
+fn owner_of(table: &[u64], view: View, index: u64) -> Owner
+    requires { ⌜ ModelRoom (now table) view index ⌝ }
+    ensures { λ r. ⌜ r ≡ ownerAt (now (table .entry)) view index ⌝ }
+{
+    let bases = view.bases;
+    let counts = view.counts;
+    let at = bases[table::MODELS] + MODEL_WORDS * (index as usize);
+    let from = bases[table::STEPS] + STEP_WORDS * (table[at + 3] as usize);
+    let many = table[at + 4];
+    Owner {
+        kind: table[at + 2],
+        from,
+        many,
+        first: step_rules::first_target(table, counts[table::MAPS], from, many),
+    }
+}
+
+// The first step of a model that breaks a rule.
+fn steps_finding(
+    text: &[u8],
+    table: &[u64],
+    view: View,
+    index: u64,
+    at: usize,
+    number: u64,
+) -> StepsFinding
+    requires { ⌜ Filled (now text) (now table) × (view ≡ viewOf (now table)) × Awaits (now text) index at number ⌝ }
+    ensures { λ r. ⌜ StepsTold (now (text .entry)) index r ⌝ }
+{
+    let owner = owner_of(table, view, index);
+    let count = owner.many;
+    let mut own = owner.from;
+    let mut here = at;
+    let mut next = number;
+    let mut i = 0;
+    while i < count {
+        let line = table[own + 5];
+        let told = tell_mult(text, here, next, line);
+        let rule = step_rules::step_rule(text, table, view, owner, own, i, told.mult);
+        if rule != 0 {
+            return StepsFinding {
+                number: rule,
+                line,
+                at: told.at,
+                next: told.number,
+            };
+        }
+        here = told.at;
+        next = told.number;
+        own += STEP_WORDS;
+        i += 1;
+    }
+    StepsFinding {
+        number: 0,
+        line: 0,
+        at: here,
+        next,
+    }
+}
+
+// ---- all models
+
+// The first line of a model or of one of its steps that breaks a rule. The list breaks none, and `listed` says which models it names.
+pub fn model_finding(text: &[u8], table: &[u64], view: View, listed: [bool; 65]) -> Finding
+    requires { ⌜ Filled (now text) (now table) × (view ≡ viewOf (now table)) × Listed (documentOf (now text)) listed ⌝ }
+    ensures { λ r. ⌜ r ≡ firstIn (modelFindings (documentOf (now (text .entry))) (documentOf (now (text .entry)) .models)) ⌝ }
+{
+    let counts = view.counts;
+    let count = counts[table::MODELS];
+    let mut at = 0;
+    let mut number = 1;
+    let mut i = 0;
+    while i < count {
+        let rule = model_rule(text, table, view, listed, i);
+        if rule != 0 {
+            return Finding {
+                number: rule,
+                line: rules::nth_line(text, table::MODELS, i),
+            };
+        }
+        let found = steps_finding(text, table, view, i, at, number);
+        if found.number != 0 {
+            return Finding {
+                number: found.number,
+                line: found.line,
+            };
+        }
+        at = found.at;
+        number = found.next;
+        i += 1;
+    }
+    Finding { number: 0, line: 0 }
+}

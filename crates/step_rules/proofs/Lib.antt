@@ -1,0 +1,5 @@
+pub mod WordLaws
+pub mod RuleLaws
+pub mod StandingLaws
+pub mod SectionLaws
+pub mod JoinLaws

@@ -1,0 +1,55 @@
+-- `step_rules::end_rule` meets its contract.
+-- Assumes nothing.
+use Rattle.step_rules.proofs.RuleLaws.{end-none, end-clashes, end-differs, end-kept}
+use borrow.Author.Needs.{needs}
+use Rattle.step_rules.proofs.end_rule.Statement.{statement}
+use Rattle.step_rules.proofs.end_rule.Tie as tie
+
+add-target : tie.Need-add-target
+add-target c = search needs
+
+mul-target : tie.Need-mul-target
+mul-target c = search needs
+
+shared-slice-read-target : tie.Need-shared-slice-read-target
+shared-slice-read-target c = search needs
+
+array-read-if1 : tie.Need-array-read-if1
+array-read-if1 c = search needs
+
+returns : tie.Need-returns
+returns c = search end-none
+
+is-clashing-requires : tie.Need-is-clashing-requires
+is-clashing-requires c κs = search needs
+
+returns-2 : tie.Need-returns-2
+returns-2 c = search end-clashes
+
+pins-of-requires : tie.Need-pins-of-requires
+pins-of-requires c κs = search needs
+
+differs-requires : tie.Need-differs-requires
+differs-requires c κs = search needs
+
+returns-3 : tie.Need-returns-3
+returns-3 c = search end-differs
+
+returns-4 : tie.Need-returns-4
+returns-4 c = search end-kept
+
+pub end-rule-spec : {M : Type 1} → statement M
+end-rule-spec =
+    tie.close
+    (tie.spec
+    add-target
+    mul-target
+    shared-slice-read-target
+    array-read-if1
+    returns
+    is-clashing-requires
+    returns-2
+    pins-of-requires
+    differs-requires
+    returns-3
+    returns-4)
