@@ -1,0 +1,1 @@
+// What a table handed in must be like: the definitions of soundness, in specs/.
