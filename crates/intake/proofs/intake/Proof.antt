@@ -1,0 +1,47 @@
+-- `intake::intake` meets its contract: the groups of rules in their order.
+-- Assumes nothing.
+use Rattle.intake.proofs.IntakeLaws.{fine-outcome, bytes-outcome, table-cleared}
+use borrow.Author.Needs.{needs}
+use Rattle.intake.proofs.intake.Statement.{statement}
+use Rattle.intake.proofs.intake.Tie as tie
+
+check-bytes-requires : tie.Need-check-bytes-requires
+check-bytes-requires c κs = search needs
+
+enum-told : tie.Need-enum-told
+enum-told c = search needs
+
+take-requires : tie.Need-take-requires
+take-requires c κs = search needs
+
+enum-known-number : tie.Need-enum-known-number
+enum-known-number c = search needs
+
+zero-all-requires : tie.Need-zero-all-requires
+zero-all-requires c κs = search needs
+
+same-length : tie.Need-same-length
+same-length c = search needs
+
+returns : tie.Need-returns
+returns c = (search fine-outcome, search needs)
+
+same-length-2 : tie.Need-same-length-2
+same-length-2 c = search needs
+
+returns-2 : tie.Need-returns-2
+returns-2 c = (search bytes-outcome, search table-cleared)
+
+pub intake-spec : {M : Type 1} → statement M
+intake-spec =
+    tie.close
+    (tie.spec
+    check-bytes-requires
+    enum-told
+    take-requires
+    enum-known-number
+    zero-all-requires
+    same-length
+    returns
+    same-length-2
+    returns-2)

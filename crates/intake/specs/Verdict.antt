@@ -1,0 +1,62 @@
+-- Document 01: what the intake comes to for a text and a lent table of so many words, and what the table holds then. "Order: 1; 2 to 4 over
+-- all lines; 5 to 17 reading forward; 18; 19 to 27 over all lines."
+-- Assumes nothing.
+use Prim.Native.Nat.{ℕ, _-_}
+use mathlib.Core.Bool.{Bool, true, false}
+use mathlib.Core.List.{List, _++_}
+use lib.ListN.{length, replicate}
+use lib.Dec.{eqb}
+use Rattle.base.specs.If.{if_then_else_}
+use Rattle.text.specs.ByteRules.{byteRules}
+use Rattle.text.specs.declared.Checked.{Checked}
+use Rattle.text.specs.declared.Checked.the-variants as bytes
+use Rattle.document.specs.Document.{documentOf}
+use Rattle.document.specs.Records.{tableOf}
+use Rattle.filling.specs.Filled.{filledOf}
+use Rattle.filling.specs.declared.Filled.{Filled}
+use Rattle.filling.specs.declared.Filled.the-variants as filling
+use Rattle.rules.specs.Rules.{crossRule}
+use Rattle.rules.specs.declared.Finding.{Finding}
+use Rattle.intake.specs.declared.Answer.{Answer}
+use Rattle.intake.specs.declared.Answer.the-variants.{Accepted, Refused}
+
+-- "accepted with words used, or number and line"
+pub record Outcome : Type 0 where
+  pub accepted : Bool
+  pub number : ℕ
+  pub line : ℕ
+  pub used : ℕ
+
+abbrev pub acceptedWith : ℕ → Outcome
+acceptedWith words = record { accepted = true; number = 0; line = 0; used = words }
+
+abbrev pub refusedBy : ℕ → ℕ → Outcome
+refusedBy number line = record { accepted = false; number = number; line = line; used = 0 }
+
+-- the paper's number, line and words used for each case of the answer
+abbrev pub answerWords : Answer → Outcome
+answerWords (Accepted words) = acceptedWith words
+answerWords (Refused number line) = refusedBy number line
+
+-- 19 to 27: a text that is stored in so many words, and what it breaks first of them
+abbrev pub crossed : ℕ → Finding → Outcome
+crossed words finding = if eqb (finding .number) 0 then acceptedWith words else refusedBy (finding .number) (finding .line)
+
+-- 5 to 18 have come to this
+abbrev pub afterFilling : List ℕ → Filled → Outcome
+afterFilling t (filling.Stored words) = crossed words (crossRule (documentOf t))
+afterFilling t (filling.Refused number line) = refusedBy number line
+
+-- 1 to 4 have come to this
+abbrev pub afterBytes : List ℕ → ℕ → Checked → Outcome
+afterBytes t size bytes.Fine = afterFilling t (filledOf t size)
+afterBytes t size (bytes.Refused number line) = refusedBy number line
+
+-- for a table of so many words
+unfoldable pub verdictOf : List ℕ → ℕ → Outcome
+verdictOf t size = afterBytes t size (byteRules t)
+
+-- "A refused intake zeroes the table, an accepted one the words past those used": the layout of the document and then zeros
+unfoldable pub tableFor : List ℕ → ℕ → Outcome → List ℕ
+tableFor t size outcome =
+    if outcome .accepted then tableOf t ++ replicate (size - length (tableOf t)) 0 else replicate size 0

@@ -1,0 +1,3 @@
+pub mod PinLaws
+pub mod TableLaws
+pub mod MapLaws

@@ -1,0 +1,75 @@
+// Rule 19 of pin maps and of their pins.
+ghost use mathlib.Core.Path.{_≡_};
+ghost use Prim.Native.Nat.{_+_, _*_, _≤_};
+ghost use lib.ListN.{length};
+ghost use Rattle.document.specs.Document.{documentOf};
+ghost use Rattle.view.specs.View.{viewOf};
+ghost use Rattle.rules.specs.Rules.{firstIn, mapFindings};
+ghost use Rattle.rules.specs.Filled.{Filled};
+ghost use Rattle.map_rules.specs.Pins.{pinsFrom, MapRoom, pinsOfMap};
+use rules::Finding;
+use view::View;
+
+// "19 TWICE".
+const TWICE: u64 = 19;
+
+// How many words a record of a map has, and one of a pin.
+const MAP_WORDS: usize = 7;
+
+const PIN_WORDS: usize = 2;
+
+// The first of a map's pins that has the name of one above it. The record of the map's first pin stands at `base`; it is numbered `first`.
+fn pin_finding(text: &[u8], table: &[u64], base: usize, first: u64, count: u64) -> Finding
+    requires { ⌜ (base + 2 * count ≤ length (now table)) × (first + count ≤ 4_096) ⌝ }
+    ensures { λ r. ⌜ r ≡ firstIn (pinsFrom (now (text .entry)) (now (table .entry)) base first 0 count) ⌝ }
+{
+    let mut i = 0;
+    while i < count {
+        if twice::is_twice(text, table, base, PIN_WORDS, i) {
+            return Finding {
+                number: TWICE,
+                line: rules::nth_line(text, table::PINS, first + i),
+            };
+        }
+        i += 1;
+    }
+    Finding { number: 0, line: 0 }
+}
+
+// The same of the map numbered `index`: `maps` and `pins` say where the records of each begin.
+fn own_finding(text: &[u8], table: &[u64], maps: usize, pins: usize, index: u64) -> Finding
+    requires { ⌜ MapRoom (now table) maps pins index ⌝ }
+    ensures { λ r. ⌜ r ≡ firstIn (pinsOfMap (now (text .entry)) (now (table .entry)) maps pins index) ⌝ }
+{
+    let at = maps + MAP_WORDS * (index as usize);
+    let first = table[at + 5];
+    let base = pins + PIN_WORDS * (first as usize);
+    pin_finding(text, table, base, first, table[at + 6])
+}
+
+// The first map, or pin of a map, that has a name twice.
+pub fn map_finding(text: &[u8], table: &[u64], view: View) -> Finding
+    requires { ⌜ Filled (now text) (now table) × (view ≡ viewOf (now table)) ⌝ }
+    ensures { λ r. ⌜ r ≡ firstIn (mapFindings (documentOf (now (text .entry))) (documentOf (now (text .entry)) .maps)) ⌝ }
+{
+    let bases = view.bases;
+    let counts = view.counts;
+    let maps = bases[table::MAPS];
+    let pins = bases[table::PINS];
+    let count = counts[table::MAPS];
+    let mut i = 0;
+    while i < count {
+        if twice::is_twice(text, table, maps, MAP_WORDS, i) {
+            return Finding {
+                number: TWICE,
+                line: rules::nth_line(text, table::MAPS, i),
+            };
+        }
+        let found = own_finding(text, table, maps, pins, i);
+        if found.number != 0 {
+            return found;
+        }
+        i += 1;
+    }
+    Finding { number: 0, line: 0 }
+}
