@@ -1,0 +1,2 @@
+pub mod RuleBook
+pub mod Demands
