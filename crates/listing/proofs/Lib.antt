@@ -1,0 +1,4 @@
+pub mod FieldLaws
+pub mod TextLaws
+pub mod OwnerLaws
+pub mod LoopLaws

@@ -1,0 +1,6 @@
+pub mod PlaceLaws
+pub mod LoopLaws
+pub mod ReachLaws
+pub mod RecordLaws
+pub mod SoundLaws
+pub mod DepthLaws
