@@ -3,7 +3,6 @@
 ghost use mathlib.Core.Path.{_≡_};
 ghost use mathlib.Core.List.{_∷_, [], _++_};
 ghost use Prim.Native.Nat.{_+_};
-ghost use lib.ListN.{getD};
 ghost use lib.Dec.{eqb};
 ghost use Rattle.view.specs.View.{viewOf};
 ghost use Rattle.printing.specs.Printing.{lineOf, decimal, valueText};

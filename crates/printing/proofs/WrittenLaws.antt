@@ -7,8 +7,8 @@ use Prim.Native.Nat.{ℕ, suc, _+_, _≤_, _<_, min}
 use native.Mathlib.Nat.{add-zero, min-eq-left, le-of-lt}
 use native.Mathlib.Numerals.{add-one}
 use native.Mathlib.Omega.{arith}
-use lib.ListN.{length, drop, getD, set, length-append, drop-of-length-le}
-use lib.Seq.{sets, length-sets, set-out, drop-cons}
+use lib.ListN.{take, take-append-drop, length, drop, getD, set, length-append, drop-of-length-le}
+use lib.Seq.{length-take-le, sets-eq, take-append-seam, take-all, sets, length-sets, set-out, drop-cons}
 use lib.Dec.{leb}
 use borrow.Author.Tests.{leb-true, leb-false}
 use Rattle.base.proofs.IfLaws.{by-cases}
@@ -148,3 +148,43 @@ module _ (out₀ : List ℕ) (at : ℕ) (bytes out : List ℕ) (next i : ℕ) (r
 
   pub bytes-full : length out ≤ next → Written out₀ out at next bytes
   bytes-full h = rest-full out₀ at bytes out next (drop i bytes) rest h
+
+-- ---- what a program hands on: the part that is written
+
+module _ (a b : List ℕ) (next : ℕ) (bytes : List ℕ) (written : Written a b 0 next bytes) where
+  pub written-part : next ≡ length (take next b)
+  written-part = sym (length-take-le next b (written-inside a b 0 next bytes written))
+
+  -- all of it, where there is room
+  pub written-whole : length bytes ≤ length a → take next b ≡ bytes
+  written-whole h =
+      let e : next ≡ min (0 + length bytes) (length a) = written .place in
+      let k : next ≡ length bytes = omega arith in
+      let f : 0 + length bytes ≤ length a = omega arith in
+      (λ i. take (k i) (written .image i)) ∙ ap (take (length bytes)) (sets-eq bytes a 0 f) ∙ front
+    where
+      front : take (length bytes) ((take 0 a ++ bytes) ++ drop (0 + length bytes) a) ≡ bytes
+      front = take-append-seam bytes (drop (0 + length bytes) a)
+
+-- else as much as there is room for
+pub written-cut : (a b : List ℕ) (next : ℕ) (bytes : List ℕ) → Written a b 0 next bytes → take next b ≡ take (length a) bytes
+written-cut a b next bytes written =
+    by-cases _ (leb (length bytes) (length a))
+    (λ (e : leb (length bytes) (length a) ≡ true). short (leb-true (length bytes) (length a) e))
+    (λ (e : leb (length bytes) (length a) ≡ false). long (leb-false (length bytes) (length a) e))
+  where
+    short : length bytes ≤ length a → take next b ≡ take (length a) bytes
+    short h = written-whole a b next bytes written h ∙ sym (take-all (length a) bytes h)
+
+    long : length a < length bytes → take next b ≡ take (length a) bytes
+    long h =
+        let n : length (take (length a) bytes) ≡ length a = length-take-le (length a) bytes (le-of-lt h) in
+        let m : length a ≤ 0 + length (take (length a) bytes) = omega arith in
+        let l : length (sets a 0 (take (length a) bytes)) ≡ length a = length-sets a 0 (take (length a) bytes) in
+        let o : length (sets a 0 (take (length a) bytes)) ≤ 0 + length (take (length a) bytes) = omega arith in
+        let i : sets a 0 bytes ≡ sets a 0 (take (length a) bytes) =
+        ap (sets a 0) (sym (take-append-drop (length a) bytes))
+        ∙ sets-append a 0 (take (length a) bytes) (drop (length a) bytes)
+        ∙ sets-out (sets a 0 (take (length a) bytes)) (0 + length (take (length a) bytes)) (drop (length a) bytes) o in
+        let e : next ≡ min (0 + length bytes) (length a) = written .place in
+        written-whole a b next (take (length a) bytes) (record { image = written .image ∙ i; place = omega arith }) (omega arith)
