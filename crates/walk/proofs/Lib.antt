@@ -1,0 +1,5 @@
+pub mod PlaceLaws
+pub mod StepLaws
+pub mod ReadyLaws
+pub mod WalkLaws
+pub mod TrialLaws
