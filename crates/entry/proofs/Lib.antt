@@ -1,0 +1,4 @@
+pub mod OrderLaws
+pub mod SearchLaws
+pub mod ReadyLaws
+pub mod EntryLaws
