@@ -1,0 +1,6 @@
+pub mod SidesLaws
+pub mod LineLaws
+pub mod GatherLaws
+pub mod FamilyLaws
+pub mod WrittenLaws
+pub mod MatrixLaws

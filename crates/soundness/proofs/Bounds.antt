@@ -1,0 +1,29 @@
+-- What the rules of the lines leave of a model's type, of a pin map and of a step: each word within the bounds that a sound table asks.
+-- Assumes nothing.
+use mathlib.Core.Path.{_≡_}
+use mathlib.Core.Bool.{true, false}
+use Prim.Native.Nat.{_≤_, _<_}
+use lib.ListN.{length}
+use Rattle.base.specs.Bytes.{within}
+use Rattle.document.specs.Lines.{noWord}
+use Rattle.document.specs.Document.{Step, Model, Map, Document, endKind, sectionKind}
+use Rattle.document.specs.Holds.{Each}
+use Rattle.sound_record.specs.Tests.{isLength, isGrid}
+
+-- "amount: Mult, the Len value word, or 0; side start and length or 0 0"
+pub record RightStep (s : Step) : Type 0 where
+  pub kind : s .kind < 4
+  pub mult : s .kind ≡ sectionKind → s .mult ≡ true → within 1 65_535 (s .amount) ≡ true
+  pub long : s .kind ≡ sectionKind → s .mult ≡ false → isLength (s .amount) ≡ true
+  pub amountless : (s .kind ≡ sectionKind → ⊥) → s .amount ≡ 0
+  pub sideless : (s .kind ≡ endKind → ⊥) → s .side ≡ noWord
+
+pub record RightMap (m : Map) : Type 0 where
+  pub order : m .order < 3
+  pub grid : isGrid (m .order) (m .rows) (m .columns) ≡ true
+  pub pins : length (m .pins) ≤ 256
+
+pub record Bounded (d : Document) : Type 0 where
+  pub types : Each (λ (m : Model). m .type < 3) (d .models)
+  pub steps : Each (λ (m : Model). Each RightStep (m .steps)) (d .models)
+  pub maps : Each RightMap (d .maps)

@@ -1,0 +1,13 @@
+pub mod EveryLaws
+pub mod EndLaws
+pub mod Bounds
+pub mod PartLaws
+pub mod CrossLaws
+pub mod StepLaws
+pub mod AssemblyLaws
+pub mod TypeLaws
+pub mod AmountLaws
+pub mod GridLaws
+pub mod MapLaws
+pub mod SoundnessLaws
+pub mod IntakeLaws
