@@ -4,3 +4,4 @@ pub mod GatherLaws
 pub mod FamilyLaws
 pub mod WrittenLaws
 pub mod MatrixLaws
+pub mod WideLaws

@@ -236,3 +236,7 @@ argument-same a b (same-words e f w) n x = absurd (n e)
 argument-same a b (same-sides e f g h l r) n x = absurd (n e)
 argument-same a b (same-argument m k t) n x = t
 argument-same a b (same-text m k y t) n x = absurd (true≢false (sym y ∙ x))
+
+-- nor does a size open the pins
+pub other-lists : (p : ℕ) (a : List ℕ) → takesEquals p a ≡ true → p ≡ place.mapHead → same (firstOf (words a)) (bytes "Pin_list") ≡ false
+other-lists p a e q = other-first a (bytes "Pin_list") list-plain some-bytes (map-named (firstOf (leftOf a)) (in-map p a e q) .1)

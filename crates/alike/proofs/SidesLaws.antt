@@ -48,7 +48,7 @@ words-bare at (b ∷ s) =
     (grown-texts at b (wordsFrom (suc at) s) ∙ ap (grow b) (words-bare (suc at) s)) (ap (λ (ws : List (List ℕ)). (b ∷ []) ∷ ws) (words-bare (suc at) s)))
 
 module _ (b : ℕ) (s : List ℕ) where
-  bare-blank : isBlank b ≡ true → bare (b ∷ s) ≡ bare s
+  pub bare-blank : isBlank b ≡ true → bare (b ∷ s) ≡ bare s
   unfolding bare
   bare-blank e = if-true _ _ e
 

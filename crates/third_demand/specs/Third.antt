@@ -78,8 +78,12 @@ pub record Walked (t table : List ℕ) (i : ℕ) (m : Model) : Type 0 where
 
 -- ---- (b) the entries
 
--- of the section x, which stands at i: every entry is the number that its matrix writes there, or zero; alike when exchanged
+-- of the section x, which stands at i: all four kinds answer at every row and column, with the number that the matrix writes there, or zero; alike
+-- when exchanged
 pub record Entered (t table : List ℕ) (i : ℕ) (x : Section) : Type 0 where
+  pub answers :
+      (kind row column : ℕ) → kind < 4 → 1 ≤ row → row ≤ conductorsOf (x .matrices) → 1 ≤ column →
+      column ≤ conductorsOf (x .matrices) → entry.answerOf t table i kind row column .found ≡ true
   pub written :
       (before after : List Line) (line : Line) → significant t ≡ before ++ (line ∷ after) → opensMatrixAt line ≡ true →
       (above below : List Matrix) → x .matrices ≡ above ++ (matrixOf line (formAt line) (upTo inMatrix after) ∷ below) →

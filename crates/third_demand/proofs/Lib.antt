@@ -1,0 +1,10 @@
+pub mod EntryLaws
+pub mod EntryOnceLaws
+pub mod EntryRecordLaws
+pub mod EntrySameLaws
+pub mod WalkLaws
+pub mod WalkNameLaws
+pub mod WalkRecordLaws
+pub mod WalkSameLaws
+pub mod WalkTakenLaws
+pub mod ThirdLaws
