@@ -3,7 +3,7 @@
 -- column, alike when exchanged, with the number written or zero. Another accepted file that differs only in matrix forms giving the same
 -- numbers, comments, blank lines or blanks between words gives the same answers but for lines and offsets."
 -- Assumes nothing.
-use Prim.Native.Nat.{ℕ, zero, suc, _+_, _≤_, _<_, min, max}
+use Prim.Native.Nat.{ℕ, zero, suc, _+_, _*_, _≤_, _<_, min, max}
 use mathlib.Core.Path.{_≡_}
 use mathlib.Core.Bool.{Bool, true, false}
 use mathlib.Core.List.{List, [], _∷_, _++_, map}

@@ -1,0 +1,227 @@
+// Prints one entry of a section's matrix in an ICM file, as the listing prints a value, or says on one line why there is none.
+// Run as: icm_entry FILE SECTION KIND ROW COLUMN, the kind R, L, G or C, row and column from 1 on
+ghost use mathlib.Core.Path.{_≡_};
+ghost use Rattle.view.specs.View.{viewOf};
+use intake::Answer;
+use view::View;
+
+// The longest file that is taken.
+const MOST: usize = 65536;
+
+// How many words a record of a section has, and which of them is N.
+const SECTION_WORDS: usize = 8;
+
+const CONDUCTORS: usize = 3;
+
+// No kind, after R, L, G and C.
+const NO_KIND: u64 = 4;
+
+// Room for a text, with a byte more so that a longer one is seen, and for the table, which starts as zeros. They come from functions so that no
+// proof has to look at all their words.
+fn text_room() -> [u8; 65537] {
+    [0u8; 65537]
+}
+
+fn table_room() -> [u64; 8192] {
+    [0u64; 8192]
+}
+
+// ---- printing
+
+// The bytes that were written, at most all there are.
+fn print_room(room: &[u8], length: usize) {
+    if room.len() < length {
+        io::write_all(1, room);
+        return;
+    }
+    io::write_all(1, &room[..length]);
+}
+
+fn print_refusal(number: u64, line: u64) {
+    let mut room = [0u8; 64];
+    let length = listing::write_refusal(number, line, &mut room);
+    print_room(&room, length);
+}
+
+fn print_value(word: u64) {
+    let mut room = [0u8; 64];
+    let length = printing::put_value(&mut room, 0, word, b'\n');
+    print_room(&room, length);
+}
+
+fn print_line(what: &[u8], word: &[u8]) {
+    io::write_all(1, what);
+    io::write_all(1, word);
+    io::write_all(1, b"\n");
+}
+
+// The table of an accepted file is sound and what is asked for was looked up in it, so a refusal is not to be expected here.
+fn print_entry(answer: entry::Answer) {
+    match answer {
+        entry::Answer::Found(word) => print_value(word),
+        entry::Answer::Refused(number) => print_refusal(number, 0),
+    }
+}
+
+// ---- what is asked for
+
+// The first section of this name; how many sections there are, where there is none.
+fn section_of(text: &[u8], table: &[u64], view: View, name: &[u8]) -> u64
+    requires { ⌜ view ≡ viewOf (now table) ⌝ }
+{
+    let bases = view.bases;
+    let counts = view.counts;
+    if !view.fits {
+        return 0;
+    }
+    name::find_name(
+        text,
+        table,
+        bases[table::SECTIONS],
+        SECTION_WORDS,
+        counts[table::SECTIONS],
+        name,
+        0,
+    )
+}
+
+fn kind_of(word: &[u8]) -> u64 {
+    if text::same_bytes(word, b"R") {
+        return 0;
+    }
+    if text::same_bytes(word, b"L") {
+        return 1;
+    }
+    if text::same_bytes(word, b"G") {
+        return 2;
+    }
+    if text::same_bytes(word, b"C") {
+        return 3;
+    }
+    NO_KIND
+}
+
+// The kind that the third argument names; where it names none, that is said.
+fn kind_asked() -> u64 {
+    let mut room = io::buffer();
+    let length = os::arg(3, &mut room);
+    let kind = kind_of(&room[..length]);
+    if kind == NO_KIND {
+        print_line(b"no kind R, L, G or C: ", &room[..length]);
+    }
+    kind
+}
+
+// A word as a row or column of a section with so many conductors; 0 where it is no number or not from 1 to N.
+fn place_of(word: &[u8], conductors: u64) -> u64 {
+    let whole = number::read_integer(word);
+    if !whole.formed {
+        return 0;
+    }
+    if !number::is_within(1, conductors, whole.value) {
+        return 0;
+    }
+    whole.value
+}
+
+fn print_no_place(what: &[u8], word: &[u8], name: &[u8], conductors: u64) {
+    io::write_all(1, what);
+    io::write_all(1, word);
+    io::write_all(1, b": section ");
+    io::write_all(1, name);
+    io::write_all(1, b" has ");
+    io::print_decimal(1, conductors);
+    io::write_all(1, b" conductors\n");
+}
+
+// The row or column that an argument names; where it names none, that is said.
+fn place_asked(argument: usize, what: &[u8], name: &[u8], conductors: u64) -> u64 {
+    let mut room = io::buffer();
+    let length = os::arg(argument, &mut room);
+    let place = place_of(&room[..length], conductors);
+    if place == 0 {
+        print_no_place(what, &room[..length], name, conductors);
+    }
+    place
+}
+
+// ---- the answer
+
+fn answer_in(text: &[u8], table: &[u64], name: &[u8], section: u64, conductors: u64) {
+    let kind = kind_asked();
+    if kind == NO_KIND {
+        return;
+    }
+    let row = place_asked(4, b"no row ", name, conductors);
+    if row == 0 {
+        return;
+    }
+    let column = place_asked(5, b"no column ", name, conductors);
+    if column == 0 {
+        return;
+    }
+    print_entry(entry::entry(text, table, section, kind, row, column));
+}
+
+// N is 0 where there is no such section, and never else.
+fn answer_of(text: &[u8], table: &[u64], name: &[u8]) {
+    let view = view::view_of(table);
+    let section = section_of(text, table, view, name);
+    let conductors = listing::field_of(table, view, table::SECTIONS, section, CONDUCTORS);
+    if conductors == 0 {
+        print_line(b"no section ", name);
+        return;
+    }
+    answer_in(text, table, name, section, conductors);
+}
+
+fn answer(text: &[u8], table: &[u64]) {
+    let mut room = io::buffer();
+    let length = os::arg(2, &mut room);
+    answer_of(text, table, &room[..length]);
+}
+
+fn take_in(text: &[u8]) {
+    let mut table = table_room();
+    match intake::intake(text, &mut table) {
+        Answer::Accepted(words) => answer(text, &table),
+        Answer::Refused(number, line) => print_refusal(number, line),
+    }
+}
+
+// Whether a file can be read: a read behind its end gives no byte, but one that fails, as of a folder, gives less than none.
+fn is_readable(file: i32) -> bool {
+    let mut byte = [0u8; 1];
+    0 <= libc::read(file, &mut byte)
+}
+
+fn read_file(name: &[u8]) {
+    let file = os::open_read(name);
+    if file < 0 {
+        print_line(b"cannot read ", name);
+        return;
+    }
+    let mut text = text_room();
+    let count = io::read_full(file, &mut text);
+    let readable = is_readable(file);
+    libc::close(file);
+    if !readable {
+        print_line(b"cannot read ", name);
+        return;
+    }
+    if MOST < count {
+        io::write_all(1, b"toolong\n");
+        return;
+    }
+    take_in(&text[..count]);
+}
+
+fn main() {
+    if os::arg_count() != 6 {
+        io::write_all(1, b"usage: icm_entry FILE SECTION KIND ROW COLUMN\n");
+        return;
+    }
+    let mut room = io::buffer();
+    let length = os::arg(1, &mut room);
+    read_file(&room[..length]);
+}

@@ -1,0 +1,213 @@
+// Prints the steps of a model's path in an ICM file, as the listing does, each two blanks further in for every fork that it stands in.
+// Run as: icm_walk FILE MODEL
+ghost use mathlib.Core.Path.{_≡_};
+ghost use Rattle.view.specs.View.{viewOf};
+use intake::Answer;
+use view::View;
+use walk::Place;
+use walk::Walked;
+
+// The longest file that is taken.
+const MOST: usize = 65536;
+
+// How many words a record of a model has, and which of them is its first step.
+const MODEL_WORDS: usize = 5;
+
+const FIRST_STEP: usize = 3;
+
+// A path has at most 4,096 steps; then it is done.
+const MOST_STEPS: u64 = 4097;
+
+// Room for a text, with a byte more so that a longer one is seen, and for the table, which starts as zeros. They come from functions so that no
+// proof has to look at all their words.
+fn text_room() -> [u8; 65537] {
+    [0u8; 65537]
+}
+
+fn table_room() -> [u64; 8192] {
+    [0u64; 8192]
+}
+
+// Where a walk has come to, and whether it goes on.
+struct Reached {
+    goes_on: bool,
+    place: Place,
+}
+
+// ---- printing
+
+// The bytes that were written, at most all there are.
+fn print_room(room: &[u8], length: usize) {
+    if room.len() < length {
+        io::write_all(1, room);
+        return;
+    }
+    io::write_all(1, &room[..length]);
+}
+
+fn print_refusal(number: u64, line: u64) {
+    let mut room = [0u8; 64];
+    let length = listing::write_refusal(number, line, &mut room);
+    print_room(&room, length);
+}
+
+fn print_line(what: &[u8], word: &[u8]) {
+    io::write_all(1, what);
+    io::write_all(1, word);
+    io::write_all(1, b"\n");
+}
+
+fn print_blanks(depth: u64) {
+    let mut i = 0;
+    while i < depth {
+        io::write_all(1, b"  ");
+        i += 1;
+    }
+}
+
+// A step's line has at most two names and two numbers.
+fn print_step(text: &[u8], table: &[u64], index: u64) {
+    let view = view::view_of(table);
+    let mut room = [0u8; 512];
+    let length = listing::step_line(&mut room, 0, text, table, view, index);
+    print_room(&room, length);
+}
+
+// ---- the walk
+
+fn lesser(a: u64, b: u64) -> u64 {
+    if a < b {
+        return a;
+    }
+    b
+}
+
+// A fork stands as deep as the place before it, an endfork as deep as the place behind it; any other step leaves the depth as it is.
+fn print_between(text: &[u8], table: &[u64], first: u64, here: Place, next: Place) {
+    print_blanks(lesser(here.depth, next.depth));
+    print_step(text, table, std::num::wrapping_add_u64(first, here.step));
+}
+
+// One step, printed. The table of an accepted file is sound and the walk begins at its model's start, so a refusal is not to be expected here.
+fn step_from(text: &[u8], table: &[u64], first: u64, here: Place) -> Reached {
+    match here.step(text, table) {
+        Walked::Step(words, next) => {
+            print_between(text, table, first, here, next);
+            Reached {
+                goes_on: true,
+                place: next,
+            }
+        }
+        Walked::Done(place) => Reached {
+            goes_on: false,
+            place,
+        },
+        Walked::Refused(number) => {
+            print_refusal(number, 0);
+            Reached {
+                goes_on: false,
+                place: here,
+            }
+        }
+    }
+}
+
+fn walk_from(text: &[u8], table: &[u64], first: u64, model: u64) {
+    let mut place = Place {
+        model,
+        step: 0,
+        depth: 0,
+    };
+    let mut left = MOST_STEPS;
+    while 0 < left {
+        let reached = step_from(text, table, first, place);
+        if !reached.goes_on {
+            return;
+        }
+        place = reached.place;
+        left -= 1;
+    }
+}
+
+// ---- the model
+
+fn model_of(text: &[u8], table: &[u64], view: View, name: &[u8]) -> u64
+    requires { ⌜ view ≡ viewOf (now table) ⌝ }
+{
+    let bases = view.bases;
+    let counts = view.counts;
+    if !view.fits {
+        return 0;
+    }
+    name::find_name(
+        text,
+        table,
+        bases[table::MODELS],
+        MODEL_WORDS,
+        counts[table::MODELS],
+        name,
+        0,
+    )
+}
+
+fn walk_model(text: &[u8], table: &[u64], name: &[u8]) {
+    let view = view::view_of(table);
+    let model = model_of(text, table, view, name);
+    if listing::count_of(table, view, table::MODELS) <= model {
+        print_line(b"no model ", name);
+        return;
+    }
+    let first = listing::field_of(table, view, table::MODELS, model, FIRST_STEP);
+    walk_from(text, table, first, model);
+}
+
+fn answer(text: &[u8], table: &[u64]) {
+    let mut room = io::buffer();
+    let length = os::arg(2, &mut room);
+    walk_model(text, table, &room[..length]);
+}
+
+fn take_in(text: &[u8]) {
+    let mut table = table_room();
+    match intake::intake(text, &mut table) {
+        Answer::Accepted(words) => answer(text, &table),
+        Answer::Refused(number, line) => print_refusal(number, line),
+    }
+}
+
+// Whether a file can be read: a read behind its end gives no byte, but one that fails, as of a folder, gives less than none.
+fn is_readable(file: i32) -> bool {
+    let mut byte = [0u8; 1];
+    0 <= libc::read(file, &mut byte)
+}
+
+fn read_file(name: &[u8]) {
+    let file = os::open_read(name);
+    if file < 0 {
+        print_line(b"cannot read ", name);
+        return;
+    }
+    let mut text = text_room();
+    let count = io::read_full(file, &mut text);
+    let readable = is_readable(file);
+    libc::close(file);
+    if !readable {
+        print_line(b"cannot read ", name);
+        return;
+    }
+    if MOST < count {
+        io::write_all(1, b"toolong\n");
+        return;
+    }
+    take_in(&text[..count]);
+}
+
+fn main() {
+    if os::arg_count() != 3 {
+        io::write_all(1, b"usage: icm_walk FILE MODEL\n");
+        return;
+    }
+    let mut room = io::buffer();
+    let length = os::arg(1, &mut room);
+    read_file(&room[..length]);
+}
