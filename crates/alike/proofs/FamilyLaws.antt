@@ -13,7 +13,7 @@ use Rattle.base.proofs.IfLaws.{if-true, if-false, by-cases, both-first, both-se
 use Rattle.text.specs.Words.{Word, wordsFrom, words, firstOf, secondOf, toEquals, rightOf}
 use Rattle.keyword.specs.Names.{beginIcmModel, icmPinMap, beginIcmSection}
 use Rattle.keyword.specs.Bracket.{bracketOf}
-use Rattle.place.specs.Place.{isInFamily, isInModel}
+use Rattle.place.specs.Place.{isInFamily, isInModel, opensHeaderText}
 use Rattle.place.specs.Place as place
 use Rattle.head.specs.Head.{headLineOf, headNext, newHead}
 use Rattle.head.specs.declared.Head.{Head}
@@ -275,7 +275,7 @@ unfolding opensModel
 opens-key l e = eqb-true _ _ (both-second _ _ e)
 
 model-same : (l m : Line) (ls ms : List Line) → SameLine l m → AlikeLines ls ms → All2 SameModel (modelAt l ls) (modelAt m ms)
-unfolding modelAt modelOf takesText either
+unfolding modelAt modelOf takesText opensHeaderText either
 model-same l m ls ms s a =
     all2-choice (opensModel l) (opensModel m) (opens-same l m s) _ _ _ _
     (λ (e : opensModel l ≡ true).
@@ -348,7 +348,7 @@ unfolding opensMap
 map-opens-key l e = eqb-true _ _ (both-second _ _ e)
 
 one-map-same : (l m : Line) (ls ms : List Line) → SameLine l m → AlikeLines ls ms → All2 SameMap (mapAt l ls) (mapAt m ms)
-unfolding mapAt mapOf takesText either
+unfolding mapAt mapOf takesText opensHeaderText either
 one-map-same l m ls ms s a =
     all2-choice (opensMap l) (opensMap m) (map-opens-same l m s) _ _ _ _
     (λ (e : opensMap l ≡ true).

@@ -15,7 +15,7 @@ use Rattle.number.specs.Number.{numberOf}
 use Rattle.number.specs.Integer.{wholeOf}
 use Rattle.number.specs.ValueWord.{zeroWord}
 use Rattle.keyword.specs.Names.{row, bandwidth, derivationMethod, resistanceMatrix, inductanceMatrix, conductanceMatrix, capacitanceMatrix, beginIcmSection}
-use Rattle.place.specs.Place.{opensMatrix, keepsMatrix}
+use Rattle.place.specs.Place.{opensMatrix, keepsMatrix, opensHeaderText}
 use Rattle.place.specs.Place as place
 use Rattle.argument.specs.Argument.{formOf, methodOf}
 use Rattle.matrix.specs.Matrix.{diagonal, sparse}
@@ -54,7 +54,7 @@ module _ (l m : Line) (s : SameLine l m) (h : inMatrix l ≡ true) where
       (λ (q : l .place ≡ place.head). omega arith) (λ (q : l .place ≡ place.path). omega arith) (λ (q : l .place ≡ place.mapHead). omega arith)
 
   body-given : keyOf l ≡ row → givenBy l ≡ givenBy m
-  unfolding givenBy takesText either
+  unfolding givenBy takesText opensHeaderText either
   body-given e = ap (λ (w : List ℕ). wholeOf w .value) (named-same l m s row e (λ (q : row ≡ plain). omega arith) refl)
 
   pub same-body : SameBody l m
@@ -216,7 +216,7 @@ body-keys k e =
     (λ (b : eqb k bandwidth ≡ false). absurd (true≢false (sym e ∙ either-false _ _ h (either-false _ _ r b))))))
 
 opens-text : (k : ℕ) → opensMatrix k ≡ true → takesText k ≡ false
-unfolding opensMatrix takesText either
+unfolding opensMatrix takesText opensHeaderText either
 opens-text k e =
     by-cases _ (eqb k resistanceMatrix) (λ (h : eqb k resistanceMatrix ≡ true). ap takesText (eqb-true k resistanceMatrix h))
     (λ (h : eqb k resistanceMatrix ≡ false).
@@ -259,7 +259,7 @@ opens-alike l m s = λ i. both (either (eqb (s .place i) place.section) (eqb (s 
 
 -- the keyword of a matrix takes a form
 matrix-key : (k : ℕ) → opensMatrix k ≡ true → (k ≡ plain → ⊥) × (takesText k ≡ false)
-unfolding opensMatrix takesText either
+unfolding opensMatrix takesText opensHeaderText either
 matrix-key k e = (λ (q : k ≡ plain). true≢false (sym e ∙ ap opensMatrix q), opens-text k e)
 
 forms-same : (l m : Line) → SameLine l m → opensMatrixAt l ≡ true → formAt l ≡ formAt m
@@ -337,7 +337,7 @@ openings-cut (opening-more {l = l} {ls = ls} f o) =
 
 -- the method: the first line that gives one, none of a matrix does
 methods-same : (l m : Line) → SameLine l m → keyOf l ≡ derivationMethod → methodOf (argumentOf l .text) ≡ methodOf (argumentOf m .text)
-unfolding takesText either
+unfolding takesText opensHeaderText either
 methods-same l m s e = ap methodOf (named-same l m s derivationMethod e (λ (q : derivationMethod ≡ plain). omega arith) refl)
 
 method-on : (l : Line) (ls : List Line) → (keyOf l ≡ derivationMethod → ⊥) → methodIn (l ∷ ls) ≡ methodIn ls
@@ -379,7 +379,7 @@ unfolding opensSection
 section-opens-key l e = eqb-true _ _ (both-second _ _ e)
 
 one-section-same : (l m : Line) (ls ms : List Line) → SameLine l m → AlikeLines ls ms → EachOpening ls → EachOpening ms → All2 SameSection (sectionAt l ls) (sectionAt m ms)
-unfolding sectionAt sectionOf takesText either
+unfolding sectionAt sectionOf takesText opensHeaderText either
 one-section-same l m ls ms s a o p =
     all2-choice (opensSection l) (opensSection m) (section-opens-same l m s) _ _ _ _
     (λ (e : opensSection l ≡ true).

@@ -10,8 +10,9 @@ use Rattle.base.specs.If.{both, either}
 use Rattle.base.specs.Bytes.{bytes}
 use Rattle.base.specs.Runs.{same}
 use Rattle.text.specs.Words.{words, firstOf, hasEquals, leftOf, rightOf}
-use Rattle.keyword.specs.Names.{fileRev, date, redistribution, beginIcmFamily, manufacturer}
+use Rattle.keyword.specs.Names.{fileRev, date, redistribution, beginIcmFamily, manufacturer, icmFamilyDescription, icmModelDescription}
 use Rattle.keyword.specs.Bracket.{bracketOf}
+use Rattle.place.specs.Place.{opensHeaderText}
 use Rattle.place.specs.Place as place
 use Rattle.argument.specs.Argument.{formOf}
 use Rattle.reading.specs.Reading.{argumentFrom}
@@ -29,10 +30,15 @@ takesEquals p content =
     (either (both (eqb p place.path) (same (firstOf (words content)) (bytes "Section")))
     (both (eqb p place.mapHead) (either (same (firstOf (leftOf content)) (bytes "Num_of_columns")) (same (firstOf (leftOf content)) (bytes "Num_of_rows"))))))
 
--- keywords that take text of any words
+-- keywords that take text of any words, those that open a text block too
 unfoldable pub takesText : ℕ → Bool
 takesText k =
-    either (eqb k fileRev) (either (eqb k date) (either (eqb k redistribution) (either (eqb k beginIcmFamily) (eqb k manufacturer))))
+    either (eqb k fileRev)
+    (either (eqb k date)
+    (either (eqb k redistribution)
+    (either (eqb k beginIcmFamily)
+    (either (eqb k manufacturer)
+    (either (opensHeaderText k) (either (eqb k icmFamilyDescription) (eqb k icmModelDescription)))))))
 
 -- the bytes of a keyword's argument, without the blanks at its ends
 abbrev pub argumentText : List ℕ → List ℕ

@@ -35,7 +35,7 @@ unfoldable pub linesFrom : (ℕ → List ℕ) → ℕ → ℕ → List ℕ
 linesFrom line zero i = []
 linesFrom line (suc many) i = line i ++ linesFrom line many (i + 1)
 
--- "Mult prints as an integer, Len as a value": a Lumped section has the one, a Distributed one the other
+-- a Mult prints as an integer, a Len as a value (G3 of docs/DECISIONS.md): a Lumped section has the one, a Distributed one the other
 unfoldable pub amountText : List ℕ → ℕ → List ℕ
 amountText table i =
     if eqb (fieldOf table sections (fieldOf table steps i 1) 2) 0
@@ -55,7 +55,7 @@ module _ (t table : List ℕ) where
   unfoldable pub sideOf : ℕ → List ℕ
   sideOf i = nameAt t (fieldOf table steps i 3) (fieldOf table steps i 4)
 
-  -- "An end prints its Side as the last field if it has one."
+  -- "then amount .. or Side": the last field, if there is one (G3 of docs/DECISIONS.md)
   unfoldable pub endLine : ℕ → List ℕ
   endLine i =
       if eqb (fieldOf table steps i 4) 0

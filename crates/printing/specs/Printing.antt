@@ -40,6 +40,6 @@ exponentText shifted = if ltb shifted 64 then code "-" ∷ decimal (64 - shifted
 unfoldable pub partsText : Decimal → List ℕ
 partsText d = signText (d .negative) ++ (decimal (d .size) ++ (code "e" ∷ exponentText (d .shifted)))
 
--- "A value prints m, `e`, k, with `-` in front if negative"; "Zero prints 0e0"
+-- m, `e`, k, with `-` in front if negative (G4 of docs/DECISIONS.md); "Zero prints 0e0"
 unfoldable pub valueText : ℕ → List ℕ
 valueText word = partsText (decimalOf word)

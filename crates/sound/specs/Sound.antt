@@ -134,7 +134,7 @@ areSound bytes r =
 unfoldable pub areZeros : List ℕ → Bool
 areZeros words = every (λ (w : ℕ). eqb w 0) words
 
--- "counts within bounds and the table long enough, all words after zero"
+-- "counts within bounds (matrices 1,024) and the table long enough, all words after zero"
 unfoldable pub isSound : List ℕ → List ℕ → Bool
 isSound t table =
     both (viewOf table .fits) (both (areZeros (drop (viewOf table .end) table)) (areSound (length t) (recordsOf table)))

@@ -27,8 +27,8 @@ use Rattle.entry.specs.Entry.{EntryWords, foundWith, refusedWith, noSection, ma
 use Rattle.entry.proofs.EntryLaws.{exchange}
 use Rattle.alike.specs.Written.{writtenAt, foundAt}
 use Rattle.alike.specs.Alike.{formAt}
-use Rattle.alike.proofs.WrittenLaws.{Found, EachOpening, text-openings}
-use Rattle.third_demand.specs.Third.{Taken, Entered}
+use Rattle.alike.proofs.WrittenLaws.{Found, EachOpening, text-openings, FoundMatrix, text-found}
+use Rattle.third_demand.specs.Third.{Taken, WrittenBy, Entered}
 use Rattle.third_demand.proofs.EntryRecordLaws.{givenAt, given-past, given-not, section-given, section-range}
 use Rattle.third_demand.proofs.EntryOnceLaws.{Once, once-above, text-once}
 
@@ -158,10 +158,19 @@ module _
       ∙ given-past (kindOf (keyOf line)) i j m below (once-above above below m (kindOf (keyOf line)) is o) is
       ∙ ap (foundAt i j) (matrix-values line (formAt line) body) ∙ sym found)
 
+  by-lines : (above below : List Matrix) (m : Matrix) → x .matrices ≡ above ++ (m ∷ below) → WrittenBy t m
+  by-lines above below m split =
+      let k : accepted.Taken t (length (taken .before)) = taken-kept t table taken in
+      let all : Each (λ (y : Section). Each (FoundMatrix t) (y .matrices)) (before ++ (x ∷ behind)) = rw here at (text-found t (k .counts) (k .reads)) in
+      let its : Each (FoundMatrix t) (above ++ (m ∷ below)) = rw split at (each-at before behind x all) in
+      let f : FoundMatrix t m = each-at above below m its in
+      record { before = f .before; line = f .line; after = f .after; stands = f .stands; opens = f .opens; same = f .same }
+
   pub entered : Entered t table (length before) x
   entered =
       record {
         answers = λ (kind row column : ℕ) few low high left right. ap (λ (w : EntryWords). w .found) (given kind few row column low high left right);
+        by-lines = by-lines;
         written = written;
         not-given =
             λ (kind : ℕ) (few : kind < 4) (h : Each (λ (m : Matrix). m .kind ≡ kind → ⊥) (x .matrices)) (row column : ℕ) (low : 1 ≤ row)

@@ -48,7 +48,7 @@ use Rattle.walk.proofs.WalkLaws.{first-place, next-place, never-stuck}
 use Rattle.third_demand.specs.Third.{Taken, placeAfter, nameThrough, sideOf, Shown, kindsOf, Walked}
 use Rattle.third_demand.proofs.WalkTakenLaws.{taken-kept, taken-sound, taken-records}
 use Rattle.third_demand.proofs.WalkRecordLaws.{its-model, its-place, its-step, its-kinds}
-use Rattle.third_demand.proofs.WalkNameLaws.{all-nameless, name-shown}
+use Rattle.third_demand.proofs.WalkNameLaws.{all-nameless, name-shown, section-passed}
 
 -- ---- one answer over a sound table
 
@@ -246,6 +246,7 @@ module _ (t table : List ℕ) (taken : Taken t table) (before behind : List Mode
           goes-on = refl;
           kind = refl;
           name = name-there;
+          passes = section-passed t m s kept (each-of (m .steps) above below s e (each-of (d .models) before behind m stands (all-nameless t)));
           amount = refl;
           side = side-there;
           line = refl;

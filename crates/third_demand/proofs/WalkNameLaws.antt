@@ -2,13 +2,13 @@
 -- Assumes nothing.
 use mathlib.Core.Path.{_≡_, refl, sym, _∙_, ap}
 use mathlib.Core.Bool.{Bool, true, false}
-use mathlib.Core.List.{List, [], _∷_, map}
+use mathlib.Core.List.{List, [], _∷_, _++_, map}
 use Prim.Native.Nat.{ℕ, zero, suc, _+_, _<_}
-use native.Mathlib.Nat.{not-suc-le-zero}
+use native.Mathlib.Nat.{not-suc-le-zero, le-of-suc-le-suc}
 use native.Mathlib.Omega.{arith}
 use lib.ListN.{length, getD}
 use lib.Dec.{eqb}
-use borrow.Author.Tests.{eqb-true, eqb-false}
+use borrow.Author.Tests.{eqb-true, eqb-false, eq-eqb, ne-eqb}
 use Rattle.base.specs.If.{if_then_else_}
 use Rattle.base.proofs.IfLaws.{if-true, if-false, by-test, by-cases, both-second}
 use Rattle.base.proofs.RunLaws.{same-equal}
@@ -24,7 +24,7 @@ use Rattle.rules.specs.Rules.{mapIndex, sectionIndex, stepRule}
 use Rattle.soundness.proofs.CrossLaws.{end-found, section-found}
 use Rattle.walk.specs.Walk.{wordsOf}
 use Rattle.entry.specs.Entry as entry
-use Rattle.third_demand.specs.Third.{noMap, nameThrough}
+use Rattle.third_demand.specs.Third.{noMap, nameThrough, Passed}
 
 -- ---- the first that passes a test
 
@@ -120,6 +120,34 @@ unfolding documentOf documentIn
 all-nameless t =
     each-gather Some modelAt (λ (k : Line) (ks : List Line) (p : Some k) (ps : Each Some ks). model-nameless k ks) (each-some (significant t))
 
+-- ---- where the first that passes a test stands
+
+pub record Split {A : Type 0} (test : A → Bool) (xs : List A) : Type 0 where
+  pub before : List A
+  pub one : A
+  pub behind : List A
+  pub stands : xs ≡ before ++ (one ∷ behind)
+  pub holds : test one ≡ true
+  pub index : indexOf test xs ≡ length before
+
+pub index-split : {A : Type 0} (test : A → Bool) (xs : List A) → indexOf test xs < length xs → Split test xs
+index-split test [] h = absurd (not-suc-le-zero h)
+index-split {A} test (x ∷ xs) h =
+    by-cases _ (test x)
+    (λ (e : test x ≡ true). record { before = []; one = x; behind = xs; stands = refl; holds = e; index = index-here test x xs e })
+    (λ (e : test x ≡ false). later e (index-split test xs (le-of-suc-le-suc (rw (index-later test x xs e) at h))))
+  where
+    later : test x ≡ false → Split test xs → Split test (x ∷ xs)
+    later e p =
+        record {
+          before = x ∷ p .before;
+          one = p .one;
+          behind = p .behind;
+          stands = ap (λ (ys : List A). x ∷ ys) (p .stands);
+          holds = p .holds;
+          index = index-later test x xs e ∙ ap suc (p .index);
+        }
+
 -- ---- the name through the target
 
 map-named : (s : Step) (m : Map) → isMapOf s m ≡ true → m .name .text ≡ s .name .text
@@ -158,3 +186,18 @@ module _ (t : List ℕ) (m : Model) (s : Step) (kept : stepRule (documentOf t) m
       (λ (f : eqb (s .kind) sectionKind ≡ true).
       rw (if-false (mapIndex d s) (if eqb (s .kind) sectionKind then sectionIndex d s else 0) e, if-true (sectionIndex d s) 0 f) (section-step-name (eqb-true _ _ f)))
       (λ (f : eqb (s .kind) sectionKind ≡ false). sym (nameless (eqb-false _ _ e) (eqb-false _ _ f))))
+
+  -- the section that a step passes
+  pub section-passed : s .kind ≡ sectionKind → Passed t s (targetOf (d .maps) (d .sections) s)
+  unfolding targetOf
+  section-passed k =
+      let p : Split (isSectionOf s) (d .sections) = index-split (isSectionOf s) (d .sections) (section-found d m s kept k) in
+      let n : s .kind ≡ endKind → ⊥ = λ (q : s .kind ≡ endKind). omega arith in
+      record {
+        before = p .before;
+        behind = p .behind;
+        section = p .one;
+        stands = p .stands;
+        named = section-named s (p .one) (p .holds);
+        there = if-false _ _ (ne-eqb _ _ n) ∙ if-true _ _ (eq-eqb _ _ k) ∙ p .index;
+      }

@@ -53,12 +53,22 @@ nameThrough t r w =
 unfoldable pub sideOf : List ℕ → StepWords → List ℕ
 sideOf t w = nameAt t (w .side) (w .«side_size»)
 
+-- a step over a section passes the section of the document that has its name: the target is where that section stands
+pub record Passed (t : List ℕ) (s : Step) (target : ℕ) : Type 0 where
+  pub before : List Section
+  pub behind : List Section
+  pub section : Section
+  pub stands : documentOf t .sections ≡ before ++ (section ∷ behind)
+  pub named : section .name .text ≡ s .name .text
+  pub there : target ≡ length before
+
 -- an answer that shows a path line as written
 pub record Shown (t table : List ℕ) (s : Step) (w : WalkWords) : Type 0 where
   pub answered : w .answered ≡ true
   pub goes-on : w .done ≡ false
   pub kind : w .step .kind ≡ s .kind
   pub name : nameThrough t (recordsOf table) (w .step) ≡ s .name .text
+  pub passes : s .kind ≡ sectionKind → Passed t s (w .step .target)
   pub amount : w .step .amount ≡ s .amount
   pub side : sideOf t (w .step) ≡ s .side .text
   pub line : w .step .line ≡ s .line
@@ -78,12 +88,22 @@ pub record Walked (t table : List ℕ) (i : ℕ) (m : Model) : Type 0 where
 
 -- ---- (b) the entries
 
+-- the lines of the text that write a matrix
+pub record WrittenBy (t : List ℕ) (m : Matrix) : Type 0 where
+  pub before : List Line
+  pub line : Line
+  pub after : List Line
+  pub stands : significant t ≡ before ++ (line ∷ after)
+  pub opens : opensMatrixAt line ≡ true
+  pub same : m ≡ matrixOf line (formAt line) (upTo inMatrix after)
+
 -- of the section x, which stands at i: all four kinds answer at every row and column, with the number that the matrix writes there, or zero; alike
 -- when exchanged
 pub record Entered (t table : List ℕ) (i : ℕ) (x : Section) : Type 0 where
   pub answers :
       (kind row column : ℕ) → kind < 4 → 1 ≤ row → row ≤ conductorsOf (x .matrices) → 1 ≤ column →
       column ≤ conductorsOf (x .matrices) → entry.answerOf t table i kind row column .found ≡ true
+  pub by-lines : (above below : List Matrix) (m : Matrix) → x .matrices ≡ above ++ (m ∷ below) → WrittenBy t m
   pub written :
       (before after : List Line) (line : Line) → significant t ≡ before ++ (line ∷ after) → opensMatrixAt line ≡ true →
       (above below : List Matrix) → x .matrices ≡ above ++ (matrixOf line (formAt line) (upTo inMatrix after) ∷ below) →

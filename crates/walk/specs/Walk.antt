@@ -16,7 +16,7 @@ use Rattle.walk.specs.declared.StepWords.{StepWords}
 use Rattle.walk.specs.declared.Walked.{Walked}
 use Rattle.walk.specs.declared.Walked.the-variants.{Step, Done, Refused}
 
--- the paper's numbers: "30 UNSOUND", "31 NOSUCH", "32 STUCK"
+-- the paper's numbers: "30 TABLE", "31 NOSUCH", "32 STUCK"
 abbrev pub unsound : ℕ
 unsound = 30
 
