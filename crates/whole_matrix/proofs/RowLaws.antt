@@ -82,3 +82,51 @@ module _ (r : Records) (index conductors : ℕ) where
     pub place : to + (conductors + 1 - row) * conductors ≡ conductors * conductors
     pub long : length values ≡ length values₀
     pub image : sets values to (rowsFrom r index conductors row (conductors + 1 - row)) ≡ sets values₀ 0 (squareOf r index conductors)
+
+  pub rows-start : (values : List ℕ) → RowsLeft values values 1 0
+  unfolding squareOf
+  rows-start values =
+      let e : conductors + 1 - 1 ≡ conductors = omega arith in
+      let p : (conductors + 1 - 1) * conductors ≡ conductors * conductors = ap (λ (n : ℕ). n * conductors) e in
+      record {
+        low = omega arith;
+        high = omega arith;
+        place = omega arith;
+        long = refl;
+        image = ap (λ (n : ℕ). sets values 0 (rowsFrom r index conductors 1 n)) e;
+      }
+
+  module _ (values₀ values : List ℕ) (row to : ℕ) (left : RowsLeft values₀ values row to) where
+    -- a row and those below it
+    below : row ≤ conductors → (conductors + 1 - row) * conductors ≡ (conductors + 1 - (row + 1)) * conductors + conductors
+    below h =
+        let n : conductors + 1 - row ≡ suc (conductors + 1 - (row + 1)) = omega arith in
+        ap (λ (k : ℕ). k * conductors) n ∙ suc-mul (conductors + 1 - (row + 1)) conductors
+
+    pub rows-room : row ≤ conductors → conductors * conductors ≤ length values₀ → to + conductors ≤ length values
+    rows-room h k = omega (arith, left .place, left .long, below h)
+
+    pub rows-on : row ≤ conductors → (after : List ℕ) → after ≡ sets values to (rowFrom r index row 1 conductors) → RowsLeft values₀ after (row + 1) (to + conductors)
+    unfolding rowsFrom
+    rows-on h after e =
+        let p : to + (conductors + 1 - row) * conductors ≡ conductors * conductors = left .place in
+        let b : (conductors + 1 - row) * conductors ≡ (conductors + 1 - (row + 1)) * conductors + conductors = below h in
+        let n : conductors + 1 - row ≡ suc (conductors + 1 - (row + 1)) = omega arith in
+        let i : sets values to (rowsFrom r index conductors row (conductors + 1 - row)) ≡ sets values₀ 0 (squareOf r index conductors) = left .image in
+        record {
+          low = omega arith;
+          high = omega arith;
+          place = omega arith;
+          long = ap length e ∙ length-sets values to (rowFrom r index row 1 conductors) ∙ left .long;
+          image =
+            (λ k. sets (e k) (to + sym (row-long r index row 1 conductors) k) (rowsFrom r index conductors (row + 1) (conductors + 1 - (row + 1))))
+            ∙ sym (sets-append values to (rowFrom r index row 1 conductors) (rowsFrom r index conductors (row + 1) (conductors + 1 - (row + 1))))
+            ∙ (rw n at i);
+        }
+
+    pub rows-done : conductors < row → values ≡ sets values₀ 0 (squareOf r index conductors)
+    unfolding rowsFrom
+    rows-done h =
+        let n : conductors + 1 - row ≡ 0 = omega arith in
+        let i : sets values to (rowsFrom r index conductors row (conductors + 1 - row)) ≡ sets values₀ 0 (squareOf r index conductors) = left .image in
+        rw n at i

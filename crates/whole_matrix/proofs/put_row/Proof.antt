@@ -1,9 +1,7 @@
 -- `whole_matrix::put_row` meets its contract. The loop's invariant: the entries of the row still to store, stored, give what all of them give.
 -- Assumes nothing.
 use borrow.Author.Needs.{needs}
-use borrow.Author.Needs.{needs}
 use Prim.Native.Nat.{_+_, _-_}
-use lib.ListN.{length-set}
 use Rattle.document.specs.Records.{recordsOf}
 use Rattle.whole_matrix.proofs.RowLaws.{RowLeft, row-starts, row-on, row-done, row-room}
 use Rattle.whole_matrix.proofs.put_row.Statement.{statement}
