@@ -1,1 +1,2 @@
 mod RowLaws
+mod WholeLaws

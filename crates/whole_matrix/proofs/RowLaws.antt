@@ -119,9 +119,9 @@ module _ (r : Records) (index conductors : ℕ) where
           place = omega arith;
           long = ap length e ∙ length-sets values to (rowFrom r index row 1 conductors) ∙ left .long;
           image =
-            (λ k. sets (e k) (to + sym (row-long r index row 1 conductors) k) (rowsFrom r index conductors (row + 1) (conductors + 1 - (row + 1))))
-            ∙ sym (sets-append values to (rowFrom r index row 1 conductors) (rowsFrom r index conductors (row + 1) (conductors + 1 - (row + 1))))
-            ∙ (rw n at i);
+              (λ k. sets (e k) (to + sym (row-long r index row 1 conductors) k) (rowsFrom r index conductors (row + 1) (conductors + 1 - (row + 1))))
+              ∙ sym (sets-append values to (rowFrom r index row 1 conductors) (rowsFrom r index conductors (row + 1) (conductors + 1 - (row + 1))))
+              ∙ (rw n at i);
         }
 
     pub rows-done : conductors < row → values ≡ sets values₀ 0 (squareOf r index conductors)

@@ -1,13 +1,13 @@
 // A section's matrix of a kind as a whole, row by row, into a lent room of N times N words: the table is judged once for all the entries.
 ghost use mathlib.Core.Path.{_≡_};
-ghost use Prim.Native.Nat.{_+_, _*_, _≤_};
+ghost use Prim.Native.Nat.{_+_, _*_, _≤_, _<_};
 ghost use lib.ListN.{length};
 ghost use lib.Seq.{sets};
-ghost use Rattle.table.specs.Layout.{matrices};
+ghost use Rattle.table.specs.Layout.{sections, matrices};
 ghost use Rattle.document.specs.Records.{recordsOf};
 ghost use Rattle.sound.specs.Standing.{countOf};
 ghost use Rattle.entry.specs.Ready.{Ready};
-ghost use Rattle.whole_matrix.specs.WholeMatrix.{wholeWords, rowFrom, rowsFrom, squareOf, wholeOf, roomAfter};
+ghost use Rattle.whole_matrix.specs.WholeMatrix.{wholeWords, rowFrom, rowsFrom, squareOf, conductorsOf, wholeOf, roomAfter};
 use view::View;
 
 // "30 TABLE: question over an unsound table", "31 NOSUCH: section, kind .. out of range".
@@ -63,6 +63,15 @@ fn put_rows(table: &[u64], view: View, index: u64, conductors: u64, values: &mut
     }
 }
 
+// N of a section.
+fn conductors_of(table: &[u64], view: View, section: u64) -> u64
+    requires { ⌜ Ready (now table) view × (section < countOf view sections) ⌝ }
+    ensures { λ r. ⌜ r ≡ conductorsOf (recordsOf (now (table .entry))) section ⌝ }
+{
+    let bases = view.bases;
+    table[bases[table::SECTIONS] + SECTION_WORDS * (section as usize) + CONDUCTORS]
+}
+
 // Every entry of a section's matrix. Where it is not found the room is left as it was.
 pub fn whole_matrix(
     text: &[u8],
@@ -80,10 +89,7 @@ pub fn whole_matrix(
     if !entry::is_in_range(table, view, section, kind, 1, 1) {
         return Whole::Refused(NO_SUCH);
     }
-    let bases = view.bases;
-    let conductors = table[bases[table::SECTIONS]
-        + SECTION_WORDS * (section as usize)
-        + CONDUCTORS];
+    let conductors = conductors_of(table, view, section);
     if values.len() < (conductors as usize) * (conductors as usize) {
         return Whole::Short(conductors);
     }
