@@ -1,0 +1,170 @@
+-- Laws of the answers to hosts: what is lent has room or is left alone, and the words of each case are those of the layout.
+-- Assumes nothing.
+use mathlib.Core.Path.{_≡_, refl, sym, _∙_, ap}
+use mathlib.Core.Bool.{true, false}
+use mathlib.Core.List.{List, [], _∷_}
+use Prim.Native.Nat.{ℕ, _≤_, _<_}
+use lib.ListN.{length, replicate}
+use lib.Seq.{sets}
+use borrow.Author.Tests.{le-leb, lt-leb}
+use Rattle.base.proofs.IfLaws.{if-true, if-false}
+use Rattle.intake.specs.Verdict as verdicts
+use Rattle.intake.specs.declared.Answer as intake
+use Rattle.intake.specs.declared.Answer.the-variants as verdict
+use Rattle.entry.specs.Entry as entries
+use Rattle.entry.specs.declared.Answer as entry
+use Rattle.entry.specs.declared.Answer.the-variants as found
+use Rattle.walk.specs.Walk as walks
+use Rattle.walk.specs.declared.Place.{Place}
+use Rattle.walk.specs.declared.StepWords.{StepWords}
+use Rattle.walk.specs.declared.Walked.{Walked}
+use Rattle.walk.specs.declared.Walked.the-variants as walked
+use Rattle.whole_matrix.specs.WholeMatrix as matrices
+use Rattle.whole_matrix.specs.declared.Whole.{Whole}
+use Rattle.whole_matrix.specs.declared.Whole.the-variants as whole
+use Rattle.skumvari.specs.Words.{flag, intakeLayout, entryLayout, stepLayout, walkLayout, matrixLayout, isRoom, answered, tableAfter, valuesAfter}
+
+-- ---- what is lent
+
+module _ (many : ℕ) (lent : List ℕ) where
+  pub room-none : length lent < many → false ≡ isRoom many lent
+  unfolding isRoom
+  room-none h = sym (lt-leb many (length lent) h)
+
+  pub room-there : many ≤ length lent → true ≡ isRoom many lent
+  unfolding isRoom
+  room-there h = sym (le-leb many (length lent) h)
+
+module _ (words lent : List ℕ) where
+  pub answer-left : length lent < length words → lent ≡ answered words lent
+  unfolding answered
+  answer-left h = sym (if-false _ _ (sym (room-none (length words) lent h)))
+
+  pub answer-put : length words ≤ length lent → (after : List ℕ) → after ≡ sets lent 0 words → after ≡ answered words lent
+  unfolding answered
+  answer-put h after e = e ∙ sym (if-true _ _ (sym (room-there (length words) lent h)))
+
+-- other words that are the same
+pub answer-same : (words others lent after : List ℕ) → words ≡ others → after ≡ answered words lent → after ≡ answered others lent
+answer-same words others lent after e h = h ∙ ap (λ (ws : List ℕ). answered ws lent) e
+
+module _ (answer : List ℕ) where
+  pub table-zeros : length answer < 4 → (taken table after : List ℕ) → after ≡ replicate (length table) 0 → after ≡ tableAfter answer taken table
+  unfolding tableAfter
+  table-zeros h taken table after e = e ∙ sym (if-false _ _ (sym (room-none 4 answer h)))
+
+  pub table-taken : 4 ≤ length answer → (taken table after : List ℕ) → after ≡ taken → after ≡ tableAfter answer taken table
+  unfolding tableAfter
+  table-taken h taken table after e = e ∙ sym (if-true _ _ (sym (room-there 4 answer h)))
+
+  pub values-left : length answer < 4 → (filled values : List ℕ) → values ≡ valuesAfter answer filled values
+  unfolding valuesAfter
+  values-left h filled values = sym (if-false _ _ (sym (room-none 4 answer h)))
+
+  pub values-filled : 4 ≤ length answer → (filled values after : List ℕ) → after ≡ filled → after ≡ valuesAfter answer filled values
+  unfolding valuesAfter
+  values-filled h filled values after e = e ∙ sym (if-true _ _ (sym (room-there 4 answer h)))
+
+-- ---- the words of each case
+
+flag-true : 1 ≡ flag true
+unfolding flag
+flag-true = sym (if-true _ _ refl)
+
+flag-false : 0 ≡ flag false
+unfolding flag
+flag-false = sym (if-false _ _ refl)
+
+module _ (lent after : List ℕ) where
+  module _ (answer : intake.Answer) (outcome : verdicts.Outcome) (is : verdicts.answerWords answer ≡ outcome) where
+    pub intake-accepted : (used : ℕ) → answer ≡ verdict.Accepted used → after ≡ answered (1 ∷ 0 ∷ 0 ∷ used ∷ []) lent → after ≡ answered (intakeLayout outcome) lent
+    unfolding intakeLayout
+    intake-accepted used e h =
+        answer-same _ _ lent after
+        ((λ i. flag-true i ∷ 0 ∷ 0 ∷ used ∷ []) ∙ (λ i. intakeLayout (verdicts.answerWords (sym e i))) ∙ ap intakeLayout is) h
+
+    pub intake-refused : (number line : ℕ) → answer ≡ verdict.Refused number line → after ≡ answered (0 ∷ number ∷ line ∷ 0 ∷ []) lent →
+        after ≡ answered (intakeLayout outcome) lent
+    unfolding intakeLayout
+    intake-refused number line e h =
+        answer-same _ _ lent after
+        ((λ i. flag-false i ∷ number ∷ line ∷ 0 ∷ []) ∙ (λ i. intakeLayout (verdicts.answerWords (sym e i))) ∙ ap intakeLayout is) h
+
+  module _ (answer : entry.Answer) (words : entries.EntryWords) (is : entries.entryWords answer ≡ words) where
+    pub entry-found : (word : ℕ) → answer ≡ found.Found word → after ≡ answered (1 ∷ 0 ∷ 0 ∷ word ∷ []) lent → after ≡ answered (entryLayout words) lent
+    unfolding entryLayout
+    entry-found word e h =
+        answer-same _ _ lent after
+        ((λ i. flag-true i ∷ 0 ∷ 0 ∷ word ∷ []) ∙ (λ i. entryLayout (entries.entryWords (sym e i))) ∙ ap entryLayout is) h
+
+    pub entry-refused : (number : ℕ) → answer ≡ found.Refused number → after ≡ answered (0 ∷ number ∷ 0 ∷ 0 ∷ []) lent → after ≡ answered (entryLayout words) lent
+    unfolding entryLayout
+    entry-refused number e h =
+        answer-same _ _ lent after
+        ((λ i. flag-false i ∷ number ∷ 0 ∷ 0 ∷ []) ∙ (λ i. entryLayout (entries.entryWords (sym e i))) ∙ ap entryLayout is) h
+
+  module _ (answer : Walked) (words : walks.WalkWords) (is : walks.walkWords answer ≡ words) where
+    pub walk-stepped : (step : StepWords) (next : Place) → answer ≡ walked.Step step next → after ≡ answered (1 ∷ 0 ∷ 0 ∷ 0 ∷ stepLayout step next) lent →
+        after ≡ answered (walkLayout words) lent
+    unfolding walkLayout
+    walk-stepped step next e h =
+        answer-same _ _ lent after
+        ((λ i. flag-true i ∷ 0 ∷ 0 ∷ flag-false i ∷ stepLayout step next) ∙ (λ i. walkLayout (walks.walkWords (sym e i))) ∙ ap walkLayout is) h
+
+    module _ (none : StepWords) (is-none : none ≡ walks.noStep) where
+      pub walk-done : (place : Place) → answer ≡ walked.Done place → after ≡ answered (1 ∷ 0 ∷ 0 ∷ 1 ∷ stepLayout none place) lent →
+          after ≡ answered (walkLayout words) lent
+      unfolding walkLayout
+      walk-done place e h =
+          answer-same _ _ lent after
+          ((λ i. flag-true i ∷ 0 ∷ 0 ∷ flag-true i ∷ stepLayout (is-none i) place) ∙ (λ i. walkLayout (walks.walkWords (sym e i))) ∙ ap walkLayout is) h
+
+      pub walk-refused : (number : ℕ) → answer ≡ walked.Refused number →
+          after ≡ answered (0 ∷ number ∷ 0 ∷ 0 ∷ stepLayout none (record { model = 0; step = 0; depth = 0 })) lent →
+          after ≡ answered (walkLayout words) lent
+      unfolding walkLayout
+      walk-refused number e h =
+          answer-same _ _ lent after
+          ((λ i. flag-false i ∷ number ∷ 0 ∷ flag-false i ∷ stepLayout (is-none i) (record { model = 0; step = 0; depth = 0 }))
+          ∙ (λ i. walkLayout (walks.walkWords (sym e i))) ∙ ap walkLayout is) h
+
+  module _ (answer : Whole) (words : matrices.MatrixWords) (is : matrices.wholeWords answer ≡ words) where
+    pub matrix-found : (conductors : ℕ) → answer ≡ whole.Found conductors → after ≡ answered (1 ∷ 0 ∷ 0 ∷ conductors ∷ []) lent → after ≡ answered (matrixLayout words) lent
+    unfolding matrixLayout
+    matrix-found conductors e h =
+        answer-same _ _ lent after
+        ((λ i. flag-true i ∷ 0 ∷ 0 ∷ conductors ∷ []) ∙ (λ i. matrixLayout (matrices.wholeWords (sym e i))) ∙ ap matrixLayout is) h
+
+    pub matrix-short : (conductors : ℕ) → answer ≡ whole.Short conductors → after ≡ answered (0 ∷ 0 ∷ 0 ∷ conductors ∷ []) lent → after ≡ answered (matrixLayout words) lent
+    unfolding matrixLayout
+    matrix-short conductors e h =
+        answer-same _ _ lent after
+        ((λ i. flag-false i ∷ 0 ∷ 0 ∷ conductors ∷ []) ∙ (λ i. matrixLayout (matrices.wholeWords (sym e i))) ∙ ap matrixLayout is) h
+
+    pub matrix-refused : (number : ℕ) → answer ≡ whole.Refused number → after ≡ answered (0 ∷ number ∷ 0 ∷ 0 ∷ []) lent → after ≡ answered (matrixLayout words) lent
+    unfolding matrixLayout
+    matrix-refused number e h =
+        answer-same _ _ lent after
+        ((λ i. flag-false i ∷ number ∷ 0 ∷ 0 ∷ []) ∙ (λ i. matrixLayout (matrices.wholeWords (sym e i))) ∙ ap matrixLayout is) h
+
+-- an answer that is too short is left as it was, whatever it was to hold
+module _ (lent : List ℕ) (short : length lent < 4) where
+  pub intake-left : (outcome : verdicts.Outcome) → lent ≡ answered (intakeLayout outcome) lent
+  unfolding intakeLayout
+  intake-left outcome = answer-left _ lent short
+
+  pub matrix-left : (words : matrices.MatrixWords) → lent ≡ answered (matrixLayout words) lent
+  unfolding matrixLayout
+  matrix-left words = answer-left _ lent short
+
+-- ---- what else is lent
+
+module _ (answer : List ℕ) (room : 4 ≤ length answer) where
+  pub table-kept : (t table after : List ℕ) (size : ℕ) (given outcome : verdicts.Outcome) → given ≡ outcome → after ≡ verdicts.tableFor t size given →
+      after ≡ tableAfter answer (verdicts.tableFor t size outcome) table
+  table-kept t table after size given outcome e h = table-taken answer room _ table after (h ∙ ap (verdicts.tableFor t size) e)
+
+  pub values-kept : (table values after : List ℕ) (section kind : ℕ) (given words : matrices.MatrixWords) → given ≡ words →
+      after ≡ matrices.roomAfter table section kind given values → after ≡ valuesAfter answer (matrices.roomAfter table section kind words values) values
+  values-kept table values after section kind given words e h =
+      values-filled answer room _ values after (h ∙ ap (λ (w : matrices.MatrixWords). matrices.roomAfter table section kind w values) e)

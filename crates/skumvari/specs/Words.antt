@@ -1,0 +1,56 @@
+-- How an answer lies in the words that a host lends: the one place where the layout is written down. A truth is 1 or 0; the rest are the
+-- paper's words, as `answerWords`, `entryWords`, `walkWords` and `wholeWords` give them for each case.
+-- Assumes nothing.
+use Prim.Native.Nat.{ℕ}
+use mathlib.Core.Bool.{Bool}
+use mathlib.Core.List.{List, [], _∷_}
+use lib.ListN.{length, replicate}
+use lib.Seq.{sets}
+use lib.Dec.{leb}
+use Rattle.base.specs.If.{if_then_else_}
+use Rattle.intake.specs.Verdict.{Outcome}
+use Rattle.entry.specs.Entry.{EntryWords}
+use Rattle.walk.specs.Walk.{WalkWords}
+use Rattle.walk.specs.declared.Place.{Place}
+use Rattle.walk.specs.declared.StepWords.{StepWords}
+use Rattle.whole_matrix.specs.WholeMatrix.{MatrixWords}
+
+unfoldable pub flag : Bool → ℕ
+flag truth = if truth then 1 else 0
+
+-- intake: accepted, number, line, words used
+unfoldable pub intakeLayout : Outcome → List ℕ
+intakeLayout o = flag (o .accepted) ∷ o .number ∷ o .line ∷ o .used ∷ []
+
+-- entry: found, number, line, value word
+unfoldable pub entryLayout : EntryWords → List ℕ
+entryLayout e = flag (e .found) ∷ e .number ∷ e .line ∷ e .word ∷ []
+
+-- a step and the next place: kind, target, amount, side start, side length, line; model, step, depth
+unfoldable pub stepLayout : StepWords → Place → List ℕ
+stepLayout s p =
+    s .kind ∷ s .target ∷ s .amount ∷ s .side ∷ s .«side_size» ∷ s .line ∷ p .model ∷ p .step ∷ p .depth ∷ []
+
+-- walk: answered, number, line, done, and those
+unfoldable pub walkLayout : WalkWords → List ℕ
+walkLayout w = flag (w .answered) ∷ w .number ∷ w .line ∷ flag (w .done) ∷ stepLayout (w .step) (w .next)
+
+-- whole matrix: found, number, line, N
+unfoldable pub matrixLayout : MatrixWords → List ℕ
+matrixLayout m = flag (m .found) ∷ m .number ∷ m .line ∷ m .conductors ∷ []
+
+-- what is lent for an answer of so many words is long enough
+unfoldable pub isRoom : ℕ → List ℕ → Bool
+isRoom many lent = leb many (length lent)
+
+-- the lent words after the answer: its words from the start on, and the rest as it was; as they were where they are too few
+unfoldable pub answered : List ℕ → List ℕ → List ℕ
+answered words lent = if isRoom (length words) lent then sets lent 0 words else lent
+
+-- the lent table after the intake, which refuses where no answer can be given: "A refused intake zeroes the table"
+unfoldable pub tableAfter : List ℕ → List ℕ → List ℕ → List ℕ
+tableAfter answer taken table = if isRoom 4 answer then taken else replicate (length table) 0
+
+-- the lent values after a whole matrix, which are left alone where no answer can be given
+unfoldable pub valuesAfter : List ℕ → List ℕ → List ℕ → List ℕ
+valuesAfter answer filled values = if isRoom 4 answer then filled else values

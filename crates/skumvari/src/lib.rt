@@ -1,0 +1,191 @@
+// The library for hosts in other languages: what include/skumvari.h declares. Each function writes its answer into lent words, in the layout
+// of specs/Words.antt; where they are too few it says false and writes none.
+ghost use mathlib.Core.Path.{_≡_};
+ghost use mathlib.Core.List.{[], _∷_};
+ghost use lib.ListN.{length};
+ghost use Rattle.sound.specs.Sound.{isSound};
+ghost use Rattle.intake.specs.Verdict.{verdictOf, tableFor};
+ghost use Rattle.entry.specs.Entry as entries;
+ghost use Rattle.walk.specs.Walk as walks;
+ghost use Rattle.whole_matrix.specs.WholeMatrix.{wholeOf, roomAfter};
+ghost use Rattle.skumvari.specs.Words.{intakeLayout, entryLayout, walkLayout, matrixLayout, stepLayout, isRoom, answered, tableAfter, valuesAfter};
+ghost use Rattle.skumvari.specs.Room.{mostWords};
+use entry::Answer;
+use walk::Place;
+use walk::StepWords;
+use walk::Walked;
+use whole_matrix::Whole;
+
+const TABLE_WORDS: usize = 237_319;
+
+// How many words an answer has: of the intake, an entry or a whole matrix, and of a walk.
+const ANSWER_WORDS: usize = 4;
+
+const WALK_WORDS: usize = 13;
+
+// ---- answers
+
+fn put_answer(answer: &mut [u64], given: u64, number: u64, line: u64, word: u64) -> bool
+    ensures { λ r. ⌜ (r ≡ isRoom 4 (now (answer .entry))) × (now (answer .exit) ≡ answered (given ∷ number ∷ line ∷ word ∷ []) (now (answer .entry))) ⌝ }
+{
+    if answer.len() < ANSWER_WORDS {
+        return false;
+    }
+    base::put_words(answer, 0, &[given, number, line, word]);
+    true
+}
+
+fn put_walk(
+    answer: &mut [u64],
+    given: u64,
+    number: u64,
+    done: u64,
+    step: StepWords,
+    next: Place,
+) -> bool
+    ensures { λ r. ⌜ (r ≡ isRoom 13 (now (answer .entry))) × (now (answer .exit) ≡ answered (given ∷ number ∷ 0 ∷ done ∷ stepLayout step next) (now (answer .entry))) ⌝ }
+{
+    if answer.len() < WALK_WORDS {
+        return false;
+    }
+    base::put_words(
+        answer,
+        0,
+        &[
+            given,
+            number,
+            0,
+            done,
+            step.kind,
+            step.target,
+            step.amount,
+            step.side,
+            step.side_size,
+            step.line,
+            next.model,
+            next.step,
+            next.depth,
+        ],
+    );
+    true
+}
+
+fn no_step() -> StepWords
+    ensures { λ r. ⌜ r ≡ walks.noStep ⌝ }
+{
+    StepWords {
+        kind: 0,
+        target: 0,
+        amount: 0,
+        side: 0,
+        side_size: 0,
+        line: 0,
+    }
+}
+
+// ---- what hosts call
+
+// How many words a table has that is long enough for every text.
+#[no_mangle]
+pub extern "C" fn skumvari_table_words() -> usize
+    ensures { λ r. ⌜ r ≡ mostWords ⌝ }
+{
+    TABLE_WORDS
+}
+
+// The intake of a text into a lent table. With too few words for the answer it leaves the table all zeros, as for a refusal.
+#[no_mangle]
+pub extern "C" fn skumvari_intake(text: &[u8], table: &mut [u64], answer: &mut [u64]) -> bool
+    ensures { λ r. ⌜ r ≡ isRoom 4 (now (answer .entry)) ⌝ }
+    ensures { λ _. ⌜ now (answer .exit) ≡ answered (intakeLayout (verdictOf (now (text .entry)) (length (now (table .entry))))) (now (answer .entry)) ⌝ }
+    ensures { λ _. ⌜ now (table .exit) ≡ tableAfter (now (answer .entry)) (tableFor (now (text .entry)) (length (now (table .entry))) (verdictOf (now (text .entry)) (length (now (table .entry))))) (now (table .entry)) ⌝ }
+{
+    if answer.len() < ANSWER_WORDS {
+        base::zero_all(table);
+        return false;
+    }
+    match intake::intake(text, table) {
+        intake::Answer::Accepted(used) => put_answer(answer, 1, 0, 0, used as u64),
+        intake::Answer::Refused(number, line) => put_answer(answer, 0, number, line, 0),
+    }
+}
+
+// Whether the table is sound for the text.
+#[no_mangle]
+pub extern "C" fn skumvari_sound(text: &[u8], table: &[u64]) -> bool
+    ensures { λ r. ⌜ r ≡ isSound (now (text .entry)) (now (table .entry)) ⌝ }
+{
+    sound::is_sound(text, table)
+}
+
+// One entry of a section's matrix.
+#[no_mangle]
+pub extern "C" fn skumvari_entry(
+    text: &[u8],
+    table: &[u64],
+    section: u64,
+    kind: u64,
+    row: u64,
+    column: u64,
+    answer: &mut [u64],
+) -> bool
+    ensures { λ r. ⌜ r ≡ isRoom 4 (now (answer .entry)) ⌝ }
+    ensures { λ _. ⌜ now (answer .exit) ≡ answered (entryLayout (entries.answerOf (now (text .entry)) (now (table .entry)) section kind row column)) (now (answer .entry)) ⌝ }
+{
+    match entry::entry(text, table, section, kind, row, column) {
+        Answer::Found(word) => put_answer(answer, 1, 0, 0, word),
+        Answer::Refused(number) => put_answer(answer, 0, number, 0, 0),
+    }
+}
+
+// One step of a walk, from the place model, step, depth.
+#[no_mangle]
+pub extern "C" fn skumvari_walk(
+    text: &[u8],
+    table: &[u64],
+    model: u64,
+    step: u64,
+    depth: u64,
+    answer: &mut [u64],
+) -> bool
+    ensures { λ r. ⌜ r ≡ isRoom 13 (now (answer .entry)) ⌝ }
+    ensures { λ _. ⌜ now (answer .exit) ≡ answered (walkLayout (walks.answerOf (now (text .entry)) (now (table .entry)) (record { model = model; step = step; depth = depth }))) (now (answer .entry)) ⌝ }
+{
+    let place = Place { model, step, depth };
+    match place.step(text, table) {
+        Walked::Step(words, next) => put_walk(answer, 1, 0, 0, words, next),
+        Walked::Done(here) => put_walk(answer, 1, 0, 1, no_step(), here),
+        Walked::Refused(number) => {
+            let nowhere = Place {
+                model: 0,
+                step: 0,
+                depth: 0,
+            };
+            put_walk(answer, 0, number, 0, no_step(), nowhere)
+        }
+    }
+}
+
+// Every entry of a section's matrix, row by row, into lent values of N times N words; fewer are left as they were, and the answer tells N.
+#[no_mangle]
+pub extern "C" fn skumvari_matrix(
+    text: &[u8],
+    table: &[u64],
+    section: u64,
+    kind: u64,
+    values: &mut [u64],
+    answer: &mut [u64],
+) -> bool
+    ensures { λ r. ⌜ r ≡ isRoom 4 (now (answer .entry)) ⌝ }
+    ensures { λ _. ⌜ now (answer .exit) ≡ answered (matrixLayout (wholeOf (now (text .entry)) (now (table .entry)) section kind (length (now (values .entry))))) (now (answer .entry)) ⌝ }
+    ensures { λ _. ⌜ now (values .exit) ≡ valuesAfter (now (answer .entry)) (roomAfter (now (table .entry)) section kind (wholeOf (now (text .entry)) (now (table .entry)) section kind (length (now (values .entry)))) (now (values .entry))) (now (values .entry)) ⌝ }
+{
+    if answer.len() < ANSWER_WORDS {
+        return false;
+    }
+    match whole_matrix::whole_matrix(text, table, section, kind, values) {
+        Whole::Found(conductors) => put_answer(answer, 1, 0, 0, conductors),
+        Whole::Short(conductors) => put_answer(answer, 0, 0, 0, conductors),
+        Whole::Refused(number) => put_answer(answer, 0, number, 0, 0),
+    }
+}
