@@ -1,0 +1,261 @@
+"""Checks that a Python program gets from skumvari.py what it and the header promise; run it with `python3 test_skumvari.py`.
+Test files are looked for in the folder that the environment variable SKUMVARI_VECTORS names; without it they are passed over."""
+
+import ctypes
+import decimal
+import os
+import pickle
+import re
+import tempfile
+import unittest
+from decimal import Decimal
+from pathlib import Path
+
+import skumvari
+from skumvari import Step, library, new_words
+
+# The paper's example, its lines parted by semicolons, and its listing.
+LINES = (
+    "[Begin Header];[ICM Ver] 1.1;[File Name] t.icm;[File Rev] 0.1;[End Header];[Begin ICM Family] D;[Manufacturer] O;[ICM Model List];A;"
+    "[Begin ICM Model] A;ICM_model_type MLM;[Tree Path Description];Model_pinmap P;Section Mult=2 S;Fork;Section Mult=1 S;Endfork;"
+    "Model_pinmap Q;[End ICM Model];[ICM Pin Map] P;Pin_order Un_ordered;Pin_list;A1;A2;[ICM Pin Map] Q;Pin_order Un_ordered;Pin_list;1;2;"
+    "[End ICM Family];[Begin ICM Section] S;[Derivation Method] Lumped;[Inductance Matrix] Full_matrix;[Row] 1;4.50nH 0.8nH;[Row] 2;4.5nH;"
+    "[End ICM Section];[End]"
+).split(";")
+LISTING = """accepted 92
+models 1
+A MLM 6
+steps 6
+end 13 P
+section 14 S 2
+fork 15
+section 16 S 1
+endfork 17
+end 18 Q
+maps 2
+P 2
+Q 2
+sections 1
+S Lumped 2
+values 3
+S L 1 1 45e-10
+S L 1 2 8e-10
+S L 2 2 45e-10
+"""
+VECTORS = Path(os.environ.get("SKUMVARI_VECTORS") or Path(__file__).resolve().parents[3] / "shared" / "vectors")
+GUARD = 0xA5A5A5A5A5A5A5A5
+
+
+def example(**replaced):
+    """The bytes of the example; line14="..." replaces that line."""
+    lines = [replaced.get(f"line{number}", line) for number, line in enumerate(LINES, 1)]
+    return "".join(line + "\n" for line in lines).encode("latin-1")
+
+
+class Example(unittest.TestCase):
+    def setUp(self):
+        self.file = skumvari.reads(example())
+
+    def test_listing(self):
+        self.assertEqual(len(LINES), 39)
+        self.assertEqual(self.file.listing(), LISTING)
+        self.assertEqual(self.file.words_used, 92)
+
+    def test_models(self):
+        (model,) = self.file.models
+        self.assertEqual((model.name, model.type, model.steps), ("A", "MLM", 6))
+        self.assertEqual(
+            model.path,
+            [
+                Step("end", 13, "P"),
+                Step("section", 14, "S", 2),
+                Step("fork", 15),
+                Step("section", 16, "S", 1),
+                Step("endfork", 17),
+                Step("end", 18, "Q"),
+            ],
+        )
+        self.assertIs(self.file.model("A"), model)
+
+    def test_walk(self):
+        walked = list(self.file.walk("A"))
+        self.assertEqual([step for step, _ in walked], self.file.model("A").path)
+        self.assertEqual([depth for _, depth in walked], [0, 0, 0, 1, 1, 0])
+
+    def test_maps(self):
+        self.assertEqual(self.file.maps, [("P", "Un_ordered", 0, 0, ["A1", "A2"]), ("Q", "Un_ordered", 0, 0, ["1", "2"])])
+
+    def test_sections(self):
+        (section,) = self.file.sections
+        self.assertEqual((section.name, section.method, section.conductors, section.kinds), ("S", "Lumped", 2, "L"))
+        across, along = Decimal("8e-10"), Decimal("45e-10")
+        self.assertEqual(section.matrix("L"), [[along, across], [across, along]])
+        self.assertEqual(section.matrix("C"), [[0, 0], [0, 0]])
+
+    def test_entries(self):
+        self.assertEqual(str(self.file.entry("S", "L", 1, 1)), "4.5E-9")
+        self.assertEqual(self.file.entry("S", "L", 2, 1), self.file.entry("S", "L", 1, 2))
+        self.assertEqual(self.file.entry("S", "R", 1, 1), 0)
+
+    def test_what_is_not_there(self):
+        for row, column in (0, 1), (1, 0), (3, 1), (1, 3), (-1, 1), (2**64 + 1, 1), (1, 2**64):
+            with self.assertRaisesRegex(skumvari.NoSuchEntry, "no entry L .* in section S: rows and columns are 1 to 2"):
+                self.file.entry("S", "L", row, column)
+        for kind in "X", "", "RL", "l", 1:
+            with self.assertRaisesRegex(skumvari.NoSuchEntry, "no kind .*: the kinds are R, L, G and C"):
+                self.file.entry("S", kind, 1, 1)
+        with self.assertRaisesRegex(LookupError, "no section named T"):
+            self.file.entry("T", "L", 1, 1)
+        with self.assertRaisesRegex(LookupError, "no model named B"):
+            self.file.walk("B")
+        with self.assertRaises(TypeError):
+            self.file.entry("S", "L", 1.0, 1)
+
+    def test_exact_whatever_the_context(self):
+        with decimal.localcontext() as context:
+            context.prec = 1
+            file = skumvari.reads(example(line37="123456789012345p"))
+            self.assertEqual(str(file.entry("S", "L", 2, 2)), "123.456789012345")
+
+    def test_lengths_sides_and_kinds(self):
+        capacitance = "4.5nH;[Capacitance Matrix] Diagonal_matrix;-1p 0;[Resistance Matrix] Diagonal_matrix;1M 1m"
+        file = skumvari.reads(
+            example(
+                line14="Section Len=25m S",
+                line16="Section Len=1 S",
+                line18="Model_pinmap Q\nSide left",
+                line32="[Derivation Method] Distributed",
+                line37=capacitance.replace(";", "\n"),
+            )
+        )
+        path = file.model("A").path
+        self.assertEqual(path[1], Step("section", 14, "S", Decimal("0.025")))
+        self.assertEqual(path[5], Step("end", 18, "Q", side="left"))
+        self.assertEqual([step for step, _ in file.walk("A")], path)
+        self.assertEqual(file.section("S").kinds, "LCR")
+        values = ["S C 1 1 -1e-12", "S C 2 2 0e0", "S R 1 1 1e6", "S R 2 2 1e-3"]
+        self.assertEqual(file.listing().splitlines()[-4:], values)
+        self.assertIn("\nsection 14 S 25e-3\n", file.listing())
+        self.assertIn("\nend 18 Q left\n", file.listing())
+
+
+class Refusals(unittest.TestCase):
+    def refused(self, text, message):
+        with self.assertRaises(skumvari.Refused) as caught:
+            skumvari.reads(text)
+        self.assertEqual(str(caught.exception), message)
+        return caught.exception
+
+    def test_number_name_and_line(self):
+        refused = self.refused(example(line35="1e99 1"), "refused 14 RANGE: number or integer out of bounds, line 35")
+        self.assertEqual((refused.number, refused.name, refused.line), (14, "RANGE", 35))
+        self.refused(b"", "refused 5 HEADER: no [Begin Header] line")
+        self.refused(b"x", "refused 4 UNENDED: last line has no LF, line 1")
+        self.refused(b"\n" * 1_048_577, "refused 1 SIZE: text over 1,048,576 bytes")
+        self.refused(example(line24="A\xe9"), "refused 2 BYTE: byte other than 0x20 to 0x7E, TAB, LF, or CR right before LF, line 24")
+        self.refused(example(line3="\0"), "refused 2 BYTE: byte other than 0x20 to 0x7E, TAB, LF, or CR right before LF, line 3")
+        self.refused(example(line16="Section Mult=1 T"), "refused 23 NOSECTION: no such section, line 16")
+
+    def test_numbers_are_those_of_the_header(self):
+        header = (Path(__file__).resolve().parents[2] / "include" / "skumvari.h").read_text()
+        numbers = re.findall(r"^ *SKUMVARI_NUMBER_(\w+) = (\d+)", header, re.MULTILINE)
+        self.assertEqual([(name, int(number)) for name, number in numbers], [(name, number) for number, (name, _) in skumvari.NUMBERS.items()])
+
+    def test_pickled(self):
+        refused = pickle.loads(pickle.dumps(skumvari.Refused(18, 0)))
+        self.assertEqual(str(refused), "refused 18 ROOM: table shorter than the words needed")
+
+    def test_files_by_name(self):
+        with tempfile.TemporaryDirectory() as folder:
+            path = Path(folder, "t.icm")
+            path.write_bytes(example())
+            self.assertEqual(skumvari.read(path).listing(), LISTING)
+            path.write_bytes(b" " * 2_000_000)
+            with self.assertRaisesRegex(skumvari.Refused, "refused 1 SIZE"):
+                skumvari.read(str(path))
+            with self.assertRaises(FileNotFoundError):
+                skumvari.read(Path(folder, "none.icm"))
+
+    def test_only_bytes_are_a_text(self):
+        self.assertEqual(skumvari.reads(bytearray(example())).words_used, 92)
+        for text in "text", 5, None:
+            with self.assertRaises(TypeError):
+                skumvari.reads(text)
+
+
+class Slices(unittest.TestCase):
+    """The functions of the shared library themselves, with slices that are too short."""
+
+    def setUp(self):
+        self.text = example()
+        self.table, self.answer, self.values = new_words(92), new_words(13), new_words(6)
+        self.assertTrue(self.intake(self.table, 92, 4))
+        self.assertEqual(self.answer[:4], [1, 0, 0, 92])
+        ctypes.memset(self.answer, 0xA5, ctypes.sizeof(self.answer))
+        ctypes.memset(self.values, 0xA5, ctypes.sizeof(self.values))
+
+    def intake(self, table, room, answer_room):
+        return library().skumvari_intake(self.text, len(self.text), table, room, self.answer, answer_room)
+
+    def ask(self, name, *rest, table=None):
+        return getattr(library(), "skumvari_" + name)(self.text, len(self.text), table or self.table, 92, *rest)
+
+    def test_short_answers(self):
+        for room in range(13):
+            self.assertFalse(self.ask("walk", 0, 0, 0, self.answer, room))
+            if room < 4:
+                self.assertFalse(self.ask("entry", 0, 1, 1, 1, self.answer, room))
+                self.assertFalse(self.ask("matrix", 0, 1, self.values, 4, self.answer, room))
+                other = new_words(93)
+                ctypes.memset(other, 0xA5, ctypes.sizeof(other))
+                self.assertFalse(self.intake(other, 92, room))
+                self.assertEqual(other[:], [0] * 92 + [GUARD])
+        self.assertEqual(self.answer[:], [GUARD] * 13)
+        self.assertEqual(self.values[:], [GUARD] * 6)
+
+    def test_short_tables(self):
+        self.assertTrue(self.intake(self.table, 91, 4))
+        self.assertEqual(self.answer[:5], [0, 18, 0, 0, GUARD])
+        self.assertEqual(self.table[:91], [0] * 91)
+
+    def test_short_values(self):
+        for count in range(4):
+            self.assertTrue(self.ask("matrix", 0, 1, self.values, count, self.answer, 4))
+            self.assertEqual(self.answer[:5], [0, 0, 0, 2, GUARD])
+            self.assertEqual(self.values[:], [GUARD] * 6)
+        self.assertTrue(self.ask("matrix", 0, 1, self.values, 5, self.answer, 4))
+        self.assertEqual(self.values[:], [11628, 2156, 2156, 11628, GUARD, GUARD])
+
+    def test_bent_tables(self):
+        self.assertTrue(self.ask("sound"))
+        bent = new_words(92)
+        bent[:] = self.table[:]
+        bent[91] = 0
+        self.assertFalse(self.ask("sound", table=bent))
+        self.assertTrue(self.ask("entry", 0, 1, 1, 1, self.answer, 4, table=bent))
+        self.assertEqual(self.answer[:5], [0, 30, 0, 0, GUARD])
+        self.assertTrue(self.ask("walk", 0, 0, 0, self.answer, 13, table=bent))
+        self.assertEqual(self.answer[:], [0, 30] + [0] * 11)
+
+
+@unittest.skipUnless(VECTORS.is_dir(), "no test files")
+class Vectors(unittest.TestCase):
+    def test_listings(self):
+        for line in (VECTORS / "expected.txt").read_text().splitlines():
+            name, verdict, *_ = line.split(" ")
+            if verdict == "accepted":
+                with self.subTest(name):
+                    wanted = (VECTORS / f"{name}.out").read_text()
+                    self.assertTrue(skumvari.read(VECTORS / f"{name}.icm").listing() == wanted, name)
+
+    def test_refusals(self):
+        for line in (VECTORS / "expected.txt").read_text().splitlines():
+            name, verdict, *rest = line.split(" ")
+            if verdict == "refused" and rest[0] != "18":  # the expected answers are for a smaller table
+                with self.subTest(name), self.assertRaises(skumvari.Refused) as caught:
+                    skumvari.read(VECTORS / f"{name}.icm")
+                self.assertEqual([str(caught.exception.number), str(caught.exception.line)], rest, name)
+
+
+if __name__ == "__main__":
+    unittest.main()

@@ -1,0 +1,149 @@
+//! The proved functions themselves, for people who keep texts and tables of their own.
+//! Every text, every table and every number is taken; what is wrong with them is told in the answer.
+//!
+//! The layout of a table is told in `include/skumvari.h`. Sections, kinds and models are asked for by their index from 0 (a
+//! [`Kind`](crate::Kind) as `kind as u64`), rows and columns from 1.
+use std::fmt;
+
+use crate::{sys, Refusal, Value};
+
+/// How many words the answer of the intake, of an entry and of a whole matrix has.
+const ANSWER_WORDS: usize = 4;
+/// How many words the answer of a walk has.
+const WALK_WORDS: usize = 13;
+
+/// How many words a table has that is long enough for every text.
+pub fn table_words() -> usize {
+    sys::table_words()
+}
+
+/// Reads a text into a table and tells how many words of it are used. The words past them are zeroed; refused, all words are.
+pub fn intake(text: &[u8], table: &mut [u64]) -> Result<usize, Refusal> {
+    let mut answer = [0; ANSWER_WORDS];
+    let lent = sys::intake(text, table, &mut answer);
+    given(lent, &answer).map(|()| answer[3] as usize)
+}
+
+/// Whether a table is sound for a text. Every table that the intake left for the same text is.
+pub fn sound(text: &[u8], table: &[u64]) -> bool {
+    sys::sound(text, table)
+}
+
+/// One entry of a section's matrix; zero where it is not written or its kind not given.
+pub fn entry(text: &[u8], table: &[u64], section: u64, kind: u64, row: u64, column: u64) -> Result<Value, Refusal> {
+    let mut answer = [0; ANSWER_WORDS];
+    let lent = sys::entry(text, table, [section, kind, row, column], &mut answer);
+    given(lent, &answer)?;
+    Ok(Value::from_word(answer[3]).expect("an entry that is given is a value word"))
+}
+
+/// A place in a model's path. A walk starts at [`Place::start`] and goes on from the place that each step hands back.
+#[derive(Clone, Copy, Debug, PartialEq, Eq, Hash)]
+pub struct Place {
+    /// Index of the model.
+    pub model: u64,
+    /// How many of its steps lie behind.
+    pub step: u64,
+    /// How many forks are open.
+    pub depth: u64,
+}
+
+impl Place {
+    /// Before the first step of a model.
+    pub fn start(model: u64) -> Place {
+        Place { model, step: 0, depth: 0 }
+    }
+
+    /// The step from this place and the next place; `None` at the end of the path.
+    pub fn step(self, text: &[u8], table: &[u64]) -> Result<Option<(StepWords, Place)>, Refusal> {
+        let mut answer = [0; WALK_WORDS];
+        let lent = sys::walk(text, table, [self.model, self.step, self.depth], &mut answer);
+        given(lent, &answer)?;
+        let done = answer[3] == 1;
+        let next = Place { model: answer[10], step: answer[11], depth: answer[12] };
+        Ok((!done).then(|| (StepWords::new(&answer[4..10]), next)))
+    }
+}
+
+/// One step from a place in a model's path and the next place; `None` at the end of the path.
+pub fn step(text: &[u8], table: &[u64], place: Place) -> Result<Option<(StepWords, Place)>, Refusal> {
+    place.step(text, table)
+}
+
+/// The words of a step, as in the table's record.
+#[derive(Clone, Copy, Debug, PartialEq, Eq, Hash)]
+pub struct StepWords {
+    /// 0 end, 1 section, 2 fork, 3 endfork.
+    pub kind: u64,
+    /// Index of the end's map or of the section; else 0.
+    pub target: u64,
+    /// Of a section: Mult (Lumped), or Len as a value word (Distributed); else 0.
+    pub amount: u64,
+    /// Of an end with a Side: where the side's name starts in the text; else 0.
+    pub side_start: u64,
+    /// How many bytes it has.
+    pub side_length: u64,
+    /// The line of the step.
+    pub line: u64,
+}
+
+impl StepWords {
+    /// From the six words of a record, or of a walk's answer, which has them in the same order.
+    pub(crate) fn new(words: &[u64]) -> StepWords {
+        StepWords {
+            kind: words[0],
+            target: words[1],
+            amount: words[2],
+            side_start: words[3],
+            side_length: words[4],
+            line: words[5],
+        }
+    }
+}
+
+/// Writes every entry of a section's matrix of a kind, row by row, as value words into at least N times N words, and tells N. The rest of
+/// the words, and all of them without an `Ok`, are left as they were.
+pub fn matrix(text: &[u8], table: &[u64], section: u64, kind: u64, values: &mut [u64]) -> Result<usize, MatrixError> {
+    let mut answer = [0; ANSWER_WORDS];
+    let lent = sys::matrix(text, table, [section, kind], values, &mut answer);
+    given(lent, &answer).map_err(|refusal| match refusal.number {
+        0 => MatrixError::TooFewValues { conductors: answer[3] as usize },
+        _ => MatrixError::Refused(refusal),
+    })?;
+    Ok(answer[3] as usize)
+}
+
+/// Why a whole matrix is not given.
+#[derive(Clone, Copy, Debug, PartialEq, Eq)]
+#[non_exhaustive]
+pub enum MatrixError {
+    /// The question is refused.
+    Refused(Refusal),
+    /// The words lent for the values are fewer than N times N.
+    TooFewValues {
+        /// N.
+        conductors: usize,
+    },
+}
+
+impl fmt::Display for MatrixError {
+    fn fmt(&self, out: &mut fmt::Formatter<'_>) -> fmt::Result {
+        match self {
+            MatrixError::Refused(refusal) => refusal.fmt(out),
+            MatrixError::TooFewValues { conductors } => {
+                write!(out, "fewer words lent than {conductors} times {conductors}")
+            }
+        }
+    }
+}
+
+impl std::error::Error for MatrixError {}
+
+/// The first three words of every answer: given, number, line.
+fn given(lent: bool, answer: &[u64]) -> Result<(), Refusal> {
+    assert!(lent, "the words lent for an answer are as many as the header asks for");
+    match answer[0] {
+        1 => Ok(()),
+        _ => Err(Refusal::new(answer[1], answer[2])),
+    }
+}
