@@ -1,1 +1,3 @@
 mod AnswerLaws
+mod NumberLaws
+pub mod RoomLaws

@@ -1,0 +1,214 @@
+-- The number 18 is given for the room alone: no rule of the groups 1 to 4, 5 to 17 and 19 to 27 has it.
+-- Assumes nothing.
+use mathlib.Core.Path.{_≡_, refl}
+use mathlib.Core.Bool.{Bool, true, false}
+use mathlib.Core.List.{List, [], _∷_, map}
+use Prim.Native.Nat.{ℕ, _+_}
+use lib.ListN.{length}
+use lib.Dec.{eqb, ltb}
+use borrow.Author.Tests.{eqb-false}
+use Rattle.base.specs.If.{if_then_else_}
+use Rattle.base.specs.Broken.{first}
+use Rattle.base.proofs.IfLaws.{by-test}
+use Rattle.text.specs.Lines.{Raw, lines, contentOf, isBlankLine}
+use Rattle.text.specs.ByteRules as text
+use Rattle.text.specs.ByteRules.{linesRule, byteRules}
+use Rattle.text.specs.declared.Checked.{Checked}
+use Rattle.text.specs.declared.Checked.the-variants as bytes
+use Rattle.keyword.specs.Names.{beginHeader}
+use Rattle.keyword.specs.Bracket.{bracketOf}
+use Rattle.keyword.specs.declared.Bracket.{Bracket}
+use Rattle.keyword.specs.declared.Bracket.the-variants.{Plain, Indented, Bad, Unknown, Later, Keyword}
+use Rattle.place.specs.Place.{isText, before, done}
+use Rattle.head.specs.Head.{headRule}
+use Rattle.path.specs.Path.{openRule, closedRule, pathRule}
+use Rattle.pin_map.specs.PinMap.{mapRule, pinRule}
+use Rattle.matrix.specs.Matrix.{dataRule}
+use Rattle.block.specs.Keywords.{keywordRule}
+use Rattle.block.specs.State.{startState}
+use Rattle.block.specs.declared.State.{State}
+use Rattle.reading.specs.Reading.{listRule, lineRule, goes, breaks, judged, lineStep, keywordStep, bracketStep, beforeStep, stepOf, commentByte, argumentFrom, atEnd, onward, run, readingOf}
+use Rattle.reading.specs.declared.Step.{Step}
+use Rattle.reading.specs.declared.Reading.{Reading}
+use Rattle.reading.specs.declared.Reading.the-variants.{Read, Refused}
+use Rattle.document.specs.Document.{Named, Step as PathStep, Model, Map, Section, Document}
+use Rattle.document.specs.Holds.{Each}
+use Rattle.document.specs.Holds.Each.{none, more}
+use Rattle.document.proofs.StandsLaws.{each-append}
+use Rattle.rules.specs.Rules as rules
+use Rattle.rules.specs.Rules.{listFindings, stepFindings, modelFindings, pinFindings, mapFindings, sectionFindings, findings, nothing, earliest, crossRule}
+use Rattle.rules.specs.declared.Finding.{Finding}
+use Rattle.rules.proofs.KindLaws.{earlier-one}
+
+pub record Other (number : ℕ) : Type 0 where
+  pub apart : number ≡ 18 → ⊥
+
+-- ---- a list of rules gives the number of one of them, or 0
+
+pub other : (n : ℕ) → eqb n 18 ≡ false → Other n
+other n e = record { apart = eqb-false n 18 e }
+
+kept : Other 0
+kept = other 0 refl
+
+by-broken : (b : Bool) (n later : ℕ) → Other n → Other later → Other (first b n later)
+unfolding first
+by-broken true n later h k = h
+by-broken false n later h k = k
+
+rule : (n : ℕ) → eqb n 18 ≡ false → (b : Bool) (later : ℕ) → Other later → Other (first b n later)
+rule n e b later h = by-broken b n later (other n e) h
+
+one-of : (b : Bool) (m n : ℕ) → Other m → Other n → Other (if b then m else n)
+one-of b m n h k = by-test Other b m n (λ e. h) (λ e. k)
+
+-- ---- 1 to 4
+
+abbrev pub OtherBytes : Checked → Type 0
+OtherBytes bytes.Fine = Unit {0}
+OtherBytes (bytes.Refused number line) = Other number
+
+characters-other : (l : Raw) → Other (text.lineRule l)
+unfolding text.lineRule
+characters-other l = rule 2 refl _ _ (rule 3 refl _ _ (rule 4 refl _ _ kept))
+
+lines-other : (n : ℕ) (ls : List Raw) → OtherBytes (linesRule n ls)
+unfolding linesRule text.judged
+lines-other n [] = tt
+lines-other n (l ∷ ls) = by-test OtherBytes (eqb (text.lineRule l) 0) _ _ (λ e. lines-other (n + 1) ls) (λ e. characters-other l)
+
+pub bytes-other : (t : List ℕ) → OtherBytes (byteRules t)
+unfolding byteRules
+bytes-other t = by-test OtherBytes (ltb text.mostBytes (length t)) _ _ (λ e. other 1 refl) (λ e. lines-other 1 (lines t))
+
+-- ---- 5 to 17
+
+line-other : (content : List ℕ) (s : State) → Other (lineRule content s)
+unfolding lineRule dataRule pathRule openRule closedRule pinRule mapRule headRule listRule
+line-other content s =
+    one-of _ _ _ kept
+    (one-of _ _ _ (rule 12 refl _ _ (rule 13 refl _ _ (rule 14 refl _ _ (rule 17 refl _ _ kept))))
+    (one-of _ _ _ (one-of _ _ _ (one-of _ _ _ (rule 11 refl _ _ kept) (other 12 refl)) (rule 15 refl _ _ (rule 11 refl _ _ (rule 12 refl _ _ (rule 13 refl _ _ (rule 14 refl _ _ (rule 17 refl _ _ kept)))))))
+    (one-of _ _ _ (rule 11 refl _ _ (rule 17 refl _ _ kept))
+    (one-of _ _ _ (rule 11 refl _ _ (rule 12 refl _ _ (rule 13 refl _ _ (rule 14 refl _ _ kept))))
+    (one-of _ _ _ (rule 11 refl _ _ (rule 12 refl _ _ (rule 13 refl _ _ (rule 14 refl _ _ kept))))
+    (one-of _ _ _ (one-of _ _ _ (other 11 refl) kept) (other 12 refl)))))))
+
+keyword-other : (k : ℕ) (argument : List ℕ) (s : State) → Other (keywordRule k argument s)
+unfolding keywordRule
+keyword-other k argument s = rule 15 refl _ _ (rule 9 refl _ _ (rule 11 refl _ _ (rule 13 refl _ _ (rule 14 refl _ _ (rule 16 refl _ _ (rule 17 refl _ _ kept))))))
+
+abbrev OtherStep : Step → Type 0
+OtherStep step = Other (step .number)
+
+goes-other : (s : State) → OtherStep (goes s)
+unfolding goes
+goes-other s = kept
+
+breaks-other : (k : ℕ) (s : State) → Other k → OtherStep (breaks k s)
+unfolding breaks
+breaks-other k s h = h
+
+judged-other : (k : ℕ) (next s : State) → Other k → OtherStep (judged k next s)
+unfolding judged
+judged-other k next s h = by-test OtherStep (eqb k 0) _ _ (λ e. goes-other next) (λ e. breaks-other k s h)
+
+line-step : (content : List ℕ) (s : State) → OtherStep (lineStep content s)
+unfolding lineStep
+line-step content s = judged-other _ _ s (line-other content s)
+
+keyword-step : (k : ℕ) (argument : List ℕ) (s : State) → OtherStep (keywordStep k argument s)
+unfolding keywordStep
+keyword-step k argument s = judged-other _ _ s (keyword-other k argument s)
+
+bracket-step : (b : Bracket) (content : List ℕ) (s : State) → OtherStep (bracketStep b content s)
+bracket-step Plain content s = line-step content s
+bracket-step Indented content s = by-test OtherStep (isText (s .place)) _ _ (λ e. line-step content s) (λ e. breaks-other 6 s (other 6 refl))
+bracket-step Bad content s = breaks-other 6 s (other 6 refl)
+bracket-step Unknown content s = breaks-other 7 s (other 7 refl)
+bracket-step Later content s = breaks-other 8 s (other 8 refl)
+bracket-step (Keyword k start) content s = keyword-step k (argumentFrom content start) s
+
+before-step : (b : Bracket) (content : List ℕ) (s : State) → OtherStep (beforeStep b content s)
+before-step Plain content s = goes-other s
+before-step Indented content s = goes-other s
+before-step Bad content s = goes-other s
+before-step Unknown content s = goes-other s
+before-step Later content s = goes-other s
+before-step (Keyword k start) content s = by-test OtherStep (eqb k beginHeader) _ _ (λ e. keyword-step k (argumentFrom content start) s) (λ e. goes-other s)
+
+step-other : (content : List ℕ) (s : State) → OtherStep (stepOf content s)
+unfolding stepOf
+step-other content s =
+    by-test OtherStep (isBlankLine content) _ _ (λ e. goes-other s)
+    (λ e. by-test OtherStep (eqb (s .place) done) _ _ (λ f. goes-other s)
+    (λ f. by-test OtherStep (eqb (s .place) before) _ _ (λ g. before-step (bracketOf content) content s) (λ g. bracket-step (bracketOf content) content s)))
+
+abbrev pub OtherReading : Reading → Type 0
+OtherReading (Read counts) = Unit {0}
+OtherReading (Refused number line) = Other number
+
+run-other : (n : ℕ) (ls : List Raw) (s : State) → OtherReading (run n ls s)
+unfolding run onward atEnd
+run-other n [] s =
+    by-test OtherReading (eqb (s .place) done) _ _ (λ e. tt)
+    (λ e. by-test OtherReading (eqb (s .place) before) _ _ (λ f. other 5 refl) (λ f. other 10 refl))
+run-other n (l ∷ ls) s =
+    by-test OtherReading (eqb (stepOf (contentOf commentByte (l .bytes)) s .number) 0) _ _
+    (λ e. run-other (n + 1) ls (stepOf (contentOf commentByte (l .bytes)) s .state)) (λ e. step-other (contentOf commentByte (l .bytes)) s)
+
+pub reading-other : (t : List ℕ) → OtherReading (readingOf t)
+unfolding readingOf
+reading-other t = run-other 1 (lines t) startState
+
+-- ---- 19 to 27
+
+abbrev OtherFinding : Finding → Type 0
+OtherFinding finding = Other (finding .number)
+
+each-map : {A : Type 0} (f : A → Finding) → ((x : A) → OtherFinding (f x)) → (xs : List A) → Each OtherFinding (map f xs)
+each-map f h [] = none
+each-map f h (x ∷ xs) = more (h x) (each-map f h xs)
+
+earliest-other : {fs : List Finding} → Each OtherFinding fs → OtherFinding (earliest fs)
+unfolding earliest nothing
+earliest-other none = kept
+earliest-other (more {x = f} {xs = fs} h hs) = earlier-one OtherFinding f (earliest fs) h (earliest-other hs)
+
+module _ (d : Document) where
+  list-others : Each OtherFinding (listFindings d)
+  unfolding listFindings rules.listRule
+  list-others = each-map _ (λ (n : Named). rule 19 refl _ _ (rule 20 refl _ _ kept)) (d .listed)
+
+  step-others : (m : Model) → Each OtherFinding (stepFindings d m)
+  unfolding stepFindings rules.stepRule rules.endRule rules.sectionStepRule
+  step-others m =
+      each-map _
+      (λ (s : PathStep).
+      one-of _ _ _ (rule 21 refl _ _ (rule 22 refl _ _ (rule 26 refl _ _ kept))) (one-of _ _ _ (rule 23 refl _ _ (rule 24 refl _ _ (rule 25 refl _ _ (rule 26 refl _ _ kept)))) kept))
+      (m .steps)
+
+  model-others : (ms : List Model) → Each OtherFinding (modelFindings d ms)
+  unfolding modelFindings rules.modelRule
+  model-others [] = none
+  model-others (m ∷ ms) = more (rule 19 refl _ _ (rule 20 refl _ _ kept)) (each-append (step-others m) (model-others ms))
+
+  pin-others : (m : Map) → Each OtherFinding (pinFindings m)
+  unfolding pinFindings rules.pinRule
+  pin-others m = each-map _ (λ (p : Named). rule 19 refl _ _ kept) (m .pins)
+
+  map-others : (ms : List Map) → Each OtherFinding (mapFindings d ms)
+  unfolding mapFindings rules.mapRule
+  map-others [] = none
+  map-others (m ∷ ms) = more (rule 19 refl _ _ kept) (each-append (pin-others m) (map-others ms))
+
+  section-others : (i : ℕ) (ss : List Section) → Each OtherFinding (sectionFindings d i ss)
+  unfolding sectionFindings rules.sectionRule
+  section-others i [] = none
+  section-others i (s ∷ ss) = more (rule 19 refl _ _ (rule 27 refl _ _ kept)) (section-others (i + 1) ss)
+
+  pub cross-other : Other (crossRule d .number)
+  unfolding crossRule findings
+  cross-other =
+      earliest-other
+      (each-append list-others (each-append (model-others (d .models)) (each-append (map-others (d .maps)) (section-others 0 (d .sections)))))

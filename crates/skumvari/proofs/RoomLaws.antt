@@ -1,0 +1,95 @@
+-- A table of `mostWords` words or more is long enough for every text: it comes to what a table of `mostWords` words comes to, and is never
+-- refused for its room.
+-- Assumes nothing.
+use mathlib.Core.Path.{_≡_, refl, sym, _∙_, ap}
+use mathlib.Core.List.{List}
+use Prim.Native.Nat.{ℕ, _+_, _*_, _≤_}
+use native.Mathlib.Nat.{le-refl}
+use native.Mathlib.Omega.{arith}
+use lib.ListN.{length}
+use lib.Dec.{eqb}
+use borrow.Author.Tests.{le-ltb}
+use Rattle.base.proofs.IfLaws.{if-false, by-test}
+use Rattle.text.specs.ByteRules.{byteRules}
+use Rattle.text.specs.declared.Checked.{Checked}
+use Rattle.text.specs.declared.Checked.the-variants as bytes
+use Rattle.table.specs.Layout.{widths, needed}
+use Rattle.block.specs.declared.Counts.{Counts}
+use Rattle.reading.specs.Reading.{readingOf}
+use Rattle.reading.specs.declared.Reading.{Reading}
+use Rattle.reading.specs.declared.Reading.the-variants as reading
+use Rattle.reading.proofs.CountLaws.{Within, read-within, read-matrices}
+use Rattle.document.specs.Document.{documentOf}
+use Rattle.document.specs.Records.{tableOf}
+use Rattle.document.specs.Holds.{countsOf}
+use Rattle.filling.specs.Filled.{afterReading, filledOf}
+use Rattle.filling.specs.declared.Filled.the-variants.{Stored, Refused}
+use Rattle.filling.proofs.ReadyLaws.{needed-is}
+use Rattle.rules.specs.Rules.{crossRule}
+use Rattle.intake.specs.Verdict.{Outcome, crossed, afterFilling, afterBytes, verdictOf}
+use Rattle.skumvari.specs.Room.{mostWords}
+use Rattle.skumvari.proofs.NumberLaws.{Other, other, OtherBytes, bytes-other, OtherReading, reading-other, cross-other}
+
+-- the words that so many records of each part need
+words-for : (c : Counts) →
+    needed widths (countsOf c) ≡ 7 + 5 * c .models + 6 * c .steps + 7 * c .maps + 2 * c .pins + 8 * c .sections + 5 * c .matrices + 3 * c .values
+unfolding needed countsOf
+words-for c = omega arith
+
+module _ (t : List ℕ) where
+  few-words : (c : Counts) → readingOf t ≡ reading.Read c → length (tableOf t) ≤ mostWords
+  unfolding mostWords
+  few-words c e =
+      let n : needed widths (countsOf c) ≡ length (tableOf t) = needed-is t c e in
+      let w : Within c = read-within t c e in
+      let m : c .matrices ≤ 1_024 = read-matrices t c e in
+      omega (arith, words-for c, w .models, w .steps, w .maps, w .pins, w .sections, w .values)
+
+  module _ (size : ℕ) (enough : mostWords ≤ size) where
+    read-stored : (c : Counts) → readingOf t ≡ reading.Read c → afterReading t size (reading.Read c) ≡ Stored (length (tableOf t))
+    read-stored c e =
+        let f : length (tableOf t) ≤ mostWords = few-words c e in
+        let l : length (tableOf t) ≤ size = omega arith in
+        if-false _ _ (le-ltb size (length (tableOf t)) l)
+
+  filled-alike : (answer : Reading) → readingOf t ≡ answer → (size : ℕ) → mostWords ≤ size → afterReading t size answer ≡ afterReading t mostWords answer
+  filled-alike (reading.Read c) e size enough = read-stored size enough c e ∙ sym (read-stored mostWords (le-refl _) c e)
+  filled-alike (reading.Refused number line) e size enough = refl
+
+  filled-same : (size : ℕ) → mostWords ≤ size → filledOf t size ≡ filledOf t mostWords
+  unfolding filledOf
+  filled-same size enough = filled-alike (readingOf t) refl size enough
+
+  bytes-alike : (checked : Checked) (size : ℕ) → mostWords ≤ size → afterBytes t size checked ≡ afterBytes t mostWords checked
+  bytes-alike bytes.Fine size enough = ap (afterFilling t) (filled-same size enough)
+  bytes-alike (bytes.Refused number line) size enough = refl
+
+  -- ---- no room is short
+
+  crossed-other : (words : ℕ) → Other (crossed words (crossRule (documentOf t)) .number)
+  crossed-other words =
+      by-test (λ (o : Outcome). Other (o .number)) (eqb (crossRule (documentOf t) .number) 0) _ _ (λ e. other 0 refl) (λ e. cross-other (documentOf t))
+
+  module _ (size : ℕ) (enough : mostWords ≤ size) where
+    reading-number : (answer : Reading) → readingOf t ≡ answer → OtherReading answer → Other (afterFilling t (afterReading t size answer) .number)
+    reading-number (reading.Read c) e h =
+        rw (read-stored size enough c e) (crossed-other (length (tableOf t)))
+    reading-number (reading.Refused number line) e h = h
+
+    filling-number : Other (afterFilling t (filledOf t size) .number)
+    unfolding filledOf
+    filling-number = reading-number (readingOf t) refl (reading-other t)
+
+    bytes-number : (checked : Checked) → OtherBytes checked → Other (afterBytes t size checked .number)
+    bytes-number bytes.Fine h = filling-number
+    bytes-number (bytes.Refused number line) h = h
+
+-- what a table comes to does not change past `mostWords`
+pub suffices : (t : List ℕ) (size : ℕ) → mostWords ≤ size → verdictOf t size ≡ verdictOf t mostWords
+unfolding verdictOf
+suffices t size enough = bytes-alike t (byteRules t) size enough
+
+-- and "18 ROOM: table shorter than the words needed" is not given
+pub never-short : (t : List ℕ) (size : ℕ) → mostWords ≤ size → verdictOf t size .number ≡ 18 → ⊥
+unfolding verdictOf
+never-short t size enough = bytes-number t size enough (byteRules t) (bytes-other t) .apart
