@@ -1,2 +1,3 @@
 mod RowLaws
 mod WholeLaws
+pub mod SquareLaws

@@ -22,7 +22,7 @@ sets-append l at (x ∷ xs) ys =
 -- ---- one row
 
 module _ (r : Records) (index row : ℕ) where
-  row-long : (column many : ℕ) → length (rowFrom r index row column many) ≡ many
+  pub row-long : (column many : ℕ) → length (rowFrom r index row column many) ≡ many
   unfolding rowFrom
   row-long column zero = refl
   row-long column (suc many) = ap suc (row-long (column + 1) many)
