@@ -16,8 +16,9 @@ use Rattle.base.proofs.IfLaws.{if-true, if-false, by-cases}
 use Rattle.base.proofs.BrokenLaws.{sound, Numbered, all-kept, none-broken, found-broken, first-broken, first-kept}
 use Rattle.document.specs.Holds.{Each}
 use Rattle.document.specs.Holds.Each.{none, more}
-use Rattle.rules.proofs.FirstLaws.{Looked}
-use Rattle.rules.proofs.RisingLaws.{Among, front, further, each-one}
+use Rattle.rules.specs.Listed.{Looked, Among}
+use Rattle.rules.specs.Listed.Among.{front, further}
+use Rattle.rules.proofs.RisingLaws.{each-one}
 use Rattle.demands.specs.RuleBook.{BrokenIn, rank}
 
 -- ---- the rules of one line

@@ -46,7 +46,7 @@ use Rattle.reading.specs.declared.Reading.{Reading}
 use Rattle.reading.specs.declared.Reading.the-variants.{Read, Refused}
 use Rattle.document.specs.Holds.{Each}
 use Rattle.document.specs.Holds.Each.{none, more}
-use Rattle.rules.proofs.FirstLaws.{Looked}
+use Rattle.rules.specs.Listed.{Looked}
 use Rattle.demands.specs.RuleBook.{sizeRules, characterRules, characterLooked, headRules, openRules, closedRules, pathRules, mapRules, pinRules, dataRules, listRules, lineRules, keywordRules, bracketRules, beforeRules, rulesOn, endRules, forwardLooked, roomRules, forward, rank}
 use Rattle.demands.proofs.BookLaws.{Ranked, Given, givenBy, given-later, given-here, Before, InOrder, last, followed, AllRanked}
 

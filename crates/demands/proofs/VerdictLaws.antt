@@ -33,8 +33,10 @@ use Rattle.filling.specs.declared.Filled.the-variants as filled
 use Rattle.rules.specs.Rules.{findings, listFindings, modelFindings, mapFindings, sectionFindings, crossRule}
 use Rattle.rules.specs.declared.Finding.{Finding}
 use Rattle.rules.proofs.OrderLaws.{in-order}
-use Rattle.rules.proofs.RisingLaws.{Among, front, further, all-least, each-one}
-use Rattle.rules.proofs.FirstLaws.{Looked, looked, Breaks, none-breaks, given-breaks, unbroken, lowest-line, lowest-number, first-found}
+use Rattle.rules.specs.Listed.{Looked, looked, Among}
+use Rattle.rules.specs.Listed.Among.{front, further}
+use Rattle.rules.proofs.RisingLaws.{all-least, each-one}
+use Rattle.rules.proofs.FirstLaws.{Breaks, none-breaks, given-breaks, unbroken, lowest-line, lowest-number, first-found}
 use Rattle.intake.specs.Verdict.{Outcome, acceptedWith, refusedBy, crossed, afterFilling, afterBytes, verdictOf}
 use Rattle.demands.specs.RuleBook.{BrokenIn, Broken, First, group, rank, sizeRules, roomRules, characterLooked, forwardLooked, forward}
 use Rattle.demands.proofs.BookLaws.{Given, givenBy, Found, InOrder, last, followed, AllRanked, empty-gives, given-later, given-here, given-none, given-first}

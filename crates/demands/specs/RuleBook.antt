@@ -11,7 +11,6 @@ use Rattle.base.specs.If.{if_then_else_, both, either}
 use Rattle.base.specs.Runs.{all}
 use Rattle.base.specs.Class.{isPrinted}
 use Rattle.base.specs.Broken.{Rule, _when_}
-use Rattle.base.proofs.BrokenLaws.{sound}
 use Rattle.text.specs.Lines.{Raw, lines, contentOf, isBlankLine}
 use Rattle.text.specs.Words.{words, firstOf}
 use Rattle.text.specs.ByteRules.{mostBytes, mostCharacters, characters}
@@ -44,8 +43,7 @@ use Rattle.block.specs.declared.State.{State}
 use Rattle.reading.specs.Reading.{commentByte, argumentFrom, stepOf}
 use Rattle.document.specs.Document.{documentOf}
 use Rattle.document.specs.Records.{tableOf}
-use Rattle.rules.proofs.FirstLaws.{Looked, looked}
-use Rattle.rules.proofs.RisingLaws.{Among}
+use Rattle.rules.specs.Listed.{Looked, looked, Among}
 
 -- ---- 1
 
@@ -182,15 +180,19 @@ group t size g =
     if eqb g 4 then record { line = 0; rules = roomRules t size } ∷ [] else
     if eqb g 5 then looked (documentOf t) else []
 
+-- what stands past the last rule of a list: one that is never broken
+abbrev neverBroken : Rule
+neverBroken = 0 when false
+
 -- one of these looks finds a rule of this number broken on this line
 pub record BrokenIn (looks : List Looked) (number line : ℕ) : Type 0 where
   pub look : Looked
   pub among : Among look looks
   pub place : ℕ
   pub within : place < length (look .rules)
-  pub broken : getD (look .rules) place sound .broken ≡ true
+  pub broken : getD (look .rules) place neverBroken .broken ≡ true
   pub on-line : look .line ≡ line
-  pub numbered : getD (look .rules) place sound .number ≡ number
+  pub numbered : getD (look .rules) place neverBroken .number ≡ number
 
 -- a listed rule of group g is broken on a line
 abbrev pub Broken : List ℕ → ℕ → ℕ → ℕ → ℕ → Type 0

@@ -32,7 +32,9 @@ use Rattle.document.proofs.BlockLaws.{gather-none, gather-more}
 use Rattle.rules.specs.Rules.{any, isTwice, isThere, modelName, listRule, listFindings, nothing, firstIn}
 use Rattle.rules.specs.Filled.{Filled}
 use Rattle.rules.specs.declared.Finding.{Finding}
-use Rattle.rules.proofs.RisingLaws.{Rising, Among, front, further, each-one, numbers, rising-behind, all-least}
+use Rattle.rules.specs.Listed.{Among}
+use Rattle.rules.specs.Listed.Among.{front, further}
+use Rattle.rules.proofs.RisingLaws.{Rising, each-one, numbers, rising-behind, all-least}
 use Rattle.rules.proofs.RisingLaws.Rising.{rise}
 use Rattle.rules.proofs.OrderLaws.{in-order, lines-rise}
 use Rattle.rules.proofs.ListLaws.{models-below}

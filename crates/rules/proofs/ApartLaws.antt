@@ -51,7 +51,9 @@ use Rattle.rules.specs.Rules.{
   findings,
 }
 use Rattle.rules.specs.declared.Finding.{Finding}
-use Rattle.rules.proofs.RisingLaws.{Gives, Among, front, further, each-one, each-among, same-line}
+use Rattle.rules.specs.Listed.{Among}
+use Rattle.rules.specs.Listed.Among.{front, further}
+use Rattle.rules.proofs.RisingLaws.{Gives, each-one, each-among, same-line}
 use Rattle.rules.proofs.RisingLaws.Gives.{nothing, itself}
 use Rattle.rules.proofs.OrderLaws.{Ordered, in-order, lines-rise, step-own}
 

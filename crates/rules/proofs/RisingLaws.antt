@@ -11,6 +11,8 @@ use Rattle.document.specs.Lines.{Line, gather, upTo}
 use Rattle.document.specs.Holds.{Each}
 use Rattle.document.specs.Holds.Each.{none, more}
 use Rattle.document.proofs.BlockLaws.{gather-none, gather-more, up-to-none, up-to-in, up-to-out, joined, joined-append}
+use Rattle.rules.specs.Listed.{Among}
+use Rattle.rules.specs.Listed.Among.{front, further}
 
 -- ---- every one of a list
 
@@ -24,10 +26,6 @@ module _ {A : Type 0} {P : A → Type 0} where
   each-at (b ∷ before) behind x (more h hs) = each-at before behind x hs
 
 -- ---- one of a list
-
-pub data Among {A : Type 0} (x : A) : List A → Type 0 where
-  front : {xs : List A} → Among x (x ∷ xs)
-  further : {y : A} {xs : List A} → Among x xs → Among x (y ∷ xs)
 
 module _ {A : Type 0} where
   pub each-one : {P : A → Type 0} {x : A} {xs : List A} → Each P xs → Among x xs → P x

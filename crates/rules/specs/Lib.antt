@@ -1,3 +1,4 @@
 pub mod Rules
 pub mod Filled
 pub mod Nth
+pub mod Listed
