@@ -340,20 +340,20 @@ pub forward-told : (n : ℕ) (ls : List Raw) (s : State) → Told (run n ls s) (
 unfolding run forwardLooked
 forward-told n [] s = end-told s
 forward-told n (l ∷ ls) s =
-    by-cases _ (eqb (stepOf (contentOf commentByte (l .bytes)) s .number) 0)
-    (λ (e : eqb (stepOf (contentOf commentByte (l .bytes)) s .number) 0 ≡ true).
-    let z : firstBroken (rulesOn (contentOf commentByte (l .bytes)) s) ≡ 0 = sym (step-number (contentOf commentByte (l .bytes)) s) ∙ eqb-true _ _ e in
-    rw (on-kept (stepOf (contentOf commentByte (l .bytes)) s) n (run (n + 1) ls) e, if-true {A = List Looked} (forwardLooked (n + 1) ls (stepOf (contentOf commentByte (l .bytes)) s .state)) [] e, given-later (record { line = n; rules = rulesOn (contentOf commentByte (l .bytes)) s }) (forwardLooked (n + 1) ls (stepOf (contentOf commentByte (l .bytes)) s .state)) z) (forward-told (n + 1) ls (stepOf (contentOf commentByte (l .bytes)) s .state)))
-    (λ (e : eqb (stepOf (contentOf commentByte (l .bytes)) s .number) 0 ≡ false).
-    let z : firstBroken (rulesOn (contentOf commentByte (l .bytes)) s) ≡ 0 → ⊥ = λ (q : firstBroken (rulesOn (contentOf commentByte (l .bytes)) s) ≡ 0). eqb-false _ _ e (step-number (contentOf commentByte (l .bytes)) s ∙ q) in
-    rw (on-broken (stepOf (contentOf commentByte (l .bytes)) s) n (run (n + 1) ls) e, given-here (record { line = n; rules = rulesOn (contentOf commentByte (l .bytes)) s }) (if eqb (stepOf (contentOf commentByte (l .bytes)) s .number) 0 then forwardLooked (n + 1) ls (stepOf (contentOf commentByte (l .bytes)) s .state) else []) z, sym (step-number (contentOf commentByte (l .bytes)) s)) (refused-at (stepOf (contentOf commentByte (l .bytes)) s .number) n (eqb-false _ _ e)))
+    by-cases _ (eqb (firstBroken (rulesOn (contentOf commentByte (l .bytes)) s)) 0)
+    (λ (e : eqb (firstBroken (rulesOn (contentOf commentByte (l .bytes)) s)) 0 ≡ true).
+    let kept : eqb (stepOf (contentOf commentByte (l .bytes)) s .number) 0 ≡ true = ap (λ (m : ℕ). eqb m 0) (step-number (contentOf commentByte (l .bytes)) s) ∙ e in
+    rw (on-kept (stepOf (contentOf commentByte (l .bytes)) s) n (run (n + 1) ls) kept, if-true {A = List Looked} (forwardLooked (n + 1) ls (stepOf (contentOf commentByte (l .bytes)) s .state)) [] e, given-later (record { line = n; rules = rulesOn (contentOf commentByte (l .bytes)) s }) (forwardLooked (n + 1) ls (stepOf (contentOf commentByte (l .bytes)) s .state)) (eqb-true _ _ e)) (forward-told (n + 1) ls (stepOf (contentOf commentByte (l .bytes)) s .state)))
+    (λ (e : eqb (firstBroken (rulesOn (contentOf commentByte (l .bytes)) s)) 0 ≡ false).
+    let broken : eqb (stepOf (contentOf commentByte (l .bytes)) s .number) 0 ≡ false = ap (λ (m : ℕ). eqb m 0) (step-number (contentOf commentByte (l .bytes)) s) ∙ e in
+    rw (on-broken (stepOf (contentOf commentByte (l .bytes)) s) n (run (n + 1) ls) broken, given-here (record { line = n; rules = rulesOn (contentOf commentByte (l .bytes)) s }) (if eqb (firstBroken (rulesOn (contentOf commentByte (l .bytes)) s)) 0 then forwardLooked (n + 1) ls (stepOf (contentOf commentByte (l .bytes)) s .state) else []) (eqb-false _ _ e), sym (step-number (contentOf commentByte (l .bytes)) s)) (refused-at (stepOf (contentOf commentByte (l .bytes)) s .number) n (eqb-false _ _ broken)))
 
 pub forward-ranked : (n : ℕ) (ls : List Raw) (s : State) → AllRanked forward (forwardLooked n ls s)
 unfolding forwardLooked
 forward-ranked n [] s = more (end-ranked s) none
 forward-ranked n (l ∷ ls) s =
     more (rules-ranked _ s)
-    (by-test (AllRanked forward) (eqb (stepOf (contentOf commentByte (l .bytes)) s .number) 0) _ _ (λ e. forward-ranked (n + 1) ls (stepOf (contentOf commentByte (l .bytes)) s .state)) (λ e. none))
+    (by-test (AllRanked forward) (eqb (firstBroken (rulesOn (contentOf commentByte (l .bytes)) s)) 0) _ _ (λ e. forward-ranked (n + 1) ls (stepOf (contentOf commentByte (l .bytes)) s .state)) (λ e. none))
 
 -- the end of the text stands last
 before-end : (n : ℕ) (rules : List Rule) (s : State) → 0 < n → Before (record { line = n; rules = rules }) (endLook s)
@@ -364,12 +364,12 @@ unfolding forwardLooked
 forward-behind m rules n [] s p l = more (before-end m rules s p) none
 forward-behind m rules n (r ∷ ls) s p l =
     more (before-at m rules _ p l)
-    (by-test (Each (Before (record { line = m; rules = rules }))) (eqb (stepOf (contentOf commentByte (r .bytes)) s .number) 0) _ _ (λ e. forward-behind m rules (n + 1) ls (stepOf (contentOf commentByte (r .bytes)) s .state) p (omega arith)) (λ e. none))
+    (by-test (Each (Before (record { line = m; rules = rules }))) (eqb (firstBroken (rulesOn (contentOf commentByte (r .bytes)) s)) 0) _ _ (λ e. forward-behind m rules (n + 1) ls (stepOf (contentOf commentByte (r .bytes)) s .state) p (omega arith)) (λ e. none))
 
 pub forward-ordered : (n : ℕ) (ls : List Raw) (s : State) → 0 < n → InOrder (forwardLooked n ls s)
 unfolding forwardLooked
 forward-ordered n [] s p = followed none last
 forward-ordered n (l ∷ ls) s p =
     followed
-    (by-test (Each (Before _)) (eqb (stepOf (contentOf commentByte (l .bytes)) s .number) 0) _ _ (λ e. forward-behind n _ (n + 1) ls (stepOf (contentOf commentByte (l .bytes)) s .state) p (omega arith)) (λ e. none))
-    (by-test InOrder (eqb (stepOf (contentOf commentByte (l .bytes)) s .number) 0) _ _ (λ e. forward-ordered (n + 1) ls (stepOf (contentOf commentByte (l .bytes)) s .state) (omega arith)) (λ e. last))
+    (by-test (Each (Before _)) (eqb (firstBroken (rulesOn (contentOf commentByte (l .bytes)) s)) 0) _ _ (λ e. forward-behind n _ (n + 1) ls (stepOf (contentOf commentByte (l .bytes)) s .state) p (omega arith)) (λ e. none))
+    (by-test InOrder (eqb (firstBroken (rulesOn (contentOf commentByte (l .bytes)) s)) 0) _ _ (λ e. forward-ordered (n + 1) ls (stepOf (contentOf commentByte (l .bytes)) s .state) (omega arith)) (λ e. last))

@@ -10,7 +10,7 @@ use lib.Dec.{leb, ltb, eqb}
 use Rattle.base.specs.If.{if_then_else_, both, either}
 use Rattle.base.specs.Runs.{all}
 use Rattle.base.specs.Class.{isPrinted}
-use Rattle.base.specs.Broken.{Rule, _when_}
+use Rattle.base.specs.Broken.{Rule, _when_, firstBroken}
 use Rattle.text.specs.Lines.{Raw, lines, contentOf, isBlankLine}
 use Rattle.text.specs.Words.{words, firstOf}
 use Rattle.text.specs.ByteRules.{mostBytes, mostCharacters, characters}
@@ -158,7 +158,7 @@ unfoldable pub forwardLooked : ℕ → List Raw → State → List Looked
 forwardLooked n [] s = record { line = 0; rules = endRules s } ∷ []
 forwardLooked n (l ∷ ls) s =
     record { line = n; rules = rulesOn (contentOf commentByte (l .bytes)) s }
-    ∷ (if eqb (stepOf (contentOf commentByte (l .bytes)) s .number) 0
+    ∷ (if eqb (firstBroken (rulesOn (contentOf commentByte (l .bytes)) s)) 0
     then forwardLooked (n + 1) ls (stepOf (contentOf commentByte (l .bytes)) s .state)
     else [])
 
