@@ -31,7 +31,7 @@ unfoldable pub any : {A : Type 0} → (A → Bool) → List A → Bool
 any test [] = false
 any test (x ∷ xs) = either (test x) (any test xs)
 
--- "names are compared by bytes, with case"
+-- "All else is case sensitive": the same bytes
 unfoldable pub sameWord : Word → Word → Bool
 sameWord v w = same (v .text) (w .text)
 
