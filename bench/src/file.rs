@@ -22,7 +22,9 @@ pub struct File {
 
 impl File {
     pub fn text(&self) -> Vec<u8> {
-        let mut text = String::from("[Begin Header]\n[ICM Ver] 1.1\n[File Name] bench.icm\n[File Rev] 1\n[End Header]\n[Begin ICM Family] F\n");
+        let mut text =
+            String::from("[Begin Header]\n[ICM Ver] 1.1\n[File Name] bench.icm\n[File Rev] 1\n[End Header]\n");
+        text.push_str("[Begin ICM Family] F\n");
         text.push_str(&self.filling);
         text.push_str("[Manufacturer] M\n[ICM Model List]\n");
         for (name, _) in &self.models {
@@ -30,7 +32,10 @@ impl File {
         }
         text.push_str(&self.list);
         for (name, path) in &self.models {
-            let _ = writeln!(text, "[Begin ICM Model] {name}\nICM_model_type MLM\n[Tree Path Description]\n{path}[End ICM Model]");
+            let _ = writeln!(
+                text,
+                "[Begin ICM Model] {name}\nICM_model_type MLM\n[Tree Path Description]\n{path}[End ICM Model]"
+            );
         }
         for (name, pins) in &self.maps {
             let _ = writeln!(text, "[ICM Pin Map] {name}\nPin_order Un_ordered\nPin_list\n{}", pins.join("\n"));
@@ -58,7 +63,8 @@ impl File {
     }
 
     pub fn add_section(&mut self, name: &str, lines: &str) {
-        let _ = write!(self.sections, "[Begin ICM Section] {name}\n[Derivation Method] Lumped\n{lines}[End ICM Section]\n");
+        let _ =
+            write!(self.sections, "[Begin ICM Section] {name}\n[Derivation Method] Lumped\n{lines}[End ICM Section]\n");
     }
 }
 
@@ -96,6 +102,12 @@ impl Numbers {
 
     /// Fourteen digits, a sign and an exponent: 19 characters.
     pub fn long(&mut self) -> String {
-        format!("-{}.{:06}{:07}e-{}", self.below(9) + 1, self.below(1_000_000), self.below(10_000_000), self.below(9) + 1)
+        format!(
+            "-{}.{:06}{:07}e-{}",
+            self.below(9) + 1,
+            self.below(1_000_000),
+            self.below(10_000_000),
+            self.below(9) + 1
+        )
     }
 }

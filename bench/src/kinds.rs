@@ -2,7 +2,7 @@
 // A size of 4 is the whole file, of 2 about half of it and of 1 about a quarter.
 use std::fmt::Write;
 
-use crate::file::{two_maps, File, Numbers};
+use crate::file::{diagonal, two_maps, File, Numbers};
 
 /// A name and what makes a file of a size.
 pub type Kind = (&'static str, fn(usize) -> File);
@@ -16,7 +16,12 @@ pub const KINDS: [Kind; 5] = [
 ];
 
 /// The rows of a full matrix with its numbers, so many to a line.
-fn full(conductors: usize, to_a_line: usize, mut number: impl FnMut() -> String, decorate: impl Fn(String) -> String) -> String {
+fn full(
+    conductors: usize,
+    to_a_line: usize,
+    mut number: impl FnMut() -> String,
+    decorate: impl Fn(String) -> String,
+) -> String {
     let mut lines = String::new();
     for row in 1..=conductors {
         let _ = writeln!(lines, "{}", decorate(format!("[Row] {row}")));
@@ -66,7 +71,7 @@ fn short_numbers(size: usize) -> File {
 fn short_lines(size: usize) -> File {
     let mut numbers = Numbers(4);
     let mut file = File::default();
-    file.add_section("S", "[Inductance Matrix] Diagonal_matrix\n1 1 1 1 1 1 1 1\n1 1 1 1 1 1 1 1\n");
+    file.add_section("S", &diagonal(64));
     for model in 0..16 * size {
         let map = model % (15 * size);
         let mut path = format!("Model_pinmap P{map}\nSide a\n");
@@ -77,7 +82,7 @@ fn short_lines(size: usize) -> File {
         file.models.push((format!("M{model}"), path));
     }
     for map in 0..16 * size {
-        file.maps.push((format!("P{map}"), (0..16).map(|pin| format!("A{pin}")).collect()));
+        file.maps.push((format!("P{map}"), (0..64).map(|pin| format!("A{pin}")).collect()));
     }
     file
 }
@@ -85,7 +90,8 @@ fn short_lines(size: usize) -> File {
 /// All lines but the few about the matrices have 119 or 120 characters.
 fn long_lines(size: usize) -> File {
     let mut numbers = Numbers(5);
-    let lengthen = |line: String| if line.len() < 110 { format!("{line} |{}", "c".repeat(117 - line.len())) } else { line };
+    let lengthen =
+        |line: String| if line.len() < 110 { format!("{line} |{}", "c".repeat(117 - line.len())) } else { line };
     let section = |_| format!("[Inductance Matrix] Full_matrix\n{}", full(100, 6, || numbers.long(), lengthen));
     let mut file = File::through_sections(100, &(0..2 * size).map(section).collect::<Vec<_>>());
     file.maps = two_maps(100);

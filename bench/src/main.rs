@@ -47,7 +47,7 @@ impl Times {
 }
 
 fn main() {
-    println!("Best processor times of at least {ROUNDS} rounds, proved and plain in turns; tables have the words needed. MB is a million bytes.\n");
+    println!("Best processor times of at least {ROUNDS} rounds, proved and plain in turns; tables of the words needed; MB: a million bytes\n");
     let whole = speeds();
     growth();
     adversarial(&whole);
@@ -108,7 +108,12 @@ fn speeds() -> Times {
     let whole = first.expect("there are kinds");
     let text = KINDS[0].1(4).text();
     let bare = (0..50).map(|_| timed(|| black_box(&text).iter().map(|byte| u64::from(*byte)).sum::<u64>())).min();
-    println!("{:<26} {:>9} {:>12.1}", "bare sum of the bytes", text.len(), whole.megabytes_a_second(bare.expect("some rounds")));
+    println!(
+        "{:<26} {:>9} {:>12.1}",
+        "bare sum of the bytes",
+        text.len(),
+        whole.megabytes_a_second(bare.expect("some rounds"))
+    );
     whole
 }
 
@@ -118,8 +123,10 @@ fn growth() {
     for (name, make) in KINDS {
         let times = [1, 2, 4].map(|size| measure(name, &make(size).text()));
         let bytes = times.iter().map(|times| format!("{:>9}", times.bytes)).collect::<String>();
-        let proved = times.iter().map(|times| format!("{:>8.3}", times.nanoseconds_a_byte(times.proved))).collect::<String>();
-        let plain = times.iter().map(|times| format!("{:>8.3}", times.nanoseconds_a_byte(times.plain))).collect::<String>();
+        let proved =
+            times.iter().map(|times| format!("{:>8.3}", times.nanoseconds_a_byte(times.proved))).collect::<String>();
+        let plain =
+            times.iter().map(|times| format!("{:>8.3}", times.nanoseconds_a_byte(times.plain))).collect::<String>();
         println!("{name:<26} {bytes} {proved} {plain}");
     }
 }
@@ -127,13 +134,26 @@ fn growth() {
 /// Files made to be slow, in nanoseconds a byte, and how many times that is of the ordinary file.
 fn adversarial(ordinary: &Times) {
     let (proved, plain) = (ordinary.nanoseconds_a_byte(ordinary.proved), ordinary.nanoseconds_a_byte(ordinary.plain));
-    println!("\n{:<36} {:>9} {:>16} {:>8} {:>7} {:>8} {:>7}", "adversarial, ns a byte", "bytes", "answer", "proved", "times", "plain", "times");
-    println!("{:<36} {:>9} {:>16} {proved:>8.3} {:>7.2} {plain:>8.3} {:>7.2}", "full matrices", ordinary.bytes, ordinary.told(), 1.0, 1.0);
+    println!(
+        "\n{:<36} {:>9} {:>16} {:>8} {:>7} {:>8} {:>7}",
+        "adversarial, ns a byte", "bytes", "answer", "proved", "times", "plain", "times"
+    );
+    println!(
+        "{:<36} {:>9} {:>16} {proved:>8.3} {:>7.2} {plain:>8.3} {:>7.2}",
+        "full matrices",
+        ordinary.bytes,
+        ordinary.told(),
+        1.0,
+        1.0
+    );
     for (name, text) in adversarial::files() {
         let times = measure(name, &text);
         let (slow, plain_slow) = (times.nanoseconds_a_byte(times.proved), times.nanoseconds_a_byte(times.plain));
         let quotients = (slow / proved, plain_slow / plain);
         let answer = times.told();
-        println!("{name:<36} {:>9} {answer:>16} {slow:>8.3} {:>7.2} {plain_slow:>8.3} {:>7.2}", times.bytes, quotients.0, quotients.1);
+        println!(
+            "{name:<36} {:>9} {answer:>16} {slow:>8.3} {:>7.2} {plain_slow:>8.3} {:>7.2}",
+            times.bytes, quotients.0, quotients.1
+        );
     }
 }
