@@ -4,3 +4,4 @@ pub mod WalkLaws
 pub mod ReadingLaws
 pub mod OutsideLaws
 pub mod CountLaws
+mod QuietLaws

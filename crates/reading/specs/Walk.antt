@@ -36,3 +36,11 @@ pub record Continued (t : List ℕ) (w v : Walk) : Type 0 where
   pub from : v .number ≡ 0 → w .number ≡ 0
   pub further : v .number ≡ 0 → w .at ≤ v .at
   pub onward : v .number ≡ 0 → Onward t (v .at) (v .line) (v .state)
+
+-- lines that change nothing, wherever they stand in this place, are passed: from behind them the text comes to the same
+pub record Passed (t : List ℕ) (at line place further number : ℕ) : Type 0 where
+  pub same : (s : State) → s .place ≡ place → run number (lines (drop further t)) s ≡ run line (lines (drop at t)) s
+  pub onward : at ≤ further
+  pub within : further ≤ length t
+  pub raised : line ≤ number
+  pub counted : number + at ≤ line + further

@@ -1,14 +1,18 @@
 // The forward reading: every line of a text in its place, rules 5 to 17.
 ghost use mathlib.Core.Path.{_≡_};
+ghost use mathlib.Core.Bool.{true, false};
 ghost use Prim.Native.Nat.{_+_, _≤_, _<_};
 ghost use lib.ListN.{length};
 ghost use Rattle.place.specs.Place as place;
 ghost use Rattle.block.specs.Kept.{Kept, mostLines};
 ghost use Rattle.reading.specs.Reading.{listRule, goes, breaks, lineStep, keywordStep, argumentFrom, bracketStep, beforeStep, stepOf, atEnd, readingOf};
 ghost use Rattle.text.specs.Lines.{isBlankLine};
+ghost use Rattle.text.specs.Words.{words, firstOf};
+ghost use Rattle.argument.specs.Argument.{isReserved};
+ghost use Rattle.block.specs.declared.State.{State};
 ghost use Rattle.keyword.specs.Bracket.{bracketOf};
-ghost use Rattle.keyword.specs.declared.Bracket.the-variants.{Indented, Keyword};
-ghost use Rattle.reading.specs.Walk.{Reached, Onward};
+ghost use Rattle.keyword.specs.declared.Bracket.the-variants.{Plain, Indented, Keyword};
+ghost use Rattle.reading.specs.Walk.{Reached, Onward, Passed};
 use base::Class;
 use block::Counts;
 use block::State;
@@ -16,6 +20,10 @@ use keyword::Bracket;
 
 // "From `|` on, a line is comment".
 const COMMENT: u8 = b'|';
+
+const LINE_FEED: u8 = 10;
+
+const CARRIAGE_RETURN: u8 = 13;
 
 // "to a depth of 8".
 const DEEPEST: u64 = 8;
@@ -287,13 +295,102 @@ fn take_line(content: &[u8], s: State) -> Step
     bracket_step(content, s)
 }
 
+// ---- lines that change nothing
+
+// Where lines that change nothing end, and at which line.
+struct Passing {
+    at: usize,
+    line: u64,
+}
+
+// A line of the model list as it should be.
+fn is_listed(content: &[u8]) -> bool
+    ensures { λ r. ⌜ (r ≡ true → (bracketOf (now (content .entry)) ≡ Plain) × (isReserved (firstOf (words (now (content .entry)))) ≡ false)) ⌝ }
+{
+    match keyword::read_bracket(content) {
+        Bracket::Plain => !argument::is_reserved(text::first_word(content)),
+        Bracket::Indented => false,
+        Bracket::Bad => false,
+        Bracket::Unknown => false,
+        Bracket::Later => false,
+        Bracket::Keyword(_, _) => false,
+    }
+}
+
+fn is_quiet(content: &[u8], place: u64) -> bool
+    ensures { λ r. ⌜ (r ≡ true → (s : State) → s .place ≡ place → stepOf (now (content .entry)) s ≡ goes s) ⌝ }
+{
+    if is_blank_line(content) {
+        return true;
+    }
+    if place == place::LIST {
+        return is_listed(content);
+    }
+    false
+}
+
+// A look at the first byte: an empty line, a comment, or a place whose lines mostly change nothing.
+fn may_be_quiet(text: &[u8], at: usize, place: u64) -> bool {
+    if place == place::LIST {
+        return true;
+    }
+    let first = base::byte_at(text, at);
+    if first == LINE_FEED {
+        return true;
+    }
+    if first == CARRIAGE_RETURN {
+        return true;
+    }
+    first == COMMENT
+}
+
+// Goes past lines that change nothing, with no look at what is remembered but for the place.
+fn pass_quiet(text: &[u8], at: usize, line: u64, place: u64) -> Passing
+    requires { ⌜ (at ≤ length (now text)) × (line ≤ at + 1) ⌝ }
+    ensures { λ r. ⌜ Passed (now (text .entry)) at line place (r .at) (r .line) ⌝ }
+{
+    let mut here = at;
+    let mut number = line;
+    while here < text.len() {
+        if !may_be_quiet(text, here, place) {
+            return Passing {
+                at: here,
+                line: number,
+            };
+        }
+        let found = text::line_at(text, here, COMMENT);
+        let content = found.content;
+        if !is_quiet(&text[here..content], place) {
+            return Passing {
+                at: here,
+                line: number,
+            };
+        }
+        here = found.next;
+        number += 1;
+    }
+    Passing {
+        at: here,
+        line: number,
+    }
+}
+
 // ---- the whole text
 
-// The line at a place: each byte of it is gone over a bounded number of times.
+// The line at a place, or those that change nothing: each byte is gone over a bounded number of times.
 fn read_line(text: &[u8], at: usize, line: u64, s: State) -> Walk
     requires { ⌜ (at < length (now text)) × Onward (now text) at line s ⌝ }
     ensures { λ r. ⌜ Reached (now (text .entry)) at line s r ⌝ }
 {
+    let passing = pass_quiet(text, at, line, s.place);
+    if at < passing.at {
+        return Walk {
+            number: 0,
+            at: passing.at,
+            line: passing.line,
+            state: s,
+        };
+    }
     let here = text::line_at(text, at, COMMENT);
     let content = here.content;
     let taken = take_line(&text[at..content], s);
