@@ -2,10 +2,15 @@
 ghost use mathlib.Core.Path.{_≡_};
 ghost use mathlib.Core.List.{_++_};
 ghost use Prim.Native.Nat.{_+_, _-_, _≤_};
-ghost use lib.ListN.{length, getD, take, replicate};
+ghost use lib.ListN.{length, getD, take, drop, replicate};
+ghost use Rattle.base.specs.If.{both};
+ghost use Rattle.base.specs.Runs.{all};
 ghost use lib.Seq.{sets};
 ghost use Rattle.base.specs.Bytes.{isBlank, isDigit, isCapital, isSmall, isLetter};
 ghost use Rattle.base.specs.Class.{isFilled, isNamed, isPrinted, isBefore, isContent, inClass, runEnd};
+
+// How many bytes are looked at together.
+const BLOCK: usize = 16;
 
 // A space or a TAB.
 fn is_blank(b: u8) -> bool
@@ -140,6 +145,48 @@ pub fn byte_at(s: &[u8], i: usize) -> u8
     s[i]
 }
 
+// ---- runs
+
+// Both, where the second is known already: no branch.
+pub fn and(a: bool, b: bool) -> bool
+    ensures { λ r. ⌜ r ≡ both a b ⌝ }
+{
+    if a { b } else { false }
+}
+
+// Whether sixteen bytes are all of a class. Each is looked at, so that a processor takes them at once.
+fn is_block(class: Class, s: &[u8], from: usize) -> bool
+    requires { ⌜ from + 16 ≤ length (now s) ⌝ }
+    ensures { λ r. ⌜ r ≡ all (inClass class) (take 16 (drop from (now (s .entry)))) ⌝ }
+{
+    let end = from + BLOCK;
+    let mut whole = true;
+    let mut i = from;
+    while i < end {
+        whole = and(whole, in_class(class, s[i]));
+        i += 1;
+    }
+    whole
+}
+
+// A place in the run that starts at `from`, near its end: past all blocks that lie in it whole.
+fn skip_blocks(class: Class, s: &[u8], from: usize) -> usize
+    ensures { λ r. ⌜ runEnd (inClass class) (now (s .entry)) r ≡ runEnd (inClass class) (now (s .entry)) from ⌝ }
+{
+    if s.len() < BLOCK {
+        return from;
+    }
+    let last = s.len() - BLOCK;
+    let mut i = from;
+    while i <= last {
+        if !is_block(class, s, i) {
+            return i;
+        }
+        i += BLOCK;
+    }
+    i
+}
+
 // Where the run of a class that starts at `from` ends.
 pub fn skip(class: Class, s: &[u8], from: usize) -> usize
     ensures { λ r. ⌜ r ≡ runEnd (inClass class) (now (s .entry)) from ⌝ }
@@ -152,6 +199,13 @@ pub fn skip(class: Class, s: &[u8], from: usize) -> usize
         i += 1;
     }
     i
+}
+
+// The same, for runs that are often longer than a block.
+pub fn skip_far(class: Class, s: &[u8], from: usize) -> usize
+    ensures { λ r. ⌜ r ≡ runEnd (inClass class) (now (s .entry)) from ⌝ }
+{
+    skip(class, s, skip_blocks(class, s, from))
 }
 
 // Stores the words one after another, the first at `at`.

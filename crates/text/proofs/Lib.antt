@@ -2,3 +2,4 @@ pub mod LineLaws
 pub mod WordLaws
 pub mod ByteLaws
 pub mod FormLaws
+mod SameLaws

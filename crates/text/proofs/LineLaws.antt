@@ -15,7 +15,7 @@ use Rattle.base.specs.Bytes.{lineFeed}
 use Rattle.base.specs.Runs.{run}
 use Rattle.base.specs.Class.{isBefore, isContent, runEnd}
 use Rattle.base.proofs.IfLaws.{if-true, if-false, by-cases, both-first, both-second, not-via, not-not-via}
-use Rattle.base.proofs.RunLaws.{run-nil, run-goes, run-stops, run-le, run-through, run-wider, run-take}
+use Rattle.base.proofs.RunLaws.{run-nil, run-goes, run-stops, run-stop, run-past, run-le, run-through, run-wider, run-take}
 use Rattle.text.specs.Lines.{Raw, pushed, lines, contentOf, pastFeed, lineAt}
 use Rattle.text.specs.declared.Line.{Line}
 
@@ -30,6 +30,14 @@ feed-past t end h = if-true _ _ (lt-ltb _ _ h)
 feed-none : (t : List ℕ) (end : ℕ) → length t ≤ end → pastFeed t end ≡ end
 unfolding pastFeed
 feed-none t end h = if-false _ _ (le-ltb _ _ h)
+
+-- where an LF stands, none is looked for further on
+pub feed-here : (t : List ℕ) (from b : ℕ) → b ≡ getD t from 0 → b ≡ 10 → from ≡ runEnd (isBefore lineFeed) t from
+unfolding isBefore
+feed-here t from b told e =
+    let stops : isBefore lineFeed (getD t from 0) ≡ false = ap (isBefore lineFeed) (sym told ∙ e) in
+    let k : run (isBefore lineFeed) (drop from t) ≡ 0 = by-cases _ (ltb from (length t)) (λ (h : ltb from (length t) ≡ true). run-stop (isBefore lineFeed) t from (ltb-true _ _ h) stops) (λ (h : ltb from (length t) ≡ false). run-past (isBefore lineFeed) t from (ltb-false _ _ h)) in
+    omega arith
 
 -- the LF of a line is the same whether it is looked for from the line's start or from the end of its content
 module _ (comment : ℕ) (t : List ℕ) (at content end : ℕ) (e : content ≡ runEnd (isContent comment) t at) (f : end ≡ runEnd (isBefore lineFeed) t content) where

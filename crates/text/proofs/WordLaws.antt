@@ -225,7 +225,7 @@ unfolding fewOf
 few-most s = omega arith
 
 -- how many words there are, told by the first place at which none is left
-module _ (s : List ℕ) (first second third : Span) (one : first ≡ wordAt s 0) (two : second ≡ wordAt s (first .end)) (three : third ≡ wordAt s (second .end)) where
+module _ (s : List ℕ) (first second : Span) (third : ℕ) (one : first ≡ wordAt s 0) (two : second ≡ wordAt s (first .end)) (three : third ≡ runEnd isBlank s (second .end)) where
   few-counted : (n : ℕ) → min 3 (length (words s)) ≡ n → record { count = n; first = first; second = second } ≡ fewOf s
   unfolding fewOf
   few-counted n e =
@@ -250,19 +250,24 @@ module _ (s : List ℕ) (first second third : Span) (one : first ≡ wordAt s 0)
       let l : length (words s) ≡ suc (length (wordsAfter s (first .end))) = ap length (first-there h) in
       few-counted 1 (omega arith)
 
-  pub few-two : first .start < length s → second .start < length s → length s ≤ third .start → record { count = 2; first = first; second = second } ≡ fewOf s
+  -- the third word is looked for and not gone over
+  third-starts : third ≡ wordAt s (second .end) .start
+  unfolding wordAt
+  third-starts = three
+
+  pub few-two : first .start < length s → second .start < length s → length s ≤ third → record { count = 2; first = first; second = second } ≡ fewOf s
   few-two h g k =
-      let n : length (wordsAfter s (second .end)) ≡ 0 = ap length (after-none s (second .end) (rw three at k)) in
+      let n : length (wordsAfter s (second .end)) ≡ 0 = ap length (after-none s (second .end) (rw third-starts at k)) in
       let m : length (wordsAfter s (first .end)) ≡ suc (length (wordsAfter s (second .end))) = ap length (second-there g) in
       let l : length (words s) ≡ suc (length (wordsAfter s (first .end))) = ap length (first-there h) in
       few-counted 2 (omega arith)
 
-  third-there : third .start < length s → wordsAfter s (second .end) ≡ markedBy s third ∷ wordsAfter s (third .end)
-  third-there h = rw three (after-at s (second .end) (rw three at h))
+  third-there : third < length s → wordsAfter s (second .end) ≡ markedBy s (wordAt s (second .end)) ∷ wordsAfter s (wordAt s (second .end) .end)
+  third-there h = after-at s (second .end) (rw third-starts at h)
 
-  pub few-three : first .start < length s → second .start < length s → third .start < length s → record { count = 3; first = first; second = second } ≡ fewOf s
+  pub few-three : first .start < length s → second .start < length s → third < length s → record { count = 3; first = first; second = second } ≡ fewOf s
   few-three h g k =
-      let n : length (wordsAfter s (second .end)) ≡ suc (length (wordsAfter s (third .end))) = ap length (third-there k) in
+      let n : length (wordsAfter s (second .end)) ≡ suc (length (wordsAfter s (wordAt s (second .end) .end))) = ap length (third-there k) in
       let m : length (wordsAfter s (first .end)) ≡ suc (length (wordsAfter s (second .end))) = ap length (second-there g) in
       let l : length (words s) ≡ suc (length (wordsAfter s (first .end))) = ap length (first-there h) in
       few-counted 3 (omega arith)

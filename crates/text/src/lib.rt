@@ -1,13 +1,17 @@
 // Lines, words and the rules for bytes: documents 000, 3 and 01, "Lines and keywords" and rules 1 to 4.
 ghost use mathlib.Core.Path.{_≡_};
-ghost use Prim.Native.Nat.{_-_, _<_, _≤_};
-ghost use lib.ListN.{length};
+ghost use mathlib.Core.Bool.{true, false};
+ghost use Prim.Native.Nat.{_+_, _-_, _<_, _≤_};
+ghost use lib.ListN.{length, take, drop};
 ghost use Rattle.base.specs.Runs.{same};
 ghost use Rattle.text.specs.Lines.{lineAt};
-ghost use Rattle.base.specs.Class.{inClass};
+ghost use Rattle.base.specs.Class.{isBefore, inClass, runEnd};
 ghost use Rattle.text.specs.Words.{wordAt, lastWord, backRun, fewOf, words, firstOf, markedBy, toEquals};
 ghost use Rattle.text.specs.ByteRules.{byteRules, terminatorAt, Judges};
 use base::Class;
+
+// How many bytes of names are looked at together.
+const BLOCK: usize = 16;
 
 const LINE_FEED: u8 = 10;
 
@@ -42,12 +46,22 @@ pub enum Checked {
     Refused(u64, u64),
 }
 
+// Where the first LF from a place on stands, or the end where there is none. Most lines have no comment: then it stands right here.
+fn feed_from(text: &[u8], from: usize) -> usize
+    ensures { λ r. ⌜ r ≡ runEnd (isBefore 10) (now (text .entry)) from ⌝ }
+{
+    if base::byte_at(text, from) == LINE_FEED {
+        return from;
+    }
+    base::skip_far(Class::Before(LINE_FEED), text, from)
+}
+
 // The line that starts at `at`. The search for its LF starts where the content ends, so that each byte is read once.
 pub fn line_at(text: &[u8], at: usize, comment: u8) -> Line
     ensures { λ r. ⌜ r ≡ lineAt comment (now (text .entry)) at ⌝ }
 {
     let content = base::skip(Class::Content(comment), text, at);
-    let end = base::skip(Class::Before(LINE_FEED), text, content);
+    let end = feed_from(text, content);
     if end < text.len() {
         Line {
             content,
@@ -95,6 +109,52 @@ pub fn last_word(s: &[u8]) -> Span
     }
 }
 
+// Whether two words have the same sixteen bytes at a place. Each is looked at, so that a processor takes them at once.
+fn same_block(a: &[u8], b: &[u8], from: usize) -> bool
+    requires { ⌜ (from + 16 ≤ length (now a)) × (length (now a) ≡ length (now b)) ⌝ }
+    ensures { λ r. ⌜ r ≡ same (take 16 (drop from (now (a .entry)))) (take 16 (drop from (now (b .entry)))) ⌝ }
+{
+    let end = from + BLOCK;
+    let mut whole = true;
+    let mut i = from;
+    while i < end {
+        whole = base::and(whole, a[i] == b[i]);
+        i += 1;
+    }
+    whole
+}
+
+// A place up to which two words of one length have the same bytes, by whole blocks: past the last of them, or where one differs.
+fn same_blocks(a: &[u8], b: &[u8]) -> usize
+    requires { ⌜ length (now a) ≡ length (now b) ⌝ }
+    ensures { λ r. ⌜ (r ≤ length (now (a .entry))) × (same (drop r (now (a .entry))) (drop r (now (b .entry))) ≡ same (now (a .entry)) (now (b .entry))) ⌝ }
+{
+    if a.len() < BLOCK {
+        return 0;
+    }
+    let last = a.len() - BLOCK;
+    let mut i = 0;
+    while i <= last {
+        if !same_block(a, b, i) {
+            return i;
+        }
+        i += BLOCK;
+    }
+    i
+}
+
+// Whether the last bytes of two words of one length differ: names that are made by a count differ there.
+fn has_other_end(a: &[u8], b: &[u8]) -> bool
+    requires { ⌜ length (now a) ≡ length (now b) ⌝ }
+    ensures { λ r. ⌜ (r ≡ true → same (now (a .entry)) (now (b .entry)) ≡ false) ⌝ }
+{
+    if a.len() == 0 {
+        return false;
+    }
+    let last = a.len() - 1;
+    a[last] != b[last]
+}
+
 // Whether two words have the same bytes.
 pub fn same_bytes(a: &[u8], b: &[u8]) -> bool
     ensures { λ r. ⌜ r ≡ same (now (a .entry)) (now (b .entry)) ⌝ }
@@ -102,7 +162,10 @@ pub fn same_bytes(a: &[u8], b: &[u8]) -> bool
     if a.len() != b.len() {
         return false;
     }
-    let mut i = 0;
+    if has_other_end(a, b) {
+        return false;
+    }
+    let mut i = same_blocks(a, b);
     while i < a.len() {
         if a[i] != b[i] {
             return false;
@@ -142,7 +205,7 @@ fn line_check(text: &[u8], at: usize) -> LineCheck
     requires { ⌜ at < length (now text) ⌝ }
     ensures { λ r. ⌜ Judges (now (text .entry)) at (r .number) (r .next) ⌝ }
 {
-    let stop = base::skip(Class::Printed, text, at);
+    let stop = base::skip_far(Class::Printed, text, at);
     let terminator = terminator_at(text, stop);
     let next = stop + terminator;
     let characters = stop - at;
@@ -187,7 +250,7 @@ pub fn few_words(s: &[u8]) -> Few
 {
     let first = word_at(s, 0);
     let second = word_at(s, first.end);
-    let third = word_at(s, second.end);
+    let third = base::skip(Class::Blank, s, second.end);
     if s.len() <= first.start {
         return Few {
             count: 0,
@@ -202,7 +265,7 @@ pub fn few_words(s: &[u8]) -> Few
             second,
         };
     }
-    if s.len() <= third.start {
+    if s.len() <= third {
         return Few {
             count: 2,
             first,

@@ -8,8 +8,8 @@ use Rattle.text.proofs.line_at.Tie as tie
 skip-requires : tie.Need-skip-requires
 skip-requires c κs = search needs
 
-skip-requires-2 : tie.Need-skip-requires-2
-skip-requires-2 c κs = search needs
+feed-from-requires : tie.Need-feed-from-requires
+feed-from-requires c κs = search needs
 
 add-t10 : tie.Need-add-t10
 add-t10 c = search needs
@@ -21,4 +21,4 @@ returns-2 : tie.Need-returns-2
 returns-2 c = search line-unended
 
 pub line-at-spec : {M : Type 1} → statement M
-line-at-spec = tie.close (tie.spec skip-requires skip-requires-2 add-t10 returns returns-2)
+line-at-spec = tie.close (tie.spec skip-requires feed-from-requires add-t10 returns returns-2)

@@ -9,15 +9,15 @@ use borrow.Author.Needs.{needs}
 use Rattle.text.proofs.line_check.Statement.{statement}
 use Rattle.text.proofs.line_check.Tie as tie
 
-skip-requires : tie.Need-skip-requires
-skip-requires c κs = search needs
+skip-far-requires : tie.Need-skip-far-requires
+skip-far-requires c κs = search needs
 
 terminator-at-requires : tie.Need-terminator-at-requires
 terminator-at-requires c κs = search stop-fits
 
 add-next : tie.Need-add-next
 add-next c =
-    let s : c .before .skip .result ≤ length (now (c .before .before .before .args .text)) = search stop-fits in
+    let s : c .before .skip-far .result ≤ length (now (c .before .before .before .args .text)) = search stop-fits in
     let w : c .terminator-at .result ≤ 2 = search terminator-at-most in
     omega arith
 
@@ -43,7 +43,7 @@ pub line-check-spec : {M : Type 1} → statement M
 line-check-spec =
     tie.close
     (tie.spec
-    skip-requires
+    skip-far-requires
     terminator-at-requires
     add-next
     sub-characters

@@ -18,17 +18,26 @@ abbrev μ-loop : tie.MeasureT-loop
 returns : tie.Need-returns Inv-loop μ-loop
 returns c = sym (same-longer _ _ (c .if1 .taken))
 
+has-other-end-requires : tie.Need-has-other-end-requires Inv-loop μ-loop
+has-other-end-requires c κs = search needs
+
+returns-2 : tie.Need-returns-2 Inv-loop μ-loop
+returns-2 c = sym (c .before .has-other-end .ensures (c .if2 .taken))
+
+same-blocks-requires : tie.Need-same-blocks-requires Inv-loop μ-loop
+same-blocks-requires c κs = search needs
+
 loop-holds : tie.Need-loop-holds Inv-loop μ-loop
 loop-holds c = search needs
 
-shared-slice-read-if2 : tie.Need-shared-slice-read-if2 Inv-loop μ-loop
-shared-slice-read-if2 c = search needs
+shared-slice-read-if3 : tie.Need-shared-slice-read-if3 Inv-loop μ-loop
+shared-slice-read-if3 c = search needs
 
-shared-slice-read-if2-2 : tie.Need-shared-slice-read-if2-2 Inv-loop μ-loop
-shared-slice-read-if2-2 c = search needs
+shared-slice-read-if3-2 : tie.Need-shared-slice-read-if3-2 Inv-loop μ-loop
+shared-slice-read-if3-2 c = search needs
 
-returns-2 : tie.Need-returns-2 Inv-loop μ-loop
-returns-2 c = search same-stop
+returns-3 : tie.Need-returns-3 Inv-loop μ-loop
+returns-3 c = search same-stop
 
 add-i : tie.Need-add-i Inv-loop μ-loop
 add-i c = search needs
@@ -39,8 +48,8 @@ loop-less c = search needs
 loop-again : tie.Need-loop-again Inv-loop μ-loop
 loop-again c = search (needs, same-on)
 
-returns-3 : tie.Need-returns-3 Inv-loop μ-loop
-returns-3 c = search same-past
+returns-4 : tie.Need-returns-4 Inv-loop μ-loop
+returns-4 c = search same-past
 
 pub same-bytes-spec : {M : Type 1} → statement M
 same-bytes-spec =
@@ -49,11 +58,14 @@ same-bytes-spec =
     Inv-loop
     μ-loop
     returns
-    loop-holds
-    shared-slice-read-if2
-    shared-slice-read-if2-2
+    has-other-end-requires
     returns-2
+    same-blocks-requires
+    loop-holds
+    shared-slice-read-if3
+    shared-slice-read-if3-2
+    returns-3
     add-i
     loop-less
     loop-again
-    returns-3)
+    returns-4)
