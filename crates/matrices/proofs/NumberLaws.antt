@@ -3,22 +3,29 @@
 use mathlib.Core.Path.{_≡_, refl, sym, _∙_, ap}
 use mathlib.Core.Bool.{true, false}
 use mathlib.Core.List.{List, [], _∷_, _++_}
-use Prim.Native.Nat.{ℕ, suc, _+_, _-_, _*_, _≤_, _<_}
+use Prim.Native.Nat.{ℕ, zero, suc, _+_, _-_, _*_, _^_, _≤_, _<_}
 use native.Mathlib.Omega.{arith}
-use lib.ListN.{length, getD}
+use mir.Syntax.{w64}
+use mir.Val as val
+use lib.ListN.{length, getD, set}
 use lib.Dec.{eqb}
-use lib.Seq.{sets}
+use lib.Seq.{sets, set-getD, getD-set-same}
 use Rattle.base.specs.If.{if_then_else_}
 use Rattle.base.proofs.IfLaws.{if-true, if-false, by-cases}
+use Rattle.base.specs.Bytes.{isBlank}
+use Rattle.base.specs.Class.{runEnd}
 use Rattle.text.specs.Words.{words, firstOf, secondOf, wordAt, markedBy, fewOf}
 use Rattle.text.specs.declared.Span.{Span}
 use Rattle.text.specs.declared.Few.{Few}
 use Rattle.text.proofs.WordLaws.{wordsAfter, after-at, after-none, after-past, end-past, word-within, first-marked, second-marked}
 use Rattle.number.specs.Number.{numberOf}
 use Rattle.number.specs.Integer.{wholeOf}
+use Rattle.number.specs.At.{numberAt}
 use Rattle.number.specs.declared.Number.{Number}
+use Rattle.number.specs.declared.NumberAt.{NumberAt}
 use Rattle.number.specs.declared.Whole.{Whole}
 use Rattle.matrix.specs.Matrix.{diagonal}
+use Rattle.matrix.proofs.MatrixLaws.{placed-found, placed-number, marked-number, second-ends}
 use Rattle.table.specs.Layout.{widths}
 use Rattle.table.specs.Filling.{partOf, widthOf, position, counted, Fits}
 use Rattle.table.specs.declared.Filling.{Filling}
@@ -38,9 +45,14 @@ use Rattle.storing.proofs.StoreLaws.{
   pending-same,
 }
 use Rattle.matrices.specs.declared.Spot.{Spot}
+use Rattle.matrices.specs.declared.Cursor.{Cursor}
 use Rattle.matrices.specs.Numbers.{
   Counted,
   numberHere,
+  cursorOf,
+  spotOf,
+  nextCursor,
+  Roomy,
   PutsNumber,
   FillsNumber,
   rowAfter,
@@ -58,19 +70,18 @@ pub value-asked : (v : Value) (f : Filling) (size : ℕ) → Fits size f (valueW
 unfolding valueWrite
 value-asked v f size h = put-asked f [] (valueWrite v) size 6 (valueWrite v .words) h refl refl
 
-module _ (row column : ℕ) (word : List ℕ) (number : Number) (is-number : number ≡ numberOf word) (value : ℕ)
-    (is-value : value ≡ wordIn number) where
+module _ (row column : ℕ) (number : Number) (value : ℕ) (is-value : value ≡ wordIn number) where
   value-words : _≡_ {A = List ℕ} (row ∷ column ∷ value ∷ [])
-      (valueWrite (record { row = row; column = column; word = wordIn (numberOf word) }) .words)
+      (valueWrite (record { row = row; column = column; word = wordIn number }) .words)
   unfolding valueWrite
-  value-words = ap (λ (n : ℕ). row ∷ column ∷ n ∷ []) (is-value ∙ ap wordIn is-number)
+  value-words = ap (λ (n : ℕ). row ∷ column ∷ n ∷ []) is-value
 
   pub value-stored :
       (f r : Filling) (table table' : List ℕ) → r ≡ counted f 6 → table' ≡ sets table (position f 6) (row ∷ column ∷ value ∷ []) →
-      Stores f table (valueWrite (record { row = row; column = column; word = wordIn (numberOf word) }) ∷ []) r table'
+      Stores f table (valueWrite (record { row = row; column = column; word = wordIn number }) ∷ []) r table'
   unfolding valueWrite
   value-stored f r table table' k h =
-      put-stored f table (valueWrite (record { row = row; column = column; word = wordIn (numberOf word) })) 6
+      put-stored f table (valueWrite (record { row = row; column = column; word = wordIn number })) 6
       (row ∷ column ∷ value ∷ []) r table' refl value-words k h
 
 -- ---- rows and columns
@@ -228,30 +239,202 @@ module _ (form : ℕ) (content : List ℕ) (s₀ : Spot) (table₀ : List ℕ) (
               within = word-within content at word is-word (left .within);
             }
 
+-- ---- the same with the place of the next number in hand
+
+set-twice : (l : List ℕ) (i a b : ℕ) → set (set l i a) i b ≡ set l i b
+set-twice [] i a b = refl
+set-twice (x ∷ l) zero a b = refl
+set-twice (x ∷ l) (suc i) a b = ap (λ (r : List ℕ). x ∷ r) (set-twice l i a b)
+
+pub stored-three : (t : List ℕ) (p a b v w : ℕ) → v ≡ w → set (set (set t p a) (p + 1) b) (p + 2) v ≡ sets t p (a ∷ b ∷ w ∷ [])
+stored-three t p a b v w is =
+    let e : p + 1 ≡ suc p = omega arith in
+    let f : p + 2 ≡ suc (suc p) = omega arith in
+    rw (is, e, f)
+
+module _ (f : Filling) (c : Cursor) (seven : length (f .counts) ≡ 7) where
+  count-in : getD (spotOf f c .filling .counts) 6 0 ≡ c .count
+  unfolding spotOf
+  count-in = getD-set-same (f .counts) 6 (c .count) 0 (rw seven (omega arith))
+
+  position-in : position (spotOf f c .filling) 6 ≡ getD (f .bases) 6 0 + 3 * c .count
+  unfolding position widthOf spotOf
+  position-in = rw (getD-set-same (f .counts) 6 (c .count) 0 (rw seven (omega arith)))
+
+  filling-next : (form : ℕ) → spotOf f (nextCursor form c) .filling ≡ counted (spotOf f c .filling) 6
+  unfolding counted spotOf nextCursor
+  filling-next form = rw (getD-set-same (f .counts) 6 (c .count) 0 (rw seven (omega arith)), set-twice (f .counts) 6 (c .count) (c .count + 1))
+
+spot-same : (s : Spot) → spotOf (s .filling) (cursorOf s) ≡ s
+unfolding spotOf cursorOf
+spot-same s = rw (set-getD (s .filling .counts) 6 0)
+
+-- what the loop has: the numbers that are left, and the place of the next
+pub record CursorLeft (form : ℕ) (content : List ℕ) (s₀ : Spot) (table₀ : List ℕ) (at : ℕ) (c : Cursor) (table : List ℕ) : Type 0 where
+  pub left : NumbersLeft form content s₀ table₀ at (spotOf (s₀ .filling) c) table
+  pub place-is : c .place ≡ position (spotOf (s₀ .filling) c .filling) 6
+  pub seven : length (s₀ .filling .counts) ≡ 7
+
+module _ (form : ℕ) (content table : List ℕ) (s : Spot) (puts : PutsNumbers form content table s) where
+  pub cursor-start : (c : Cursor) → c ≡ cursorOf s → CursorLeft form content s table 0 c table
+  unfolding cursorOf
+  cursor-start c e =
+      let k : spotOf (s .filling) c ≡ s = ap (spotOf (s .filling)) e ∙ spot-same s in
+      let p : c .place ≡ position (s .filling) 6 = ap (λ (x : Cursor). x .place) e in
+      record {
+        left = rw k (numbers-start form content table s puts);
+        place-is = rw k p;
+        seven = puts .counted .seven;
+      }
+
+  module _ (start : ℕ) (begins : start ≡ runEnd isBlank content 0) where
+    start-is : wordAt content 0 .start ≡ start
+    unfolding wordAt
+    start-is = sym begins
+
+    pub numbers-nothing : length content ≤ start → FillsNumbers form content table s s table
+    numbers-nothing h = numbers-end form content s table 0 s table (numbers-start form content table s puts) (wordAt content 0) refl (rw start-is h)
+
+    pub cursor-below : length table * 8 < 2 ^ 63 → start < length content → position (s .filling) 6 < 9_223_372_036_854_775_808
+    unfolding widthOf
+    cursor-below b h =
+        let p : PutsNumber (markedBy content (wordAt content 0)) table s = numbers-puts form content s table 0 s table (numbers-start form content table s puts) (wordAt content 0) refl (rw start-is h) (markedBy content (wordAt content 0)) refl in
+        let q : (6 < length widths) × (_≡_ {A = ℕ} 3 (widthOf 6)) × (position (s .filling) 6 + widthOf 6 ≤ length table) =
+        value-asked (numberHere (markedBy content (wordAt content 0)) s) (s .filling) (length table) (p .fits) in
+        let r : position (s .filling) 6 + 3 ≤ length table = q .2 in
+        omega arith
+
+row-next : (f : Filling) (form : ℕ) (c : Cursor) → spotOf f (nextCursor form c) .row ≡ nextRow form (spotOf f c .row)
+unfolding spotOf nextCursor
+row-next f form c = refl
+
+column-next : (f : Filling) (form : ℕ) (c : Cursor) → spotOf f (nextCursor form c) .column ≡ spotOf f c .column + 1
+unfolding spotOf nextCursor
+column-next f form c = refl
+
+here-stored : (form : ℕ) (f : Filling) (c : Cursor) (number : Number) (table table' : List ℕ) → length (f .counts) ≡ 7 →
+    c .place ≡ position (spotOf f c .filling) 6 → table' ≡ sets table (c .place) (c .row ∷ c .column ∷ wordIn number ∷ []) →
+    Stores (spotOf f c .filling) table (valueWrite (record { row = spotOf f c .row; column = spotOf f c .column; word = wordIn number }) ∷ [])
+    (spotOf f (nextCursor form c) .filling) table'
+unfolding spotOf
+here-stored form f c number table table' seven place stored =
+    value-stored (c .row) (c .column) number (wordIn number) refl (spotOf f c .filling) (spotOf f (nextCursor form c) .filling) table table'
+    (filling-next f c seven form) (rw place at stored)
+
+module _ (form : ℕ) (content : List ℕ) (s₀ : Spot) (table₀ : List ℕ) (at : ℕ) (c : Cursor) (table : List ℕ)
+    (inv : CursorLeft form content s₀ table₀ at c table) where
+  pub cursor-past : (r : Spot) → length content ≤ at → r ≡ spotOf (s₀ .filling) c → FillsNumbers form content table₀ s₀ r table
+  cursor-past r h e = rw e (numbers-past form content s₀ table₀ at (spotOf (s₀ .filling) c) table (inv .left) h)
+
+  module _ (start : ℕ) (begins : start ≡ runEnd isBlank content at) where
+    pub cursor-end : (r : Spot) → length content ≤ start → r ≡ spotOf (s₀ .filling) c → FillsNumbers form content table₀ s₀ r table
+    unfolding wordAt
+    cursor-end r h e = rw e (numbers-end form content s₀ table₀ at (spotOf (s₀ .filling) c) table (inv .left) (wordAt content at) refl (rw begins at h))
+
+    module _ (there : start < length content) where
+      -- the first of the numbers that are left fits
+      first-puts : PutsNumber (markedBy content (wordAt content at)) table (spotOf (s₀ .filling) c)
+      unfolding wordAt
+      first-puts = numbers-puts form content s₀ table₀ at (spotOf (s₀ .filling) c) table (inv .left) (wordAt content at) refl (rw begins at there) (markedBy content (wordAt content at)) refl
+
+      pub cursor-roomy : length table₀ * 8 < 2 ^ 63 → Roomy (length table) c
+      unfolding widthOf spotOf
+      cursor-roomy b =
+          let g : length table ≡ length table₀ = inv .left .pending .long in
+          let p : PutsNumber (markedBy content (wordAt content at)) table (spotOf (s₀ .filling) c) = first-puts in
+          let q : (6 < length widths) × (_≡_ {A = ℕ} 3 (widthOf 6)) × (position (spotOf (s₀ .filling) c .filling) 6 + widthOf 6 ≤ length table) =
+          value-asked (numberHere (markedBy content (wordAt content at)) (spotOf (s₀ .filling) c)) (spotOf (s₀ .filling) c .filling) (length table) (p .fits) in
+          let r : position (spotOf (s₀ .filling) c .filling) 6 + 3 ≤ length table = q .2 in
+          let l : c .place ≡ position (spotOf (s₀ .filling) c .filling) 6 = inv .place-is in
+          let m : position (spotOf (s₀ .filling) c .filling) 6 ≡ getD (s₀ .filling .bases) 6 0 + 3 * c .count = position-in (s₀ .filling) c (inv .seven) in
+          let n : getD (spotOf (s₀ .filling) c .filling .counts) 6 0 ≡ c .count = count-in (s₀ .filling) c (inv .seven) in
+          let x : c .row ≤ 1_000_000_000 + getD (spotOf (s₀ .filling) c .filling .counts) 6 0 = p .counted .row in
+          let y : c .column ≤ 1_000_000_000 + getD (spotOf (s₀ .filling) c .filling .counts) 6 0 = p .counted .column in
+          record { room = omega arith; row-few = omega arith; column-few = omega arith; count-few = omega arith }
+
+      module _ (read : NumberAt) (told : read ≡ numberAt content start) where
+        abbrev here : Span
+        here = record { start = start; end = read .end }
+
+        is-here : here ≡ wordAt content at
+        is-here = placed-found content at start read begins told
+
+        pub cursor-less : at < length content → length content - read .end < length content - at
+        cursor-less h = numbers-less form content s₀ table₀ at (spotOf (s₀ .filling) c) table (inv .left) here is-here there h
+
+        module _ (next : Cursor) (table' : List ℕ) (goes : next ≡ nextCursor form c)
+            (stored : table' ≡ sets table (c .place) (c .row ∷ c .column ∷ wordIn (read .number) ∷ [])) where
+          number-fills : FillsNumber form (markedBy content here) table (spotOf (s₀ .filling) c) (spotOf (s₀ .filling) (nextCursor form c)) table'
+          number-fills =
+              let n : read .number ≡ numberOf (markedBy content here) = placed-number content at start read begins told in
+              record {
+                stores = rw (← n) (here-stored form (s₀ .filling) c (read .number) table table' (inv .seven) (inv .place-is) stored);
+                row-is = row-next (s₀ .filling) form c;
+                column-is = column-next (s₀ .filling) form c;
+              }
+
+          pub cursor-on : CursorLeft form content s₀ table₀ (read .end) next table'
+          unfolding nextCursor
+          cursor-on =
+              let l : c .place ≡ position (spotOf (s₀ .filling) c .filling) 6 = inv .place-is in
+              let m : position (spotOf (s₀ .filling) c .filling) 6 ≡ getD (s₀ .filling .bases) 6 0 + 3 * c .count = position-in (s₀ .filling) c (inv .seven) in
+              let n : position (spotOf (s₀ .filling) (nextCursor form c) .filling) 6 ≡ getD (s₀ .filling .bases) 6 0 + 3 * (c .count + 1) = position-in (s₀ .filling) (nextCursor form c) (inv .seven) in
+              let p : c .place + 3 ≡ position (spotOf (s₀ .filling) (nextCursor form c) .filling) 6 = omega arith in
+              rw goes
+              (record {
+                left = numbers-on form content s₀ table₀ at (spotOf (s₀ .filling) c) table (inv .left) here is-here there (markedBy content here) refl (spotOf (s₀ .filling) (nextCursor form c)) table' number-fills;
+                place-is = p;
+                seven = inv .seven;
+              })
+
 -- ---- a line of a Sparse_matrix
 
-module _ (content : List ℕ) (row : ℕ) (few : Few) (is-few : few ≡ fewOf content) (first second : List ℕ)
-    (is-first : first ≡ markedBy content (few .first)) (is-second : second ≡ markedBy content (few .second)) (whole : Whole)
-    (is-whole : whole ≡ wholeOf first) where
+module _ (content : List ℕ) (row : ℕ) (few : Few) (is-few : few ≡ fewOf content) (first : List ℕ)
+    (is-first : first ≡ markedBy content (few .first)) (whole : Whole) (is-whole : whole ≡ wholeOf first) (read : NumberAt)
+    (is-read : read ≡ numberAt content (few .second .start)) where
   column-told : whole .value ≡ wholeOf (firstOf (words content)) .value
   column-told = ap (λ (x : Whole). x .value) (is-whole ∙ ap wholeOf (is-first ∙ first-marked content few is-few))
 
-  sparse-value : _≡_ {A = Value} (record { row = row; column = whole .value; word = wordIn (numberOf second) })
+  sparse-value : _≡_ {A = Value} (record { row = row; column = whole .value; word = wordIn (read .number) })
       (sparseAt row (words content))
   unfolding sparseAt
   sparse-value =
-      let s : second ≡ secondOf (words content) = is-second ∙ second-marked content few is-few in
-      λ i. record { row = row; column = column-told i; word = wordIn (numberOf (s i)) }
+      let s : read .number ≡ numberOf (secondOf (words content)) = marked-number content (few .second) read (second-ends content few is-few) is-read ∙ ap numberOf (second-marked content few is-few) in
+      λ i. record { row = row; column = column-told i; word = wordIn (s i) }
 
   pub sparse-puts : (table : List ℕ) (f : Filling) → PutsSparse content row table f →
-      Fits (length table) f (valueWrite (record { row = row; column = whole .value; word = wordIn (numberOf second) }) ∷ [])
+      Fits (length table) f (valueWrite (record { row = row; column = whole .value; word = wordIn (read .number) }) ∷ [])
   sparse-puts table f puts = rw sparse-value (puts .fits)
 
   pub sparse-fills : (table : List ℕ) (f r : Filling) (table' : List ℕ) →
-      Stores f table (valueWrite (record { row = row; column = whole .value; word = wordIn (numberOf second) }) ∷ []) r table' →
+      Stores f table (valueWrite (record { row = row; column = whole .value; word = wordIn (read .number) }) ∷ []) r table' →
       FillsSparse content row table f (record { column = whole .value; filling = r }) table'
   sparse-fills table f r table' s =
       record {
         stores = rw sparse-value at s;
         column-is = column-told;
       }
+
+-- ---- in the words that the code about cursors has
+
+-- below a place that a table may have no sum wraps
+module _ (s : Spot) (h : position (s .filling) 6 < 9_223_372_036_854_775_808) where
+  pub place-times : val.Fits w64 (3 * getD (s .filling .counts) 6 0)
+  unfolding position widthOf
+  place-times = omega arith
+
+  pub place-adds : val.Fits w64 (getD (s .filling .bases) 6 0 + 3 * getD (s .filling .counts) 6 0)
+  unfolding position widthOf
+  place-adds = omega arith
+
+pub cursor-told : (s : Spot) → record { row = s .row; column = s .column; count = getD (s .filling .counts) 6 0; place = getD (s .filling .bases) 6 0 + 3 * getD (s .filling .counts) 6 0 } ≡ cursorOf s
+unfolding cursorOf position widthOf
+cursor-told s = refl
+
+pub spot-told : (s : Spot) (c : Cursor) → record { row = c .row; column = c .column; filling = record { bases = s .filling .bases; counts = set (s .filling .counts) 6 (c .count) } } ≡ spotOf (s .filling) c
+unfolding spotOf
+spot-told s c = refl
+
+pub cursor-goes : (form row : ℕ) (c : Cursor) → row ≡ nextRow form (c .row) → record { row = row; column = c .column + 1; count = c .count + 1; place = c .place + 3 } ≡ nextCursor form c
+unfolding nextCursor
+cursor-goes form row c e = rw e

@@ -1,9 +1,9 @@
 -- What the functions that store the numbers of one line promise, in the words of the document.
 -- Assumes nothing.
-use Prim.Native.Nat.{ℕ, _+_, _≤_}
+use Prim.Native.Nat.{ℕ, _+_, _≤_, _<_}
 use mathlib.Core.Path.{_≡_}
 use mathlib.Core.List.{List, [], _∷_, map}
-use lib.ListN.{length, getD}
+use lib.ListN.{length, getD, set}
 use lib.Dec.{eqb}
 use Rattle.base.specs.If.{if_then_else_}
 use Rattle.text.specs.Words.{words, firstOf}
@@ -11,12 +11,13 @@ use Rattle.number.specs.Number.{numberOf}
 use Rattle.number.specs.Integer.{wholeOf}
 use Rattle.matrix.specs.Matrix.{diagonal}
 use Rattle.table.specs.Layout.{values}
-use Rattle.table.specs.Filling.{Write, Fits}
+use Rattle.table.specs.Filling.{Write, position, Fits}
 use Rattle.table.specs.declared.Filling.{Filling}
 use Rattle.document.specs.Document.{Value, wordIn, nextRow, numbersAt, sparseAt}
 use Rattle.storing.specs.Writes.{valueWrite}
 use Rattle.storing.specs.Stores.{Stores}
 use Rattle.matrices.specs.declared.Spot.{Spot}
+use Rattle.matrices.specs.declared.Cursor.{Cursor}
 use Rattle.matrices.specs.declared.Placing.{Placing}
 
 -- what is stored of values
@@ -47,6 +48,25 @@ pub record FillsNumber (form : ℕ) (word table : List ℕ) (s r : Spot) (table'
   pub stores : Stores (s .filling) table (valueWrite (numberHere word s) ∷ []) (r .filling) table'
   pub row-is : r .row ≡ nextRow form (s .row)
   pub column-is : r .column ≡ s .column + 1
+
+-- ---- where the numbers of a line go, one after another
+
+unfoldable pub cursorOf : Spot → Cursor
+cursorOf s = record { row = s .row; column = s .column; count = getD (s .filling .counts) values 0; place = position (s .filling) values }
+
+unfoldable pub spotOf : Filling → Cursor → Spot
+spotOf f c = record { row = c .row; column = c .column; filling = record { bases = f .bases; counts = set (f .counts) values (c .count) } }
+
+-- a number further on
+unfoldable pub nextCursor : ℕ → Cursor → Cursor
+nextCursor form c = record { row = nextRow form (c .row); column = c .column + 1; count = c .count + 1; place = c .place + 3 }
+
+-- the table has room for a number there, and no sum wraps
+pub record Roomy (size : ℕ) (c : Cursor) : Type 0 where
+  pub room : c .place + 3 ≤ size
+  pub row-few : c .row < 18_446_744_073_709_551_615
+  pub column-few : c .column < 18_446_744_073_709_551_615
+  pub count-few : c .count < 18_446_744_073_709_551_615
 
 -- ---- the numbers of a line
 

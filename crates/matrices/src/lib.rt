@@ -4,19 +4,19 @@ ghost use mathlib.Core.List.{[], _∷_};
 ghost use Prim.Native.Nat.{_<_, max};
 ghost use lib.ListN.{length};
 ghost use lib.Dec.{eqb};
+ghost use lib.Seq.{sets};
 ghost use Rattle.base.specs.If.{if_then_else_, either};
-ghost use Rattle.number.specs.Number.{numberOf};
 ghost use Rattle.place.specs.Place.{keepsMatrix};
 ghost use Rattle.argument.specs.Argument.{formOf};
 ghost use Rattle.matrix.specs.Matrix.{diagonal};
-ghost use Rattle.table.specs.Filling.{Fits};
+ghost use Rattle.table.specs.Filling.{position, Fits};
 ghost use Rattle.document.specs.Lines.{plain, argumentOf};
 ghost use Rattle.document.specs.Found.{Located, lineIn};
 ghost use Rattle.document.specs.Document.{wordIn, nextRow, givenBy};
 ghost use Rattle.storing.specs.Writes.{valueWrite};
 ghost use Rattle.storing.specs.Stores.{Stores};
 ghost use Rattle.matrices.specs.Told.{firstTold, toldOr};
-ghost use Rattle.matrices.specs.Numbers.{PutsNumber, FillsNumber, PutsNumbers, FillsNumbers, PutsSparse, FillsSparse};
+ghost use Rattle.matrices.specs.Numbers.{Roomy, cursorOf, spotOf, nextCursor, PutsNumbers, FillsNumbers, PutsSparse, FillsSparse};
 ghost use Rattle.matrices.specs.Matrices.{withRow, withBandwidth, TakesLine, TakesData, TakenLine, PutsValues, FillsValues, PutsMatrix, FillsMatrix};
 use document::Found;
 use number::Number;
@@ -33,6 +33,14 @@ pub struct Spot {
     pub row: u64,
     pub column: u64,
     pub filling: Filling,
+}
+
+// Where the next number of a line goes: its row and column, how many values are stored before it, and its place in the table.
+pub struct Cursor {
+    pub row: u64,
+    pub column: u64,
+    pub count: u64,
+    pub place: usize,
 }
 
 // A line of a Sparse_matrix: the column that it names, and where the next record goes.
@@ -97,11 +105,10 @@ fn value_in(number: Number) -> u64
 }
 
 // A number of a matrix, at its row and column.
-fn put_value(word: &[u8], row: u64, column: u64, table: &mut [u64], filling: Filling) -> Filling
-    requires { ⌜ Fits (length (now table)) filling (valueWrite (record { row = row; column = column; word = wordIn (numberOf (now word)) }) ∷ []) ⌝ }
-    ensures { λ r. ⌜ Stores filling (now (table .entry)) (valueWrite (record { row = row; column = column; word = wordIn (numberOf (now (word .entry))) }) ∷ []) r (now (table .exit)) ⌝ }
+fn put_value(number: Number, row: u64, column: u64, table: &mut [u64], filling: Filling) -> Filling
+    requires { ⌜ Fits (length (now table)) filling (valueWrite (record { row = row; column = column; word = wordIn number }) ∷ []) ⌝ }
+    ensures { λ r. ⌜ Stores filling (now (table .entry)) (valueWrite (record { row = row; column = column; word = wordIn number }) ∷ []) r (now (table .exit)) ⌝ }
 {
-    let number = number::read_number(word);
     let words = [row, column, value_in(number)];
     table::put_record(table, filling, table::VALUES, &words)
 }
@@ -117,38 +124,80 @@ fn next_row(form: u64, row: u64) -> u64
     row
 }
 
-// A number where the last one has led to.
-fn put_number(word: &[u8], form: u64, table: &mut [u64], spot: Spot) -> Spot
-    requires { ⌜ PutsNumber (now word) (now table) spot ⌝ }
-    ensures { λ r. ⌜ FillsNumber form (now (word .entry)) (now (table .entry)) spot r (now (table .exit)) ⌝ }
+// Where the first number of a line goes.
+fn cursor_at(spot: Spot) -> Cursor
+    requires { ⌜ position (spot .filling) 6 < 9_223_372_036_854_775_808 ⌝ }
+    ensures { λ r. ⌜ r ≡ cursorOf spot ⌝ }
 {
-    let row = spot.row;
-    let column = spot.column;
     let filling = spot.filling;
-    let filled = put_value(word, row, column, table, filling);
+    let bases = filling.bases;
+    let counts = filling.counts;
+    let count = counts[table::VALUES];
+    let place = bases[table::VALUES] + 3 * (count as usize);
+    Cursor {
+        row: spot.row,
+        column: spot.column,
+        count,
+        place,
+    }
+}
+
+// Where the numbers of the next line go, once those of a line are stored.
+fn spot_at(spot: Spot, cursor: Cursor) -> Spot
+    ensures { λ r. ⌜ r ≡ spotOf (spot .filling) cursor ⌝ }
+{
+    let filling = spot.filling;
+    let bases = filling.bases;
+    let mut counts = filling.counts;
+    counts[table::VALUES] = cursor.count;
+    let filled = Filling { bases, counts };
     Spot {
-        row: next_row(form, row),
-        column: column + 1,
+        row: cursor.row,
+        column: cursor.column,
         filling: filled,
     }
 }
 
-// The numbers of a line: each word is read once.
+// A number where the last one has led to.
+fn put_number(number: Number, form: u64, table: &mut [u64], cursor: Cursor) -> Cursor
+    requires { ⌜ Roomy (length (now table)) cursor ⌝ }
+    ensures { λ r. ⌜ (r ≡ nextCursor form cursor) × (now (table .exit) ≡ sets (now (table .entry)) (cursor .place) (cursor .row ∷ cursor .column ∷ wordIn number ∷ [])) ⌝ }
+{
+    let place = cursor.place;
+    let row = cursor.row;
+    let column = cursor.column;
+    table[place] = row;
+    table[place + 1] = column;
+    table[place + 2] = value_in(number);
+    Cursor {
+        row: next_row(form, row),
+        column: column + 1,
+        count: cursor.count + 1,
+        place: place + 3,
+    }
+}
+
+// The numbers of a line: each is read where it stands, and stored.
 fn fill_numbers(content: &[u8], form: u64, table: &mut [u64], spot: Spot) -> Spot
     requires { ⌜ PutsNumbers form (now content) (now table) spot ⌝ }
     ensures { λ r. ⌜ FillsNumbers form (now (content .entry)) (now (table .entry)) spot r (now (table .exit)) ⌝ }
 {
-    let mut at = 0;
-    let mut next = spot;
-    while at < content.len() {
-        let word = text::word_at(content, at);
-        if content.len() <= word.start {
-            return next;
-        }
-        next = put_number(text::marked(content, word), form, table, next);
-        at = word.end;
+    if content.len() <= matrix::past_blanks(content, 0) {
+        return spot;
     }
-    next
+    let mut at = 0;
+    let mut cursor = cursor_at(spot);
+    while at < content.len() {
+        let start = matrix::past_blanks(content, at);
+        if content.len() <= start {
+            return spot_at(spot, cursor);
+        }
+        let read = number::number_at(content, start);
+        let number = read.number;
+        cursor = put_number(number, form, table, cursor);
+        at = read.end;
+    }
+    spot_at(spot, cursor)
 }
 
 // A line of a Sparse_matrix: "lines `column value`".
@@ -158,15 +207,12 @@ fn fill_sparse(content: &[u8], row: u64, table: &mut [u64], filling: Filling) ->
 {
     let few = text::few_words(content);
     let column = number::read_integer(text::marked(content, few.first));
+    let second = few.second;
+    let read = number::number_at(content, second.start);
+    let number = read.number;
     Placing {
         column: column.value,
-        filling: put_value(
-            text::marked(content, few.second),
-            row,
-            column.value,
-            table,
-            filling,
-        ),
+        filling: put_value(number, row, column.value, table, filling),
     }
 }
 

@@ -14,7 +14,11 @@ use Rattle.matrix.specs.declared.Matrix.{Matrix}
 use Rattle.matrix.specs.declared.Rows.{Rows}
 use Rattle.matrix.specs.declared.DataLine.{DataLine}
 use Rattle.matrix.specs.declared.Told.{Told}
-use Rattle.base.specs.Bytes.{within}
+use Rattle.base.specs.Bytes.{within, isBlank}
+use Rattle.base.specs.Runs.{run}
+use Rattle.base.specs.Class.{isFilled, runEnd}
+use Rattle.number.specs.At.{wordFrom, numberAt}
+use Rattle.number.specs.declared.NumberAt.{NumberAt}
 use Rattle.number.specs.Number.{numberOf, isFormed, isBounded}
 use Rattle.number.specs.Integer.{wholeOf}
 use Rattle.number.specs.declared.Number.{Number}
@@ -24,7 +28,7 @@ use Rattle.text.specs.Words.{words, firstOf, secondOf, markedBy, wordAt, fewOf}
 use Rattle.text.specs.declared.Span.{Span}
 use Rattle.text.specs.declared.Few.{Few}
 use Rattle.text.proofs.FormLaws.{counted, counted-not}
-use Rattle.text.proofs.WordLaws.{wordsAfter, after-at, after-none, after-past, end-past, first-marked, second-marked}
+use Rattle.text.proofs.WordLaws.{wordsAfter, after-at, after-none, after-past, end-past, word-within, first-marked, second-marked}
 use Rattle.matrix.specs.Matrix.{
   diagonal,
   sparse,
@@ -87,21 +91,31 @@ row-added row m values above greatest fits a g f =
 -- ---- data lines
 
 -- by what the number reader answered
-module _ (w part : List ℕ) (n : Number) (same : part ≡ w) (read : n ≡ numberOf part) where
-  told : (m : Number) → n ≡ m → record { formed = isFormed m; bounded = isBounded m } ≡ toldBy w
+module _ (s : List ℕ) (word : Span) (read : NumberAt) (ends : word .end ≡ runEnd isFilled s (word .start)) (answer : read ≡ numberAt s (word .start)) where
+  pub marked-number : read .number ≡ numberOf (markedBy s word)
+  unfolding numberAt wordFrom
+  marked-number =
+      let n : word .end - word .start ≡ run isFilled (drop (word .start) s) = omega arith in
+      rw n (ap (λ (r : NumberAt). r .number) answer)
+
+  told : (m : Number) → read .number ≡ m → record { formed = isFormed m; bounded = isBounded m } ≡ toldBy (markedBy s word)
   unfolding toldBy
   told m e =
-      let k : m ≡ numberOf w = sym e ∙ read ∙ ap numberOf same in
+      let k : m ≡ numberOf (markedBy s word) = sym e ∙ marked-number in
       λ i. record { formed = isFormed (k i); bounded = isBounded (k i) }
 
-  pub told-value : (v : ℕ) → n ≡ Value v → record { formed = true; bounded = true } ≡ toldBy w
+  pub told-value : (v : ℕ) → read .number ≡ Value v → record { formed = true; bounded = true } ≡ toldBy (markedBy s word)
   told-value v e = told (Value v) e
 
-  pub told-malformed : n ≡ Malformed → record { formed = false; bounded = true } ≡ toldBy w
+  pub told-malformed : read .number ≡ Malformed → record { formed = false; bounded = true } ≡ toldBy (markedBy s word)
   told-malformed e = told Malformed e
 
-  pub told-range : n ≡ Range → record { formed = true; bounded = false } ≡ toldBy w
+  pub told-range : read .number ≡ Range → record { formed = true; bounded = false } ≡ toldBy (markedBy s word)
   told-range e = told Range e
+
+pub second-ends : (s : List ℕ) (few : Few) → few ≡ fewOf s → few .second .end ≡ runEnd isFilled s (few .second .start)
+unfolding fewOf wordAt
+second-ends s few e = rw e
 
 formed-nil : areFormed [] ≡ true
 unfolding areFormed
@@ -128,6 +142,34 @@ both-whole : (a : Bool) → both a true ≡ a
 unfolding both
 both-whole true = refl
 both-whole false = refl
+
+-- a number read where it stands is the next word of the line
+module _ (s : List ℕ) (at start : ℕ) (read : NumberAt) (begins : start ≡ runEnd isBlank s at) (told : read ≡ numberAt s start) where
+  pub placed-end : read .end ≡ runEnd isFilled s start
+  unfolding numberAt
+  placed-end = ap (λ (r : NumberAt). r .end) told
+
+  pub placed-found : record { start = start; end = read .end } ≡ wordAt s at
+  unfolding wordAt
+  placed-found = rw (placed-end, begins)
+
+  pub placed-number : read .number ≡ numberOf (markedBy s (record { start = start; end = read .end }))
+  unfolding numberAt wordFrom
+  placed-number =
+      let e : read .end ≡ start + run isFilled (drop start s) = placed-end in
+      let n : read .end - start ≡ run isFilled (drop start s) = omega arith in
+      rw n (ap (λ (r : NumberAt). r .number) told)
+
+  pub placed-past : start < length s → at < read .end
+  placed-past h = end-past s at (record { start = start; end = read .end }) placed-found h
+
+  pub line-less : start < length s → at < length s → length s - read .end < length s - at
+  line-less h g =
+      let k : at < read .end = placed-past h in
+      omega arith
+
+  pub placed-within : at ≤ length s → read .end ≤ length s
+  placed-within h = word-within s at (record { start = start; end = read .end }) placed-found h
 
 -- what has been read of a line, and what its words from `at` on add
 pub record Pending (s : List ℕ) (at numbers : ℕ) (formed bounded : Bool) : Type 0 where
@@ -161,10 +203,10 @@ module _ (s : List ℕ) (at numbers : ℕ) (formed bounded : Bool) (pending : Pe
   line-past h = line-done (after-past s at h)
 
   module _ (word : Span) (found : word ≡ wordAt s at) where
-    pub line-ends : length s ≤ word .start → record { numbers = numbers; column = 0; right = true; formed = formed; bounded = bounded } ≡ numbersLine (words s)
+    line-ends : length s ≤ word .start → record { numbers = numbers; column = 0; right = true; formed = formed; bounded = bounded } ≡ numbersLine (words s)
     line-ends h = line-done (after-none s at (rw found at h))
 
-    pub line-goes : word .start < length s → (t : Told) → t ≡ toldBy (markedBy s word) → (f b : Bool) → f ≡ both formed (t .formed) → b ≡ both bounded (t .bounded) → Pending s (word .end) (numbers + 1) f b
+    line-goes : word .start < length s → (t : Told) → t ≡ toldBy (markedBy s word) → (f b : Bool) → f ≡ both formed (t .formed) → b ≡ both bounded (t .bounded) → Pending s (word .end) (numbers + 1) f b
     line-goes h t told f b ef eb =
         let e : wordsAfter s at ≡ markedBy s word ∷ wordsAfter s (word .end) = rw found (after-at s at (rw found at h)) in
         let c : numbers + length (wordsAfter s at) ≡ length (words s) = pending .counted in
@@ -177,6 +219,17 @@ module _ (s : List ℕ) (at numbers : ℕ) (formed bounded : Bool) (pending : Pe
           inBounds = ap (λ (x : Bool). both x (areBounded (wordsAfter s (word .end)))) (eb ∙ ap (λ (x : Told). both bounded (x .bounded)) told) ∙ both-assoc _ _ _ ∙ ap (both bounded) (sym (bounded-cons _ _) ∙ ap areBounded (sym e)) ∙ pending .inBounds;
           short = omega arith;
         }
+
+  module _ (start : ℕ) (begins : start ≡ runEnd isBlank s at) where
+    pub line-blank : length s ≤ start → record { numbers = numbers; column = 0; right = true; formed = formed; bounded = bounded } ≡ numbersLine (words s)
+    unfolding wordAt
+    line-blank h = line-ends (wordAt s at) refl (rw begins at h)
+
+    pub line-number : (read : NumberAt) → read ≡ numberAt s start → start < length s → (f b fits holds : Bool) → fits ≡ isFormed (read .number) → holds ≡ isBounded (read .number) → f ≡ both formed fits → b ≡ both bounded holds → Pending s (read .end) (numbers + 1) f b
+    unfolding toldBy
+    line-number read told h f b fits holds ef eb df db =
+        let k : read .number ≡ numberOf (markedBy s (record { start = start; end = read .end })) = placed-number s at start read begins told in
+        line-goes (record { start = start; end = read .end }) (placed-found s at start read begins told) h (record { formed = isFormed (read .number); bounded = isBounded (read .number) }) (λ i. record { formed = isFormed (k i); bounded = isBounded (k i) }) f b (df ∙ ap (both formed) ef) (db ∙ ap (both bounded) eb)
 
 -- a line of a Sparse_matrix
 module _ (s : List ℕ) (few : Few) (found : few ≡ fewOf s) where

@@ -1,10 +1,12 @@
 // Document 01, "Sections and matrices": the rows and numbers of a matrix in its four forms, and its shape.
 ghost use mathlib.Core.Path.{_≡_};
 ghost use Prim.Native.Nat.{_-_, _<_, _≤_, min, max};
-ghost use lib.ListN.{length};
 ghost use Rattle.base.specs.If.{both};
+ghost use Rattle.base.specs.Bytes.{isBlank};
+ghost use Rattle.base.specs.Class.{isFilled, runEnd};
 ghost use Rattle.text.specs.Words.{words, markedBy};
 ghost use Rattle.matrix.specs.Matrix.{newMatrix, isWrongBandwidth, isWrongRow, withBandwidth, inRow, standsAbove, stillFits, withRow, toldBy, numbersLine, sparseLine, dataLineOf, isOutOfOrder, areTooMany, dataRule, withColumn, dataNext, conductorsOf, isShaped, isWrongShape, isTooWide};
+use base::Class;
 use number::Number;
 use text::Span;
 
@@ -213,10 +215,11 @@ struct Told {
 }
 
 fn told_by(content: &[u8], word: Span) -> Told
-    requires { ⌜ (word .start ≤ word .end) × (word .end ≤ length (now content)) ⌝ }
+    requires { ⌜ word .end ≡ runEnd isFilled (now content) (word .start) ⌝ }
     ensures { λ r. ⌜ r ≡ toldBy (markedBy (now (content .entry)) word) ⌝ }
 {
-    let number = number::read_number(text::marked(content, word));
+    let read = number::number_at(content, word.start);
+    let number = read.number;
     match number {
         Number::Value(_) => Told {
             formed: true,
@@ -233,7 +236,21 @@ fn told_by(content: &[u8], word: Span) -> Told
     }
 }
 
-// A line of numbers: each word is gone over once.
+// Past the blanks at `from`: where the next word of a line starts.
+pub fn past_blanks(s: &[u8], from: usize) -> usize
+    ensures { λ r. ⌜ r ≡ runEnd isBlank (now (s .entry)) from ⌝ }
+{
+    let mut i = from;
+    while i < s.len() {
+        if !base::in_class(Class::Blank, s[i]) {
+            return i;
+        }
+        i += 1;
+    }
+    i
+}
+
+// A line of numbers: each is read where it stands, and gone over once.
 fn numbers_line(content: &[u8]) -> DataLine
     ensures { λ r. ⌜ r ≡ numbersLine (words (now (content .entry))) ⌝ }
 {
@@ -242,8 +259,8 @@ fn numbers_line(content: &[u8]) -> DataLine
     let mut formed = true;
     let mut bounded = true;
     while at < content.len() {
-        let word = text::word_at(content, at);
-        if content.len() <= word.start {
+        let start = past_blanks(content, at);
+        if content.len() <= start {
             return DataLine {
                 numbers,
                 column: 0,
@@ -252,11 +269,12 @@ fn numbers_line(content: &[u8]) -> DataLine
                 bounded,
             };
         }
-        let told = told_by(content, word);
-        formed = and(formed, told.formed);
-        bounded = and(bounded, told.bounded);
+        let read = number::number_at(content, start);
+        let number = read.number;
+        formed = and(formed, number::is_formed(number));
+        bounded = and(bounded, number::is_bounded(number));
         numbers += 1;
-        at = word.end;
+        at = read.end;
     }
     DataLine {
         numbers,

@@ -9,4 +9,7 @@ pub mod IntegerLaws
 pub mod ValueLaws
 pub mod ReadLaws
 pub mod NumberLaws
+pub mod TrimLaws
+pub mod PlainLaws
+pub mod InLineLaws
 pub mod Starred

@@ -30,7 +30,7 @@ end-same : (d : Digits) → cappedDigits d .end ≡ d .end
 unfolding cappedDigits
 end-same d = refl
 
-scan-end : (s : List ℕ) (d : Digits) → scan s d .end ≤ d .end + length s
+pub scan-end : (s : List ℕ) (d : Digits) → scan s d .end ≤ d .end + length s
 scan-end [] d = rw (scan-ends d) (omega arith)
 scan-end (b ∷ s) d =
     by-cases _ (goesOn d b)
@@ -52,13 +52,13 @@ kept-cut-none : (from : ℕ) → Kept (cappedDigits (noDigits from))
 kept-cut-none from = rw (kept-cut (noDigits from) (kept-none from)) (kept-none from)
 
 -- a byte that passes a test that 0 does not stands within the word
-inside : (p : ℕ → Bool) (s : List ℕ) (at : ℕ) → p 0 ≡ false → p (getD s at 0) ≡ true → at < length s
+pub inside : (p : ℕ → Bool) (s : List ℕ) (at : ℕ) → p 0 ≡ false → p (getD s at 0) ≡ true → at < length s
 inside p s at none some =
     by-cases _ (leb (length s) at)
     (λ (t : leb (length s) at ≡ true). absurd (true≢false (sym some ∙ ap p (List·getD-eq-default s 0 (leb-true (length s) at t)) ∙ none)))
     (λ (t : leb (length s) at ≡ false). omega (arith, leb-false (length s) at t))
 
-sign-within : (s : List ℕ) (from : ℕ) → from ≤ length s → pastSign s from ≤ length s
+pub sign-within : (s : List ℕ) (from : ℕ) → from ≤ length s → pastSign s from ≤ length s
 unfolding pastSign isSign either
 sign-within s from h =
     by-test (λ (n : ℕ). n ≤ length s) (isSign (getD s from 0)) _ _
@@ -72,7 +72,7 @@ digits-within s from h =
     let n : length (drop from s) ≡ length s - from = length-drop from s in
     omega arith
 
-exponent-within : (s : List ℕ) (from : ℕ) → from ≤ length s → exponentOf s from .end ≤ length s
+pub exponent-within : (s : List ℕ) (from : ℕ) → from ≤ length s → exponentOf s from .end ≤ length s
 unfolding exponentOf exponentAt noExponent isE either
 exponent-within s from h =
     by-test (λ (x : Exponent). x .end ≤ length s) (isE (getD s from 0)) _ _
@@ -97,6 +97,12 @@ scale-small b =
     small-if _ _ _ (omega arith) (small-if _ _ _ (omega arith) (small-if _ _ _ (omega arith) (small-if _ _ _ (omega arith)
     (small-if _ _ _ (omega arith) (small-if _ _ _ (omega arith) (small-if _ _ _ (omega arith) (small-if _ _ _ (omega arith)
     (small-if _ _ _ (omega arith) (omega arith)))))))))
+
+pub scale-up : (c : Scale) (b : ℕ) → c ≡ scaleOf b → c .up ≤ 15
+scale-up c b e = rw e (scale-small b .up-small)
+
+pub scale-down : (c : Scale) (b : ℕ) → c ≡ scaleOf b → c .down ≤ 15
+scale-down c b e = rw e (scale-small b .down-small)
 
 -- the caps change nothing where no count is greater than a slice is long
 module _ (negative : Bool) (d : Digits) (x : Exponent) (c : Scale) (zeros : d .zeros < countCap) (fraction : d .fraction < countCap) (up : c .up ≤ 15) (down : c .down ≤ 15) where

@@ -5,6 +5,8 @@ use mathlib.Core.Bool.{Bool, true, false, not}
 use mathlib.Core.List.{List}
 use mathlib.Core.Logic.{_⊎_, inl, inr, ⊎-elim}
 use Prim.Native.Nat.{ℕ, _+_, _-_, _≤_, _<_, min}
+use mir.Syntax.{w64}
+use mir.Val.{Fits}
 use native.Mathlib.Omega.{arith}
 use lib.ListN.{length, drop}
 use lib.Dec.{eqb}
@@ -125,3 +127,44 @@ value-fails negative m up down n f =
     let k : Stands m up down = stands-told m up down e in
     absurd (f (k .small) (k .low) (k .high)))
     (λ (e : inRange m up down ≡ false). sym (value-outside negative m up down n e))
+
+-- where the exponent has few digits and there are few others no sum is cut
+module _ (x : Exponent) (p : ℕ) (small : x .size < 1_000_000_000_000_000_000) (add : p ≡ raising x) where
+  raising-small : p < 1_000_000_000_000_000_000
+  unfolding raising
+  raising-small = rw add (by-test (λ (n : ℕ). n < 1_000_000_000_000_000_000) (x .negative) _ _ (λ t. omega arith) (λ t. small))
+
+  pub up-fits : (zeros : ℕ) → zeros < 20 → Fits w64 (zeros + p)
+  up-fits zeros h =
+      let k : p < 1_000_000_000_000_000_000 = raising-small in
+      omega arith
+
+  pub up-fits-whole : (zeros up : ℕ) → zeros < 20 → up ≤ 15 → Fits w64 (zeros + p + up)
+  up-fits-whole zeros up h g =
+      let k : p < 1_000_000_000_000_000_000 = raising-small in
+      omega arith
+
+  pub up-capped : (zeros up : ℕ) → zeros < 20 → up ≤ 15 → zeros + p + up ≤ exponentCap + 15
+  up-capped zeros up h g =
+      let k : p < 1_000_000_000_000_000_000 = raising-small in
+      omega arith
+
+module _ (x : Exponent) (q : ℕ) (small : x .size < 1_000_000_000_000_000_000) (take : q ≡ lowering x) where
+  lowering-small : q < 1_000_000_000_000_000_000
+  unfolding lowering
+  lowering-small = rw take (by-test (λ (n : ℕ). n < 1_000_000_000_000_000_000) (x .negative) _ _ (λ t. small) (λ t. omega arith))
+
+  pub down-fits : (fraction : ℕ) → fraction ≤ 18 → Fits w64 (fraction + q)
+  down-fits fraction h =
+      let k : q < 1_000_000_000_000_000_000 = lowering-small in
+      omega arith
+
+  pub down-fits-whole : (fraction down : ℕ) → fraction ≤ 18 → down ≤ 15 → Fits w64 (fraction + q + down)
+  down-fits-whole fraction down h g =
+      let k : q < 1_000_000_000_000_000_000 = lowering-small in
+      omega arith
+
+  pub down-capped : (fraction down : ℕ) → fraction ≤ 18 → down ≤ 15 → fraction + q + down ≤ exponentCap + 15
+  down-capped fraction down h g =
+      let k : q < 1_000_000_000_000_000_000 = lowering-small in
+      omega arith

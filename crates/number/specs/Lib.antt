@@ -2,3 +2,4 @@ pub mod Number
 pub mod Integer
 pub mod ValueWord
 pub mod Capped
+pub mod At

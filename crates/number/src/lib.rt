@@ -2,15 +2,21 @@
 // Words of any length are read in one pass: numbers too great to matter are cut on the way, which changes no answer.
 ghost use mathlib.Core.Path.{_≡_};
 ghost use mathlib.Core.Bool.{true};
-ghost use Prim.Native.Nat.{_+_, _-_, _*_, _<_, _≤_, min};
-ghost use lib.ListN.{length, drop, getD};
-ghost use Rattle.base.specs.If.{if_then_else_};
-ghost use Rattle.base.specs.Bytes.{within};
+ghost use Prim.Native.Nat.{_+_, _-_, _*_, _^_, _<_, _≤_, min};
+ghost use lib.ListN.{length, take, drop, getD};
+ghost use Rattle.base.specs.If.{if_then_else_, either};
+ghost use Rattle.base.specs.Bytes.{within, isBlank, isLetter};
+ghost use Rattle.base.specs.Class.{runEnd};
+ghost use lib.Dec.{leb};
 ghost use Rattle.number.specs.Number.{isSign, isMinus, isE, pastSign, goesOn, noDigits, withPoint, withDigit, withByte, scan, noExponent, exponentOf, scaleOf, raised, lowered, valueAs, wellFormed, numberOf, isFormed, isBounded};
 ghost use Rattle.number.specs.Integer.{wholeOf};
 ghost use Rattle.number.specs.ValueWord.{valueWord, decimalOf, isDecimal, isValueWord};
 ghost use Rattle.number.specs.Capped.{exponentCap, countCap, cappedDigits, cappedExponent, sizeAt, raising, lowering, Kept, Bounded};
+ghost use Rattle.number.specs.At.{numberAt, runFrom, plainAt, noReading, readingAt, goesAt, lettersAt, partsOf, Few, Splits, Says};
 use base::Class;
+
+// A word of more bytes is read the long way.
+const SHORT: usize = 18;
 
 // Digits read so far: the number that they write, the same up to the last digit that is not 0, the zeros after that one, how many
 // stand after the point, whether there is a digit and a point, and where they end.
@@ -477,6 +483,334 @@ pub fn read_number(s: &[u8]) -> Number
         return Number::Malformed;
     }
     value_of(minus_at(s, 0), d, x, scale_at(s, x.end))
+}
+
+// ---- a number where it stands in its line
+
+// A number in its line, and where its word ends.
+pub struct NumberAt {
+    pub number: Number,
+    pub end: usize,
+}
+
+// A run of digits: the number that it writes, where it ends, and the byte there, 0 past the end.
+pub struct Run {
+    pub value: u64,
+    pub end: usize,
+    pub next: u8,
+}
+
+// Digits with at most one point: the number that they write, how many stand after the point, whether there is a digit, where they
+// end, and the byte there.
+pub struct Plain {
+    pub all: u64,
+    pub fraction: u64,
+    pub some: bool,
+    pub end: usize,
+    pub next: u8,
+}
+
+// An exponent, and the byte where it ends.
+pub struct Reading {
+    pub exponent: Exponent,
+    pub next: u8,
+}
+
+// Letters after a number: what the first scales by, and where they end.
+pub struct Letters {
+    pub scale: Scale,
+    pub end: usize,
+}
+
+// The parts of a number but its letters, and the byte where they end.
+pub struct Parts {
+    pub negative: bool,
+    pub digits: Plain,
+    pub exponent: Exponent,
+    pub next: u8,
+}
+
+// A number as a size that does not end in 0, and the zeros after it.
+struct Trimmed {
+    size: u64,
+    zeros: u64,
+}
+
+// The number that the run of digits at `from` writes, those before it being `before`. In so few bytes nothing need be cut.
+fn read_run(s: &[u8], from: usize, before: u64) -> Run
+    requires { ⌜ length (now s) ≤ 18 ⌝ ∗ ⌜ from ≤ length (now s) ⌝ ∗ ⌜ before < 10 ^ from ⌝ }
+    ensures { λ r. ⌜ r ≡ runFrom (now (s .entry)) from before ⌝ ∗ ⌜ r .value < 10 ^ (r .end) ⌝ ∗ ⌜ r .end ≤ length (now (s .entry)) ⌝ }
+{
+    let mut value = before;
+    let mut i = from;
+    while i < s.len() {
+        let next = s[i];
+        let byte = wide(next);
+        if byte < 48 {
+            return Run {
+                value,
+                end: i,
+                next,
+            };
+        }
+        let digit = byte - 48;
+        if digit > 9 {
+            return Run {
+                value,
+                end: i,
+                next,
+            };
+        }
+        value = 10 * value + digit;
+        i += 1;
+    }
+    Run {
+        value,
+        end: i,
+        next: 0,
+    }
+}
+
+// The digits that stand at `from`: a run, and where a point follows it another.
+fn plain_digits(s: &[u8], from: usize) -> Plain
+    requires { ⌜ length (now s) ≤ 18 ⌝ ∗ ⌜ from ≤ length (now s) ⌝ }
+    ensures { λ r. ⌜ r ≡ plainAt (now (s .entry)) (scan (drop from (now (s .entry))) (noDigits from)) ⌝ ∗ ⌜ r .fraction ≤ 18 ⌝ }
+{
+    let whole = read_run(s, from, 0);
+    let end = whole.end;
+    if whole.next != b'.' {
+        return Plain {
+            all: whole.value,
+            fraction: 0,
+            some: from < end,
+            end,
+            next: whole.next,
+        };
+    }
+    let point = end + 1;
+    let part = read_run(s, point, whole.value);
+    let last = part.end;
+    let fraction = last - point;
+    Plain {
+        all: part.value,
+        fraction: fraction as u64,
+        some: from + 1 < last,
+        end: last,
+        next: part.next,
+    }
+}
+
+// Past a byte where it is a sign.
+fn past(b: u8, at: usize) -> usize
+    requires { ⌜ at ≤ 18 ⌝ }
+    ensures { λ r. ⌜ r ≡ (if isSign b then at + 1 else at) ⌝ }
+{
+    if is_sign(b) {
+        return at + 1;
+    }
+    at
+}
+
+// No exponent at `from`, where the byte b stands.
+fn no_reading(from: usize, b: u8) -> Reading
+    ensures { λ r. ⌜ r ≡ noReading from b ⌝ }
+{
+    let exponent = no_exponent(from);
+    Reading { exponent, next: b }
+}
+
+// The exponent that stands at `from`, where the byte b is.
+fn plain_exponent(s: &[u8], from: usize, b: u8) -> Reading
+    requires { ⌜ length (now s) ≤ 18 ⌝ ∗ ⌜ b ≡ getD (now s) from 0 ⌝ }
+    ensures { λ r. ⌜ r ≡ readingAt (now (s .entry)) (exponentOf (now (s .entry)) from) ⌝ ∗ ⌜ r .exponent .size < 1_000_000_000_000_000_000 ⌝ }
+{
+    if !is_e(b) {
+        return no_reading(from, b);
+    }
+    let sign = base::byte_at(s, from + 1);
+    let digits = past(sign, from + 1);
+    let x = read_run(s, digits, 0);
+    if x.end == digits {
+        return no_reading(from, b);
+    }
+    let exponent = Exponent {
+        size: x.value,
+        negative: sign == b'-',
+        end: x.end,
+    };
+    Reading {
+        exponent,
+        next: x.next,
+    }
+}
+
+// The parts of the number at the front of a line of few bytes.
+fn parts_of(s: &[u8]) -> Parts
+    requires { ⌜ length (now s) ≤ 18 ⌝ }
+    ensures { λ r. ⌜ r ≡ partsOf (now (s .entry)) ⌝ ∗ ⌜ Few r ⌝ }
+{
+    let first = base::byte_at(s, 0);
+    let digits = plain_digits(s, past(first, 0));
+    let reading = plain_exponent(s, digits.end, digits.next);
+    let exponent = reading.exponent;
+    Parts {
+        negative: first == b'-',
+        digits,
+        exponent,
+        next: reading.next,
+    }
+}
+
+// Whether a word goes on at `at`: it ends at the line's end and at a blank.
+fn goes_at(s: &[u8], at: usize) -> bool
+    ensures { λ r. ⌜ r ≡ goesAt (now (s .entry)) at ⌝ }
+{
+    if at >= s.len() {
+        return false;
+    }
+    base::in_class(Class::Filled, s[at])
+}
+
+// Whether the byte b tells that a word ends at `at`, or the line does.
+fn ends_by(b: u8, s: &[u8], at: usize) -> bool
+    ensures { λ r. ⌜ r ≡ either (isBlank b) (leb (length (now (s .entry))) at) ⌝ }
+{
+    if b == 32 {
+        return true;
+    }
+    if b == 9 {
+        return true;
+    }
+    s.len() <= at
+}
+
+// Where the letters at `from` end.
+fn letters_end(s: &[u8], from: usize) -> usize
+    ensures { λ r. ⌜ r ≡ runEnd isLetter (now (s .entry)) from ⌝ }
+{
+    let mut i = from;
+    while i < s.len() {
+        if !base::is_letter(s[i]) {
+            return i;
+        }
+        i += 1;
+    }
+    i
+}
+
+// The letters at `from`, where the byte b stands.
+fn letters_at(s: &[u8], from: usize, b: u8) -> Letters
+    requires { ⌜ b ≡ getD (now s) from 0 ⌝ }
+    ensures { λ r. ⌜ r ≡ lettersAt (now (s .entry)) from ⌝ }
+{
+    let end = letters_end(s, from);
+    let scale = scale_of(b);
+    Letters { scale, end }
+}
+
+// A number that is not 0 without the zeros that it ends in.
+fn without_zeros(all: u64) -> Trimmed
+    requires { ⌜ 0 < all ⌝ }
+    ensures { λ r. ⌜ Splits all (r .size) (r .zeros) ⌝ ∗ ⌜ r .zeros < 20 ⌝ }
+{
+    let mut size = all;
+    let mut zeros = 0;
+    while size % 10 == 0 {
+        size = size / 10;
+        zeros += 1;
+    }
+    Trimmed { size, zeros }
+}
+
+// The value of a number of few bytes: no sum is cut.
+fn plain_value(parts: Parts, c: Scale) -> Number
+    requires { ⌜ Few parts ⌝ ∗ ⌜ c .up ≤ 15 ⌝ ∗ ⌜ c .down ≤ 15 ⌝ }
+    ensures { λ r. ⌜ Says parts c r ⌝ }
+{
+    let d = parts.digits;
+    let x = parts.exponent;
+    if d.all == 0 {
+        return Number::Value(128);
+    }
+    let m = without_zeros(d.all);
+    let up = m.zeros + raising(x) + c.up;
+    let down = d.fraction + lowering(x) + c.down;
+    judged(parts.negative, m.size, up, down)
+}
+
+// The number that stands at `from`, whatever its word: first the word's end, then what it says.
+fn long_number(s: &[u8], from: usize) -> NumberAt
+    ensures { λ r. ⌜ r ≡ numberAt (now (s .entry)) from ⌝ }
+{
+    if s.len() <= from {
+        return NumberAt {
+            number: Number::Malformed,
+            end: from,
+        };
+    }
+    let end = base::skip(Class::Filled, s, from);
+    NumberAt {
+        number: read_number(&s[from..end]),
+        end,
+    }
+}
+
+// Where the first bytes from `from` on end: as many as a short word may have, and no more than there are.
+fn few_end(s: &[u8], from: usize) -> usize
+    requires { ⌜ from ≤ length (now s) ⌝ }
+    ensures { λ r. ⌜ r ≡ min (length (now (s .entry))) (from + 18) ⌝ }
+{
+    if s.len() - from < SHORT {
+        return s.len();
+    }
+    from + SHORT
+}
+
+// The number at `from` of which the parts are read, among the bytes up to `stop`: letters follow them, or it is none.
+fn scaled_number(s: &[u8], from: usize, stop: usize, parts: Parts) -> NumberAt
+    requires { ⌜ from < length (now s) ⌝ ∗ ⌜ stop ≡ min (length (now s)) (from + 18) ⌝ ∗ ⌜ parts ≡ partsOf (take (stop - from) (drop from (now s))) ⌝ ∗ ⌜ Few parts ⌝ }
+    ensures { λ r. ⌜ r ≡ numberAt (now (s .entry)) from ⌝ }
+{
+    let exponent = parts.exponent;
+    let letters = letters_at(&s[from..stop], exponent.end, parts.next);
+    let end = from + letters.end;
+    if goes_at(s, end) {
+        return long_number(s, from);
+    }
+    let digits = parts.digits;
+    if !digits.some {
+        return long_number(s, from);
+    }
+    let scale = letters.scale;
+    NumberAt {
+        number: plain_value(parts, scale),
+        end,
+    }
+}
+
+// The number that stands at `from` in a line, and where its word ends. A word that is short and a number is gone over once.
+pub fn number_at(s: &[u8], from: usize) -> NumberAt
+    ensures { λ r. ⌜ r ≡ numberAt (now (s .entry)) from ⌝ }
+{
+    if s.len() <= from {
+        return long_number(s, from);
+    }
+    let stop = few_end(s, from);
+    let parts = parts_of(&s[from..stop]);
+    let exponent = parts.exponent;
+    let end = from + exponent.end;
+    if !ends_by(parts.next, s, end) {
+        return scaled_number(s, from, stop, parts);
+    }
+    let digits = parts.digits;
+    if !digits.some {
+        return long_number(s, from);
+    }
+    let scale = Scale { up: 0, down: 0 };
+    NumberAt {
+        number: plain_value(parts, scale),
+        end,
+    }
 }
 
 // 13 is for a word that is no number.

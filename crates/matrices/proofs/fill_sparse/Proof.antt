@@ -1,6 +1,6 @@
 -- `matrices::fill_sparse` meets its contract.
 -- Assumes nothing.
-use Rattle.text.proofs.WordLaws.{first-ordered, first-within, second-ordered, second-within}
+use Rattle.text.proofs.WordLaws.{first-ordered, first-within}
 use Rattle.matrices.proofs.NumberLaws.{sparse-puts, sparse-fills}
 use borrow.Author.Needs.{needs}
 use Rattle.matrices.proofs.fill_sparse.Statement.{statement}
@@ -15,8 +15,8 @@ marked-requires c κs = search (first-ordered, first-within)
 read-integer-requires : tie.Need-read-integer-requires
 read-integer-requires c κs = search needs
 
-marked-requires-2 : tie.Need-marked-requires-2
-marked-requires-2 c κs = search (second-ordered, second-within)
+number-at-requires : tie.Need-number-at-requires
+number-at-requires c κs = search needs
 
 put-value-requires : tie.Need-put-value-requires
 put-value-requires c κs = search sparse-puts
@@ -34,7 +34,7 @@ fill-sparse-spec =
     few-words-requires
     marked-requires
     read-integer-requires
-    marked-requires-2
+    number-at-requires
     put-value-requires
     same-length
     returns)

@@ -5,9 +5,6 @@ use borrow.Author.Needs.{needs}
 use Rattle.matrices.proofs.put_value.Statement.{statement}
 use Rattle.matrices.proofs.put_value.Tie as tie
 
-read-number-requires : tie.Need-read-number-requires
-read-number-requires c κs = search needs
-
 value-in-requires : tie.Need-value-in-requires
 value-in-requires c κs = search needs
 
@@ -26,10 +23,4 @@ returns c = search value-stored
 pub put-value-spec : {M : Type 1} → statement M
 put-value-spec =
     tie.close
-    (tie.spec
-    read-number-requires
-    value-in-requires
-    slice-aggregate-put-record
-    put-record-requires
-    same-length
-    returns)
+    (tie.spec value-in-requires slice-aggregate-put-record put-record-requires same-length returns)

@@ -4,8 +4,7 @@ use borrow.Author.Needs.{needs}
 use Prim.Native.Nat.{_-_, _≤_, _<_}
 use native.Mathlib.Omega.{arith}
 use lib.ListN.{length}
-use Rattle.text.proofs.WordLaws.{end-past, word-ordered, word-within}
-use Rattle.matrix.proofs.MatrixLaws.{Pending, line-starts, line-past, line-ends, line-goes}
+use Rattle.matrix.proofs.MatrixLaws.{Pending, line-starts, line-past, line-blank, line-number, line-less, placed-within}
 use Rattle.matrix.proofs.numbers_line.Statement.{statement}
 use Rattle.matrix.proofs.numbers_line.Tie as tie
 
@@ -18,17 +17,23 @@ abbrev μ-loop : tie.MeasureT-loop
 loop-holds : tie.Need-loop-holds Inv-loop μ-loop
 loop-holds c = search (needs, line-starts)
 
-word-at-requires : tie.Need-word-at-requires Inv-loop μ-loop
-word-at-requires c κs = search needs
+past-blanks-requires : tie.Need-past-blanks-requires Inv-loop μ-loop
+past-blanks-requires c κs = search needs
 
 returns : tie.Need-returns Inv-loop μ-loop
-returns c = search line-ends
+returns c = search line-blank
 
-told-by-requires : tie.Need-told-by-requires Inv-loop μ-loop
-told-by-requires c κs = search (word-ordered, word-within)
+number-at-requires : tie.Need-number-at-requires Inv-loop μ-loop
+number-at-requires c κs = search needs
+
+is-formed-requires : tie.Need-is-formed-requires Inv-loop μ-loop
+is-formed-requires c κs = search needs
 
 and-requires : tie.Need-and-requires Inv-loop μ-loop
 and-requires c κs = search needs
+
+is-bounded-requires : tie.Need-is-bounded-requires Inv-loop μ-loop
+is-bounded-requires c κs = search needs
 
 and-requires-2 : tie.Need-and-requires-2 Inv-loop μ-loop
 and-requires-2 c κs = search needs
@@ -37,12 +42,10 @@ add-numbers : tie.Need-add-numbers Inv-loop μ-loop
 add-numbers c = search needs
 
 loop-less : tie.Need-loop-less Inv-loop μ-loop
-loop-less c =
-    let g : c .before .before .before .before .before .before .before .loop .at < c .before .before .before .before .before .word-at .result .end = search end-past in
-    omega arith
+loop-less c = search line-less
 
 loop-again : tie.Need-loop-again Inv-loop μ-loop
-loop-again c = search (word-within, line-goes)
+loop-again c = (search placed-within, search line-number)
 
 returns-2 : tie.Need-returns-2 Inv-loop μ-loop
 returns-2 c = search line-past
@@ -54,10 +57,12 @@ numbers-line-spec =
     Inv-loop
     μ-loop
     loop-holds
-    word-at-requires
+    past-blanks-requires
     returns
-    told-by-requires
+    number-at-requires
+    is-formed-requires
     and-requires
+    is-bounded-requires
     and-requires-2
     add-numbers
     loop-less

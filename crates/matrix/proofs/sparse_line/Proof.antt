@@ -1,7 +1,7 @@
 -- `matrix::sparse_line` meets its contract: a line of two words, or none that it takes.
 -- Assumes nothing.
-use Rattle.text.proofs.WordLaws.{first-ordered, first-within, second-ordered, second-within}
-use Rattle.matrix.proofs.MatrixLaws.{sparse-other, sparse-two}
+use Rattle.text.proofs.WordLaws.{first-ordered, first-within}
+use Rattle.matrix.proofs.MatrixLaws.{second-ends, sparse-other, sparse-two}
 use borrow.Author.Needs.{needs}
 use Rattle.matrix.proofs.sparse_line.Statement.{statement}
 use Rattle.matrix.proofs.sparse_line.Tie as tie
@@ -19,7 +19,7 @@ read-integer-requires : tie.Need-read-integer-requires
 read-integer-requires c κs = search needs
 
 told-by-requires : tie.Need-told-by-requires
-told-by-requires c κs = search (second-ordered, second-within)
+told-by-requires c κs = search second-ends
 
 and-requires : tie.Need-and-requires
 and-requires c κs = search needs

@@ -5,11 +5,8 @@ use borrow.Author.Needs.{needs}
 use Rattle.matrix.proofs.told_by.Statement.{statement}
 use Rattle.matrix.proofs.told_by.Tie as tie
 
-marked-requires : tie.Need-marked-requires
-marked-requires c κs = search needs
-
-read-number-requires : tie.Need-read-number-requires
-read-number-requires c κs = search needs
+number-at-requires : tie.Need-number-at-requires
+number-at-requires c κs = search needs
 
 enum-told : tie.Need-enum-told
 enum-told c = search needs
@@ -32,12 +29,4 @@ returns-3 c = search told-range
 pub told-by-spec : {M : Type 1} → statement M
 told-by-spec =
     tie.close
-    (tie.spec
-    marked-requires
-    read-number-requires
-    enum-told
-    enum-told-2
-    enum-told-3
-    returns
-    returns-2
-    returns-3)
+    (tie.spec number-at-requires enum-told enum-told-2 enum-told-3 returns returns-2 returns-3)

@@ -1,0 +1,482 @@
+-- Laws of digits read run by run: a run of digits, where a point follows it another, and the exponent. In a few bytes nothing is cut.
+-- Assumes nothing.
+use mathlib.Core.Path.{_≡_, refl, sym, _∙_, ap}
+use mathlib.Core.Bool.{Bool, true, false, not}
+use mathlib.Core.List.{List, [], _∷_}
+use Prim.Native.Nat.{ℕ, suc, _+_, _-_, _*_, _^_, _≤_, _<_}
+use mir.Syntax.{w64}
+use mir.Val.{Fits}
+use native.Mathlib.Nat.{add-zero, pow-suc, pow-le-pow-right, zero-lt-suc}
+use native.Mathlib.Numerals.{add-one}
+use native.Mathlib.Omega.{arith}
+use lib.ListN.{length, drop, getD, drop-of-length-le, List·getD-eq-default}
+use lib.Seq.{drop-cons, drop-drop}
+use lib.Dec.{eqb, ltb, leb}
+use borrow.Author.Tests.{eq-eqb, ne-eqb, le-leb, lt-leb, lt-ltb, le-ltb, leb-true, leb-false, ltb-true, ltb-false, not-true, not-false}
+use Rattle.base.specs.If.{if_then_else_, both, either}
+use Rattle.base.specs.Bytes.{isDigit, within}
+use Rattle.base.specs.Runs.{run}
+use Rattle.base.specs.Class.{runEnd}
+use Rattle.base.proofs.IfLaws.{if-true, if-false, by-cases, both-true, both-not-left, both-not-right, both-rest, either-left, either-right, either-rest, either-false}
+use Rattle.base.proofs.RunLaws.{run-goes, run-stops, run-nil, run-end-at, run-on, run-stop, run-past}
+use Rattle.number.specs.declared.Digits.{Digits}
+use Rattle.number.specs.declared.Exponent.{Exponent}
+use Rattle.number.specs.declared.Plain.{Plain}
+use Rattle.number.specs.declared.Run.{Run}
+use Rattle.number.specs.declared.Reading.{Reading}
+use Rattle.number.specs.Number.{isE, isSign, isMinus, isPoint, pastSign, noDigits, goesOn, withPoint, withDigit, withByte, scan, noExponent, exponentAt, exponentOf}
+use Rattle.number.specs.At.{runFrom, plainAt, noReading, readingAt}
+use Rattle.number.proofs.CappedLaws.{scan-goes, scan-stops, scan-ends}
+use Rattle.number.proofs.DigitLaws.{digit-from}
+use Rattle.number.proofs.SizeLaws.{sizeOn, size-goes, size-stops, size-ends}
+use Rattle.number.proofs.ReadLaws.{inside, sign-within}
+use Rattle.number.proofs.TrimLaws.{power-some}
+
+-- ---- the loop over a run of digits
+
+power-more : (m n : ℕ) → m ≤ n → 10 ^ m ≤ 10 ^ n
+power-more m n h = pow-le-pow-right (zero-lt-suc 9) h
+
+-- a byte by its bounds
+module _ (b w : ℕ) (same : w ≡ b) where
+  digit-low : w < 48 → isDigit b ≡ false
+  unfolding isDigit within
+  digit-low h =
+      let k : b < 48 = omega arith in
+      both-not-left _ _ (lt-leb 48 b k)
+
+  digit-high : 9 < w - 48 → isDigit b ≡ false
+  unfolding isDigit within
+  digit-high h =
+      let k : 57 < b = omega arith in
+      both-not-right _ _ (lt-leb b 57 k)
+
+  digit-is : 48 ≤ w → w - 48 ≤ 9 → isDigit b ≡ true
+  unfolding isDigit within
+  digit-is h g =
+      let k : 48 ≤ b = omega arith in
+      let l : b ≤ 57 = omega arith in
+      both-true _ _ (le-leb 48 b k) (le-leb b 57 l)
+
+-- one digit more in a few bytes: nothing wraps
+module _ (s : List ℕ) (i value : ℕ) (few : length s ≤ 18) (within : i < length s) (below : value < 10 ^ i) where
+  run-room : value < 100_000_000_000_000_000
+  run-room =
+      let k : 10 ^ i ≤ 10 ^ 17 = power-more i 17 (omega arith) in
+      omega arith
+
+  pub run-times : Fits w64 (10 * value)
+  run-times =
+      let h : value < 100_000_000_000_000_000 = run-room in
+      omega arith
+
+  pub run-digit : (digit : ℕ) → digit ≤ 9 → Fits w64 (10 * value + digit)
+  run-digit digit k =
+      let h : value < 100_000_000_000_000_000 = run-room in
+      omega arith
+
+pub run-below : (i value digit : ℕ) → value < 10 ^ i → digit ≤ 9 → 10 * value + digit < 10 ^ (i + 1)
+run-below i value digit below h =
+    let p : 10 ^ suc i ≡ 10 ^ i * 10 = pow-suc 10 i in
+    let q : 10 * value + digit < 10 ^ i * 10 = omega arith in
+    rw (add-one i, p) q
+
+runs-same : (r e : Run) → r .value ≡ e .value → r .end ≡ e .end → r .next ≡ e .next → r ≡ e
+runs-same r e a b c = λ i. record { value = a i; end = b i; next = c i }
+
+-- the run as the loop has come to it, and what it promises of the whole
+pub record Runs (s : List ℕ) (i value : ℕ) (whole : Run) : Type 0 where
+  pub value-left : sizeOn (drop i s) value ≡ whole .value
+  pub end-left : i + run isDigit (drop i s) ≡ whole .end
+  pub next-left : getD s (i + run isDigit (drop i s)) 0 ≡ whole .next
+
+pub runs-start : (s : List ℕ) (from before : ℕ) → Runs s from before (runFrom s from before)
+unfolding runFrom sizeOn
+runs-start s from before = record { value-left = refl; end-left = refl; next-left = refl }
+
+module _ (s : List ℕ) (i value : ℕ) (whole : Run) (inv : Runs s i value whole) where
+  runs-done : sizeOn (drop i s) value ≡ value → run isDigit (drop i s) ≡ 0 → record { value = value; end = i; next = getD s i 0 } ≡ whole
+  runs-done v n =
+      let m : i + run isDigit (drop i s) ≡ i = rw n (add-zero i) in
+      let e : i ≡ whole .end = sym m ∙ inv .end-left in
+      let f : getD s i 0 ≡ whole .next = ap (λ (k : ℕ). getD s k 0) (sym m) ∙ inv .next-left in
+      runs-same _ _ (sym v ∙ inv .value-left) e f
+
+  pub runs-past : length s ≤ i → record { value = value; end = i; next = 0 } ≡ whole
+  runs-past h =
+      let z : getD s i 0 ≡ 0 = List·getD-eq-default s 0 h in
+      rw z at (runs-done (rw (drop-of-length-le s h) (size-ends value)) (run-past isDigit s i h))
+
+  runs-stop : i < length s → isDigit (getD s i 0) ≡ false → record { value = value; end = i; next = getD s i 0 } ≡ whole
+  runs-stop h e = runs-done (rw (drop-cons s i 0 h) (size-stops (getD s i 0) (drop (suc i) s) value e)) (run-stop isDigit s i h e)
+
+  module _ (w : ℕ) (h : i < length s) (same : w ≡ getD s i 0) where
+    pub runs-low : w < 48 → record { value = value; end = i; next = getD s i 0 } ≡ whole
+    runs-low k = runs-stop h (digit-low (getD s i 0) w same k)
+
+    pub runs-high : 9 < w - 48 → record { value = value; end = i; next = getD s i 0 } ≡ whole
+    runs-high k = runs-stop h (digit-high (getD s i 0) w same k)
+
+    pub runs-on : 48 ≤ w → w - 48 ≤ 9 → Runs s (i + 1) (10 * value + (w - 48)) whole
+    runs-on k l =
+        let d : isDigit (getD s i 0) ≡ true = digit-is (getD s i 0) w same k l in
+        let f : sizeOn (drop i s) value ≡ sizeOn (drop (suc i) s) (10 * value + (getD s i 0 - 48)) = rw (drop-cons s i 0 h) (size-goes (getD s i 0) (drop (suc i) s) value d) in
+        let r : run isDigit (drop i s) ≡ suc (run isDigit (drop (i + 1) s)) = run-on isDigit s i h d in
+        let m : i + 1 + run isDigit (drop (i + 1) s) ≡ i + run isDigit (drop i s) = omega arith in
+        record {
+          value-left = rw (add-one i, same) (sym f ∙ inv .value-left);
+          end-left = m ∙ inv .end-left;
+          next-left = ap (λ (n : ℕ). getD s n 0) m ∙ inv .next-left;
+        }
+
+-- two tests whose comparisons hold together have one answer
+pub ltb-alike : (a b c d : ℕ) → (a < b → c < d) → (c < d → a < b) → ltb a b ≡ ltb c d
+ltb-alike a b c d to from =
+    by-cases _ (ltb a b)
+    (λ (e : ltb a b ≡ true). e ∙ sym (lt-ltb c d (to (ltb-true a b e))))
+    (λ (e : ltb a b ≡ false).
+    by-cases _ (ltb c d)
+    (λ (f : ltb c d ≡ true). e ∙ absurd-not a b e (from (ltb-true c d f)))
+    (λ (f : ltb c d ≡ false). e ∙ sym f))
+  where
+    absurd-not : (a b : ℕ) → ltb a b ≡ false → a < b → false ≡ ltb c d
+    absurd-not a b e h =
+        let k : b ≤ a = ltb-false a b e in
+        absurd (omega arith)
+
+either-counts : (m n c d : ℕ) → (0 < m + n → c < d) → (c < d → 0 < m + n) → either (ltb 0 m) (ltb 0 n) ≡ ltb c d
+either-counts m n c d to from =
+    by-cases _ (ltb 0 m)
+    (λ (e : ltb 0 m ≡ true).
+    let h : 0 < m = ltb-true 0 m e in
+    either-left _ _ e ∙ sym (lt-ltb c d (to (omega arith))))
+    (λ (e : ltb 0 m ≡ false).
+    let h : m ≤ 0 = ltb-false 0 m e in
+    either-rest _ _ e ∙ ltb-alike 0 n c d (λ (k : 0 < n). to (omega arith)) (λ (k : c < d). let l : 0 < m + n = from k in omega arith))
+
+both-not-right' : (a : Bool) {b : Bool} → b ≡ false → both a b ≡ false
+both-not-right' a e = both-not-right a _ e
+
+-- ---- digits run by run
+
+-- the digits after a run of digits at the front of s, those before it being d
+unfoldable pub digitsRun : List ℕ → Digits → Digits
+digitsRun [] d = d
+digitsRun (b ∷ s) d = if isDigit b then digitsRun s (withDigit d (b - 48)) else d
+
+digit-no-point : (b : ℕ) → isDigit b ≡ true → isPoint b ≡ false
+unfolding isPoint
+digit-no-point b e =
+    let h : 48 ≤ b = digit-from b e in
+    ne-eqb b 46 (λ (k : b ≡ 46). omega arith)
+
+digit-goes : (d : Digits) (b : ℕ) → isDigit b ≡ true → goesOn d b ≡ true
+unfolding goesOn
+digit-goes d b e = either-left _ _ e
+
+digit-with : (d : Digits) (b : ℕ) → isDigit b ≡ true → withByte d b ≡ withDigit d (b - 48)
+unfolding withByte
+digit-with d b e = if-false _ _ (digit-no-point b e)
+
+scan-run : (s : List ℕ) (d : Digits) → scan s d ≡ scan (drop (run isDigit s) s) (digitsRun s d)
+unfolding digitsRun
+scan-run [] d = rw (run-nil isDigit)
+scan-run (b ∷ s) d = by-cases _ (isDigit b) (λ (e : isDigit b ≡ true). goes e (scan-run s (withDigit d (b - 48)))) (λ (e : isDigit b ≡ false). rw (run-stops isDigit b s e, if-false (digitsRun s (withDigit d (b - 48))) d e))
+  where
+    goes : isDigit b ≡ true → scan s (withDigit d (b - 48)) ≡ scan (drop (run isDigit s) s) (digitsRun s (withDigit d (b - 48))) → scan (b ∷ s) d ≡ scan (drop (run isDigit (b ∷ s)) (b ∷ s)) (digitsRun (b ∷ s) d)
+    goes e k = rw (run-goes isDigit b s e, if-true (digitsRun s (withDigit d (b - 48))) d e) (scan-goes b s d (digit-goes d b e) ∙ ap (scan s) (digit-with d b e) ∙ k)
+
+-- what a run makes of the digits before it
+record Ran (s : List ℕ) (d r : Digits) : Type 0 where
+  all-ran : r .all ≡ sizeOn s (d .all)
+  fraction-ran : r .fraction ≡ (if d .point then d .fraction + run isDigit s else d .fraction)
+  some-ran : r .some ≡ either (d .some) (ltb 0 (run isDigit s))
+  point-ran : r .point ≡ d .point
+  end-ran : r .end ≡ d .end + run isDigit s
+
+either-none : (a : Bool) → a ≡ either a false
+unfolding either
+either-none true = refl
+either-none false = refl
+
+either-all : (a : Bool) → either a true ≡ true
+unfolding either
+either-all true = refl
+either-all false = refl
+
+same-either : (t : Bool) (n : ℕ) → n ≡ (if t then n + 0 else n)
+same-either t n = by-cases _ t (λ (e : t ≡ true). sym (if-true (n + 0) n e ∙ add-zero n)) (λ (e : t ≡ false). sym (if-false (n + 0) n e))
+
+ran-none : (s : List ℕ) (d : Digits) → run isDigit s ≡ 0 → sizeOn s (d .all) ≡ d .all → Ran s d d
+ran-none s d n v =
+    record {
+      all-ran = sym v;
+      fraction-ran = rw n (same-either (d .point) (d .fraction));
+      some-ran = rw (n, le-ltb 0 0 (omega arith)) (either-none (d .some));
+      point-ran = refl;
+      end-ran = rw n (sym (add-zero (d .end)));
+    }
+
+counted-on : (t : Bool) (n k : ℕ) → (if t then (if t then n + 1 else n) + k else (if t then n + 1 else n)) ≡ (if t then n + suc k else n)
+unfolding if_then_else_
+counted-on true n k = omega arith
+counted-on false n k = refl
+
+ran-more : (b : ℕ) (s : List ℕ) (d r : Digits) → isDigit b ≡ true → Ran s (withDigit d (b - 48)) r → Ran (b ∷ s) d r
+unfolding withDigit
+ran-more b s d r e k =
+    record {
+      all-ran = k .all-ran ∙ sym (size-goes b s (d .all) e);
+      fraction-ran = rw (run-goes isDigit b s e) (k .fraction-ran ∙ counted-on (d .point) (d .fraction) (run isDigit s));
+      some-ran = rw (run-goes isDigit b s e, lt-ltb 0 (suc (run isDigit s)) (omega arith)) (k .some-ran ∙ either-left true _ refl ∙ sym (either-all (d .some)));
+      point-ran = k .point-ran;
+      end-ran = rw (run-goes isDigit b s e) (k .end-ran ∙ (let m : d .end + 1 + run isDigit s ≡ d .end + suc (run isDigit s) = omega arith in m));
+    }
+
+run-ran : (s : List ℕ) (d : Digits) → Ran s d (digitsRun s d)
+unfolding digitsRun
+run-ran [] d = ran-none [] d (run-nil isDigit) (size-ends (d .all))
+run-ran (b ∷ s) d =
+    by-cases _ (isDigit b)
+    (λ (e : isDigit b ≡ true). rw (if-true (digitsRun s (withDigit d (b - 48))) d e) (ran-more b s d (digitsRun s (withDigit d (b - 48))) e (run-ran s (withDigit d (b - 48)))))
+    (λ (e : isDigit b ≡ false). rw (if-false (digitsRun s (withDigit d (b - 48))) d e) (ran-none (b ∷ s) d (run-stops isDigit b s e) (size-stops b s (d .all) e)))
+
+-- digits stop at a byte that is neither a digit nor a point that they may have
+halts : (s : List ℕ) (i : ℕ) (d : Digits) → (i < length s → isDigit (getD s i 0) ≡ false) → both (isPoint (getD s i 0)) (not (d .point)) ≡ false → scan (drop i s) d ≡ d
+unfolding goesOn
+halts s i d n p =
+    by-cases _ (leb (length s) i)
+    (λ (t : leb (length s) i ≡ true). rw (drop-of-length-le s (leb-true (length s) i t)) (scan-ends d))
+    (λ (t : leb (length s) i ≡ false).
+    let h : i < length s = omega (arith, leb-false (length s) i t) in
+    rw (drop-cons s i 0 h) (scan-stops (getD s i 0) (drop (suc i) s) d (either-false _ _ (n h) p)))
+
+-- and pass over a point that they may have
+point-passed : (s : List ℕ) (i : ℕ) (d : Digits) → d .point ≡ false → isPoint (getD s i 0) ≡ true → scan (drop i s) d ≡ scan (drop (suc i) s) (withPoint d)
+unfolding goesOn withByte isPoint
+point-passed s i d n p =
+    let h : i < length s = inside isPoint s i none p in
+    let g : both (isPoint (getD s i 0)) (not (d .point)) ≡ true = both-rest _ _ p ∙ ap not n in
+    rw (drop-cons s i 0 h) (scan-goes (getD s i 0) (drop (suc i) s) d (either-right _ _ g) ∙ ap (scan (drop (suc i) s)) (if-true (withPoint d) (withDigit d (getD s i 0 - 48)) p))
+  where
+    none : isPoint 0 ≡ false
+    none = refl
+
+-- the digits at a place of s, in the two ways that the code goes
+module _ (s : List ℕ) (from : ℕ) where
+  first-run : Digits
+  first-run = digitsRun (drop from s) (noDigits from)
+
+  first-ran : Ran (drop from s) (noDigits from) first-run
+  unfolding first-run
+  first-ran = run-ran (drop from s) (noDigits from)
+
+  to-first : scan (drop from s) (noDigits from) ≡ scan (drop (runEnd isDigit s from) s) first-run
+  unfolding first-run
+  to-first = scan-run (drop from s) (noDigits from) ∙ ap (λ (x : List ℕ). scan x (digitsRun (drop from s) (noDigits from))) (drop-drop (run isDigit (drop from s)) from s)
+
+  first-point : first-run .point ≡ false
+  unfolding noDigits
+  first-point = first-ran .point-ran
+
+  one-run : isPoint (getD s (runEnd isDigit s from) 0) ≡ false → scan (drop from s) (noDigits from) ≡ first-run
+  one-run p = to-first ∙ halts s (runEnd isDigit s from) first-run (run-end-at isDigit s from) (both-not-left _ _ p)
+
+  -- past the point
+  second-run : ℕ → Digits
+  second-run at = digitsRun (drop at s) (withPoint first-run)
+
+  second-ran : (at : ℕ) → Ran (drop at s) (withPoint first-run) (second-run at)
+  unfolding second-run
+  second-ran at = run-ran (drop at s) (withPoint first-run)
+
+  second-point : (at : ℕ) → second-run at .point ≡ true
+  unfolding withPoint
+  second-point at = second-ran at .point-ran
+
+  to-second : (at : ℕ) → isPoint (getD s (runEnd isDigit s from) 0) ≡ true → at ≡ suc (runEnd isDigit s from) → scan (drop from s) (noDigits from) ≡ scan (drop (runEnd isDigit s at) s) (second-run at)
+  unfolding second-run
+  to-second at p e =
+      let q : scan (drop (runEnd isDigit s from) s) first-run ≡ scan (drop at s) (withPoint first-run) = rw e (point-passed s (runEnd isDigit s from) first-run first-point p) in
+      to-first ∙ q ∙ scan-run (drop at s) (withPoint first-run) ∙ ap (λ (x : List ℕ). scan x (digitsRun (drop at s) (withPoint first-run))) (drop-drop (run isDigit (drop at s)) at s)
+
+  two-runs : (at : ℕ) → isPoint (getD s (runEnd isDigit s from) 0) ≡ true → at ≡ suc (runEnd isDigit s from) → scan (drop from s) (noDigits from) ≡ second-run at
+  two-runs at p e = to-second at p e ∙ halts s (runEnd isDigit s at) (second-run at) (run-end-at isDigit s at) (stop (isPoint (getD s (runEnd isDigit s at) 0)))
+    where
+      stop : (t : Bool) → both t (not (second-run at .point)) ≡ false
+      stop t = both-not-right' t (ap not (second-point at))
+
+-- ---- in the words that `plain_digits` has at its returns
+
+pub plains-same : (r e : Plain) → r .all ≡ e .all → r .fraction ≡ e .fraction → r .some ≡ e .some → r .end ≡ e .end → r .next ≡ e .next → r ≡ e
+plains-same r e a b c d f = λ i. record { all = a i; fraction = b i; some = c i; end = d i; next = f i }
+
+module _ (s : List ℕ) (from : ℕ) (whole : Run) (read : whole ≡ runFrom s from 0) where
+  end-is : whole .end ≡ runEnd isDigit s from
+  unfolding runFrom
+  end-is = ap (λ (r : Run). r .end) read
+
+  value-is : whole .value ≡ sizeOn (drop from s) 0
+  unfolding runFrom sizeOn
+  value-is = ap (λ (r : Run). r .value) read
+
+  next-is : whole .next ≡ getD s (runEnd isDigit s from) 0
+  unfolding runFrom
+  next-is = ap (λ (r : Run). r .next) read
+
+  pub plain-one : (whole .next ≡ 46 → ⊥) → record { all = whole .value; fraction = 0; some = ltb from (whole .end); end = whole .end; next = whole .next } ≡ plainAt s (scan (drop from s) (noDigits from))
+  unfolding plainAt noDigits isPoint
+  plain-one n =
+      let k : Ran (drop from s) (noDigits from) (first-run s from) = first-ran s from in
+      let m : whole .end ≡ from + run isDigit (drop from s) = end-is in
+      let p : isPoint (getD s (runEnd isDigit s from) 0) ≡ false = ne-eqb (getD s (runEnd isDigit s from) 0) 46 (λ (h : getD s (runEnd isDigit s from) 0 ≡ 46). n (next-is ∙ h)) in
+      rw (one-run s from p)
+      (plains-same _ _
+      (value-is ∙ sym (k .all-ran))
+      (sym (k .fraction-ran ∙ if-false _ _ refl))
+      (sym (k .some-ran ∙ either-rest false _ refl ∙ ltb-alike 0 (run isDigit (drop from s)) from (whole .end) (λ (h : 0 < run isDigit (drop from s)). omega arith) (λ (h : from < whole .end). omega arith)))
+      (end-is ∙ sym (k .end-ran))
+      (next-is ∙ ap (λ (i : ℕ). getD s i 0) (sym (k .end-ran))))
+
+  module _ (dot : whole .next ≡ 46) where
+    dot-byte : getD s (runEnd isDigit s from) 0 ≡ 46
+    dot-byte = sym next-is ∙ dot
+
+    pub point-there : whole .end + 1 ≤ length s
+    point-there =
+        let m : whole .end ≡ runEnd isDigit s from = end-is in
+        by-cases _ (leb (length s) (whole .end))
+        (λ (t : leb (length s) (whole .end) ≡ true).
+        let z : getD s (whole .end) 0 ≡ 0 = List·getD-eq-default s 0 (leb-true (length s) (whole .end) t) in
+        let y : getD s (whole .end) 0 ≡ 46 = rw m dot-byte in
+        absurd (omega arith))
+        (λ (t : leb (length s) (whole .end) ≡ false). omega (arith, leb-false (length s) (whole .end) t))
+
+    module _ (part : Run) (more : part ≡ runFrom s (whole .end + 1) (whole .value)) where
+      last-is : part .end ≡ runEnd isDigit s (whole .end + 1)
+      unfolding runFrom
+      last-is = ap (λ (r : Run). r .end) more
+
+      pub last-from : whole .end + 1 ≤ part .end
+      last-from =
+          let m : part .end ≡ whole .end + 1 + run isDigit (drop (whole .end + 1) s) = last-is in
+          omega arith
+
+      all-is : part .value ≡ sizeOn (drop (whole .end + 1) s) (whole .value)
+      unfolding runFrom sizeOn
+      all-is = ap (λ (r : Run). r .value) more
+
+      next-last : part .next ≡ getD s (runEnd isDigit s (whole .end + 1)) 0
+      unfolding runFrom
+      next-last = ap (λ (r : Run). r .next) more
+
+      pub plain-two : record { all = part .value; fraction = part .end - (whole .end + 1); some = ltb (from + 1) (part .end); end = part .end; next = part .next } ≡ plainAt s (scan (drop from s) (noDigits from))
+      unfolding plainAt noDigits withPoint isPoint
+      plain-two =
+          let k : Ran (drop from s) (noDigits from) (first-run s from) = first-ran s from in
+          let l : Ran (drop (whole .end + 1) s) (withPoint (first-run s from)) (second-run s from (whole .end + 1)) = second-ran s from (whole .end + 1) in
+          let m : whole .end ≡ from + run isDigit (drop from s) = end-is in
+          let n : part .end ≡ whole .end + 1 + run isDigit (drop (whole .end + 1) s) = last-is in
+          let h : whole .end + 1 ≡ suc (runEnd isDigit s from) = omega arith in
+          let f : first-run s from .fraction ≡ 0 = k .fraction-ran ∙ if-false _ _ refl in
+          let g : second-run s from (whole .end + 1) .fraction ≡ first-run s from .fraction + run isDigit (drop (whole .end + 1) s) = l .fraction-ran ∙ if-true _ _ refl in
+          let e : second-run s from (whole .end + 1) .end ≡ first-run s from .end + 1 + run isDigit (drop (whole .end + 1) s) = l .end-ran in
+          let d : first-run s from .end ≡ from + run isDigit (drop from s) = k .end-ran in
+          let o : first-run s from .some ≡ ltb 0 (run isDigit (drop from s)) = k .some-ran ∙ either-rest false _ refl in
+          let a : part .end ≡ second-run s from (whole .end + 1) .end = omega arith in
+          rw (two-runs s from (whole .end + 1) (eq-eqb (getD s (runEnd isDigit s from) 0) 46 dot-byte) h)
+          (plains-same _ _
+          (all-is ∙ ap (sizeOn (drop (whole .end + 1) s)) (value-is ∙ sym (k .all-ran)) ∙ sym (l .all-ran))
+          (omega arith)
+          (sym (l .some-ran ∙ ap (λ (b : Bool). either b (ltb 0 (run isDigit (drop (whole .end + 1) s)))) o ∙ either-counts (run isDigit (drop from s)) (run isDigit (drop (whole .end + 1) s)) (from + 1) (part .end) (λ (w : 0 < run isDigit (drop from s) + run isDigit (drop (whole .end + 1) s)). omega arith) (λ (w : from + 1 < part .end). omega arith)))
+          a
+          (next-last ∙ ap (λ (i : ℕ). getD s i 0) (sym last-is ∙ a)))
+
+pub point-below : (value end : ℕ) → value < 10 ^ end → value < 10 ^ (end + 1)
+point-below value end h =
+    let k : 10 ^ end ≤ 10 ^ (end + 1) = power-more end (end + 1) (omega arith) in
+    omega arith
+
+pub nothing-below : (n : ℕ) → 0 < 10 ^ n
+nothing-below n = power-some n
+
+-- ---- in the words that `plain_exponent` has
+
+pub none-small : (from b : ℕ) (r : Reading) → r ≡ noReading from b → r .exponent .size < 1_000_000_000_000_000_000
+unfolding noReading noExponent
+none-small from b r e = rw e (omega arith)
+
+pub exponent-small : (s : List ℕ) (x : Run) → length s ≤ 18 → x .end ≤ length s → x .value < 10 ^ (x .end) → x .value < 1_000_000_000_000_000_000
+exponent-small s x few h b =
+    let k : 10 ^ (x .end) ≤ 10 ^ 18 = power-more (x .end) 18 (omega arith) in
+    omega arith
+
+module _ (s : List ℕ) (from b : ℕ) (t : Bool) (byte : b ≡ getD s from 0) (told : t ≡ isE b) where
+  e-told : t ≡ isE (getD s from 0)
+  e-told = rw byte at told
+
+  none-reading : (r : Reading) → exponentOf s from ≡ noExponent from → r ≡ noReading from b → r ≡ readingAt s (exponentOf s from)
+  unfolding readingAt noReading noExponent
+  none-reading r n e = rw (n, e, byte)
+
+  pub none-plain : (r : Reading) → not t ≡ true → r ≡ noReading from b → r ≡ readingAt s (exponentOf s from)
+  unfolding exponentOf
+  none-plain r stop e = none-reading r (if-false _ _ (sym e-told ∙ not-true t stop)) e
+
+  module _ (on : not t ≡ false) where
+    e-there : from < length s
+    unfolding isE either
+    e-there = inside isE s from refl (sym e-told ∙ not-false t on)
+
+    pub e-fits : length s ≤ 18 → Fits w64 (from + 1)
+    e-fits few =
+        let h : from < length s = e-there in
+        omega arith
+
+    pub e-few : length s ≤ 18 → from + 1 ≤ 18
+    e-few few =
+        let h : from < length s = e-there in
+        omega arith
+
+    module _ (sign digits : ℕ) (is : sign ≡ getD s (from + 1) 0) (start : digits ≡ (if isSign sign then from + 1 + 1 else from + 1)) where
+      start-is : digits ≡ pastSign s (from + 1)
+      unfolding pastSign
+      start-is = rw is at start
+
+      pub sign-there-within : digits ≤ length s
+      sign-there-within =
+          let h : from < length s = e-there in
+          rw start-is (sign-within s (from + 1) (omega arith))
+
+      module _ (x : Run) (read : x ≡ runFrom s digits 0) where
+        at-digits : exponentOf s from ≡ exponentAt s from digits
+        unfolding exponentOf
+        at-digits = if-true _ _ (sym e-told ∙ not-false t on) ∙ ap (exponentAt s from) (sym start-is)
+
+        digits-end-at : x .end ≡ digits + run isDigit (drop digits s)
+        unfolding runFrom
+        digits-end-at = ap (λ (y : Run). y .end) read
+
+        pub bare-plain : (r : Reading) → x .end ≡ digits → r ≡ noReading from b → r ≡ readingAt s (exponentOf s from)
+        unfolding exponentAt
+        bare-plain r same e =
+            let n : run isDigit (drop digits s) ≡ 0 = omega (arith, digits-end-at) in
+            none-reading r (at-digits ∙ if-true _ _ (eq-eqb (run isDigit (drop digits s)) 0 n)) e
+
+        read-exponent-is : (x .end ≡ digits → ⊥) → record { size = x .value; negative = eqb sign 45; end = x .end } ≡ exponentOf s from
+        unfolding exponentAt runFrom isMinus
+        read-exponent-is other =
+            let n : run isDigit (drop digits s) ≡ 0 → ⊥ = λ (z : run isDigit (drop digits s) ≡ 0). other (omega (arith, digits-end-at)) in
+            rw (is, read) (sym (at-digits ∙ if-false _ _ (ne-eqb (run isDigit (drop digits s)) 0 n)))
+
+        next-read : x .next ≡ getD s (x .end) 0
+        unfolding runFrom
+        next-read = ap (λ (y : Run). y .next) read ∙ ap (λ (i : ℕ). getD s i 0) (sym digits-end-at)
+
+        pub read-plain : (x .end ≡ digits → ⊥) → record { exponent = record { size = x .value; negative = eqb sign 45; end = x .end }; next = x .next } ≡ readingAt s (exponentOf s from)
+        unfolding readingAt
+        read-plain other = rw (← read-exponent-is other, next-read)
+
+pub none-read : (from b : ℕ) (x : Exponent) → x ≡ noExponent from → record { exponent = x; next = b } ≡ noReading from b
+unfolding noReading
+none-read from b x e = rw e

@@ -1,0 +1,26 @@
+-- `number::parts_of` meets its contract: each part from where the one before it ends.
+-- Assumes nothing.
+use Rattle.number.proofs.InLineLaws.{start-within, digits-next, parts-are, parts-few}
+use borrow.Author.Needs.{needs}
+use Rattle.number.proofs.parts_of.Statement.{statement}
+use Rattle.number.proofs.parts_of.Tie as tie
+
+byte-at-requires : tie.Need-byte-at-requires
+byte-at-requires c κs = search needs
+
+past-requires : tie.Need-past-requires
+past-requires c κs = search needs
+
+plain-digits-requires : tie.Need-plain-digits-requires
+plain-digits-requires c κs = search (needs, start-within)
+
+plain-exponent-requires : tie.Need-plain-exponent-requires
+plain-exponent-requires c κs = search (needs, digits-next)
+
+returns : tie.Need-returns
+returns c = search (parts-are, parts-few)
+
+pub parts-of-spec : {M : Type 1} → statement M
+parts-of-spec =
+    tie.close
+    (tie.spec byte-at-requires past-requires plain-digits-requires plain-exponent-requires returns)

@@ -1,0 +1,55 @@
+-- `number::plain_exponent` meets its contract: none without an e, none without digits after it, else what the digits write.
+-- Assumes nothing.
+use Rattle.number.proofs.PlainLaws.{nothing-below, none-plain, none-small, e-fits, e-few, sign-there-within, bare-plain, read-plain, exponent-small}
+use borrow.Author.Needs.{needs}
+use Rattle.number.proofs.plain_exponent.Statement.{statement}
+use Rattle.number.proofs.plain_exponent.Tie as tie
+
+is-e-requires : tie.Need-is-e-requires
+is-e-requires c κs = search needs
+
+no-reading-requires : tie.Need-no-reading-requires
+no-reading-requires c κs = search needs
+
+returns : tie.Need-returns
+returns c = search (none-plain, none-small)
+
+add-byte-at : tie.Need-add-byte-at
+add-byte-at c = search e-fits
+
+byte-at-requires : tie.Need-byte-at-requires
+byte-at-requires c κs = search needs
+
+add-past : tie.Need-add-past
+add-past c = search e-fits
+
+past-requires : tie.Need-past-requires
+past-requires c κs = search e-few
+
+read-run-requires : tie.Need-read-run-requires
+read-run-requires c κs = search (needs, sign-there-within, nothing-below)
+
+no-reading-requires-2 : tie.Need-no-reading-requires-2
+no-reading-requires-2 c κs = search needs
+
+returns-2 : tie.Need-returns-2
+returns-2 c = search (bare-plain, none-small)
+
+returns-3 : tie.Need-returns-3
+returns-3 c = search (read-plain, exponent-small)
+
+pub plain-exponent-spec : {M : Type 1} → statement M
+plain-exponent-spec =
+    tie.close
+    (tie.spec
+    is-e-requires
+    no-reading-requires
+    returns
+    add-byte-at
+    byte-at-requires
+    add-past
+    past-requires
+    read-run-requires
+    no-reading-requires-2
+    returns-2
+    returns-3)
