@@ -201,11 +201,52 @@ pub fn skip(class: Class, s: &[u8], from: usize) -> usize
     i
 }
 
-// The same, for runs that are often longer than a block.
+// The same, for runs that are often longer than a block: sixteen bytes one by one, since many lines are short, and then by blocks.
 pub fn skip_far(class: Class, s: &[u8], from: usize) -> usize
     ensures { λ r. ⌜ r ≡ runEnd (inClass class) (now (s .entry)) from ⌝ }
 {
-    skip(class, s, skip_blocks(class, s, from))
+    let mut i = from;
+    let mut left = BLOCK;
+    while 0 < left {
+        if s.len() <= i {
+            return i;
+        }
+        if !in_class(class, s[i]) {
+            return i;
+        }
+        i += 1;
+        left -= 1;
+    }
+    skip(class, s, skip_blocks(class, s, i))
+}
+
+// Past the blanks at `from`: where the next word of a line starts. It says what `skip` says of blanks; a loop of its own is taken into the
+// callers whole.
+pub fn past_blanks(s: &[u8], from: usize) -> usize
+    ensures { λ r. ⌜ r ≡ runEnd isBlank (now (s .entry)) from ⌝ }
+{
+    let mut i = from;
+    while i < s.len() {
+        if !is_blank(s[i]) {
+            return i;
+        }
+        i += 1;
+    }
+    i
+}
+
+// Past the word at `from`.
+pub fn past_word(s: &[u8], from: usize) -> usize
+    ensures { λ r. ⌜ r ≡ runEnd isFilled (now (s .entry)) from ⌝ }
+{
+    let mut i = from;
+    while i < s.len() {
+        if !is_filled(s[i]) {
+            return i;
+        }
+        i += 1;
+    }
+    i
 }
 
 // Stores the words one after another, the first at `at`.

@@ -84,7 +84,13 @@ module _ (content : List ℕ) (front first : ℕ) (told : front ≡ runEnd isBla
     unfolding bracketOf
     reads-indented h = sym (if-false _ _ open-true ∙ if-true _ _ (lt-ltb 0 (run isBlank content) (rw front-run at h)))
 
-    -- a `[` in column 1, and where the first `]` after it stands
+    -- a `[` in column 1
+    pub opens-column : front ≤ 0 → (0 ≡ runEnd isBlank content 0) × (91 ≡ getD content 0 0)
+    opens-column h =
+        let z : front ≡ 0 = omega arith in
+        (sym z ∙ told, sym opens ∙ there ∙ ap (λ (i : ℕ). getD content i 0) z)
+
+    -- and where the first `]` after it stands
     module _ (column : front ≤ 0) (end : ℕ) (t : Bool) (ends : end ≡ runEnd (isBefore 93) content 1) (closed : t ≡ closesAt content end) where
       reads-column : bracketOf content ≡ (if not (isGoodBracket content) then Bad else namedAs (keyOf (nameOf content)) (argumentAt content))
       unfolding bracketOf

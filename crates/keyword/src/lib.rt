@@ -4,6 +4,7 @@ ghost use mathlib.Core.Path.{_≡_};
 ghost use mathlib.Core.List.{[]};
 ghost use Prim.Native.Nat.{_+_, _≤_, _<_};
 ghost use lib.ListN.{length, getD};
+ghost use Rattle.base.specs.Bytes.{isBlank};
 ghost use Rattle.base.specs.Class.{runEnd};
 ghost use Rattle.base.specs.Runs.{all};
 ghost use Rattle.keyword.specs.Names.{folded, names, sameName, keyOf, isLater};
@@ -476,21 +477,29 @@ fn closes_at(content: &[u8], end: usize) -> bool
     base::in_class(Class::Blank, content[next])
 }
 
-// What the content of a line, its bytes before comment and terminator, says by a bracket at its front.
+// What a bracket in column 1 says.
+fn opened_bracket(content: &[u8]) -> Bracket
+    requires { ⌜ (0 ≡ runEnd isBlank (now content) 0) × (91 ≡ getD (now content) 0 0) ⌝ }
+    ensures { λ r. ⌜ r ≡ bracketOf (now (content .entry)) ⌝ }
+{
+    let end = base::skip(Class::Before(b']'), content, 1);
+    if !closes_at(content, end) {
+        return Bracket::Bad;
+    }
+    let argument = base::past_blanks(content, end + 1);
+    says_name(&content[1..end], argument)
+}
+
+// What the content of a line, its bytes before comment and terminator, says by a bracket at its front. Most lines have none.
 pub fn read_bracket(content: &[u8]) -> Bracket
     ensures { λ r. ⌜ r ≡ bracketOf (now (content .entry)) ⌝ }
 {
-    let front = base::skip(Class::Blank, content, 0);
+    let front = base::past_blanks(content, 0);
     if base::byte_at(content, front) != b'[' {
         return Bracket::Plain;
     }
     if 0 < front {
         return Bracket::Indented;
     }
-    let end = base::skip(Class::Before(b']'), content, 1);
-    if !closes_at(content, end) {
-        return Bracket::Bad;
-    }
-    let argument = base::skip(Class::Blank, content, end + 1);
-    says_name(&content[1..end], argument)
+    opened_bracket(content)
 }

@@ -60,7 +60,7 @@ fn feed_from(text: &[u8], from: usize) -> usize
 pub fn line_at(text: &[u8], at: usize, comment: u8) -> Line
     ensures { λ r. ⌜ r ≡ lineAt comment (now (text .entry)) at ⌝ }
 {
-    let content = base::skip(Class::Content(comment), text, at);
+    let content = base::skip_far(Class::Content(comment), text, at);
     let end = feed_from(text, content);
     if end < text.len() {
         Line {
@@ -76,10 +76,10 @@ pub fn line_at(text: &[u8], at: usize, comment: u8) -> Line
 pub fn word_at(s: &[u8], from: usize) -> Span
     ensures { λ r. ⌜ r ≡ wordAt (now (s .entry)) from ⌝ }
 {
-    let start = base::skip(Class::Blank, s, from);
+    let start = base::past_blanks(s, from);
     Span {
         start,
-        end: base::skip(Class::Filled, s, start),
+        end: base::past_word(s, start),
     }
 }
 
@@ -250,7 +250,7 @@ pub fn few_words(s: &[u8]) -> Few
 {
     let first = word_at(s, 0);
     let second = word_at(s, first.end);
-    let third = base::skip(Class::Blank, s, second.end);
+    let third = base::past_blanks(s, second.end);
     if s.len() <= first.start {
         return Few {
             count: 0,

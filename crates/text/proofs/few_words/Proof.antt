@@ -11,8 +11,8 @@ word-at-requires c κs = search needs
 word-at-requires-2 : tie.Need-word-at-requires-2
 word-at-requires-2 c κs = search needs
 
-skip-requires : tie.Need-skip-requires
-skip-requires c κs = search needs
+past-blanks-requires : tie.Need-past-blanks-requires
+past-blanks-requires c κs = search needs
 
 returns : tie.Need-returns
 returns c = search few-none
@@ -32,7 +32,7 @@ few-words-spec =
     (tie.spec
     word-at-requires
     word-at-requires-2
-    skip-requires
+    past-blanks-requires
     returns
     returns-2
     returns-3

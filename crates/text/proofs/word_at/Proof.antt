@@ -5,15 +5,15 @@ use borrow.Author.Needs.{needs}
 use Rattle.text.proofs.word_at.Statement.{statement}
 use Rattle.text.proofs.word_at.Tie as tie
 
-skip-requires : tie.Need-skip-requires
-skip-requires c κs = search needs
+past-blanks-requires : tie.Need-past-blanks-requires
+past-blanks-requires c κs = search needs
 
-skip-requires-2 : tie.Need-skip-requires-2
-skip-requires-2 c κs = search needs
+past-word-requires : tie.Need-past-word-requires
+past-word-requires c κs = search needs
 
 returns : tie.Need-returns
 unfolding wordAt
 returns c = cc
 
 pub word-at-spec : {M : Type 1} → statement M
-word-at-spec = tie.close (tie.spec skip-requires skip-requires-2 returns)
+word-at-spec = tie.close (tie.spec past-blanks-requires past-word-requires returns)
