@@ -182,13 +182,13 @@ fn fill_numbers(content: &[u8], form: u64, table: &mut [u64], spot: Spot) -> Spo
     requires { ⌜ PutsNumbers form (now content) (now table) spot ⌝ }
     ensures { λ r. ⌜ FillsNumbers form (now (content .entry)) (now (table .entry)) spot r (now (table .exit)) ⌝ }
 {
-    if content.len() <= matrix::past_blanks(content, 0) {
+    if content.len() <= base::past_blanks(content, 0) {
         return spot;
     }
     let mut at = 0;
     let mut cursor = cursor_at(spot);
     while at < content.len() {
-        let start = matrix::past_blanks(content, at);
+        let start = base::past_blanks(content, at);
         if content.len() <= start {
             return spot_at(spot, cursor);
         }

@@ -1,12 +1,9 @@
 // Document 01, "Sections and matrices": the rows and numbers of a matrix in its four forms, and its shape.
 ghost use mathlib.Core.Path.{_≡_};
 ghost use Prim.Native.Nat.{_-_, _<_, _≤_, min, max};
-ghost use Rattle.base.specs.If.{both};
-ghost use Rattle.base.specs.Bytes.{isBlank};
 ghost use Rattle.base.specs.Class.{isFilled, runEnd};
 ghost use Rattle.text.specs.Words.{words, markedBy};
 ghost use Rattle.matrix.specs.Matrix.{newMatrix, isWrongBandwidth, isWrongRow, withBandwidth, inRow, standsAbove, stillFits, withRow, toldBy, numbersLine, sparseLine, dataLineOf, isOutOfOrder, areTooMany, dataRule, withColumn, dataNext, conductorsOf, isShaped, isWrongShape, isTooWide};
-use base::Class;
 use number::Number;
 use text::Span;
 
@@ -50,12 +47,6 @@ pub struct DataLine {
     pub right: bool,
     pub formed: bool,
     pub bounded: bool,
-}
-
-fn and(a: bool, b: bool) -> bool
-    ensures { λ r. ⌜ r ≡ both a b ⌝ }
-{
-    if a { b } else { false }
 }
 
 fn lesser(a: u64, b: u64) -> u64
@@ -236,20 +227,6 @@ fn told_by(content: &[u8], word: Span) -> Told
     }
 }
 
-// Past the blanks at `from`: where the next word of a line starts.
-pub fn past_blanks(s: &[u8], from: usize) -> usize
-    ensures { λ r. ⌜ r ≡ runEnd isBlank (now (s .entry)) from ⌝ }
-{
-    let mut i = from;
-    while i < s.len() {
-        if !base::in_class(Class::Blank, s[i]) {
-            return i;
-        }
-        i += 1;
-    }
-    i
-}
-
 // A line of numbers: each is read where it stands, and gone over once.
 fn numbers_line(content: &[u8]) -> DataLine
     ensures { λ r. ⌜ r ≡ numbersLine (words (now (content .entry))) ⌝ }
@@ -259,7 +236,7 @@ fn numbers_line(content: &[u8]) -> DataLine
     let mut formed = true;
     let mut bounded = true;
     while at < content.len() {
-        let start = past_blanks(content, at);
+        let start = base::past_blanks(content, at);
         if content.len() <= start {
             return DataLine {
                 numbers,
@@ -271,8 +248,8 @@ fn numbers_line(content: &[u8]) -> DataLine
         }
         let read = number::number_at(content, start);
         let number = read.number;
-        formed = and(formed, number::is_formed(number));
-        bounded = and(bounded, number::is_bounded(number));
+        formed = base::and(formed, number::is_formed(number));
+        bounded = base::and(bounded, number::is_bounded(number));
         numbers += 1;
         at = read.end;
     }
@@ -305,8 +282,8 @@ fn sparse_line(content: &[u8]) -> DataLine
         numbers: 1,
         column: column.value,
         right: true,
-        formed: and(column.formed, told.formed),
-        bounded: and(number::is_within(1, 256, column.value), told.bounded),
+        formed: base::and(column.formed, told.formed),
+        bounded: base::and(number::is_within(1, 256, column.value), told.bounded),
     }
 }
 
@@ -374,7 +351,7 @@ fn with_column(column: u64, m: Matrix) -> Matrix
         from: rows.from,
         least: column + 1,
         greatest: greater(rows.greatest, column),
-        fits: and(rows.fits, rows.least <= column),
+        fits: base::and(rows.fits, rows.least <= column),
     };
     Matrix {
         form: m.form,

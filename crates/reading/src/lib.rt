@@ -13,7 +13,6 @@ ghost use Rattle.block.specs.declared.State.{State};
 ghost use Rattle.keyword.specs.Bracket.{bracketOf};
 ghost use Rattle.keyword.specs.declared.Bracket.the-variants.{Plain, Indented, Keyword};
 ghost use Rattle.reading.specs.Walk.{Reached, Onward, Passed};
-use base::Class;
 use block::Counts;
 use block::State;
 use keyword::Bracket;
@@ -275,7 +274,7 @@ fn before_step(content: &[u8], s: State) -> Step
 pub fn is_blank_line(content: &[u8]) -> bool
     ensures { λ r. ⌜ r ≡ isBlankLine (now (content .entry)) ⌝ }
 {
-    base::skip(Class::Blank, content, 0) == content.len()
+    base::past_blanks(content, 0) == content.len()
 }
 
 // One line, given by its content.

@@ -5,11 +5,11 @@ use borrow.Author.Needs.{needs}
 use Rattle.reading.proofs.is_blank_line.Statement.{statement}
 use Rattle.reading.proofs.is_blank_line.Tie as tie
 
-skip-requires : tie.Need-skip-requires
-skip-requires c κs = search needs
+past-blanks-requires : tie.Need-past-blanks-requires
+past-blanks-requires c κs = search needs
 
 returns : tie.Need-returns
 returns c = search blank-told
 
 pub is-blank-line-spec : {M : Type 1} → statement M
-is-blank-line-spec = tie.close (tie.spec skip-requires returns)
+is-blank-line-spec = tie.close (tie.spec past-blanks-requires returns)
