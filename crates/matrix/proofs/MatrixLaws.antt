@@ -28,7 +28,7 @@ use Rattle.text.specs.Words.{words, firstOf, secondOf, markedBy, wordAt, fewOf}
 use Rattle.text.specs.declared.Span.{Span}
 use Rattle.text.specs.declared.Few.{Few}
 use Rattle.text.proofs.FormLaws.{counted, counted-not}
-use Rattle.text.proofs.WordLaws.{wordsAfter, after-at, after-none, after-past, end-past, word-within, first-marked, second-marked}
+use Rattle.text.proofs.WordLaws.{wordsAfter, after-at, after-none, after-past, end-past, word-ordered, word-within, first-marked, second-marked, few-none, few-one, few-two, few-three}
 use Rattle.matrix.specs.Matrix.{
   diagonal,
   sparse,
@@ -41,6 +41,7 @@ use Rattle.matrix.specs.Matrix.{
   areFormed,
   areBounded,
   numbersLine,
+  pairLine,
   sparseLine,
   mostValues,
   areTooMany,
@@ -97,21 +98,6 @@ module _ (s : List ℕ) (word : Span) (read : NumberAt) (ends : word .end ≡ ru
   marked-number =
       let n : word .end - word .start ≡ run isFilled (drop (word .start) s) = omega arith in
       rw n (ap (λ (r : NumberAt). r .number) answer)
-
-  told : (m : Number) → read .number ≡ m → record { formed = isFormed m; bounded = isBounded m } ≡ toldBy (markedBy s word)
-  unfolding toldBy
-  told m e =
-      let k : m ≡ numberOf (markedBy s word) = sym e ∙ marked-number in
-      λ i. record { formed = isFormed (k i); bounded = isBounded (k i) }
-
-  pub told-value : (v : ℕ) → read .number ≡ Value v → record { formed = true; bounded = true } ≡ toldBy (markedBy s word)
-  told-value v e = told (Value v) e
-
-  pub told-malformed : read .number ≡ Malformed → record { formed = false; bounded = true } ≡ toldBy (markedBy s word)
-  told-malformed e = told Malformed e
-
-  pub told-range : read .number ≡ Range → record { formed = true; bounded = false } ≡ toldBy (markedBy s word)
-  told-range e = told Range e
 
 pub second-ends : (s : List ℕ) (few : Few) → few ≡ fewOf s → few .second .end ≡ runEnd isFilled s (few .second .start)
 unfolding fewOf wordAt
@@ -231,20 +217,57 @@ module _ (s : List ℕ) (at numbers : ℕ) (formed bounded : Bool) (pending : Pe
         let k : read .number ≡ numberOf (markedBy s (record { start = start; end = read .end })) = placed-number s at start read begins told in
         line-goes (record { start = start; end = read .end }) (placed-found s at start read begins told) h (record { formed = isFormed (read .number); bounded = isBounded (read .number) }) (λ i. record { formed = isFormed (k i); bounded = isBounded (k i) }) f b (df ∙ ap (both formed) ef) (db ∙ ap (both bounded) eb)
 
--- a line of a Sparse_matrix
-module _ (s : List ℕ) (few : Few) (found : few ≡ fewOf s) where
-  pub sparse-other : (few .count ≡ 2 → ⊥) → record { numbers = 0; column = 0; right = false; formed = true; bounded = true } ≡ sparseLine (words s)
+-- a line of a Sparse_matrix: its first word, and the number behind it
+module _ (s : List ℕ) (first : Span) (one : first ≡ wordAt s 0) (start : ℕ) (begins : start ≡ runEnd isBlank s (first .end)) where
+  other-line : (n : ℕ) → fewOf s .count ≡ n → (n ≡ 2 → ⊥) → record { numbers = 0; column = 0; right = false; formed = true; bounded = true } ≡ sparseLine (words s)
   unfolding sparseLine
-  sparse-other h = sym (if-false _ _ (counted-not s few found 2 (omega arith) h))
+  other-line n e h = sym (if-false _ _ (counted-not s (fewOf s) refl 2 (omega arith) (λ (k : fewOf s .count ≡ 2). h (sym e ∙ k))))
 
-  pub sparse-two : few .count ≡ 2 → (part : List ℕ) → part ≡ markedBy s (few .first) → (column : Whole) → column ≡ wholeOf part → (t : Told) → t ≡ toldBy (markedBy s (few .second)) → (f c b : Bool) → f ≡ both (column .formed) (t .formed) → c ≡ within 1 256 (column .value) → b ≡ both c (t .bounded) → record { numbers = 1; column = column .value; right = true; formed = f; bounded = b } ≡ sparseLine (words s)
-  unfolding sparseLine
-  sparse-two h part cut column read t told f c b ef ec eb =
-      let w : column ≡ wholeOf (firstOf (words s)) = read ∙ ap wholeOf (cut ∙ first-marked s few found) in
-      let v : t ≡ toldBy (secondOf (words s)) = told ∙ ap toldBy (second-marked s few found) in
-      let g : f ≡ both (wholeOf (firstOf (words s)) .formed) (toldBy (secondOf (words s)) .formed) = ef ∙ (λ i. both (w i .formed) (v i .formed)) in
-      let k : b ≡ both (within 1 256 (wholeOf (firstOf (words s)) .value)) (toldBy (secondOf (words s)) .bounded) = eb ∙ ap (λ (x : Bool). both x (t .bounded)) ec ∙ (λ i. both (within 1 256 (w i .value)) (v i .bounded)) in
-      (λ i. record { numbers = 1; column = w i .value; right = true; formed = g i; bounded = k i }) ∙ sym (if-true _ _ (counted s few found 2 (omega arith) h))
+  second-found : record { start = start; end = runEnd isFilled s start } ≡ wordAt s (first .end)
+  unfolding wordAt
+  second-found = rw begins
+
+  pub sparse-short : length s ≤ start → (r : DataLine) → r ≡ record { numbers = 0; column = 0; right = false; formed = true; bounded = true } → r ≡ sparseLine (words s)
+  sparse-short h r told =
+      by-cases (r ≡ sparseLine (words s)) (ltb (first .start) (length s))
+      (λ (e : ltb (first .start) (length s) ≡ true).
+      told ∙ other-line 1 (sym (ap (λ (f : Few). f .count) (few-one s first _ _ one second-found refl (ltb-true _ _ e) h))) (λ (k : 1 ≡ 2). omega arith))
+      (λ (e : ltb (first .start) (length s) ≡ false).
+      told ∙ other-line 0 (sym (ap (λ (f : Few). f .count) (few-none s first _ _ one second-found refl (ltb-false _ _ e)))) (λ (k : 0 ≡ 2). omega arith))
+
+  module _ (there : start < length s) (read : NumberAt) (told : read ≡ numberAt s start) (third : ℕ) (after : third ≡ runEnd isBlank s (read .end)) where
+    second : Span
+    second = record { start = start; end = read .end }
+
+    is-second : second ≡ wordAt s (first .end)
+    unfolding second
+    is-second = placed-found s (first .end) start read begins told
+
+    -- a second word stands behind the first
+    first-stands : first .start < length s
+    first-stands =
+        by-cases (first .start < length s) (ltb (first .start) (length s)) (ltb-true _ _)
+        (λ (e : ltb (first .start) (length s) ≡ false).
+        let h : length s ≤ first .start = ltb-false _ _ e in
+        let k : first .start ≤ first .end = word-ordered s 0 first one in
+        let g : first .end ≤ start = omega arith in
+        absurd (omega arith))
+
+    pub sparse-long : third < length s → (r : DataLine) → r ≡ record { numbers = 0; column = 0; right = false; formed = true; bounded = true } → r ≡ sparseLine (words s)
+    unfolding second
+    sparse-long h r is =
+        is ∙ other-line 3 (sym (ap (λ (f : Few). f .count) (few-three s first second third one is-second after first-stands there h))) (λ (k : 3 ≡ 2). omega arith)
+
+    pub sparse-pair :
+        length s ≤ third → (part : List ℕ) → part ≡ markedBy s first → (column : Whole) → column ≡ wholeOf part → (t : Told) →
+        t ≡ record { formed = isFormed (read .number); bounded = isBounded (read .number) } → (r : DataLine) → r ≡ pairLine column t → r ≡ sparseLine (words s)
+    unfolding second sparseLine toldBy
+    sparse-pair h part cut column whole t is r pair =
+        let two : record { count = 2; first = first; second = second } ≡ fewOf s = few-two s first second third one is-second after first-stands there h in
+        let w : column ≡ wholeOf (firstOf (words s)) = whole ∙ ap wholeOf (cut ∙ first-marked s _ two) in
+        let n : read .number ≡ numberOf (secondOf (words s)) = placed-number s (first .end) start read begins told ∙ ap numberOf (second-marked s _ two) in
+        let v : t ≡ toldBy (secondOf (words s)) = is ∙ (λ i. record { formed = isFormed (n i); bounded = isBounded (n i) }) in
+        pair ∙ (λ i. pairLine (w i) (v i)) ∙ sym (if-true _ _ (counted s _ two 2 (omega arith) refl))
 
 -- ---- the rule of a data line
 

@@ -12,6 +12,7 @@ use Rattle.base.specs.Broken.{_when_, firstBroken}
 use Rattle.text.specs.Words.{words, firstOf, secondOf}
 use Rattle.number.specs.Number.{numberOf, isFormed, isBounded}
 use Rattle.number.specs.Integer.{wholeOf}
+use Rattle.number.specs.declared.Whole.{Whole}
 use Rattle.matrix.specs.declared.Matrix.{Matrix}
 use Rattle.matrix.specs.declared.Rows.{Rows}
 use Rattle.matrix.specs.declared.DataLine.{DataLine}
@@ -112,18 +113,22 @@ areBounded (w ∷ ws) = both (toldBy w .bounded) (areBounded ws)
 unfoldable pub numbersLine : List (List ℕ) → DataLine
 numbersLine ws = record { numbers = length ws; column = 0; right = true; formed = areFormed ws; bounded = areBounded ws }
 
+-- a column and what the word behind it says
+abbrev pub pairLine : Whole → Told → DataLine
+pairLine column told =
+    record {
+      numbers = 1;
+      column = column .value;
+      right = true;
+      formed = both (column .formed) (told .formed);
+      bounded = both (within 1 256 (column .value)) (told .bounded);
+    }
+
 -- "lines `column value`": columns 1 to 256
 unfoldable pub sparseLine : List (List ℕ) → DataLine
 sparseLine ws =
     if eqb (length ws) 2
-    then
-    record {
-      numbers = 1;
-      column = wholeOf (firstOf ws) .value;
-      right = true;
-      formed = both (wholeOf (firstOf ws) .formed) (toldBy (secondOf ws) .formed);
-      bounded = both (within 1 256 (wholeOf (firstOf ws) .value)) (toldBy (secondOf ws) .bounded);
-    }
+    then pairLine (wholeOf (firstOf ws)) (toldBy (secondOf ws))
     else record { numbers = 0; column = 0; right = false; formed = true; bounded = true }
 
 unfoldable pub dataLineOf : ℕ → List ℕ → DataLine

@@ -1,11 +1,12 @@
 // Document 01, "Sections and matrices": the rows and numbers of a matrix in its four forms, and its shape.
 ghost use mathlib.Core.Path.{_≡_};
 ghost use Prim.Native.Nat.{_-_, _<_, _≤_, min, max};
-ghost use Rattle.base.specs.Class.{isFilled, runEnd};
-ghost use Rattle.text.specs.Words.{words, markedBy};
-ghost use Rattle.matrix.specs.Matrix.{newMatrix, isWrongBandwidth, isWrongRow, withBandwidth, inRow, standsAbove, stillFits, withRow, toldBy, numbersLine, sparseLine, dataLineOf, isOutOfOrder, areTooMany, dataRule, withColumn, dataNext, conductorsOf, isShaped, isWrongShape, isTooWide};
+ghost use mathlib.Core.Bool.{true, false};
+ghost use Rattle.number.specs.Number.{isFormed, isBounded};
+ghost use Rattle.text.specs.Words.{words};
+ghost use Rattle.matrix.specs.Matrix.{newMatrix, isWrongBandwidth, isWrongRow, withBandwidth, inRow, standsAbove, stillFits, withRow, numbersLine, pairLine, sparseLine, dataLineOf, isOutOfOrder, areTooMany, dataRule, withColumn, dataNext, conductorsOf, isShaped, isWrongShape, isTooWide};
 use number::Number;
-use text::Span;
+use number::Whole;
 
 // The forms, as the table counts them.
 pub const DIAGONAL: u64 = 0;
@@ -205,25 +206,12 @@ struct Told {
     bounded: bool,
 }
 
-fn told_by(content: &[u8], word: Span) -> Told
-    requires { ⌜ word .end ≡ runEnd isFilled (now content) (word .start) ⌝ }
-    ensures { λ r. ⌜ r ≡ toldBy (markedBy (now (content .entry)) word) ⌝ }
+fn told_of(number: Number) -> Told
+    ensures { λ r. ⌜ r ≡ record { formed = isFormed number; bounded = isBounded number } ⌝ }
 {
-    let read = number::number_at(content, word.start);
-    let number = read.number;
-    match number {
-        Number::Value(_) => Told {
-            formed: true,
-            bounded: true,
-        },
-        Number::Malformed => Told {
-            formed: false,
-            bounded: true,
-        },
-        Number::Range => Told {
-            formed: true,
-            bounded: false,
-        },
+    Told {
+        formed: number::is_formed(number),
+        bounded: number::is_bounded(number),
     }
 }
 
@@ -262,22 +250,23 @@ fn numbers_line(content: &[u8]) -> DataLine
     }
 }
 
-// A line of a Sparse_matrix: a column and a value.
-fn sparse_line(content: &[u8]) -> DataLine
-    ensures { λ r. ⌜ r ≡ sparseLine (words (now (content .entry))) ⌝ }
+// A line of a Sparse_matrix that has not two words.
+fn not_two() -> DataLine
+    ensures { λ r. ⌜ r ≡ record { numbers = 0; column = 0; right = false; formed = true; bounded = true } ⌝ }
 {
-    let few = text::few_words(content);
-    if few.count != 2 {
-        return DataLine {
-            numbers: 0,
-            column: 0,
-            right: false,
-            formed: true,
-            bounded: true,
-        };
+    DataLine {
+        numbers: 0,
+        column: 0,
+        right: false,
+        formed: true,
+        bounded: true,
     }
-    let column = number::read_integer(text::marked(content, few.first));
-    let told = told_by(content, few.second);
+}
+
+// A column and a value.
+fn pair_line(column: Whole, told: Told) -> DataLine
+    ensures { λ r. ⌜ r ≡ pairLine column told ⌝ }
+{
     DataLine {
         numbers: 1,
         column: column.value,
@@ -285,6 +274,24 @@ fn sparse_line(content: &[u8]) -> DataLine
         formed: base::and(column.formed, told.formed),
         bounded: base::and(number::is_within(1, 256, column.value), told.bounded),
     }
+}
+
+// A line of a Sparse_matrix: a column and a value, which is read where it stands, and gone over once.
+fn sparse_line(content: &[u8]) -> DataLine
+    ensures { λ r. ⌜ r ≡ sparseLine (words (now (content .entry))) ⌝ }
+{
+    let first = text::word_at(content, 0);
+    let start = base::past_blanks(content, first.end);
+    if content.len() <= start {
+        return not_two();
+    }
+    let read = number::number_at(content, start);
+    if base::past_blanks(content, read.end) < content.len() {
+        return not_two();
+    }
+    let number = read.number;
+    let column = number::read_integer(text::marked(content, first));
+    pair_line(column, told_of(number))
 }
 
 // What a line between the keywords of a matrix says.
