@@ -16,7 +16,6 @@ use Rattle.base.specs.Bytes.{isBlank}
 use Rattle.base.specs.Class.{runEnd}
 use Rattle.text.specs.Words.{words, firstOf, secondOf, wordAt, markedBy, fewOf}
 use Rattle.text.specs.declared.Span.{Span}
-use Rattle.text.specs.declared.Few.{Few}
 use Rattle.text.proofs.WordLaws.{wordsAfter, after-at, after-none, after-past, end-past, word-within, first-marked, second-marked}
 use Rattle.number.specs.Number.{numberOf}
 use Rattle.number.specs.Integer.{wholeOf}
@@ -389,17 +388,25 @@ module _ (form : ℕ) (content : List ℕ) (s₀ : Spot) (table₀ : List ℕ) (
 
 -- ---- a line of a Sparse_matrix
 
-module _ (content : List ℕ) (row : ℕ) (few : Few) (is-few : few ≡ fewOf content) (first : List ℕ)
-    (is-first : first ≡ markedBy content (few .first)) (whole : Whole) (is-whole : whole ≡ wholeOf first) (read : NumberAt)
-    (is-read : read ≡ numberAt content (few .second .start)) where
+module _ (content : List ℕ) (row : ℕ) (word : Span) (is-word : word ≡ wordAt content 0) (first : List ℕ) (is-first : first ≡ markedBy content word)
+    (whole : Whole) (is-whole : whole ≡ wholeOf first) (start : ℕ) (begins : start ≡ runEnd isBlank content (word .end)) (read : NumberAt)
+    (is-read : read ≡ numberAt content start) where
+  first-is : first ≡ markedBy content (fewOf content .first)
+  unfolding fewOf
+  first-is = is-first ∙ ap (markedBy content) is-word
+
+  read-is : read ≡ numberAt content (fewOf content .second .start)
+  unfolding fewOf wordAt
+  read-is = is-read ∙ ap (numberAt content) (begins ∙ ap (λ (w : Span). runEnd isBlank content (w .end)) is-word)
+
   column-told : whole .value ≡ wholeOf (firstOf (words content)) .value
-  column-told = ap (λ (x : Whole). x .value) (is-whole ∙ ap wholeOf (is-first ∙ first-marked content few is-few))
+  column-told = ap (λ (x : Whole). x .value) (is-whole ∙ ap wholeOf (first-is ∙ first-marked content (fewOf content) refl))
 
   sparse-value : _≡_ {A = Value} (record { row = row; column = whole .value; word = wordIn (read .number) })
       (sparseAt row (words content))
   unfolding sparseAt
   sparse-value =
-      let s : read .number ≡ numberOf (secondOf (words content)) = marked-number content (few .second) read (second-ends content few is-few) is-read ∙ ap numberOf (second-marked content few is-few) in
+      let s : read .number ≡ numberOf (secondOf (words content)) = marked-number content (fewOf content .second) read (second-ends content (fewOf content) refl) read-is ∙ ap numberOf (second-marked content (fewOf content) refl) in
       λ i. record { row = row; column = column-told i; word = wordIn (s i) }
 
   pub sparse-puts : (table : List ℕ) (f : Filling) → PutsSparse content row table f →

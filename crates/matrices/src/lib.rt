@@ -205,10 +205,9 @@ fn fill_sparse(content: &[u8], row: u64, table: &mut [u64], filling: Filling) ->
     requires { ⌜ PutsSparse (now content) row (now table) filling ⌝ }
     ensures { λ r. ⌜ FillsSparse (now (content .entry)) row (now (table .entry)) filling r (now (table .exit)) ⌝ }
 {
-    let few = text::few_words(content);
-    let column = number::read_integer(text::marked(content, few.first));
-    let second = few.second;
-    let read = number::number_at(content, second.start);
+    let word = text::word_at(content, 0);
+    let column = number::read_integer(text::marked(content, word));
+    let read = number::number_at(content, base::past_blanks(content, word.end));
     let number = read.number;
     Placing {
         column: column.value,

@@ -1,19 +1,23 @@
 -- `matrices::fill_sparse` meets its contract.
 -- Assumes nothing.
-use Rattle.text.proofs.WordLaws.{first-ordered, first-within}
+use Prim.Native.Nat.{zero-le}
+use Rattle.text.proofs.WordLaws.{word-ordered, word-within}
 use Rattle.matrices.proofs.NumberLaws.{sparse-puts, sparse-fills}
 use borrow.Author.Needs.{needs}
 use Rattle.matrices.proofs.fill_sparse.Statement.{statement}
 use Rattle.matrices.proofs.fill_sparse.Tie as tie
 
-few-words-requires : tie.Need-few-words-requires
-few-words-requires c κs = search needs
+word-at-requires : tie.Need-word-at-requires
+word-at-requires c κs = search needs
 
 marked-requires : tie.Need-marked-requires
-marked-requires c κs = search (first-ordered, first-within)
+marked-requires c κs = search (word-ordered, word-within, zero-le)
 
 read-integer-requires : tie.Need-read-integer-requires
 read-integer-requires c κs = search needs
+
+past-blanks-requires : tie.Need-past-blanks-requires
+past-blanks-requires c κs = search needs
 
 number-at-requires : tie.Need-number-at-requires
 number-at-requires c κs = search needs
@@ -31,9 +35,10 @@ pub fill-sparse-spec : {M : Type 1} → statement M
 fill-sparse-spec =
     tie.close
     (tie.spec
-    few-words-requires
+    word-at-requires
     marked-requires
     read-integer-requires
+    past-blanks-requires
     number-at-requires
     put-value-requires
     same-length
