@@ -201,27 +201,16 @@ pub fn skip(class: Class, s: &[u8], from: usize) -> usize
     i
 }
 
-// The same, for runs that are often longer than a block: sixteen bytes one by one, since many lines are short, and then by blocks.
+// The same, for runs that are often longer than a block.
 pub fn skip_far(class: Class, s: &[u8], from: usize) -> usize
     ensures { λ r. ⌜ r ≡ runEnd (inClass class) (now (s .entry)) from ⌝ }
 {
-    let mut i = from;
-    let mut left = BLOCK;
-    while 0 < left {
-        if s.len() <= i {
-            return i;
-        }
-        if !in_class(class, s[i]) {
-            return i;
-        }
-        i += 1;
-        left -= 1;
-    }
-    skip(class, s, skip_blocks(class, s, i))
+    skip(class, s, skip_blocks(class, s, from))
 }
 
-// Past the blanks at `from`: where the next word of a line starts. It says what `skip` says of blanks; a loop of its own is taken into the
-// callers whole.
+// ---- runs that every line has: each says what `skip` says of its class, by a loop that is taken into its callers whole
+
+// Past the blanks at `from`: where the next word of a line starts.
 pub fn past_blanks(s: &[u8], from: usize) -> usize
     ensures { λ r. ⌜ r ≡ runEnd isBlank (now (s .entry)) from ⌝ }
 {
@@ -242,6 +231,20 @@ pub fn past_word(s: &[u8], from: usize) -> usize
     let mut i = from;
     while i < s.len() {
         if !is_filled(s[i]) {
+            return i;
+        }
+        i += 1;
+    }
+    i
+}
+
+// Past the content of a line at `from`.
+pub fn past_content(comment: u8, s: &[u8], from: usize) -> usize
+    ensures { λ r. ⌜ r ≡ runEnd (isContent comment) (now (s .entry)) from ⌝ }
+{
+    let mut i = from;
+    while i < s.len() {
+        if !is_content(comment, s[i]) {
             return i;
         }
         i += 1;

@@ -18,7 +18,7 @@ use Rattle.text.specs.declared.Line as text
 use Rattle.text.proofs.LineLaws.{firstOf, lines-nil, lines-at, next-on, next-within, next-ended, next-unended, content-at}
 use Rattle.text.specs.Words.{words}
 use Rattle.text.specs.Words.{firstOf as firstWordOf}
-use Rattle.place.specs.Place.{moved, movedByLine}
+use Rattle.place.specs.Place.{moved, movedByLine, mapHead}
 use Rattle.keyword.specs.Bracket.{bracketOf}
 use Rattle.keyword.specs.declared.Bracket.{Bracket}
 use Rattle.reading.specs.Reading.{commentByte}
@@ -158,6 +158,10 @@ module _ (t : List ℕ) (f : Found) (located : Located t f) (p : ℕ) where
   pub place-plain : f .key ≡ plain → (first : List ℕ) → first ≡ firstWordOf (words (contentIn t f)) → (r : ℕ) → r ≡ movedByLine p first → r ≡ placeAfter p (contentIn t f)
   unfolding placeAfter
   place-plain k first is-first r e = e ∙ ap (movedByLine p) is-first ∙ sym (if-true _ _ (eq-eqb _ _ (sym (located .key-is) ∙ k)))
+
+  pub place-stays : f .key ≡ plain → (p ≡ mapHead → ⊥) → p ≡ placeAfter p (contentIn t f)
+  unfolding placeAfter movedByLine
+  place-stays k h = sym (if-true _ _ (eq-eqb _ _ (sym (located .key-is) ∙ k)) ∙ if-false _ _ (ne-eqb p mapHead h))
 
   pub place-keyed : (f .key ≡ plain → ⊥) → (r : ℕ) → r ≡ moved p (f .key) → r ≡ placeAfter p (contentIn t f)
   unfolding placeAfter

@@ -96,12 +96,15 @@ pub fn next_line(text: &[u8], at: usize, number: u64) -> Found
     }
 }
 
-// Where a line leads from a place.
+// Where a line leads from a place. Without a keyword it leads on only in the head of a map: elsewhere its words are not looked at.
 pub fn place_after(place: u64, text: &[u8], line: Found) -> u64
     requires { ⌜ Located (now text) line ⌝ }
     ensures { λ r. ⌜ r ≡ placeAfter place (contentIn (now (text .entry)) line) ⌝ }
 {
     if line.key == PLAIN {
+        if place != place::MAP_HEAD {
+            return place;
+        }
         let at = line.at;
         let end = line.end;
         return place::moved_by_line(place, text::first_word(&text[at..end]));

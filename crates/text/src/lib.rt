@@ -60,7 +60,7 @@ fn feed_from(text: &[u8], from: usize) -> usize
 pub fn line_at(text: &[u8], at: usize, comment: u8) -> Line
     ensures { λ r. ⌜ r ≡ lineAt comment (now (text .entry)) at ⌝ }
 {
-    let content = base::skip_far(Class::Content(comment), text, at);
+    let content = base::past_content(comment, text, at);
     let end = feed_from(text, content);
     if end < text.len() {
         Line {

@@ -5,8 +5,8 @@ use borrow.Author.Needs.{needs}
 use Rattle.text.proofs.line_at.Statement.{statement}
 use Rattle.text.proofs.line_at.Tie as tie
 
-skip-far-requires : tie.Need-skip-far-requires
-skip-far-requires c κs = search needs
+past-content-requires : tie.Need-past-content-requires
+past-content-requires c κs = search needs
 
 feed-from-requires : tie.Need-feed-from-requires
 feed-from-requires c κs = search needs
@@ -21,4 +21,4 @@ returns-2 : tie.Need-returns-2
 returns-2 c = search line-unended
 
 pub line-at-spec : {M : Type 1} → statement M
-line-at-spec = tie.close (tie.spec skip-far-requires feed-from-requires add-t10 returns returns-2)
+line-at-spec = tie.close (tie.spec past-content-requires feed-from-requires add-t10 returns returns-2)
