@@ -276,13 +276,13 @@ run-block p (suc n) (b ∷ x) h e =
     rw (suc-add) (run-goes p b x (both-first _ _ f) ∙ ap suc (run-block p n x (le-of-suc-le-suc h) (both-second _ _ f)))
 
 -- the place that a loop over blocks has come to leads to the same end
-pub block-on : (p : ℕ → Bool) (s : List ℕ) (i last end : ℕ) (t : Bool) → last + 16 ≡ length s → i ≤ last → t ≡ all p (take 16 (drop i s)) → not t ≡ false → runEnd p s i ≡ end → runEnd p s (i + 16) ≡ end
-block-on p s i last end t room h told e inv =
+pub block-on : (p : ℕ → Bool) (s : List ℕ) (n i last end : ℕ) (t : Bool) → last + n ≡ length s → i ≤ last → t ≡ all p (take n (drop i s)) → not t ≡ false → runEnd p s i ≡ end → runEnd p s (i + n) ≡ end
+block-on p s n i last end t room h told e inv =
     let l : length (drop i s) ≡ length s - i = length-drop i s in
-    let g : 16 ≤ length (drop i s) = omega arith in
-    let k : run p (drop i s) ≡ 16 + run p (drop 16 (drop i s)) = run-block p 16 (drop i s) g (sym told ∙ not-false t e) in
-    let d : drop 16 (drop i s) ≡ drop (i + 16) s = drop-drop 16 i s in
-    let m : run p (drop i s) ≡ 16 + run p (drop (i + 16) s) = rw d at k in
+    let g : n ≤ length (drop i s) = omega arith in
+    let k : run p (drop i s) ≡ n + run p (drop n (drop i s)) = run-block p n (drop i s) g (sym told ∙ not-false t e) in
+    let d : drop n (drop i s) ≡ drop (i + n) s = drop-drop n i s in
+    let m : run p (drop i s) ≡ n + run p (drop (i + n) s) = rw d at k in
     omega arith
 
 both-assoc : (a b c : Bool) → both (both a b) c ≡ both a (both b c)
@@ -291,13 +291,13 @@ both-assoc true b c = refl
 both-assoc false b c = refl
 
 -- a loop that has found whether the bytes before i pass, and looks at those up to an end
-module _ (p : ℕ → Bool) (s : List ℕ) (from i end : ℕ) (whole goal : Bool) (room : from + 16 ≤ length s) (is : end ≡ from + 16) (inv : both whole (all p (take (end - i) (drop i s))) ≡ goal) (g : i < end) where
+module _ (p : ℕ → Bool) (s : List ℕ) (n from i end : ℕ) (whole goal : Bool) (room : from + n ≤ length s) (is : end ≡ from + n) (inv : both whole (all p (take (end - i) (drop i s))) ≡ goal) (g : i < end) where
   block-next : both whole (both (p (getD s i 0)) (all p (take (end - (i + 1)) (drop (i + 1) s)))) ≡ goal
   block-next =
       let h : i < length s = omega arith in
       let d : drop i s ≡ getD s i 0 ∷ drop (suc i) s = drop-cons s i 0 h in
-      let n : end - i ≡ suc (end - suc i) = omega arith in
-      let k : both whole (all p (take (suc (end - suc i)) (getD s i 0 ∷ drop (suc i) s))) ≡ goal = rw (n, d) at inv in
+      let left : end - i ≡ suc (end - suc i) = omega arith in
+      let k : both whole (all p (take (suc (end - suc i)) (getD s i 0 ∷ drop (suc i) s))) ≡ goal = rw (left, d) at inv in
       rw (add-one i) (rw (all-cons p (getD s i 0) (take (end - suc i) (drop (suc i) s))) at k)
 
   pub block-goes : (t next : Bool) → t ≡ p (getD s i 0) → next ≡ both whole t → both next (all p (take (end - (i + 1)) (drop (i + 1) s))) ≡ goal
@@ -308,10 +308,10 @@ unfolding both
 both-last true = refl
 both-last false = refl
 
-pub block-start : (p : ℕ → Bool) (s : List ℕ) (from end : ℕ) → end ≡ from + 16 → both true (all p (take (end - from) (drop from s))) ≡ all p (take 16 (drop from s))
-block-start p s from end e =
-    let n : end - from ≡ 16 = omega arith in
-    both-rest true _ refl ∙ ap (λ (k : ℕ). all p (take k (drop from s))) n
+pub block-start : (p : ℕ → Bool) (s : List ℕ) (n from end : ℕ) → end ≡ from + n → both true (all p (take (end - from) (drop from s))) ≡ all p (take n (drop from s))
+block-start p s n from end e =
+    let left : end - from ≡ n = omega arith in
+    both-rest true _ refl ∙ ap (λ (k : ℕ). all p (take k (drop from s))) left
 
 pub block-done : (p : ℕ → Bool) (s : List ℕ) (i end : ℕ) (whole goal : Bool) → both whole (all p (take (end - i) (drop i s))) ≡ goal → end ≤ i → whole ≡ goal
 block-done p s i end whole goal inv h =

@@ -9,8 +9,10 @@ ghost use lib.Seq.{sets};
 ghost use Rattle.base.specs.Bytes.{isBlank, isDigit, isCapital, isSmall, isLetter};
 ghost use Rattle.base.specs.Class.{isFilled, isNamed, isPrinted, isBefore, isContent, inClass, runEnd};
 
-// How many bytes are looked at together.
+// How many bytes are looked at together: by vectors, and by one branch.
 const BLOCK: usize = 16;
+
+const FOUR: usize = 4;
 
 // A space or a TAB.
 fn is_blank(b: u8) -> bool
@@ -238,8 +240,41 @@ pub fn past_word(s: &[u8], from: usize) -> usize
     i
 }
 
-// Past the content of a line at `from`.
-pub fn past_content(comment: u8, s: &[u8], from: usize) -> usize
+// Whether four bytes are all content: one branch for four of them.
+fn are_content(comment: u8, s: &[u8], from: usize) -> bool
+    requires { ⌜ from + 4 ≤ length (now s) ⌝ }
+    ensures { λ r. ⌜ r ≡ all (isContent comment) (take 4 (drop from (now (s .entry)))) ⌝ }
+{
+    let end = from + FOUR;
+    let mut whole = true;
+    let mut i = from;
+    while i < end {
+        whole = and(whole, is_content(comment, s[i]));
+        i += 1;
+    }
+    whole
+}
+
+// A place in the content at `from`, near its end: past all fours that lie in it whole.
+fn past_fours(comment: u8, s: &[u8], from: usize) -> usize
+    ensures { λ r. ⌜ runEnd (isContent comment) (now (s .entry)) r ≡ runEnd (isContent comment) (now (s .entry)) from ⌝ }
+{
+    if s.len() < FOUR {
+        return from;
+    }
+    let last = s.len() - FOUR;
+    let mut i = from;
+    while i <= last {
+        if !are_content(comment, s, i) {
+            return i;
+        }
+        i += FOUR;
+    }
+    i
+}
+
+// The content at `from`, byte by byte.
+fn past_rest(comment: u8, s: &[u8], from: usize) -> usize
     ensures { λ r. ⌜ r ≡ runEnd (isContent comment) (now (s .entry)) from ⌝ }
 {
     let mut i = from;
@@ -250,6 +285,19 @@ pub fn past_content(comment: u8, s: &[u8], from: usize) -> usize
         i += 1;
     }
     i
+}
+
+// Past the content of a line at `from`. Many lines have none.
+pub fn past_content(comment: u8, s: &[u8], from: usize) -> usize
+    ensures { λ r. ⌜ r ≡ runEnd (isContent comment) (now (s .entry)) from ⌝ }
+{
+    if s.len() <= from {
+        return from;
+    }
+    if !is_content(comment, s[from]) {
+        return from;
+    }
+    past_rest(comment, s, past_fours(comment, s, from))
 }
 
 // Stores the words one after another, the first at `at`.

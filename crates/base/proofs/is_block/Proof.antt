@@ -39,7 +39,7 @@ loop-less : tie.Need-loop-less Inv-loop μ-loop
 loop-less c = search needs
 
 loop-again : tie.Need-loop-again Inv-loop μ-loop
-loop-again c = (search needs, search needs, search needs, block-goes _ _ _ _ _ _ _ (c .before .before .before .before .before .before .pre) (c .before .before .before .before .loop .inv .2) (c .before .before .before .before .loop .inv .3) (c .before .before .before .loop-test .taken) _ _ (c .before .in-class .ensures) (c .and .ensures))
+loop-again c = (search needs, search needs, search needs, block-goes _ _ _ _ _ _ _ _ (c .before .before .before .before .before .before .pre) (c .before .before .before .before .loop .inv .2) (c .before .before .before .before .loop .inv .3) (c .before .before .before .loop-test .taken) _ _ (c .before .in-class .ensures) (c .and .ensures))
 
 returns : tie.Need-returns Inv-loop μ-loop
 returns c = search block-done

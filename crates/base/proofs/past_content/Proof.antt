@@ -1,55 +1,41 @@
--- `base::past_content` meets its contract. The loop's invariant: from the place it has come to the run ends where it ends from the start.
+-- `base::past_content` meets its contract: nothing there, or by fours and then byte by byte.
 -- Assumes nothing.
+use mathlib.Core.Path.{refl}
+use native.Mathlib.Omega.{arith}
+use Rattle.base.proofs.RunLaws.{reach-past, tested-stop}
 use borrow.Author.Needs.{needs}
-use mathlib.Core.Path.{_≡_}
-use Prim.Native.Nat.{_-_, _≤_}
-use lib.ListN.{length}
-use Rattle.base.specs.Class.{isContent, runEnd}
-use Rattle.base.proofs.RunLaws.{tested-on, tested-stop, reach-past}
 use Rattle.base.proofs.past_content.Statement.{statement}
 use Rattle.base.proofs.past_content.Tie as tie
 
-abbrev Inv-loop : tie.InvT-loop
-Inv-loop comment s from i₀ i = (from ≤ i) × (runEnd (isContent comment) s i ≡ runEnd (isContent comment) s from)
+returns : tie.Need-returns
+returns c = reach-past _ _ _ _ refl (c .if1 .taken)
 
-abbrev μ-loop : tie.MeasureT-loop
-μ-loop comment s from i₀ i = length s - i
-
-loop-holds : tie.Need-loop-holds Inv-loop μ-loop
-loop-holds c = search needs
-
-shared-slice-read-is-content : tie.Need-shared-slice-read-is-content Inv-loop μ-loop
+shared-slice-read-is-content : tie.Need-shared-slice-read-is-content
 shared-slice-read-is-content c = search needs
 
-is-content-requires : tie.Need-is-content-requires Inv-loop μ-loop
+is-content-requires : tie.Need-is-content-requires
 is-content-requires c κs = search needs
 
-returns : tie.Need-returns Inv-loop μ-loop
-returns c = search tested-stop
+returns-2 : tie.Need-returns-2
+returns-2 c = tested-stop _ _ _ _ _ refl (omega arith) (c .before .is-content .ensures) (c .if2 .taken)
 
-add-i : tie.Need-add-i Inv-loop μ-loop
-add-i c = search needs
+past-fours-requires : tie.Need-past-fours-requires
+past-fours-requires c κs = search needs
 
-loop-less : tie.Need-loop-less Inv-loop μ-loop
-loop-less c = search needs
+past-rest-requires : tie.Need-past-rest-requires
+past-rest-requires c κs = search needs
 
-loop-again : tie.Need-loop-again Inv-loop μ-loop
-loop-again c = search (needs, tested-on)
-
-returns-2 : tie.Need-returns-2 Inv-loop μ-loop
-returns-2 c = search reach-past
+returns-3 : tie.Need-returns-3
+returns-3 c = search needs
 
 pub past-content-spec : {M : Type 1} → statement M
 past-content-spec =
     tie.close
     (tie.spec
-    Inv-loop
-    μ-loop
-    loop-holds
+    returns
     shared-slice-read-is-content
     is-content-requires
-    returns
-    add-i
-    loop-less
-    loop-again
-    returns-2)
+    returns-2
+    past-fours-requires
+    past-rest-requires
+    returns-3)
