@@ -6,7 +6,7 @@ use mathlib.Core.List.{List, [], _∷_}
 use Prim.Native.Nat.{ℕ, _+_, _-_, _≤_, _<_, zero-le}
 use native.Mathlib.Nat.{le-refl}
 use native.Mathlib.Omega.{arith}
-use lib.ListN.{length, take, drop}
+use lib.ListN.{length, take, drop, getD}
 use lib.Dec.{ltb, eqb}
 use borrow.Author.Tests.{lt-ltb, le-ltb, eqb-true, not-true, not-false}
 use Rattle.base.specs.If.{if_then_else_}
@@ -34,7 +34,7 @@ use Rattle.document.proofs.StandsLaws.Laid.{onward}
 use Rattle.rules.proofs.RisingLaws.{Rising, numbers, all-least}
 use Rattle.rules.proofs.RisingLaws.Rising.{flat, rise}
 use Rattle.rules.proofs.OrderLaws.{lines-rise}
-use Rattle.model_rules.specs.Cursor.{contentAt, Cursor, Tells}
+use Rattle.model_rules.specs.Cursor.{contentAt, Cursor, Tells, TellsStep}
 use Rattle.model_rules.specs.declared.Told.{Told}
 
 -- ---- Mult before the sign
@@ -148,6 +148,11 @@ module _ (t : List ℕ) (wanted at n : ℕ) (seeks : Seeks t wanted at n) (line 
         }
 
 -- ---- the line of a step
+
+pub step-unasked :
+    (t table : List ℕ) (own at n : ℕ) → Cursor t at n → n ≤ getD table (own + 5) 0 →
+    (getD table own 0 ≡ sectionKind → ⊥) → TellsStep t table own (record { mult = false; at = at; number = n })
+step-unasked t table own at n cursor low h = record { mult = λ (e : getD table own 0 ≡ sectionKind). absurd (h e); cursor = cursor; low = low }
 
 -- lines whose numbers rise are found by their numbers
 found-all : {least : ℕ} (ls : List Line) → Rising least (numbers ls) → Each (λ (l : Line). contentAt (l .number) ls ≡ l .content) ls

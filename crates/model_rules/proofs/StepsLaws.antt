@@ -30,9 +30,9 @@ use Rattle.list_rules.specs.Listed.{Listed}
 use Rattle.list_rules.proofs.NamedLaws.{models-many}
 use Rattle.step_rules.specs.StepWords.{Rooms, stepRuleAt}
 use Rattle.step_rules.specs.declared.Owner.{Owner}
-use Rattle.step_rules.proofs.JoinLaws.{Owns, table-tells, rooms-of, line-here, step-is}
+use Rattle.step_rules.proofs.JoinLaws.{Owns, table-tells, rooms-of, kind-here, line-here, step-is}
 use Rattle.step_rules.proofs.JoinLaws as join
-use Rattle.model_rules.specs.Cursor.{contentAt, Cursor, Tells}
+use Rattle.model_rules.specs.Cursor.{contentAt, Cursor, TellsStep}
 use Rattle.model_rules.specs.Models.{stepsAt, modelAt, ModelRoom, ownerAt, modelRuleAt, belowFirst, Awaits, StepsTold}
 use Rattle.model_rules.specs.declared.StepsFinding.{StepsFinding}
 use Rattle.model_rules.specs.declared.Told.{Told}
@@ -273,24 +273,30 @@ module _ (t table : List ℕ) (filled : Filled t table) (v : View) (is-view : v 
           ∙ line-here t table v (documentOf t) tells (in-order t) (left .split .before) behind m (left .split .all) (model-stands .steps) o (left .owns)
           (left .above) (front .others) s steps-here
 
+      kind-is : getD table own 0 ≡ s .kind
+      kind-is =
+          ap (λ (k : ℕ). getD table k 0) own-place
+          ∙ kind-here t table v (documentOf t) tells (in-order t) (left .split .before) behind m (left .split .all) (model-stands .steps) o (left .owns)
+          (left .above) (front .others) s steps-here
+
       rest-here : rest (documentOf t) m (left .below) behind ≡ stepFinding (documentOf t) m s ∷ rest (documentOf t) m (front .others) behind
       rest-here = ap (λ (ss : List Step). rest (documentOf t) m ss behind) (front .all)
 
       rising-here : Rising next (s .line ∷ findingLines (rest (documentOf t) m (front .others) behind))
       rising-here = subst (λ (fs : List Finding). Rising next (findingLines fs)) rest-here (left .rising)
 
-      pub asks-line : Cursor t here next × (next ≤ getD table (own + 5) 0)
-      asks-line = (left .cursor, rw line-is (rising-first rising-here))
+      pub asks-line : (own + 6 ≤ length table) × Cursor t here next × (next ≤ getD table (own + 5) 0)
+      asks-line = (own-inside, left .cursor, rw line-is (rising-first rising-here))
 
       pub asks-rule : Rooms table v × (o .from + 6 * i ≤ length table) × (own + 6 ≤ length table)
       asks-rule = (rooms, above-inside, own-inside)
 
-      module _ (told : Told) (is-told : Tells t (getD table (own + 5) 0) told) (rule : ℕ) (is-rule : rule ≡ stepRuleAt t table v o own i (told .mult)) where
+      module _ (told : Told) (is-told : TellsStep t table own told) (rule : ℕ) (is-rule : rule ≡ stepRuleAt t table v o own i (told .mult)) where
         mult-is : s .kind ≡ sectionKind → told .mult ≡ s .mult
         mult-is k =
             let said : Each (MultSaid t) (left .above ++ (s ∷ front .others)) =
             rw steps-here at (each-at (left .split .before) behind m (rw (left .split .all) at (all-said t))) in
-            is-told .mult ∙ ap (λ (n : ℕ). isMult (contentAt n (significant t))) line-is ∙ each-at (left .above) (front .others) s said k
+            is-told .mult (kind-is ∙ k) ∙ ap (λ (n : ℕ). isMult (contentAt n (significant t))) line-is ∙ each-at (left .above) (front .others) s said k
 
         rule-is : rule ≡ stepRule (documentOf t) m s
         rule-is =

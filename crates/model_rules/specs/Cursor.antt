@@ -5,12 +5,13 @@ use Prim.Native.Nat.{ℕ, _+_, _≤_}
 use mathlib.Core.Path.{_≡_}
 use mathlib.Core.Bool.{Bool, true, false}
 use mathlib.Core.List.{List, [], _∷_}
-use lib.ListN.{length}
+use lib.ListN.{length, getD}
 use lib.Dec.{ltb}
 use Rattle.base.specs.If.{if_then_else_}
 use Rattle.place.specs.Place as place
 use Rattle.path.specs.Path.{isMult}
 use Rattle.document.specs.Lines.{Line, linesAt, significant}
+use Rattle.document.specs.Document.{sectionKind}
 use Rattle.model_rules.specs.declared.Told.{Told}
 
 -- what the line of a number says; that of the next line where there is none
@@ -29,3 +30,9 @@ pub record Tells (t : List ℕ) (wanted : ℕ) (r : Told) : Type 0 where
   pub mult : r .mult ≡ isMult (contentAt wanted (significant t))
   pub cursor : Cursor t (r .at) (r .number)
   pub low : r .number ≤ wanted
+
+-- the same of the step whose record stands at `own`, where it is one over a section
+pub record TellsStep (t table : List ℕ) (own : ℕ) (r : Told) : Type 0 where
+  pub mult : getD table own 0 ≡ sectionKind → r .mult ≡ isMult (contentAt (getD table (own + 5) 0) (significant t))
+  pub cursor : Cursor t (r .at) (r .number)
+  pub low : r .number ≤ getD table (own + 5) 0

@@ -10,7 +10,7 @@ ghost use Rattle.document.specs.Found.{Located, contentIn};
 ghost use Rattle.rules.specs.Rules.{firstIn, modelFindings};
 ghost use Rattle.rules.specs.Filled.{Filled};
 ghost use Rattle.list_rules.specs.Listed.{Listed};
-ghost use Rattle.model_rules.specs.Cursor.{Cursor, Tells};
+ghost use Rattle.model_rules.specs.Cursor.{Cursor, Tells, TellsStep};
 ghost use Rattle.model_rules.specs.Models.{ModelRoom, ownerAt, modelRuleAt, Awaits, StepsTold};
 use document::Found;
 use rules::Finding;
@@ -21,6 +21,9 @@ use view::View;
 const TWICE: u64 = 19;
 
 const LIST: u64 = 20;
+
+// "kind 0 end 1 section 2 fork 3 endfork".
+const SECTION: u64 = 1;
 
 // How many words a record of a model has, and one of a step.
 const MODEL_WORDS: usize = 5;
@@ -92,6 +95,21 @@ fn tell_mult(text: &[u8], at: usize, number: u64, wanted: u64) -> Told
     }
 }
 
+// The same for a step. Of one that is not over a section it is not asked, and the search stays where it is.
+fn tell_step(text: &[u8], table: &[u64], own: usize, at: usize, number: u64) -> Told
+    requires { ⌜ (own + 6 ≤ length (now table)) × Cursor (now text) at number × (number ≤ getD (now table) (own + 5) 0) ⌝ }
+    ensures { λ r. ⌜ TellsStep (now (text .entry)) (now (table .entry)) own r ⌝ }
+{
+    if table[own] != SECTION {
+        return Told {
+            mult: false,
+            at,
+            number,
+        };
+    }
+    tell_mult(text, at, number, table[own + 5])
+}
+
 // ---- one model
 
 // A model by its number: 20 is asked of the first model of a name alone, whose flag the list raises.
@@ -148,7 +166,7 @@ fn steps_finding(
     let mut i = 0;
     while i < count {
         let line = table[own + 5];
-        let told = tell_mult(text, here, next, line);
+        let told = tell_step(text, table, own, here, next);
         let rule = step_rules::step_rule(text, table, view, owner, own, i, told.mult);
         if rule != 0 {
             return StepsFinding {

@@ -314,6 +314,9 @@ module _ (t table : List ℕ) (v : View) (d : Document) (tells : Tells table v d
   here : StepAt table v d tells own s
   here = step-at table v d tells own s words-here
 
+  pub kind-here : getD table own 0 ≡ s .kind
+  kind-here = here .kind
+
   pub line-here : getD table (own + 5) 0 ≡ s .line
   unfolding stepRecord
   line-here = words-here .word 5 (omega arith)

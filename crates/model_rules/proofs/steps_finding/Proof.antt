@@ -27,8 +27,8 @@ mul-line c = search needs
 shared-slice-read-line : tie.Need-shared-slice-read-line Inv-loop μ-loop
 shared-slice-read-line c = search needs
 
-tell-mult-requires : tie.Need-tell-mult-requires Inv-loop μ-loop
-tell-mult-requires c κs = asks-line _ _ (c .before .before .before .before .before .before .pre .0) _ (c .before .before .before .before .before .before .pre .1) _ _ _ _ _ _ _ (c .before .before .loop .inv) (c .before .loop-test .taken)
+tell-step-requires : tie.Need-tell-step-requires Inv-loop μ-loop
+tell-step-requires c κs = asks-line _ _ (c .before .before .before .before .before .before .pre .0) _ (c .before .before .before .before .before .before .pre .1) _ _ _ _ _ _ _ (c .before .before .loop .inv) (c .before .loop-test .taken)
 
 step-rule-requires : tie.Need-step-rule-requires Inv-loop μ-loop
 step-rule-requires c κs = asks-rule _ _ (c .before .before .before .before .before .before .before .pre .0) _ (c .before .before .before .before .before .before .before .pre .1) _ _ _ _ _ _ _ (c .before .before .before .loop .inv) (c .before .before .loop-test .taken)
@@ -62,7 +62,7 @@ steps-finding-spec =
     add-line
     mul-line
     shared-slice-read-line
-    tell-mult-requires
+    tell-step-requires
     step-rule-requires
     returns
     add-own
