@@ -57,11 +57,11 @@ use Rattle.model_rules.specs.Models.{modelAt, stepsAt, ModelRoom, ownerA
 pub owner-told :
     (table : List ℕ) (v : View) (i first : ℕ) →
     first ≡ firstTarget table (getD (v .counts) maps 0) (stepsAt table v i) (getD table (modelAt v i + 4) 0) →
-    record { kind = getD table (modelAt v i + 2) 0; from = stepsAt table v i; many = getD table (modelAt v i + 4) 0; first = first }
+    record { kind = getD table (modelAt v i + 2) 0; from = stepsAt table v i; many = getD table (modelAt v i + 4) 0; first = first; stamp = i }
     ≡ ownerAt table v i
 unfolding ownerAt
 owner-told table v i first is =
-    λ j. record { kind = getD table (modelAt v i + 2) 0; from = stepsAt table v i; many = getD table (modelAt v i + 4) 0; first = is j }
+    λ j. record { kind = getD table (modelAt v i + 2) 0; from = stepsAt table v i; many = getD table (modelAt v i + 4) 0; first = is j; stamp = i }
 
 map-twice : {A B C : Type 0} (f : B → C) (g : A → B) (xs : List A) → map f (map g xs) ≡ map (λ (x : A). f (g x)) xs
 map-twice f g [] = refl

@@ -29,7 +29,9 @@ use Rattle.rules.proofs.TableLaws.{view-holds}
 use Rattle.list_rules.specs.Listed.{Listed}
 use Rattle.list_rules.proofs.NamedLaws.{models-many}
 use Rattle.step_rules.specs.StepWords.{Rooms, stepRuleAt}
+use Rattle.step_rules.specs.Marks.{Marked, Below, Judged}
 use Rattle.step_rules.specs.declared.Owner.{Owner}
+use Rattle.step_rules.proofs.MarkLaws.{marked-starts}
 use Rattle.step_rules.proofs.JoinLaws.{Owns, table-tells, rooms-of, kind-here, line-here, step-is}
 use Rattle.step_rules.proofs.JoinLaws as join
 use Rattle.model_rules.specs.Cursor.{contentAt, Cursor, TellsStep}
@@ -131,7 +133,7 @@ module _ (t : List ℕ) (before : List Model) (m : Model) (behind : List Model) 
 
 -- ---- the steps of a model
 
-pub record StepsLeft (t table : List ℕ) (v : View) (index : ℕ) (o : Owner) (count own here next i : ℕ) : Type 0 where
+pub record StepsLeft (t table : List ℕ) (v : View) (marks : List ℕ) (index : ℕ) (o : Owner) (count own here next i : ℕ) : Type 0 where
   pub split : Split (documentOf t .models) index
   pub owns : Owns table v (documentOf t) o (split .one)
   pub count-is : count ≡ length (split .one .steps)
@@ -141,6 +143,7 @@ pub record StepsLeft (t table : List ℕ) (v : View) (index : ℕ) (o : Owner) (
   pub steps : split .one .steps ≡ above ++ below
   pub place : i ≡ length above
   pub own-is : own ≡ o .from + 6 * i
+  pub marked : Marked t table marks (o .stamp) (o .from) i
   pub same :
       firstIn (rest (documentOf t) (split .one) below (split .behind)) ≡ firstIn (belowFirst (documentOf t) (drop index (documentOf t .models)))
   pub cursor : Cursor t here next
@@ -190,8 +193,8 @@ module _ (t table : List ℕ) (filled : Filled t table) (v : View) (is-view : v 
     unfolding belowFirst stepFindings
     lines-there = below-rising t (model-here .before) (model-here .one) (model-here .behind) (model-here .all)
 
-    module _ (at number : ℕ) (cursor : Cursor t at number) (low : Each (λ (f : Finding). number ≤ f .line) (belowFirst (documentOf t) (drop index (documentOf t .models)))) where
-      first-left : StepsLeft t table v index (ownerAt table v index) (ownerAt table v index .many) (ownerAt table v index .from) at number 0
+    module _ (marks : List ℕ) (whole : length marks ≡ 16384) (at number : ℕ) (cursor : Cursor t at number) (low : Each (λ (f : Finding). number ≤ f .line) (belowFirst (documentOf t) (drop index (documentOf t .models)))) where
+      first-left : StepsLeft t table v marks index (ownerAt table v index) (ownerAt table v index .many) (ownerAt table v index .from) at number 0
       unfolding ownerAt
       first-left =
           record {
@@ -204,6 +207,7 @@ module _ (t table : List ℕ) (filled : Filled t table) (v : View) (is-view : v 
             steps = refl;
             place = refl;
             own-is = omega arith;
+            marked = marked-starts t table marks _ _ 0 whole;
             same = ap firstIn (sym below-there);
             cursor = cursor;
             rising = raised _ lines-there (rw below-there at (low));
@@ -212,10 +216,10 @@ module _ (t table : List ℕ) (filled : Filled t table) (v : View) (is-view : v 
   pub room-asked : (index at number : ℕ) → Awaits t index at number → ModelRoom table v index
   room-asked index at number awaits = room-there index (awaits .there)
 
-  pub steps-start : (index at number : ℕ) → Awaits t index at number → (o : Owner) → o ≡ ownerAt table v index → StepsLeft t table v index o (o .many) (o .from) at number 0
-  steps-start index at number awaits o is = rw is (first-left index (awaits .there) at number (awaits .cursor) (awaits .low))
+  pub steps-start : (index at number : ℕ) → Awaits t index at number → (marks : List ℕ) → length marks ≡ 16384 → (o : Owner) → o ≡ ownerAt table v index → StepsLeft t table v marks index o (o .many) (o .from) at number 0
+  steps-start index at number awaits marks whole o is = rw is (first-left index (awaits .there) marks whole at number (awaits .cursor) (awaits .low))
 
-  module _ (index : ℕ) (o : Owner) (count own here next i : ℕ) (left : StepsLeft t table v index o count own here next i) where
+  module _ (marks : List ℕ) (index : ℕ) (o : Owner) (count own here next i : ℕ) (left : StepsLeft t table v marks index o count own here next i) where
     abbrev m : Model
     m = left .split .one
 
@@ -244,9 +248,6 @@ module _ (t table : List ℕ) (filled : Filled t table) (v : View) (is-view : v 
     module _ (h : i < count) where
       pub own-inside : own + 6 ≤ length table
       own-inside = omega (arith, left .own-is, left .room)
-
-      pub above-inside : o .from + 6 * i ≤ length table
-      above-inside = omega (arith, left .room)
 
       front : Front (left .below)
       front =
@@ -288,10 +289,11 @@ module _ (t table : List ℕ) (filled : Filled t table) (v : View) (is-view : v 
       pub asks-line : (own + 6 ≤ length table) × Cursor t here next × (next ≤ getD table (own + 5) 0)
       asks-line = (own-inside, left .cursor, rw line-is (rising-first rising-here))
 
-      pub asks-rule : Rooms table v × (o .from + 6 * i ≤ length table) × (own + 6 ≤ length table)
-      asks-rule = (rooms, above-inside, own-inside)
+      pub asks-rule : Rooms table v × Below t table marks o own i
+      asks-rule = (rooms, record { place = left .own-is; inside = own-inside; marked = left .marked })
 
-      module _ (told : Told) (is-told : TellsStep t table own told) (rule : ℕ) (is-rule : rule ≡ stepRuleAt t table v o own i (told .mult)) where
+      module _ (told : Told) (is-told : TellsStep t table own told) (after : List ℕ) (rule : ℕ)
+          (judged : Judged t table after o i (stepRuleAt t table v o own i (told .mult)) rule) where
         mult-is : s .kind ≡ sectionKind → told .mult ≡ s .mult
         mult-is k =
             let said : Each (MultSaid t) (left .above ++ (s ∷ front .others)) =
@@ -300,7 +302,7 @@ module _ (t table : List ℕ) (filled : Filled t table) (v : View) (is-view : v 
 
         rule-is : rule ≡ stepRule (documentOf t) m s
         rule-is =
-            is-rule
+            judged .told
             ∙ (λ j. stepRuleAt t table v o (own-place j) (left .place j) (told .mult))
             ∙ step-is t table v (documentOf t) tells (in-order t) (left .split .before) behind m (left .split .all) (model-stands .steps) o (left .owns)
             (left .above) (front .others) s steps-here (told .mult) mult-is
@@ -321,7 +323,7 @@ module _ (t table : List ℕ) (filled : Filled t table) (v : View) (is-view : v 
               low = λ (z : rule ≡ 0). absurd (n z);
             }
 
-        pub steps-on : rule ≡ 0 → StepsLeft t table v index o count (own + 6) (told .at) (told .number) (i + 1)
+        pub steps-on : rule ≡ 0 → StepsLeft t table v after index o count (own + 6) (told .at) (told .number) (i + 1)
         steps-on z =
             let low : told .number ≤ s .line = rw line-is at (is-told .low) in
             let l : length (left .above ++ (s ∷ [])) ≡ length (left .above) + 1 = length-append (left .above) (s ∷ []) in
@@ -337,6 +339,7 @@ module _ (t table : List ℕ) (filled : Filled t table) (v : View) (is-view : v 
               steps = steps-here ∙ sym (append-assoc (left .above) (s ∷ []) (front .others));
               place = omega arith;
               own-is = omega arith;
+              marked = judged .marked z;
               same = sym (first-later _ _ (sym rule-is ∙ z)) ∙ same-here;
               cursor = is-told .cursor;
               rising = rising-wider (omega arith) (rising-rest rising-here);

@@ -29,18 +29,20 @@ use Rattle.model_rules.specs.declared.StepsFinding.{StepsFinding}
 use Rattle.model_rules.proofs.CursorLaws.{cursor-starts}
 use Rattle.model_rules.proofs.StepsLaws.{Split, drop-to, model-here, room-there, rule-there}
 
-pub record ModelsLeft (t : List ℕ) (at number i : ℕ) : Type 0 where
+pub record ModelsLeft (t : List ℕ) (at number : ℕ) (marks : List ℕ) (i : ℕ) : Type 0 where
   pub same :
       firstIn (modelFindings (documentOf t) (drop i (documentOf t .models))) ≡ firstIn (modelFindings (documentOf t) (documentOf t .models))
   pub cursor : Cursor t at number
   pub low : Each (λ (f : Finding). number ≤ f .line) (modelFindings (documentOf t) (drop i (documentOf t .models)))
+  pub whole : length marks ≡ 16384
 
-pub models-start : (t : List ℕ) → ModelsLeft t 0 1 0
-models-start t =
+pub models-start : (t marks : List ℕ) → length marks ≡ 16384 → ModelsLeft t 0 1 marks 0
+models-start t marks whole =
     record {
       same = refl;
       cursor = cursor-starts t;
       low = all-least (λ (f : Finding). f .line) (modelFindings (documentOf t) (documentOf t .models)) (in-order t .in-models);
+      whole = whole;
     }
 
 each-rest : {A : Type 0} {P : A → Type 0} {x : A} {xs : List A} → Each P (x ∷ xs) → Each P xs
@@ -50,7 +52,7 @@ line-at : (before : List Model) (m : Model) (behind : List Model) → getD (map 
 line-at [] m behind = refl
 line-at (b ∷ before) m behind = line-at before m behind
 
-module _ (t table : List ℕ) (filled : Filled t table) (v : View) (is-view : v ≡ viewOf table) (at number i : ℕ) (left : ModelsLeft t at number i) where
+module _ (t table : List ℕ) (filled : Filled t table) (v : View) (is-view : v ≡ viewOf table) (at number : ℕ) (marks : List ℕ) (i : ℕ) (left : ModelsLeft t at number marks i) where
   abbrev d : Document
   d = documentOf t
 
@@ -103,12 +105,12 @@ module _ (t table : List ℕ) (filled : Filled t table) (v : View) (is-view : v 
         awaits-here : Awaits t i at number
         awaits-here = record { there = there; cursor = left .cursor; low = each-rest (rw findings-here at (left .low)) }
 
-        pub asks-steps : Filled t table × (v ≡ viewOf table) × Awaits t i at number
-        asks-steps = (filled, is-view, awaits-here)
+        pub asks-steps : Filled t table × (v ≡ viewOf table) × Awaits t i at number × (length marks ≡ 16384)
+        asks-steps = (filled, is-view, awaits-here, left .whole)
 
         module _ (found : StepsFinding) (told : StepsTold t i found) where
           pub steps-break : (found .number ≡ 0 → ⊥) → record { number = found .number; line = found .line } ≡ firstIn (modelFindings d (d .models))
           steps-break n = told .broken n ∙ below-same
 
-          pub models-on : found .number ≡ 0 → ModelsLeft t (found .at) (found .next) (i + 1)
-          models-on z = record { same = told .kept z ∙ below-same; cursor = told .cursor; low = told .low z }
+          pub models-on : found .number ≡ 0 → (after : List ℕ) → (found .number ≡ 0 → length after ≡ 16384) → ModelsLeft t (found .at) (found .next) after (i + 1)
+          models-on z after whole = record { same = told .kept z ∙ below-same; cursor = told .cursor; low = told .low z; whole = whole z }

@@ -41,6 +41,7 @@ ownerAt table v i =
       from = stepsAt table v i;
       many = getD table (modelAt v i + 4) 0;
       first = firstTarget table (getD (v .counts) maps 0) (stepsAt table v i) (getD table (modelAt v i + 4) 0);
+      stamp = i;
     }
 
 unfoldable pub modelRuleAt : List ℕ → List ℕ → View → List Bool → ℕ → ℕ

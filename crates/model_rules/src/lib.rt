@@ -25,6 +25,9 @@ const LIST: u64 = 20;
 // "kind 0 end 1 section 2 fork 3 endfork".
 const SECTION: u64 = 1;
 
+// A mark that is the number of no model.
+const UNMARKED: u8 = 64;
+
 // How many words a record of a model has, and one of a step.
 const MODEL_WORDS: usize = 5;
 
@@ -143,6 +146,7 @@ fn owner_of(table: &[u64], view: View, index: u64) -> Owner
         from,
         many,
         first: step_rules::first_target(table, counts[table::MAPS], from, many),
+        stamp: index as u8,
     }
 }
 
@@ -151,12 +155,13 @@ fn steps_finding(
     text: &[u8],
     table: &[u64],
     view: View,
+    marks: &mut [u8; step_rules::MARKS],
     index: u64,
     at: usize,
     number: u64,
 ) -> StepsFinding
-    requires { ⌜ Filled (now text) (now table) × (view ≡ viewOf (now table)) × Awaits (now text) index at number ⌝ }
-    ensures { λ r. ⌜ StepsTold (now (text .entry)) index r ⌝ }
+    requires { ⌜ Filled (now text) (now table) × (view ≡ viewOf (now table)) × Awaits (now text) index at number × (length (now marks) ≡ 16384) ⌝ }
+    ensures { λ r. ⌜ StepsTold (now (text .entry)) index r × (r .number ≡ 0 → length (now (marks .exit)) ≡ 16384) ⌝ }
 {
     let owner = owner_of(table, view, index);
     let count = owner.many;
@@ -167,7 +172,7 @@ fn steps_finding(
     while i < count {
         let line = table[own + 5];
         let told = tell_step(text, table, own, here, next);
-        let rule = step_rules::step_rule(text, table, view, owner, own, i, told.mult);
+        let rule = step_rules::step_rule(text, table, view, marks, owner, own, i, told.mult);
         if rule != 0 {
             return StepsFinding {
                 number: rule,
@@ -200,6 +205,7 @@ pub fn model_finding(text: &[u8], table: &[u64], view: View, listed: [bool; 65])
     let count = counts[table::MODELS];
     let mut at = 0;
     let mut number = 1;
+    let mut marks = [UNMARKED; step_rules::MARKS];
     let mut i = 0;
     while i < count {
         let rule = model_rule(text, table, view, listed, i);
@@ -209,7 +215,7 @@ pub fn model_finding(text: &[u8], table: &[u64], view: View, listed: [bool; 65])
                 line: rules::nth_line(text, table::MODELS, i),
             };
         }
-        let found = steps_finding(text, table, view, i, at, number);
+        let found = steps_finding(text, table, view, &mut marks, i, at, number);
         if found.number != 0 {
             return Finding {
                 number: found.number,

@@ -1,4 +1,5 @@
 pub mod WordLaws
+pub mod MarkLaws
 pub mod RuleLaws
 pub mod StandingLaws
 pub mod SectionLaws

@@ -4,6 +4,7 @@ ghost use Prim.Native.Nat.{_+_, _*_, _≤_, _<_};
 ghost use lib.ListN.{length, getD};
 ghost use Rattle.table.specs.Layout.{maps, sections};
 ghost use Rattle.step_rules.specs.StepWords.{Rooms, clashAt, meetsAt, meetsAbove, firstTarget, pinsOf, differsFrom, lesserOf, leastAt, firstMatrix, otherIn, otherForm, kindBroken, wrongMethod, endRuleAt, sectionRuleAt, stepRuleAt};
+ghost use Rattle.step_rules.specs.Marks.{markOf, markAt, isMarked, Marked, Below, Judged};
 use view::View;
 
 // "kind 0 end 1 section 2 fork 3 endfork".
@@ -42,14 +43,18 @@ const KIND: u64 = 25;
 
 const COUNT: u64 = 26;
 
-// What a model says for its steps: its type, where their records begin and how many there are, and the map of its first end, for which
-// as many as there are maps stand for none.
+// What a model says for its steps: its type, where their records begin and how many there are, the map of its first end, for which
+// as many as there are maps stand for none, and what its ends are marked by.
 pub struct Owner {
     pub kind: u64,
     pub from: usize,
     pub many: u64,
     pub first: u64,
+    pub stamp: u8,
 }
+
+// How many marks there are for the sides of ends: more than ten for each end of the longest path.
+pub const MARKS: usize = 16384;
 
 // ---- 22: two ends on one map
 
@@ -100,6 +105,77 @@ fn is_clashing(text: &[u8], table: &[u64], own: usize, from: usize, above: u64) 
         i += 1;
     }
     false
+}
+
+fn wide(b: u8) -> usize
+    ensures { λ r. ⌜ (r ≡ b) × (r < 256) ⌝ }
+{
+    b as usize
+}
+
+// The number of a side on a map.
+fn mark_of(map: u64, side: &[u8]) -> usize
+    ensures { λ r. ⌜ r ≡ markOf map (now (side .entry)) ⌝ }
+{
+    let mut mark = map as usize % MARKS;
+    let mut i = 0;
+    while i < side.len() {
+        mark = (mark * 37 + wide(side[i])) % MARKS;
+        i += 1;
+    }
+    mark
+}
+
+fn mark_at(text: &[u8], table: &[u64], own: usize) -> usize
+    requires { ⌜ own + 6 ≤ length (now table) ⌝ }
+    ensures { λ r. ⌜ r ≡ markAt (now (text .entry)) (now (table .entry)) own ⌝ }
+{
+    let side = name::name_at(text, table[own + 3], table[own + 4]);
+    mark_of(table[own + 1], side)
+}
+
+// An end may clash with one that is marked. If it may not, no comparison is needed.
+fn is_marked(
+    text: &[u8],
+    table: &[u64],
+    marks: &[u8; MARKS],
+    stamp: u8,
+    own: usize,
+    mark: usize,
+) -> bool
+    requires { ⌜ (own + 6 ≤ length (now table)) × (mark ≡ markAt (now text) (now table) own) ⌝ }
+    ensures { λ r. ⌜ r ≡ isMarked (now (text .entry)) (now (table .entry)) (now (marks .entry)) stamp own ⌝ }
+{
+    if table[own + 4] == 0 {
+        return true;
+    }
+    let bare = mark_of(table[own + 1], b"");
+    if marks[bare] == stamp {
+        return true;
+    }
+    marks[mark] == stamp
+}
+
+// The same as `is_clashing`, by the marks where they tell it. The end is marked for those below it.
+fn is_met(
+    text: &[u8],
+    table: &[u64],
+    marks: &mut [u8; MARKS],
+    owner: Owner,
+    own: usize,
+    above: u64,
+) -> bool
+    requires { ⌜ Below (now text) (now table) (now marks) owner own above ⌝ }
+    ensures { λ r. ⌜ (r ≡ meetsAbove (now (text .entry)) (now (table .entry)) own (owner .from) above) × Marked (now (text .entry)) (now (table .entry)) (now (marks .exit)) (owner .stamp) (owner .from) (above + 1) ⌝ }
+{
+    let stamp = owner.stamp;
+    let mark = mark_at(text, table, own);
+    let marked = is_marked(text, table, marks, stamp, own, mark);
+    marks[mark] = stamp;
+    if !marked {
+        return false;
+    }
+    is_clashing(text, table, own, owner.from, above)
 }
 
 // ---- 26: the pins of the path's first map
@@ -245,16 +321,24 @@ fn is_wrong_method(mult: bool, method: u64) -> bool
 }
 
 // An end, so many steps of its model standing above it.
-fn end_rule(text: &[u8], table: &[u64], view: View, owner: Owner, own: usize, above: u64) -> u64
-    requires { ⌜ Rooms (now table) view × (owner .from + 6 * above ≤ length (now table)) × (own + 6 ≤ length (now table)) ⌝ }
-    ensures { λ r. ⌜ r ≡ endRuleAt (now (text .entry)) (now (table .entry)) view owner own above ⌝ }
+fn end_rule(
+    text: &[u8],
+    table: &[u64],
+    view: View,
+    marks: &mut [u8; MARKS],
+    owner: Owner,
+    own: usize,
+    above: u64,
+) -> u64
+    requires { ⌜ Rooms (now table) view × Below (now text) (now table) (now marks) owner own above ⌝ }
+    ensures { λ r. ⌜ Judged (now (text .entry)) (now (table .entry)) (now (marks .exit)) owner above (endRuleAt (now (text .entry)) (now (table .entry)) view owner own above) r ⌝ }
 {
     let counts = view.counts;
     let target = table[own + 1];
     if counts[table::MAPS] <= target {
         return NOMAP;
     }
-    if is_clashing(text, table, own, owner.from, above) {
+    if is_met(text, table, marks, owner, own, above) {
         return SIDE;
     }
     let pins = pins_of(table, view, target);
@@ -292,17 +376,18 @@ pub fn step_rule(
     text: &[u8],
     table: &[u64],
     view: View,
+    marks: &mut [u8; MARKS],
     owner: Owner,
     own: usize,
     above: u64,
     mult: bool,
 ) -> u64
-    requires { ⌜ Rooms (now table) view × (owner .from + 6 * above ≤ length (now table)) × (own + 6 ≤ length (now table)) ⌝ }
-    ensures { λ r. ⌜ r ≡ stepRuleAt (now (text .entry)) (now (table .entry)) view owner own above mult ⌝ }
+    requires { ⌜ Rooms (now table) view × Below (now text) (now table) (now marks) owner own above ⌝ }
+    ensures { λ r. ⌜ Judged (now (text .entry)) (now (table .entry)) (now (marks .exit)) owner above (stepRuleAt (now (text .entry)) (now (table .entry)) view owner own above mult) r ⌝ }
 {
     let kind = table[own];
     if kind == END {
-        return end_rule(text, table, view, owner, own, above);
+        return end_rule(text, table, view, marks, owner, own, above);
     }
     if kind == SECTION {
         return section_rule(table, view, owner, own, mult);

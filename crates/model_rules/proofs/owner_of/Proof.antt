@@ -56,6 +56,9 @@ array-read-first-target c = search needs
 first-target-requires : tie.Need-first-target-requires
 first-target-requires c κs = search needs
 
+cast-t26 : tie.Need-cast-t26
+cast-t26 c = search needs
+
 returns : tie.Need-returns
 returns c = search owner-told
 
@@ -80,4 +83,5 @@ owner-of-spec =
     shared-slice-read-t17
     array-read-first-target
     first-target-requires
+    cast-t26
     returns)

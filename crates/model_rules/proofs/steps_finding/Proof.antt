@@ -7,10 +7,10 @@ use Rattle.model_rules.proofs.steps_finding.Statement.{statement}
 use Rattle.model_rules.proofs.steps_finding.Tie as tie
 
 abbrev Inv-loop : tie.InvT-loop
-Inv-loop text table view index at number owner count own₀ here₀ next₀ i₀ own here next i = StepsLeft text table view index owner count own here next i
+Inv-loop text table view marks₀ index at number owner count own₀ here₀ next₀ i₀ marks own here next i = StepsLeft text table view marks index owner count own here next i
 
 abbrev μ-loop : tie.MeasureT-loop
-μ-loop text table view index at number owner count own₀ here₀ next₀ i₀ own here next i = count - i
+μ-loop text table view marks₀ index at number owner count own₀ here₀ next₀ i₀ marks own here next i = count - i
 
 owner-of-requires : tie.Need-owner-of-requires Inv-loop μ-loop
 owner-of-requires c κs = search room-asked
@@ -28,13 +28,13 @@ shared-slice-read-line : tie.Need-shared-slice-read-line Inv-loop μ-loop
 shared-slice-read-line c = search needs
 
 tell-step-requires : tie.Need-tell-step-requires Inv-loop μ-loop
-tell-step-requires c κs = asks-line _ _ (c .before .before .before .before .before .before .pre .0) _ (c .before .before .before .before .before .before .pre .1) _ _ _ _ _ _ _ (c .before .before .loop .inv) (c .before .loop-test .taken)
+tell-step-requires c κs = asks-line _ _ (c .before .before .before .before .before .before .pre .0) _ (c .before .before .before .before .before .before .pre .1) _ _ _ _ _ _ _ _ (c .before .before .loop .inv) (c .before .loop-test .taken)
 
 step-rule-requires : tie.Need-step-rule-requires Inv-loop μ-loop
-step-rule-requires c κs = asks-rule _ _ (c .before .before .before .before .before .before .before .pre .0) _ (c .before .before .before .before .before .before .before .pre .1) _ _ _ _ _ _ _ (c .before .before .before .loop .inv) (c .before .before .loop-test .taken)
+step-rule-requires c κs = asks-rule _ _ (c .before .before .before .before .before .before .before .before .pre .0) _ (c .before .before .before .before .before .before .before .before .pre .1) _ _ _ _ _ _ _ _ (c .before .before .before .before .loop .inv) (c .before .before .before .loop-test .taken)
 
 returns : tie.Need-returns Inv-loop μ-loop
-returns c = search step-breaks
+returns c = (search step-breaks, λ z. c .before .step-rule .ensures .marked z .whole)
 
 add-own : tie.Need-add-own Inv-loop μ-loop
 add-own c = search needs
@@ -49,7 +49,7 @@ loop-again : tie.Need-loop-again Inv-loop μ-loop
 loop-again c = search steps-on
 
 returns-2 : tie.Need-returns-2 Inv-loop μ-loop
-returns-2 c = search steps-end
+returns-2 c = (search steps-end, λ z. c .before .loop .inv .marked .whole)
 
 pub steps-finding-spec : {M : Type 1} → statement M
 steps-finding-spec =

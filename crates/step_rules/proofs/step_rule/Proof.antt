@@ -2,6 +2,7 @@
 -- Assumes nothing.
 use Rattle.base.proofs.IfLaws.{chain}
 use Rattle.step_rules.specs.StepWords.{stepRuleAt}
+use Rattle.step_rules.proofs.MarkLaws.{other-marked}
 use borrow.Author.Needs.{needs}
 use Rattle.step_rules.proofs.step_rule.Statement.{statement}
 use Rattle.step_rules.proofs.step_rule.Tie as tie
@@ -17,18 +18,18 @@ end-rule-requires c κs = search needs
 
 returns : tie.Need-returns
 unfolding stepRuleAt
-returns c = search chain
+returns c = record { told = search chain; marked = search needs }
 
 section-rule-requires : tie.Need-section-rule-requires
 section-rule-requires c κs = search needs
 
 returns-2 : tie.Need-returns-2
 unfolding stepRuleAt
-returns-2 c = search chain
+returns-2 c = record { told = search chain; marked = search other-marked }
 
 returns-3 : tie.Need-returns-3
 unfolding stepRuleAt
-returns-3 c = search chain
+returns-3 c = record { told = search chain; marked = search other-marked }
 
 pub step-rule-spec : {M : Type 1} → statement M
 step-rule-spec =

@@ -1,0 +1,57 @@
+-- `step_rules::mark_of` meets its contract. The loop's invariant: what is left of the side gives the number of the whole.
+-- Assumes nothing.
+use borrow.Author.Needs.{needs}
+use Prim.Native.Nat.{_-_}
+use lib.ListN.{length}
+use Rattle.step_rules.proofs.MarkLaws.{MarkLeft, mark-starts, mark-ends, mark-on}
+use Rattle.step_rules.proofs.mark_of.Statement.{statement}
+use Rattle.step_rules.proofs.mark_of.Tie as tie
+
+abbrev Inv-loop : tie.InvT-loop
+Inv-loop map side mark₀ i₀ mark i = MarkLeft map side mark i
+
+abbrev μ-loop : tie.MeasureT-loop
+μ-loop map side mark₀ i₀ mark i = length side - i
+
+loop-holds : tie.Need-loop-holds Inv-loop μ-loop
+loop-holds c = search mark-starts
+
+mul-mark : tie.Need-mul-mark Inv-loop μ-loop
+mul-mark c = search needs
+
+shared-slice-read-wide : tie.Need-shared-slice-read-wide Inv-loop μ-loop
+shared-slice-read-wide c = search needs
+
+wide-requires : tie.Need-wide-requires Inv-loop μ-loop
+wide-requires c κs = search needs
+
+add-mark : tie.Need-add-mark Inv-loop μ-loop
+add-mark c = search needs
+
+add-i : tie.Need-add-i Inv-loop μ-loop
+add-i c = search needs
+
+loop-less : tie.Need-loop-less Inv-loop μ-loop
+loop-less c = search needs
+
+loop-again : tie.Need-loop-again Inv-loop μ-loop
+loop-again c = search mark-on
+
+returns : tie.Need-returns Inv-loop μ-loop
+returns c = search mark-ends
+
+pub mark-of-spec : {M : Type 1} → statement M
+mark-of-spec =
+    tie.close
+    (tie.spec
+    Inv-loop
+    μ-loop
+    loop-holds
+    mul-mark
+    shared-slice-read-wide
+    wide-requires
+    add-mark
+    add-i
+    loop-less
+    loop-again
+    returns)
