@@ -29,7 +29,7 @@ use Rattle.rules.proofs.TableLaws.{view-holds}
 use Rattle.list_rules.specs.Listed.{Listed}
 use Rattle.list_rules.proofs.NamedLaws.{models-many}
 use Rattle.step_rules.specs.StepWords.{Rooms, stepRuleAt}
-use Rattle.step_rules.specs.Marks.{Marked, Below, Judged}
+use Rattle.step_rules.specs.Marks.{marksMany, Marked, Below, Judged}
 use Rattle.step_rules.specs.declared.Owner.{Owner}
 use Rattle.step_rules.proofs.MarkLaws.{marked-starts}
 use Rattle.step_rules.proofs.JoinLaws.{Owns, table-tells, rooms-of, kind-here, line-here, step-is}
@@ -193,7 +193,7 @@ module _ (t table : List ℕ) (filled : Filled t table) (v : View) (is-view : v 
     unfolding belowFirst stepFindings
     lines-there = below-rising t (model-here .before) (model-here .one) (model-here .behind) (model-here .all)
 
-    module _ (marks : List ℕ) (whole : length marks ≡ 16384) (at number : ℕ) (cursor : Cursor t at number) (low : Each (λ (f : Finding). number ≤ f .line) (belowFirst (documentOf t) (drop index (documentOf t .models)))) where
+    module _ (marks : List ℕ) (whole : length marks ≡ marksMany) (at number : ℕ) (cursor : Cursor t at number) (low : Each (λ (f : Finding). number ≤ f .line) (belowFirst (documentOf t) (drop index (documentOf t .models)))) where
       first-left : StepsLeft t table v marks index (ownerAt table v index) (ownerAt table v index .many) (ownerAt table v index .from) at number 0
       unfolding ownerAt
       first-left =
@@ -216,7 +216,7 @@ module _ (t table : List ℕ) (filled : Filled t table) (v : View) (is-view : v 
   pub room-asked : (index at number : ℕ) → Awaits t index at number → ModelRoom table v index
   room-asked index at number awaits = room-there index (awaits .there)
 
-  pub steps-start : (index at number : ℕ) → Awaits t index at number → (marks : List ℕ) → length marks ≡ 16384 → (o : Owner) → o ≡ ownerAt table v index → StepsLeft t table v marks index o (o .many) (o .from) at number 0
+  pub steps-start : (index at number : ℕ) → Awaits t index at number → (marks : List ℕ) → length marks ≡ marksMany → (o : Owner) → o ≡ ownerAt table v index → StepsLeft t table v marks index o (o .many) (o .from) at number 0
   steps-start index at number awaits marks whole o is = rw is (first-left index (awaits .there) marks whole at number (awaits .cursor) (awaits .low))
 
   module _ (marks : List ℕ) (index : ℕ) (o : Owner) (count own here next i : ℕ) (left : StepsLeft t table v marks index o count own here next i) where

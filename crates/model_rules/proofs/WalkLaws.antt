@@ -23,6 +23,7 @@ use Rattle.rules.proofs.KindLaws.{first-here, first-later}
 use Rattle.rules.proofs.NthLaws.{model-line}
 use Rattle.list_rules.specs.Listed.{Listed}
 use Rattle.list_rules.proofs.NamedLaws.{models-many}
+use Rattle.step_rules.specs.Marks.{marksMany}
 use Rattle.model_rules.specs.Cursor.{Cursor}
 use Rattle.model_rules.specs.Models.{ModelRoom, modelRuleAt, belowFirst, Awaits, StepsTold}
 use Rattle.model_rules.specs.declared.StepsFinding.{StepsFinding}
@@ -34,9 +35,9 @@ pub record ModelsLeft (t : List ℕ) (at number : ℕ) (marks : List ℕ) (i : �
       firstIn (modelFindings (documentOf t) (drop i (documentOf t .models))) ≡ firstIn (modelFindings (documentOf t) (documentOf t .models))
   pub cursor : Cursor t at number
   pub low : Each (λ (f : Finding). number ≤ f .line) (modelFindings (documentOf t) (drop i (documentOf t .models)))
-  pub whole : length marks ≡ 16384
+  pub whole : length marks ≡ marksMany
 
-pub models-start : (t marks : List ℕ) → length marks ≡ 16384 → ModelsLeft t 0 1 marks 0
+pub models-start : (t marks : List ℕ) → length marks ≡ marksMany → ModelsLeft t 0 1 marks 0
 models-start t marks whole =
     record {
       same = refl;
@@ -105,12 +106,12 @@ module _ (t table : List ℕ) (filled : Filled t table) (v : View) (is-view : v 
         awaits-here : Awaits t i at number
         awaits-here = record { there = there; cursor = left .cursor; low = each-rest (rw findings-here at (left .low)) }
 
-        pub asks-steps : Filled t table × (v ≡ viewOf table) × Awaits t i at number × (length marks ≡ 16384)
+        pub asks-steps : Filled t table × (v ≡ viewOf table) × Awaits t i at number × (length marks ≡ marksMany)
         asks-steps = (filled, is-view, awaits-here, left .whole)
 
         module _ (found : StepsFinding) (told : StepsTold t i found) where
           pub steps-break : (found .number ≡ 0 → ⊥) → record { number = found .number; line = found .line } ≡ firstIn (modelFindings d (d .models))
           steps-break n = told .broken n ∙ below-same
 
-          pub models-on : found .number ≡ 0 → (after : List ℕ) → (found .number ≡ 0 → length after ≡ 16384) → ModelsLeft t (found .at) (found .next) after (i + 1)
+          pub models-on : found .number ≡ 0 → (after : List ℕ) → (found .number ≡ 0 → length after ≡ marksMany) → ModelsLeft t (found .at) (found .next) after (i + 1)
           models-on z after whole = record { same = told .kept z ∙ below-same; cursor = told .cursor; low = told .low z; whole = whole z }

@@ -10,6 +10,7 @@ ghost use Rattle.document.specs.Found.{Located, contentIn};
 ghost use Rattle.rules.specs.Rules.{firstIn, modelFindings};
 ghost use Rattle.rules.specs.Filled.{Filled};
 ghost use Rattle.list_rules.specs.Listed.{Listed};
+ghost use Rattle.step_rules.specs.Marks.{marksMany};
 ghost use Rattle.model_rules.specs.Cursor.{Cursor, Tells, TellsStep};
 ghost use Rattle.model_rules.specs.Models.{ModelRoom, ownerAt, modelRuleAt, Awaits, StepsTold};
 use document::Found;
@@ -160,8 +161,8 @@ fn steps_finding(
     at: usize,
     number: u64,
 ) -> StepsFinding
-    requires { ⌜ Filled (now text) (now table) × (view ≡ viewOf (now table)) × Awaits (now text) index at number × (length (now marks) ≡ 16384) ⌝ }
-    ensures { λ r. ⌜ StepsTold (now (text .entry)) index r × (r .number ≡ 0 → length (now (marks .exit)) ≡ 16384) ⌝ }
+    requires { ⌜ Filled (now text) (now table) × (view ≡ viewOf (now table)) × Awaits (now text) index at number × (length (now marks) ≡ marksMany) ⌝ }
+    ensures { λ r. ⌜ StepsTold (now (text .entry)) index r × (r .number ≡ 0 → length (now (marks .exit)) ≡ marksMany) ⌝ }
 {
     let owner = owner_of(table, view, index);
     let count = owner.many;

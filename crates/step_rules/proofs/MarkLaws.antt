@@ -18,42 +18,52 @@ use Rattle.base.proofs.RunLaws.{same-equal}
 use Rattle.document.specs.Document.{endKind}
 use Rattle.name.specs.Name.{nameAt}
 use Rattle.step_rules.specs.StepWords.{sideAt, clashAt, meetsAt, meetsAbove}
-use Rattle.step_rules.specs.Marks.{markFrom, markOf, markAt, isMarked, Marked, Below}
+use Rattle.step_rules.specs.Marks.{bareMarks, sideMarks, marksMany, markFrom, markOf, markAt, isMarked, Marked, Below}
 use Rattle.step_rules.specs.declared.Owner.{Owner}
 
 -- ---- the number of a side
 
-from-inside : (mark : ℕ) (s : List ℕ) → mark < 16384 → markFrom mark s < 16384
+pub step-inside : (n : ℕ) → n % sideMarks + bareMarks < marksMany
+step-inside n =
+    let h : n % sideMarks < sideMarks = mod-lt n (omega arith) in
+    omega arith
+
+start-inside : (map : ℕ) → map % bareMarks < marksMany
+start-inside map =
+    let h : map % bareMarks < bareMarks = mod-lt map (omega arith) in
+    omega arith
+
+from-inside : (mark : ℕ) (s : List ℕ) → mark < marksMany → markFrom mark s < marksMany
 unfolding markFrom
 from-inside mark [] h = h
-from-inside mark (b ∷ s) h = from-inside ((mark * 37 + b) % 16384) s (mod-lt (mark * 37 + b) (omega arith))
+from-inside mark (b ∷ s) h = from-inside ((mark * 37 + b) % sideMarks + bareMarks) s (step-inside (mark * 37 + b))
 
-pub of-inside : (map : ℕ) (side : List ℕ) (mark : ℕ) → mark ≡ markOf map side → mark < 16384
+pub of-inside : (map : ℕ) (side : List ℕ) (mark : ℕ) → mark ≡ markOf map side → mark < marksMany
 unfolding markOf
-of-inside map side mark is = rw is (from-inside (map % 16384) side (mod-lt map (omega arith)))
+of-inside map side mark is = rw is (from-inside (map % bareMarks) side (start-inside map))
 
-pub at-inside : (t table : List ℕ) (at mark : ℕ) → mark ≡ markAt t table at → mark < 16384
+pub at-inside : (t table : List ℕ) (at mark : ℕ) → mark ≡ markAt t table at → mark < marksMany
 unfolding markAt
 at-inside t table at mark is = of-inside (getD table (at + 1) 0) (sideAt t table at) mark is
 
 -- what is left of the side gives the number of the whole
 pub record MarkLeft (map : ℕ) (side : List ℕ) (mark i : ℕ) : Type 0 where
-  pub small : mark < 16384
+  pub small : mark < marksMany
   pub same : markFrom mark (drop i side) ≡ markOf map side
 
-pub mark-starts : (map : ℕ) (side : List ℕ) → MarkLeft map side (map % 16384) 0
+pub mark-starts : (map : ℕ) (side : List ℕ) → MarkLeft map side (map % bareMarks) 0
 unfolding markOf
-mark-starts map side = record { small = mod-lt map (omega arith); same = refl }
+mark-starts map side = record { small = start-inside map; same = refl }
 
 module _ (map : ℕ) (side : List ℕ) (mark i : ℕ) (left : MarkLeft map side mark i) where
   pub mark-ends : length side ≤ i → mark ≡ markOf map side
   unfolding markFrom
   mark-ends h = rw (drop-of-length-le side h) at (left .same)
 
-  pub mark-on : i < length side → (b : ℕ) → b ≡ getD side i 0 → MarkLeft map side ((mark * 37 + b) % 16384) (i + 1)
+  pub mark-on : i < length side → (b : ℕ) → b ≡ getD side i 0 → MarkLeft map side ((mark * 37 + b) % sideMarks + bareMarks) (i + 1)
   unfolding markFrom
   mark-on h b is =
-      record { small = mod-lt (mark * 37 + b) (omega arith); same = rw (is, add-one i) (rw (drop-cons side i 0 h) at (left .same)) }
+      record { small = step-inside (mark * 37 + b); same = rw (is, add-one i) (rw (drop-cons side i 0 h) at (left .same)) }
 
 pub mark-told :
     (t table : List ℕ) (own : ℕ) (side : List ℕ) → side ≡ nameAt t (getD table (own + 3) 0) (getD table (own + 4) 0) →
@@ -125,7 +135,7 @@ module _ (t table marks : List ℕ) (stamp own : ℕ) (free : isMarked t table m
 -- ---- marking
 
 module _ (t table marks : List ℕ) (stamp from many : ℕ) where
-  pub marked-starts : length marks ≡ 16384 → Marked t table marks stamp from 0
+  pub marked-starts : length marks ≡ marksMany → Marked t table marks stamp from 0
   marked-starts long = record { whole = long; each = λ (j : ℕ) (h : j < 0). absurd (not-suc-le-zero h) }
 
   module _ (marked : Marked t table marks stamp from many) (own : ℕ) (place : own ≡ from + 6 * many) where

@@ -12,13 +12,23 @@ use Rattle.document.specs.Document.{endKind}
 use Rattle.step_rules.specs.StepWords.{sideAt}
 use Rattle.step_rules.specs.declared.Owner.{Owner}
 
+-- how many numbers there are for ends without a side, which are the first, and for sides
+abbrev pub bareMarks : ℕ
+bareMarks = 64
+
+abbrev pub sideMarks : ℕ
+sideMarks = 16384
+
+abbrev pub marksMany : ℕ
+marksMany = 16448
+
 -- the number of a side on a map, by each of its bytes
 unfoldable pub markFrom : ℕ → List ℕ → ℕ
 markFrom mark [] = mark
-markFrom mark (b ∷ s) = markFrom ((mark * 37 + b) % 16384) s
+markFrom mark (b ∷ s) = markFrom ((mark * 37 + b) % sideMarks + bareMarks) s
 
 unfoldable pub markOf : ℕ → List ℕ → ℕ
-markOf map side = markFrom (map % 16384) side
+markOf map side = markFrom (map % bareMarks) side
 
 -- that of the end whose record stands there
 unfoldable pub markAt : List ℕ → List ℕ → ℕ → ℕ
@@ -32,7 +42,7 @@ isMarked t table marks stamp own =
 
 -- the ends among so many steps, the first of which stands at `from`, are marked
 pub record Marked (t table marks : List ℕ) (stamp from many : ℕ) : Type 0 where
-  pub whole : length marks ≡ 16384
+  pub whole : length marks ≡ marksMany
   pub each : (j : ℕ) → j < many → getD table (from + 6 * j) 0 ≡ endKind → getD marks (markAt t table (from + 6 * j)) 0 ≡ stamp
 
 -- a step with so many of its model above it, whose ends are marked

@@ -53,8 +53,13 @@ pub struct Owner {
     pub stamp: u8,
 }
 
-// How many marks there are for the sides of ends: more than ten for each end of the longest path.
-pub const MARKS: usize = 16384;
+// How many marks there are for ends: one for each map, for those without a side, and behind them more than ten for each end of the longest
+// path.
+const BARE_MARKS: usize = 64;
+
+const SIDE_MARKS: usize = 16384;
+
+pub const MARKS: usize = BARE_MARKS + SIDE_MARKS;
 
 // ---- 22: two ends on one map
 
@@ -107,6 +112,7 @@ fn is_clashing(text: &[u8], table: &[u64], own: usize, from: usize, above: u64) 
     false
 }
 
+// A byte as a number, so that its arithmetic asks nothing of the byte's own width.
 fn wide(b: u8) -> usize
     ensures { λ r. ⌜ (r ≡ b) × (r < 256) ⌝ }
 {
@@ -117,15 +123,16 @@ fn wide(b: u8) -> usize
 fn mark_of(map: u64, side: &[u8]) -> usize
     ensures { λ r. ⌜ r ≡ markOf map (now (side .entry)) ⌝ }
 {
-    let mut mark = map as usize % MARKS;
+    let mut mark = map as usize % BARE_MARKS;
     let mut i = 0;
     while i < side.len() {
-        mark = (mark * 37 + wide(side[i])) % MARKS;
+        mark = (mark * 37 + wide(side[i])) % SIDE_MARKS + BARE_MARKS;
         i += 1;
     }
     mark
 }
 
+// That of an end.
 fn mark_at(text: &[u8], table: &[u64], own: usize) -> usize
     requires { ⌜ own + 6 ≤ length (now table) ⌝ }
     ensures { λ r. ⌜ r ≡ markAt (now (text .entry)) (now (table .entry)) own ⌝ }

@@ -4,6 +4,7 @@ use borrow.Author.Needs.{needs}
 use Prim.Native.Nat.{ℕ, _-_}
 use native.Mathlib.Omega.{arith}
 use lib.ListN.{length-replicate}
+use Rattle.step_rules.specs.Marks.{marksMany}
 use Rattle.model_rules.proofs.WalkLaws.{ModelsLeft, models-start, models-end, asks-model, model-breaks, asks-steps, steps-break, models-on}
 use Rattle.model_rules.proofs.model_finding.Statement.{statement}
 use Rattle.model_rules.proofs.model_finding.Tie as tie
@@ -18,7 +19,7 @@ array-read-count : tie.Need-array-read-count Inv-loop μ-loop
 array-read-count c = search needs
 
 loop-holds : tie.Need-loop-holds Inv-loop μ-loop
-loop-holds c = models-start _ _ (length-replicate {A = ℕ} 16384 64)
+loop-holds c = models-start _ _ (length-replicate {A = ℕ} marksMany 64)
 
 model-rule-requires : tie.Need-model-rule-requires Inv-loop μ-loop
 model-rule-requires c κs = search asks-model

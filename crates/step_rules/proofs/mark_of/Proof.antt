@@ -1,9 +1,10 @@
 -- `step_rules::mark_of` meets its contract. The loop's invariant: what is left of the side gives the number of the whole.
 -- Assumes nothing.
 use borrow.Author.Needs.{needs}
-use Prim.Native.Nat.{_-_}
+use Prim.Native.Nat.{_+_, _*_, _-_}
+use native.Mathlib.Omega.{arith}
 use lib.ListN.{length}
-use Rattle.step_rules.proofs.MarkLaws.{MarkLeft, mark-starts, mark-ends, mark-on}
+use Rattle.step_rules.proofs.MarkLaws.{step-inside, MarkLeft, mark-starts, mark-ends, mark-on}
 use Rattle.step_rules.proofs.mark_of.Statement.{statement}
 use Rattle.step_rules.proofs.mark_of.Tie as tie
 
@@ -28,6 +29,9 @@ wide-requires c κs = search needs
 add-mark : tie.Need-add-mark Inv-loop μ-loop
 add-mark c = search needs
 
+add-mark-2 : tie.Need-add-mark-2 Inv-loop μ-loop
+add-mark-2 c = omega (arith, step-inside (c .before .before .before .loop .mark * 37 + c .wide .result))
+
 add-i : tie.Need-add-i Inv-loop μ-loop
 add-i c = search needs
 
@@ -51,6 +55,7 @@ mark-of-spec =
     shared-slice-read-wide
     wide-requires
     add-mark
+    add-mark-2
     add-i
     loop-less
     loop-again
