@@ -103,7 +103,7 @@ module _ (t : List ℕ) (wanted at n : ℕ) (seeks : Seeks t wanted at n) (line 
   seek-ends h =
       let e : contentAt wanted (significant t) ≡ [] =
       sym (seeks .cursor .valid wanted (seeks .low)) ∙ ap (contentAt wanted) (finds .same-none (not-true (line .there) h) place.before) ∙ content-none wanted in
-      record { mult = sym (ap isMult e ∙ no-mult); cursor = seeks .cursor; low = seeks .low }
+      record { mult = sym (ap isMult e ∙ no-mult); cursor = seeks .cursor; low = omega (arith, seeks .low) }
 
   module _ (there : not (line .there) ≡ false) where
     pub located : Located t line
@@ -121,38 +121,44 @@ module _ (t : List ℕ) (wanted at n : ℕ) (seeks : Seeks t wanted at n) (line 
     pub seek-less : length t - line .next < length t - at
     seek-less = omega (arith, finds .behind (not-false (line .there) there), located .further, located .next-within)
 
-    pub seek-found : wanted ≤ line .number → (mult : Bool) → mult ≡ isMult (contentIn t line) → Tells t wanted (record { mult = mult; at = at; number = n })
-    seek-found h mult told =
-        let e : contentAt wanted (significant t) ≡ contentIn t line =
-        sym (seeks .cursor .valid wanted (seeks .low)) ∙ ap (contentAt wanted) here ∙ content-here wanted (lineIn t line place.before) _ h in
-        record { mult = told ∙ ap isMult (sym e); cursor = seeks .cursor; low = seeks .low }
+    content-found : wanted ≤ line .number → contentIn t line ≡ contentAt wanted (significant t)
+    content-found h =
+        sym (content-here wanted (lineIn t line place.before) _ h) ∙ ap (contentAt wanted) (sym here) ∙ seeks .cursor .valid wanted (seeks .low)
 
-    pub seek-on : line .number < wanted → Seeks t wanted (line .next) (line .number + 1)
-    seek-on h =
+    cursor-behind : Cursor t (line .next) (line .number + 1)
+    cursor-behind =
         let b : line .number ≤ line .at + 1 = located .counted in
         let f : line .at < line .next = located .further in
         let k : n ≤ line .number = number-low in
         record {
-          cursor =
-              record {
-                within = located .next-within;
-                counted = omega arith;
-                valid =
-                    λ (m : ℕ) (g : line .number + 1 ≤ m).
-                    place-free t m (line .number + 1) (line .next) place.before (placeAfter place.before (contentIn t line))
-                    ∙ sym (content-later m (lineIn t line place.before) (linesBehind t line place.before) (omega arith))
-                    ∙ ap (contentAt m) (sym here)
-                    ∙ seeks .cursor .valid m (omega arith);
-              };
-          low = omega arith;
+          within = located .next-within;
+          counted = omega arith;
+          valid =
+              λ (m : ℕ) (g : line .number + 1 ≤ m).
+              place-free t m (line .number + 1) (line .next) place.before (placeAfter place.before (contentIn t line))
+              ∙ sym (content-later m (lineIn t line place.before) (linesBehind t line place.before) (omega arith))
+              ∙ ap (contentAt m) (sym here)
+              ∙ seeks .cursor .valid m (omega arith);
         }
+
+    pub seek-missed : wanted < line .number → (mult : Bool) → mult ≡ isMult (contentIn t line) → Tells t wanted (record { mult = mult; at = at; number = n })
+    seek-missed h mult told =
+        record { mult = told ∙ ap isMult (content-found (omega arith)); cursor = seeks .cursor; low = omega (arith, seeks .low) }
+
+    pub seek-found :
+        wanted ≡ line .number → (mult : Bool) → mult ≡ isMult (contentIn t line) →
+        Tells t wanted (record { mult = mult; at = line .next; number = line .number + 1 })
+    seek-found h mult told = record { mult = told ∙ ap isMult (content-found (omega arith)); cursor = cursor-behind; low = omega arith }
+
+    pub seek-on : line .number ≤ wanted → (wanted ≡ line .number → ⊥) → Seeks t wanted (line .next) (line .number + 1)
+    seek-on h other = record { cursor = cursor-behind; low = omega arith }
 
 -- ---- the line of a step
 
 pub step-unasked :
     (t table : List ℕ) (own at n : ℕ) → Cursor t at n → n ≤ getD table (own + 5) 0 →
     (getD table own 0 ≡ sectionKind → ⊥) → TellsStep t table own (record { mult = false; at = at; number = n })
-step-unasked t table own at n cursor low h = record { mult = λ (e : getD table own 0 ≡ sectionKind). absurd (h e); cursor = cursor; low = low }
+step-unasked t table own at n cursor low h = record { mult = λ (e : getD table own 0 ≡ sectionKind). absurd (h e); cursor = cursor; low = omega arith }
 
 -- lines whose numbers rise are found by their numbers
 found-all : {least : ℕ} (ls : List Line) → Rising least (numbers ls) → Each (λ (l : Line). contentAt (l .number) ls ≡ l .content) ls

@@ -325,7 +325,7 @@ module _ (t table : List ℕ) (filled : Filled t table) (v : View) (is-view : v 
 
         pub steps-on : rule ≡ 0 → StepsLeft t table v after index o count (own + 6) (told .at) (told .number) (i + 1)
         steps-on z =
-            let low : told .number ≤ s .line = rw line-is at (is-told .low) in
+            let low : told .number ≤ s .line + 1 = rw line-is at (is-told .low) in
             let l : length (left .above ++ (s ∷ [])) ≡ length (left .above) + 1 = length-append (left .above) (s ∷ []) in
             let p : i ≡ length (left .above) = left .place in
             let q : own ≡ o .from + 6 * i = left .own-is in

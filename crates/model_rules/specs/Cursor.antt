@@ -29,10 +29,10 @@ pub record Cursor (t : List ℕ) (at number : ℕ) : Type 0 where
 pub record Tells (t : List ℕ) (wanted : ℕ) (r : Told) : Type 0 where
   pub mult : r .mult ≡ isMult (contentAt wanted (significant t))
   pub cursor : Cursor t (r .at) (r .number)
-  pub low : r .number ≤ wanted
+  pub low : r .number ≤ wanted + 1
 
 -- the same of the step whose record stands at `own`, where it is one over a section
 pub record TellsStep (t table : List ℕ) (own : ℕ) (r : Told) : Type 0 where
   pub mult : getD table own 0 ≡ sectionKind → r .mult ≡ isMult (contentAt (getD table (own + 5) 0) (significant t))
   pub cursor : Cursor t (r .at) (r .number)
-  pub low : r .number ≤ getD table (own + 5) 0
+  pub low : r .number ≤ getD table (own + 5) 0 + 1

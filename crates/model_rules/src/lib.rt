@@ -71,7 +71,7 @@ fn says_mult(text: &[u8], line: Found) -> bool
     is_mult(&text[at..end])
 }
 
-// Whether the line of a number is one of a Mult. The search stops before that line, so that all of them together go over the text once.
+// Whether the line of a number is one of a Mult. The next search goes on behind that line, so that all of them together go over the text once.
 fn tell_mult(text: &[u8], at: usize, number: u64, wanted: u64) -> Told
     requires { ⌜ Cursor (now text) at number × (number ≤ wanted) ⌝ }
     ensures { λ r. ⌜ Tells (now (text .entry)) wanted r ⌝ }
@@ -87,11 +87,18 @@ fn tell_mult(text: &[u8], at: usize, number: u64, wanted: u64) -> Told
                 number: next,
             };
         }
-        if wanted <= line.number {
+        if wanted < line.number {
             return Told {
                 mult: says_mult(text, line),
                 at: here,
                 number: next,
+            };
+        }
+        if wanted == line.number {
+            return Told {
+                mult: says_mult(text, line),
+                at: line.next,
+                number: line.number + 1,
             };
         }
         here = line.next;

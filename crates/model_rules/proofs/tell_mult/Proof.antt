@@ -2,8 +2,9 @@
 -- Assumes nothing.
 use borrow.Author.Needs.{needs}
 use Prim.Native.Nat.{_-_}
+use native.Mathlib.Omega.{arith}
 use lib.ListN.{length}
-use Rattle.model_rules.proofs.CursorLaws.{Seeks, seek-ends, located, number-small, seek-less, seek-found, seek-on}
+use Rattle.model_rules.proofs.CursorLaws.{Seeks, seek-ends, located, number-small, seek-less, seek-missed, seek-found, seek-on}
 use Rattle.model_rules.proofs.tell_mult.Statement.{statement}
 use Rattle.model_rules.proofs.tell_mult.Tie as tie
 
@@ -26,7 +27,17 @@ says-mult-requires : tie.Need-says-mult-requires Inv-loop μ-loop
 says-mult-requires c κs = search located
 
 returns-2 : tie.Need-returns-2 Inv-loop μ-loop
-returns-2 c = search seek-found
+returns-2 c = search seek-missed
+
+says-mult-requires-2 : tie.Need-says-mult-requires-2 Inv-loop μ-loop
+says-mult-requires-2 c κs = search located
+
+add-t11 : tie.Need-add-t11 Inv-loop μ-loop
+add-t11 c =
+    omega (arith, number-small _ _ _ _ (c .before .before .before .before .before .before .before .before .before .loop .inv) _ (c .before .before .before .before .before .before .before .before .next-line .ensures) (c .before .before .before .before .before .before .if1 .left), c .before .before .before .before .before .before .before .before .before .before .before .good .0 .0)
+
+returns-3 : tie.Need-returns-3 Inv-loop μ-loop
+returns-3 c = search seek-found
 
 add-next : tie.Need-add-next Inv-loop μ-loop
 add-next c = search (number-small, needs)
@@ -48,6 +59,9 @@ tell-mult-spec =
     returns
     says-mult-requires
     returns-2
+    says-mult-requires-2
+    add-t11
+    returns-3
     add-next
     loop-less
     loop-again)
