@@ -5,35 +5,35 @@ use mathlib.Core.Path.{_≡_, refl, sym, _∙_, ap}
 use mathlib.Core.Bool.{Bool, true, false, not, true≢false}
 use mathlib.Core.List.{List, [], _∷_}
 use mathlib.Core.Logic.{_⊎_, inl, inr, ⊎-elim}
-use Prim.Native.Nat.{ℕ, zero, suc, _+_, _-_, _*_, _^_, _≤_, _<_, min, suc-le-suc}
+use Prim.Native.Nat.{ℕ, zero, suc, _+_, _-_, _*_, _^_, _≤_, _<_}
 use mir.Syntax.{w64}
 use mir.Val.{Fits}
-use native.Mathlib.Nat.{zero-add, add-zero, le-refl}
+use native.Mathlib.Nat.{zero-add, add-zero}
 use native.Mathlib.Omega.{arith}
 use lib.ListN.{length, take, drop, getD, length-drop, drop-of-length-le, List·getD-eq-default}
-use lib.Seq.{length-take-le, getD-take, getD-drop, take-take}
+use lib.Seq.{length-take-le, getD-take, getD-drop, drop-drop, take-all, take-take}
 use lib.Dec.{eqb, ltb, leb}
-use borrow.Author.Tests.{eq-eqb, ne-eqb, eqb-true, lt-ltb, le-ltb, ltb-true, ltb-false, leb-true, leb-false, not-false}
+use borrow.Author.Tests.{eq-eqb, ne-eqb, eqb-true, lt-leb, lt-ltb, le-ltb, ltb-true, ltb-false, leb-true, leb-false, not-false}
 use Rattle.base.specs.If.{if_then_else_, both, either}
 use Rattle.base.specs.Bytes.{isBlank, isDigit, isCapital, isSmall, isLetter, within}
 use Rattle.base.specs.Runs.{run, all}
 use Rattle.base.specs.Class.{isFilled, runEnd}
 use Rattle.base.proofs.IfLaws.{if-true, if-false, by-cases, both-true, both-not-left, both-not-right, both-rest, either-left, either-right, either-rest, either-comes, either-false}
-use Rattle.base.proofs.RunLaws.{run-goes, run-stops, run-nil, run-le, run-all, run-end, run-past, run-stop, run-take, run-wider}
+use Rattle.base.proofs.RunLaws.{run-goes, run-stops, run-nil, run-on, run-le, run-all, run-end, run-past, run-stop, run-take, run-wider}
 use Rattle.number.specs.declared.Digits.{Digits}
 use Rattle.number.specs.declared.Exponent.{Exponent}
 use Rattle.number.specs.declared.Scale.{Scale}
-use Rattle.number.specs.declared.Letters.{Letters}
 use Rattle.number.specs.declared.Number.{Number}
 use Rattle.number.specs.declared.Number.the-variants.{Malformed}
 use Rattle.number.specs.declared.Plain.{Plain}
 use Rattle.number.specs.declared.Reading.{Reading}
 use Rattle.number.specs.declared.Parts.{Parts}
 use Rattle.number.specs.Number.{isSign, isMinus, isPoint, isE, pastSign, noDigits, goesOn, withByte, scan, noExponent, exponentAt, exponentOf, scaleOf, raised, lowered, valueAs, wellFormed, numberFrom, digitsOf, exponentFrom, numberOf}
-use Rattle.number.specs.At.{wordFrom, numberAt, plainAt, readingAt, goesAt, lettersAt, partsOf, Few, Says}
+use Rattle.number.specs.At.{wordFrom, numberAt, plainAt, readingAt, goesAt, partsOf, DigitsRead, ExponentRead, PartsRead, Says}
 use Rattle.number.proofs.CappedLaws.{scan-goes, scan-stops, scan-ends}
 use Rattle.number.proofs.AllLaws.{all-from}
-use Rattle.number.proofs.ReadLaws.{inside, sign-within, scan-end, exponent-within, scale-up, scale-down}
+use Rattle.number.proofs.ReadLaws.{inside, sign-within, scan-end, exponent-within}
+use Rattle.number.proofs.DigitLaws.{digit-to}
 use Rattle.number.proofs.PlainLaws.{ltb-alike}
 use Rattle.number.proofs.NumberLaws.{Shaped, digits-shaped}
 
@@ -305,28 +305,12 @@ module _ (s : List ℕ) (from : ℕ) (stop : goesAt s from ≡ false) where
   no-scale : scaleOf (getD s from 0) ≡ scaleOf 0
   no-scale = ⊎-elim (λ (h : length s ≤ from). ap scaleOf (List·getD-eq-default s 0 h)) (λ (h : (from < length s) × (isFilled (getD s from 0) ≡ false)). blind-blank scaleOf blind-scale (getD s from 0) (h .1)) no-byte
 
-  letters-none : record { scale = record { up = 0; down = 0 }; end = from } ≡ lettersAt s from
-  unfolding lettersAt scaleOf if_then_else_
-  letters-none = rw (no-scale, no-letters, add-zero from)
+  none-scale : record { up = 0; down = 0 } ≡ scaleOf (getD s from 0)
+  unfolding scaleOf if_then_else_
+  none-scale = sym no-scale
 
-pub letters-told : (s : List ℕ) (from b end : ℕ) (scale : Scale) → b ≡ getD s from 0 → scale ≡ scaleOf b → end ≡ runEnd isLetter s from → record { scale = scale; end = end } ≡ lettersAt s from
-unfolding lettersAt
-letters-told s from b end scale h e f = rw (e, f, h)
-
-module _ (s : List ℕ) (from : ℕ) (l : Letters) (told : l ≡ lettersAt s from) where
-  scale-told : l .scale ≡ scaleOf (getD s from 0)
-  unfolding lettersAt
-  scale-told = ap (λ (y : Letters). y .scale) told
-
-  end-told : l .end ≡ runEnd isLetter s from
-  unfolding lettersAt
-  end-told = ap (λ (y : Letters). y .end) told
-
-  pub letters-up : l .scale .up ≤ 15
-  letters-up = scale-up (l .scale) (getD s from 0) scale-told
-
-  pub letters-down : l .scale .down ≤ 15
-  letters-down = scale-down (l .scale) (getD s from 0) scale-told
+  none-end : from ≡ runEnd isLetter s from
+  none-end = rw no-letters (sym (add-zero from))
 
 -- ---- the number of a word by what is read of its line
 
@@ -339,17 +323,19 @@ module _ (s : List ℕ) (first start : ℕ) (byte : first ≡ getD s 0 0) (past 
   start-within = rw start-is (sign-within s 0 (omega arith))
 
   module _ (d : Plain) (x : Reading) (digits : d ≡ plainAt s (scan (drop start s) (noDigits start))) (read : x ≡ readingAt s (exponentOf s (d .end))) where
-    -- the parts as they are read
-    pub parts-are : record { negative = eqb first 45; digits = d; exponent = x .exponent; next = x .next } ≡ partsOf s
+    parts-are : record { negative = eqb first 45; digits = d; exponent = x .exponent; next = x .next } ≡ partsOf s
     unfolding partsOf digitsOf exponentFrom plainAt readingAt isMinus
     parts-are = rw (read, digits, start-is, byte)
 
-pub parts-few : (p : Parts) → p .digits .fraction ≤ 18 → p .exponent .size < 1_000_000_000_000_000_000 → Few p
-parts-few p f e = record { fraction-few = f; exponent-few = e }
-
-pub digits-next : (s : List ℕ) (d : Plain) (e : Digits) → d ≡ plainAt s e → d .next ≡ getD s (d .end) 0
-unfolding plainAt
-digits-next s d e told = rw told
+  -- the parts as they are read
+  pub parts-read : (d : Plain) (x : Reading) → DigitsRead s start d → ExponentRead s (d .end) (d .next) x → PartsRead s (record { negative = eqb first 45; digits = d; exponent = x .exponent; next = x .next })
+  parts-read d x digits read =
+      record {
+        parts-next = read .exponent-next;
+        parts-whole = λ (e : isDigit (x .next) ≡ false). parts-are d x (digits .digits-whole (read .exponent-after e)) (read .exponent-whole e);
+        parts-within = read .exponent-within;
+        parts-few = record { fraction-few = digits .fraction-few; exponent-few = read .exponent-few };
+      }
 
 module _ (s : List ℕ) (p : Parts) (read : p ≡ partsOf s) where
   plain-is : p .digits ≡ plainAt s (digitsOf s)
@@ -372,10 +358,6 @@ module _ (s : List ℕ) (p : Parts) (read : p ≡ partsOf s) where
   unfolding partsOf
   exponent-is = ap (λ (q : Parts). q .exponent) read
 
-  pub parts-next : p .next ≡ getD s (p .exponent .end) 0
-  unfolding partsOf
-  parts-next = rw read
-
   exponent-same : exponentFrom (word s) (digitsOf (word s)) ≡ p .exponent
   unfolding exponentFrom
   exponent-same = rw (digits-word s) (exponent-word s (digitsOf s .end) (digits-inside s) ∙ sym exponent-is)
@@ -388,57 +370,25 @@ module _ (s : List ℕ) (p : Parts) (read : p ≡ partsOf s) where
   unfolding partsOf
   minus-is = byte-word s isMinus blind-minus 0 (omega arith) ∙ sym (ap (λ (q : Parts). q .negative) read)
 
-  module _ (l : Letters) (told : l ≡ lettersAt s (p .exponent .end)) where
-    l-inside : l .end ≤ run isFilled s
-    l-inside = letters-inside s (p .exponent .end) (l .end) x-inside (end-told s (p .exponent .end) l told)
+  module _ (scale : Scale) (end : ℕ) (told : scale ≡ scaleOf (getD s (p .exponent .end) 0)) (ends : end ≡ runEnd isLetter s (p .exponent .end)) where
+    end-inside : end ≤ run isFilled s
+    end-inside = letters-inside s (p .exponent .end) end x-inside ends
 
-    formed-is : wellFormed (word s) (digitsOf (word s)) (exponentFrom (word s) (digitsOf (word s))) ≡ both (p .digits .some) (eqb (l .end) (run isFilled s))
+    formed-is : wellFormed (word s) (digitsOf (word s)) (exponentFrom (word s) (digitsOf (word s))) ≡ both (p .digits .some) (eqb end (run isFilled s))
     unfolding wellFormed
-    formed-is = rw (exponent-same, digits-word s, ← some-same, letters-word s (p .exponent .end) (l .end) x-inside (end-told s (p .exponent .end) l told))
+    formed-is = rw (exponent-same, digits-word s, ← some-same, letters-word s (p .exponent .end) end x-inside ends)
 
     -- the value of the parts, where they go to the word's end
-    value-is : (r : Number) → l .end ≡ run isFilled s → not (p .digits .some) ≡ false → Says p (l .scale) r → r ≡ numberOf (word s)
+    value-is : (r : Number) → end ≡ run isFilled s → not (p .digits .some) ≡ false → Says p scale r → r ≡ numberOf (word s)
     unfolding numberOf numberFrom
     value-is r t n v =
         let k : Shaped (digitsOf s) = digits-shaped s in
-        let a : r ≡ valueAs (p .negative) (digitsOf s .size) (raised (digitsOf s) (p .exponent) (l .scale)) (lowered (digitsOf s) (p .exponent) (l .scale)) = v .says (digitsOf s) all-same fraction-same (k .whole) (k .trimmed) in
-        let c : scaleOf (getD (word s) (p .exponent .end) 0) ≡ l .scale = byte-word s scaleOf blind-scale (p .exponent .end) x-inside ∙ sym (scale-told s (p .exponent .end) l told) in
-        let f : both (p .digits .some) (eqb (l .end) (run isFilled s)) ≡ true = both-true _ _ (not-false (p .digits .some) n) (eq-eqb (l .end) (run isFilled s) t) in
+        let a : r ≡ valueAs (p .negative) (digitsOf s .size) (raised (digitsOf s) (p .exponent) scale) (lowered (digitsOf s) (p .exponent) scale) = v .says (digitsOf s) all-same fraction-same (k .whole) (k .trimmed) in
+        let c : scaleOf (getD (word s) (p .exponent .end) 0) ≡ scale = byte-word s scaleOf blind-scale (p .exponent .end) x-inside ∙ sym told in
+        let f : both (p .digits .some) (eqb end (run isFilled s)) ≡ true = both-true _ _ (not-false (p .digits .some) n) (eq-eqb end (run isFilled s) t) in
         a ∙ sym (if-true _ _ (formed-is ∙ f) ∙ (rw (exponent-same, digits-word s, minus-is, c)))
 
--- ---- the first bytes of a line
-
-run-cut : (p : ℕ → Bool) (k : ℕ) (x : List ℕ) → run p (take k x) ≤ run p x
-run-cut p zero x = rw (run-nil p) (omega arith)
-run-cut p (suc k) [] = le-refl (run p [])
-run-cut p (suc k) (b ∷ x) = by-cases _ (p b) (λ (e : p b ≡ true). goes e (run-cut p k x)) (λ (e : p b ≡ false). stops e)
-  where
-    goes : p b ≡ true → run p (take k x) ≤ run p x → run p (b ∷ take k x) ≤ run p (b ∷ x)
-    goes e h = rw (run-goes p b x e, run-goes p b (take k x) e) (suc-le-suc h)
-
-    stops : p b ≡ false → run p (b ∷ take k x) ≤ run p (b ∷ x)
-    stops e = rw (run-stops p b (take k x) e) (omega arith)
-
--- a word that ends at a place that the first bytes reach is their word
-module _ (x : List ℕ) (k e : ℕ) (h : k ≤ length x) (g : e ≤ run isFilled (take k x)) (stops : goesAt x e ≡ false) where
-  cut-end : e ≡ run isFilled x
-  cut-end =
-      let r : run isFilled (take k x) ≤ run isFilled x = run-cut isFilled k x in
-      goes-no-more x e (omega arith) stops
-
-  cut-run : e ≡ run isFilled (take k x)
-  cut-run =
-      let r : run isFilled (take k x) ≤ run isFilled x = run-cut isFilled k x in
-      let n : e ≡ run isFilled x = cut-end in
-      omega arith
-
-  cut-word : word (take k x) ≡ word x
-  unfolding word
-  cut-word =
-      let l : length (take k x) ≡ k = length-take-le k x h in
-      let r : run isFilled (take k x) ≤ length (take k x) = run-le isFilled (take k x) in
-      let n : e ≤ k = omega arith in
-      rw (← cut-run, ← cut-end) (take-take e k x n)
+-- ---- the rest of a line
 
 goes-drop : (s : List ℕ) (from e : ℕ) → from < length s → goesAt (drop from s) e ≡ goesAt s (from + e)
 unfolding goesAt
@@ -448,96 +398,97 @@ goes-drop s from e h =
     let c : ltb e (length (drop from s)) ≡ ltb (from + e) (length s) = ltb-alike e (length (drop from s)) (from + e) (length s) (λ (k : e < length (drop from s)). omega arith) (λ (k : from + e < length s). omega arith) in
     rw (b, c)
 
-module _ (s : List ℕ) (from stop : ℕ) (h : from < length s) (few : stop ≡ min (length s) (from + 18)) where
-  pub stop-within : stop ≤ length s
-  stop-within = omega arith
+letter-no-digit : (b : ℕ) → isLetter b ≡ true → isDigit b ≡ false
+unfolding isLetter isCapital isSmall within
+letter-no-digit b e =
+    by-cases _ (isDigit b)
+    (λ (t : isDigit b ≡ true).
+    let h : b ≤ 57 = digit-to b t in
+    absurd (true≢false (sym e ∙ either-false _ _ (both-not-left _ _ (lt-leb 65 b (omega arith))) (both-not-left _ _ (lt-leb 97 b (omega arith))))))
+    (λ (t : isDigit b ≡ false). t)
 
-  pub stop-from : from ≤ stop
-  stop-from = omega arith
-
+module _ (s : List ℕ) (from : ℕ) (h : from < length s) (p : Parts) (read : PartsRead (take (length s - from) (drop from s)) p) where
   rest-length : length (drop from s) ≡ length s - from
   rest-length = length-drop from s
 
-  front-length : length (take (stop - from) (drop from s)) ≡ stop - from
-  front-length = length-take-le (stop - from) (drop from s) (omega (arith, rest-length))
+  rest-read : PartsRead (drop from s) p
+  rest-read =
+      let e : take (length s - from) (drop from s) ≡ drop from s = take-all (length s - from) (drop from s) (omega (arith, rest-length)) in
+      rw e at read
 
-  pub few-short : length (take (stop - from) (drop from s)) ≤ 18
-  few-short = omega (arith, front-length)
+  pub parts-fit : length s * 1 < 2 ^ 63 → Fits w64 (from + p .exponent .end)
+  parts-fit b =
+      let k : p .exponent .end ≤ length (drop from s) = rest-read .parts-within in
+      omega (arith, rest-length)
 
-  reach-fits : (e : ℕ) → length s * 1 < 2 ^ 63 → e ≤ run isFilled (take (stop - from) (drop from s)) → Fits w64 (from + e)
-  reach-fits e b g =
-      let d : run isFilled (take (stop - from) (drop from s)) ≤ length (take (stop - from) (drop from s)) = run-le isFilled (take (stop - from) (drop from s)) in
-      omega (arith, front-length)
+  byte-here : p .next ≡ getD s (from + p .exponent .end) 0
+  byte-here = rest-read .parts-next ∙ getD-drop from s (p .exponent .end) 0
 
-  module _ (p : Parts) (read : p ≡ partsOf (take (stop - from) (drop from s))) where
-    pub parts-fit : length s * 1 < 2 ^ 63 → Fits w64 (from + p .exponent .end)
-    parts-fit b = reach-fits (p .exponent .end) b (x-inside (take (stop - from) (drop from s)) p read)
+  -- the parts are those of the rest of the line where no digit follows them, and the number is theirs where the word ends behind its letters
+  here : (scale : Scale) (end : ℕ) (r : Number) → isDigit (p .next) ≡ false → scale ≡ scaleOf (getD (drop from s) (p .exponent .end) 0) → end ≡ runEnd isLetter (drop from s) (p .exponent .end) → goesAt s (from + end) ≡ false → not (p .digits .some) ≡ false → Says p scale r → record { number = r; end = from + end } ≡ numberAt s from
+  unfolding numberAt wordFrom word
+  here scale end r none told ends off n v =
+      let w : p ≡ partsOf (drop from s) = rest-read .parts-whole none in
+      let g : end ≤ run isFilled (drop from s) = end-inside (drop from s) p w scale end told ends in
+      let a : end ≡ run isFilled (drop from s) = goes-no-more (drop from s) end g (goes-drop s from end h ∙ off) in
+      let t : r ≡ numberOf (word (drop from s)) = value-is (drop from s) p w scale end told ends r a n v in
+      rw (a, t)
 
-    module _ (l : Letters) (told : l ≡ lettersAt (take (stop - from) (drop from s)) (p .exponent .end)) where
-      pub letters-fit : length s * 1 < 2 ^ 63 → Fits w64 (from + l .end)
-      letters-fit b = reach-fits (l .end) b (l-inside (take (stop - from) (drop from s)) p read l told)
+  module _ (b : Bool) (letter : b ≡ isLetter (p .next)) (on : not b ≡ false) where
+    letter-next : isLetter (p .next) ≡ true
+    letter-next = sym letter ∙ not-false b on
 
-      here : (r : Number) → goesAt s (from + l .end) ≡ false → not (p .digits .some) ≡ false → Says p (l .scale) r → record { number = r; end = from + l .end } ≡ numberAt s from
-      unfolding numberAt wordFrom word
-      here r off n v =
-          let m : stop - from ≤ length (drop from s) = omega (arith, rest-length) in
-          let g : l .end ≤ run isFilled (take (stop - from) (drop from s)) = l-inside (take (stop - from) (drop from s)) p read l told in
-          let o : goesAt (drop from s) (l .end) ≡ false = goes-drop s from (l .end) h ∙ off in
-          let a : l .end ≡ run isFilled (drop from s) = cut-end (drop from s) (stop - from) (l .end) m g o in
-          let b : l .end ≡ run isFilled (take (stop - from) (drop from s)) = cut-run (drop from s) (stop - from) (l .end) m g o in
-          let w : word (take (stop - from) (drop from s)) ≡ word (drop from s) = cut-word (drop from s) (stop - from) (l .end) m g o in
-          let t : r ≡ numberOf (word (drop from s)) = rw w at (value-is (take (stop - from) (drop from s)) p read l told r b n v) in
-          rw (a, t)
+    letter-there : from + p .exponent .end < length s
+    unfolding isLetter isCapital isSmall within both either
+    letter-there = inside isLetter s (from + p .exponent .end) refl (rw byte-here at letter-next)
 
-      pub number-scaled : (g : Bool) (r : Number) → g ≡ goesAt s (from + l .end) → g ≡ false → not (p .digits .some) ≡ false → Says p (l .scale) r → record { number = r; end = from + l .end } ≡ numberAt s from
-      number-scaled g r goes off n v = here r (sym goes ∙ off) n v
+    pub letter-fits : length s * 1 < 2 ^ 63 → Fits w64 (from + p .exponent .end + 1)
+    letter-fits b =
+        let k : from + p .exponent .end < length s = letter-there in
+        omega arith
 
-    module _ (g : Bool) (ends : g ≡ either (isBlank (p .next)) (leb (length s) (from + p .exponent .end))) (on : not g ≡ false) where
-      blank-next : leb (length s) (from + p .exponent .end) ≡ false → isFilled (p .next) ≡ false
-      unfolding isFilled
-      blank-next t = ap not (sym (either-comes _ _ t) ∙ sym ends ∙ not-false g on)
+    -- the letters behind the first end where all do
+    letters-end : runEnd isLetter s (from + p .exponent .end + 1) ≡ from + runEnd isLetter (drop from s) (p .exponent .end)
+    letters-end =
+        let k : run isLetter (drop (from + p .exponent .end) s) ≡ suc (run isLetter (drop (from + p .exponent .end + 1) s)) = run-on isLetter s (from + p .exponent .end) letter-there (rw byte-here at letter-next) in
+        let d : drop (p .exponent .end) (drop from s) ≡ drop (from + p .exponent .end) s = drop-drop (p .exponent .end) from s in
+        rw d (omega arith)
 
-      byte-here : p .next ≡ getD (take (stop - from) (drop from s)) (p .exponent .end) 0
-      byte-here = parts-next (take (stop - from) (drop from s)) p read
+    pub number-scaled : (end : ℕ) (g : Bool) (scale : Scale) (r : Number) → end ≡ runEnd isLetter s (from + p .exponent .end + 1) → g ≡ goesAt s end → g ≡ false → scale ≡ scaleOf (p .next) → not (p .digits .some) ≡ false → Says p scale r → record { number = r; end = end } ≡ numberAt s from
+    number-scaled end g scale r ends goes off told n v =
+        let e : end ≡ from + runEnd isLetter (drop from s) (p .exponent .end) = ends ∙ letters-end in
+        let o : goesAt s (from + runEnd isLetter (drop from s) (p .exponent .end)) ≡ false = rw e at (sym goes ∙ off) in
+        rw e (here scale (runEnd isLetter (drop from s) (p .exponent .end)) r (letter-no-digit (p .next) letter-next) (rw (rest-read .parts-next) at told) refl o n v)
 
-      -- it does in the first bytes
-      front-ends : goesAt (take (stop - from) (drop from s)) (p .exponent .end) ≡ false
-      unfolding goesAt
-      front-ends =
-          by-cases _ (leb (length s) (from + p .exponent .end))
-          (λ (t : leb (length s) (from + p .exponent .end) ≡ true).
-          let k : length s ≤ from + p .exponent .end = leb-true (length s) (from + p .exponent .end) t in
-          both-not-left _ _ (le-ltb (p .exponent .end) (length (take (stop - from) (drop from s))) (omega (arith, front-length))))
-          (λ (t : leb (length s) (from + p .exponent .end) ≡ false). both-not-right _ _ (rw (← byte-here) (blank-next t)))
+  module _ (g : Bool) (ends : g ≡ either (isBlank (p .next)) (leb (length s) (from + p .exponent .end))) (on : not g ≡ false) where
+    -- the byte there, or the line's end, tells that the word ends
+    ends-there : (length s ≤ from + p .exponent .end) ⊎ (isFilled (p .next) ≡ false)
+    unfolding isFilled
+    ends-there =
+        by-cases _ (leb (length s) (from + p .exponent .end))
+        (λ (t : leb (length s) (from + p .exponent .end) ≡ true). inl (leb-true (length s) (from + p .exponent .end) t))
+        (λ (t : leb (length s) (from + p .exponent .end) ≡ false). inr (ap not (sym (either-comes _ _ t) ∙ sym ends ∙ not-false g on)))
 
-      -- and a blank there is one in the line
-      blank-there : leb (length s) (from + p .exponent .end) ≡ false → isFilled (getD s (from + p .exponent .end) 0) ≡ false
-      unfolding isFilled isBlank either
-      blank-there t =
-          by-cases _ (leb (stop - from) (p .exponent .end))
-          (λ (u : leb (stop - from) (p .exponent .end) ≡ true).
-          let k : stop - from ≤ p .exponent .end = leb-true (stop - from) (p .exponent .end) u in
-          let z : p .next ≡ 0 = byte-here ∙ List·getD-eq-default (take (stop - from) (drop from s)) 0 (omega (arith, front-length)) in
-          absurd (true≢false (rw z at (blank-next t))))
-          (λ (u : leb (stop - from) (p .exponent .end) ≡ false).
-          let k : p .exponent .end < stop - from = omega (arith, leb-false (stop - from) (p .exponent .end) u) in
-          let a : getD (take (stop - from) (drop from s)) (p .exponent .end) 0 ≡ getD (drop from s) (p .exponent .end) 0 = getD-take (stop - from) (drop from s) (p .exponent .end) 0 k in
-          let b : getD (drop from s) (p .exponent .end) 0 ≡ getD s (from + p .exponent .end) 0 = getD-drop from s (p .exponent .end) 0 in
-          rw (← b, ← a, ← byte-here) (blank-next t))
+    ends-here : goesAt s (from + p .exponent .end) ≡ false
+    unfolding goesAt
+    ends-here =
+        ⊎-elim
+        (λ (k : length s ≤ from + p .exponent .end). both-not-left _ _ (le-ltb (from + p .exponent .end) (length s) k))
+        (λ (k : isFilled (p .next) ≡ false). both-not-right _ _ (rw byte-here at k))
+        ends-there
 
-      -- the byte there, or the line's end, tells that the word ends
-      ends-here : goesAt s (from + p .exponent .end) ≡ false
-      unfolding goesAt
-      ends-here =
-          by-cases _ (leb (length s) (from + p .exponent .end))
-          (λ (t : leb (length s) (from + p .exponent .end) ≡ true). both-not-left _ _ (le-ltb (from + p .exponent .end) (length s) (leb-true (length s) (from + p .exponent .end) t)))
-          (λ (t : leb (length s) (from + p .exponent .end) ≡ false). both-not-right _ _ (blank-there t))
+    end-no-digit : isDigit (p .next) ≡ false
+    unfolding isDigit within both
+    end-no-digit =
+        ⊎-elim
+        (λ (k : length s ≤ from + p .exponent .end). ap isDigit (byte-here ∙ List·getD-eq-default s 0 k))
+        (λ (k : isFilled (p .next) ≡ false). blind-blank isDigit blind-digit (p .next) k)
+        ends-there
 
-    pub number-plain : (g : Bool) (r : Number) → g ≡ either (isBlank (p .next)) (leb (length s) (from + p .exponent .end)) → not g ≡ false → not (p .digits .some) ≡ false → Says p (record { up = 0; down = 0 }) r → record { number = r; end = from + p .exponent .end } ≡ numberAt s from
-    number-plain g r ends on n v =
-        let q : goesAt s (from + p .exponent .end) ≡ false = ends-here g ends on in
-        let o : goesAt (take (stop - from) (drop from s)) (p .exponent .end) ≡ false = front-ends g ends on in
-        here (record { scale = record { up = 0; down = 0 }; end = p .exponent .end }) (letters-none (take (stop - from) (drop from s)) (p .exponent .end) o) r q n v
+    pub number-plain : (r : Number) → not (p .digits .some) ≡ false → Says p (record { up = 0; down = 0 }) r → record { number = r; end = from + p .exponent .end } ≡ numberAt s from
+    number-plain r n v =
+        let o : goesAt (drop from s) (p .exponent .end) ≡ false = goes-drop s from (p .exponent .end) h ∙ ends-here in
+        here (record { up = 0; down = 0 }) (p .exponent .end) r end-no-digit (none-scale (drop from s) (p .exponent .end) o) (none-end (drop from s) (p .exponent .end) o) ends-here n v
 
 -- ---- a word of any length
 

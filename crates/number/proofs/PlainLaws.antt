@@ -1,12 +1,12 @@
 -- Laws of digits read run by run: a run of digits, where a point follows it another, and the exponent. In a few bytes nothing is cut.
 -- Assumes nothing.
 use mathlib.Core.Path.{_≡_, refl, sym, _∙_, ap}
-use mathlib.Core.Bool.{Bool, true, false, not}
+use mathlib.Core.Bool.{Bool, true, false, not, true≢false}
 use mathlib.Core.List.{List, [], _∷_}
-use Prim.Native.Nat.{ℕ, suc, _+_, _-_, _*_, _^_, _≤_, _<_}
+use Prim.Native.Nat.{ℕ, suc, _+_, _-_, _*_, _^_, _≤_, _<_, min}
 use mir.Syntax.{w64}
 use mir.Val.{Fits}
-use native.Mathlib.Nat.{add-zero, pow-suc, pow-le-pow-right, zero-lt-suc}
+use native.Mathlib.Nat.{add-zero, mul-assoc, mul-comm, mul-le-mul-right, pow-suc, pow-le-pow-right, zero-lt-suc}
 use native.Mathlib.Numerals.{add-one}
 use native.Mathlib.Omega.{arith}
 use lib.ListN.{length, drop, getD, drop-of-length-le, List·getD-eq-default}
@@ -25,9 +25,10 @@ use Rattle.number.specs.declared.Plain.{Plain}
 use Rattle.number.specs.declared.Run.{Run}
 use Rattle.number.specs.declared.Reading.{Reading}
 use Rattle.number.specs.Number.{isE, isSign, isMinus, isPoint, pastSign, noDigits, goesOn, withPoint, withDigit, withByte, scan, noExponent, exponentAt, exponentOf}
-use Rattle.number.specs.At.{runFrom, plainAt, noReading, readingAt}
+use Rattle.number.specs.At.{runFrom, plainAt, noReading, readingAt, weight, RunRead, DigitsRead, ExponentRead}
+use Rattle.number.specs.Capped.{exponentCap, countCap}
 use Rattle.number.proofs.CappedLaws.{scan-goes, scan-stops, scan-ends}
-use Rattle.number.proofs.DigitLaws.{digit-from}
+use Rattle.number.proofs.DigitLaws.{digit-from, digit-to}
 use Rattle.number.proofs.SizeLaws.{sizeOn, size-goes, size-stops, size-ends}
 use Rattle.number.proofs.ReadLaws.{inside, sign-within}
 use Rattle.number.proofs.TrimLaws.{power-some}
@@ -58,28 +59,65 @@ module _ (b w : ℕ) (same : w ≡ b) where
       let l : b ≤ 57 = omega arith in
       both-true _ _ (le-leb 48 b k) (le-leb b 57 l)
 
--- one digit more in a few bytes: nothing wraps
-module _ (s : List ℕ) (i value : ℕ) (few : length s ≤ 18) (within : i < length s) (below : value < 10 ^ i) where
-  run-room : value < 100_000_000_000_000_000
-  run-room =
-      let k : 10 ^ i ≤ 10 ^ 17 = power-more i 17 (omega arith) in
+-- ---- the room that digits have up to a stop
+
+weight-step : (value digit k : ℕ) → digit ≤ 9 → (10 * value + digit + 1) * 10 ^ k ≤ (value + 1) * 10 ^ suc k
+weight-step value digit k h =
+    let a : 10 * value + digit + 1 ≤ (value + 1) * 10 = omega arith in
+    let b : (10 * value + digit + 1) * 10 ^ k ≤ (value + 1) * 10 * 10 ^ k = mul-le-mul-right (10 ^ k) a in
+    let c : (value + 1) * 10 * 10 ^ k ≡ (value + 1) * (10 * 10 ^ k) = mul-assoc (value + 1) 10 (10 ^ k) in
+    let d : 10 * 10 ^ k ≡ 10 ^ suc k = mul-comm 10 (10 ^ k) ∙ sym (pow-suc 10 k) in
+    rw (c, d) at b
+
+module _ (value i stop : ℕ) where
+  weight-above : value < weight value i stop
+  unfolding weight
+  weight-above =
+      let p : 1 ≤ 10 ^ (stop - i) = power-some (stop - i) in
+      let m : 1 * (value + 1) ≤ 10 ^ (stop - i) * (value + 1) = mul-le-mul-right (value + 1) p in
+      let c : (value + 1) * 10 ^ (stop - i) ≡ 10 ^ (stop - i) * (value + 1) = mul-comm (value + 1) (10 ^ (stop - i)) in
+      omega arith
+
+  weight-on : (digit : ℕ) → i < stop → digit ≤ 9 → weight (10 * value + digit) (i + 1) stop ≤ weight value i stop
+  unfolding weight
+  weight-on digit h k =
+      let n : stop - i ≡ suc (stop - (i + 1)) = omega arith in
+      rw n (weight-step value digit (stop - (i + 1)) k)
+
+  -- the point takes up a place
+  weight-past : weight value (i + 1) stop ≤ weight value i stop
+  unfolding weight
+  weight-past =
+      let p : 10 ^ (stop - (i + 1)) ≤ 10 ^ (stop - i) = power-more (stop - (i + 1)) (stop - i) (omega arith) in
+      let m : 10 ^ (stop - (i + 1)) * (value + 1) ≤ 10 ^ (stop - i) * (value + 1) = mul-le-mul-right (value + 1) p in
+      rw (mul-comm (value + 1) (10 ^ (stop - (i + 1))), mul-comm (value + 1) (10 ^ (stop - i))) m
+
+weight-first : (from stop n : ℕ) → stop ≤ from + n → weight 0 from stop ≤ 10 ^ n
+unfolding weight
+weight-first from stop n h =
+    let p : 10 ^ (stop - from) ≤ 10 ^ n = power-more (stop - from) n (omega arith) in
+    omega arith
+
+pub weight-few : (s : List ℕ) (from stop n : ℕ) → n ≤ 19 → stop ≡ min (length s) (from + n) → weight 0 from stop ≤ exponentCap
+weight-few s from stop n h e = weight-first from stop 19 (omega arith)
+
+-- one digit more wraps nothing
+module _ (value i stop before from : ℕ) (room : weight before from stop ≤ exponentCap) (light : weight value i stop ≤ weight before from stop) (h : i < stop) where
+  pub run-digit : (digit : ℕ) → digit ≤ 9 → Fits w64 (10 * value + digit)
+  run-digit digit k =
+      let a : 10 * value + digit < weight (10 * value + digit) (i + 1) stop = weight-above (10 * value + digit) (i + 1) stop in
+      let b : weight (10 * value + digit) (i + 1) stop ≤ weight value i stop = weight-on value i stop digit h k in
       omega arith
 
   pub run-times : Fits w64 (10 * value)
   run-times =
-      let h : value < 100_000_000_000_000_000 = run-room in
+      let a : Fits w64 (10 * value + 0) = run-digit 0 (omega arith) in
       omega arith
 
-  pub run-digit : (digit : ℕ) → digit ≤ 9 → Fits w64 (10 * value + digit)
-  run-digit digit k =
-      let h : value < 100_000_000_000_000_000 = run-room in
+  pub run-lighter : (digit : ℕ) → digit ≤ 9 → weight (10 * value + digit) (i + 1) stop ≤ weight before from stop
+  run-lighter digit k =
+      let b : weight (10 * value + digit) (i + 1) stop ≤ weight value i stop = weight-on value i stop digit h k in
       omega arith
-
-pub run-below : (i value digit : ℕ) → value < 10 ^ i → digit ≤ 9 → 10 * value + digit < 10 ^ (i + 1)
-run-below i value digit below h =
-    let p : 10 ^ suc i ≡ 10 ^ i * 10 = pow-suc 10 i in
-    let q : 10 * value + digit < 10 ^ i * 10 = omega arith in
-    rw (add-one i, p) q
 
 runs-same : (r e : Run) → r .value ≡ e .value → r .end ≡ e .end → r .next ≡ e .next → r ≡ e
 runs-same r e a b c = λ i. record { value = a i; end = b i; next = c i }
@@ -102,32 +140,58 @@ module _ (s : List ℕ) (i value : ℕ) (whole : Run) (inv : Runs s i value whol
       let f : getD s i 0 ≡ whole .next = ap (λ (k : ℕ). getD s k 0) (sym m) ∙ inv .next-left in
       runs-same _ _ (sym v ∙ inv .value-left) e f
 
-  pub runs-past : length s ≤ i → record { value = value; end = i; next = 0 } ≡ whole
-  runs-past h =
-      let z : getD s i 0 ≡ 0 = List·getD-eq-default s 0 h in
-      rw z at (runs-done (rw (drop-of-length-le s h) (size-ends value)) (run-past isDigit s i h))
+  runs-past : length s ≤ i → record { value = value; end = i; next = getD s i 0 } ≡ whole
+  runs-past h = runs-done (rw (drop-of-length-le s h) (size-ends value)) (run-past isDigit s i h)
 
   runs-stop : i < length s → isDigit (getD s i 0) ≡ false → record { value = value; end = i; next = getD s i 0 } ≡ whole
   runs-stop h e = runs-done (rw (drop-cons s i 0 h) (size-stops (getD s i 0) (drop (suc i) s) value e)) (run-stop isDigit s i h e)
 
-  module _ (w : ℕ) (h : i < length s) (same : w ≡ getD s i 0) where
-    pub runs-low : w < 48 → record { value = value; end = i; next = getD s i 0 } ≡ whole
-    runs-low k = runs-stop h (digit-low (getD s i 0) w same k)
+  -- also past the end
+  runs-none : isDigit (getD s i 0) ≡ false → record { value = value; end = i; next = getD s i 0 } ≡ whole
+  runs-none e =
+      by-cases _ (leb (length s) i)
+      (λ (t : leb (length s) i ≡ true). runs-past (leb-true (length s) i t))
+      (λ (t : leb (length s) i ≡ false). runs-stop (omega (arith, leb-false (length s) i t)) e)
 
-    pub runs-high : 9 < w - 48 → record { value = value; end = i; next = getD s i 0 } ≡ whole
-    runs-high k = runs-stop h (digit-high (getD s i 0) w same k)
+  pub runs-on : (w stop : ℕ) → i < stop → stop ≤ length s → w ≡ getD s i 0 → 48 ≤ w → w - 48 ≤ 9 → Runs s (i + 1) (10 * value + (w - 48)) whole
+  runs-on w stop below room same k l =
+      let h : i < length s = omega arith in
+      let d : isDigit (getD s i 0) ≡ true = digit-is (getD s i 0) w same k l in
+      let f : sizeOn (drop i s) value ≡ sizeOn (drop (suc i) s) (10 * value + (getD s i 0 - 48)) = rw (drop-cons s i 0 h) (size-goes (getD s i 0) (drop (suc i) s) value d) in
+      let r : run isDigit (drop i s) ≡ suc (run isDigit (drop (i + 1) s)) = run-on isDigit s i h d in
+      let m : i + 1 + run isDigit (drop (i + 1) s) ≡ i + run isDigit (drop i s) = omega arith in
+      record {
+        value-left = rw (add-one i, same) (sym f ∙ inv .value-left);
+        end-left = m ∙ inv .end-left;
+        next-left = ap (λ (n : ℕ). getD s n 0) m ∙ inv .next-left;
+      }
 
-    pub runs-on : 48 ≤ w → w - 48 ≤ 9 → Runs s (i + 1) (10 * value + (w - 48)) whole
-    runs-on k l =
-        let d : isDigit (getD s i 0) ≡ true = digit-is (getD s i 0) w same k l in
-        let f : sizeOn (drop i s) value ≡ sizeOn (drop (suc i) s) (10 * value + (getD s i 0 - 48)) = rw (drop-cons s i 0 h) (size-goes (getD s i 0) (drop (suc i) s) value d) in
-        let r : run isDigit (drop i s) ≡ suc (run isDigit (drop (i + 1) s)) = run-on isDigit s i h d in
-        let m : i + 1 + run isDigit (drop (i + 1) s) ≡ i + run isDigit (drop i s) = omega arith in
-        record {
-          value-left = rw (add-one i, same) (sym f ∙ inv .value-left);
-          end-left = m ∙ inv .end-left;
-          next-left = ap (λ (n : ℕ). getD s n 0) m ∙ inv .next-left;
-        }
+-- where the loop ends
+module _ (s : List ℕ) (from stop before i value : ℕ) (start : from ≤ i) (within : i ≤ length s) (short : i - from ≤ stop - from) (light : weight value i stop ≤ weight before from stop) (inv : Runs s i value (runFrom s from before)) where
+  read-halt : (next : ℕ) → next ≡ getD s i 0 → (isDigit next ≡ true → stop ≤ i) → RunRead s from stop before (record { value = value; end = i; next = next })
+  read-halt next e full =
+      record {
+        run-next = e;
+        run-whole = λ (t : isDigit next ≡ false). rw (← e) at (runs-none s i value (runFrom s from before) inv (rw e at t));
+        run-full = full;
+        run-light = light;
+        run-from = start;
+        run-within = within;
+        run-short = short;
+      }
+
+  read-other : isDigit (getD s i 0) ≡ false → RunRead s from stop before (record { value = value; end = i; next = getD s i 0 })
+  read-other t = read-halt (getD s i 0) refl (λ (u : isDigit (getD s i 0) ≡ true). absurd (true≢false (sym u ∙ t)))
+
+  module _ (w : ℕ) (same : w ≡ getD s i 0) where
+    pub read-low : w < 48 → RunRead s from stop before (record { value = value; end = i; next = getD s i 0 })
+    read-low k = read-other (digit-low (getD s i 0) w same k)
+
+    pub read-high : 9 < w - 48 → RunRead s from stop before (record { value = value; end = i; next = getD s i 0 })
+    read-high k = read-other (digit-high (getD s i 0) w same k)
+
+  pub read-last : (next : ℕ) → next ≡ getD s i 0 → stop ≤ i → RunRead s from stop before (record { value = value; end = i; next = next })
+  read-last next e h = read-halt next e (λ (u : isDigit next ≡ true). h)
 
 -- two tests whose comparisons hold together have one answer
 pub ltb-alike : (a b c d : ℕ) → (a < b → c < d) → (c < d → a < b) → ltb a b ≡ ltb c d
@@ -324,7 +388,7 @@ module _ (s : List ℕ) (from : ℕ) (whole : Run) (read : whole ≡ runFrom s f
   unfolding runFrom
   next-is = ap (λ (r : Run). r .next) read
 
-  pub plain-one : (whole .next ≡ 46 → ⊥) → record { all = whole .value; fraction = 0; some = ltb from (whole .end); end = whole .end; next = whole .next } ≡ plainAt s (scan (drop from s) (noDigits from))
+  plain-one : (whole .next ≡ 46 → ⊥) → record { all = whole .value; fraction = 0; some = ltb from (whole .end); end = whole .end; next = whole .next } ≡ plainAt s (scan (drop from s) (noDigits from))
   unfolding plainAt noDigits isPoint
   plain-one n =
       let k : Ran (drop from s) (noDigits from) (first-run s from) = first-ran s from in
@@ -342,7 +406,7 @@ module _ (s : List ℕ) (from : ℕ) (whole : Run) (read : whole ≡ runFrom s f
     dot-byte : getD s (runEnd isDigit s from) 0 ≡ 46
     dot-byte = sym next-is ∙ dot
 
-    pub point-there : whole .end + 1 ≤ length s
+    point-there : whole .end + 1 ≤ length s
     point-there =
         let m : whole .end ≡ runEnd isDigit s from = end-is in
         by-cases _ (leb (length s) (whole .end))
@@ -357,11 +421,6 @@ module _ (s : List ℕ) (from : ℕ) (whole : Run) (read : whole ≡ runFrom s f
       unfolding runFrom
       last-is = ap (λ (r : Run). r .end) more
 
-      pub last-from : whole .end + 1 ≤ part .end
-      last-from =
-          let m : part .end ≡ whole .end + 1 + run isDigit (drop (whole .end + 1) s) = last-is in
-          omega arith
-
       all-is : part .value ≡ sizeOn (drop (whole .end + 1) s) (whole .value)
       unfolding runFrom sizeOn
       all-is = ap (λ (r : Run). r .value) more
@@ -370,7 +429,7 @@ module _ (s : List ℕ) (from : ℕ) (whole : Run) (read : whole ≡ runFrom s f
       unfolding runFrom
       next-last = ap (λ (r : Run). r .next) more
 
-      pub plain-two : record { all = part .value; fraction = part .end - (whole .end + 1); some = ltb (from + 1) (part .end); end = part .end; next = part .next } ≡ plainAt s (scan (drop from s) (noDigits from))
+      plain-two : record { all = part .value; fraction = part .end - (whole .end + 1); some = ltb (from + 1) (part .end); end = part .end; next = part .next } ≡ plainAt s (scan (drop from s) (noDigits from))
       unfolding plainAt noDigits withPoint isPoint
       plain-two =
           let k : Ran (drop from s) (noDigits from) (first-run s from) = first-ran s from in
@@ -392,24 +451,59 @@ module _ (s : List ℕ) (from : ℕ) (whole : Run) (read : whole ≡ runFrom s f
           a
           (next-last ∙ ap (λ (i : ℕ). getD s i 0) (sym last-is ∙ a)))
 
-pub point-below : (value end : ℕ) → value < 10 ^ end → value < 10 ^ (end + 1)
-point-below value end h =
-    let k : 10 ^ end ≤ 10 ^ (end + 1) = power-more end (end + 1) (omega arith) in
-    omega arith
+-- digits that are read up to a stop
+module _ (s : List ℕ) (from stop : ℕ) (whole : Run) (read : RunRead s from stop 0 whole) where
+  pub digits-one : (whole .next ≡ 46 → ⊥) → DigitsRead s from (record { all = whole .value; fraction = 0; some = ltb from (whole .end); end = whole .end; next = whole .next })
+  digits-one n =
+      record {
+        digits-next = read .run-next;
+        digits-whole = λ (e : isDigit (whole .next) ≡ false). plain-one s from whole (read .run-whole e) n;
+        digits-within = read .run-within;
+        fraction-few = omega arith;
+      }
 
-pub nothing-below : (n : ℕ) → 0 < 10 ^ n
-nothing-below n = power-some n
+  module _ (dot : whole .next ≡ 46) where
+    whole-read : whole ≡ runFrom s from 0
+    unfolding isDigit within both
+    whole-read = read .run-whole (rw dot)
+
+    pub dot-within : whole .end + 1 ≤ length s
+    dot-within = point-there s from whole whole-read dot
+
+    module _ (few : stop ≡ min (length s) (from + 19)) where
+      pub dot-light : weight (whole .value) (whole .end + 1) stop ≤ exponentCap
+      dot-light =
+          let a : weight (whole .value) (whole .end + 1) stop ≤ weight (whole .value) (whole .end) stop = weight-past (whole .value) (whole .end) stop in
+          let b : weight (whole .value) (whole .end) stop ≤ weight 0 from stop = read .run-light in
+          let c : weight 0 from stop ≤ exponentCap = weight-few s from stop 19 (omega arith) few in
+          omega arith
+
+      module _ (part : Run) (more : RunRead s (whole .end + 1) stop (whole .value) part) where
+        pub digits-two : DigitsRead s from (record { all = part .value; fraction = part .end - (whole .end + 1); some = ltb (from + 1) (part .end); end = part .end; next = part .next })
+        digits-two =
+            record {
+              digits-next = more .run-next;
+              digits-whole = λ (e : isDigit (part .next) ≡ false). plain-two s from whole whole-read dot part (more .run-whole e);
+              digits-within = more .run-within;
+              fraction-few = part-few;
+            }
+          where
+            part-few : part .end - (whole .end + 1) ≤ 19
+            part-few =
+                let a : part .end - (whole .end + 1) ≤ stop - (whole .end + 1) = more .run-short in
+                let b : from ≤ whole .end = read .run-from in
+                omega arith
 
 -- ---- in the words that `plain_exponent` has
 
-pub none-small : (from b : ℕ) (r : Reading) → r ≡ noReading from b → r .exponent .size < 1_000_000_000_000_000_000
-unfolding noReading noExponent
-none-small from b r e = rw e (omega arith)
-
-pub exponent-small : (s : List ℕ) (x : Run) → length s ≤ 18 → x .end ≤ length s → x .value < 10 ^ (x .end) → x .value < 1_000_000_000_000_000_000
-exponent-small s x few h b =
-    let k : 10 ^ (x .end) ≤ 10 ^ 18 = power-more (x .end) 18 (omega arith) in
-    omega arith
+e-no-digit : (b : ℕ) → isE b ≡ true → isDigit b ≡ false
+unfolding isE
+e-no-digit b e =
+    by-cases _ (isDigit b)
+    (λ (t : isDigit b ≡ true).
+    let h : b ≤ 57 = digit-to b t in
+    absurd (true≢false (sym e ∙ either-false _ _ (ne-eqb b 101 (λ (k : b ≡ 101). omega arith)) (ne-eqb b 69 (λ (k : b ≡ 69). omega arith)))))
+    (λ (t : isDigit b ≡ false). t)
 
 module _ (s : List ℕ) (from b : ℕ) (t : Bool) (byte : b ≡ getD s from 0) (told : t ≡ isE b) where
   e-told : t ≡ isE (getD s from 0)
@@ -419,22 +513,28 @@ module _ (s : List ℕ) (from b : ℕ) (t : Bool) (byte : b ≡ getD s from 0) (
   unfolding readingAt noReading noExponent
   none-reading r n e = rw (n, e, byte)
 
-  pub none-plain : (r : Reading) → not t ≡ true → r ≡ noReading from b → r ≡ readingAt s (exponentOf s from)
+  none-told : (r : Reading) → from ≤ length s → exponentOf s from ≡ noExponent from → r ≡ noReading from b → ExponentRead s from b r
+  unfolding noReading noExponent
+  none-told r h n e =
+      record {
+        exponent-next = rw e byte;
+        exponent-whole = λ (k : isDigit (r .next) ≡ false). none-reading r n e;
+        exponent-after = λ (k : isDigit (r .next) ≡ false). rw e at k;
+        exponent-within = rw e h;
+        exponent-few = rw e (omega arith);
+      }
+
+  pub exponent-none : (r : Reading) → from ≤ length s → not t ≡ true → r ≡ noReading from b → ExponentRead s from b r
   unfolding exponentOf
-  none-plain r stop e = none-reading r (if-false _ _ (sym e-told ∙ not-true t stop)) e
+  exponent-none r h off e = none-told r h (if-false _ _ (sym e-told ∙ not-true t off)) e
 
   module _ (on : not t ≡ false) where
     e-there : from < length s
     unfolding isE either
     e-there = inside isE s from refl (sym e-told ∙ not-false t on)
 
-    pub e-fits : length s ≤ 18 → Fits w64 (from + 1)
-    e-fits few =
-        let h : from < length s = e-there in
-        omega arith
-
-    pub e-few : length s ≤ 18 → from + 1 ≤ 18
-    e-few few =
+    pub e-few : length s * 1 < 2 ^ 63 → from + 1 < countCap
+    e-few long =
         let h : from < length s = e-there in
         omega arith
 
@@ -457,11 +557,11 @@ module _ (s : List ℕ) (from b : ℕ) (t : Bool) (byte : b ≡ getD s from 0) (
         unfolding runFrom
         digits-end-at = ap (λ (y : Run). y .end) read
 
-        pub bare-plain : (r : Reading) → x .end ≡ digits → r ≡ noReading from b → r ≡ readingAt s (exponentOf s from)
+        bare-plain : x .end ≡ digits → exponentOf s from ≡ noExponent from
         unfolding exponentAt
-        bare-plain r same e =
+        bare-plain same =
             let n : run isDigit (drop digits s) ≡ 0 = omega (arith, digits-end-at) in
-            none-reading r (at-digits ∙ if-true _ _ (eq-eqb (run isDigit (drop digits s)) 0 n)) e
+            at-digits ∙ if-true _ _ (eq-eqb (run isDigit (drop digits s)) 0 n)
 
         read-exponent-is : (x .end ≡ digits → ⊥) → record { size = x .value; negative = eqb sign 45; end = x .end } ≡ exponentOf s from
         unfolding exponentAt runFrom isMinus
@@ -473,9 +573,41 @@ module _ (s : List ℕ) (from b : ℕ) (t : Bool) (byte : b ≡ getD s from 0) (
         unfolding runFrom
         next-read = ap (λ (y : Run). y .next) read ∙ ap (λ (i : ℕ). getD s i 0) (sym digits-end-at)
 
-        pub read-plain : (x .end ≡ digits → ⊥) → record { exponent = record { size = x .value; negative = eqb sign 45; end = x .end }; next = x .next } ≡ readingAt s (exponentOf s from)
+        read-plain : (x .end ≡ digits → ⊥) → record { exponent = record { size = x .value; negative = eqb sign 45; end = x .end }; next = x .next } ≡ readingAt s (exponentOf s from)
         unfolding readingAt
         read-plain other = rw (← read-exponent-is other, next-read)
+
+      module _ (x : Run) (stop : ℕ) (few : stop ≡ min (length s) (digits + 9)) (read : RunRead s digits stop 0 x) where
+        -- where no digit is read none stands
+        bare-next : x .end ≡ digits → isDigit (x .next) ≡ false
+        unfolding isDigit within both
+        bare-next same =
+            by-cases _ (isDigit (x .next))
+            (λ (t : isDigit (x .next) ≡ true).
+            let h : stop ≤ x .end = read .run-full t in
+            let z : x .next ≡ 0 = read .run-next ∙ List·getD-eq-default s 0 (omega arith) in
+            absurd (true≢false (sym t ∙ ap isDigit z)))
+            (λ (t : isDigit (x .next) ≡ false). t)
+
+        pub exponent-bare : (r : Reading) → from ≤ length s → x .end ≡ digits → r ≡ noReading from b → ExponentRead s from b r
+        exponent-bare r h same e = none-told r h (bare-plain x (read .run-whole (bare-next same)) same) e
+
+        value-small : x .value < 1_000_000_000
+        value-small =
+            let a : x .value < weight (x .value) (x .end) stop = weight-above (x .value) (x .end) stop in
+            let b : weight (x .value) (x .end) stop ≤ weight 0 digits stop = read .run-light in
+            let c : weight 0 digits stop ≤ 10 ^ 9 = weight-first digits stop 9 (omega arith) in
+            omega arith
+
+        pub exponent-told : (x .end ≡ digits → ⊥) → ExponentRead s from b (record { exponent = record { size = x .value; negative = eqb sign 45; end = x .end }; next = x .next })
+        exponent-told other =
+            record {
+              exponent-next = read .run-next;
+              exponent-whole = λ (e : isDigit (x .next) ≡ false). read-plain x (read .run-whole e) other;
+              exponent-after = λ (e : isDigit (x .next) ≡ false). e-no-digit b (sym told ∙ not-false t on);
+              exponent-within = read .run-within;
+              exponent-few = value-small;
+            }
 
 pub none-read : (from b : ℕ) (x : Exponent) → x ≡ noExponent from → record { exponent = x; next = b } ≡ noReading from b
 unfolding noReading

@@ -129,42 +129,42 @@ value-fails negative m up down n f =
     (λ (e : inRange m up down ≡ false). sym (value-outside negative m up down n e))
 
 -- where the exponent has few digits and there are few others no sum is cut
-module _ (x : Exponent) (p : ℕ) (small : x .size < 1_000_000_000_000_000_000) (add : p ≡ raising x) where
-  raising-small : p < 1_000_000_000_000_000_000
+module _ (x : Exponent) (p : ℕ) (small : x .size < 1_000_000_000) (add : p ≡ raising x) where
+  raising-small : p < 1_000_000_000
   unfolding raising
-  raising-small = rw add (by-test (λ (n : ℕ). n < 1_000_000_000_000_000_000) (x .negative) _ _ (λ t. omega arith) (λ t. small))
+  raising-small = rw add (by-test (λ (n : ℕ). n < 1_000_000_000) (x .negative) _ _ (λ t. omega arith) (λ t. small))
 
   pub up-fits : (zeros : ℕ) → zeros < 20 → Fits w64 (zeros + p)
   up-fits zeros h =
-      let k : p < 1_000_000_000_000_000_000 = raising-small in
+      let k : p < 1_000_000_000 = raising-small in
       omega arith
 
   pub up-fits-whole : (zeros up : ℕ) → zeros < 20 → up ≤ 15 → Fits w64 (zeros + p + up)
   up-fits-whole zeros up h g =
-      let k : p < 1_000_000_000_000_000_000 = raising-small in
+      let k : p < 1_000_000_000 = raising-small in
       omega arith
 
   pub up-capped : (zeros up : ℕ) → zeros < 20 → up ≤ 15 → zeros + p + up ≤ exponentCap + 15
   up-capped zeros up h g =
-      let k : p < 1_000_000_000_000_000_000 = raising-small in
+      let k : p < 1_000_000_000 = raising-small in
       omega arith
 
-module _ (x : Exponent) (q : ℕ) (small : x .size < 1_000_000_000_000_000_000) (take : q ≡ lowering x) where
-  lowering-small : q < 1_000_000_000_000_000_000
+module _ (x : Exponent) (q : ℕ) (small : x .size < 1_000_000_000) (take : q ≡ lowering x) where
+  lowering-small : q < 1_000_000_000
   unfolding lowering
-  lowering-small = rw take (by-test (λ (n : ℕ). n < 1_000_000_000_000_000_000) (x .negative) _ _ (λ t. small) (λ t. omega arith))
+  lowering-small = rw take (by-test (λ (n : ℕ). n < 1_000_000_000) (x .negative) _ _ (λ t. small) (λ t. omega arith))
 
-  pub down-fits : (fraction : ℕ) → fraction ≤ 18 → Fits w64 (fraction + q)
+  pub down-fits : (fraction : ℕ) → fraction ≤ 19 → Fits w64 (fraction + q)
   down-fits fraction h =
-      let k : q < 1_000_000_000_000_000_000 = lowering-small in
+      let k : q < 1_000_000_000 = lowering-small in
       omega arith
 
-  pub down-fits-whole : (fraction down : ℕ) → fraction ≤ 18 → down ≤ 15 → Fits w64 (fraction + q + down)
+  pub down-fits-whole : (fraction down : ℕ) → fraction ≤ 19 → down ≤ 15 → Fits w64 (fraction + q + down)
   down-fits-whole fraction down h g =
-      let k : q < 1_000_000_000_000_000_000 = lowering-small in
+      let k : q < 1_000_000_000 = lowering-small in
       omega arith
 
-  pub down-capped : (fraction down : ℕ) → fraction ≤ 18 → down ≤ 15 → fraction + q + down ≤ exponentCap + 15
+  pub down-capped : (fraction down : ℕ) → fraction ≤ 19 → down ≤ 15 → fraction + q + down ≤ exponentCap + 15
   down-capped fraction down h g =
-      let k : q < 1_000_000_000_000_000_000 = lowering-small in
+      let k : q < 1_000_000_000 = lowering-small in
       omega arith

@@ -1,19 +1,19 @@
 -- A number where it stands in its line: the word that starts at a place, what it says as a number, and where it ends. And what the
 -- reader of words that are not long keeps on its way.
 -- Assumes nothing.
-use Prim.Native.Nat.{ℕ, _*_, _^_, _%_, _≤_, _<_}
+use Prim.Native.Nat.{ℕ, _+_, _-_, _*_, _^_, _%_, _≤_, _<_}
 use mathlib.Core.Path.{_≡_}
-use mathlib.Core.Bool.{Bool}
+use mathlib.Core.Bool.{Bool, true, false}
 use mathlib.Core.List.{List}
 use mathlib.Core.Logic.{_⊎_}
 use lib.ListN.{length, take, drop, getD}
 use lib.Dec.{ltb}
 use Rattle.base.specs.If.{both}
-use Rattle.base.specs.Bytes.{isDigit, isLetter}
+use Rattle.base.specs.Bytes.{isDigit}
 use Rattle.base.specs.Runs.{run}
 use Rattle.base.specs.Class.{isFilled, runEnd}
 use Rattle.number.specs.Integer.{valueOf}
-use Rattle.number.specs.Number.{isMinus, noExponent, scaleOf, raised, lowered, valueAs, digitsOf, exponentFrom, numberOf}
+use Rattle.number.specs.Number.{isMinus, noDigits, scan, noExponent, exponentOf, raised, lowered, valueAs, digitsOf, exponentFrom, numberOf}
 use Rattle.number.specs.declared.Digits.{Digits}
 use Rattle.number.specs.declared.Exponent.{Exponent}
 use Rattle.number.specs.declared.Scale.{Scale}
@@ -21,7 +21,6 @@ use Rattle.number.specs.declared.Number.{Number}
 use Rattle.number.specs.declared.NumberAt.{NumberAt}
 use Rattle.number.specs.declared.Run.{Run}
 use Rattle.number.specs.declared.Plain.{Plain}
-use Rattle.number.specs.declared.Letters.{Letters}
 use Rattle.number.specs.declared.Reading.{Reading}
 use Rattle.number.specs.declared.Parts.{Parts}
 
@@ -58,10 +57,6 @@ noReading from b = record { exponent = noExponent from; next = b }
 unfoldable pub goesAt : List ℕ → ℕ → Bool
 goesAt s at = both (ltb at (length s)) (isFilled (getD s at 0))
 
--- the letters that stand at `from`: the scale of the first, and where they end
-unfoldable pub lettersAt : List ℕ → ℕ → Letters
-lettersAt s from = record { scale = scaleOf (getD s from 0); end = runEnd isLetter s from }
-
 -- the parts of the number at the front of s
 unfoldable pub partsOf : List ℕ → Parts
 partsOf s =
@@ -72,10 +67,45 @@ partsOf s =
       next = getD s (exponentFrom s (digitsOf s) .end) 0;
     }
 
+-- ---- what is read of few bytes. Digits that go on where the reader stops are not read whole, and their next byte tells it.
+
+-- what digits up to `stop` may still make of a number stays below this
+unfoldable pub weight : ℕ → ℕ → ℕ → ℕ
+weight value i stop = (value + 1) * 10 ^ (stop - i)
+
+pub record RunRead (s : List ℕ) (from stop before : ℕ) (r : Run) : Type 0 where
+  pub run-next : r .next ≡ getD s (r .end) 0
+  pub run-whole : isDigit (r .next) ≡ false → r ≡ runFrom s from before
+  pub run-full : isDigit (r .next) ≡ true → stop ≤ r .end
+  pub run-light : weight (r .value) (r .end) stop ≤ weight before from stop
+  pub run-from : from ≤ r .end
+  pub run-within : r .end ≤ length s
+  pub run-short : r .end - from ≤ stop - from
+
+pub record DigitsRead (s : List ℕ) (from : ℕ) (d : Plain) : Type 0 where
+  pub digits-next : d .next ≡ getD s (d .end) 0
+  pub digits-whole : isDigit (d .next) ≡ false → d ≡ plainAt s (scan (drop from s) (noDigits from))
+  pub digits-within : d .end ≤ length s
+  pub fraction-few : d .fraction ≤ 19
+
+-- the byte b stands where the exponent may start
+pub record ExponentRead (s : List ℕ) (from b : ℕ) (x : Reading) : Type 0 where
+  pub exponent-next : x .next ≡ getD s (x .exponent .end) 0
+  pub exponent-whole : isDigit (x .next) ≡ false → x ≡ readingAt s (exponentOf s from)
+  pub exponent-after : isDigit (x .next) ≡ false → isDigit b ≡ false
+  pub exponent-within : x .exponent .end ≤ length s
+  pub exponent-few : x .exponent .size < 1_000_000_000
+
 -- parts that so few bytes write that no sum of theirs is cut
 pub record Few (p : Parts) : Type 0 where
-  pub fraction-few : p .digits .fraction ≤ 18
-  pub exponent-few : p .exponent .size < 1_000_000_000_000_000_000
+  pub fraction-few : p .digits .fraction ≤ 19
+  pub exponent-few : p .exponent .size < 1_000_000_000
+
+pub record PartsRead (s : List ℕ) (p : Parts) : Type 0 where
+  pub parts-next : p .next ≡ getD s (p .exponent .end) 0
+  pub parts-whole : isDigit (p .next) ≡ false → p ≡ partsOf s
+  pub parts-within : p .exponent .end ≤ length s
+  pub parts-few : Few p
 
 -- a number as a size and the zeros after it
 pub record Splits (all size zeros : ℕ) : Type 0 where

@@ -2,7 +2,7 @@
 // Words of any length are read in one pass: numbers too great to matter are cut on the way, which changes no answer.
 ghost use mathlib.Core.Path.{_≡_};
 ghost use mathlib.Core.Bool.{true};
-ghost use Prim.Native.Nat.{_+_, _-_, _*_, _^_, _<_, _≤_, min};
+ghost use Prim.Native.Nat.{_+_, _-_, _*_, _<_, _≤_, min};
 ghost use lib.ListN.{length, take, drop, getD};
 ghost use Rattle.base.specs.If.{if_then_else_, either};
 ghost use Rattle.base.specs.Bytes.{within, isBlank, isLetter};
@@ -12,11 +12,14 @@ ghost use Rattle.number.specs.Number.{isSign, isMinus, isE, pastSign, go
 ghost use Rattle.number.specs.Integer.{wholeOf};
 ghost use Rattle.number.specs.ValueWord.{valueWord, decimalOf, isDecimal, isValueWord};
 ghost use Rattle.number.specs.Capped.{exponentCap, countCap, cappedDigits, cappedExponent, sizeAt, raising, lowering, Kept, Bounded};
-ghost use Rattle.number.specs.At.{numberAt, runFrom, plainAt, noReading, readingAt, goesAt, lettersAt, partsOf, Few, Splits, Says};
+ghost use Rattle.number.specs.At.{numberAt, weight, noReading, goesAt, RunRead, DigitsRead, ExponentRead, PartsRead, Few, Splits, Says};
 use base::Class;
 
-// A word of more bytes is read the long way.
-const SHORT: usize = 18;
+// Digits, their point counted, are read at once in so many bytes, and those of an exponent in so many: what they write fits a word.
+// A number of more is read the long way.
+const DIGITS: usize = 19;
+
+const EXPONENT: usize = 9;
 
 // Digits read so far: the number that they write, the same up to the last digit that is not 0, the zeros after that one, how many
 // stand after the point, whether there is a digit and a point, and where they end.
@@ -516,12 +519,6 @@ pub struct Reading {
     pub next: u8,
 }
 
-// Letters after a number: what the first scales by, and where they end.
-pub struct Letters {
-    pub scale: Scale,
-    pub end: usize,
-}
-
 // The parts of a number but its letters, and the byte where they end.
 pub struct Parts {
     pub negative: bool,
@@ -536,14 +533,27 @@ struct Trimmed {
     zeros: u64,
 }
 
-// The number that the run of digits at `from` writes, those before it being `before`. In so few bytes nothing need be cut.
-fn read_run(s: &[u8], from: usize, before: u64) -> Run
-    requires { ⌜ length (now s) ≤ 18 ⌝ ∗ ⌜ from ≤ length (now s) ⌝ ∗ ⌜ before < 10 ^ from ⌝ }
-    ensures { λ r. ⌜ r ≡ runFrom (now (s .entry)) from before ⌝ ∗ ⌜ r .value < 10 ^ (r .end) ⌝ ∗ ⌜ r .end ≤ length (now (s .entry)) ⌝ }
+// Where the bytes from `from` on end that are read at once: `most` of them, and no more than there are.
+fn few_end(s: &[u8], from: usize, most: usize) -> usize
+    requires { ⌜ from ≤ length (now s) ⌝ ∗ ⌜ most ≤ 19 ⌝ }
+    ensures { λ r. ⌜ r ≡ min (length (now (s .entry))) (from + most) ⌝ }
+{
+    let end = from + most;
+    if s.len() < end {
+        return s.len();
+    }
+    end
+}
+
+// The number that the run of digits at `from` writes, those before it being `before`: up to `stop` at most, so that nothing need be
+// cut.
+fn read_run(s: &[u8], from: usize, stop: usize, before: u64) -> Run
+    requires { ⌜ from ≤ length (now s) ⌝ ∗ ⌜ stop ≤ length (now s) ⌝ ∗ ⌜ weight before from stop ≤ exponentCap ⌝ }
+    ensures { λ r. ⌜ RunRead (now (s .entry)) from stop before r ⌝ }
 {
     let mut value = before;
     let mut i = from;
-    while i < s.len() {
+    while i < stop {
         let next = s[i];
         let byte = wide(next);
         if byte < 48 {
@@ -564,19 +574,21 @@ fn read_run(s: &[u8], from: usize, before: u64) -> Run
         value = 10 * value + digit;
         i += 1;
     }
+    let next = base::byte_at(s, i);
     Run {
         value,
         end: i,
-        next: 0,
+        next,
     }
 }
 
 // The digits that stand at `from`: a run, and where a point follows it another.
 fn plain_digits(s: &[u8], from: usize) -> Plain
-    requires { ⌜ length (now s) ≤ 18 ⌝ ∗ ⌜ from ≤ length (now s) ⌝ }
-    ensures { λ r. ⌜ r ≡ plainAt (now (s .entry)) (scan (drop from (now (s .entry))) (noDigits from)) ⌝ ∗ ⌜ r .fraction ≤ 18 ⌝ }
+    requires { ⌜ from ≤ length (now s) ⌝ }
+    ensures { λ r. ⌜ DigitsRead (now (s .entry)) from r ⌝ }
 {
-    let whole = read_run(s, from, 0);
+    let stop = few_end(s, from, DIGITS);
+    let whole = read_run(s, from, stop, 0);
     let end = whole.end;
     if whole.next != b'.' {
         return Plain {
@@ -588,7 +600,7 @@ fn plain_digits(s: &[u8], from: usize) -> Plain
         };
     }
     let point = end + 1;
-    let part = read_run(s, point, whole.value);
+    let part = read_run(s, point, stop, whole.value);
     let last = part.end;
     let fraction = last - point;
     Plain {
@@ -602,7 +614,7 @@ fn plain_digits(s: &[u8], from: usize) -> Plain
 
 // Past a byte where it is a sign.
 fn past(b: u8, at: usize) -> usize
-    requires { ⌜ at ≤ 18 ⌝ }
+    requires { ⌜ at < countCap ⌝ }
     ensures { λ r. ⌜ r ≡ (if isSign b then at + 1 else at) ⌝ }
 {
     if is_sign(b) {
@@ -621,15 +633,16 @@ fn no_reading(from: usize, b: u8) -> Reading
 
 // The exponent that stands at `from`, where the byte b is.
 fn plain_exponent(s: &[u8], from: usize, b: u8) -> Reading
-    requires { ⌜ length (now s) ≤ 18 ⌝ ∗ ⌜ b ≡ getD (now s) from 0 ⌝ }
-    ensures { λ r. ⌜ r ≡ readingAt (now (s .entry)) (exponentOf (now (s .entry)) from) ⌝ ∗ ⌜ r .exponent .size < 1_000_000_000_000_000_000 ⌝ }
+    requires { ⌜ from ≤ length (now s) ⌝ ∗ ⌜ b ≡ getD (now s) from 0 ⌝ }
+    ensures { λ r. ⌜ ExponentRead (now (s .entry)) from b r ⌝ }
 {
     if !is_e(b) {
         return no_reading(from, b);
     }
     let sign = base::byte_at(s, from + 1);
     let digits = past(sign, from + 1);
-    let x = read_run(s, digits, 0);
+    let stop = few_end(s, digits, EXPONENT);
+    let x = read_run(s, digits, stop, 0);
     if x.end == digits {
         return no_reading(from, b);
     }
@@ -644,10 +657,9 @@ fn plain_exponent(s: &[u8], from: usize, b: u8) -> Reading
     }
 }
 
-// The parts of the number at the front of a line of few bytes.
+// The parts of the number at the front of a line.
 fn parts_of(s: &[u8]) -> Parts
-    requires { ⌜ length (now s) ≤ 18 ⌝ }
-    ensures { λ r. ⌜ r ≡ partsOf (now (s .entry)) ⌝ ∗ ⌜ Few r ⌝ }
+    ensures { λ r. ⌜ PartsRead (now (s .entry)) r ⌝ }
 {
     let first = base::byte_at(s, 0);
     let digits = plain_digits(s, past(first, 0));
@@ -698,16 +710,6 @@ fn letters_end(s: &[u8], from: usize) -> usize
     i
 }
 
-// The letters at `from`, where the byte b stands.
-fn letters_at(s: &[u8], from: usize, b: u8) -> Letters
-    requires { ⌜ b ≡ getD (now s) from 0 ⌝ }
-    ensures { λ r. ⌜ r ≡ lettersAt (now (s .entry)) from ⌝ }
-{
-    let end = letters_end(s, from);
-    let scale = scale_of(b);
-    Letters { scale, end }
-}
-
 // A number that is not 0 without the zeros that it ends in.
 fn without_zeros(all: u64) -> Trimmed
     requires { ⌜ 0 < all ⌝ }
@@ -722,7 +724,7 @@ fn without_zeros(all: u64) -> Trimmed
     Trimmed { size, zeros }
 }
 
-// The value of a number of few bytes: no sum is cut.
+// The value of a number whose parts are few bytes: no sum is cut.
 fn plain_value(parts: Parts, c: Scale) -> Number
     requires { ⌜ Few parts ⌝ ∗ ⌜ c .up ≤ 15 ⌝ ∗ ⌜ c .down ≤ 15 ⌝ }
     ensures { λ r. ⌜ Says parts c r ⌝ }
@@ -755,52 +757,42 @@ fn long_number(s: &[u8], from: usize) -> NumberAt
     }
 }
 
-// Where the first bytes from `from` on end: as many as a short word may have, and no more than there are.
-fn few_end(s: &[u8], from: usize) -> usize
-    requires { ⌜ from ≤ length (now s) ⌝ }
-    ensures { λ r. ⌜ r ≡ min (length (now (s .entry))) (from + 18) ⌝ }
-{
-    if s.len() - from < SHORT {
-        return s.len();
-    }
-    from + SHORT
-}
-
-// The number at `from` of which the parts are read, among the bytes up to `stop`: letters follow them, or it is none.
-fn scaled_number(s: &[u8], from: usize, stop: usize, parts: Parts) -> NumberAt
-    requires { ⌜ from < length (now s) ⌝ ∗ ⌜ stop ≡ min (length (now s)) (from + 18) ⌝ ∗ ⌜ parts ≡ partsOf (take (stop - from) (drop from (now s))) ⌝ ∗ ⌜ Few parts ⌝ }
+// The number at `from` of which the parts are read: letters follow them, or it is none, or one of too many digits.
+fn scaled_number(s: &[u8], from: usize, parts: Parts) -> NumberAt
+    requires { ⌜ from < length (now s) ⌝ ∗ ⌜ PartsRead (take (length (now s) - from) (drop from (now s))) parts ⌝ }
     ensures { λ r. ⌜ r ≡ numberAt (now (s .entry)) from ⌝ }
 {
-    let exponent = parts.exponent;
-    let letters = letters_at(&s[from..stop], exponent.end, parts.next);
-    let end = from + letters.end;
-    if goes_at(s, end) {
-        return long_number(s, from);
-    }
     let digits = parts.digits;
     if !digits.some {
         return long_number(s, from);
     }
-    let scale = letters.scale;
+    if !base::is_letter(parts.next) {
+        return long_number(s, from);
+    }
+    let exponent = parts.exponent;
+    let end = letters_end(s, from + exponent.end + 1);
+    if goes_at(s, end) {
+        return long_number(s, from);
+    }
+    let scale = scale_of(parts.next);
     NumberAt {
         number: plain_value(parts, scale),
         end,
     }
 }
 
-// The number that stands at `from` in a line, and where its word ends. A word that is short and a number is gone over once.
+// The number that stands at `from` in a line, and where its word ends. A number of few digits is gone over once.
 pub fn number_at(s: &[u8], from: usize) -> NumberAt
     ensures { λ r. ⌜ r ≡ numberAt (now (s .entry)) from ⌝ }
 {
     if s.len() <= from {
         return long_number(s, from);
     }
-    let stop = few_end(s, from);
-    let parts = parts_of(&s[from..stop]);
+    let parts = parts_of(&s[from..]);
     let exponent = parts.exponent;
     let end = from + exponent.end;
     if !ends_by(parts.next, s, end) {
-        return scaled_number(s, from, stop, parts);
+        return scaled_number(s, from, parts);
     }
     let digits = parts.digits;
     if !digits.some {

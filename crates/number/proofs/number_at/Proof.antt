@@ -1,6 +1,6 @@
--- `number::number_at` meets its contract: a word that ends among the first bytes is the line's.
+-- `number::number_at` meets its contract: a number that a blank or the line's end follows is its word's.
 -- Assumes nothing.
-use Rattle.number.proofs.InLineLaws.{few-short, parts-fit, number-plain}
+use Rattle.number.proofs.InLineLaws.{number-plain}
 use borrow.Author.Needs.{needs}
 use Rattle.number.proofs.number_at.Statement.{statement}
 use Rattle.number.proofs.number_at.Tie as tie
@@ -10,9 +10,6 @@ long-number-requires c κs = search needs
 
 returns : tie.Need-returns
 returns c = search needs
-
-few-end-requires : tie.Need-few-end-requires
-few-end-requires c κs = search needs
 
 sub-parts-of : tie.Need-sub-parts-of
 sub-parts-of c = search needs
@@ -27,7 +24,7 @@ parts-of-requires : tie.Need-parts-of-requires
 parts-of-requires c κs = search needs
 
 add-end : tie.Need-add-end
-add-end c = search parts-fit
+add-end c = search needs
 
 ends-by-requires : tie.Need-ends-by-requires
 ends-by-requires c κs = search needs
@@ -56,7 +53,6 @@ number-at-spec =
     (tie.spec
     long-number-requires
     returns
-    few-end-requires
     sub-parts-of
     part-parts-of-start
     part-parts-of-end

@@ -1,6 +1,6 @@
 -- `number::parts_of` meets its contract: each part from where the one before it ends.
 -- Assumes nothing.
-use Rattle.number.proofs.InLineLaws.{start-within, digits-next, parts-are, parts-few}
+use Rattle.number.proofs.InLineLaws.{start-within, parts-read}
 use borrow.Author.Needs.{needs}
 use Rattle.number.proofs.parts_of.Statement.{statement}
 use Rattle.number.proofs.parts_of.Tie as tie
@@ -12,13 +12,13 @@ past-requires : tie.Need-past-requires
 past-requires c κs = search needs
 
 plain-digits-requires : tie.Need-plain-digits-requires
-plain-digits-requires c κs = search (needs, start-within)
+plain-digits-requires c κs = search start-within
 
 plain-exponent-requires : tie.Need-plain-exponent-requires
-plain-exponent-requires c κs = search (needs, digits-next)
+plain-exponent-requires c κs = search needs
 
 returns : tie.Need-returns
-returns c = search (parts-are, parts-few)
+returns c = search parts-read
 
 pub parts-of-spec : {M : Type 1} → statement M
 parts-of-spec =

@@ -1,39 +1,43 @@
 -- `number::plain_digits` meets its contract: one run of digits, or two with a point between them.
 -- Assumes nothing.
-use Rattle.number.proofs.PlainLaws.{nothing-below, point-there, point-below, last-from, plain-one, plain-two}
+use Rattle.number.proofs.PlainLaws.{weight-few, digits-one, dot-within, dot-light, digits-two}
 use borrow.Author.Needs.{needs}
 use Rattle.number.proofs.plain_digits.Statement.{statement}
 use Rattle.number.proofs.plain_digits.Tie as tie
 
+few-end-requires : tie.Need-few-end-requires
+few-end-requires c κs = search needs
+
 read-run-requires : tie.Need-read-run-requires
-read-run-requires c κs = search (needs, nothing-below)
+read-run-requires c κs = search (needs, weight-few)
 
 returns : tie.Need-returns
-returns c = search (needs, plain-one)
+returns c = search digits-one
 
 add-point : tie.Need-add-point
 add-point c = search needs
 
 read-run-requires-2 : tie.Need-read-run-requires-2
-read-run-requires-2 c κs = (search needs, (search point-there, search point-below))
+read-run-requires-2 c κs = (search dot-within, (search needs, search dot-light))
 
 sub-fraction : tie.Need-sub-fraction
-sub-fraction c = search last-from
+sub-fraction c = search needs
 
-add-t12 : tie.Need-add-t12
-add-t12 c = search needs
+add-t13 : tie.Need-add-t13
+add-t13 c = search needs
 
 returns-2 : tie.Need-returns-2
-returns-2 c = (search plain-two, search needs)
+returns-2 c = search digits-two
 
 pub plain-digits-spec : {M : Type 1} → statement M
 plain-digits-spec =
     tie.close
     (tie.spec
+    few-end-requires
     read-run-requires
     returns
     add-point
     read-run-requires-2
     sub-fraction
-    add-t12
+    add-t13
     returns-2)

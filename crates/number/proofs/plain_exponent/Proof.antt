@@ -1,6 +1,6 @@
 -- `number::plain_exponent` meets its contract: none without an e, none without digits after it, else what the digits write.
 -- Assumes nothing.
-use Rattle.number.proofs.PlainLaws.{nothing-below, none-plain, none-small, e-fits, e-few, sign-there-within, bare-plain, read-plain, exponent-small}
+use Rattle.number.proofs.PlainLaws.{weight-few, exponent-none, e-few, sign-there-within, exponent-bare, exponent-told}
 use borrow.Author.Needs.{needs}
 use Rattle.number.proofs.plain_exponent.Statement.{statement}
 use Rattle.number.proofs.plain_exponent.Tie as tie
@@ -12,31 +12,34 @@ no-reading-requires : tie.Need-no-reading-requires
 no-reading-requires c κs = search needs
 
 returns : tie.Need-returns
-returns c = search (none-plain, none-small)
+returns c = search exponent-none
 
 add-byte-at : tie.Need-add-byte-at
-add-byte-at c = search e-fits
+add-byte-at c = search needs
 
 byte-at-requires : tie.Need-byte-at-requires
 byte-at-requires c κs = search needs
 
 add-past : tie.Need-add-past
-add-past c = search e-fits
+add-past c = search needs
 
 past-requires : tie.Need-past-requires
 past-requires c κs = search e-few
 
+few-end-requires : tie.Need-few-end-requires
+few-end-requires c κs = search (needs, sign-there-within)
+
 read-run-requires : tie.Need-read-run-requires
-read-run-requires c κs = search (needs, sign-there-within, nothing-below)
+read-run-requires c κs = (search sign-there-within, (search needs, search (needs, weight-few)))
 
 no-reading-requires-2 : tie.Need-no-reading-requires-2
 no-reading-requires-2 c κs = search needs
 
 returns-2 : tie.Need-returns-2
-returns-2 c = search (bare-plain, none-small)
+returns-2 c = search exponent-bare
 
 returns-3 : tie.Need-returns-3
-returns-3 c = search (read-plain, exponent-small)
+returns-3 c = search exponent-told
 
 pub plain-exponent-spec : {M : Type 1} → statement M
 plain-exponent-spec =
@@ -49,6 +52,7 @@ plain-exponent-spec =
     byte-at-requires
     add-past
     past-requires
+    few-end-requires
     read-run-requires
     no-reading-requires-2
     returns-2

@@ -1,18 +1,18 @@
 -- `number::read_run` meets its contract. The loop's invariant: what is left, read on from the number so far, gives the whole.
 -- Assumes nothing.
 use borrow.Author.Needs.{needs}
-use Prim.Native.Nat.{_-_, _^_, _≤_, _<_}
+use Prim.Native.Nat.{_-_, _≤_}
 use lib.ListN.{length}
-use Rattle.number.specs.At.{runFrom}
-use Rattle.number.proofs.PlainLaws.{Runs, runs-start, runs-past, runs-low, runs-high, runs-on, run-times, run-digit, run-below}
+use Rattle.number.specs.At.{runFrom, weight}
+use Rattle.number.proofs.PlainLaws.{Runs, runs-start, runs-on, read-low, read-high, read-last, run-times, run-digit, run-lighter}
 use Rattle.number.proofs.read_run.Statement.{statement}
 use Rattle.number.proofs.read_run.Tie as tie
 
 abbrev Inv-loop : tie.InvT-loop
-Inv-loop s from before value₀ i₀ value i = (i ≤ length s) × (value < 10 ^ i) × Runs s i value (runFrom s from before)
+Inv-loop s from stop before value₀ i₀ value i = (from ≤ i) × (i ≤ length s) × (i - from ≤ stop - from) × (weight value i stop ≤ weight before from stop) × Runs s i value (runFrom s from before)
 
 abbrev μ-loop : tie.MeasureT-loop
-μ-loop s from before value₀ i₀ value i = length s - i
+μ-loop s from stop before value₀ i₀ value i = stop - i
 
 loop-holds : tie.Need-loop-holds Inv-loop μ-loop
 loop-holds c = search (needs, runs-start)
@@ -24,10 +24,10 @@ wide-requires : tie.Need-wide-requires Inv-loop μ-loop
 wide-requires c κs = search needs
 
 returns : tie.Need-returns Inv-loop μ-loop
-returns c = search (needs, runs-low)
+returns c = search (needs, read-low)
 
 returns-2 : tie.Need-returns-2 Inv-loop μ-loop
-returns-2 c = search (needs, runs-high)
+returns-2 c = search (needs, read-high)
 
 mul-value : tie.Need-mul-value Inv-loop μ-loop
 mul-value c = search run-times
@@ -42,10 +42,13 @@ loop-less : tie.Need-loop-less Inv-loop μ-loop
 loop-less c = search needs
 
 loop-again : tie.Need-loop-again Inv-loop μ-loop
-loop-again c = search (needs, run-below, runs-on)
+loop-again c = (search needs, search needs, search needs, search run-lighter, search runs-on)
+
+byte-at-requires : tie.Need-byte-at-requires Inv-loop μ-loop
+byte-at-requires c κs = search needs
 
 returns-3 : tie.Need-returns-3 Inv-loop μ-loop
-returns-3 c = search (needs, runs-past)
+returns-3 c = search (needs, read-last)
 
 pub read-run-spec : {M : Type 1} → statement M
 read-run-spec =
@@ -63,4 +66,5 @@ read-run-spec =
     add-i
     loop-less
     loop-again
+    byte-at-requires
     returns-3)
