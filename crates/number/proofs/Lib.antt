@@ -2,6 +2,7 @@ pub mod WordLaws
 pub mod CappedLaws
 pub mod DigitLaws
 pub mod SignLaws
+pub mod ScaleLaws
 pub mod SizeLaws
 pub mod ExponentLaws
 pub mod AllLaws

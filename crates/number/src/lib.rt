@@ -12,14 +12,22 @@ ghost use Rattle.number.specs.Number.{isSign, isMinus, isE, pastSign, go
 ghost use Rattle.number.specs.Integer.{wholeOf};
 ghost use Rattle.number.specs.ValueWord.{valueWord, decimalOf, isDecimal, isValueWord};
 ghost use Rattle.number.specs.Capped.{exponentCap, countCap, cappedDigits, cappedExponent, sizeAt, raising, lowering, Kept, Bounded};
-ghost use Rattle.number.specs.At.{numberAt, weight, noReading, goesAt, RunRead, DigitsRead, ExponentRead, PartsRead, Few, Splits, Says};
+ghost use Rattle.number.specs.At.{numberAt, fourBits, weight, noReading, goesAt, RunRead, DigitsRead, ExponentRead, PartsRead, Few, Splits, Says};
 use base::Class;
 
 // Digits, their point counted, are read at once in so many bytes, and those of an exponent in so many: what they write fits a word.
 // A number of more is read the long way.
-const DIGITS: usize = 19;
+const MOST_DIGITS: usize = 19;
 
-const EXPONENT: usize = 9;
+const MOST_EXPONENT: usize = 9;
+
+// What letters scale by, four bits for each: capitals from G on raise, small ones from f on raise or lower. To find a letter so takes no
+// branch that a processor would have to guess.
+const CAPITALS_RAISE: u64 = 0x00c0_0000_0600_0009;
+
+const SMALLS_RAISE: u64 = 0x0000_0000_0030_0000;
+
+const SMALLS_LOWER: u64 = 0x6000_0c09_3000_000f;
 
 // Digits read so far: the number that they write, the same up to the last digit that is not 0, the zeros after that one, how many
 // stand after the point, whether there is a digit and a point, and where they end.
@@ -375,22 +383,38 @@ pub fn read_integer(s: &[u8]) -> Whole
     }
 }
 
+// The four bits of a word that stand at a place.
+fn four_bits(word: u64, place: u64) -> u64
+    requires { ⌜ place < 16 ⌝ }
+    ensures { λ r. ⌜ r ≡ fourBits word place ⌝ }
+{
+    (word >> (4 * place)) % 16
+}
+
 // "the first scaling by T G M k m u n p f (12, 9, 6, 3, -3, -6, -9, -12, -15), any other letter by nothing".
 fn scale_of(b: u8) -> Scale
     ensures { λ r. ⌜ r ≡ scaleOf b ⌝ }
 {
-    match b {
-        b'T' => Scale { up: 12, down: 0 },
-        b'G' => Scale { up: 9, down: 0 },
-        b'M' => Scale { up: 6, down: 0 },
-        b'k' => Scale { up: 3, down: 0 },
-        b'm' => Scale { up: 0, down: 3 },
-        b'u' => Scale { up: 0, down: 6 },
-        b'n' => Scale { up: 0, down: 9 },
-        b'p' => Scale { up: 0, down: 12 },
-        b'f' => Scale { up: 0, down: 15 },
-        _ => Scale { up: 0, down: 0 },
+    let letter = wide(b);
+    if letter < 71 {
+        return Scale { up: 0, down: 0 };
     }
+    if letter < 87 {
+        return Scale {
+            up: four_bits(CAPITALS_RAISE, letter - 71),
+            down: 0,
+        };
+    }
+    if letter < 102 {
+        return Scale { up: 0, down: 0 };
+    }
+    if letter < 118 {
+        return Scale {
+            up: four_bits(SMALLS_RAISE, letter - 102),
+            down: four_bits(SMALLS_LOWER, letter - 102),
+        };
+    }
+    Scale { up: 0, down: 0 }
 }
 
 // The scale of the letter that stands at `at`: none past the end.
@@ -587,7 +611,7 @@ fn plain_digits(s: &[u8], from: usize) -> Plain
     requires { ⌜ from ≤ length (now s) ⌝ }
     ensures { λ r. ⌜ DigitsRead (now (s .entry)) from r ⌝ }
 {
-    let stop = few_end(s, from, DIGITS);
+    let stop = few_end(s, from, MOST_DIGITS);
     let whole = read_run(s, from, stop, 0);
     let end = whole.end;
     if whole.next != b'.' {
@@ -641,7 +665,7 @@ fn plain_exponent(s: &[u8], from: usize, b: u8) -> Reading
     }
     let sign = base::byte_at(s, from + 1);
     let digits = past(sign, from + 1);
-    let stop = few_end(s, digits, EXPONENT);
+    let stop = few_end(s, digits, MOST_EXPONENT);
     let x = read_run(s, digits, stop, 0);
     if x.end == digits {
         return no_reading(from, b);
