@@ -12,5 +12,6 @@ pub mod ReadLaws
 pub mod NumberLaws
 pub mod TrimLaws
 pub mod PlainLaws
+pub mod BlockLaws
 pub mod InLineLaws
 pub mod Starred

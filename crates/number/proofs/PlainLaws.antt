@@ -3,10 +3,10 @@
 use mathlib.Core.Path.{_≡_, refl, sym, _∙_, ap}
 use mathlib.Core.Bool.{Bool, true, false, not, true≢false}
 use mathlib.Core.List.{List, [], _∷_}
-use Prim.Native.Nat.{ℕ, suc, _+_, _-_, _*_, _^_, _≤_, _<_, min}
+use Prim.Native.Nat.{ℕ, zero, suc, _+_, _-_, _*_, _^_, _≤_, _<_, min}
 use mir.Syntax.{w64}
 use mir.Val.{Fits}
-use native.Mathlib.Nat.{add-zero, mul-assoc, mul-comm, mul-le-mul-right, pow-suc, pow-le-pow-right, zero-lt-suc}
+use native.Mathlib.Nat.{add-zero, add-suc, mul-one, mul-add, mul-assoc, mul-comm, mul-le-mul-right, pow-suc, pow-le-pow-right, zero-lt-suc}
 use native.Mathlib.Numerals.{add-one}
 use native.Mathlib.Omega.{arith}
 use lib.ListN.{length, drop, getD, drop-of-length-le, List·getD-eq-default}
@@ -61,16 +61,19 @@ module _ (b w : ℕ) (same : w ≡ b) where
 
 -- ---- the room that digits have up to a stop
 
-weight-step : (value digit k : ℕ) → digit ≤ 9 → (10 * value + digit + 1) * 10 ^ k ≤ (value + 1) * 10 ^ suc k
-weight-step value digit k h =
-    let a : 10 * value + digit + 1 ≤ (value + 1) * 10 = omega arith in
-    let b : (10 * value + digit + 1) * 10 ^ k ≤ (value + 1) * 10 * 10 ^ k = mul-le-mul-right (10 ^ k) a in
-    let c : (value + 1) * 10 * 10 ^ k ≡ (value + 1) * (10 * 10 ^ k) = mul-assoc (value + 1) 10 (10 ^ k) in
-    let d : 10 * 10 ^ k ≡ 10 ^ suc k = mul-comm 10 (10 ^ k) ∙ sym (pow-suc 10 k) in
-    rw (c, d) at b
+powers-add : (m n : ℕ) → 10 ^ (m + n) ≡ 10 ^ m * 10 ^ n
+powers-add m zero = rw (add-zero m) (sym (mul-one (10 ^ m)))
+powers-add m (suc n) = rw (add-suc m n) (pow-suc 10 (m + n) ∙ ap (λ (x : ℕ). x * 10) (powers-add m n) ∙ mul-assoc (10 ^ m) (10 ^ n) 10 ∙ ap (λ (x : ℕ). 10 ^ m * x) (sym (pow-suc 10 n)))
+
+weight-step : (value more m k : ℕ) → more < m → (m * value + more + 1) * k ≤ (value + 1) * (m * k)
+weight-step value more m k h =
+    let a : (value + 1) * m ≡ m * value + m * 1 = mul-comm (value + 1) m ∙ mul-add m value 1 in
+    let b : m * value + more + 1 ≤ (value + 1) * m = omega arith in
+    let c : (m * value + more + 1) * k ≤ (value + 1) * m * k = mul-le-mul-right k b in
+    rw (mul-assoc (value + 1) m k) at c
 
 module _ (value i stop : ℕ) where
-  weight-above : value < weight value i stop
+  pub weight-above : value < weight value i stop
   unfolding weight
   weight-above =
       let p : 1 ≤ 10 ^ (stop - i) = power-some (stop - i) in
@@ -78,11 +81,15 @@ module _ (value i stop : ℕ) where
       let c : (value + 1) * 10 ^ (stop - i) ≡ 10 ^ (stop - i) * (value + 1) = mul-comm (value + 1) (10 ^ (stop - i)) in
       omega arith
 
-  weight-on : (digit : ℕ) → i < stop → digit ≤ 9 → weight (10 * value + digit) (i + 1) stop ≤ weight value i stop
+  -- some digits more
+  pub weight-more : (n more : ℕ) → i + n ≤ stop → more < 10 ^ n → weight (10 ^ n * value + more) (i + n) stop ≤ weight value i stop
   unfolding weight
-  weight-on digit h k =
-      let n : stop - i ≡ suc (stop - (i + 1)) = omega arith in
-      rw n (weight-step value digit (stop - (i + 1)) k)
+  weight-more n more h k =
+      let e : stop - i ≡ n + (stop - (i + n)) = omega arith in
+      rw (e, powers-add n (stop - (i + n))) (weight-step value more (10 ^ n) (10 ^ (stop - (i + n))) k)
+
+  weight-on : (digit : ℕ) → i < stop → digit ≤ 9 → weight (10 * value + digit) (i + 1) stop ≤ weight value i stop
+  weight-on digit h k = weight-more 1 digit (omega arith) (omega arith)
 
   -- the point takes up a place
   weight-past : weight value (i + 1) stop ≤ weight value i stop
@@ -153,18 +160,27 @@ module _ (s : List ℕ) (i value : ℕ) (whole : Run) (inv : Runs s i value whol
       (λ (t : leb (length s) i ≡ true). runs-past (leb-true (length s) i t))
       (λ (t : leb (length s) i ≡ false). runs-stop (omega (arith, leb-false (length s) i t)) e)
 
-  pub runs-on : (w stop : ℕ) → i < stop → stop ≤ length s → w ≡ getD s i 0 → 48 ≤ w → w - 48 ≤ 9 → Runs s (i + 1) (10 * value + (w - 48)) whole
-  runs-on w stop below room same k l =
-      let h : i < length s = omega arith in
-      let d : isDigit (getD s i 0) ≡ true = digit-is (getD s i 0) w same k l in
+  -- one digit more
+  pub runs-digit : isDigit (getD s i 0) ≡ true → Runs s (i + 1) (10 * value + (getD s i 0 - 48)) whole
+  unfolding isDigit within both
+  runs-digit d =
+      let h : i < length s = inside isDigit s i refl d in
       let f : sizeOn (drop i s) value ≡ sizeOn (drop (suc i) s) (10 * value + (getD s i 0 - 48)) = rw (drop-cons s i 0 h) (size-goes (getD s i 0) (drop (suc i) s) value d) in
       let r : run isDigit (drop i s) ≡ suc (run isDigit (drop (i + 1) s)) = run-on isDigit s i h d in
       let m : i + 1 + run isDigit (drop (i + 1) s) ≡ i + run isDigit (drop i s) = omega arith in
       record {
-        value-left = rw (add-one i, same) (sym f ∙ inv .value-left);
+        value-left = rw (add-one i) (sym f ∙ inv .value-left);
         end-left = m ∙ inv .end-left;
         next-left = ap (λ (n : ℕ). getD s n 0) m ∙ inv .next-left;
       }
+
+  pub runs-on : (w : ℕ) → w ≡ getD s i 0 → 48 ≤ w → w - 48 ≤ 9 → Runs s (i + 1) (10 * value + (w - 48)) whole
+  runs-on w same k l = rw same (runs-digit (digit-is (getD s i 0) w same k l))
+
+  -- the run from there on is the whole
+  pub runs-whole : runFrom s i value ≡ whole
+  unfolding runFrom sizeOn
+  runs-whole = runs-same _ _ (inv .value-left) (inv .end-left) (inv .next-left)
 
 -- where the loop ends
 module _ (s : List ℕ) (from stop before i value : ℕ) (start : from ≤ i) (within : i ≤ length s) (short : i - from ≤ stop - from) (light : weight value i stop ≤ weight before from stop) (inv : Runs s i value (runFrom s from before)) where

@@ -5,14 +5,15 @@ ghost use mathlib.Core.Bool.{true};
 ghost use Prim.Native.Nat.{_+_, _-_, _*_, _<_, _≤_, min};
 ghost use lib.ListN.{length, take, drop, getD};
 ghost use Rattle.base.specs.If.{if_then_else_, either};
-ghost use Rattle.base.specs.Bytes.{within, isBlank, isLetter};
+ghost use Rattle.base.specs.Bytes.{within, isBlank, isDigit, isLetter};
+ghost use Rattle.base.specs.Runs.{run};
 ghost use Rattle.base.specs.Class.{runEnd};
 ghost use lib.Dec.{leb};
 ghost use Rattle.number.specs.Number.{isSign, isMinus, isE, pastSign, goesOn, noDigits, withPoint, withDigit, withByte, scan, noExponent, exponentOf, scaleOf, raised, lowered, valueAs, wellFormed, numberOf, isFormed, isBounded};
 ghost use Rattle.number.specs.Integer.{wholeOf};
 ghost use Rattle.number.specs.ValueWord.{valueWord, decimalOf, isDecimal, isValueWord};
 ghost use Rattle.number.specs.Capped.{exponentCap, countCap, cappedDigits, cappedExponent, sizeAt, raising, lowering, Kept, Bounded};
-ghost use Rattle.number.specs.At.{numberAt, fourBits, weight, noReading, goesAt, RunRead, DigitsRead, ExponentRead, PartsRead, Few, Splits, Says};
+ghost use Rattle.number.specs.At.{numberAt, fourBits, fourAt, blockAt, AreDigits, weight, noReading, goesAt, RunRead, DigitsRead, ExponentRead, PartsRead, Few, Splits, Says};
 use base::Class;
 
 // Digits, their point counted, are read at once in so many bytes, and those of an exponent in so many: what they write fits a word.
@@ -20,6 +21,9 @@ use base::Class;
 const MOST_DIGITS: usize = 19;
 
 const MOST_EXPONENT: usize = 9;
+
+// So many digits behind a point are read together.
+const BLOCK: usize = 8;
 
 // What letters scale by, four bits for each: capitals from G on raise, small ones from f on raise or lower. To find a letter so takes no
 // branch that a processor would have to guess.
@@ -606,6 +610,61 @@ fn read_run(s: &[u8], from: usize, stop: usize, before: u64) -> Run
     }
 }
 
+// Whether a block of bytes are digits. Each is looked at, so that a processor takes them at once.
+fn are_digits(s: &[u8], from: usize) -> bool
+    requires { ⌜ from + 8 ≤ length (now s) ⌝ }
+    ensures { λ r. ⌜ AreDigits (now (s .entry)) from r ⌝ }
+{
+    let end = from + BLOCK;
+    let mut whole = true;
+    let mut i = from;
+    while i < end {
+        whole = base::and(whole, base::is_digit(s[i]));
+        i += 1;
+    }
+    whole
+}
+
+// What a digit says.
+fn digit_at(s: &[u8], at: usize) -> u64
+    requires { ⌜ isDigit (getD (now s) at 0) ≡ true ⌝ }
+    ensures { λ r. ⌜ r ≡ getD (now (s .entry)) at 0 - 48 ⌝ ∗ ⌜ r ≤ 9 ⌝ }
+{
+    wide(s[at]) - 48
+}
+
+// The number that four digits write.
+fn four_at(s: &[u8], at: usize) -> u64
+    requires { ⌜ 4 ≤ run isDigit (drop at (now s)) ⌝ }
+    ensures { λ r. ⌜ r ≡ fourAt (now (s .entry)) at ⌝ ∗ ⌜ r ≤ 9999 ⌝ }
+{
+    let high = 10 * digit_at(s, at) + digit_at(s, at + 1);
+    let low = 10 * digit_at(s, at + 2) + digit_at(s, at + 3);
+    100 * high + low
+}
+
+// The number that a block of digits write: its parts do not wait for each other, as one digit after the other would.
+fn block_at(s: &[u8], at: usize) -> u64
+    requires { ⌜ 8 ≤ run isDigit (drop at (now s)) ⌝ }
+    ensures { λ r. ⌜ r ≡ blockAt (now (s .entry)) at ⌝ ∗ ⌜ r ≤ 99_999_999 ⌝ }
+{
+    10_000 * four_at(s, at) + four_at(s, at + 4)
+}
+
+// As `read_run`, for digits behind a point, which are often many: a block of them, then the rest.
+fn read_part(s: &[u8], from: usize, stop: usize, before: u64) -> Run
+    requires { ⌜ from ≤ length (now s) ⌝ ∗ ⌜ stop ≤ length (now s) ⌝ ∗ ⌜ weight before from stop ≤ exponentCap ⌝ }
+    ensures { λ r. ⌜ RunRead (now (s .entry)) from stop before r ⌝ }
+{
+    let end = from + BLOCK;
+    if end <= stop {
+        if are_digits(s, from) {
+            return read_run(s, end, stop, 100_000_000 * before + block_at(s, from));
+        }
+    }
+    read_run(s, from, stop, before)
+}
+
 // The digits that stand at `from`: a run, and where a point follows it another.
 fn plain_digits(s: &[u8], from: usize) -> Plain
     requires { ⌜ from ≤ length (now s) ⌝ }
@@ -624,7 +683,7 @@ fn plain_digits(s: &[u8], from: usize) -> Plain
         };
     }
     let point = end + 1;
-    let part = read_run(s, point, stop, whole.value);
+    let part = read_part(s, point, stop, whole.value);
     let last = part.end;
     let fraction = last - point;
     Plain {

@@ -17,8 +17,8 @@ returns c = search digits-one
 add-point : tie.Need-add-point
 add-point c = search needs
 
-read-run-requires-2 : tie.Need-read-run-requires-2
-read-run-requires-2 c κs = (search dot-within, (search needs, search dot-light))
+read-part-requires : tie.Need-read-part-requires
+read-part-requires c κs = (search dot-within, (search needs, search dot-light))
 
 sub-fraction : tie.Need-sub-fraction
 sub-fraction c = search needs
@@ -37,7 +37,7 @@ plain-digits-spec =
     read-run-requires
     returns
     add-point
-    read-run-requires-2
+    read-part-requires
     sub-fraction
     add-t13
     returns-2)
