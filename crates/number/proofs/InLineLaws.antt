@@ -25,11 +25,13 @@ use Rattle.number.specs.declared.Exponent.{Exponent}
 use Rattle.number.specs.declared.Scale.{Scale}
 use Rattle.number.specs.declared.Number.{Number}
 use Rattle.number.specs.declared.Number.the-variants.{Malformed}
+use Rattle.number.specs.declared.NumberAt.{NumberAt}
+use Rattle.number.specs.declared.Near.{Near}
 use Rattle.number.specs.declared.Plain.{Plain}
 use Rattle.number.specs.declared.Reading.{Reading}
 use Rattle.number.specs.declared.Parts.{Parts}
 use Rattle.number.specs.Number.{isSign, isMinus, isPoint, isE, pastSign, noDigits, goesOn, withByte, scan, noExponent, exponentAt, exponentOf, scaleOf, raised, lowered, valueAs, wellFormed, numberFrom, digitsOf, exponentFrom, numberOf}
-use Rattle.number.specs.At.{wordFrom, numberAt, plainAt, readingAt, goesAt, partsOf, DigitsRead, ExponentRead, PartsRead, Says}
+use Rattle.number.specs.At.{wordFrom, numberAt, plainAt, readingAt, goesAt, partsOf, DigitsRead, ExponentRead, PartsRead, Knows, Says}
 use Rattle.number.proofs.CappedLaws.{scan-goes, scan-stops, scan-ends}
 use Rattle.number.proofs.AllLaws.{all-from}
 use Rattle.number.proofs.ReadLaws.{inside, sign-within, scan-end, exponent-within}
@@ -454,11 +456,11 @@ module _ (s : List ℕ) (from : ℕ) (h : from < length s) (p : Parts) (read : P
         let d : drop (p .exponent .end) (drop from s) ≡ drop (from + p .exponent .end) s = drop-drop (p .exponent .end) from s in
         rw d (omega arith)
 
-    pub number-scaled : (end : ℕ) (g : Bool) (scale : Scale) (r : Number) → end ≡ runEnd isLetter s (from + p .exponent .end + 1) → g ≡ goesAt s end → g ≡ false → scale ≡ scaleOf (p .next) → not (p .digits .some) ≡ false → Says p scale r → record { number = r; end = end } ≡ numberAt s from
+    pub number-scaled : (end : ℕ) (g : Bool) (scale : Scale) (r : Number) → end ≡ runEnd isLetter s (from + p .exponent .end + 1) → g ≡ goesAt s end → g ≡ false → scale ≡ scaleOf (p .next) → not (p .digits .some) ≡ false → Says p scale r → Knows s from (record { known = true; number = r; end = end })
     number-scaled end g scale r ends goes off told n v =
         let e : end ≡ from + runEnd isLetter (drop from s) (p .exponent .end) = ends ∙ letters-end in
         let o : goesAt s (from + runEnd isLetter (drop from s) (p .exponent .end)) ≡ false = rw e at (sym goes ∙ off) in
-        rw e (here scale (runEnd isLetter (drop from s) (p .exponent .end)) r (letter-no-digit (p .next) letter-next) (rw (rest-read .parts-next) at told) refl o n v)
+        record { knows = λ (k : true ≡ true). rw e (here scale (runEnd isLetter (drop from s) (p .exponent .end)) r (letter-no-digit (p .next) letter-next) (rw (rest-read .parts-next) at told) refl o n v) }
 
   module _ (g : Bool) (ends : g ≡ either (isBlank (p .next)) (leb (length s) (from + p .exponent .end))) (on : not g ≡ false) where
     -- the byte there, or the line's end, tells that the word ends
@@ -485,10 +487,17 @@ module _ (s : List ℕ) (from : ℕ) (h : from < length s) (p : Parts) (read : P
         (λ (k : isFilled (p .next) ≡ false). blind-blank isDigit blind-digit (p .next) k)
         ends-there
 
-    pub number-plain : (r : Number) → not (p .digits .some) ≡ false → Says p (record { up = 0; down = 0 }) r → record { number = r; end = from + p .exponent .end } ≡ numberAt s from
+    pub number-plain : (r : Number) → not (p .digits .some) ≡ false → Says p (record { up = 0; down = 0 }) r → Knows s from (record { known = true; number = r; end = from + p .exponent .end })
     number-plain r n v =
         let o : goesAt (drop from s) (p .exponent .end) ≡ false = goes-drop s from (p .exponent .end) h ∙ ends-here in
-        here (record { up = 0; down = 0 }) (p .exponent .end) r end-no-digit (none-scale (drop from s) (p .exponent .end) o) (none-end (drop from s) (p .exponent .end) o) ends-here n v
+        record { knows = λ (k : true ≡ true). here (record { up = 0; down = 0 }) (p .exponent .end) r end-no-digit (none-scale (drop from s) (p .exponent .end) o) (none-end (drop from s) (p .exponent .end) o) ends-here n v }
+
+-- what is not known, and what is
+pub unknown-knows : (s : List ℕ) (from : ℕ) (r : Near) → r .known ≡ false → Knows s from r
+unknown-knows s from r f = record { knows = λ (e : r .known ≡ true). absurd (true≢false (sym e ∙ f)) }
+
+pub near-is : (s : List ℕ) (from : ℕ) (r : Near) → Knows s from r → r .known ≡ true → record { number = r .number; end = r .end } ≡ numberAt s from
+near-is s from r told e = told .knows e
 
 -- ---- a word of any length
 
@@ -505,6 +514,12 @@ unfolding numberAt wordFrom
 long-is s from end number e f =
     let n : end - from ≡ run isFilled (drop from s) = omega arith in
     rw (rw n at f, e)
+
+-- the same, lent as a part that is the whole
+pub far-is : (s : List ℕ) (from : ℕ) (r : NumberAt) → r ≡ numberAt (take (length s - 0) (drop 0 s)) from → record { number = r .number; end = r .end } ≡ numberAt s from
+far-is s from r e =
+    let w : take (length s - 0) (drop 0 s) ≡ s = take-all (length s - 0) s (omega arith) in
+    rw w at e
 
 -- ---- in the words that `ends_by` has
 

@@ -19,6 +19,7 @@ use Rattle.number.specs.declared.Exponent.{Exponent}
 use Rattle.number.specs.declared.Scale.{Scale}
 use Rattle.number.specs.declared.Number.{Number}
 use Rattle.number.specs.declared.NumberAt.{NumberAt}
+use Rattle.number.specs.declared.Near.{Near}
 use Rattle.number.specs.declared.Run.{Run}
 use Rattle.number.specs.declared.Plain.{Plain}
 use Rattle.number.specs.declared.Reading.{Reading}
@@ -121,6 +122,10 @@ pub record PartsRead (s : List ℕ) (p : Parts) : Type 0 where
   pub parts-whole : isDigit (p .next) ≡ false → p ≡ partsOf s
   pub parts-within : p .exponent .end ≤ length s
   pub parts-few : Few p
+
+-- an answer that is the number's where it is known
+pub record Knows (s : List ℕ) (from : ℕ) (r : Near) : Type 0 where
+  pub knows : r .known ≡ true → record { number = r .number; end = r .end } ≡ numberAt s from
 
 -- a number as a size and the zeros after it
 pub record Splits (all size zeros : ℕ) : Type 0 where

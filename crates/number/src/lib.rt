@@ -1,7 +1,7 @@
 // Document 01, "Numbers": a word read as a number or an integer, and the value word that the table holds.
 // Words of any length are read in one pass: numbers too great to matter are cut on the way, which changes no answer.
 ghost use mathlib.Core.Path.{_≡_};
-ghost use mathlib.Core.Bool.{true};
+ghost use mathlib.Core.Bool.{true, false};
 ghost use Prim.Native.Nat.{_+_, _-_, _*_, _<_, _≤_, min};
 ghost use lib.ListN.{length, take, drop, getD};
 ghost use Rattle.base.specs.If.{if_then_else_, either};
@@ -13,7 +13,7 @@ ghost use Rattle.number.specs.Number.{isSign, isMinus, isE, pastSign, go
 ghost use Rattle.number.specs.Integer.{wholeOf};
 ghost use Rattle.number.specs.ValueWord.{valueWord, decimalOf, isDecimal, isValueWord};
 ghost use Rattle.number.specs.Capped.{exponentCap, countCap, cappedDigits, cappedExponent, sizeAt, raising, lowering, Kept, Bounded};
-ghost use Rattle.number.specs.At.{numberAt, fourBits, fourAt, blockAt, AreDigits, weight, noReading, goesAt, RunRead, DigitsRead, ExponentRead, PartsRead, Few, Splits, Says};
+ghost use Rattle.number.specs.At.{numberAt, fourBits, fourAt, blockAt, AreDigits, weight, noReading, goesAt, RunRead, DigitsRead, ExponentRead, PartsRead, Knows, Few, Splits, Says};
 use base::Class;
 
 // Digits, their point counted, are read at once in so many bytes, and those of an exponent in so many: what they write fits a word.
@@ -524,6 +524,13 @@ pub struct NumberAt {
     pub end: usize,
 }
 
+// The same, where it is known.
+pub struct Near {
+    pub known: bool,
+    pub number: Number,
+    pub end: usize,
+}
+
 // A run of digits: the number that it writes, where it ends, and the byte there, 0 past the end.
 pub struct Run {
     pub value: u64,
@@ -840,36 +847,48 @@ fn long_number(s: &[u8], from: usize) -> NumberAt
     }
 }
 
-// The number at `from` of which the parts are read: letters follow them, or it is none, or one of too many digits.
-fn scaled_number(s: &[u8], from: usize, parts: Parts) -> NumberAt
+// Not known on the short way: the long one tells.
+fn unknown(from: usize) -> Near
+    ensures { λ r. ⌜ r .known ≡ false ⌝ }
+{
+    Near {
+        known: false,
+        number: Number::Malformed,
+        end: from,
+    }
+}
+
+// The number at `from` of which the parts are read: known where letters follow them.
+fn scaled_number(s: &[u8], from: usize, parts: Parts) -> Near
     requires { ⌜ from < length (now s) ⌝ ∗ ⌜ PartsRead (take (length (now s) - from) (drop from (now s))) parts ⌝ }
-    ensures { λ r. ⌜ r ≡ numberAt (now (s .entry)) from ⌝ }
+    ensures { λ r. ⌜ Knows (now (s .entry)) from r ⌝ }
 {
     let digits = parts.digits;
     if !digits.some {
-        return long_number(s, from);
+        return unknown(from);
     }
     if !base::is_letter(parts.next) {
-        return long_number(s, from);
+        return unknown(from);
     }
     let exponent = parts.exponent;
     let end = letters_end(s, from + exponent.end + 1);
     if goes_at(s, end) {
-        return long_number(s, from);
+        return unknown(from);
     }
     let scale = scale_of(parts.next);
-    NumberAt {
+    Near {
+        known: true,
         number: plain_value(parts, scale),
         end,
     }
 }
 
-// The number that stands at `from` in a line, and where its word ends. A number of few digits is gone over once.
-pub fn number_at(s: &[u8], from: usize) -> NumberAt
-    ensures { λ r. ⌜ r ≡ numberAt (now (s .entry)) from ⌝ }
+// The number that stands at `from`: known where its digits are few, and gone over once.
+fn near_number(s: &[u8], from: usize) -> Near
+    ensures { λ r. ⌜ Knows (now (s .entry)) from r ⌝ }
 {
     if s.len() <= from {
-        return long_number(s, from);
+        return unknown(from);
     }
     let parts = parts_of(&s[from..]);
     let exponent = parts.exponent;
@@ -879,13 +898,31 @@ pub fn number_at(s: &[u8], from: usize) -> NumberAt
     }
     let digits = parts.digits;
     if !digits.some {
-        return long_number(s, from);
+        return unknown(from);
     }
     let scale = Scale { up: 0, down: 0 };
-    NumberAt {
+    Near {
+        known: true,
         number: plain_value(parts, scale),
         end,
     }
+}
+
+// The number that stands at `from` in a line, and where its word ends. The long way is lent another slice and its answer is taken apart:
+// so neither the line nor the answer of the short way has to stand in memory.
+pub fn number_at(s: &[u8], from: usize) -> NumberAt
+    ensures { λ r. ⌜ r ≡ numberAt (now (s .entry)) from ⌝ }
+{
+    let near = near_number(s, from);
+    if near.known {
+        let number = near.number;
+        let end = near.end;
+        return NumberAt { number, end };
+    }
+    let far = long_number(&s[0..], from);
+    let number = far.number;
+    let end = far.end;
+    NumberAt { number, end }
 }
 
 // 13 is for a word that is no number.

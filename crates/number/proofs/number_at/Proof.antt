@@ -1,67 +1,39 @@
--- `number::number_at` meets its contract: a number that a blank or the line's end follows is its word's.
+-- `number::number_at` meets its contract: what is known, else what the long way tells.
 -- Assumes nothing.
-use Rattle.number.proofs.InLineLaws.{number-plain}
+use Rattle.number.proofs.InLineLaws.{near-is, far-is}
 use borrow.Author.Needs.{needs}
 use Rattle.number.proofs.number_at.Statement.{statement}
 use Rattle.number.proofs.number_at.Tie as tie
 
+near-number-requires : tie.Need-near-number-requires
+near-number-requires c κs = search needs
+
+returns : tie.Need-returns
+returns c = search near-is
+
+sub-long-number : tie.Need-sub-long-number
+sub-long-number c = search needs
+
+part-long-number-start : tie.Need-part-long-number-start
+part-long-number-start c = search needs
+
+part-long-number-end : tie.Need-part-long-number-end
+part-long-number-end c = search needs
+
 long-number-requires : tie.Need-long-number-requires
 long-number-requires c κs = search needs
 
-returns : tie.Need-returns
-returns c = search needs
-
-sub-parts-of : tie.Need-sub-parts-of
-sub-parts-of c = search needs
-
-part-parts-of-start : tie.Need-part-parts-of-start
-part-parts-of-start c = search needs
-
-part-parts-of-end : tie.Need-part-parts-of-end
-part-parts-of-end c = search needs
-
-parts-of-requires : tie.Need-parts-of-requires
-parts-of-requires c κs = search needs
-
-add-end : tie.Need-add-end
-add-end c = search needs
-
-ends-by-requires : tie.Need-ends-by-requires
-ends-by-requires c κs = search needs
-
-scaled-number-requires : tie.Need-scaled-number-requires
-scaled-number-requires c κs = search needs
-
 returns-2 : tie.Need-returns-2
-returns-2 c = search needs
-
-long-number-requires-2 : tie.Need-long-number-requires-2
-long-number-requires-2 c κs = search needs
-
-returns-3 : tie.Need-returns-3
-returns-3 c = search needs
-
-plain-value-requires : tie.Need-plain-value-requires
-plain-value-requires c κs = search needs
-
-returns-4 : tie.Need-returns-4
-returns-4 c = search number-plain
+returns-2 c = search far-is
 
 pub number-at-spec : {M : Type 1} → statement M
 number-at-spec =
     tie.close
     (tie.spec
-    long-number-requires
+    near-number-requires
     returns
-    sub-parts-of
-    part-parts-of-start
-    part-parts-of-end
-    parts-of-requires
-    add-end
-    ends-by-requires
-    scaled-number-requires
-    returns-2
-    long-number-requires-2
-    returns-3
-    plain-value-requires
-    returns-4)
+    sub-long-number
+    part-long-number-start
+    part-long-number-end
+    long-number-requires
+    returns-2)

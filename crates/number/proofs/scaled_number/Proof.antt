@@ -1,25 +1,25 @@
 -- `number::scaled_number` meets its contract: the first letter scales, and the word ends behind all.
 -- Assumes nothing.
-use Rattle.number.proofs.InLineLaws.{parts-fit, letter-fits, number-scaled}
+use Rattle.number.proofs.InLineLaws.{unknown-knows, parts-fit, letter-fits, number-scaled}
 use Rattle.number.proofs.ReadLaws.{scale-up, scale-down}
 use borrow.Author.Needs.{needs}
 use Rattle.number.proofs.scaled_number.Statement.{statement}
 use Rattle.number.proofs.scaled_number.Tie as tie
 
-long-number-requires : tie.Need-long-number-requires
-long-number-requires c κs = search needs
+unknown-requires : tie.Need-unknown-requires
+unknown-requires c κs = search needs
 
 returns : tie.Need-returns
-returns c = search needs
+returns c = search unknown-knows
 
 is-letter-requires : tie.Need-is-letter-requires
 is-letter-requires c κs = search needs
 
-long-number-requires-2 : tie.Need-long-number-requires-2
-long-number-requires-2 c κs = search needs
+unknown-requires-2 : tie.Need-unknown-requires-2
+unknown-requires-2 c κs = search needs
 
 returns-2 : tie.Need-returns-2
-returns-2 c = search needs
+returns-2 c = search unknown-knows
 
 add-letters-end : tie.Need-add-letters-end
 add-letters-end c = search parts-fit
@@ -33,11 +33,11 @@ letters-end-requires c κs = search needs
 goes-at-requires : tie.Need-goes-at-requires
 goes-at-requires c κs = search needs
 
-long-number-requires-3 : tie.Need-long-number-requires-3
-long-number-requires-3 c κs = search needs
+unknown-requires-3 : tie.Need-unknown-requires-3
+unknown-requires-3 c κs = search needs
 
 returns-3 : tie.Need-returns-3
-returns-3 c = search needs
+returns-3 c = search unknown-knows
 
 scale-of-requires : tie.Need-scale-of-requires
 scale-of-requires c κs = search needs
@@ -52,16 +52,16 @@ pub scaled-number-spec : {M : Type 1} → statement M
 scaled-number-spec =
     tie.close
     (tie.spec
-    long-number-requires
+    unknown-requires
     returns
     is-letter-requires
-    long-number-requires-2
+    unknown-requires-2
     returns-2
     add-letters-end
     add-letters-end-2
     letters-end-requires
     goes-at-requires
-    long-number-requires-3
+    unknown-requires-3
     returns-3
     scale-of-requires
     plain-value-requires
