@@ -16,21 +16,22 @@ ghost use Rattle.number.specs.Capped.{exponentCap, countCap, cappedDigit
 ghost use Rattle.number.specs.At.{numberAt, fourBits, fourAt, blockAt, AreDigits, weight, noReading, goesAt, RunRead, DigitsRead, ExponentRead, PartsRead, Knows, Few, Splits, Says};
 use base::Class;
 
-// Digits, their point counted, are read at once in so many bytes, and those of an exponent in so many: what they write fits a word.
-// A number of more is read the long way.
+// Digits are read at once up to so many bytes, their point counted: what they write fits a word. A number of more goes the long way.
 const MOST_DIGITS: usize = 19;
 
+// The same of an exponent.
 const MOST_EXPONENT: usize = 9;
 
 // So many digits behind a point are read together.
 const BLOCK: usize = 8;
 
-// What letters scale by, four bits for each: capitals from G on raise, small ones from f on raise or lower. To find a letter so takes no
-// branch that a processor would have to guess.
+// What the capitals from G on raise by, four bits for each. To find a letter's scale so takes no branch that a processor has to guess.
 const CAPITALS_RAISE: u64 = 0x00c0_0000_0600_0009;
 
+// What the small letters from f on raise by.
 const SMALLS_RAISE: u64 = 0x0000_0000_0030_0000;
 
+// And what they lower by.
 const SMALLS_LOWER: u64 = 0x6000_0c09_3000_000f;
 
 // Digits read so far: the number that they write, the same up to the last digit that is not 0, the zeros after that one, how many
@@ -524,7 +525,7 @@ pub struct NumberAt {
     pub end: usize,
 }
 
-// The same, where it is known.
+// The same, if it is known.
 pub struct Near {
     pub known: bool,
     pub number: Number,
