@@ -4,4 +4,5 @@ pub mod WalkLaws
 pub mod ReadingLaws
 pub mod OutsideLaws
 pub mod CountLaws
+mod CrossLaws
 mod QuietLaws

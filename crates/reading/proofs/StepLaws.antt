@@ -45,6 +45,7 @@ use Rattle.block.specs.declared.Counts.{Counts}
 use Rattle.block.specs.declared.State.{State}
 use Rattle.reading.specs.declared.Step.{Step}
 use Rattle.reading.specs.Reading.{listRule, lineRule, countsAfterLine, lineNext, goes, breaks, judged, lineStep, keywordStep, argumentFrom, bracketStep, beforeStep}
+use Rattle.reading.specs.Walk.{Decides, withMatrix}
 
 -- ---- a line judged
 
@@ -116,12 +117,6 @@ withPins c n = record { models = c .models; steps = c .steps; maps = c .maps; pi
 abbrev withPinned : State → Map → ℕ → State
 withPinned s m n = record { place = s .place; seen = s .seen; head = s .head; path = s .path; map = m; section = s .section; matrix = s .matrix; counts = withPins (s .counts) n }
 
-abbrev withValues : Counts → ℕ → Counts
-withValues c n = record { models = c .models; steps = c .steps; maps = c .maps; pins = c .pins; sections = c .sections; matrices = c .matrices; values = n }
-
-abbrev withMatrix : State → Matrix → ℕ → State
-withMatrix s m n = record { place = s .place; seen = s .seen; head = s .head; path = s .path; map = s .map; section = s .section; matrix = m; counts = withValues (s .counts) n }
-
 module _ (content : List ℕ) (s : State) where
   next-head : s .place ≡ place.head → withHead s (headNext (headLineOf content) (s .head)) ≡ lineNext content s
   unfolding lineNext countsAfterLine movedByLine oneMoreIf both if_then_else_
@@ -139,7 +134,7 @@ module _ (content : List ℕ) (s : State) where
   unfolding lineNext countsAfterLine movedByLine oneMoreIf both if_then_else_
   next-pin e = rw e
 
-  next-data : s .place ≡ place.matrix → withMatrix s (dataNext (dataLineOf (s .matrix .form) content) (s .matrix)) (s .counts .values + dataLineOf (s .matrix .form) content .numbers) ≡ lineNext content s
+  next-data : s .place ≡ place.matrix → withMatrix (dataNext (dataLineOf (s .matrix .form) content) (s .matrix)) (s .counts .values + dataLineOf (s .matrix .form) content .numbers) s ≡ lineNext content s
   unfolding lineNext countsAfterLine movedByLine oneMoreIf both if_then_else_
   next-data e = rw e
 
@@ -226,18 +221,6 @@ module _ (content : List ℕ) (s : State) (r : Step) where
     pin-goes h next told e =
         e ∙ line-goes content s k pin-rule h (withPinned s next (s .counts .pins + 1)) ((λ i. withPinned s (told i) (s .counts .pins + 1)) ∙ next-pin content s here)
 
-  module _ (here : s .place ≡ place.matrix) (l : DataLine) (read : l ≡ dataLineOf (s .matrix .form) content) (k : ℕ) (rule : k ≡ dataRule l (s .matrix) (s .counts .values)) where
-    data-rule : k ≡ lineRule content s
-    data-rule = rule ∙ ap (λ (x : DataLine). dataRule x (s .matrix) (s .counts .values)) read ∙ sym (rule-matrix content s here)
-
-    pub data-stops : (k ≡ 0 → ⊥) → r ≡ breaks k s → r ≡ lineStep content s
-    data-stops h e = e ∙ line-stops content s k data-rule h
-
-    pub data-goes : k ≡ 0 → (next : Matrix) → next ≡ dataNext l (s .matrix) → r ≡ goes (withMatrix s next (s .counts .values + l .numbers)) → r ≡ lineStep content s
-    data-goes h next told e =
-        let m : next ≡ dataNext (dataLineOf (s .matrix .form) content) (s .matrix) = told ∙ ap (λ (x : DataLine). dataNext x (s .matrix)) read in
-        e ∙ line-goes content s k data-rule h (withMatrix s next (s .counts .values + l .numbers)) ((λ i. withMatrix s (m i) (s .counts .values + read i .numbers)) ∙ next-data content s here)
-
   module _ (here : s .place ≡ place.list) (first : List ℕ) (word : first ≡ firstOf (words content)) (b : Bool) (told : b ≡ isReserved first) where
     list-rule : (k : ℕ) → (if b then 11 else 0) ≡ k → k ≡ lineRule content s
     unfolding listRule
@@ -259,6 +242,32 @@ module _ (content : List ℕ) (s : State) (r : Step) where
       e ∙ line-stops content s 12
       (sym (if-false _ _ (sym told ∙ f) ∙ if-false _ _ (ne-eqb _ _ m) ∙ if-false _ _ (ne-eqb _ _ p) ∙ if-false _ _ (ne-eqb _ _ n) ∙ if-false _ _ (ne-eqb _ _ d) ∙ if-false _ _ (ne-eqb _ _ h) ∙ if-false _ _ (ne-eqb _ _ l)))
       (λ (z : 12 ≡ 0). omega arith)
+
+-- ---- the same where a part of the state decides
+
+goes-on : (next : State) {r : Step} → goes next ≡ r → r ≡ breaks 0 next
+unfolding goes breaks
+goes-on next e = sym e
+
+-- what is decided is the step itself, in a state that has the part
+pub decided-step : (here : ℕ) (put next : State → State) (content : List ℕ) (k : ℕ) → Decides here put (lineStep content) k next → (s after : State) (r : Step) → s .place ≡ here → s ≡ put s →
+    after ≡ next s → r ≡ breaks k after → r ≡ lineStep content s
+decided-step here put next content k decides s after r at same told e =
+    e ∙ ap (breaks k) told ∙ sym (decides s at) ∙ ap (lineStep content) (sym same)
+
+module _ (content : List ℕ) (m : Matrix) (values : ℕ) (l : DataLine) (read : l ≡ dataLineOf (m .form) content) (k : ℕ) (rule : k ≡ dataRule l m values) where
+  data-rule : (s : State) → s .place ≡ place.matrix → k ≡ lineRule content (withMatrix m values s)
+  data-rule s here = rule ∙ ap (λ (x : DataLine). dataRule x m values) read ∙ sym (rule-matrix content (withMatrix m values s) here)
+
+  pub data-stops : (k ≡ 0 → ⊥) → Decides place.matrix (withMatrix m values) (lineStep content) k (withMatrix m values)
+  data-stops h s here = sym (line-stops content (withMatrix m values s) k (data-rule s here) h)
+
+  pub data-goes : k ≡ 0 → (next : Matrix) → next ≡ dataNext l m → Decides place.matrix (withMatrix m values) (lineStep content) 0 (withMatrix next (values + l .numbers))
+  data-goes h next told s here =
+      let after : next ≡ dataNext (dataLineOf (m .form) content) m = told ∙ ap (λ (x : DataLine). dataNext x m) read in
+      goes-on (withMatrix next (values + l .numbers) s)
+      (line-goes content (withMatrix m values s) k (data-rule s here) h (withMatrix next (values + l .numbers) s)
+      ((λ i. withMatrix (after i) (values + read i .numbers) s) ∙ next-data content (withMatrix m values s) here))
 
 -- ---- sums that fit, from a rule that broke nothing
 

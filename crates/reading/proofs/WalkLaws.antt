@@ -116,7 +116,7 @@ run-cons : (n : ℕ) (l : Raw) (ls : List Raw) (s : State) → run n (l ∷ ls) 
 unfolding run
 run-cons n l ls s = refl
 
-module _ (t : List ℕ) (at line : ℕ) (s : State) (h : at < length t) (on : Onward t at line s) (here : Line) (found : here ≡ lineAt commentByte t at) where
+module _ (t : List ℕ) (at line : ℕ) (s : State) (h : at < length t) (here : Line) (found : here ≡ lineAt commentByte t at) where
   -- what the code cuts is the line's content
   content-told : take (here .content - at) (drop at t) ≡ contentOf commentByte (firstOf (drop at t) .bytes)
   content-told = ap (λ (l : Line). take (l .content - at) (drop at t)) found ∙ sym (content-at commentByte t at)
@@ -125,17 +125,19 @@ module _ (t : List ℕ) (at line : ℕ) (s : State) (h : at < length t) (on : On
     step-told : step ≡ stepOf (contentOf commentByte (firstOf (drop at t) .bytes)) s
     step-told = taken ∙ ap (λ (c : List ℕ). stepOf c s) content-told
 
-    line-run : run line (lines (drop at t)) s ≡ onward step line (run (line + 1) (lines (drop (here .next) t)))
+    pub line-run : run line (lines (drop at t)) s ≡ onward step line (run (line + 1) (lines (drop (here .next) t)))
     line-run =
         ap (λ (ls : List Raw). run line ls s) (lines-at commentByte t at h)
         ∙ run-cons line (firstOf (drop at t)) (lines (drop (lineAt commentByte t at .next) t)) s
         ∙ (λ i. onward (sym step-told i) line (run (line + 1) (lines (drop (sym found i .next) t))))
 
+module _ (t : List ℕ) (at line : ℕ) (s : State) (h : at < length t) (on : Onward t at line s) (here : Line) (found : here ≡ lineAt commentByte t at) where
+  module _ (step : Step) (taken : step ≡ stepOf (take (here .content - at) (drop at t)) s) where
     pub line-broken : (step .number ≡ 0 → ⊥) → Reached t at line s (record { number = step .number; at = here .next; line = line; state = step .state })
     unfolding resume onward
     line-broken z =
         record {
-          same = if-false _ _ (ne-eqb _ _ z) ∙ sym (line-run ∙ if-false _ _ (ne-eqb _ _ z));
+          same = if-false _ _ (ne-eqb _ _ z) ∙ sym (line-run t at line s h here found step taken ∙ if-false _ _ (ne-eqb _ _ z));
           further = λ (e : step .number ≡ 0). absurd (z e);
           onward = λ (e : step .number ≡ 0). absurd (z e);
         }
@@ -147,7 +149,7 @@ module _ (t : List ℕ) (at line : ℕ) (s : State) (h : at < length t) (on : On
         let w : here .next ≤ length t = rw found (next-within commentByte t at h) in
         let c : line ≤ at + 1 = on .counted in
         record {
-          same = if-true _ _ (eq-eqb 0 0 refl) ∙ sym (line-run ∙ if-true _ _ (eq-eqb _ _ z));
+          same = if-true _ _ (eq-eqb 0 0 refl) ∙ sym (line-run t at line s h here found step taken ∙ if-true _ _ (eq-eqb _ _ z));
           further = λ (e : _≡_ {A = ℕ} 0 0). f;
           onward = λ (e : _≡_ {A = ℕ} 0 0). record { within = w; counted = omega arith; kept = kept-next z };
         }

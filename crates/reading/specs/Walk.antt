@@ -8,9 +8,15 @@ use lib.ListN.{length, drop}
 use lib.Dec.{eqb}
 use Rattle.base.specs.If.{if_then_else_}
 use Rattle.text.specs.Lines.{lines}
+use Rattle.place.specs.Place.{before, done}
+use Rattle.matrix.specs.declared.Matrix.{Matrix}
 use Rattle.block.specs.Kept.{Kept}
+use Rattle.block.specs.declared.Counts.{Counts}
 use Rattle.block.specs.declared.State.{State}
-use Rattle.reading.specs.Reading.{run}
+use Rattle.reading.specs.Reading.{goes, breaks, lineStep, stepOf, run}
+use Rattle.reading.specs.declared.Step.{Step}
+use Rattle.reading.specs.declared.Front.{Front}
+use Rattle.reading.specs.declared.Front.the-variants.{Blanks, Words, Opening}
 use Rattle.reading.specs.declared.Walk.{Walk}
 use Rattle.reading.specs.declared.Reading.{Reading}
 use Rattle.reading.specs.declared.Reading.the-variants.{Refused}
@@ -37,10 +43,43 @@ pub record Continued (t : List ℕ) (w v : Walk) : Type 0 where
   pub further : v .number ≡ 0 → w .at ≤ v .at
   pub onward : v .number ≡ 0 → Onward t (v .at) (v .line) (v .state)
 
--- lines that change nothing, wherever they stand in this place, are passed: from behind them the text comes to the same
-pub record Passed (t : List ℕ) (at line place further number : ℕ) : Type 0 where
-  pub same : (s : State) → s .place ≡ place → run number (lines (drop further t)) s ≡ run line (lines (drop at t)) s
+-- ---- lines gone over with a part of the state alone
+
+-- `fits` says which states the lines are met in, `put` what each of them has become behind them: from there the text comes to the same.
+-- A line that breaks a rule is the last.
+pub record Crossed (t : List ℕ) (at line : ℕ) (fits : State → Type 0) (put : State → State) (number further last : ℕ) : Type 0 where
+  pub same : (s : State) → fits s → resume t (record { number = number; at = further; line = last; state = put s }) ≡ run line (lines (drop at t)) s
+  pub kept : number ≡ 0 → (s : State) → fits s → Kept line s → Kept last (put s)
   pub onward : at ≤ further
   pub within : further ≤ length t
-  pub raised : line ≤ number
-  pub counted : number + at ≤ line + further
+  pub raised : line ≤ last
+  pub counted : last + at ≤ line + further
+
+-- lines that change nothing, wherever they stand in this place
+abbrev pub Passed : List ℕ → ℕ → ℕ → ℕ → ℕ → ℕ → Type 0
+Passed t at line here further last = Crossed t at line (λ (s : State). s .place ≡ here) (λ (s : State). s) 0 further last
+
+-- the place, and a part as it was put
+abbrev pub Holds : ℕ → (State → State) → State → Type 0
+Holds here put s = (s .place ≡ here) × (s ≡ put s)
+
+-- in a place the part that was put decides what a line breaks, and what is put after it
+abbrev pub Decides : ℕ → (State → State) → (State → Step) → ℕ → (State → State) → Type 0
+Decides here put step number next = (s : State) → s .place ≡ here → step (put s) ≡ breaks number (next s)
+
+-- what the front of a line says of it between [Begin Header] and [End]
+abbrev pub Fronted : List ℕ → Front → Type 0
+Fronted content Blanks = (s : State) → stepOf content s ≡ goes s
+Fronted content Words = (s : State) → (s .place ≡ done → ⊥) → (s .place ≡ before → ⊥) → stepOf content s ≡ lineStep content s
+Fronted content Opening = Unit {0}
+
+-- ---- the parts
+
+abbrev withValues : ℕ → Counts → Counts
+withValues n c =
+    record { models = c .models; steps = c .steps; maps = c .maps; pins = c .pins; sections = c .sections; matrices = c .matrices; values = n }
+
+-- a matrix, and how many values have been read
+abbrev pub withMatrix : Matrix → ℕ → State → State
+withMatrix m n s =
+    record { place = s .place; seen = s .seen; head = s .head; path = s .path; map = s .map; section = s .section; matrix = m; counts = withValues n (s .counts) }

@@ -12,13 +12,17 @@ ghost use Rattle.argument.specs.Argument.{isReserved};
 ghost use Rattle.block.specs.declared.State.{State};
 ghost use Rattle.keyword.specs.Bracket.{bracketOf};
 ghost use Rattle.keyword.specs.declared.Bracket.the-variants.{Plain, Indented, Keyword};
-ghost use Rattle.reading.specs.Walk.{Reached, Onward, Passed};
+ghost use Rattle.reading.specs.Walk.{Reached, Onward, Passed, Crossed, Holds, Decides, Fronted, withMatrix};
+use base::Class;
 use block::Counts;
 use block::State;
 use keyword::Bracket;
+use matrix::Matrix;
 
 // "From `|` on, a line is comment".
 const COMMENT: u8 = b'|';
+
+const OPENING: u8 = b'[';
 
 const LINE_FEED: u8 = 10;
 
@@ -141,22 +145,57 @@ fn pin_step(content: &[u8], s: State) -> Step
     goes_on(next)
 }
 
+// A line of a matrix, with no more of the state than it changes: whether it is taken here, the rule that it breaks, and the matrix
+// and the count of values behind it.
+struct Data {
+    taken: bool,
+    number: u64,
+    matrix: Matrix,
+    values: u64,
+}
+
+fn data_line(content: &[u8], matrix: Matrix, values: u64) -> Data
+    ensures { λ r. ⌜ (r .taken ≡ true) × Decides place.matrix (withMatrix matrix values) (lineStep (now (content .entry))) (r .number) (withMatrix (r .matrix) (r .values)) ⌝ }
+{
+    let line = matrix::data_line(matrix.form, content);
+    let number = matrix::data_rule(line, matrix, values);
+    if number != 0 {
+        return Data {
+            taken: true,
+            number,
+            matrix,
+            values,
+        };
+    }
+    Data {
+        taken: true,
+        number: 0,
+        matrix: matrix::data_next(line, matrix),
+        values: values + line.numbers,
+    }
+}
+
+// What is remembered with the matrix and the values that a line has left.
+fn with_data(part: Data, s: State) -> State
+    ensures { λ r. ⌜ r ≡ withMatrix (part .matrix) (part .values) s ⌝ }
+{
+    let matrix = part.matrix;
+    let mut counts = s.counts;
+    counts.values = part.values;
+    let mut next = s;
+    next.matrix = matrix;
+    next.counts = counts;
+    next
+}
+
 fn data_step(content: &[u8], s: State) -> Step
     requires { ⌜ s .place ≡ place.matrix ⌝ }
     ensures { λ r. ⌜ r ≡ lineStep (now (content .entry)) s ⌝ }
 {
     let matrix = s.matrix;
-    let mut counts = s.counts;
-    let line = matrix::data_line(matrix.form, content);
-    let number = matrix::data_rule(line, matrix, counts.values);
-    if number != 0 {
-        return stops(number, s);
-    }
-    counts.values = counts.values + line.numbers;
-    let mut next = s;
-    next.matrix = matrix::data_next(line, matrix);
-    next.counts = counts;
-    goes_on(next)
+    let counts = s.counts;
+    let part = data_line(content, matrix, counts.values);
+    stops(part.number, with_data(part, s))
 }
 
 // A line without a keyword: what its place takes. Data lines come first, since most lines of a file are such.
@@ -374,22 +413,112 @@ fn pass_quiet(text: &[u8], at: usize, line: u64, place: u64) -> Passing
     }
 }
 
+// ---- lines that change one part
+
+// What stands at the front of a line: nothing, words, or a bracket.
+enum Front {
+    Blanks,
+    Words,
+    Opening,
+}
+
+fn front_of(content: &[u8]) -> Front
+    ensures { λ r. ⌜ Fronted (now (content .entry)) r ⌝ }
+{
+    let front = base::skip(Class::Blank, content, 0);
+    if front == content.len() {
+        return Front::Blanks;
+    }
+    if base::byte_at(content, front) == OPENING {
+        return Front::Opening;
+    }
+    Front::Words
+}
+
+// A line between the keywords of a matrix.
+fn take_data(content: &[u8], matrix: Matrix, values: u64) -> Data
+    ensures { λ r. ⌜ (r .taken ≡ true → Decides place.matrix (withMatrix matrix values) (stepOf (now (content .entry))) (r .number) (withMatrix (r .matrix) (r .values))) ⌝ }
+{
+    match front_of(content) {
+        Front::Blanks => Data {
+            taken: true,
+            number: 0,
+            matrix,
+            values,
+        },
+        Front::Words => data_line(content, matrix, values),
+        Front::Opening => Data {
+            taken: false,
+            number: 0,
+            matrix,
+            values,
+        },
+    }
+}
+
+// Where the lines between two keywords of a matrix end, or which rule one of them breaks, and what they come to.
+struct DataWalk {
+    at: usize,
+    line: u64,
+    part: Data,
+}
+
+// Goes over the lines between two keywords of a matrix.
+fn pass_data(text: &[u8], at: usize, line: u64, matrix: Matrix, values: u64) -> DataWalk
+    requires { ⌜ (at ≤ length (now text)) × (line ≤ at + 1) ⌝ }
+    ensures { λ r. ⌜ Crossed (now (text .entry)) at line (Holds place.matrix (withMatrix matrix values)) (withMatrix (r .part .matrix) (r .part .values)) (r .part .number) (r .at) (r .line) ⌝ }
+{
+    let mut here = at;
+    let mut number = line;
+    let mut part = Data {
+        taken: true,
+        number: 0,
+        matrix,
+        values,
+    };
+    while here < text.len() {
+        if base::byte_at(text, here) == OPENING {
+            return DataWalk {
+                at: here,
+                line: number,
+                part,
+            };
+        }
+        let found = text::line_at(text, here, COMMENT);
+        let content = found.content;
+        let next = take_data(&text[here..content], part.matrix, part.values);
+        if !next.taken {
+            return DataWalk {
+                at: here,
+                line: number,
+                part,
+            };
+        }
+        here = found.next;
+        part = next;
+        if part.number != 0 {
+            return DataWalk {
+                at: here,
+                line: number,
+                part,
+            };
+        }
+        number += 1;
+    }
+    DataWalk {
+        at: here,
+        line: number,
+        part,
+    }
+}
+
 // ---- the whole text
 
-// The line at a place, or those that change nothing: each byte is gone over a bounded number of times.
-fn read_line(text: &[u8], at: usize, line: u64, s: State) -> Walk
+// The line at a place: each byte is gone over a bounded number of times.
+fn read_one(text: &[u8], at: usize, line: u64, s: State) -> Walk
     requires { ⌜ (at < length (now text)) × Onward (now text) at line s ⌝ }
     ensures { λ r. ⌜ Reached (now (text .entry)) at line s r ⌝ }
 {
-    let passing = pass_quiet(text, at, line, s.place);
-    if at < passing.at {
-        return Walk {
-            number: 0,
-            at: passing.at,
-            line: passing.line,
-            state: s,
-        };
-    }
     let here = text::line_at(text, at, COMMENT);
     let content = here.content;
     let taken = take_line(&text[at..content], s);
@@ -408,6 +537,46 @@ fn read_line(text: &[u8], at: usize, line: u64, s: State) -> Walk
         line: line + 1,
         state,
     }
+}
+
+// The lines up to the next keyword in a matrix, or that keyword's line.
+fn read_data(text: &[u8], at: usize, line: u64, s: State) -> Walk
+    requires { ⌜ (at < length (now text)) × Onward (now text) at line s × (s .place ≡ place.matrix) ⌝ }
+    ensures { λ r. ⌜ Reached (now (text .entry)) at line s r ⌝ }
+{
+    let matrix = s.matrix;
+    let counts = s.counts;
+    let walk = pass_data(text, at, line, matrix, counts.values);
+    if at < walk.at {
+        let part = walk.part;
+        return Walk {
+            number: part.number,
+            at: walk.at,
+            line: walk.line,
+            state: with_data(part, s),
+        };
+    }
+    read_one(text, at, line, s)
+}
+
+// The line at a place, or lines that change nothing or one part alone.
+fn read_line(text: &[u8], at: usize, line: u64, s: State) -> Walk
+    requires { ⌜ (at < length (now text)) × Onward (now text) at line s ⌝ }
+    ensures { λ r. ⌜ Reached (now (text .entry)) at line s r ⌝ }
+{
+    if s.place == place::MATRIX {
+        return read_data(text, at, line, s);
+    }
+    let passing = pass_quiet(text, at, line, s.place);
+    if at < passing.at {
+        return Walk {
+            number: 0,
+            at: passing.at,
+            line: passing.line,
+            state: s,
+        };
+    }
+    read_one(text, at, line, s)
 }
 
 // How many fork blocks are open.

@@ -1,14 +1,14 @@
 -- `reading::pass_quiet` meets its contract. The loop's invariant: from where it has come the text comes to the same.
 -- Assumes nothing.
 use borrow.Author.Needs.{needs}
-use mathlib.Core.Path.{_≡_}
+use mathlib.Core.Path.{refl}
 use Prim.Native.Nat.{_+_, _-_, _≤_}
-use native.Mathlib.Omega.{arith}
 use lib.ListN.{length}
 use borrow.Author.Tests.{not-false}
 use Rattle.reading.specs.Walk.{Passed}
 use Rattle.reading.proofs.WalkLaws.{content-start, content-within}
-use Rattle.reading.proofs.QuietLaws.{passed-none, passed-on, passed-less}
+use Rattle.reading.proofs.QuietLaws.{quiet-decides}
+use Rattle.reading.proofs.CrossLaws.{crossed-none, crossed-on, crossed-less}
 use Rattle.reading.proofs.pass_quiet.Statement.{statement}
 use Rattle.reading.proofs.pass_quiet.Tie as tie
 
@@ -19,7 +19,7 @@ abbrev μ-loop : tie.MeasureT-loop
 μ-loop text at line place here₀ number₀ here number = length text - here
 
 loop-holds : tie.Need-loop-holds Inv-loop μ-loop
-loop-holds c = search (needs, passed-none)
+loop-holds c = (search needs, crossed-none _ _ _ _ _ (c .before .pre .0) (λ s f. refl))
 
 may-be-quiet-requires : tie.Need-may-be-quiet-requires Inv-loop μ-loop
 may-be-quiet-requires c κs = search needs
@@ -49,10 +49,10 @@ add-number : tie.Need-add-number Inv-loop μ-loop
 add-number c = search needs
 
 loop-less : tie.Need-loop-less Inv-loop μ-loop
-loop-less c = search passed-less
+loop-less c = search crossed-less
 
 loop-again : tie.Need-loop-again Inv-loop μ-loop
-loop-again c = (search needs, passed-on _ _ _ _ _ _ _ (c .before .before .before .before .before .before .before .loop .inv .1) (c .before .before .before .before .before .before .loop-test .taken) (c .before .before .before .line-at .ensures) (c .before .is-quiet .ensures (not-false _ (c .if2 .left))))
+loop-again c = (search needs, crossed-on _ _ _ _ _ _ _ _ refl (c .before .before .before .before .before .before .before .loop .inv .1) (c .before .before .before .before .before .before .loop-test .taken) _ (c .before .before .before .line-at .ensures) _ _ (quiet-decides _ _ (c .before .is-quiet .ensures (not-false _ (c .if2 .left)))) refl)
 
 returns-3 : tie.Need-returns-3 Inv-loop μ-loop
 returns-3 c = search needs
