@@ -66,7 +66,7 @@ data-fits l m values kept =
     (omega arith, (omega arith, (omega arith, (omega arith, tt)))) kept 3)
 
 -- a pin that breaks nothing is at most the last that a file may have
-pin-total : (content : List ℕ) (m : Map) (total : ℕ) → pinRule content m total ≡ 0 → total < mostPins
+pub pin-total : (content : List ℕ) (m : Map) (total : ℕ) → pinRule content m total ≡ 0 → total < mostPins
 unfolding pinRule
 pin-total content m total kept =
     leb-false mostPins total
@@ -96,7 +96,7 @@ module _ (l : PathLine) (p : Path) (steps : ℕ) where
   step-other step = eqb-false (l .says) side (not-true _ step)
 
   -- a step that breaks nothing; a closed path takes none
-  step-room : pathRule l p steps ≡ 0 → isStep l ≡ true → steps < mostSteps
+  pub step-room : pathRule l p steps ≡ 0 → isStep l ≡ true → steps < mostSteps
   unfolding pathRule
   step-room kept step =
       by-cases _ (eqb (p .stage) closed)
@@ -107,36 +107,17 @@ module _ (l : PathLine) (p : Path) (steps : ℕ) where
 
 -- ---- what the updates ask
 
-pub path-depth : (n : ℕ) (s : State) → Kept n s → s .path .depth ≤ deepest
-path-depth n s h = h .depth
-
 pub grid-bounded : (n : ℕ) (s : State) → Kept n s → Bounded (s .map)
 grid-bounded n s h = h .grid
 
--- one step, one pin more can be counted
-pub steps-fit : (n : ℕ) (s : State) → Kept n s → s .counts .steps < 2 ^ 63
-steps-fit n s h =
-    let k : s .counts .steps ≤ mostSteps = h .steps in
-    omega arith
-
-pub pins-fit : (n : ℕ) (s : State) → Kept n s → s .counts .pins < 2 ^ 63
-pins-fit n s h =
-    let k : s .counts .pins ≤ mostPins = h .pins in
-    omega arith
-
 module _ (content : List ℕ) (s : State) where
-  pub pins-few : s .place ≡ place.pins → lineRule content s ≡ 0 → s .map .pins < 4_294_967_296
-  pins-few e kept =
-      let k : s .map .pins < 256 = pin-fits content (s .map) (s .counts .pins) (sym (pins-rule content s e) ∙ kept) in
-      omega arith
-
-  pub pins-room : s .place ≡ place.pins → lineRule content s ≡ 0 → s .counts .pins < mostPins
+  pins-room : s .place ≡ place.pins → lineRule content s ≡ 0 → s .counts .pins < mostPins
   pins-room e kept = pin-total content (s .map) (s .counts .pins) (sym (pins-rule content s e) ∙ kept)
 
-  pub steps-room : s .place ≡ place.path → lineRule content s ≡ 0 → isStep (pathLineOf content) ≡ true → s .counts .steps < mostSteps
+  steps-room : s .place ≡ place.path → lineRule content s ≡ 0 → isStep (pathLineOf content) ≡ true → s .counts .steps < mostSteps
   steps-room e kept step = step-room (pathLineOf content) (s .path) (s .counts .steps) (sym (path-rule content s e) ∙ kept) step
 
-  pub values-fit : s .place ≡ place.matrix → lineRule content s ≡ 0 → s .counts .values + dataLineOf (s .matrix .form) content .numbers ≤ 65_536
+  values-fit : s .place ≡ place.matrix → lineRule content s ≡ 0 → s .counts .values + dataLineOf (s .matrix .form) content .numbers ≤ 65_536
   values-fit e kept = data-fits (dataLineOf (s .matrix .form) content) (s .matrix) (s .counts .values) (sym (matrix-rule content s e) ∙ kept)
 
 -- an integer has at most 9 digits

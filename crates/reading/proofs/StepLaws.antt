@@ -3,7 +3,7 @@
 use mathlib.Core.Path.{_≡_, refl, sym, _∙_, ap}
 use mathlib.Core.Bool.{Bool, true, false, not}
 use mathlib.Core.List.{List, [], _∷_}
-use Prim.Native.Nat.{ℕ, _+_, _-_, _≤_, _<_}
+use Prim.Native.Nat.{ℕ, _+_, _-_, _^_, _≤_, _<_}
 use native.Mathlib.Omega.{arith}
 use lib.Dec.{eqb}
 use borrow.Author.Tests.{eq-eqb, ne-eqb, eqb-true, eqb-false, ltb-false}
@@ -16,20 +16,21 @@ use Rattle.argument.specs.Argument.{isReserved}
 use Rattle.head.specs.Head.{headLineOf, headRule, headNext}
 use Rattle.head.specs.declared.Head.{Head}
 use Rattle.head.specs.declared.HeadLine.{HeadLine}
-use Rattle.path.specs.Path.{pathLineOf, pathRule, pathNext, isStep}
+use Rattle.path.specs.Path.{mostSteps, pathLineOf, pathRule, pathNext, isStep}
+use Rattle.path.proofs.DepthLaws.{depth-within}
 use Rattle.path.specs.declared.Path.{Path}
 use Rattle.path.specs.declared.PathLine.{PathLine}
-use Rattle.pin_map.specs.PinMap.{mapLineOf, mapRule, mapNext, pinRule, withPin}
+use Rattle.pin_map.specs.PinMap.{mostPins, mapLineOf, mapRule, mapNext, pinRule, withPin}
 use Rattle.pin_map.specs.declared.Map.{Map}
 use Rattle.pin_map.specs.declared.MapLine.{MapLine}
 use Rattle.matrix.specs.Matrix.{dataLineOf, dataRule, dataNext, mostValues}
 use Rattle.pin_map.proofs.MapLaws.{pin-fits}
-use Rattle.reading.proofs.KeptLaws.{data-fits}
+use Rattle.reading.proofs.KeptLaws.{data-fits, pin-total, step-room}
 use Rattle.matrix.specs.declared.Matrix.{Matrix}
 use Rattle.matrix.specs.declared.DataLine.{DataLine}
 use Rattle.block.specs.Keywords.{oneMoreIf, keywordRule, keywordNext}
 use Rattle.block.specs.Kept.{Kept, Countable, mostLines}
-use Rattle.block.proofs.KeptLaws.{keyword-bounds, kept-countable}
+use Rattle.block.proofs.KeptLaws.{keyword-bounds, kept-countable, more-within}
 use Rattle.argument.specs.Argument.{isOutOfBounds}
 use Rattle.base.specs.Bytes.{isBlank}
 use Rattle.base.specs.Runs.{run, all}
@@ -45,7 +46,7 @@ use Rattle.block.specs.declared.Counts.{Counts}
 use Rattle.block.specs.declared.State.{State}
 use Rattle.reading.specs.declared.Step.{Step}
 use Rattle.reading.specs.Reading.{listRule, lineRule, countsAfterLine, lineNext, goes, breaks, judged, lineStep, keywordStep, argumentFrom, bracketStep, beforeStep}
-use Rattle.reading.specs.Walk.{Decides, withMatrix}
+use Rattle.reading.specs.Walk.{Decides, Stepping, withPath, withPinned, withMatrix}
 
 -- ---- a line judged
 
@@ -102,27 +103,15 @@ withPlace s p = record { place = p; seen = s .seen; head = s .head; path = s .pa
 abbrev withHead : State → Head → State
 withHead s h = record { place = s .place; seen = s .seen; head = h; path = s .path; map = s .map; section = s .section; matrix = s .matrix; counts = s .counts }
 
-abbrev withSteps : Counts → ℕ → Counts
-withSteps c n = record { models = c .models; steps = n; maps = c .maps; pins = c .pins; sections = c .sections; matrices = c .matrices; values = c .values }
-
-abbrev withPath : State → Path → ℕ → State
-withPath s p n = record { place = s .place; seen = s .seen; head = s .head; path = p; map = s .map; section = s .section; matrix = s .matrix; counts = withSteps (s .counts) n }
-
 abbrev withMap : State → ℕ → Map → State
 withMap s p m = record { place = p; seen = s .seen; head = s .head; path = s .path; map = m; section = s .section; matrix = s .matrix; counts = s .counts }
-
-abbrev withPins : Counts → ℕ → Counts
-withPins c n = record { models = c .models; steps = c .steps; maps = c .maps; pins = n; sections = c .sections; matrices = c .matrices; values = c .values }
-
-abbrev withPinned : State → Map → ℕ → State
-withPinned s m n = record { place = s .place; seen = s .seen; head = s .head; path = s .path; map = m; section = s .section; matrix = s .matrix; counts = withPins (s .counts) n }
 
 module _ (content : List ℕ) (s : State) where
   next-head : s .place ≡ place.head → withHead s (headNext (headLineOf content) (s .head)) ≡ lineNext content s
   unfolding lineNext countsAfterLine movedByLine oneMoreIf both if_then_else_
   next-head e = rw e
 
-  next-path : s .place ≡ place.path → withPath s (pathNext (pathLineOf content) (s .path)) (oneMoreIf (isStep (pathLineOf content)) (s .counts .steps)) ≡ lineNext content s
+  next-path : s .place ≡ place.path → withPath (pathNext (pathLineOf content) (s .path)) (oneMoreIf (isStep (pathLineOf content)) (s .counts .steps)) s ≡ lineNext content s
   unfolding lineNext countsAfterLine movedByLine oneMoreIf both if_then_else_
   next-path e = rw e
 
@@ -130,7 +119,7 @@ module _ (content : List ℕ) (s : State) where
   unfolding lineNext countsAfterLine oneMoreIf both if_then_else_
   next-map e = rw e
 
-  next-pin : s .place ≡ place.pins → withPinned s (withPin (s .map)) (s .counts .pins + 1) ≡ lineNext content s
+  next-pin : s .place ≡ place.pins → withPinned (withPin (s .map)) (s .counts .pins + 1) s ≡ lineNext content s
   unfolding lineNext countsAfterLine movedByLine oneMoreIf both if_then_else_
   next-pin e = rw e
 
@@ -184,19 +173,6 @@ module _ (content : List ℕ) (s : State) (r : Step) where
     head-goes h next told e =
         e ∙ line-goes content s k head-rule h (withHead s next) (ap (withHead s) (told ∙ ap (λ (x : HeadLine). headNext x (s .head)) read) ∙ next-head content s here)
 
-  module _ (here : s .place ≡ place.path) (l : PathLine) (read : l ≡ pathLineOf content) (k : ℕ) (rule : k ≡ pathRule l (s .path) (s .counts .steps)) where
-    path-rule : k ≡ lineRule content s
-    path-rule = rule ∙ ap (λ (x : PathLine). pathRule x (s .path) (s .counts .steps)) read ∙ sym (rule-path content s here)
-
-    pub path-stops : (k ≡ 0 → ⊥) → r ≡ breaks k s → r ≡ lineStep content s
-    path-stops h e = e ∙ line-stops content s k path-rule h
-
-    pub path-goes : k ≡ 0 → (b : Bool) → b ≡ isStep l → (steps : ℕ) → steps ≡ oneMoreIf b (s .counts .steps) → (next : Path) → next ≡ pathNext l (s .path) → r ≡ goes (withPath s next steps) → r ≡ lineStep content s
-    path-goes h b step steps count next told e =
-        let c : steps ≡ oneMoreIf (isStep (pathLineOf content)) (s .counts .steps) = count ∙ ap (λ (x : Bool). oneMoreIf x (s .counts .steps)) (step ∙ ap isStep read) in
-        let p : next ≡ pathNext (pathLineOf content) (s .path) = told ∙ ap (λ (x : PathLine). pathNext x (s .path)) read in
-        e ∙ line-goes content s k path-rule h (withPath s next steps) ((λ i. withPath s (p i) (c i)) ∙ next-path content s here)
-
   module _ (here : s .place ≡ place.mapHead) (l : MapLine) (read : l ≡ mapLineOf content) (k : ℕ) (rule : k ≡ mapRule l (s .map)) where
     map-rule : k ≡ lineRule content s
     map-rule = rule ∙ ap (λ (x : MapLine). mapRule x (s .map)) read ∙ sym (rule-map content s here)
@@ -209,17 +185,6 @@ module _ (content : List ℕ) (s : State) (r : Step) where
         let q : p ≡ movedByLine (s .place) (firstOf (words content)) = move ∙ ap (movedByLine (s .place)) word in
         let m : next ≡ mapNext (mapLineOf content) (s .map) = told ∙ ap (λ (x : MapLine). mapNext x (s .map)) read in
         e ∙ line-goes content s k map-rule h (withMap s p next) ((λ i. withMap s (q i) (m i)) ∙ next-map content s here)
-
-  module _ (here : s .place ≡ place.pins) (k : ℕ) (rule : k ≡ pinRule content (s .map) (s .counts .pins)) where
-    pin-rule : k ≡ lineRule content s
-    pin-rule = rule ∙ sym (rule-pins content s here)
-
-    pub pin-stops : (k ≡ 0 → ⊥) → r ≡ breaks k s → r ≡ lineStep content s
-    pin-stops h e = e ∙ line-stops content s k pin-rule h
-
-    pub pin-goes : k ≡ 0 → (next : Map) → next ≡ withPin (s .map) → r ≡ goes (withPinned s next (s .counts .pins + 1)) → r ≡ lineStep content s
-    pin-goes h next told e =
-        e ∙ line-goes content s k pin-rule h (withPinned s next (s .counts .pins + 1)) ((λ i. withPinned s (told i) (s .counts .pins + 1)) ∙ next-pin content s here)
 
   module _ (here : s .place ≡ place.list) (first : List ℕ) (word : first ≡ firstOf (words content)) (b : Bool) (told : b ≡ isReserved first) where
     list-rule : (k : ℕ) → (if b then 11 else 0) ≡ k → k ≡ lineRule content s
@@ -245,9 +210,13 @@ module _ (content : List ℕ) (s : State) (r : Step) where
 
 -- ---- the same where a part of the state decides
 
-goes-on : (next : State) {r : Step} → goes next ≡ r → r ≡ breaks 0 next
-unfolding goes breaks
-goes-on next e = sym e
+module _ (here : ℕ) (put : State → State) (content : List ℕ) (k : ℕ) (rule : (s : State) → s .place ≡ here → k ≡ lineRule content (put s)) where
+  part-stops : (k ≡ 0 → ⊥) → Decides here put (lineStep content) k put
+  part-stops h s at = sym (line-stops content (put s) k (rule s at) h)
+
+  part-goes : k ≡ 0 → (next : State → State) → ((s : State) → s .place ≡ here → next s ≡ lineNext content (put s)) → Decides here put (lineStep content) 0 next
+  unfolding goes breaks
+  part-goes h next told s at = sym (line-goes content (put s) k (rule s at) h (next s) (told s at))
 
 -- what is decided is the step itself, in a state that has the part
 pub decided-step : (here : ℕ) (put next : State → State) (content : List ℕ) (k : ℕ) → Decides here put (lineStep content) k next → (s after : State) (r : Step) → s .place ≡ here → s ≡ put s →
@@ -255,19 +224,44 @@ pub decided-step : (here : ℕ) (put next : State → State) (content : List ℕ
 decided-step here put next content k decides s after r at same told e =
     e ∙ ap (breaks k) told ∙ sym (decides s at) ∙ ap (lineStep content) (sym same)
 
+module _ (content : List ℕ) (p : Path) (steps : ℕ) (l : PathLine) (read : l ≡ pathLineOf content) (k : ℕ) (rule : k ≡ pathRule l p steps) where
+  path-rule : (s : State) → s .place ≡ place.path → k ≡ lineRule content (withPath p steps s)
+  path-rule s here = rule ∙ ap (λ (x : PathLine). pathRule x p steps) read ∙ sym (rule-path content (withPath p steps s) here)
+
+  pub path-stops : (k ≡ 0 → ⊥) → Decides place.path (withPath p steps) (lineStep content) k (withPath p steps)
+  path-stops = part-stops place.path (withPath p steps) content k path-rule
+
+  pub path-goes : k ≡ 0 → (b : Bool) → b ≡ isStep l → (more : ℕ) → more ≡ oneMoreIf b steps → (next : Path) → next ≡ pathNext l p → Decides place.path (withPath p steps) (lineStep content) 0 (withPath next more)
+  path-goes h b step more count next told =
+      let c : more ≡ oneMoreIf (isStep (pathLineOf content)) steps = count ∙ ap (λ (x : Bool). oneMoreIf x steps) (step ∙ ap isStep read) in
+      let q : next ≡ pathNext (pathLineOf content) p = told ∙ ap (λ (x : PathLine). pathNext x p) read in
+      part-goes place.path (withPath p steps) content k path-rule h (withPath next more)
+      (λ (s : State) (here : s .place ≡ place.path). (λ i. withPath (q i) (c i) s) ∙ next-path content (withPath p steps s) here)
+
+module _ (content : List ℕ) (m : Map) (pins : ℕ) (k : ℕ) (rule : k ≡ pinRule content m pins) where
+  pin-rule : (s : State) → s .place ≡ place.pins → k ≡ lineRule content (withPinned m pins s)
+  pin-rule s here = rule ∙ sym (rule-pins content (withPinned m pins s) here)
+
+  pub pin-stops : (k ≡ 0 → ⊥) → Decides place.pins (withPinned m pins) (lineStep content) k (withPinned m pins)
+  pin-stops = part-stops place.pins (withPinned m pins) content k pin-rule
+
+  pub pin-goes : k ≡ 0 → (next : Map) → next ≡ withPin m → Decides place.pins (withPinned m pins) (lineStep content) 0 (withPinned next (pins + 1))
+  pin-goes h next told =
+      part-goes place.pins (withPinned m pins) content k pin-rule h (withPinned next (pins + 1))
+      (λ (s : State) (here : s .place ≡ place.pins). (λ i. withPinned (told i) (pins + 1) s) ∙ next-pin content (withPinned m pins s) here)
+
 module _ (content : List ℕ) (m : Matrix) (values : ℕ) (l : DataLine) (read : l ≡ dataLineOf (m .form) content) (k : ℕ) (rule : k ≡ dataRule l m values) where
   data-rule : (s : State) → s .place ≡ place.matrix → k ≡ lineRule content (withMatrix m values s)
   data-rule s here = rule ∙ ap (λ (x : DataLine). dataRule x m values) read ∙ sym (rule-matrix content (withMatrix m values s) here)
 
   pub data-stops : (k ≡ 0 → ⊥) → Decides place.matrix (withMatrix m values) (lineStep content) k (withMatrix m values)
-  data-stops h s here = sym (line-stops content (withMatrix m values s) k (data-rule s here) h)
+  data-stops = part-stops place.matrix (withMatrix m values) content k data-rule
 
   pub data-goes : k ≡ 0 → (next : Matrix) → next ≡ dataNext l m → Decides place.matrix (withMatrix m values) (lineStep content) 0 (withMatrix next (values + l .numbers))
-  data-goes h next told s here =
-      let after : next ≡ dataNext (dataLineOf (m .form) content) m = told ∙ ap (λ (x : DataLine). dataNext x m) read in
-      goes-on (withMatrix next (values + l .numbers) s)
-      (line-goes content (withMatrix m values s) k (data-rule s here) h (withMatrix next (values + l .numbers) s)
-      ((λ i. withMatrix (after i) (values + read i .numbers) s) ∙ next-data content (withMatrix m values s) here))
+  data-goes h next told =
+      let q : next ≡ dataNext (dataLineOf (m .form) content) m = told ∙ ap (λ (x : DataLine). dataNext x m) read in
+      part-goes place.matrix (withMatrix m values) content k data-rule h (withMatrix next (values + l .numbers))
+      (λ (s : State) (here : s .place ≡ place.matrix). (λ i. withMatrix (q i) (values + read i .numbers) s) ∙ next-data content (withMatrix m values s) here)
 
 -- ---- sums that fit, from a rule that broke nothing
 
@@ -275,6 +269,24 @@ pub pins-small : (content : List ℕ) (m : Map) (total k : ℕ) → k ≡ pinRul
 pins-small content m total k rule e =
     let h : m .pins < 256 = pin-fits content m total (sym rule ∙ e) in
     omega arith
+
+pub pins-room : (content : List ℕ) (m : Map) (total k : ℕ) → k ≡ pinRule content m total → k ≡ 0 → total < mostPins
+pins-room content m total k rule e = pin-total content m total (sym rule ∙ e)
+
+pub steps-small : (p : Path) (n : ℕ) → Stepping p n → n < 2 ^ 63
+steps-small p n h =
+    let k : n ≤ mostSteps = h .steps in
+    omega arith
+
+pub stepping-kept : (n : ℕ) (s : State) → Kept n s → Stepping (s .path) (s .counts .steps)
+stepping-kept n s kept = record { depth = kept .depth; steps = kept .steps }
+
+pub stepping-on : (l : PathLine) (p : Path) (n k : ℕ) → k ≡ pathRule l p n → k ≡ 0 → Stepping p n → (b : Bool) → b ≡ isStep l → (more : ℕ) → more ≡ oneMoreIf b n → (next : Path) → next ≡ pathNext l p → Stepping next more
+stepping-on l p n k rule e h b step more count next told =
+    record {
+      depth = rw told (depth-within l p n (sym rule ∙ e) (h .depth));
+      steps = rw count (more-within b n mostSteps (λ (t : b ≡ true). step-room l p n (sym rule ∙ e) (sym step ∙ t)) (h .steps));
+    }
 
 pub values-small : (l : DataLine) (m : Matrix) (values k : ℕ) → k ≡ dataRule l m values → k ≡ 0 → values + l .numbers ≤ mostValues
 values-small l m values k rule e = data-fits l m values (sym rule ∙ e)

@@ -17,7 +17,7 @@ use Rattle.base.proofs.RunLaws.{run-le}
 use Rattle.text.specs.Lines.{Raw, lines, contentOf, isBlankLine, lineAt}
 use Rattle.text.specs.declared.Line.{Line}
 use Rattle.text.proofs.LineLaws.{firstOf, lines-at, next-on, next-within, content-at}
-use Rattle.block.specs.Kept.{Kept, mostLines}
+use Rattle.block.specs.Kept.{Kept}
 use Rattle.block.proofs.KeptLaws.{start-kept, keyword-kept, kept-more}
 use Rattle.block.specs.State.{startState}
 use Rattle.block.specs.Keywords.{keywordRule, keywordNext}
@@ -156,12 +156,6 @@ module _ (t : List ℕ) (at line : ℕ) (s : State) (h : at < length t) (on : On
       where
         kept-next : step .number ≡ 0 → Kept (line + 1) (step .state)
         kept-next z = rw taken (step-kept line (take (here .content - at) (drop at t)) s (on .kept) (rw taken at z))
-
--- a text is short enough that every count can be raised
-pub kept-all : (t : List ℕ) (at line : ℕ) (s : State) → at < length t → length t < 9_223_372_036_854_775_808 → Onward t at line s → Kept mostLines s
-kept-all t at line s h l on =
-    let c : line ≤ at + 1 = on .counted in
-    kept-more line mostLines s (on .kept) (omega arith)
 
 -- ---- walks that join
 

@@ -9,6 +9,9 @@ use lib.Dec.{eqb}
 use Rattle.base.specs.If.{if_then_else_}
 use Rattle.text.specs.Lines.{lines}
 use Rattle.place.specs.Place.{before, done}
+use Rattle.path.specs.Path.{deepest, mostSteps}
+use Rattle.path.specs.declared.Path.{Path}
+use Rattle.pin_map.specs.declared.Map.{Map}
 use Rattle.matrix.specs.declared.Matrix.{Matrix}
 use Rattle.block.specs.Kept.{Kept}
 use Rattle.block.specs.declared.Counts.{Counts}
@@ -75,6 +78,47 @@ Fronted content Opening = Unit {0}
 
 -- ---- the parts
 
+abbrev withSteps : ℕ → Counts → Counts
+withSteps n c =
+    record { models = c .models; steps = n; maps = c .maps; pins = c .pins; sections = c .sections; matrices = c .matrices; values = c .values }
+
+-- a path, and how many steps have been read
+abbrev pub withPath : Path → ℕ → State → State
+withPath p n s =
+    record {
+      place = s .place;
+      seen = s .seen;
+      head = s .head;
+      path = p;
+      map = s .map;
+      section = s .section;
+      matrix = s .matrix;
+      counts = withSteps n (s .counts);
+    }
+
+-- so deep and so long that one step more can be counted
+pub record Stepping (p : Path) (n : ℕ) : Type 0 where
+  pub depth : p .depth ≤ deepest
+  pub steps : n ≤ mostSteps
+
+abbrev withPins : ℕ → Counts → Counts
+withPins n c =
+    record { models = c .models; steps = c .steps; maps = c .maps; pins = n; sections = c .sections; matrices = c .matrices; values = c .values }
+
+-- a pin map, and how many pins have been read
+abbrev pub withPinned : Map → ℕ → State → State
+withPinned m n s =
+    record {
+      place = s .place;
+      seen = s .seen;
+      head = s .head;
+      path = s .path;
+      map = m;
+      section = s .section;
+      matrix = s .matrix;
+      counts = withPins n (s .counts);
+    }
+
 abbrev withValues : ℕ → Counts → Counts
 withValues n c =
     record { models = c .models; steps = c .steps; maps = c .maps; pins = c .pins; sections = c .sections; matrices = c .matrices; values = n }
@@ -82,4 +126,13 @@ withValues n c =
 -- a matrix, and how many values have been read
 abbrev pub withMatrix : Matrix → ℕ → State → State
 withMatrix m n s =
-    record { place = s .place; seen = s .seen; head = s .head; path = s .path; map = s .map; section = s .section; matrix = m; counts = withValues n (s .counts) }
+    record {
+      place = s .place;
+      seen = s .seen;
+      head = s .head;
+      path = s .path;
+      map = s .map;
+      section = s .section;
+      matrix = m;
+      counts = withValues n (s .counts);
+    }

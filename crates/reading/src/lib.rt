@@ -12,12 +12,14 @@ ghost use Rattle.argument.specs.Argument.{isReserved};
 ghost use Rattle.block.specs.declared.State.{State};
 ghost use Rattle.keyword.specs.Bracket.{bracketOf};
 ghost use Rattle.keyword.specs.declared.Bracket.the-variants.{Plain, Indented, Keyword};
-ghost use Rattle.reading.specs.Walk.{Reached, Onward, Passed, Crossed, Holds, Decides, Fronted, withMatrix};
+ghost use Rattle.reading.specs.Walk.{Reached, Onward, Passed, Crossed, Holds, Decides, Fronted, Stepping, withPath, withPinned, withMatrix};
 use base::Class;
 use block::Counts;
 use block::State;
 use keyword::Bracket;
 use matrix::Matrix;
+use path::Path;
+use pin_map::Map;
 
 // "From `|` on, a line is comment".
 const COMMENT: u8 = b'|';
@@ -94,22 +96,58 @@ fn head_step(content: &[u8], s: State) -> Step
     goes_on(next)
 }
 
+// A line of a path, with no more of the state than it changes: whether it is taken here, the rule that it breaks, and the path and the
+// count of steps behind it.
+struct Stepped {
+    taken: bool,
+    number: u64,
+    path: Path,
+    steps: u64,
+}
+
+fn path_line(content: &[u8], path: Path, steps: u64) -> Stepped
+    requires { ⌜ Stepping path steps ⌝ }
+    ensures { λ r. ⌜ (r .taken ≡ true) × Decides place.path (withPath path steps) (lineStep (now (content .entry))) (r .number) (withPath (r .path) (r .steps)) × Stepping (r .path) (r .steps) ⌝ }
+{
+    let line = path::path_line(content);
+    let number = path::path_rule(line, path, steps);
+    if number != 0 {
+        return Stepped {
+            taken: true,
+            number,
+            path,
+            steps,
+        };
+    }
+    Stepped {
+        taken: true,
+        number: 0,
+        path: path::path_next(line, path),
+        steps: block::one_more_if(path::is_step(line), steps),
+    }
+}
+
+// What is remembered with the path and the steps that a line has left.
+fn with_stepped(part: Stepped, s: State) -> State
+    ensures { λ r. ⌜ r ≡ withPath (part .path) (part .steps) s ⌝ }
+{
+    let path = part.path;
+    let mut counts = s.counts;
+    counts.steps = part.steps;
+    let mut next = s;
+    next.path = path;
+    next.counts = counts;
+    next
+}
+
 fn path_step(content: &[u8], s: State) -> Step
     requires { ⌜ (s .place ≡ place.path) × Kept mostLines s ⌝ }
     ensures { λ r. ⌜ r ≡ lineStep (now (content .entry)) s ⌝ }
 {
-    let line = path::path_line(content);
     let path = s.path;
-    let mut counts = s.counts;
-    let number = path::path_rule(line, path, counts.steps);
-    if number != 0 {
-        return stops(number, s);
-    }
-    counts.steps = block::one_more_if(path::is_step(line), counts.steps);
-    let mut next = s;
-    next.path = path::path_next(line, path);
-    next.counts = counts;
-    goes_on(next)
+    let counts = s.counts;
+    let part = path_line(content, path, counts.steps);
+    stops(part.number, with_stepped(part, s))
 }
 
 fn map_step(content: &[u8], s: State) -> Step
@@ -128,21 +166,56 @@ fn map_step(content: &[u8], s: State) -> Step
     goes_on(next)
 }
 
+// A pin line, with no more of the state than it changes: whether it is taken here, the rule that it breaks, and the map and the count
+// of pins behind it.
+struct Pinned {
+    taken: bool,
+    number: u64,
+    map: Map,
+    pins: u64,
+}
+
+fn pin_line(content: &[u8], map: Map, pins: u64) -> Pinned
+    ensures { λ r. ⌜ (r .taken ≡ true) × Decides place.pins (withPinned map pins) (lineStep (now (content .entry))) (r .number) (withPinned (r .map) (r .pins)) ⌝ }
+{
+    let number = pin_map::pin_rule(content, map, pins);
+    if number != 0 {
+        return Pinned {
+            taken: true,
+            number,
+            map,
+            pins,
+        };
+    }
+    Pinned {
+        taken: true,
+        number: 0,
+        map: pin_map::with_pin(map),
+        pins: pins + 1,
+    }
+}
+
+// What is remembered with the map and the pins that a line has left.
+fn with_pinned(part: Pinned, s: State) -> State
+    ensures { λ r. ⌜ r ≡ withPinned (part .map) (part .pins) s ⌝ }
+{
+    let map = part.map;
+    let mut counts = s.counts;
+    counts.pins = part.pins;
+    let mut next = s;
+    next.map = map;
+    next.counts = counts;
+    next
+}
+
 fn pin_step(content: &[u8], s: State) -> Step
-    requires { ⌜ (s .place ≡ place.pins) × Kept mostLines s ⌝ }
+    requires { ⌜ s .place ≡ place.pins ⌝ }
     ensures { λ r. ⌜ r ≡ lineStep (now (content .entry)) s ⌝ }
 {
     let map = s.map;
-    let mut counts = s.counts;
-    let number = pin_map::pin_rule(content, map, counts.pins);
-    if number != 0 {
-        return stops(number, s);
-    }
-    counts.pins = counts.pins + 1;
-    let mut next = s;
-    next.map = pin_map::with_pin(map);
-    next.counts = counts;
-    goes_on(next)
+    let counts = s.counts;
+    let part = pin_line(content, map, counts.pins);
+    stops(part.number, with_pinned(part, s))
 }
 
 // A line of a matrix, with no more of the state than it changes: whether it is taken here, the rule that it breaks, and the matrix
@@ -512,6 +585,170 @@ fn pass_data(text: &[u8], at: usize, line: u64, matrix: Matrix, values: u64) -> 
     }
 }
 
+// A line of a pin list.
+fn take_pin(content: &[u8], map: Map, pins: u64) -> Pinned
+    ensures { λ r. ⌜ (r .taken ≡ true → Decides place.pins (withPinned map pins) (stepOf (now (content .entry))) (r .number) (withPinned (r .map) (r .pins))) ⌝ }
+{
+    match front_of(content) {
+        Front::Blanks => Pinned {
+            taken: true,
+            number: 0,
+            map,
+            pins,
+        },
+        Front::Words => pin_line(content, map, pins),
+        Front::Opening => Pinned {
+            taken: false,
+            number: 0,
+            map,
+            pins,
+        },
+    }
+}
+
+// Where the pin lines end, or which rule one of them breaks, and what they come to.
+struct PinWalk {
+    at: usize,
+    line: u64,
+    part: Pinned,
+}
+
+// Goes over the lines of a pin list.
+fn pass_pins(text: &[u8], at: usize, line: u64, map: Map, pins: u64) -> PinWalk
+    requires { ⌜ (at ≤ length (now text)) × (line ≤ at + 1) ⌝ }
+    ensures { λ r. ⌜ Crossed (now (text .entry)) at line (Holds place.pins (withPinned map pins)) (withPinned (r .part .map) (r .part .pins)) (r .part .number) (r .at) (r .line) ⌝ }
+{
+    let mut here = at;
+    let mut number = line;
+    let mut part = Pinned {
+        taken: true,
+        number: 0,
+        map,
+        pins,
+    };
+    while here < text.len() {
+        if base::byte_at(text, here) == OPENING {
+            return PinWalk {
+                at: here,
+                line: number,
+                part,
+            };
+        }
+        let found = text::line_at(text, here, COMMENT);
+        let content = found.content;
+        let next = take_pin(&text[here..content], part.map, part.pins);
+        if !next.taken {
+            return PinWalk {
+                at: here,
+                line: number,
+                part,
+            };
+        }
+        here = found.next;
+        part = next;
+        if part.number != 0 {
+            return PinWalk {
+                at: here,
+                line: number,
+                part,
+            };
+        }
+        number += 1;
+    }
+    PinWalk {
+        at: here,
+        line: number,
+        part,
+    }
+}
+
+// A line of a path.
+fn take_step(content: &[u8], path: Path, steps: u64) -> Stepped
+    requires { ⌜ Stepping path steps ⌝ }
+    ensures { λ r. ⌜ (r .taken ≡ true → Decides place.path (withPath path steps) (stepOf (now (content .entry))) (r .number) (withPath (r .path) (r .steps))) × Stepping (r .path) (r .steps) ⌝ }
+{
+    match front_of(content) {
+        Front::Blanks => Stepped {
+            taken: true,
+            number: 0,
+            path,
+            steps,
+        },
+        Front::Words => path_line(content, path, steps),
+        Front::Opening => Stepped {
+            taken: false,
+            number: 0,
+            path,
+            steps,
+        },
+    }
+}
+
+// Where lines of a path end, or which rule one of them breaks, and what they come to.
+struct PathWalk {
+    at: usize,
+    line: u64,
+    part: Stepped,
+}
+
+// Goes over the lines of a path, up to one that opens or closes a fork block.
+fn pass_path(text: &[u8], at: usize, line: u64, path: Path, steps: u64) -> PathWalk
+    requires { ⌜ (at ≤ length (now text)) × (line ≤ at + 1) × Stepping path steps ⌝ }
+    ensures { λ r. ⌜ Crossed (now (text .entry)) at line (Holds place.path (withPath path steps)) (withPath (r .part .path) (r .part .steps)) (r .part .number) (r .at) (r .line) ⌝ }
+{
+    let depth = path.depth;
+    let mut here = at;
+    let mut number = line;
+    let mut part = Stepped {
+        taken: true,
+        number: 0,
+        path,
+        steps,
+    };
+    while here < text.len() {
+        if base::byte_at(text, here) == OPENING {
+            return PathWalk {
+                at: here,
+                line: number,
+                part,
+            };
+        }
+        let found = text::line_at(text, here, COMMENT);
+        let content = found.content;
+        let next = take_step(&text[here..content], part.path, part.steps);
+        if !next.taken {
+            return PathWalk {
+                at: here,
+                line: number,
+                part,
+            };
+        }
+        here = found.next;
+        part = next;
+        if part.number != 0 {
+            return PathWalk {
+                at: here,
+                line: number,
+                part,
+            };
+        }
+        number += 1;
+        let reached = part.path;
+        if reached.depth != depth {
+            return PathWalk {
+                at: here,
+                line: number,
+                part,
+            };
+        }
+    }
+    PathWalk {
+        at: here,
+        line: number,
+        part,
+    }
+}
+
 // ---- the whole text
 
 // The line at a place: each byte is gone over a bounded number of times.
@@ -559,6 +796,46 @@ fn read_data(text: &[u8], at: usize, line: u64, s: State) -> Walk
     read_one(text, at, line, s)
 }
 
+// The lines up to the keyword behind a pin list, or that keyword's line.
+fn read_pins(text: &[u8], at: usize, line: u64, s: State) -> Walk
+    requires { ⌜ (at < length (now text)) × Onward (now text) at line s × (s .place ≡ place.pins) ⌝ }
+    ensures { λ r. ⌜ Reached (now (text .entry)) at line s r ⌝ }
+{
+    let map = s.map;
+    let counts = s.counts;
+    let walk = pass_pins(text, at, line, map, counts.pins);
+    if at < walk.at {
+        let part = walk.part;
+        return Walk {
+            number: part.number,
+            at: walk.at,
+            line: walk.line,
+            state: with_pinned(part, s),
+        };
+    }
+    read_one(text, at, line, s)
+}
+
+// The lines of a path up to one that opens or closes a fork block, or the line of a keyword.
+fn read_path(text: &[u8], at: usize, line: u64, s: State) -> Walk
+    requires { ⌜ (at < length (now text)) × Onward (now text) at line s × (s .place ≡ place.path) ⌝ }
+    ensures { λ r. ⌜ Reached (now (text .entry)) at line s r ⌝ }
+{
+    let path = s.path;
+    let counts = s.counts;
+    let walk = pass_path(text, at, line, path, counts.steps);
+    if at < walk.at {
+        let part = walk.part;
+        return Walk {
+            number: part.number,
+            at: walk.at,
+            line: walk.line,
+            state: with_stepped(part, s),
+        };
+    }
+    read_one(text, at, line, s)
+}
+
 // The line at a place, or lines that change nothing or one part alone.
 fn read_line(text: &[u8], at: usize, line: u64, s: State) -> Walk
     requires { ⌜ (at < length (now text)) × Onward (now text) at line s ⌝ }
@@ -566,6 +843,12 @@ fn read_line(text: &[u8], at: usize, line: u64, s: State) -> Walk
 {
     if s.place == place::MATRIX {
         return read_data(text, at, line, s);
+    }
+    if s.place == place::PATH {
+        return read_path(text, at, line, s);
+    }
+    if s.place == place::PINS {
+        return read_pins(text, at, line, s);
     }
     let passing = pass_quiet(text, at, line, s.place);
     if at < passing.at {

@@ -1,39 +1,23 @@
--- `reading::pin_step` meets its contract: the rule, then what is remembered.
+-- `reading::pin_step` meets its contract: what the map and the pins decide.
 -- Assumes nothing.
-use Rattle.reading.proofs.StepLaws.{pin-stops, pin-goes, pins-small}
+use mathlib.Core.Path.{refl}
+use Rattle.reading.proofs.StepLaws.{decided-step}
 use borrow.Author.Needs.{needs}
 use Rattle.reading.proofs.pin_step.Statement.{statement}
 use Rattle.reading.proofs.pin_step.Tie as tie
 
-pin-rule-requires : tie.Need-pin-rule-requires
-pin-rule-requires c κs = search needs
+pin-line-requires : tie.Need-pin-line-requires
+pin-line-requires c κs = search needs
+
+with-pinned-requires : tie.Need-with-pinned-requires
+with-pinned-requires c κs = search needs
 
 stops-requires : tie.Need-stops-requires
 stops-requires c κs = search needs
 
 returns : tie.Need-returns
-returns c = search pin-stops
-
-add-counts : tie.Need-add-counts
-add-counts c = search needs
-
-with-pin-requires : tie.Need-with-pin-requires
-with-pin-requires c κs = search pins-small
-
-goes-on-requires : tie.Need-goes-on-requires
-goes-on-requires c κs = search needs
-
-returns-2 : tie.Need-returns-2
-returns-2 c = search pin-goes
+returns c = decided-step _ _ _ _ _ (c .before .before .pin-line .ensures .1) _ _ _ (c .before .before .before .before .before .before .pre) refl (c .before .with-pinned .ensures) (c .stops .ensures)
 
 pub pin-step-spec : {M : Type 1} → statement M
 pin-step-spec =
-    tie.close
-    (tie.spec
-    pin-rule-requires
-    stops-requires
-    returns
-    add-counts
-    with-pin-requires
-    goes-on-requires
-    returns-2)
+    tie.close (tie.spec pin-line-requires with-pinned-requires stops-requires returns)
