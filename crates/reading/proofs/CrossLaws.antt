@@ -15,7 +15,7 @@ use Rattle.text.proofs.LineLaws.{next-on, next-within}
 use Rattle.block.specs.Kept.{Kept}
 use Rattle.block.specs.declared.State.{State}
 use Rattle.reading.specs.Reading.{commentByte, breaks, stepOf, onward, run}
-use Rattle.reading.specs.Walk.{resume, Onward, Reached, Crossed}
+use Rattle.reading.specs.Walk.{resume, Onward, Reached, Crossed, Opens, contentAt, StandsElsewhere, Stays}
 use Rattle.reading.specs.declared.Step.{Step}
 use Rattle.reading.specs.declared.Reading.{Reading}
 use Rattle.reading.specs.declared.Reading.the-variants.{Refused}
@@ -117,3 +117,26 @@ crossed-reached t at line fits put number further last crossed s f on h =
       further = λ (e : number ≡ 0). h;
       onward = λ (e : number ≡ 0). record { within = crossed .within; counted = omega arith; kept = crossed .kept e s f (on .kept) };
     }
+
+-- ---- a walk that has not gone further
+
+module _ (t : List ℕ) (at here : ℕ) where
+  pub stays-opens : (found : Line) → found ≡ lineAt commentByte t here → Opens (take (found .content - here) (drop here t)) → Stays t at here
+  stays-opens found told opens e h =
+      subst (λ (n : ℕ). Opens (contentAt t n)) e (subst (λ (l : Line). Opens (take (l .content - here) (drop here t))) told opens)
+
+  pub stays-moved : (found : Line) → found ≡ lineAt commentByte t here → here < length t → at ≤ here → Stays t at (found .next)
+  stays-moved found told h o e l =
+      let a : here < found .next = rw told (next-on commentByte t here h) in
+      absurd (omega arith)
+
+  pub stays-ended : length t ≤ here → Stays t at here
+  stays-ended h e l = absurd (omega arith)
+
+  pub stays-elsewhere : (p : ℕ) → Stays t at here → at ≤ here → here ≤ at → at < length t → StandsElsewhere (contentAt t at) p
+  stays-elsewhere p stays o n h filled plain =
+      let e : here ≡ at = omega arith in
+      absurd (stays e h plain)
+
+pub elsewhere-here : (t : List ℕ) (at p : ℕ) (found : Line) → found ≡ lineAt commentByte t at → StandsElsewhere (contentAt t at) p → StandsElsewhere (take (found .content - at) (drop at t)) p
+elsewhere-here t at p found told there = subst (λ (l : Line). StandsElsewhere (take (l .content - at) (drop at t)) p) (sym told) there

@@ -2,29 +2,33 @@
 -- decides such a line decides what it comes to.
 -- Assumes nothing.
 use mathlib.Core.Path.{_≡_, refl, sym, _∙_, ap}
-use mathlib.Core.Bool.{Bool, true, false, not}
+use mathlib.Core.Bool.{Bool, true, false, not, true≢false}
 use mathlib.Core.List.{List}
 use Prim.Native.Nat.{ℕ}
+use native.Mathlib.Nat.{zero-add}
 use native.Mathlib.Omega.{arith}
 use lib.ListN.{length, getD}
-use lib.Dec.{eqb}
+use lib.Dec.{ltb, eqb}
 use borrow.Author.Tests.{eq-eqb, ne-eqb, not-true}
+use Rattle.base.specs.If.{if_then_else_}
 use Rattle.base.specs.Bytes.{isBlank}
+use Rattle.base.specs.Runs.{run}
 use Rattle.base.specs.Class.{runEnd}
-use Rattle.base.proofs.IfLaws.{if-true, if-false, by-cases}
+use Rattle.base.proofs.IfLaws.{if-true, if-false, by-test, by-cases}
 use Rattle.text.specs.Lines.{isBlankLine}
 use Rattle.text.specs.Words.{words, firstOf}
-use Rattle.keyword.specs.Bracket.{bracketOf}
+use Rattle.keyword.specs.Names.{unknown, isLater, keyOf}
+use Rattle.keyword.specs.Bracket.{isOpen, isGoodBracket, nameOf, argumentAt, namedAs, bracketOf}
 use Rattle.keyword.specs.declared.Bracket.{Bracket}
-use Rattle.keyword.specs.declared.Bracket.the-variants.{Plain}
+use Rattle.keyword.specs.declared.Bracket.the-variants.{Plain, Indented, Bad, Unknown, Later, Keyword}
 use Rattle.keyword.proofs.BracketLaws.{reads-plain}
 use Rattle.place.specs.Place as place
 use Rattle.argument.specs.Argument.{isReserved}
 use Rattle.block.specs.declared.State.{State}
 use Rattle.reading.specs.Reading.{goes, breaks, lineStep, bracketStep, stepOf}
-use Rattle.reading.specs.Walk.{Decides, Fronted}
+use Rattle.reading.specs.Walk.{Opens, Decides, Fronted}
 use Rattle.reading.specs.declared.Front.{Front}
-use Rattle.reading.specs.declared.Front.the-variants.{Blanks, Words}
+use Rattle.reading.specs.declared.Front.the-variants.{Blanks, Words, Opening}
 use Rattle.reading.proofs.StepLaws.{list-goes, blank-told}
 
 -- ---- blank lines, and those without a bracket
@@ -38,6 +42,34 @@ unfolding stepOf
 plain-step content filled plain s d b =
     if-false _ _ filled ∙ if-false _ _ (ne-eqb _ _ d) ∙ if-false _ _ (ne-eqb _ _ b) ∙ ap (λ (x : Bracket). bracketStep x content s) plain
 
+-- ---- lines with a bracket
+
+abbrev isPlain : Bracket → Bool
+isPlain Plain = true
+isPlain Indented = false
+isPlain Bad = false
+isPlain Unknown = false
+isPlain Later = false
+isPlain (Keyword k start) = false
+
+named-other : (k start : ℕ) → isPlain (namedAs k start) ≡ false
+unfolding namedAs
+named-other k start =
+    by-test (λ (b : Bracket). isPlain b ≡ false) (eqb k unknown) _ _
+    (λ e. refl)
+    (λ e. by-test (λ (b : Bracket). isPlain b ≡ false) (isLater k) _ _ (λ f. refl) (λ f. refl))
+
+-- a bracket that opens is none but those
+opened-other : (content : List ℕ) → isOpen (getD content (run isBlank content) 0) ≡ true → Opens content
+unfolding bracketOf
+opened-other content opens plain = true≢false (sym (ap isPlain plain) ∙ ap isPlain (if-false _ _ (ap not opens)) ∙ other)
+  where
+    other : isPlain (if ltb 0 (run isBlank content) then Indented else if not (isGoodBracket content) then Bad else namedAs (keyOf (nameOf content)) (argumentAt content)) ≡ false
+    other =
+        by-test (λ (b : Bracket). isPlain b ≡ false) (ltb 0 (run isBlank content)) _ _
+        (λ e. refl)
+        (λ e. by-test (λ (b : Bracket). isPlain b ≡ false) (not (isGoodBracket content)) _ _ (λ f. refl) (λ f. named-other (keyOf (nameOf content)) (argumentAt content)))
+
 -- ---- what stands at the front
 
 module _ (content : List ℕ) (front : ℕ) (told : front ≡ runEnd isBlank content 0) where
@@ -47,6 +79,13 @@ module _ (content : List ℕ) (front : ℕ) (told : front ≡ runEnd isBlank con
   pub front-words : (front ≡ length content → ⊥) → (first : ℕ) → first ≡ getD content front 0 → (first ≡ 91 → ⊥) → Fronted content Words
   front-words n first there h s d b =
       plain-step content (sym (blank-told content front told) ∙ ne-eqb _ _ n) (sym (reads-plain content front first told there h)) s d b
+
+  pub front-opens : (first : ℕ) → first ≡ getD content front 0 → first ≡ 91 → Opens content
+  unfolding isOpen
+  front-opens first there e = opened-other content (rw (sym (told ∙ zero-add (run isBlank content)), sym there) (eq-eqb first 91 e))
+
+pub opening-opens : (content : List ℕ) (front : Front) → Fronted content front → front ≡ Opening → Opens content
+opening-opens content front told e = rw e at told
 
 -- ---- lines that change nothing
 

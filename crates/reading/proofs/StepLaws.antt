@@ -1,7 +1,7 @@
 -- Laws of one line: what the rule and the next state are in each place, and what code that has judged a line has to show.
 -- Assumes nothing.
 use mathlib.Core.Path.{_≡_, refl, sym, _∙_, ap}
-use mathlib.Core.Bool.{Bool, true, false, not}
+use mathlib.Core.Bool.{Bool, true, false, true≢false}
 use mathlib.Core.List.{List, [], _∷_}
 use Prim.Native.Nat.{ℕ, _+_, _-_, _^_, _≤_, _<_}
 use native.Mathlib.Omega.{arith}
@@ -46,7 +46,7 @@ use Rattle.block.specs.declared.Counts.{Counts}
 use Rattle.block.specs.declared.State.{State}
 use Rattle.reading.specs.declared.Step.{Step}
 use Rattle.reading.specs.Reading.{listRule, lineRule, countsAfterLine, lineNext, goes, breaks, judged, lineStep, keywordStep, argumentFrom, bracketStep, beforeStep}
-use Rattle.reading.specs.Walk.{Decides, Stepping, withPath, withPinned, withMatrix}
+use Rattle.reading.specs.Walk.{Decides, Stepping, Elsewhere, withPath, withPinned, withMatrix}
 
 -- ---- a line judged
 
@@ -201,12 +201,33 @@ module _ (content : List ℕ) (s : State) (r : Step) where
   unfolding lineRule
   text-goes b told h e = e ∙ line-goes content s 0 (sym (if-true _ _ (sym told ∙ h))) refl s (next-text content s (sym told ∙ h))
 
-  pub other-stops : (s .place ≡ place.matrix → ⊥) → (s .place ≡ place.path → ⊥) → (s .place ≡ place.pins → ⊥) → (s .place ≡ place.list → ⊥) → (s .place ≡ place.mapHead → ⊥) → (s .place ≡ place.head → ⊥) → (b : Bool) → b ≡ isText (s .place) → b ≡ false → r ≡ breaks 12 s → r ≡ lineStep content s
+  pub other-stops : Elsewhere (s .place) → (s .place ≡ place.list → ⊥) → (s .place ≡ place.mapHead → ⊥) → (s .place ≡ place.head → ⊥) → (b : Bool) → b ≡ isText (s .place) → b ≡ false → r ≡ breaks 12 s → r ≡ lineStep content s
   unfolding lineRule
-  other-stops m p n l d h b told f e =
+  other-stops o l d h b told f e =
       e ∙ line-stops content s 12
-      (sym (if-false _ _ (sym told ∙ f) ∙ if-false _ _ (ne-eqb _ _ m) ∙ if-false _ _ (ne-eqb _ _ p) ∙ if-false _ _ (ne-eqb _ _ n) ∙ if-false _ _ (ne-eqb _ _ d) ∙ if-false _ _ (ne-eqb _ _ h) ∙ if-false _ _ (ne-eqb _ _ l)))
+      (sym (if-false _ _ (sym told ∙ f) ∙ if-false _ _ (ne-eqb _ _ (o .matrix)) ∙ if-false _ _ (ne-eqb _ _ (o .path)) ∙ if-false _ _ (ne-eqb _ _ (o .pins)) ∙ if-false _ _ (ne-eqb _ _ d) ∙ if-false _ _ (ne-eqb _ _ h) ∙ if-false _ _ (ne-eqb _ _ l)))
       (λ (z : 12 ≡ 0). omega arith)
+
+-- a text block is none of the places whose lines are gone over together
+text-matrix : isText place.matrix ≡ false
+unfolding isText either if_then_else_
+text-matrix = refl
+
+text-path : isText place.path ≡ false
+unfolding isText either if_then_else_
+text-path = refl
+
+text-pins : isText place.pins ≡ false
+unfolding isText either if_then_else_
+text-pins = refl
+
+pub text-elsewhere : (p : ℕ) (b : Bool) → b ≡ isText p → b ≡ true → Elsewhere p
+text-elsewhere p b told e =
+    record {
+      matrix = λ (h : p ≡ place.matrix). true≢false (sym e ∙ told ∙ ap isText h ∙ text-matrix);
+      path = λ (h : p ≡ place.path). true≢false (sym e ∙ told ∙ ap isText h ∙ text-path);
+      pins = λ (h : p ≡ place.pins). true≢false (sym e ∙ told ∙ ap isText h ∙ text-pins);
+    }
 
 -- ---- the same where a part of the state decides
 
@@ -217,12 +238,6 @@ module _ (here : ℕ) (put : State → State) (content : List ℕ) (k : ℕ) (ru
   part-goes : k ≡ 0 → (next : State → State) → ((s : State) → s .place ≡ here → next s ≡ lineNext content (put s)) → Decides here put (lineStep content) 0 next
   unfolding goes breaks
   part-goes h next told s at = sym (line-goes content (put s) k (rule s at) h (next s) (told s at))
-
--- what is decided is the step itself, in a state that has the part
-pub decided-step : (here : ℕ) (put next : State → State) (content : List ℕ) (k : ℕ) → Decides here put (lineStep content) k next → (s after : State) (r : Step) → s .place ≡ here → s ≡ put s →
-    after ≡ next s → r ≡ breaks k after → r ≡ lineStep content s
-decided-step here put next content k decides s after r at same told e =
-    e ∙ ap (breaks k) told ∙ sym (decides s at) ∙ ap (lineStep content) (sym same)
 
 module _ (content : List ℕ) (p : Path) (steps : ℕ) (l : PathLine) (read : l ≡ pathLineOf content) (k : ℕ) (rule : k ≡ pathRule l p steps) where
   path-rule : (s : State) → s .place ≡ place.path → k ≡ lineRule content (withPath p steps s)

@@ -20,7 +20,7 @@ use Rattle.text.proofs.LineLaws.{firstOf, lines-at, next-on, next-within, conte
 use Rattle.block.specs.Kept.{Kept}
 use Rattle.block.proofs.KeptLaws.{start-kept, keyword-kept, kept-more}
 use Rattle.block.specs.State.{startState}
-use Rattle.block.specs.Keywords.{keywordRule, keywordNext}
+use Rattle.block.specs.Keywords.{keywordRule, keywordNext, oneMoreIf}
 use Rattle.block.specs.declared.State.{State}
 use Rattle.keyword.specs.Names.{beginHeader}
 use Rattle.keyword.specs.Bracket.{bracketOf}
@@ -133,7 +133,7 @@ module _ (t : List ℕ) (at line : ℕ) (s : State) (h : at < length t) (here : 
 
 module _ (t : List ℕ) (at line : ℕ) (s : State) (h : at < length t) (on : Onward t at line s) (here : Line) (found : here ≡ lineAt commentByte t at) where
   module _ (step : Step) (taken : step ≡ stepOf (take (here .content - at) (drop at t)) s) where
-    pub line-broken : (step .number ≡ 0 → ⊥) → Reached t at line s (record { number = step .number; at = here .next; line = line; state = step .state })
+    line-broken : (step .number ≡ 0 → ⊥) → Reached t at line s (record { number = step .number; at = here .next; line = line; state = step .state })
     unfolding resume onward
     line-broken z =
         record {
@@ -142,20 +142,28 @@ module _ (t : List ℕ) (at line : ℕ) (s : State) (h : at < length t) (on : On
           onward = λ (e : step .number ≡ 0). absurd (z e);
         }
 
-    pub line-taken : step .number ≡ 0 → Reached t at line s (record { number = 0; at = here .next; line = line + 1; state = step .state })
+    line-taken : step .number ≡ 0 → Reached t at line s (record { number = step .number; at = here .next; line = line + 1; state = step .state })
     unfolding resume onward
     line-taken z =
         let f : at < here .next = rw found (next-on commentByte t at h) in
         let w : here .next ≤ length t = rw found (next-within commentByte t at h) in
         let c : line ≤ at + 1 = on .counted in
         record {
-          same = if-true _ _ (eq-eqb 0 0 refl) ∙ sym (line-run t at line s h here found step taken ∙ if-true _ _ (eq-eqb _ _ z));
-          further = λ (e : _≡_ {A = ℕ} 0 0). f;
-          onward = λ (e : _≡_ {A = ℕ} 0 0). record { within = w; counted = omega arith; kept = kept-next z };
+          same = if-true _ _ (eq-eqb _ _ z) ∙ sym (line-run t at line s h here found step taken ∙ if-true _ _ (eq-eqb _ _ z));
+          further = λ (e : step .number ≡ 0). f;
+          onward = λ (e : step .number ≡ 0). record { within = w; counted = omega arith; kept = kept-next z };
         }
       where
         kept-next : step .number ≡ 0 → Kept (line + 1) (step .state)
         kept-next z = rw taken (step-kept line (take (here .content - at) (drop at t)) s (on .kept) (rw taken at z))
+
+    -- the next line is the one after it, unless it breaks a rule
+    pub line-reached : (after : ℕ) → after ≡ oneMoreIf (eqb (step .number) 0) line → Reached t at line s (record { number = step .number; at = here .next; line = after; state = step .state })
+    unfolding oneMoreIf
+    line-reached after count =
+        by-cases _ (eqb (step .number) 0)
+        (λ (e : eqb (step .number) 0 ≡ true). rw (count ∙ if-true _ _ e) (line-taken (eqb-true _ _ e)))
+        (λ (e : eqb (step .number) 0 ≡ false). rw (count ∙ if-false _ _ e) (line-broken (eqb-false _ _ e)))
 
 -- ---- walks that join
 

@@ -1,14 +1,18 @@
 -- What the walk over the lines promises: from where it has come to, the rest of the text comes to what the text comes to from where it
 -- started. So it is free to group lines as it likes, a fork block too.
 -- Assumes nothing.
-use Prim.Native.Nat.{ℕ, _+_, _≤_, _<_}
+use Prim.Native.Nat.{ℕ, _+_, _-_, _≤_, _<_}
 use mathlib.Core.Path.{_≡_}
+use mathlib.Core.Bool.{false}
 use mathlib.Core.List.{List}
-use lib.ListN.{length, drop}
+use lib.ListN.{length, take, drop}
 use lib.Dec.{eqb}
 use Rattle.base.specs.If.{if_then_else_}
-use Rattle.text.specs.Lines.{lines}
+use Rattle.text.specs.Lines.{lines, isBlankLine, lineAt}
+use Rattle.keyword.specs.Bracket.{bracketOf}
+use Rattle.keyword.specs.declared.Bracket.the-variants.{Plain}
 use Rattle.place.specs.Place.{before, done}
+use Rattle.place.specs.Place as place
 use Rattle.path.specs.Path.{deepest, mostSteps}
 use Rattle.path.specs.declared.Path.{Path}
 use Rattle.pin_map.specs.declared.Map.{Map}
@@ -16,7 +20,7 @@ use Rattle.matrix.specs.declared.Matrix.{Matrix}
 use Rattle.block.specs.Kept.{Kept}
 use Rattle.block.specs.declared.Counts.{Counts}
 use Rattle.block.specs.declared.State.{State}
-use Rattle.reading.specs.Reading.{goes, breaks, lineStep, stepOf, run}
+use Rattle.reading.specs.Reading.{commentByte, goes, breaks, lineStep, stepOf, run}
 use Rattle.reading.specs.declared.Step.{Step}
 use Rattle.reading.specs.declared.Front.{Front}
 use Rattle.reading.specs.declared.Front.the-variants.{Blanks, Words, Opening}
@@ -70,11 +74,33 @@ Holds here put s = (s .place ≡ here) × (s ≡ put s)
 abbrev pub Decides : ℕ → (State → State) → (State → Step) → ℕ → (State → State) → Type 0
 Decides here put step number next = (s : State) → s .place ≡ here → step (put s) ≡ breaks number (next s)
 
+-- a bracket stands at the front of the line
+abbrev pub Opens : List ℕ → Type 0
+Opens content = bracketOf content ≡ Plain → ⊥
+
+-- the content of the line that starts at a place
+abbrev pub contentAt : List ℕ → ℕ → List ℕ
+contentAt t at = take (lineAt commentByte t at .content - at) (drop at t)
+
+-- none of the places whose lines are gone over together
+pub record Elsewhere (p : ℕ) : Type 0 where
+  pub matrix : p ≡ place.matrix → ⊥
+  pub path : p ≡ place.path → ⊥
+  pub pins : p ≡ place.pins → ⊥
+
+-- so for a line without a bracket that is not blank
+abbrev pub StandsElsewhere : List ℕ → ℕ → Type 0
+StandsElsewhere content p = isBlankLine content ≡ false → bracketOf content ≡ Plain → Elsewhere p
+
+-- a walk that has not gone further than where it started stands at a line with a bracket
+abbrev pub Stays : List ℕ → ℕ → ℕ → Type 0
+Stays t at further = further ≡ at → at < length t → Opens (contentAt t at)
+
 -- what the front of a line says of it between [Begin Header] and [End]
 abbrev pub Fronted : List ℕ → Front → Type 0
 Fronted content Blanks = (s : State) → stepOf content s ≡ goes s
 Fronted content Words = (s : State) → (s .place ≡ done → ⊥) → (s .place ≡ before → ⊥) → stepOf content s ≡ lineStep content s
-Fronted content Opening = Unit {0}
+Fronted content Opening = Opens content
 
 -- ---- the parts
 

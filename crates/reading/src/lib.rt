@@ -12,7 +12,7 @@ ghost use Rattle.argument.specs.Argument.{isReserved};
 ghost use Rattle.block.specs.declared.State.{State};
 ghost use Rattle.keyword.specs.Bracket.{bracketOf};
 ghost use Rattle.keyword.specs.declared.Bracket.the-variants.{Plain, Indented, Keyword};
-ghost use Rattle.reading.specs.Walk.{Reached, Onward, Passed, Crossed, Holds, Decides, Fronted, Stepping, withPath, withPinned, withMatrix};
+ghost use Rattle.reading.specs.Walk.{Reached, Onward, Passed, Crossed, Holds, Decides, Fronted, Stepping, Opens, Elsewhere, StandsElsewhere, contentAt, Stays, withPath, withPinned, withMatrix};
 use base::Class;
 use block::Counts;
 use block::State;
@@ -96,60 +96,6 @@ fn head_step(content: &[u8], s: State) -> Step
     goes_on(next)
 }
 
-// A line of a path, with no more of the state than it changes: whether it is taken here, the rule that it breaks, and the path and the
-// count of steps behind it.
-struct Stepped {
-    taken: bool,
-    number: u64,
-    path: Path,
-    steps: u64,
-}
-
-fn path_line(content: &[u8], path: Path, steps: u64) -> Stepped
-    requires { ⌜ Stepping path steps ⌝ }
-    ensures { λ r. ⌜ (r .taken ≡ true) × Decides place.path (withPath path steps) (lineStep (now (content .entry))) (r .number) (withPath (r .path) (r .steps)) × Stepping (r .path) (r .steps) ⌝ }
-{
-    let line = path::path_line(content);
-    let number = path::path_rule(line, path, steps);
-    if number != 0 {
-        return Stepped {
-            taken: true,
-            number,
-            path,
-            steps,
-        };
-    }
-    Stepped {
-        taken: true,
-        number: 0,
-        path: path::path_next(line, path),
-        steps: block::one_more_if(path::is_step(line), steps),
-    }
-}
-
-// What is remembered with the path and the steps that a line has left.
-fn with_stepped(part: Stepped, s: State) -> State
-    ensures { λ r. ⌜ r ≡ withPath (part .path) (part .steps) s ⌝ }
-{
-    let path = part.path;
-    let mut counts = s.counts;
-    counts.steps = part.steps;
-    let mut next = s;
-    next.path = path;
-    next.counts = counts;
-    next
-}
-
-fn path_step(content: &[u8], s: State) -> Step
-    requires { ⌜ (s .place ≡ place.path) × Kept mostLines s ⌝ }
-    ensures { λ r. ⌜ r ≡ lineStep (now (content .entry)) s ⌝ }
-{
-    let path = s.path;
-    let counts = s.counts;
-    let part = path_line(content, path, counts.steps);
-    stops(part.number, with_stepped(part, s))
-}
-
 fn map_step(content: &[u8], s: State) -> Step
     requires { ⌜ s .place ≡ place.mapHead ⌝ }
     ensures { λ r. ⌜ r ≡ lineStep (now (content .entry)) s ⌝ }
@@ -166,125 +112,12 @@ fn map_step(content: &[u8], s: State) -> Step
     goes_on(next)
 }
 
-// A pin line, with no more of the state than it changes: whether it is taken here, the rule that it breaks, and the map and the count
-// of pins behind it.
-struct Pinned {
-    taken: bool,
-    number: u64,
-    map: Map,
-    pins: u64,
-}
-
-fn pin_line(content: &[u8], map: Map, pins: u64) -> Pinned
-    ensures { λ r. ⌜ (r .taken ≡ true) × Decides place.pins (withPinned map pins) (lineStep (now (content .entry))) (r .number) (withPinned (r .map) (r .pins)) ⌝ }
-{
-    let number = pin_map::pin_rule(content, map, pins);
-    if number != 0 {
-        return Pinned {
-            taken: true,
-            number,
-            map,
-            pins,
-        };
-    }
-    Pinned {
-        taken: true,
-        number: 0,
-        map: pin_map::with_pin(map),
-        pins: pins + 1,
-    }
-}
-
-// What is remembered with the map and the pins that a line has left.
-fn with_pinned(part: Pinned, s: State) -> State
-    ensures { λ r. ⌜ r ≡ withPinned (part .map) (part .pins) s ⌝ }
-{
-    let map = part.map;
-    let mut counts = s.counts;
-    counts.pins = part.pins;
-    let mut next = s;
-    next.map = map;
-    next.counts = counts;
-    next
-}
-
-fn pin_step(content: &[u8], s: State) -> Step
-    requires { ⌜ s .place ≡ place.pins ⌝ }
-    ensures { λ r. ⌜ r ≡ lineStep (now (content .entry)) s ⌝ }
-{
-    let map = s.map;
-    let counts = s.counts;
-    let part = pin_line(content, map, counts.pins);
-    stops(part.number, with_pinned(part, s))
-}
-
-// A line of a matrix, with no more of the state than it changes: whether it is taken here, the rule that it breaks, and the matrix
-// and the count of values behind it.
-struct Data {
-    taken: bool,
-    number: u64,
-    matrix: Matrix,
-    values: u64,
-}
-
-fn data_line(content: &[u8], matrix: Matrix, values: u64) -> Data
-    ensures { λ r. ⌜ (r .taken ≡ true) × Decides place.matrix (withMatrix matrix values) (lineStep (now (content .entry))) (r .number) (withMatrix (r .matrix) (r .values)) ⌝ }
-{
-    let line = matrix::data_line(matrix.form, content);
-    let number = matrix::data_rule(line, matrix, values);
-    if number != 0 {
-        return Data {
-            taken: true,
-            number,
-            matrix,
-            values,
-        };
-    }
-    Data {
-        taken: true,
-        number: 0,
-        matrix: matrix::data_next(line, matrix),
-        values: values + line.numbers,
-    }
-}
-
-// What is remembered with the matrix and the values that a line has left.
-fn with_data(part: Data, s: State) -> State
-    ensures { λ r. ⌜ r ≡ withMatrix (part .matrix) (part .values) s ⌝ }
-{
-    let matrix = part.matrix;
-    let mut counts = s.counts;
-    counts.values = part.values;
-    let mut next = s;
-    next.matrix = matrix;
-    next.counts = counts;
-    next
-}
-
-fn data_step(content: &[u8], s: State) -> Step
-    requires { ⌜ s .place ≡ place.matrix ⌝ }
-    ensures { λ r. ⌜ r ≡ lineStep (now (content .entry)) s ⌝ }
-{
-    let matrix = s.matrix;
-    let counts = s.counts;
-    let part = data_line(content, matrix, counts.values);
-    stops(part.number, with_data(part, s))
-}
-
-// A line without a keyword: what its place takes. Data lines come first, since most lines of a file are such.
+// A line without a keyword: what its place takes. The lines of a matrix, a path and a pin list are not read here but with the part of
+// the state that they change, several at once (`pass_data`, `pass_path`, `pass_pins`).
 fn line_step(content: &[u8], s: State) -> Step
-    requires { ⌜ Kept mostLines s ⌝ }
+    requires { ⌜ Elsewhere (s .place) ⌝ }
     ensures { λ r. ⌜ r ≡ lineStep (now (content .entry)) s ⌝ }
 {
-    if s.place == place::MATRIX {
-        return data_step(content, s);
-    }
-    if s.place == place::PATH {
-        return path_step(content, s);
-    }
-    if s.place == place::PINS {
-        return pin_step(content, s);
-    }
     if s.place == place::LIST {
         return list_step(content, s);
     }
@@ -335,7 +168,6 @@ fn named_step(key: u64, start: usize, content: &[u8], s: State) -> Step
 
 // An indented bracket is text in a text block, and bad elsewhere.
 fn indented_step(content: &[u8], s: State) -> Step
-    requires { ⌜ Kept mostLines s ⌝ }
     ensures { λ r. ⌜ r ≡ bracketStep Indented (now (content .entry)) s ⌝ }
 {
     if place::is_text(s.place) {
@@ -345,7 +177,7 @@ fn indented_step(content: &[u8], s: State) -> Step
 }
 
 fn bracket_step(content: &[u8], s: State) -> Step
-    requires { ⌜ Kept mostLines s ⌝ }
+    requires { ⌜ Kept mostLines s × (bracketOf (now content) ≡ Plain → Elsewhere (s .place)) ⌝ }
     ensures { λ r. ⌜ r ≡ bracketStep (bracketOf (now (content .entry))) (now (content .entry)) s ⌝ }
 {
     match keyword::read_bracket(content) {
@@ -391,7 +223,7 @@ pub fn is_blank_line(content: &[u8]) -> bool
 
 // One line, given by its content.
 fn take_line(content: &[u8], s: State) -> Step
-    requires { ⌜ Kept mostLines s ⌝ }
+    requires { ⌜ Kept mostLines s × StandsElsewhere (now content) (s .place) ⌝ }
     ensures { λ r. ⌜ r ≡ stepOf (now (content .entry)) s ⌝ }
 {
     if is_blank_line(content) {
@@ -508,9 +340,39 @@ fn front_of(content: &[u8]) -> Front
     Front::Words
 }
 
+// A line of a matrix, with no more of the state than it changes: whether it is taken here, the rule that it breaks, and the matrix
+// and the count of values behind it.
+struct Data {
+    taken: bool,
+    number: u64,
+    matrix: Matrix,
+    values: u64,
+}
+
+fn data_line(content: &[u8], matrix: Matrix, values: u64) -> Data
+    ensures { λ r. ⌜ (r .taken ≡ true) × Decides place.matrix (withMatrix matrix values) (lineStep (now (content .entry))) (r .number) (withMatrix (r .matrix) (r .values)) ⌝ }
+{
+    let line = matrix::data_line(matrix.form, content);
+    let number = matrix::data_rule(line, matrix, values);
+    if number != 0 {
+        return Data {
+            taken: true,
+            number,
+            matrix,
+            values,
+        };
+    }
+    Data {
+        taken: true,
+        number: 0,
+        matrix: matrix::data_next(line, matrix),
+        values: values + line.numbers,
+    }
+}
+
 // A line between the keywords of a matrix.
 fn take_data(content: &[u8], matrix: Matrix, values: u64) -> Data
-    ensures { λ r. ⌜ (r .taken ≡ true → Decides place.matrix (withMatrix matrix values) (stepOf (now (content .entry))) (r .number) (withMatrix (r .matrix) (r .values))) ⌝ }
+    ensures { λ r. ⌜ (r .taken ≡ true → Decides place.matrix (withMatrix matrix values) (stepOf (now (content .entry))) (r .number) (withMatrix (r .matrix) (r .values))) × (r .taken ≡ false → Opens (now (content .entry))) ⌝ }
 {
     match front_of(content) {
         Front::Blanks => Data {
@@ -539,7 +401,7 @@ struct DataWalk {
 // Goes over the lines between two keywords of a matrix.
 fn pass_data(text: &[u8], at: usize, line: u64, matrix: Matrix, values: u64) -> DataWalk
     requires { ⌜ (at ≤ length (now text)) × (line ≤ at + 1) ⌝ }
-    ensures { λ r. ⌜ Crossed (now (text .entry)) at line (Holds place.matrix (withMatrix matrix values)) (withMatrix (r .part .matrix) (r .part .values)) (r .part .number) (r .at) (r .line) ⌝ }
+    ensures { λ r. ⌜ Crossed (now (text .entry)) at line (Holds place.matrix (withMatrix matrix values)) (withMatrix (r .part .matrix) (r .part .values)) (r .part .number) (r .at) (r .line) × Stays (now (text .entry)) at (r .at) ⌝ }
 {
     let mut here = at;
     let mut number = line;
@@ -550,13 +412,6 @@ fn pass_data(text: &[u8], at: usize, line: u64, matrix: Matrix, values: u64) -> 
         values,
     };
     while here < text.len() {
-        if base::byte_at(text, here) == OPENING {
-            return DataWalk {
-                at: here,
-                line: number,
-                part,
-            };
-        }
         let found = text::line_at(text, here, COMMENT);
         let content = found.content;
         let next = take_data(&text[here..content], part.matrix, part.values);
@@ -585,9 +440,38 @@ fn pass_data(text: &[u8], at: usize, line: u64, matrix: Matrix, values: u64) -> 
     }
 }
 
+// A pin line, with no more of the state than it changes: whether it is taken here, the rule that it breaks, and the map and the count
+// of pins behind it.
+struct Pinned {
+    taken: bool,
+    number: u64,
+    map: Map,
+    pins: u64,
+}
+
+fn pin_line(content: &[u8], map: Map, pins: u64) -> Pinned
+    ensures { λ r. ⌜ (r .taken ≡ true) × Decides place.pins (withPinned map pins) (lineStep (now (content .entry))) (r .number) (withPinned (r .map) (r .pins)) ⌝ }
+{
+    let number = pin_map::pin_rule(content, map, pins);
+    if number != 0 {
+        return Pinned {
+            taken: true,
+            number,
+            map,
+            pins,
+        };
+    }
+    Pinned {
+        taken: true,
+        number: 0,
+        map: pin_map::with_pin(map),
+        pins: pins + 1,
+    }
+}
+
 // A line of a pin list.
 fn take_pin(content: &[u8], map: Map, pins: u64) -> Pinned
-    ensures { λ r. ⌜ (r .taken ≡ true → Decides place.pins (withPinned map pins) (stepOf (now (content .entry))) (r .number) (withPinned (r .map) (r .pins))) ⌝ }
+    ensures { λ r. ⌜ (r .taken ≡ true → Decides place.pins (withPinned map pins) (stepOf (now (content .entry))) (r .number) (withPinned (r .map) (r .pins))) × (r .taken ≡ false → Opens (now (content .entry))) ⌝ }
 {
     match front_of(content) {
         Front::Blanks => Pinned {
@@ -616,7 +500,7 @@ struct PinWalk {
 // Goes over the lines of a pin list.
 fn pass_pins(text: &[u8], at: usize, line: u64, map: Map, pins: u64) -> PinWalk
     requires { ⌜ (at ≤ length (now text)) × (line ≤ at + 1) ⌝ }
-    ensures { λ r. ⌜ Crossed (now (text .entry)) at line (Holds place.pins (withPinned map pins)) (withPinned (r .part .map) (r .part .pins)) (r .part .number) (r .at) (r .line) ⌝ }
+    ensures { λ r. ⌜ Crossed (now (text .entry)) at line (Holds place.pins (withPinned map pins)) (withPinned (r .part .map) (r .part .pins)) (r .part .number) (r .at) (r .line) × Stays (now (text .entry)) at (r .at) ⌝ }
 {
     let mut here = at;
     let mut number = line;
@@ -627,13 +511,6 @@ fn pass_pins(text: &[u8], at: usize, line: u64, map: Map, pins: u64) -> PinWalk
         pins,
     };
     while here < text.len() {
-        if base::byte_at(text, here) == OPENING {
-            return PinWalk {
-                at: here,
-                line: number,
-                part,
-            };
-        }
         let found = text::line_at(text, here, COMMENT);
         let content = found.content;
         let next = take_pin(&text[here..content], part.map, part.pins);
@@ -662,10 +539,41 @@ fn pass_pins(text: &[u8], at: usize, line: u64, map: Map, pins: u64) -> PinWalk
     }
 }
 
+// A line of a path, with no more of the state than it changes: whether it is taken here, the rule that it breaks, and the path and the
+// count of steps behind it.
+struct Stepped {
+    taken: bool,
+    number: u64,
+    path: Path,
+    steps: u64,
+}
+
+fn path_line(content: &[u8], path: Path, steps: u64) -> Stepped
+    requires { ⌜ Stepping path steps ⌝ }
+    ensures { λ r. ⌜ (r .taken ≡ true) × Decides place.path (withPath path steps) (lineStep (now (content .entry))) (r .number) (withPath (r .path) (r .steps)) × Stepping (r .path) (r .steps) ⌝ }
+{
+    let line = path::path_line(content);
+    let number = path::path_rule(line, path, steps);
+    if number != 0 {
+        return Stepped {
+            taken: true,
+            number,
+            path,
+            steps,
+        };
+    }
+    Stepped {
+        taken: true,
+        number: 0,
+        path: path::path_next(line, path),
+        steps: block::one_more_if(path::is_step(line), steps),
+    }
+}
+
 // A line of a path.
 fn take_step(content: &[u8], path: Path, steps: u64) -> Stepped
     requires { ⌜ Stepping path steps ⌝ }
-    ensures { λ r. ⌜ (r .taken ≡ true → Decides place.path (withPath path steps) (stepOf (now (content .entry))) (r .number) (withPath (r .path) (r .steps))) × Stepping (r .path) (r .steps) ⌝ }
+    ensures { λ r. ⌜ (r .taken ≡ true → Decides place.path (withPath path steps) (stepOf (now (content .entry))) (r .number) (withPath (r .path) (r .steps))) × Stepping (r .path) (r .steps) × (r .taken ≡ false → Opens (now (content .entry))) ⌝ }
 {
     match front_of(content) {
         Front::Blanks => Stepped {
@@ -694,7 +602,7 @@ struct PathWalk {
 // Goes over the lines of a path, up to one that opens or closes a fork block.
 fn pass_path(text: &[u8], at: usize, line: u64, path: Path, steps: u64) -> PathWalk
     requires { ⌜ (at ≤ length (now text)) × (line ≤ at + 1) × Stepping path steps ⌝ }
-    ensures { λ r. ⌜ Crossed (now (text .entry)) at line (Holds place.path (withPath path steps)) (withPath (r .part .path) (r .part .steps)) (r .part .number) (r .at) (r .line) ⌝ }
+    ensures { λ r. ⌜ Crossed (now (text .entry)) at line (Holds place.path (withPath path steps)) (withPath (r .part .path) (r .part .steps)) (r .part .number) (r .at) (r .line) × Stays (now (text .entry)) at (r .at) ⌝ }
 {
     let depth = path.depth;
     let mut here = at;
@@ -706,13 +614,6 @@ fn pass_path(text: &[u8], at: usize, line: u64, path: Path, steps: u64) -> PathW
         steps,
     };
     while here < text.len() {
-        if base::byte_at(text, here) == OPENING {
-            return PathWalk {
-                at: here,
-                line: number,
-                part,
-            };
-        }
         let found = text::line_at(text, here, COMMENT);
         let content = found.content;
         let next = take_step(&text[here..content], part.path, part.steps);
@@ -753,25 +654,17 @@ fn pass_path(text: &[u8], at: usize, line: u64, path: Path, steps: u64) -> PathW
 
 // The line at a place: each byte is gone over a bounded number of times.
 fn read_one(text: &[u8], at: usize, line: u64, s: State) -> Walk
-    requires { ⌜ (at < length (now text)) × Onward (now text) at line s ⌝ }
+    requires { ⌜ (at < length (now text)) × Onward (now text) at line s × StandsElsewhere (contentAt (now text) at) (s .place) ⌝ }
     ensures { λ r. ⌜ Reached (now (text .entry)) at line s r ⌝ }
 {
     let here = text::line_at(text, at, COMMENT);
     let content = here.content;
     let taken = take_line(&text[at..content], s);
     let state = taken.state;
-    if taken.number != 0 {
-        return Walk {
-            number: taken.number,
-            at: here.next,
-            line,
-            state,
-        };
-    }
     Walk {
-        number: 0,
+        number: taken.number,
         at: here.next,
-        line: line + 1,
+        line: block::one_more_if(taken.number == 0, line),
         state,
     }
 }
@@ -782,15 +675,20 @@ fn read_data(text: &[u8], at: usize, line: u64, s: State) -> Walk
     ensures { λ r. ⌜ Reached (now (text .entry)) at line s r ⌝ }
 {
     let matrix = s.matrix;
-    let counts = s.counts;
+    let mut counts = s.counts;
     let walk = pass_data(text, at, line, matrix, counts.values);
     if at < walk.at {
         let part = walk.part;
+        let reached = part.matrix;
+        counts.values = part.values;
+        let mut state = s;
+        state.matrix = reached;
+        state.counts = counts;
         return Walk {
             number: part.number,
             at: walk.at,
             line: walk.line,
-            state: with_data(part, s),
+            state,
         };
     }
     read_one(text, at, line, s)
@@ -802,15 +700,20 @@ fn read_pins(text: &[u8], at: usize, line: u64, s: State) -> Walk
     ensures { λ r. ⌜ Reached (now (text .entry)) at line s r ⌝ }
 {
     let map = s.map;
-    let counts = s.counts;
+    let mut counts = s.counts;
     let walk = pass_pins(text, at, line, map, counts.pins);
     if at < walk.at {
         let part = walk.part;
+        let reached = part.map;
+        counts.pins = part.pins;
+        let mut state = s;
+        state.map = reached;
+        state.counts = counts;
         return Walk {
             number: part.number,
             at: walk.at,
             line: walk.line,
-            state: with_pinned(part, s),
+            state,
         };
     }
     read_one(text, at, line, s)
@@ -822,15 +725,20 @@ fn read_path(text: &[u8], at: usize, line: u64, s: State) -> Walk
     ensures { λ r. ⌜ Reached (now (text .entry)) at line s r ⌝ }
 {
     let path = s.path;
-    let counts = s.counts;
+    let mut counts = s.counts;
     let walk = pass_path(text, at, line, path, counts.steps);
     if at < walk.at {
         let part = walk.part;
+        let reached = part.path;
+        counts.steps = part.steps;
+        let mut state = s;
+        state.path = reached;
+        state.counts = counts;
         return Walk {
             number: part.number,
             at: walk.at,
             line: walk.line,
-            state: with_stepped(part, s),
+            state,
         };
     }
     read_one(text, at, line, s)

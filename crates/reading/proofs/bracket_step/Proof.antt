@@ -1,5 +1,6 @@
 -- `reading::bracket_step` meets its contract: by what the bracket says.
 -- Assumes nothing.
+use mathlib.Core.Path.{sym, _∙_}
 use Rattle.reading.proofs.StepLaws.{bracket-told}
 use borrow.Author.Needs.{needs}
 use Rattle.reading.proofs.bracket_step.Statement.{statement}
@@ -12,7 +13,7 @@ enum-told : tie.Need-enum-told
 enum-told c = search needs
 
 line-step-requires : tie.Need-line-step-requires
-line-step-requires c κs = search needs
+line-step-requires c κs = c .before .before .before .before .pre .1 (sym (c .before .before .read-bracket .ensures) ∙ c .enum-told .given .1)
 
 enum-told-2 : tie.Need-enum-told-2
 enum-told-2 c = search needs

@@ -1,5 +1,6 @@
 -- `reading::indented_step` meets its contract: by the place.
 -- Assumes nothing.
+use Rattle.reading.proofs.StepLaws.{text-elsewhere}
 use Rattle.base.proofs.IfLaws.{chain}
 use borrow.Author.Needs.{needs}
 use Rattle.reading.proofs.indented_step.Statement.{statement}
@@ -9,7 +10,7 @@ is-text-requires : tie.Need-is-text-requires
 is-text-requires c κs = search needs
 
 line-step-requires : tie.Need-line-step-requires
-line-step-requires c κs = search needs
+line-step-requires c κs = search text-elsewhere
 
 returns : tie.Need-returns
 returns c = search chain

@@ -1,31 +1,26 @@
 -- `reading::pass_path` meets its contract. The loop's invariant: no rule is broken, and from where it has come the text comes to the same.
 -- Assumes nothing.
-use borrow.Author.Needs.{needs}
 use mathlib.Core.Path.{_≡_, refl}
 use Prim.Native.Nat.{_+_, _-_, _≤_}
 use lib.ListN.{length}
-use borrow.Author.Tests.{not-false}
+use borrow.Author.Tests.{not-true, not-false}
 use Rattle.place.specs.Place as place
 use Rattle.reading.specs.Walk.{Crossed, Holds, Stepping, withPath}
 use Rattle.reading.proofs.WalkLaws.{content-start, content-within}
-use Rattle.reading.proofs.CrossLaws.{crossed-none, crossed-on, crossed-stops, crossed-less}
+use Rattle.reading.proofs.CrossLaws.{crossed-none, crossed-on, crossed-stops, crossed-less, stays-opens, stays-moved, stays-ended}
+use borrow.Author.Needs.{needs}
 use Rattle.reading.proofs.pass_path.Statement.{statement}
 use Rattle.reading.proofs.pass_path.Tie as tie
 
 abbrev Inv-loop : tie.InvT-loop
-Inv-loop text at line steps depth here₀ number₀ part₀ here number part = (part .number ≡ 0) × (line ≤ at + 1) × Stepping (part .path) (part .steps) × Crossed text at line (Holds place.path (withPath (part₀ .path) (part₀ .steps))) (withPath (part .path) (part .steps)) (part .number) here number
+Inv-loop text at line steps depth here₀ number₀ part₀ here number part =
+    (part .number ≡ 0) × (line ≤ at + 1) × Stepping (part .path) (part .steps) × Crossed text at line (Holds place.path (withPath (part₀ .path) (part₀ .steps))) (withPath (part .path) (part .steps)) (part .number) here number
 
 abbrev μ-loop : tie.MeasureT-loop
 μ-loop text at line steps depth here₀ number₀ part₀ here number part = length text - here
 
 loop-holds : tie.Need-loop-holds Inv-loop μ-loop
 loop-holds c = (refl, search needs, c .before .pre .2, crossed-none _ _ _ _ _ (c .before .pre .0) (λ s f. f .1))
-
-byte-at-requires : tie.Need-byte-at-requires Inv-loop μ-loop
-byte-at-requires c κs = search needs
-
-returns : tie.Need-returns Inv-loop μ-loop
-returns c = c .before .before .before .loop .inv .3
 
 line-at-requires : tie.Need-line-at-requires Inv-loop μ-loop
 line-at-requires c κs = search needs
@@ -37,31 +32,31 @@ part-take-step-start : tie.Need-part-take-step-start Inv-loop μ-loop
 part-take-step-start c = content-start _ _ _ (c .line-at .ensures)
 
 part-take-step-end : tie.Need-part-take-step-end Inv-loop μ-loop
-part-take-step-end c = content-within _ _ _ (c .line-at .ensures) (c .before .before .before .loop-test .taken)
+part-take-step-end c = content-within _ _ _ (c .line-at .ensures) (c .before .loop-test .taken)
 
 take-step-requires : tie.Need-take-step-requires Inv-loop μ-loop
-take-step-requires c κs = c .before .before .before .before .before .loop .inv .2
+take-step-requires c κs = c .before .before .before .loop .inv .2
+
+returns : tie.Need-returns Inv-loop μ-loop
+returns c = (c .before .before .before .before .before .before .loop .inv .3, stays-opens _ _ _ _ (c .before .before .before .before .line-at .ensures) (c .before .before .take-step .ensures .2 (not-true _ (c .if1 .taken))))
 
 returns-2 : tie.Need-returns-2 Inv-loop μ-loop
-returns-2 c = c .before .before .before .before .before .before .before .before .loop .inv .3
-
-returns-3 : tie.Need-returns-3 Inv-loop μ-loop
-returns-3 c = crossed-stops _ _ _ _ _ _ _ _ (c .before .before .before .before .before .before .before .before .before .before .loop .inv .0) (c .before .before .before .before .before .before .before .before .before .before .loop .inv .3) (c .before .before .before .before .before .before .before .before .before .loop-test .taken) _ (c .before .before .before .before .before .before .line-at .ensures) _ _ (λ s f. c .before .before .before .before .take-step .ensures .0 (not-false _ (c .before .before .if2 .left)) s (f .0)) (c .if3 .taken)
+returns-2 c = (crossed-stops _ _ _ _ _ _ _ _ (c .before .before .before .before .before .before .before .before .loop .inv .0) (c .before .before .before .before .before .before .before .before .loop .inv .3) (c .before .before .before .before .before .before .before .loop-test .taken) _ (c .before .before .before .before .before .before .line-at .ensures) _ _ (λ s f. c .before .before .before .before .take-step .ensures .0 (not-false _ (c .before .before .if1 .left)) s (f .0)) (c .if2 .taken), stays-moved _ _ _ _ (c .before .before .before .before .before .before .line-at .ensures) (c .before .before .before .before .before .before .before .loop-test .taken) (c .before .before .before .before .before .before .before .before .loop .inv .3 .onward))
 
 add-number : tie.Need-add-number Inv-loop μ-loop
 add-number c = search needs
 
-returns-4 : tie.Need-returns-4 Inv-loop μ-loop
-returns-4 c = crossed-on _ _ _ _ _ _ _ _ (c .before .before .before .before .before .before .before .before .before .before .before .before .before .loop .inv .0) (c .before .before .before .before .before .before .before .before .before .before .before .before .before .loop .inv .3) (c .before .before .before .before .before .before .before .before .before .before .before .before .loop-test .taken) _ (c .before .before .before .before .before .before .before .before .before .line-at .ensures) _ _ (λ s f. c .before .before .before .before .before .before .before .take-step .ensures .0 (not-false _ (c .before .before .before .before .before .if2 .left)) s (f .0)) (c .before .before .before .if3 .left)
+returns-3 : tie.Need-returns-3 Inv-loop μ-loop
+returns-3 c = (crossed-on _ _ _ _ _ _ _ _ (c .before .before .before .before .before .before .before .before .before .before .before .loop .inv .0) (c .before .before .before .before .before .before .before .before .before .before .before .loop .inv .3) (c .before .before .before .before .before .before .before .before .before .before .loop-test .taken) _ (c .before .before .before .before .before .before .before .before .before .line-at .ensures) _ _ (λ s f. c .before .before .before .before .before .before .before .take-step .ensures .0 (not-false _ (c .before .before .before .before .before .if1 .left)) s (f .0)) (c .before .before .before .if2 .left), stays-moved _ _ _ _ (c .before .before .before .before .before .before .before .before .before .line-at .ensures) (c .before .before .before .before .before .before .before .before .before .before .loop-test .taken) (c .before .before .before .before .before .before .before .before .before .before .before .loop .inv .3 .onward))
 
 loop-less : tie.Need-loop-less Inv-loop μ-loop
 loop-less c = search crossed-less
 
 loop-again : tie.Need-loop-again Inv-loop μ-loop
-loop-again c = (c .before .before .before .if3 .left, search needs, c .before .before .before .before .before .before .before .take-step .ensures .1, crossed-on _ _ _ _ _ _ _ _ (c .before .before .before .before .before .before .before .before .before .before .before .before .before .loop .inv .0) (c .before .before .before .before .before .before .before .before .before .before .before .before .before .loop .inv .3) (c .before .before .before .before .before .before .before .before .before .before .before .before .loop-test .taken) _ (c .before .before .before .before .before .before .before .before .before .line-at .ensures) _ _ (λ s f. c .before .before .before .before .before .before .before .take-step .ensures .0 (not-false _ (c .before .before .before .before .before .if2 .left)) s (f .0)) (c .before .before .before .if3 .left))
+loop-again c = (c .before .before .before .if2 .left, search needs, c .before .before .before .before .before .before .before .take-step .ensures .1, crossed-on _ _ _ _ _ _ _ _ (c .before .before .before .before .before .before .before .before .before .before .before .loop .inv .0) (c .before .before .before .before .before .before .before .before .before .before .before .loop .inv .3) (c .before .before .before .before .before .before .before .before .before .before .loop-test .taken) _ (c .before .before .before .before .before .before .before .before .before .line-at .ensures) _ _ (λ s f. c .before .before .before .before .before .before .before .take-step .ensures .0 (not-false _ (c .before .before .before .before .before .if1 .left)) s (f .0)) (c .before .before .before .if2 .left))
 
-returns-5 : tie.Need-returns-5 Inv-loop μ-loop
-returns-5 c = c .before .loop .inv .3
+returns-4 : tie.Need-returns-4 Inv-loop μ-loop
+returns-4 c = (c .before .loop .inv .3, stays-ended _ _ _ (c .loop-test .left))
 
 pub pass-path-spec : {M : Type 1} → statement M
 pass-path-spec =
@@ -70,17 +65,15 @@ pass-path-spec =
     Inv-loop
     μ-loop
     loop-holds
-    byte-at-requires
-    returns
     line-at-requires
     sub-take-step
     part-take-step-start
     part-take-step-end
     take-step-requires
+    returns
     returns-2
-    returns-3
     add-number
-    returns-4
+    returns-3
     loop-less
     loop-again
-    returns-5)
+    returns-4)

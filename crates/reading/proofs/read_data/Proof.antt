@@ -1,7 +1,7 @@
 -- `reading::read_data` meets its contract: the lines that the matrix and the values decide, or the line at the place.
 -- Assumes nothing.
 use mathlib.Core.Path.{refl}
-use Rattle.reading.proofs.CrossLaws.{crossed-reached}
+use Rattle.reading.proofs.CrossLaws.{crossed-reached, stays-elsewhere}
 use borrow.Author.Needs.{needs}
 use Rattle.reading.proofs.read_data.Statement.{statement}
 use Rattle.reading.proofs.read_data.Tie as tie
@@ -9,18 +9,20 @@ use Rattle.reading.proofs.read_data.Tie as tie
 pass-data-requires : tie.Need-pass-data-requires
 pass-data-requires c κs = search needs
 
-with-data-requires : tie.Need-with-data-requires
-with-data-requires c κs = search needs
-
 returns : tie.Need-returns
-returns c = rw (c .with-data .ensures) (crossed-reached _ _ _ _ _ _ _ _ (c .before .before .before .before .pass-data .ensures) _ (c .before .before .before .before .before .before .before .before .pre .2, refl) (c .before .before .before .before .before .before .before .before .pre .1) (c .before .before .if1 .taken))
+returns c = crossed-reached _ _ _ _ _ _ _ _ (c .before .before .before .before .pass-data .ensures .0) _ (c .before .before .before .before .before .before .before .before .pre .2, refl) (c .before .before .before .before .before .before .before .before .pre .1) (c .before .before .if1 .taken)
 
 read-one-requires : tie.Need-read-one-requires
-read-one-requires c κs = search needs
+read-one-requires c κs = (search needs, search needs, stays-elsewhere _ _ _ _ (c .before .before .pass-data .ensures .1) (c .before .before .pass-data .ensures .0 .onward) (c .if1 .left) (c .before .before .before .before .before .before .pre .0))
 
 returns-2 : tie.Need-returns-2
 returns-2 c = search needs
 
 pub read-data-spec : {M : Type 1} → statement M
 read-data-spec =
-    tie.close (tie.spec pass-data-requires with-data-requires returns read-one-requires returns-2)
+    tie.close
+    (tie.spec
+    pass-data-requires
+    returns
+    read-one-requires
+    returns-2)

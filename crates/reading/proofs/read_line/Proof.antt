@@ -31,7 +31,7 @@ returns-4 : tie.Need-returns-4
 returns-4 c = crossed-reached _ _ _ _ _ _ _ _ (c .before .before .pass-quiet .ensures) _ refl (c .before .before .before .before .before .before .before .before .before .before .pre .1) (c .if4 .taken)
 
 read-one-requires : tie.Need-read-one-requires
-read-one-requires c κs = search needs
+read-one-requires c κs = (search needs, search needs, λ filled plain. record { matrix = c .before .before .before .before .before .before .before .if1 .left; path = c .before .before .before .before .before .if2 .left; pins = c .before .before .before .if3 .left })
 
 returns-5 : tie.Need-returns-5
 returns-5 c = search needs

@@ -1,6 +1,7 @@
 -- `reading::read_one` meets its contract: the line is taken, or breaks a rule.
 -- Assumes nothing.
-use Rattle.reading.proofs.WalkLaws.{line-broken, line-taken, content-start, content-within}
+use Rattle.reading.proofs.WalkLaws.{line-reached, content-start, content-within}
+use Rattle.reading.proofs.CrossLaws.{elsewhere-here}
 use borrow.Author.Needs.{needs}
 use Rattle.reading.proofs.read_one.Statement.{statement}
 use Rattle.reading.proofs.read_one.Tie as tie
@@ -18,16 +19,13 @@ part-take-line-end : tie.Need-part-take-line-end
 part-take-line-end c = search content-within
 
 take-line-requires : tie.Need-take-line-requires
-take-line-requires c κs = search needs
+take-line-requires c κs = (search needs, elsewhere-here _ _ _ _ (c .before .line-at .ensures) (c .before .before .before .pre .2))
+
+one-more-if-requires : tie.Need-one-more-if-requires
+one-more-if-requires c κs = search needs
 
 returns : tie.Need-returns
-returns c = search line-broken
-
-add-t14 : tie.Need-add-t14
-add-t14 c = search needs
-
-returns-2 : tie.Need-returns-2
-returns-2 c = search line-taken
+returns c = line-reached _ _ _ _ (c .before .before .before .before .before .before .before .pre .0) (c .before .before .before .before .before .before .before .pre .1) _ (c .before .before .before .before .before .line-at .ensures) _ (c .before .before .before .take-line .ensures) _ (c .one-more-if .ensures)
 
 pub read-one-spec : {M : Type 1} → statement M
 read-one-spec =
@@ -38,6 +36,5 @@ read-one-spec =
     part-take-line-start
     part-take-line-end
     take-line-requires
-    returns
-    add-t14
-    returns-2)
+    one-more-if-requires
+    returns)

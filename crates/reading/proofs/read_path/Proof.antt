@@ -1,8 +1,8 @@
 -- `reading::read_path` meets its contract: the lines that the path and the steps decide, or the line at the place.
 -- Assumes nothing.
 use mathlib.Core.Path.{refl}
-use Rattle.reading.proofs.CrossLaws.{crossed-reached}
 use Rattle.reading.proofs.StepLaws.{stepping-kept}
+use Rattle.reading.proofs.CrossLaws.{crossed-reached, stays-elsewhere}
 use borrow.Author.Needs.{needs}
 use Rattle.reading.proofs.read_path.Statement.{statement}
 use Rattle.reading.proofs.read_path.Tie as tie
@@ -10,18 +10,20 @@ use Rattle.reading.proofs.read_path.Tie as tie
 pass-path-requires : tie.Need-pass-path-requires
 pass-path-requires c κs = (search needs, search needs, search stepping-kept)
 
-with-stepped-requires : tie.Need-with-stepped-requires
-with-stepped-requires c κs = search needs
-
 returns : tie.Need-returns
-returns c = rw (c .with-stepped .ensures) (crossed-reached _ _ _ _ _ _ _ _ (c .before .before .before .before .pass-path .ensures) _ (c .before .before .before .before .before .before .before .before .pre .2, refl) (c .before .before .before .before .before .before .before .before .pre .1) (c .before .before .if1 .taken))
+returns c = crossed-reached _ _ _ _ _ _ _ _ (c .before .before .before .before .pass-path .ensures .0) _ (c .before .before .before .before .before .before .before .before .pre .2, refl) (c .before .before .before .before .before .before .before .before .pre .1) (c .before .before .if1 .taken)
 
 read-one-requires : tie.Need-read-one-requires
-read-one-requires c κs = search needs
+read-one-requires c κs = (search needs, search needs, stays-elsewhere _ _ _ _ (c .before .before .pass-path .ensures .1) (c .before .before .pass-path .ensures .0 .onward) (c .if1 .left) (c .before .before .before .before .before .before .pre .0))
 
 returns-2 : tie.Need-returns-2
 returns-2 c = search needs
 
 pub read-path-spec : {M : Type 1} → statement M
 read-path-spec =
-    tie.close (tie.spec pass-path-requires with-stepped-requires returns read-one-requires returns-2)
+    tie.close
+    (tie.spec
+    pass-path-requires
+    returns
+    read-one-requires
+    returns-2)

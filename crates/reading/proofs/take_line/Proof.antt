@@ -1,5 +1,6 @@
 -- `reading::take_line` meets its contract: by the line and the place.
 -- Assumes nothing.
+use mathlib.Core.Path.{sym, _∙_}
 use Rattle.base.proofs.IfLaws.{chain}
 use Rattle.reading.specs.Reading.{stepOf}
 use borrow.Author.Needs.{needs}
@@ -31,7 +32,7 @@ unfolding stepOf
 returns-3 c = search chain depth 10
 
 bracket-step-requires : tie.Need-bracket-step-requires
-bracket-step-requires c κs = search needs
+bracket-step-requires c κs = (search needs, c .before .before .before .before .before .before .before .pre .1 (sym (c .before .before .before .before .before .is-blank-line .ensures) ∙ c .before .before .before .before .if1 .left))
 
 returns-4 : tie.Need-returns-4
 unfolding stepOf
