@@ -4,7 +4,7 @@
 use mathlib.Core.Path.{_≡_, refl, sym, _∙_}
 use mathlib.Core.Bool.{true, false, not}
 use mathlib.Core.List.{List, [], _∷_}
-use Prim.Native.Nat.{ℕ, _+_, _^_, _≤_, _<_}
+use Prim.Native.Nat.{ℕ, _+_, _≤_, _<_}
 use native.Mathlib.Omega.{arith}
 use lib.Dec.{leb, eqb}
 use borrow.Author.Tests.{eqb-true, eqb-false, leb-false, ltb-false, not-true}
@@ -25,7 +25,7 @@ use Rattle.path.proofs.RuleLaws.{closed-other}
 use Rattle.path.proofs.DepthLaws.{depth-within}
 use Rattle.pin_map.specs.PinMap.{mostPins, mostMapPins, Bounded, isPinLine, mapLineOf, mapRule, pinRule}
 use Rattle.pin_map.specs.declared.Map.{Map}
-use Rattle.pin_map.proofs.MapLaws.{next-bounded, pin-bounded, pin-fits}
+use Rattle.pin_map.proofs.MapLaws.{next-bounded, pin-bounded}
 use Rattle.matrix.specs.Matrix.{sparse, mostValues, sparseLine, numbersLine, dataLineOf, areTooMany, dataRule}
 use Rattle.matrix.specs.Matrix as matrix
 use Rattle.matrix.specs.declared.Matrix.{Matrix}
@@ -105,7 +105,7 @@ module _ (l : PathLine) (p : Path) (steps : ℕ) where
       absurd (omega arith))
       (λ (e : eqb (p .stage) closed ≡ false). open-room (sym (if-false _ _ e) ∙ kept) step)
 
--- ---- what the updates ask
+-- ---- what the updates ask, and what each count has room for
 
 pub grid-bounded : (n : ℕ) (s : State) → Kept n s → Bounded (s .map)
 grid-bounded n s h = h .grid

@@ -350,7 +350,8 @@ struct Data {
 }
 
 fn data_line(content: &[u8], matrix: Matrix, values: u64) -> Data
-    ensures { λ r. ⌜ (r .taken ≡ true) × Decides place.matrix (withMatrix matrix values) (lineStep (now (content .entry))) (r .number) (withMatrix (r .matrix) (r .values)) ⌝ }
+    ensures { λ r. ⌜ (r .taken ≡ true)
+        × Decides place.matrix (withMatrix matrix values) (lineStep (now (content .entry))) (r .number) (withMatrix (r .matrix) (r .values)) ⌝ }
 {
     let line = matrix::data_line(matrix.form, content);
     let number = matrix::data_rule(line, matrix, values);
@@ -372,7 +373,8 @@ fn data_line(content: &[u8], matrix: Matrix, values: u64) -> Data
 
 // A line between the keywords of a matrix.
 fn take_data(content: &[u8], matrix: Matrix, values: u64) -> Data
-    ensures { λ r. ⌜ (r .taken ≡ true → Decides place.matrix (withMatrix matrix values) (stepOf (now (content .entry))) (r .number) (withMatrix (r .matrix) (r .values))) × (r .taken ≡ false → Opens (now (content .entry))) ⌝ }
+    ensures { λ r. ⌜ (r .taken ≡ true → Decides place.matrix (withMatrix matrix values) (stepOf (now (content .entry))) (r .number) (withMatrix (r .matrix) (r .values)))
+        × (r .taken ≡ false → Opens (now (content .entry))) ⌝ }
 {
     match front_of(content) {
         Front::Blanks => Data {
@@ -401,7 +403,8 @@ struct DataWalk {
 // Goes over the lines between two keywords of a matrix.
 fn pass_data(text: &[u8], at: usize, line: u64, matrix: Matrix, values: u64) -> DataWalk
     requires { ⌜ (at ≤ length (now text)) × (line ≤ at + 1) ⌝ }
-    ensures { λ r. ⌜ Crossed (now (text .entry)) at line (Holds place.matrix (withMatrix matrix values)) (withMatrix (r .part .matrix) (r .part .values)) (r .part .number) (r .at) (r .line) × Stays (now (text .entry)) at (r .at) ⌝ }
+    ensures { λ r. ⌜ Crossed (now (text .entry)) at line (Holds place.matrix (withMatrix matrix values)) (withMatrix (r .part .matrix) (r .part .values)) (r .part .number) (r .at) (r .line)
+        × Stays (now (text .entry)) at (r .at) ⌝ }
 {
     let mut here = at;
     let mut number = line;
@@ -450,7 +453,8 @@ struct Pinned {
 }
 
 fn pin_line(content: &[u8], map: Map, pins: u64) -> Pinned
-    ensures { λ r. ⌜ (r .taken ≡ true) × Decides place.pins (withPinned map pins) (lineStep (now (content .entry))) (r .number) (withPinned (r .map) (r .pins)) ⌝ }
+    ensures { λ r. ⌜ (r .taken ≡ true)
+        × Decides place.pins (withPinned map pins) (lineStep (now (content .entry))) (r .number) (withPinned (r .map) (r .pins)) ⌝ }
 {
     let number = pin_map::pin_rule(content, map, pins);
     if number != 0 {
@@ -471,7 +475,8 @@ fn pin_line(content: &[u8], map: Map, pins: u64) -> Pinned
 
 // A line of a pin list.
 fn take_pin(content: &[u8], map: Map, pins: u64) -> Pinned
-    ensures { λ r. ⌜ (r .taken ≡ true → Decides place.pins (withPinned map pins) (stepOf (now (content .entry))) (r .number) (withPinned (r .map) (r .pins))) × (r .taken ≡ false → Opens (now (content .entry))) ⌝ }
+    ensures { λ r. ⌜ (r .taken ≡ true → Decides place.pins (withPinned map pins) (stepOf (now (content .entry))) (r .number) (withPinned (r .map) (r .pins)))
+        × (r .taken ≡ false → Opens (now (content .entry))) ⌝ }
 {
     match front_of(content) {
         Front::Blanks => Pinned {
@@ -500,7 +505,8 @@ struct PinWalk {
 // Goes over the lines of a pin list.
 fn pass_pins(text: &[u8], at: usize, line: u64, map: Map, pins: u64) -> PinWalk
     requires { ⌜ (at ≤ length (now text)) × (line ≤ at + 1) ⌝ }
-    ensures { λ r. ⌜ Crossed (now (text .entry)) at line (Holds place.pins (withPinned map pins)) (withPinned (r .part .map) (r .part .pins)) (r .part .number) (r .at) (r .line) × Stays (now (text .entry)) at (r .at) ⌝ }
+    ensures { λ r. ⌜ Crossed (now (text .entry)) at line (Holds place.pins (withPinned map pins)) (withPinned (r .part .map) (r .part .pins)) (r .part .number) (r .at) (r .line)
+        × Stays (now (text .entry)) at (r .at) ⌝ }
 {
     let mut here = at;
     let mut number = line;
@@ -550,7 +556,8 @@ struct Stepped {
 
 fn path_line(content: &[u8], path: Path, steps: u64) -> Stepped
     requires { ⌜ Stepping path steps ⌝ }
-    ensures { λ r. ⌜ (r .taken ≡ true) × Decides place.path (withPath path steps) (lineStep (now (content .entry))) (r .number) (withPath (r .path) (r .steps)) × Stepping (r .path) (r .steps) ⌝ }
+    ensures { λ r. ⌜ (r .taken ≡ true)
+        × Decides place.path (withPath path steps) (lineStep (now (content .entry))) (r .number) (withPath (r .path) (r .steps)) × Stepping (r .path) (r .steps) ⌝ }
 {
     let line = path::path_line(content);
     let number = path::path_rule(line, path, steps);
@@ -573,7 +580,8 @@ fn path_line(content: &[u8], path: Path, steps: u64) -> Stepped
 // A line of a path.
 fn take_step(content: &[u8], path: Path, steps: u64) -> Stepped
     requires { ⌜ Stepping path steps ⌝ }
-    ensures { λ r. ⌜ (r .taken ≡ true → Decides place.path (withPath path steps) (stepOf (now (content .entry))) (r .number) (withPath (r .path) (r .steps))) × Stepping (r .path) (r .steps) × (r .taken ≡ false → Opens (now (content .entry))) ⌝ }
+    ensures { λ r. ⌜ (r .taken ≡ true → Decides place.path (withPath path steps) (stepOf (now (content .entry))) (r .number) (withPath (r .path) (r .steps)))
+        × Stepping (r .path) (r .steps) × (r .taken ≡ false → Opens (now (content .entry))) ⌝ }
 {
     match front_of(content) {
         Front::Blanks => Stepped {
@@ -602,7 +610,8 @@ struct PathWalk {
 // Goes over the lines of a path, up to one that opens or closes a fork block.
 fn pass_path(text: &[u8], at: usize, line: u64, path: Path, steps: u64) -> PathWalk
     requires { ⌜ (at ≤ length (now text)) × (line ≤ at + 1) × Stepping path steps ⌝ }
-    ensures { λ r. ⌜ Crossed (now (text .entry)) at line (Holds place.path (withPath path steps)) (withPath (r .part .path) (r .part .steps)) (r .part .number) (r .at) (r .line) × Stays (now (text .entry)) at (r .at) ⌝ }
+    ensures { λ r. ⌜ Crossed (now (text .entry)) at line (Holds place.path (withPath path steps)) (withPath (r .part .path) (r .part .steps)) (r .part .number) (r .at) (r .line)
+        × Stays (now (text .entry)) at (r .at) ⌝ }
 {
     let depth = path.depth;
     let mut here = at;
