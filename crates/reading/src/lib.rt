@@ -13,7 +13,6 @@ ghost use Rattle.block.specs.declared.State.{State};
 ghost use Rattle.keyword.specs.Bracket.{bracketOf};
 ghost use Rattle.keyword.specs.declared.Bracket.the-variants.{Plain, Indented, Keyword};
 ghost use Rattle.reading.specs.Walk.{Reached, Onward, Passed, Crossed, Holds, Decides, Fronted, Stepping, Opens, Elsewhere, StandsElsewhere, contentAt, Stays, withPath, withPinned, withMatrix};
-use base::Class;
 use block::Counts;
 use block::State;
 use keyword::Bracket;
@@ -330,7 +329,7 @@ enum Front {
 fn front_of(content: &[u8]) -> Front
     ensures { λ r. ⌜ Fronted (now (content .entry)) r ⌝ }
 {
-    let front = base::skip(Class::Blank, content, 0);
+    let front = base::past_blanks(content, 0);
     if front == content.len() {
         return Front::Blanks;
     }
