@@ -1,7 +1,7 @@
 -- Laws of the marks of ends' sides: equal sides on one map have the same mark, so that an end whose mark is not set meets none that is marked.
 -- Assumes nothing.
 use mathlib.Core.Path.{_≡_, refl, sym, _∙_, ap}
-use mathlib.Core.Bool.{Bool, true, false, not, true≢false}
+use mathlib.Core.Bool.{Bool, true, false, not}
 use mathlib.Core.List.{List, [], _∷_}
 use Prim.Native.Nat.{ℕ, zero, suc, _+_, _*_, _%_, _≤_, _<_}
 use native.Mathlib.Nat.{not-suc-le-zero, mod-lt}
@@ -11,7 +11,6 @@ use lib.ListN.{length, drop, getD, set, length-set, drop-of-length-le}
 use lib.Seq.{drop-cons, getD-set-same, getD-set-other}
 use lib.Dec.{eqb}
 use borrow.Author.Tests.{eq-eqb, ne-eqb, eqb-true, eqb-false, not-true}
-use Rattle.base.specs.If.{both, either}
 use Rattle.base.specs.Runs.{same}
 use Rattle.base.proofs.IfLaws.{by-cases, both-first, both-second, either-left, either-rest, either-false, either-none-first, either-none-second}
 use Rattle.base.proofs.RunLaws.{same-equal}
