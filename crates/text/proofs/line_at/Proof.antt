@@ -11,8 +11,8 @@ past-content-requires c κs = search needs
 feed-from-requires : tie.Need-feed-from-requires
 feed-from-requires c κs = search needs
 
-add-t10 : tie.Need-add-t10
-add-t10 c = search needs
+add-t9 : tie.Need-add-t9
+add-t9 c = search needs
 
 returns : tie.Need-returns
 returns c = search line-ended
@@ -21,4 +21,4 @@ returns-2 : tie.Need-returns-2
 returns-2 c = search line-unended
 
 pub line-at-spec : {M : Type 1} → statement M
-line-at-spec = tie.close (tie.spec past-content-requires feed-from-requires add-t10 returns returns-2)
+line-at-spec = tie.close (tie.spec past-content-requires feed-from-requires add-t9 returns returns-2)
