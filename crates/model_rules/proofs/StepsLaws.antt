@@ -29,7 +29,8 @@ use Rattle.rules.proofs.TableLaws.{view-holds}
 use Rattle.list_rules.specs.Listed.{Listed}
 use Rattle.list_rules.proofs.NamedLaws.{models-many}
 use Rattle.step_rules.specs.StepWords.{Rooms, stepRuleAt}
-use Rattle.step_rules.specs.Marks.{marksMany, Marked, Below, Judged}
+use Rattle.name.specs.Marks.{marksMany}
+use Rattle.step_rules.specs.Marks.{Marked, Below, Judged}
 use Rattle.step_rules.specs.declared.Owner.{Owner}
 use Rattle.step_rules.proofs.MarkLaws.{marked-starts}
 use Rattle.step_rules.proofs.JoinLaws.{Owns, table-tells, rooms-of, kind-here, line-here, step-is}

@@ -23,7 +23,7 @@ use Rattle.rules.proofs.KindLaws.{first-here, first-later}
 use Rattle.rules.proofs.NthLaws.{model-line}
 use Rattle.list_rules.specs.Listed.{Listed}
 use Rattle.list_rules.proofs.NamedLaws.{models-many}
-use Rattle.step_rules.specs.Marks.{marksMany}
+use Rattle.name.specs.Marks.{marksMany}
 use Rattle.model_rules.specs.Cursor.{Cursor}
 use Rattle.model_rules.specs.Models.{ModelRoom, modelRuleAt, belowFirst, Awaits, StepsTold}
 use Rattle.model_rules.specs.declared.StepsFinding.{StepsFinding}

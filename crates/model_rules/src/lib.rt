@@ -10,7 +10,7 @@ ghost use Rattle.document.specs.Found.{Located, contentIn};
 ghost use Rattle.rules.specs.Rules.{firstIn, modelFindings};
 ghost use Rattle.rules.specs.Filled.{Filled};
 ghost use Rattle.list_rules.specs.Listed.{Listed};
-ghost use Rattle.step_rules.specs.Marks.{marksMany};
+ghost use Rattle.name.specs.Marks.{marksMany};
 ghost use Rattle.model_rules.specs.Cursor.{Cursor, Tells, TellsStep};
 ghost use Rattle.model_rules.specs.Models.{ModelRoom, ownerAt, modelRuleAt, Awaits, StepsTold};
 use document::Found;
@@ -163,7 +163,7 @@ fn steps_finding(
     text: &[u8],
     table: &[u64],
     view: View,
-    marks: &mut [u8; step_rules::MARKS],
+    marks: &mut [u8; name::MARKS],
     index: u64,
     at: usize,
     number: u64,
@@ -213,7 +213,7 @@ pub fn model_finding(text: &[u8], table: &[u64], view: View, listed: [bool; 65])
     let count = counts[table::MODELS];
     let mut at = 0;
     let mut number = 1;
-    let mut marks = [UNMARKED; step_rules::MARKS];
+    let mut marks = [UNMARKED; name::MARKS];
     let mut i = 0;
     while i < count {
         let rule = model_rule(text, table, view, listed, i);

@@ -1,8 +1,16 @@
 // Names in the records of a table: their bytes in the text, and the first record of a name.
 ghost use mathlib.Core.Path.{_≡_};
-ghost use Prim.Native.Nat.{_+_, _*_, _≤_};
+ghost use Prim.Native.Nat.{_+_, _*_, _≤_, _<_};
 ghost use lib.ListN.{length};
 ghost use Rattle.name.specs.Name.{nameAt, isNamed, findIn};
+ghost use Rattle.name.specs.Marks.{markOf};
+
+// How many marks there are: 64 for what has no name, and behind them four for each of the most that are marked at a time.
+const BARE_MARKS: usize = 64;
+
+const NAME_MARKS: usize = 16384;
+
+pub const MARKS: usize = BARE_MARKS + NAME_MARKS;
 
 // The bytes of a name, as far as they lie inside the text.
 pub fn name_at(text: &[u8], start: u64, size: u64) -> &[u8]
@@ -46,4 +54,24 @@ pub fn find_name(
         at += width;
     }
     count
+}
+
+// A byte as a number, so that its arithmetic asks nothing of the byte's own width.
+fn wide(b: u8) -> usize
+    ensures { λ r. ⌜ (r ≡ b) × (r < 256) ⌝ }
+{
+    b as usize
+}
+
+// The mark of a name among those of one number: a map's, say. Equal names have one mark; other names seldom have the same.
+pub fn mark_of(number: u64, name: &[u8]) -> usize
+    ensures { λ r. ⌜ r ≡ markOf number (now (name .entry)) ⌝ }
+{
+    let mut mark = number as usize % BARE_MARKS;
+    let mut i = 0;
+    while i < name.len() {
+        mark = (mark * 37 + wide(name[i])) % NAME_MARKS + BARE_MARKS;
+        i += 1;
+    }
+    mark
 }

@@ -17,52 +17,16 @@ use Rattle.base.proofs.RunLaws.{same-equal}
 use Rattle.document.specs.Document.{endKind}
 use Rattle.name.specs.Name.{nameAt}
 use Rattle.step_rules.specs.StepWords.{sideAt, clashAt, meetsAt, meetsAbove}
-use Rattle.step_rules.specs.Marks.{bareMarks, sideMarks, marksMany, markFrom, markOf, markAt, isMarked, Marked, Below}
+use Rattle.name.specs.Marks.{marksMany, markOf}
+use Rattle.name.proofs.MarkLaws.{of-inside}
+use Rattle.step_rules.specs.Marks.{markAt, isMarked, Marked, Below}
 use Rattle.step_rules.specs.declared.Owner.{Owner}
 
--- ---- the number of a side
-
-pub step-inside : (n : ℕ) → n % sideMarks + bareMarks < marksMany
-step-inside n =
-    let h : n % sideMarks < sideMarks = mod-lt n (omega arith) in
-    omega arith
-
-start-inside : (map : ℕ) → map % bareMarks < marksMany
-start-inside map =
-    let h : map % bareMarks < bareMarks = mod-lt map (omega arith) in
-    omega arith
-
-from-inside : (mark : ℕ) (s : List ℕ) → mark < marksMany → markFrom mark s < marksMany
-unfolding markFrom
-from-inside mark [] h = h
-from-inside mark (b ∷ s) h = from-inside ((mark * 37 + b) % sideMarks + bareMarks) s (step-inside (mark * 37 + b))
-
-pub of-inside : (map : ℕ) (side : List ℕ) (mark : ℕ) → mark ≡ markOf map side → mark < marksMany
-unfolding markOf
-of-inside map side mark is = rw is (from-inside (map % bareMarks) side (start-inside map))
+-- ---- the mark of a side
 
 pub at-inside : (t table : List ℕ) (at mark : ℕ) → mark ≡ markAt t table at → mark < marksMany
 unfolding markAt
 at-inside t table at mark is = of-inside (getD table (at + 1) 0) (sideAt t table at) mark is
-
--- what is left of the side gives the number of the whole
-pub record MarkLeft (map : ℕ) (side : List ℕ) (mark i : ℕ) : Type 0 where
-  pub small : mark < marksMany
-  pub same : markFrom mark (drop i side) ≡ markOf map side
-
-pub mark-starts : (map : ℕ) (side : List ℕ) → MarkLeft map side (map % bareMarks) 0
-unfolding markOf
-mark-starts map side = record { small = start-inside map; same = refl }
-
-module _ (map : ℕ) (side : List ℕ) (mark i : ℕ) (left : MarkLeft map side mark i) where
-  pub mark-ends : length side ≤ i → mark ≡ markOf map side
-  unfolding markFrom
-  mark-ends h = rw (drop-of-length-le side h) at (left .same)
-
-  pub mark-on : i < length side → (b : ℕ) → b ≡ getD side i 0 → MarkLeft map side ((mark * 37 + b) % sideMarks + bareMarks) (i + 1)
-  unfolding markFrom
-  mark-on h b is =
-      record { small = step-inside (mark * 37 + b); same = rw (is, add-one i) (rw (drop-cons side i 0 h) at (left .same)) }
 
 pub mark-told :
     (t table : List ℕ) (own : ℕ) (side : List ℕ) → side ≡ nameAt t (getD table (own + 3) 0) (getD table (own + 4) 0) →

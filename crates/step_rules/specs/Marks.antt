@@ -9,28 +9,11 @@ use lib.ListN.{length, getD}
 use lib.Dec.{eqb}
 use Rattle.base.specs.If.{either}
 use Rattle.document.specs.Document.{endKind}
+use Rattle.name.specs.Marks.{marksMany, markOf}
 use Rattle.step_rules.specs.StepWords.{sideAt}
 use Rattle.step_rules.specs.declared.Owner.{Owner}
 
--- how many numbers there are for ends without a side, which are the first, and for sides
-abbrev pub bareMarks : ℕ
-bareMarks = 64
-
-abbrev pub sideMarks : ℕ
-sideMarks = 16384
-
-abbrev pub marksMany : ℕ
-marksMany = 16448
-
--- the number of a side on a map, by each of its bytes
-unfoldable pub markFrom : ℕ → List ℕ → ℕ
-markFrom mark [] = mark
-markFrom mark (b ∷ s) = markFrom ((mark * 37 + b) % sideMarks + bareMarks) s
-
-unfoldable pub markOf : ℕ → List ℕ → ℕ
-markOf map side = markFrom (map % bareMarks) side
-
--- that of the end whose record stands there
+-- the mark of the end whose record stands there
 unfoldable pub markAt : List ℕ → List ℕ → ℕ → ℕ
 markAt t table at = markOf (getD table (at + 1) 0) (sideAt t table at)
 

@@ -4,7 +4,7 @@ ghost use Prim.Native.Nat.{_+_, _*_, _≤_, _<_};
 ghost use lib.ListN.{length, getD};
 ghost use Rattle.table.specs.Layout.{maps, sections};
 ghost use Rattle.step_rules.specs.StepWords.{Rooms, clashAt, meetsAt, meetsAbove, firstTarget, pinsOf, differsFrom, lesserOf, leastAt, firstMatrix, otherIn, otherForm, kindBroken, wrongMethod, endRuleAt, sectionRuleAt, stepRuleAt};
-ghost use Rattle.step_rules.specs.Marks.{markOf, markAt, isMarked, Marked, Below, Judged};
+ghost use Rattle.step_rules.specs.Marks.{markAt, isMarked, Marked, Below, Judged};
 use view::View;
 
 // "kind 0 end 1 section 2 fork 3 endfork".
@@ -52,14 +52,6 @@ pub struct Owner {
     pub first: u64,
     pub stamp: u8,
 }
-
-// How many marks there are for ends: one for each map, for those without a side, and behind them more than ten for each end of the longest
-// path.
-const BARE_MARKS: usize = 64;
-
-const SIDE_MARKS: usize = 16384;
-
-pub const MARKS: usize = BARE_MARKS + SIDE_MARKS;
 
 // ---- 22: two ends on one map
 
@@ -112,40 +104,20 @@ fn is_clashing(text: &[u8], table: &[u64], own: usize, from: usize, above: u64) 
     false
 }
 
-// A byte as a number, so that its arithmetic asks nothing of the byte's own width.
-fn wide(b: u8) -> usize
-    ensures { λ r. ⌜ (r ≡ b) × (r < 256) ⌝ }
-{
-    b as usize
-}
-
-// The number of a side on a map.
-fn mark_of(map: u64, side: &[u8]) -> usize
-    ensures { λ r. ⌜ r ≡ markOf map (now (side .entry)) ⌝ }
-{
-    let mut mark = map as usize % BARE_MARKS;
-    let mut i = 0;
-    while i < side.len() {
-        mark = (mark * 37 + wide(side[i])) % SIDE_MARKS + BARE_MARKS;
-        i += 1;
-    }
-    mark
-}
-
-// That of an end.
+// The mark of an end.
 fn mark_at(text: &[u8], table: &[u64], own: usize) -> usize
     requires { ⌜ own + 6 ≤ length (now table) ⌝ }
     ensures { λ r. ⌜ r ≡ markAt (now (text .entry)) (now (table .entry)) own ⌝ }
 {
     let side = name::name_at(text, table[own + 3], table[own + 4]);
-    mark_of(table[own + 1], side)
+    name::mark_of(table[own + 1], side)
 }
 
 // An end may clash with one that is marked. If it may not, no comparison is needed.
 fn is_marked(
     text: &[u8],
     table: &[u64],
-    marks: &[u8; MARKS],
+    marks: &[u8; name::MARKS],
     stamp: u8,
     own: usize,
     mark: usize,
@@ -156,7 +128,7 @@ fn is_marked(
     if table[own + 4] == 0 {
         return true;
     }
-    let bare = mark_of(table[own + 1], b"");
+    let bare = name::mark_of(table[own + 1], b"");
     if marks[bare] == stamp {
         return true;
     }
@@ -167,7 +139,7 @@ fn is_marked(
 fn is_met(
     text: &[u8],
     table: &[u64],
-    marks: &mut [u8; MARKS],
+    marks: &mut [u8; name::MARKS],
     owner: Owner,
     own: usize,
     above: u64,
@@ -332,7 +304,7 @@ fn end_rule(
     text: &[u8],
     table: &[u64],
     view: View,
-    marks: &mut [u8; MARKS],
+    marks: &mut [u8; name::MARKS],
     owner: Owner,
     own: usize,
     above: u64,
@@ -383,7 +355,7 @@ pub fn step_rule(
     text: &[u8],
     table: &[u64],
     view: View,
-    marks: &mut [u8; MARKS],
+    marks: &mut [u8; name::MARKS],
     owner: Owner,
     own: usize,
     above: u64,

@@ -3,7 +3,8 @@
 use borrow.Author.Needs.{needs}
 use Rattle.base.proofs.IfLaws.{chain}
 use Rattle.step_rules.specs.Marks.{isMarked}
-use Rattle.step_rules.proofs.MarkLaws.{of-inside, at-inside, bare-marked, own-marked}
+use Rattle.name.proofs.MarkLaws.{of-inside}
+use Rattle.step_rules.proofs.MarkLaws.{at-inside, bare-marked, own-marked}
 use Rattle.step_rules.proofs.is_marked.Statement.{statement}
 use Rattle.step_rules.proofs.is_marked.Tie as tie
 

@@ -1,18 +1,18 @@
--- `step_rules::mark_of` meets its contract. The loop's invariant: what is left of the side gives the number of the whole.
+-- `name::mark_of` meets its contract. The loop's invariant: what is left of the name gives the number of the whole.
 -- Assumes nothing.
 use borrow.Author.Needs.{needs}
 use Prim.Native.Nat.{_+_, _*_, _-_}
 use native.Mathlib.Omega.{arith}
 use lib.ListN.{length}
-use Rattle.step_rules.proofs.MarkLaws.{step-inside, MarkLeft, mark-starts, mark-ends, mark-on}
-use Rattle.step_rules.proofs.mark_of.Statement.{statement}
-use Rattle.step_rules.proofs.mark_of.Tie as tie
+use Rattle.name.proofs.MarkLaws.{step-inside, MarkLeft, mark-starts, mark-ends, mark-on}
+use Rattle.name.proofs.mark_of.Statement.{statement}
+use Rattle.name.proofs.mark_of.Tie as tie
 
 abbrev Inv-loop : tie.InvT-loop
-Inv-loop map side mark₀ i₀ mark i = MarkLeft map side mark i
+Inv-loop number name mark₀ i₀ mark i = MarkLeft number name mark i
 
 abbrev μ-loop : tie.MeasureT-loop
-μ-loop map side mark₀ i₀ mark i = length side - i
+μ-loop number name mark₀ i₀ mark i = length name - i
 
 loop-holds : tie.Need-loop-holds Inv-loop μ-loop
 loop-holds c = search mark-starts
