@@ -1,2 +1,3 @@
 pub mod TwiceLaws
 pub mod NamesLaws
+pub mod MarkedLaws
