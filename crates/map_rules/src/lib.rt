@@ -3,6 +3,7 @@ ghost use mathlib.Core.Path.{_≡_};
 ghost use Prim.Native.Nat.{_+_, _*_, _≤_};
 ghost use lib.ListN.{length};
 ghost use Rattle.document.specs.Document.{documentOf};
+ghost use Rattle.name.specs.Marks.{marksMany};
 ghost use Rattle.view.specs.View.{viewOf};
 ghost use Rattle.rules.specs.Rules.{firstIn, mapFindings};
 ghost use Rattle.rules.specs.Filled.{Filled};
@@ -18,14 +19,25 @@ const MAP_WORDS: usize = 7;
 
 const PIN_WORDS: usize = 2;
 
+// A mark that is the number of no map.
+const UNMARKED: u8 = 64;
+
 // The first of a map's pins that has the name of one above it. The record of the map's first pin stands at `base`; it is numbered `first`.
-fn pin_finding(text: &[u8], table: &[u64], base: usize, first: u64, count: u64) -> Finding
-    requires { ⌜ (base + 2 * count ≤ length (now table)) × (first + count ≤ 4_096) ⌝ }
-    ensures { λ r. ⌜ r ≡ firstIn (pinsFrom (now (text .entry)) (now (table .entry)) base first 0 count) ⌝ }
+fn pin_finding(
+    text: &[u8],
+    table: &[u64],
+    marks: &mut [u8; name::MARKS],
+    stamp: u8,
+    base: usize,
+    first: u64,
+    count: u64,
+) -> Finding
+    requires { ⌜ (base + 2 * count ≤ length (now table)) × (first + count ≤ 4_096) × (length (now marks) ≡ marksMany) ⌝ }
+    ensures { λ r. ⌜ (r ≡ firstIn (pinsFrom (now (text .entry)) (now (table .entry)) base first 0 count)) × (length (now (marks .exit)) ≡ marksMany) ⌝ }
 {
     let mut i = 0;
     while i < count {
-        if twice::is_twice(text, table, base, PIN_WORDS, i) {
+        if twice::is_again(text, table, marks, stamp, base, PIN_WORDS, i) {
             return Finding {
                 number: TWICE,
                 line: rules::nth_line(text, table::PINS, first + i),
@@ -37,14 +49,29 @@ fn pin_finding(text: &[u8], table: &[u64], base: usize, first: u64, count: u64) 
 }
 
 // The same of the map numbered `index`: `maps` and `pins` say where the records of each begin.
-fn own_finding(text: &[u8], table: &[u64], maps: usize, pins: usize, index: u64) -> Finding
-    requires { ⌜ MapRoom (now table) maps pins index ⌝ }
-    ensures { λ r. ⌜ r ≡ firstIn (pinsOfMap (now (text .entry)) (now (table .entry)) maps pins index) ⌝ }
+fn own_finding(
+    text: &[u8],
+    table: &[u64],
+    marks: &mut [u8; name::MARKS],
+    maps: usize,
+    pins: usize,
+    index: u64,
+) -> Finding
+    requires { ⌜ MapRoom (now table) maps pins index × (length (now marks) ≡ marksMany) ⌝ }
+    ensures { λ r. ⌜ (r ≡ firstIn (pinsOfMap (now (text .entry)) (now (table .entry)) maps pins index)) × (length (now (marks .exit)) ≡ marksMany) ⌝ }
 {
     let at = maps + MAP_WORDS * (index as usize);
     let first = table[at + 5];
     let base = pins + PIN_WORDS * (first as usize);
-    pin_finding(text, table, base, first, table[at + 6])
+    pin_finding(
+        text,
+        table,
+        marks,
+        (index % 64) as u8,
+        base,
+        first,
+        table[at + 6],
+    )
 }
 
 // The first map, or pin of a map, that has a name twice.
@@ -57,6 +84,7 @@ pub fn map_finding(text: &[u8], table: &[u64], view: View) -> Finding
     let maps = bases[table::MAPS];
     let pins = bases[table::PINS];
     let count = counts[table::MAPS];
+    let mut marks = [UNMARKED; name::MARKS];
     let mut i = 0;
     while i < count {
         if twice::is_twice(text, table, maps, MAP_WORDS, i) {
@@ -65,7 +93,7 @@ pub fn map_finding(text: &[u8], table: &[u64], view: View) -> Finding
                 line: rules::nth_line(text, table::MAPS, i),
             };
         }
-        let found = own_finding(text, table, maps, pins, i);
+        let found = own_finding(text, table, &mut marks, maps, pins, i);
         if found.number != 0 {
             return found;
         }

@@ -59,6 +59,9 @@ module _ (t table marks name : List ℕ) (stamp width : ℕ) (wide : 2 ≤ width
           let m : width * suc j ≡ width * j + width = mul-suc width j in
           omega arith
 
+pub marked-none : (t table marks : List ℕ) (stamp base width : ℕ) → length marks ≡ marksMany → Marked t table marks stamp base width 0
+marked-none t table marks stamp base width long = record { whole = long; each = λ (j : ℕ) (h : j < 0). absurd (not-suc-le-zero h) }
+
 -- ---- a record that is marked too
 
 module _ (t table marks : List ℕ) (stamp base width index : ℕ) (marked : Marked t table marks stamp base width index) where

@@ -26,6 +26,9 @@ mul-base c = search needs
 add-base : tie.Need-add-base
 add-base c = search needs
 
+cast-pin-finding : tie.Need-cast-pin-finding
+cast-pin-finding c = search needs
+
 add-pin-finding : tie.Need-add-pin-finding
 add-pin-finding c = search needs
 
@@ -53,6 +56,7 @@ own-finding-spec =
     shared-slice-read-first
     mul-base
     add-base
+    cast-pin-finding
     add-pin-finding
     mul-pin-finding
     shared-slice-read-pin-finding
