@@ -68,10 +68,10 @@ pub fn mark_of(number: u64, name: &[u8]) -> usize
     ensures { λ r. ⌜ r ≡ markOf number (now (name .entry)) ⌝ }
 {
     let mut mark = number as usize % BARE_MARKS;
-    let mut i = 0;
-    while i < name.len() {
-        mark = (mark * 37 + wide(name[i])) % NAME_MARKS + BARE_MARKS;
-        i += 1;
+    let mut next = 0;
+    while next < name.len() {
+        mark = (mark * 37 + wide(name[next])) % NAME_MARKS + BARE_MARKS;
+        next += 1;
     }
     mark
 }

@@ -9,10 +9,10 @@ use Rattle.name.proofs.mark_of.Statement.{statement}
 use Rattle.name.proofs.mark_of.Tie as tie
 
 abbrev Inv-loop : tie.InvT-loop
-Inv-loop number name mark₀ i₀ mark i = MarkLeft number name mark i
+Inv-loop number name mark₀ next₀ mark next = MarkLeft number name mark next
 
 abbrev μ-loop : tie.MeasureT-loop
-μ-loop number name mark₀ i₀ mark i = length name - i
+μ-loop number name mark₀ next₀ mark next = length name - next
 
 loop-holds : tie.Need-loop-holds Inv-loop μ-loop
 loop-holds c = search mark-starts
@@ -32,8 +32,8 @@ add-mark c = search needs
 add-mark-2 : tie.Need-add-mark-2 Inv-loop μ-loop
 add-mark-2 c = omega (arith, step-inside (c .before .before .before .loop .mark * 37 + c .wide .result))
 
-add-i : tie.Need-add-i Inv-loop μ-loop
-add-i c = search needs
+add-next : tie.Need-add-next Inv-loop μ-loop
+add-next c = search needs
 
 loop-less : tie.Need-loop-less Inv-loop μ-loop
 loop-less c = search needs
@@ -56,7 +56,7 @@ mark-of-spec =
     wide-requires
     add-mark
     add-mark-2
-    add-i
+    add-next
     loop-less
     loop-again
     returns)
