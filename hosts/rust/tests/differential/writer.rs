@@ -64,7 +64,7 @@ impl<'r> Writer<'r> {
     }
 
     fn blanks(&mut self) -> &'static str {
-        self.random.pick(&[" ", " ", "\t", "  ", " \t ", "   "])
+        *self.random.pick(&[" ", " ", "\t", "  ", " \t ", "   "])
     }
 
     fn gap(&mut self) -> &'static str {
@@ -174,7 +174,7 @@ pub fn positive(random: &mut Random) -> String {
     let mut digits: String = (0..length).map(|_| (b'0' + random.below(10) as u8) as char).collect();
     // A digit that is not zero keeps the whole above zero.
     let place = random.below(length);
-    digits.replace_range(place..place + 1, random.pick(&["1", "5", "9"]));
+    digits.replace_range(place..place + 1, *random.pick(&["1", "5", "9"]));
     if random.percent(50) {
         digits.insert(random.between(0, length), '.');
     }
