@@ -14,15 +14,13 @@ use Rattle.matrix.specs.declared.Matrix.{Matrix}
 use Rattle.matrix.specs.declared.Rows.{Rows}
 use Rattle.matrix.specs.declared.DataLine.{DataLine}
 use Rattle.matrix.specs.declared.Told.{Told}
-use Rattle.base.specs.Bytes.{within, isBlank}
+use Rattle.base.specs.Bytes.{isBlank}
 use Rattle.base.specs.Runs.{run}
 use Rattle.base.specs.Class.{isFilled, runEnd}
 use Rattle.number.specs.At.{wordFrom, numberAt}
 use Rattle.number.specs.declared.NumberAt.{NumberAt}
 use Rattle.number.specs.Number.{numberOf, isFormed, isBounded}
 use Rattle.number.specs.Integer.{wholeOf}
-use Rattle.number.specs.declared.Number.{Number}
-use Rattle.number.specs.declared.Number.the-variants.{Value, Malformed, Range}
 use Rattle.number.specs.declared.Whole.{Whole}
 use Rattle.text.specs.Words.{words, firstOf, secondOf, markedBy, wordAt, fewOf}
 use Rattle.text.specs.declared.Span.{Span}

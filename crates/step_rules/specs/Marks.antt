@@ -1,10 +1,10 @@
 -- Marks for the sides of ends: each end of a model, once it is judged, sets the mark of a number that is made of its map and of its side's
 -- bytes. An end whose mark is not set has another side than all that are marked, and need not be held to them one by one.
 -- Assumes nothing.
-use Prim.Native.Nat.{ℕ, _+_, _*_, _%_, _≤_, _<_}
+use Prim.Native.Nat.{ℕ, _+_, _*_, _≤_, _<_}
 use mathlib.Core.Path.{_≡_}
 use mathlib.Core.Bool.{Bool}
-use mathlib.Core.List.{List, [], _∷_}
+use mathlib.Core.List.{List, []}
 use lib.ListN.{length, getD}
 use lib.Dec.{eqb}
 use Rattle.base.specs.If.{either}

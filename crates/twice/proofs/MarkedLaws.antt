@@ -1,8 +1,8 @@
 -- Laws of names that are marked: one whose mark is not set is none of those above it.
 -- Assumes nothing.
 use mathlib.Core.Path.{_≡_, refl, sym, _∙_, ap}
-use mathlib.Core.Bool.{Bool, true, false, not}
-use mathlib.Core.List.{List, [], _∷_}
+use mathlib.Core.Bool.{true, false, not}
+use mathlib.Core.List.{List}
 use Prim.Native.Nat.{ℕ, zero, suc, _+_, _*_, _≤_, _<_, zero-le, suc-le-suc}
 use native.Mathlib.Nat.{not-suc-le-zero, mul-suc}
 use native.Mathlib.Omega.{arith}
@@ -10,7 +10,6 @@ use lib.ListN.{length, take, drop, getD, set, length-set}
 use lib.Seq.{drop-drop, getD-take, getD-drop, getD-set-same, getD-set-other}
 use lib.Dec.{eqb}
 use borrow.Author.Tests.{eqb-true, eqb-false, not-true}
-use Rattle.base.specs.If.{either}
 use Rattle.base.specs.Runs.{same}
 use Rattle.base.proofs.IfLaws.{by-cases, either-false}
 use Rattle.base.proofs.RunLaws.{same-equal}
