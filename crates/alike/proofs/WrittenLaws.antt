@@ -23,6 +23,7 @@ use Rattle.block.specs.declared.State.{State}
 use Rattle.block.specs.declared.Counts.{Counts}
 use Rattle.block.specs.State.{startState}
 use Rattle.block.specs.Keywords.{keywordRule, keywordNext}
+use Rattle.block.proofs.InsideLaws.{opens-closes}
 use Rattle.reading.specs.Reading.{lineRule, lineNext, readingOf}
 use Rattle.reading.specs.declared.Reading.the-variants.{Read}
 use Rattle.document.specs.Lines.{Line, plain, keyOf, argumentOf, gather, upTo, significant}
@@ -91,7 +92,6 @@ use Rattle.document.proofs.BodyLaws.{
   data-onward,
   row-onward,
   width-onward,
-  opens-closes,
   next-onward,
   first-onward,
   MatrixKey,

@@ -2,12 +2,13 @@
 -- Assumes nothing.
 use mathlib.Core.Path.{_≡_, refl, sym, _∙_, ap}
 use mathlib.Core.Bool.{Bool, true, false, not}
-use mathlib.Core.List.{List}
+use mathlib.Core.List.{List, [], _∷_}
 use Prim.Native.Nat.{ℕ, _≤_, _<_}
 use native.Mathlib.Nat.{le-trans, le-of-eq}
+use native.Mathlib.Omega.{arith}
 use lib.Seq.{set-out}
 use lib.Dec.{ltb, eqb}
-use borrow.Author.Tests.{eq-eqb, ne-eqb, ltb-false}
+use borrow.Author.Tests.{eq-eqb, ne-eqb, eqb-true, ltb-false}
 use lib.ListN.{length, getD, List·getD-eq-default}
 use Rattle.block.specs.declared.State.{State}
 use Rattle.block.specs.declared.Counts.{Counts}
@@ -16,7 +17,6 @@ use Rattle.block.specs.State.{startState, noneSeen, noCounts, newSection
 use Rattle.block.specs.Keywords.{
   isSeen,
   isWrongInMatrix,
-  isMatrixBroken,
   seenAfter,
   headAfter,
   pathAfter,
@@ -27,6 +27,8 @@ use Rattle.block.specs.Keywords.{
   oneMoreIf,
   countsAfter,
   keywordNext,
+  keptRule,
+  keptNext,
 }
 use Rattle.head.specs.Head.{newHead}
 use Rattle.head.specs.declared.Head.{Head}
@@ -35,10 +37,12 @@ use Rattle.path.specs.declared.Path.{Path}
 use Rattle.pin_map.specs.PinMap.{newMap}
 use Rattle.pin_map.specs.declared.Map.{Map}
 use Rattle.base.specs.If.{if_then_else_}
-use Rattle.base.proofs.IfLaws.{if-true, if-false}
+use Rattle.base.specs.Broken.{Rule, _when_}
+use Rattle.base.proofs.IfLaws.{if-true, if-false, either-false, either-rest}
+use Rattle.base.proofs.BrokenLaws.{Numbered, all-kept}
 use Rattle.keyword.specs.Names.{row, bandwidth, beginIcmModel, beginIcmSection, derivationMethod, icmPinMap}
 use Rattle.place.specs.Place.{moved, keepsMatrix, opensMatrix}
-use Rattle.argument.specs.Argument.{isOutOfBounds, formOf, methodOf}
+use Rattle.argument.specs.Argument.{isBadArgument, isBadInteger, isOutOfBounds, formOf, methodOf}
 use Rattle.matrix.specs.Matrix.{newMatrix, withRow, withBandwidth}
 use Rattle.matrix.specs.declared.Matrix.{Matrix}
 use Rattle.number.specs.Integer.{wholeOf}
@@ -50,17 +54,20 @@ unfolding isSeen
 unseen k s l h = sym (List·getD-eq-default (s .seen) false (le-trans (le-of-eq l) h))
 
 -- [Row] and [Bandwidth] are judged by the integer that they take
-pub kept-by-value : (k : ℕ) (argument : List ℕ) (s : State) (keeps : Bool) → keeps ≡ keepsMatrix k → keeps ≡ true → (w : Whole) → w ≡ wholeOf argument → (answer : Bool) → answer ≡ isWrongInMatrix k (w .value) (s .matrix) → answer ≡ isMatrixBroken k argument s
-unfolding isMatrixBroken
-kept-by-value k argument s keeps told e w read answer h =
-    h ∙ ap (λ (v : Whole). isWrongInMatrix k (v .value) (s .matrix)) read ∙ sym (if-true _ _ (sym told ∙ e))
+pub by-value : (k : ℕ) (argument : List ℕ) (m : Matrix) (w : Whole) → w ≡ wholeOf argument → (answer : Bool) → answer ≡ isWrongInMatrix k (w .value) m → answer ≡ isWrongInMatrix k (wholeOf argument .value) m
+by-value k argument m w read answer h = h ∙ ap (λ (v : Whole). isWrongInMatrix k (v .value) m) read
 
 -- ---- what is remembered
+
+-- one that there is none of keeps no matrix
+none-keeps : (k : ℕ) → 40 ≤ k → keepsMatrix k ≡ false
+unfolding keepsMatrix
+none-keeps k h = either-false _ _ (ne-eqb k row (λ (e : k ≡ row). omega arith)) (ne-eqb k bandwidth (λ (e : k ≡ bandwidth). omega arith))
 
 -- a keyword that there is none of is not marked
 pub seen-past : (k : ℕ) (seen : List Bool) → (k ≡ beginIcmModel → ⊥) → (k ≡ beginIcmSection → ⊥) → length seen ≡ 40 → 40 ≤ k → seen ≡ seenAfter k seen
 unfolding seenAfter
-seen-past k seen m s l h = sym (if-false _ _ (ne-eqb _ _ m) ∙ if-false _ _ (ne-eqb _ _ s) ∙ set-out seen k true (le-trans (le-of-eq l) h))
+seen-past k seen m s l h = sym (if-false _ _ (none-keeps k h) ∙ if-false _ _ (ne-eqb _ _ m) ∙ if-false _ _ (ne-eqb _ _ s) ∙ set-out seen k true (le-trans (le-of-eq l) h))
 
 module _ (k : ℕ) (argument : List ℕ) (s : State) where
   pub method-set : (k ≡ beginIcmSection → ⊥) → k ≡ derivationMethod → (m : ℕ) → m ≡ methodOf argument → record { method = m; conductors = 0 } ≡ sectionAfter k argument s
@@ -96,6 +103,41 @@ unfolding isOutOfBounds
 bandwidth-small k argument e r b w read =
     let f : ltb 255 (wholeOf argument .value) ≡ false = sym (if-false _ _ (ne-eqb _ _ r) ∙ if-true _ _ (eq-eqb _ _ b)) ∙ e in
     rw read (ltb-false _ _ f)
+
+-- ---- [Row] and [Bandwidth] in a matrix
+
+module _ (k : ℕ) (argument : List ℕ) (m : Matrix) where
+  -- the rules in their order
+  abbrev keptRules : List Rule
+  keptRules =
+      11 when isBadArgument k argument
+      ∷ 13 when isBadInteger k argument
+      ∷ 14 when isOutOfBounds k argument
+      ∷ 16 when isWrongInMatrix k (wholeOf argument .value) m
+      ∷ []
+
+  numbered : Numbered keptRules
+  numbered = (omega arith, (omega arith, (omega arith, (omega arith, tt))))
+
+  kept-bounds : keptRule k argument m ≡ 0 → isOutOfBounds k argument ≡ false
+  unfolding keptRule
+  kept-bounds kept = all-kept keptRules numbered kept 2
+
+  -- a keyword that keeps a matrix and is not [Row] is [Bandwidth], and its argument is small
+  pub kept-small : keepsMatrix k ≡ true → keptRule k argument m ≡ 0 → (k ≡ row → ⊥) → (w : Whole) → w ≡ wholeOf argument → w .value ≤ 255
+  unfolding keepsMatrix
+  kept-small keeps kept r w read =
+      let b : k ≡ bandwidth = eqb-true k bandwidth (sym (either-rest _ _ (ne-eqb k row r)) ∙ keeps) in
+      bandwidth-small k argument (kept-bounds kept) r b w read
+
+  module _ (values : ℕ) (w : Whole) (read : w ≡ wholeOf argument) (next : Matrix) where
+    pub kept-row : k ≡ row → next ≡ withRow (w .value) m values → next ≡ keptNext k argument m values
+    unfolding keptNext
+    kept-row r e = e ∙ ap (λ (x : Whole). withRow (x .value) m values) read ∙ sym (if-true _ _ (eq-eqb _ _ r))
+
+    pub kept-bandwidth : (k ≡ row → ⊥) → next ≡ withBandwidth (w .value) m → next ≡ keptNext k argument m values
+    unfolding keptNext
+    kept-bandwidth r e = e ∙ ap (λ (x : Whole). withBandwidth (x .value) m) read ∙ sym (if-false _ _ (ne-eqb _ _ r))
 
 pub counts-told : (k : ℕ) (c : Counts) (models maps sections matrices : ℕ) (opens : Bool) → opens ≡ opensMatrix k → models ≡ oneMoreIf (eqb k beginIcmModel) (c .models) → maps ≡ oneMoreIf (eqb k icmPinMap) (c .maps) → sections ≡ oneMoreIf (eqb k beginIcmSection) (c .sections) → matrices ≡ oneMoreIf opens (c .matrices) → record { models = models; steps = c .steps; maps = maps; pins = c .pins; sections = sections; matrices = matrices; values = c .values } ≡ countsAfter k c
 unfolding countsAfter

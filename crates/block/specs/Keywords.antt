@@ -182,9 +182,11 @@ keywordRule k argument s =
 
 -- ---- what is remembered
 
--- the keyword is read; a model has its own path and description, a section its own matrices
+-- the keyword is read; a model has its own path and description, a section its own matrices. One that keeps a matrix open may stand any
+-- number of times, and is not marked
 unfoldable pub seenAfter : ℕ → List Bool → List Bool
 seenAfter k seen =
+    if keepsMatrix k then seen else
     if eqb k beginIcmModel then set (set seen treePathDescription false) icmModelDescription false else
     if eqb k beginIcmSection
     then set (set (set (set seen resistanceMatrix false) inductanceMatrix false) conductanceMatrix false) capacitanceMatrix false
@@ -244,3 +246,20 @@ keywordNext k argument s =
       matrix = matrixAfter k argument s;
       counts = countsAfter k (s .counts);
     }
+
+-- ---- a keyword that keeps a matrix open, by the matrix alone
+
+-- the rules that [Row] or [Bandwidth] may break in a matrix
+unfoldable pub keptRule : ℕ → List ℕ → Matrix → ℕ
+keptRule k argument m =
+    firstBroken
+    (11 when isBadArgument k argument
+    ∷ 13 when isBadInteger k argument
+    ∷ 14 when isOutOfBounds k argument
+    ∷ 16 when isWrongInMatrix k (wholeOf argument .value) m
+    ∷ [])
+
+-- the matrix after it
+unfoldable pub keptNext : ℕ → List ℕ → Matrix → ℕ → Matrix
+keptNext k argument m values =
+    if eqb k row then withRow (wholeOf argument .value) m values else withBandwidth (wholeOf argument .value) m

@@ -1,8 +1,10 @@
 // Keyword lines: what each closes and opens, the rules it may break, and what is remembered after it.
 ghost use mathlib.Core.Path.{_≡_};
-ghost use mathlib.Core.Bool.{false};
+ghost use mathlib.Core.Bool.{true, false};
 ghost use Prim.Native.Nat.{_^_, _<_};
-ghost use Rattle.block.specs.Keywords.{isOnce, isSeen, hasNoKind, kindsLack, headerLacks, familyLacks, isLacking, isUnclosed, isRepeated, isMisplaced, isForkOpen, isWrongInMatrix, isMatrixBroken, isShapeBroken, closesTooWide, isFull, isPastBound, keywordRule, seenAfter, headAfter, pathAfter, mapAfter, conductorsAfter, sectionAfter, matrixAfter, oneMoreIf, countsAfter, keywordNext};
+ghost use Rattle.block.specs.Keywords.{isOnce, isSeen, hasNoKind, kindsLack, headerLacks, familyLacks, isLacking, isUnclosed, isRepeated, isMisplaced, isForkOpen, isWrongInMatrix, isMatrixBroken, isShapeBroken, closesTooWide, isFull, isPastBound, keywordRule, seenAfter, headAfter, pathAfter, mapAfter, conductorsAfter, sectionAfter, matrixAfter, oneMoreIf, countsAfter, keywordNext, keptRule, keptNext};
+ghost use Rattle.number.specs.Integer.{wholeOf};
+ghost use Rattle.place.specs.Place.{keepsMatrix};
 ghost use Rattle.argument.specs.Argument.{isOutOfBounds};
 ghost use Rattle.block.specs.Kept.{Countable};
 ghost use Rattle.pin_map.specs.PinMap.{Bounded};
@@ -242,14 +244,21 @@ fn is_wrong_in_matrix(key: u64, value: u64, m: Matrix) -> bool
     matrix::is_wrong_bandwidth(m)
 }
 
+// The same by the argument that stands on the line.
+fn is_wrong_by(key: u64, argument: &[u8], m: Matrix) -> bool
+    ensures { λ r. ⌜ r ≡ isWrongInMatrix key (wholeOf (now (argument .entry)) .value) m ⌝ }
+{
+    let value = number::read_integer(argument);
+    is_wrong_in_matrix(key, value.value, m)
+}
+
 // 16 of a keyword in a matrix: [Row] and [Bandwidth] by their place there, any other by the matrix that it closes.
 fn is_matrix_broken(key: u64, argument: &[u8], s: State) -> bool
     ensures { λ r. ⌜ r ≡ isMatrixBroken key (now (argument .entry)) s ⌝ }
 {
     let m = s.matrix;
     if place::keeps_matrix(key) {
-        let value = number::read_integer(argument);
-        return is_wrong_in_matrix(key, value.value, m);
+        return is_wrong_by(key, argument, m);
     }
     let section = s.section;
     let counts = s.counts;
@@ -344,10 +353,13 @@ pub fn keyword_rule(key: u64, argument: &[u8], s: State) -> u64
 
 // ---- what is remembered after a keyword that breaks nothing
 
-// A model has its own path and description, a section its own matrices.
+// A model has its own path and description, a section its own matrices; [Row] and [Bandwidth] may stand any number of times.
 fn seen_after(key: u64, seen: [bool; 40]) -> [bool; 40]
     ensures { λ r. ⌜ r ≡ seenAfter key seen ⌝ }
 {
+    if place::keeps_matrix(key) {
+        return seen;
+    }
     let mut next = seen;
     if key == keyword::BEGIN_ICM_MODEL {
         next[35] = false;
@@ -499,6 +511,39 @@ pub fn keyword_next(key: u64, argument: &[u8], s: State) -> State
         matrix: matrix_after(key, argument, s),
         counts: counts_after(key, counts),
     }
+}
+
+// ---- [Row] and [Bandwidth] in a matrix, by the matrix alone
+
+// The number of the first rule that [Row] or [Bandwidth] breaks in a matrix, 0 for none.
+pub fn kept_rule(key: u64, argument: &[u8], m: Matrix) -> u64
+    ensures { λ r. ⌜ r ≡ keptRule key (now (argument .entry)) m ⌝ }
+{
+    if argument::is_bad_argument(key, argument) {
+        return 11;
+    }
+    if argument::is_bad_integer(key, argument) {
+        return 13;
+    }
+    if argument::is_out_of_bounds(key, argument) {
+        return 14;
+    }
+    if is_wrong_by(key, argument, m) {
+        return 16;
+    }
+    0
+}
+
+// The matrix after a [Row] or a [Bandwidth] that breaks nothing.
+pub fn kept_next(key: u64, argument: &[u8], m: Matrix, values: u64) -> Matrix
+    requires { ⌜ (keepsMatrix key ≡ true) × (keptRule key (now argument) m ≡ 0) ⌝ }
+    ensures { λ r. ⌜ r ≡ keptNext key (now (argument .entry)) m values ⌝ }
+{
+    let value = number::read_integer(argument);
+    if key == keyword::ROW {
+        return matrix::with_row(value.value, m, values);
+    }
+    matrix::with_bandwidth(value.value, m)
 }
 
 // What is remembered before the first line: nothing.

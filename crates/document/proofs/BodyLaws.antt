@@ -58,6 +58,7 @@ use Rattle.matrix.specs.Matrix.{
   conductorsOf,
 }
 use Rattle.block.specs.declared.State.{State}
+use Rattle.block.proofs.InsideLaws.{opens-closes}
 use Rattle.block.specs.declared.Section.{Section}
 use Rattle.block.specs.Keywords.{
   isForkOpen,
@@ -232,10 +233,6 @@ kind-other : (k : ℕ) → opensMatrix k ≡ true → (j : ℕ) → opensMatrix 
 kind-other k h j g = ne-eqb k j (λ (e : k ≡ j). true≢false (sym h ∙ ap opensMatrix e ∙ g))
 
 module _ (k : ℕ) (opens : opensMatrix k ≡ true) where
-  pub opens-closes : keepsMatrix k ≡ false
-  unfolding keepsMatrix opensMatrix either
-  opens-closes = either-false _ _ (kind-other k opens row refl) (kind-other k opens bandwidth refl)
-
   opens-section : eqb k beginIcmSection ≡ false
   unfolding opensMatrix either
   opens-section = kind-other k opens beginIcmSection refl
@@ -264,11 +261,11 @@ module _ (k : ℕ) (opens : opensMatrix k ≡ true) where
     module _ (p : s .place ≡ place.matrix) where
       next-place : keywordNext k argument s .place ≡ place.matrix
       unfolding keywordNext moved inMatrix
-      next-place = if-true _ _ (eq-eqb _ _ p) ∙ if-false _ _ opens-closes ∙ open-leads
+      next-place = if-true _ _ (eq-eqb _ _ p) ∙ if-false _ _ (opens-closes k opens) ∙ open-leads
 
       next-conductors : conductorsAfter k s ≡ conductorsOf (s .matrix) (s .counts .values)
       unfolding conductorsAfter
-      next-conductors = if-false _ _ (not-not-via (eq-eqb _ _ p)) ∙ if-false _ _ opens-closes
+      next-conductors = if-false _ _ (not-not-via (eq-eqb _ _ p)) ∙ if-false _ _ (opens-closes k opens)
 
       -- in the place of a matrix, which it closes
       pub next-onward :

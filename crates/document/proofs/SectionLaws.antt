@@ -44,6 +44,7 @@ use Rattle.block.specs.declared.State.{State}
 use Rattle.block.specs.Keywords.{isSeen, hasNoKind, kindsLack, isLacking, isMisplaced, keywordRule, seenAfter, keywordNext}
 use Rattle.block.specs.declared.Counts.{Counts}
 use Rattle.block.specs.State.{startState}
+use Rattle.block.proofs.InsideLaws.{opens-closes}
 use Rattle.reading.specs.Reading.{lineRule, lineNext, readingOf}
 use Rattle.reading.specs.declared.Reading.the-variants.{Read}
 use Rattle.document.specs.Lines.{Line, plain, keyOf, argumentOf, gather, upTo, significant}
@@ -83,7 +84,6 @@ use Rattle.document.proofs.BodyLaws.{
   data-onward,
   row-onward,
   width-onward,
-  opens-closes,
   next-onward,
   first-onward,
   open-form,
@@ -371,7 +371,7 @@ still-not seen k j apart h = getD-set-other seen k j true false (eqb-false j k a
 
 module _ (argument : List ℕ) (s : State) where
   begin-kinds : NoKind (keywordNext beginIcmSection argument s .seen)
-  unfolding keywordNext seenAfter if_then_else_
+  unfolding keywordNext seenAfter keepsMatrix either if_then_else_
   begin-kinds = kinds-forgotten (s .seen)
 
   begin-leads : s .place ≡ place.after → keywordNext beginIcmSection argument s .place ≡ place.sectionHead
@@ -379,7 +379,7 @@ module _ (argument : List ℕ) (s : State) where
   begin-leads p = rw p
 
   method-kinds : NoKind (s .seen) → NoKind (keywordNext derivationMethod argument s .seen)
-  unfolding keywordNext seenAfter if_then_else_
+  unfolding keywordNext seenAfter keepsMatrix either if_then_else_
   method-kinds h =
       record {
         resistance = still-not (s .seen) derivationMethod resistanceMatrix refl (h .resistance);

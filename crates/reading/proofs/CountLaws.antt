@@ -57,6 +57,7 @@ use Rattle.place.specs.Place.{
   inFamily,
   inModel,
   opensMatrix,
+  keepsMatrix,
   afterFamily,
   isInHeader,
   isInFamily,
@@ -70,6 +71,7 @@ use Rattle.block.specs.Keywords.{isSeen, isOnce, isRepeated, isMisplaced, seenA
 use Rattle.block.specs.State.{noCounts, noneSeen, startState}
 use Rattle.block.specs.declared.Counts.{Counts}
 use Rattle.block.specs.declared.State.{State}
+use Rattle.block.proofs.InsideLaws.{opens-closes}
 use Rattle.block.proofs.KeptLaws.{start-kept, kept-more}
 use Rattle.reading.specs.Reading.{stepOf, lineRule, countsAfterLine, lineNext, readingOf}
 use Rattle.reading.specs.Trace.{stateAfter}
@@ -241,10 +243,17 @@ section-other : opensMatrix beginIcmSection ≡ false
 unfolding opensMatrix either
 section-other = refl
 
+section-keeps : keepsMatrix beginIcmSection ≡ false
+unfolding keepsMatrix either
+section-keeps = refl
+
 module _ (k : ℕ) (seen : List Bool) where
   seen-long : length (seenAfter k seen) ≡ length seen
   unfolding seenAfter
   seen-long =
+      by-test (λ (l : List Bool). length l ≡ length seen) (keepsMatrix k) _ _
+      (λ (g : keepsMatrix k ≡ true). refl)
+      (λ (g : keepsMatrix k ≡ false).
       by-test (λ (l : List Bool). length l ≡ length seen) (eqb k beginIcmModel) _ _
       (λ (e : eqb k beginIcmModel ≡ true). length-set (set seen treePathDescription false) icmModelDescription false ∙ length-set seen treePathDescription false)
       (λ (e : eqb k beginIcmModel ≡ false).
@@ -254,7 +263,7 @@ module _ (k : ℕ) (seen : List Bool) where
       ∙ length-set (set (set seen resistanceMatrix false) inductanceMatrix false) conductanceMatrix false
       ∙ length-set (set seen resistanceMatrix false) inductanceMatrix false
       ∙ length-set seen resistanceMatrix false)
-      (λ (f : eqb k beginIcmSection ≡ false). length-set seen k true))
+      (λ (f : eqb k beginIcmSection ≡ false). length-set seen k true)))
 
   -- a section begins with none
   kinds-section : eqb k beginIcmSection ≡ true → kinds (seenAfter k seen) ≡ 0
@@ -262,19 +271,23 @@ module _ (k : ℕ) (seen : List Bool) where
   kinds-section e =
       let f : k ≡ beginIcmSection = eqb-true k beginIcmSection e in
       let n : eqb k beginIcmModel ≡ false = ne-eqb k beginIcmModel (λ (g : k ≡ beginIcmModel). omega arith) in
-      ap kinds (if-false _ _ n ∙ if-true _ _ e) ∙ kinds-forgotten seen _ _ _ _ refl refl refl refl
+      let o : keepsMatrix k ≡ false = rw f section-keeps in
+      ap kinds (if-false _ _ o ∙ if-false _ _ n ∙ if-true _ _ e) ∙ kinds-forgotten seen _ _ _ _ refl refl refl refl
 
   kinds-matrix : eqb k beginIcmModel ≡ false → eqb k beginIcmSection ≡ false → length seen ≡ 40 → opensMatrix k ≡ true → getD seen k false ≡ false → kinds (seenAfter k seen) ≡ kinds seen + 1
   unfolding seenAfter
-  kinds-matrix n e long m new = ap kinds (if-false _ _ n ∙ if-false _ _ e) ∙ kinds-more seen long k m new
+  kinds-matrix n e long m new = ap kinds (if-false _ _ (opens-closes k m) ∙ if-false _ _ n ∙ if-false _ _ e) ∙ kinds-more seen long k m new
 
   kinds-else : eqb k beginIcmSection ≡ false → opensMatrix k ≡ false → kinds (seenAfter k seen) ≡ kinds seen
   unfolding seenAfter
   kinds-else e m =
+      by-test (λ (l : List Bool). kinds l ≡ kinds seen) (keepsMatrix k) _ _
+      (λ (g : keepsMatrix k ≡ true). refl)
+      (λ (g : keepsMatrix k ≡ false).
       by-test (λ (l : List Bool). kinds l ≡ kinds seen) (eqb k beginIcmModel) _ _
       (λ (n : eqb k beginIcmModel ≡ true).
       kinds-same (set seen treePathDescription false) icmModelDescription false description-other ∙ kinds-same seen treePathDescription false path-other)
-      (λ (n : eqb k beginIcmModel ≡ false). ap kinds (if-false _ _ e) ∙ kinds-same seen k true m)
+      (λ (n : eqb k beginIcmModel ≡ false). ap kinds (if-false _ _ e) ∙ kinds-same seen k true m))
 
 module _ (k : ℕ) (c : Counts) where
   matrices-more : opensMatrix k ≡ true → countsAfter k c .matrices ≡ c .matrices + 1

@@ -212,6 +212,8 @@ still seen k b n h = record { listed = getD-set-other seen k icmModelList b fals
 has-next : (k : ℕ) (seen : List Bool) → (k ≡ icmModelList → ⊥) → Has seen → Has (seenAfter k seen)
 unfolding seenAfter
 has-next k seen other h =
+    by-test Has (keepsMatrix k) _ _ (λ (g : keepsMatrix k ≡ true). h)
+    (λ (g : keepsMatrix k ≡ false).
     by-test Has (eqb k beginIcmModel) _ _
     (λ (e : eqb k beginIcmModel ≡ true).
     still _ icmModelDescription false (λ (z : icmModelList ≡ icmModelDescription). omega arith)
@@ -223,7 +225,7 @@ has-next k seen other h =
     (still _ conductanceMatrix false (λ (z : icmModelList ≡ conductanceMatrix). omega arith)
     (still _ inductanceMatrix false (λ (z : icmModelList ≡ inductanceMatrix). omega arith)
     (still seen resistanceMatrix false (λ (z : icmModelList ≡ resistanceMatrix). omega arith) h))))
-    (λ (f : eqb k beginIcmSection ≡ false). still seen k true (λ (z : icmModelList ≡ k). other (sym z)) h))
+    (λ (f : eqb k beginIcmSection ≡ false). still seen k true (λ (z : icmModelList ≡ k). other (sym z)) h)))
 
 read-kept : (k : ℕ) (argument : List ℕ) (s : State) → (k ≡ icmModelList → ⊥) → ListRead s → ListRead (keywordNext k argument s)
 unfolding isSeen keywordNext

@@ -2,22 +2,22 @@
 -- Assumes nothing.
 use Rattle.base.proofs.IfLaws.{chain}
 use Rattle.block.specs.Keywords.{isMatrixBroken}
-use Rattle.block.proofs.BlockLaws.{kept-by-value}
 use borrow.Author.Needs.{needs}
 use Rattle.block.proofs.is_matrix_broken.Statement.{statement}
 use Rattle.block.proofs.is_matrix_broken.Tie as tie
+use Rattle.block.proofs.is_wrong_by.Reads as is-wrong-by-reads
+use Rattle.matrix.proofs.is_wrong_shape.Reads as is-wrong-shape-reads
+use Rattle.place.proofs.keeps_matrix.Reads as keeps-matrix-reads
 
 keeps-matrix-requires : tie.Need-keeps-matrix-requires
 keeps-matrix-requires c κs = search needs
 
-read-integer-requires : tie.Need-read-integer-requires
-read-integer-requires c κs = search needs
-
-is-wrong-in-matrix-requires : tie.Need-is-wrong-in-matrix-requires
-is-wrong-in-matrix-requires c κs = search needs
+is-wrong-by-requires : tie.Need-is-wrong-by-requires
+is-wrong-by-requires c κs = search needs
 
 returns : tie.Need-returns
-returns c = search kept-by-value
+unfolding isMatrixBroken
+returns c = search chain
 
 is-wrong-shape-requires : tie.Need-is-wrong-shape-requires
 is-wrong-shape-requires c κs = search needs
@@ -29,10 +29,4 @@ returns-2 c = search chain
 pub is-matrix-broken-spec : {M : Type 1} → statement M
 is-matrix-broken-spec =
     tie.close
-    (tie.spec
-    keeps-matrix-requires
-    read-integer-requires
-    is-wrong-in-matrix-requires
-    returns
-    is-wrong-shape-requires
-    returns-2)
+    (tie.spec keeps-matrix-requires is-wrong-by-requires returns is-wrong-shape-requires returns-2)
