@@ -12,8 +12,8 @@ use lib.Dec.{eqb}
 use borrow.Author.Tests.{eq-eqb, eqb-true, eqb-false}
 use Rattle.base.proofs.IfLaws.{if-true, if-false, by-cases}
 use Rattle.table.specs.declared.Filling.{Filling}
-use Rattle.table.specs.Layout.{widths, layout, needed, AllLong, Wide}
-use Rattle.table.specs.Filling.{Write, partOf, widthOf, position, counted, tableAfter, fillingAfter, Fits}
+use Rattle.table.specs.Layout.{widths, values, layout, needed, AllLong, Wide}
+use Rattle.table.specs.Filling.{Write, partOf, widthOf, position, counted, tableAfter, fillingAfter, Fits, Apart}
 use Rattle.table.specs.Filling.{basesFrom, startFilling, headed}
 use Rattle.table.proofs.PartlyLaws.{grown, partly, bare, bare-headed, bare-wide, bare-at, all-laid, store-partly}
 
@@ -40,31 +40,34 @@ length-after (w ∷ ws) f t =
 
 pub fits-first : (size : ℕ) (f : Filling) (ws vs : List Write) → Fits size f (ws ++ vs) → Fits size f ws
 fits-first size f [] vs h = Fits.none
-fits-first size f (w ∷ ws) vs (Fits.more part width room next) = Fits.more part width room (fits-first size (counted f (w .part)) ws vs next)
+fits-first size f (w ∷ ws) vs (Fits.more part width room apart next) = Fits.more part width room apart (fits-first size (counted f (w .part)) ws vs next)
 
 pub fits-rest : (size : ℕ) (f : Filling) (ws vs : List Write) → Fits size f (ws ++ vs) → Fits size (fillingAfter ws f) vs
 unfolding fillingAfter
 fits-rest size f [] vs h = h
-fits-rest size f (w ∷ ws) vs (Fits.more part width room next) = fits-rest size (counted f (w .part)) ws vs next
+fits-rest size f (w ∷ ws) vs (Fits.more part width room apart next) = fits-rest size (counted f (w .part)) ws vs next
 
 -- what the first write asks
 module _ (size : ℕ) (f : Filling) (w : Write) (ws : List Write) where
   pub fits-part : Fits size f (w ∷ ws) → w .part < length widths
-  fits-part (Fits.more part width room next) = part
+  fits-part (Fits.more part width room apart next) = part
 
   pub fits-width : Fits size f (w ∷ ws) → length (w .words) ≡ widthOf (w .part)
-  fits-width (Fits.more part width room next) = width
+  fits-width (Fits.more part width room apart next) = width
 
   pub fits-room : Fits size f (w ∷ ws) → position f (w .part) + widthOf (w .part) ≤ size
-  fits-room (Fits.more part width room next) = room
+  fits-room (Fits.more part width room apart next) = room
+
+  pub fits-apart : Fits size f (w ∷ ws) → Apart f (w .part)
+  fits-apart (Fits.more part width room apart next) = apart
 
   pub fits-next : Fits size f (w ∷ ws) → Fits size (counted f (w .part)) ws
-  fits-next (Fits.more part width room next) = next
+  fits-next (Fits.more part width room apart next) = next
 
 pub fits-wider : (m n : ℕ) (f : Filling) (ws : List Write) → m ≤ n → Fits m f ws → Fits n f ws
 fits-wider m n f [] le h = Fits.none
-fits-wider m n f (w ∷ ws) le (Fits.more part width room next) =
-    Fits.more part width (le-trans room le) (fits-wider m n (counted f (w .part)) ws le next)
+fits-wider m n f (w ∷ ws) le (Fits.more part width room apart next) =
+    Fits.more part width (le-trans room le) apart (fits-wider m n (counted f (w .part)) ws le next)
 
 -- ---- what is left alone
 
@@ -78,7 +81,7 @@ drop-sets m i t (v ∷ vs) h =
 pub kept-above : (m : ℕ) (f : Filling) (ws : List Write) (t : List ℕ) → Fits m f ws → drop m (tableAfter ws f t) ≡ drop m t
 unfolding tableAfter
 kept-above m f [] t h = refl
-kept-above m f (w ∷ ws) t (Fits.more part width room next) =
+kept-above m f (w ∷ ws) t (Fits.more part width room apart next) =
     let r : position f (w .part) + length (w .words) ≤ m = rw width room in
     kept-above m (counted f (w .part)) ws (sets t (position f (w .part)) (w .words)) next ∙ drop-sets m (position f (w .part)) t (w .words) r
 
@@ -315,6 +318,14 @@ filled-from parts done (w ∷ ws) rest stage =
     rw (next-table parts done w ws stage rest, next-filling parts done w ws stage)
     (filled-from parts (grown done (w .part) (w .words)) ws rest (next-stage parts done w ws stage))
 
+-- a record of a part before the values ends before them
+next-apart : (parts done : List (List (List ℕ))) (w : Write) (ws : List Write) → Stage parts done (w ∷ ws) → Apart (filling parts done) (w .part)
+next-apart parts done w ws stage below =
+    let l : length (map length parts) ≡ length widths = length-map parts length ∙ wide-length widths parts (stage .whole) in
+    let e : end 0 widths (map length parts) (w .part) < begin 0 widths (map length parts) values =
+    ends-below 0 widths (map length parts) (w .part) values l below (omega arith) in
+    le-trans (next-end parts done w ws stage) (omega arith)
+
 fits-from : (size q : ℕ) (parts done : List (List (List ℕ))) (ws : List Write) → Stage parts done ws → Below q ws →
     ((p : ℕ) → p < q → end 0 widths (map length parts) p ≤ size) → Fits size (filling parts done) ws
 fits-from size q parts done [] stage below ends = Fits.none
@@ -323,7 +334,7 @@ fits-from size q parts done (w ∷ ws) stage (Below.more h below) ends =
     let n : Fits size (counted (filling parts done) (w .part)) ws =
     rw (next-filling parts done w ws stage)
     (fits-from size q parts (grown done (w .part) (w .words)) ws (next-stage parts done w ws stage) below ends) in
-    Fits.more (below-first (length widths) w ws (stage .known)) (next-width parts done w ws stage) r n
+    Fits.more (below-first (length widths) w ws (stage .known)) (next-width parts done w ws stage) r (next-apart parts done w ws stage) n
 
 -- the writes that come after others
 fits-later : (size q : ℕ) (parts done : List (List (List ℕ))) (ws vs : List Write) → Stage parts done (ws ++ vs) → Below q vs →

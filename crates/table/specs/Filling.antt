@@ -9,7 +9,7 @@ use lib.ListN.{length, getD, set, replicate}
 use lib.Seq.{sets}
 use lib.Dec.{eqb}
 use Rattle.base.specs.If.{if_then_else_}
-use Rattle.table.specs.Layout.{widths}
+use Rattle.table.specs.Layout.{widths, values}
 use Rattle.table.specs.declared.Filling.{Filling}
 
 -- a record to store: its part and its words
@@ -43,12 +43,16 @@ unfoldable pub fillingAfter : List Write → Filling → Filling
 fillingAfter [] f = f
 fillingAfter (w ∷ ws) f = fillingAfter ws (counted f (w .part))
 
--- each record is as wide as its part asks, and is stored below `size`
+-- records of the parts before the values end before the values begin: values may stand there already
+abbrev pub Apart : Filling → ℕ → Type 0
+Apart f p = p < values → position f p + widthOf p ≤ getD (f .bases) values 0
+
+-- each record is as wide as its part asks, is stored below `size`, and is no value's or lies before them
 pub data Fits (size : ℕ) : Filling → List Write → Type 0 where
   none : {f : Filling} → Fits size f []
   more : {f : Filling} {w : Write} {ws : List Write} →
       w .part < length widths → length (w .words) ≡ widthOf (w .part) → position f (w .part) + widthOf (w .part) ≤ size →
-      Fits size (counted f (w .part)) ws → Fits size f (w ∷ ws)
+      Apart f (w .part) → Fits size (counted f (w .part)) ws → Fits size f (w ∷ ws)
 
 -- where the records of each part begin, the first part's count standing at `at`
 unfoldable pub basesFrom : ℕ → List ℕ → List ℕ → List ℕ
