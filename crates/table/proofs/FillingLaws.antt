@@ -193,11 +193,11 @@ below-first q w ws (Below.more h below) = h
 below-rest : (q : ℕ) (w : Write) (ws : List Write) → Below q (w ∷ ws) → Below q ws
 below-rest q w ws (Below.more h below) = below
 
-part-here : (w : Write) (ws : List Write) (p : ℕ) → eqb (w .part) p ≡ true → partOf p (w ∷ ws) ≡ w .words ∷ partOf p ws
+pub part-here : (w : Write) (ws : List Write) (p : ℕ) → eqb (w .part) p ≡ true → partOf p (w ∷ ws) ≡ w .words ∷ partOf p ws
 unfolding partOf
 part-here w ws p e = if-true _ _ e
 
-part-there : (w : Write) (ws : List Write) (p : ℕ) → eqb (w .part) p ≡ false → partOf p (w ∷ ws) ≡ partOf p ws
+pub part-there : (w : Write) (ws : List Write) (p : ℕ) → eqb (w .part) p ≡ false → partOf p (w ∷ ws) ≡ partOf p ws
 unfolding partOf
 part-there w ws p e = if-false _ _ e
 

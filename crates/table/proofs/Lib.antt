@@ -2,3 +2,4 @@ pub mod LayoutLaws
 pub mod PartlyLaws
 pub mod FillingLaws
 pub mod StoreLaws
+pub mod BehindLaws
