@@ -3,16 +3,15 @@
 -- Assumes nothing.
 use mathlib.Core.Path.{_≡_, refl, sym, _∙_, ap}
 use mathlib.Core.Bool.{true, false}
-use mathlib.Core.List.{List, [], _∷_, _++_}
-use Prim.Native.Nat.{ℕ, zero, suc, _+_, _-_, _*_, _≤_, _<_}
-use native.Mathlib.Nat.{add-zero, mul-suc, mul-add, le-refl, le-trans}
-use native.Mathlib.Numerals.{add-one}
+use mathlib.Core.List.{List, [], _∷_}
+use Prim.Native.Nat.{ℕ, suc, _+_, _-_, _*_, _≤_, _<_}
+use native.Mathlib.Nat.{add-zero, le-refl}
 use native.Mathlib.Omega.{arith}
 use lib.ListN.{length, drop, getD, set, length-set, length-drop}
 use lib.Seq.{sets, getD-set-same, getD-set-other, set-set, set-comm}
 use lib.Dec.{eqb}
 use borrow.Author.Tests.{eqb-true, eqb-false}
-use Rattle.base.proofs.IfLaws.{if-true, if-false, by-cases}
+use Rattle.base.proofs.IfLaws.{by-cases}
 use Rattle.table.specs.declared.Filling.{Filling}
 use Rattle.table.specs.Layout.{widths, values}
 use Rattle.table.specs.Filling.{Write, partOf, widthOf, position, counted, tableAfter, fillingAfter, Fits, Apart}

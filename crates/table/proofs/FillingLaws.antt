@@ -99,10 +99,10 @@ headed-long (w ∷ ws) (c ∷ counts) =
     omega arith
 
 -- where the records of a part begin, and where they end, the first part's count standing at `at`
-abbrev begin : ℕ → List ℕ → List ℕ → ℕ → ℕ
+abbrev pub begin : ℕ → List ℕ → List ℕ → ℕ → ℕ
 begin at ws counts p = getD (basesFrom at ws counts) p 0
 
-abbrev end : ℕ → List ℕ → List ℕ → ℕ → ℕ
+abbrev pub end : ℕ → List ℕ → List ℕ → ℕ → ℕ
 end at ws counts p = begin at ws counts p + getD ws p 0 * getD counts p 0
 
 -- no part ends behind what is needed for all of them
@@ -114,6 +114,17 @@ ends-within at (w ∷ ws) (c ∷ counts) zero = omega arith
 ends-within at (w ∷ ws) (c ∷ counts) (suc p) =
     let next : ℕ = at + 1 + w * c in
     let h : end next ws counts p ≤ next + needed ws counts = ends-within next ws counts p in
+    omega arith
+
+-- the last part ends with what is needed for all of them
+pub ends-last : (at w : ℕ) (ws counts : List ℕ) → length counts ≡ suc (length ws) → end at (w ∷ ws) counts (length ws) ≡ at + needed (w ∷ ws) counts
+unfolding basesFrom needed
+ends-last at w ws [] e = absurd (omega arith)
+ends-last at w [] (c ∷ counts) e = omega arith
+ends-last at w (v ∷ ws) (c ∷ counts) e =
+    let next : ℕ = at + 1 + w * c in
+    let l : length counts ≡ suc (length ws) = omega arith in
+    let h : end next (v ∷ ws) counts (length ws) ≡ next + needed (v ∷ ws) counts = ends-last next v ws counts l in
     omega arith
 
 begins-behind : (at : ℕ) (ws counts : List ℕ) (p : ℕ) → length counts ≡ length ws → p < length ws → at < begin at ws counts p
@@ -128,7 +139,7 @@ begins-behind at (w ∷ ws) (c ∷ counts) (suc p) e h =
     omega arith
 
 -- a part ends below the count of any later one
-ends-below : (at : ℕ) (ws counts : List ℕ) (p q : ℕ) → length counts ≡ length ws → p < q → q < length ws →
+pub ends-below : (at : ℕ) (ws counts : List ℕ) (p q : ℕ) → length counts ≡ length ws → p < q → q < length ws →
     end at ws counts p < begin at ws counts q
 unfolding basesFrom
 ends-below at [] counts p q e below h = absurd (not-suc-le-zero h)

@@ -3,3 +3,5 @@ pub mod PartlyLaws
 pub mod FillingLaws
 pub mod StoreLaws
 pub mod BehindLaws
+pub mod OpenLaws
+pub mod LiftLaws

@@ -65,7 +65,7 @@ zeros-more w left =
     rw e (sym (replicate-append-replicate w (w * left) 0))
 
 -- stores over as many words, behind what stands before them
-sets-over : (before over after words : List ℕ) → length words ≡ length over →
+pub sets-over : (before over after words : List ℕ) → length words ≡ length over →
     sets (before ++ (over ++ after)) (length before) words ≡ before ++ (words ++ after)
 sets-over before over after words e =
     let l : length (before ++ (over ++ after)) ≡ length before + length (over ++ after) = length-append before (over ++ after) in

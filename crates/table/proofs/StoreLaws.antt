@@ -1,18 +1,18 @@
 -- Laws by which the code meets its contracts: a loop over the parts, the counts and bases that it stores, and the place of one record.
 -- Assumes nothing.
 use mathlib.Core.Path.{_≡_, refl, sym, _∙_, ap}
-use mathlib.Core.List.{List, [], _∷_, _++_, append-assoc, append-nil}
-use Prim.Native.Nat.{ℕ, zero, suc, _+_, _-_, _*_, _^_, _≤_, _<_}
+use mathlib.Core.List.{List, [], _∷_, append-nil}
+use Prim.Native.Nat.{ℕ, zero, suc, _+_, _*_, _^_, _≤_, _<_}
 use mir.Syntax.{w64}
 use mir.Val.{Fits}
-use native.Mathlib.Nat.{zero-add, mul-le-mul, mul-suc, mul-comm, le-mul-of-pos-right}
+use native.Mathlib.Nat.{mul-le-mul, mul-suc, mul-comm, le-mul-of-pos-right}
 use native.Mathlib.Numerals.{add-one}
 use native.Mathlib.Omega.{arith}
-use lib.ListN.{length, drop, getD, set, replicate, length-append, length-replicate, replicate-append-replicate, drop-of-length-le}
-use lib.Seq.{sets, drop-cons, sets-eq, set-at}
+use lib.ListN.{length, drop, getD, set, replicate, drop-of-length-le}
+use lib.Seq.{sets, drop-cons, sets-eq}
 use Rattle.table.specs.declared.Filling.{Filling}
 use Rattle.table.specs.Layout.{widths, needed}
-use Rattle.table.specs.Filling.{headed, basesFrom, startFilling, Few, position, widthOf}
+use Rattle.table.specs.Filling.{basesFrom, startFilling, Few, position, widthOf}
 
 -- ---- a loop over the parts: the words before a part, and what it and those after it need
 
@@ -108,61 +108,6 @@ pub count-fits : (f : Filling) (p : ℕ) (table : List ℕ) → p < length width
     length table * 8 < 2 ^ 63 → Fits w64 (getD (f .counts) p 0 + 1)
 unfolding position widthOf
 count-fits f p table h room small = omega (arith, records-words (getD widths p 0) (getD (f .counts) p 0) (widths-some p h))
-
--- ---- the counts stored, each where its part begins
-
--- what stands before `at` is right, zeros come after it, and what the parts that are left ask for completes the table
-pub record Opened (ws counts table : List ℕ) (at spare : ℕ) (goal : List ℕ) : Type 0 where
-  pub front : List ℕ
-  pub is : table ≡ front ++ replicate (needed ws counts + spare) 0
-  pub place : length front ≡ at
-  pub whole : front ++ headed ws counts ≡ goal
-
-set-zeros : (front : List ℕ) (at n left c : ℕ) → length front ≡ at →
-    set (front ++ replicate (suc (n + left)) 0) at c ≡ (front ++ (c ∷ replicate n 0)) ++ replicate left 0
-set-zeros front at n left c e =
-    set-at front 0 (replicate (n + left) 0) c at e
-    ∙ rw (append-assoc front (c ∷ replicate n 0) (replicate left 0), replicate-append-replicate {A = ℕ} n left 0)
-
--- one count stored: it and the zeros of its part's records are right too
-opened-next : (w c : ℕ) (ws counts table : List ℕ) (at spare : ℕ) (goal : List ℕ) →
-    Opened (w ∷ ws) (c ∷ counts) table at spare goal → Opened ws counts (set table at c) (at + 1 + w * c) spare goal
-unfolding needed headed
-opened-next w c ws counts table at spare goal opened =
-    let n : 1 + w * c + needed ws counts + spare ≡ suc (w * c + (needed ws counts + spare)) = omega arith in
-    let e : table ≡ opened .front ++ replicate (suc (w * c + (needed ws counts + spare))) 0 = rw n at (opened .is) in
-    let z : length (replicate {A = ℕ} (w * c) 0) ≡ w * c = length-replicate (w * c) 0 in
-    let l : length (opened .front) ≡ at = opened .place in
-    record {
-      front = opened .front ++ (c ∷ replicate (w * c) 0);
-      is = rw e (set-zeros (opened .front) at (w * c) (needed ws counts + spare) c (opened .place));
-      place = length-append (opened .front) (c ∷ replicate (w * c) 0) ∙ omega arith;
-      whole = append-assoc (opened .front) (c ∷ replicate (w * c) 0) (headed ws counts) ∙ opened .whole;
-    }
-
-pub opened-start : (counts table : List ℕ) → needed widths counts ≤ length table → table ≡ replicate (length table) 0 →
-    Opened widths counts table 0 (length table - needed widths counts) (headed widths counts)
-opened-start counts table h e =
-    let n : length table ≡ needed widths counts + (length table - needed widths counts) = omega arith in
-    record { front = []; is = e ∙ ap (λ (k : ℕ). replicate k 0) n; place = refl; whole = refl }
-
-pub opened-on : (counts table : List ℕ) (at part spare : ℕ) (goal : List ℕ) → length counts ≡ 7 → part < 7 →
-    Opened (drop part widths) (drop part counts) table at spare goal →
-    Opened (drop (part + 1) widths) (drop (part + 1) counts) (set table at (getD counts part 0))
-    (at + 1 + getD widths part 0 * getD counts part 0) spare goal
-opened-on counts table at part spare goal long h opened =
-    let k : part < length counts = omega arith in
-    rw (add-one part)
-    (opened-next (getD widths part 0) (getD counts part 0) (drop (suc part) widths) (drop (suc part) counts) table at spare goal
-    (rw (drop-cons widths part 0 h, drop-cons counts part 0 k) at opened))
-
-pub opened-done : (counts table : List ℕ) (at part spare : ℕ) (goal : List ℕ) → 7 ≤ part →
-    Opened (drop part widths) (drop part counts) table at spare goal → table ≡ goal ++ replicate spare 0
-unfolding needed headed
-opened-done counts table at part spare goal h opened =
-    let e : drop part widths ≡ [] = drop-of-length-le widths h in
-    let o : Opened [] (drop part counts) table at spare goal = rw e at opened in
-    o .is ∙ rw (zero-add spare, ← o .whole, append-nil (o .front))
 
 -- ---- where the records begin, stored one part after the other
 

@@ -70,6 +70,12 @@ headed [] counts = []
 headed (w ∷ ws) [] = []
 headed (w ∷ ws) (c ∷ cs) = (c ∷ replicate (w * c) 0) ++ headed ws cs
 
+-- each part's count is set where the part begins
+unfoldable pub opened : ℕ → List ℕ → List ℕ → List ℕ → List ℕ
+opened at [] counts t = t
+opened at (w ∷ ws) [] t = t
+opened at (w ∷ ws) (c ∷ cs) t = opened (at + 1 + w * c) ws cs (set t at c)
+
 -- "65,536 values" is the greatest of the bounds: no count is above it, so no sum of theirs wraps
 pub record Few (counts : List ℕ) : Type 0 where
   pub few : (p : ℕ) → getD counts p 0 ≤ 65_536

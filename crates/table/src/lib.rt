@@ -1,11 +1,10 @@
 // The table's parts: how many words they need, where each begins, and the storing of one record.
 ghost use mathlib.Core.Path.{_≡_};
-ghost use mathlib.Core.List.{_++_};
-ghost use Prim.Native.Nat.{ℕ, _+_, _-_, _≤_, _<_};
-ghost use lib.ListN.{length, getD, replicate};
+ghost use Prim.Native.Nat.{ℕ, _+_, _≤_, _<_};
+ghost use lib.ListN.{length, take, replicate};
 ghost use lib.Seq.{sets};
 ghost use Rattle.table.specs.Layout.{widths, needed};
-ghost use Rattle.table.specs.Filling.{widthOf, position, counted, startFilling, headed, Few};
+ghost use Rattle.table.specs.Filling.{widthOf, position, counted, startFilling, opened, Few};
 
 pub const MODELS: usize = 0;
 
@@ -46,10 +45,45 @@ pub fn words_needed(counts: [u64; 7]) -> usize
     words
 }
 
-// The counts stored in a table of zeros, each where its part begins.
+// The first words moved up, from the last down: none is stored over before it is moved.
+fn move_up(table: &mut [u64], count: usize, up: usize)
+    requires { ⌜ up + count ≤ length (now table) ⌝ }
+    ensures { λ _. ⌜ now (table .exit) ≡ sets (now (table .entry)) up (take count (now (table .entry))) ⌝ }
+{
+    let mut i = count;
+    while 0 < i {
+        let next = i - 1;
+        table[up + next] = table[next];
+        i = next;
+    }
+}
+
+// Zeros for the first words.
+fn zero_front(table: &mut [u64], count: usize)
+    requires { ⌜ count ≤ length (now table) ⌝ }
+    ensures { λ _. ⌜ now (table .exit) ≡ sets (now (table .entry)) 0 (replicate count 0) ⌝ }
+{
+    let mut i = 0;
+    while i < count {
+        table[i] = 0;
+        i += 1;
+    }
+}
+
+// The first words moved up to where they belong, with zeros before and behind them.
+pub fn lift(table: &mut [u64], count: usize, up: usize)
+    requires { ⌜ up + count ≤ length (now table) ⌝ }
+    ensures { λ _. ⌜ now (table .exit) ≡ sets (replicate (length (now (table .entry))) 0) up (take count (now (table .entry))) ⌝ }
+{
+    move_up(table, count, up);
+    zero_front(table, up);
+    base::zero_from(table, up + count);
+}
+
+// The counts stored, each where its part begins.
 pub fn open_parts(table: &mut [u64], counts: [u64; 7]) -> Filling
-    requires { ⌜ Few counts × (needed widths counts ≤ length (now table)) × (now table ≡ replicate (length (now table)) 0) ⌝ }
-    ensures { λ r. ⌜ (r ≡ startFilling counts) × (now (table .exit) ≡ headed widths counts ++ replicate (length (now (table .entry)) - needed widths counts) 0) ⌝ }
+    requires { ⌜ Few counts × (needed widths counts ≤ length (now table)) ⌝ }
+    ensures { λ r. ⌜ (r ≡ startFilling counts) × (now (table .exit) ≡ opened 0 widths counts (now (table .entry))) ⌝ }
 {
     let mut bases = [0; 7];
     let mut at = 0;

@@ -1,4 +1,4 @@
--- `table::open_parts` meets its contract. The loop's invariant: what the parts left ask for completes the table and the bases.
+-- `table::open_parts` meets its contract. The loop's invariant: what the parts left set completes the table and the bases.
 -- Assumes nothing.
 use borrow.Author.Needs.{needs}
 use mathlib.Core.Path.{_≡_}
@@ -7,9 +7,10 @@ use native.Mathlib.Nat.{zero-add}
 use lib.ListN.{length, drop}
 use lib.Seq.{sets}
 use Rattle.table.specs.Layout.{widths, needed}
-use Rattle.table.specs.Filling.{basesFrom, headed}
+use Rattle.table.specs.Filling.{basesFrom, opened}
 use Rattle.table.proofs.StoreLaws.{part-on, place-within, place-fits, first-fits, part-fits, sum-fits}
-use Rattle.table.proofs.StoreLaws.{Opened, opened-start, opened-on, opened-done, bases-start, bases-on, bases-done}
+use Rattle.table.proofs.StoreLaws.{bases-start, bases-on, bases-done}
+use Rattle.table.proofs.OpenLaws.{opened-on, opened-done}
 use Rattle.table.proofs.open_parts.Statement.{statement}
 use Rattle.table.proofs.open_parts.Tie as tie
 
@@ -17,13 +18,13 @@ abbrev Inv-loop : tie.InvT-loop
 Inv-loop table₀ counts bases₀ at₀ part₀ table bases at part =
     (part ≤ 7) × (length counts ≡ 7) × (length table ≡ length table₀) × (at + needed (drop part widths) (drop part counts) ≡ needed widths counts)
     × (sets bases part (basesFrom at (drop part widths) (drop part counts)) ≡ basesFrom 0 widths counts)
-    × Opened (drop part widths) (drop part counts) table at (length table₀ - needed widths counts) (headed widths counts)
+    × (opened at (drop part widths) (drop part counts) table ≡ opened 0 widths counts table₀)
 
 abbrev μ-loop : tie.MeasureT-loop
 μ-loop table₀ counts bases₀ at₀ part₀ table bases at part = 7 - part
 
 loop-holds : tie.Need-loop-holds Inv-loop μ-loop
-loop-holds c = search (needs, zero-add, bases-start, opened-start)
+loop-holds c = search (needs, zero-add, bases-start)
 
 mul-count : tie.Need-mul-count Inv-loop μ-loop
 mul-count c = search needs
