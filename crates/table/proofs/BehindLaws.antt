@@ -100,12 +100,14 @@ unfolding fillingAfter partOf
 value-place [] f seven = sym (add-zero (position f values))
 value-place (w ∷ ws) f seven = value-place ws (counted f (w .part)) (next-seven f (w .part) seven) ∙ by-cases _ (eqb (w .part) values) here there
   where
-    here : eqb (w .part) values ≡ true → position (counted f (w .part)) values + 3 * length (partOf values ws) ≡ position f values + 3 * length (partOf values (w ∷ ws))
+    here : eqb (w .part) values ≡ true →
+        position (counted f (w .part)) values + 3 * length (partOf values ws) ≡ position f values + 3 * length (partOf values (w ∷ ws))
     here e =
         let p : position (counted f (w .part)) values ≡ position f values + 3 = next-value f (w .part) seven (eqb-true (w .part) values e) in
         rw (part-here w ws values e) (omega arith)
 
-    there : eqb (w .part) values ≡ false → position (counted f (w .part)) values + 3 * length (partOf values ws) ≡ position f values + 3 * length (partOf values (w ∷ ws))
+    there : eqb (w .part) values ≡ false →
+        position (counted f (w .part)) values + 3 * length (partOf values ws) ≡ position f values + 3 * length (partOf values (w ∷ ws))
     there e = rw (part-there w ws values e, next-other f (w .part) (eqb-false (w .part) values e))
 
 -- ---- what is left alone

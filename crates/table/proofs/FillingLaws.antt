@@ -40,7 +40,8 @@ length-after (w ∷ ws) f t =
 
 pub fits-first : (size : ℕ) (f : Filling) (ws vs : List Write) → Fits size f (ws ++ vs) → Fits size f ws
 fits-first size f [] vs h = Fits.none
-fits-first size f (w ∷ ws) vs (Fits.more part width room apart next) = Fits.more part width room apart (fits-first size (counted f (w .part)) ws vs next)
+fits-first size f (w ∷ ws) vs (Fits.more part width room apart next) =
+    Fits.more part width room apart (fits-first size (counted f (w .part)) ws vs next)
 
 pub fits-rest : (size : ℕ) (f : Filling) (ws vs : List Write) → Fits size f (ws ++ vs) → Fits size (fillingAfter ws f) vs
 unfolding fillingAfter

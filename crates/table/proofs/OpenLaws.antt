@@ -18,7 +18,8 @@ use Rattle.table.proofs.BehindLaws.{set-sets}
 
 pub opened-on : (counts table : List ℕ) (at part : ℕ) (goal : List ℕ) → length counts ≡ 7 → part < 7 →
     opened at (drop part widths) (drop part counts) table ≡ goal →
-    opened (at + 1 + getD widths part 0 * getD counts part 0) (drop (part + 1) widths) (drop (part + 1) counts) (set table at (getD counts part 0)) ≡ goal
+    opened (at + 1 + getD widths part 0 * getD counts part 0) (drop (part + 1) widths) (drop (part + 1) counts) (set table at (getD counts part 0))
+    ≡ goal
 unfolding opened
 opened-on counts table at part goal long h e =
     let k : part < length counts = omega arith in

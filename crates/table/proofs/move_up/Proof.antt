@@ -10,7 +10,8 @@ use Rattle.table.proofs.move_up.Statement.{statement}
 use Rattle.table.proofs.move_up.Tie as tie
 
 abbrev Inv-loop : tie.InvT-loop
-Inv-loop table₀ count up i₀ table i = (i ≤ count) × (length table ≡ length table₀) × (sets table up (take i table) ≡ sets table₀ up (take count table₀))
+Inv-loop table₀ count up i₀ table i =
+    (i ≤ count) × (length table ≡ length table₀) × (sets table up (take i table) ≡ sets table₀ up (take count table₀))
 
 abbrev μ-loop : tie.MeasureT-loop
 μ-loop table₀ count up i₀ table i = i

@@ -11,7 +11,8 @@ use Rattle.table.proofs.zero_front.Statement.{statement}
 use Rattle.table.proofs.zero_front.Tie as tie
 
 abbrev Inv-loop : tie.InvT-loop
-Inv-loop table₀ count i₀ table i = (i ≤ count) × (length table ≡ length table₀) × (sets table i (replicate (count - i) 0) ≡ sets table₀ 0 (replicate count 0))
+Inv-loop table₀ count i₀ table i =
+    (i ≤ count) × (length table ≡ length table₀) × (sets table i (replicate (count - i) 0) ≡ sets table₀ 0 (replicate count 0))
 
 abbrev μ-loop : tie.MeasureT-loop
 μ-loop table₀ count i₀ table i = count - i
