@@ -1,3 +1,4 @@
 pub mod NumberLaws
 pub mod BodyLaws
 pub mod MatrixLaws
+pub mod NoteLaws

@@ -1,8 +1,8 @@
 // The matrices of a section and their values, stored in a table.
 ghost use mathlib.Core.Path.{_≡_};
 ghost use mathlib.Core.List.{[], _∷_};
-ghost use Prim.Native.Nat.{_<_, max};
-ghost use lib.ListN.{length};
+ghost use Prim.Native.Nat.{_+_, _*_, _^_, _≤_, _<_, max};
+ghost use lib.ListN.{length, getD};
 ghost use lib.Dec.{eqb};
 ghost use lib.Seq.{sets};
 ghost use Rattle.base.specs.If.{if_then_else_, either};
@@ -15,6 +15,8 @@ ghost use Rattle.document.specs.Found.{Located, lineIn};
 ghost use Rattle.document.specs.Document.{wordIn, nextRow, givenBy};
 ghost use Rattle.storing.specs.Writes.{valueWrite};
 ghost use Rattle.storing.specs.Stores.{Stores};
+ghost use Rattle.storing.specs.Notes.{noteAt, Noted};
+ghost use Rattle.matrices.specs.Noted.{noteIn, isOf, notedWalk};
 ghost use Rattle.matrices.specs.Told.{firstTold, toldOr};
 ghost use Rattle.matrices.specs.Numbers.{Roomy, cursorOf, spotOf, nextCursor, PutsNumbers, FillsNumbers, PutsSparse, FillsSparse};
 ghost use Rattle.matrices.specs.Matrices.{withRow, withBandwidth, TakesLine, TakesData, TakenLine, PutsValues, FillsValues, PutsMatrix, FillsMatrix};
@@ -57,6 +59,20 @@ pub struct MatrixWalk {
     pub bandwidth: First,
     pub greatest: u64,
     pub spot: Spot,
+}
+
+// What was noted of a matrix while its lines were judged: where they start and the number of the first, the form that they are read in,
+// how many values stand before theirs, where they end and the number of the line there, and what they say.
+pub struct NoteWords {
+    pub at: u64,
+    pub number: u64,
+    pub form: u64,
+    pub first: u64,
+    pub further: u64,
+    pub next: u64,
+    pub bandwidth: u64,
+    pub greatest: u64,
+    pub count: u64,
 }
 
 // A matrix that is stored: where the lines go on behind it, and its conductors.
@@ -366,6 +382,98 @@ fn fill_values(
     }
 }
 
+// The note numbered i.
+pub fn note_at(notes: &[u64], i: usize) -> NoteWords
+    requires { ⌜ 9 * i + 9 ≤ length (now notes) ⌝ }
+    ensures { λ r. ⌜ r ≡ noteIn (noteAt (now (notes .entry)) i) ⌝ }
+{
+    let from = 9 * i;
+    NoteWords {
+        at: notes[from],
+        number: notes[from + 1],
+        form: notes[from + 2],
+        first: notes[from + 3],
+        further: notes[from + 4],
+        next: notes[from + 5],
+        bandwidth: notes[from + 6],
+        greatest: notes[from + 7],
+        count: notes[from + 8],
+    }
+}
+
+// Whether a note is made, and of the lines at hand: read in this form, so many values standing before theirs.
+fn is_of(note: NoteWords, at: u64, number: u64, form: u64, first: u64) -> bool
+    ensures { λ r. ⌜ r ≡ isOf note at number form first ⌝ }
+{
+    if note.further == 0 {
+        return false;
+    }
+    if note.at != at {
+        return false;
+    }
+    if note.number != number {
+        return false;
+    }
+    if note.form != form {
+        return false;
+    }
+    note.first == first
+}
+
+// What a note says of the lines: their values stand in the table already, behind the first ones.
+fn noted_walk(note: NoteWords, first: u64, filling: Filling) -> MatrixWalk
+    requires { ⌜ (0 < note .count → first + note .count < 2 ^ 64) ⌝ }
+    ensures { λ r. ⌜ r ≡ notedWalk note first filling ⌝ }
+{
+    let bandwidth = First {
+        told: true,
+        value: note.bandwidth,
+    };
+    let bases = filling.bases;
+    let mut counts = filling.counts;
+    counts[table::VALUES] = first + note.count;
+    let filled = Filling { bases, counts };
+    let spot = Spot {
+        row: 1,
+        column: 1,
+        filling: filled,
+    };
+    MatrixWalk {
+        at: note.further as usize,
+        number: note.next,
+        bandwidth,
+        greatest: note.greatest,
+        spot,
+    }
+}
+
+// The lines of a matrix, by what was noted of them where it was, else as they stand.
+fn noted_values(
+    text: &[u8],
+    at: usize,
+    number: u64,
+    form: u64,
+    table: &mut [u64],
+    filling: Filling,
+    notes: &[u64],
+) -> MatrixWalk
+    requires { ⌜ PutsValues (now text) number at form (now table) filling
+        × Noted (now text) (now table) (now notes) (getD (filling .bases) 6 0) (getD (filling .counts) 6 0) ⌝ }
+    ensures { λ r. ⌜ FillsValues (now (text .entry)) number at form (now (table .entry)) filling r (now (table .exit)) ⌝ }
+{
+    let counts = filling.counts;
+    let first = counts[table::VALUES];
+    let index = counts[table::MATRICES] as usize;
+    if notes.len() / 9 <= index {
+        return fill_values(text, at, number, form, table, filling);
+    }
+    let note = note_at(notes, index);
+    if is_of(note, at as u64, number, form, first) {
+        return noted_walk(note, first, filling);
+    }
+    fill_values(text, at, number, form, table, filling)
+}
+
 // The form of a matrix, after its keyword.
 fn form_at(text: &[u8], line: Found) -> u64
     requires { ⌜ Located (now text) line ⌝ }
@@ -387,14 +495,29 @@ fn conductors_in(form: u64, values: u64, greatest: u64) -> u64
 }
 
 // A matrix: its values, and behind them its own record.
-pub fn fill_matrix(text: &[u8], line: Found, table: &mut [u64], filling: Filling) -> Stored
-    requires { ⌜ PutsMatrix (now text) line (now table) filling ⌝ }
+pub fn fill_matrix(
+    text: &[u8],
+    line: Found,
+    table: &mut [u64],
+    filling: Filling,
+    notes: &[u64],
+) -> Stored
+    requires { ⌜ PutsMatrix (now text) line (now table) filling
+        × Noted (now text) (now table) (now notes) (getD (filling .bases) 6 0) (getD (filling .counts) 6 0) ⌝ }
     ensures { λ r. ⌜ FillsMatrix (now (text .entry)) line (now (table .entry)) filling r (now (table .exit)) ⌝ }
 {
     let before = filling.counts;
     let first = before[table::VALUES];
     let form = form_at(text, line);
-    let walk = fill_values(text, line.next, line.number + 1, form, table, filling);
+    let walk = noted_values(
+        text,
+        line.next,
+        line.number + 1,
+        form,
+        table,
+        filling,
+        notes,
+    );
     let spot = walk.spot;
     let bandwidth = walk.bandwidth;
     let filled = spot.filling;

@@ -13,11 +13,11 @@ array-read-first c = search needs
 form-at-requires : tie.Need-form-at-requires
 form-at-requires c κs = search needs
 
-add-fill-values : tie.Need-add-fill-values
-add-fill-values c = search needs
+add-noted-values : tie.Need-add-noted-values
+add-noted-values c = search needs
 
-fill-values-requires : tie.Need-fill-values-requires
-fill-values-requires c κs = search values-puts
+noted-values-requires : tie.Need-noted-values-requires
+noted-values-requires c κs = search (values-puts, needs)
 
 array-read-values : tie.Need-array-read-values
 array-read-values c = search needs
@@ -27,9 +27,9 @@ sub-values c =
     omega (
       arith,
       values-counted _ _ _ _
-          (c .before .before .before .before .before .before .before .before .before .before .before .before .before .pre) _
+          (c .before .before .before .before .before .before .before .before .before .before .before .before .before .before .pre .0) _
           (c .before .before .before .before .before .before .before .before .before .form-at .ensures) _ _
-          (c .before .before .before .before .before .before .fill-values .ensures),
+          (c .before .before .before .before .before .before .noted-values .ensures),
     )
 
 told-in-requires : tie.Need-told-in-requires
@@ -44,9 +44,9 @@ slice-aggregate-put-record c = search needs
 put-record-requires : tie.Need-put-record-requires
 put-record-requires c κs =
     matrix-asked _ _ _ _
-    (c .before .before .before .before .before .before .before .before .before .before .before .before .before .before .before .before .before .pre) _
+    (c .before .before .before .before .before .before .before .before .before .before .before .before .before .before .before .before .before .before .pre .0) _
     (c .before .before .before .before .before .before .before .before .before .before .before .before .before .form-at .ensures) _ _
-    (c .before .before .before .before .before .before .before .before .before .before .fill-values .ensures)
+    (c .before .before .before .before .before .before .before .before .before .before .noted-values .ensures)
 
 same-length : tie.Need-same-length
 same-length c = search needs
@@ -54,9 +54,9 @@ same-length c = search needs
 returns : tie.Need-returns
 returns c =
     matrix-filled _ _ _ _
-    (c .before .before .before .before .before .before .before .before .before .before .before .before .before .before .before .before .before .before .before .before .pre) _
+    (c .before .before .before .before .before .before .before .before .before .before .before .before .before .before .before .before .before .before .before .before .before .pre .0) _
     (c .before .before .before .before .before .before .before .before .before .before .before .before .before .before .before .before .form-at .ensures) _ _
-    (c .before .before .before .before .before .before .before .before .before .before .before .before .before .fill-values .ensures)
+    (c .before .before .before .before .before .before .before .before .before .before .before .before .before .noted-values .ensures)
     _ (c .before .before .before .before .before .before .told-in .ensures) _ refl _
     (c .before .before .before .before .before .conductors-in .ensures) _ _ (c .before .before .put-record .ensures .0)
     (c .before .before .put-record .ensures .1)
@@ -67,8 +67,8 @@ fill-matrix-spec =
     (tie.spec
     array-read-first
     form-at-requires
-    add-fill-values
-    fill-values-requires
+    add-noted-values
+    noted-values-requires
     array-read-values
     sub-values
     told-in-requires
