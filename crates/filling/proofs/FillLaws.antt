@@ -27,7 +27,7 @@ use Rattle.steps.specs.Steps.{lowOf, Aims}
 use Rattle.name.proofs.NameLaws.{baseOf, records-at}
 use Rattle.storing.specs.Writes.{mapsWrites, sectionsWrites, modelsWrites, blocksWrites, writesOf}
 use Rattle.storing.specs.Stores.{Stores}
-use Rattle.storing.proofs.StoreLaws.{counts-kept, stores-join}
+use Rattle.storing.proofs.StoreLaws.{counts-kept, bases-kept, stores-join}
 use Rattle.storing.proofs.WriteLaws.{writes-told, writes-known, models-below, no-maps, no-sections, maps-told, sections-told, part-append, part-counted, stored}
 
 -- ---- how the filling stands after the maps and after the sections
@@ -47,12 +47,6 @@ module _ (counts : List ℕ) where
   start-none (suc (suc (suc (suc (suc zero))))) = refl
   start-none (suc (suc (suc (suc (suc (suc zero)))))) = refl
   start-none (suc (suc (suc (suc (suc (suc (suc p))))))) = refl
-
--- the bases never change
-pub bases-kept : (ws : List Write) (f : Filling) → fillingAfter ws f .bases ≡ f .bases
-unfolding fillingAfter counted
-bases-kept [] f = refl
-bases-kept (w ∷ ws) f = bases-kept ws (counted f (w .part))
 
 -- a part of which nothing is stored stays at its count
 none-stored : (p : ℕ) (ws : List Write) (f : Filling) → length (f .counts) ≡ 7 → p < 7 → partOf p ws ≡ [] → stored (fillingAfter ws f) p ≡ stored f p

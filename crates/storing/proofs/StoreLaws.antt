@@ -64,6 +64,12 @@ unfolding fillingAfter counted
 counts-kept [] f = refl
 counts-kept (w ∷ ws) f = counts-kept ws (counted f (w .part)) ∙ length-set (f .counts) (w .part) _
 
+-- the bases never change
+pub bases-kept : (ws : List Write) (f : Filling) → fillingAfter ws f .bases ≡ f .bases
+unfolding fillingAfter counted
+bases-kept [] f = refl
+bases-kept (w ∷ ws) f = bases-kept ws (counted f (w .part))
+
 module _ (size : ℕ) (f₀ : Filling) (t₀ : List ℕ) (ws₀ : List Write) (f : Filling) (t : List ℕ) where
   pub pending-step : (ws vs : List Write) (g : Filling) (u : List ℕ) → Pending size f₀ t₀ ws₀ f t (ws ++ vs) → Stores f t ws g u → Pending size f₀ t₀ ws₀ g u vs
   pending-step ws vs g u p s =
