@@ -2,19 +2,19 @@
 -- it asks for.
 -- Assumes nothing.
 use mathlib.Core.Path.{_≡_, refl, sym, _∙_, ap}
-use mathlib.Core.Bool.{true, false}
-use mathlib.Core.List.{List, [], _∷_, _++_, map, append-nil}
+use mathlib.Core.List.{List, [], _++_, map}
 use Prim.Native.Nat.{ℕ, zero, suc, min, _+_, _-_, _*_, _≤_, _<_}
-use native.Mathlib.Nat.{le-refl}
+use native.Mathlib.Nat.{add-zero, le-refl}
 use native.Mathlib.Omega.{arith}
-use lib.ListN.{length, drop, getD, replicate, length-append, length-replicate, length-map}
-use lib.Dec.{eqb}
-use borrow.Author.Tests.{ne-eqb}
+use lib.ListN.{length, drop, getD, replicate, length-append, length-replicate, List·getD-map}
+use lib.Seq.{sets, length-sets}
 use Rattle.table.specs.Layout.{widths, layout, needed, chopped, maps, sections, steps, matrices, values, pins}
-use Rattle.table.specs.Filling.{Write, partOf, widthOf, counted, tableAfter, fillingAfter, basesFrom, startFilling, headed, Fits}
+use Rattle.table.specs.Filling.{Write, partOf, widthOf, position, tableAfter, fillingAfter, basesFrom, startFilling, headed, opened, Fits}
 use Rattle.table.specs.declared.Filling.{Filling}
 use Rattle.table.proofs.LayoutLaws.{length-layout}
-use Rattle.table.proofs.FillingLaws.{Known, filled, fits, fits-below, fits-first, fits-rest, fits-wider, kept-above, headed-long, length-after, after-append, filling-append}
+use Rattle.table.proofs.FillingLaws.{filled, fits, fits-below, fits-first, fits-rest, fits-wider, kept-above, length-after, after-append}
+use Rattle.table.proofs.OpenLaws.{length-opened, opened-zeros, opened-sets, values-last}
+use Rattle.table.proofs.BehindLaws.{overwritten}
 use Rattle.block.specs.declared.Counts.{Counts}
 use Rattle.reading.specs.Reading.{readingOf}
 use Rattle.reading.specs.declared.Reading.the-variants.{Read}
@@ -56,7 +56,32 @@ none-stored p ws f seven h e =
     let z : length (partOf p ws) ≡ 0 = ap length e in
     omega arith
 
-module _ (t : List ℕ) (c : Counts) (reads : readingOf t ≡ Read c) (size : ℕ) (room : needed widths (countsOf c) ≤ size) where
+module _ (t : List ℕ) (c : Counts) (reads : readingOf t ≡ Read c) where
+  counts-are : map length (partsOf (flatten (documentOf t))) ≡ countsOf c
+  counts-are = counts-agree t c reads
+
+  pub layout-long : length (layout (partsOf (flatten (documentOf t)))) ≡ needed widths (countsOf c)
+  layout-long = length-layout widths (partsOf (flatten (documentOf t))) (records-wide (flatten (documentOf t))) ∙ ap (needed widths) counts-are
+
+  seven-counts : length (countsOf c) ≡ 7
+  unfolding countsOf
+  seven-counts = refl
+
+  -- as many values are stored as were counted
+  values-counted : length (partOf values (writesOf (documentOf t))) ≡ getD (countsOf c) values 0
+  values-counted =
+      ap length (writes-told (documentOf t) values)
+      ∙ sym (List·getD-map length (partsOf (flatten (documentOf t))) values [])
+      ∙ ap (λ (ns : List ℕ). getD ns values 0) counts-are
+
+-- where the first value goes
+start-values : (counts : List ℕ) → position (startFilling counts) values ≡ getD (basesFrom 0 widths counts) values 0
+unfolding position startFilling widthOf
+start-values counts = add-zero (getD (basesFrom 0 widths counts) values 0)
+
+-- a table with room for all records, and any words where the values belong
+module _ (t : List ℕ) (c : Counts) (reads : readingOf t ≡ Read c) (size : ℕ) (room : needed widths (countsOf c) ≤ size)
+    (vs : List ℕ) (vs-long : length vs ≡ 3 * getD (countsOf c) values 0) where
   abbrev d : Document
   d = documentOf t
 
@@ -70,27 +95,43 @@ module _ (t : List ℕ) (c : Counts) (reads : readingOf t ≡ Read c) (size : �
   spare = size - needed widths (countsOf c)
 
   abbrev t₀ : List ℕ
-  t₀ = headed widths (countsOf c) ++ replicate (size - needed widths (countsOf c)) 0
-
-  counts-are : map length parts ≡ countsOf c
-  counts-are = counts-agree t c reads
+  t₀ = opened 0 widths (countsOf c) (sets (replicate size 0) (needed widths (countsOf c) - length vs) vs)
 
   pub start-long : length t₀ ≡ size
   start-long =
-      let a : length t₀ ≡ length (headed widths (countsOf c)) + length {A = ℕ} (replicate spare 0) = length-append (headed widths (countsOf c)) (replicate spare 0) in
-      let b : length (headed widths (countsOf c)) ≡ needed widths (countsOf c) = headed-long widths (countsOf c) in
-      let e : length {A = ℕ} (replicate spare 0) ≡ spare = length-replicate spare 0 in
-      omega arith
-
-  pub layout-long : length (layout parts) ≡ needed widths (countsOf c)
-  layout-long = length-layout widths parts (records-wide (flatten d)) ∙ ap (needed widths) counts-are
+      length-opened 0 widths (countsOf c) (sets (replicate size 0) (needed widths (countsOf c) - length vs) vs)
+      ∙ length-sets (replicate size 0) (needed widths (countsOf c) - length vs) vs
+      ∙ length-replicate size 0
 
   -- all records fit
   all-fit : Fits (needed widths (countsOf c)) f₀ (writesOf d)
-  all-fit = rw counts-are at (fits parts (records-wide (flatten d)) (writesOf d) (writes-told d) (writes-known d))
+  all-fit = rw (counts-are t c reads) at (fits parts (records-wide (flatten d)) (writesOf d) (writes-told d) (writes-known d))
+
+  -- the words lie where the first value goes and behind it
+  values-at : needed widths (countsOf c) - length vs ≡ position f₀ values
+  values-at =
+      let a : getD (basesFrom 0 widths (countsOf c)) values 0 + 3 * getD (countsOf c) values 0 ≡ needed widths (countsOf c) =
+      values-last (countsOf c) (seven-counts t c reads) in
+      let b : position f₀ values ≡ getD (basesFrom 0 widths (countsOf c)) values 0 = start-values (countsOf c) in
+      omega arith
+
+  start-is : t₀ ≡ sets (headed widths (countsOf c) ++ replicate spare 0) (position f₀ values) vs
+  start-is =
+      let h : getD (basesFrom 0 widths (countsOf c)) values 0 ≤ needed widths (countsOf c) - length vs =
+      rw (values-at, start-values (countsOf c)) (le-refl _) in
+      opened-sets (countsOf c) (replicate size 0) (needed widths (countsOf c) - length vs) vs (seven-counts t c reads) h
+      ∙ (λ i. sets (opened-zeros (countsOf c) size room i) (values-at i) vs)
+
+  headed-stored : tableAfter (writesOf d) f₀ (headed widths (countsOf c) ++ replicate spare 0) ≡ layout parts ++ replicate spare 0
+  headed-stored = rw (counts-are t c reads) at (filled parts (records-wide (flatten d)) (writesOf d) spare (writes-told d) (writes-known d))
 
   all-stored : tableAfter (writesOf d) f₀ t₀ ≡ layout parts ++ replicate spare 0
-  all-stored = rw counts-are at (filled parts (records-wide (flatten d)) (writesOf d) spare (writes-told d) (writes-known d))
+  all-stored =
+      let l : length vs ≡ 3 * length (partOf values (writesOf d)) = vs-long ∙ ap (λ (n : ℕ). 3 * n) (sym (values-counted t c reads)) in
+      ap (tableAfter (writesOf d) f₀) start-is
+      ∙ overwritten (needed widths (countsOf c)) f₀ (writesOf d) (headed widths (countsOf c) ++ replicate spare 0) vs
+      all-fit (start-seven (countsOf c)) l
+      ∙ headed-stored
 
   blocks-fit : Fits size f₀ (blocksWrites d)
   unfolding writesOf
@@ -177,7 +218,7 @@ module _ (t : List ℕ) (c : Counts) (reads : readingOf t ≡ Read c) (size : �
       unfolding writesOf startFilling
       models-low =
           rw (models-from, after-blocks)
-          (rw counts-are at (fits-below parts (records-wide (flatten d)) (blocksWrites d) (modelsWrites (d .maps) (d .sections) 0 (d .models)) 2 (writes-told d) (writes-known d) (omega arith) (models-below (d .maps) (d .sections) 0 (d .models))))
+          (rw (counts-are t c reads) at (fits-below parts (records-wide (flatten d)) (blocksWrites d) (modelsWrites (d .maps) (d .sections) 0 (d .models)) 2 (writes-told d) (writes-known d) (omega arith) (models-below (d .maps) (d .sections) 0 (d .models))))
 
       -- the maps and sections are there: the models' records change nothing above
       drop-low : drop low t₂ ≡ drop low (layout parts ++ replicate spare 0)
@@ -188,7 +229,7 @@ module _ (t : List ℕ) (c : Counts) (reads : readingOf t ≡ Read c) (size : �
 
       module _ (p : ℕ) (h : p < 7) where
         base-is : getD (f₂ .bases) p 0 ≡ baseOf (flatten d) p
-        base-is = ap (λ (bs : List ℕ). getD bs p 0) bases-are ∙ ap (λ (ns : List ℕ). getD (basesFrom 0 widths ns) p 0) (sym counts-are)
+        base-is = ap (λ (bs : List ℕ). getD bs p 0) bases-are ∙ ap (λ (ns : List ℕ). getD (basesFrom 0 widths ns) p 0) (sym (counts-are t c reads))
 
         -- a part that the models' records do not touch is there
         part-there : low ≤ baseOf (flatten d) p → stored f₂ p ≡ length (getD parts p []) → chopped (widthOf p) (stored f₂ p) (drop (getD (f₂ .bases) p 0) t₂) ≡ getD parts p []
@@ -216,11 +257,11 @@ module _ (t : List ℕ) (c : Counts) (reads : readingOf t ≡ Read c) (size : �
 
       map-count : stored f₂ maps ≡ c .maps
       unfolding partsOf countsOf
-      map-count = maps-counted ∙ ap (λ (ns : List ℕ). getD ns 2 0) counts-are
+      map-count = maps-counted ∙ ap (λ (ns : List ℕ). getD ns 2 0) (counts-are t c reads)
 
       section-count : stored f₂ sections ≡ c .sections
       unfolding partsOf countsOf
-      section-count = sections-counted ∙ ap (λ (ns : List ℕ). getD ns 4 0) counts-are
+      section-count = sections-counted ∙ ap (λ (ns : List ℕ). getD ns 4 0) (counts-are t c reads)
 
       map-base : getD (f₂ .bases) maps 0 ≡ 0 + 1 + 5 * c .models + 1 + 6 * c .steps + 1
       unfolding basesFrom countsOf

@@ -8,9 +8,12 @@ ghost use Rattle.reading.specs.Reading.{readingOf};
 ghost use Rattle.reading.specs.declared.Reading.the-variants.{Read};
 ghost use Rattle.document.specs.Holds.{countsOf};
 ghost use Rattle.document.specs.Records.{tableOf};
-ghost use Rattle.filling.specs.Filled.{filledOf, tableFor};
+ghost use Rattle.filling.specs.Filled.{filledOf, tableFor, Lifted};
 use block::Counts;
 use reading::Reading;
+
+// How many words a value has.
+const WORDS: usize = 3;
 
 // A text stored, with the words used, or the rule that it breaks and its line.
 pub enum Filled {
@@ -33,9 +36,10 @@ fn counts_of(counts: Counts) -> [u64; 7]
     ]
 }
 
-// The records of all parts, in a table of zeros that is long enough. Models come last, since their steps point at maps and sections.
+// The records of all parts, in a table that is long enough and holds zeros, but for words where the values belong. Models come last, since
+// their steps point at maps and sections.
 fn fill(text: &[u8], table: &mut [u64], counts: Counts)
-    requires { ⌜ (readingOf (now text) ≡ Read counts) × (needed widths (countsOf counts) ≤ length (now table)) × (now table ≡ replicate (length (now table)) 0) ⌝ }
+    requires { ⌜ (readingOf (now text) ≡ Read counts) × (needed widths (countsOf counts) ≤ length (now table)) × Lifted (countsOf counts) (now table) ⌝ }
     ensures { λ _. ⌜ now (table .exit) ≡ tableOf (now (text .entry)) ++ replicate (length (now (table .entry)) - length (tableOf (now (text .entry)))) 0 ⌝ }
 {
     let filling = table::open_parts(table, counts_of(counts));
@@ -49,11 +53,13 @@ fn store(text: &[u8], table: &mut [u64], counts: Counts) -> Filled
     requires { ⌜ readingOf (now text) ≡ Read counts ⌝ }
     ensures { λ r. ⌜ (r ≡ filledOf (now (text .entry)) (length (now (table .entry)))) × (now (table .exit) ≡ tableFor (now (text .entry)) (length (now (table .entry))) r) ⌝ }
 {
-    base::zero_all(table);
     let words = table::words_needed(counts_of(counts));
     if table.len() < words {
+        base::zero_all(table);
         return Filled::Refused(18, 0);
     }
+    let lifted = WORDS * (counts.values as usize);
+    table::lift(table, lifted, words - lifted);
     fill(text, table, counts);
     Filled::Stored(words)
 }
