@@ -27,10 +27,12 @@ use Rattle.storing.specs.Stores.{Passes, Ready}
 use Rattle.storing.specs.declared.Walk.{Walk}
 use Rattle.storing.proofs.StoreLaws.{stores-none, counts-kept}
 use Rattle.storing.proofs.LineLaws.{quiet}
+use Rattle.storing.proofs.NoteLaws.{noted-kept}
 use Rattle.storing.proofs.WriteLaws.{section-matrices-counted, section-values-counted}
 use Rattle.storing.proofs.BlockLaws.{Storable, BlocksLeft, block-fits}
 use Rattle.sections.specs.Section.{sectionBelow, PutsSection, FillsSection}
 use Rattle.sections.specs.Sections.{sectionsOf}
+use Rattle.sections.proofs.SectionLaws.{NotedOf}
 
 -- ---- what is stored of sections
 
@@ -84,6 +86,17 @@ section-ready t f₀ table₀ ss w table left line finds there =
       fits = rw (left .pending .long)
           (block-fits sectionAt sectionsOf sections-storable (length table₀) t f₀ table₀ ss w table left line finds there);
     }
+
+-- what is noted of the matrices behind it stays
+pub section-noted :
+    (t : List ℕ) (f₀ : Filling) (table₀ : List ℕ) (ss : List Section) (w : Walk) (table : List ℕ) →
+    BlocksLeft sectionAt sectionsOf (length table₀) t f₀ table₀ ss w table →
+    (line : Found) → Finds t (w .number) (w .at) line → not (line .there) ≡ false → (v : Walk) (table' : List ℕ) →
+    Passes sectionAt sectionsOf t line w table v table' → (notes : List ℕ) → NotedOf t table notes (w .filling) →
+    NotedOf t table' notes (v .filling)
+section-noted t f₀ table₀ ss w table left line finds there v table' passes notes noted =
+    let ready : Ready sectionAt sectionsOf t line w table = section-ready t f₀ table₀ ss w table left line finds there in
+    noted-kept t table notes table' (w .filling) (v .filling) _ (passes .stores) (ready .fits) (ready .seven) noted
 
 -- a line that opens a section leads to the section's head
 opening-leads : (content : List ℕ) → keyAt content ≡ beginIcmSection → placeAfter place.after content ≡ place.sectionHead

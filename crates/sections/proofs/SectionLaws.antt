@@ -28,8 +28,10 @@ use Rattle.document.specs.declared.Mark.{Mark}
 use Rattle.document.proofs.PassLaws.{section-blocks}
 use Rattle.storing.specs.Writes.{valuesCount, matrixWrites, matricesWrites, sectionWrite, sectionWrites}
 use Rattle.storing.specs.Stores.{Placed}
+use Rattle.storing.specs.Notes.{Noted}
 use Rattle.storing.proofs.StoreLaws.{put-asked, put-stored, stores-join, Pending, pending-start, pending-step, pending-done, pending-same}
 use Rattle.storing.proofs.LineLaws.{up-on, up-stops, up-none, Skipped, skipped-start, skipped-on, skipped-done, gather-on, quiet}
+use Rattle.storing.proofs.NoteLaws.{noted-kept}
 use Rattle.storing.proofs.WriteLaws.{values-counted}
 use Rattle.matrices.specs.Told.{toldOr}
 use Rattle.sections.specs.declared.SectionWalk.{SectionWalk}
@@ -50,6 +52,10 @@ use Rattle.sections.specs.Section.{
   PutsSection,
   FillsSection,
 }
+
+-- what was noted of the values from where a filling stands
+abbrev pub NotedOf : List ℕ → List ℕ → List ℕ → Filling → Type 0
+NotedOf t table notes f = Noted t table notes (getD (f .bases) 6 0) (getD (f .counts) 6 0)
 
 -- ---- the lines of a matrix, within a section
 
@@ -313,6 +319,11 @@ module _ (t : List ℕ) (n₀ at₀ : ℕ) (table₀ : List ℕ) (f₀ : Filling
               placed = taken .placed;
               onward = omega arith;
             }
+
+        -- what is noted of the matrices behind it stays
+        pub lines-noted : (notes : List ℕ) → NotedOf t table notes (w .filling) → NotedOf t table' notes (v .filling)
+        lines-noted notes noted =
+            noted-kept t table notes table' (w .filling) (v .filling) _ (taken .stores) (lines-takes .fits) (left .seven) noted
 
 -- ---- a section's own record
 

@@ -1,7 +1,7 @@
 // The sections of a text with their matrices and values, stored in a table.
 ghost use mathlib.Core.Path.{_≡_};
 ghost use Prim.Native.Nat.{_<_};
-ghost use lib.ListN.{length};
+ghost use lib.ListN.{length, getD};
 ghost use lib.Dec.{eqb};
 ghost use Rattle.base.specs.If.{both, either};
 ghost use Rattle.keyword.specs.Names.{beginIcmSection};
@@ -11,6 +11,7 @@ ghost use Rattle.table.specs.Filling.{Fits};
 ghost use Rattle.document.specs.Document.{kindOf, sectionAt};
 ghost use Rattle.document.specs.Found.{Located};
 ghost use Rattle.storing.specs.Stores.{Stores, Placed, Passes, Ready};
+ghost use Rattle.storing.specs.Notes.{Noted};
 ghost use Rattle.sections.specs.Sections.{sectionsOf, sectionsLeft};
 ghost use Rattle.sections.specs.Section.{kindsWith, methodAt, methodAfter, TakesLine, TakesMatrix, TakenLine, PutsLines, FillsLines, PutsSection, FillsSection};
 use document::Found;
@@ -111,15 +112,22 @@ fn method_after(text: &[u8], line: Found, method: First) -> First
 }
 
 // A matrix: the lines go on behind its own.
-fn take_matrix(text: &[u8], line: Found, table: &mut [u64], walk: SectionWalk) -> SectionWalk
-    requires { ⌜ TakesMatrix (now text) line (now table) walk ⌝ }
+fn take_matrix(
+    text: &[u8],
+    line: Found,
+    table: &mut [u64],
+    walk: SectionWalk,
+    notes: &[u64],
+) -> SectionWalk
+    requires { ⌜ TakesMatrix (now text) line (now table) walk
+        × Noted (now text) (now table) (now notes) (getD (walk .filling .bases) 6 0) (getD (walk .filling .counts) 6 0) ⌝ }
     ensures { λ r. ⌜ TakenLine (now (text .entry)) line (now (table .entry)) walk r (now (table .exit)) ⌝ }
 {
     let filling = walk.filling;
     let method = walk.method;
     let before = walk.conductors;
     let kept = walk.kinds;
-    let stored = matrices::fill_matrix(text, line, table, filling);
+    let stored = matrices::fill_matrix(text, line, table, filling, notes);
     let filled = stored.filling;
     let counts = filled.counts;
     let conductors = matrices::first_told(before, stored.conductors);
@@ -136,12 +144,19 @@ fn take_matrix(text: &[u8], line: Found, table: &mut [u64], walk: SectionWalk) -
 }
 
 // A line of a section, and the matrix that it opens if it opens one.
-fn take_line(text: &[u8], line: Found, table: &mut [u64], walk: SectionWalk) -> SectionWalk
-    requires { ⌜ TakesLine (now text) line (now table) walk ⌝ }
+fn take_line(
+    text: &[u8],
+    line: Found,
+    table: &mut [u64],
+    walk: SectionWalk,
+    notes: &[u64],
+) -> SectionWalk
+    requires { ⌜ TakesLine (now text) line (now table) walk
+        × Noted (now text) (now table) (now notes) (getD (walk .filling .bases) 6 0) (getD (walk .filling .counts) 6 0) ⌝ }
     ensures { λ r. ⌜ TakenLine (now (text .entry)) line (now (table .entry)) walk r (now (table .exit)) ⌝ }
 {
     if opens_matrix(walk.place, line.key) {
-        return take_matrix(text, line, table, walk);
+        return take_matrix(text, line, table, walk, notes);
     }
     let before = walk.method;
     let conductors = walk.conductors;
@@ -166,8 +181,10 @@ fn fill_lines(
     number: u64,
     table: &mut [u64],
     filling: Filling,
+    notes: &[u64],
 ) -> SectionWalk
-    requires { ⌜ PutsLines (now text) number at (now table) filling ⌝ }
+    requires { ⌜ PutsLines (now text) number at (now table) filling
+        × Noted (now text) (now table) (now notes) (getD (filling .bases) 6 0) (getD (filling .counts) 6 0) ⌝ }
     ensures { λ r. ⌜ FillsLines (now (text .entry)) number at (now (table .entry)) filling r (now (table .exit)) ⌝ }
 {
     let untold = First {
@@ -191,16 +208,23 @@ fn fill_lines(
         if !is_in_section(walk.place) {
             return walk;
         }
-        walk = take_line(text, line, table, walk);
+        walk = take_line(text, line, table, walk, notes);
     }
 }
 
 // A section: its matrices with their values, and behind them its own record.
-fn fill_section(text: &[u8], line: Found, table: &mut [u64], filling: Filling) -> Walk
-    requires { ⌜ PutsSection (now text) line (now table) filling ⌝ }
+fn fill_section(
+    text: &[u8],
+    line: Found,
+    table: &mut [u64],
+    filling: Filling,
+    notes: &[u64],
+) -> Walk
+    requires { ⌜ PutsSection (now text) line (now table) filling
+        × Noted (now text) (now table) (now notes) (getD (filling .bases) 6 0) (getD (filling .counts) 6 0) ⌝ }
     ensures { λ r. ⌜ FillsSection (now (text .entry)) line (now (table .entry)) filling r (now (table .exit)) ⌝ }
 {
-    let walk = fill_lines(text, line.next, line.number + 1, table, filling);
+    let walk = fill_lines(text, line.next, line.number + 1, table, filling, notes);
     let filled = walk.filling;
     let method = walk.method;
     let conductors = walk.conductors;
@@ -235,13 +259,14 @@ fn opens_section(place: u64, key: u64) -> bool
 }
 
 // A line, and the section that it opens if it opens one.
-fn pass_section(text: &[u8], line: Found, table: &mut [u64], walk: Walk) -> Walk
-    requires { ⌜ Ready sectionAt sectionsOf (now text) line walk (now table) ⌝ }
+fn pass_section(text: &[u8], line: Found, table: &mut [u64], walk: Walk, notes: &[u64]) -> Walk
+    requires { ⌜ Ready sectionAt sectionsOf (now text) line walk (now table)
+        × Noted (now text) (now table) (now notes) (getD (walk .filling .bases) 6 0) (getD (walk .filling .counts) 6 0) ⌝ }
     ensures { λ r. ⌜ Passes sectionAt sectionsOf (now (text .entry)) line walk (now (table .entry)) r (now (table .exit)) ⌝ }
 {
     let filling = walk.filling;
     if opens_section(walk.place, line.key) {
-        return fill_section(text, line, table, filling);
+        return fill_section(text, line, table, filling, notes);
     }
     Walk {
         at: line.next,
@@ -251,9 +276,12 @@ fn pass_section(text: &[u8], line: Found, table: &mut [u64], walk: Walk) -> Walk
     }
 }
 
-// All sections, from where the walk has come.
-pub fn fill_sections(text: &[u8], table: &mut [u64], walk: Walk) -> Filling
-    requires { ⌜ Placed (now text) (walk .number) (walk .at) × (length (walk .filling .counts) ≡ 7) × Fits (length (now table)) (walk .filling) (sectionsOf (walk .filling) (sectionsLeft (now text) walk)) ⌝ }
+// All sections, from where the walk has come. Where something was noted of a matrix, its lines are not read again.
+pub fn fill_sections(text: &[u8], table: &mut [u64], walk: Walk, notes: &[u64]) -> Filling
+    requires { ⌜ Placed (now text) (walk .number) (walk .at)
+        × (length (walk .filling .counts) ≡ 7)
+        × Fits (length (now table)) (walk .filling) (sectionsOf (walk .filling) (sectionsLeft (now text) walk))
+        × Noted (now text) (now table) (now notes) (getD (walk .filling .bases) 6 0) (getD (walk .filling .counts) 6 0) ⌝ }
     ensures { λ r. ⌜ Stores (walk .filling) (now (table .entry)) (sectionsOf (walk .filling) (sectionsLeft (now (text .entry)) walk)) r (now (table .exit)) ⌝ }
 {
     let mut next = walk;
@@ -262,6 +290,6 @@ pub fn fill_sections(text: &[u8], table: &mut [u64], walk: Walk) -> Filling
         if !line.there {
             return next.filling;
         }
-        next = pass_section(text, line, table, next);
+        next = pass_section(text, line, table, next, notes);
     }
 }

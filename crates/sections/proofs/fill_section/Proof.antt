@@ -9,7 +9,7 @@ add-fill-lines : tie.Need-add-fill-lines
 add-fill-lines c = search needs
 
 fill-lines-requires : tie.Need-fill-lines-requires
-fill-lines-requires c κs = search lines-puts
+fill-lines-requires c κs = search (lines-puts, needs)
 
 argument-mark-requires : tie.Need-argument-mark-requires
 argument-mark-requires c κs = search needs
@@ -20,17 +20,17 @@ told-in-requires c κs = search needs
 told-in-requires-2 : tie.Need-told-in-requires-2
 told-in-requires-2 c κs = search needs
 
-array-read-t20 : tie.Need-array-read-t20
-array-read-t20 c = search needs
+array-read-t21 : tie.Need-array-read-t21
+array-read-t21 c = search needs
 
-array-read-t23 : tie.Need-array-read-t23
-array-read-t23 c = search needs
+array-read-t24 : tie.Need-array-read-t24
+array-read-t24 c = search needs
 
-array-read-t26 : tie.Need-array-read-t26
-array-read-t26 c = search needs
+array-read-t27 : tie.Need-array-read-t27
+array-read-t27 c = search needs
 
-array-read-t29 : tie.Need-array-read-t29
-array-read-t29 c = search needs
+array-read-t30 : tie.Need-array-read-t30
+array-read-t30 c = search needs
 
 slice-aggregate-put-record : tie.Need-slice-aggregate-put-record
 slice-aggregate-put-record c = search needs
@@ -38,7 +38,7 @@ slice-aggregate-put-record c = search needs
 put-record-requires : tie.Need-put-record-requires
 put-record-requires c κs =
     section-asked _ _ _ _
-    (c .before .before .before .before .before .before .before .before .before .before .before .before .before .before .before .before .pre) _ _
+    (c .before .before .before .before .before .before .before .before .before .before .before .before .before .before .before .before .before .pre .0) _ _
     (c .before .before .before .before .before .before .before .before .before .before .before .fill-lines .ensures)
 
 same-length : tie.Need-same-length
@@ -47,7 +47,7 @@ same-length c = search needs
 returns : tie.Need-returns
 returns c =
     section-filled _ _ _ _
-    (c .before .before .before .before .before .before .before .before .before .before .before .before .before .before .before .before .before .before .before .pre) _ _
+    (c .before .before .before .before .before .before .before .before .before .before .before .before .before .before .before .before .before .before .before .before .pre .0) _ _
     (c .before .before .before .before .before .before .before .before .before .before .before .before .before .before .fill-lines .ensures) _
     (c .before .before .before .before .before .before .before .argument-mark .ensures)
     _ (c .before .before .before .before .before .before .told-in .ensures) _
@@ -63,10 +63,10 @@ fill-section-spec =
     argument-mark-requires
     told-in-requires
     told-in-requires-2
-    array-read-t20
-    array-read-t23
-    array-read-t26
-    array-read-t29
+    array-read-t21
+    array-read-t24
+    array-read-t27
+    array-read-t30
     slice-aggregate-put-record
     put-record-requires
     same-length

@@ -7,21 +7,25 @@ use lib.ListN.{length}
 use Rattle.document.specs.Document.{sectionAt}
 use Rattle.storing.proofs.BlockLaws.{BlocksLeft, blocks-start, blocks-end, blocks-less, blocks-on}
 use Rattle.sections.specs.Sections.{sectionsOf, sectionsLeft}
-use Rattle.sections.proofs.PassLaws.{sections-storable, section-ready}
+use Rattle.sections.proofs.SectionLaws.{NotedOf}
+use Rattle.sections.proofs.PassLaws.{sections-storable, section-ready, section-noted}
 use Rattle.sections.proofs.fill_sections.Statement.{statement}
 use Rattle.sections.proofs.fill_sections.Tie as tie
 
 abbrev Inv-loop : tie.InvT-loop
-Inv-loop text table₀ next₀ table next =
+Inv-loop text table₀ notes next₀ table next =
     BlocksLeft sectionAt sectionsOf (length table₀) text (next₀ .filling) table₀ (sectionsLeft text next₀) next table
+    × NotedOf text table notes (next .filling)
 
 abbrev μ-loop : tie.MeasureT-loop
-μ-loop text table₀ next₀ table next = length text - next .at
+μ-loop text table₀ notes next₀ table next = length text - next .at
 
 loop-holds : tie.Need-loop-holds Inv-loop μ-loop
-loop-holds c =
-    blocks-start sectionAt sectionsOf _ _ _ _ _ _ _ _ (c .before .before .pre .1) (c .before .before .pre .2) refl
-    (c .before .before .pre .0)
+loop-holds c = (
+  blocks-start sectionAt sectionsOf _ _ _ _ _ _ _ _ (c .before .before .before .pre .1) (c .before .before .before .pre .2) refl
+      (c .before .before .before .pre .0),
+  c .before .before .before .pre .3,
+)
 
 next-line-requires : tie.Need-next-line-requires Inv-loop μ-loop
 next-line-requires c κs = search needs
@@ -31,25 +35,29 @@ same-length c = search needs
 
 returns : tie.Need-returns Inv-loop μ-loop
 returns c =
-    blocks-end sectionAt sectionsOf sections-storable _ _ _ _ _ _ _ (c .before .before .before .before .loop .inv) _
+    blocks-end sectionAt sectionsOf sections-storable _ _ _ _ _ _ _ (c .before .before .before .before .loop .inv .0) _
     (c .before .before .before .next-line .ensures) (c .before .if1 .taken)
 
 pass-section-requires : tie.Need-pass-section-requires Inv-loop μ-loop
-pass-section-requires c κs = search section-ready
+pass-section-requires c κs = search (section-ready, needs)
 
 loop-less : tie.Need-loop-less Inv-loop μ-loop
 loop-less c =
     blocks-less sectionAt sectionsOf sections-storable _ _ _ _ _ _ _
-    (c .before .before .before .before .before .before .before .loop .inv) _
+    (c .before .before .before .before .before .before .before .loop .inv .0) _
     (c .before .before .before .before .before .before .next-line .ensures) (c .before .before .before .before .if1 .left)
     _ _ (c .before .before .pass-section .ensures)
 
 loop-again : tie.Need-loop-again Inv-loop μ-loop
-loop-again c =
-    blocks-on sectionAt sectionsOf sections-storable _ _ _ _ _ _ _
-    (c .before .before .before .before .before .before .before .loop .inv) _
-    (c .before .before .before .before .before .before .next-line .ensures) (c .before .before .before .before .if1 .left)
-    _ _ (c .before .before .pass-section .ensures)
+loop-again c = (
+  blocks-on sectionAt sectionsOf sections-storable _ _ _ _ _ _ _
+      (c .before .before .before .before .before .before .before .loop .inv .0) _
+      (c .before .before .before .before .before .before .next-line .ensures) (c .before .before .before .before .if1 .left)
+      _ _ (c .before .before .pass-section .ensures),
+  section-noted _ _ _ _ _ _ (c .before .before .before .before .before .before .before .loop .inv .0) _
+      (c .before .before .before .before .before .before .next-line .ensures) (c .before .before .before .before .if1 .left)
+      _ _ (c .before .before .pass-section .ensures) _ (c .before .before .before .before .before .before .before .loop .inv .1),
+)
 
 pub fill-sections-spec : {M : Type 1} → statement M
 fill-sections-spec =

@@ -9,7 +9,7 @@ opens-section-requires : tie.Need-opens-section-requires
 opens-section-requires c κs = search needs
 
 fill-section-requires : tie.Need-fill-section-requires
-fill-section-requires c κs = search section-puts
+fill-section-requires c κs = search (section-puts, needs)
 
 same-length : tie.Need-same-length
 same-length c = search needs
@@ -17,8 +17,8 @@ same-length c = search needs
 returns : tie.Need-returns
 returns c = search section-passed
 
-add-t9 : tie.Need-add-t9
-add-t9 c = search needs
+add-t10 : tie.Need-add-t10
+add-t10 c = search needs
 
 place-after-requires : tie.Need-place-after-requires
 place-after-requires c κs = search needs
@@ -34,6 +34,6 @@ pass-section-spec =
     fill-section-requires
     same-length
     returns
-    add-t9
+    add-t10
     place-after-requires
     returns-2)

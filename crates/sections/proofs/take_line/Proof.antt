@@ -9,7 +9,7 @@ opens-matrix-requires : tie.Need-opens-matrix-requires
 opens-matrix-requires c κs = search needs
 
 take-matrix-requires : tie.Need-take-matrix-requires
-take-matrix-requires c κs = search takes-matrix
+take-matrix-requires c κs = search (takes-matrix, needs)
 
 same-length : tie.Need-same-length
 same-length c = search needs
@@ -20,8 +20,8 @@ returns c = search needs
 method-after-requires : tie.Need-method-after-requires
 method-after-requires c κs = search needs
 
-add-t13 : tie.Need-add-t13
-add-t13 c = search needs
+add-t14 : tie.Need-add-t14
+add-t14 c = search needs
 
 place-after-requires : tie.Need-place-after-requires
 place-after-requires c κs = search needs
@@ -38,6 +38,6 @@ take-line-spec =
     same-length
     returns
     method-after-requires
-    add-t13
+    add-t14
     place-after-requires
     returns-2)

@@ -6,7 +6,7 @@ use Rattle.sections.proofs.take_matrix.Statement.{statement}
 use Rattle.sections.proofs.take_matrix.Tie as tie
 
 fill-matrix-requires : tie.Need-fill-matrix-requires
-fill-matrix-requires c κs = search matrix-puts
+fill-matrix-requires c κs = search (matrix-puts, needs)
 
 first-told-requires : tie.Need-first-told-requires
 first-told-requires c κs = search needs
