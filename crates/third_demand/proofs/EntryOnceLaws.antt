@@ -40,6 +40,7 @@ use Rattle.block.specs.State.{startState, noneSeen}
 use Rattle.block.specs.Keywords.{isSeen, isOnce, isRepeated, isMisplaced, keywordRule, seenAfter, keywordNext}
 use Rattle.block.specs.declared.Counts.{Counts}
 use Rattle.block.specs.declared.State.{State}
+use Rattle.block.proofs.InsideLaws.{opens-closes}
 use Rattle.reading.specs.Reading.{lineNext, readingOf}
 use Rattle.reading.specs.declared.Reading.the-variants.{Read}
 use Rattle.document.specs.Lines.{Line, keyOf, argumentOf, gather, upTo}
@@ -171,13 +172,22 @@ module _ (seen : List Bool) (k : ℕ) (opens : opensMatrix k ≡ true) (long : l
 -- ---- one line
 
 module _ (k : ℕ) (argument : List ℕ) (s : State) where
-  seen-set : eqb k beginIcmModel ≡ false → eqb k beginIcmSection ≡ false → keywordNext k argument s .seen ≡ set (s .seen) k true
+  -- one that keeps a matrix open is not marked
+  seen-kept : keepsMatrix k ≡ true → keywordNext k argument s .seen ≡ s .seen
   unfolding keywordNext seenAfter
-  seen-set a b = if-false _ _ a ∙ if-false _ _ b
+  seen-kept e = if-true _ _ e
+
+  seen-set :
+      keepsMatrix k ≡ false → eqb k beginIcmModel ≡ false → eqb k beginIcmSection ≡ false →
+      keywordNext k argument s .seen ≡ set (s .seen) k true
+  unfolding keywordNext seenAfter
+  seen-set e a b = if-false _ _ e ∙ if-false _ _ a ∙ if-false _ _ b
 
   seen-long : length (keywordNext k argument s .seen) ≡ length (s .seen)
   unfolding keywordNext seenAfter
   seen-long =
+      by-test (λ (l : List Bool). length l ≡ length (s .seen)) (keepsMatrix k) _ _ (λ (g : keepsMatrix k ≡ true). refl)
+      (λ (g : keepsMatrix k ≡ false).
       by-test (λ (l : List Bool). length l ≡ length (s .seen)) (eqb k beginIcmModel) _ _
       (λ (e : eqb k beginIcmModel ≡ true).
       length-set (set (s .seen) treePathDescription false) icmModelDescription false ∙ length-set (s .seen) treePathDescription false)
@@ -188,7 +198,7 @@ module _ (k : ℕ) (argument : List ℕ) (s : State) where
       ∙ length-set (set (set (s .seen) resistanceMatrix false) inductanceMatrix false) conductanceMatrix false
       ∙ length-set (set (s .seen) resistanceMatrix false) inductanceMatrix false
       ∙ length-set (s .seen) resistanceMatrix false)
-      (λ (f : eqb k beginIcmSection ≡ false). length-set (s .seen) k true))
+      (λ (f : eqb k beginIcmSection ≡ false). length-set (s .seen) k true)))
 
   -- "repeated": one that opens a matrix has not been read
   not-repeated : keywordRule k argument s ≡ 0 → opensMatrix k ≡ true → getD (s .seen) k false ≡ false
@@ -252,12 +262,12 @@ module _ (l : Line) (ls : List Line) where
   module _ (s : State) (q : l .place ≡ s .place) (long : length (s .seen) ≡ 40) (i : inSection l ≡ true) where
     -- a keyword that does not break off the section
     module _ (kept : keywordRule (keyOf l) (argumentOf l .text) s ≡ 0) where
-      inside-seen : keywordNext (keyOf l) (argumentOf l .text) s .seen ≡ set (s .seen) (keyOf l) true
-      inside-seen =
+      inside-seen : keepsMatrix (keyOf l) ≡ false → keywordNext (keyOf l) (argumentOf l .text) s .seen ≡ set (s .seen) (keyOf l) true
+      inside-seen other =
           let w : (moved (s .place) beginIcmModel ≡ dead) × (moved (s .place) beginIcmSection ≡ dead) =
           none-begins (s .place) (ap isInside (sym q) ∙ inside-place i) in
           let leads : moved (s .place) (keyOf l) ≡ dead → ⊥ = keyword-leads (keyOf l) (argumentOf l .text) s kept in
-          seen-set (keyOf l) (argumentOf l .text) s
+          seen-set (keyOf l) (argumentOf l .text) s other
           (ne-eqb _ _ (λ (e : keyOf l ≡ beginIcmModel). leads (ap (moved (s .place)) e ∙ w .0)))
           (ne-eqb _ _ (λ (e : keyOf l ≡ beginIcmSection). leads (ap (moved (s .place)) e ∙ w .1)))
 
@@ -274,6 +284,23 @@ module _ (l : Line) (ls : List Line) where
           rw (matrices-pass i h)
           (fresh-less (s .seen) (set (s .seen) (keyOf l) true) (gather matrixAt (upTo inSection ls)) (still-seen (s .seen) (keyOf l)) f))
 
+      -- one that keeps a matrix open opens none
+      fresh-keeps :
+          keepsMatrix (keyOf l) ≡ true → Fresh (s .seen) (gather matrixAt (upTo inSection ls)) →
+          Fresh (s .seen) (gather matrixAt (upTo inSection (l ∷ ls)))
+      fresh-keeps keeps f =
+          by-cases (Fresh (s .seen) (gather matrixAt (upTo inSection (l ∷ ls)))) (opensMatrixAt l)
+          (λ (h : opensMatrixAt l ≡ true). absurd (true≢false (sym keeps ∙ opens-closes (keyOf l) (opens-key h))))
+          (λ (h : opensMatrixAt l ≡ false). rw (matrices-pass i h) f)
+
+      fresh-next :
+          Fresh (keywordNext (keyOf l) (argumentOf l .text) s .seen) (gather matrixAt (upTo inSection ls)) →
+          Fresh (s .seen) (gather matrixAt (upTo inSection (l ∷ ls)))
+      fresh-next f =
+          by-cases (Fresh (s .seen) (gather matrixAt (upTo inSection (l ∷ ls)))) (keepsMatrix (keyOf l))
+          (λ (e : keepsMatrix (keyOf l) ≡ true). fresh-keeps e (rw (seen-kept (keyOf l) (argumentOf l .text) s e) at f))
+          (λ (e : keepsMatrix (keyOf l) ≡ false). fresh-keyed (rw (inside-seen e) at f))
+
     fresh-inside :
         (s' : State) → Moves l s s' → Fresh (s' .seen) (gather matrixAt (upTo inSection ls)) →
         Fresh (s .seen) (gather matrixAt (upTo inSection (l ∷ ls)))
@@ -282,7 +309,7 @@ module _ (l : Line) (ls : List Line) where
     fresh-inside s' (plainly k kept) f =
         let g : Fresh (s .seen) (gather matrixAt (upTo inSection ls)) = rw (plain-seen (l .content) s) at f in
         rw (matrices-skip l ls i (plain-opens l k)) g
-    fresh-inside s' (keyed k kept) f = fresh-keyed kept (rw (inside-seen kept) at f)
+    fresh-inside s' (keyed k kept) f = fresh-next kept f
 
   fresh-step :
       (s s' : State) → l .place ≡ s .place → Moves l s s' → length (s .seen) ≡ 40 →
