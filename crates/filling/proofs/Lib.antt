@@ -1,2 +1,3 @@
 pub mod FillLaws
 pub mod ReadyLaws
+pub mod NoteLaws

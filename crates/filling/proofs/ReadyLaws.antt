@@ -24,7 +24,9 @@ use Rattle.document.specs.Document.{documentOf}
 use Rattle.document.specs.Records.{tableOf}
 use Rattle.document.specs.Holds.{countsOf}
 use Rattle.storing.specs.Stores.{Stores, Placed}
+use Rattle.storing.specs.Notes.{Noted, Before}
 use Rattle.storing.specs.declared.Walk.{Walk}
+use Rattle.storing.proofs.NoteLaws.{noted-kept}
 use Rattle.maps.specs.Maps.{mapsOf, FillsMaps}
 use Rattle.sections.specs.Sections.{sectionsOf, sectionsLeft}
 use Rattle.steps.specs.Steps.{lowOf, Aims}
@@ -32,6 +34,7 @@ use Rattle.models.specs.Models.{modelsOf}
 use Rattle.filling.specs.Filled.{afterReading, filledOf, tableFor, Lifted}
 use Rattle.filling.specs.declared.Filled.the-variants.{Stored, Refused}
 use Rattle.filling.proofs.FillLaws.{start-long, layout-long, maps-fit, seven-maps, sections-fit, seven-blocks, models-fit, aims, all-filled}
+use Rattle.filling.proofs.NoteLaws.{noted-opened, noted-moved}
 
 module _ (t : List ℕ) (c : Counts) (reads : readingOf t ≡ reading.Read c) where
   -- no count is above the bound of values
@@ -92,11 +95,22 @@ module _ (t : List ℕ) (c : Counts) (reads : readingOf t ≡ reading.Read c) wh
       maps-are : Stores (startFilling (countsOf c)) start (mapsOf (startFilling (countsOf c)) (documentOf t .maps)) (w .filling) t₁
       maps-are = rw (is-f, table-is) at (fills .maps)
 
-      pub sections-ready : Placed t (w .number) (w .at) × (length (w .filling .counts) ≡ 7) × filling.Fits (length t₁) (w .filling) (sectionsOf (w .filling) (sectionsLeft t w))
-      sections-ready = (
+      sections-noted : (notes : List ℕ) → Noted t before notes (needed widths (countsOf c) - 3 * c .values) 0 →
+          Noted t t₁ notes (getD (w .filling .bases) 6 0) (getD (w .filling .counts) 6 0)
+      sections-noted notes noted =
+          noted-kept t table notes t₁ f (w .filling) (mapsOf f (documentOf t .maps)) (fills .maps) (maps-ready .1) (maps-ready .0)
+          (rw (is-f, is-table) (noted-opened c t before notes room noted))
+
+      pub sections-ready : (notes : List ℕ) → Noted t before notes (needed widths (countsOf c) - 3 * c .values) 0 →
+          Placed t (w .number) (w .at)
+          × (length (w .filling .counts) ≡ 7)
+          × filling.Fits (length t₁) (w .filling) (sectionsOf (w .filling) (sectionsLeft t w))
+          × Noted t t₁ notes (getD (w .filling .bases) 6 0) (getD (w .filling .counts) 6 0)
+      sections-ready notes noted = (
         fills .placed,
         seven-maps t c reads size room (lifted .words) (lifted .long) (w .filling) t₁ maps-are,
         rw (sym (fills .sections)) (sections-fit t c reads size room (lifted .words) (lifted .long) (w .filling) t₁ maps-are),
+        sections-noted notes noted,
       )
 
       module _ (f₂ : Filling) (t₂ : List ℕ) (stores : Stores (w .filling) t₁ (sectionsOf (w .filling) (sectionsLeft t w)) f₂ t₂) where
@@ -172,8 +186,17 @@ module _ (t : List ℕ) (c : Counts) (reads : readingOf t ≡ reading.Read c) (t
             image = is-moved ∙ (λ i. sets (replicate (n i) 0) (words-for i - m i) (take (3 * c .values) table));
           }
 
-      pub fill-ready : (readingOf t ≡ reading.Read c) × (needed widths (countsOf c) ≤ length moved) × Lifted (countsOf c) moved
-      fill-ready = (reads, rw moved-long (rw words-for at roomy), moved-lifted)
+      pub fill-ready : (notes : List ℕ) → Noted t table notes 0 0 → Before notes (c .values) →
+          (readingOf t ≡ reading.Read c)
+          × (needed widths (countsOf c) ≤ length moved)
+          × Lifted (countsOf c) moved
+          × Noted t moved notes (needed widths (countsOf c) - 3 * c .values) 0
+      fill-ready notes noted before = (
+        reads,
+        rw moved-long (rw words-for at roomy),
+        moved-lifted,
+        noted-moved c t table notes words words-for lift-ready noted before moved is-moved,
+      )
 
       pub store-filled : (table' : List ℕ) → table' ≡ tableOf t ++ replicate (length moved - length (tableOf t)) 0 →
           (Stored words ≡ filledOf t (length table)) × (table' ≡ tableFor t (length table) (Stored words))

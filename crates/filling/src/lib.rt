@@ -1,13 +1,14 @@
 // The filling of a lent table: the forward reading, the room, and the records of all parts.
 ghost use mathlib.Core.Path.{_≡_};
 ghost use mathlib.Core.List.{_++_};
-ghost use Prim.Native.Nat.{_-_, _≤_};
+ghost use Prim.Native.Nat.{_-_, _*_, _≤_};
 ghost use lib.ListN.{length, replicate};
 ghost use Rattle.table.specs.Layout.{widths, needed};
 ghost use Rattle.reading.specs.Reading.{readingOf};
 ghost use Rattle.reading.specs.declared.Reading.the-variants.{Read};
 ghost use Rattle.document.specs.Holds.{countsOf};
 ghost use Rattle.document.specs.Records.{tableOf};
+ghost use Rattle.storing.specs.Notes.{Noted, Before};
 ghost use Rattle.filling.specs.Filled.{filledOf, tableFor, Lifted};
 use block::Counts;
 use reading::Reading;
@@ -36,21 +37,26 @@ fn counts_of(counts: Counts) -> [u64; 7]
     ]
 }
 
-// The records of all parts, in a table that is long enough and holds zeros, but for words where the values belong. Models come last, since
-// their steps point at maps and sections.
-fn fill(text: &[u8], table: &mut [u64], counts: Counts)
-    requires { ⌜ (readingOf (now text) ≡ Read counts) × (needed widths (countsOf counts) ≤ length (now table)) × Lifted (countsOf counts) (now table) ⌝ }
+// The records of all parts, in a table that is long enough and holds zeros, but for words where the values belong. Where these are the words
+// of a matrix that was noted, its lines are not read again. Models come last, since their steps point at maps and sections.
+fn fill(text: &[u8], table: &mut [u64], counts: Counts, notes: &[u64])
+    requires { ⌜ (readingOf (now text) ≡ Read counts)
+        × (needed widths (countsOf counts) ≤ length (now table))
+        × Lifted (countsOf counts) (now table)
+        × Noted (now text) (now table) (now notes) (needed widths (countsOf counts) - 3 * counts .values) 0 ⌝ }
     ensures { λ _. ⌜ now (table .exit) ≡ tableOf (now (text .entry)) ++ replicate (length (now (table .entry)) - length (tableOf (now (text .entry)))) 0 ⌝ }
 {
     let filling = table::open_parts(table, counts_of(counts));
     let walk = maps::fill_maps(text, table, filling);
-    let filled = sections::fill_sections(text, table, walk);
+    let filled = sections::fill_sections(text, table, walk, notes);
     models::fill_models(text, table, filled);
 }
 
-// A text that reads to its end: its records, if the table has room for them.
-fn store(text: &[u8], table: &mut [u64], counts: Counts) -> Filled
-    requires { ⌜ readingOf (now text) ≡ Read counts ⌝ }
+// A text that reads to its end: its records, if the table has room for them. The words of what was noted stand at the front of the table.
+fn store(text: &[u8], table: &mut [u64], counts: Counts, notes: &[u64]) -> Filled
+    requires { ⌜ (readingOf (now text) ≡ Read counts)
+        × Noted (now text) (now table) (now notes) 0 0
+        × Before (now notes) (counts .values) ⌝ }
     ensures { λ r. ⌜ (r ≡ filledOf (now (text .entry)) (length (now (table .entry)))) × (now (table .exit) ≡ tableFor (now (text .entry)) (length (now (table .entry))) r) ⌝ }
 {
     let words = table::words_needed(counts_of(counts));
@@ -60,16 +66,24 @@ fn store(text: &[u8], table: &mut [u64], counts: Counts) -> Filled
     }
     let lifted = WORDS * (counts.values as usize);
     table::lift(table, lifted, words - lifted);
-    fill(text, table, counts);
+    fill(text, table, counts, notes);
     Filled::Stored(words)
+}
+
+// Nothing noted yet: nine words for each of at most 1,024 matrices. They come from a function so that no proof has to look at all of them.
+fn notes_room() -> [u64; 9216]
+    ensures { λ r. ⌜ r ≡ replicate 9216 0 ⌝ }
+{
+    [0; 9216]
 }
 
 // Rules 5 to 18 over a text and a lent table: what the text says is stored, or nothing.
 pub fn fill_table(text: &[u8], table: &mut [u64]) -> Filled
     ensures { λ r. ⌜ (r ≡ filledOf (now (text .entry)) (length (now (table .entry)))) × (now (table .exit) ≡ tableFor (now (text .entry)) (length (now (table .entry))) r) ⌝ }
 {
+    let notes = notes_room();
     match reading::read(text) {
-        Reading::Read(counts) => store(text, table, counts),
+        Reading::Read(counts) => store(text, table, counts, &notes),
         Reading::Refused(number, line) => {
             base::zero_all(table);
             Filled::Refused(number, line)

@@ -19,7 +19,7 @@ same-length : tie.Need-same-length
 same-length c = search needs
 
 returns : tie.Need-returns
-returns c = store-refused _ (c .before .before .before .before .before .before .before .before .before .args .counts) (c .before .before .before .before .before .before .before .before .before .pre) (now (c .before .before .before .before .before .before .before .before .before .args .table)) _ (c .before .before .before .before .before .before .counts-of .ensures) _ (c .before .before .before .before .before .words-needed .ensures) (c .before .before .before .before .if1 .taken) _ (c .before .before .zero-all .ensures)
+returns c = store-refused _ (c .before .before .before .before .before .before .before .before .before .before .args .counts) (c .before .before .before .before .before .before .before .before .before .before .pre .0) (now (c .before .before .before .before .before .before .before .before .before .before .args .table)) _ (c .before .before .before .before .before .before .counts-of .ensures) _ (c .before .before .before .before .before .words-needed .ensures) (c .before .before .before .before .if1 .taken) _ (c .before .before .zero-all .ensures)
 
 mul-lifted : tie.Need-mul-lifted
 mul-lifted c = search lift-fits
@@ -31,13 +31,13 @@ lift-requires : tie.Need-lift-requires
 lift-requires c κs = search lift-ready
 
 fill-requires : tie.Need-fill-requires
-fill-requires c κs = fill-ready _ (c .before .before .before .before .before .before .before .before .before .before .args .counts) (c .before .before .before .before .before .before .before .before .before .before .pre) (now (c .before .before .before .before .before .before .before .before .before .before .args .table)) _ (c .before .before .before .before .before .before .before .counts-of .ensures) _ (c .before .before .before .before .before .before .words-needed .ensures) (c .before .before .before .before .before .if1 .left) _ (c .before .before .before .lift .ensures)
+fill-requires c κs = fill-ready _ (c .before .before .before .before .before .before .before .before .before .before .before .args .counts) (c .before .before .before .before .before .before .before .before .before .before .before .pre .0) (now (c .before .before .before .before .before .before .before .before .before .before .before .args .table)) _ (c .before .before .before .before .before .before .before .counts-of .ensures) _ (c .before .before .before .before .before .before .words-needed .ensures) (c .before .before .before .before .before .if1 .left) _ (c .before .before .before .lift .ensures) _ (c .before .before .before .before .before .before .before .before .before .before .before .pre .1) (c .before .before .before .before .before .before .before .before .before .before .before .pre .2)
 
 same-length-2 : tie.Need-same-length-2
 same-length-2 c = search needs
 
 returns-2 : tie.Need-returns-2
-returns-2 c = store-filled _ (c .before .before .before .before .before .before .before .before .before .before .before .before .before .args .counts) (c .before .before .before .before .before .before .before .before .before .before .before .before .before .pre) (now (c .before .before .before .before .before .before .before .before .before .before .before .before .before .args .table)) _ (c .before .before .before .before .before .before .before .before .before .before .counts-of .ensures) _ (c .before .before .before .before .before .before .before .before .before .words-needed .ensures) (c .before .before .before .before .before .before .before .before .if1 .left) _ (c .before .before .before .before .before .before .lift .ensures) _ (c .before .before .fill .ensures)
+returns-2 c = store-filled _ (c .before .before .before .before .before .before .before .before .before .before .before .before .before .before .args .counts) (c .before .before .before .before .before .before .before .before .before .before .before .before .before .before .pre .0) (now (c .before .before .before .before .before .before .before .before .before .before .before .before .before .before .args .table)) _ (c .before .before .before .before .before .before .before .before .before .before .counts-of .ensures) _ (c .before .before .before .before .before .before .before .before .before .words-needed .ensures) (c .before .before .before .before .before .before .before .before .if1 .left) _ (c .before .before .before .before .before .before .lift .ensures) _ (c .before .before .fill .ensures)
 
 pub store-spec : {M : Type 1} → statement M
 store-spec =
