@@ -3,7 +3,7 @@
 -- Assumes nothing.
 use mathlib.Core.Path.{_≡_, refl, sym, _∙_, ap}
 use mathlib.Core.List.{List, _++_, append-nil}
-use Prim.Native.Nat.{ℕ, _+_, _-_, _*_, _≤_, _<_}
+use Prim.Native.Nat.{ℕ, zero, suc, _+_, _-_, _*_, _≤_, _<_}
 use native.Mathlib.Nat.{le-refl}
 use native.Mathlib.Omega.{arith}
 use lib.ListN.{length, take, drop, getD, replicate, length-drop, take-append-drop, drop-of-length-le}
@@ -79,3 +79,23 @@ module _ (c : Counts) where
       Noted t moved notes (needed widths (countsOf c) - 3 * c .values) 0
   noted-moved t table notes words is-words room noted before moved is-moved =
       rw (is-moved, ← is-words) (noted-lifted t table notes (c .values) (words - 3 * c .values) noted before room)
+
+-- ---- nothing noted
+
+zero-words : (n k : ℕ) → getD {A = ℕ} (replicate n 0) k 0 ≡ 0
+zero-words zero k = refl
+zero-words (suc n) zero = refl
+zero-words (suc n) (suc k) = zero-words n k
+
+module _ (notes : List ℕ) (n : ℕ) (zeros : notes ≡ replicate n 0) where
+  none-made : (i : ℕ) → Made (noteAt notes i) → ⊥
+  unfolding noteAt
+  none-made i made =
+      let e : getD notes (9 * i + 4) 0 ≡ 0 = ap (λ (ns : List ℕ). getD ns (9 * i + 4) 0) zeros ∙ zero-words n (9 * i + 4) in
+      omega arith
+
+  pub none-noted : (t table : List ℕ) → Noted t table notes 0 0
+  none-noted t table = record { tells = λ (i : ℕ) (made : Made (noteAt notes i)) (h : 0 ≤ noteAt notes i .first). absurd (none-made i made) }
+
+  pub none-before : (past : ℕ) → Before notes past
+  none-before past = record { before = λ (i : ℕ) (made : Made (noteAt notes i)). absurd (none-made i made) }

@@ -1,9 +1,17 @@
 -- `filling::fill_table` meets its contract: what the forward reading refuses leaves zeros.
 -- Assumes nothing.
 use Rattle.filling.proofs.ReadyLaws.{read-told, not-read}
+use Rattle.filling.proofs.NoteLaws.{none-noted, none-before}
 use borrow.Author.Needs.{needs}
 use Rattle.filling.proofs.fill_table.Statement.{statement}
 use Rattle.filling.proofs.fill_table.Tie as tie
+use Rattle.base.proofs.zero_all.Reads as zero-all-reads
+use Rattle.filling.proofs.notes_room.Reads as notes-room-reads
+use Rattle.filling.proofs.store.Reads as store-reads
+use Rattle.reading.proofs.read.Reads as read-reads
+
+notes-room-requires : tie.Need-notes-room-requires
+notes-room-requires c κs = search needs
 
 read-requires : tie.Need-read-requires
 read-requires c κs = search needs
@@ -11,8 +19,11 @@ read-requires c κs = search needs
 enum-known-counts : tie.Need-enum-known-counts
 enum-known-counts c = search needs
 
+slice-aggregate-store : tie.Need-slice-aggregate-store
+slice-aggregate-store c = search needs
+
 store-requires : tie.Need-store-requires
-store-requires c κs = search read-told
+store-requires c κs = (search read-told, search none-noted, search none-before)
 
 enum-known-number : tie.Need-enum-known-number
 enum-known-number c = search needs
@@ -36,8 +47,10 @@ pub fill-table-spec : {M : Type 1} → statement M
 fill-table-spec =
     tie.close
     (tie.spec
+    notes-room-requires
     read-requires
     enum-known-counts
+    slice-aggregate-store
     store-requires
     enum-known-number
     zero-all-requires
