@@ -58,7 +58,7 @@ told-first f n m =
 
 -- ---- integers
 
-whole-below : (s : List ℕ) → wholeOf s .value < 1_000_000_000
+pub whole-below : (s : List ℕ) → wholeOf s .value < 1_000_000_000
 unfolding wholeOf
 whole-below s =
     by-cases _ (isInteger s)
@@ -111,15 +111,15 @@ module _ (t : List ℕ) (line : Found) (located : Located t line) where
 
 -- [Row]
 module _ (form : ℕ) (l : Line) (ls : List Line) (is-row : keyOf l ≡ row) where
-  row-values : (r c : ℕ) → valuesFrom form r c (l ∷ ls) ≡ valuesFrom form (givenBy l) (givenBy l) ls
+  pub row-values : (r c : ℕ) → valuesFrom form r c (l ∷ ls) ≡ valuesFrom form (givenBy l) (givenBy l) ls
   unfolding valuesFrom
   row-values r c = if-true _ _ (eq-eqb _ _ is-row)
 
-  row-bandwidth : bandwidthIn (l ∷ ls) ≡ bandwidthIn ls
+  pub row-bandwidth : bandwidthIn (l ∷ ls) ≡ bandwidthIn ls
   unfolding bandwidthIn
   row-bandwidth = if-false _ _ (rw is-row (ne-eqb row bandwidth (λ (e : row ≡ bandwidth). omega arith)))
 
-  row-greatest : greatestIn form (l ∷ ls) ≡ max (givenBy l) (greatestIn form ls)
+  pub row-greatest : greatestIn form (l ∷ ls) ≡ max (givenBy l) (greatestIn form ls)
   unfolding greatestIn namedBy
   row-greatest = ap (λ (n : ℕ). max n (greatestIn form ls)) (if-true _ _ (eq-eqb _ _ is-row))
 
@@ -137,14 +137,14 @@ module _ (form : ℕ) (l : Line) (ls : List Line) (is-bandwidth : keyOf l ≡ ba
   not-plain : eqb (keyOf l) plain ≡ false
   not-plain = rw is-bandwidth (ne-eqb bandwidth plain (λ (e : bandwidth ≡ plain). omega arith))
 
-  bandwidth-values : (r c : ℕ) → valuesFrom form r c (l ∷ ls) ≡ valuesFrom form r c ls
+  pub bandwidth-values : (r c : ℕ) → valuesFrom form r c (l ∷ ls) ≡ valuesFrom form r c ls
   bandwidth-values r c = keyed-values form r c l ls not-row not-plain
 
-  bandwidth-told : bandwidthIn (l ∷ ls) ≡ givenBy l
+  pub bandwidth-told : bandwidthIn (l ∷ ls) ≡ givenBy l
   unfolding bandwidthIn
   bandwidth-told = if-true _ _ (eq-eqb _ _ is-bandwidth)
 
-  bandwidth-greatest : greatestIn form (l ∷ ls) ≡ max 0 (greatestIn form ls)
+  pub bandwidth-greatest : greatestIn form (l ∷ ls) ≡ max 0 (greatestIn form ls)
   unfolding greatestIn namedBy
   bandwidth-greatest = ap (λ (n : ℕ). max n (greatestIn form ls)) (if-false _ _ not-row ∙ if-false _ _ (both-not-right _ _ not-plain))
 
@@ -153,23 +153,23 @@ module _ (form : ℕ) (l : Line) (ls : List Line) (is-plain : keyOf l ≡ plain)
   plain-not-row : eqb (keyOf l) row ≡ false
   plain-not-row = rw is-plain (ne-eqb plain row (λ (e : plain ≡ row). omega arith))
 
-  plain-bandwidth : bandwidthIn (l ∷ ls) ≡ bandwidthIn ls
+  pub plain-bandwidth : bandwidthIn (l ∷ ls) ≡ bandwidthIn ls
   unfolding bandwidthIn
   plain-bandwidth = if-false _ _ (rw is-plain (ne-eqb plain bandwidth (λ (e : plain ≡ bandwidth). omega arith)))
 
   module _ (is-sparse : form ≡ sparse) where
-    sparse-values : (r c : ℕ) → valuesFrom form r c (l ∷ ls) ≡ sparseAt r (words (l .content)) ∷ valuesFrom form r c ls
+    pub sparse-values : (r c : ℕ) → valuesFrom form r c (l ∷ ls) ≡ sparseAt r (words (l .content)) ∷ valuesFrom form r c ls
     unfolding valuesFrom
     sparse-values r c = if-false _ _ plain-not-row ∙ if-false _ _ (not-not-via (eq-eqb _ _ is-plain)) ∙ if-true _ _ (eq-eqb _ _ is-sparse)
 
-    sparse-greatest : greatestIn form (l ∷ ls) ≡ max (wholeOf (firstOf (words (l .content))) .value) (greatestIn form ls)
+    pub sparse-greatest : greatestIn form (l ∷ ls) ≡ max (wholeOf (firstOf (words (l .content))) .value) (greatestIn form ls)
     unfolding greatestIn namedBy
     sparse-greatest =
         ap (λ (n : ℕ). max n (greatestIn form ls))
         (if-false _ _ plain-not-row ∙ if-true _ _ (both-true _ _ (eq-eqb _ _ is-sparse) (eq-eqb _ _ is-plain)))
 
   module _ (not-sparse : form ≡ sparse → ⊥) where
-    numbers-values :
+    pub numbers-values :
         (r c : ℕ) →
         valuesFrom form r c (l ∷ ls)
         ≡ numbersAt form r c (words (l .content))
@@ -178,7 +178,7 @@ module _ (form : ℕ) (l : Line) (ls : List Line) (is-plain : keyOf l ≡ plain)
     numbers-values r c =
         if-false _ _ plain-not-row ∙ if-false _ _ (not-not-via (eq-eqb _ _ is-plain)) ∙ if-false _ _ (ne-eqb _ _ not-sparse)
 
-    numbers-greatest : greatestIn form (l ∷ ls) ≡ max 0 (greatestIn form ls)
+    pub numbers-greatest : greatestIn form (l ∷ ls) ≡ max 0 (greatestIn form ls)
     unfolding greatestIn namedBy
     numbers-greatest =
         ap (λ (n : ℕ). max n (greatestIn form ls)) (if-false _ _ plain-not-row ∙ if-false _ _ (both-not-left _ _ (ne-eqb _ _ not-sparse)))
@@ -235,7 +235,7 @@ module _ (form : ℕ) (s : Spot) (l : Line) (ls : List Line) (size : ℕ) (f : F
       (λ (e : eqb (keyOf l) plain ≡ true). fits-data (eqb-true (keyOf l) plain e))
       (λ (e : eqb (keyOf l) plain ≡ false). fits-keyed e)
 
-most-of : (g n m x y : ℕ) → x ≡ max n y → m ≡ max g n → max m y ≡ max g x
+pub most-of : (g n m x y : ℕ) → x ≡ max n y → m ≡ max g n → max m y ≡ max g x
 most-of g n m x y e f = omega arith
 
 inside-plain : (l : Line) → inMatrix l ≡ true → (keyOf l ≡ row → ⊥) → (keyOf l ≡ bandwidth → ⊥) → keyOf l ≡ plain

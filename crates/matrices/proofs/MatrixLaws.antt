@@ -53,7 +53,7 @@ use Rattle.matrices.specs.Matrices.{
 
 -- ---- the lines of a matrix
 
-told-untold : (n : ℕ) → toldOr untold n ≡ n
+pub told-untold : (n : ℕ) → toldOr untold n ≡ n
 unfolding toldOr
 told-untold n = if-false 0 n refl
 
@@ -67,7 +67,7 @@ module _ (content : List ℕ) where
   unfolding placeAfter moved place.inMatrix
   key-stays e k = if-false _ _ e ∙ if-true _ _ refl ∙ if-true _ _ k
 
-  matrix-stays : either (eqb (keyAt content) plain) (keepsMatrix (keyAt content)) ≡ true → placeAfter place.matrix content ≡ place.matrix
+  pub matrix-stays : either (eqb (keyAt content) plain) (keepsMatrix (keyAt content)) ≡ true → placeAfter place.matrix content ≡ place.matrix
   matrix-stays h =
       by-cases _ (eqb (keyAt content) plain)
       (λ (e : eqb (keyAt content) plain ≡ true). plain-stays e)

@@ -122,7 +122,7 @@ counted-on s r v table table' counted stores e f =
 
 -- ---- the numbers of a line
 
-row-on : (form r n : ℕ) → rowAfter form (nextRow form r) n ≡ rowAfter form r (suc n)
+pub row-on : (form r n : ℕ) → rowAfter form (nextRow form r) n ≡ rowAfter form r (suc n)
 unfolding nextRow
 row-on form r n =
     by-cases _ (eqb form diagonal)
@@ -132,13 +132,13 @@ row-on form r n =
     if-true _ _ e ∙ k ∙ sym (if-true _ _ e))
     (λ (e : eqb form diagonal ≡ false). if-false _ _ e ∙ if-false _ _ e ∙ sym (if-false _ _ e))
 
-row-same : (form r n : ℕ) → n ≡ 0 → rowAfter form r n ≡ r
+pub row-same : (form r n : ℕ) → n ≡ 0 → rowAfter form r n ≡ r
 row-same form r n z =
     by-cases _ (eqb form diagonal)
     (λ (e : eqb form diagonal ≡ true). let k : r + n ≡ r = omega arith in if-true _ _ e ∙ k)
     (λ (e : eqb form diagonal ≡ false). if-false _ _ e)
 
-row-most : (form r : ℕ) → nextRow form r ≤ r + 1
+pub row-most : (form r : ℕ) → nextRow form r ≤ r + 1
 unfolding nextRow
 row-most form r =
     by-cases _ (eqb form diagonal)
@@ -399,10 +399,10 @@ module _ (content : List ℕ) (row : ℕ) (word : Span) (is-word : word ≡ word
   unfolding fewOf wordAt
   read-is = is-read ∙ ap (numberAt content) (begins ∙ ap (λ (w : Span). runEnd isBlank content (w .end)) is-word)
 
-  column-told : whole .value ≡ wholeOf (firstOf (words content)) .value
+  pub column-told : whole .value ≡ wholeOf (firstOf (words content)) .value
   column-told = ap (λ (x : Whole). x .value) (is-whole ∙ ap wholeOf (first-is ∙ first-marked content (fewOf content) refl))
 
-  sparse-value : _≡_ {A = Value} (record { row = row; column = whole .value; word = wordIn (read .number) })
+  pub sparse-value : _≡_ {A = Value} (record { row = row; column = whole .value; word = wordIn (read .number) })
       (sparseAt row (words content))
   unfolding sparseAt
   sparse-value =

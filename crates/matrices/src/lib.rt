@@ -103,7 +103,7 @@ pub fn told_in(first: First) -> u64
     0
 }
 
-fn greater(a: u64, b: u64) -> u64
+pub fn greater(a: u64, b: u64) -> u64
     ensures { λ r. ⌜ r ≡ max a b ⌝ }
 {
     if a < b { b } else { a }
@@ -175,7 +175,7 @@ fn spot_at(spot: Spot, cursor: Cursor) -> Spot
 }
 
 // A number where the last one has led to.
-fn put_number(number: Number, form: u64, table: &mut [u64], cursor: Cursor) -> Cursor
+pub fn put_number(number: Number, form: u64, table: &mut [u64], cursor: Cursor) -> Cursor
     requires { ⌜ Roomy (length (now table)) cursor ⌝ }
     ensures { λ r. ⌜ (r ≡ nextCursor form cursor) × (now (table .exit) ≡ sets (now (table .entry)) (cursor .place) (cursor .row ∷ cursor .column ∷ wordIn number ∷ [])) ⌝ }
 {

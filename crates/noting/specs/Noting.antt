@@ -30,3 +30,5 @@ pub record Adds (form : ℕ) (l : Line) (table : List ℕ) (values : ℕ) (a : N
   pub bandwidth : (ls : List Line) → toldOr (b .bandwidth) (bandwidthIn ls) ≡ toldOr (a .bandwidth) (bandwidthIn (l ∷ ls))
   pub greatest : (ls : List Line) → max (b .greatest) (greatestIn form ls) ≡ max (a .greatest) (greatestIn form (l ∷ ls))
   pub bounded : Bounded b values'
+  -- values are counted only where there is room for them
+  pub room : 3 * values ≤ length table → 3 * values' ≤ length table'

@@ -4,7 +4,7 @@
 use mathlib.Core.Path.{_≡_, refl, sym, _∙_, ap, subst}
 use mathlib.Core.List.{List}
 use Prim.Native.Nat.{ℕ, _+_, _-_, _≤_, _<_}
-use native.Mathlib.Nat.{le-refl}
+use native.Mathlib.Nat.{le-refl, le-trans}
 use native.Mathlib.Omega.{arith}
 use lib.ListN.{length, take, drop}
 use borrow.Author.Tests.{eq-eqb, ne-eqb}
@@ -15,11 +15,11 @@ use Rattle.text.proofs.LineLaws.{next-on, next-within}
 use Rattle.block.specs.Kept.{Kept}
 use Rattle.block.specs.declared.State.{State}
 use Rattle.reading.specs.Reading.{commentByte, breaks, stepOf, onward, run}
-use Rattle.reading.specs.Walk.{resume, Onward, Reached, Crossed, Opens, contentAt, StandsElsewhere, Stays}
+use Rattle.reading.specs.Walk.{resume, Onward, Rises, Reached, Crossed, Opens, contentAt, StandsElsewhere, Stays}
 use Rattle.reading.specs.declared.Step.{Step}
 use Rattle.reading.specs.declared.Reading.{Reading}
 use Rattle.reading.specs.declared.Reading.the-variants.{Refused}
-use Rattle.reading.proofs.WalkLaws.{step-kept, line-run}
+use Rattle.reading.proofs.WalkLaws.{step-kept, step-raises, line-run}
 
 onward-goes : (s : State) (n : ℕ) (more : State → Reading) → onward (breaks 0 s) n more ≡ more s
 unfolding onward breaks
@@ -36,6 +36,7 @@ module _ (t : List ℕ) (at line : ℕ) (fits : State → Type 0) where
       record {
         same = λ (s : State) (f : fits s). if-true _ _ (eq-eqb 0 0 refl) ∙ ap (run line (lines (drop at t))) (sym (same s f));
         kept = λ (z : _≡_ {A = ℕ} 0 0) (s : State) (f : fits s) (k : Kept line s). rw (sym (same s f)) k;
+        rises = λ (z : _≡_ {A = ℕ} 0 0) (s : State) (f : fits s). subst (Rises s) (same s f) (le-refl (s .counts .values));
         onward = le-refl at;
         within = h;
         raised = le-refl line;
@@ -64,6 +65,13 @@ module _ (t : List ℕ) (at line : ℕ) (fits : State → Type 0) where
           subst (λ (x : Step). x .number ≡ 0 → Kept (number + 1) (x .state)) (decided s f)
           (step-kept number (take (found .content - here) (drop here t)) (put s) (crossed .kept whole s f kept)) z
 
+      on-rises : k ≡ 0 → (s : State) → fits s → Rises s (next s)
+      unfolding breaks
+      on-rises z s f =
+          le-trans (crossed .rises whole s f)
+          (subst (λ (x : Step). x .number ≡ 0 → Rises (put s) (x .state)) (decided s f)
+          (step-raises (take (found .content - here) (drop here t)) (put s)) z)
+
       on-same : k ≡ 0 → (s : State) → fits s → run (number + 1) (lines (drop (found .next) t)) (next s) ≡ run line (lines (drop at t)) s
       on-same z s f =
           sym (onward-goes (next s) number (run (number + 1) (lines (drop (found .next) t))))
@@ -80,6 +88,7 @@ module _ (t : List ℕ) (at line : ℕ) (fits : State → Type 0) where
           record {
             same = λ (s : State) (f : fits s). if-true _ _ (eq-eqb _ _ z) ∙ on-same z s f;
             kept = λ (e : k ≡ 0) (s : State) (f : fits s) (kept : Kept line s). on-kept z s f kept;
+            rises = λ (e : k ≡ 0) (s : State) (f : fits s). on-rises z s f;
             onward = omega arith;
             within = inside;
             raised = omega arith;
@@ -96,6 +105,7 @@ module _ (t : List ℕ) (at line : ℕ) (fits : State → Type 0) where
           record {
             same = λ (s : State) (f : fits s). if-false _ _ (ne-eqb _ _ z) ∙ sym (onward-stops k (next s) number _ z) ∙ over s f;
             kept = λ (e : k ≡ 0) (s : State) (f : fits s) (kept : Kept line s). absurd (z e);
+            rises = λ (e : k ≡ 0) (s : State) (f : fits s). absurd (z e);
             onward = omega arith;
             within = inside;
             raised = r;
@@ -116,6 +126,7 @@ crossed-reached t at line fits put number further last crossed s f on h =
       same = crossed .same s f;
       further = λ (e : number ≡ 0). h;
       onward = λ (e : number ≡ 0). record { within = crossed .within; counted = omega arith; kept = crossed .kept e s f (on .kept) };
+      rises = λ (e : number ≡ 0). crossed .rises e s f;
     }
 
 -- ---- a walk that has not gone further

@@ -4,5 +4,5 @@ pub mod WalkLaws
 pub mod ReadingLaws
 pub mod OutsideLaws
 pub mod CountLaws
-mod CrossLaws
-mod QuietLaws
+pub mod CrossLaws
+pub mod QuietLaws

@@ -74,18 +74,31 @@ opened-other content opens plain = true≢false (sym (ap isPlain plain) ∙ ap i
 
 module _ (content : List ℕ) (front : ℕ) (told : front ≡ runEnd isBlank content 0) where
   pub front-blanks : front ≡ length content → Fronted content Blanks
-  front-blanks e s = quiet-blank content (eqb front (length content)) (blank-told content front told) (eq-eqb _ _ e) s
+  front-blanks e = sym (blank-told content front told) ∙ eq-eqb _ _ e
+
+  filled : (front ≡ length content → ⊥) → isBlankLine content ≡ false
+  filled n = sym (blank-told content front told) ∙ ne-eqb _ _ n
 
   pub front-words : (front ≡ length content → ⊥) → (first : ℕ) → first ≡ getD content front 0 → (first ≡ 91 → ⊥) → Fronted content Words
-  front-words n first there h s d b =
-      plain-step content (sym (blank-told content front told) ∙ ne-eqb _ _ n) (sym (reads-plain content front first told there h)) s d b
+  front-words n first there h = (filled n, sym (reads-plain content front first told there h))
 
-  pub front-opens : (first : ℕ) → first ≡ getD content front 0 → first ≡ 91 → Opens content
+  pub front-opens : (front ≡ length content → ⊥) → (first : ℕ) → first ≡ getD content front 0 → first ≡ 91 → Fronted content Opening
   unfolding isOpen
-  front-opens first there e = opened-other content (rw (sym (told ∙ zero-add (run isBlank content)), sym there) (eq-eqb first 91 e))
+  front-opens n first there e = (filled n, opened-other content (rw (sym (told ∙ zero-add (run isBlank content)), sym there) (eq-eqb first 91 e)))
 
-pub opening-opens : (content : List ℕ) (front : Front) → Fronted content front → front ≡ Opening → Opens content
-opening-opens content front told e = rw e at told
+-- what the front says, by which it is
+module _ (content : List ℕ) (front : Front) (told : Fronted content front) where
+  pub blanks-front : front ≡ Blanks → isBlankLine content ≡ true
+  blanks-front e = rw e at told
+
+  pub words-front : front ≡ Words → (isBlankLine content ≡ false) × (bracketOf content ≡ Plain)
+  words-front e = rw e at told
+
+  pub opening-front : front ≡ Opening → (isBlankLine content ≡ false) × Opens content
+  opening-front e = rw e at told
+
+  pub opening-opens : front ≡ Opening → Opens content
+  opening-opens e = opening-front e .1
 
 -- ---- lines that change nothing
 
@@ -114,10 +127,11 @@ quiet-decides content here quiet s at = quiet s at ∙ goes-breaks s
 
 module _ (content : List ℕ) (front : Front) (told : Fronted content front) (here : ℕ) (put : State → State) where
   pub blanks-decide : front ≡ Blanks → Decides here put (stepOf content) 0 put
-  blanks-decide e s at = (rw e at told) (put s) ∙ goes-breaks (put s)
+  blanks-decide e s at = quiet-blank content true (sym (blanks-front content front told e)) refl (put s) ∙ goes-breaks (put s)
 
   pub words-decide : front ≡ Words → ((s : State) → put s .place ≡ s .place) → (here ≡ place.done → ⊥) → (here ≡ place.before → ⊥) → (k : ℕ) (next : State → State) → Decides here put (lineStep content) k next →
       Decides here put (stepOf content) k next
   words-decide e same d b k next decides s at =
-      (rw e at told) (put s) (λ (z : put s .place ≡ place.done). d (sym (same s ∙ at) ∙ z)) (λ (z : put s .place ≡ place.before). b (sym (same s ∙ at) ∙ z))
+      plain-step content (words-front content front told e .0) (words-front content front told e .1) (put s)
+      (λ (z : put s .place ≡ place.done). d (sym (same s ∙ at) ∙ z)) (λ (z : put s .place ≡ place.before). b (sym (same s ∙ at) ∙ z))
       ∙ decides s at

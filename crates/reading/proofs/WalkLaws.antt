@@ -4,7 +4,7 @@ use mathlib.Core.Path.{_≡_, refl, sym, _∙_, ap, subst}
 use mathlib.Core.Bool.{Bool, true, false}
 use mathlib.Core.List.{List, [], _∷_}
 use Prim.Native.Nat.{ℕ, suc, _+_, _-_, _≤_, _<_, zero-le}
-use native.Mathlib.Nat.{le-refl}
+use native.Mathlib.Nat.{le-refl, le-trans}
 use native.Mathlib.Omega.{arith}
 use lib.ListN.{length, take, drop, length-drop, drop-of-length-le}
 use lib.Dec.{eqb}
@@ -20,19 +20,22 @@ use Rattle.text.proofs.LineLaws.{firstOf, lines-at, next-on, next-within, conte
 use Rattle.block.specs.Kept.{Kept}
 use Rattle.block.proofs.KeptLaws.{start-kept, keyword-kept, kept-more}
 use Rattle.block.specs.State.{startState}
-use Rattle.block.specs.Keywords.{keywordRule, keywordNext, oneMoreIf}
+use Rattle.block.specs.Keywords.{keywordRule, keywordNext, countsAfter, oneMoreIf}
 use Rattle.block.specs.declared.State.{State}
 use Rattle.keyword.specs.Names.{beginHeader}
 use Rattle.keyword.specs.Bracket.{bracketOf}
 use Rattle.keyword.specs.declared.Bracket.{Bracket}
 use Rattle.keyword.specs.declared.Bracket.the-variants.{Plain, Indented, Bad, Unknown, Later, Keyword}
 use Rattle.place.specs.Place.{isText, before, done}
+use Rattle.place.specs.Place as place
+use Rattle.matrix.specs.Matrix.{dataLineOf}
 use Rattle.reading.specs.Reading.{
   commentByte,
   goes,
   breaks,
   judged,
   lineRule,
+  countsAfterLine,
   lineNext,
   lineStep,
   keywordStep,
@@ -45,7 +48,7 @@ use Rattle.reading.specs.Reading.{
   atEnd,
   readingOf,
 }
-use Rattle.reading.specs.Walk.{resume, Onward, Reached, Continued}
+use Rattle.reading.specs.Walk.{resume, Onward, Rises, Reached, Continued}
 use Rattle.reading.specs.declared.Step.{Step}
 use Rattle.reading.specs.declared.Walk.{Walk}
 use Rattle.reading.specs.declared.Reading.{Reading}
@@ -110,6 +113,70 @@ step-kept n content s k =
     (keeps-if n (eqb (s .place) done) _ _ (keeps-goes n s k)
     (keeps-if n (eqb (s .place) before) _ _ (keeps-before n (bracketOf content) content s k) (keeps-bracket n (bracketOf content) content s k)))
 
+-- ---- values only rise
+
+abbrev Raises : State → Step → Type 0
+Raises s step = step .number ≡ 0 → Rises s (step .state)
+
+raises-goes : (s : State) → Raises s (goes s)
+unfolding goes
+raises-goes s z = le-refl (s .counts .values)
+
+raises-breaks : (k : ℕ) (s : State) → Raises s (breaks k s)
+unfolding breaks
+raises-breaks k s z = le-refl (s .counts .values)
+
+raises-if : (s : State) (b : Bool) (x y : Step) → Raises s x → Raises s y → Raises s (if b then x else y)
+unfolding if_then_else_
+raises-if s true x y h k = h
+raises-if s false x y h k = k
+
+raises-next : (s next : State) → Rises s next → Raises s (goes next)
+unfolding goes
+raises-next s next h z = h
+
+raises-judged : (k : ℕ) (next s : State) → Rises s next → Raises s (judged k next s)
+unfolding judged
+raises-judged k next s h = raises-if s (eqb k 0) (goes next) (breaks k s) (raises-next s next h) (raises-breaks k s)
+
+rises-either : (b : Bool) (v n : ℕ) → v ≤ (if b then v + n else v)
+unfolding if_then_else_
+rises-either true v n = omega arith
+rises-either false v n = omega arith
+
+raises-line : (content : List ℕ) (s : State) → Raises s (lineStep content s)
+unfolding lineStep lineNext countsAfterLine
+raises-line content s =
+    raises-judged (lineRule content s) (lineNext content s) s
+    (rises-either (eqb (s .place) place.matrix) (s .counts .values) (dataLineOf (s .matrix .form) content .numbers))
+
+raises-keyword : (k : ℕ) (argument : List ℕ) (s : State) → Raises s (keywordStep k argument s)
+unfolding keywordStep keywordNext countsAfter
+raises-keyword k argument s = raises-judged (keywordRule k argument s) (keywordNext k argument s) s (le-refl (s .counts .values))
+
+raises-bracket : (b : Bracket) (content : List ℕ) (s : State) → Raises s (bracketStep b content s)
+raises-bracket Plain content s = raises-line content s
+raises-bracket Indented content s = raises-if s (isText (s .place)) _ _ (raises-line content s) (raises-breaks 6 s)
+raises-bracket Bad content s = raises-breaks 6 s
+raises-bracket Unknown content s = raises-breaks 7 s
+raises-bracket Later content s = raises-breaks 8 s
+raises-bracket (Keyword key start) content s = raises-keyword key (argumentFrom content start) s
+
+raises-before : (b : Bracket) (content : List ℕ) (s : State) → Raises s (beforeStep b content s)
+raises-before Plain content s = raises-goes s
+raises-before Indented content s = raises-goes s
+raises-before Bad content s = raises-goes s
+raises-before Unknown content s = raises-goes s
+raises-before Later content s = raises-goes s
+raises-before (Keyword key start) content s = raises-if s (eqb key beginHeader) _ _ (raises-keyword key (argumentFrom content start) s) (raises-goes s)
+
+pub step-raises : (content : List ℕ) (s : State) → Raises s (stepOf content s)
+unfolding stepOf
+step-raises content s =
+    raises-if s (isBlankLine content) _ _ (raises-goes s)
+    (raises-if s (eqb (s .place) done) _ _ (raises-goes s)
+    (raises-if s (eqb (s .place) before) _ _ (raises-before (bracketOf content) content s) (raises-bracket (bracketOf content) content s)))
+
 -- ---- one line
 
 run-cons : (n : ℕ) (l : Raw) (ls : List Raw) (s : State) → run n (l ∷ ls) s ≡ onward (stepOf (contentOf commentByte (l .bytes)) s) n (run (n + 1) ls)
@@ -140,6 +207,7 @@ module _ (t : List ℕ) (at line : ℕ) (s : State) (h : at < length t) (on : On
           same = if-false _ _ (ne-eqb _ _ z) ∙ sym (line-run t at line s h here found step taken ∙ if-false _ _ (ne-eqb _ _ z));
           further = λ (e : step .number ≡ 0). absurd (z e);
           onward = λ (e : step .number ≡ 0). absurd (z e);
+          rises = λ (e : step .number ≡ 0). absurd (z e);
         }
 
     line-taken : step .number ≡ 0 → Reached t at line s (record { number = step .number; at = here .next; line = line + 1; state = step .state })
@@ -152,8 +220,12 @@ module _ (t : List ℕ) (at line : ℕ) (s : State) (h : at < length t) (on : On
           same = if-true _ _ (eq-eqb _ _ z) ∙ sym (line-run t at line s h here found step taken ∙ if-true _ _ (eq-eqb _ _ z));
           further = λ (e : step .number ≡ 0). f;
           onward = λ (e : step .number ≡ 0). record { within = w; counted = omega arith; kept = kept-next z };
+          rises = λ (e : step .number ≡ 0). raised-next e;
         }
       where
+        raised-next : step .number ≡ 0 → Rises s (step .state)
+        raised-next z = rw taken (step-raises (take (here .content - at) (drop at t)) s (rw taken at z))
+
         kept-next : step .number ≡ 0 → Kept (line + 1) (step .state)
         kept-next z = rw taken (step-kept line (take (here .content - at) (drop at t)) s (on .kept) (rw taken at z))
 
@@ -169,7 +241,13 @@ module _ (t : List ℕ) (at line : ℕ) (s : State) (h : at < length t) (on : On
 
 pub walk-starts : (t : List ℕ) (at line : ℕ) (s : State) (w : Walk) → Reached t at line s w → Continued t w w
 walk-starts t at line s w r =
-    record { same = refl; from = λ (e : w .number ≡ 0). e; further = λ (e : w .number ≡ 0). le-refl (w .at); onward = r .onward }
+    record {
+      same = refl;
+      from = λ (e : w .number ≡ 0). e;
+      further = λ (e : w .number ≡ 0). le-refl (w .at);
+      onward = r .onward;
+      rises = λ (e : w .number ≡ 0). le-refl (w .state .counts .values);
+    }
 
 pub walk-ends : (t : List ℕ) (at line : ℕ) (s : State) (w v : Walk) → Reached t at line s w → Continued t w v → Reached t at line s v
 walk-ends t at line s w v r c =
@@ -177,6 +255,7 @@ walk-ends t at line s w v r c =
       same = c .same ∙ r .same;
       further = λ (e : v .number ≡ 0). let a : at < w .at = r .further (c .from e) in let b : w .at ≤ v .at = c .further e in omega arith;
       onward = c .onward;
+      rises = λ (e : v .number ≡ 0). le-trans (r .rises (c .from e)) (c .rises e);
     }
 
 -- a walk that goes on from where another has come
@@ -188,6 +267,7 @@ walk-joins t w v u c z r =
       from = λ (e : u .number ≡ 0). c .from z;
       further = λ (e : u .number ≡ 0). let a : v .at < u .at = r .further e in let b : w .at ≤ v .at = c .further z in omega arith;
       onward = r .onward;
+      rises = λ (e : u .number ≡ 0). le-trans (c .rises z) (r .rises e);
     }
 
 -- how much a walk has left to go: nothing once a rule is broken

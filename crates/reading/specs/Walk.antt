@@ -3,7 +3,7 @@
 -- Assumes nothing.
 use Prim.Native.Nat.{ℕ, _+_, _-_, _≤_, _<_}
 use mathlib.Core.Path.{_≡_}
-use mathlib.Core.Bool.{false}
+use mathlib.Core.Bool.{true, false}
 use mathlib.Core.List.{List}
 use lib.ListN.{length, take, drop}
 use lib.Dec.{eqb}
@@ -11,7 +11,6 @@ use Rattle.base.specs.If.{if_then_else_}
 use Rattle.text.specs.Lines.{lines, isBlankLine, lineAt}
 use Rattle.keyword.specs.Bracket.{bracketOf}
 use Rattle.keyword.specs.declared.Bracket.the-variants.{Plain}
-use Rattle.place.specs.Place.{before, done}
 use Rattle.place.specs.Place as place
 use Rattle.path.specs.Path.{deepest, mostSteps}
 use Rattle.path.specs.declared.Path.{Path}
@@ -20,7 +19,7 @@ use Rattle.matrix.specs.declared.Matrix.{Matrix}
 use Rattle.block.specs.Kept.{Kept}
 use Rattle.block.specs.declared.Counts.{Counts}
 use Rattle.block.specs.declared.State.{State}
-use Rattle.reading.specs.Reading.{commentByte, goes, breaks, lineStep, stepOf, run}
+use Rattle.reading.specs.Reading.{commentByte, breaks, run}
 use Rattle.reading.specs.declared.Step.{Step}
 use Rattle.reading.specs.declared.Front.{Front}
 use Rattle.reading.specs.declared.Front.the-variants.{Blanks, Words, Opening}
@@ -38,10 +37,15 @@ pub record Onward (t : List ℕ) (at line : ℕ) (s : State) : Type 0 where
   pub counted : line ≤ at + 1
   pub kept : Kept line s
 
+-- no line takes a value back
+abbrev pub Rises : State → State → Type 0
+Rises s r = s .counts .values ≤ r .counts .values
+
 pub record Reached (t : List ℕ) (at line : ℕ) (s : State) (w : Walk) : Type 0 where
   pub same : resume t w ≡ run line (lines (drop at t)) s
   pub further : w .number ≡ 0 → at < w .at
   pub onward : w .number ≡ 0 → Onward t (w .at) (w .line) (w .state)
+  pub rises : w .number ≡ 0 → Rises s (w .state)
 
 -- a walk v that has gone on from where w had come, or is w itself
 pub record Continued (t : List ℕ) (w v : Walk) : Type 0 where
@@ -49,6 +53,7 @@ pub record Continued (t : List ℕ) (w v : Walk) : Type 0 where
   pub from : v .number ≡ 0 → w .number ≡ 0
   pub further : v .number ≡ 0 → w .at ≤ v .at
   pub onward : v .number ≡ 0 → Onward t (v .at) (v .line) (v .state)
+  pub rises : v .number ≡ 0 → Rises (w .state) (v .state)
 
 -- ---- lines gone over with a part of the state alone
 
@@ -57,6 +62,7 @@ pub record Continued (t : List ℕ) (w v : Walk) : Type 0 where
 pub record Crossed (t : List ℕ) (at line : ℕ) (fits : State → Type 0) (put : State → State) (number further last : ℕ) : Type 0 where
   pub same : (s : State) → fits s → resume t (record { number = number; at = further; line = last; state = put s }) ≡ run line (lines (drop at t)) s
   pub kept : number ≡ 0 → (s : State) → fits s → Kept line s → Kept last (put s)
+  pub rises : number ≡ 0 → (s : State) → fits s → Rises s (put s)
   pub onward : at ≤ further
   pub within : further ≤ length t
   pub raised : line ≤ last
@@ -96,11 +102,11 @@ StandsElsewhere content p = isBlankLine content ≡ false → bracketOf content 
 abbrev pub Stays : List ℕ → ℕ → ℕ → Type 0
 Stays t at further = further ≡ at → at < length t → Opens (contentAt t at)
 
--- what the front of a line says of it between [Begin Header] and [End]
+-- what stands at the front of a line
 abbrev pub Fronted : List ℕ → Front → Type 0
-Fronted content Blanks = (s : State) → stepOf content s ≡ goes s
-Fronted content Words = (s : State) → (s .place ≡ done → ⊥) → (s .place ≡ before → ⊥) → stepOf content s ≡ lineStep content s
-Fronted content Opening = Opens content
+Fronted content Blanks = isBlankLine content ≡ true
+Fronted content Words = (isBlankLine content ≡ false) × (bracketOf content ≡ Plain)
+Fronted content Opening = (isBlankLine content ≡ false) × Opens content
 
 -- ---- the parts
 

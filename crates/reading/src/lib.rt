@@ -1,22 +1,21 @@
-// The forward reading: every line of a text in its place, rules 5 to 17.
+// Rules 5 to 17, line by line: what a line comes to in its place, and lines gone over together. The walk over a whole text is made of these.
 ghost use mathlib.Core.Path.{_≡_};
 ghost use mathlib.Core.Bool.{true, false};
 ghost use Prim.Native.Nat.{_+_, _≤_, _<_};
 ghost use lib.ListN.{length};
 ghost use Rattle.place.specs.Place as place;
 ghost use Rattle.block.specs.Kept.{Kept, mostLines};
-ghost use Rattle.reading.specs.Reading.{listRule, goes, breaks, lineStep, keywordStep, argumentFrom, bracketStep, beforeStep, stepOf, atEnd, readingOf};
+ghost use Rattle.reading.specs.Reading.{goes, breaks, lineStep, keywordStep, argumentFrom, bracketStep, beforeStep, stepOf, atEnd};
 ghost use Rattle.text.specs.Lines.{isBlankLine};
 ghost use Rattle.text.specs.Words.{words, firstOf};
 ghost use Rattle.argument.specs.Argument.{isReserved};
 ghost use Rattle.block.specs.declared.State.{State};
 ghost use Rattle.keyword.specs.Bracket.{bracketOf};
 ghost use Rattle.keyword.specs.declared.Bracket.the-variants.{Plain, Indented, Keyword};
-ghost use Rattle.reading.specs.Walk.{Reached, Onward, Passed, Crossed, Holds, Decides, Fronted, Stepping, Opens, Elsewhere, StandsElsewhere, contentAt, Stays, withPath, withPinned, withMatrix};
+ghost use Rattle.reading.specs.Walk.{Reached, Onward, Passed, Crossed, Holds, Decides, Fronted, Stepping, Opens, Elsewhere, StandsElsewhere, contentAt, Stays, withPath, withPinned};
 use block::Counts;
 use block::State;
 use keyword::Bracket;
-use matrix::Matrix;
 use path::Path;
 use pin_map::Map;
 
@@ -28,9 +27,6 @@ const OPENING: u8 = b'[';
 const LINE_FEED: u8 = 10;
 
 const CARRIAGE_RETURN: u8 = 13;
-
-// "to a depth of 8".
-const DEEPEST: u64 = 8;
 
 // What one line comes to: the number of the rule that it breaks, 0 for none, and what is remembered after it.
 pub struct Step {
@@ -112,7 +108,7 @@ fn map_step(content: &[u8], s: State) -> Step
 }
 
 // A line without a keyword: what its place takes. The lines of a matrix, a path and a pin list are not read here but with the part of
-// the state that they change, several at once (`pass_data`, `pass_path`, `pass_pins`).
+// the state that they change, several at once (`body::pass_data`, `pass_path`, `pass_pins`).
 fn line_step(content: &[u8], s: State) -> Step
     requires { ⌜ Elsewhere (s .place) ⌝ }
     ensures { λ r. ⌜ r ≡ lineStep (now (content .entry)) s ⌝ }
@@ -240,9 +236,9 @@ fn take_line(content: &[u8], s: State) -> Step
 // ---- lines that change nothing
 
 // Where lines that change nothing end, and at which line.
-struct Passing {
-    at: usize,
-    line: u64,
+pub struct Passing {
+    pub at: usize,
+    pub line: u64,
 }
 
 // A line of the model list as it should be.
@@ -287,7 +283,7 @@ fn may_be_quiet(text: &[u8], at: usize, place: u64) -> bool {
 }
 
 // Goes past lines that change nothing, with no look at what is remembered but for the place.
-fn pass_quiet(text: &[u8], at: usize, line: u64, place: u64) -> Passing
+pub fn pass_quiet(text: &[u8], at: usize, line: u64, place: u64) -> Passing
     requires { ⌜ (at ≤ length (now text)) × (line ≤ at + 1) ⌝ }
     ensures { λ r. ⌜ Passed (now (text .entry)) at line place (r .at) (r .line) ⌝ }
 {
@@ -320,13 +316,13 @@ fn pass_quiet(text: &[u8], at: usize, line: u64, place: u64) -> Passing
 // ---- lines that change one part
 
 // What stands at the front of a line: nothing, words, or a bracket.
-enum Front {
+pub enum Front {
     Blanks,
     Words,
     Opening,
 }
 
-fn front_of(content: &[u8]) -> Front
+pub fn front_of(content: &[u8]) -> Front
     ensures { λ r. ⌜ Fronted (now (content .entry)) r ⌝ }
 {
     let front = base::past_blanks(content, 0);
@@ -337,109 +333,6 @@ fn front_of(content: &[u8]) -> Front
         return Front::Opening;
     }
     Front::Words
-}
-
-// A line of a matrix, with no more of the state than it changes: whether it is taken here, the rule that it breaks, and the matrix
-// and the count of values behind it.
-struct Data {
-    taken: bool,
-    number: u64,
-    matrix: Matrix,
-    values: u64,
-}
-
-fn data_line(content: &[u8], matrix: Matrix, values: u64) -> Data
-    ensures { λ r. ⌜ (r .taken ≡ true)
-        × Decides place.matrix (withMatrix matrix values) (lineStep (now (content .entry))) (r .number) (withMatrix (r .matrix) (r .values)) ⌝ }
-{
-    let line = matrix::data_line(matrix.form, content);
-    let number = matrix::data_rule(line, matrix, values);
-    if number != 0 {
-        return Data {
-            taken: true,
-            number,
-            matrix,
-            values,
-        };
-    }
-    Data {
-        taken: true,
-        number: 0,
-        matrix: matrix::data_next(line, matrix),
-        values: values + line.numbers,
-    }
-}
-
-// A line between the keywords of a matrix.
-fn take_data(content: &[u8], matrix: Matrix, values: u64) -> Data
-    ensures { λ r. ⌜ (r .taken ≡ true → Decides place.matrix (withMatrix matrix values) (stepOf (now (content .entry))) (r .number) (withMatrix (r .matrix) (r .values)))
-        × (r .taken ≡ false → Opens (now (content .entry))) ⌝ }
-{
-    match front_of(content) {
-        Front::Blanks => Data {
-            taken: true,
-            number: 0,
-            matrix,
-            values,
-        },
-        Front::Words => data_line(content, matrix, values),
-        Front::Opening => Data {
-            taken: false,
-            number: 0,
-            matrix,
-            values,
-        },
-    }
-}
-
-// Where the lines between two keywords of a matrix end, or which rule one of them breaks, and what they come to.
-struct DataWalk {
-    at: usize,
-    line: u64,
-    part: Data,
-}
-
-// Goes over the lines between two keywords of a matrix.
-fn pass_data(text: &[u8], at: usize, line: u64, matrix: Matrix, values: u64) -> DataWalk
-    requires { ⌜ (at ≤ length (now text)) × (line ≤ at + 1) ⌝ }
-    ensures { λ r. ⌜ Crossed (now (text .entry)) at line (Holds place.matrix (withMatrix matrix values)) (withMatrix (r .part .matrix) (r .part .values)) (r .part .number) (r .at) (r .line)
-        × Stays (now (text .entry)) at (r .at) ⌝ }
-{
-    let mut here = at;
-    let mut number = line;
-    let mut part = Data {
-        taken: true,
-        number: 0,
-        matrix,
-        values,
-    };
-    while here < text.len() {
-        let found = text::line_at(text, here, COMMENT);
-        let content = found.content;
-        let next = take_data(&text[here..content], part.matrix, part.values);
-        if !next.taken {
-            return DataWalk {
-                at: here,
-                line: number,
-                part,
-            };
-        }
-        here = found.next;
-        part = next;
-        if part.number != 0 {
-            return DataWalk {
-                at: here,
-                line: number,
-                part,
-            };
-        }
-        number += 1;
-    }
-    DataWalk {
-        at: here,
-        line: number,
-        part,
-    }
 }
 
 // A pin line, with no more of the state than it changes: whether it is taken here, the rule that it breaks, and the map and the count
@@ -658,10 +551,10 @@ fn pass_path(text: &[u8], at: usize, line: u64, path: Path, steps: u64) -> PathW
     }
 }
 
-// ---- the whole text
+// ---- a walk
 
 // The line at a place: each byte is gone over a bounded number of times.
-fn read_one(text: &[u8], at: usize, line: u64, s: State) -> Walk
+pub fn read_one(text: &[u8], at: usize, line: u64, s: State) -> Walk
     requires { ⌜ (at < length (now text)) × Onward (now text) at line s × StandsElsewhere (contentAt (now text) at) (s .place) ⌝ }
     ensures { λ r. ⌜ Reached (now (text .entry)) at line s r ⌝ }
 {
@@ -677,33 +570,8 @@ fn read_one(text: &[u8], at: usize, line: u64, s: State) -> Walk
     }
 }
 
-// The lines up to the next keyword in a matrix, or that keyword's line.
-fn read_data(text: &[u8], at: usize, line: u64, s: State) -> Walk
-    requires { ⌜ (at < length (now text)) × Onward (now text) at line s × (s .place ≡ place.matrix) ⌝ }
-    ensures { λ r. ⌜ Reached (now (text .entry)) at line s r ⌝ }
-{
-    let matrix = s.matrix;
-    let mut counts = s.counts;
-    let walk = pass_data(text, at, line, matrix, counts.values);
-    if at < walk.at {
-        let part = walk.part;
-        let reached = part.matrix;
-        counts.values = part.values;
-        let mut state = s;
-        state.matrix = reached;
-        state.counts = counts;
-        return Walk {
-            number: part.number,
-            at: walk.at,
-            line: walk.line,
-            state,
-        };
-    }
-    read_one(text, at, line, s)
-}
-
 // The lines up to the keyword behind a pin list, or that keyword's line.
-fn read_pins(text: &[u8], at: usize, line: u64, s: State) -> Walk
+pub fn read_pins(text: &[u8], at: usize, line: u64, s: State) -> Walk
     requires { ⌜ (at < length (now text)) × Onward (now text) at line s × (s .place ≡ place.pins) ⌝ }
     ensures { λ r. ⌜ Reached (now (text .entry)) at line s r ⌝ }
 {
@@ -728,7 +596,7 @@ fn read_pins(text: &[u8], at: usize, line: u64, s: State) -> Walk
 }
 
 // The lines of a path up to one that opens or closes a fork block, or the line of a keyword.
-fn read_path(text: &[u8], at: usize, line: u64, s: State) -> Walk
+pub fn read_path(text: &[u8], at: usize, line: u64, s: State) -> Walk
     requires { ⌜ (at < length (now text)) × Onward (now text) at line s × (s .place ≡ place.path) ⌝ }
     ensures { λ r. ⌜ Reached (now (text .entry)) at line s r ⌝ }
 {
@@ -752,71 +620,7 @@ fn read_path(text: &[u8], at: usize, line: u64, s: State) -> Walk
     read_one(text, at, line, s)
 }
 
-// The line at a place, or lines that change nothing or one part alone.
-fn read_line(text: &[u8], at: usize, line: u64, s: State) -> Walk
-    requires { ⌜ (at < length (now text)) × Onward (now text) at line s ⌝ }
-    ensures { λ r. ⌜ Reached (now (text .entry)) at line s r ⌝ }
-{
-    if s.place == place::MATRIX {
-        return read_data(text, at, line, s);
-    }
-    if s.place == place::PATH {
-        return read_path(text, at, line, s);
-    }
-    if s.place == place::PINS {
-        return read_pins(text, at, line, s);
-    }
-    let passing = pass_quiet(text, at, line, s.place);
-    if at < passing.at {
-        return Walk {
-            number: 0,
-            at: passing.at,
-            line: passing.line,
-            state: s,
-        };
-    }
-    read_one(text, at, line, s)
-}
-
-// How many fork blocks are open.
-fn depth_of(s: State) -> u64 {
-    let path = s.path;
-    path.depth
-}
-
-// The lines of a block, up to the line that closes it. "A block may hold further blocks, to a depth of 8": an inner block is read by
-// the same function, and the depth still left falls. The file itself is the outermost block.
-fn read_block(text: &[u8], at: usize, line: u64, s: State, left: u64) -> Walk
-    requires { ⌜ (at < length (now text)) × Onward (now text) at line s ⌝ }
-    ensures { λ r. ⌜ Reached (now (text .entry)) at line s r ⌝ }
-{
-    let mut walk = read_line(text, at, line, s);
-    let mut depth = depth_of(s);
-    loop {
-        if walk.number != 0 {
-            return walk;
-        }
-        let here = walk.at;
-        if text.len() <= here {
-            return walk;
-        }
-        let state = walk.state;
-        let next = depth_of(state);
-        if next < depth {
-            return walk;
-        }
-        if depth < next {
-            if 0 < left {
-                walk = read_block(text, here, walk.line, state, left - 1);
-                continue;
-            }
-        }
-        depth = next;
-        walk = read_line(text, here, walk.line, state);
-    }
-}
-
-fn at_end(s: State) -> Reading
+pub fn at_end(s: State) -> Reading
     ensures { λ r. ⌜ r ≡ atEnd s ⌝ }
 {
     if s.place == place::DONE {
@@ -827,24 +631,4 @@ fn at_end(s: State) -> Reading
         return Reading::Refused(5, 0);
     }
     Reading::Refused(10, 0)
-}
-
-// Rules 5 to 17 over a whole text: the counts of all records, or the rule that is broken first and its line.
-pub fn read(text: &[u8]) -> Reading
-    ensures { λ r. ⌜ r ≡ readingOf (now (text .entry)) ⌝ }
-{
-    let mut at = 0;
-    let mut line = 1;
-    let mut s = block::start_state();
-    while at < text.len() {
-        let walk = read_block(text, at, line, s, DEEPEST);
-        if walk.number != 0 {
-            return Reading::Refused(walk.number, walk.line);
-        }
-        at = walk.at;
-        line = walk.line;
-        let state = walk.state;
-        s = state;
-    }
-    at_end(s)
 }

@@ -15,7 +15,7 @@ byte-at-requires : tie.Need-byte-at-requires
 byte-at-requires c κs = search needs
 
 returns-2 : tie.Need-returns-2
-returns-2 c = front-opens _ _ (c .before .before .before .past-blanks .ensures) _ (c .before .byte-at .ensures) (c .if2 .taken)
+returns-2 c = front-opens _ _ (c .before .before .before .past-blanks .ensures) (c .before .before .if1 .left) _ (c .before .byte-at .ensures) (c .if2 .taken)
 
 returns-3 : tie.Need-returns-3
 returns-3 c = front-words _ _ (c .before .before .before .past-blanks .ensures) (c .before .before .if1 .left) _ (c .before .byte-at .ensures) (c .if2 .left)
