@@ -3,10 +3,10 @@
 -- Assumes nothing.
 use mathlib.Core.Path.{_≡_, refl, sym, _∙_, ap}
 use mathlib.Core.List.{List, _++_, append-nil}
-use Prim.Native.Nat.{ℕ, zero, suc, _+_, _-_, _*_, _≤_, _<_}
+use Prim.Native.Nat.{ℕ, _+_, _-_, _*_, _≤_, _<_}
 use native.Mathlib.Nat.{le-refl}
 use native.Mathlib.Omega.{arith}
-use lib.ListN.{length, take, drop, getD, replicate, length-drop, take-append-drop, drop-of-length-le}
+use lib.ListN.{length, take, drop, getD, replicate, length-drop, length-replicate, take-append-drop, drop-of-length-le}
 use lib.Seq.{sets, sets-eq, drop-drop, drop-at, length-take-le}
 use Rattle.table.specs.Layout.{widths, values, needed}
 use Rattle.table.specs.Filling.{basesFrom, startFilling, opened}
@@ -62,7 +62,9 @@ module _ (c : Counts) where
 
   pub noted-opened : (t table notes : List ℕ) → needed widths (countsOf c) ≤ length table →
       Noted t table notes (needed widths (countsOf c) - 3 * c .values) 0 →
-      Noted t (opened 0 widths (countsOf c) table) notes (getD (startFilling (countsOf c) .bases) values 0) (getD (startFilling (countsOf c) .counts) values 0)
+      Noted t (opened 0 widths (countsOf c) table) notes
+      (getD (startFilling (countsOf c) .bases) values 0)
+      (getD (startFilling (countsOf c) .counts) values 0)
   unfolding startFilling
   noted-opened t table notes room noted =
       let base : ℕ = getD (basesFrom 0 widths (countsOf c)) values 0 in
@@ -73,29 +75,17 @@ module _ (c : Counts) where
 
   -- ---- what is noted at the front of the table, moved to where the values begin
 
-  pub noted-moved : (t table notes : List ℕ) (words : ℕ) → words ≡ needed widths (countsOf c) → words - 3 * c .values + 3 * c .values ≤ length table →
+  pub noted-moved : (t table notes : List ℕ) (words : ℕ) → words ≡ needed widths (countsOf c) →
+      words - 3 * c .values + 3 * c .values ≤ length table →
       Noted t table notes 0 0 → Before notes (c .values) → (moved : List ℕ) →
       moved ≡ sets (replicate (length table) 0) (words - 3 * c .values) (take (3 * c .values) table) →
       Noted t moved notes (needed widths (countsOf c) - 3 * c .values) 0
   noted-moved t table notes words is-words room noted before moved is-moved =
       rw (is-moved, ← is-words) (noted-lifted t table notes (c .values) (words - 3 * c .values) noted before room)
 
--- ---- nothing noted
+-- ---- room for notes
 
-zero-words : (n k : ℕ) → getD {A = ℕ} (replicate n 0) k 0 ≡ 0
-zero-words zero k = refl
-zero-words (suc n) zero = refl
-zero-words (suc n) (suc k) = zero-words n k
-
-module _ (notes : List ℕ) (n : ℕ) (zeros : notes ≡ replicate n 0) where
-  none-made : (i : ℕ) → Made (noteAt notes i) → ⊥
-  unfolding noteAt
-  none-made i made =
-      let e : getD notes (9 * i + 4) 0 ≡ 0 = ap (λ (ns : List ℕ). getD ns (9 * i + 4) 0) zeros ∙ zero-words n (9 * i + 4) in
-      omega arith
-
-  pub none-noted : (t table : List ℕ) → Noted t table notes 0 0
-  none-noted t table = record { tells = λ (i : ℕ) (made : Made (noteAt notes i)) (h : 0 ≤ noteAt notes i .first). absurd (none-made i made) }
-
-  pub none-before : (past : ℕ) → Before notes past
-  none-before past = record { before = λ (i : ℕ) (made : Made (noteAt notes i)). absurd (none-made i made) }
+pub room-zeros : (notes : List ℕ) (n : ℕ) → notes ≡ replicate n 0 → notes ≡ replicate (length notes) 0
+room-zeros notes n e =
+    let l : length notes ≡ n = ap length e ∙ length-replicate n 0 in
+    e ∙ ap (λ (k : ℕ). replicate k 0) (sym l)

@@ -31,7 +31,9 @@ use Rattle.maps.specs.Maps.{mapsOf, FillsMaps}
 use Rattle.sections.specs.Sections.{sectionsOf, sectionsLeft}
 use Rattle.steps.specs.Steps.{lowOf, Aims}
 use Rattle.models.specs.Models.{modelsOf}
+use Rattle.forward.specs.Forward.{Carries}
 use Rattle.filling.specs.Filled.{afterReading, filledOf, tableFor, Lifted}
+use Rattle.filling.specs.declared.Filled.{Filled}
 use Rattle.filling.specs.declared.Filled.the-variants.{Stored, Refused}
 use Rattle.filling.proofs.FillLaws.{start-long, layout-long, maps-fit, seven-maps, sections-fit, seven-blocks, models-fit, aims, all-filled}
 use Rattle.filling.proofs.NoteLaws.{noted-opened, noted-moved}
@@ -204,9 +206,21 @@ module _ (t : List ℕ) (c : Counts) (reads : readingOf t ≡ reading.Read c) (t
 
 -- what the forward reading answered is what the text comes to
 module _ (t : List ℕ) (answer : Reading) (told : answer ≡ readingOf t) where
-  pub read-told : (c : Counts) → answer ≡ reading.Read c → readingOf t ≡ reading.Read c
-  read-told c e = sym told ∙ e
+  -- and what it noted is true where it read to the end
+  pub store-ready : (table notes : List ℕ) → ((c : Counts) → answer ≡ reading.Read c → Carries t table notes (c .values)) →
+      (c : Counts) → answer ≡ reading.Read c →
+      (readingOf t ≡ reading.Read c) × Noted t table notes 0 0 × Before notes (c .values)
+  store-ready table notes carries c e = (sym told ∙ e, carries c e .noted, carries c e .before)
 
   pub not-read : (size number line : ℕ) → answer ≡ reading.Refused number line → Refused number line ≡ filledOf t size
   unfolding filledOf
   not-read size number line e = ap (afterReading t size) (sym e ∙ told)
+
+-- and the table is as long as before
+module _ (size before : ℕ) (same : size ≡ before) where
+  pub told-before : (t table : List ℕ) (r : Filled) → (r ≡ filledOf t size) × (table ≡ tableFor t size r) →
+      (r ≡ filledOf t before) × (table ≡ tableFor t before r)
+  told-before t table r e = rw same at e
+
+  pub zeros-before : (table : List ℕ) → table ≡ replicate size 0 → table ≡ replicate before 0
+  zeros-before table e = rw same at e

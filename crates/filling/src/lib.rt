@@ -70,7 +70,7 @@ fn store(text: &[u8], table: &mut [u64], counts: Counts, notes: &[u64]) -> Fille
     Filled::Stored(words)
 }
 
-// Nothing noted yet: nine words for each of at most 1,024 matrices. They come from a function so that no proof has to look at all of them.
+// Room for notes: nine words for each of at most 1,024 matrices. They come from a function so that no proof has to look at all of them.
 fn notes_room() -> [u64; 9216]
     ensures { λ r. ⌜ r ≡ replicate 9216 0 ⌝ }
 {
@@ -81,8 +81,8 @@ fn notes_room() -> [u64; 9216]
 pub fn fill_table(text: &[u8], table: &mut [u64]) -> Filled
     ensures { λ r. ⌜ (r ≡ filledOf (now (text .entry)) (length (now (table .entry)))) × (now (table .exit) ≡ tableFor (now (text .entry)) (length (now (table .entry))) r) ⌝ }
 {
-    let notes = notes_room();
-    match reading::read(text) {
+    let mut notes = notes_room();
+    match forward::read(text, table, &mut notes) {
         Reading::Read(counts) => store(text, table, counts, &notes),
         Reading::Refused(number, line) => {
             base::zero_all(table);
