@@ -5,10 +5,6 @@ use Rattle.filling.proofs.NoteLaws.{room-zeros}
 use borrow.Author.Needs.{needs}
 use Rattle.filling.proofs.fill_table.Statement.{statement}
 use Rattle.filling.proofs.fill_table.Tie as tie
-use Rattle.base.proofs.zero_all.Reads as zero-all-reads
-use Rattle.filling.proofs.notes_room.Reads as notes-room-reads
-use Rattle.filling.proofs.store.Reads as store-reads
-use Rattle.forward.proofs.read.Reads as read-reads
 
 notes-room-requires : tie.Need-notes-room-requires
 notes-room-requires c κs = search needs
