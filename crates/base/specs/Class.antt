@@ -5,7 +5,7 @@ use Prim.Native.Char.{code}
 use mathlib.Core.Bool.{Bool, not}
 use mathlib.Core.List.{List}
 use lib.ListN.{drop}
-use lib.Dec.{eqb}
+use lib.Dec.{leb, eqb}
 use Rattle.base.specs.If.{both, either}
 use Rattle.base.specs.Bytes.{isBlank, isDigit, isLetter, within, tab, lineFeed, carriageReturn}
 use Rattle.base.specs.Runs.{run}
@@ -31,6 +31,11 @@ isBefore stop b = not (eqb b stop)
 -- any byte but the comment byte and those of a terminator: what the content of a line is made of
 unfoldable pub isContent : ℕ → ℕ → Bool
 isContent comment b = both (isBefore comment b) (both (isBefore lineFeed b) (isBefore carriageReturn b))
+
+-- Surely content by two comparisons, where `isContent` takes three: no byte below 14 passes, so the terminators do not, and a TAB does not
+-- either. It says less than `isContent`, but eight bytes are tested by it at once, and what it leaves is looked at byte by byte.
+unfoldable pub isSure : ℕ → ℕ → Bool
+isSure comment b = both (leb 14 b) (isBefore comment b)
 
 abbrev pub inClass : Class → ℕ → Bool
 inClass Blank = isBlank

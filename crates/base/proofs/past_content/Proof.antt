@@ -1,4 +1,4 @@
--- `base::past_content` meets its contract: nothing there, or by fours and then byte by byte.
+-- `base::past_content` meets its contract: nothing there, or by eights and then byte by byte.
 -- Assumes nothing.
 use mathlib.Core.Path.{refl}
 use native.Mathlib.Omega.{arith}
@@ -19,8 +19,8 @@ is-content-requires c κs = search needs
 returns-2 : tie.Need-returns-2
 returns-2 c = tested-stop _ _ _ _ _ refl (omega arith) (c .before .is-content .ensures) (c .if2 .taken)
 
-past-fours-requires : tie.Need-past-fours-requires
-past-fours-requires c κs = search needs
+past-eights-requires : tie.Need-past-eights-requires
+past-eights-requires c κs = search needs
 
 past-rest-requires : tie.Need-past-rest-requires
 past-rest-requires c κs = search needs
@@ -36,6 +36,6 @@ past-content-spec =
     shared-slice-read-is-content
     is-content-requires
     returns-2
-    past-fours-requires
+    past-eights-requires
     past-rest-requires
     returns-3)

@@ -1,16 +1,16 @@
--- `base::past_fours` meets its contract. The loop's invariant: from the place it has come to the run ends where it ends from the start.
+-- `base::past_eights` meets its contract. The loop's invariant: from the place it has come to the run ends where it ends from the start.
 -- Assumes nothing.
 use borrow.Author.Needs.{needs}
 use mathlib.Core.Path.{_≡_, refl}
 use Prim.Native.Nat.{_-_, _+_, _≤_}
 use lib.ListN.{length}
 use Rattle.base.specs.Class.{isContent, runEnd}
-use Rattle.base.proofs.RunLaws.{block-on}
-use Rattle.base.proofs.past_fours.Statement.{statement}
-use Rattle.base.proofs.past_fours.Tie as tie
+use Rattle.base.proofs.ContentLaws.{sure-on}
+use Rattle.base.proofs.past_eights.Statement.{statement}
+use Rattle.base.proofs.past_eights.Tie as tie
 
 abbrev Inv-loop : tie.InvT-loop
-Inv-loop comment s from last i₀ i = (from ≤ i) × (last + 4 ≡ length s) × (runEnd (isContent comment) s i ≡ runEnd (isContent comment) s from)
+Inv-loop comment s from last i₀ i = (from ≤ i) × (last + 8 ≡ length s) × (runEnd (isContent comment) s i ≡ runEnd (isContent comment) s from)
 
 abbrev μ-loop : tie.MeasureT-loop
 μ-loop comment s from last i₀ i = length s - i
@@ -24,8 +24,8 @@ sub-last c = search needs
 loop-holds : tie.Need-loop-holds Inv-loop μ-loop
 loop-holds c = search needs
 
-are-content-requires : tie.Need-are-content-requires Inv-loop μ-loop
-are-content-requires c κs = search needs
+are-sure-requires : tie.Need-are-sure-requires Inv-loop μ-loop
+are-sure-requires c κs = search needs
 
 returns-2 : tie.Need-returns-2 Inv-loop μ-loop
 returns-2 c = search needs
@@ -37,13 +37,13 @@ loop-less : tie.Need-loop-less Inv-loop μ-loop
 loop-less c = search needs
 
 loop-again : tie.Need-loop-again Inv-loop μ-loop
-loop-again c = (search needs, search needs, search block-on)
+loop-again c = (search needs, search needs, search sure-on)
 
 returns-3 : tie.Need-returns-3 Inv-loop μ-loop
 returns-3 c = search needs
 
-pub past-fours-spec : {M : Type 1} → statement M
-past-fours-spec =
+pub past-eights-spec : {M : Type 1} → statement M
+past-eights-spec =
     tie.close
     (tie.spec
     Inv-loop
@@ -51,7 +51,7 @@ past-fours-spec =
     returns
     sub-last
     loop-holds
-    are-content-requires
+    are-sure-requires
     returns-2
     add-i
     loop-less
