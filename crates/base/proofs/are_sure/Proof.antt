@@ -1,7 +1,7 @@
 -- `base::are_sure` meets its contract. The loop's invariant: what it has found and the bytes that are left give the whole.
 -- Assumes nothing.
 use borrow.Author.Needs.{needs}
-use mathlib.Core.Path.{_≡_, refl}
+use mathlib.Core.Path.{_≡_}
 use Prim.Native.Nat.{_+_, _-_, _≤_}
 use lib.ListN.{take, drop}
 use Rattle.base.specs.If.{both}

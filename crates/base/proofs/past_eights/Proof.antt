@@ -1,7 +1,7 @@
 -- `base::past_eights` meets its contract. The loop's invariant: from the place it has come to the run ends where it ends from the start.
 -- Assumes nothing.
 use borrow.Author.Needs.{needs}
-use mathlib.Core.Path.{_≡_, refl}
+use mathlib.Core.Path.{_≡_}
 use Prim.Native.Nat.{_-_, _+_, _≤_}
 use lib.ListN.{length}
 use Rattle.base.specs.Class.{isContent, runEnd}
