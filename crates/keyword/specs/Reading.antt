@@ -1,10 +1,11 @@
 -- What the parts of the bracket reader answer, each in the words of the bracket's definition.
 -- Assumes nothing.
 use Prim.Native.Nat.{ℕ, _+_}
+use Prim.Native.Char.{code}
 use mathlib.Core.Bool.{Bool, not}
 use mathlib.Core.List.{List}
 use lib.ListN.{length, getD}
-use lib.Dec.{leb, ltb}
+use lib.Dec.{leb, ltb, eqb}
 use Rattle.base.specs.If.{if_then_else_, both, either}
 use Rattle.base.specs.Bytes.{isBlank}
 use Rattle.base.specs.Runs.{run}
@@ -28,3 +29,10 @@ closesAt content end = both (ltb end (length content)) (either (leb (length cont
 -- what a closed bracket of this name says
 unfoldable pub saysName : List ℕ → ℕ → Bracket
 saysName name argument = if not (isGoodName name) then Bad else namedAs (keyOf name) argument
+
+-- `Row]` stands after the first byte, and what follows it is right
+unfoldable pub isRow : List ℕ → Bool
+isRow content =
+    both (eqb (getD content 1 0) (code "R"))
+    (both (eqb (getD content 2 0) (code "o"))
+    (both (eqb (getD content 3 0) (code "w")) (both (eqb (getD content 4 0) (code "]")) (closesAt content 4))))

@@ -9,7 +9,7 @@ ghost use Rattle.base.specs.Class.{runEnd};
 ghost use Rattle.base.specs.Runs.{all};
 ghost use Rattle.keyword.specs.Names.{folded, names, sameName, keyOf, isLater};
 ghost use Rattle.keyword.specs.Lookup.{letters, startOf, firstOf, standsAt};
-ghost use Rattle.keyword.specs.Reading.{isWordByte, closesAt, saysName};
+ghost use Rattle.keyword.specs.Reading.{isWordByte, closesAt, saysName, isRow};
 ghost use Rattle.keyword.specs.Bracket.{isPlainByte, parted, isHyphenWord, isGoodWord, areGoodWords, isGoodName, namedAs, bracketOf};
 
 pub enum Bracket {
@@ -477,11 +477,36 @@ fn closes_at(content: &[u8], end: usize) -> bool
     base::in_class(Class::Blank, content[next])
 }
 
-// What a bracket in column 1 says.
+// Whether a bracket in column 1 is that of the most frequent keyword, written as it mostly is: `Row]` after its first byte, and closed there.
+fn is_row(content: &[u8]) -> bool
+    ensures { λ r. ⌜ r ≡ isRow (now (content .entry)) ⌝ }
+{
+    if content.len() <= 4 {
+        return false;
+    }
+    if content[1] != b'R' {
+        return false;
+    }
+    if content[2] != b'o' {
+        return false;
+    }
+    if content[3] != b'w' {
+        return false;
+    }
+    if content[4] != b']' {
+        return false;
+    }
+    closes_at(content, 4)
+}
+
+// What a bracket in column 1 says. Most are a row's, which needs no search.
 fn opened_bracket(content: &[u8]) -> Bracket
     requires { ⌜ (0 ≡ runEnd isBlank (now content) 0) × (91 ≡ getD (now content) 0 0) ⌝ }
     ensures { λ r. ⌜ r ≡ bracketOf (now (content .entry)) ⌝ }
 {
+    if is_row(content) {
+        return Bracket::Keyword(ROW, base::past_blanks(content, 5));
+    }
     let end = base::skip(Class::Before(b']'), content, 1);
     if !closes_at(content, end) {
         return Bracket::Bad;

@@ -2,9 +2,19 @@
 -- Assumes nothing.
 use native.Mathlib.Omega.{arith}
 use Rattle.keyword.proofs.BracketLaws.{closes-before, closes-within, reads-bad, reads-name}
+use Rattle.keyword.proofs.RowLaws.{reads-row}
 use borrow.Author.Needs.{needs}
 use Rattle.keyword.proofs.opened_bracket.Statement.{statement}
 use Rattle.keyword.proofs.opened_bracket.Tie as tie
+
+is-row-requires : tie.Need-is-row-requires
+is-row-requires c κs = search needs
+
+past-blanks-requires : tie.Need-past-blanks-requires
+past-blanks-requires c κs = search needs
+
+returns : tie.Need-returns
+returns c = search reads-row
 
 skip-requires : tie.Need-skip-requires
 skip-requires c κs = search needs
@@ -12,14 +22,14 @@ skip-requires c κs = search needs
 closes-at-requires : tie.Need-closes-at-requires
 closes-at-requires c κs = search needs
 
-returns : tie.Need-returns
-returns c = search (needs, reads-bad)
+returns-2 : tie.Need-returns-2
+returns-2 c = search (needs, reads-bad)
 
 add-past-blanks : tie.Need-add-past-blanks
-add-past-blanks c = omega (arith, closes-before _ _ _ (c .before .closes-at .ensures) (c .if1 .left))
+add-past-blanks c = omega (arith, closes-before _ _ _ (c .before .closes-at .ensures) (c .if2 .left))
 
-past-blanks-requires : tie.Need-past-blanks-requires
-past-blanks-requires c κs = search needs
+past-blanks-requires-2 : tie.Need-past-blanks-requires-2
+past-blanks-requires-2 c κs = search needs
 
 sub-says-name : tie.Need-sub-says-name
 sub-says-name c = search needs
@@ -33,20 +43,23 @@ part-says-name-end c = search closes-within
 says-name-requires : tie.Need-says-name-requires
 says-name-requires c κs = search needs
 
-returns-2 : tie.Need-returns-2
-returns-2 c = search (needs, reads-name)
+returns-3 : tie.Need-returns-3
+returns-3 c = search (needs, reads-name)
 
 pub opened-bracket-spec : {M : Type 1} → statement M
 opened-bracket-spec =
     tie.close
     (tie.spec
+    is-row-requires
+    past-blanks-requires
+    returns
     skip-requires
     closes-at-requires
-    returns
+    returns-2
     add-past-blanks
-    past-blanks-requires
+    past-blanks-requires-2
     sub-says-name
     part-says-name-start
     part-says-name-end
     says-name-requires
-    returns-2)
+    returns-3)
