@@ -18,7 +18,7 @@ use Rattle.base.specs.Runs.{run, all}
 use Rattle.base.specs.Class.{isPrinted, isBefore, runEnd}
 use Rattle.base.specs.Broken.{_when_, first, firstBroken}
 use Rattle.base.proofs.IfLaws.{if-true, if-false, by-test, by-cases, both-true, both-not-left, both-not-right, both-rest, both-first, both-second, not-via, not-not-via}
-use Rattle.base.proofs.RunLaws.{run-nil, run-goes, run-stops, run-le, run-all, run-end, run-is, run-wider, run-take, all-nil, all-cons, all-run, run-whole, run-short, all-take, run-append}
+use Rattle.base.proofs.RunLaws.{run-stop, run-nil, run-goes, run-stops, run-le, run-all, run-end, run-is, run-wider, run-take, all-nil, all-cons, all-run, run-whole, run-short, all-take, run-append}
 use Rattle.base.proofs.BrokenLaws.{first-broken, first-kept, firsts}
 use Rattle.text.specs.Lines.{Raw, lines, lineAt}
 use Rattle.text.specs.declared.Checked.{Checked}
@@ -389,6 +389,14 @@ module _ (t : List ℕ) (at stop terminator : ℕ) (h : at < length t) (run-is-s
         let c : length (characters (firstOf lineOf)) ≡ stopOf lineOf = right e .count in
         let w : 0 < terminator = omega arith in
         judges t at h 0 (stop + terminator) (rule-none (firstOf lineOf) (right e .good) (omega arith) (right e .ended ∙ lt-ltb _ _ w)) (λ (z : 0 ≡ 0). next-right e) right-within
+
+-- an empty line
+pub line-empty : (t : List ℕ) (at b : ℕ) → at < length t → b ≡ getD t at 0 → b ≡ 10 → Judges t at 0 (at + 1)
+unfolding isPrinted either within both
+line-empty t at b h told e =
+    let stops : isPrinted (getD t at 0) ≡ false = ap isPrinted (sym told ∙ e) in
+    let k : run isPrinted (drop at t) ≡ 0 = run-stop isPrinted t at h stops in
+    line-fine t at at 1 h (omega arith) (terminator-feed t at b told e) (λ (z : 1 ≡ 0). omega arith) (omega arith)
 
 -- ---- the loop over the lines
 

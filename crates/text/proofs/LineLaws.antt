@@ -9,13 +9,13 @@ use native.Mathlib.Omega.{arith}
 use lib.ListN.{length, take, drop, getD, length-drop, drop-of-length-le}
 use lib.Seq.{drop-drop, take-take}
 use lib.Dec.{ltb, eqb, leb·suc-suc}
-use borrow.Author.Tests.{lt-ltb, le-ltb, ltb-true, ltb-false}
+use borrow.Author.Tests.{ne-eqb, lt-ltb, le-ltb, ltb-true, ltb-false}
 use Rattle.base.specs.If.{if_then_else_, both}
 use Rattle.base.specs.Bytes.{lineFeed}
 use Rattle.base.specs.Runs.{run}
 use Rattle.base.specs.Class.{isBefore, isContent, runEnd}
 use Rattle.base.proofs.IfLaws.{if-true, if-false, by-cases, both-first, both-second, not-via, not-not-via}
-use Rattle.base.proofs.RunLaws.{run-nil, run-goes, run-stops, run-stop, run-past, run-le, run-through, run-wider, run-take}
+use Rattle.base.proofs.RunLaws.{run-nil, run-goes, run-stops, run-on, run-stop, run-past, run-le, run-through, run-wider, run-take}
 use Rattle.text.specs.Lines.{Raw, pushed, lines, contentOf, pastFeed, lineAt}
 use Rattle.text.specs.declared.Line.{Line}
 
@@ -37,6 +37,21 @@ unfolding isBefore
 feed-here t from b told e =
     let stops : isBefore lineFeed (getD t from 0) ≡ false = ap (isBefore lineFeed) (sym told ∙ e) in
     let k : run (isBefore lineFeed) (drop from t) ≡ 0 = by-cases _ (ltb from (length t)) (λ (h : ltb from (length t) ≡ true). run-stop (isBefore lineFeed) t from (ltb-true _ _ h) stops) (λ (h : ltb from (length t) ≡ false). run-past (isBefore lineFeed) t from (ltb-false _ _ h)) in
+    omega arith
+
+-- nor past the end
+pub feed-ended : (t : List ℕ) (from : ℕ) → length t ≤ from → from ≡ runEnd (isBefore lineFeed) t from
+feed-ended t from h =
+    let k : run (isBefore lineFeed) (drop from t) ≡ 0 = run-past (isBefore lineFeed) t from h in
+    omega arith
+
+-- one byte further on
+pub feed-next : (t : List ℕ) (from a b : ℕ) → from < length t → a ≡ getD t from 0 → (a ≡ 10 → ⊥) → b ≡ getD t (from + 1) 0 → b ≡ 10 → from + 1 ≡ runEnd (isBefore lineFeed) t from
+unfolding isBefore
+feed-next t from a b h told other next e =
+    let goes : isBefore lineFeed (getD t from 0) ≡ true = not-via (ne-eqb _ _ (λ (z : getD t from 0 ≡ lineFeed). other (told ∙ z))) in
+    let r : run (isBefore lineFeed) (drop from t) ≡ suc (run (isBefore lineFeed) (drop (from + 1) t)) = run-on (isBefore lineFeed) t from h goes in
+    let s : from + 1 ≡ runEnd (isBefore lineFeed) t (from + 1) = feed-here t (from + 1) b next e in
     omega arith
 
 -- the LF of a line is the same whether it is looked for from the line's start or from the end of its content

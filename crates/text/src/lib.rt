@@ -46,12 +46,19 @@ pub enum Checked {
     Refused(u64, u64),
 }
 
-// Where the first LF from a place on stands, or the end where there is none. Most lines have no comment: then it stands right here.
+// Where the first LF from a place on stands, or the end where there is none. Most lines have no comment: then it stands right here, or
+// behind a comment that says nothing.
 fn feed_from(text: &[u8], from: usize) -> usize
     ensures { λ r. ⌜ r ≡ runEnd (isBefore 10) (now (text .entry)) from ⌝ }
 {
-    if base::byte_at(text, from) == LINE_FEED {
+    if text.len() <= from {
         return from;
+    }
+    if text[from] == LINE_FEED {
+        return from;
+    }
+    if base::byte_at(text, from + 1) == LINE_FEED {
+        return from + 1;
     }
     base::skip_far(Class::Before(LINE_FEED), text, from)
 }
@@ -143,16 +150,22 @@ fn same_blocks(a: &[u8], b: &[u8]) -> usize
     i
 }
 
-// Whether the last bytes of two words of one length differ: names that are made by a count differ there.
+// Whether two words of one length differ in one of their last three bytes: names that are made by a count do.
 fn has_other_end(a: &[u8], b: &[u8]) -> bool
     requires { ⌜ length (now a) ≡ length (now b) ⌝ }
     ensures { λ r. ⌜ (r ≡ true → same (now (a .entry)) (now (b .entry)) ≡ false) ⌝ }
 {
-    if a.len() == 0 {
+    if a.len() < 3 {
         return false;
     }
     let last = a.len() - 1;
-    a[last] != b[last]
+    if a[last] != b[last] {
+        return true;
+    }
+    if a[last - 1] != b[last - 1] {
+        return true;
+    }
+    a[last - 2] != b[last - 2]
 }
 
 // Whether two words have the same bytes.
@@ -200,11 +213,17 @@ struct LineCheck {
 }
 
 // The characters of a line are a run of bytes that a line may hold. Where they stop at no terminator a bad byte stands, and rule 2
-// is the lowest: nothing after it needs to be looked at.
+// is the lowest: nothing after it needs to be looked at. Nor is anything in an empty line.
 fn line_check(text: &[u8], at: usize) -> LineCheck
     requires { ⌜ at < length (now text) ⌝ }
     ensures { λ r. ⌜ Judges (now (text .entry)) at (r .number) (r .next) ⌝ }
 {
+    if text[at] == LINE_FEED {
+        return LineCheck {
+            number: 0,
+            next: at + 1,
+        };
+    }
     let stop = base::skip_far(Class::Printed, text, at);
     let terminator = terminator_at(text, stop);
     let next = stop + terminator;
