@@ -20,3 +20,4 @@ pub mod RecordLaws
 pub mod StandsLaws
 pub mod OrderLaws
 pub mod NamedLaws
+pub mod PlainLaws

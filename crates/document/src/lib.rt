@@ -2,15 +2,22 @@
 ghost use mathlib.Core.Path.{_≡_};
 ghost use Prim.Native.Nat.{_+_, _≤_};
 ghost use lib.ListN.{length};
+ghost use Rattle.base.specs.Class.{isBefore, runEnd};
+ghost use Rattle.text.specs.Lines.{pastFeed};
 ghost use Rattle.text.specs.Words.{wordsFrom};
 ghost use Rattle.block.specs.Kept.{mostLines};
 ghost use Rattle.document.specs.Lines.{keyIn, argumentIn, firstWord, secondWord, placeAfter, argumentOf};
-ghost use Rattle.document.specs.Found.{markOf, markAt, Finds, Located, contentIn, lineIn};
+ghost use Rattle.document.specs.Found.{markOf, markAt, Finds, Located, contentIn, lineIn, PassesPlain, Meets};
 use keyword::Bracket;
 use text::Span;
 
 // "From `|` on, a line is comment".
 const COMMENT: u8 = b'|';
+
+// What a keyword opens with, and what a line ends with.
+const OPEN: u8 = b'[';
+
+const LINE_FEED: u8 = 10;
 
 // What stands for the keyword of a line that has none.
 pub const PLAIN: u64 = 41;
@@ -24,6 +31,12 @@ pub struct Found {
     pub next: usize,
     pub key: u64,
     pub argument: usize,
+}
+
+// Where lines have been gone past: where the next one starts, and its number.
+pub struct Passed {
+    pub at: usize,
+    pub number: u64,
 }
 
 // A word of the text: where it starts, and how many bytes it has.
@@ -94,6 +107,55 @@ pub fn next_line(text: &[u8], at: usize, number: u64) -> Found
         key: PLAIN,
         argument: 0,
     }
+}
+
+// Where the line behind the one at a byte starts. What the line says is not looked at.
+fn past_line(text: &[u8], at: usize) -> usize
+    ensures { λ r. ⌜ r ≡ pastFeed (now (text .entry)) (runEnd (isBefore 10) (now (text .entry)) at) ⌝ }
+{
+    let mut i = at;
+    while i < text.len() {
+        if text[i] == LINE_FEED {
+            return i + 1;
+        }
+        i += 1;
+    }
+    i
+}
+
+// Past the lines from a byte on that do not start with `[`: none of them has a keyword. A bracket behind blanks is none either.
+pub fn past_plain(text: &[u8], at: usize, number: u64) -> Passed
+    requires { ⌜ (at ≤ length (now text)) × (number ≤ at + 1) ⌝ }
+    ensures { λ r. ⌜ PassesPlain (now (text .entry)) number at r ⌝ }
+{
+    let mut here = at;
+    let mut count = number;
+    while here < text.len() {
+        if text[here] == OPEN {
+            return Passed {
+                at: here,
+                number: count,
+            };
+        }
+        here = past_line(text, here);
+        count += 1;
+    }
+    Passed {
+        at: here,
+        number: count,
+    }
+}
+
+// The next line where keywords alone are looked for. In the head of a map a line without one leads on too, so none is gone past there.
+pub fn next_keyed(text: &[u8], at: usize, number: u64, place: u64) -> Found
+    requires { ⌜ (at ≤ length (now text)) × (number ≤ at + 1) ⌝ }
+    ensures { λ r. ⌜ Meets (now (text .entry)) number at place r ⌝ }
+{
+    if place == place::MAP_HEAD {
+        return next_line(text, at, number);
+    }
+    let passed = past_plain(text, at, number);
+    next_line(text, passed.at, passed.number)
 }
 
 // Where a line leads from a place. Without a keyword it leads on only in the head of a map: elsewhere its words are not looked at.
