@@ -14,17 +14,19 @@ use Rattle.base.specs.If.{if_then_else_}
 use Rattle.base.specs.Bytes.{lineFeed, isBlank}
 use Rattle.base.specs.Runs.{run}
 use Rattle.base.specs.Class.{isBefore, runEnd}
-use Rattle.base.proofs.IfLaws.{by-cases, if-true, if-false, not-via, not-not-via}
+use Rattle.base.proofs.IfLaws.{by-cases, if-true, if-false, both-not-right, not-via, not-not-via}
 use Rattle.base.proofs.RunLaws.{reach-on, reach-stop, reach-past}
 use Rattle.text.specs.Lines.{isBlankLine, pastFeed, lineAt}
 use Rattle.text.specs.declared.Line as text
 use Rattle.text.specs.Words.{words, firstOf}
 use Rattle.place.specs.Place.{movedByLine, mapHead}
+use Rattle.keyword.specs.Names.{icmPinMap, beginIcmModel, beginIcmSection}
 use Rattle.keyword.specs.Bracket.{isOpen, bracketOf}
 use Rattle.keyword.specs.declared.Bracket.{Bracket}
 use Rattle.keyword.specs.declared.Bracket.the-variants.{Plain, Indented}
 use Rattle.reading.specs.Reading.{commentByte}
 use Rattle.document.specs.Lines.{Line, plain, linesAt, placeAfter, keyIn, keyAt, keyOf}
+use Rattle.document.specs.Document.{opensMap, mapAt, opensModel, modelAt, opensSection, sectionAt}
 use Rattle.document.specs.Holds.{Each}
 use Rattle.document.specs.Holds.Each.{none, more}
 use Rattle.document.specs.Found.{lineIn, linesBehind, Finds, Plainly, PassesPlain, Meets}
@@ -85,6 +87,24 @@ plain-content content h =
 plain-stays : (p : ℕ) (content : List ℕ) → keyAt content ≡ plain → (p ≡ mapHead → ⊥) → placeAfter p content ≡ p
 unfolding placeAfter movedByLine
 plain-stays p content k h = if-true _ _ (eq-eqb _ _ k) ∙ if-false _ _ (ne-eqb p mapHead h)
+
+-- ---- a line without a keyword opens nothing
+
+module _ (l : Line) (ls : List Line) (h : keyOf l ≡ plain) where
+  no-key : (k : ℕ) → (k ≡ plain → ⊥) → eqb (keyOf l) k ≡ false
+  no-key k other = ne-eqb _ _ (λ (e : keyOf l ≡ k). other (sym e ∙ h))
+
+  pub plain-map : mapAt l ls ≡ []
+  unfolding mapAt opensMap
+  plain-map = if-false _ _ (both-not-right _ _ (no-key icmPinMap (λ (e : 14 ≡ 41). omega arith)))
+
+  pub plain-model : modelAt l ls ≡ []
+  unfolding modelAt opensModel
+  plain-model = if-false _ _ (both-not-right _ _ (no-key beginIcmModel (λ (e : 23 ≡ 41). omega arith)))
+
+  pub plain-section : sectionAt l ls ≡ []
+  unfolding sectionAt opensSection
+  plain-section = if-false _ _ (both-not-right _ _ (no-key beginIcmSection (λ (e : 30 ≡ 41). omega arith)))
 
 -- ---- some lines, and then the rest
 

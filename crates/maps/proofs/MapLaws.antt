@@ -21,6 +21,7 @@ use Rattle.document.specs.Records.{mapRecord}
 use Rattle.document.specs.Found.{markOf, lineIn, Located}
 use Rattle.document.specs.declared.Found.{Found}
 use Rattle.document.specs.declared.Mark.{Mark}
+use Rattle.document.proofs.PlainLaws.{plain-map}
 use Rattle.storing.specs.Writes.{pinWrite, mapWrite, mapWrites, mapsWrites}
 use Rattle.storing.specs.Stores.{Stores, Placed}
 use Rattle.maps.specs.Maps.{mapLines, pinWrites, ReadsMap, mapBelow, FillsMap, mapsOf}
@@ -124,4 +125,4 @@ maps-split f (m ∷ ms) ns seven =
     maps-next f m ms ns c (maps-split (fillingAfter (mapWrites (getD (f .counts) 3 0) m) f) ms ns k)
 
 pub maps-storable : Storable mapAt mapsOf
-maps-storable = record { none = maps-none; split = maps-split }
+maps-storable = record { quiet = plain-map; none = maps-none; split = maps-split }

@@ -18,13 +18,14 @@ use Rattle.table.specs.Filling.{Write, Fits}
 use Rattle.table.specs.declared.Filling.{Filling}
 use Rattle.document.specs.Lines.{Line, plain, keyAt, keyOf, placeAfter, linesAt, significant, gather, upTo, argumentOf}
 use Rattle.document.specs.Document.{Map, inMap, opensMap, mapOf, mapAt, opensSection, sectionAt, documentOf, documentIn}
-use Rattle.document.specs.Found.{contentIn, lineIn, linesBehind, Located, Finds}
+use Rattle.document.specs.Found.{contentIn, lineIn, linesBehind, Located, Meets}
 use Rattle.document.specs.declared.Found.{Found}
+use Rattle.document.proofs.PlainLaws.{plain-map, plain-section}
 use Rattle.storing.specs.Writes.{mapWrites, mapsWrites}
 use Rattle.storing.specs.Stores.{Stores, Placed, Passes, Ready}
 use Rattle.storing.specs.declared.Walk.{Walk}
 use Rattle.storing.proofs.StoreLaws.{stores-none}
-use Rattle.storing.proofs.LineLaws.{gather-quiet, quiet}
+use Rattle.storing.proofs.LineLaws.{gather-quiet, quiet, plainly-quiet}
 use Rattle.storing.proofs.LateLaws.{late-quiet, late-map}
 use Rattle.storing.proofs.BlockLaws.{BlocksLeft, blocks-start, blocks-done, blocks-end, block-fits, blocks-on, blocks-less}
 use Rattle.maps.specs.Maps.{mapLines, mapBelow, FillsMap, mapsOf, PassesMap, FillsMaps}
@@ -51,16 +52,10 @@ leads-in p h =
 
 -- lines of a map open neither a map nor a section
 map-quiet : (l : Line) (ls : List Line) → inMap l ≡ true → mapAt l ls ≡ []
-unfolding mapAt opensMap
-map-quiet l ls h =
-    let k : keyOf l ≡ plain = eqb-true _ _ (map-plain l h) in
-    if-false _ _ (both-not-right _ _ (ne-eqb _ _ (λ (e : keyOf l ≡ icmPinMap). let z : _≡_ {A = ℕ} 41 14 = sym k ∙ e in omega arith)))
+map-quiet l ls h = plain-map l ls (eqb-true _ _ (map-plain l h))
 
 section-quiet : (l : Line) (ls : List Line) → inMap l ≡ true → sectionAt l ls ≡ []
-unfolding sectionAt opensSection
-section-quiet l ls h =
-    let k : keyOf l ≡ plain = eqb-true _ _ (map-plain l h) in
-    if-false _ _ (both-not-right _ _ (ne-eqb _ _ (λ (e : keyOf l ≡ beginIcmSection). let z : _≡_ {A = ℕ} 41 30 = sym k ∙ e in omega arith)))
+section-quiet l ls h = plain-section l ls (eqb-true _ _ (map-plain l h))
 
 no-section : (l : Line) (ls : List Line) → (l .place ≡ place.after → ⊥) → sectionAt l ls ≡ []
 unfolding sectionAt opensSection
@@ -179,11 +174,11 @@ module _ (t : List ℕ) (f₀ : Filling) (table₀ : List ℕ) (w : Walk) (table
   pub family-long : length table ≡ length table₀
   family-long = family .left .pending .long
 
-  module _ (line : Found) (finds : Finds t (w .number) (w .at) line) where
+  module _ (line : Found) (meets : Meets t (w .number) (w .at) (w .place) line) where
     pub family-ends : not (line .there) ≡ true → FillsMaps t f₀ table₀ w table
     family-ends h =
         record {
-          maps = blocks-end mapAt mapsOf maps-storable (length table₀) t f₀ table₀ (documentOf t .maps) w table (family .left) line finds h;
+          maps = blocks-end mapAt mapsOf maps-storable (length table₀) t f₀ table₀ (documentOf t .maps) w table (family .left) line meets h;
           sections = family .sections;
           placed = family .left .placed;
         }
@@ -192,9 +187,9 @@ module _ (t : List ℕ) (f₀ : Filling) (table₀ : List ℕ) (w : Walk) (table
       pub family-ready : (w .place ≡ place.after → ⊥) → Ready mapAt mapsOf t line w table × (w .place ≡ place.after → ⊥)
       family-ready h = (
         record {
-          located = finds .located (not-false (line .there) there);
+          located = meets .located (not-false (line .there) there);
           seven = family .left .seven;
-          fits = rw family-long (block-fits mapAt mapsOf maps-storable (length table₀) t f₀ table₀ (documentOf t .maps) w table (family .left) line finds there);
+          fits = rw family-long (block-fits mapAt mapsOf maps-storable (length table₀) t f₀ table₀ (documentOf t .maps) w table (family .left) line meets there);
         },
         h,
       )
@@ -203,9 +198,9 @@ module _ (t : List ℕ) (f₀ : Filling) (table₀ : List ℕ) (w : Walk) (table
         pub family-on : FamilyLeft t f₀ table₀ v table'
         family-on =
             record {
-              left = blocks-on mapAt mapsOf maps-storable (length table₀) t f₀ table₀ (documentOf t .maps) w table (family .left) line finds there v table' (passes .passes);
-              sections = family .sections ∙ ap (gather sectionAt) (finds .same-there (not-false (line .there) there) (w .place)) ∙ passes .sections;
+              left = blocks-on mapAt mapsOf maps-storable (length table₀) t f₀ table₀ (documentOf t .maps) w table (family .left) line meets there v table' (passes .passes);
+              sections = family .sections ∙ plainly-quiet sectionAt plain-section _ _ (meets .same-there (not-false (line .there) there)) ∙ passes .sections;
             }
 
         pub family-less : length t - v .at < length t - w .at
-        family-less = blocks-less mapAt mapsOf maps-storable (length table₀) t f₀ table₀ (documentOf t .maps) w table (family .left) line finds there v table' (passes .passes)
+        family-less = blocks-less mapAt mapsOf maps-storable (length table₀) t f₀ table₀ (documentOf t .maps) w table (family .left) line meets there v table' (passes .passes)

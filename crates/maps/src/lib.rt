@@ -174,7 +174,7 @@ pub fn fill_maps(text: &[u8], table: &mut [u64], filling: Filling) -> Walk
         if walk.place == place::AFTER {
             return walk;
         }
-        let line = document::next_line(text, walk.at, walk.number);
+        let line = document::next_keyed(text, walk.at, walk.number, walk.place);
         if !line.there {
             return walk;
         }

@@ -20,6 +20,7 @@ use Rattle.document.specs.Found.{markOf, lineIn}
 use Rattle.document.specs.declared.Found.{Found}
 use Rattle.document.specs.declared.Mark.{Mark}
 use Rattle.steps.specs.Steps.{lowOf}
+use Rattle.document.proofs.PlainLaws.{plain-model}
 use Rattle.storing.specs.Writes.{modelWrite, modelWrites, modelsWrites}
 use Rattle.storing.proofs.StoreLaws.{put-asked, put-stored, stores-join, counts-kept}
 use Rattle.storing.proofs.WriteLaws.{steps-stored, steps-counted}
@@ -126,4 +127,4 @@ module _ (t : List ℕ) where
       (models-split (after f m) ms ns (counts-kept (modelIn t f m) f ∙ seven))
 
   pub models-storable : Storable modelAt (modelsOf t)
-  models-storable = record { none = models-none; split = models-split }
+  models-storable = record { quiet = plain-model; none = models-none; split = models-split }

@@ -19,7 +19,7 @@ use Rattle.table.specs.declared.Filling.{Filling}
 use Rattle.table.proofs.FillingLaws.{fits-wider}
 use Rattle.document.specs.Lines.{Line, plain, keyAt, keyOf, placeAfter, linesAt, significant, gather, argumentOf}
 use Rattle.document.specs.Document.{inModel, opensModel, modelOf, modelAt, documentOf, documentIn}
-use Rattle.document.specs.Found.{contentIn, lineIn, linesBehind, Finds}
+use Rattle.document.specs.Found.{contentIn, lineIn, linesBehind, Plainly, Meets}
 use Rattle.document.specs.declared.Found.{Found}
 use Rattle.steps.specs.Steps.{lowOf, Aims}
 use Rattle.steps.proofs.AimLaws.{bases-kept, low-same, aims-kept}
@@ -224,35 +224,39 @@ module _ (t : List ℕ) (f₀ : Filling) (table₀ : List ℕ) (w : Walk) (table
       low-same f₀ (w .filling)
       (sym (bases-kept _ (w .filling)) ∙ ap (λ (f : Filling). f .bases) (models .left .pending .counts) ∙ bases-kept _ f₀)
 
-  module _ (line : Found) (finds : Finds t (w .number) (w .at) line) where
+  module _ (line : Found) (meets : Meets t (w .number) (w .at) (w .place) line) where
     pub models-end : not (line .there) ≡ true → Stores f₀ table₀ (modelsOf t f₀ (documentOf t .models)) (w .filling) table
     models-end h =
         blocks-end modelAt (modelsOf t) (models-storable t) (lowOf f₀) t f₀ table₀ (documentOf t .models) w table
-        (models .left) line finds h
+        (models .left) line meets h
 
     module _ (there : not (line .there) ≡ false) where
       abbrev first : Line
       first = lineIn t line (w .place)
 
-      lines-left : linesAt t (w .number) (w .at) (w .place) ≡ first ∷ linesBehind t line (w .place)
-      lines-left = finds .same-there (not-false (line .there) there) (w .place)
+      -- the lines without a keyword before it
+      over : Plainly (linesAt t (w .number) (w .at) (w .place)) (first ∷ linesBehind t line (w .place))
+      over = meets .same-there (not-false (line .there) there)
+
+      lines-left : linesAt t (w .number) (w .at) (w .place) ≡ (over .before ++ (first ∷ [])) ++ linesBehind t line (w .place)
+      lines-left = over .all ∙ sym (append-assoc (over .before) (first ∷ []) (linesBehind t line (w .place)))
 
       pub models-ready : ReadyModel t line w table
       models-ready =
           record {
-            located = finds .located (not-false (line .there) there);
+            located = meets .located (not-false (line .there) there);
             seven = models .left .seven;
             last =
                 record {
-                  before = models .last .before ++ (first ∷ []);
+                  before = models .last .before ++ (over .before ++ (first ∷ []));
                   all =
                       models .last .all ∙ ap (λ (ls : List Line). models .last .before ++ ls) lines-left
-                      ∙ sym (append-assoc (models .last .before) (first ∷ []) (linesBehind t line (w .place)));
+                      ∙ sym (append-assoc (models .last .before) (over .before ++ (first ∷ [])) (linesBehind t line (w .place)));
                 };
             aims = models .aims;
             fits =
                 rw low-left (block-fits modelAt (modelsOf t) (models-storable t) (lowOf f₀) t f₀ table₀ (documentOf t .models) w table
-                (models .left) line finds there);
+                (models .left) line meets there);
           }
 
       module _ (v : Walk) (table' : List ℕ) (passes : PassesModel t line w table v table') where
@@ -261,7 +265,7 @@ module _ (t : List ℕ) (f₀ : Filling) (table₀ : List ℕ) (w : Walk) (table
             record {
               left =
                   blocks-on modelAt (modelsOf t) (models-storable t) (lowOf f₀) t f₀ table₀ (documentOf t .models) w table
-                  (models .left) line finds there v table' (passes .passes);
+                  (models .left) line meets there v table' (passes .passes);
               last = passes .last;
               aims =
                   aims-kept t (w .filling) table _
@@ -272,4 +276,4 @@ module _ (t : List ℕ) (f₀ : Filling) (table₀ : List ℕ) (w : Walk) (table
         pub models-less : length t - v .at < length t - w .at
         models-less =
             blocks-less modelAt (modelsOf t) (models-storable t) (lowOf f₀) t f₀ table₀ (documentOf t .models) w table
-            (models .left) line finds there v table' (passes .passes)
+            (models .left) line meets there v table' (passes .passes)

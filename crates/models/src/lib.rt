@@ -239,7 +239,7 @@ pub fn fill_models(text: &[u8], table: &mut [u64], filling: Filling) -> Filling
         if walk.place == place::AFTER {
             return filled;
         }
-        let line = document::next_line(text, walk.at, walk.number);
+        let line = document::next_keyed(text, walk.at, walk.number, walk.place);
         if !line.there {
             return filled;
         }

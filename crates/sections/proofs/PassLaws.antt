@@ -19,9 +19,10 @@ use Rattle.table.specs.declared.Filling.{Filling}
 use Rattle.table.proofs.FillingLaws.{filling-append}
 use Rattle.document.specs.Lines.{Line, keyAt, keyOf, argumentOf, placeAfter, linesAt, gather, upTo}
 use Rattle.document.specs.Document.{Section, inSection, opensSection, sectionOf, sectionAt}
-use Rattle.document.specs.Found.{contentIn, lineIn, linesBehind, Finds}
+use Rattle.document.specs.Found.{contentIn, lineIn, linesBehind, Meets}
 use Rattle.document.specs.declared.Found.{Found}
 use Rattle.document.proofs.PassLaws.{section-blocks}
+use Rattle.document.proofs.PlainLaws.{plain-section}
 use Rattle.storing.specs.Writes.{valuesCount, sectionWrites, sectionsWrites}
 use Rattle.storing.specs.Stores.{Passes, Ready}
 use Rattle.storing.specs.declared.Walk.{Walk}
@@ -70,7 +71,7 @@ sections-split f (s ∷ ss) ts seven =
     ∙ ap (λ (x : List Write). sectionsOf f (s ∷ ss) ++ sectionsOf (fillingAfter x f) ts) (sym (sections-more f s ss seven))
 
 pub sections-storable : Storable sectionAt sectionsOf
-sections-storable = record { none = sections-none; split = sections-split }
+sections-storable = record { quiet = plain-section; none = sections-none; split = sections-split }
 
 -- ---- one line
 
@@ -78,13 +79,13 @@ sections-storable = record { none = sections-none; split = sections-split }
 pub section-ready :
     (t : List ℕ) (f₀ : Filling) (table₀ : List ℕ) (ss : List Section) (w : Walk) (table : List ℕ) →
     BlocksLeft sectionAt sectionsOf (length table₀) t f₀ table₀ ss w table →
-    (line : Found) → Finds t (w .number) (w .at) line → not (line .there) ≡ false → Ready sectionAt sectionsOf t line w table
-section-ready t f₀ table₀ ss w table left line finds there =
+    (line : Found) → Meets t (w .number) (w .at) (w .place) line → not (line .there) ≡ false → Ready sectionAt sectionsOf t line w table
+section-ready t f₀ table₀ ss w table left line meets there =
     record {
-      located = finds .located (not-false (line .there) there);
+      located = meets .located (not-false (line .there) there);
       seven = left .seven;
       fits = rw (left .pending .long)
-          (block-fits sectionAt sectionsOf sections-storable (length table₀) t f₀ table₀ ss w table left line finds there);
+          (block-fits sectionAt sectionsOf sections-storable (length table₀) t f₀ table₀ ss w table left line meets there);
     }
 
 -- what is noted of the matrices behind it stays

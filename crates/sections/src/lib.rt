@@ -286,7 +286,7 @@ pub fn fill_sections(text: &[u8], table: &mut [u64], walk: Walk, notes: &[u64]) 
 {
     let mut next = walk;
     loop {
-        let line = document::next_line(text, next.at, next.number);
+        let line = document::next_keyed(text, next.at, next.number, next.place);
         if !line.there {
             return next.filling;
         }

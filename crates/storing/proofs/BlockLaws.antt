@@ -10,18 +10,19 @@ use borrow.Author.Tests.{not-true, not-false}
 use Rattle.table.specs.Filling.{Write, fillingAfter, Fits}
 use Rattle.table.specs.declared.Filling.{Filling}
 use Rattle.table.proofs.FillingLaws.{fits-first}
-use Rattle.document.specs.Lines.{Line, linesAt, gather}
-use Rattle.document.specs.Found.{lineIn, linesBehind, Located, Finds}
+use Rattle.document.specs.Lines.{Line, plain, keyOf, linesAt, gather}
+use Rattle.document.specs.Found.{lineIn, linesBehind, Located, Meets}
 use Rattle.document.specs.declared.Found.{Found}
 use Rattle.storing.specs.Stores.{Stores, Placed, Passes, Ready}
 use Rattle.storing.specs.declared.Walk.{Walk}
 use Rattle.storing.proofs.StoreLaws.{Pending, pending-start, pending-step, pending-done, pending-same}
-use Rattle.storing.proofs.LineLaws.{gather-none, gather-on}
+use Rattle.storing.proofs.LineLaws.{gather-none, gather-on, plainly-quiet}
 
--- Blocks of a kind, and what is stored of them from where a filling stands: of none nothing, and of some those in front and then, from where
--- these have led, the rest.
+-- Blocks of a kind, which a keyword opens, and what is stored of them from where a filling stands: of none nothing, and of some those in front
+-- and then, from where these have led, the rest.
 module _ {B : Type 0} (block : Line → List Line → List B) (writes : Filling → List B → List Write) where
   pub record Storable : Type 0 where
+    pub quiet : (l : Line) (ls : List Line) → keyOf l ≡ plain → block l ls ≡ []
     pub none : (f : Filling) → writes f [] ≡ []
     pub split : (f : Filling) (bs cs : List B) → length (f .counts) ≡ 7 → writes f (bs ++ cs) ≡ writes f bs ++ writes (fillingAfter (writes f bs) f) cs
 
@@ -46,20 +47,20 @@ module _ {B : Type 0} (block : Line → List Line → List B) (writes : Filling 
         pending-done size f₀ table₀ (writes f₀ bs) (w .filling) table
         (pending-same size f₀ table₀ (writes f₀ bs) (w .filling) table _ [] (ap (writes (w .filling)) e ∙ storable .none (w .filling)) (left .pending))
 
-    module _ (line : Found) (finds : Finds t (w .number) (w .at) line) where
+    module _ (line : Found) (meets : Meets t (w .number) (w .at) (w .place) line) where
       pub blocks-end : not (line .there) ≡ true → Stores f₀ table₀ (writes f₀ bs) (w .filling) table
-      blocks-end h = blocks-done (ap (gather block) (finds .same-none (not-true (line .there) h) (w .place)) ∙ gather-none block)
+      blocks-end h = blocks-done (plainly-quiet block (storable .quiet) _ [] (meets .same-none (not-true (line .there) h)) ∙ gather-none block)
 
       module _ (there : not (line .there) ≡ false) where
         found : Located t line
-        found = finds .located (not-false (line .there) there)
+        found = meets .located (not-false (line .there) there)
 
         abbrev here : List B
         here = block (lineIn t line (w .place)) (linesBehind t line (w .place))
 
         split-here : writes (w .filling) (gather block (linesAt t (w .number) (w .at) (w .place))) ≡ writes (w .filling) here ++ writes (fillingAfter (writes (w .filling) here) (w .filling)) (gather block (linesBehind t line (w .place)))
         split-here =
-            ap (λ (ls : List Line). writes (w .filling) (gather block ls)) (finds .same-there (not-false (line .there) there) (w .place))
+            ap (writes (w .filling)) (plainly-quiet block (storable .quiet) _ _ (meets .same-there (not-false (line .there) there)))
             ∙ ap (writes (w .filling)) (gather-on block (lineIn t line (w .place)) (linesBehind t line (w .place)))
             ∙ storable .split (w .filling) here (gather block (linesBehind t line (w .place))) (left .seven)
 
@@ -83,7 +84,7 @@ module _ {B : Type 0} (block : Line → List Line → List B) (writes : Filling 
           pub blocks-less : length t - v .at < length t - w .at
           blocks-less =
               let a : line .next ≤ v .at = passes .onward in
-              let b : w .at ≤ line .at = finds .behind (not-false (line .there) there) in
+              let b : w .at ≤ line .at = meets .behind (not-false (line .there) there) in
               let c : line .at < line .next = found .further in
               let d : line .next ≤ length t = found .next-within in
               omega arith

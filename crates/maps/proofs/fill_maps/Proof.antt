@@ -22,8 +22,8 @@ same-length c = search family-long
 returns : tie.Need-returns Inv-loop μ-loop
 returns c = search family-after
 
-next-line-requires : tie.Need-next-line-requires Inv-loop μ-loop
-next-line-requires c κs = search needs
+next-keyed-requires : tie.Need-next-keyed-requires Inv-loop μ-loop
+next-keyed-requires c κs = search needs
 
 same-length-2 : tie.Need-same-length-2 Inv-loop μ-loop
 same-length-2 c = search family-long
@@ -32,7 +32,7 @@ returns-2 : tie.Need-returns-2 Inv-loop μ-loop
 returns-2 c = search family-ends
 
 pass-map-requires : tie.Need-pass-map-requires Inv-loop μ-loop
-pass-map-requires c κs = family-ready _ _ _ (c .before .before .before .before .before .before .loop .walk) _ (c .before .before .before .before .before .before .loop .inv) _ (c .before .before .before .next-line .ensures) (c .before .if2 .left) (c .before .before .before .before .if1 .left)
+pass-map-requires c κs = family-ready _ _ _ (c .before .before .before .before .before .before .loop .walk) _ (c .before .before .before .before .before .before .loop .inv) _ (c .before .before .before .next-keyed .ensures) (c .before .if2 .left) (c .before .before .before .before .if1 .left)
 
 loop-less : tie.Need-loop-less Inv-loop μ-loop
 loop-less c = search family-less
@@ -49,7 +49,7 @@ fill-maps-spec =
     loop-holds
     same-length
     returns
-    next-line-requires
+    next-keyed-requires
     same-length-2
     returns-2
     pass-map-requires

@@ -31,8 +31,8 @@ same-length c = search models-long
 returns : tie.Need-returns Inv-loop μ-loop
 returns c = search models-after
 
-next-line-requires : tie.Need-next-line-requires Inv-loop μ-loop
-next-line-requires c κs = search needs
+next-keyed-requires : tie.Need-next-keyed-requires Inv-loop μ-loop
+next-keyed-requires c κs = search needs
 
 same-length-2 : tie.Need-same-length-2 Inv-loop μ-loop
 same-length-2 c = search models-long
@@ -58,7 +58,7 @@ fill-models-spec =
     loop-holds
     same-length
     returns
-    next-line-requires
+    next-keyed-requires
     same-length-2
     returns-2
     pass-model-requires

@@ -27,8 +27,8 @@ loop-holds c = (
   c .before .before .before .pre .3,
 )
 
-next-line-requires : tie.Need-next-line-requires Inv-loop μ-loop
-next-line-requires c κs = search needs
+next-keyed-requires : tie.Need-next-keyed-requires Inv-loop μ-loop
+next-keyed-requires c κs = search needs
 
 same-length : tie.Need-same-length Inv-loop μ-loop
 same-length c = search needs
@@ -36,7 +36,7 @@ same-length c = search needs
 returns : tie.Need-returns Inv-loop μ-loop
 returns c =
     blocks-end sectionAt sectionsOf sections-storable _ _ _ _ _ _ _ (c .before .before .before .before .loop .inv .0) _
-    (c .before .before .before .next-line .ensures) (c .before .if1 .taken)
+    (c .before .before .before .next-keyed .ensures) (c .before .if1 .taken)
 
 pass-section-requires : tie.Need-pass-section-requires Inv-loop μ-loop
 pass-section-requires c κs = search (section-ready, needs)
@@ -45,17 +45,17 @@ loop-less : tie.Need-loop-less Inv-loop μ-loop
 loop-less c =
     blocks-less sectionAt sectionsOf sections-storable _ _ _ _ _ _ _
     (c .before .before .before .before .before .before .before .loop .inv .0) _
-    (c .before .before .before .before .before .before .next-line .ensures) (c .before .before .before .before .if1 .left)
+    (c .before .before .before .before .before .before .next-keyed .ensures) (c .before .before .before .before .if1 .left)
     _ _ (c .before .before .pass-section .ensures)
 
 loop-again : tie.Need-loop-again Inv-loop μ-loop
 loop-again c = (
   blocks-on sectionAt sectionsOf sections-storable _ _ _ _ _ _ _
       (c .before .before .before .before .before .before .before .loop .inv .0) _
-      (c .before .before .before .before .before .before .next-line .ensures) (c .before .before .before .before .if1 .left)
+      (c .before .before .before .before .before .before .next-keyed .ensures) (c .before .before .before .before .if1 .left)
       _ _ (c .before .before .pass-section .ensures),
   section-noted _ _ _ _ _ _ (c .before .before .before .before .before .before .before .loop .inv .0) _
-      (c .before .before .before .before .before .before .next-line .ensures) (c .before .before .before .before .if1 .left)
+      (c .before .before .before .before .before .before .next-keyed .ensures) (c .before .before .before .before .if1 .left)
       _ _ (c .before .before .pass-section .ensures) _ (c .before .before .before .before .before .before .before .loop .inv .1),
 )
 
@@ -66,7 +66,7 @@ fill-sections-spec =
     Inv-loop
     μ-loop
     loop-holds
-    next-line-requires
+    next-keyed-requires
     same-length
     returns
     pass-section-requires
