@@ -92,11 +92,11 @@ section-ready t f₀ table₀ ss w table left line meets there =
 pub section-noted :
     (t : List ℕ) (f₀ : Filling) (table₀ : List ℕ) (ss : List Section) (w : Walk) (table : List ℕ) →
     BlocksLeft sectionAt sectionsOf (length table₀) t f₀ table₀ ss w table →
-    (line : Found) → Finds t (w .number) (w .at) line → not (line .there) ≡ false → (v : Walk) (table' : List ℕ) →
+    (line : Found) → Meets t (w .number) (w .at) (w .place) line → not (line .there) ≡ false → (v : Walk) (table' : List ℕ) →
     Passes sectionAt sectionsOf t line w table v table' → (notes : List ℕ) → NotedOf t table notes (w .filling) →
     NotedOf t table' notes (v .filling)
-section-noted t f₀ table₀ ss w table left line finds there v table' passes notes noted =
-    let ready : Ready sectionAt sectionsOf t line w table = section-ready t f₀ table₀ ss w table left line finds there in
+section-noted t f₀ table₀ ss w table left line meets there v table' passes notes noted =
+    let ready : Ready sectionAt sectionsOf t line w table = section-ready t f₀ table₀ ss w table left line meets there in
     noted-kept t table notes table' (w .filling) (v .filling) _ (passes .stores) (ready .fits) (ready .seven) noted
 
 -- a line that opens a section leads to the section's head
