@@ -40,7 +40,7 @@ use Rattle.storing.specs.Notes.{valuesWords}
 use Rattle.matrices.specs.declared.Cursor.{Cursor}
 use Rattle.matrices.specs.declared.First.{First}
 use Rattle.matrices.specs.Told.{toldOr}
-use Rattle.matrices.specs.Numbers.{rowAfter, nextCursor, Roomy}
+use Rattle.matrices.specs.Numbers.{mostGiven, rowAfter, nextCursor, Roomy}
 use Rattle.matrices.proofs.NumberLaws.{row-on, row-same, row-most, column-told, sparse-value}
 use Rattle.matrices.proofs.BodyLaws.{
   plain-bandwidth,
@@ -54,8 +54,10 @@ use Rattle.matrices.proofs.BodyLaws.{
 use Rattle.noting.specs.declared.Note.{Note}
 use Rattle.noting.specs.declared.Noting.{Noting}
 use Rattle.noting.specs.declared.Judged.{Judged}
-use Rattle.noting.specs.Noting.{Bounded, Adds}
-use Rattle.noting.specs.Steps.{Room, Ready, judgedWith, numbersNoting, pairCursor, pairNoting, NotesLine}
+use Rattle.noting.specs.declared.Numbers.{Numbers}
+use Rattle.noting.specs.declared.Pair.{Pair}
+use Rattle.noting.specs.Noting.{Bounded, Adds, movedTo, namedTo, NotesNumbers, NotesPair}
+use Rattle.noting.specs.Steps.{Room, judgedWith, numbersOf, numbersNoting, pairOf, pairNoting, NotesLine}
 
 -- ---- the words of values, stored one after another
 
@@ -107,42 +109,40 @@ stored-on table values vs ws n e =
 
 -- ---- a line that adds these values, and leads on to where those of the next lines stand
 
-module _ (form : ℕ) (table : List ℕ) (values : ℕ) (a : Note) (table' : List ℕ) (r : Noting) (vs : List Value)
-    (stored : table' ≡ sets table (3 * values) (valuesWords vs)) (many : r .line .numbers ≡ length vs)
-    (told : r .note .bandwidth ≡ a .bandwidth) (bounded : Bounded (r .note) (values + r .line .numbers))
-    (room : 3 * (values + r .line .numbers) ≤ length table) where
+module _ (table : List ℕ) (values : ℕ) (table' : List ℕ) (vs : List Value) (stored : table' ≡ sets table (3 * values) (valuesWords vs)) where
   long-kept : length table' ≡ length table
   long-kept = ap length stored ∙ length-sets table (3 * values) (valuesWords vs)
 
   front-kept : take (3 * values) table' ≡ take (3 * values) table
   front-kept = ap (take (3 * values)) stored ∙ take-sets (3 * values) table (3 * values) (valuesWords vs) (omega arith)
 
-  added : (l : Line) → keyOf l ≡ plain → a .whole ≡ true →
-      ((ls : List Line) → valuesFrom form (a .row) (a .column) (l ∷ ls) ≡ vs ++ valuesFrom form (r .note .row) (r .note .column) ls) →
-      ((ls : List Line) → max (r .note .greatest) (greatestIn form ls) ≡ max (a .greatest) (greatestIn form (l ∷ ls))) →
-      Adds form l table values a table' (values + r .line .numbers) (r .note)
-  added l is-plain whole more greatest =
-      record {
-        whole = whole;
-        image = λ (ls : List Line).
-            ap (λ (t : List ℕ). sets t (3 * (values + r .line .numbers)) (valuesWords (valuesFrom form (r .note .row) (r .note .column) ls))) stored
-            ∙ stored-on table values vs (valuesFrom form (r .note .row) (r .note .column) ls) (r .line .numbers) many
-            ∙ ap (λ (ws : List Value). sets table (3 * values) (valuesWords ws)) (sym (more ls));
-        count = λ (ls : List Line). counted ls;
-        bandwidth = λ (ls : List Line). ap (λ (f : First). toldOr f (bandwidthIn ls)) told
-            ∙ ap (toldOr (a .bandwidth)) (sym (plain-bandwidth form l ls is-plain));
-        greatest = greatest;
-        bounded = bounded;
-        room = λ (h : 3 * values ≤ length table). rw long-kept room;
-      }
-    where
-      counted : (ls : List Line) →
-          values + r .line .numbers + length (valuesFrom form (r .note .row) (r .note .column) ls)
-          ≡ values + length (valuesFrom form (a .row) (a .column) (l ∷ ls))
-      counted ls =
-          let e : length (valuesFrom form (a .row) (a .column) (l ∷ ls)) ≡ length vs + length (valuesFrom form (r .note .row) (r .note .column) ls) =
-          ap length (more ls) ∙ length-append vs (valuesFrom form (r .note .row) (r .note .column) ls) in
-          omega arith
+  module _ (form : ℕ) (a b : Note) (count : ℕ) (many : count ≡ length vs) (told : b .bandwidth ≡ a .bandwidth) (bounded : Bounded b (values + count))
+      (room : 3 * (values + count) ≤ length table) where
+    added : (l : Line) → keyOf l ≡ plain → a .whole ≡ true →
+        ((ls : List Line) → valuesFrom form (a .row) (a .column) (l ∷ ls) ≡ vs ++ valuesFrom form (b .row) (b .column) ls) →
+        ((ls : List Line) → max (b .greatest) (greatestIn form ls) ≡ max (a .greatest) (greatestIn form (l ∷ ls))) →
+        Adds form l table values a table' (values + count) b
+    added l is-plain whole more greatest =
+        record {
+          whole = whole;
+          image = λ (ls : List Line).
+              ap (λ (t : List ℕ). sets t (3 * (values + count)) (valuesWords (valuesFrom form (b .row) (b .column) ls))) stored
+              ∙ stored-on table values vs (valuesFrom form (b .row) (b .column) ls) count many
+              ∙ ap (λ (ws : List Value). sets table (3 * values) (valuesWords ws)) (sym (more ls));
+          count = λ (ls : List Line). counted ls;
+          bandwidth = λ (ls : List Line). ap (λ (f : First). toldOr f (bandwidthIn ls)) told
+              ∙ ap (toldOr (a .bandwidth)) (sym (plain-bandwidth form l ls is-plain));
+          greatest = greatest;
+          bounded = bounded;
+          room = λ (h : 3 * values ≤ length table). rw long-kept room;
+        }
+      where
+        counted : (ls : List Line) →
+            values + count + length (valuesFrom form (b .row) (b .column) ls) ≡ values + length (valuesFrom form (a .row) (a .column) (l ∷ ls))
+        counted ls =
+            let e : length (valuesFrom form (a .row) (a .column) (l ∷ ls)) ≡ length vs + length (valuesFrom form (b .row) (b .column) ls) =
+            ap length (more ls) ∙ length-append vs (valuesFrom form (b .row) (b .column) ls) in
+            omega arith
 
 -- ---- the numbers of a line, one after another
 
@@ -169,23 +169,26 @@ words-here : (content : List ℕ) (at : ℕ) (word : Span) → word ≡ wordAt c
     wordsAfter content at ≡ markedBy content word ∷ wordsAfter content (word .end)
 words-here content at word e h = rw e (after-at content at (rw e at h))
 
--- what the loop has: the numbers that are left give what all of them give
-pub record Left (form : ℕ) (content table₀ : List ℕ) (values : ℕ) (n : Note) (at : ℕ) (j : Judged) (c : Cursor) (table : List ℕ) : Type 0 where
+-- what the loop has: the numbers that are left give what all of them give, and there is room for them
+pub record Left (form : ℕ) (content table₀ : List ℕ) (values row₀ column₀ at : ℕ) (j : Judged) (c : Cursor) (table : List ℕ) : Type 0 where
+  pub room : Room values (length content) (length table₀)
   pub pending : Pending content at (c .count) (j .formed) (j .bounded)
   pub within : at ≤ length content
   pub image : sets table (c .place) (valuesWords (numbersAt form (c .row) (c .column) (wordsAfter content at)))
-      ≡ sets table₀ (3 * values) (valuesWords (numbersAt form (n .row) (n .column) (words content)))
-  pub row : rowAfter form (c .row) (length (wordsAfter content at)) ≡ rowAfter form (n .row) (length (words content))
-  pub row-few : c .row ≤ n .row + c .count
-  pub column : c .column ≡ n .column + c .count
+      ≡ sets table₀ (3 * values) (valuesWords (numbersAt form row₀ column₀ (words content)))
+  pub row : rowAfter form (c .row) (length (wordsAfter content at)) ≡ rowAfter form row₀ (length (words content))
+  pub row-few : c .row ≤ row₀ + c .count
+  pub column : c .column ≡ column₀ + c .count
   pub place : c .place ≡ 3 * (values + c .count)
   pub long : length table ≡ length table₀
 
-pub left-start : (form : ℕ) (content table : List ℕ) (values : ℕ) (n : Note) →
-    Left form content table values n 0 (record { formed = true; bounded = true })
-    (record { row = n .row; column = n .column; count = 0; place = 3 * values }) table
-left-start form content table values n =
+pub left-start : (form : ℕ) (content table : List ℕ) (values row column : ℕ) (room : Bool) → not room ≡ false →
+    (room ≡ true → Room values (length content) (length table)) →
+    Left form content table values row column 0 (record { formed = true; bounded = true })
+    (record { row = row; column = column; count = 0; place = 3 * values }) table
+left-start form content table values row column room left has =
     record {
+      room = has (not-false room left);
       pending = line-starts content;
       within = omega arith;
       image = refl;
@@ -196,24 +199,22 @@ left-start form content table values n =
       long = refl;
     }
 
-module _ (form : ℕ) (content table₀ : List ℕ) (values : ℕ) (n : Note) (ready : Ready content table₀ values n) where
-  -- every place that the loop comes to has room
-  pub left-roomy : (at : ℕ) (j : Judged) (c : Cursor) (table : List ℕ) → Left form content table₀ values n at j c table →
-      length table₀ * 8 < 2 ^ 63 → at < length content → Roomy (length table) c
-  left-roomy at j c table left small there =
-      let a : n .row ≤ 1_000_000_000 + values = ready .bounded .row in
-      let b : n .column ≤ 1_000_000_000 + values = ready .bounded .column in
-      let d : values ≤ 65536 = ready .room .few in
-      let e : 3 * values + 3 * length content ≤ length table₀ = ready .room .enough in
-      let f : c .count ≤ at = left .pending .short in
-      let g : c .row ≤ n .row + c .count = left .row-few in
-      let h : c .column ≡ n .column + c .count = left .column in
-      let k : c .place ≡ 3 * (values + c .count) = left .place in
-      let l : length table ≡ length table₀ = left .long in
-      record { room = omega arith; row-few = omega arith; column-few = omega arith; count-few = omega arith }
+-- every place that the loop comes to has room
+pub left-roomy : (form : ℕ) (content table₀ : List ℕ) (values row column : ℕ) → row ≤ mostGiven + values → column ≤ mostGiven + values →
+    (at : ℕ) (j : Judged) (c : Cursor) (table : List ℕ) → Left form content table₀ values row column at j c table →
+    length table₀ * 8 < 2 ^ 63 → at < length content → Roomy (length table) c
+left-roomy form content table₀ values row column row-few column-few at j c table left small there =
+    let d : values ≤ 65536 = left .room .few in
+    let e : 3 * values + 3 * length content ≤ length table₀ = left .room .enough in
+    let f : c .count ≤ at = left .pending .short in
+    let g : c .row ≤ row + c .count = left .row-few in
+    let h : c .column ≡ column + c .count = left .column in
+    let k : c .place ≡ 3 * (values + c .count) = left .place in
+    let l : length table ≡ length table₀ = left .long in
+    record { room = omega arith; row-few = omega arith; column-few = omega arith; count-few = omega arith }
 
-module _ (form : ℕ) (content table₀ : List ℕ) (values : ℕ) (n : Note) (at : ℕ) (j : Judged) (c : Cursor) (table : List ℕ)
-    (left : Left form content table₀ values n at j c table) where
+module _ (form : ℕ) (content table₀ : List ℕ) (values row column at : ℕ) (j : Judged) (c : Cursor) (table : List ℕ)
+    (left : Left form content table₀ values row column at j c table) where
   module _ (start : ℕ) (begins : start ≡ runEnd isBlank content at) (there : start < length content) (read : NumberAt)
       (told : read ≡ numberAt content start) where
     abbrev here : Span
@@ -223,13 +224,13 @@ module _ (form : ℕ) (content table₀ : List ℕ) (values : ℕ) (n : Note) (a
     left-here = words-here content at here (placed-found content at start read begins told) there
 
     -- the row, the column and the count after this number, as what is left says
-    row-here : rowAfter form (nextRow form (c .row)) (length (wordsAfter content (read .end))) ≡ rowAfter form (n .row) (length (words content))
+    row-here : rowAfter form (nextRow form (c .row)) (length (wordsAfter content (read .end))) ≡ rowAfter form (row) (length (words content))
     row-here = row-on form (c .row) _ ∙ ap (rowAfter form (c .row)) (sym (ap length left-here)) ∙ left .row
 
     module _ (table' : List ℕ) (stored : table' ≡ sets table (c .place) (c .row ∷ c .column ∷ wordIn (read .number) ∷ [])) where
       image-here :
           sets table' (c .place + 3) (valuesWords (numbersAt form (nextRow form (c .row)) (c .column + 1) (wordsAfter content (read .end))))
-          ≡ sets table₀ (3 * values) (valuesWords (numbersAt form (n .row) (n .column) (words content)))
+          ≡ sets table₀ (3 * values) (valuesWords (numbersAt form (row) (column) (words content)))
       image-here =
           rw stored
           (step-stored form (c .row) (c .column) (c .place) table (markedBy content here) (wordsAfter content (read .end)) (read .number)
@@ -237,14 +238,15 @@ module _ (form : ℕ) (content table₀ : List ℕ) (values : ℕ) (n : Note) (a
           ∙ ap (λ (ws : List (List ℕ)). sets table (c .place) (valuesWords (numbersAt form (c .row) (c .column) ws))) (sym left-here)
           ∙ left .image)
 
-      step-on : Left form content table₀ values n (read .end) (judgedWith j (read .number)) (nextCursor form c) table'
+      step-on : Left form content table₀ values row column (read .end) (judgedWith j (read .number)) (nextCursor form c) table'
       unfolding judgedWith nextCursor
       step-on =
-          let f : c .row ≤ n .row + c .count = left .row-few in
+          let f : c .row ≤ row + c .count = left .row-few in
           let g : nextRow form (c .row) ≤ c .row + 1 = row-most form (c .row) in
-          let h : c .column ≡ n .column + c .count = left .column in
+          let h : c .column ≡ column + c .count = left .column in
           let k : c .place ≡ 3 * (values + c .count) = left .place in
           record {
+            room = left .room;
             pending =
                 line-number content at (c .count) (j .formed) (j .bounded) (left .pending) start begins read told there _ _ _ _ refl refl refl refl;
             within = placed-within content at start read begins told (left .within);
@@ -257,13 +259,14 @@ module _ (form : ℕ) (content table₀ : List ℕ) (values : ℕ) (n : Note) (a
           }
 
       pub left-on : (j' : Judged) → j' ≡ judgedWith j (read .number) → (c' : Cursor) → c' ≡ nextCursor form c →
-          Left form content table₀ values n (read .end) j' c' table'
+          Left form content table₀ values row column (read .end) j' c' table'
       left-on j' judges c' goes = rw (judges, goes) step-on
 
 -- ---- a line of numbers that is gone over
 
-module _ (form : ℕ) (content table₀ : List ℕ) (values : ℕ) (n : Note) (ready : Ready content table₀ values n) (not-sparse : form ≡ sparse → ⊥)
-    (at : ℕ) (j : Judged) (c : Cursor) (table : List ℕ) (left : Left form content table₀ values n at j c table) where
+module _ (form : ℕ) (content table₀ : List ℕ) (values row column : ℕ) (row-few : row ≤ mostGiven + values) (column-few : column ≤ mostGiven + values)
+    (not-sparse : form ≡ sparse → ⊥) (at : ℕ) (j : Judged) (c : Cursor) (table : List ℕ)
+    (left : Left form content table₀ values row column at j c table) where
   module _ (none : wordsAfter content at ≡ [])
       (line : record { numbers = c .count; column = 0; right = true; formed = j .formed; bounded = j .bounded } ≡ numbersLine (words content)) where
     none-length : length (wordsAfter content at) ≡ 0
@@ -275,153 +278,211 @@ module _ (form : ℕ) (content table₀ : List ℕ) (values : ℕ) (n : Note) (r
         let z : length (wordsAfter content at) ≡ 0 = none-length in
         omega arith
 
-    all-stored : table ≡ sets table₀ (3 * values) (valuesWords (numbersAt form (n .row) (n .column) (words content)))
+    all-stored : table ≡ sets table₀ (3 * values) (valuesWords (numbersAt form row column (words content)))
     all-stored =
         let z : valuesWords (numbersAt form (c .row) (c .column) (wordsAfter content at)) ≡ [] =
         ap (λ (ws : List (List ℕ)). valuesWords (numbersAt form (c .row) (c .column) ws)) none ∙ none-left form (c .row) (c .column) in
         sym (ap (sets table (c .place)) z) ∙ left .image
 
-    row-after : c .row ≡ rowAfter form (n .row) (length (words content))
+    row-after : c .row ≡ rowAfter form row (length (words content))
     row-after = sym (row-same form (c .row) _ none-length) ∙ left .row
 
-    column-after : c .column ≡ n .column + length (words content)
-    column-after = left .column ∙ ap (λ (k : ℕ). n .column + k) all-counted
+    column-after : c .column ≡ column + length (words content)
+    column-after = left .column ∙ ap (λ (k : ℕ). column + k) all-counted
 
     more-after : (l : Line) → l .content ≡ content → keyOf l ≡ plain → (ls : List Line) →
-        valuesFrom form (n .row) (n .column) (l ∷ ls)
-        ≡ numbersAt form (n .row) (n .column) (words content) ++ valuesFrom form (c .row) (c .column) ls
-    more-after l same is-plain ls = rw (row-after, column-after, sym same) (numbers-values form l ls is-plain not-sparse (n .row) (n .column))
+        valuesFrom form row column (l ∷ ls) ≡ numbersAt form row column (words content) ++ valuesFrom form (c .row) (c .column) ls
+    more-after l same is-plain ls = rw (row-after, column-after, sym same) (numbers-values form l ls is-plain not-sparse row column)
 
     -- the note behind them
-    bounded-after : Bounded (numbersNoting c j n .note) (values + c .count)
-    unfolding numbersNoting
-    bounded-after =
-        let a : n .row ≤ 1_000_000_000 + values = ready .bounded .row in
-        let b : n .column ≤ 1_000_000_000 + values = ready .bounded .column in
-        let f : c .row ≤ n .row + c .count = left .row-few in
-        let g : c .column ≡ n .column + c .count = left .column in
+    bounded-after : (a : Note) → Bounded (movedTo (c .row) (c .column) a) (values + c .count)
+    bounded-after a =
+        let f : c .row ≤ row + c .count = left .row-few in
+        let g : c .column ≡ column + c .count = left .column in
         record { row = omega arith; column = omega arith }
 
     room-after : 3 * (values + c .count) ≤ length table₀
     room-after =
-        let e : 3 * values + 3 * length content ≤ length table₀ = ready .room .enough in
+        let e : 3 * values + 3 * length content ≤ length table₀ = left .room .enough in
         let f : c .count ≤ at = left .pending .short in
         let g : at ≤ length content = left .within in
         omega arith
 
-    numbers-noted : NotesLine form content table₀ values n table (numbersNoting c j n)
-    unfolding numbersNoting dataLineOf
+    adds-after : (a : Note) → a .whole ≡ true → a .row ≡ row → a .column ≡ column → (l : Line) → l .content ≡ content → keyOf l ≡ plain →
+        Adds form l table₀ values a table (values + c .count) (movedTo (c .row) (c .column) a)
+    adds-after a whole row-is column-is l same is-plain =
+        let vs : List Value = numbersAt form row column (words content) in
+        let many : c .count ≡ length vs = all-counted ∙ sym (numbers-length form row column (words content)) in
+        added table₀ values table vs all-stored form a (movedTo (c .row) (c .column) a) (c .count) many refl (bounded-after a) room-after l is-plain whole
+        (λ (ls : List Line). rw (row-is, column-is) (more-after l same is-plain ls))
+        (λ (ls : List Line).
+        most-of (a .greatest) 0 (a .greatest) _ (greatestIn form ls) (numbers-greatest form l ls is-plain not-sparse) (omega arith))
+
+    numbers-noted : NotesNumbers form content table₀ values row column table (numbersOf j c)
+    unfolding numbersOf dataLineOf
     numbers-noted =
-        let vs : List Value = numbersAt form (n .row) (n .column) (words content) in
-        let r : Noting = numbersNoting c j n in
-        let many : c .count ≡ length vs = all-counted ∙ sym (numbers-length form (n .row) (n .column) (words content)) in
         record {
-          line-is = line ∙ sym (if-false _ _ (ne-eqb form sparse not-sparse));
           long = left .long;
-          front = front-kept form table₀ values n table r vs all-stored many refl bounded-after room-after;
-          adds = λ (w : true ≡ true) (l : Line) (same : l .content ≡ content) (is-plain : keyOf l ≡ plain).
-              added form table₀ values n table r vs all-stored many refl bounded-after room-after l is-plain (ready .whole)
-              (more-after l same is-plain)
-              (λ (ls : List Line).
-              most-of (n .greatest) 0 (n .greatest) _ (greatestIn form ls) (numbers-greatest form l ls is-plain not-sparse) (omega arith));
+          front = front-kept table₀ values table (numbersAt form row column (words content)) all-stored;
+          line-is = λ (w : true ≡ true). line ∙ sym (if-false _ _ (ne-eqb form sparse not-sparse));
+          adds = λ (w : true ≡ true). adds-after;
         }
 
-  pub numbers-past : length content ≤ at → (r : Noting) → r ≡ numbersNoting c j n → NotesLine form content table₀ values n table r
+  pub numbers-past : length content ≤ at → (r : Numbers) → r ≡ numbersOf j c → NotesNumbers form content table₀ values row column table r
   numbers-past h r e =
       rw e (numbers-noted (after-past content at h) (line-past content at (c .count) (j .formed) (j .bounded) (left .pending) h))
 
-  pub numbers-blank : (start : ℕ) → start ≡ runEnd isBlank content at → length content ≤ start → (r : Noting) → r ≡ numbersNoting c j n →
-      NotesLine form content table₀ values n table r
+  pub numbers-blank : (start : ℕ) → start ≡ runEnd isBlank content at → length content ≤ start → (r : Numbers) → r ≡ numbersOf j c →
+      NotesNumbers form content table₀ values row column table r
   unfolding wordAt
   numbers-blank start begins h r e =
       rw e
       (numbers-noted (after-none content at (rw begins at h))
       (line-blank content at (c .count) (j .formed) (j .bounded) (left .pending) start begins h))
 
+-- a line that is not noted
+pub numbers-unnoted : (form : ℕ) (content table : List ℕ) (values row column : ℕ) (r : Numbers) → r .noted ≡ false →
+    NotesNumbers form content table values row column table r
+numbers-unnoted form content table values row column r lost =
+    record {
+      long = refl;
+      front = refl;
+      line-is = λ (w : r .noted ≡ true). absurd (true≢false (sym w ∙ lost));
+      adds = λ (w : r .noted ≡ true). absurd (true≢false (sym w ∙ lost));
+    }
+
 -- ---- a line of a Sparse_matrix
 
-module _ (content : List ℕ) (values : ℕ) (n : Note) (first : Span) (one : first ≡ wordAt content 0) (start : ℕ)
+module _ (content : List ℕ) (values row : ℕ) (first : Span) (one : first ≡ wordAt content 0) (start : ℕ)
     (begins : start ≡ runEnd isBlank content (first .end)) (there : start < length content) (part : List ℕ)
     (cut : part ≡ markedBy content first) (column : Whole) (is-column : column ≡ wholeOf part) where
   column-few : column .value < 1_000_000_000
   column-few = rw is-column (whole-below part)
 
-  module _ (table : List ℕ) (ready : Ready content table values n) where
-    pub pair-roomy : length table * 8 < 2 ^ 63 → Roomy (length table) (pairCursor column values n)
+  module _ (table : List ℕ) (row-few : row ≤ mostGiven + values) (free : Bool) (tested : not free ≡ false)
+      (has : free ≡ true → Room values (length content) (length table)) where
+    room-here : Room values (length content) (length table)
+    room-here = has (not-false free tested)
+
+    pub pair-roomy : length table * 8 < 2 ^ 63 → Roomy (length table) (record { row = row; column = column .value; count = 0; place = 3 * values })
     pair-roomy small =
-        let a : n .row ≤ 1_000_000_000 + values = ready .bounded .row in
-        let d : values ≤ 65536 = ready .room .few in
-        let e : 3 * values + 3 * length content ≤ length table = ready .room .enough in
+        let d : values ≤ 65536 = room-here .few in
+        let e : 3 * values + 3 * length content ≤ length table = room-here .enough in
         let f : column .value < 1_000_000_000 = column-few in
         record { room = omega arith; row-few = omega arith; column-few = omega arith; count-few = omega arith }
 
     module _ (read : NumberAt) (told : read ≡ numberAt content start) (third : ℕ) (after : third ≡ runEnd isBlank content (read .end))
         (ends : length content ≤ third) (table' : List ℕ)
-        (stored : table' ≡ sets table (3 * values) (n .row ∷ column .value ∷ wordIn (read .number) ∷ [])) where
-      pair-stored : table' ≡ sets table (3 * values) (valuesWords (sparseAt (n .row) (words content) ∷ []))
+        (stored : table' ≡ sets table (3 * values) (row ∷ column .value ∷ wordIn (read .number) ∷ [])) where
+      pair-stored : table' ≡ sets table (3 * values) (valuesWords (sparseAt row (words content) ∷ []))
       pair-stored =
           stored
           ∙ ap (sets table (3 * values))
-          (sym (words-one (record { row = n .row; column = column .value; word = wordIn (read .number) }))
+          (sym (words-one (record { row = row; column = column .value; word = wordIn (read .number) }))
           ∙ ap (λ (v : Value). valuesWords (v ∷ []))
-          (sparse-value content (n .row) first one part cut column is-column start begins read told))
+          (sparse-value content row first one part cut column is-column start begins read told))
 
-      pair-bounded : Bounded (pairNoting column (read .number) n .note) (values + 1)
-      unfolding pairNoting
-      pair-bounded =
-          let a : n .row ≤ 1_000_000_000 + values = ready .bounded .row in
-          let b : n .column ≤ 1_000_000_000 + values = ready .bounded .column in
+      pair-bounded : (a : Note) → Bounded a values → Bounded (namedTo (column .value) a) (values + 1)
+      pair-bounded a bounded =
+          let f : a .row ≤ 1_000_000_000 + values = bounded .row in
+          let g : a .column ≤ 1_000_000_000 + values = bounded .column in
           record { row = omega arith; column = omega arith }
 
       pair-room : 3 * (values + 1) ≤ length table
-      pair-room = let e : 3 * values + 3 * length content ≤ length table = ready .room .enough in omega arith
+      pair-room = let e : 3 * values + 3 * length content ≤ length table = room-here .enough in omega arith
 
-      pair-noted : NotesLine sparse content table values n table' (pairNoting column (read .number) n)
-      unfolding pairNoting dataLineOf
-      pair-noted =
-          let vs : List Value = sparseAt (n .row) (words content) ∷ [] in
-          let r : Noting = pairNoting column (read .number) n in
+      pair-adds : (a : Note) → a .whole ≡ true → Bounded a values → a .row ≡ row → (l : Line) → l .content ≡ content → keyOf l ≡ plain →
+          Adds sparse l table values a table' (values + 1) (namedTo (column .value) a)
+      pair-adds a whole bounded row-is l same is-plain =
           let c : column .value ≡ wholeOf (firstOf (words content)) .value =
-          column-told content (n .row) first one part cut column is-column start begins read told in
+          column-told content row first one part cut column is-column start begins read told in
+          added table values table' (sparseAt row (words content) ∷ []) pair-stored sparse a (namedTo (column .value) a) 1 refl refl (pair-bounded a bounded) pair-room l
+          is-plain whole
+          (λ (ls : List Line). rw (sym row-is, sym same) (sparse-values sparse l ls is-plain refl (a .row) (a .column)))
+          (λ (ls : List Line).
+          most-of (a .greatest) (column .value) _ _ (greatestIn sparse ls)
+          (rw (c, sym same) (sparse-greatest sparse l ls is-plain refl)) refl)
+
+      pair-noted : NotesPair content table values row table' (pairOf column (read .number))
+      unfolding pairOf dataLineOf
+      pair-noted =
           record {
-            line-is =
+            long = long-kept table values table' (sparseAt row (words content) ∷ []) pair-stored;
+            front = front-kept table values table' (sparseAt row (words content) ∷ []) pair-stored;
+            line-is = λ (w : true ≡ true).
                 sparse-pair content first one start begins there read told third after ends part cut column is-column
-                (record { formed = isFormed (read .number); bounded = isBounded (read .number) }) refl (r .line) refl
+                (record { formed = isFormed (read .number); bounded = isBounded (read .number) }) refl _ refl
                 ∙ sym (if-true _ _ (eq-eqb sparse sparse refl));
-            long = long-kept sparse table values n table' r vs pair-stored refl refl pair-bounded pair-room;
-            front = front-kept sparse table values n table' r vs pair-stored refl refl pair-bounded pair-room;
-            adds = λ (w : true ≡ true) (l : Line) (same : l .content ≡ content) (is-plain : keyOf l ≡ plain).
-                added sparse table values n table' r vs pair-stored refl refl pair-bounded pair-room l is-plain (ready .whole)
-                (λ (ls : List Line). rw (sym same) (sparse-values sparse l ls is-plain refl (n .row) (n .column)))
-                (λ (ls : List Line).
-                most-of (n .greatest) (column .value) _ _ (greatestIn sparse ls)
-                (rw (c, sym same) (sparse-greatest sparse l ls is-plain refl)) refl);
+            adds = λ (w : true ≡ true). pair-adds;
           }
 
-      pub pair-notes : (r : Noting) → r ≡ pairNoting column (read .number) n → NotesLine sparse content table values n table' r
+      pub pair-notes : (r : Pair) → r ≡ pairOf column (read .number) → NotesPair content table values row table' r
       pair-notes r e = rw e pair-noted
+
+pub pair-unnoted : (content table : List ℕ) (values row : ℕ) (r : Pair) → r .noted ≡ false → NotesPair content table values row table r
+pair-unnoted content table values row r lost =
+    record {
+      long = refl;
+      front = refl;
+      line-is = λ (w : r .noted ≡ true). absurd (true≢false (sym w ∙ lost));
+      adds = λ (w : r .noted ≡ true). absurd (true≢false (sym w ∙ lost));
+    }
 
 -- ---- any line
 
 pub no-room : (values bytes words : ℕ) → false ≡ true → Room values bytes words
 no-room values bytes words e = absurd (true≢false (sym e))
 
-pub ready-now : (content table : List ℕ) (values : ℕ) (n : Note) (room : Bool) → not (n .whole) ≡ false → Bounded n values → not room ≡ false →
-    (room ≡ true → Room values (length content) (length table)) → Ready content table values n
-ready-now content table values n room whole bounded left has =
-    record { whole = not-false (n .whole) whole; bounded = bounded; room = has (not-false room left) }
-
 -- a line that is judged only
-pub unnoted-notes : (form : ℕ) (content table : List ℕ) (values : ℕ) (n : Note) (r : Noting) → r .line ≡ dataLineOf form content →
-    r .note .whole ≡ false → NotesLine form content table values n table r
-unnoted-notes form content table values n r e lost =
-    record {
-      line-is = e;
-      long = refl;
-      front = refl;
-      adds = λ (w : r .note .whole ≡ true) (l : Line) (same : l .content ≡ content) (is-plain : keyOf l ≡ plain).
-          absurd (true≢false (sym w ∙ lost));
-    }
+module _ (form : ℕ) (content table : List ℕ) (values : ℕ) (n : Note) (table' : List ℕ) (r : Noting) (e : r .line ≡ dataLineOf form content)
+    (lost : r .note .whole ≡ false) where
+  unnoted-notes : length table' ≡ length table → take (3 * values) table' ≡ take (3 * values) table → NotesLine form content table values n table' r
+  unnoted-notes long front =
+      record {
+        line-is = e;
+        long = long;
+        front = front;
+        adds = λ (w : r .note .whole ≡ true) (l : Line) (same : l .content ≡ content) (is-plain : keyOf l ≡ plain).
+            absurd (true≢false (sym w ∙ lost));
+      }
+
+  pub unnoted-numbers : (numbers : Numbers) → NotesNumbers form content table values (n .row) (n .column) table' numbers →
+      NotesLine form content table values n table' r
+  unnoted-numbers numbers h = unnoted-notes (h .long) (h .front)
+
+pub unnoted-pair : (content table : List ℕ) (values : ℕ) (n : Note) (table' : List ℕ) (r : Noting) → r .line ≡ dataLineOf sparse content →
+    r .note .whole ≡ false → (pair : Pair) → NotesPair content table values (n .row) table' pair → NotesLine sparse content table values n table' r
+unnoted-pair content table values n table' r e lost pair h =
+    unnoted-notes sparse content table values n table' r e lost (h .long) (h .front)
+
+-- a line that is noted
+pub noted-numbers : (form : ℕ) (content table : List ℕ) (values : ℕ) (n : Note) (table' : List ℕ) (numbers : Numbers) →
+    n .whole ≡ true → not (numbers .noted) ≡ false → NotesNumbers form content table values (n .row) (n .column) table' numbers → (r : Noting) →
+    r ≡ numbersNoting numbers n → NotesLine form content table values n table' r
+unfolding numbersNoting
+noted-numbers form content table values n table' numbers whole tested h r e =
+    let noted : numbers .noted ≡ true = not-false (numbers .noted) tested in
+    rw e
+    (record {
+      line-is = h .line-is noted;
+      long = h .long;
+      front = h .front;
+      adds = λ (w : true ≡ true). h .adds noted n whole refl refl;
+    })
+
+pub noted-pair : (content table : List ℕ) (values : ℕ) (n : Note) (table' : List ℕ) (pair : Pair) → n .whole ≡ true → Bounded n values →
+    not (pair .noted) ≡ false → NotesPair content table values (n .row) table' pair → (r : Noting) → r ≡ pairNoting pair n →
+    NotesLine sparse content table values n table' r
+unfolding pairNoting
+noted-pair content table values n table' pair whole bounded tested h r e =
+    let noted : pair .noted ≡ true = not-false (pair .noted) tested in
+    rw e
+    (record {
+      line-is = h .line-is noted;
+      long = h .long;
+      front = h .front;
+      adds = λ (w : true ≡ true). h .adds noted n whole bounded refl;
+    })
 
 -- as the contract says it
 module _ (form : ℕ) (content table : List ℕ) (values : ℕ) (n : Note) (table' : List ℕ) (r : Noting) where
@@ -441,5 +502,5 @@ pub unnoted-told : (form : ℕ) (content table : List ℕ) (values : ℕ) (n : N
     × (r .note .whole ≡ true → (l : Line) → l .content ≡ content → keyOf l ≡ plain →
     Adds form l table values n table (values + r .line .numbers) (r .note))
 unnoted-told form content table values n r e lost =
-    let h : NotesLine form content table values n table r = unnoted-notes form content table values n r e lost in
+    let h : NotesLine form content table values n table r = unnoted-notes form content table values n table r e lost refl refl in
     (h .line-is, h .long, h .front, h .adds)

@@ -5,14 +5,17 @@ use Prim.Native.Nat.{ℕ, _+_, _*_, _≤_, max}
 use mathlib.Core.Path.{_≡_}
 use mathlib.Core.Bool.{true}
 use mathlib.Core.List.{List, _∷_}
-use lib.ListN.{length}
+use lib.ListN.{length, take}
 use lib.Seq.{sets}
-use Rattle.document.specs.Lines.{Line}
+use Rattle.matrix.specs.Matrix.{sparse, dataLineOf}
+use Rattle.document.specs.Lines.{Line, plain, keyOf}
 use Rattle.document.specs.Document.{valuesFrom, bandwidthIn, greatestIn}
 use Rattle.storing.specs.Notes.{valuesWords}
 use Rattle.matrices.specs.Told.{toldOr}
 use Rattle.matrices.specs.Numbers.{mostGiven}
 use Rattle.noting.specs.declared.Note.{Note}
+use Rattle.noting.specs.declared.Numbers.{Numbers}
+use Rattle.noting.specs.declared.Pair.{Pair}
 
 -- rows and columns are given by integers, and rise by one only with a value: so few that no sum wraps
 pub record Bounded (n : Note) (values : ℕ) : Type 0 where
@@ -32,3 +35,31 @@ pub record Adds (form : ℕ) (l : Line) (table : List ℕ) (values : ℕ) (a : N
   pub bounded : Bounded b values'
   -- values are counted only where there is room for them
   pub room : 3 * values ≤ length table → 3 * values' ≤ length table'
+
+-- ---- one line, apart from a note
+
+-- the same note with the next number in another row and column
+abbrev pub movedTo : ℕ → ℕ → Note → Note
+movedTo row column a = record { whole = true; row = row; column = column; bandwidth = a .bandwidth; greatest = a .greatest }
+
+-- a line of numbers from a row and a column on, whatever else is noted
+pub record NotesNumbers (form : ℕ) (content table : List ℕ) (values row column : ℕ) (table' : List ℕ) (r : Numbers) : Type 0 where
+  pub long : length table' ≡ length table
+  pub front : take (3 * values) table' ≡ take (3 * values) table
+  pub line-is : r .noted ≡ true →
+      record { numbers = r .count; column = 0; right = true; formed = r .formed; bounded = r .bounded } ≡ dataLineOf form content
+  pub adds : r .noted ≡ true → (a : Note) → a .whole ≡ true → a .row ≡ row → a .column ≡ column → (l : Line) → l .content ≡ content →
+      keyOf l ≡ plain → Adds form l table values a table' (values + r .count) (movedTo (r .row) (r .column) a)
+
+-- the same note with a column that is named
+abbrev pub namedTo : ℕ → Note → Note
+namedTo column a = record { whole = true; row = a .row; column = a .column; bandwidth = a .bandwidth; greatest = max (a .greatest) column }
+
+-- a line of a Sparse_matrix in a row, whatever else is noted
+pub record NotesPair (content table : List ℕ) (values row : ℕ) (table' : List ℕ) (r : Pair) : Type 0 where
+  pub long : length table' ≡ length table
+  pub front : take (3 * values) table' ≡ take (3 * values) table
+  pub line-is : r .noted ≡ true →
+      record { numbers = 1; column = r .column; right = true; formed = r .formed; bounded = r .bounded } ≡ dataLineOf sparse content
+  pub adds : r .noted ≡ true → (a : Note) → a .whole ≡ true → Bounded a values → a .row ≡ row → (l : Line) → l .content ≡ content →
+      keyOf l ≡ plain → Adds sparse l table values a table' (values + 1) (namedTo (r .column) a)

@@ -3,15 +3,15 @@
 ghost use mathlib.Core.Path.{_≡_};
 ghost use mathlib.Core.Bool.{true, false};
 ghost use mathlib.Core.List.{[], _∷_};
-ghost use Prim.Native.Nat.{_+_, _*_, _^_, _<_};
+ghost use Prim.Native.Nat.{_+_, _*_, _^_, _≤_, _<_};
 ghost use lib.ListN.{length, take};
 ghost use lib.Seq.{sets};
 ghost use Rattle.matrix.specs.Matrix.{sparse, dataLineOf};
 ghost use Rattle.document.specs.Lines.{Line, plain, keyOf};
 ghost use Rattle.document.specs.Document.{wordIn};
-ghost use Rattle.matrices.specs.Numbers.{Roomy};
-ghost use Rattle.noting.specs.Noting.{Bounded, Adds};
-ghost use Rattle.noting.specs.Steps.{Room, Ready, judgedWith, numbersNoting, pairCursor, pairNoting, NotesLine};
+ghost use Rattle.matrices.specs.Numbers.{mostGiven, Roomy};
+ghost use Rattle.noting.specs.Noting.{Bounded, Adds, NotesNumbers, NotesPair};
+ghost use Rattle.noting.specs.Steps.{Room, judgedWith, numbersOf, numbersNoting, pairOf, pairNoting, NotesLine};
 use matrices::Cursor;
 use matrices::First;
 use matrix::DataLine;
@@ -35,6 +35,26 @@ pub struct Note {
 pub struct Noting {
     pub line: DataLine,
     pub note: Note,
+}
+
+// What a line of numbers comes to: whether they are noted, whether all are numbers and within their bounds, how many they are, and where
+// the next number stands.
+pub struct Numbers {
+    pub noted: bool,
+    pub formed: bool,
+    pub bounded: bool,
+    pub count: u64,
+    pub row: u64,
+    pub column: u64,
+}
+
+// What a line of a Sparse_matrix comes to: whether it is noted, whether column and value are numbers and within their bounds, and the
+// column.
+pub struct Pair {
+    pub noted: bool,
+    pub formed: bool,
+    pub bounded: bool,
+    pub column: u64,
 }
 
 // Whether all words so far are numbers, and within their bounds.
@@ -84,47 +104,56 @@ fn judged_with(judged: Judged, number: Number) -> Judged
 }
 
 // A line of numbers that is gone over: the next number stands where the cursor is.
-fn numbers_noting(cursor: Cursor, judged: Judged, note: Note) -> Noting
-    ensures { λ r. ⌜ r ≡ numbersNoting cursor judged note ⌝ }
+fn numbers_of(judged: Judged, cursor: Cursor) -> Numbers
+    ensures { λ r. ⌜ r ≡ numbersOf judged cursor ⌝ }
 {
-    let bandwidth = note.bandwidth;
-    let line = DataLine {
-        numbers: cursor.count,
-        column: 0,
-        right: true,
+    Numbers {
+        noted: true,
         formed: judged.formed,
         bounded: judged.bounded,
-    };
-    let next = Note {
-        whole: true,
+        count: cursor.count,
         row: cursor.row,
         column: cursor.column,
-        bandwidth,
-        greatest: note.greatest,
-    };
-    Noting { line, note: next }
+    }
 }
 
-// A line of numbers: each is read where it stands, judged and stored.
-fn note_numbers(content: &[u8], form: u64, values: u64, table: &mut [u64], note: Note) -> Noting
-    requires { ⌜ Ready (now content) (now table) values note ⌝ ∗ ⌜ (form ≡ sparse → ⊥) ⌝ }
-    ensures { λ r. ⌜ NotesLine form (now (content .entry)) (now (table .entry)) values note (now (table .exit)) r ⌝ }
+// A line of numbers, the first of which stands in this row and column: each is read where it stands, judged and stored.
+pub fn read_numbers(
+    content: &[u8],
+    form: u64,
+    values: u64,
+    table: &mut [u64],
+    row: u64,
+    column: u64,
+) -> Numbers
+    requires { ⌜ row ≤ mostGiven + values ⌝ ∗ ⌜ column ≤ mostGiven + values ⌝ ∗ ⌜ (form ≡ sparse → ⊥) ⌝ }
+    ensures { λ r. ⌜ NotesNumbers form (now (content .entry)) (now (table .entry)) values row column (now (table .exit)) r ⌝ }
 {
+    if !has_room(values, content.len(), table.len()) {
+        return Numbers {
+            noted: false,
+            formed: false,
+            bounded: false,
+            count: 0,
+            row,
+            column,
+        };
+    }
     let mut at = 0;
     let mut judged = Judged {
         formed: true,
         bounded: true,
     };
     let mut cursor = Cursor {
-        row: note.row,
-        column: note.column,
+        row,
+        column,
         count: 0,
         place: 3 * (values as usize),
     };
     while at < content.len() {
         let start = base::past_blanks(content, at);
         if content.len() <= start {
-            return numbers_noting(cursor, judged, note);
+            return numbers_of(judged, cursor);
         }
         let read = number::number_at(content, start);
         let number = read.number;
@@ -132,67 +161,140 @@ fn note_numbers(content: &[u8], form: u64, values: u64, table: &mut [u64], note:
         cursor = matrices::put_number(number, form, table, cursor);
         at = read.end;
     }
-    numbers_noting(cursor, judged, note)
+    numbers_of(judged, cursor)
 }
 
-// A column and a value that are gone over.
-fn pair_noting(column: Whole, number: Number, note: Note) -> Noting
-    ensures { λ r. ⌜ r ≡ pairNoting column number note ⌝ }
+// A line whose numbers are noted, and the note behind it.
+fn numbers_noting(numbers: Numbers, note: Note) -> Noting
+    ensures { λ r. ⌜ r ≡ numbersNoting numbers note ⌝ }
 {
     let bandwidth = note.bandwidth;
     let line = DataLine {
-        numbers: 1,
-        column: column.value,
+        numbers: numbers.count,
+        column: 0,
         right: true,
+        formed: numbers.formed,
+        bounded: numbers.bounded,
+    };
+    let next = Note {
+        whole: true,
+        row: numbers.row,
+        column: numbers.column,
+        bandwidth,
+        greatest: note.greatest,
+    };
+    Noting { line, note: next }
+}
+
+// A line of numbers.
+fn note_numbers(content: &[u8], form: u64, values: u64, table: &mut [u64], note: Note) -> Noting
+    requires { ⌜ Bounded note values ⌝ ∗ ⌜ note .whole ≡ true ⌝ ∗ ⌜ (form ≡ sparse → ⊥) ⌝ }
+    ensures { λ r. ⌜ NotesLine form (now (content .entry)) (now (table .entry)) values note (now (table .exit)) r ⌝ }
+{
+    let numbers = read_numbers(content, form, values, table, note.row, note.column);
+    if !numbers.noted {
+        return unnoted(form, content, note);
+    }
+    numbers_noting(numbers, note)
+}
+
+// A line of a Sparse_matrix that is not noted.
+fn no_pair() -> Pair
+    ensures { λ r. ⌜ r .noted ≡ false ⌝ }
+{
+    Pair {
+        noted: false,
+        formed: false,
+        bounded: false,
+        column: 0,
+    }
+}
+
+// A column and a value that are gone over.
+fn pair_of(column: Whole, number: Number) -> Pair
+    ensures { λ r. ⌜ r ≡ pairOf column number ⌝ }
+{
+    Pair {
+        noted: true,
         formed: base::and(column.formed, number::is_formed(number)),
         bounded: base::and(
             number::is_within(1, 256, column.value),
             number::is_bounded(number),
         ),
+        column: column.value,
+    }
+}
+
+// A column and a value, stored in the row of the line.
+fn put_pair(column: Whole, number: Number, values: u64, table: &mut [u64], row: u64) -> Pair
+    requires { ⌜ Roomy (length (now table)) (record { row = row; column = column .value; count = 0; place = 3 * values }) ⌝ }
+    ensures { λ r. ⌜ (r ≡ pairOf column number)
+        × (now (table .exit) ≡ sets (now (table .entry)) (3 * values) (row ∷ column .value ∷ wordIn number ∷ [])) ⌝ }
+{
+    let cursor = Cursor {
+        row,
+        column: column.value,
+        count: 0,
+        place: 3 * (values as usize),
+    };
+    matrices::put_number(number, matrix::SPARSE, table, cursor);
+    pair_of(column, number)
+}
+
+// A line of a Sparse_matrix: a column and a value, which is read where it stands. A line of more words or fewer is not noted.
+pub fn read_pair(content: &[u8], values: u64, table: &mut [u64], row: u64) -> Pair
+    requires { ⌜ row ≤ mostGiven + values ⌝ }
+    ensures { λ r. ⌜ NotesPair (now (content .entry)) (now (table .entry)) values row (now (table .exit)) r ⌝ }
+{
+    if !has_room(values, content.len(), table.len()) {
+        return no_pair();
+    }
+    let first = text::word_at(content, 0);
+    let start = base::past_blanks(content, first.end);
+    if content.len() <= start {
+        return no_pair();
+    }
+    let read = number::number_at(content, start);
+    if base::past_blanks(content, read.end) < content.len() {
+        return no_pair();
+    }
+    let number = read.number;
+    let column = number::read_integer(text::marked(content, first));
+    put_pair(column, number, values, table, row)
+}
+
+// A line whose column and value are noted, and the note behind it.
+fn pair_noting(pair: Pair, note: Note) -> Noting
+    ensures { λ r. ⌜ r ≡ pairNoting pair note ⌝ }
+{
+    let bandwidth = note.bandwidth;
+    let line = DataLine {
+        numbers: 1,
+        column: pair.column,
+        right: true,
+        formed: pair.formed,
+        bounded: pair.bounded,
     };
     let next = Note {
         whole: true,
         row: note.row,
         column: note.column,
         bandwidth,
-        greatest: matrices::greater(note.greatest, column.value),
+        greatest: matrices::greater(note.greatest, pair.column),
     };
     Noting { line, note: next }
 }
 
-// A column and a value, stored in the row of the line.
-fn note_pair(column: Whole, number: Number, values: u64, table: &mut [u64], note: Note) -> Noting
-    requires { ⌜ Roomy (length (now table)) (pairCursor column values note) ⌝ }
-    ensures { λ r. ⌜ (r ≡ pairNoting column number note)
-        × (now (table .exit) ≡ sets (now (table .entry)) (3 * values) (note .row ∷ column .value ∷ wordIn number ∷ [])) ⌝ }
-{
-    let cursor = Cursor {
-        row: note.row,
-        column: column.value,
-        count: 0,
-        place: 3 * (values as usize),
-    };
-    matrices::put_number(number, matrix::SPARSE, table, cursor);
-    pair_noting(column, number, note)
-}
-
-// A line of a Sparse_matrix: a column and a value, which is read where it stands. A line of more words or fewer is not noted.
+// A line of a Sparse_matrix.
 fn note_sparse(content: &[u8], values: u64, table: &mut [u64], note: Note) -> Noting
-    requires { ⌜ Ready (now content) (now table) values note ⌝ }
+    requires { ⌜ Bounded note values ⌝ ∗ ⌜ note .whole ≡ true ⌝ }
     ensures { λ r. ⌜ NotesLine sparse (now (content .entry)) (now (table .entry)) values note (now (table .exit)) r ⌝ }
 {
-    let first = text::word_at(content, 0);
-    let start = base::past_blanks(content, first.end);
-    if content.len() <= start {
+    let pair = read_pair(content, values, table, note.row);
+    if !pair.noted {
         return unnoted(matrix::SPARSE, content, note);
     }
-    let read = number::number_at(content, start);
-    if base::past_blanks(content, read.end) < content.len() {
-        return unnoted(matrix::SPARSE, content, note);
-    }
-    let number = read.number;
-    let column = number::read_integer(text::marked(content, first));
-    note_pair(column, number, values, table, note)
+    pair_noting(pair, note)
 }
 
 // A line between the keywords of a matrix, so many values being read before it.
@@ -205,9 +307,6 @@ pub fn note_line(content: &[u8], form: u64, values: u64, table: &mut [u64], note
         Adds form l (now (table .entry)) values note (now (table .exit)) (values + r .line .numbers) (r .note)) ⌝ }
 {
     if !note.whole {
-        return unnoted(form, content, note);
-    }
-    if !has_room(values, content.len(), table.len()) {
         return unnoted(form, content, note);
     }
     if form == matrix::SPARSE {

@@ -1,10 +1,10 @@
 -- `noting::note_line` meets its contract: a line is noted, or judged only.
 -- Assumes nothing.
-use Rattle.noting.proofs.NotingLaws.{ready-now, sparse-told, unnoted-told}
+use borrow.Author.Tests.{not-false}
+use Rattle.noting.proofs.NotingLaws.{sparse-told, unnoted-told}
 use borrow.Author.Needs.{needs}
 use Rattle.noting.proofs.note_line.Statement.{statement}
 use Rattle.noting.proofs.note_line.Tie as tie
-use Rattle.noting.proofs.has_room.Reads as has-room-reads
 use Rattle.noting.proofs.note_numbers.Reads as note-numbers-reads
 use Rattle.noting.proofs.note_sparse.Reads as note-sparse-reads
 use Rattle.noting.proofs.unnoted.Reads as unnoted-reads
@@ -15,32 +15,23 @@ unnoted-requires c κs = search needs
 returns : tie.Need-returns
 returns c = unnoted-told _ _ _ _ _ _ (c .unnoted .ensures .0) (c .unnoted .ensures .1)
 
-has-room-requires : tie.Need-has-room-requires
-has-room-requires c κs = search needs
-
-unnoted-requires-2 : tie.Need-unnoted-requires-2
-unnoted-requires-2 c κs = search needs
-
-returns-2 : tie.Need-returns-2
-returns-2 c = unnoted-told _ _ _ _ _ _ (c .unnoted2 .ensures .0) (c .unnoted2 .ensures .1)
-
 note-sparse-requires : tie.Need-note-sparse-requires
-note-sparse-requires c κs = search ready-now
+note-sparse-requires c κs = search (needs, not-false)
 
 same-length : tie.Need-same-length
 same-length c = search needs
 
-returns-3 : tie.Need-returns-3
-returns-3 c = sparse-told _ _ _ _ _ _ _ (c .before .before .before .before .if3 .taken) (c .before .before .note-sparse .ensures)
+returns-2 : tie.Need-returns-2
+returns-2 c = sparse-told _ _ _ _ _ _ _ (c .before .before .before .before .if2 .taken) (c .before .before .note-sparse .ensures)
 
 note-numbers-requires : tie.Need-note-numbers-requires
-note-numbers-requires c κs = search ready-now
+note-numbers-requires c κs = search (needs, not-false)
 
 same-length-2 : tie.Need-same-length-2
 same-length-2 c = search needs
 
-returns-4 : tie.Need-returns-4
-returns-4 c = search needs
+returns-3 : tie.Need-returns-3
+returns-3 c = search needs
 
 pub note-line-spec : {M : Type 1} → statement M
 note-line-spec =
@@ -48,12 +39,9 @@ note-line-spec =
     (tie.spec
     unnoted-requires
     returns
-    has-room-requires
-    unnoted-requires-2
-    returns-2
     note-sparse-requires
     same-length
-    returns-3
+    returns-2
     note-numbers-requires
     same-length-2
-    returns-4)
+    returns-3)
