@@ -324,6 +324,7 @@ module _ (form : ℕ) (content table₀ : List ℕ) (values row column : ℕ) (r
         record {
           long = left .long;
           front = front-kept table₀ values table (numbersAt form row column (words content)) all-stored;
+          kept = λ (w : true ≡ false). absurd (true≢false w);
           line-is = λ (w : true ≡ true). line ∙ sym (if-false _ _ (ne-eqb form sparse not-sparse));
           adds = λ (w : true ≡ true). adds-after;
         }
@@ -347,6 +348,7 @@ numbers-unnoted form content table values row column r lost =
     record {
       long = refl;
       front = refl;
+      kept = λ (w : r .noted ≡ false). refl;
       line-is = λ (w : r .noted ≡ true). absurd (true≢false (sym w ∙ lost));
       adds = λ (w : r .noted ≡ true). absurd (true≢false (sym w ∙ lost));
     }
@@ -409,6 +411,7 @@ module _ (content : List ℕ) (values row : ℕ) (first : Span) (one : first ≡
           record {
             long = long-kept table values table' (sparseAt row (words content) ∷ []) pair-stored;
             front = front-kept table values table' (sparseAt row (words content) ∷ []) pair-stored;
+            kept = λ (w : true ≡ false). absurd (true≢false w);
             line-is = λ (w : true ≡ true).
                 sparse-pair content first one start begins there read told third after ends part cut column is-column
                 (record { formed = isFormed (read .number); bounded = isBounded (read .number) }) refl _ refl
@@ -424,6 +427,7 @@ pair-unnoted content table values row r lost =
     record {
       long = refl;
       front = refl;
+      kept = λ (w : r .noted ≡ false). refl;
       line-is = λ (w : r .noted ≡ true). absurd (true≢false (sym w ∙ lost));
       adds = λ (w : r .noted ≡ true). absurd (true≢false (sym w ∙ lost));
     }

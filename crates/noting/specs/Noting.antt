@@ -3,7 +3,7 @@
 -- Assumes nothing.
 use Prim.Native.Nat.{ℕ, _+_, _*_, _≤_, max}
 use mathlib.Core.Path.{_≡_}
-use mathlib.Core.Bool.{true}
+use mathlib.Core.Bool.{true, false}
 use mathlib.Core.List.{List, _∷_}
 use lib.ListN.{length, take}
 use lib.Seq.{sets}
@@ -46,6 +46,7 @@ movedTo row column a = record { whole = true; row = row; column = column; bandwi
 pub record NotesNumbers (form : ℕ) (content table : List ℕ) (values row column : ℕ) (table' : List ℕ) (r : Numbers) : Type 0 where
   pub long : length table' ≡ length table
   pub front : take (3 * values) table' ≡ take (3 * values) table
+  pub kept : r .noted ≡ false → table' ≡ table
   pub line-is : r .noted ≡ true →
       record { numbers = r .count; column = 0; right = true; formed = r .formed; bounded = r .bounded } ≡ dataLineOf form content
   pub adds : r .noted ≡ true → (a : Note) → a .whole ≡ true → a .row ≡ row → a .column ≡ column → (l : Line) → l .content ≡ content →
@@ -59,6 +60,7 @@ namedTo column a = record { whole = true; row = a .row; column = a .column; band
 pub record NotesPair (content table : List ℕ) (values row : ℕ) (table' : List ℕ) (r : Pair) : Type 0 where
   pub long : length table' ≡ length table
   pub front : take (3 * values) table' ≡ take (3 * values) table
+  pub kept : r .noted ≡ false → table' ≡ table
   pub line-is : r .noted ≡ true →
       record { numbers = 1; column = r .column; right = true; formed = r .formed; bounded = r .bounded } ≡ dataLineOf sparse content
   pub adds : r .noted ≡ true → (a : Note) → a .whole ≡ true → Bounded a values → a .row ≡ row → (l : Line) → l .content ≡ content →
