@@ -28,7 +28,7 @@ use Rattle.document.specs.Records.{valueWords}
 use Rattle.document.proofs.FoundLaws.{pass-over, stop-here, nothing-left}
 use Rattle.storing.specs.Stores.{Placed}
 use Rattle.storing.specs.Notes.{bodyLines, valuesWords, Note, Tells, wordsOf}
-use Rattle.storing.proofs.LineLaws.{up-on, up-stops, up-none, Skipped, skipped-start, skipped-on, skipped-done}
+use Rattle.storing.proofs.LineLaws.{up-on, up-stops, up-none}
 use Rattle.matrices.specs.Told.{untold, toldOr}
 use Rattle.matrices.proofs.MatrixLaws.{matrix-stays, told-untold}
 use Rattle.noting.specs.declared.Note as noting
@@ -36,18 +36,8 @@ use Rattle.noting.specs.Noting.{Bounded, Adds}
 use Rattle.body.specs.declared.Data.{Data}
 use Rattle.body.specs.declared.BodyWalk.{BodyWalk}
 use Rattle.body.specs.Body.{noNote, Behind, Extends, Ends, Takes, Goes, noteOf}
+use Rattle.body.specs.Run.{Left, Gone}
 use Rattle.body.proofs.LineLaws.{no-bounded, behind-same}
-
--- what is left of a matrix' lines, noted behind what is noted, gives what all of them give
-pub record Left (t : List ℕ) (n₀ at₀ form : ℕ) (table₀ : List ℕ) (values₀ n at : ℕ) (table : List ℕ) (values : ℕ) (a : noting.Note) : Type 0 where
-  pub image :
-      sets table (3 * values) (valuesWords (valuesFrom form (a .row) (a .column) (bodyLines t n at)))
-      ≡ sets table₀ (3 * values₀) (valuesWords (valuesFrom form 1 1 (bodyLines t n₀ at₀)))
-  pub count : values + length (valuesFrom form (a .row) (a .column) (bodyLines t n at)) ≡ values₀ + length (valuesFrom form 1 1 (bodyLines t n₀ at₀))
-  pub bandwidth : toldOr (a .bandwidth) (bandwidthIn (bodyLines t n at)) ≡ bandwidthIn (bodyLines t n₀ at₀)
-  pub greatest : max (a .greatest) (greatestIn form (bodyLines t n at)) ≡ greatestIn form (bodyLines t n₀ at₀)
-  pub skipped : Skipped inMatrix (linesAt t n₀ at₀ place.matrix) (linesAt t n at place.matrix)
-  pub room : 3 * values ≤ length table
 
 -- the same lines, told otherwise
 module _ (t : List ℕ) (n₀ at₀ form : ℕ) (table₀ : List ℕ) (values₀ n at n' at' : ℕ) (table : List ℕ) (values : ℕ) (a : noting.Note) where
@@ -59,7 +49,7 @@ module _ (t : List ℕ) (n₀ at₀ form : ℕ) (table₀ : List ℕ) (values₀
         count = rw body at (left .count);
         bandwidth = rw body at (left .bandwidth);
         greatest = rw body at (left .greatest);
-        skipped = rw lines at (left .skipped);
+        rest = λ (ls : List Line) (e : linesAt t n' at' place.matrix ≡ bodyLines t n' at' ++ ls). left .rest ls (lines ∙ e ∙ ap (λ (x : List Line). x ++ ls) (sym body));
         room = left .room;
       }
 
@@ -75,7 +65,8 @@ module _ (t : List ℕ) (n₀ at₀ form : ℕ) (table₀ : List ℕ) (values₀
           count = adds .count (bodyLines t n' at') ∙ rw body-on at (left .count);
           bandwidth = adds .bandwidth (bodyLines t n' at') ∙ rw body-on at (left .bandwidth);
           greatest = adds .greatest (bodyLines t n' at') ∙ rw body-on at (left .greatest);
-          skipped = skipped-on inMatrix _ _ (left .skipped) l (linesAt t n' at' place.matrix) lines inside;
+          rest = λ (ls : List Line) (e : linesAt t n' at' place.matrix ≡ bodyLines t n' at' ++ ls).
+              left .rest ls (lines ∙ ap (λ (x : List Line). l ∷ x) e ∙ ap (λ (x : List Line). x ++ ls) (sym body-on));
           room = adds .room (left .room);
         }
 
@@ -140,20 +131,12 @@ module _ (t : List ℕ) (n₀ at₀ form : ℕ) (table₀ : List ℕ) (values₀
         count-is = omega arith;
         bandwidth-is = rw none at (left .bandwidth);
         greatest-is = omega arith;
-        rest = skipped-done inMatrix _ _ (left .skipped) none;
+        rest = left .rest (linesAt t n at place.matrix) (ap (λ (x : List Line). x ++ linesAt t n at place.matrix) (sym none));
         placed = placed;
         onward = onward;
       }
 
--- how far the lines of a matrix have been gone over, no rule being broken
-pub record Gone (t : List ℕ) (at line : ℕ) (m : Matrix) (values : ℕ) (table₀ : List ℕ) (here number : ℕ) (part : Data) (table : List ℕ) : Type 0 where
-  pub whole : part .number ≡ 0
-  pub crossed : Crossed t at line (Holds place.matrix (withMatrix m values)) (withMatrix (part .matrix) (part .values)) (part .number) here number
-  pub form : part .matrix .form ≡ m .form
-  pub behind : Behind values table₀ table
-  pub rises : values ≤ part .values
-  pub bounded : Bounded (part .note) (part .values)
-  pub left : part .note .whole ≡ true → Left t line at (m .form) table₀ values number here table (part .values) (part .note)
+-- ---- lines gone over
 
 pub gone-start : (t : List ℕ) (at line : ℕ) (m : Matrix) (values : ℕ) (table : List ℕ) (b : Bool) → at ≤ length t → (b ≡ true → 3 * values ≤ length table) → (n : noting.Note) → n ≡ noNote b →
     Gone t at line m values table at line (record { taken = true; ends = false; number = 0; matrix = m; values = values; note = n }) table
@@ -172,12 +155,12 @@ gone-start t at line m values table b h room n told =
             count = refl;
             bandwidth = told-untold _;
             greatest = omega arith;
-            skipped = skipped-start inMatrix (linesAt t line at place.matrix);
+            rest = λ (ls : List Line) (e : linesAt t line at place.matrix ≡ bodyLines t line at ++ ls). e;
             room = room e;
           };
     })
 
-behind-on : (v w : ℕ) (a b c : List ℕ) → v ≤ w → Behind v a b → Behind w b c → Behind v a c
+pub behind-on : (v w : ℕ) (a b c : List ℕ) → v ≤ w → Behind v a b → Behind w b c → Behind v a c
 behind-on v w a b c h p q =
     record {
       long = q .long ∙ p .long;

@@ -2,18 +2,22 @@
 // read them again.
 ghost use mathlib.Core.Path.{_≡_};
 ghost use mathlib.Core.Bool.{true, false};
-ghost use Prim.Native.Nat.{_+_, _*_, _≤_, max};
+ghost use Prim.Native.Nat.{_+_, _*_, _≤_, _<_, max};
 ghost use lib.ListN.{length};
 ghost use Rattle.text.specs.Lines.{isBlankLine};
 ghost use Rattle.keyword.specs.Bracket.{bracketOf};
 ghost use Rattle.keyword.specs.declared.Bracket.the-variants.{Plain, Keyword};
 ghost use Rattle.place.specs.Place.{keepsMatrix};
 ghost use Rattle.reading.specs.Walk.{Opens};
+ghost use Rattle.matrix.specs.Matrix.{sparse, mostValues};
+ghost use Rattle.matrices.specs.Numbers.{mostGiven};
 ghost use Rattle.noting.specs.Noting.{Bounded};
 ghost use Rattle.body.specs.Body.{noNote, wholeNote, keptNote, Keeps, Takes, TakesAlone, Goes};
+ghost use Rattle.body.specs.Run.{Leads, Ordered, Runs, numbersPart, TakesNumbers, pairsMatrix, pairsPart, TakesPair};
 use keyword::Bracket;
 use matrices::First;
 use matrix::Matrix;
+use matrix::Rows;
 use noting::Note;
 use reading::Front;
 
@@ -233,6 +237,310 @@ fn has_room(values: u64, words: usize) -> bool
         return false;
     }
     3 * values <= (words as u64)
+}
+
+// ---- runs of plain lines: what they change is kept in numbers of its own while they last, and any other line is left to take_data
+
+// Where a run of lines ends, and what the lines of the matrix come to there.
+struct Run {
+    at: usize,
+    line: u64,
+    part: Data,
+}
+
+// A line of numbers: whether it is taken, whether what is noted still tells all, how many values are read, and where the next stands.
+struct TakenNumbers {
+    taken: bool,
+    whole: bool,
+    values: u64,
+    row: u64,
+    column: u64,
+}
+
+// A line that is no part of the run. One whose numbers are stored though it breaks a rule spoils what is noted.
+fn left_numbers(whole: bool, values: u64, row: u64, column: u64) -> TakenNumbers
+    ensures { λ r. ⌜ r ≡ record { taken = false; whole = whole; values = values; row = row; column = column } ⌝ }
+{
+    TakenNumbers {
+        taken: false,
+        whole,
+        values,
+        row,
+        column,
+    }
+}
+
+fn plain_numbers(
+    content: &[u8],
+    form: u64,
+    values: u64,
+    table: &mut [u64],
+    row: u64,
+    column: u64,
+) -> TakenNumbers
+    requires { ⌜ (isBlankLine (now content) ≡ false) × (bracketOf (now content) ≡ Plain) ⌝ ∗ ⌜ row ≤ mostGiven + values ⌝
+        ∗ ⌜ column ≤ mostGiven + values ⌝ ∗ ⌜ values ≤ mostValues ⌝ ∗ ⌜ (form ≡ sparse → ⊥) ⌝ }
+    ensures { λ r. ⌜ TakesNumbers (now (content .entry)) form values row column (now (table .entry)) r (now (table .exit)) ⌝ }
+{
+    let numbers = noting::read_numbers(content, form, values, table, row, column);
+    if !numbers.noted {
+        return left_numbers(true, values, row, column);
+    }
+    if !base::and(numbers.formed, numbers.bounded) {
+        return left_numbers(false, values, row, column);
+    }
+    if MOST_VALUES - values < numbers.count {
+        return left_numbers(false, values, row, column);
+    }
+    TakenNumbers {
+        taken: true,
+        whole: true,
+        values: values + numbers.count,
+        row: numbers.row,
+        column: numbers.column,
+    }
+}
+
+fn take_numbers(
+    content: &[u8],
+    form: u64,
+    values: u64,
+    table: &mut [u64],
+    row: u64,
+    column: u64,
+) -> TakenNumbers
+    requires { ⌜ row ≤ mostGiven + values ⌝ ∗ ⌜ column ≤ mostGiven + values ⌝ ∗ ⌜ values ≤ mostValues ⌝ ∗ ⌜ (form ≡ sparse → ⊥) ⌝ }
+    ensures { λ r. ⌜ TakesNumbers (now (content .entry)) form values row column (now (table .entry)) r (now (table .exit)) ⌝ }
+{
+    match reading::front_of(content) {
+        Front::Blanks => left_numbers(true, values, row, column),
+        Front::Words => plain_numbers(content, form, values, table, row, column),
+        Front::Opening => left_numbers(true, values, row, column),
+    }
+}
+
+fn numbers_passed(at: usize, line: u64, part: Data, whole: bool, values: u64, row: u64, column: u64) -> Run
+    ensures { λ r. ⌜ r ≡ record { at = at; line = line; part = numbersPart part whole values row column } ⌝ }
+{
+    let matrix = part.matrix;
+    let before = part.note;
+    let bandwidth = before.bandwidth;
+    let note = Note {
+        whole,
+        row,
+        column,
+        bandwidth,
+        greatest: before.greatest,
+    };
+    let reached = Data {
+        taken: true,
+        ends: false,
+        number: 0,
+        matrix,
+        values,
+        note,
+    };
+    Run {
+        at,
+        line,
+        part: reached,
+    }
+}
+
+// A run of lines of numbers.
+fn pass_numbers(text: &[u8], at: usize, line: u64, part: Data, table: &mut [u64]) -> Run
+    requires { ⌜ Runs (now text) at line part ⌝ ∗ ⌜ (part .matrix .form ≡ sparse → ⊥) ⌝ }
+    ensures { λ r. ⌜ Leads (now (text .entry)) at line part (now (table .entry)) r (now (table .exit)) ⌝ }
+{
+    let matrix = part.matrix;
+    let form = matrix.form;
+    let note = part.note;
+    let mut here = at;
+    let mut number = line;
+    let mut values = part.values;
+    let mut row = note.row;
+    let mut column = note.column;
+    while here < text.len() {
+        let found = text::line_at(text, here, COMMENT);
+        let content = found.content;
+        let next = take_numbers(&text[here..content], form, values, table, row, column);
+        if !next.taken {
+            return numbers_passed(here, number, part, next.whole, values, row, column);
+        }
+        here = found.next;
+        number += 1;
+        values = next.values;
+        row = next.row;
+        column = next.column;
+    }
+    numbers_passed(here, number, part, true, values, row, column)
+}
+
+// A line of a Sparse_matrix: whether it is taken, whether what is noted still tells all, and its column.
+struct TakenPair {
+    taken: bool,
+    whole: bool,
+    column: u64,
+}
+
+// A line that is no part of the run.
+fn left_pair(whole: bool) -> TakenPair
+    ensures { λ r. ⌜ r ≡ record { taken = false; whole = whole; column = 0 } ⌝ }
+{
+    TakenPair {
+        taken: false,
+        whole,
+        column: 0,
+    }
+}
+
+fn plain_pair(content: &[u8], values: u64, table: &mut [u64], row: u64) -> TakenPair
+    requires { ⌜ (isBlankLine (now content) ≡ false) × (bracketOf (now content) ≡ Plain) ⌝ ∗ ⌜ row ≤ mostGiven + values ⌝ }
+    ensures { λ r. ⌜ TakesPair (now (content .entry)) values row (now (table .entry)) r (now (table .exit)) ⌝ }
+{
+    let pair = noting::read_pair(content, values, table, row);
+    if !pair.noted {
+        return left_pair(true);
+    }
+    if !base::and(pair.formed, pair.bounded) {
+        return left_pair(false);
+    }
+    if MOST_VALUES <= values {
+        return left_pair(false);
+    }
+    TakenPair {
+        taken: true,
+        whole: true,
+        column: pair.column,
+    }
+}
+
+fn take_pair(content: &[u8], values: u64, table: &mut [u64], row: u64) -> TakenPair
+    requires { ⌜ row ≤ mostGiven + values ⌝ }
+    ensures { λ r. ⌜ TakesPair (now (content .entry)) values row (now (table .entry)) r (now (table .exit)) ⌝ }
+{
+    match reading::front_of(content) {
+        Front::Blanks => left_pair(true),
+        Front::Words => plain_pair(content, values, table, row),
+        Front::Opening => left_pair(true),
+    }
+}
+
+// What a run of lines of a Sparse_matrix changes of its rows.
+fn pairs_matrix(matrix: Matrix, least: u64, greatest: u64, fits: bool) -> Matrix
+    ensures { λ r. ⌜ r ≡ pairsMatrix matrix least greatest fits ⌝ }
+{
+    let before = matrix.rows;
+    let rows = Rows {
+        row: before.row,
+        above: before.above,
+        from: before.from,
+        least,
+        greatest,
+        fits,
+    };
+    Matrix {
+        form: matrix.form,
+        band: matrix.band,
+        first: matrix.first,
+        rows,
+    }
+}
+
+fn pairs_passed(at: usize, line: u64, part: Data, whole: bool, values: u64, matrix: Matrix, named: u64) -> Run
+    ensures { λ r. ⌜ r ≡ record { at = at; line = line; part = pairsPart part whole values matrix named } ⌝ }
+{
+    let before = part.note;
+    let bandwidth = before.bandwidth;
+    let note = Note {
+        whole,
+        row: before.row,
+        column: before.column,
+        bandwidth,
+        greatest: named,
+    };
+    let reached = Data {
+        taken: true,
+        ends: false,
+        number: 0,
+        matrix,
+        values,
+        note,
+    };
+    Run {
+        at,
+        line,
+        part: reached,
+    }
+}
+
+// A run of lines of a Sparse_matrix.
+fn pass_pairs(text: &[u8], at: usize, line: u64, part: Data, table: &mut [u64]) -> Run
+    requires { ⌜ Runs (now text) at line part ⌝ ∗ ⌜ part .matrix .form ≡ sparse ⌝ }
+    ensures { λ r. ⌜ Leads (now (text .entry)) at line part (now (table .entry)) r (now (table .exit)) ⌝ }
+{
+    let matrix = part.matrix;
+    let rows = matrix.rows;
+    let note = part.note;
+    let row = note.row;
+    let mut here = at;
+    let mut number = line;
+    let mut values = part.values;
+    let mut least = rows.least;
+    let mut greatest = rows.greatest;
+    let mut fits = rows.fits;
+    let mut named = note.greatest;
+    while here < text.len() {
+        let found = text::line_at(text, here, COMMENT);
+        let content = found.content;
+        let next = take_pair(&text[here..content], values, table, row);
+        if !next.taken {
+            let reached = pairs_matrix(matrix, least, greatest, fits);
+            return pairs_passed(here, number, part, next.whole, values, reached, named);
+        }
+        here = found.next;
+        number += 1;
+        values += 1;
+        fits = base::and(fits, least <= next.column);
+        least = next.column + 1;
+        greatest = greater(greatest, next.column);
+        named = greater(named, next.column);
+    }
+    let reached = pairs_matrix(matrix, least, greatest, fits);
+    pairs_passed(here, number, part, true, values, reached, named)
+}
+
+// A form with rows has one.
+fn is_ordered(matrix: Matrix) -> bool
+    ensures { λ r. ⌜ (r ≡ true → Ordered matrix) ⌝ }
+{
+    if matrix.form == matrix::DIAGONAL {
+        return true;
+    }
+    let rows = matrix.rows;
+    rows.row != 0
+}
+
+// A run of plain lines, which may be none.
+fn pass_run(text: &[u8], at: usize, line: u64, part: Data, table: &mut [u64]) -> Run
+    requires { ⌜ at ≤ length (now text) ⌝ ∗ ⌜ line ≤ at + 1 ⌝ ∗ ⌜ Bounded (part .note) (part .values) ⌝ }
+    ensures { λ r. ⌜ Leads (now (text .entry)) at line part (now (table .entry)) r (now (table .exit)) ⌝ }
+{
+    let note = part.note;
+    if !note.whole {
+        return Run { at, line, part };
+    }
+    if MOST_VALUES < part.values {
+        return Run { at, line, part };
+    }
+    let matrix = part.matrix;
+    if !is_ordered(matrix) {
+        return Run { at, line, part };
+    }
+    if matrix.form == matrix::SPARSE {
+        return pass_pairs(text, at, line, part, table);
+    }
+    pass_numbers(text, at, line, part, table)
 }
 
 // Goes over the lines of a matrix, up to the keyword that ends it.

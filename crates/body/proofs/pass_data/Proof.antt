@@ -9,7 +9,8 @@ use Rattle.reading.proofs.WalkLaws.{content-start, content-within}
 use Rattle.reading.proofs.CrossLaws.{crossed-less}
 use Rattle.place.specs.Place as place
 use Rattle.reading.specs.Walk.{Crossed, Holds, withMatrix}
-use Rattle.body.proofs.BodyLaws.{Gone, gone-start, gone-ends, gone-leaves, gone-stops, gone-on}
+use Rattle.body.proofs.BodyLaws.{gone-start, gone-ends, gone-leaves, gone-stops, gone-on}
+use Rattle.body.specs.Run.{Gone}
 use borrow.Author.Needs.{needs}
 use Rattle.body.proofs.pass_data.Statement.{statement}
 use Rattle.body.proofs.pass_data.Tie as tie

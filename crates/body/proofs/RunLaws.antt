@@ -1,0 +1,469 @@
+-- Laws of runs of plain lines inside a matrix: one line of them, and how far a run has come.
+-- Assumes nothing.
+use mathlib.Core.Path.{_≡_, refl, sym, _∙_, ap}
+use mathlib.Core.Bool.{Bool, true, false, not, true≢false}
+use mathlib.Core.List.{List}
+use Prim.Native.Nat.{ℕ, _+_, _-_, _*_, _≤_, _<_, max}
+use native.Mathlib.Nat.{le-refl, le-trans}
+use native.Mathlib.Omega.{arith}
+use lib.ListN.{length, take, drop}
+use lib.Dec.{eqb, leb}
+use borrow.Author.Tests.{eq-eqb, ne-eqb, not-true, not-false, le-ltb}
+use Rattle.base.specs.If.{both, either}
+use Rattle.base.proofs.IfLaws.{if-true, if-false, by-cases, both-first, both-second, both-not-left, both-not-right, either-false, not-not-via}
+use Rattle.base.proofs.BrokenLaws.{gives-later}
+use Rattle.text.specs.Lines.{isBlankLine, lineAt}
+use Rattle.text.specs.declared.Line as text
+use Rattle.text.proofs.LineLaws.{next-on, next-within}
+use Rattle.keyword.specs.Bracket.{bracketOf}
+use Rattle.keyword.specs.declared.Bracket.the-variants.{Plain}
+use Rattle.place.specs.Place as place
+use Rattle.matrix.specs.Matrix.{diagonal, sparse, mostValues, dataLineOf, isOutOfOrder, areTooMany, dataRule, withColumn, dataNext}
+use Rattle.matrix.specs.declared.Matrix.{Matrix}
+use Rattle.matrix.specs.declared.DataLine.{DataLine}
+use Rattle.reading.specs.Reading.{commentByte}
+use Rattle.reading.proofs.KeptLaws.{column-small}
+use Rattle.document.specs.Lines.{Line, plain, keyOf}
+use Rattle.matrices.specs.Numbers.{mostGiven}
+use Rattle.noting.specs.declared.Note.{Note}
+use Rattle.noting.specs.declared.Noting.{Noting}
+use Rattle.noting.specs.declared.Numbers.{Numbers}
+use Rattle.noting.specs.declared.Pair.{Pair}
+use Rattle.noting.specs.Noting.{Bounded, Adds, movedTo, namedTo, NotesNumbers, NotesPair}
+use Rattle.body.specs.declared.Data.{Data}
+use Rattle.body.specs.declared.Run.{Run}
+use Rattle.body.specs.declared.TakenNumbers.{TakenNumbers}
+use Rattle.body.specs.declared.TakenPair.{TakenPair}
+use Rattle.body.specs.Body.{Behind, Takes}
+use Rattle.body.specs.Run.{Left, Gone, Leads, Ordered, Runs, numbersPart, TakesNumbers, pairsMatrix, pairsPart, TakesPair}
+use Rattle.body.proofs.LineLaws.{behind-same, whole-told, numbers-go}
+use Rattle.body.proofs.BodyLaws.{behind-on, gone-on}
+
+-- ---- a line that breaks no rule
+
+module _ (m : Matrix) where
+  pub diagonal-ordered : m .form ≡ 0 → true ≡ true → Ordered m
+  diagonal-ordered e w = both-not-left _ _ (not-not-via (eq-eqb _ _ e))
+
+  pub rowed-ordered : not (eqb (m .rows .row) 0) ≡ true → Ordered m
+  rowed-ordered e = both-not-right _ _ (not-true _ e)
+
+rule-kept : (l : DataLine) (m : Matrix) (values : ℕ) → l .right ≡ true → Ordered m → l .formed ≡ true → l .bounded ≡ true →
+    values + l .numbers ≤ mostValues → 0 ≡ dataRule l m values
+unfolding dataRule isOutOfOrder areTooMany
+rule-kept l m values right ordered formed bounded few =
+    let out : isOutOfOrder l m ≡ false = either-false _ _ (not-not-via right) ordered in
+    let many : areTooMany values (l .numbers) ≡ false = le-ltb _ _ few in
+    gives-later _ _ _ 0 out
+    (gives-later _ _ _ 0 (not-not-via formed) (gives-later _ _ _ 0 (not-not-via bounded) (gives-later _ _ _ 0 many refl)))
+
+-- ---- one line of numbers
+
+module _ (content : List ℕ) (form values row column : ℕ) (table : List ℕ) where
+  pub numbers-left : (r : TakenNumbers) → r ≡ record { taken = false; whole = true; values = values; row = row; column = column } →
+      TakesNumbers content form values row column table r table
+  numbers-left r e =
+      rw e
+      (record {
+        behind = behind-same values table;
+        kept = λ (z : false ≡ false) (w : true ≡ true). refl;
+        few = λ (z : false ≡ true). absurd (true≢false (sym z));
+        takes = λ (z : false ≡ true). absurd (true≢false (sym z));
+      })
+
+  module _ (table' : List ℕ) (numbers : Numbers) (read : NotesNumbers form content table values row column table' numbers) where
+    behind-read : Behind values table table'
+    behind-read = record { long = read .long; same = read .front }
+
+    pub numbers-unnoted : not (numbers .noted) ≡ true → (r : TakenNumbers) →
+        r ≡ record { taken = false; whole = true; values = values; row = row; column = column } →
+        TakesNumbers content form values row column table r table'
+    numbers-unnoted lost r e =
+        rw e
+        (record {
+          behind = behind-read;
+          kept = λ (z : false ≡ false) (w : true ≡ true). read .kept (not-true (numbers .noted) lost);
+          few = λ (z : false ≡ true). absurd (true≢false (sym z));
+          takes = λ (z : false ≡ true). absurd (true≢false (sym z));
+        })
+
+    pub numbers-spoilt : (r : TakenNumbers) → r ≡ record { taken = false; whole = false; values = values; row = row; column = column } →
+        TakesNumbers content form values row column table r table'
+    numbers-spoilt r e =
+        rw e
+        (record {
+          behind = behind-read;
+          kept = λ (z : false ≡ false) (w : false ≡ true). absurd (true≢false (sym w));
+          few = λ (z : false ≡ true). absurd (true≢false (sym z));
+          takes = λ (z : false ≡ true). absurd (true≢false (sym z));
+        })
+
+    module _ (filled : isBlankLine content ≡ false) (plainly : bracketOf content ≡ Plain) (not-sparse : form ≡ sparse → ⊥)
+        (noted : numbers .noted ≡ true) (formed : numbers .formed ≡ true) (bounded : numbers .bounded ≡ true)
+        (few : values + numbers .count ≤ mostValues) where
+      abbrev line : DataLine
+      line = record { numbers = numbers .count; column = 0; right = true; formed = numbers .formed; bounded = numbers .bounded }
+
+      module _ (m : Matrix) (form-is : m .form ≡ form) (ordered : Ordered m) (a : Note) (whole : a .whole ≡ true) (row-is : a .row ≡ row)
+          (column-is : a .column ≡ column) where
+        abbrev noting : Noting
+        noting = record { line = line; note = movedTo (numbers .row) (numbers .column) a }
+
+        line-read : noting .line ≡ dataLineOf (m .form) content
+        line-read = rw form-is (read .line-is noted)
+
+        line-adds : (l : Line) → l .content ≡ content → keyOf l ≡ plain →
+            Adds (m .form) l table values a table' (values + numbers .count) (movedTo (numbers .row) (numbers .column) a)
+        line-adds l same is-plain = rw form-is (read .adds noted a whole row-is column-is l same is-plain)
+
+        matrix-stays : m ≡ dataNext line m
+        unfolding dataNext
+        matrix-stays = sym (if-false _ _ (ne-eqb _ _ (λ (e : m .form ≡ sparse). not-sparse (sym form-is ∙ e))))
+
+        line-taken : Takes content m values a table
+            (record { taken = true; ends = false; number = 0; matrix = m; values = values + numbers .count; note = movedTo (numbers .row) (numbers .column) a }) table'
+        line-taken =
+            numbers-go content filled plainly m values a table table' noting line-read (read .long) (read .front)
+            (λ (w : true ≡ true). line-adds) 0 (rule-kept line m values refl ordered formed bounded few) refl m matrix-stays
+            (movedTo (numbers .row) (numbers .column) a) (whole-told (movedTo (numbers .row) (numbers .column) a) refl)
+
+      all-taken : TakesNumbers content form values row column table
+          (record { taken = true; whole = true; values = values + numbers .count; row = numbers .row; column = numbers .column }) table'
+      all-taken =
+          record {
+            behind = behind-read;
+            kept = λ (z : true ≡ false). absurd (true≢false z);
+            few = λ (z : true ≡ true). few;
+            takes = λ (z : true ≡ true). line-taken;
+          }
+
+    pub numbers-taken : isBlankLine content ≡ false → bracketOf content ≡ Plain → (form ≡ sparse → ⊥) → values ≤ mostValues →
+        not (numbers .noted) ≡ false → (fine : Bool) → fine ≡ both (numbers .formed) (numbers .bounded) → not fine ≡ false →
+        numbers .count ≤ mostValues - values →
+        TakesNumbers content form values row column table
+        (record { taken = true; whole = true; values = values + numbers .count; row = numbers .row; column = numbers .column }) table'
+    numbers-taken filled plainly not-sparse most noted fine fine-is tested few =
+        let f : both (numbers .formed) (numbers .bounded) ≡ true = sym fine-is ∙ not-false fine tested in
+        all-taken filled plainly not-sparse (not-false (numbers .noted) noted) (both-first _ _ f) (both-second _ _ f) (omega arith)
+
+-- ---- one line of a column and a value
+
+module _ (content : List ℕ) (values row : ℕ) (table : List ℕ) where
+  pub pair-left : (r : TakenPair) → r ≡ record { taken = false; whole = true; column = 0 } → TakesPair content values row table r table
+  pair-left r e =
+      rw e
+      (record {
+        behind = behind-same values table;
+        kept = λ (z : false ≡ false) (w : true ≡ true). refl;
+        few = λ (z : false ≡ true). absurd (true≢false (sym z));
+        narrow = λ (z : false ≡ true). absurd (true≢false (sym z));
+        takes = λ (z : false ≡ true). absurd (true≢false (sym z));
+      })
+
+  module _ (table' : List ℕ) (pair : Pair) (read : NotesPair content table values row table' pair) where
+    pair-behind : Behind values table table'
+    pair-behind = record { long = read .long; same = read .front }
+
+    pub pair-unnoted : not (pair .noted) ≡ true → (r : TakenPair) → r ≡ record { taken = false; whole = true; column = 0 } →
+        TakesPair content values row table r table'
+    pair-unnoted lost r e =
+        rw e
+        (record {
+          behind = pair-behind;
+          kept = λ (z : false ≡ false) (w : true ≡ true). read .kept (not-true (pair .noted) lost);
+          few = λ (z : false ≡ true). absurd (true≢false (sym z));
+          narrow = λ (z : false ≡ true). absurd (true≢false (sym z));
+          takes = λ (z : false ≡ true). absurd (true≢false (sym z));
+        })
+
+    pub pair-spoilt : (r : TakenPair) → r ≡ record { taken = false; whole = false; column = 0 } → TakesPair content values row table r table'
+    pair-spoilt r e =
+        rw e
+        (record {
+          behind = pair-behind;
+          kept = λ (z : false ≡ false) (w : false ≡ true). absurd (true≢false (sym w));
+          few = λ (z : false ≡ true). absurd (true≢false (sym z));
+          narrow = λ (z : false ≡ true). absurd (true≢false (sym z));
+          takes = λ (z : false ≡ true). absurd (true≢false (sym z));
+        })
+
+    module _ (filled : isBlankLine content ≡ false) (plainly : bracketOf content ≡ Plain) (noted : pair .noted ≡ true)
+        (formed : pair .formed ≡ true) (bounded : pair .bounded ≡ true) (few : values < mostValues) where
+      abbrev pairLine : DataLine
+      pairLine = record { numbers = 1; column = pair .column; right = true; formed = pair .formed; bounded = pair .bounded }
+
+      module _ (m : Matrix) (form-is : m .form ≡ sparse) (ordered : Ordered m) (a : Note) (whole : a .whole ≡ true) (bound : Bounded a values)
+          (row-is : a .row ≡ row) where
+        abbrev pairNoting : Noting
+        pairNoting = record { line = pairLine; note = namedTo (pair .column) a }
+
+        pair-read : pairNoting .line ≡ dataLineOf (m .form) content
+        pair-read = rw form-is (read .line-is noted)
+
+        pair-adds : (l : Line) → l .content ≡ content → keyOf l ≡ plain →
+            Adds (m .form) l table values a table' (values + 1) (namedTo (pair .column) a)
+        pair-adds l same is-plain = rw form-is (read .adds noted a whole bound row-is l same is-plain)
+
+        matrix-moves : withColumn (pair .column) m ≡ dataNext pairLine m
+        unfolding dataNext
+        matrix-moves = sym (if-true _ _ (eq-eqb _ _ form-is))
+
+        pair-taken-here : Takes content m values a table
+            (record { taken = true; ends = false; number = 0; matrix = withColumn (pair .column) m; values = values + 1; note = namedTo (pair .column) a }) table'
+        pair-taken-here =
+            numbers-go content filled plainly m values a table table' pairNoting pair-read (read .long) (read .front)
+            (λ (w : true ≡ true). pair-adds) 0 (rule-kept pairLine m values refl ordered formed bounded (omega arith)) refl
+            (withColumn (pair .column) m) matrix-moves (namedTo (pair .column) a) (whole-told (namedTo (pair .column) a) refl)
+
+      pair-all : TakesPair content values row table (record { taken = true; whole = true; column = pair .column }) table'
+      pair-all =
+          record {
+            behind = pair-behind;
+            kept = λ (z : true ≡ false). absurd (true≢false z);
+            few = λ (z : true ≡ true). few;
+            narrow = λ (z : true ≡ true). column-small sparse content pairLine (read .line-is noted);
+            takes = λ (z : true ≡ true). pair-taken-here;
+          }
+
+    pub pair-taken : isBlankLine content ≡ false → bracketOf content ≡ Plain → not (pair .noted) ≡ false → (fine : Bool) →
+        fine ≡ both (pair .formed) (pair .bounded) → not fine ≡ false → values < mostValues →
+        TakesPair content values row table (record { taken = true; whole = true; column = pair .column }) table'
+    pair-taken filled plainly noted fine fine-is tested few =
+        let f : both (pair .formed) (pair .bounded) ≡ true = sym fine-is ∙ not-false fine tested in
+        pair-all filled plainly (not-false (pair .noted) noted) (both-first _ _ f) (both-second _ _ f) few
+
+-- ---- how far a run has come
+
+pub record On (t : List ℕ) (at line : ℕ) (part : Data) (table₀ : List ℕ) (here number : ℕ) (reached : Data) (table : List ℕ) : Type 0 where
+  pub leads : Leads t at line part table₀ (record { at = here; line = number; part = reached }) table
+  pub counted : number ≤ here + 1
+  pub bounded : Bounded (reached .note) (reached .values)
+  pub few : reached .values ≤ mostValues
+  pub whole : reached .note .whole ≡ true
+
+-- no line at all
+pub leads-none : (t : List ℕ) (at line : ℕ) (part : Data) (table : List ℕ) → Leads t at line part table (record { at = at; line = line; part = part }) table
+leads-none t at line part table =
+    record {
+      gone = λ (at₀ line₀ : ℕ) (m : Matrix) (values : ℕ) (table₀ : List ℕ) (g : Gone t at₀ line₀ m values table₀ at line part table). g;
+      onward = le-refl at;
+      long = refl;
+    }
+
+-- what is reached is told again by its fields
+module _ (t : List ℕ) (at line : ℕ) (part : Data) (table : List ℕ) (runs : Runs t at line part) (reached : Data) (broken : reached .number ≡ 0)
+    (matrix : reached .matrix ≡ part .matrix) (values : reached .values ≡ part .values) (note : reached .note ≡ part .note) where
+  again : (at₀ line₀ : ℕ) (m : Matrix) (values₀ : ℕ) (table₀ : List ℕ) → Gone t at₀ line₀ m values₀ table₀ at line part table →
+      Gone t at₀ line₀ m values₀ table₀ at line reached table
+  again at₀ line₀ m values₀ table₀ g =
+      record {
+        whole = broken;
+        crossed = rw (broken, matrix, values) (rw (g .whole) at (g .crossed));
+        form = rw matrix (g .form);
+        behind = g .behind;
+        rises = rw values (g .rises);
+        bounded = rw (note, values) (g .bounded);
+        left = λ (w : reached .note .whole ≡ true). rw (note, values) (g .left (runs .whole));
+      }
+
+  on-start : On t at line part table at line reached table
+  on-start =
+      record {
+        leads = record { gone = again; onward = le-refl at; long = refl };
+        counted = runs .counted;
+        bounded = rw (note, values) (runs .bounded);
+        few = rw values (runs .few);
+        whole = ap (λ (a : Note). a .whole) note ∙ runs .whole;
+      }
+
+module _ (t : List ℕ) (at line : ℕ) (part : Data) (table₀ : List ℕ) (here number : ℕ) (reached : Data) (table : List ℕ)
+    (on : On t at line part table₀ here number reached table) where
+  -- one line more
+  module _ (h : here < length t) (found : text.Line) (is-found : found ≡ lineAt commentByte t here) (next : Data) (table' : List ℕ)
+      (takes : Takes (take (found .content - here) (drop here t)) (reached .matrix) (reached .values) (reached .note) table next table')
+      (taken : next .taken ≡ true) (kept : next .number ≡ 0) (few : next .values ≤ mostValues) (whole : next .note .whole ≡ true) where
+    on-next : On t at line part table₀ (found .next) (number + 1) next table'
+    on-next =
+        let f : here < found .next = rw is-found (next-on commentByte t here h) in
+        let c : number ≤ here + 1 = on .counted in
+        let o : at ≤ here = on .leads .onward in
+        record {
+          leads =
+              record {
+                gone = λ (at₀ line₀ : ℕ) (m : Matrix) (values : ℕ) (first : List ℕ) (g : Gone t at₀ line₀ m values first at line part table₀).
+                    gone-on t at₀ line₀ m values first here number reached table (on .leads .gone at₀ line₀ m values first g) h found is-found next table'
+                    takes taken kept;
+                onward = omega arith;
+                long = takes .behind .long ∙ on .leads .long;
+              };
+          counted = omega arith;
+          bounded = takes .bounded;
+          few = few;
+          whole = whole;
+        }
+
+  -- a line that is no part of the run: what it has changed, it has changed behind the values, and then not all is told
+  module _ (table' : List ℕ) (behind : Behind (reached .values) table table') (left : Data) (broken : left .number ≡ 0)
+      (matrix : left .matrix ≡ reached .matrix) (values : left .values ≡ reached .values)
+      (bounded : Bounded (left .note) (reached .values))
+      (told : left .note .whole ≡ true → (table' ≡ table) × (left .note ≡ reached .note)) where
+    gone-left : (at₀ line₀ : ℕ) (m : Matrix) (values₀ : ℕ) (first : List ℕ) → Gone t at₀ line₀ m values₀ first here number reached table →
+        Gone t at₀ line₀ m values₀ first here number left table'
+    gone-left at₀ line₀ m values₀ first g =
+        record {
+          whole = broken;
+          crossed = rw (broken, matrix, values) (rw (g .whole) at (g .crossed));
+          form = rw matrix (g .form);
+          behind = behind-on values₀ (reached .values) first table table' (g .rises) (g .behind) behind;
+          rises = rw values (g .rises);
+          bounded = rw values bounded;
+          left = λ (w : left .note .whole ≡ true). rw (told w .0, told w .1, values) (g .left (on .whole));
+        }
+
+    left-leads : Leads t at line part table₀ (record { at = here; line = number; part = left }) table'
+    left-leads =
+        record {
+          gone = λ (at₀ line₀ : ℕ) (m : Matrix) (values₀ : ℕ) (first : List ℕ) (g : Gone t at₀ line₀ m values₀ first at line part table₀).
+              gone-left at₀ line₀ m values₀ first (on .leads .gone at₀ line₀ m values₀ first g);
+          onward = on .leads .onward;
+          long = behind .long ∙ on .leads .long;
+        }
+
+-- ---- a run of lines of numbers
+
+module _ (t : List ℕ) (at line : ℕ) (part : Data) (table₀ : List ℕ) where
+  pub numbers-start : Runs t at line part →
+      On t at line part table₀ at line (numbersPart part true (part .values) (part .note .row) (part .note .column)) table₀
+  unfolding numbersPart
+  numbers-start runs =
+      on-start t at line part table₀ runs _ refl refl refl
+      (λ i.
+      record {
+        whole = sym (runs .whole) i;
+        row = part .note .row;
+        column = part .note .column;
+        bandwidth = part .note .bandwidth;
+        greatest = part .note .greatest;
+      })
+
+  module _ (here number values row column : ℕ) (table : List ℕ)
+      (on : On t at line part table₀ here number (numbersPart part true values row column) table) where
+    -- no sum wraps at the line
+    pub numbers-row : row ≤ mostGiven + values
+    unfolding numbersPart
+    numbers-row = on .bounded .row
+
+    pub numbers-column : column ≤ mostGiven + values
+    unfolding numbersPart
+    numbers-column = on .bounded .column
+
+    pub numbers-few : values ≤ mostValues
+    unfolding numbersPart
+    numbers-few = on .few
+
+    pub numbers-end : (r : Run) → r ≡ record { at = here; line = number; part = numbersPart part true values row column } →
+        Leads t at line part table₀ r table
+    numbers-end r e = rw e (on .leads)
+
+    module _ (found : text.Line) (next : TakenNumbers) (table' : List ℕ)
+        (takes : TakesNumbers (take (found .content - here) (drop here t)) (part .matrix .form) values row column table next table') where
+      pub numbers-leave : not (next .taken) ≡ true → (r : Run) →
+          r ≡ record { at = here; line = number; part = numbersPart part (next .whole) values row column } → Leads t at line part table₀ r table'
+      unfolding numbersPart
+      numbers-leave left r e =
+          rw e
+          (left-leads t at line part table₀ here number _ table on table' (takes .behind) (numbersPart part (next .whole) values row column) refl refl
+          refl (record { row = on .bounded .row; column = on .bounded .column })
+          (λ (w : next .whole ≡ true). (takes .kept (not-true (next .taken) left) w, note-whole w)))
+        where
+          note-whole : next .whole ≡ true → numbersPart part (next .whole) values row column .note ≡ numbersPart part true values row column .note
+          note-whole w = ap (λ (b : Bool). numbersPart part b values row column .note) w
+
+      pub numbers-next : here < length t → found ≡ lineAt commentByte t here → not (next .taken) ≡ false → Ordered (part .matrix) →
+          On t at line part table₀ (found .next) (number + 1) (numbersPart part true (next .values) (next .row) (next .column)) table'
+      unfolding numbersPart
+      numbers-next h is-found left ordered =
+          let taken : next .taken ≡ true = not-false (next .taken) left in
+          on-next t at line part table₀ here number _ table on h found is-found _ table'
+          (takes .takes taken (part .matrix) refl ordered (numbersPart part true values row column .note) refl refl refl) refl refl (takes .few taken) refl
+
+-- ---- a run of lines of a Sparse_matrix
+
+module _ (t : List ℕ) (at line : ℕ) (part : Data) (table₀ : List ℕ) where
+  abbrev reachedPairs : ℕ → ℕ → ℕ → Bool → ℕ → Data
+  reachedPairs values least greatest fits named = pairsPart part true values (pairsMatrix (part .matrix) least greatest fits) named
+
+  pub pairs-start : Runs t at line part →
+      On t at line part table₀ at line
+      (pairsPart part true (part .values)
+      (pairsMatrix (part .matrix) (part .matrix .rows .least) (part .matrix .rows .greatest) (part .matrix .rows .fits)) (part .note .greatest)) table₀
+  unfolding pairsPart pairsMatrix
+  pairs-start runs =
+      on-start t at line part table₀ runs _ refl refl refl
+      (λ i.
+      record {
+        whole = sym (runs .whole) i;
+        row = part .note .row;
+        column = part .note .column;
+        bandwidth = part .note .bandwidth;
+        greatest = part .note .greatest;
+      })
+
+  module _ (here number values least greatest : ℕ) (fits : Bool) (named : ℕ) (table : List ℕ)
+      (on : On t at line part table₀ here number (pairsPart part true values (pairsMatrix (part .matrix) least greatest fits) named) table) where
+    pub pairs-row : part .note .row ≤ mostGiven + values
+    unfolding pairsPart
+    pairs-row = on .bounded .row
+
+    pub pairs-few : values ≤ mostValues
+    unfolding pairsPart
+    pairs-few = on .few
+
+    pub pairs-end : (m : Matrix) → m ≡ pairsMatrix (part .matrix) least greatest fits → (r : Run) →
+        r ≡ record { at = here; line = number; part = pairsPart part true values m named } → Leads t at line part table₀ r table
+    pairs-end m is r e = rw (e, is) (on .leads)
+
+    module _ (found : text.Line) (next : TakenPair) (table' : List ℕ)
+        (takes : TakesPair (take (found .content - here) (drop here t)) values (part .note .row) table next table') where
+      pub pairs-leave : not (next .taken) ≡ true → (m : Matrix) → m ≡ pairsMatrix (part .matrix) least greatest fits → (r : Run) →
+          r ≡ record { at = here; line = number; part = pairsPart part (next .whole) values m named } → Leads t at line part table₀ r table'
+      unfolding pairsPart
+      pairs-leave left m is r e =
+          rw (e, is)
+          (left-leads t at line part table₀ here number _ table on table' (takes .behind)
+          (pairsPart part (next .whole) values (pairsMatrix (part .matrix) least greatest fits) named) refl refl refl
+          (record { row = on .bounded .row; column = on .bounded .column })
+          (λ (w : next .whole ≡ true). (takes .kept (not-true (next .taken) left) w, note-whole w)))
+        where
+          note-whole : next .whole ≡ true →
+              pairsPart part (next .whole) values (pairsMatrix (part .matrix) least greatest fits) named .note
+              ≡ pairsPart part true values (pairsMatrix (part .matrix) least greatest fits) named .note
+          note-whole w = ap (λ (b : Bool). pairsPart part b values (pairsMatrix (part .matrix) least greatest fits) named .note) w
+
+      module _ (left : not (next .taken) ≡ false) where
+        pub pairs-narrow : next .column < 4_294_967_296
+        pairs-narrow = takes .narrow (not-false (next .taken) left)
+
+        pub pairs-more : values < mostValues
+        pairs-more = takes .few (not-false (next .taken) left)
+
+        moved : part .matrix .form ≡ sparse → Ordered (part .matrix) → here < length t → found ≡ lineAt commentByte t here →
+            On t at line part table₀ (found .next) (number + 1)
+            (pairsPart part true (values + 1)
+            (pairsMatrix (part .matrix) (next .column + 1) (max greatest (next .column)) (both fits (leb least (next .column))))
+            (max named (next .column))) table'
+        unfolding pairsPart pairsMatrix withColumn
+        moved form-is ordered h is-found =
+            let taken : next .taken ≡ true = not-false (next .taken) left in
+            let few : values < 65536 = takes .few taken in
+            let more : values + 1 ≤ 65536 = omega arith in
+            on-next t at line part table₀ here number _ table on h found is-found _ table'
+            (takes .takes taken (pairsMatrix (part .matrix) least greatest fits) form-is ordered (reachedPairs values least greatest fits named .note) refl
+            (on .bounded) refl) refl refl more refl
+
+        pub pairs-next : part .matrix .form ≡ sparse → Ordered (part .matrix) → here < length t → found ≡ lineAt commentByte t here →
+            (fits' : Bool) → fits' ≡ both fits (leb least (next .column)) → (greatest' : ℕ) → greatest' ≡ max greatest (next .column) →
+            (named' : ℕ) → named' ≡ max named (next .column) →
+            On t at line part table₀ (found .next) (number + 1)
+            (pairsPart part true (values + 1) (pairsMatrix (part .matrix) (next .column + 1) greatest' fits') named') table'
+        pairs-next form-is ordered h is-found fits' f greatest' g named' n = rw (f, g, n) (moved form-is ordered h is-found)
