@@ -1,0 +1,13 @@
+-- `body::pairs_matrix` meets its contract.
+-- Assumes nothing.
+use mathlib.Core.Path.{refl}
+use Rattle.body.specs.Run.{pairsMatrix}
+use Rattle.body.proofs.pairs_matrix.Statement.{statement}
+use Rattle.body.proofs.pairs_matrix.Tie as tie
+
+returns : tie.Need-returns
+unfolding pairsMatrix
+returns c = refl
+
+pub pairs-matrix-spec : {M : Type 1} → statement M
+pairs-matrix-spec = tie.close (tie.spec returns)

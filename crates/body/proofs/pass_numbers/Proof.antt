@@ -1,0 +1,87 @@
+-- `body::pass_numbers` meets its contract. The loop's invariant: so far the run leads.
+-- Assumes nothing.
+use Prim.Native.Nat.{_-_}
+use lib.ListN.{length}
+use Rattle.reading.proofs.WalkLaws.{content-start, content-within}
+use Rattle.reading.proofs.CrossLaws.{crossed-less}
+use Rattle.body.specs.Run.{numbersPart}
+use Rattle.body.proofs.RunLaws.{On, numbers-start, numbers-row, numbers-column, numbers-few, numbers-end, numbers-leave, numbers-next}
+use borrow.Author.Needs.{needs}
+use Rattle.body.proofs.pass_numbers.Statement.{statement}
+use Rattle.body.proofs.pass_numbers.Tie as tie
+use Rattle.body.proofs.numbers_passed.Reads as numbers-passed-reads
+use Rattle.body.proofs.take_numbers.Reads as take-numbers-reads
+use Rattle.text.proofs.line_at.Reads as line-at-reads
+
+abbrev Inv-loop : tie.InvT-loop
+Inv-loop text at line part table₀ form here₀ number₀ values₀ row₀ column₀ table here number values row column = On text at line part table₀ here number (numbersPart part true values row column) table
+
+abbrev μ-loop : tie.MeasureT-loop
+μ-loop text at line part table₀ form here₀ number₀ values₀ row₀ column₀ table here number values row column = length text - here
+
+loop-holds : tie.Need-loop-holds Inv-loop μ-loop
+loop-holds c = search numbers-start
+
+line-at-requires : tie.Need-line-at-requires Inv-loop μ-loop
+line-at-requires c κs = search needs
+
+sub-take-numbers : tie.Need-sub-take-numbers Inv-loop μ-loop
+sub-take-numbers c = search content-start
+
+part-take-numbers-start : tie.Need-part-take-numbers-start Inv-loop μ-loop
+part-take-numbers-start c = search content-start
+
+part-take-numbers-end : tie.Need-part-take-numbers-end Inv-loop μ-loop
+part-take-numbers-end c = search content-within
+
+take-numbers-requires : tie.Need-take-numbers-requires Inv-loop μ-loop
+take-numbers-requires c κs = search (needs, numbers-row, numbers-column, numbers-few)
+
+numbers-passed-requires : tie.Need-numbers-passed-requires Inv-loop μ-loop
+numbers-passed-requires c κs = search needs
+
+same-length : tie.Need-same-length Inv-loop μ-loop
+same-length c = search needs
+
+returns : tie.Need-returns Inv-loop μ-loop
+returns c = search numbers-leave
+
+add-number : tie.Need-add-number Inv-loop μ-loop
+add-number c = search needs
+
+loop-less : tie.Need-loop-less Inv-loop μ-loop
+loop-less c = search crossed-less
+
+loop-again : tie.Need-loop-again Inv-loop μ-loop
+loop-again c = search numbers-next
+
+numbers-passed-requires-2 : tie.Need-numbers-passed-requires-2 Inv-loop μ-loop
+numbers-passed-requires-2 c κs = search needs
+
+same-length-2 : tie.Need-same-length-2 Inv-loop μ-loop
+same-length-2 c = search needs
+
+returns-2 : tie.Need-returns-2 Inv-loop μ-loop
+returns-2 c = search numbers-end
+
+pub pass-numbers-spec : {M : Type 1} → statement M
+pass-numbers-spec =
+    tie.close
+    (tie.spec
+    Inv-loop
+    μ-loop
+    loop-holds
+    line-at-requires
+    sub-take-numbers
+    part-take-numbers-start
+    part-take-numbers-end
+    take-numbers-requires
+    numbers-passed-requires
+    same-length
+    returns
+    add-number
+    loop-less
+    loop-again
+    numbers-passed-requires-2
+    same-length-2
+    returns-2)

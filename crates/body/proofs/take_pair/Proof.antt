@@ -1,0 +1,59 @@
+-- `body::take_pair` meets its contract: by the front of the line.
+-- Assumes nothing.
+use Rattle.reading.proofs.QuietLaws.{words-front}
+use Rattle.body.proofs.RunLaws.{pair-left}
+use borrow.Author.Needs.{needs}
+use Rattle.body.proofs.take_pair.Statement.{statement}
+use Rattle.body.proofs.take_pair.Tie as tie
+use Rattle.body.proofs.left_pair.Reads as left-pair-reads
+use Rattle.body.proofs.plain_pair.Reads as plain-pair-reads
+use Rattle.reading.proofs.front_of.Reads as front-of-reads
+
+front-of-requires : tie.Need-front-of-requires
+front-of-requires c κs = search needs
+
+enum-told : tie.Need-enum-told
+enum-told c = search needs
+
+left-pair-requires : tie.Need-left-pair-requires
+left-pair-requires c κs = search needs
+
+enum-told-2 : tie.Need-enum-told-2
+enum-told-2 c = search needs
+
+plain-pair-requires : tie.Need-plain-pair-requires
+plain-pair-requires c κs = (words-front _ _ (c .before .before .before .front-of .ensures) (c .before .enum-told2 .given .1), search needs)
+
+enum-told-3 : tie.Need-enum-told-3
+enum-told-3 c = search needs
+
+left-pair-requires-2 : tie.Need-left-pair-requires-2
+left-pair-requires-2 c κs = search needs
+
+returns : tie.Need-returns
+returns c = search pair-left
+
+same-length : tie.Need-same-length
+same-length c = search needs
+
+returns-2 : tie.Need-returns-2
+returns-2 c = search needs
+
+returns-3 : tie.Need-returns-3
+returns-3 c = search pair-left
+
+pub take-pair-spec : {M : Type 1} → statement M
+take-pair-spec =
+    tie.close
+    (tie.spec
+    front-of-requires
+    enum-told
+    left-pair-requires
+    enum-told-2
+    plain-pair-requires
+    enum-told-3
+    left-pair-requires-2
+    returns
+    same-length
+    returns-2
+    returns-3)
