@@ -1,5 +1,6 @@
 -- `body::pass_numbers` meets its contract. The loop's invariant: so far the run leads.
 -- Assumes nothing.
+use mathlib.Core.Bool.{true}
 use Prim.Native.Nat.{_-_}
 use lib.ListN.{length}
 use Rattle.reading.proofs.WalkLaws.{content-start, content-within}

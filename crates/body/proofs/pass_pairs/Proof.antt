@@ -1,0 +1,121 @@
+-- `body::pass_pairs` meets its contract. The loop's invariant: so far the run leads.
+-- Assumes nothing.
+use mathlib.Core.Bool.{true}
+use Prim.Native.Nat.{_-_}
+use lib.ListN.{length}
+use Rattle.reading.proofs.WalkLaws.{content-start, content-within}
+use Rattle.reading.proofs.CrossLaws.{crossed-less}
+use Rattle.body.specs.Run.{pairsMatrix, pairsPart}
+use Rattle.body.proofs.RunLaws.{On, pairs-start, pairs-row, pairs-few, pairs-narrow, pairs-more, pairs-end, pairs-leave, pairs-next}
+use borrow.Author.Needs.{needs}
+use Rattle.body.proofs.pass_pairs.Statement.{statement}
+use Rattle.body.proofs.pass_pairs.Tie as tie
+use Rattle.base.proofs.and.Reads as and-reads
+use Rattle.body.proofs.greater.Reads as greater-reads
+use Rattle.body.proofs.pairs_matrix.Reads as pairs-matrix-reads
+use Rattle.body.proofs.pairs_passed.Reads as pairs-passed-reads
+use Rattle.body.proofs.take_pair.Reads as take-pair-reads
+use Rattle.text.proofs.line_at.Reads as line-at-reads
+
+abbrev Inv-loop : tie.InvT-loop
+Inv-loop text at line part table₀ matrix row here₀ number₀ values₀ least₀ greatest₀ fits₀ named₀ table here number values least greatest fits named =
+    ?
+
+abbrev μ-loop : tie.MeasureT-loop
+μ-loop text at line part table₀ matrix row here₀ number₀ values₀ least₀ greatest₀ fits₀ named₀ table here number values least greatest fits named =
+    ?
+
+loop-holds : tie.Need-loop-holds Inv-loop μ-loop
+loop-holds c = search pairs-start
+
+line-at-requires : tie.Need-line-at-requires Inv-loop μ-loop
+line-at-requires c κs = search needs
+
+sub-take-pair : tie.Need-sub-take-pair Inv-loop μ-loop
+sub-take-pair c = search content-start
+
+part-take-pair-start : tie.Need-part-take-pair-start Inv-loop μ-loop
+part-take-pair-start c = search content-start
+
+part-take-pair-end : tie.Need-part-take-pair-end Inv-loop μ-loop
+part-take-pair-end c = search content-within
+
+take-pair-requires : tie.Need-take-pair-requires Inv-loop μ-loop
+take-pair-requires c κs = search (needs, pairs-row)
+
+pairs-matrix-requires : tie.Need-pairs-matrix-requires Inv-loop μ-loop
+pairs-matrix-requires c κs = search needs
+
+pairs-passed-requires : tie.Need-pairs-passed-requires Inv-loop μ-loop
+pairs-passed-requires c κs = search needs
+
+same-length : tie.Need-same-length Inv-loop μ-loop
+same-length c = search needs
+
+returns : tie.Need-returns Inv-loop μ-loop
+returns c = search pairs-leave
+
+add-number : tie.Need-add-number Inv-loop μ-loop
+add-number c = search needs
+
+add-values : tie.Need-add-values Inv-loop μ-loop
+add-values c = search needs
+
+and-requires : tie.Need-and-requires Inv-loop μ-loop
+and-requires c κs = search needs
+
+add-least : tie.Need-add-least Inv-loop μ-loop
+add-least c = search needs
+
+greater-requires : tie.Need-greater-requires Inv-loop μ-loop
+greater-requires c κs = search needs
+
+greater-requires-2 : tie.Need-greater-requires-2 Inv-loop μ-loop
+greater-requires-2 c κs = search needs
+
+loop-less : tie.Need-loop-less Inv-loop μ-loop
+loop-less c = search crossed-less
+
+loop-again : tie.Need-loop-again Inv-loop μ-loop
+loop-again c = search pairs-next
+
+pairs-matrix-requires-2 : tie.Need-pairs-matrix-requires-2 Inv-loop μ-loop
+pairs-matrix-requires-2 c κs = search needs
+
+pairs-passed-requires-2 : tie.Need-pairs-passed-requires-2 Inv-loop μ-loop
+pairs-passed-requires-2 c κs = search needs
+
+same-length-2 : tie.Need-same-length-2 Inv-loop μ-loop
+same-length-2 c = search needs
+
+returns-2 : tie.Need-returns-2 Inv-loop μ-loop
+returns-2 c = search pairs-end
+
+pub pass-pairs-spec : {M : Type 1} → statement M
+pass-pairs-spec =
+    tie.close
+    (tie.spec
+    Inv-loop
+    μ-loop
+    loop-holds
+    line-at-requires
+    sub-take-pair
+    part-take-pair-start
+    part-take-pair-end
+    take-pair-requires
+    pairs-matrix-requires
+    pairs-passed-requires
+    same-length
+    returns
+    add-number
+    add-values
+    and-requires
+    add-least
+    greater-requires
+    greater-requires-2
+    loop-less
+    loop-again
+    pairs-matrix-requires-2
+    pairs-passed-requires-2
+    same-length-2
+    returns-2)
