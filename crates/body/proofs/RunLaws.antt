@@ -241,13 +241,17 @@ pub record On (t : List ℕ) (at line : ℕ) (part : Data) (table₀ : List ℕ)
   pub few : reached .values ≤ mostValues
   pub whole : reached .note .whole ≡ true
 
--- no line at all
-pub leads-none : (t : List ℕ) (at line : ℕ) (part : Data) (table : List ℕ) → Leads t at line part table (record { at = at; line = line; part = part }) table
-leads-none t at line part table =
+pub runs-now : (t : List ℕ) (at line : ℕ) (part : Data) → at ≤ length t → line ≤ at + 1 → Bounded (part .note) (part .values) →
+    not (part .note .whole) ≡ false → part .values ≤ mostValues → (b : Bool) → (b ≡ true → Ordered (part .matrix)) → not b ≡ false →
+    Runs t at line part
+runs-now t at line part within counted bounded whole few b ordered tested =
     record {
-      gone = λ (at₀ line₀ : ℕ) (m : Matrix) (values : ℕ) (table₀ : List ℕ) (g : Gone t at₀ line₀ m values table₀ at line part table). g;
-      onward = le-refl at;
-      long = refl;
+      within = within;
+      counted = counted;
+      bounded = bounded;
+      few = few;
+      whole = not-false (part .note .whole) whole;
+      ordered = ordered (not-false b tested);
     }
 
 -- what is reached is told again by its fields
@@ -415,10 +419,6 @@ module _ (t : List ℕ) (at line : ℕ) (part : Data) (table₀ : List ℕ) wher
     unfolding pairsPart
     pairs-row = on .bounded .row
 
-    pub pairs-few : values ≤ mostValues
-    unfolding pairsPart
-    pairs-few = on .few
-
     pub pairs-end : (m : Matrix) → m ≡ pairsMatrix (part .matrix) least greatest fits → (r : Run) →
         r ≡ record { at = here; line = number; part = pairsPart part true values m named } → Leads t at line part table₀ r table
     pairs-end m is r e = rw (e, is) (on .leads)
@@ -441,12 +441,6 @@ module _ (t : List ℕ) (at line : ℕ) (part : Data) (table₀ : List ℕ) wher
           note-whole w = ap (λ (b : Bool). pairsPart part b values (pairsMatrix (part .matrix) least greatest fits) named .note) w
 
       module _ (left : not (next .taken) ≡ false) where
-        pub pairs-narrow : next .column < 4_294_967_296
-        pairs-narrow = takes .narrow (not-false (next .taken) left)
-
-        pub pairs-more : values < mostValues
-        pairs-more = takes .few (not-false (next .taken) left)
-
         moved : part .matrix .form ≡ sparse → Ordered (part .matrix) → here < length t → found ≡ lineAt commentByte t here →
             On t at line part table₀ (found .next) (number + 1)
             (pairsPart part true (values + 1)

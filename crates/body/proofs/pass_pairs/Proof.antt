@@ -1,12 +1,13 @@
 -- `body::pass_pairs` meets its contract. The loop's invariant: so far the run leads.
 -- Assumes nothing.
 use mathlib.Core.Bool.{true}
-use Prim.Native.Nat.{_-_}
+use Prim.Native.Nat.{_-_, _<_}
 use lib.ListN.{length}
+use borrow.Author.Tests.{not-false}
 use Rattle.reading.proofs.WalkLaws.{content-start, content-within}
 use Rattle.reading.proofs.CrossLaws.{crossed-less}
 use Rattle.body.specs.Run.{pairsMatrix, pairsPart}
-use Rattle.body.proofs.RunLaws.{On, pairs-start, pairs-row, pairs-few, pairs-narrow, pairs-more, pairs-end, pairs-leave, pairs-next}
+use Rattle.body.proofs.RunLaws.{On, pairs-start, pairs-row, pairs-end, pairs-leave, pairs-next}
 use borrow.Author.Needs.{needs}
 use Rattle.body.proofs.pass_pairs.Statement.{statement}
 use Rattle.body.proofs.pass_pairs.Tie as tie
@@ -19,11 +20,11 @@ use Rattle.text.proofs.line_at.Reads as line-at-reads
 
 abbrev Inv-loop : tie.InvT-loop
 Inv-loop text at line part table₀ matrix row here₀ number₀ values₀ least₀ greatest₀ fits₀ named₀ table here number values least greatest fits named =
-    ?
+    On text at line part table₀ here number (pairsPart part true values (pairsMatrix (part .matrix) least greatest fits) named) table
 
 abbrev μ-loop : tie.MeasureT-loop
 μ-loop text at line part table₀ matrix row here₀ number₀ values₀ least₀ greatest₀ fits₀ named₀ table here number values least greatest fits named =
-    ?
+    length text - here
 
 loop-holds : tie.Need-loop-holds Inv-loop μ-loop
 loop-holds c = search pairs-start
@@ -50,7 +51,7 @@ pairs-passed-requires : tie.Need-pairs-passed-requires Inv-loop μ-loop
 pairs-passed-requires c κs = search needs
 
 same-length : tie.Need-same-length Inv-loop μ-loop
-same-length c = search needs
+same-length c = search (needs, c .before .before .before .before .before .before .take-pair .ensures .behind .long, c .before .before .before .before .before .before .before .before .before .before .before .loop .inv .leads .long)
 
 returns : tie.Need-returns Inv-loop μ-loop
 returns c = search pairs-leave
@@ -59,13 +60,17 @@ add-number : tie.Need-add-number Inv-loop μ-loop
 add-number c = search needs
 
 add-values : tie.Need-add-values Inv-loop μ-loop
-add-values c = search needs
+add-values c =
+    let few : c .before .before .before .before .before .before .before .before .before .loop .values < 65536 = c .before .before .before .before .take-pair .ensures .few (not-false _ (c .if1 .left)) in
+    search (needs, few)
 
 and-requires : tie.Need-and-requires Inv-loop μ-loop
 and-requires c κs = search needs
 
 add-least : tie.Need-add-least Inv-loop μ-loop
-add-least c = search needs
+add-least c =
+    let narrow : c .before .before .before .before .before .before .before .take-pair .result .column < 4_294_967_296 = c .before .before .before .before .before .before .before .take-pair .ensures .narrow (not-false _ (c .before .before .before .if1 .left)) in
+    search (needs, narrow)
 
 greater-requires : tie.Need-greater-requires Inv-loop μ-loop
 greater-requires c κs = search needs
