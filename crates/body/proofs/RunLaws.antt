@@ -34,10 +34,10 @@ use Rattle.body.specs.declared.Data.{Data}
 use Rattle.body.specs.declared.Run.{Run}
 use Rattle.body.specs.declared.TakenNumbers.{TakenNumbers}
 use Rattle.body.specs.declared.TakenPair.{TakenPair}
-use Rattle.body.specs.Body.{Behind, Takes}
+use Rattle.body.specs.Body.{Behind, Takes, Goes}
 use Rattle.body.specs.Run.{Left, Gone, Leads, Ordered, Runs, numbersPart, TakesNumbers, pairsMatrix, pairsPart, TakesPair}
 use Rattle.body.proofs.LineLaws.{behind-same, whole-told, numbers-go}
-use Rattle.body.proofs.BodyLaws.{behind-on, gone-on}
+use Rattle.body.proofs.BodyLaws.{behind-on, gone-ends, gone-leaves, gone-stops, gone-on}
 
 -- ---- a line that breaks no rule
 
@@ -461,3 +461,48 @@ module _ (t : List ℕ) (at line : ℕ) (part : Data) (table₀ : List ℕ) wher
             On t at line part table₀ (found .next) (number + 1)
             (pairsPart part true (values + 1) (pairsMatrix (part .matrix) (next .column + 1) greatest' fits') named') table'
         pairs-next form-is ordered h is-found fits' f greatest' g named' n = rw (f, g, n) (moved form-is ordered h is-found)
+
+-- ---- a run, and the line behind it
+
+module _ (t : List ℕ) (at line : ℕ) (m : Matrix) (values : ℕ) (table₀ : List ℕ) (here number : ℕ) (part : Data) (table : List ℕ)
+    (gone : Gone t at line m values table₀ here number part table) where
+  pub gone-counted : line ≤ at + 1 → number ≤ here + 1
+  gone-counted h = let c : number + at ≤ line + here = gone .crossed .counted in omega arith
+
+  module _ (r : Run) (table₁ : List ℕ) (leads : Leads t here number part table r table₁) where
+    pub run-gone : Gone t at line m values table₀ (r .at) (r .line) (r .part) table₁
+    run-gone = leads .gone at line m values table₀ gone
+
+    pub run-bounded : Bounded (r .part .note) (r .part .values)
+    run-bounded = run-gone .bounded
+
+    pub run-ends : length t ≤ r .at →
+        Goes t at line m values table₀ (record { at = r .at; line = r .line; part = r .part; noted = r .part .note .whole }) table₁
+    run-ends h = gone-ends t at line m values table₀ (r .at) (r .line) (r .part) table₁ run-gone h
+
+    module _ (h : r .at < length t) (found : text.Line) (is-found : found ≡ lineAt commentByte t (r .at)) where
+      pub run-less : length t - found .next < length t - here
+      run-less =
+          let f : r .at < found .next = rw is-found (next-on commentByte t (r .at) h) in
+          let o : here ≤ r .at = leads .onward in
+          omega arith
+
+      module _ (next : Data) (table' : List ℕ)
+          (takes : Takes (take (found .content - r .at) (drop (r .at) t)) (r .part .matrix) (r .part .values) (r .part .note) table₁ next table') where
+        pub run-leaves : not (next .taken) ≡ true → (noted : Bool) → noted ≡ both (next .ends) (r .part .note .whole) →
+            Goes t at line m values table₀ (record { at = r .at; line = r .line; part = r .part; noted = noted }) table'
+        run-leaves left noted is-noted =
+            gone-leaves t at line m values table₀ (r .at) (r .line) (r .part) table₁ run-gone h found is-found next table' takes
+            (not-true (next .taken) left) noted is-noted
+
+        module _ (taken : not (next .taken) ≡ false) where
+          pub run-stops : (next .number ≡ 0 → ⊥) →
+              Goes t at line m values table₀ (record { at = found .next; line = r .line; part = next; noted = false }) table'
+          run-stops broken =
+              gone-stops t at line m values table₀ (r .at) (r .line) (r .part) table₁ run-gone h found is-found next table' takes
+              (not-false (next .taken) taken) broken
+
+          pub run-on : next .number ≡ 0 → Gone t at line m values table₀ (found .next) (r .line + 1) next table'
+          run-on kept =
+              gone-on t at line m values table₀ (r .at) (r .line) (r .part) table₁ run-gone h found is-found next table' takes
+              (not-false (next .taken) taken) kept

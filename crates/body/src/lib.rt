@@ -566,6 +566,19 @@ pub fn pass_data(
         note: new_note(has_room(values, table.len())),
     };
     while here < text.len() {
+        let run = pass_run(text, here, number, part, table);
+        here = run.at;
+        number = run.line;
+        part = run.part;
+        if text.len() <= here {
+            let note = part.note;
+            return BodyWalk {
+                at: here,
+                line: number,
+                part,
+                noted: note.whole,
+            };
+        }
         let found = text::line_at(text, here, COMMENT);
         let content = found.content;
         let next = take_data(

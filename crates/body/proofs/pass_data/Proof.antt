@@ -4,26 +4,22 @@
 use Prim.Native.Nat.{_+_, _-_, _*_, _^_, _≤_, _<_}
 use native.Mathlib.Omega.{arith}
 use lib.ListN.{length}
-use borrow.Author.Tests.{not-true, not-false}
 use Rattle.reading.proofs.WalkLaws.{content-start, content-within}
-use Rattle.reading.proofs.CrossLaws.{crossed-less}
-use Rattle.place.specs.Place as place
-use Rattle.reading.specs.Walk.{Crossed, Holds, withMatrix}
-use Rattle.body.proofs.BodyLaws.{gone-start, gone-ends, gone-leaves, gone-stops, gone-on}
 use Rattle.body.specs.Run.{Gone}
+use Rattle.body.proofs.BodyLaws.{gone-start, gone-ends}
+use Rattle.body.proofs.RunLaws.{gone-counted, run-gone, run-bounded, run-ends, run-less, run-leaves, run-stops, run-on}
 use borrow.Author.Needs.{needs}
 use Rattle.body.proofs.pass_data.Statement.{statement}
 use Rattle.body.proofs.pass_data.Tie as tie
 use Rattle.base.proofs.and.Reads as and-reads
 use Rattle.body.proofs.has_room.Reads as has-room-reads
 use Rattle.body.proofs.new_note.Reads as new-note-reads
+use Rattle.body.proofs.pass_run.Reads as pass-run-reads
 use Rattle.body.proofs.take_data.Reads as take-data-reads
 use Rattle.text.proofs.line_at.Reads as line-at-reads
 
 abbrev Inv-loop : tie.InvT-loop
-Inv-loop text at line values table₀ here₀ number₀ part₀ table here number part = (line ≤ at + 1)
-    × Crossed text at line (Holds place.matrix (withMatrix (part₀ .matrix) values)) (withMatrix (part .matrix) (part .values)) (part .number) here number
-    × Gone text at line (part₀ .matrix) values table₀ here number part table
+Inv-loop text at line values table₀ here₀ number₀ part₀ table here number part = (line ≤ at + 1) × Gone text at line (part₀ .matrix) values table₀ here number part table
 
 abbrev μ-loop : tie.MeasureT-loop
 μ-loop text at line values table₀ here₀ number₀ part₀ table here number part = length text - here
@@ -35,7 +31,16 @@ new-note-requires : tie.Need-new-note-requires Inv-loop μ-loop
 new-note-requires c κs = search needs
 
 loop-holds : tie.Need-loop-holds Inv-loop μ-loop
-loop-holds c = let g = gone-start _ _ _ _ _ _ _ (c .before .before .before .before .pre .0) (c .before .has-room .ensures) _ (c .new-note .ensures) in (c .before .before .before .before .pre .1, g .crossed, g)
+loop-holds c = (c .before .before .before .before .pre .1, gone-start _ _ _ _ _ _ _ (c .before .before .before .before .pre .0) (c .before .has-room .ensures) _ (c .new-note .ensures))
+
+pass-run-requires : tie.Need-pass-run-requires Inv-loop μ-loop
+pass-run-requires c κs = search (needs, c .before .before .loop .inv .1 .crossed .within, c .before .before .loop .inv .1 .bounded, gone-counted)
+
+same-length : tie.Need-same-length Inv-loop μ-loop
+same-length c = search needs
+
+returns : tie.Need-returns Inv-loop μ-loop
+returns c = search run-ends
 
 line-at-requires : tie.Need-line-at-requires Inv-loop μ-loop
 line-at-requires c κs = search needs
@@ -50,52 +55,56 @@ part-take-data-end : tie.Need-part-take-data-end Inv-loop μ-loop
 part-take-data-end c = search content-within
 
 take-data-requires : tie.Need-take-data-requires Inv-loop μ-loop
-take-data-requires c κs = search needs
+take-data-requires c κs = search run-bounded
 
 and-requires : tie.Need-and-requires Inv-loop μ-loop
 and-requires c κs = search needs
 
-same-length : tie.Need-same-length Inv-loop μ-loop
-same-length c = search (needs, c .before .before .before .before .before .before .take-data .ensures .behind .long, c .before .before .before .before .before .before .before .before .before .before .before .loop .inv .2 .behind .long)
-
-returns : tie.Need-returns Inv-loop μ-loop
-returns c =
-    gone-leaves _ _ _ _ _ _ _ _ _ _ (c .before .before .before .before .before .before .before .before .before .before .before .loop .inv .2) (c .before .before .before .before .before .before .before .before .before .before .loop-test .taken) _ (c .before .before .before .before .before .before .before .before .before .line-at .ensures) _ _ (c .before .before .before .before .before .before .take-data .ensures)
-    (not-true _ (c .before .before .if1 .taken)) _ (c .and .ensures)
-
 same-length-2 : tie.Need-same-length-2 Inv-loop μ-loop
-same-length-2 c = search (needs, c .before .before .before .before .before .before .take-data .ensures .behind .long, c .before .before .before .before .before .before .before .before .before .before .before .loop .inv .2 .behind .long)
+same-length-2 c = search (needs, c .before .before .before .before .before .before .take-data .ensures .behind .long, c .before .before .before .before .before .before .before .before .before .before .before .before .before .before .pass-run .ensures .long, c .before .before .before .before .before .before .before .before .before .before .before .before .before .before .before .before .before .loop .inv .1 .behind .long)
 
 returns-2 : tie.Need-returns-2 Inv-loop μ-loop
 returns-2 c =
-    gone-stops _ _ _ _ _ _ _ _ _ _ (c .before .before .before .before .before .before .before .before .before .before .before .loop .inv .2) (c .before .before .before .before .before .before .before .before .before .before .loop-test .taken) _ (c .before .before .before .before .before .before .before .before .before .line-at .ensures) _ _ (c .before .before .before .before .before .before .take-data .ensures)
-    (not-false _ (c .before .before .if1 .left)) (c .if2 .taken)
+    run-leaves _ _ _ _ _ _ _ _ _ _ (c .before .before .before .before .before .before .before .before .before .before .before .before .before .before .before .before .before .loop .inv .1)
+    _ _ (c .before .before .before .before .before .before .before .before .before .before .before .before .before .before .pass-run .ensures) (c .before .before .before .before .before .before .before .before .before .before .if1 .left) _ (c .before .before .before .before .before .before .before .before .before .line-at .ensures)
+    _ _ (c .before .before .before .before .before .before .take-data .ensures) (c .before .before .if2 .taken) _ (c .and .ensures)
+
+same-length-3 : tie.Need-same-length-3 Inv-loop μ-loop
+same-length-3 c = search (needs, c .before .before .before .before .before .before .take-data .ensures .behind .long, c .before .before .before .before .before .before .before .before .before .before .before .before .before .before .pass-run .ensures .long, c .before .before .before .before .before .before .before .before .before .before .before .before .before .before .before .before .before .loop .inv .1 .behind .long)
+
+returns-3 : tie.Need-returns-3 Inv-loop μ-loop
+returns-3 c =
+    run-stops _ _ _ _ _ _ _ _ _ _ (c .before .before .before .before .before .before .before .before .before .before .before .before .before .before .before .before .before .loop .inv .1)
+    _ _ (c .before .before .before .before .before .before .before .before .before .before .before .before .before .before .pass-run .ensures) (c .before .before .before .before .before .before .before .before .before .before .if1 .left) _ (c .before .before .before .before .before .before .before .before .before .line-at .ensures)
+    _ _ (c .before .before .before .before .before .before .take-data .ensures) (c .before .before .if2 .left) (c .if3 .taken)
 
 add-number : tie.Need-add-number Inv-loop μ-loop
 add-number c =
-    let k : c .before .before .before .before .before .before .before .before .before .before .before .loop .number + c .before .before .before .before .before .before .before .before .before .before .before .before .before .before .before .before .args .at ≤ c .before .before .before .before .before .before .before .before .before .before .before .before .before .before .before .before .args .line + c .before .before .before .before .before .before .before .before .before .before .before .loop .here = c .before .before .before .before .before .before .before .before .before .before .before .loop .inv .1 .counted in
-    let n : c .before .before .before .before .before .before .before .before .before .before .before .before .before .before .before .before .args .line ≤ c .before .before .before .before .before .before .before .before .before .before .before .before .before .before .before .before .args .at + 1 = c .before .before .before .before .before .before .before .before .before .before .before .loop .inv .0 in
-    let h : c .before .before .before .before .before .before .before .before .before .before .before .loop .here < length (c .before .before .before .before .before .before .before .before .before .before .before .before .before .before .before .before .args .text .now) = c .before .before .before .before .before .before .before .before .before .before .loop-test .taken in
-    let f : length (c .before .before .before .before .before .before .before .before .before .before .before .before .before .before .before .before .args .text .now) * 1 < 2 ^ 63 = c .before .before .before .before .before .before .before .before .before .before .before .before .before .before .before .before .good .0 .1 in
-    omega (arith, k, n, h, f)
+    let k : c .before .before .before .before .before .before .before .before .before .before .before .before .before .before .pass-run .result .line ≤ c .before .before .before .before .before .before .before .before .before .before .before .before .before .before .pass-run .result .at + 1 =
+    gone-counted _ _ _ _ _ _ _ _ _ _ (run-gone _ _ _ _ _ _ _ _ _ _ (c .before .before .before .before .before .before .before .before .before .before .before .before .before .before .before .before .before .loop .inv .1)
+    _ _ (c .before .before .before .before .before .before .before .before .before .before .before .before .before .before .pass-run .ensures)) (c .before .before .before .before .before .before .before .before .before .before .before .before .before .before .before .before .before .loop .inv .0) in
+    let h : c .before .before .before .before .before .before .before .before .before .before .before .before .before .before .pass-run .result .at < length (c .before .before .before .before .before .before .before .before .before .before .before .before .before .before .before .before .before .before .before .before .before .before .args .text .now) = c .before .before .before .before .before .before .before .before .before .before .if1 .left in
+    let f : length (c .before .before .before .before .before .before .before .before .before .before .before .before .before .before .before .before .before .before .before .before .before .before .args .text .now) * 1 < 2 ^ 63 = c .before .before .before .before .before .before .before .before .before .before .before .before .before .before .before .before .before .before .before .before .before .before .good .0 .1 in
+    omega (arith, k, h, f)
 
 loop-less : tie.Need-loop-less Inv-loop μ-loop
-loop-less c = search crossed-less
+loop-less c =
+    run-less _ _ _ _ _ _ _ _ _ _ (c .before .before .before .before .before .before .before .before .before .before .before .before .before .before .before .before .before .loop .inv .1)
+    _ _ (c .before .before .before .before .before .before .before .before .before .before .before .before .before .before .pass-run .ensures) (c .before .before .before .before .before .before .before .before .before .before .if1 .left) _ (c .before .before .before .before .before .before .before .before .before .line-at .ensures)
 
 loop-again : tie.Need-loop-again Inv-loop μ-loop
 loop-again c = (
-  c .before .before .before .before .before .before .before .before .before .before .before .loop .inv .0,
-  (gone-on _ _ _ _ _ _ _ _ _ _ (c .before .before .before .before .before .before .before .before .before .before .before .loop .inv .2) (c .before .before .before .before .before .before .before .before .before .before .loop-test .taken) _ (c .before .before .before .before .before .before .before .before .before .line-at .ensures) _ _ (c .before .before .before .before .before .before .take-data .ensures)
-      (not-false _ (c .before .before .if1 .left)) (c .if2 .left)) .crossed,
-  gone-on _ _ _ _ _ _ _ _ _ _ (c .before .before .before .before .before .before .before .before .before .before .before .loop .inv .2) (c .before .before .before .before .before .before .before .before .before .before .loop-test .taken) _ (c .before .before .before .before .before .before .before .before .before .line-at .ensures) _ _ (c .before .before .before .before .before .before .take-data .ensures)
-      (not-false _ (c .before .before .if1 .left)) (c .if2 .left),
+  c .before .before .before .before .before .before .before .before .before .before .before .before .before .before .before .before .before .loop .inv .0,
+  run-on _ _ _ _ _ _ _ _ _ _ (c .before .before .before .before .before .before .before .before .before .before .before .before .before .before .before .before .before .loop .inv .1)
+    _ _ (c .before .before .before .before .before .before .before .before .before .before .before .before .before .before .pass-run .ensures) (c .before .before .before .before .before .before .before .before .before .before .if1 .left) _ (c .before .before .before .before .before .before .before .before .before .line-at .ensures)
+    _ _ (c .before .before .before .before .before .before .take-data .ensures) (c .before .before .if2 .left) (c .if3 .left),
 )
 
-same-length-3 : tie.Need-same-length-3 Inv-loop μ-loop
-same-length-3 c = search needs
+same-length-4 : tie.Need-same-length-4 Inv-loop μ-loop
+same-length-4 c = search needs
 
-returns-3 : tie.Need-returns-3 Inv-loop μ-loop
-returns-3 c = search gone-ends
+returns-4 : tie.Need-returns-4 Inv-loop μ-loop
+returns-4 c = search gone-ends
 
 pub pass-data-spec : {M : Type 1} → statement M
 pass-data-spec =
@@ -106,18 +115,21 @@ pass-data-spec =
     has-room-requires
     new-note-requires
     loop-holds
+    pass-run-requires
+    same-length
+    returns
     line-at-requires
     sub-take-data
     part-take-data-start
     part-take-data-end
     take-data-requires
     and-requires
-    same-length
-    returns
     same-length-2
     returns-2
+    same-length-3
+    returns-3
     add-number
     loop-less
     loop-again
-    same-length-3
-    returns-3)
+    same-length-4
+    returns-4)
