@@ -319,7 +319,15 @@ fn take_numbers(
     }
 }
 
-fn numbers_passed(at: usize, line: u64, part: Data, whole: bool, values: u64, row: u64, column: u64) -> Run
+fn numbers_passed(
+    at: usize,
+    line: u64,
+    part: Data,
+    whole: bool,
+    values: u64,
+    row: u64,
+    column: u64,
+) -> Run
     ensures { λ r. ⌜ r ≡ record { at = at; line = line; part = numbersPart part whole values row column } ⌝ }
 {
     let matrix = part.matrix;
@@ -447,7 +455,15 @@ fn pairs_matrix(matrix: Matrix, least: u64, greatest: u64, fits: bool) -> Matrix
     }
 }
 
-fn pairs_passed(at: usize, line: u64, part: Data, whole: bool, values: u64, matrix: Matrix, named: u64) -> Run
+fn pairs_passed(
+    at: usize,
+    line: u64,
+    part: Data,
+    whole: bool,
+    values: u64,
+    matrix: Matrix,
+    named: u64,
+) -> Run
     ensures { λ r. ⌜ r ≡ record { at = at; line = line; part = pairsPart part whole values matrix named } ⌝ }
 {
     let before = part.note;

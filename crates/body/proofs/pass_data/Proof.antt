@@ -96,8 +96,8 @@ loop-again : tie.Need-loop-again Inv-loop μ-loop
 loop-again c = (
   c .before .before .before .before .before .before .before .before .before .before .before .before .before .before .before .before .before .loop .inv .0,
   run-on _ _ _ _ _ _ _ _ _ _ (c .before .before .before .before .before .before .before .before .before .before .before .before .before .before .before .before .before .loop .inv .1)
-    _ _ (c .before .before .before .before .before .before .before .before .before .before .before .before .before .before .pass-run .ensures) (c .before .before .before .before .before .before .before .before .before .before .if1 .left) _ (c .before .before .before .before .before .before .before .before .before .line-at .ensures)
-    _ _ (c .before .before .before .before .before .before .take-data .ensures) (c .before .before .if2 .left) (c .if3 .left),
+      _ _ (c .before .before .before .before .before .before .before .before .before .before .before .before .before .before .pass-run .ensures) (c .before .before .before .before .before .before .before .before .before .before .if1 .left) _ (c .before .before .before .before .before .before .before .before .before .line-at .ensures)
+      _ _ (c .before .before .before .before .before .before .take-data .ensures) (c .before .before .if2 .left) (c .if3 .left),
 )
 
 same-length-4 : tie.Need-same-length-4 Inv-loop μ-loop
