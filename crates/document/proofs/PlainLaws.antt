@@ -1,21 +1,22 @@
 -- Laws of lines that have no keyword and are gone past: those that do not start with `[`.
 -- Assumes nothing.
 use mathlib.Core.Path.{_≡_, refl, sym, _∙_, ap}
-use mathlib.Core.Bool.{Bool, true, false, not}
+use mathlib.Core.Bool.{Bool, true, false, not, true≢false}
 use mathlib.Core.List.{List, [], _∷_, _++_, append-assoc, append-nil}
 use Prim.Native.Nat.{ℕ, zero, suc, _+_, _-_, _≤_, _<_}
-use native.Mathlib.Nat.{le-refl, add-zero}
+use native.Mathlib.Nat.{le-refl, add-zero, zero-add, add-assoc}
+use native.Mathlib.Numerals.{add-one}
 use native.Mathlib.Omega.{arith}
-use lib.ListN.{length, take, drop, getD}
-use lib.Seq.{getD-drop}
+use lib.ListN.{length, take, drop, getD, length-take}
+use lib.Seq.{drop-cons, getD-drop}
 use lib.Dec.{ltb, eqb}
-use borrow.Author.Tests.{eq-eqb, ne-eqb, eqb-true, lt-ltb, le-ltb, ltb-true, ltb-false}
-use Rattle.base.specs.If.{if_then_else_}
+use borrow.Author.Tests.{eq-eqb, ne-eqb, eqb-true, eqb-false, lt-ltb, le-ltb, ltb-false, not-false}
+use Rattle.base.specs.If.{if_then_else_, both}
 use Rattle.base.specs.Bytes.{lineFeed, isBlank}
-use Rattle.base.specs.Runs.{run}
+use Rattle.base.specs.Runs.{run, all}
 use Rattle.base.specs.Class.{isBefore, runEnd}
-use Rattle.base.proofs.IfLaws.{by-cases, if-true, if-false, both-not-right, not-via, not-not-via}
-use Rattle.base.proofs.RunLaws.{reach-on, reach-stop, reach-past}
+use Rattle.base.proofs.IfLaws.{by-cases, by-test, if-true, if-false, both-first, both-second, both-not-right, not-via, not-not-via}
+use Rattle.base.proofs.RunLaws.{reach-on, reach-stop, reach-past, all-cons}
 use Rattle.text.specs.Lines.{isBlankLine, pastFeed, lineAt}
 use Rattle.text.specs.declared.Line as text
 use Rattle.text.specs.Words.{words, firstOf}
@@ -25,11 +26,12 @@ use Rattle.keyword.specs.Bracket.{isOpen, bracketOf}
 use Rattle.keyword.specs.declared.Bracket.{Bracket}
 use Rattle.keyword.specs.declared.Bracket.the-variants.{Plain, Indented}
 use Rattle.reading.specs.Reading.{commentByte}
-use Rattle.document.specs.Lines.{Line, plain, linesAt, placeAfter, keyIn, keyAt, keyOf}
+use Rattle.document.specs.Lines.{Line, plain, linesAt, placeAfter, keyIn, keyAt, keyOf, gather}
 use Rattle.document.specs.Document.{opensMap, mapAt, opensModel, modelAt, opensSection, sectionAt}
 use Rattle.document.specs.Holds.{Each}
 use Rattle.document.specs.Holds.Each.{none, more}
-use Rattle.document.specs.Found.{lineIn, linesBehind, Finds, Plainly, PassesPlain, Meets}
+use Rattle.document.specs.Found.{lineIn, linesBehind, Finds, IsPlain, Plainly, PassesPlain, Meets, feedOf, feeds, Amid, PassesBytes, EndsLine}
+use Rattle.document.specs.Found.Amid.{ended, amid}
 use Rattle.document.specs.declared.Found.{Found}
 use Rattle.document.specs.declared.Passed.{Passed}
 use Rattle.document.proofs.FoundLaws.{pass-over, stop-here, next-further, next-inside}
@@ -40,6 +42,10 @@ use Rattle.document.proofs.StandsLaws.{each-append}
 feed-not : (b : ℕ) → (b ≡ 10 → ⊥) → isBefore 10 b ≡ true
 unfolding isBefore
 feed-not b h = not-via (ne-eqb b 10 h)
+
+not-open : (b : ℕ) → isBefore 91 b ≡ true → b ≡ 91 → ⊥
+unfolding isBefore
+not-open b h e = true≢false (sym h ∙ not-not-via (eq-eqb b 91 e))
 
 feed-is : (b : ℕ) → b ≡ 10 → isBefore 10 b ≡ false
 unfolding isBefore
@@ -108,29 +114,42 @@ module _ (l : Line) (ls : List Line) (h : keyOf l ≡ plain) where
 
 -- ---- some lines, and then the rest
 
-pub plainly-none : (ls : List Line) → Plainly ls ls
-plainly-none ls = record { before = []; all = refl; each = none }
+module _ (p : ℕ) where
+  plainly-none : (ls : List Line) → Plainly p ls ls
+  plainly-none ls = record { before = []; all = refl; each = none }
 
-pub plainly-one : (l : Line) (ls : List Line) → keyOf l ≡ plain → Plainly (l ∷ ls) ls
-plainly-one l ls k = record { before = l ∷ []; all = refl; each = more k none }
+  plainly-one : (l : Line) (ls : List Line) → IsPlain p l → Plainly p (l ∷ ls) ls
+  plainly-one l ls k = record { before = l ∷ []; all = refl; each = more k none }
 
-pub plainly-same : (ls rest other : List Line) → Plainly ls rest → rest ≡ other → Plainly ls other
-plainly-same ls rest other h e =
-    record { before = h .before; all = h .all ∙ ap (λ (x : List Line). h .before ++ x) e; each = h .each }
+  plainly-same : (ls rest other : List Line) → Plainly p ls rest → rest ≡ other → Plainly p ls other
+  plainly-same ls rest other h e =
+      record { before = h .before; all = h .all ∙ ap (λ (x : List Line). h .before ++ x) e; each = h .each }
 
-pub plainly-join : (ls middle rest : List Line) → Plainly ls middle → Plainly middle rest → Plainly ls rest
-plainly-join ls middle rest h k =
-    record {
-      before = h .before ++ k .before;
-      all = h .all ∙ ap (λ (x : List Line). h .before ++ x) (k .all) ∙ sym (append-assoc (h .before) (k .before) rest);
-      each = each-append (h .each) (k .each);
-    }
+  plainly-join : (ls middle rest : List Line) → Plainly p ls middle → Plainly p middle rest → Plainly p ls rest
+  plainly-join ls middle rest h k =
+      record {
+        before = h .before ++ k .before;
+        all = h .all ∙ ap (λ (x : List Line). h .before ++ x) (k .all) ∙ sym (append-assoc (h .before) (k .before) rest);
+        each = each-append (h .each) (k .each);
+      }
+
+-- ---- what lines give, where those without a keyword give nothing
+
+module _ {A : Type 0} (p : ℕ) (here : Line → List Line → List A) (silent : (l : Line) (ls : List Line) → IsPlain p l → here l ls ≡ []) where
+  plain-quiet : {before : List Line} → Each (IsPlain p) before → (rest : List Line) → gather here (before ++ rest) ≡ gather here rest
+  unfolding gather
+  plain-quiet none rest = refl
+  plain-quiet (more {x = l} {xs = ls} k ks) rest =
+      ap (λ (x : List A). x ++ gather here (ls ++ rest)) (silent l (ls ++ rest) k) ∙ plain-quiet ks rest
+
+  pub plainly-quiet : (ls rest : List Line) → Plainly p ls rest → gather here ls ≡ gather here rest
+  plainly-quiet ls rest h = ap (gather here) (h .all) ∙ plain-quiet (h .each) rest
 
 -- ---- lines gone past
 
 pub passes-none : (t : List ℕ) (n at : ℕ) → (at ≤ length t) × (n ≤ at + 1) → PassesPlain t n at (record { at = at; number = n })
 passes-none t n at (h, k) =
-    record { onward = le-refl at; within = h; counted = k; lines = λ (p : ℕ) (e : p ≡ mapHead → ⊥). plainly-none _ }
+    record { onward = le-refl at; within = h; counted = k; lines = λ (p : ℕ) (e : p ≡ mapHead → ⊥). plainly-none p _ }
 
 module _ (t : List ℕ) (at : ℕ) (h : at < length t) (other : getD t at 0 ≡ 91 → ⊥) (n : ℕ) where
   abbrev ends : text.Line
@@ -141,19 +160,24 @@ module _ (t : List ℕ) (at : ℕ) (h : at < length t) (other : getD t at 0 ≡ 
 
   line-plain : keyAt content ≡ plain
   line-plain =
-      plain-content content (λ (e : getD content 0 0 ≡ 91). other (ap (λ (k : ℕ). getD t k 0) (sym (add-zero at)) ∙ sym (getD-drop at t 0 0) ∙ front-of (ends .content - at) (drop at t) e))
+      plain-content content
+      (λ (e : getD content 0 0 ≡ 91).
+      other
+      (ap (λ (k : ℕ). getD t k 0) (sym (add-zero at)) ∙ sym (getD-drop at t 0 0) ∙ front-of (ends .content - at) (drop at t) e))
 
   -- one line: it is blank, or it has no keyword
-  line-past : (p : ℕ) → (p ≡ mapHead → ⊥) → Plainly (linesAt t n at p) (linesAt t (n + 1) (ends .next) p)
+  line-past : (p : ℕ) → (p ≡ mapHead → ⊥) → Plainly p (linesAt t n at p) (linesAt t (n + 1) (ends .next) p)
   unfolding keyOf
   line-past p head =
       by-cases _ (isBlankLine content)
-      (λ (b : isBlankLine content ≡ true). plainly-same _ _ _ (plainly-none _) (pass-over t at h n ends refl b p))
+      (λ (b : isBlankLine content ≡ true). plainly-same p _ _ _ (plainly-none p _) (pass-over t at h n ends refl b p))
       (λ (b : isBlankLine content ≡ false).
       rw (stop-here t at h n ends refl b p)
-      (plainly-same _ _ _ (plainly-one _ _ line-plain) (ap (linesAt t (n + 1) (ends .next)) (plain-stays p content line-plain head))))
+      (plainly-same p _ _ _ (plainly-one p _ _ (record { place-is = refl; key-is = line-plain }))
+      (ap (linesAt t (n + 1) (ends .next)) (plain-stays p content line-plain head))))
 
-module _ (t : List ℕ) (n₀ at₀ n at : ℕ) (passes : PassesPlain t n₀ at₀ (record { at = at; number = n })) (h : at < length t) (next : ℕ) (told : next ≡ pastFeed t (runEnd (isBefore 10) t at)) where
+module _ (t : List ℕ) (n₀ at₀ n at : ℕ) (passes : PassesPlain t n₀ at₀ (record { at = at; number = n })) (h : at < length t) (next : ℕ)
+    (told : next ≡ pastFeed t (runEnd (isBefore 10) t at)) where
   next-is : lineAt commentByte t at .next ≡ next
   unfolding lineAt
   next-is = sym told
@@ -161,10 +185,7 @@ module _ (t : List ℕ) (n₀ at₀ n at : ℕ) (passes : PassesPlain t n₀ at�
   further : at < next
   further = rw (sym next-is) (next-further t at h n (lineAt commentByte t at) refl)
 
-  pub passes-less : length t - next < length t - at
-  passes-less = let f : at < next = further in omega arith
-
-  pub passes-on : (getD t at 0 ≡ 91 → ⊥) → PassesPlain t n₀ at₀ (record { at = next; number = n + 1 })
+  passes-on : (getD t at 0 ≡ 91 → ⊥) → PassesPlain t n₀ at₀ (record { at = next; number = n + 1 })
   passes-on other =
       let f : at < next = further in
       let a : at₀ ≤ at = passes .onward in
@@ -175,8 +196,177 @@ module _ (t : List ℕ) (n₀ at₀ n at : ℕ) (passes : PassesPlain t n₀ at�
         counted = omega arith;
         lines =
             λ (p : ℕ) (e : p ≡ mapHead → ⊥).
-            plainly-join _ _ _ (passes .lines p e) (rw next-is at (line-past t at h other n p e));
+            plainly-join p _ _ _ (passes .lines p e) (rw next-is at (line-past t at h other n p e));
       }
+
+-- ---- byte by byte
+
+pub feed-one : (b : ℕ) → b ≡ 10 → 1 ≡ feedOf b
+unfolding feedOf
+feed-one b e = sym (if-true _ _ (eq-eqb b 10 e))
+
+pub feed-none : (b : ℕ) → (b ≡ 10 → ⊥) → 0 ≡ feedOf b
+unfolding feedOf
+feed-none b e = sym (if-false _ _ (ne-eqb b 10 e))
+
+feed-small : (b : ℕ) → feedOf b ≤ 1
+feed-small b =
+    by-cases _ (eqb b 10)
+    (λ (e : eqb b 10 ≡ true). omega (arith, feed-one b (eqb-true _ _ e)))
+    (λ (e : eqb b 10 ≡ false). omega (arith, feed-none b (eqb-false _ _ e)))
+
+pub feed-told : (b f : ℕ) → f ≡ feedOf b → f ≤ 1
+feed-told b f e = omega (arith, e, feed-small b)
+
+feeds-none : feeds [] ≡ 0
+unfolding feeds
+feeds-none = refl
+
+feeds-more : (b : ℕ) (s : List ℕ) → feeds (b ∷ s) ≡ feedOf b + feeds s
+unfolding feeds
+feeds-more b s = refl
+
+one-back : (t : List ℕ) (at : ℕ) → getD t (at + 1 - 1) 0 ≡ getD t at 0
+one-back t at = let e : at + 1 - 1 ≡ at = omega arith in ap (λ (k : ℕ). getD t k 0) e
+
+-- a byte of the line that starts at s
+module _ (t : List ℕ) (n₀ at₀ n s at : ℕ) (passes : PassesPlain t n₀ at₀ (record { at = s; number = n })) (h : at < length t) (within : s ≤ at)
+    (inv : runEnd (isBefore 10) t at ≡ runEnd (isBefore 10) t s) (other : getD t s 0 ≡ 91 → ⊥) where
+  byte-ends : getD t at 0 ≡ 10 → Amid t n₀ at₀ (n + feedOf (getD t at 0)) (at + 1)
+  byte-ends e =
+      let l : s < length t = omega arith in
+      rw (sym (feed-one (getD t at 0) e))
+      (ended (passes-on t n₀ at₀ n s passes l (at + 1) (feed-found t s at inv h e) other) (one-back t at ∙ e))
+
+  byte-inside : (getD t at 0 ≡ 10 → ⊥) → Amid t n₀ at₀ (n + feedOf (getD t at 0)) (at + 1)
+  byte-inside e =
+      let f : s < at + 1 = omega arith in
+      let g : at + 1 ≤ length t = omega arith in
+      rw (sym (feed-none (getD t at 0) e), add-zero n)
+      (amid s passes f g (feed-on t s at inv h e) other (λ (k : getD t (at + 1 - 1) 0 ≡ 10). e (sym (one-back t at) ∙ k)))
+
+  pub byte-past : Amid t n₀ at₀ (n + feedOf (getD t at 0)) (at + 1)
+  byte-past =
+      by-cases _ (eqb (getD t at 0) 10)
+      (λ (e : eqb (getD t at 0) 10 ≡ true). byte-ends (eqb-true _ _ e))
+      (λ (e : eqb (getD t at 0) 10 ≡ false). byte-inside (eqb-false _ _ e))
+
+amid-on : (t : List ℕ) (n₀ at₀ n at : ℕ) → at < length t → (getD t at 0 ≡ 91 → ⊥) → Amid t n₀ at₀ n at → Amid t n₀ at₀ (n + feedOf (getD t at 0)) (at + 1)
+amid-on t n₀ at₀ n at h other (ended passes e) = byte-past t n₀ at₀ n at at passes h (le-refl at) refl other
+amid-on t n₀ at₀ n at h other (amid s passes f l inv first e) = byte-past t n₀ at₀ n s at passes h (omega arith) inv first
+
+-- so many bytes without a `[`
+amid-over : (t : List ℕ) (n₀ at₀ k n at : ℕ) → at + k ≤ length t → all (isBefore 91) (take k (drop at t)) ≡ true → Amid t n₀ at₀ n at →
+    Amid t n₀ at₀ (n + feeds (take k (drop at t))) (at + k)
+amid-over t n₀ at₀ zero n at h a m = rw (feeds-none, add-zero n, add-zero at) m
+amid-over t n₀ at₀ (suc k) n at h a m =
+    let l : at < length t = omega arith in
+    let g : at + 1 + k ≤ length t = omega arith in
+    let d : drop at t ≡ getD t at 0 ∷ drop (at + 1) t = drop-cons t at 0 l ∙ ap (λ (i : ℕ). getD t at 0 ∷ drop i t) (sym (add-one at)) in
+    let b : both (isBefore 91 (getD t at 0)) (all (isBefore 91) (take k (drop (at + 1) t))) ≡ true =
+    sym (all-cons (isBefore 91) (getD t at 0) (take k (drop (at + 1) t))) ∙ ap (λ (u : List ℕ). all (isBefore 91) (take (suc k) u)) (sym d) ∙ a in
+    let r : Amid t n₀ at₀ (n + feedOf (getD t at 0) + feeds (take k (drop (at + 1) t))) (at + 1 + k) =
+    amid-over t n₀ at₀ k (n + feedOf (getD t at 0)) (at + 1) g (both-second _ _ b)
+    (amid-on t n₀ at₀ n at l (not-open (getD t at 0) (both-first _ _ b)) m) in
+    let e : n + feedOf (getD t at 0) + feeds (take k (drop (at + 1) t)) ≡ n + feeds (take (suc k) (drop at t)) =
+    add-assoc n (feedOf (getD t at 0)) (feeds (take k (drop (at + 1) t)))
+    ∙ ap (λ (x : ℕ). n + x) (sym (feeds-more (getD t at 0) (take k (drop (at + 1) t))))
+    ∙ ap (λ (u : List ℕ). n + feeds (take (suc k) u)) (sym d) in
+    let q : at + 1 + k ≡ at + suc k = omega arith in
+    rw (sym e, sym q) r
+
+feeds-few : (s : List ℕ) → feeds s ≤ length s
+feeds-few [] = omega (arith, feeds-none)
+feeds-few (b ∷ s) = omega (arith, feeds-more b s, feed-small b, feeds-few s)
+
+-- ---- the loop that counts the LFs of some bytes: what it has counted and what is left give the whole
+
+module _ (t : List ℕ) where
+  pub feeds-start : (from end : ℕ) → end ≡ from + 16 → 0 + feeds (take (end - from) (drop from t)) ≡ feeds (take 16 (drop from t))
+  feeds-start from end e = let k : end - from ≡ 16 = omega arith in zero-add _ ∙ ap (λ (n : ℕ). feeds (take n (drop from t))) k
+
+  module _ (i end count goal : ℕ) (inv : count + feeds (take (end - i) (drop i t)) ≡ goal) where
+    pub feeds-on : i < end → end ≤ length t → (f : ℕ) → f ≡ feedOf (getD t i 0) → count + f + feeds (take (end - (i + 1)) (drop (i + 1) t)) ≡ goal
+    feeds-on h l f e =
+        let k : end - i ≡ suc (end - (i + 1)) = omega arith in
+        let g : i < length t = omega arith in
+        let d : drop i t ≡ getD t i 0 ∷ drop (i + 1) t = drop-cons t i 0 g ∙ ap (λ (j : ℕ). getD t i 0 ∷ drop j t) (sym (add-one i)) in
+        let a : feeds (take (end - i) (drop i t)) ≡ feedOf (getD t i 0) + feeds (take (end - (i + 1)) (drop (i + 1) t)) =
+        ap (λ (n : ℕ). feeds (take n (drop i t))) k ∙ ap (λ (u : List ℕ). feeds (take (suc (end - (i + 1))) u)) d
+        ∙ feeds-more (getD t i 0) (take (end - (i + 1)) (drop (i + 1) t)) in
+        omega arith
+
+    pub feeds-done : end ≤ i → count ≡ goal
+    feeds-done h =
+        let k : end - i ≡ 0 = omega arith in
+        let z : feeds (take (end - i) (drop i t)) ≡ 0 = ap (λ (n : ℕ). feeds (take n (drop i t))) k ∙ feeds-none in
+        omega arith
+
+-- ---- block by block
+
+feeds-told : (t : List ℕ) (from f : ℕ) → f ≡ feeds (take 16 (drop from t)) → f ≤ 16
+feeds-told t from f e =
+    let s : length (take 16 (drop from t)) ≤ 16 = rw (length-take 16 (drop from t)) (omega arith) in
+    omega (arith, feeds-few (take 16 (drop from t)))
+
+pub bytes-none : (t : List ℕ) (n at : ℕ) → (at ≤ length t) × (n ≤ at + 1) → PassesBytes t n at (record { at = at; number = n })
+bytes-none t n at (h, k) =
+    record { onward = le-refl at; within = h; counted = k; over = λ (n₀ at₀ : ℕ) (m : Amid t n₀ at₀ n at). m }
+
+pub bytes-on : (t : List ℕ) (n at count here : ℕ) → PassesBytes t n at (record { at = here; number = count }) → 16 ≤ length t - here →
+    (closed : Bool) → closed ≡ all (isBefore 91) (take 16 (drop here t)) → not closed ≡ false → (f : ℕ) → f ≡ feeds (take 16 (drop here t)) →
+    PassesBytes t n at (record { at = here + 16; number = count + f })
+bytes-on t n at count here passes room closed told h f counted =
+    let l : here + 16 ≤ length t = omega arith in
+    let a : at ≤ here = passes .onward in
+    let c : count ≤ here + 1 = passes .counted in
+    let k : f ≤ 16 = feeds-told t here f counted in
+    record {
+      onward = omega arith;
+      within = l;
+      counted = omega arith;
+      over =
+          λ (n₀ at₀ : ℕ) (m : Amid t n₀ at₀ n at).
+          rw counted (amid-over t n₀ at₀ 16 count here l (sym told ∙ not-false closed h) (passes .over n₀ at₀ m));
+    }
+
+-- ---- what is left of a line
+
+feed-further : (t : List ℕ) (end : ℕ) → end ≤ pastFeed t end
+unfolding pastFeed
+feed-further t end = by-test (λ (n : ℕ). end ≤ n) (ltb end (length t)) _ _ (λ e. omega arith) (λ e. omega arith)
+
+module _ (t : List ℕ) (n at : ℕ) where
+  rest-past : getD t (at - 1) 0 ≡ 10 → (n₀ at₀ : ℕ) → Amid t n₀ at₀ n at → PassesPlain t n₀ at₀ (record { at = at; number = n })
+  rest-past h n₀ at₀ (ended passes e) = passes
+  rest-past h n₀ at₀ (amid s passes f l inv first e) = absurd (e h)
+
+  pub rest-none : getD t (at - 1) 0 ≡ 10 → EndsLine t n at (record { at = at; number = n })
+  rest-none h = record { onward = le-refl at; past = rest-past h }
+
+  module _ (h : getD t (at - 1) 0 ≡ 10 → ⊥) (next : ℕ) (told : next ≡ pastFeed t (runEnd (isBefore 10) t at)) where
+    line-ends : (n₀ at₀ : ℕ) → Amid t n₀ at₀ n at → PassesPlain t n₀ at₀ (record { at = next; number = n + 1 })
+    line-ends n₀ at₀ (ended passes e) = absurd (h e)
+    line-ends n₀ at₀ (amid s passes f l inv first e) =
+        let g : s < length t = omega arith in
+        passes-on t n₀ at₀ n s passes g next (told ∙ ap (pastFeed t) inv) first
+
+    pub rest-line : EndsLine t n at (record { at = next; number = n + 1 })
+    rest-line = record { onward = omega (arith, told, feed-further t (runEnd (isBefore 10) t at)); past = line-ends }
+
+-- ---- line by line, and many at once
+
+module _ (t : List ℕ) (n₀ at₀ n at : ℕ) (passes : PassesPlain t n₀ at₀ (record { at = at; number = n })) (h : at < length t) (f : ℕ)
+    (is : f ≡ feedOf (getD t at 0)) where
+  module _ (mid : Passed) (bytes : PassesBytes t (n + f) (at + 1) mid) where
+    module _ (r : Passed) (ends : EndsLine t (mid .number) (mid .at) r) where
+      pub plain-on : (getD t at 0 ≡ 91 → ⊥) → PassesPlain t n₀ at₀ (record { at = r .at; number = r .number })
+      plain-on other =
+          let m : Amid t n₀ at₀ (n + f) (at + 1) = rw is (byte-past t n₀ at₀ n at at passes h (le-refl at) refl other) in
+          ends .past n₀ at₀ (bytes .over n₀ at₀ m)
+
+      pub plain-less : length t - r .at < length t - at
+      plain-less = omega (arith, bytes .onward, ends .onward)
 
 -- ---- the next line behind them
 
@@ -186,8 +376,8 @@ module _ (t : List ℕ) (n at p : ℕ) (f : Found) where
       record {
         located = finds .located;
         behind = finds .behind;
-        same-there = λ (e : f .there ≡ true). plainly-same _ _ _ (plainly-none _) (finds .same-there e p);
-        same-none = λ (e : f .there ≡ false). plainly-same _ _ _ (plainly-none _) (finds .same-none e p);
+        same-there = λ (e : f .there ≡ true). plainly-same p _ _ _ (plainly-none p _) (finds .same-there e p);
+        same-none = λ (e : f .there ≡ false). plainly-same p _ _ _ (plainly-none p _) (finds .same-none e p);
       }
 
   pub meets-past : (p ≡ mapHead → ⊥) → (r : Passed) → PassesPlain t n at r → Finds t (r .number) (r .at) f → Meets t n at p f
@@ -199,6 +389,6 @@ module _ (t : List ℕ) (n at p : ℕ) (f : Found) where
             let a : at ≤ r .at = passes .onward in
             let b : r .at ≤ f .at = finds .behind e in
             omega arith;
-        same-there = λ (e : f .there ≡ true). plainly-same _ _ _ (passes .lines p head) (finds .same-there e p);
-        same-none = λ (e : f .there ≡ false). plainly-same _ _ _ (passes .lines p head) (finds .same-none e p);
+        same-there = λ (e : f .there ≡ true). plainly-same p _ _ _ (passes .lines p head) (finds .same-there e p);
+        same-none = λ (e : f .there ≡ false). plainly-same p _ _ _ (passes .lines p head) (finds .same-none e p);
       }

@@ -4,9 +4,12 @@ use Prim.Native.Nat.{ℕ, _+_, _-_, _≤_, _<_}
 use mathlib.Core.Path.{_≡_}
 use mathlib.Core.Bool.{Bool, true, false}
 use mathlib.Core.List.{List, [], _∷_, _++_}
-use lib.ListN.{length, take, drop}
-use lib.Dec.{leb}
+use Prim.Native.Char.{code}
+use lib.ListN.{length, take, drop, getD}
+use lib.Dec.{leb, eqb}
 use Rattle.base.specs.If.{if_then_else_}
+use Rattle.base.specs.Bytes.{lineFeed}
+use Rattle.base.specs.Class.{isBefore, runEnd}
 use Rattle.text.specs.Words.{Word}
 use Rattle.text.specs.declared.Span.{Span}
 use Rattle.keyword.specs.Bracket.{bracketOf}
@@ -58,22 +61,56 @@ pub record Finds (t : List ℕ) (n at : ℕ) (f : Found) : Type 0 where
 
 -- ---- where keywords alone are looked for
 
--- these lines are some without a keyword, and then the rest
-pub record Plainly (ls rest : List Line) : Type 0 where
+-- a line without a keyword in the place p
+pub record IsPlain (p : ℕ) (l : Line) : Type 0 where
+  pub place-is : l .place ≡ p
+  pub key-is : keyOf l ≡ plain
+
+-- these lines are some without a keyword, all in the place p, and then the rest
+pub record Plainly (p : ℕ) (ls rest : List Line) : Type 0 where
   pub before : List Line
   pub all : ls ≡ before ++ rest
-  pub each : Each (λ (l : Line). keyOf l ≡ plain) before
+  pub each : Each (IsPlain p) before
 
 -- lines without a keyword are gone past: outside the head of a map they lead nowhere
 pub record PassesPlain (t : List ℕ) (n at : ℕ) (r : Passed) : Type 0 where
   pub onward : at ≤ r .at
   pub within : r .at ≤ length t
   pub counted : r .number ≤ r .at + 1
-  pub lines : (p : ℕ) → (p ≡ mapHead → ⊥) → Plainly (linesAt t n at p) (linesAt t (r .number) (r .at) p)
+  pub lines : (p : ℕ) → (p ≡ mapHead → ⊥) → Plainly p (linesAt t n at p) (linesAt t (r .number) (r .at) p)
 
 -- a line from a byte on, read in the place p: those before it have no keyword
 pub record Meets (t : List ℕ) (n at p : ℕ) (f : Found) : Type 0 where
   pub located : f .there ≡ true → Located t f
   pub behind : f .there ≡ true → at ≤ f .at
-  pub same-there : f .there ≡ true → Plainly (linesAt t n at p) (lineIn t f p ∷ linesBehind t f p)
-  pub same-none : f .there ≡ false → Plainly (linesAt t n at p) []
+  pub same-there : f .there ≡ true → Plainly p (linesAt t n at p) (lineIn t f p ∷ linesBehind t f p)
+  pub same-none : f .there ≡ false → Plainly p (linesAt t n at p) []
+
+-- ---- the same, many bytes at once
+
+-- how many lines a byte ends, and how many bytes together do
+unfoldable pub feedOf : ℕ → ℕ
+feedOf b = if eqb b lineFeed then 1 else 0
+
+unfoldable pub feeds : List ℕ → ℕ
+feeds [] = 0
+feeds (b ∷ s) = feedOf b + feeds s
+
+-- gone past lines from at₀ on to a byte behind an LF, or to one in the line that starts at s, which does not start with `[`
+pub data Amid (t : List ℕ) (n₀ at₀ : ℕ) : ℕ → ℕ → Type 0 where
+  ended : {n at : ℕ} → PassesPlain t n₀ at₀ (record { at = at; number = n }) → getD t (at - 1) 0 ≡ lineFeed → Amid t n₀ at₀ n at
+  amid : {n at : ℕ} (s : ℕ) → PassesPlain t n₀ at₀ (record { at = s; number = n }) → s < at → at ≤ length t →
+      runEnd (isBefore lineFeed) t at ≡ runEnd (isBefore lineFeed) t s → (getD t s 0 ≡ code "[" → ⊥) → (getD t (at - 1) 0 ≡ lineFeed → ⊥) →
+      Amid t n₀ at₀ n at
+
+-- bytes are gone past, wherever the lines began
+pub record PassesBytes (t : List ℕ) (n at : ℕ) (r : Passed) : Type 0 where
+  pub onward : at ≤ r .at
+  pub within : r .at ≤ length t
+  pub counted : r .number ≤ r .at + 1
+  pub over : (n₀ at₀ : ℕ) → Amid t n₀ at₀ n at → Amid t n₀ at₀ (r .number) (r .at)
+
+-- and what is left of their last line
+pub record EndsLine (t : List ℕ) (n at : ℕ) (r : Passed) : Type 0 where
+  pub onward : at ≤ r .at
+  pub past : (n₀ at₀ : ℕ) → Amid t n₀ at₀ n at → PassesPlain t n₀ at₀ r

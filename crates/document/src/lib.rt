@@ -1,13 +1,15 @@
 // The lines of a text that say something, and the words of such a line, found where they stand.
 ghost use mathlib.Core.Path.{_≡_};
 ghost use Prim.Native.Nat.{_+_, _≤_};
-ghost use lib.ListN.{length};
+ghost use lib.ListN.{length, take, drop};
+ghost use Rattle.base.specs.Runs.{all};
 ghost use Rattle.base.specs.Class.{isBefore, runEnd};
 ghost use Rattle.text.specs.Lines.{pastFeed};
 ghost use Rattle.text.specs.Words.{wordsFrom};
 ghost use Rattle.block.specs.Kept.{mostLines};
 ghost use Rattle.document.specs.Lines.{keyIn, argumentIn, firstWord, secondWord, placeAfter, argumentOf};
-ghost use Rattle.document.specs.Found.{markOf, markAt, Finds, Located, contentIn, lineIn, PassesPlain, Meets};
+ghost use Rattle.document.specs.Found.{markOf, markAt, Finds, Located, contentIn, lineIn, feedOf, feeds, PassesPlain, PassesBytes, EndsLine, Meets};
+use base::Class;
 use keyword::Bracket;
 use text::Span;
 
@@ -18,6 +20,9 @@ const COMMENT: u8 = b'|';
 const OPEN: u8 = b'[';
 
 const LINE_FEED: u8 = 10;
+
+// How many bytes are looked at together.
+const BLOCK: usize = 16;
 
 // What stands for the keyword of a line that has none.
 pub const PLAIN: u64 = 41;
@@ -123,6 +128,83 @@ fn past_line(text: &[u8], at: usize) -> usize
     i
 }
 
+// How many lines a byte ends.
+fn feed_of(b: u8) -> u8
+    ensures { λ r. ⌜ r ≡ feedOf b ⌝ }
+{
+    if b == LINE_FEED {
+        return 1;
+    }
+    0
+}
+
+// How many lines end within sixteen bytes. Each byte is looked at, so that a processor takes them at once.
+fn feeds_in(text: &[u8], from: usize) -> u8
+    requires { ⌜ from + 16 ≤ length (now text) ⌝ }
+    ensures { λ r. ⌜ r ≡ feeds (take 16 (drop from (now (text .entry)))) ⌝ }
+{
+    let end = from + BLOCK;
+    let mut count = 0;
+    let mut i = from;
+    while i < end {
+        count += feed_of(text[i]);
+        i += 1;
+    }
+    count
+}
+
+// Whether none of sixteen bytes is a `[`, looked at in the same way.
+fn is_closed(text: &[u8], from: usize) -> bool
+    requires { ⌜ from + 16 ≤ length (now text) ⌝ }
+    ensures { λ r. ⌜ r ≡ all (isBefore 91) (take 16 (drop from (now (text .entry)))) ⌝ }
+{
+    let end = from + BLOCK;
+    let mut whole = true;
+    let mut i = from;
+    while i < end {
+        whole = base::and(whole, base::in_class(Class::Before(OPEN), text[i]));
+        i += 1;
+    }
+    whole
+}
+
+// Past all blocks from a byte on that have no `[`: no line starts with one there. The last of these lines may go on behind them.
+fn past_blocks(text: &[u8], at: usize, number: u64) -> Passed
+    requires { ⌜ (at ≤ length (now text)) × (number ≤ at + 1) ⌝ }
+    ensures { λ r. ⌜ PassesBytes (now (text .entry)) number at r ⌝ }
+{
+    let mut here = at;
+    let mut count = number;
+    while BLOCK <= text.len() - here {
+        if !is_closed(text, here) {
+            return Passed {
+                at: here,
+                number: count,
+            };
+        }
+        count += feeds_in(text, here) as u64;
+        here += BLOCK;
+    }
+    Passed {
+        at: here,
+        number: count,
+    }
+}
+
+// What is left of the line before a byte: nothing where that one is an LF.
+fn past_rest(text: &[u8], at: usize, number: u64) -> Passed
+    requires { ⌜ (1 ≤ at) × (at ≤ length (now text)) × (number ≤ at + 1) ⌝ }
+    ensures { λ r. ⌜ EndsLine (now (text .entry)) number at r ⌝ }
+{
+    if text[at - 1] == LINE_FEED {
+        return Passed { at, number };
+    }
+    Passed {
+        at: past_line(text, at),
+        number: number + 1,
+    }
+}
+
 // Past the lines from a byte on that do not start with `[`: none of them has a keyword. A bracket behind blanks is none either.
 pub fn past_plain(text: &[u8], at: usize, number: u64) -> Passed
     requires { ⌜ (at ≤ length (now text)) × (number ≤ at + 1) ⌝ }
@@ -131,14 +213,17 @@ pub fn past_plain(text: &[u8], at: usize, number: u64) -> Passed
     let mut here = at;
     let mut count = number;
     while here < text.len() {
-        if text[here] == OPEN {
+        let first = text[here];
+        if first == OPEN {
             return Passed {
                 at: here,
                 number: count,
             };
         }
-        here = past_line(text, here);
-        count += 1;
+        let mid = past_blocks(text, here + 1, count + (feed_of(first) as u64));
+        let passed = past_rest(text, mid.at, mid.number);
+        here = passed.at;
+        count = passed.number;
     }
     Passed {
         at: here,

@@ -18,14 +18,14 @@ use Rattle.table.specs.Filling.{Write, Fits}
 use Rattle.table.specs.declared.Filling.{Filling}
 use Rattle.document.specs.Lines.{Line, plain, keyAt, keyOf, placeAfter, linesAt, significant, gather, upTo, argumentOf}
 use Rattle.document.specs.Document.{Map, inMap, opensMap, mapOf, mapAt, opensSection, sectionAt, documentOf, documentIn}
-use Rattle.document.specs.Found.{contentIn, lineIn, linesBehind, Located, Meets}
+use Rattle.document.specs.Found.{contentIn, lineIn, linesBehind, Located, IsPlain, Plainly, Meets}
 use Rattle.document.specs.declared.Found.{Found}
-use Rattle.document.proofs.PlainLaws.{plain-map, plain-section}
+use Rattle.document.proofs.PlainLaws.{plain-map, plain-section, plainly-quiet}
 use Rattle.storing.specs.Writes.{mapWrites, mapsWrites}
 use Rattle.storing.specs.Stores.{Stores, Placed, Passes, Ready}
 use Rattle.storing.specs.declared.Walk.{Walk}
 use Rattle.storing.proofs.StoreLaws.{stores-none}
-use Rattle.storing.proofs.LineLaws.{gather-quiet, quiet, plainly-quiet}
+use Rattle.storing.proofs.LineLaws.{gather-quiet, quiet}
 use Rattle.storing.proofs.LateLaws.{late-quiet, late-map}
 use Rattle.storing.proofs.BlockLaws.{BlocksLeft, blocks-start, blocks-done, blocks-end, block-fits, blocks-on, blocks-less}
 use Rattle.maps.specs.Maps.{mapLines, mapBelow, FillsMap, mapsOf, PassesMap, FillsMaps}
@@ -171,6 +171,10 @@ module _ (t : List ℕ) (f₀ : Filling) (table₀ : List ℕ) (w : Walk) (table
         placed = family .left .placed;
       }
 
+  -- lines without a keyword open no section
+  sections-over : (ls rest : List Line) → Plainly (w .place) ls rest → gather sectionAt ls ≡ gather sectionAt rest
+  sections-over = plainly-quiet (w .place) sectionAt (λ (l : Line) (ls : List Line) (h : IsPlain (w .place) l). plain-section l ls (h .key-is))
+
   pub family-long : length table ≡ length table₀
   family-long = family .left .pending .long
 
@@ -199,7 +203,7 @@ module _ (t : List ℕ) (f₀ : Filling) (table₀ : List ℕ) (w : Walk) (table
         family-on =
             record {
               left = blocks-on mapAt mapsOf maps-storable (length table₀) t f₀ table₀ (documentOf t .maps) w table (family .left) line meets there v table' (passes .passes);
-              sections = family .sections ∙ plainly-quiet sectionAt plain-section _ _ (meets .same-there (not-false (line .there) there)) ∙ passes .sections;
+              sections = family .sections ∙ sections-over _ _ (meets .same-there (not-false (line .there) there)) ∙ passes .sections;
             }
 
         pub family-less : length t - v .at < length t - w .at

@@ -235,7 +235,7 @@ module _ (t : List ℕ) (f₀ : Filling) (table₀ : List ℕ) (w : Walk) (table
       first = lineIn t line (w .place)
 
       -- the lines without a keyword before it
-      over : Plainly (linesAt t (w .number) (w .at) (w .place)) (first ∷ linesBehind t line (w .place))
+      over : Plainly (w .place) (linesAt t (w .number) (w .at) (w .place)) (first ∷ linesBehind t line (w .place))
       over = meets .same-there (not-false (line .there) there)
 
       lines-left : linesAt t (w .number) (w .at) (w .place) ≡ (over .before ++ (first ∷ [])) ++ linesBehind t line (w .place)

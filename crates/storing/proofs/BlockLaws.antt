@@ -11,12 +11,13 @@ use Rattle.table.specs.Filling.{Write, fillingAfter, Fits}
 use Rattle.table.specs.declared.Filling.{Filling}
 use Rattle.table.proofs.FillingLaws.{fits-first}
 use Rattle.document.specs.Lines.{Line, plain, keyOf, linesAt, gather}
-use Rattle.document.specs.Found.{lineIn, linesBehind, Located, Meets}
+use Rattle.document.specs.Found.{lineIn, linesBehind, Located, IsPlain, Plainly, Meets}
 use Rattle.document.specs.declared.Found.{Found}
+use Rattle.document.proofs.PlainLaws.{plainly-quiet}
 use Rattle.storing.specs.Stores.{Stores, Placed, Passes, Ready}
 use Rattle.storing.specs.declared.Walk.{Walk}
 use Rattle.storing.proofs.StoreLaws.{Pending, pending-start, pending-step, pending-done, pending-same}
-use Rattle.storing.proofs.LineLaws.{gather-none, gather-on, plainly-quiet}
+use Rattle.storing.proofs.LineLaws.{gather-none, gather-on}
 
 -- Blocks of a kind, which a keyword opens, and what is stored of them from where a filling stands: of none nothing, and of some those in front
 -- and then, from where these have led, the rest.
@@ -41,6 +42,10 @@ module _ {B : Type 0} (block : Line → List Line → List B) (writes : Filling 
       }
 
   module _ (storable : Storable) (size : ℕ) (t : List ℕ) (f₀ : Filling) (table₀ : List ℕ) (bs : List B) (w : Walk) (table : List ℕ) (left : BlocksLeft size t f₀ table₀ bs w table) where
+    -- lines without a keyword open no block
+    over : (ls rest : List Line) → Plainly (w .place) ls rest → gather block ls ≡ gather block rest
+    over = plainly-quiet (w .place) block (λ (l : Line) (ls : List Line) (h : IsPlain (w .place) l). storable .quiet l ls (h .key-is))
+
     -- where no block is left, all are stored
     pub blocks-done : gather block (linesAt t (w .number) (w .at) (w .place)) ≡ [] → Stores f₀ table₀ (writes f₀ bs) (w .filling) table
     blocks-done e =
@@ -49,7 +54,7 @@ module _ {B : Type 0} (block : Line → List Line → List B) (writes : Filling 
 
     module _ (line : Found) (meets : Meets t (w .number) (w .at) (w .place) line) where
       pub blocks-end : not (line .there) ≡ true → Stores f₀ table₀ (writes f₀ bs) (w .filling) table
-      blocks-end h = blocks-done (plainly-quiet block (storable .quiet) _ [] (meets .same-none (not-true (line .there) h)) ∙ gather-none block)
+      blocks-end h = blocks-done (over _ [] (meets .same-none (not-true (line .there) h)) ∙ gather-none block)
 
       module _ (there : not (line .there) ≡ false) where
         found : Located t line
@@ -60,7 +65,7 @@ module _ {B : Type 0} (block : Line → List Line → List B) (writes : Filling 
 
         split-here : writes (w .filling) (gather block (linesAt t (w .number) (w .at) (w .place))) ≡ writes (w .filling) here ++ writes (fillingAfter (writes (w .filling) here) (w .filling)) (gather block (linesBehind t line (w .place)))
         split-here =
-            ap (writes (w .filling)) (plainly-quiet block (storable .quiet) _ _ (meets .same-there (not-false (line .there) there)))
+            ap (writes (w .filling)) (over _ _ (meets .same-there (not-false (line .there) there)))
             ∙ ap (writes (w .filling)) (gather-on block (lineIn t line (w .place)) (linesBehind t line (w .place)))
             ∙ storable .split (w .filling) here (gather block (linesBehind t line (w .place))) (left .seven)
 

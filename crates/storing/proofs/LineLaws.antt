@@ -5,10 +5,7 @@ use mathlib.Core.Bool.{Bool, true, false}
 use mathlib.Core.List.{List, [], _∷_, _++_, append-assoc, append-nil}
 use Prim.Native.Nat.{ℕ}
 use Rattle.base.proofs.IfLaws.{if-true, if-false, by-cases}
-use Rattle.document.specs.Lines.{Line, plain, keyOf, gather, upTo}
-use Rattle.document.specs.Holds.{Each}
-use Rattle.document.specs.Holds.Each.{none, more as and}
-use Rattle.document.specs.Found.{Plainly}
+use Rattle.document.specs.Lines.{Line, gather, upTo}
 
 module _ (inside : Line → Bool) (l : Line) (ls : List Line) where
   pub up-on : inside l ≡ true → upTo inside (l ∷ ls) ≡ l ∷ upTo inside ls
@@ -70,12 +67,3 @@ module _ {A : Type 0} (here : Line → List Line → List A) where
       by-cases (gather here (upTo inside (l ∷ ls) ++ rest) ≡ gather here rest) (inside l)
       (λ (e : inside l ≡ true). rw (up-on inside l ls e) (gather-quiet l (upTo inside ls ++ rest) (silent l _ e) ∙ quiet inside silent ls rest))
       (λ (e : inside l ≡ false). rw (up-stops inside l ls e))
-
-  -- and so may lines without a keyword, where these give nothing
-  module _ (silent : (l : Line) (ls : List Line) → keyOf l ≡ plain → here l ls ≡ []) where
-    plain-quiet : {before : List Line} → Each (λ (l : Line). keyOf l ≡ plain) before → (rest : List Line) → gather here (before ++ rest) ≡ gather here rest
-    plain-quiet none rest = refl
-    plain-quiet (and {x = l} {xs = ls} k ks) rest = gather-quiet l (ls ++ rest) (silent l (ls ++ rest) k) ∙ plain-quiet ks rest
-
-    pub plainly-quiet : (ls rest : List Line) → Plainly ls rest → gather here ls ≡ gather here rest
-    plainly-quiet ls rest h = ap (gather here) (h .all) ∙ plain-quiet (h .each) rest
