@@ -10,10 +10,10 @@ use native.Mathlib.Omega.{arith}
 use lib.ListN.{length, getD, set, replicate, length-set, getD-replicate}
 use lib.Seq.{getD-set-same, getD-set-other}
 use lib.Dec.{leb, ltb, eqb}
-use borrow.Author.Tests.{lt-ltb, le-ltb, eqb-true, eqb-false, leb-true, leb-false, not-true, not-false}
+use borrow.Author.Tests.{lt-ltb, le-ltb, ne-eqb, eqb-true, eqb-false, leb-true, leb-false, not-true, not-false}
 use Rattle.base.specs.If.{if_then_else_, both, either}
 use Rattle.base.specs.Broken.{firstBroken}
-use Rattle.base.proofs.IfLaws.{if-true, if-false, by-cases, either-left, either-rest, either-comes, not-via, not-not-via}
+use Rattle.base.proofs.IfLaws.{if-true, if-false, by-cases, both-not-left, either-left, either-rest, either-comes, not-via, not-not-via}
 use Rattle.base.proofs.BrokenLaws.{first-broken, first-kept}
 use Rattle.keyword.specs.Names.{beginIcmModel}
 use Rattle.place.specs.Place.{isInFamily}
@@ -23,12 +23,13 @@ use Rattle.view.specs.View.{viewOf}
 use Rattle.view.specs.declared.View.{View}
 use Rattle.document.specs.Lines.{Line, plain, keyOf, placeAfter, linesAt, significant, gather, upTo, standsIn, wordsOf, firstWord}
 use Rattle.document.specs.Document.{Named, Model, Document, listedAt, opensModel, modelOf, modelAt, inModel, documentIn, documentOf}
-use Rattle.document.specs.Found.{contentIn, lineIn, linesBehind, Located, Finds}
+use Rattle.document.specs.Found.{contentIn, lineIn, linesBehind, Located, Finds, IsPlain, Plainly, Meets}
 use Rattle.document.specs.declared.Found.{Found}
 use Rattle.document.specs.Holds.{Each}
 use Rattle.document.specs.Holds.Each.{none, more}
 use Rattle.document.proofs.StandsLaws.{each-append, each-gather, each-if}
 use Rattle.document.proofs.BlockLaws.{gather-none, gather-more}
+use Rattle.document.proofs.PlainLaws.{plainly-quiet, meets-found}
 use Rattle.rules.specs.Rules.{any, isTwice, isThere, modelName, listRule, listFindings, nothing, firstIn}
 use Rattle.rules.specs.Filled.{Filled}
 use Rattle.rules.specs.declared.Finding.{Finding}
@@ -41,7 +42,7 @@ use Rattle.rules.proofs.ListLaws.{models-below}
 use Rattle.rules.proofs.TwiceLaws.{listed-twice}
 use Rattle.rules.proofs.KindLaws.{first-here, first-later}
 use Rattle.list_rules.specs.Listed.{namedBy, isListed, Listed}
-use Rattle.list_rules.specs.Judged.{ModelsIn, noModel, modelFound, judgedBy, nameJudged, lineJudged}
+use Rattle.list_rules.specs.Judged.{ModelsIn, noModel, modelFound, judgedBy, nameJudged, lineJudged, Nears}
 use Rattle.list_rules.specs.declared.Judged.{Judged}
 use Rattle.list_rules.proofs.NamedLaws.{above-found, above-none, there-found, models-many, models-in, model-is}
 
@@ -101,6 +102,30 @@ unfolding either
 either-swap true true c = refl
 either-swap true false c = refl
 either-swap false b c = refl
+
+-- ---- the line found next
+
+module _ (t : List ℕ) (n at p : ℕ) (f : Found) where
+  pub near-listed : Finds t n at f → Nears t n at p f
+  near-listed finds =
+      record {
+        meets = meets-found t n at p f finds;
+        names-there = λ (e : f .there ≡ true). ap (gather listedAt) (finds .same-there e p);
+        names-none = λ (e : f .there ≡ false). ap (gather listedAt) (finds .same-none e p) ∙ gather-none listedAt;
+      }
+
+  module _ (other : p ≡ place.list → ⊥) where
+    not-listed : (l : Line) (ls : List Line) → IsPlain p l → listedAt l ls ≡ []
+    unfolding listedAt standsIn
+    not-listed l ls h = if-false _ _ (both-not-left _ _ (ne-eqb _ _ (λ (e : l .place ≡ place.list). other (sym (h .place-is) ∙ e))))
+
+    pub near-keyed : Meets t n at p f → Nears t n at p f
+    near-keyed meets =
+        record {
+          meets = meets;
+          names-there = λ (e : f .there ≡ true). plainly-quiet p listedAt not-listed _ _ (meets .same-there e);
+          names-none = λ (e : f .there ≡ false). plainly-quiet p listedAt not-listed _ _ (meets .same-none e) ∙ gather-none listedAt;
+        }
 
 -- ---- the lines that are left
 
@@ -282,19 +307,19 @@ module _ (t : List ℕ) (listed : List Bool) (at n p : ℕ) (left : ListLeft t l
             },
       )
 
-  module _ (line : Found) (finds : Finds t n at line) where
+  module _ (line : Found) (nears : Nears t n at p line) where
     pub list-ends : not (line .there) ≡ true → Gives t 0 0 listed
-    list-ends h = list-done (ap (gather listedAt) (finds .same-none (not-true (line .there) h) p) ∙ gather-none listedAt)
+    list-ends h = list-done (nears .names-none (not-true (line .there) h))
 
     module _ (there : not (line .there) ≡ false) where
       pub found : Located t line
-      found = finds .located (not-false (line .there) there)
+      found = nears .meets .located (not-false (line .there) there)
 
       pub number-small : line .number ≤ length t
       number-small = omega (arith, found .counted, found .further, found .next-within)
 
       pub list-less : length t - line .next < length t - at
-      list-less = omega (arith, finds .behind (not-false (line .there) there), found .further, found .next-within)
+      list-less = omega (arith, nears .meets .behind (not-false (line .there) there), found .further, found .next-within)
 
       abbrev l : Line
       l = lineIn t line p
@@ -302,11 +327,22 @@ module _ (t : List ℕ) (listed : List Bool) (at n p : ℕ) (left : ListLeft t l
       abbrev ls : List Line
       ls = linesBehind t line p
 
-      here : linesAt t n at p ≡ l ∷ ls
-      here = finds .same-there (not-false (line .there) there) p
+      -- the lines before it, which name no model
+      over : Plainly p (linesAt t n at p) (l ∷ ls)
+      over = nears .meets .same-there (not-false (line .there) there)
+
+      abbrev passed : List Line
+      passed = left .passed ++ over .before
+
+      all-here : significant t ≡ passed ++ (l ∷ ls)
+      all-here =
+          left .all ∙ ap (λ (x : List Line). left .passed ++ x) (over .all) ∙ sym (append-assoc (left .passed) (over .before) (l ∷ ls))
+
+      here : gather listedAt (linesAt t n at p) ≡ gather listedAt (l ∷ ls)
+      here = nears .names-there (not-false (line .there) there)
 
       names-here : gather listedAt (linesAt t n at p) ≡ listedAt l ls ++ gather listedAt ls
-      names-here = ap (gather listedAt) here ∙ gather-more listedAt l ls
+      names-here = here ∙ gather-more listedAt l ls
 
       rest-here : documentOf t .listed ≡ left .above ++ (listedAt l ls ++ gather listedAt ls)
       rest-here = left .rest ∙ ap (λ (ns : List Named). left .above ++ ns) names-here
@@ -377,16 +413,13 @@ module _ (t : List ℕ) (listed : List Bool) (at n p : ℕ) (left : ListLeft t l
           unfolding opensModel keyOf
           opened = ap (λ (k : ℕ). both (isInFamily p) (eqb k beginIcmModel)) (sym (found .key-is)) ∙ sym told-opens ∙ is-open
 
-          all-here : significant t ≡ left .passed ++ (l ∷ ls)
-          all-here = left .all ∙ ap (λ (x : List Line). left .passed ++ x) here
-
           pub list-stops : Gives t 0 0 listed
           list-stops =
               let below : Each (λ (a : Named). Each (λ (m : Model). a .line < m .line) (documentOf t .models)) (documentOf t .listed) =
               models-below t (filled .counts) (filled .reads) in
               let lower : Each (λ (a : Named). Each (λ (m : Model). a .line < m .line) (documentOf t .models)) (gather listedAt (linesAt t n at p)) =
               each-behind (left .above) (rw (left .rest) at below) in
-              list-done (ap (gather listedAt) here ∙ none-between t (left .passed) l ls all-here opened (rw here at lower))
+              list-done (here ∙ none-between t passed l ls all-here opened (rw here at lower))
 
         module _ (judged : Judged) (is-judged : judged ≡ lineJudged t table v p line listed) where
           outcome : Outcome (documentOf t) l ls judged
@@ -405,8 +438,8 @@ module _ (t : List ℕ) (listed : List Bool) (at n p : ℕ) (left : ListLeft t l
               let g : Kept t listed l ls judged = kept-by few outcome z rest-here same-here (left .have) (left .long) (left .told) in
               rw is-place
               (record {
-                passed = left .passed ++ (l ∷ []);
-                all = left .all ∙ ap (λ (x : List Line). left .passed ++ x) here ∙ sym (append-assoc (left .passed) (l ∷ []) ls);
+                passed = passed ++ (l ∷ []);
+                all = all-here ∙ sym (append-assoc passed (l ∷ []) ls);
                 above = g .above;
                 rest = g .rest;
                 same = g .same;

@@ -1,16 +1,18 @@
 -- What one line of the list breaks, by the model that its name finds in the table and by the flags that the lines above it raised.
 -- Assumes nothing.
 use Prim.Native.Nat.{ℕ, _+_, _*_, _≤_}
+use mathlib.Core.Path.{_≡_}
 use mathlib.Core.Bool.{Bool, true, false}
-use mathlib.Core.List.{List}
+use mathlib.Core.List.{List, [], _∷_}
 use lib.ListN.{length, getD}
 use lib.Dec.{leb, eqb}
 use Rattle.base.specs.If.{if_then_else_, both}
 use Rattle.place.specs.Place as place
 use Rattle.table.specs.Layout.{models}
 use Rattle.view.specs.declared.View.{View}
-use Rattle.document.specs.Lines.{plain, wordsOf, firstWord}
-use Rattle.document.specs.Found.{lineIn}
+use Rattle.document.specs.Lines.{plain, linesAt, gather, wordsOf, firstWord}
+use Rattle.document.specs.Document.{listedAt}
+use Rattle.document.specs.Found.{lineIn, linesBehind, Meets}
 use Rattle.document.specs.declared.Found.{Found}
 use Rattle.name.specs.Name.{findIn}
 use Rattle.list_rules.specs.declared.Judged.{Judged}
@@ -42,3 +44,9 @@ nameJudged t table v line listed = judgedBy (getD (v .counts) models 0) (modelFo
 unfoldable pub lineJudged : List ℕ → List ℕ → View → ℕ → Found → List Bool → Judged
 lineJudged t table v p line listed =
     if both (eqb p place.list) (eqb (line .key) plain) then nameJudged t table v line listed else record { number = 0; slot = noModel }
+
+-- a line from a byte on, read in the place p: those before it name no model of the list
+pub record Nears (t : List ℕ) (n at p : ℕ) (f : Found) : Type 0 where
+  pub meets : Meets t n at p f
+  pub names-there : f .there ≡ true → gather listedAt (linesAt t n at p) ≡ gather listedAt (lineIn t f p ∷ linesBehind t f p)
+  pub names-none : f .there ≡ false → gather listedAt (linesAt t n at p) ≡ []

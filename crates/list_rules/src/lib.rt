@@ -1,5 +1,7 @@
 // Rules 19 and 20 of the model list.
 ghost use mathlib.Core.Path.{_≡_};
+ghost use Prim.Native.Nat.{_+_, _≤_};
+ghost use lib.ListN.{length};
 ghost use lib.Dec.{eqb};
 ghost use Rattle.base.specs.If.{both};
 ghost use Rattle.keyword.specs.Names.{beginIcmModel};
@@ -11,7 +13,7 @@ ghost use Rattle.rules.specs.Rules.{firstIn, listFindings};
 ghost use Rattle.rules.specs.Filled.{Filled};
 ghost use Rattle.view.specs.View.{viewOf};
 ghost use Rattle.list_rules.specs.Listed.{Listed};
-ghost use Rattle.list_rules.specs.Judged.{ModelsIn, modelFound, nameJudged, lineJudged};
+ghost use Rattle.list_rules.specs.Judged.{ModelsIn, modelFound, nameJudged, lineJudged, Nears};
 use document::Found;
 use view::View;
 
@@ -57,6 +59,17 @@ fn opens_model(place: u64, key: u64) -> bool
         return false;
     }
     key == keyword::BEGIN_ICM_MODEL
+}
+
+// The next line that may say something of the list: in the list any line, elsewhere one with a keyword.
+fn next_told(text: &[u8], at: usize, number: u64, place: u64) -> Found
+    requires { ⌜ (at ≤ length (now text)) × (number ≤ at + 1) ⌝ }
+    ensures { λ r. ⌜ Nears (now (text .entry)) number at place r ⌝ }
+{
+    if place == place::LIST {
+        return document::next_line(text, at, number);
+    }
+    document::next_keyed(text, at, number, place)
 }
 
 // The first model of the name that a line opens with; as many as there are where none has it.
@@ -134,7 +147,7 @@ pub fn list_finding(text: &[u8], table: &[u64], view: View) -> ListFinding
     let mut number = 1;
     let mut place = place::BEFORE;
     loop {
-        let line = document::next_line(text, at, number);
+        let line = next_told(text, at, number, place);
         if !line.there {
             return ListFinding {
                 number: 0,
