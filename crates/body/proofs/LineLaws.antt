@@ -40,10 +40,9 @@ use Rattle.matrices.specs.Told.{untold, firstTold, toldOr}
 use Rattle.matrices.specs.declared.First.{First}
 use Rattle.matrices.proofs.BodyLaws.{told-first, whole-below, most-of, row-values, row-bandwidth, row-greatest, bandwidth-values, bandwidth-told, bandwidth-greatest}
 use Rattle.noting.specs.declared.Note.{Note}
-use Rattle.noting.specs.declared.Noting.{Noting}
 use Rattle.noting.specs.Noting.{Bounded, Adds}
 use Rattle.body.specs.declared.Data.{Data}
-use Rattle.body.specs.Body.{noNote, wholeNote, keptNote, Keeps, Behind, Extends, Ends, Takes}
+use Rattle.body.specs.Body.{noNote, keptNote, Keeps, Behind, Extends, Ends, Takes}
 
 -- ---- notes
 
@@ -52,21 +51,6 @@ no-bounded values b = record { row = omega arith; column = omega arith }
 
 pub behind-same : (values : ℕ) (table : List ℕ) → Behind values table table
 behind-same values table = record { long = refl; same = refl }
-
-module _ (a : Note) where
-  whole-kept : a .whole ≡ true → wholeNote a ≡ a
-  unfolding wholeNote
-  whole-kept e = if-true _ _ e
-
-  whole-lost : a .whole ≡ false → wholeNote a ≡ noNote false
-  unfolding wholeNote
-  whole-lost e = if-false _ _ e
-
-  pub whole-told : a .whole ≡ true → a ≡ wholeNote a
-  whole-told e = sym (whole-kept e)
-
-  pub lost-told : (n : Note) → n ≡ noNote false → a .whole ≡ false → n ≡ wholeNote a
-  lost-told n told e = told ∙ sym (whole-lost e)
 
 -- ---- a line of numbers
 
@@ -85,71 +69,91 @@ next-form l m =
     (λ (e : eqb (m .form) sparse ≡ true). ap (λ (x : Matrix). x .form) (if-true _ _ e))
     (λ (e : eqb (m .form) sparse ≡ false). ap (λ (x : Matrix). x .form) (if-false _ _ e))
 
-module _ (content : List ℕ) (filled : isBlankLine content ≡ false) (plainly : bracketOf content ≡ Plain) (m : Matrix) (values : ℕ) (a : Note) (table table' : List ℕ) (noting : Noting)
-    (read : noting .line ≡ dataLineOf (m .form) content) (long : length table' ≡ length table) (same : take (3 * values) table' ≡ take (3 * values) table)
-    (adds : noting .note .whole ≡ true → (l : Line) → l .content ≡ content → keyOf l ≡ plain → Adds (m .form) l table values a table' (values + noting .line .numbers) (noting .note))
-    (k : ℕ) (rule : k ≡ dataRule (noting .line) m values) where
-  behind : Behind values table table'
-  behind = record { long = long; same = same }
+module _ (content : List ℕ) (filled : isBlankLine content ≡ false) (plainly : bracketOf content ≡ Plain) (m : Matrix) (values : ℕ) (line : DataLine)
+    (read : line ≡ dataLineOf (m .form) content) (k : ℕ) (rule : k ≡ dataRule line m values) where
+  -- what the line does to a state
+  steps-on : k ≡ 0 → (next : Matrix) → next ≡ dataNext line m →
+      Decides place.matrix (withMatrix m values) (stepOf content) 0 (withMatrix next (values + line .numbers))
+  steps-on z next next-is =
+      words-decide content Words (filled, plainly) place.matrix (withMatrix m values) refl (λ (s : State). refl)
+      (λ (z : place.matrix ≡ place.done). omega arith) (λ (z : place.matrix ≡ place.before). omega arith) 0
+      (withMatrix next (values + line .numbers)) (data-goes content m values line read k rule z next next-is)
 
-  pub numbers-stop : (k ≡ 0 → ⊥) → (n : Note) → n ≡ noNote false → Takes content m values a table (record { taken = true; ends = false; number = k; matrix = m; values = values; note = n }) table'
-  numbers-stop h n told =
-      record {
-        decides = λ (e : true ≡ true).
-            words-decide content Words (filled, plainly) place.matrix (withMatrix m values) refl (λ (s : State). refl) (λ (z : place.matrix ≡ place.done). omega arith) (λ (z : place.matrix ≡ place.before). omega arith) k
-            (withMatrix m values) (data-stops content m values (noting .line) read k rule h);
-        opens = λ (e : true ≡ false). absurd (true≢false e);
-        ends = λ (e : true ≡ false) (f : false ≡ true). absurd (true≢false e);
-        kept = λ (e : true ≡ false). absurd (true≢false e);
-        form = refl;
-        behind = behind;
-        rises = le-refl values;
-        bounded = rw told (no-bounded values false);
-        extends = λ (e : true ≡ true) (z : k ≡ 0) (w : n .whole ≡ true). absurd (h z);
-      }
+  steps-not : (k ≡ 0 → ⊥) → Decides place.matrix (withMatrix m values) (stepOf content) k (withMatrix m values)
+  steps-not h =
+      words-decide content Words (filled, plainly) place.matrix (withMatrix m values) refl (λ (s : State). refl)
+      (λ (z : place.matrix ≡ place.done). omega arith) (λ (z : place.matrix ≡ place.before). omega arith) k
+      (withMatrix m values) (data-stops content m values line read k rule h)
 
-  -- some line of these words, wherever it stands
-  abbrev here : Line
-  here = record { number = 0; at = 0; place = place.matrix; content = content }
+  form-on : (next : Matrix) → next ≡ dataNext line m → next .form ≡ m .form
+  form-on next next-is = ap (λ (x : Matrix). x .form) next-is ∙ next-form line m
 
-  bounded-next : Bounded (wholeNote (noting .note)) (values + noting .line .numbers)
-  bounded-next =
-      by-cases _ (noting .note .whole)
-      (λ (e : noting .note .whole ≡ true). rw (whole-kept (noting .note) e) (adds e here refl (plain-key content plainly here refl) .bounded))
-      (λ (e : noting .note .whole ≡ false). rw (whole-lost (noting .note) e) (no-bounded (values + noting .line .numbers) false))
+  -- a line that is judged alone
+  module _ (n : Note) (none : n ≡ noNote false) (a : Note) (table : List ℕ) where
+    untold-here : n .whole ≡ true → ⊥
+    untold-here w = true≢false (sym w ∙ ap (λ (x : Note). x .whole) none)
 
-  whole-is : wholeNote (noting .note) .whole ≡ true → noting .note .whole ≡ true
-  whole-is w =
-      by-cases _ (noting .note .whole)
-      (λ (e : noting .note .whole ≡ true). e)
-      (λ (e : noting .note .whole ≡ false). absurd (true≢false (sym w ∙ ap (λ (x : Note). x .whole) (whole-lost (noting .note) e))))
+    pub judged-stops : (k ≡ 0 → ⊥) →
+        Takes content m values a table (record { taken = true; ends = false; number = k; matrix = m; values = values; note = n }) table
+    judged-stops h =
+        record {
+          decides = λ (e : true ≡ true). steps-not h;
+          opens = λ (e : true ≡ false). absurd (true≢false e);
+          ends = λ (e : true ≡ false) (f : false ≡ true). absurd (true≢false e);
+          kept = λ (e : true ≡ false). refl;
+          form = refl;
+          behind = behind-same values table;
+          rises = le-refl values;
+          bounded = rw none (no-bounded values false);
+          extends = λ (e : true ≡ true) (z : k ≡ 0) (w : n .whole ≡ true). absurd (h z);
+        }
 
-  extended : noting .note .whole ≡ true → Extends content (m .form) table values a table' (values + noting .line .numbers) (noting .note)
-  extended w =
-      record {
-        blank = λ (e : isBlankLine content ≡ true). absurd (true≢false (sym e ∙ filled));
-        filled = λ (e : isBlankLine content ≡ false) (l : Line) (p : l .place ≡ place.matrix) (c : l .content ≡ content).
-            (plain-inside l p (plain-key content plainly l c), adds w l c (plain-key content plainly l c));
-      }
+    pub judged-goes : k ≡ 0 → (next : Matrix) → next ≡ dataNext line m →
+        Takes content m values a table
+        (record { taken = true; ends = false; number = 0; matrix = next; values = values + line .numbers; note = n }) table
+    judged-goes z next next-is =
+        record {
+          decides = λ (e : true ≡ true). steps-on z next next-is;
+          opens = λ (e : true ≡ false). absurd (true≢false e);
+          ends = λ (e : true ≡ false) (f : false ≡ true). absurd (true≢false e);
+          kept = λ (e : true ≡ false). refl;
+          form = form-on next next-is;
+          behind = behind-same values table;
+          rises = omega arith;
+          bounded = rw none (no-bounded (values + line .numbers) false);
+          extends = λ (e : true ≡ true) (y : _≡_ {A = ℕ} 0 0) (w : n .whole ≡ true). absurd (untold-here w);
+        }
 
-  pub numbers-go : k ≡ 0 → (next : Matrix) → next ≡ dataNext (noting .line) m → (n : Note) → n ≡ wholeNote (noting .note) →
-      Takes content m values a table (record { taken = true; ends = false; number = 0; matrix = next; values = values + noting .line .numbers; note = n }) table'
-  numbers-go z next next-is n told =
-      record {
-        decides = λ (e : true ≡ true).
-            words-decide content Words (filled, plainly) place.matrix (withMatrix m values) refl (λ (s : State). refl) (λ (z : place.matrix ≡ place.done). omega arith) (λ (z : place.matrix ≡ place.before). omega arith) 0
-            (withMatrix next (values + noting .line .numbers)) (data-goes content m values (noting .line) read k rule z next next-is);
-        opens = λ (e : true ≡ false). absurd (true≢false e);
-        ends = λ (e : true ≡ false) (f : false ≡ true). absurd (true≢false e);
-        kept = λ (e : true ≡ false). absurd (true≢false e);
-        form = ap (λ (x : Matrix). x .form) next-is ∙ next-form (noting .line) m;
-        behind = behind;
-        rises = omega arith;
-        bounded = rw told bounded-next;
-        extends = λ (e : true ≡ true) (y : _≡_ {A = ℕ} 0 0) (w : n .whole ≡ true).
-            let v : noting .note .whole ≡ true = whole-is (ap (λ (x : Note). x .whole) (sym told) ∙ w) in
-            rw (told ∙ whole-kept (noting .note) v) (extended v);
-      }
+  -- a line that is noted
+  module _ (a b : Note) (table table' : List ℕ) (behind : Behind values table table')
+      (adds : (l : Line) → l .content ≡ content → keyOf l ≡ plain → Adds (m .form) l table values a table' (values + line .numbers) b) where
+    -- some line of these words, wherever it stands
+    abbrev here : Line
+    here = record { number = 0; at = 0; place = place.matrix; content = content }
+
+    extended : Extends content (m .form) table values a table' (values + line .numbers) b
+    extended =
+        record {
+          blank = λ (e : isBlankLine content ≡ true). absurd (true≢false (sym e ∙ filled));
+          filled = λ (e : isBlankLine content ≡ false) (l : Line) (p : l .place ≡ place.matrix) (c : l .content ≡ content).
+              (plain-inside l p (plain-key content plainly l c), adds l c (plain-key content plainly l c));
+        }
+
+    pub noted-goes : k ≡ 0 → (next : Matrix) → next ≡ dataNext line m →
+        Takes content m values a table
+        (record { taken = true; ends = false; number = 0; matrix = next; values = values + line .numbers; note = b }) table'
+    noted-goes z next next-is =
+        record {
+          decides = λ (e : true ≡ true). steps-on z next next-is;
+          opens = λ (e : true ≡ false). absurd (true≢false e);
+          ends = λ (e : true ≡ false) (f : false ≡ true). absurd (true≢false e);
+          kept = λ (e : true ≡ false). absurd (true≢false e);
+          form = form-on next next-is;
+          behind = behind;
+          rises = omega arith;
+          bounded = adds here refl (plain-key content plainly here refl) .bounded;
+          extends = λ (e : true ≡ true) (y : _≡_ {A = ℕ} 0 0) (w : b .whole ≡ true). extended;
+        }
 
 -- ---- a blank line
 

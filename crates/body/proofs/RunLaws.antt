@@ -3,22 +3,22 @@
 use mathlib.Core.Path.{_≡_, refl, sym, _∙_, ap}
 use mathlib.Core.Bool.{Bool, true, false, not, true≢false}
 use mathlib.Core.List.{List}
-use Prim.Native.Nat.{ℕ, _+_, _-_, _*_, _≤_, _<_, max}
-use native.Mathlib.Nat.{le-refl, le-trans}
+use Prim.Native.Nat.{ℕ, _+_, _-_, _≤_, _<_, max}
+use native.Mathlib.Nat.{le-refl}
 use native.Mathlib.Omega.{arith}
 use lib.ListN.{length, take, drop}
 use lib.Dec.{eqb, leb}
 use borrow.Author.Tests.{eq-eqb, ne-eqb, not-true, not-false, le-ltb}
-use Rattle.base.specs.If.{both, either}
-use Rattle.base.proofs.IfLaws.{if-true, if-false, by-cases, both-first, both-second, both-not-left, both-not-right, either-false, not-not-via}
+use Rattle.base.specs.If.{both}
+use Rattle.base.proofs.IfLaws.{if-true, if-false, both-first, both-second, both-not-left, both-not-right, either-false, not-not-via}
 use Rattle.base.proofs.BrokenLaws.{gives-later}
 use Rattle.text.specs.Lines.{isBlankLine, lineAt}
 use Rattle.text.specs.declared.Line as text
-use Rattle.text.proofs.LineLaws.{next-on, next-within}
+use Rattle.text.proofs.LineLaws.{next-on}
 use Rattle.keyword.specs.Bracket.{bracketOf}
 use Rattle.keyword.specs.declared.Bracket.the-variants.{Plain}
 use Rattle.place.specs.Place as place
-use Rattle.matrix.specs.Matrix.{diagonal, sparse, mostValues, dataLineOf, isOutOfOrder, areTooMany, dataRule, withColumn, dataNext}
+use Rattle.matrix.specs.Matrix.{sparse, mostValues, dataLineOf, isOutOfOrder, areTooMany, dataRule, withColumn, dataNext}
 use Rattle.matrix.specs.declared.Matrix.{Matrix}
 use Rattle.matrix.specs.declared.DataLine.{DataLine}
 use Rattle.reading.specs.Reading.{commentByte}
@@ -26,7 +26,6 @@ use Rattle.reading.proofs.KeptLaws.{column-small}
 use Rattle.document.specs.Lines.{Line, plain, keyOf}
 use Rattle.matrices.specs.Numbers.{mostGiven}
 use Rattle.noting.specs.declared.Note.{Note}
-use Rattle.noting.specs.declared.Noting.{Noting}
 use Rattle.noting.specs.declared.Numbers.{Numbers}
 use Rattle.noting.specs.declared.Pair.{Pair}
 use Rattle.noting.specs.Noting.{Bounded, Adds, movedTo, namedTo, NotesNumbers, NotesPair}
@@ -34,9 +33,9 @@ use Rattle.body.specs.declared.Data.{Data}
 use Rattle.body.specs.declared.Run.{Run}
 use Rattle.body.specs.declared.TakenNumbers.{TakenNumbers}
 use Rattle.body.specs.declared.TakenPair.{TakenPair}
-use Rattle.body.specs.Body.{Behind, Takes, Goes}
-use Rattle.body.specs.Run.{Left, Gone, Leads, Ordered, Runs, numbersPart, TakesNumbers, pairsMatrix, pairsPart, TakesPair}
-use Rattle.body.proofs.LineLaws.{behind-same, whole-told, numbers-go}
+use Rattle.body.specs.Body.{Behind, Takes, TakesAlone, Goes}
+use Rattle.body.specs.Run.{Gone, Leads, Ordered, Runs, numbersPart, TakesNumbers, pairsMatrix, pairsPart, TakesPair}
+use Rattle.body.proofs.LineLaws.{behind-same, noted-goes}
 use Rattle.body.proofs.BodyLaws.{behind-on, gone-ends, gone-leaves, gone-stops, gone-on}
 
 -- ---- a line that breaks no rule
@@ -106,10 +105,7 @@ module _ (content : List ℕ) (form values row column : ℕ) (table : List ℕ) 
 
       module _ (m : Matrix) (form-is : m .form ≡ form) (ordered : Ordered m) (a : Note) (whole : a .whole ≡ true) (row-is : a .row ≡ row)
           (column-is : a .column ≡ column) where
-        abbrev noting : Noting
-        noting = record { line = line; note = movedTo (numbers .row) (numbers .column) a }
-
-        line-read : noting .line ≡ dataLineOf (m .form) content
+        line-read : line ≡ dataLineOf (m .form) content
         line-read = rw form-is (read .line-is noted)
 
         line-adds : (l : Line) → l .content ≡ content → keyOf l ≡ plain →
@@ -121,11 +117,17 @@ module _ (content : List ℕ) (form values row column : ℕ) (table : List ℕ) 
         matrix-stays = sym (if-false _ _ (ne-eqb _ _ (λ (e : m .form ≡ sparse). not-sparse (sym form-is ∙ e))))
 
         line-taken : Takes content m values a table
-            (record { taken = true; ends = false; number = 0; matrix = m; values = values + numbers .count; note = movedTo (numbers .row) (numbers .column) a }) table'
+            (record {
+              taken = true;
+              ends = false;
+              number = 0;
+              matrix = m;
+              values = values + numbers .count;
+              note = movedTo (numbers .row) (numbers .column) a;
+            }) table'
         line-taken =
-            numbers-go content filled plainly m values a table table' noting line-read (read .long) (read .front)
-            (λ (w : true ≡ true). line-adds) 0 (rule-kept line m values refl ordered formed bounded few) refl m matrix-stays
-            (movedTo (numbers .row) (numbers .column) a) (whole-told (movedTo (numbers .row) (numbers .column) a) refl)
+            noted-goes content filled plainly m values line line-read 0 (rule-kept line m values refl ordered formed bounded few) a
+            (movedTo (numbers .row) (numbers .column) a) table table' behind-read line-adds refl m matrix-stays
 
       all-taken : TakesNumbers content form values row column table
           (record { taken = true; whole = true; values = values + numbers .count; row = numbers .row; column = numbers .column }) table'
@@ -194,10 +196,7 @@ module _ (content : List ℕ) (values row : ℕ) (table : List ℕ) where
 
       module _ (m : Matrix) (form-is : m .form ≡ sparse) (ordered : Ordered m) (a : Note) (whole : a .whole ≡ true) (bound : Bounded a values)
           (row-is : a .row ≡ row) where
-        abbrev pairNoting : Noting
-        pairNoting = record { line = pairLine; note = namedTo (pair .column) a }
-
-        pair-read : pairNoting .line ≡ dataLineOf (m .form) content
+        pair-read : pairLine ≡ dataLineOf (m .form) content
         pair-read = rw form-is (read .line-is noted)
 
         pair-adds : (l : Line) → l .content ≡ content → keyOf l ≡ plain →
@@ -209,11 +208,18 @@ module _ (content : List ℕ) (values row : ℕ) (table : List ℕ) where
         matrix-moves = sym (if-true _ _ (eq-eqb _ _ form-is))
 
         pair-taken-here : Takes content m values a table
-            (record { taken = true; ends = false; number = 0; matrix = withColumn (pair .column) m; values = values + 1; note = namedTo (pair .column) a }) table'
+            (record {
+              taken = true;
+              ends = false;
+              number = 0;
+              matrix = withColumn (pair .column) m;
+              values = values + 1;
+              note = namedTo (pair .column) a;
+            }) table'
         pair-taken-here =
-            numbers-go content filled plainly m values a table table' pairNoting pair-read (read .long) (read .front)
-            (λ (w : true ≡ true). pair-adds) 0 (rule-kept pairLine m values refl ordered formed bounded (omega arith)) refl
-            (withColumn (pair .column) m) matrix-moves (namedTo (pair .column) a) (whole-told (namedTo (pair .column) a) refl)
+            noted-goes content filled plainly m values pairLine pair-read 0
+            (rule-kept pairLine m values refl ordered formed bounded (omega arith)) a (namedTo (pair .column) a) table table' pair-behind pair-adds
+            refl (withColumn (pair .column) m) matrix-moves
 
       pair-all : TakesPair content values row table (record { taken = true; whole = true; column = pair .column }) table'
       pair-all =
@@ -487,22 +493,23 @@ module _ (t : List ℕ) (at line : ℕ) (m : Matrix) (values : ℕ) (table₀ : 
           let o : here ≤ r .at = leads .onward in
           omega arith
 
-      module _ (next : Data) (table' : List ℕ)
-          (takes : Takes (take (found .content - r .at) (drop (r .at) t)) (r .part .matrix) (r .part .values) (r .part .note) table₁ next table') where
+      -- a line that is no part of a run leaves the table as it is
+      module _ (next : Data)
+          (takes : TakesAlone (take (found .content - r .at) (drop (r .at) t)) (r .part .matrix) (r .part .values) (r .part .note) next) where
         pub run-leaves : not (next .taken) ≡ true → (noted : Bool) → noted ≡ both (next .ends) (r .part .note .whole) →
-            Goes t at line m values table₀ (record { at = r .at; line = r .line; part = r .part; noted = noted }) table'
+            Goes t at line m values table₀ (record { at = r .at; line = r .line; part = r .part; noted = noted }) table₁
         run-leaves left noted is-noted =
-            gone-leaves t at line m values table₀ (r .at) (r .line) (r .part) table₁ run-gone h found is-found next table' takes
+            gone-leaves t at line m values table₀ (r .at) (r .line) (r .part) table₁ run-gone h found is-found next table₁ (takes table₁)
             (not-true (next .taken) left) noted is-noted
 
         module _ (taken : not (next .taken) ≡ false) where
           pub run-stops : (next .number ≡ 0 → ⊥) →
-              Goes t at line m values table₀ (record { at = found .next; line = r .line; part = next; noted = false }) table'
+              Goes t at line m values table₀ (record { at = found .next; line = r .line; part = next; noted = false }) table₁
           run-stops broken =
-              gone-stops t at line m values table₀ (r .at) (r .line) (r .part) table₁ run-gone h found is-found next table' takes
+              gone-stops t at line m values table₀ (r .at) (r .line) (r .part) table₁ run-gone h found is-found next table₁ (takes table₁)
               (not-false (next .taken) taken) broken
 
-          pub run-on : next .number ≡ 0 → Gone t at line m values table₀ (found .next) (r .line + 1) next table'
+          pub run-on : next .number ≡ 0 → Gone t at line m values table₀ (found .next) (r .line + 1) next table₁
           run-on kept =
-              gone-on t at line m values table₀ (r .at) (r .line) (r .part) table₁ run-gone h found is-found next table' takes
+              gone-on t at line m values table₀ (r .at) (r .line) (r .part) table₁ run-gone h found is-found next table₁ (takes table₁)
               (not-false (next .taken) taken) kept

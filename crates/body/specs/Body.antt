@@ -28,10 +28,6 @@ use Rattle.body.specs.declared.BodyWalk.{BodyWalk}
 abbrev pub noNote : Bool → noting.Note
 noNote whole = record { whole = whole; row = 1; column = 1; bandwidth = untold; greatest = 0 }
 
--- a note that does not tell all is forgotten
-unfoldable pub wholeNote : noting.Note → noting.Note
-wholeNote a = if a .whole then a else noNote false
-
 -- [Row] i: the next number stands at (i, i); of [Bandwidth] the first counts
 unfoldable pub keptNote : ℕ → ℕ → noting.Note → noting.Note
 keptNote key value a =

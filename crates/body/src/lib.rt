@@ -11,8 +11,9 @@ ghost use Rattle.place.specs.Place.{keepsMatrix};
 ghost use Rattle.reading.specs.Walk.{Opens};
 ghost use Rattle.matrix.specs.Matrix.{sparse, mostValues};
 ghost use Rattle.matrices.specs.Numbers.{mostGiven};
+ghost use Rattle.noting.specs.declared.Note as noting;
 ghost use Rattle.noting.specs.Noting.{Bounded};
-ghost use Rattle.body.specs.Body.{noNote, wholeNote, keptNote, Keeps, Takes, TakesAlone, Goes};
+ghost use Rattle.body.specs.Body.{noNote, keptNote, Keeps, TakesAlone, Goes};
 ghost use Rattle.body.specs.Run.{Leads, Ordered, Runs, numbersPart, TakesNumbers, pairsMatrix, pairsPart, TakesPair};
 use keyword::Bracket;
 use matrices::First;
@@ -54,23 +55,12 @@ fn new_note(whole: bool) -> Note
     }
 }
 
-// A note that does not tell all is forgotten.
-fn whole_note(note: Note) -> Note
-    ensures { λ r. ⌜ r ≡ wholeNote note ⌝ }
+// A line of numbers that is judged alone: where it breaks no rule, not all is noted any more.
+fn data_line(content: &[u8], matrix: Matrix, values: u64) -> Data
+    requires { ⌜ (isBlankLine (now content) ≡ false) × (bracketOf (now content) ≡ Plain) ⌝ }
+    ensures { λ r. ⌜ ((note : noting.Note) → TakesAlone (now (content .entry)) matrix values note r) ⌝ }
 {
-    if note.whole {
-        return note;
-    }
-    new_note(false)
-}
-
-// A line of numbers.
-fn data_line(content: &[u8], matrix: Matrix, values: u64, table: &mut [u64], note: Note) -> Data
-    requires { ⌜ (isBlankLine (now content) ≡ false) × (bracketOf (now content) ≡ Plain) × Bounded note values ⌝ }
-    ensures { λ r. ⌜ Takes (now (content .entry)) matrix values note (now (table .entry)) r (now (table .exit)) ⌝ }
-{
-    let noting = noting::note_line(content, matrix.form, values, table, note);
-    let line = noting.line;
+    let line = matrix::data_line(matrix.form, content);
     let number = matrix::data_rule(line, matrix, values);
     if number != 0 {
         return Data {
@@ -82,14 +72,13 @@ fn data_line(content: &[u8], matrix: Matrix, values: u64, table: &mut [u64], not
             note: new_note(false),
         };
     }
-    let noted = noting.note;
     Data {
         taken: true,
         ends: false,
         number: 0,
         matrix: matrix::data_next(line, matrix),
         values: values + line.numbers,
-        note: whole_note(noted),
+        note: new_note(false),
     }
 }
 
@@ -202,10 +191,10 @@ fn opened_line(content: &[u8], matrix: Matrix, values: u64, note: Note) -> Data
     }
 }
 
-// A line of a matrix.
-fn take_data(content: &[u8], matrix: Matrix, values: u64, table: &mut [u64], note: Note) -> Data
+// A line of a matrix that is no part of a run.
+fn take_data(content: &[u8], matrix: Matrix, values: u64, note: Note) -> Data
     requires { ⌜ Bounded note values ⌝ }
-    ensures { λ r. ⌜ Takes (now (content .entry)) matrix values note (now (table .entry)) r (now (table .exit)) ⌝ }
+    ensures { λ r. ⌜ TakesAlone (now (content .entry)) matrix values note r ⌝ }
 {
     match reading::front_of(content) {
         Front::Blanks => Data {
@@ -216,7 +205,7 @@ fn take_data(content: &[u8], matrix: Matrix, values: u64, table: &mut [u64], not
             values,
             note,
         },
-        Front::Words => data_line(content, matrix, values, table, note),
+        Front::Words => data_line(content, matrix, values),
         Front::Opening => opened_line(content, matrix, values, note),
     }
 }
@@ -406,14 +395,14 @@ fn plain_pair(content: &[u8], values: u64, table: &mut [u64], row: u64) -> Taken
     requires { ⌜ (isBlankLine (now content) ≡ false) × (bracketOf (now content) ≡ Plain) ⌝ ∗ ⌜ row ≤ mostGiven + values ⌝ }
     ensures { λ r. ⌜ TakesPair (now (content .entry)) values row (now (table .entry)) r (now (table .exit)) ⌝ }
 {
+    if MOST_VALUES <= values {
+        return left_pair(true);
+    }
     let pair = noting::read_pair(content, values, table, row);
     if !pair.noted {
         return left_pair(true);
     }
     if !base::and(pair.formed, pair.bounded) {
-        return left_pair(false);
-    }
-    if MOST_VALUES <= values {
         return left_pair(false);
     }
     TakenPair {
@@ -597,13 +586,7 @@ pub fn pass_data(
         }
         let found = text::line_at(text, here, COMMENT);
         let content = found.content;
-        let next = take_data(
-            &text[here..content],
-            part.matrix,
-            part.values,
-            table,
-            part.note,
-        );
+        let next = take_data(&text[here..content], part.matrix, part.values, part.note);
         if !next.taken {
             let note = part.note;
             return BodyWalk {

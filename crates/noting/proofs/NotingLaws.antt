@@ -52,12 +52,11 @@ use Rattle.matrices.proofs.BodyLaws.{
   whole-below,
 }
 use Rattle.noting.specs.declared.Note.{Note}
-use Rattle.noting.specs.declared.Noting.{Noting}
 use Rattle.noting.specs.declared.Judged.{Judged}
 use Rattle.noting.specs.declared.Numbers.{Numbers}
 use Rattle.noting.specs.declared.Pair.{Pair}
 use Rattle.noting.specs.Noting.{Bounded, Adds, movedTo, namedTo, NotesNumbers, NotesPair}
-use Rattle.noting.specs.Steps.{Room, judgedWith, numbersOf, numbersNoting, pairOf, pairNoting, NotesLine}
+use Rattle.noting.specs.Steps.{Room, judgedWith, numbersOf, pairOf}
 
 -- ---- the words of values, stored one after another
 
@@ -432,79 +431,6 @@ pair-unnoted content table values row r lost =
       adds = λ (w : r .noted ≡ true). absurd (true≢false (sym w ∙ lost));
     }
 
--- ---- any line
-
+-- where there is no room
 pub no-room : (values bytes words : ℕ) → false ≡ true → Room values bytes words
 no-room values bytes words e = absurd (true≢false (sym e))
-
--- a line that is judged only
-module _ (form : ℕ) (content table : List ℕ) (values : ℕ) (n : Note) (table' : List ℕ) (r : Noting) (e : r .line ≡ dataLineOf form content)
-    (lost : r .note .whole ≡ false) where
-  unnoted-notes : length table' ≡ length table → take (3 * values) table' ≡ take (3 * values) table → NotesLine form content table values n table' r
-  unnoted-notes long front =
-      record {
-        line-is = e;
-        long = long;
-        front = front;
-        adds = λ (w : r .note .whole ≡ true) (l : Line) (same : l .content ≡ content) (is-plain : keyOf l ≡ plain).
-            absurd (true≢false (sym w ∙ lost));
-      }
-
-  pub unnoted-numbers : (numbers : Numbers) → NotesNumbers form content table values (n .row) (n .column) table' numbers →
-      NotesLine form content table values n table' r
-  unnoted-numbers numbers h = unnoted-notes (h .long) (h .front)
-
-pub unnoted-pair : (content table : List ℕ) (values : ℕ) (n : Note) (table' : List ℕ) (r : Noting) → r .line ≡ dataLineOf sparse content →
-    r .note .whole ≡ false → (pair : Pair) → NotesPair content table values (n .row) table' pair → NotesLine sparse content table values n table' r
-unnoted-pair content table values n table' r e lost pair h =
-    unnoted-notes sparse content table values n table' r e lost (h .long) (h .front)
-
--- a line that is noted
-pub noted-numbers : (form : ℕ) (content table : List ℕ) (values : ℕ) (n : Note) (table' : List ℕ) (numbers : Numbers) →
-    n .whole ≡ true → not (numbers .noted) ≡ false → NotesNumbers form content table values (n .row) (n .column) table' numbers → (r : Noting) →
-    r ≡ numbersNoting numbers n → NotesLine form content table values n table' r
-unfolding numbersNoting
-noted-numbers form content table values n table' numbers whole tested h r e =
-    let noted : numbers .noted ≡ true = not-false (numbers .noted) tested in
-    rw e
-    (record {
-      line-is = h .line-is noted;
-      long = h .long;
-      front = h .front;
-      adds = λ (w : true ≡ true). h .adds noted n whole refl refl;
-    })
-
-pub noted-pair : (content table : List ℕ) (values : ℕ) (n : Note) (table' : List ℕ) (pair : Pair) → n .whole ≡ true → Bounded n values →
-    not (pair .noted) ≡ false → NotesPair content table values (n .row) table' pair → (r : Noting) → r ≡ pairNoting pair n →
-    NotesLine sparse content table values n table' r
-unfolding pairNoting
-noted-pair content table values n table' pair whole bounded tested h r e =
-    let noted : pair .noted ≡ true = not-false (pair .noted) tested in
-    rw e
-    (record {
-      line-is = h .line-is noted;
-      long = h .long;
-      front = h .front;
-      adds = λ (w : true ≡ true). h .adds noted n whole bounded refl;
-    })
-
--- as the contract says it
-module _ (form : ℕ) (content table : List ℕ) (values : ℕ) (n : Note) (table' : List ℕ) (r : Noting) where
-  pub sparse-told : form ≡ sparse → NotesLine sparse content table values n table' r →
-      (r .line ≡ dataLineOf form content)
-      × (length table' ≡ length table)
-      × (take (3 * values) table' ≡ take (3 * values) table)
-      × (r .note .whole ≡ true → (l : Line) → l .content ≡ content → keyOf l ≡ plain →
-      Adds form l table values n table' (values + r .line .numbers) (r .note))
-  sparse-told e h = rw e (h .line-is, h .long, h .front, h .adds)
-
-pub unnoted-told : (form : ℕ) (content table : List ℕ) (values : ℕ) (n : Note) (r : Noting) → r .line ≡ dataLineOf form content →
-    r .note .whole ≡ false →
-    (r .line ≡ dataLineOf form content)
-    × (length table ≡ length table)
-    × (take (3 * values) table ≡ take (3 * values) table)
-    × (r .note .whole ≡ true → (l : Line) → l .content ≡ content → keyOf l ≡ plain →
-    Adds form l table values n table (values + r .line .numbers) (r .note))
-unnoted-told form content table values n r e lost =
-    let h : NotesLine form content table values n table r = unnoted-notes form content table values n table r e lost refl refl in
-    (h .line-is, h .long, h .front, h .adds)

@@ -4,17 +4,15 @@ ghost use mathlib.Core.Path.{_≡_};
 ghost use mathlib.Core.Bool.{true, false};
 ghost use mathlib.Core.List.{[], _∷_};
 ghost use Prim.Native.Nat.{_+_, _*_, _^_, _≤_, _<_};
-ghost use lib.ListN.{length, take};
+ghost use lib.ListN.{length};
 ghost use lib.Seq.{sets};
-ghost use Rattle.matrix.specs.Matrix.{sparse, dataLineOf};
-ghost use Rattle.document.specs.Lines.{Line, plain, keyOf};
+ghost use Rattle.matrix.specs.Matrix.{sparse};
 ghost use Rattle.document.specs.Document.{wordIn};
 ghost use Rattle.matrices.specs.Numbers.{mostGiven, Roomy};
-ghost use Rattle.noting.specs.Noting.{Bounded, Adds, NotesNumbers, NotesPair};
-ghost use Rattle.noting.specs.Steps.{Room, judgedWith, numbersOf, numbersNoting, pairOf, pairNoting, NotesLine};
+ghost use Rattle.noting.specs.Noting.{NotesNumbers, NotesPair};
+ghost use Rattle.noting.specs.Steps.{Room, judgedWith, numbersOf, pairOf};
 use matrices::Cursor;
 use matrices::First;
-use matrix::DataLine;
 use number::Number;
 use number::Whole;
 
@@ -29,12 +27,6 @@ pub struct Note {
     pub column: u64,
     pub bandwidth: First,
     pub greatest: u64,
-}
-
-// A data line that is judged, and the note behind it.
-pub struct Noting {
-    pub line: DataLine,
-    pub note: Note,
 }
 
 // What a line of numbers comes to: whether they are noted, whether all are numbers and within their bounds, how many they are, and where
@@ -75,22 +67,6 @@ fn has_room(values: u64, bytes: usize, words: usize) -> bool
         return false;
     }
     3 * (values as usize) + 3 * bytes <= words
-}
-
-// A line that is judged only: its matrix is no longer noted.
-fn unnoted(form: u64, content: &[u8], note: Note) -> Noting
-    ensures { λ r. ⌜ (r .line ≡ dataLineOf form (now (content .entry))) × (r .note .whole ≡ false) ⌝ }
-{
-    let line = matrix::data_line(form, content);
-    let bandwidth = note.bandwidth;
-    let lost = Note {
-        whole: false,
-        row: note.row,
-        column: note.column,
-        bandwidth,
-        greatest: note.greatest,
-    };
-    Noting { line, note: lost }
 }
 
 // One number more.
@@ -164,40 +140,6 @@ pub fn read_numbers(
     numbers_of(judged, cursor)
 }
 
-// A line whose numbers are noted, and the note behind it.
-fn numbers_noting(numbers: Numbers, note: Note) -> Noting
-    ensures { λ r. ⌜ r ≡ numbersNoting numbers note ⌝ }
-{
-    let bandwidth = note.bandwidth;
-    let line = DataLine {
-        numbers: numbers.count,
-        column: 0,
-        right: true,
-        formed: numbers.formed,
-        bounded: numbers.bounded,
-    };
-    let next = Note {
-        whole: true,
-        row: numbers.row,
-        column: numbers.column,
-        bandwidth,
-        greatest: note.greatest,
-    };
-    Noting { line, note: next }
-}
-
-// A line of numbers.
-fn note_numbers(content: &[u8], form: u64, values: u64, table: &mut [u64], note: Note) -> Noting
-    requires { ⌜ Bounded note values ⌝ ∗ ⌜ note .whole ≡ true ⌝ ∗ ⌜ (form ≡ sparse → ⊥) ⌝ }
-    ensures { λ r. ⌜ NotesLine form (now (content .entry)) (now (table .entry)) values note (now (table .exit)) r ⌝ }
-{
-    let numbers = read_numbers(content, form, values, table, note.row, note.column);
-    if !numbers.noted {
-        return unnoted(form, content, note);
-    }
-    numbers_noting(numbers, note)
-}
-
 // A line of a Sparse_matrix that is not noted.
 fn no_pair() -> Pair
     ensures { λ r. ⌜ r .noted ≡ false ⌝ }
@@ -261,56 +203,4 @@ pub fn read_pair(content: &[u8], values: u64, table: &mut [u64], row: u64) -> Pa
     let number = read.number;
     let column = number::read_integer(text::marked(content, first));
     put_pair(column, number, values, table, row)
-}
-
-// A line whose column and value are noted, and the note behind it.
-fn pair_noting(pair: Pair, note: Note) -> Noting
-    ensures { λ r. ⌜ r ≡ pairNoting pair note ⌝ }
-{
-    let bandwidth = note.bandwidth;
-    let line = DataLine {
-        numbers: 1,
-        column: pair.column,
-        right: true,
-        formed: pair.formed,
-        bounded: pair.bounded,
-    };
-    let next = Note {
-        whole: true,
-        row: note.row,
-        column: note.column,
-        bandwidth,
-        greatest: matrices::greater(note.greatest, pair.column),
-    };
-    Noting { line, note: next }
-}
-
-// A line of a Sparse_matrix.
-fn note_sparse(content: &[u8], values: u64, table: &mut [u64], note: Note) -> Noting
-    requires { ⌜ Bounded note values ⌝ ∗ ⌜ note .whole ≡ true ⌝ }
-    ensures { λ r. ⌜ NotesLine sparse (now (content .entry)) (now (table .entry)) values note (now (table .exit)) r ⌝ }
-{
-    let pair = read_pair(content, values, table, note.row);
-    if !pair.noted {
-        return unnoted(matrix::SPARSE, content, note);
-    }
-    pair_noting(pair, note)
-}
-
-// A line between the keywords of a matrix, so many values being read before it.
-pub fn note_line(content: &[u8], form: u64, values: u64, table: &mut [u64], note: Note) -> Noting
-    requires { ⌜ Bounded note values ⌝ }
-    ensures { λ r. ⌜ (r .line ≡ dataLineOf form (now (content .entry)))
-        × (length (now (table .exit)) ≡ length (now (table .entry)))
-        × (take (3 * values) (now (table .exit)) ≡ take (3 * values) (now (table .entry)))
-        × (r .note .whole ≡ true → (l : Line) → l .content ≡ now (content .entry) → keyOf l ≡ plain →
-        Adds form l (now (table .entry)) values note (now (table .exit)) (values + r .line .numbers) (r .note)) ⌝ }
-{
-    if !note.whole {
-        return unnoted(form, content, note);
-    }
-    if form == matrix::SPARSE {
-        return note_sparse(content, values, table, note);
-    }
-    note_numbers(content, form, values, table, note)
 }

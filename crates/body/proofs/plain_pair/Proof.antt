@@ -1,6 +1,6 @@
--- `body::plain_pair` meets its contract: by what was read, and how many values there are.
+-- `body::plain_pair` meets its contract: by how many values there are, and what was read.
 -- Assumes nothing.
-use Rattle.body.proofs.RunLaws.{pair-unnoted, pair-spoilt, pair-taken}
+use Rattle.body.proofs.RunLaws.{pair-left, pair-unnoted, pair-spoilt, pair-taken}
 use borrow.Author.Needs.{needs}
 use Rattle.body.proofs.plain_pair.Statement.{statement}
 use Rattle.body.proofs.plain_pair.Tie as tie
@@ -8,41 +8,38 @@ use Rattle.base.proofs.and.Reads as and-reads
 use Rattle.body.proofs.left_pair.Reads as left-pair-reads
 use Rattle.noting.proofs.read_pair.Reads as read-pair-reads
 
-read-pair-requires : tie.Need-read-pair-requires
-read-pair-requires c κs = search needs
-
 left-pair-requires : tie.Need-left-pair-requires
 left-pair-requires c κs = search needs
 
-same-length : tie.Need-same-length
-same-length c = search needs
-
 returns : tie.Need-returns
-returns c = search pair-unnoted
+returns c = search pair-left
 
-and-requires : tie.Need-and-requires
-and-requires c κs = search needs
+read-pair-requires : tie.Need-read-pair-requires
+read-pair-requires c κs = search needs
 
 left-pair-requires-2 : tie.Need-left-pair-requires-2
 left-pair-requires-2 c κs = search needs
 
-same-length-2 : tie.Need-same-length-2
-same-length-2 c = search needs
+same-length : tie.Need-same-length
+same-length c = search needs
 
 returns-2 : tie.Need-returns-2
-returns-2 c = search pair-spoilt
+returns-2 c = search pair-unnoted
+
+and-requires : tie.Need-and-requires
+and-requires c κs = search needs
 
 left-pair-requires-3 : tie.Need-left-pair-requires-3
 left-pair-requires-3 c κs = search needs
 
-same-length-3 : tie.Need-same-length-3
-same-length-3 c = search needs
+same-length-2 : tie.Need-same-length-2
+same-length-2 c = search needs
 
 returns-3 : tie.Need-returns-3
 returns-3 c = search pair-spoilt
 
-same-length-4 : tie.Need-same-length-4
-same-length-4 c = search needs
+same-length-3 : tie.Need-same-length-3
+same-length-3 c = search needs
 
 returns-4 : tie.Need-returns-4
 returns-4 c = search pair-taken
@@ -51,16 +48,15 @@ pub plain-pair-spec : {M : Type 1} → statement M
 plain-pair-spec =
     tie.close
     (tie.spec
-    read-pair-requires
     left-pair-requires
-    same-length
     returns
-    and-requires
+    read-pair-requires
     left-pair-requires-2
-    same-length-2
+    same-length
     returns-2
+    and-requires
     left-pair-requires-3
-    same-length-3
+    same-length-2
     returns-3
-    same-length-4
+    same-length-3
     returns-4)

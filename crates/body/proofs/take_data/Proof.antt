@@ -19,25 +19,23 @@ enum-told-2 : tie.Need-enum-told-2
 enum-told-2 c = search needs
 
 data-line-requires : tie.Need-data-line-requires
-data-line-requires c κs = (words-front _ _ (c .before .before .before .front-of .ensures) (c .before .enum-told2 .given .1) .0, words-front _ _ (c .before .before .before .front-of .ensures) (c .before .enum-told2 .given .1) .1, search needs)
+data-line-requires c κs = words-front _ _ (c .before .before .front-of .ensures) (c .enum-told2 .given .1)
 
 enum-told-3 : tie.Need-enum-told-3
 enum-told-3 c = search needs
 
 opened-line-requires : tie.Need-opened-line-requires
-opened-line-requires c κs = (opening-front _ _ (c .before .before .front-of .ensures) (c .enum-told3 .given .1) .0, opening-front _ _ (c .before .before .front-of .ensures) (c .enum-told3 .given .1) .1, search needs)
+opened-line-requires c κs = let front = opening-front _ _ (c .before .before .front-of .ensures) (c .enum-told3 .given .1) in
+      (front .0, front .1, search needs)
 
 returns : tie.Need-returns
-returns c = blank-takes _ _ _ _ _ (blanks-front _ _ (c .before .before .front-of .ensures) (c .enum-told .given .1)) (c .before .before .before .before .before .pre)
-
-same-length : tie.Need-same-length
-same-length c = search needs
+returns c = λ table. blank-takes _ _ _ _ _ (blanks-front _ _ (c .before .before .front-of .ensures) (c .enum-told .given .1)) (c .before .before .before .before .pre)
 
 returns-2 : tie.Need-returns-2
-returns-2 c = search needs
+returns-2 c = c .data-line .ensures _
 
 returns-3 : tie.Need-returns-3
-returns-3 c = c .opened-line .ensures _
+returns-3 c = search needs
 
 pub take-data-spec : {M : Type 1} → statement M
 take-data-spec =
@@ -50,6 +48,5 @@ take-data-spec =
     enum-told-3
     opened-line-requires
     returns
-    same-length
     returns-2
     returns-3)
