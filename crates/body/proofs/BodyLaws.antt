@@ -1,41 +1,38 @@
 -- Laws of the lines of a matrix gone over one after another: none of them, one more, the one that breaks a rule, the one that ends the
 -- matrix, and what is noted of all of them then.
 -- Assumes nothing.
-use mathlib.Core.Path.{_≡_, refl, sym, _∙_, ap, subst}
+use mathlib.Core.Path.{_≡_, refl, sym, _∙_, ap}
 use mathlib.Core.Bool.{Bool, true, false, true≢false}
 use mathlib.Core.List.{List, [], _∷_, _++_, map, append-assoc}
-use Prim.Native.Nat.{ℕ, suc, _+_, _-_, _*_, _≤_, _<_, max}
+use Prim.Native.Nat.{ℕ, _+_, _-_, _*_, _≤_, _<_, max}
 use native.Mathlib.Nat.{le-refl, le-trans, add-zero}
 use native.Mathlib.Omega.{arith}
-use lib.ListN.{length, take, drop, length-append, length-drop, length-take}
-use lib.Seq.{sets, take-take, length-sets, sets-eq, drop-append-add, take-append-seam, length-take-le}
-use lib.Dec.{eqb}
+use lib.ListN.{length, take, drop, length-append}
+use lib.Seq.{sets, take-take, sets-eq, drop-append-add, take-append-seam, length-take-le}
 use Rattle.base.specs.If.{both}
 use Rattle.base.proofs.IfLaws.{by-cases, both-first, both-second}
 use Rattle.text.specs.Lines.{isBlankLine, lineAt}
 use Rattle.text.specs.declared.Line as text
-use Rattle.place.specs.Place.{keepsMatrix}
 use Rattle.place.specs.Place as place
 use Rattle.table.specs.Layout.{joined}
 use Rattle.matrix.specs.declared.Matrix.{Matrix}
 use Rattle.block.specs.declared.State.{State}
 use Rattle.reading.specs.Reading.{commentByte, breaks, stepOf}
-use Rattle.reading.specs.Walk.{Crossed, Holds, Stays, Opens, withMatrix}
+use Rattle.reading.specs.Walk.{Holds, withMatrix}
 use Rattle.reading.proofs.CrossLaws.{crossed-none, crossed-on, crossed-stops, stays-opens, stays-moved, stays-ended}
-use Rattle.document.specs.Lines.{Line, plain, keyOf, keyAt, placeAfter, linesAt, upTo}
+use Rattle.document.specs.Lines.{Line, keyOf, placeAfter, linesAt, upTo}
 use Rattle.document.specs.Document.{Value, inMatrix, valuesFrom, bandwidthIn, greatestIn}
 use Rattle.document.specs.Records.{valueWords}
 use Rattle.document.proofs.FoundLaws.{pass-over, stop-here, nothing-left}
 use Rattle.storing.specs.Stores.{Placed}
 use Rattle.storing.specs.Notes.{bodyLines, valuesWords, Note, Tells, wordsOf}
 use Rattle.storing.proofs.LineLaws.{up-on, up-stops, up-none}
-use Rattle.matrices.specs.Told.{untold, toldOr}
+use Rattle.matrices.specs.Told.{toldOr}
 use Rattle.matrices.proofs.MatrixLaws.{matrix-stays, told-untold}
 use Rattle.noting.specs.declared.Note as noting
-use Rattle.noting.specs.Noting.{Bounded, Adds}
+use Rattle.noting.specs.Noting.{Adds}
 use Rattle.body.specs.declared.Data.{Data}
-use Rattle.body.specs.declared.BodyWalk.{BodyWalk}
-use Rattle.body.specs.Body.{noNote, Behind, Extends, Ends, Takes, Goes, noteOf}
+use Rattle.body.specs.Body.{noNote, Behind, Ends, Takes, Goes, noteOf}
 use Rattle.body.specs.Run.{Left, Gone}
 use Rattle.body.proofs.LineLaws.{no-bounded, behind-same}
 

@@ -2,15 +2,14 @@
 -- Assumes nothing.
 use mathlib.Core.Path.{_≡_, refl, sym, _∙_, ap}
 use mathlib.Core.Bool.{Bool, true, false, not, true≢false}
-use mathlib.Core.List.{List, _∷_}
+use mathlib.Core.List.{List}
 use Prim.Native.Nat.{ℕ, _+_, _*_, _≤_, _<_, max}
 use native.Mathlib.Nat.{le-refl}
 use native.Mathlib.Omega.{arith}
-use lib.ListN.{length, take}
+use lib.ListN.{length}
 use lib.Seq.{sets}
 use lib.Dec.{eqb}
 use borrow.Author.Tests.{eq-eqb, ne-eqb, eqb-true, not-true}
-use Rattle.base.specs.If.{if_then_else_, either}
 use Rattle.base.proofs.IfLaws.{if-true, if-false, by-cases, both-true, both-not-right, either-left, either-right, either-false, either-rest}
 use Rattle.text.specs.Lines.{isBlankLine}
 use Rattle.number.specs.Integer.{wholeOf}
@@ -24,19 +23,18 @@ use Rattle.place.specs.Place as place
 use Rattle.matrix.specs.Matrix.{sparse, dataLineOf, dataRule, dataNext, withColumn, withRow, withBandwidth}
 use Rattle.matrix.specs.declared.Matrix.{Matrix}
 use Rattle.matrix.specs.declared.DataLine.{DataLine}
-use Rattle.block.specs.Keywords.{keywordRule, keywordNext, keptRule, keptNext}
+use Rattle.block.specs.Keywords.{keywordRule, keptRule, keptNext}
 use Rattle.block.specs.declared.State.{State}
-use Rattle.block.proofs.InsideLaws.{goesOn, kept-rule-is, kept-next-is}
+use Rattle.block.proofs.InsideLaws.{kept-rule-is, kept-next-is}
 use Rattle.reading.specs.Reading.{argumentFrom, goes, breaks, bracketStep, keywordStep, stepOf}
 use Rattle.reading.specs.Walk.{Decides, Opens, withMatrix}
-use Rattle.reading.specs.declared.Step.{Step}
 use Rattle.reading.specs.declared.Front.the-variants.{Words}
 use Rattle.reading.proofs.StepLaws.{data-stops, data-goes, keyword-stops, keyword-goes}
 use Rattle.reading.proofs.QuietLaws.{words-decide, quiet-blank}
 use Rattle.document.specs.Lines.{Line, plain, keyIn, keyAt, keyOf, argumentIn, argumentOf}
-use Rattle.document.specs.Document.{Value, inMatrix, givenBy, valuesFrom, bandwidthIn, greatestIn}
+use Rattle.document.specs.Document.{Value, inMatrix, givenBy, bandwidthIn, greatestIn}
 use Rattle.storing.specs.Notes.{valuesWords}
-use Rattle.matrices.specs.Told.{untold, firstTold, toldOr}
+use Rattle.matrices.specs.Told.{firstTold, toldOr}
 use Rattle.matrices.specs.declared.First.{First}
 use Rattle.matrices.proofs.BodyLaws.{told-first, whole-below, most-of, row-values, row-bandwidth, row-greatest, bandwidth-values, bandwidth-told, bandwidth-greatest}
 use Rattle.noting.specs.declared.Note.{Note}

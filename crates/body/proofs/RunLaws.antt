@@ -301,7 +301,8 @@ module _ (t : List ℕ) (at line : ℕ) (part : Data) (table₀ : List ℕ) (her
           leads =
               record {
                 gone = λ (at₀ line₀ : ℕ) (m : Matrix) (values : ℕ) (first : List ℕ) (g : Gone t at₀ line₀ m values first at line part table₀).
-                    gone-on t at₀ line₀ m values first here number reached table (on .leads .gone at₀ line₀ m values first g) h found is-found next table'
+                    gone-on t at₀ line₀ m values first here number reached table (on .leads .gone at₀ line₀ m values first g) h found is-found next
+                    table'
                     takes taken kept;
                 onward = omega arith;
                 long = takes .behind .long ∙ on .leads .long;
@@ -395,7 +396,8 @@ module _ (t : List ℕ) (at line : ℕ) (part : Data) (table₀ : List ℕ) wher
       numbers-next h is-found left ordered =
           let taken : next .taken ≡ true = not-false (next .taken) left in
           on-next t at line part table₀ here number _ table on h found is-found _ table'
-          (takes .takes taken (part .matrix) refl ordered (numbersPart part true values row column .note) refl refl refl) refl refl (takes .few taken) refl
+          (takes .takes taken (part .matrix) refl ordered (numbersPart part true values row column .note) refl refl refl) refl refl (takes .few
+          taken) refl
 
 -- ---- a run of lines of a Sparse_matrix
 
@@ -406,7 +408,8 @@ module _ (t : List ℕ) (at line : ℕ) (part : Data) (table₀ : List ℕ) wher
   pub pairs-start : Runs t at line part →
       On t at line part table₀ at line
       (pairsPart part true (part .values)
-      (pairsMatrix (part .matrix) (part .matrix .rows .least) (part .matrix .rows .greatest) (part .matrix .rows .fits)) (part .note .greatest)) table₀
+      (pairsMatrix (part .matrix) (part .matrix .rows .least) (part .matrix .rows .greatest) (part .matrix .rows .fits)) (part .note .greatest))
+      table₀
   unfolding pairsPart pairsMatrix
   pairs-start runs =
       on-start t at line part table₀ runs _ refl refl refl
@@ -458,7 +461,8 @@ module _ (t : List ℕ) (at line : ℕ) (part : Data) (table₀ : List ℕ) wher
             let few : values < 65536 = takes .few taken in
             let more : values + 1 ≤ 65536 = omega arith in
             on-next t at line part table₀ here number _ table on h found is-found _ table'
-            (takes .takes taken (pairsMatrix (part .matrix) least greatest fits) form-is ordered (reachedPairs values least greatest fits named .note) refl
+            (takes .takes taken (pairsMatrix (part .matrix) least greatest fits) form-is ordered (reachedPairs values least greatest fits named
+            .note) refl
             (on .bounded) refl) refl refl more refl
 
         pub pairs-next : part .matrix .form ≡ sparse → Ordered (part .matrix) → here < length t → found ≡ lineAt commentByte t here →

@@ -312,7 +312,8 @@ module _ (form : ℕ) (content table₀ : List ℕ) (values row column : ℕ) (r
     adds-after a whole row-is column-is l same is-plain =
         let vs : List Value = numbersAt form row column (words content) in
         let many : c .count ≡ length vs = all-counted ∙ sym (numbers-length form row column (words content)) in
-        added table₀ values table vs all-stored form a (movedTo (c .row) (c .column) a) (c .count) many refl (bounded-after a) room-after l is-plain whole
+        added table₀ values table vs all-stored form a (movedTo (c .row) (c .column) a) (c .count) many refl (bounded-after a) room-after l is-plain
+        whole
         (λ (ls : List Line). rw (row-is, column-is) (more-after l same is-plain ls))
         (λ (ls : List Line).
         most-of (a .greatest) 0 (a .greatest) _ (greatestIn form ls) (numbers-greatest form l ls is-plain not-sparse) (omega arith))
@@ -397,7 +398,8 @@ module _ (content : List ℕ) (values row : ℕ) (first : Span) (one : first ≡
       pair-adds a whole bounded row-is l same is-plain =
           let c : column .value ≡ wholeOf (firstOf (words content)) .value =
           column-told content row first one part cut column is-column start begins read told in
-          added table values table' (sparseAt row (words content) ∷ []) pair-stored sparse a (namedTo (column .value) a) 1 refl refl (pair-bounded a bounded) pair-room l
+          added table values table' (sparseAt row (words content) ∷ []) pair-stored sparse a (namedTo (column .value) a) 1 refl refl (pair-bounded a
+          bounded) pair-room l
           is-plain whole
           (λ (ls : List Line). rw (sym row-is, sym same) (sparse-values sparse l ls is-plain refl (a .row) (a .column)))
           (λ (ls : List Line).

@@ -25,24 +25,28 @@ new-note-requires c κs = search needs
 
 returns : tie.Need-returns
 returns c = λ note table.
-      judged-stops _ (c .before .before .before .before .before .pre .0) (c .before .before .before .before .before .pre .1) _ _ _ (c .before .before .before .data-line .ensures) _ (c .before .before .data-rule .ensures) _ (c .new-note .ensures) _ _
-      (c .before .if1 .taken)
+    judged-stops _ (c .before .before .before .before .before .pre .0) (c .before .before .before .before .before .pre .1) _ _ _ (c .before .before
+    .before .data-line .ensures) _ (c .before .before .data-rule .ensures) _ (c .new-note .ensures) _ _
+    (c .before .if1 .taken)
 
 data-next-requires : tie.Need-data-next-requires
 data-next-requires c κs = search column-small
 
 add-t9 : tie.Need-add-t9
-add-t9 c = let few : c .before .before .before .before .before .before .args .values + c .before .before .before .before .data-line .result .numbers ≤ mostValues =
-      values-small _ _ _ _ (c .before .before .before .data-rule .ensures) (c .before .before .if1 .left) in
-      omega arith
+add-t9 c = let few : c .before .before .before .before .before .before .args .values + c .before .before .before .before .data-line .result .numbers
+    ≤ mostValues =
+    values-small _ _ _ _ (c .before .before .before .data-rule .ensures) (c .before .before .if1 .left) in
+    omega arith
 
 new-note-requires-2 : tie.Need-new-note-requires-2
 new-note-requires-2 c κs = search needs
 
 returns-2 : tie.Need-returns-2
 returns-2 c = λ note table.
-      judged-goes _ (c .before .before .before .before .before .before .before .pre .0) (c .before .before .before .before .before .before .before .pre .1) _ _ _ (c .before .before .before .before .before .data-line .ensures) _ (c .before .before .before .before .data-rule .ensures) _ (c .new-note2 .ensures) _ _
-      (c .before .before .before .if1 .left) _ (c .before .before .data-next .ensures)
+    judged-goes _ (c .before .before .before .before .before .before .before .pre .0) (c .before .before .before .before .before .before .before
+    .pre .1) _ _ _ (c .before .before .before .before .before .data-line .ensures) _ (c .before .before .before .before .data-rule .ensures) _ (c
+    .new-note2 .ensures) _ _
+    (c .before .before .before .if1 .left) _ (c .before .before .data-next .ensures)
 
 pub data-line-spec : {M : Type 1} → statement M
 data-line-spec =

@@ -19,7 +19,8 @@ use Rattle.body.proofs.take_data.Reads as take-data-reads
 use Rattle.text.proofs.line_at.Reads as line-at-reads
 
 abbrev Inv-loop : tie.InvT-loop
-Inv-loop text at line values table₀ here₀ number₀ part₀ table here number part = (line ≤ at + 1) × Gone text at line (part₀ .matrix) values table₀ here number part table
+Inv-loop text at line values table₀ here₀ number₀ part₀ table here number part = (line ≤ at + 1) × Gone text at line (part₀ .matrix) values table₀
+    here number part table
 
 abbrev μ-loop : tie.MeasureT-loop
 μ-loop text at line values table₀ here₀ number₀ part₀ table here number part = length text - here
@@ -32,11 +33,11 @@ new-note-requires c κs = search needs
 
 loop-holds : tie.Need-loop-holds Inv-loop μ-loop
 loop-holds c = let pre = c .before .before .before .before .pre in
-      (pre .1, gone-start _ _ _ _ _ _ _ (pre .0) (c .before .has-room .ensures) _ (c .new-note .ensures))
+    (pre .1, gone-start _ _ _ _ _ _ _ (pre .0) (c .before .has-room .ensures) _ (c .new-note .ensures))
 
 pass-run-requires : tie.Need-pass-run-requires Inv-loop μ-loop
 pass-run-requires c κs = let gone = c .before .before .loop .inv .1 in
-      search (needs, gone .crossed .within, gone .bounded, gone-counted)
+    search (needs, gone .crossed .within, gone .bounded, gone-counted)
 
 same-length : tie.Need-same-length Inv-loop μ-loop
 same-length c = search needs
@@ -63,40 +64,62 @@ and-requires : tie.Need-and-requires Inv-loop μ-loop
 and-requires c κs = search needs
 
 same-length-2 : tie.Need-same-length-2 Inv-loop μ-loop
-same-length-2 c = search (needs, c .before .before .before .before .before .before .before .before .before .before .before .pass-run .ensures .long, c .before .before .before .before .before .before .before .before .before .before .before .before .before .before .loop .inv .1 .behind .long)
+same-length-2 c = search (
+  needs,
+  c .before .before .before .before .before .before .before .before .before .before .before .pass-run .ensures .long,
+  c .before .before .before .before .before .before .before .before .before .before .before .before .before .before .loop .inv .1 .behind .long,
+)
 
 returns-2 : tie.Need-returns-2 Inv-loop μ-loop
-returns-2 c = run-leaves _ _ _ _ _ _ _ _ _ _ (c .before .before .before .before .before .before .before .before .before .before .before .before .before .before .loop .inv .1) _ _ (c .before .before .before .before .before .before .before .before .before .before .before .pass-run .ensures)
-      (c .before .before .before .before .before .before .before .if1 .left) _ (c .before .before .before .before .before .before .line-at .ensures) _ (c .before .before .before .before .take-data .ensures)
-      (c .before .before .if2 .taken) _ (c .and .ensures)
+returns-2 c = run-leaves _ _ _ _ _ _ _ _ _ _ (c .before .before .before .before .before .before .before .before .before .before .before .before
+    .before .before .loop .inv .1) _ _ (c .before .before .before .before .before .before .before .before .before .before .before .pass-run .ensures)
+    (c .before .before .before .before .before .before .before .if1 .left) _ (c .before .before .before .before .before .before .line-at .ensures) _
+    (c .before .before .before .before .take-data .ensures)
+    (c .before .before .if2 .taken) _ (c .and .ensures)
 
 same-length-3 : tie.Need-same-length-3 Inv-loop μ-loop
-same-length-3 c = search (needs, c .before .before .before .before .before .before .before .before .before .before .before .pass-run .ensures .long, c .before .before .before .before .before .before .before .before .before .before .before .before .before .before .loop .inv .1 .behind .long)
+same-length-3 c = search (
+  needs,
+  c .before .before .before .before .before .before .before .before .before .before .before .pass-run .ensures .long,
+  c .before .before .before .before .before .before .before .before .before .before .before .before .before .before .loop .inv .1 .behind .long,
+)
 
 returns-3 : tie.Need-returns-3 Inv-loop μ-loop
-returns-3 c = run-stops _ _ _ _ _ _ _ _ _ _ (c .before .before .before .before .before .before .before .before .before .before .before .before .before .before .loop .inv .1) _ _ (c .before .before .before .before .before .before .before .before .before .before .before .pass-run .ensures)
-      (c .before .before .before .before .before .before .before .if1 .left) _ (c .before .before .before .before .before .before .line-at .ensures) _ (c .before .before .before .before .take-data .ensures)
-      (c .before .before .if2 .left) (c .if3 .taken)
+returns-3 c = run-stops _ _ _ _ _ _ _ _ _ _ (c .before .before .before .before .before .before .before .before .before .before .before .before
+    .before .before .loop .inv .1) _ _ (c .before .before .before .before .before .before .before .before .before .before .before .pass-run .ensures)
+    (c .before .before .before .before .before .before .before .if1 .left) _ (c .before .before .before .before .before .before .line-at .ensures) _
+    (c .before .before .before .before .take-data .ensures)
+    (c .before .before .if2 .left) (c .if3 .taken)
 
 add-number : tie.Need-add-number Inv-loop μ-loop
-add-number c = let text = c .before .before .before .before .before .before .before .before .before .before .before .before .before .before .before .before .before .before .before .args .text .now in
-      let reached = c .before .before .before .before .before .before .before .before .before .before .before .pass-run .result in
-      let k : reached .line ≤ reached .at + 1 =
-      gone-counted _ _ _ _ _ _ _ _ _ _ (run-gone _ _ _ _ _ _ _ _ _ _ (c .before .before .before .before .before .before .before .before .before .before .before .before .before .before .loop .inv .1) _ _ (c .before .before .before .before .before .before .before .before .before .before .before .pass-run .ensures)) (c .before .before .before .before .before .before .before .before .before .before .before .before .before .before .loop .inv .0) in
-      let h : reached .at < length text = c .before .before .before .before .before .before .before .if1 .left in
-      let f : length text * 1 < 2 ^ 63 = c .before .before .before .before .before .before .before .before .before .before .before .before .before .before .before .before .before .before .before .good .0 .1 in
-      omega (arith, k, h, f)
+add-number c = let text = c .before .before .before .before .before .before .before .before .before .before .before .before .before .before .before
+    .before .before .before .before .args .text .now in
+    let reached = c .before .before .before .before .before .before .before .before .before .before .before .pass-run .result in
+    let k : reached .line ≤ reached .at + 1 =
+    gone-counted _ _ _ _ _ _ _ _ _ _ (run-gone _ _ _ _ _ _ _ _ _ _ (c .before .before .before .before .before .before .before .before .before
+    .before .before .before .before .before .loop .inv .1) _ _ (c .before .before .before .before .before .before .before .before .before .before
+    .before .pass-run .ensures)) (c .before .before .before .before .before .before .before .before .before .before .before .before .before .before
+    .loop .inv .0) in
+    let h : reached .at < length text = c .before .before .before .before .before .before .before .if1 .left in
+    let f : length text * 1 < 2 ^ 63 = c .before .before .before .before .before .before .before .before .before .before .before .before .before
+    .before .before .before .before .before .before .good .0 .1 in
+    omega (arith, k, h, f)
 
 loop-less : tie.Need-loop-less Inv-loop μ-loop
-loop-less c = run-less _ _ _ _ _ _ _ _ _ _ (c .before .before .before .before .before .before .before .before .before .before .before .before .before .before .loop .inv .1) _ _ (c .before .before .before .before .before .before .before .before .before .before .before .pass-run .ensures)
-      (c .before .before .before .before .before .before .before .if1 .left) _ (c .before .before .before .before .before .before .line-at .ensures)
+loop-less c = run-less _ _ _ _ _ _ _ _ _ _ (c .before .before .before .before .before .before .before .before .before .before .before .before
+    .before .before .loop .inv .1) _ _ (c .before .before .before .before .before .before .before .before .before .before .before .pass-run .ensures)
+    (c .before .before .before .before .before .before .before .if1 .left) _ (c .before .before .before .before .before .before .line-at .ensures)
 
 loop-again : tie.Need-loop-again Inv-loop μ-loop
-loop-again c = let inv = c .before .before .before .before .before .before .before .before .before .before .before .before .before .before .loop .inv in
-      (inv .0,
-      run-on _ _ _ _ _ _ _ _ _ _ (inv .1) _ _ (c .before .before .before .before .before .before .before .before .before .before .before .pass-run .ensures)
-      (c .before .before .before .before .before .before .before .if1 .left) _ (c .before .before .before .before .before .before .line-at .ensures) _ (c .before .before .before .before .take-data .ensures)
-      (c .before .before .if2 .left) (c .if3 .left))
+loop-again c = let inv = c .before .before .before .before .before .before .before .before .before .before .before .before .before .before .loop
+    .inv in (
+      inv .0,
+      run-on _ _ _ _ _ _ _ _ _ _ (inv .1) _ _ (c .before .before .before .before .before .before .before .before .before .before .before .pass-run
+          .ensures)
+          (c .before .before .before .before .before .before .before .if1 .left) _ (c .before .before .before .before .before .before .line-at .ensures)
+          _ (c .before .before .before .before .take-data .ensures)
+          (c .before .before .if2 .left) (c .if3 .left),
+    )
 
 same-length-4 : tie.Need-same-length-4 Inv-loop μ-loop
 same-length-4 c = search needs

@@ -15,7 +15,8 @@ use Rattle.body.proofs.take_numbers.Reads as take-numbers-reads
 use Rattle.text.proofs.line_at.Reads as line-at-reads
 
 abbrev Inv-loop : tie.InvT-loop
-Inv-loop text at line part table₀ form here₀ number₀ values₀ row₀ column₀ table here number values row column = On text at line part table₀ here number (numbersPart part true values row column) table
+Inv-loop text at line part table₀ form here₀ number₀ values₀ row₀ column₀ table here number values row column = On text at line part table₀ here
+    number (numbersPart part true values row column) table
 
 abbrev μ-loop : tie.MeasureT-loop
 μ-loop text at line part table₀ form here₀ number₀ values₀ row₀ column₀ table here number values row column = length text - here

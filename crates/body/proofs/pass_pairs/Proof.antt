@@ -51,7 +51,12 @@ pairs-passed-requires : tie.Need-pairs-passed-requires Inv-loop μ-loop
 pairs-passed-requires c κs = search needs
 
 same-length : tie.Need-same-length Inv-loop μ-loop
-same-length c = search (needs, c .before .before .before .before .before .before .take-pair .ensures .behind .long, c .before .before .before .before .before .before .before .before .before .before .before .loop .inv .leads .long)
+same-length c = search (
+  needs,
+  c .before .before .before .before .before .before .take-pair .ensures .behind .long,
+  c .before .before .before
+      .before .before .before .before .before .before .before .before .loop .inv .leads .long,
+)
 
 returns : tie.Need-returns Inv-loop μ-loop
 returns c = search pairs-leave
@@ -61,7 +66,8 @@ add-number c = search needs
 
 add-values : tie.Need-add-values Inv-loop μ-loop
 add-values c =
-    let few : c .before .before .before .before .before .before .before .before .before .loop .values < 65536 = c .before .before .before .before .take-pair .ensures .few (not-false _ (c .if1 .left)) in
+    let few : c .before .before .before .before .before .before .before .before .before .loop .values < 65536 = c .before .before .before .before
+    .take-pair .ensures .few (not-false _ (c .if1 .left)) in
     search (needs, few)
 
 and-requires : tie.Need-and-requires Inv-loop μ-loop
@@ -69,7 +75,8 @@ and-requires c κs = search needs
 
 add-least : tie.Need-add-least Inv-loop μ-loop
 add-least c =
-    let narrow : c .before .before .before .before .before .before .before .take-pair .result .column < 4_294_967_296 = c .before .before .before .before .before .before .before .take-pair .ensures .narrow (not-false _ (c .before .before .before .if1 .left)) in
+    let narrow : c .before .before .before .before .before .before .before .take-pair .result .column < 4_294_967_296 = c .before .before .before
+    .before .before .before .before .take-pair .ensures .narrow (not-false _ (c .before .before .before .if1 .left)) in
     search (needs, narrow)
 
 greater-requires : tie.Need-greater-requires Inv-loop μ-loop

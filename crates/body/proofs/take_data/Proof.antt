@@ -26,10 +26,11 @@ enum-told-3 c = search needs
 
 opened-line-requires : tie.Need-opened-line-requires
 opened-line-requires c κs = let front = opening-front _ _ (c .before .before .front-of .ensures) (c .enum-told3 .given .1) in
-      (front .0, front .1, search needs)
+    (front .0, front .1, search needs)
 
 returns : tie.Need-returns
-returns c = λ table. blank-takes _ _ _ _ _ (blanks-front _ _ (c .before .before .front-of .ensures) (c .enum-told .given .1)) (c .before .before .before .before .pre)
+returns c = λ table. blank-takes _ _ _ _ _ (blanks-front _ _ (c .before .before .front-of .ensures) (c .enum-told .given .1)) (c .before .before
+    .before .before .pre)
 
 returns-2 : tie.Need-returns-2
 returns-2 c = c .data-line .ensures _

@@ -17,7 +17,8 @@ use Rattle.noting.proofs.numbers_of.Reads as numbers-of-reads
 use Rattle.number.proofs.number_at.Reads as number-at-reads
 
 abbrev Inv-loop : tie.InvT-loop
-Inv-loop content form values table₀ row column at₀ judged₀ cursor₀ table at judged cursor = Left form content table₀ values row column at judged cursor table
+Inv-loop content form values table₀ row column at₀ judged₀ cursor₀ table at judged cursor = Left form content table₀ values row column at judged
+    cursor table
 
 abbrev μ-loop : tie.MeasureT-loop
 μ-loop content form values table₀ row column at₀ judged₀ cursor₀ table at judged cursor = length content - at
