@@ -1,12 +1,13 @@
 // The ground that every other crate stands on: byte classes, and stores into a lent table.
 ghost use mathlib.Core.Path.{_≡_};
 ghost use mathlib.Core.List.{_++_};
-ghost use Prim.Native.Nat.{_+_, _-_, _≤_};
+ghost use Prim.Native.Nat.{_+_, _-_, _<_, _≤_};
 ghost use lib.ListN.{length, getD, take, drop, replicate};
 ghost use Rattle.base.specs.If.{both};
 ghost use Rattle.base.specs.Runs.{all};
 ghost use lib.Seq.{sets};
 ghost use Rattle.base.specs.Bytes.{isBlank, isDigit, isCapital, isSmall, isLetter};
+ghost use Rattle.base.specs.Joined.{Joins};
 ghost use Rattle.base.specs.Class.{isFilled, isNamed, isPrinted, isBefore, isContent, isSure, inClass, runEnd};
 
 // How many bytes are looked at together: of any run, and of a line's content, which is often shorter.
@@ -145,6 +146,33 @@ pub fn byte_at(s: &[u8], i: usize) -> u8
         return 0;
     }
     s[i]
+}
+
+// ---- bytes taken together
+
+// A byte as a word, so that its arithmetic asks nothing of the byte's own width.
+fn wide(b: u8) -> u64
+    ensures { λ r. ⌜ r ≡ b ⌝ ∗ ⌜ r < 256 ⌝ }
+{
+    b as u64
+}
+
+// Four bytes as one number, the first of them the least: a processor takes them at once.
+pub fn four_at(s: &[u8], at: usize) -> u64
+    requires { ⌜ at + 4 ≤ length (now s) ⌝ }
+    ensures { λ r. ⌜ Joins (take 4 (drop at (now (s .entry)))) r ⌝ ∗ ⌜ r < 4_294_967_296 ⌝ }
+{
+    let low = wide(s[at]) + 256 * wide(s[at + 1]);
+    let high = wide(s[at + 2]) + 256 * wide(s[at + 3]);
+    low + 65_536 * high
+}
+
+// Eight bytes in the same way.
+pub fn eight_at(s: &[u8], at: usize) -> u64
+    requires { ⌜ at + 8 ≤ length (now s) ⌝ }
+    ensures { λ r. ⌜ Joins (take 8 (drop at (now (s .entry)))) r ⌝ }
+{
+    four_at(s, at) + 4_294_967_296 * four_at(s, at + 4)
 }
 
 // ---- runs
