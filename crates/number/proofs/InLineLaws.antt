@@ -501,7 +501,7 @@ near-is s from r told e = told .knows e
 
 -- ---- a word of any length
 
-number-nothing : Malformed ≡ numberOf []
+pub number-nothing : Malformed ≡ numberOf []
 unfolding if_then_else_ both either isSign isMinus isPoint isE pastSign noDigits goesOn scan noExponent exponentOf wellFormed numberFrom digitsOf exponentFrom numberOf
 number-nothing = refl
 

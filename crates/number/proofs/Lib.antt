@@ -14,4 +14,5 @@ pub mod TrimLaws
 pub mod PlainLaws
 pub mod BlockLaws
 pub mod InLineLaws
+pub mod InLaws
 pub mod Starred

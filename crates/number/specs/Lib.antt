@@ -3,3 +3,4 @@ pub mod Integer
 pub mod ValueWord
 pub mod Capped
 pub mod At
+pub mod In

@@ -4,16 +4,17 @@ ghost use mathlib.Core.Path.{_≡_};
 ghost use mathlib.Core.Bool.{true, false};
 ghost use Prim.Native.Nat.{_+_, _-_, _*_, _<_, _≤_, min};
 ghost use lib.ListN.{length, take, drop, getD};
-ghost use Rattle.base.specs.If.{if_then_else_, either};
+ghost use Rattle.base.specs.If.{if_then_else_, both, either};
 ghost use Rattle.base.specs.Bytes.{within, isBlank, isDigit, isLetter};
 ghost use Rattle.base.specs.Runs.{run};
 ghost use Rattle.base.specs.Class.{runEnd};
-ghost use lib.Dec.{leb};
+ghost use lib.Dec.{leb, ltb};
 ghost use Rattle.number.specs.Number.{isSign, isMinus, isE, pastSign, goesOn, noDigits, withPoint, withDigit, withByte, scan, noExponent, exponentOf, scaleOf, raised, lowered, valueAs, wellFormed, numberOf, isFormed, isBounded};
 ghost use Rattle.number.specs.Integer.{wholeOf};
 ghost use Rattle.number.specs.ValueWord.{valueWord, decimalOf, isDecimal, isValueWord};
 ghost use Rattle.number.specs.Capped.{exponentCap, countCap, cappedDigits, cappedExponent, sizeAt, raising, lowering, Kept, Bounded};
 ghost use Rattle.number.specs.At.{numberAt, fourBits, fourAt, blockAt, AreDigits, weight, noReading, goesAt, RunRead, DigitsRead, ExponentRead, PartsRead, Knows, Few, Splits, Says};
+ghost use Rattle.number.specs.In.{isWord, isSpelling, isValue, numberIn};
 use base::Class;
 
 // Digits are read at once up to so many bytes, their point counted: what they write fits a word. A number of more goes the long way.
@@ -924,6 +925,71 @@ pub fn number_at(s: &[u8], from: usize) -> NumberAt
     let number = far.number;
     let end = far.end;
     NumberAt { number, end }
+}
+
+// ---- a number where it stands in a text whose lines are not cut out
+
+// What words are made of: content that is not blank.
+fn is_word(comment: u8, b: u8) -> bool
+    ensures { λ r. ⌜ r ≡ isWord comment b ⌝ }
+{
+    if !base::in_class(Class::Content(comment), b) {
+        return false;
+    }
+    base::in_class(Class::Filled, b)
+}
+
+// Whether a word starts, or goes on, at a place.
+pub fn is_word_at(s: &[u8], at: usize, comment: u8) -> bool
+    ensures { λ r. ⌜ r ≡ both (ltb at (length (now (s .entry)))) (isWord comment (getD (now (s .entry)) at 0)) ⌝ }
+{
+    if s.len() <= at {
+        return false;
+    }
+    is_word(comment, s[at])
+}
+
+// Where the word at a place ends.
+pub fn word_end(s: &[u8], from: usize, comment: u8) -> usize
+    ensures { λ r. ⌜ r ≡ runEnd (isWord comment) (now (s .entry)) from ⌝ }
+{
+    let mut i = from;
+    while i < s.len() {
+        if !is_word(comment, s[i]) {
+            return i;
+        }
+        i += 1;
+    }
+    i
+}
+
+// The number that stands at `from`, and where its word ends.
+pub fn number_in(s: &[u8], from: usize, comment: u8) -> NumberAt
+    requires { ⌜ isSpelling comment ≡ false ⌝ }
+    ensures { λ r. ⌜ r ≡ numberIn comment (now (s .entry)) from ⌝ }
+{
+    if s.len() <= from {
+        return NumberAt {
+            number: Number::Malformed,
+            end: from,
+        };
+    }
+    let end = word_end(s, from, comment);
+    NumberAt {
+        number: read_number(&s[from..end]),
+        end,
+    }
+}
+
+// Whether a word is a number within its bounds.
+pub fn is_value(n: Number) -> bool
+    ensures { λ r. ⌜ r ≡ isValue n ⌝ }
+{
+    match n {
+        Number::Value(_) => true,
+        Number::Malformed => false,
+        Number::Range => false,
+    }
 }
 
 // 13 is for a word that is no number.
