@@ -1,1 +1,2 @@
+pub mod InTextLaws
 pub mod NotingLaws

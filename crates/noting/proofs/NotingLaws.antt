@@ -3,45 +3,41 @@
 use mathlib.Core.Path.{_≡_, refl, sym, _∙_, ap}
 use mathlib.Core.Bool.{Bool, true, false, not, true≢false}
 use mathlib.Core.List.{List, [], _∷_, _++_}
-use Prim.Native.Nat.{ℕ, suc, _+_, _*_, _^_, _≤_, _<_, max}
+use Prim.Native.Nat.{ℕ, suc, _+_, _-_, _*_, _^_, _≤_, _<_, max}
 use native.Mathlib.Nat.{add-zero}
 use native.Mathlib.Omega.{arith}
-use lib.ListN.{length, take, set, length-append}
+use lib.ListN.{length, take, drop, getD, set, length-append}
 use lib.Seq.{sets, length-sets, take-set-le}
-use borrow.Author.Tests.{eq-eqb, ne-eqb, not-false}
-use Rattle.base.proofs.IfLaws.{if-true, if-false}
-use Rattle.base.specs.Bytes.{isBlank}
+use lib.Dec.{ltb, leb, eqb}
+use borrow.Author.Tests.{eq-eqb, ne-eqb, eqb-true, leb-true, ltb-true, not-true, not-false}
+use Rattle.base.specs.If.{both, either}
+use Rattle.base.specs.Bytes.{isBlank, isDigit, isCapital, isSmall, isLetter, within}
+use Rattle.base.specs.Runs.{run}
 use Rattle.base.specs.Class.{runEnd}
-use Rattle.text.specs.Words.{words, firstOf, wordAt, markedBy}
-use Rattle.text.specs.declared.Span.{Span}
-use Rattle.text.proofs.WordLaws.{wordsAfter, after-at, after-none, after-past}
-use Rattle.number.specs.Number.{numberOf, isFormed, isBounded}
+use Rattle.base.proofs.IfLaws.{if-true, if-false, by-test, both-true, both-first, both-second, both-not-left, both-not-right}
+use Rattle.base.proofs.RunLaws.{run-ends}
+use Rattle.text.specs.Lines.{lineAt}
+use Rattle.text.specs.Words.{words, firstOf}
+use Rattle.number.specs.Number.{isSign, numberOf, isFormed, isBounded}
 use Rattle.number.specs.Integer.{wholeOf}
-use Rattle.number.specs.At.{numberAt}
+use Rattle.number.specs.In.{isWord, isSpelling, isValue, numberIn}
 use Rattle.number.specs.declared.Number.{Number}
+use Rattle.number.specs.declared.Number.the-variants.{Value, Malformed, Range}
 use Rattle.number.specs.declared.NumberAt.{NumberAt}
 use Rattle.number.specs.declared.Whole.{Whole}
-use Rattle.matrix.specs.Matrix.{sparse, numbersLine, dataLineOf}
-use Rattle.matrix.proofs.MatrixLaws.{
-  Pending,
-  line-starts,
-  line-past,
-  line-blank,
-  line-number,
-  placed-found,
-  placed-number,
-  placed-within,
-  sparse-pair,
-}
+use Rattle.matrix.specs.Matrix.{sparse, mostValues, toldBy, areFormed, areBounded, numbersLine, sparseLine, dataLineOf}
+use Rattle.reading.specs.Reading.{commentByte}
+use Rattle.reading.specs.Walk.{contentAt}
 use Rattle.table.specs.Layout.{joined}
 use Rattle.document.specs.Lines.{Line, plain, keyOf}
-use Rattle.document.specs.Document.{Value, wordIn, nextRow, numbersAt, sparseAt, valuesFrom, bandwidthIn, greatestIn}
+use Rattle.document.specs.Document as document
+use Rattle.document.specs.Document.{wordIn, nextRow, numbersAt, sparseAt, valuesFrom, bandwidthIn, greatestIn}
 use Rattle.storing.specs.Notes.{valuesWords}
 use Rattle.matrices.specs.declared.Cursor.{Cursor}
 use Rattle.matrices.specs.declared.First.{First}
 use Rattle.matrices.specs.Told.{toldOr}
 use Rattle.matrices.specs.Numbers.{mostGiven, rowAfter, nextCursor, Roomy}
-use Rattle.matrices.proofs.NumberLaws.{row-on, row-same, row-most, column-told, sparse-value}
+use Rattle.matrices.proofs.NumberLaws.{row-on, row-same, row-most}
 use Rattle.matrices.proofs.BodyLaws.{
   plain-bandwidth,
   sparse-values,
@@ -52,11 +48,11 @@ use Rattle.matrices.proofs.BodyLaws.{
   whole-below,
 }
 use Rattle.noting.specs.declared.Note.{Note}
-use Rattle.noting.specs.declared.Judged.{Judged}
 use Rattle.noting.specs.declared.Numbers.{Numbers}
 use Rattle.noting.specs.declared.Pair.{Pair}
 use Rattle.noting.specs.Noting.{Bounded, Adds, movedTo, namedTo, NotesNumbers, NotesPair}
-use Rattle.noting.specs.Steps.{Room, judgedWith, numbersOf, pairOf}
+use Rattle.noting.specs.Steps.{numbersOf, Stored, Stores, pairOf}
+use Rattle.noting.proofs.InTextLaws.{ends-here, no-words, one-word, same-end, word-on}
 
 -- ---- the words of values, stored one after another
 
@@ -71,33 +67,33 @@ take-sets : (n : ℕ) (l : List ℕ) (at : ℕ) (xs : List ℕ) → n ≤ at →
 take-sets n l at [] h = refl
 take-sets n l at (x ∷ xs) h = take-sets n (set l at x) (suc at) xs (omega arith) ∙ take-set-le n l at x h
 
-no-words : valuesWords [] ≡ []
+no-values : valuesWords [] ≡ []
 unfolding valuesWords joined
-no-words = refl
+no-values = refl
 
-words-cons : (v : Value) (vs : List Value) → valuesWords (v ∷ vs) ≡ (v .row ∷ v .column ∷ v .word ∷ []) ++ valuesWords vs
+words-cons : (v : document.Value) (vs : List document.Value) → valuesWords (v ∷ vs) ≡ (v .row ∷ v .column ∷ v .word ∷ []) ++ valuesWords vs
 unfolding valuesWords joined
 words-cons v vs = refl
 
-words-one : (v : Value) → valuesWords (v ∷ []) ≡ v .row ∷ v .column ∷ v .word ∷ []
+words-one : (v : document.Value) → valuesWords (v ∷ []) ≡ v .row ∷ v .column ∷ v .word ∷ []
 unfolding valuesWords joined
 words-one v = refl
 
-words-append : (vs ws : List Value) → valuesWords (vs ++ ws) ≡ valuesWords vs ++ valuesWords ws
-words-append [] ws = rw no-words
+words-append : (vs ws : List document.Value) → valuesWords (vs ++ ws) ≡ valuesWords vs ++ valuesWords ws
+words-append [] ws = rw no-values
 words-append (v ∷ vs) ws =
     words-cons v (vs ++ ws) ∙ ap (λ (xs : List ℕ). v .row ∷ v .column ∷ v .word ∷ xs) (words-append vs ws)
     ∙ ap (λ (xs : List ℕ). xs ++ valuesWords ws) (sym (words-cons v vs))
 
-words-length : (vs : List Value) → length (valuesWords vs) ≡ 3 * length vs
-words-length [] = rw no-words
+words-length : (vs : List document.Value) → length (valuesWords vs) ≡ 3 * length vs
+words-length [] = rw no-values
 words-length (v ∷ vs) =
     let h : length (valuesWords vs) ≡ 3 * length vs = words-length vs in
     let e : length (valuesWords (v ∷ vs)) ≡ suc (suc (suc (length (valuesWords vs)))) = ap length (words-cons v vs) in
     omega arith
 
 -- values behind values that are stored
-stored-on : (table : List ℕ) (values : ℕ) (vs ws : List Value) (n : ℕ) → n ≡ length vs →
+stored-on : (table : List ℕ) (values : ℕ) (vs ws : List document.Value) (n : ℕ) → n ≡ length vs →
     sets (sets table (3 * values) (valuesWords vs)) (3 * (values + n)) (valuesWords ws) ≡ sets table (3 * values) (valuesWords (vs ++ ws))
 stored-on table values vs ws n e =
     let l : length (valuesWords vs) ≡ 3 * length vs = words-length vs in
@@ -108,7 +104,7 @@ stored-on table values vs ws n e =
 
 -- ---- a line that adds these values, and leads on to where those of the next lines stand
 
-module _ (table : List ℕ) (values : ℕ) (table' : List ℕ) (vs : List Value) (stored : table' ≡ sets table (3 * values) (valuesWords vs)) where
+module _ (table : List ℕ) (values : ℕ) (table' : List ℕ) (vs : List document.Value) (stored : table' ≡ sets table (3 * values) (valuesWords vs)) where
   long-kept : length table' ≡ length table
   long-kept = ap length stored ∙ length-sets table (3 * values) (valuesWords vs)
 
@@ -116,7 +112,7 @@ module _ (table : List ℕ) (values : ℕ) (table' : List ℕ) (vs : List Value)
   front-kept = ap (take (3 * values)) stored ∙ take-sets (3 * values) table (3 * values) (valuesWords vs) (omega arith)
 
   module _ (form : ℕ) (a b : Note) (count : ℕ) (many : count ≡ length vs) (told : b .bandwidth ≡ a .bandwidth) (bounded : Bounded b (values + count))
-      (room : 3 * (values + count) ≤ length table) where
+      (room : 3 * values ≤ length table → 3 * (values + count) ≤ length table) where
     added : (l : Line) → keyOf l ≡ plain → a .whole ≡ true →
         ((ls : List Line) → valuesFrom form (a .row) (a .column) (l ∷ ls) ≡ vs ++ valuesFrom form (b .row) (b .column) ls) →
         ((ls : List Line) → max (b .greatest) (greatestIn form ls) ≡ max (a .greatest) (greatestIn form (l ∷ ls))) →
@@ -127,13 +123,13 @@ module _ (table : List ℕ) (values : ℕ) (table' : List ℕ) (vs : List Value)
           image = λ (ls : List Line).
               ap (λ (t : List ℕ). sets t (3 * (values + count)) (valuesWords (valuesFrom form (b .row) (b .column) ls))) stored
               ∙ stored-on table values vs (valuesFrom form (b .row) (b .column) ls) count many
-              ∙ ap (λ (ws : List Value). sets table (3 * values) (valuesWords ws)) (sym (more ls));
+              ∙ ap (λ (ws : List document.Value). sets table (3 * values) (valuesWords ws)) (sym (more ls));
           count = λ (ls : List Line). counted ls;
           bandwidth = λ (ls : List Line). ap (λ (f : First). toldOr f (bandwidthIn ls)) told
               ∙ ap (toldOr (a .bandwidth)) (sym (plain-bandwidth form l ls is-plain));
           greatest = greatest;
           bounded = bounded;
-          room = λ (h : 3 * values ≤ length table). rw long-kept room;
+          room = λ (h : 3 * values ≤ length table). rw long-kept (room h);
         }
       where
         counted : (ls : List Line) →
@@ -143,296 +139,474 @@ module _ (table : List ℕ) (values : ℕ) (table' : List ℕ) (vs : List Value)
             ap length (more ls) ∙ length-append vs (valuesFrom form (b .row) (b .column) ls) in
             omega arith
 
--- ---- the numbers of a line, one after another
-
 step-stored : (form row column place : ℕ) (table : List ℕ) (w : List ℕ) (ws : List (List ℕ)) (number : Number) → number ≡ numberOf w →
     sets (sets table place (row ∷ column ∷ wordIn number ∷ [])) (place + 3) (valuesWords (numbersAt form (nextRow form row) (column + 1) ws))
     ≡ sets table place (valuesWords (numbersAt form row column (w ∷ ws)))
 unfolding numbersAt
 step-stored form row column place table w ws number e =
-    let rest : List Value = numbersAt form (nextRow form row) (column + 1) ws in
+    let rest : List document.Value = numbersAt form (nextRow form row) (column + 1) ws in
     sym (sets-append table place (row ∷ column ∷ wordIn number ∷ []) (valuesWords rest))
     ∙ ap (sets table place) (sym (words-cons (record { row = row; column = column; word = wordIn number }) rest))
     ∙ ap (λ (x : Number). sets table place (valuesWords (record { row = row; column = column; word = wordIn x } ∷ rest))) e
 
 none-left : (form row column : ℕ) → valuesWords (numbersAt form row column []) ≡ []
 unfolding numbersAt
-none-left form row column = no-words
+none-left form row column = no-values
 
 numbers-length : (form row column : ℕ) (ws : List (List ℕ)) → length (numbersAt form row column ws) ≡ length ws
 unfolding numbersAt
 numbers-length form row column [] = refl
 numbers-length form row column (w ∷ ws) = ap suc (numbers-length form (nextRow form row) (column + 1) ws)
 
-words-here : (content : List ℕ) (at : ℕ) (word : Span) → word ≡ wordAt content at → word .start < length content →
-    wordsAfter content at ≡ markedBy content word ∷ wordsAfter content (word .end)
-words-here content at word e h = rw e (after-at content at (rw e at h))
+-- no number is written with the comment byte
+pub pipe-spells-nothing : isSpelling commentByte ≡ false
+unfolding isSpelling isDigit isLetter isCapital isSmall isSign within both either
+pipe-spells-nothing = refl
 
--- what the loop has: the numbers that are left give what all of them give, and there is room for them
-pub record Left (form : ℕ) (content table₀ : List ℕ) (values row₀ column₀ at : ℕ) (j : Judged) (c : Cursor) (table : List ℕ) : Type 0 where
-  pub room : Room values (length content) (length table₀)
-  pub pending : Pending content at (c .count) (j .formed) (j .bounded)
-  pub within : at ≤ length content
-  pub image : sets table (c .place) (valuesWords (numbersAt form (c .row) (c .column) (wordsAfter content at)))
-      ≡ sets table₀ (3 * values) (valuesWords (numbersAt form row₀ column₀ (words content)))
-  pub row : rowAfter form (c .row) (length (wordsAfter content at)) ≡ rowAfter form row₀ (length (words content))
+-- ---- room
+
+pub no-room : (place words : ℕ) → false ≡ true → place + 3 ≤ words
+no-room place words e = absurd (true≢false (sym e))
+
+pub some-room : (place words : ℕ) → place ≤ words → leb 3 (words - place) ≡ true → place + 3 ≤ words
+some-room place words h e = let k : 3 ≤ words - place = leb-true 3 (words - place) e in omega arith
+
+-- ---- the numbers of a line, one after another
+
+formed-on : (w : List ℕ) (ws : List (List ℕ)) → isFormed (numberOf w) ≡ true → areFormed (w ∷ ws) ≡ areFormed ws
+unfolding areFormed toldBy both
+formed-on w ws e = rw e refl
+
+bounded-on : (w : List ℕ) (ws : List (List ℕ)) → isBounded (numberOf w) ≡ true → areBounded (w ∷ ws) ≡ areBounded ws
+unfolding areBounded toldBy both
+bounded-on w ws e = rw e refl
+
+none-formed : areFormed [] ≡ true
+unfolding areFormed
+none-formed = refl
+
+none-bounded : areBounded [] ≡ true
+unfolding areBounded
+none-bounded = refl
+
+value-formed : (n : Number) → isValue n ≡ true → isFormed n ≡ true
+value-formed (Value w) e = refl
+value-formed Malformed e = e
+value-formed Range e = refl
+
+value-bounded : (n : Number) → isValue n ≡ true → isBounded n ≡ true
+value-bounded (Value w) e = refl
+value-bounded Malformed e = refl
+value-bounded Range e = e
+
+-- what the loop has: the numbers that are left give what all of them give
+pub record Left (form : ℕ) (t : List ℕ) (from : ℕ) (table₀ : List ℕ) (values row₀ column₀ at : ℕ) (c : Cursor) (table : List ℕ) : Type 0 where
+  pub counted : c .count + length (words (contentAt t at)) ≡ length (words (contentAt t from))
+  pub formed : areFormed (words (contentAt t at)) ≡ areFormed (words (contentAt t from))
+  pub bounded : areBounded (words (contentAt t at)) ≡ areBounded (words (contentAt t from))
+  pub image : sets table (c .place) (valuesWords (numbersAt form (c .row) (c .column) (words (contentAt t at))))
+      ≡ sets table₀ (3 * values) (valuesWords (numbersAt form row₀ column₀ (words (contentAt t from))))
+  pub row : rowAfter form (c .row) (length (words (contentAt t at))) ≡ rowAfter form row₀ (length (words (contentAt t from)))
   pub row-few : c .row ≤ row₀ + c .count
   pub column : c .column ≡ column₀ + c .count
   pub place : c .place ≡ 3 * (values + c .count)
   pub long : length table ≡ length table₀
+  pub front : take (3 * values) table ≡ take (3 * values) table₀
+  pub room : 3 * values ≤ length table₀ → 3 * (values + c .count) ≤ length table₀
+  pub ends : lineAt commentByte t at .content ≡ lineAt commentByte t from .content
 
-pub left-start : (form : ℕ) (content table : List ℕ) (values row column : ℕ) (room : Bool) → not room ≡ false →
-    (room ≡ true → Room values (length content) (length table)) →
-    Left form content table values row column 0 (record { formed = true; bounded = true })
-    (record { row = row; column = column; count = 0; place = 3 * values }) table
-left-start form content table values row column room left has =
+pub left-start : (form : ℕ) (t : List ℕ) (from : ℕ) (table : List ℕ) (values row column : ℕ) →
+    Left form t from table values row column from (record { row = row; column = column; count = 0; place = 3 * values }) table
+left-start form t from table values row column =
     record {
-      room = has (not-false room left);
-      pending = line-starts content;
-      within = omega arith;
+      counted = omega arith;
+      formed = refl;
+      bounded = refl;
       image = refl;
       row = refl;
       row-few = omega arith;
       column = omega arith;
       place = omega arith;
       long = refl;
+      front = refl;
+      room = λ (h : 3 * values ≤ length table). omega arith;
+      ends = refl;
     }
 
--- every place that the loop comes to has room
-pub left-roomy : (form : ℕ) (content table₀ : List ℕ) (values row column : ℕ) → row ≤ mostGiven + values → column ≤ mostGiven + values →
-    (at : ℕ) (j : Judged) (c : Cursor) (table : List ℕ) → Left form content table₀ values row column at j c table →
-    length table₀ * 8 < 2 ^ 63 → at < length content → Roomy (length table) c
-left-roomy form content table₀ values row column row-few column-few at j c table left small there =
-    let d : values ≤ 65536 = left .room .few in
-    let e : 3 * values + 3 * length content ≤ length table₀ = left .room .enough in
-    let f : c .count ≤ at = left .pending .short in
-    let g : c .row ≤ row + c .count = left .row-few in
-    let h : c .column ≡ column + c .count = left .column in
-    let k : c .place ≡ 3 * (values + c .count) = left .place in
-    let l : length table ≡ length table₀ = left .long in
-    record { room = omega arith; row-few = omega arith; column-few = omega arith; count-few = omega arith }
+module _ (form : ℕ) (t : List ℕ) (from : ℕ) (table₀ : List ℕ) (values row column at : ℕ) (c : Cursor) (table : List ℕ)
+    (left : Left form t from table₀ values row column at c table) where
+  -- where they are not noted the front of the table is kept
+  pub left-unnoted : (end : ℕ) (r : Numbers) → r ≡ numbersOf false c end → Stores form t from table₀ values row column table r
+  unfolding numbersOf
+  left-unnoted end r e =
+      rw e
+      (record {
+        long = left .long;
+        front = left .front;
+        ends = λ (w : false ≡ true). absurd (true≢false (sym w));
+        told = λ (w : false ≡ true). absurd (true≢false (sym w));
+      })
 
-module _ (form : ℕ) (content table₀ : List ℕ) (values row column at : ℕ) (j : Judged) (c : Cursor) (table : List ℕ)
-    (left : Left form content table₀ values row column at j c table) where
-  module _ (start : ℕ) (begins : start ≡ runEnd isBlank content at) (there : start < length content) (read : NumberAt)
-      (told : read ≡ numberAt content start) where
-    abbrev here : Span
-    here = record { start = start; end = read .end }
+  -- every place with room for a number takes one, and no sum wraps
+  pub left-roomy : row ≤ mostGiven + values → column ≤ mostGiven + values → values ≤ mostValues → length table₀ * 8 < 2 ^ 63 → (free : Bool) →
+      (free ≡ true → c .place + 3 ≤ length table) → not free ≡ false → Roomy (length table) c
+  left-roomy row-few column-few few small free has tested =
+      let h : c .place + 3 ≤ length table = has (not-false free tested) in
+      let g : c .row ≤ row + c .count = left .row-few in
+      let k : c .column ≡ column + c .count = left .column in
+      let p : c .place ≡ 3 * (values + c .count) = left .place in
+      let l : length table ≡ length table₀ = left .long in
+      let r : row ≤ 1_000_000_000 + values = row-few in
+      let s : column ≤ 1_000_000_000 + values = column-few in
+      let v : values ≤ 65536 = few in
+      record { room = h; row-few = omega arith; column-few = omega arith; count-few = omega arith }
 
-    left-here : wordsAfter content at ≡ markedBy content here ∷ wordsAfter content (read .end)
-    left-here = words-here content at here (placed-found content at start read begins told) there
+  module _ (start : ℕ) (begins : start ≡ runEnd isBlank t at) (there : Bool)
+      (told-there : there ≡ both (ltb start (length t)) (isWord commentByte (getD t start 0))) where
+    -- the line ends here
+    module _ (tested : not there ≡ true) where
+      none : both (ltb start (length t)) (isWord commentByte (getD t start 0)) ≡ false
+      none = sym told-there ∙ not-true there tested
 
-    -- the row, the column and the count after this number, as what is left says
-    row-here : rowAfter form (nextRow form (c .row)) (length (wordsAfter content (read .end))) ≡ rowAfter form (row) (length (words content))
-    row-here = row-on form (c .row) _ ∙ ap (rowAfter form (c .row)) (sym (ap length left-here)) ∙ left .row
+      none-words : words (contentAt t at) ≡ []
+      none-words = no-words t at start begins none
 
-    module _ (table' : List ℕ) (stored : table' ≡ sets table (c .place) (c .row ∷ c .column ∷ wordIn (read .number) ∷ [])) where
-      image-here :
-          sets table' (c .place + 3) (valuesWords (numbersAt form (nextRow form (c .row)) (c .column + 1) (wordsAfter content (read .end))))
-          ≡ sets table₀ (3 * values) (valuesWords (numbersAt form (row) (column) (words content)))
-      image-here =
-          rw stored
-          (step-stored form (c .row) (c .column) (c .place) table (markedBy content here) (wordsAfter content (read .end)) (read .number)
-          (placed-number content at start read begins told)
-          ∙ ap (λ (ws : List (List ℕ)). sets table (c .place) (valuesWords (numbersAt form (c .row) (c .column) ws))) (sym left-here)
-          ∙ left .image)
+      none-length : length (words (contentAt t at)) ≡ 0
+      none-length = ap length none-words
 
-      step-on : Left form content table₀ values row column (read .end) (judgedWith j (read .number)) (nextCursor form c) table'
-      unfolding judgedWith nextCursor
-      step-on =
-          let f : c .row ≤ row + c .count = left .row-few in
-          let g : nextRow form (c .row) ≤ c .row + 1 = row-most form (c .row) in
-          let h : c .column ≡ column + c .count = left .column in
-          let k : c .place ≡ 3 * (values + c .count) = left .place in
+      all-counted : c .count ≡ length (words (contentAt t from))
+      all-counted =
+          let a : c .count + length (words (contentAt t at)) ≡ length (words (contentAt t from)) = left .counted in
+          let z : length (words (contentAt t at)) ≡ 0 = none-length in
+          omega arith
+
+      all-stored : table ≡ sets table₀ (3 * values) (valuesWords (numbersAt form row column (words (contentAt t from))))
+      all-stored =
+          let z : valuesWords (numbersAt form (c .row) (c .column) (words (contentAt t at))) ≡ [] =
+          ap (λ (ws : List (List ℕ)). valuesWords (numbersAt form (c .row) (c .column) ws)) none-words ∙ none-left form (c .row) (c .column) in
+          sym (ap (sets table (c .place)) z) ∙ left .image
+
+      all-told : Stored form (words (contentAt t from)) table₀ values row column table (record {
+        noted = true;
+        count = c .count;
+        row = c .row;
+        column = c .column;
+        end = start;
+      })
+      all-told =
           record {
+            counted = all-counted;
+            formed = sym (left .formed) ∙ ap areFormed none-words ∙ none-formed;
+            bounded = sym (left .bounded) ∙ ap areBounded none-words ∙ none-bounded;
+            stored = all-stored;
+            row-is = sym (row-same form (c .row) _ none-length) ∙ left .row;
+            column-is = left .column ∙ ap (λ (k : ℕ). column + k) all-counted;
+            row-few = left .row-few;
             room = left .room;
-            pending =
-                line-number content at (c .count) (j .formed) (j .bounded) (left .pending) start begins read told there _ _ _ _ refl refl refl refl;
-            within = placed-within content at start read begins told (left .within);
-            image = image-here;
-            row = row-here;
-            row-few = omega arith;
-            column = omega arith;
-            place = omega arith;
-            long = ap length stored ∙ length-sets table (c .place) (c .row ∷ c .column ∷ wordIn (read .number) ∷ []) ∙ left .long;
           }
 
-      pub left-on : (j' : Judged) → j' ≡ judgedWith j (read .number) → (c' : Cursor) → c' ≡ nextCursor form c →
-          Left form content table₀ values row column (read .end) j' c' table'
-      left-on j' judges c' goes = rw (judges, goes) step-on
+      pub left-done : (r : Numbers) → r ≡ numbersOf true c start → Stores form t from table₀ values row column table r
+      unfolding numbersOf
+      left-done r e =
+          rw e
+          (record {
+            long = left .long;
+            front = left .front;
+            ends = λ (w : true ≡ true). ends-here t at start begins none ∙ left .ends;
+            told = λ (w : true ≡ true). all-told;
+          })
 
--- ---- a line of numbers that is gone over
+    -- a number more
+    module _ (tested : not there ≡ false) (read : NumberAt) (told : read ≡ numberIn commentByte t start) where
+      stands : both (ltb start (length t)) (isWord commentByte (getD t start 0)) ≡ true
+      stands = sym told-there ∙ not-false there tested
 
-module _ (form : ℕ) (content table₀ : List ℕ) (values row column : ℕ) (row-few : row ≤ mostGiven + values) (column-few : column ≤ mostGiven + values)
-    (not-sparse : form ≡ sparse → ⊥) (at : ℕ) (j : Judged) (c : Cursor) (table : List ℕ)
-    (left : Left form content table₀ values row column at j c table) where
-  module _ (none : wordsAfter content at ≡ [])
-      (line : record { numbers = c .count; column = 0; right = true; formed = j .formed; bounded = j .bounded } ≡ numbersLine (words content)) where
-    none-length : length (wordsAfter content at) ≡ 0
-    none-length = ap length none
+      end-is : read .end ≡ runEnd (isWord commentByte) t start
+      unfolding numberIn
+      end-is = ap (λ (r : NumberAt). r .end) told
 
-    all-counted : c .count ≡ length (words content)
-    all-counted =
-        let a : c .count + length (wordsAfter content at) ≡ length (words content) = left .pending .counted in
-        let z : length (wordsAfter content at) ≡ 0 = none-length in
-        omega arith
+      abbrev word : List ℕ
+      word = take (read .end - start) (drop start t)
 
-    all-stored : table ≡ sets table₀ (3 * values) (valuesWords (numbersAt form row column (words content)))
-    all-stored =
-        let z : valuesWords (numbersAt form (c .row) (c .column) (wordsAfter content at)) ≡ [] =
-        ap (λ (ws : List (List ℕ)). valuesWords (numbersAt form (c .row) (c .column) ws)) none ∙ none-left form (c .row) (c .column) in
-        sym (ap (sets table (c .place)) z) ∙ left .image
+      number-is : read .number ≡ numberOf word
+      unfolding numberIn
+      number-is =
+          let e : read .end ≡ runEnd (isWord commentByte) t start = end-is in
+          let n : read .end - start ≡ run (isWord commentByte) (drop start t) = omega arith in
+          rw n (ap (λ (r : NumberAt). r .number) told)
 
-    row-after : c .row ≡ rowAfter form row (length (words content))
-    row-after = sym (row-same form (c .row) _ none-length) ∙ left .row
+      here : words (contentAt t at) ≡ word ∷ words (contentAt t (read .end))
+      here = one-word t at start begins stands (read .end) end-is
 
-    column-after : c .column ≡ column + length (words content)
-    column-after = left .column ∙ ap (λ (k : ℕ). column + k) all-counted
+      pub left-less : length t - read .end < length t - at
+      left-less =
+          let h : at < read .end = word-on t at start begins stands (read .end) end-is in
+          let g : start < length t = ltb-true start (length t) (both-first _ _ stands) in
+          omega arith
+
+      module _ (value : Bool) (value-told : value ≡ isValue (read .number)) (fine : not value ≡ false) where
+        is-value : isValue (read .number) ≡ true
+        is-value = sym value-told ∙ not-false value fine
+
+        module _ (table' : List ℕ) (stored : table' ≡ sets table (c .place) (c .row ∷ c .column ∷ wordIn (read .number) ∷ []))
+            (free : Bool) (has : free ≡ true → c .place + 3 ≤ length table) (tested-room : not free ≡ false) where
+          room-here : c .place + 3 ≤ length table
+          room-here = has (not-false free tested-room)
+
+          image-here :
+              sets table' (c .place + 3) (valuesWords (numbersAt form (nextRow form (c .row)) (c .column + 1) (words (contentAt t (read .end)))))
+              ≡ sets table₀ (3 * values) (valuesWords (numbersAt form row column (words (contentAt t from))))
+          image-here =
+              rw stored
+              (step-stored form (c .row) (c .column) (c .place) table word (words (contentAt t (read .end))) (read .number) number-is
+              ∙ ap (λ (ws : List (List ℕ)). sets table (c .place) (valuesWords (numbersAt form (c .row) (c .column) ws))) (sym here)
+              ∙ left .image)
+
+          step-on : Left form t from table₀ values row column (read .end) (nextCursor form c) table'
+          unfolding nextCursor
+          step-on =
+              let f : c .row ≤ row + c .count = left .row-few in
+              let g : nextRow form (c .row) ≤ c .row + 1 = row-most form (c .row) in
+              let h : c .column ≡ column + c .count = left .column in
+              let k : c .place ≡ 3 * (values + c .count) = left .place in
+              let n : length (words (contentAt t at)) ≡ suc (length (words (contentAt t (read .end)))) = ap length here in
+              let m : c .count + length (words (contentAt t at)) ≡ length (words (contentAt t from)) = left .counted in
+              let l : length table ≡ length table₀ = left .long in
+              let o : c .place + 3 ≤ length table = room-here in
+              record {
+                counted = omega arith;
+                formed =
+                    sym (formed-on word (words (contentAt t (read .end))) (rw number-is at (value-formed (read .number) is-value)))
+                    ∙ sym (ap areFormed here) ∙ left .formed;
+                bounded =
+                    sym (bounded-on word (words (contentAt t (read .end))) (rw number-is at (value-bounded (read .number) is-value)))
+                    ∙ sym (ap areBounded here) ∙ left .bounded;
+                image = image-here;
+                row = row-on form (c .row) _ ∙ ap (rowAfter form (c .row)) (sym n) ∙ left .row;
+                row-few = omega arith;
+                column = omega arith;
+                place = omega arith;
+                long = ap length stored ∙ length-sets table (c .place) (c .row ∷ c .column ∷ wordIn (read .number) ∷ []) ∙ left .long;
+                front =
+                    ap (take (3 * values)) stored
+                    ∙ take-sets (3 * values) table (c .place) (c .row ∷ c .column ∷ wordIn (read .number) ∷ []) (omega arith) ∙ left .front;
+                room = λ (h : 3 * values ≤ length table₀). omega arith;
+                ends = same-end t at start begins stands (read .end) end-is ∙ left .ends;
+              }
+
+          pub left-on : (c' : Cursor) → c' ≡ nextCursor form c → Left form t from table₀ values row column (read .end) c' table'
+          left-on c' goes = rw goes step-on
+
+-- ---- a line of numbers
+
+module _ (form : ℕ) (t : List ℕ) (here : ℕ) (table : List ℕ) (values row column : ℕ) (table' : List ℕ) (r : Numbers)
+    (stores : Stores form t here table values row column table' r) where
+  module _ (row-few : row ≤ mostGiven + values) (column-few : column ≤ mostGiven + values) (not-sparse : form ≡ sparse → ⊥)
+      (noted : r .noted ≡ true) where
+    abbrev content : List ℕ
+    content = contentAt t here
+
+    told : Stored form (words content) table values row column table' r
+    told = stores .told noted
+
+    line-told : record { numbers = r .count; column = 0; right = true; formed = true; bounded = true } ≡ dataLineOf form content
+    unfolding dataLineOf numbersLine
+    line-told =
+        (λ i.
+        record {
+          numbers = told .counted i;
+          column = 0;
+          right = true;
+          formed = sym (told .formed) i;
+          bounded = sym (told .bounded) i;
+        })
+        ∙ sym (if-false _ _ (ne-eqb form sparse not-sparse))
 
     more-after : (l : Line) → l .content ≡ content → keyOf l ≡ plain → (ls : List Line) →
-        valuesFrom form row column (l ∷ ls) ≡ numbersAt form row column (words content) ++ valuesFrom form (c .row) (c .column) ls
-    more-after l same is-plain ls = rw (row-after, column-after, sym same) (numbers-values form l ls is-plain not-sparse row column)
+        valuesFrom form row column (l ∷ ls) ≡ numbersAt form row column (words content) ++ valuesFrom form (r .row) (r .column) ls
+    more-after l same is-plain ls =
+        rw (told .row-is, told .column-is, sym same) (numbers-values form l ls is-plain not-sparse row column)
 
-    -- the note behind them
-    bounded-after : (a : Note) → Bounded (movedTo (c .row) (c .column) a) (values + c .count)
+    bounded-after : (a : Note) → Bounded (movedTo (r .row) (r .column) a) (values + r .count)
     bounded-after a =
-        let f : c .row ≤ row + c .count = left .row-few in
-        let g : c .column ≡ column + c .count = left .column in
+        let f : r .row ≤ row + r .count = told .row-few in
+        let g : r .column ≡ column + length (words content) = told .column-is in
+        let h : r .count ≡ length (words content) = told .counted in
+        let p : row ≤ 1_000_000_000 + values = row-few in
+        let q : column ≤ 1_000_000_000 + values = column-few in
         record { row = omega arith; column = omega arith }
 
-    room-after : 3 * (values + c .count) ≤ length table₀
-    room-after =
-        let e : 3 * values + 3 * length content ≤ length table₀ = left .room .enough in
-        let f : c .count ≤ at = left .pending .short in
-        let g : at ≤ length content = left .within in
-        omega arith
-
     adds-after : (a : Note) → a .whole ≡ true → a .row ≡ row → a .column ≡ column → (l : Line) → l .content ≡ content → keyOf l ≡ plain →
-        Adds form l table₀ values a table (values + c .count) (movedTo (c .row) (c .column) a)
+        Adds form l table values a table' (values + r .count) (movedTo (r .row) (r .column) a)
     adds-after a whole row-is column-is l same is-plain =
-        let vs : List Value = numbersAt form row column (words content) in
-        let many : c .count ≡ length vs = all-counted ∙ sym (numbers-length form row column (words content)) in
-        added table₀ values table vs all-stored form a (movedTo (c .row) (c .column) a) (c .count) many refl (bounded-after a) room-after l is-plain
-        whole
+        let vs : List document.Value = numbersAt form row column (words content) in
+        let many : r .count ≡ length vs = told .counted ∙ sym (numbers-length form row column (words content)) in
+        added table values table' vs (told .stored) form a (movedTo (r .row) (r .column) a) (r .count) many refl (bounded-after a) (told .room) l
+        is-plain whole
         (λ (ls : List Line). rw (row-is, column-is) (more-after l same is-plain ls))
         (λ (ls : List Line).
         most-of (a .greatest) 0 (a .greatest) _ (greatestIn form ls) (numbers-greatest form l ls is-plain not-sparse) (omega arith))
 
-    numbers-noted : NotesNumbers form content table₀ values row column table (numbersOf j c)
-    unfolding numbersOf dataLineOf
-    numbers-noted =
-        record {
-          long = left .long;
-          front = front-kept table₀ values table (numbersAt form row column (words content)) all-stored;
-          kept = λ (w : true ≡ false). absurd (true≢false w);
-          line-is = λ (w : true ≡ true). line ∙ sym (if-false _ _ (ne-eqb form sparse not-sparse));
-          adds = λ (w : true ≡ true). adds-after;
-        }
-
-  pub numbers-past : length content ≤ at → (r : Numbers) → r ≡ numbersOf j c → NotesNumbers form content table₀ values row column table r
-  numbers-past h r e =
-      rw e (numbers-noted (after-past content at h) (line-past content at (c .count) (j .formed) (j .bounded) (left .pending) h))
-
-  pub numbers-blank : (start : ℕ) → start ≡ runEnd isBlank content at → length content ≤ start → (r : Numbers) → r ≡ numbersOf j c →
-      NotesNumbers form content table₀ values row column table r
-  unfolding wordAt
-  numbers-blank start begins h r e =
-      rw e
-      (numbers-noted (after-none content at (rw begins at h))
-      (line-blank content at (c .count) (j .formed) (j .bounded) (left .pending) start begins h))
-
--- a line that is not noted
-pub numbers-unnoted : (form : ℕ) (content table : List ℕ) (values row column : ℕ) (r : Numbers) → r .noted ≡ false →
-    NotesNumbers form content table values row column table r
-numbers-unnoted form content table values row column r lost =
-    record {
-      long = refl;
-      front = refl;
-      kept = λ (w : r .noted ≡ false). refl;
-      line-is = λ (w : r .noted ≡ true). absurd (true≢false (sym w ∙ lost));
-      adds = λ (w : r .noted ≡ true). absurd (true≢false (sym w ∙ lost));
-    }
+  pub numbers-noted : row ≤ mostGiven + values → column ≤ mostGiven + values → (form ≡ sparse → ⊥) →
+      NotesNumbers form t here table values row column table' r
+  numbers-noted row-few column-few not-sparse =
+      record {
+        long = stores .long;
+        front = stores .front;
+        ends = stores .ends;
+        line-is = line-told row-few column-few not-sparse;
+        adds = adds-after row-few column-few not-sparse;
+      }
 
 -- ---- a line of a Sparse_matrix
 
-module _ (content : List ℕ) (values row : ℕ) (first : Span) (one : first ≡ wordAt content 0) (start : ℕ)
-    (begins : start ≡ runEnd isBlank content (first .end)) (there : start < length content) (part : List ℕ)
-    (cut : part ≡ markedBy content first) (column : Whole) (is-column : column ≡ wholeOf part) where
-  column-few : column .value < 1_000_000_000
-  column-few = rw is-column (whole-below part)
+pub pair-untold : (column : ℕ) (n : Numbers) → not (n .noted) ≡ true → (r : Pair) → r ≡ record { noted = false; column = 0; end = n .end } →
+    r ≡ pairOf column n
+unfolding pairOf
+pair-untold column n e r is = is ∙ sym (if-false _ _ (both-not-left _ _ (not-true (n .noted) e)))
 
-  module _ (table : List ℕ) (row-few : row ≤ mostGiven + values) (free : Bool) (tested : not free ≡ false)
-      (has : free ≡ true → Room values (length content) (length table)) where
-    room-here : Room values (length content) (length table)
-    room-here = has (not-false free tested)
+pub pair-other : (column : ℕ) (n : Numbers) → (n .count ≡ 1 → ⊥) → (r : Pair) → r ≡ record { noted = false; column = 0; end = n .end } →
+    r ≡ pairOf column n
+unfolding pairOf
+pair-other column n e r is = is ∙ sym (if-false _ _ (both-not-right _ _ (ne-eqb _ _ e)))
 
-    pub pair-roomy : length table * 8 < 2 ^ 63 → Roomy (length table) (record { row = row; column = column .value; count = 0; place = 3 * values })
-    pair-roomy small =
-        let d : values ≤ 65536 = room-here .few in
-        let e : 3 * values + 3 * length content ≤ length table = room-here .enough in
-        let f : column .value < 1_000_000_000 = column-few in
-        record { room = omega arith; row-few = omega arith; column-few = omega arith; count-few = omega arith }
+pub pair-told : (column : ℕ) (n : Numbers) → not (n .noted) ≡ false → n .count ≡ 1 → record { noted = true; column = column; end = n .end } ≡ pairOf column n
+unfolding pairOf
+pair-told column n e f = sym (if-true _ _ (both-true _ _ (not-false (n .noted) e) (eq-eqb _ _ f)))
 
-    module _ (read : NumberAt) (told : read ≡ numberAt content start) (third : ℕ) (after : third ≡ runEnd isBlank content (read .end))
-        (ends : length content ≤ third) (table' : List ℕ)
-        (stored : table' ≡ sets table (3 * values) (row ∷ column .value ∷ wordIn (read .number) ∷ [])) where
-      pair-stored : table' ≡ sets table (3 * values) (valuesWords (sparseAt row (words content) ∷ []))
-      pair-stored =
-          stored
-          ∙ ap (sets table (3 * values))
-          (sym (words-one (record { row = row; column = column .value; word = wordIn (read .number) }))
-          ∙ ap (λ (v : Value). valuesWords (v ∷ []))
-          (sparse-value content row first one part cut column is-column start begins read told))
-
-      pair-bounded : (a : Note) → Bounded a values → Bounded (namedTo (column .value) a) (values + 1)
-      pair-bounded a bounded =
-          let f : a .row ≤ 1_000_000_000 + values = bounded .row in
-          let g : a .column ≤ 1_000_000_000 + values = bounded .column in
-          record { row = omega arith; column = omega arith }
-
-      pair-room : 3 * (values + 1) ≤ length table
-      pair-room = let e : 3 * values + 3 * length content ≤ length table = room-here .enough in omega arith
-
-      pair-adds : (a : Note) → a .whole ≡ true → Bounded a values → a .row ≡ row → (l : Line) → l .content ≡ content → keyOf l ≡ plain →
-          Adds sparse l table values a table' (values + 1) (namedTo (column .value) a)
-      pair-adds a whole bounded row-is l same is-plain =
-          let c : column .value ≡ wholeOf (firstOf (words content)) .value =
-          column-told content row first one part cut column is-column start begins read told in
-          added table values table' (sparseAt row (words content) ∷ []) pair-stored sparse a (namedTo (column .value) a) 1 refl refl (pair-bounded a
-          bounded) pair-room l
-          is-plain whole
-          (λ (ls : List Line). rw (sym row-is, sym same) (sparse-values sparse l ls is-plain refl (a .row) (a .column)))
-          (λ (ls : List Line).
-          most-of (a .greatest) (column .value) _ _ (greatestIn sparse ls)
-          (rw (c, sym same) (sparse-greatest sparse l ls is-plain refl)) refl)
-
-      pair-noted : NotesPair content table values row table' (pairOf column (read .number))
-      unfolding pairOf dataLineOf
-      pair-noted =
-          record {
-            long = long-kept table values table' (sparseAt row (words content) ∷ []) pair-stored;
-            front = front-kept table values table' (sparseAt row (words content) ∷ []) pair-stored;
-            kept = λ (w : true ≡ false). absurd (true≢false w);
-            line-is = λ (w : true ≡ true).
-                sparse-pair content first one start begins there read told third after ends part cut column is-column
-                (record { formed = isFormed (read .number); bounded = isBounded (read .number) }) refl _ refl
-                ∙ sym (if-true _ _ (eq-eqb sparse sparse refl));
-            adds = λ (w : true ≡ true). pair-adds;
-          }
-
-      pub pair-notes : (r : Pair) → r ≡ pairOf column (read .number) → NotesPair content table values row table' r
-      pair-notes r e = rw e pair-noted
-
-pub pair-unnoted : (content table : List ℕ) (values row : ℕ) (r : Pair) → r .noted ≡ false → NotesPair content table values row table r
-pair-unnoted content table values row r lost =
-    record {
+pub pair-unnoted : (t : List ℕ) (here : ℕ) (table : List ℕ) (values row end : ℕ) (r : Pair) → r ≡ record { noted = false; column = 0; end = end } →
+    NotesPair t here table values row table r
+pair-unnoted t here table values row end r e =
+    rw e
+    (record {
       long = refl;
       front = refl;
-      kept = λ (w : r .noted ≡ false). refl;
-      line-is = λ (w : r .noted ≡ true). absurd (true≢false (sym w ∙ lost));
-      adds = λ (w : r .noted ≡ true). absurd (true≢false (sym w ∙ lost));
-    }
+      ends = λ (w : false ≡ true). absurd (true≢false (sym w));
+      line-is = λ (w : false ≡ true). absurd (true≢false (sym w));
+      adds = λ (w : false ≡ true). absurd (true≢false (sym w));
+    })
 
--- where there is no room
-pub no-room : (values bytes words : ℕ) → false ≡ true → Room values bytes words
-no-room values bytes words e = absurd (true≢false (sym e))
+module _ (t : List ℕ) (here start : ℕ) (begins : start ≡ runEnd isBlank t here) (there : Bool)
+    (told-there : there ≡ both (ltb start (length t)) (isWord commentByte (getD t start 0))) (tested : not there ≡ false) (end : ℕ)
+    (ends : end ≡ runEnd (isWord commentByte) t start) where
+  stands-there : both (ltb start (length t)) (isWord commentByte (getD t start 0)) ≡ true
+  stands-there = sym told-there ∙ not-false there tested
+
+  pub word-inside : end ≤ length t
+  word-inside =
+      let g : start < length t = ltb-true start (length t) (both-first _ _ stands-there) in
+      run-ends (isWord commentByte) t start end g ends
+
+  pub word-starts : start ≤ end
+  word-starts = omega arith
+
+  module _ (part : List ℕ) (cut : part ≡ take (end - start) (drop start t)) (column : Whole) (is-column : column ≡ wholeOf part) where
+    pub column-few : (values : ℕ) → column .value ≤ mostGiven + values
+    column-few values = let h : column .value < 1_000_000_000 = rw is-column (whole-below part) in omega arith
+
+    module _ (table : List ℕ) (values row : ℕ) (table' : List ℕ) (n : Numbers)
+        (stores : Stores sparse t end table values row (column .value) table' n) where
+      module _ (noted : n .noted ≡ true) (one : n .count ≡ 1) where
+        behind : Stored sparse (words (contentAt t end)) table values row (column .value) table' n
+        behind = stores .told noted
+
+        single : words (contentAt t end) ≡ firstOf (words (contentAt t end)) ∷ []
+        single = alone (words (contentAt t end)) (sym (behind .counted) ∙ one)
+          where
+            alone : (ws : List (List ℕ)) → length ws ≡ 1 → ws ≡ firstOf ws ∷ []
+            alone [] e = absurd (let z : 0 ≡ 1 = e in omega arith)
+            alone (w ∷ []) e = refl
+            alone (w ∷ v ∷ ws) e = absurd (let z : suc (suc (length ws)) ≡ 1 = e in omega arith)
+
+        abbrev value : List ℕ
+        value = firstOf (words (contentAt t end))
+
+        two : words (contentAt t here) ≡ part ∷ value ∷ []
+        two =
+            one-word t here start begins stands-there end ends ∙ ap (λ (w : List ℕ). w ∷ words (contentAt t end)) (sym cut)
+            ∙ ap (λ (ws : List (List ℕ)). part ∷ ws) single
+
+        value-formed-here : toldBy value .formed ≡ true
+        unfolding areFormed
+        value-formed-here = both-first _ _ (sym (ap areFormed single) ∙ behind .formed)
+
+        value-bounded-here : toldBy value .bounded ≡ true
+        unfolding areBounded
+        value-bounded-here = both-first _ _ (sym (ap areBounded single) ∙ behind .bounded)
+
+        pair-value : numbersAt sparse row (column .value) (words (contentAt t end)) ≡ sparseAt row (words (contentAt t here)) ∷ []
+        unfolding numbersAt sparseAt
+        pair-value = rw (single, two) (λ i. record { row = row; column = is-column i .value; word = wordIn (numberOf value) } ∷ [])
+
+        pair-stored : table' ≡ sets table (3 * values) (valuesWords (sparseAt row (words (contentAt t here)) ∷ []))
+        pair-stored = behind .stored ∙ ap (λ (vs : List document.Value). sets table (3 * values) (valuesWords vs)) pair-value
+
+        named-here : column .value ≡ wholeOf (firstOf (words (contentAt t here))) .value
+        named-here = rw two (ap (λ (w : Whole). w .value) is-column)
+
+        pair-bounded : (a : Note) → Bounded a values → Bounded (namedTo (column .value) a) (values + 1)
+        pair-bounded a bound =
+            let f : a .row ≤ 1_000_000_000 + values = bound .row in
+            let g : a .column ≤ 1_000_000_000 + values = bound .column in
+            record { row = omega arith; column = omega arith }
+
+        pair-room : 3 * values ≤ length table → 3 * (values + 1) ≤ length table
+        pair-room h = rw one at (behind .room h)
+
+        pair-adds : (a : Note) → a .whole ≡ true → Bounded a values → a .row ≡ row → (l : Line) → l .content ≡ contentAt t here → keyOf l ≡ plain →
+            Adds sparse l table values a table' (values + 1) (namedTo (column .value) a)
+        pair-adds a whole bound row-is l same is-plain =
+            added table values table' (sparseAt row (words (contentAt t here)) ∷ []) pair-stored sparse a (namedTo (column .value) a) 1 refl refl
+            (pair-bounded a bound) pair-room l is-plain whole
+            (λ (ls : List Line). rw (sym row-is, sym same) (sparse-values sparse l ls is-plain refl (a .row) (a .column)))
+            (λ (ls : List Line).
+            most-of (a .greatest) (column .value) _ _ (greatestIn sparse ls)
+            (rw (named-here, sym same) (sparse-greatest sparse l ls is-plain refl)) refl)
+
+        module _ (formed : column .formed ≡ true) (bounded : within 1 256 (column .value) ≡ true) where
+          pair-line : record { numbers = 1; column = column .value; right = true; formed = true; bounded = true } ≡ dataLineOf sparse (contentAt t here)
+          unfolding dataLineOf sparseLine
+          pair-line =
+              sym
+              (if-true _ _ (eq-eqb sparse sparse refl)
+              ∙ rw two
+              (if-true _ _ refl
+              ∙ rw (sym is-column)
+              (λ i.
+              record {
+                numbers = 1;
+                column = column .value;
+                right = true;
+                formed = both-true _ _ formed value-formed-here i;
+                bounded = both-true _ _ bounded value-bounded-here i;
+              })))
+
+          pair-noted : NotesPair t here table values row table' (record { noted = true; column = column .value; end = n .end })
+          pair-noted =
+              record {
+                long = stores .long;
+                front = stores .front;
+                ends = λ (w : true ≡ true). stores .ends noted ∙ same-end t here start begins stands-there end ends;
+                line-is = λ (w : true ≡ true). pair-line;
+                adds = λ (w : true ≡ true). pair-adds;
+              }
+
+      pair-lost : NotesPair t here table values row table' (record { noted = false; column = 0; end = n .end })
+      pair-lost =
+          record {
+            long = stores .long;
+            front = stores .front;
+            ends = λ (w : false ≡ true). absurd (true≢false (sym w));
+            line-is = λ (w : false ≡ true). absurd (true≢false (sym w));
+            adds = λ (w : false ≡ true). absurd (true≢false (sym w));
+          }
+
+      pub pair-notes : not (column .formed) ≡ false → (fits : Bool) → fits ≡ within 1 256 (column .value) → not fits ≡ false → (r : Pair) →
+          r ≡ pairOf (column .value) n → NotesPair t here table values row table' r
+      unfolding pairOf
+      pair-notes formed fits told tested r e =
+          rw e
+          (by-test (λ (x : Pair). NotesPair t here table values row table' x) (both (n .noted) (eqb (n .count) 1)) _ _
+          (λ (w : both (n .noted) (eqb (n .count) 1) ≡ true).
+          pair-noted (both-first _ _ w) (eqb-true _ _ (both-second _ _ w)) (not-false (column .formed) formed) (sym told ∙ not-false fits tested))
+          (λ (w : both (n .noted) (eqb (n .count) 1) ≡ false). pair-lost))

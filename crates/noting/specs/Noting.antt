@@ -3,11 +3,14 @@
 -- Assumes nothing.
 use Prim.Native.Nat.{ℕ, _+_, _*_, _≤_, max}
 use mathlib.Core.Path.{_≡_}
-use mathlib.Core.Bool.{true, false}
+use mathlib.Core.Bool.{true}
 use mathlib.Core.List.{List, _∷_}
 use lib.ListN.{length, take}
 use lib.Seq.{sets}
+use Rattle.text.specs.Lines.{lineAt}
 use Rattle.matrix.specs.Matrix.{sparse, dataLineOf}
+use Rattle.reading.specs.Reading.{commentByte}
+use Rattle.reading.specs.Walk.{contentAt}
 use Rattle.document.specs.Lines.{Line, plain, keyOf}
 use Rattle.document.specs.Document.{valuesFrom, bandwidthIn, greatestIn}
 use Rattle.storing.specs.Notes.{valuesWords}
@@ -42,26 +45,26 @@ pub record Adds (form : ℕ) (l : Line) (table : List ℕ) (values : ℕ) (a : N
 abbrev pub movedTo : ℕ → ℕ → Note → Note
 movedTo row column a = record { whole = true; row = row; column = column; bandwidth = a .bandwidth; greatest = a .greatest }
 
--- a line of numbers from a row and a column on, whatever else is noted
-pub record NotesNumbers (form : ℕ) (content table : List ℕ) (values row column : ℕ) (table' : List ℕ) (r : Numbers) : Type 0 where
+-- the line at a place, a line of numbers from a row and a column on, whatever else is noted
+pub record NotesNumbers (form : ℕ) (t : List ℕ) (here : ℕ) (table : List ℕ) (values row column : ℕ) (table' : List ℕ) (r : Numbers) : Type 0 where
   pub long : length table' ≡ length table
   pub front : take (3 * values) table' ≡ take (3 * values) table
-  pub kept : r .noted ≡ false → table' ≡ table
+  pub ends : r .noted ≡ true → r .end ≡ lineAt commentByte t here .content
   pub line-is : r .noted ≡ true →
-      record { numbers = r .count; column = 0; right = true; formed = r .formed; bounded = r .bounded } ≡ dataLineOf form content
-  pub adds : r .noted ≡ true → (a : Note) → a .whole ≡ true → a .row ≡ row → a .column ≡ column → (l : Line) → l .content ≡ content →
+      record { numbers = r .count; column = 0; right = true; formed = true; bounded = true } ≡ dataLineOf form (contentAt t here)
+  pub adds : r .noted ≡ true → (a : Note) → a .whole ≡ true → a .row ≡ row → a .column ≡ column → (l : Line) → l .content ≡ contentAt t here →
       keyOf l ≡ plain → Adds form l table values a table' (values + r .count) (movedTo (r .row) (r .column) a)
 
 -- the same note with a column that is named
 abbrev pub namedTo : ℕ → Note → Note
 namedTo column a = record { whole = true; row = a .row; column = a .column; bandwidth = a .bandwidth; greatest = max (a .greatest) column }
 
--- a line of a Sparse_matrix in a row, whatever else is noted
-pub record NotesPair (content table : List ℕ) (values row : ℕ) (table' : List ℕ) (r : Pair) : Type 0 where
+-- the line at a place, one of a Sparse_matrix in a row, whatever else is noted
+pub record NotesPair (t : List ℕ) (here : ℕ) (table : List ℕ) (values row : ℕ) (table' : List ℕ) (r : Pair) : Type 0 where
   pub long : length table' ≡ length table
   pub front : take (3 * values) table' ≡ take (3 * values) table
-  pub kept : r .noted ≡ false → table' ≡ table
+  pub ends : r .noted ≡ true → r .end ≡ lineAt commentByte t here .content
   pub line-is : r .noted ≡ true →
-      record { numbers = 1; column = r .column; right = true; formed = r .formed; bounded = r .bounded } ≡ dataLineOf sparse content
-  pub adds : r .noted ≡ true → (a : Note) → a .whole ≡ true → Bounded a values → a .row ≡ row → (l : Line) → l .content ≡ content →
+      record { numbers = 1; column = r .column; right = true; formed = true; bounded = true } ≡ dataLineOf sparse (contentAt t here)
+  pub adds : r .noted ≡ true → (a : Note) → a .whole ≡ true → Bounded a values → a .row ≡ row → (l : Line) → l .content ≡ contentAt t here →
       keyOf l ≡ plain → Adds sparse l table values a table' (values + 1) (namedTo (r .column) a)

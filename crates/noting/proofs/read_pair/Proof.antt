@@ -1,22 +1,15 @@
--- `noting::read_pair` meets its contract: two words, or a line that is not noted.
+-- `noting::read_pair` meets its contract: a column, and one number behind it.
 -- Assumes nothing.
-use Prim.Native.Nat.{zero-le}
-use Rattle.text.proofs.WordLaws.{word-ordered, word-within}
-use Rattle.noting.proofs.NotingLaws.{pair-unnoted, pair-roomy, pair-notes}
+use Rattle.noting.proofs.NotingLaws.{pair-unnoted, pair-notes, column-few, word-starts, word-inside}
 use borrow.Author.Needs.{needs}
 use Rattle.noting.proofs.read_pair.Statement.{statement}
 use Rattle.noting.proofs.read_pair.Tie as tie
-use Rattle.base.proofs.past_blanks.Reads as past-blanks-reads
-use Rattle.noting.proofs.has_room.Reads as has-room-reads
-use Rattle.noting.proofs.no_pair.Reads as no-pair-reads
-use Rattle.noting.proofs.put_pair.Reads as put-pair-reads
-use Rattle.number.proofs.number_at.Reads as number-at-reads
-use Rattle.number.proofs.read_integer.Reads as read-integer-reads
-use Rattle.text.proofs.marked.Reads as marked-reads
-use Rattle.text.proofs.word_at.Reads as word-at-reads
 
-has-room-requires : tie.Need-has-room-requires
-has-room-requires c κs = search needs
+past-blanks-requires : tie.Need-past-blanks-requires
+past-blanks-requires c κs = search needs
+
+is-word-at-requires : tie.Need-is-word-at-requires
+is-word-at-requires c κs = search needs
 
 no-pair-requires : tie.Need-no-pair-requires
 no-pair-requires c κs = search needs
@@ -24,11 +17,20 @@ no-pair-requires c κs = search needs
 returns : tie.Need-returns
 returns c = search pair-unnoted
 
-word-at-requires : tie.Need-word-at-requires
-word-at-requires c κs = search needs
+word-end-requires : tie.Need-word-end-requires
+word-end-requires c κs = search needs
 
-past-blanks-requires : tie.Need-past-blanks-requires
-past-blanks-requires c κs = search needs
+sub-read-integer : tie.Need-sub-read-integer
+sub-read-integer c = search needs
+
+part-read-integer-start : tie.Need-part-read-integer-start
+part-read-integer-start c = search needs
+
+part-read-integer-end : tie.Need-part-read-integer-end
+part-read-integer-end c = search (needs, word-starts, word-inside)
+
+read-integer-requires : tie.Need-read-integer-requires
+read-integer-requires c κs = search needs
 
 no-pair-requires-2 : tie.Need-no-pair-requires-2
 no-pair-requires-2 c κs = search needs
@@ -36,11 +38,8 @@ no-pair-requires-2 c κs = search needs
 returns-2 : tie.Need-returns-2
 returns-2 c = search pair-unnoted
 
-number-at-requires : tie.Need-number-at-requires
-number-at-requires c κs = search needs
-
-past-blanks-requires-2 : tie.Need-past-blanks-requires-2
-past-blanks-requires-2 c κs = search needs
+is-within-requires : tie.Need-is-within-requires
+is-within-requires c κs = search needs
 
 no-pair-requires-3 : tie.Need-no-pair-requires-3
 no-pair-requires-3 c κs = search needs
@@ -48,14 +47,11 @@ no-pair-requires-3 c κs = search needs
 returns-3 : tie.Need-returns-3
 returns-3 c = search pair-unnoted
 
-marked-requires : tie.Need-marked-requires
-marked-requires c κs = search (word-ordered, word-within, zero-le)
+store-numbers-requires : tie.Need-store-numbers-requires
+store-numbers-requires c κs = search (needs, column-few)
 
-read-integer-requires : tie.Need-read-integer-requires
-read-integer-requires c κs = search needs
-
-put-pair-requires : tie.Need-put-pair-requires
-put-pair-requires c κs = search pair-roomy
+pair-of-requires : tie.Need-pair-of-requires
+pair-of-requires c κs = search needs
 
 same-length : tie.Need-same-length
 same-length c = search needs
@@ -67,19 +63,21 @@ pub read-pair-spec : {M : Type 1} → statement M
 read-pair-spec =
     tie.close
     (tie.spec
-    has-room-requires
+    past-blanks-requires
+    is-word-at-requires
     no-pair-requires
     returns
-    word-at-requires
-    past-blanks-requires
+    word-end-requires
+    sub-read-integer
+    part-read-integer-start
+    part-read-integer-end
+    read-integer-requires
     no-pair-requires-2
     returns-2
-    number-at-requires
-    past-blanks-requires-2
+    is-within-requires
     no-pair-requires-3
     returns-3
-    marked-requires
-    read-integer-requires
-    put-pair-requires
+    store-numbers-requires
+    pair-of-requires
     same-length
     returns-4)
