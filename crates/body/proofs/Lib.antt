@@ -1,3 +1,4 @@
+pub mod FrontLaws
 pub mod LineLaws
 pub mod BodyLaws
 pub mod RunLaws

@@ -12,9 +12,12 @@ use borrow.Author.Tests.{eq-eqb, ne-eqb, not-true, not-false, le-ltb}
 use Rattle.base.specs.If.{both}
 use Rattle.base.proofs.IfLaws.{if-true, if-false, both-first, both-second, both-not-left, both-not-right, either-false, not-not-via}
 use Rattle.base.proofs.BrokenLaws.{gives-later}
-use Rattle.text.specs.Lines.{isBlankLine, lineAt}
+use Rattle.base.specs.Bytes.{lineFeed}
+use Rattle.base.specs.Class.{isBefore, isContent, runEnd}
+use Rattle.base.proofs.RunLaws.{run-through}
+use Rattle.text.specs.Lines.{isBlankLine, pastFeed, lineAt}
 use Rattle.text.specs.declared.Line as text
-use Rattle.text.proofs.LineLaws.{next-on}
+use Rattle.text.proofs.LineLaws.{next-on, content-before-feed}
 use Rattle.keyword.specs.Bracket.{bracketOf}
 use Rattle.keyword.specs.declared.Bracket.the-variants.{Plain}
 use Rattle.place.specs.Place as place
@@ -22,6 +25,7 @@ use Rattle.matrix.specs.Matrix.{sparse, mostValues, dataLineOf, isOutOfOrder, a
 use Rattle.matrix.specs.declared.Matrix.{Matrix}
 use Rattle.matrix.specs.declared.DataLine.{DataLine}
 use Rattle.reading.specs.Reading.{commentByte}
+use Rattle.reading.specs.Walk.{contentAt}
 use Rattle.reading.proofs.KeptLaws.{column-small}
 use Rattle.document.specs.Lines.{Line, plain, keyOf}
 use Rattle.matrices.specs.Numbers.{mostGiven}
@@ -58,57 +62,55 @@ rule-kept l m values right ordered formed bounded few =
 
 -- ---- one line of numbers
 
-module _ (content : List ℕ) (form values row column : ℕ) (table : List ℕ) where
-  pub numbers-left : (r : TakenNumbers) → r ≡ record { taken = false; whole = true; values = values; row = row; column = column } →
-      TakesNumbers content form values row column table r table
+next-of : (t : List ℕ) (here end next : ℕ) → end ≡ lineAt commentByte t here .content → next ≡ lineAt commentByte t end .next →
+    next ≡ lineAt commentByte t here .next
+unfolding lineAt
+next-of t here end next e f =
+    f ∙ ap (pastFeed t)
+    (ap (runEnd (isBefore lineFeed) t) e
+    ∙ run-through (isContent commentByte) (isBefore lineFeed) (content-before-feed commentByte) t here)
+
+module _ (t : List ℕ) (here form values row column : ℕ) (table : List ℕ) where
+  pub numbers-left : (r : TakenNumbers) → r ≡ record { taken = false; whole = true; values = values; row = row; column = column; next = 0 } →
+      TakesNumbers t here form values row column table r table
   numbers-left r e =
       rw e
       (record {
         behind = behind-same values table;
         kept = λ (z : false ≡ false) (w : true ≡ true). refl;
         few = λ (z : false ≡ true). absurd (true≢false (sym z));
+        onward = λ (z : false ≡ true). absurd (true≢false (sym z));
         takes = λ (z : false ≡ true). absurd (true≢false (sym z));
       })
 
-  module _ (table' : List ℕ) (numbers : Numbers) (read : NotesNumbers form content table values row column table' numbers) where
+  module _ (table' : List ℕ) (numbers : Numbers) (read : NotesNumbers form t here table values row column table' numbers) where
     behind-read : Behind values table table'
     behind-read = record { long = read .long; same = read .front }
 
-    pub numbers-unnoted : not (numbers .noted) ≡ true → (r : TakenNumbers) →
-        r ≡ record { taken = false; whole = true; values = values; row = row; column = column } →
-        TakesNumbers content form values row column table r table'
-    numbers-unnoted lost r e =
-        rw e
-        (record {
-          behind = behind-read;
-          kept = λ (z : false ≡ false) (w : true ≡ true). read .kept (not-true (numbers .noted) lost);
-          few = λ (z : false ≡ true). absurd (true≢false (sym z));
-          takes = λ (z : false ≡ true). absurd (true≢false (sym z));
-        })
-
-    pub numbers-spoilt : (r : TakenNumbers) → r ≡ record { taken = false; whole = false; values = values; row = row; column = column } →
-        TakesNumbers content form values row column table r table'
+    pub numbers-spoilt : (r : TakenNumbers) →
+        r ≡ record { taken = false; whole = false; values = values; row = row; column = column; next = 0 } →
+        TakesNumbers t here form values row column table r table'
     numbers-spoilt r e =
         rw e
         (record {
           behind = behind-read;
           kept = λ (z : false ≡ false) (w : false ≡ true). absurd (true≢false (sym w));
           few = λ (z : false ≡ true). absurd (true≢false (sym z));
+          onward = λ (z : false ≡ true). absurd (true≢false (sym z));
           takes = λ (z : false ≡ true). absurd (true≢false (sym z));
         })
 
-    module _ (filled : isBlankLine content ≡ false) (plainly : bracketOf content ≡ Plain) (not-sparse : form ≡ sparse → ⊥)
-        (noted : numbers .noted ≡ true) (formed : numbers .formed ≡ true) (bounded : numbers .bounded ≡ true)
-        (few : values + numbers .count ≤ mostValues) where
+    module _ (filled : isBlankLine (contentAt t here) ≡ false) (plainly : bracketOf (contentAt t here) ≡ Plain) (not-sparse : form ≡ sparse → ⊥)
+        (noted : numbers .noted ≡ true) (few : values + numbers .count ≤ mostValues) where
       abbrev line : DataLine
-      line = record { numbers = numbers .count; column = 0; right = true; formed = numbers .formed; bounded = numbers .bounded }
+      line = record { numbers = numbers .count; column = 0; right = true; formed = true; bounded = true }
 
       module _ (m : Matrix) (form-is : m .form ≡ form) (ordered : Ordered m) (a : Note) (whole : a .whole ≡ true) (row-is : a .row ≡ row)
           (column-is : a .column ≡ column) where
-        line-read : line ≡ dataLineOf (m .form) content
+        line-read : line ≡ dataLineOf (m .form) (contentAt t here)
         line-read = rw form-is (read .line-is noted)
 
-        line-adds : (l : Line) → l .content ≡ content → keyOf l ≡ plain →
+        line-adds : (l : Line) → l .content ≡ contentAt t here → keyOf l ≡ plain →
             Adds (m .form) l table values a table' (values + numbers .count) (movedTo (numbers .row) (numbers .column) a)
         line-adds l same is-plain = rw form-is (read .adds noted a whole row-is column-is l same is-plain)
 
@@ -116,7 +118,7 @@ module _ (content : List ℕ) (form values row column : ℕ) (table : List ℕ) 
         unfolding dataNext
         matrix-stays = sym (if-false _ _ (ne-eqb _ _ (λ (e : m .form ≡ sparse). not-sparse (sym form-is ∙ e))))
 
-        line-taken : Takes content m values a table
+        line-taken : Takes (contentAt t here) m values a table
             (record {
               taken = true;
               ends = false;
@@ -126,32 +128,32 @@ module _ (content : List ℕ) (form values row column : ℕ) (table : List ℕ) 
               note = movedTo (numbers .row) (numbers .column) a;
             }) table'
         line-taken =
-            noted-goes content filled plainly m values line line-read 0 (rule-kept line m values refl ordered formed bounded few) a
+            noted-goes (contentAt t here) filled plainly m values line line-read 0 (rule-kept line m values refl ordered refl refl few) a
             (movedTo (numbers .row) (numbers .column) a) table table' behind-read line-adds refl m matrix-stays
 
-      all-taken : TakesNumbers content form values row column table
-          (record { taken = true; whole = true; values = values + numbers .count; row = numbers .row; column = numbers .column }) table'
-      all-taken =
+      all-taken : (next : ℕ) → next ≡ lineAt commentByte t (numbers .end) .next →
+          TakesNumbers t here form values row column table
+          (record { taken = true; whole = true; values = values + numbers .count; row = numbers .row; column = numbers .column; next = next }) table'
+      all-taken next on =
           record {
             behind = behind-read;
             kept = λ (z : true ≡ false). absurd (true≢false z);
             few = λ (z : true ≡ true). few;
+            onward = λ (z : true ≡ true). next-of t here (numbers .end) next (read .ends noted) on;
             takes = λ (z : true ≡ true). line-taken;
           }
 
-    pub numbers-taken : isBlankLine content ≡ false → bracketOf content ≡ Plain → (form ≡ sparse → ⊥) → values ≤ mostValues →
-        not (numbers .noted) ≡ false → (fine : Bool) → fine ≡ both (numbers .formed) (numbers .bounded) → not fine ≡ false →
-        numbers .count ≤ mostValues - values →
-        TakesNumbers content form values row column table
-        (record { taken = true; whole = true; values = values + numbers .count; row = numbers .row; column = numbers .column }) table'
-    numbers-taken filled plainly not-sparse most noted fine fine-is tested few =
-        let f : both (numbers .formed) (numbers .bounded) ≡ true = sym fine-is ∙ not-false fine tested in
-        all-taken filled plainly not-sparse (not-false (numbers .noted) noted) (both-first _ _ f) (both-second _ _ f) (omega arith)
+    pub numbers-taken : isBlankLine (contentAt t here) ≡ false → bracketOf (contentAt t here) ≡ Plain → (form ≡ sparse → ⊥) → values ≤ mostValues →
+        not (numbers .noted) ≡ false → numbers .count ≤ mostValues - values → (next : ℕ) → next ≡ lineAt commentByte t (numbers .end) .next →
+        TakesNumbers t here form values row column table
+        (record { taken = true; whole = true; values = values + numbers .count; row = numbers .row; column = numbers .column; next = next }) table'
+    numbers-taken filled plainly not-sparse most noted few next on =
+        all-taken filled plainly not-sparse (not-false (numbers .noted) noted) (omega arith) next on
 
 -- ---- one line of a column and a value
 
-module _ (content : List ℕ) (values row : ℕ) (table : List ℕ) where
-  pub pair-left : (r : TakenPair) → r ≡ record { taken = false; whole = true; column = 0 } → TakesPair content values row table r table
+module _ (t : List ℕ) (here values row : ℕ) (table : List ℕ) where
+  pub pair-left : (r : TakenPair) → r ≡ record { taken = false; whole = true; column = 0; next = 0 } → TakesPair t here values row table r table
   pair-left r e =
       rw e
       (record {
@@ -159,26 +161,16 @@ module _ (content : List ℕ) (values row : ℕ) (table : List ℕ) where
         kept = λ (z : false ≡ false) (w : true ≡ true). refl;
         few = λ (z : false ≡ true). absurd (true≢false (sym z));
         narrow = λ (z : false ≡ true). absurd (true≢false (sym z));
+        onward = λ (z : false ≡ true). absurd (true≢false (sym z));
         takes = λ (z : false ≡ true). absurd (true≢false (sym z));
       })
 
-  module _ (table' : List ℕ) (pair : Pair) (read : NotesPair content table values row table' pair) where
+  module _ (table' : List ℕ) (pair : Pair) (read : NotesPair t here table values row table' pair) where
     pair-behind : Behind values table table'
     pair-behind = record { long = read .long; same = read .front }
 
-    pub pair-unnoted : not (pair .noted) ≡ true → (r : TakenPair) → r ≡ record { taken = false; whole = true; column = 0 } →
-        TakesPair content values row table r table'
-    pair-unnoted lost r e =
-        rw e
-        (record {
-          behind = pair-behind;
-          kept = λ (z : false ≡ false) (w : true ≡ true). read .kept (not-true (pair .noted) lost);
-          few = λ (z : false ≡ true). absurd (true≢false (sym z));
-          narrow = λ (z : false ≡ true). absurd (true≢false (sym z));
-          takes = λ (z : false ≡ true). absurd (true≢false (sym z));
-        })
-
-    pub pair-spoilt : (r : TakenPair) → r ≡ record { taken = false; whole = false; column = 0 } → TakesPair content values row table r table'
+    pub pair-spoilt : (r : TakenPair) → r ≡ record { taken = false; whole = false; column = 0; next = 0 } →
+        TakesPair t here values row table r table'
     pair-spoilt r e =
         rw e
         (record {
@@ -186,20 +178,21 @@ module _ (content : List ℕ) (values row : ℕ) (table : List ℕ) where
           kept = λ (z : false ≡ false) (w : false ≡ true). absurd (true≢false (sym w));
           few = λ (z : false ≡ true). absurd (true≢false (sym z));
           narrow = λ (z : false ≡ true). absurd (true≢false (sym z));
+          onward = λ (z : false ≡ true). absurd (true≢false (sym z));
           takes = λ (z : false ≡ true). absurd (true≢false (sym z));
         })
 
-    module _ (filled : isBlankLine content ≡ false) (plainly : bracketOf content ≡ Plain) (noted : pair .noted ≡ true)
-        (formed : pair .formed ≡ true) (bounded : pair .bounded ≡ true) (few : values < mostValues) where
+    module _ (filled : isBlankLine (contentAt t here) ≡ false) (plainly : bracketOf (contentAt t here) ≡ Plain) (noted : pair .noted ≡ true)
+        (few : values < mostValues) where
       abbrev pairLine : DataLine
-      pairLine = record { numbers = 1; column = pair .column; right = true; formed = pair .formed; bounded = pair .bounded }
+      pairLine = record { numbers = 1; column = pair .column; right = true; formed = true; bounded = true }
 
       module _ (m : Matrix) (form-is : m .form ≡ sparse) (ordered : Ordered m) (a : Note) (whole : a .whole ≡ true) (bound : Bounded a values)
           (row-is : a .row ≡ row) where
-        pair-read : pairLine ≡ dataLineOf (m .form) content
+        pair-read : pairLine ≡ dataLineOf (m .form) (contentAt t here)
         pair-read = rw form-is (read .line-is noted)
 
-        pair-adds : (l : Line) → l .content ≡ content → keyOf l ≡ plain →
+        pair-adds : (l : Line) → l .content ≡ contentAt t here → keyOf l ≡ plain →
             Adds (m .form) l table values a table' (values + 1) (namedTo (pair .column) a)
         pair-adds l same is-plain = rw form-is (read .adds noted a whole bound row-is l same is-plain)
 
@@ -207,7 +200,7 @@ module _ (content : List ℕ) (values row : ℕ) (table : List ℕ) where
         unfolding dataNext
         matrix-moves = sym (if-true _ _ (eq-eqb _ _ form-is))
 
-        pair-taken-here : Takes content m values a table
+        pair-taken-here : Takes (contentAt t here) m values a table
             (record {
               taken = true;
               ends = false;
@@ -217,26 +210,23 @@ module _ (content : List ℕ) (values row : ℕ) (table : List ℕ) where
               note = namedTo (pair .column) a;
             }) table'
         pair-taken-here =
-            noted-goes content filled plainly m values pairLine pair-read 0
-            (rule-kept pairLine m values refl ordered formed bounded (omega arith)) a (namedTo (pair .column) a) table table' pair-behind pair-adds
-            refl (withColumn (pair .column) m) matrix-moves
+            noted-goes (contentAt t here) filled plainly m values pairLine pair-read 0
+            (rule-kept pairLine m values refl ordered refl refl (omega arith)) a (namedTo (pair .column) a) table table' pair-behind pair-adds refl
+            (withColumn (pair .column) m) matrix-moves
 
-      pair-all : TakesPair content values row table (record { taken = true; whole = true; column = pair .column }) table'
-      pair-all =
-          record {
-            behind = pair-behind;
-            kept = λ (z : true ≡ false). absurd (true≢false z);
-            few = λ (z : true ≡ true). few;
-            narrow = λ (z : true ≡ true). column-small sparse content pairLine (read .line-is noted);
-            takes = λ (z : true ≡ true). pair-taken-here;
-          }
-
-    pub pair-taken : isBlankLine content ≡ false → bracketOf content ≡ Plain → not (pair .noted) ≡ false → (fine : Bool) →
-        fine ≡ both (pair .formed) (pair .bounded) → not fine ≡ false → values < mostValues →
-        TakesPair content values row table (record { taken = true; whole = true; column = pair .column }) table'
-    pair-taken filled plainly noted fine fine-is tested few =
-        let f : both (pair .formed) (pair .bounded) ≡ true = sym fine-is ∙ not-false fine tested in
-        pair-all filled plainly (not-false (pair .noted) noted) (both-first _ _ f) (both-second _ _ f) few
+    pub pair-taken : isBlankLine (contentAt t here) ≡ false → bracketOf (contentAt t here) ≡ Plain → not (pair .noted) ≡ false →
+        values < mostValues → (next : ℕ) → next ≡ lineAt commentByte t (pair .end) .next →
+        TakesPair t here values row table (record { taken = true; whole = true; column = pair .column; next = next }) table'
+    pair-taken filled plainly noted few next on =
+        let is-noted : pair .noted ≡ true = not-false (pair .noted) noted in
+        record {
+          behind = pair-behind;
+          kept = λ (z : true ≡ false). absurd (true≢false z);
+          few = λ (z : true ≡ true). few;
+          narrow = λ (z : true ≡ true). column-small sparse (contentAt t here) _ (read .line-is is-noted);
+          onward = λ (z : true ≡ true). next-of t here (pair .end) next (read .ends is-noted) on;
+          takes = λ (z : true ≡ true). pair-taken-here filled plainly is-noted few;
+        }
 
 -- ---- how far a run has come
 
@@ -376,8 +366,8 @@ module _ (t : List ℕ) (at line : ℕ) (part : Data) (table₀ : List ℕ) wher
         Leads t at line part table₀ r table
     numbers-end r e = rw e (on .leads)
 
-    module _ (found : text.Line) (next : TakenNumbers) (table' : List ℕ)
-        (takes : TakesNumbers (take (found .content - here) (drop here t)) (part .matrix .form) values row column table next table') where
+    module _ (next : TakenNumbers) (table' : List ℕ)
+        (takes : TakesNumbers t here (part .matrix .form) values row column table next table') where
       pub numbers-leave : not (next .taken) ≡ true → (r : Run) →
           r ≡ record { at = here; line = number; part = numbersPart part (next .whole) values row column } → Leads t at line part table₀ r table'
       unfolding numbersPart
@@ -390,14 +380,20 @@ module _ (t : List ℕ) (at line : ℕ) (part : Data) (table₀ : List ℕ) wher
           note-whole : next .whole ≡ true → numbersPart part (next .whole) values row column .note ≡ numbersPart part true values row column .note
           note-whole w = ap (λ (b : Bool). numbersPart part b values row column .note) w
 
-      pub numbers-next : here < length t → found ≡ lineAt commentByte t here → not (next .taken) ≡ false → Ordered (part .matrix) →
-          On t at line part table₀ (found .next) (number + 1) (numbersPart part true (next .values) (next .row) (next .column)) table'
+      pub numbers-less : here < length t → not (next .taken) ≡ false → length t - next .next < length t - here
+      numbers-less h left =
+          let f : here < next .next = rw (takes .onward (not-false (next .taken) left)) (next-on commentByte t here h) in
+          omega arith
+
+      pub numbers-next : here < length t → not (next .taken) ≡ false → Ordered (part .matrix) →
+          On t at line part table₀ (next .next) (number + 1) (numbersPart part true (next .values) (next .row) (next .column)) table'
       unfolding numbersPart
-      numbers-next h is-found left ordered =
+      numbers-next h left ordered =
           let taken : next .taken ≡ true = not-false (next .taken) left in
-          on-next t at line part table₀ here number _ table on h found is-found _ table'
+          rw (takes .onward taken)
+          (on-next t at line part table₀ here number _ table on h (lineAt commentByte t here) refl _ table'
           (takes .takes taken (part .matrix) refl ordered (numbersPart part true values row column .note) refl refl refl) refl refl (takes .few
-          taken) refl
+          taken) refl)
 
 -- ---- a run of lines of a Sparse_matrix
 
@@ -432,8 +428,7 @@ module _ (t : List ℕ) (at line : ℕ) (part : Data) (table₀ : List ℕ) wher
         r ≡ record { at = here; line = number; part = pairsPart part true values m named } → Leads t at line part table₀ r table
     pairs-end m is r e = rw (e, is) (on .leads)
 
-    module _ (found : text.Line) (next : TakenPair) (table' : List ℕ)
-        (takes : TakesPair (take (found .content - here) (drop here t)) values (part .note .row) table next table') where
+    module _ (next : TakenPair) (table' : List ℕ) (takes : TakesPair t here values (part .note .row) table next table') where
       pub pairs-leave : not (next .taken) ≡ true → (m : Matrix) → m ≡ pairsMatrix (part .matrix) least greatest fits → (r : Run) →
           r ≡ record { at = here; line = number; part = pairsPart part (next .whole) values m named } → Leads t at line part table₀ r table'
       unfolding pairsPart
@@ -450,27 +445,33 @@ module _ (t : List ℕ) (at line : ℕ) (part : Data) (table₀ : List ℕ) wher
           note-whole w = ap (λ (b : Bool). pairsPart part b values (pairsMatrix (part .matrix) least greatest fits) named .note) w
 
       module _ (left : not (next .taken) ≡ false) where
-        moved : part .matrix .form ≡ sparse → Ordered (part .matrix) → here < length t → found ≡ lineAt commentByte t here →
-            On t at line part table₀ (found .next) (number + 1)
+        pub pairs-less : here < length t → length t - next .next < length t - here
+        pairs-less h =
+            let f : here < next .next = rw (takes .onward (not-false (next .taken) left)) (next-on commentByte t here h) in
+            omega arith
+
+        moved : part .matrix .form ≡ sparse → Ordered (part .matrix) → here < length t →
+            On t at line part table₀ (next .next) (number + 1)
             (pairsPart part true (values + 1)
             (pairsMatrix (part .matrix) (next .column + 1) (max greatest (next .column)) (both fits (leb least (next .column))))
             (max named (next .column))) table'
         unfolding pairsPart pairsMatrix withColumn
-        moved form-is ordered h is-found =
+        moved form-is ordered h =
             let taken : next .taken ≡ true = not-false (next .taken) left in
             let few : values < 65536 = takes .few taken in
             let more : values + 1 ≤ 65536 = omega arith in
-            on-next t at line part table₀ here number _ table on h found is-found _ table'
+            rw (takes .onward taken)
+            (on-next t at line part table₀ here number _ table on h (lineAt commentByte t here) refl _ table'
             (takes .takes taken (pairsMatrix (part .matrix) least greatest fits) form-is ordered (reachedPairs values least greatest fits named
             .note) refl
-            (on .bounded) refl) refl refl more refl
+            (on .bounded) refl) refl refl more refl)
 
-        pub pairs-next : part .matrix .form ≡ sparse → Ordered (part .matrix) → here < length t → found ≡ lineAt commentByte t here →
+        pub pairs-next : part .matrix .form ≡ sparse → Ordered (part .matrix) → here < length t →
             (fits' : Bool) → fits' ≡ both fits (leb least (next .column)) → (greatest' : ℕ) → greatest' ≡ max greatest (next .column) →
             (named' : ℕ) → named' ≡ max named (next .column) →
-            On t at line part table₀ (found .next) (number + 1)
+            On t at line part table₀ (next .next) (number + 1)
             (pairsPart part true (values + 1) (pairsMatrix (part .matrix) (next .column + 1) greatest' fits') named') table'
-        pairs-next form-is ordered h is-found fits' f greatest' g named' n = rw (f, g, n) (moved form-is ordered h is-found)
+        pairs-next form-is ordered h fits' f greatest' g named' n = rw (f, g, n) (moved form-is ordered h)
 
 -- ---- a run, and the line behind it
 

@@ -9,10 +9,12 @@ use lib.ListN.{length}
 use lib.Seq.{sets}
 use lib.Dec.{eqb}
 use Rattle.base.specs.If.{both}
+use Rattle.text.specs.Lines.{lineAt}
 use Rattle.place.specs.Place as place
 use Rattle.matrix.specs.Matrix.{diagonal, sparse, mostValues, withColumn}
 use Rattle.matrix.specs.declared.Matrix.{Matrix}
-use Rattle.reading.specs.Walk.{Crossed, Holds, withMatrix}
+use Rattle.reading.specs.Reading.{commentByte}
+use Rattle.reading.specs.Walk.{Crossed, Holds, withMatrix, contentAt}
 use Rattle.document.specs.Lines.{Line, linesAt}
 use Rattle.document.specs.Document.{valuesFrom, bandwidthIn, greatestIn}
 use Rattle.storing.specs.Notes.{bodyLines, valuesWords}
@@ -81,14 +83,15 @@ numbersPart part whole values row column =
       note = record { whole = whole; row = row; column = column; bandwidth = part .note .bandwidth; greatest = part .note .greatest };
     }
 
--- one line of a run of numbers, whatever the matrix and the note: it is taken, or not a line of the run. One that breaks a rule may have
+-- the line at a place as one of a run of numbers, whatever the matrix and the note: it is taken, or not a line of the run. One that breaks a rule may have
 -- changed what lies behind the values.
-pub record TakesNumbers (content : List ℕ) (form values row column : ℕ) (table : List ℕ) (r : TakenNumbers) (table' : List ℕ) : Type 0 where
+pub record TakesNumbers (t : List ℕ) (here form values row column : ℕ) (table : List ℕ) (r : TakenNumbers) (table' : List ℕ) : Type 0 where
   pub behind : Behind values table table'
   pub kept : r .taken ≡ false → r .whole ≡ true → table' ≡ table
   pub few : r .taken ≡ true → r .values ≤ mostValues
+  pub onward : r .taken ≡ true → r .next ≡ lineAt commentByte t here .next
   pub takes : r .taken ≡ true → (m : Matrix) → m .form ≡ form → Ordered m → (a : Note) → a .whole ≡ true → a .row ≡ row → a .column ≡ column →
-      Takes content m values a table
+      Takes (contentAt t here) m values a table
       (record { taken = true; ends = false; number = 0; matrix = m; values = r .values; note = movedTo (r .row) (r .column) a }) table'
 
 -- ---- lines of a column and a value
@@ -129,11 +132,12 @@ pairsPart part whole values matrix named =
           };
     }
 
-pub record TakesPair (content : List ℕ) (values row : ℕ) (table : List ℕ) (r : TakenPair) (table' : List ℕ) : Type 0 where
+pub record TakesPair (t : List ℕ) (here values row : ℕ) (table : List ℕ) (r : TakenPair) (table' : List ℕ) : Type 0 where
   pub behind : Behind values table table'
   pub kept : r .taken ≡ false → r .whole ≡ true → table' ≡ table
   pub few : r .taken ≡ true → values < mostValues
   pub narrow : r .taken ≡ true → r .column < 4_294_967_296
+  pub onward : r .taken ≡ true → r .next ≡ lineAt commentByte t here .next
   pub takes : r .taken ≡ true → (m : Matrix) → m .form ≡ sparse → Ordered m → (a : Note) → a .whole ≡ true → Bounded a values → a .row ≡ row →
-      Takes content m values a table
+      Takes (contentAt t here) m values a table
       (record { taken = true; ends = false; number = 0; matrix = withColumn (r .column) m; values = values + 1; note = namedTo (r .column) a }) table'

@@ -4,11 +4,12 @@ ghost use mathlib.Core.Path.{_≡_};
 ghost use mathlib.Core.Bool.{true, false};
 ghost use Prim.Native.Nat.{_+_, _*_, _≤_, _<_, max};
 ghost use lib.ListN.{length};
-ghost use Rattle.text.specs.Lines.{isBlankLine};
+ghost use Rattle.text.specs.Lines.{isBlankLine, lineAt};
 ghost use Rattle.keyword.specs.Bracket.{bracketOf};
 ghost use Rattle.keyword.specs.declared.Bracket.the-variants.{Plain, Keyword};
 ghost use Rattle.place.specs.Place.{keepsMatrix};
-ghost use Rattle.reading.specs.Walk.{Opens};
+ghost use Rattle.reading.specs.Reading.{commentByte};
+ghost use Rattle.reading.specs.Walk.{Opens, Fronted, contentAt};
 ghost use Rattle.matrix.specs.Matrix.{sparse, mostValues};
 ghost use Rattle.matrices.specs.Numbers.{mostGiven};
 ghost use Rattle.noting.specs.declared.Note as noting;
@@ -24,6 +25,8 @@ use reading::Front;
 
 // "From `|` on, a line is comment".
 const COMMENT: u8 = b'|';
+
+const OPENING: u8 = b'[';
 
 const MOST_VALUES: u64 = 65536;
 
@@ -237,18 +240,43 @@ struct Run {
     part: Data,
 }
 
-// A line of numbers: whether it is taken, whether what is noted still tells all, how many values are read, and where the next stands.
+// What stands at the front of the line that starts at a place, as `reading::front_of` tells it of a line's content: the line's end is not
+// looked for.
+fn front_at(text: &[u8], here: usize) -> Front
+    ensures { λ r. ⌜ Fronted (contentAt (now (text .entry)) here) r ⌝ }
+{
+    let start = base::past_blanks(text, here);
+    if !number::is_word_at(text, start, COMMENT) {
+        return Front::Blanks;
+    }
+    if base::byte_at(text, start) == OPENING {
+        return Front::Opening;
+    }
+    Front::Words
+}
+
+// Where the line behind the one whose content ends at a place starts.
+fn next_line(text: &[u8], end: usize) -> usize
+    ensures { λ r. ⌜ r ≡ lineAt commentByte (now (text .entry)) end .next ⌝ }
+{
+    let line = text::line_at(text, end, COMMENT);
+    line.next
+}
+
+// A line of numbers: whether it is taken, whether what is noted still tells all, how many values are read, where the next stands, and where
+// the next line starts.
 struct TakenNumbers {
     taken: bool,
     whole: bool,
     values: u64,
     row: u64,
     column: u64,
+    next: usize,
 }
 
 // A line that is no part of the run. One whose numbers are stored though it breaks a rule spoils what is noted.
 fn left_numbers(whole: bool, values: u64, row: u64, column: u64) -> TakenNumbers
-    ensures { λ r. ⌜ r ≡ record { taken = false; whole = whole; values = values; row = row; column = column } ⌝ }
+    ensures { λ r. ⌜ r ≡ record { taken = false; whole = whole; values = values; row = row; column = column; next = 0 } ⌝ }
 {
     TakenNumbers {
         taken: false,
@@ -256,26 +284,25 @@ fn left_numbers(whole: bool, values: u64, row: u64, column: u64) -> TakenNumbers
         values,
         row,
         column,
+        next: 0,
     }
 }
 
 fn plain_numbers(
-    content: &[u8],
+    text: &[u8],
+    here: usize,
     form: u64,
     values: u64,
     table: &mut [u64],
     row: u64,
     column: u64,
 ) -> TakenNumbers
-    requires { ⌜ (isBlankLine (now content) ≡ false) × (bracketOf (now content) ≡ Plain) ⌝ ∗ ⌜ row ≤ mostGiven + values ⌝
-        ∗ ⌜ column ≤ mostGiven + values ⌝ ∗ ⌜ values ≤ mostValues ⌝ ∗ ⌜ (form ≡ sparse → ⊥) ⌝ }
-    ensures { λ r. ⌜ TakesNumbers (now (content .entry)) form values row column (now (table .entry)) r (now (table .exit)) ⌝ }
+    requires { ⌜ (isBlankLine (contentAt (now text) here) ≡ false) × (bracketOf (contentAt (now text) here) ≡ Plain) ⌝
+        ∗ ⌜ row ≤ mostGiven + values ⌝ ∗ ⌜ column ≤ mostGiven + values ⌝ ∗ ⌜ values ≤ mostValues ⌝ ∗ ⌜ (form ≡ sparse → ⊥) ⌝ }
+    ensures { λ r. ⌜ TakesNumbers (now (text .entry)) here form values row column (now (table .entry)) r (now (table .exit)) ⌝ }
 {
-    let numbers = noting::read_numbers(content, form, values, table, row, column);
+    let numbers = noting::read_numbers(text, here, form, values, table, row, column);
     if !numbers.noted {
-        return left_numbers(true, values, row, column);
-    }
-    if !base::and(numbers.formed, numbers.bounded) {
         return left_numbers(false, values, row, column);
     }
     if MOST_VALUES - values < numbers.count {
@@ -287,11 +314,13 @@ fn plain_numbers(
         values: values + numbers.count,
         row: numbers.row,
         column: numbers.column,
+        next: next_line(text, numbers.end),
     }
 }
 
 fn take_numbers(
-    content: &[u8],
+    text: &[u8],
+    here: usize,
     form: u64,
     values: u64,
     table: &mut [u64],
@@ -299,11 +328,11 @@ fn take_numbers(
     column: u64,
 ) -> TakenNumbers
     requires { ⌜ row ≤ mostGiven + values ⌝ ∗ ⌜ column ≤ mostGiven + values ⌝ ∗ ⌜ values ≤ mostValues ⌝ ∗ ⌜ (form ≡ sparse → ⊥) ⌝ }
-    ensures { λ r. ⌜ TakesNumbers (now (content .entry)) form values row column (now (table .entry)) r (now (table .exit)) ⌝ }
+    ensures { λ r. ⌜ TakesNumbers (now (text .entry)) here form values row column (now (table .entry)) r (now (table .exit)) ⌝ }
 {
-    match reading::front_of(content) {
+    match front_at(text, here) {
         Front::Blanks => left_numbers(true, values, row, column),
-        Front::Words => plain_numbers(content, form, values, table, row, column),
+        Front::Words => plain_numbers(text, here, form, values, table, row, column),
         Front::Opening => left_numbers(true, values, row, column),
     }
 }
@@ -358,13 +387,11 @@ fn pass_numbers(text: &[u8], at: usize, line: u64, part: Data, table: &mut [u64]
     let mut row = note.row;
     let mut column = note.column;
     while here < text.len() {
-        let found = text::line_at(text, here, COMMENT);
-        let content = found.content;
-        let next = take_numbers(&text[here..content], form, values, table, row, column);
+        let next = take_numbers(text, here, form, values, table, row, column);
         if !next.taken {
             return numbers_passed(here, number, part, next.whole, values, row, column);
         }
-        here = found.next;
+        here = next.next;
         number += 1;
         values = next.values;
         row = next.row;
@@ -373,52 +400,53 @@ fn pass_numbers(text: &[u8], at: usize, line: u64, part: Data, table: &mut [u64]
     numbers_passed(here, number, part, true, values, row, column)
 }
 
-// A line of a Sparse_matrix: whether it is taken, whether what is noted still tells all, and its column.
+// A line of a Sparse_matrix: whether it is taken, whether what is noted still tells all, its column, and where the next line starts.
 struct TakenPair {
     taken: bool,
     whole: bool,
     column: u64,
+    next: usize,
 }
 
 // A line that is no part of the run.
 fn left_pair(whole: bool) -> TakenPair
-    ensures { λ r. ⌜ r ≡ record { taken = false; whole = whole; column = 0 } ⌝ }
+    ensures { λ r. ⌜ r ≡ record { taken = false; whole = whole; column = 0; next = 0 } ⌝ }
 {
     TakenPair {
         taken: false,
         whole,
         column: 0,
+        next: 0,
     }
 }
 
-fn plain_pair(content: &[u8], values: u64, table: &mut [u64], row: u64) -> TakenPair
-    requires { ⌜ (isBlankLine (now content) ≡ false) × (bracketOf (now content) ≡ Plain) ⌝ ∗ ⌜ row ≤ mostGiven + values ⌝ }
-    ensures { λ r. ⌜ TakesPair (now (content .entry)) values row (now (table .entry)) r (now (table .exit)) ⌝ }
+fn plain_pair(text: &[u8], here: usize, values: u64, table: &mut [u64], row: u64) -> TakenPair
+    requires { ⌜ (isBlankLine (contentAt (now text) here) ≡ false) × (bracketOf (contentAt (now text) here) ≡ Plain) ⌝
+        ∗ ⌜ row ≤ mostGiven + values ⌝ }
+    ensures { λ r. ⌜ TakesPair (now (text .entry)) here values row (now (table .entry)) r (now (table .exit)) ⌝ }
 {
     if MOST_VALUES <= values {
         return left_pair(true);
     }
-    let pair = noting::read_pair(content, values, table, row);
+    let pair = noting::read_pair(text, here, values, table, row);
     if !pair.noted {
-        return left_pair(true);
-    }
-    if !base::and(pair.formed, pair.bounded) {
         return left_pair(false);
     }
     TakenPair {
         taken: true,
         whole: true,
         column: pair.column,
+        next: next_line(text, pair.end),
     }
 }
 
-fn take_pair(content: &[u8], values: u64, table: &mut [u64], row: u64) -> TakenPair
+fn take_pair(text: &[u8], here: usize, values: u64, table: &mut [u64], row: u64) -> TakenPair
     requires { ⌜ row ≤ mostGiven + values ⌝ }
-    ensures { λ r. ⌜ TakesPair (now (content .entry)) values row (now (table .entry)) r (now (table .exit)) ⌝ }
+    ensures { λ r. ⌜ TakesPair (now (text .entry)) here values row (now (table .entry)) r (now (table .exit)) ⌝ }
 {
-    match reading::front_of(content) {
+    match front_at(text, here) {
         Front::Blanks => left_pair(true),
-        Front::Words => plain_pair(content, values, table, row),
+        Front::Words => plain_pair(text, here, values, table, row),
         Front::Opening => left_pair(true),
     }
 }
@@ -496,14 +524,12 @@ fn pass_pairs(text: &[u8], at: usize, line: u64, part: Data, table: &mut [u64]) 
     let mut fits = rows.fits;
     let mut named = note.greatest;
     while here < text.len() {
-        let found = text::line_at(text, here, COMMENT);
-        let content = found.content;
-        let next = take_pair(&text[here..content], values, table, row);
+        let next = take_pair(text, here, values, table, row);
         if !next.taken {
             let reached = pairs_matrix(matrix, least, greatest, fits);
             return pairs_passed(here, number, part, next.whole, values, reached, named);
         }
-        here = found.next;
+        here = next.next;
         number += 1;
         values += 1;
         fits = base::and(fits, least <= next.column);

@@ -7,7 +7,7 @@ use Prim.Native.Nat.{ℕ, zero, suc, _+_, _-_, _≤_, _<_}
 use native.Mathlib.Nat.{le-of-suc-le-suc, not-suc-le-zero, zero-add, add-zero, suc-add}
 use native.Mathlib.Omega.{arith}
 use lib.ListN.{length, take, drop, getD, length-drop}
-use lib.Seq.{drop-drop, getD-drop, length-take-le, take-take}
+use lib.Seq.{drop-drop, getD-drop, getD-take, length-take-le, take-take}
 use lib.Dec.{ltb, eqb}
 use borrow.Author.Tests.{ltb-true, ltb-false, lt-ltb, eqb-true}
 use Rattle.base.specs.If.{if_then_else_, both}
@@ -179,7 +179,7 @@ module _ (t : List ℕ) (at : ℕ) where
   words-later j h = words-anywhere (0 + j) 0 (drop j (contentAt t at)) ∙ ap words (content-later j h)
 
   module _ (start : ℕ) (begins : start ≡ runEnd isBlank t at) where
-    abbrev blanks : ℕ
+    abbrev pub blanks : ℕ
     blanks = run isBlank (drop at t)
 
     blanks-within : blanks ≤ size
@@ -211,6 +211,9 @@ module _ (t : List ℕ) (at : ℕ) where
           by-cases _ (ltb blanks size) (λ (e : ltb blanks size ≡ true). absurd (not-before (ltb-true blanks size e)))
           (λ (e : ltb blanks size ≡ false). omega (arith, ltb-false blanks size e))
 
+      pub front-ends : blanks ≡ length (contentAt t at)
+      front-ends = blanks-all ∙ sym content-long
+
       pub ends-here : start ≡ lineAt commentByte t at .content
       unfolding lineAt
       ends-here = let e : blanks ≡ size = blanks-all in omega arith
@@ -238,6 +241,16 @@ module _ (t : List ℕ) (at : ℕ) where
           let is-in : isContent commentByte (getD rest size 0) ≡ true =
           rw same at (rw (sym start-byte) at (word-content (getD t start 0) (both-second _ _ there))) in
           absurd (true≢false (sym is-in ∙ out)))
+
+      -- the byte there is the first of the content that is no blank
+      pub front-inside : blanks ≡ length (contentAt t at) → ⊥
+      front-inside e =
+          let h : blanks < size = before in
+          let l : length (contentAt t at) ≡ size = content-long in
+          omega arith
+
+      pub front-byte : getD (contentAt t at) blanks 0 ≡ getD t start 0
+      front-byte = rw content-is (getD-take size rest blanks 0 before) ∙ start-byte
 
       abbrev long : ℕ
       long = run (isWord commentByte) (drop start t)

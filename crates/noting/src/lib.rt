@@ -3,7 +3,6 @@
 ghost use mathlib.Core.Path.{_≡_};
 ghost use mathlib.Core.Bool.{true, false};
 ghost use Prim.Native.Nat.{_+_, _≤_};
-ghost use lib.ListN.{length};
 ghost use Rattle.matrix.specs.Matrix.{sparse, mostValues};
 ghost use Rattle.reading.specs.Walk.{contentAt};
 ghost use Rattle.matrices.specs.Numbers.{mostGiven};
@@ -152,7 +151,7 @@ fn pair_of(column: u64, numbers: Numbers) -> Pair
 
 // A line of a Sparse_matrix, which has a word: a column, and behind it a value.
 pub fn read_pair(text: &[u8], here: usize, values: u64, table: &mut [u64], row: u64) -> Pair
-    requires { ⌜ row ≤ mostGiven + values ⌝ ∗ ⌜ values ≤ mostValues ⌝ ∗ ⌜ here ≤ length (now text) ⌝ }
+    requires { ⌜ row ≤ mostGiven + values ⌝ ∗ ⌜ values ≤ mostValues ⌝ }
     ensures { λ r. ⌜ NotesPair (now (text .entry)) here (now (table .entry)) values row (now (table .exit)) r ⌝ }
 {
     let start = base::past_blanks(text, here);
