@@ -4,6 +4,8 @@ use mathlib.Core.Path.{_≡_, refl, sym, _∙_, ap}
 use mathlib.Core.Bool.{Bool, true, false, not, true≢false}
 use mathlib.Core.List.{List}
 use Prim.Native.Nat.{ℕ, _+_, _-_, _≤_, _<_, max}
+use mir.Syntax.{w64}
+use mir.Val.{Fits}
 use native.Mathlib.Nat.{le-refl}
 use native.Mathlib.Omega.{arith}
 use lib.ListN.{length, take, drop}
@@ -429,6 +431,9 @@ module _ (t : List ℕ) (at line : ℕ) (part : Data) (table₀ : List ℕ) wher
     pairs-end m is r e = rw (e, is) (on .leads)
 
     module _ (next : TakenPair) (table' : List ℕ) (takes : TakesPair t here values (part .note .row) table next table') where
+      pub pairs-long : length table' ≡ length table₀
+      pairs-long = takes .behind .long ∙ on .leads .long
+
       pub pairs-leave : not (next .taken) ≡ true → (m : Matrix) → m ≡ pairsMatrix (part .matrix) least greatest fits → (r : Run) →
           r ≡ record { at = here; line = number; part = pairsPart part (next .whole) values m named } → Leads t at line part table₀ r table'
       unfolding pairsPart
@@ -445,6 +450,13 @@ module _ (t : List ℕ) (at line : ℕ) (part : Data) (table₀ : List ℕ) wher
           note-whole w = ap (λ (b : Bool). pairsPart part b values (pairsMatrix (part .matrix) least greatest fits) named .note) w
 
       module _ (left : not (next .taken) ≡ false) where
+        -- no sum wraps behind the line
+        pub pairs-values : Fits w64 (values + 1)
+        pairs-values = let few : values < 65536 = takes .few (not-false (next .taken) left) in omega arith
+
+        pub pairs-column : Fits w64 (next .column + 1)
+        pairs-column = let narrow : next .column < 4_294_967_296 = takes .narrow (not-false (next .taken) left) in omega arith
+
         pub pairs-less : here < length t → length t - next .next < length t - here
         pairs-less h =
             let f : here < next .next = rw (takes .onward (not-false (next .taken) left)) (next-on commentByte t here h) in

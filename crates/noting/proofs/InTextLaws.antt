@@ -53,6 +53,7 @@ run-later p (suc n) (b ∷ s) h = by-cases _ (p b) (λ (e : p b ≡ true). goes 
         let r : run p (b ∷ s) ≡ suc (run p s) = run-goes p b s e in
         let i : run p (drop n s) ≡ run p s - n = k (omega arith) in
         omega arith
+
     none : p b ≡ false → run p (drop n s) ≡ run p (b ∷ s) - suc n
     none e =
         let r : run p (b ∷ s) ≡ 0 = run-stops p b s e in

@@ -3,38 +3,22 @@
 use mathlib.Core.Bool.{true}
 use Prim.Native.Nat.{_-_}
 use lib.ListN.{length}
-use Rattle.reading.proofs.WalkLaws.{content-start, content-within}
-use Rattle.reading.proofs.CrossLaws.{crossed-less}
 use Rattle.body.specs.Run.{numbersPart}
-use Rattle.body.proofs.RunLaws.{On, numbers-start, numbers-row, numbers-column, numbers-few, numbers-end, numbers-leave, numbers-next}
+use Rattle.body.proofs.RunLaws.{On, numbers-start, numbers-row, numbers-column, numbers-few, numbers-end, numbers-leave, numbers-less, numbers-next}
 use borrow.Author.Needs.{needs}
 use Rattle.body.proofs.pass_numbers.Statement.{statement}
 use Rattle.body.proofs.pass_numbers.Tie as tie
-use Rattle.body.proofs.numbers_passed.Reads as numbers-passed-reads
-use Rattle.body.proofs.take_numbers.Reads as take-numbers-reads
-use Rattle.text.proofs.line_at.Reads as line-at-reads
 
 abbrev Inv-loop : tie.InvT-loop
-Inv-loop text at line part table₀ form here₀ number₀ values₀ row₀ column₀ table here number values row column = On text at line part table₀ here
-    number (numbersPart part true values row column) table
+Inv-loop text at line part table₀ form here₀ number₀ values₀ row₀ column₀ table here number values row column =
+    On text at line part table₀ here number (numbersPart part true values row column) table
 
 abbrev μ-loop : tie.MeasureT-loop
-μ-loop text at line part table₀ form here₀ number₀ values₀ row₀ column₀ table here number values row column = length text - here
+μ-loop text at line part table₀ form here₀ number₀ values₀ row₀ column₀ table here number values row column =
+    length text - here
 
 loop-holds : tie.Need-loop-holds Inv-loop μ-loop
 loop-holds c = search numbers-start
-
-line-at-requires : tie.Need-line-at-requires Inv-loop μ-loop
-line-at-requires c κs = search needs
-
-sub-take-numbers : tie.Need-sub-take-numbers Inv-loop μ-loop
-sub-take-numbers c = search content-start
-
-part-take-numbers-start : tie.Need-part-take-numbers-start Inv-loop μ-loop
-part-take-numbers-start c = search content-start
-
-part-take-numbers-end : tie.Need-part-take-numbers-end Inv-loop μ-loop
-part-take-numbers-end c = search content-within
 
 take-numbers-requires : tie.Need-take-numbers-requires Inv-loop μ-loop
 take-numbers-requires c κs = search (needs, numbers-row, numbers-column, numbers-few)
@@ -52,7 +36,7 @@ add-number : tie.Need-add-number Inv-loop μ-loop
 add-number c = search needs
 
 loop-less : tie.Need-loop-less Inv-loop μ-loop
-loop-less c = search crossed-less
+loop-less c = search numbers-less
 
 loop-again : tie.Need-loop-again Inv-loop μ-loop
 loop-again c = search numbers-next
@@ -73,10 +57,6 @@ pass-numbers-spec =
     Inv-loop
     μ-loop
     loop-holds
-    line-at-requires
-    sub-take-numbers
-    part-take-numbers-start
-    part-take-numbers-end
     take-numbers-requires
     numbers-passed-requires
     same-length

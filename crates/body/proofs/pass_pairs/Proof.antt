@@ -1,22 +1,13 @@
 -- `body::pass_pairs` meets its contract. The loop's invariant: so far the run leads.
 -- Assumes nothing.
 use mathlib.Core.Bool.{true}
-use Prim.Native.Nat.{_-_, _<_}
+use Prim.Native.Nat.{_-_}
 use lib.ListN.{length}
-use borrow.Author.Tests.{not-false}
-use Rattle.reading.proofs.WalkLaws.{content-start, content-within}
-use Rattle.reading.proofs.CrossLaws.{crossed-less}
 use Rattle.body.specs.Run.{pairsMatrix, pairsPart}
-use Rattle.body.proofs.RunLaws.{On, pairs-start, pairs-row, pairs-end, pairs-leave, pairs-next}
+use Rattle.body.proofs.RunLaws.{On, pairs-start, pairs-row, pairs-end, pairs-leave, pairs-long, pairs-values, pairs-column, pairs-less, pairs-next}
 use borrow.Author.Needs.{needs}
 use Rattle.body.proofs.pass_pairs.Statement.{statement}
 use Rattle.body.proofs.pass_pairs.Tie as tie
-use Rattle.base.proofs.and.Reads as and-reads
-use Rattle.body.proofs.greater.Reads as greater-reads
-use Rattle.body.proofs.pairs_matrix.Reads as pairs-matrix-reads
-use Rattle.body.proofs.pairs_passed.Reads as pairs-passed-reads
-use Rattle.body.proofs.take_pair.Reads as take-pair-reads
-use Rattle.text.proofs.line_at.Reads as line-at-reads
 
 abbrev Inv-loop : tie.InvT-loop
 Inv-loop text at line part table₀ matrix row here₀ number₀ values₀ least₀ greatest₀ fits₀ named₀ table here number values least greatest fits named =
@@ -29,18 +20,6 @@ abbrev μ-loop : tie.MeasureT-loop
 loop-holds : tie.Need-loop-holds Inv-loop μ-loop
 loop-holds c = search pairs-start
 
-line-at-requires : tie.Need-line-at-requires Inv-loop μ-loop
-line-at-requires c κs = search needs
-
-sub-take-pair : tie.Need-sub-take-pair Inv-loop μ-loop
-sub-take-pair c = search content-start
-
-part-take-pair-start : tie.Need-part-take-pair-start Inv-loop μ-loop
-part-take-pair-start c = search content-start
-
-part-take-pair-end : tie.Need-part-take-pair-end Inv-loop μ-loop
-part-take-pair-end c = search content-within
-
 take-pair-requires : tie.Need-take-pair-requires Inv-loop μ-loop
 take-pair-requires c κs = search (needs, pairs-row)
 
@@ -51,12 +30,7 @@ pairs-passed-requires : tie.Need-pairs-passed-requires Inv-loop μ-loop
 pairs-passed-requires c κs = search needs
 
 same-length : tie.Need-same-length Inv-loop μ-loop
-same-length c = search (
-  needs,
-  c .before .before .before .before .before .before .take-pair .ensures .behind .long,
-  c .before .before .before
-      .before .before .before .before .before .before .before .before .loop .inv .leads .long,
-)
+same-length c = search pairs-long
 
 returns : tie.Need-returns Inv-loop μ-loop
 returns c = search pairs-leave
@@ -65,19 +39,13 @@ add-number : tie.Need-add-number Inv-loop μ-loop
 add-number c = search needs
 
 add-values : tie.Need-add-values Inv-loop μ-loop
-add-values c =
-    let few : c .before .before .before .before .before .before .before .before .before .loop .values < 65536 = c .before .before .before .before
-    .take-pair .ensures .few (not-false _ (c .if1 .left)) in
-    search (needs, few)
+add-values c = search pairs-values
 
 and-requires : tie.Need-and-requires Inv-loop μ-loop
 and-requires c κs = search needs
 
 add-least : tie.Need-add-least Inv-loop μ-loop
-add-least c =
-    let narrow : c .before .before .before .before .before .before .before .take-pair .result .column < 4_294_967_296 = c .before .before .before
-    .before .before .before .before .take-pair .ensures .narrow (not-false _ (c .before .before .before .if1 .left)) in
-    search (needs, narrow)
+add-least c = search pairs-column
 
 greater-requires : tie.Need-greater-requires Inv-loop μ-loop
 greater-requires c κs = search needs
@@ -86,7 +54,7 @@ greater-requires-2 : tie.Need-greater-requires-2 Inv-loop μ-loop
 greater-requires-2 c κs = search needs
 
 loop-less : tie.Need-loop-less Inv-loop μ-loop
-loop-less c = search crossed-less
+loop-less c = search pairs-less
 
 loop-again : tie.Need-loop-again Inv-loop μ-loop
 loop-again c = search pairs-next
@@ -110,10 +78,6 @@ pass-pairs-spec =
     Inv-loop
     μ-loop
     loop-holds
-    line-at-requires
-    sub-take-pair
-    part-take-pair-start
-    part-take-pair-end
     take-pair-requires
     pairs-matrix-requires
     pairs-passed-requires

@@ -1,12 +1,9 @@
--- `body::plain_pair` meets its contract: by how many values there are, and what was read.
+-- `body::plain_pair` meets its contract: by what was read.
 -- Assumes nothing.
-use Rattle.body.proofs.RunLaws.{pair-left, pair-unnoted, pair-spoilt, pair-taken}
+use Rattle.body.proofs.RunLaws.{pair-left, pair-spoilt, pair-taken}
 use borrow.Author.Needs.{needs}
 use Rattle.body.proofs.plain_pair.Statement.{statement}
 use Rattle.body.proofs.plain_pair.Tie as tie
-use Rattle.base.proofs.and.Reads as and-reads
-use Rattle.body.proofs.left_pair.Reads as left-pair-reads
-use Rattle.noting.proofs.read_pair.Reads as read-pair-reads
 
 left-pair-requires : tie.Need-left-pair-requires
 left-pair-requires c κs = search needs
@@ -24,25 +21,16 @@ same-length : tie.Need-same-length
 same-length c = search needs
 
 returns-2 : tie.Need-returns-2
-returns-2 c = search pair-unnoted
+returns-2 c = search pair-spoilt
 
-and-requires : tie.Need-and-requires
-and-requires c κs = search needs
-
-left-pair-requires-3 : tie.Need-left-pair-requires-3
-left-pair-requires-3 c κs = search needs
+next-line-requires : tie.Need-next-line-requires
+next-line-requires c κs = search needs
 
 same-length-2 : tie.Need-same-length-2
 same-length-2 c = search needs
 
 returns-3 : tie.Need-returns-3
-returns-3 c = search pair-spoilt
-
-same-length-3 : tie.Need-same-length-3
-same-length-3 c = search needs
-
-returns-4 : tie.Need-returns-4
-returns-4 c = search pair-taken
+returns-3 c = search pair-taken
 
 pub plain-pair-spec : {M : Type 1} → statement M
 plain-pair-spec =
@@ -54,9 +42,6 @@ plain-pair-spec =
     left-pair-requires-2
     same-length
     returns-2
-    and-requires
-    left-pair-requires-3
+    next-line-requires
     same-length-2
-    returns-3
-    same-length-3
-    returns-4)
+    returns-3)

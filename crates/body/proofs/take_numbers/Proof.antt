@@ -5,12 +5,9 @@ use Rattle.body.proofs.RunLaws.{numbers-left}
 use borrow.Author.Needs.{needs}
 use Rattle.body.proofs.take_numbers.Statement.{statement}
 use Rattle.body.proofs.take_numbers.Tie as tie
-use Rattle.body.proofs.left_numbers.Reads as left-numbers-reads
-use Rattle.body.proofs.plain_numbers.Reads as plain-numbers-reads
-use Rattle.reading.proofs.front_of.Reads as front-of-reads
 
-front-of-requires : tie.Need-front-of-requires
-front-of-requires c κs = search needs
+front-at-requires : tie.Need-front-at-requires
+front-at-requires c κs = search needs
 
 enum-told : tie.Need-enum-told
 enum-told c = search needs
@@ -22,7 +19,7 @@ enum-told-2 : tie.Need-enum-told-2
 enum-told-2 c = search needs
 
 plain-numbers-requires : tie.Need-plain-numbers-requires
-plain-numbers-requires c κs = (words-front _ _ (c .before .before .before .front-of .ensures) (c .before .enum-told2 .given .1), search needs)
+plain-numbers-requires c κs = (words-front _ _ (c .before .before .before .front-at .ensures) (c .before .enum-told2 .given .1), search needs)
 
 enum-told-3 : tie.Need-enum-told-3
 enum-told-3 c = search needs
@@ -46,7 +43,7 @@ pub take-numbers-spec : {M : Type 1} → statement M
 take-numbers-spec =
     tie.close
     (tie.spec
-    front-of-requires
+    front-at-requires
     enum-told
     left-numbers-requires
     enum-told-2

@@ -5,12 +5,9 @@ use Rattle.body.proofs.RunLaws.{pair-left}
 use borrow.Author.Needs.{needs}
 use Rattle.body.proofs.take_pair.Statement.{statement}
 use Rattle.body.proofs.take_pair.Tie as tie
-use Rattle.body.proofs.left_pair.Reads as left-pair-reads
-use Rattle.body.proofs.plain_pair.Reads as plain-pair-reads
-use Rattle.reading.proofs.front_of.Reads as front-of-reads
 
-front-of-requires : tie.Need-front-of-requires
-front-of-requires c κs = search needs
+front-at-requires : tie.Need-front-at-requires
+front-at-requires c κs = search needs
 
 enum-told : tie.Need-enum-told
 enum-told c = search needs
@@ -22,7 +19,7 @@ enum-told-2 : tie.Need-enum-told-2
 enum-told-2 c = search needs
 
 plain-pair-requires : tie.Need-plain-pair-requires
-plain-pair-requires c κs = (words-front _ _ (c .before .before .before .front-of .ensures) (c .before .enum-told2 .given .1), search needs)
+plain-pair-requires c κs = (words-front _ _ (c .before .before .before .front-at .ensures) (c .before .enum-told2 .given .1), search needs)
 
 enum-told-3 : tie.Need-enum-told-3
 enum-told-3 c = search needs
@@ -46,7 +43,7 @@ pub take-pair-spec : {M : Type 1} → statement M
 take-pair-spec =
     tie.close
     (tie.spec
-    front-of-requires
+    front-at-requires
     enum-told
     left-pair-requires
     enum-told-2
