@@ -178,7 +178,6 @@ module _ (s : List ℕ) (from stop before end block : ℕ) (is : end ≡ from + 
         run-full = read .run-full;
         run-light = omega arith;
         run-from = omega arith;
-        run-within = read .run-within;
         run-short = omega arith;
       }
 

@@ -13,6 +13,7 @@ pub mod NumberLaws
 pub mod TrimLaws
 pub mod PlainLaws
 pub mod BlockLaws
+pub mod FrontLaws
 pub mod InLineLaws
 pub mod InLaws
 pub mod Starred

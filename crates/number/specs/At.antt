@@ -6,9 +6,7 @@ use mathlib.Core.Path.{_≡_}
 use mathlib.Core.Bool.{Bool, true, false}
 use mathlib.Core.List.{List}
 use mathlib.Core.Logic.{_⊎_}
-use lib.ListN.{length, take, drop, getD}
-use lib.Dec.{ltb}
-use Rattle.base.specs.If.{both}
+use lib.ListN.{take, drop, getD}
 use Rattle.base.specs.Bytes.{isDigit}
 use Rattle.base.specs.Runs.{run}
 use Rattle.base.specs.Class.{isFilled, runEnd}
@@ -19,7 +17,6 @@ use Rattle.number.specs.declared.Exponent.{Exponent}
 use Rattle.number.specs.declared.Scale.{Scale}
 use Rattle.number.specs.declared.Number.{Number}
 use Rattle.number.specs.declared.NumberAt.{NumberAt}
-use Rattle.number.specs.declared.Near.{Near}
 use Rattle.number.specs.declared.Run.{Run}
 use Rattle.number.specs.declared.Plain.{Plain}
 use Rattle.number.specs.declared.Reading.{Reading}
@@ -65,10 +62,6 @@ readingAt s x = record { exponent = x; next = getD s (x .end) 0 }
 unfoldable pub noReading : ℕ → ℕ → Reading
 noReading from b = record { exponent = noExponent from; next = b }
 
--- a word goes on at a place: the line does, and no blank stands there
-unfoldable pub goesAt : List ℕ → ℕ → Bool
-goesAt s at = both (ltb at (length s)) (isFilled (getD s at 0))
-
 -- the parts of the number at the front of s
 unfoldable pub partsOf : List ℕ → Parts
 partsOf s =
@@ -95,13 +88,12 @@ pub record RunRead (s : List ℕ) (from stop before : ℕ) (r : Run) : Type 0 wh
   pub run-full : isDigit (r .next) ≡ true → stop ≤ r .end
   pub run-light : weight (r .value) (r .end) stop ≤ weight before from stop
   pub run-from : from ≤ r .end
-  pub run-within : r .end ≤ length s
   pub run-short : r .end - from ≤ stop - from
 
 pub record DigitsRead (s : List ℕ) (from : ℕ) (d : Plain) : Type 0 where
   pub digits-next : d .next ≡ getD s (d .end) 0
   pub digits-whole : isDigit (d .next) ≡ false → d ≡ plainAt s (scan (drop from s) (noDigits from))
-  pub digits-within : d .end ≤ length s
+  pub digits-short : d .end ≤ from + 20
   pub fraction-few : d .fraction ≤ 19
 
 -- the byte b stands where the exponent may start
@@ -109,7 +101,7 @@ pub record ExponentRead (s : List ℕ) (from b : ℕ) (x : Reading) : Type 0 whe
   pub exponent-next : x .next ≡ getD s (x .exponent .end) 0
   pub exponent-whole : isDigit (x .next) ≡ false → x ≡ readingAt s (exponentOf s from)
   pub exponent-after : isDigit (x .next) ≡ false → isDigit b ≡ false
-  pub exponent-within : x .exponent .end ≤ length s
+  pub exponent-short : x .exponent .end ≤ from + 11
   pub exponent-few : x .exponent .size < 1_000_000_000
 
 -- parts that so few bytes write that no sum of theirs is cut
@@ -120,12 +112,8 @@ pub record Few (p : Parts) : Type 0 where
 pub record PartsRead (s : List ℕ) (p : Parts) : Type 0 where
   pub parts-next : p .next ≡ getD s (p .exponent .end) 0
   pub parts-whole : isDigit (p .next) ≡ false → p ≡ partsOf s
-  pub parts-within : p .exponent .end ≤ length s
+  pub parts-short : p .exponent .end ≤ 32
   pub parts-few : Few p
-
--- an answer that is the number's where it is known
-pub record Knows (s : List ℕ) (from : ℕ) (r : Near) : Type 0 where
-  pub knows : r .known ≡ true → record { number = r .number; end = r .end } ≡ numberAt s from
 
 -- a number as a size and the zeros after it
 pub record Splits (all size zeros : ℕ) : Type 0 where
