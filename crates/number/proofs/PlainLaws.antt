@@ -126,7 +126,7 @@ module _ (value i stop before from : ℕ) (room : weight before from stop ≤ ex
       let b : weight (10 * value + digit) (i + 1) stop ≤ weight value i stop = weight-on value i stop digit h k in
       omega arith
 
-runs-same : (r e : Run) → r .value ≡ e .value → r .end ≡ e .end → r .next ≡ e .next → r ≡ e
+pub runs-same : (r e : Run) → r .value ≡ e .value → r .end ≡ e .end → r .next ≡ e .next → r ≡ e
 runs-same r e a b c = λ i. record { value = a i; end = b i; next = c i }
 
 -- the run as the loop has come to it, and what it promises of the whole

@@ -44,13 +44,6 @@ runFrom s from a =
       next = getD s (runEnd isDigit s from) 0;
     }
 
--- the number that four digits at a place write, and eight
-unfoldable pub fourAt : List ℕ → ℕ → ℕ
-fourAt s at = 100 * (10 * (getD s at 0 - 48) + (getD s (at + 1) 0 - 48)) + (10 * (getD s (at + 2) 0 - 48) + (getD s (at + 3) 0 - 48))
-
-unfoldable pub blockAt : List ℕ → ℕ → ℕ
-blockAt s at = 10_000 * fourAt s at + fourAt s (at + 4)
-
 -- digits of s without what their zeros say, and with the byte where they end
 unfoldable pub plainAt : List ℕ → Digits → Plain
 plainAt s d = record { all = d .all; fraction = d .fraction; some = d .some; end = d .end; next = getD s (d .end) 0 }
@@ -73,10 +66,6 @@ partsOf s =
     }
 
 -- ---- what is read of few bytes. Digits that go on where the reader stops are not read whole, and their next byte tells it.
-
--- the answer whether eight digits stand at a place: where it is yes they do
-pub record AreDigits (s : List ℕ) (from : ℕ) (answer : Bool) : Type 0 where
-  pub are-digits : answer ≡ true → 8 ≤ run isDigit (drop from s)
 
 -- what digits up to `stop` may still make of a number stays below this
 unfoldable pub weight : ℕ → ℕ → ℕ → ℕ

@@ -2,18 +2,19 @@
 // Words of any length are read in one pass: numbers too great to matter are cut on the way, which changes no answer.
 ghost use mathlib.Core.Path.{_≡_};
 ghost use mathlib.Core.Bool.{true, false};
-ghost use Prim.Native.Nat.{_+_, _-_, _*_, _<_, _≤_, min};
+ghost use Prim.Native.Nat.{_+_, _-_, _*_, _/_, _^_, _<_, _≤_, min};
 ghost use lib.ListN.{length, take, drop, getD};
 ghost use Rattle.base.specs.If.{if_then_else_, both};
 ghost use Rattle.base.specs.Bytes.{within, isDigit, isLetter};
-ghost use Rattle.base.specs.Runs.{run};
+ghost use Rattle.base.specs.Runs.{all};
 ghost use Rattle.base.specs.Class.{runEnd};
 ghost use lib.Dec.{ltb};
 ghost use Rattle.number.specs.Number.{isSign, isMinus, isE, pastSign, goesOn, noDigits, withPoint, withDigit, withByte, scan, noExponent, exponentOf, scaleOf, raised, lowered, valueAs, wellFormed, numberOf, isFormed, isBounded};
-ghost use Rattle.number.specs.Integer.{wholeOf};
+ghost use Rattle.number.specs.Integer.{valueOf, wholeOf};
 ghost use Rattle.number.specs.ValueWord.{valueWord, decimalOf, isDecimal, isValueWord};
 ghost use Rattle.number.specs.Capped.{exponentCap, countCap, cappedDigits, cappedExponent, sizeAt, raising, lowering, Kept, Bounded};
-ghost use Rattle.number.specs.At.{numberAt, fourBits, fourAt, blockAt, AreDigits, weight, noReading, RunRead, DigitsRead, ExponentRead, PartsRead, Few, Splits, Says};
+ghost use Rattle.number.specs.At.{numberAt, fourBits, weight, noReading, RunRead, DigitsRead, ExponentRead, PartsRead, Few, Splits, Says};
+ghost use Rattle.number.specs.Block.{bytesOf, AreDigits, paired};
 ghost use Rattle.number.specs.In.{isWord, isSpelling, isValue, numberIn, Knows};
 use base::Class;
 
@@ -26,9 +27,6 @@ const MOST_EXPONENT: usize = 9;
 // A number is read the short way where so many bytes follow: then its sign, its digits, its exponent and two letters of its unit stand
 // before the end, and none of them is asked for it.
 const ROOM: usize = 40;
-
-// So many digits behind a point are read together.
-const BLOCK: usize = 8;
 
 // What the capitals from G on raise by, four bits for each. To find a letter's scale so takes no branch that a processor has to guess.
 const CAPITALS_RAISE: u64 = 0x00c0_0000_0600_0009;
@@ -623,56 +621,82 @@ fn read_run(s: &[u8], from: usize, stop: usize, before: u64) -> Run
     }
 }
 
-// Whether a block of bytes are digits. Each is looked at, so that a processor takes them at once.
-fn are_digits(s: &[u8], from: usize) -> bool
-    requires { ⌜ from + 8 ≤ length (now s) ⌝ }
-    ensures { λ r. ⌜ AreDigits (now (s .entry)) from r ⌝ }
+// Whether eight bytes, taken together as a word, are digits: the high half of each is 3, and still is with 6 more.
+fn are_eight(word: u64) -> bool
+    ensures { λ r. ⌜ AreDigits 8 word r ⌝ }
 {
-    let end = from + BLOCK;
-    let mut whole = true;
-    let mut i = from;
-    while i < end {
-        whole = base::and(whole, base::is_digit(s[i]));
-        i += 1;
+    if word & 0xf0f0_f0f0_f0f0_f0f0 != 0x3030_3030_3030_3030 {
+        return false;
     }
-    whole
+    (word + 0x0606_0606_0606_0606) & 0xf0f0_f0f0_f0f0_f0f0 == 0x3030_3030_3030_3030
 }
 
-// What a digit says.
-fn digit_at(s: &[u8], at: usize) -> u64
-    requires { ⌜ isDigit (getD (now s) at 0) ≡ true ⌝ }
-    ensures { λ r. ⌜ r ≡ getD (now (s .entry)) at 0 - 48 ⌝ ∗ ⌜ r ≤ 9 ⌝ }
+// The same of four.
+fn are_four(word: u64) -> bool
+    requires { ⌜ word < 4_294_967_296 ⌝ }
+    ensures { λ r. ⌜ AreDigits 4 word r ⌝ }
 {
-    wide(s[at]) - 48
+    if word & 0xf0f0_f0f0 != 0x3030_3030 {
+        return false;
+    }
+    (word + 0x0606_0606) & 0xf0f0_f0f0 == 0x3030_3030
+}
+
+// The numbers that stand in a word side by side, each `width` bits wide, two and two made one: the first times `factor`, and the second.
+// They come to stand twice as wide, and the mask takes away what is between them.
+fn paired(word: u64, width: u64, factor: u64, mask: u64) -> u64
+    requires { ⌜ width < 64 ⌝ ∗ ⌜ factor * word + word / 2 ^ width < 18_446_744_073_709_551_616 ⌝ }
+    ensures { λ r. ⌜ r ≡ paired word width factor mask ⌝ }
+{
+    (factor * word + (word >> width)) & mask
+}
+
+// The number that eight digits write, taken together as a word.
+fn eight_value(word: u64) -> u64
+    requires { ⌜ all isDigit (bytesOf 8 word) ≡ true ⌝ }
+    ensures { λ r. ⌜ r ≡ valueOf 0 (bytesOf 8 word) ⌝ ∗ ⌜ r < 100_000_000 ⌝ }
+{
+    let ones = word - 0x3030_3030_3030_3030;
+    let twos = paired(ones, 8, 10, 0x00ff_00ff_00ff_00ff);
+    let fours = paired(twos, 16, 100, 0x0000_ffff_0000_ffff);
+    paired(fours, 32, 10_000, 0xffff_ffff)
 }
 
 // The number that four digits write.
-fn four_at(s: &[u8], at: usize) -> u64
-    requires { ⌜ 4 ≤ run isDigit (drop at (now s)) ⌝ }
-    ensures { λ r. ⌜ r ≡ fourAt (now (s .entry)) at ⌝ ∗ ⌜ r ≤ 9999 ⌝ }
+fn four_value(word: u64) -> u64
+    requires { ⌜ all isDigit (bytesOf 4 word) ≡ true ⌝ ∗ ⌜ word < 4_294_967_296 ⌝ }
+    ensures { λ r. ⌜ r ≡ valueOf 0 (bytesOf 4 word) ⌝ ∗ ⌜ r < 10_000 ⌝ }
 {
-    let high = 10 * digit_at(s, at) + digit_at(s, at + 1);
-    let low = 10 * digit_at(s, at + 2) + digit_at(s, at + 3);
-    100 * high + low
+    let ones = word - 0x3030_3030;
+    let twos = paired(ones, 8, 10, 0x00ff_00ff);
+    paired(twos, 16, 100, 0xffff)
 }
 
-// The number that a block of digits write: its parts do not wait for each other, as one digit after the other would.
-fn block_at(s: &[u8], at: usize) -> u64
-    requires { ⌜ 8 ≤ run isDigit (drop at (now s)) ⌝ }
-    ensures { λ r. ⌜ r ≡ blockAt (now (s .entry)) at ⌝ ∗ ⌜ r ≤ 99_999_999 ⌝ }
+// As `read_run`, four digits at once where so many stand there.
+fn read_four(s: &[u8], from: usize, stop: usize, before: u64) -> Run
+    requires { ⌜ from < length (now s) ⌝ ∗ ⌜ stop < length (now s) ⌝ ∗ ⌜ weight before from stop ≤ exponentCap ⌝ }
+    ensures { λ r. ⌜ RunRead (now (s .entry)) from stop before r ⌝ }
 {
-    10_000 * four_at(s, at) + four_at(s, at + 4)
+    let end = from + 4;
+    if end <= stop {
+        let word = base::four_at(s, from);
+        if are_four(word) {
+            return read_run(s, end, stop, 10_000 * before + four_value(word));
+        }
+    }
+    read_run(s, from, stop, before)
 }
 
-// As `read_run`, for digits behind a point, which are often many: a block of them, then the rest.
+// As `read_run`, for digits behind a point, which are often many: eight at once, then four, then the rest.
 fn read_part(s: &[u8], from: usize, stop: usize, before: u64) -> Run
     requires { ⌜ from < length (now s) ⌝ ∗ ⌜ stop < length (now s) ⌝ ∗ ⌜ weight before from stop ≤ exponentCap ⌝ }
     ensures { λ r. ⌜ RunRead (now (s .entry)) from stop before r ⌝ }
 {
-    let end = from + BLOCK;
+    let end = from + 8;
     if end <= stop {
-        if are_digits(s, from) {
-            return read_run(s, end, stop, 100_000_000 * before + block_at(s, from));
+        let word = base::eight_at(s, from);
+        if are_eight(word) {
+            return read_four(s, end, stop, 100_000_000 * before + eight_value(word));
         }
     }
     read_run(s, from, stop, before)
