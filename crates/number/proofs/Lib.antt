@@ -12,7 +12,9 @@ pub mod ReadLaws
 pub mod NumberLaws
 pub mod TrimLaws
 pub mod PlainLaws
+pub mod PairLaws
 pub mod BlockLaws
+pub mod FrontLaws
 pub mod InLineLaws
 pub mod InLaws
 pub mod Starred

@@ -17,7 +17,7 @@ use Rattle.base.specs.If.{if_then_else_, both, either}
 use Rattle.base.specs.Bytes.{isDigit, within}
 use Rattle.base.specs.Runs.{run}
 use Rattle.base.specs.Class.{runEnd}
-use Rattle.base.proofs.IfLaws.{if-true, if-false, by-cases, both-true, both-not-left, both-not-right, both-rest, either-left, either-right, either-rest, either-false}
+use Rattle.base.proofs.IfLaws.{if-true, if-false, by-cases, by-test, both-true, both-not-left, both-not-right, both-rest, either-left, either-right, either-rest, either-false}
 use Rattle.base.proofs.RunLaws.{run-goes, run-stops, run-nil, run-end-at, run-on, run-stop, run-past}
 use Rattle.number.specs.declared.Digits.{Digits}
 use Rattle.number.specs.declared.Exponent.{Exponent}
@@ -105,8 +105,8 @@ weight-first from stop n h =
     let p : 10 ^ (stop - from) ≤ 10 ^ n = power-more (stop - from) n (omega arith) in
     omega arith
 
-pub weight-few : (s : List ℕ) (from stop n : ℕ) → n ≤ 19 → stop ≡ min (length s) (from + n) → weight 0 from stop ≤ exponentCap
-weight-few s from stop n h e = weight-first from stop 19 (omega arith)
+pub weight-few : (from n : ℕ) → n ≤ 19 → weight 0 from (from + n) ≤ exponentCap
+weight-few from n h = weight-first from (from + n) 19 (omega arith)
 
 -- one digit more wraps nothing
 module _ (value i stop before from : ℕ) (room : weight before from stop ≤ exponentCap) (light : weight value i stop ≤ weight before from stop) (h : i < stop) where
@@ -126,7 +126,7 @@ module _ (value i stop before from : ℕ) (room : weight before from stop ≤ ex
       let b : weight (10 * value + digit) (i + 1) stop ≤ weight value i stop = weight-on value i stop digit h k in
       omega arith
 
-runs-same : (r e : Run) → r .value ≡ e .value → r .end ≡ e .end → r .next ≡ e .next → r ≡ e
+pub runs-same : (r e : Run) → r .value ≡ e .value → r .end ≡ e .end → r .next ≡ e .next → r ≡ e
 runs-same r e a b c = λ i. record { value = a i; end = b i; next = c i }
 
 -- the run as the loop has come to it, and what it promises of the whole
@@ -183,7 +183,7 @@ module _ (s : List ℕ) (i value : ℕ) (whole : Run) (inv : Runs s i value whol
   runs-whole = runs-same _ _ (inv .value-left) (inv .end-left) (inv .next-left)
 
 -- where the loop ends
-module _ (s : List ℕ) (from stop before i value : ℕ) (start : from ≤ i) (within : i ≤ length s) (short : i - from ≤ stop - from) (light : weight value i stop ≤ weight before from stop) (inv : Runs s i value (runFrom s from before)) where
+module _ (s : List ℕ) (from stop before i value : ℕ) (start : from ≤ i) (short : i - from ≤ stop - from) (light : weight value i stop ≤ weight before from stop) (inv : Runs s i value (runFrom s from before)) where
   read-halt : (next : ℕ) → next ≡ getD s i 0 → (isDigit next ≡ true → stop ≤ i) → RunRead s from stop before (record { value = value; end = i; next = next })
   read-halt next e full =
       record {
@@ -192,7 +192,6 @@ module _ (s : List ℕ) (from stop before i value : ℕ) (start : from ≤ i) (w
         run-full = full;
         run-light = light;
         run-from = start;
-        run-within = within;
         run-short = short;
       }
 
@@ -422,16 +421,6 @@ module _ (s : List ℕ) (from : ℕ) (whole : Run) (read : whole ≡ runFrom s f
     dot-byte : getD s (runEnd isDigit s from) 0 ≡ 46
     dot-byte = sym next-is ∙ dot
 
-    point-there : whole .end + 1 ≤ length s
-    point-there =
-        let m : whole .end ≡ runEnd isDigit s from = end-is in
-        by-cases _ (leb (length s) (whole .end))
-        (λ (t : leb (length s) (whole .end) ≡ true).
-        let z : getD s (whole .end) 0 ≡ 0 = List·getD-eq-default s 0 (leb-true (length s) (whole .end) t) in
-        let y : getD s (whole .end) 0 ≡ 46 = rw m dot-byte in
-        absurd (omega arith))
-        (λ (t : leb (length s) (whole .end) ≡ false). omega (arith, leb-false (length s) (whole .end) t))
-
     module _ (part : Run) (more : part ≡ runFrom s (whole .end + 1) (whole .value)) where
       last-is : part .end ≡ runEnd isDigit s (whole .end + 1)
       unfolding runFrom
@@ -468,47 +457,42 @@ module _ (s : List ℕ) (from : ℕ) (whole : Run) (read : whole ≡ runFrom s f
           (next-last ∙ ap (λ (i : ℕ). getD s i 0) (sym last-is ∙ a)))
 
 -- digits that are read up to a stop
-module _ (s : List ℕ) (from stop : ℕ) (whole : Run) (read : RunRead s from stop 0 whole) where
+module _ (s : List ℕ) (from : ℕ) (whole : Run) (read : RunRead s from (from + 19) 0 whole) where
+  pub whole-short : whole .end ≤ from + 19
+  whole-short =
+      let a : whole .end - from ≤ from + 19 - from = read .run-short in
+      let b : from ≤ whole .end = read .run-from in
+      omega arith
+
   pub digits-one : (whole .next ≡ 46 → ⊥) → DigitsRead s from (record { all = whole .value; fraction = 0; some = ltb from (whole .end); end = whole .end; next = whole .next })
   digits-one n =
       record {
         digits-next = read .run-next;
         digits-whole = λ (e : isDigit (whole .next) ≡ false). plain-one s from whole (read .run-whole e) n;
-        digits-within = read .run-within;
+        digits-short = omega (arith, whole-short);
         fraction-few = omega arith;
       }
 
-  module _ (dot : whole .next ≡ 46) where
-    whole-read : whole ≡ runFrom s from 0
-    unfolding isDigit within both
-    whole-read = read .run-whole (rw dot)
+  pub dot-light : weight (whole .value) (whole .end + 1) (from + 19) ≤ exponentCap
+  dot-light =
+      let a : weight (whole .value) (whole .end + 1) (from + 19) ≤ weight (whole .value) (whole .end) (from + 19) = weight-past (whole .value) (whole .end) (from + 19) in
+      let b : weight (whole .value) (whole .end) (from + 19) ≤ weight 0 from (from + 19) = read .run-light in
+      let c : weight 0 from (from + 19) ≤ exponentCap = weight-few from 19 (omega arith) in
+      omega arith
 
-    pub dot-within : whole .end + 1 ≤ length s
-    dot-within = point-there s from whole whole-read dot
-
-    module _ (few : stop ≡ min (length s) (from + 19)) where
-      pub dot-light : weight (whole .value) (whole .end + 1) stop ≤ exponentCap
-      dot-light =
-          let a : weight (whole .value) (whole .end + 1) stop ≤ weight (whole .value) (whole .end) stop = weight-past (whole .value) (whole .end) stop in
-          let b : weight (whole .value) (whole .end) stop ≤ weight 0 from stop = read .run-light in
-          let c : weight 0 from stop ≤ exponentCap = weight-few s from stop 19 (omega arith) few in
-          omega arith
-
-      module _ (part : Run) (more : RunRead s (whole .end + 1) stop (whole .value) part) where
-        pub digits-two : DigitsRead s from (record { all = part .value; fraction = part .end - (whole .end + 1); some = ltb (from + 1) (part .end); end = part .end; next = part .next })
-        digits-two =
-            record {
-              digits-next = more .run-next;
-              digits-whole = λ (e : isDigit (part .next) ≡ false). plain-two s from whole whole-read dot part (more .run-whole e);
-              digits-within = more .run-within;
-              fraction-few = part-few;
-            }
-          where
-            part-few : part .end - (whole .end + 1) ≤ 19
-            part-few =
-                let a : part .end - (whole .end + 1) ≤ stop - (whole .end + 1) = more .run-short in
-                let b : from ≤ whole .end = read .run-from in
-                omega arith
+  pub digits-two : (part : Run) → whole .next ≡ 46 → RunRead s (whole .end + 1) (from + 19) (whole .value) part → DigitsRead s from (record { all = part .value; fraction = part .end - (whole .end + 1); some = ltb (from + 1) (part .end); end = part .end; next = part .next })
+  unfolding isDigit within both
+  digits-two part dot more =
+      let a : part .end - (whole .end + 1) ≤ from + 19 - (whole .end + 1) = more .run-short in
+      let b : from ≤ whole .end = read .run-from in
+      let c : whole .end + 1 ≤ part .end = more .run-from in
+      let d : whole .end ≤ from + 19 = whole-short in
+      record {
+        digits-next = more .run-next;
+        digits-whole = λ (e : isDigit (part .next) ≡ false). plain-two s from whole (read .run-whole (rw dot)) dot part (more .run-whole e);
+        digits-short = omega arith;
+        fraction-few = omega arith;
+      }
 
 -- ---- in the words that `plain_exponent` has
 
@@ -529,40 +513,29 @@ module _ (s : List ℕ) (from b : ℕ) (t : Bool) (byte : b ≡ getD s from 0) (
   unfolding readingAt noReading noExponent
   none-reading r n e = rw (n, e, byte)
 
-  none-told : (r : Reading) → from ≤ length s → exponentOf s from ≡ noExponent from → r ≡ noReading from b → ExponentRead s from b r
+  none-told : (r : Reading) → exponentOf s from ≡ noExponent from → r ≡ noReading from b → ExponentRead s from b r
   unfolding noReading noExponent
-  none-told r h n e =
+  none-told r n e =
       record {
         exponent-next = rw e byte;
         exponent-whole = λ (k : isDigit (r .next) ≡ false). none-reading r n e;
         exponent-after = λ (k : isDigit (r .next) ≡ false). rw e at k;
-        exponent-within = rw e h;
+        exponent-short = rw e (omega arith);
         exponent-few = rw e (omega arith);
       }
 
-  pub exponent-none : (r : Reading) → from ≤ length s → not t ≡ true → r ≡ noReading from b → ExponentRead s from b r
+  pub exponent-none : (r : Reading) → not t ≡ true → r ≡ noReading from b → ExponentRead s from b r
   unfolding exponentOf
-  exponent-none r h off e = none-told r h (if-false _ _ (sym e-told ∙ not-true t off)) e
+  exponent-none r off e = none-told r (if-false _ _ (sym e-told ∙ not-true t off)) e
 
   module _ (on : not t ≡ false) where
-    e-there : from < length s
-    unfolding isE either
-    e-there = inside isE s from refl (sym e-told ∙ not-false t on)
-
-    pub e-few : length s * 1 < 2 ^ 63 → from + 1 < countCap
-    e-few long =
-        let h : from < length s = e-there in
-        omega arith
-
     module _ (sign digits : ℕ) (is : sign ≡ getD s (from + 1) 0) (start : digits ≡ (if isSign sign then from + 1 + 1 else from + 1)) where
       start-is : digits ≡ pastSign s (from + 1)
       unfolding pastSign
       start-is = rw is at start
 
-      pub sign-there-within : digits ≤ length s
-      sign-there-within =
-          let h : from < length s = e-there in
-          rw start-is (sign-within s (from + 1) (omega arith))
+      start-near : digits ≤ from + 2
+      start-near = rw start (by-test (λ (n : ℕ). n ≤ from + 2) (isSign sign) _ _ (λ e. omega arith) (λ e. omega arith))
 
       module _ (x : Run) (read : x ≡ runFrom s digits 0) where
         at-digits : exponentOf s from ≡ exponentAt s from digits
@@ -593,27 +566,31 @@ module _ (s : List ℕ) (from b : ℕ) (t : Bool) (byte : b ≡ getD s from 0) (
         unfolding readingAt
         read-plain other = rw (← read-exponent-is other, next-read)
 
-      module _ (x : Run) (stop : ℕ) (few : stop ≡ min (length s) (digits + 9)) (read : RunRead s digits stop 0 x) where
+      module _ (x : Run) (read : RunRead s digits (digits + 9) 0 x) where
         -- where no digit is read none stands
         bare-next : x .end ≡ digits → isDigit (x .next) ≡ false
-        unfolding isDigit within both
         bare-next same =
             by-cases _ (isDigit (x .next))
             (λ (t : isDigit (x .next) ≡ true).
-            let h : stop ≤ x .end = read .run-full t in
-            let z : x .next ≡ 0 = read .run-next ∙ List·getD-eq-default s 0 (omega arith) in
-            absurd (true≢false (sym t ∙ ap isDigit z)))
+            let h : digits + 9 ≤ x .end = read .run-full t in
+            absurd (omega arith))
             (λ (t : isDigit (x .next) ≡ false). t)
 
-        pub exponent-bare : (r : Reading) → from ≤ length s → x .end ≡ digits → r ≡ noReading from b → ExponentRead s from b r
-        exponent-bare r h same e = none-told r h (bare-plain x (read .run-whole (bare-next same)) same) e
+        pub exponent-bare : (r : Reading) → x .end ≡ digits → r ≡ noReading from b → ExponentRead s from b r
+        exponent-bare r same e = none-told r (bare-plain x (read .run-whole (bare-next same)) same) e
 
         value-small : x .value < 1_000_000_000
         value-small =
-            let a : x .value < weight (x .value) (x .end) stop = weight-above (x .value) (x .end) stop in
-            let b : weight (x .value) (x .end) stop ≤ weight 0 digits stop = read .run-light in
-            let c : weight 0 digits stop ≤ 10 ^ 9 = weight-first digits stop 9 (omega arith) in
+            let a : x .value < weight (x .value) (x .end) (digits + 9) = weight-above (x .value) (x .end) (digits + 9) in
+            let b : weight (x .value) (x .end) (digits + 9) ≤ weight 0 digits (digits + 9) = read .run-light in
+            let c : weight 0 digits (digits + 9) ≤ 10 ^ 9 = weight-first digits (digits + 9) 9 (omega arith) in
             omega arith
+
+        value-near : x .end ≤ from + 11
+        value-near =
+            let a : x .end - digits ≤ digits + 9 - digits = read .run-short in
+            let b : digits ≤ x .end = read .run-from in
+            omega (arith, start-near)
 
         pub exponent-told : (x .end ≡ digits → ⊥) → ExponentRead s from b (record { exponent = record { size = x .value; negative = eqb sign 45; end = x .end }; next = x .next })
         exponent-told other =
@@ -621,7 +598,7 @@ module _ (s : List ℕ) (from b : ℕ) (t : Bool) (byte : b ≡ getD s from 0) (
               exponent-next = read .run-next;
               exponent-whole = λ (e : isDigit (x .next) ≡ false). read-plain x (read .run-whole e) other;
               exponent-after = λ (e : isDigit (x .next) ≡ false). e-no-digit b (sym told ∙ not-false t on);
-              exponent-within = read .run-within;
+              exponent-short = value-near;
               exponent-few = value-small;
             }
 

@@ -6,9 +6,7 @@ use mathlib.Core.Path.{_≡_}
 use mathlib.Core.Bool.{Bool, true, false}
 use mathlib.Core.List.{List}
 use mathlib.Core.Logic.{_⊎_}
-use lib.ListN.{length, take, drop, getD}
-use lib.Dec.{ltb}
-use Rattle.base.specs.If.{both}
+use lib.ListN.{take, drop, getD}
 use Rattle.base.specs.Bytes.{isDigit}
 use Rattle.base.specs.Runs.{run}
 use Rattle.base.specs.Class.{isFilled, runEnd}
@@ -19,7 +17,6 @@ use Rattle.number.specs.declared.Exponent.{Exponent}
 use Rattle.number.specs.declared.Scale.{Scale}
 use Rattle.number.specs.declared.Number.{Number}
 use Rattle.number.specs.declared.NumberAt.{NumberAt}
-use Rattle.number.specs.declared.Near.{Near}
 use Rattle.number.specs.declared.Run.{Run}
 use Rattle.number.specs.declared.Plain.{Plain}
 use Rattle.number.specs.declared.Reading.{Reading}
@@ -47,13 +44,6 @@ runFrom s from a =
       next = getD s (runEnd isDigit s from) 0;
     }
 
--- the number that four digits at a place write, and eight
-unfoldable pub fourAt : List ℕ → ℕ → ℕ
-fourAt s at = 100 * (10 * (getD s at 0 - 48) + (getD s (at + 1) 0 - 48)) + (10 * (getD s (at + 2) 0 - 48) + (getD s (at + 3) 0 - 48))
-
-unfoldable pub blockAt : List ℕ → ℕ → ℕ
-blockAt s at = 10_000 * fourAt s at + fourAt s (at + 4)
-
 -- digits of s without what their zeros say, and with the byte where they end
 unfoldable pub plainAt : List ℕ → Digits → Plain
 plainAt s d = record { all = d .all; fraction = d .fraction; some = d .some; end = d .end; next = getD s (d .end) 0 }
@@ -64,10 +54,6 @@ readingAt s x = record { exponent = x; next = getD s (x .end) 0 }
 
 unfoldable pub noReading : ℕ → ℕ → Reading
 noReading from b = record { exponent = noExponent from; next = b }
-
--- a word goes on at a place: the line does, and no blank stands there
-unfoldable pub goesAt : List ℕ → ℕ → Bool
-goesAt s at = both (ltb at (length s)) (isFilled (getD s at 0))
 
 -- the parts of the number at the front of s
 unfoldable pub partsOf : List ℕ → Parts
@@ -81,10 +67,6 @@ partsOf s =
 
 -- ---- what is read of few bytes. Digits that go on where the reader stops are not read whole, and their next byte tells it.
 
--- the answer whether eight digits stand at a place: where it is yes they do
-pub record AreDigits (s : List ℕ) (from : ℕ) (answer : Bool) : Type 0 where
-  pub are-digits : answer ≡ true → 8 ≤ run isDigit (drop from s)
-
 -- what digits up to `stop` may still make of a number stays below this
 unfoldable pub weight : ℕ → ℕ → ℕ → ℕ
 weight value i stop = (value + 1) * 10 ^ (stop - i)
@@ -95,13 +77,12 @@ pub record RunRead (s : List ℕ) (from stop before : ℕ) (r : Run) : Type 0 wh
   pub run-full : isDigit (r .next) ≡ true → stop ≤ r .end
   pub run-light : weight (r .value) (r .end) stop ≤ weight before from stop
   pub run-from : from ≤ r .end
-  pub run-within : r .end ≤ length s
   pub run-short : r .end - from ≤ stop - from
 
 pub record DigitsRead (s : List ℕ) (from : ℕ) (d : Plain) : Type 0 where
   pub digits-next : d .next ≡ getD s (d .end) 0
   pub digits-whole : isDigit (d .next) ≡ false → d ≡ plainAt s (scan (drop from s) (noDigits from))
-  pub digits-within : d .end ≤ length s
+  pub digits-short : d .end ≤ from + 20
   pub fraction-few : d .fraction ≤ 19
 
 -- the byte b stands where the exponent may start
@@ -109,7 +90,7 @@ pub record ExponentRead (s : List ℕ) (from b : ℕ) (x : Reading) : Type 0 whe
   pub exponent-next : x .next ≡ getD s (x .exponent .end) 0
   pub exponent-whole : isDigit (x .next) ≡ false → x ≡ readingAt s (exponentOf s from)
   pub exponent-after : isDigit (x .next) ≡ false → isDigit b ≡ false
-  pub exponent-within : x .exponent .end ≤ length s
+  pub exponent-short : x .exponent .end ≤ from + 11
   pub exponent-few : x .exponent .size < 1_000_000_000
 
 -- parts that so few bytes write that no sum of theirs is cut
@@ -120,12 +101,8 @@ pub record Few (p : Parts) : Type 0 where
 pub record PartsRead (s : List ℕ) (p : Parts) : Type 0 where
   pub parts-next : p .next ≡ getD s (p .exponent .end) 0
   pub parts-whole : isDigit (p .next) ≡ false → p ≡ partsOf s
-  pub parts-within : p .exponent .end ≤ length s
+  pub parts-short : p .exponent .end ≤ 32
   pub parts-few : Few p
-
--- an answer that is the number's where it is known
-pub record Knows (s : List ℕ) (from : ℕ) (r : Near) : Type 0 where
-  pub knows : r .known ≡ true → record { number = r .number; end = r .end } ≡ numberAt s from
 
 -- a number as a size and the zeros after it
 pub record Splits (all size zeros : ℕ) : Type 0 where

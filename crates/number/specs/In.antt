@@ -2,6 +2,7 @@
 -- Assumes nothing.
 use Prim.Native.Nat.{ℕ}
 use Prim.Native.Char.{code}
+use mathlib.Core.Path.{_≡_}
 use mathlib.Core.Bool.{Bool, true, false}
 use mathlib.Core.List.{List}
 use lib.ListN.{take, drop}
@@ -14,6 +15,7 @@ use Rattle.number.specs.Number.{isSign, numberOf}
 use Rattle.number.specs.declared.Number.{Number}
 use Rattle.number.specs.declared.Number.the-variants.{Value, Malformed, Range}
 use Rattle.number.specs.declared.NumberAt.{NumberAt}
+use Rattle.number.specs.declared.Near.{Near}
 
 -- what words are made of: content that is not blank
 unfoldable pub isWord : ℕ → ℕ → Bool
@@ -33,3 +35,7 @@ isValue Range = false
 unfoldable pub numberIn : ℕ → List ℕ → ℕ → NumberAt
 numberIn comment s from =
     record { number = numberOf (take (run (isWord comment) (drop from s)) (drop from s)); end = runEnd (isWord comment) s from }
+
+-- an answer that is the number's where it is known
+pub record Knows (comment : ℕ) (s : List ℕ) (from : ℕ) (r : Near) : Type 0 where
+  pub knows : r .known ≡ true → record { number = r .number; end = r .end } ≡ numberIn comment s from

@@ -4,3 +4,4 @@ pub mod ValueWord
 pub mod Capped
 pub mod At
 pub mod In
+pub mod Block

@@ -2,19 +2,20 @@
 // Words of any length are read in one pass: numbers too great to matter are cut on the way, which changes no answer.
 ghost use mathlib.Core.Path.{_≡_};
 ghost use mathlib.Core.Bool.{true, false};
-ghost use Prim.Native.Nat.{_+_, _-_, _*_, _<_, _≤_, min};
+ghost use Prim.Native.Nat.{_+_, _-_, _*_, _/_, _^_, _<_, _≤_, min};
 ghost use lib.ListN.{length, take, drop, getD};
-ghost use Rattle.base.specs.If.{if_then_else_, both, either};
-ghost use Rattle.base.specs.Bytes.{within, isBlank, isDigit, isLetter};
-ghost use Rattle.base.specs.Runs.{run};
+ghost use Rattle.base.specs.If.{if_then_else_, both};
+ghost use Rattle.base.specs.Bytes.{within, isDigit, isLetter};
+ghost use Rattle.base.specs.Runs.{all};
 ghost use Rattle.base.specs.Class.{runEnd};
-ghost use lib.Dec.{leb, ltb};
+ghost use lib.Dec.{ltb};
 ghost use Rattle.number.specs.Number.{isSign, isMinus, isE, pastSign, goesOn, noDigits, withPoint, withDigit, withByte, scan, noExponent, exponentOf, scaleOf, raised, lowered, valueAs, wellFormed, numberOf, isFormed, isBounded};
-ghost use Rattle.number.specs.Integer.{wholeOf};
+ghost use Rattle.number.specs.Integer.{valueOf, wholeOf};
 ghost use Rattle.number.specs.ValueWord.{valueWord, decimalOf, isDecimal, isValueWord};
 ghost use Rattle.number.specs.Capped.{exponentCap, countCap, cappedDigits, cappedExponent, sizeAt, raising, lowering, Kept, Bounded};
-ghost use Rattle.number.specs.At.{numberAt, fourBits, fourAt, blockAt, AreDigits, weight, noReading, goesAt, RunRead, DigitsRead, ExponentRead, PartsRead, Knows, Few, Splits, Says};
-ghost use Rattle.number.specs.In.{isWord, isSpelling, isValue, numberIn};
+ghost use Rattle.number.specs.At.{numberAt, fourBits, weight, noReading, RunRead, DigitsRead, ExponentRead, PartsRead, Few, Splits, Says};
+ghost use Rattle.number.specs.Block.{bytesOf, AreDigits, paired};
+ghost use Rattle.number.specs.In.{isWord, isSpelling, isValue, numberIn, Knows};
 use base::Class;
 
 // Digits are read at once up to so many bytes, their point counted: what they write fits a word. A number of more goes the long way.
@@ -23,8 +24,9 @@ const MOST_DIGITS: usize = 19;
 // The same of an exponent.
 const MOST_EXPONENT: usize = 9;
 
-// So many digits behind a point are read together.
-const BLOCK: usize = 8;
+// A number is read the short way where so many bytes follow: then its sign, its digits, its exponent and two letters of its unit stand
+// before the end, and none of them is asked for it.
+const ROOM: usize = 40;
 
 // What the capitals from G on raise by, four bits for each. To find a letter's scale so takes no branch that a processor has to guess.
 const CAPITALS_RAISE: u64 = 0x00c0_0000_0600_0009;
@@ -526,14 +528,26 @@ pub struct NumberAt {
     pub end: usize,
 }
 
-// The same, if it is known.
-pub struct Near {
-    pub known: bool,
-    pub number: Number,
-    pub end: usize,
+// The number that stands at `from` in a line, and where its word ends: first the word's end, then what it says.
+pub fn number_at(s: &[u8], from: usize) -> NumberAt
+    ensures { λ r. ⌜ r ≡ numberAt (now (s .entry)) from ⌝ }
+{
+    if s.len() <= from {
+        return NumberAt {
+            number: Number::Malformed,
+            end: from,
+        };
+    }
+    let end = base::skip(Class::Filled, s, from);
+    NumberAt {
+        number: read_number(&s[from..end]),
+        end,
+    }
 }
 
-// A run of digits: the number that it writes, where it ends, and the byte there, 0 past the end.
+// ---- a number of few bytes, gone over once
+
+// A run of digits: the number that it writes, where it ends, and the byte there.
 pub struct Run {
     pub value: u64,
     pub end: usize,
@@ -570,22 +584,10 @@ struct Trimmed {
     zeros: u64,
 }
 
-// Where the bytes from `from` on end that are read at once: `most` of them, and no more than there are.
-fn few_end(s: &[u8], from: usize, most: usize) -> usize
-    requires { ⌜ from ≤ length (now s) ⌝ ∗ ⌜ most ≤ 19 ⌝ }
-    ensures { λ r. ⌜ r ≡ min (length (now (s .entry))) (from + most) ⌝ }
-{
-    let end = from + most;
-    if s.len() < end {
-        return s.len();
-    }
-    end
-}
-
 // The number that the run of digits at `from` writes, those before it being `before`: up to `stop` at most, so that nothing need be
 // cut.
 fn read_run(s: &[u8], from: usize, stop: usize, before: u64) -> Run
-    requires { ⌜ from ≤ length (now s) ⌝ ∗ ⌜ stop ≤ length (now s) ⌝ ∗ ⌜ weight before from stop ≤ exponentCap ⌝ }
+    requires { ⌜ from < length (now s) ⌝ ∗ ⌜ stop < length (now s) ⌝ ∗ ⌜ weight before from stop ≤ exponentCap ⌝ }
     ensures { λ r. ⌜ RunRead (now (s .entry)) from stop before r ⌝ }
 {
     let mut value = before;
@@ -611,7 +613,7 @@ fn read_run(s: &[u8], from: usize, stop: usize, before: u64) -> Run
         value = 10 * value + digit;
         i += 1;
     }
-    let next = base::byte_at(s, i);
+    let next = s[i];
     Run {
         value,
         end: i,
@@ -619,56 +621,82 @@ fn read_run(s: &[u8], from: usize, stop: usize, before: u64) -> Run
     }
 }
 
-// Whether a block of bytes are digits. Each is looked at, so that a processor takes them at once.
-fn are_digits(s: &[u8], from: usize) -> bool
-    requires { ⌜ from + 8 ≤ length (now s) ⌝ }
-    ensures { λ r. ⌜ AreDigits (now (s .entry)) from r ⌝ }
+// Whether eight bytes, taken together as a word, are digits: the high half of each is 3, and still is with 6 more.
+fn are_eight(word: u64) -> bool
+    ensures { λ r. ⌜ AreDigits 8 word r ⌝ }
 {
-    let end = from + BLOCK;
-    let mut whole = true;
-    let mut i = from;
-    while i < end {
-        whole = base::and(whole, base::is_digit(s[i]));
-        i += 1;
+    if word & 0xf0f0_f0f0_f0f0_f0f0 != 0x3030_3030_3030_3030 {
+        return false;
     }
-    whole
+    (word + 0x0606_0606_0606_0606) & 0xf0f0_f0f0_f0f0_f0f0 == 0x3030_3030_3030_3030
 }
 
-// What a digit says.
-fn digit_at(s: &[u8], at: usize) -> u64
-    requires { ⌜ isDigit (getD (now s) at 0) ≡ true ⌝ }
-    ensures { λ r. ⌜ r ≡ getD (now (s .entry)) at 0 - 48 ⌝ ∗ ⌜ r ≤ 9 ⌝ }
+// The same of four.
+fn are_four(word: u64) -> bool
+    requires { ⌜ word < 4_294_967_296 ⌝ }
+    ensures { λ r. ⌜ AreDigits 4 word r ⌝ }
 {
-    wide(s[at]) - 48
+    if word & 0xf0f0_f0f0 != 0x3030_3030 {
+        return false;
+    }
+    (word + 0x0606_0606) & 0xf0f0_f0f0 == 0x3030_3030
+}
+
+// The numbers that stand in a word side by side, each `width` bits wide, two and two made one: the first times `factor`, and the second.
+// They come to stand twice as wide, and the mask takes away what is between them.
+fn paired(word: u64, width: u64, factor: u64, mask: u64) -> u64
+    requires { ⌜ width < 64 ⌝ ∗ ⌜ factor * word + word / 2 ^ width < 18_446_744_073_709_551_616 ⌝ }
+    ensures { λ r. ⌜ r ≡ paired word width factor mask ⌝ }
+{
+    (factor * word + (word >> width)) & mask
+}
+
+// The number that eight digits write, taken together as a word.
+fn eight_value(word: u64) -> u64
+    requires { ⌜ all isDigit (bytesOf 8 word) ≡ true ⌝ }
+    ensures { λ r. ⌜ r ≡ valueOf 0 (bytesOf 8 word) ⌝ ∗ ⌜ r < 100_000_000 ⌝ }
+{
+    let ones = word - 0x3030_3030_3030_3030;
+    let twos = paired(ones, 8, 10, 0x00ff_00ff_00ff_00ff);
+    let fours = paired(twos, 16, 100, 0x0000_ffff_0000_ffff);
+    paired(fours, 32, 10_000, 0xffff_ffff)
 }
 
 // The number that four digits write.
-fn four_at(s: &[u8], at: usize) -> u64
-    requires { ⌜ 4 ≤ run isDigit (drop at (now s)) ⌝ }
-    ensures { λ r. ⌜ r ≡ fourAt (now (s .entry)) at ⌝ ∗ ⌜ r ≤ 9999 ⌝ }
+fn four_value(word: u64) -> u64
+    requires { ⌜ all isDigit (bytesOf 4 word) ≡ true ⌝ ∗ ⌜ word < 4_294_967_296 ⌝ }
+    ensures { λ r. ⌜ r ≡ valueOf 0 (bytesOf 4 word) ⌝ ∗ ⌜ r < 10_000 ⌝ }
 {
-    let high = 10 * digit_at(s, at) + digit_at(s, at + 1);
-    let low = 10 * digit_at(s, at + 2) + digit_at(s, at + 3);
-    100 * high + low
+    let ones = word - 0x3030_3030;
+    let twos = paired(ones, 8, 10, 0x00ff_00ff);
+    paired(twos, 16, 100, 0xffff)
 }
 
-// The number that a block of digits write: its parts do not wait for each other, as one digit after the other would.
-fn block_at(s: &[u8], at: usize) -> u64
-    requires { ⌜ 8 ≤ run isDigit (drop at (now s)) ⌝ }
-    ensures { λ r. ⌜ r ≡ blockAt (now (s .entry)) at ⌝ ∗ ⌜ r ≤ 99_999_999 ⌝ }
-{
-    10_000 * four_at(s, at) + four_at(s, at + 4)
-}
-
-// As `read_run`, for digits behind a point, which are often many: a block of them, then the rest.
-fn read_part(s: &[u8], from: usize, stop: usize, before: u64) -> Run
-    requires { ⌜ from ≤ length (now s) ⌝ ∗ ⌜ stop ≤ length (now s) ⌝ ∗ ⌜ weight before from stop ≤ exponentCap ⌝ }
+// As `read_run`, four digits at once where so many stand there.
+fn read_four(s: &[u8], from: usize, stop: usize, before: u64) -> Run
+    requires { ⌜ from < length (now s) ⌝ ∗ ⌜ stop < length (now s) ⌝ ∗ ⌜ weight before from stop ≤ exponentCap ⌝ }
     ensures { λ r. ⌜ RunRead (now (s .entry)) from stop before r ⌝ }
 {
-    let end = from + BLOCK;
+    let end = from + 4;
     if end <= stop {
-        if are_digits(s, from) {
-            return read_run(s, end, stop, 100_000_000 * before + block_at(s, from));
+        let word = base::four_at(s, from);
+        if are_four(word) {
+            return read_run(s, end, stop, 10_000 * before + four_value(word));
+        }
+    }
+    read_run(s, from, stop, before)
+}
+
+// As `read_run`, for digits behind a point, which are often many: eight at once, then four, then the rest.
+fn read_part(s: &[u8], from: usize, stop: usize, before: u64) -> Run
+    requires { ⌜ from < length (now s) ⌝ ∗ ⌜ stop < length (now s) ⌝ ∗ ⌜ weight before from stop ≤ exponentCap ⌝ }
+    ensures { λ r. ⌜ RunRead (now (s .entry)) from stop before r ⌝ }
+{
+    let end = from + 8;
+    if end <= stop {
+        let word = base::eight_at(s, from);
+        if are_eight(word) {
+            return read_four(s, end, stop, 100_000_000 * before + eight_value(word));
         }
     }
     read_run(s, from, stop, before)
@@ -676,10 +704,10 @@ fn read_part(s: &[u8], from: usize, stop: usize, before: u64) -> Run
 
 // The digits that stand at `from`: a run, and where a point follows it another.
 fn plain_digits(s: &[u8], from: usize) -> Plain
-    requires { ⌜ from ≤ length (now s) ⌝ }
+    requires { ⌜ from + 20 < length (now s) ⌝ }
     ensures { λ r. ⌜ DigitsRead (now (s .entry)) from r ⌝ }
 {
-    let stop = few_end(s, from, MOST_DIGITS);
+    let stop = from + MOST_DIGITS;
     let whole = read_run(s, from, stop, 0);
     let end = whole.end;
     if whole.next != b'.' {
@@ -707,7 +735,7 @@ fn plain_digits(s: &[u8], from: usize) -> Plain
 // Past a byte where it is a sign.
 fn past(b: u8, at: usize) -> usize
     requires { ⌜ at < countCap ⌝ }
-    ensures { λ r. ⌜ r ≡ (if isSign b then at + 1 else at) ⌝ }
+    ensures { λ r. ⌜ r ≡ (if isSign b then at + 1 else at) ⌝ ∗ ⌜ r ≤ at + 1 ⌝ }
 {
     if is_sign(b) {
         return at + 1;
@@ -725,15 +753,15 @@ fn no_reading(from: usize, b: u8) -> Reading
 
 // The exponent that stands at `from`, where the byte b is.
 fn plain_exponent(s: &[u8], from: usize, b: u8) -> Reading
-    requires { ⌜ from ≤ length (now s) ⌝ ∗ ⌜ b ≡ getD (now s) from 0 ⌝ }
+    requires { ⌜ from + 11 < length (now s) ⌝ ∗ ⌜ b ≡ getD (now s) from 0 ⌝ }
     ensures { λ r. ⌜ ExponentRead (now (s .entry)) from b r ⌝ }
 {
     if !is_e(b) {
         return no_reading(from, b);
     }
-    let sign = base::byte_at(s, from + 1);
+    let sign = s[from + 1];
     let digits = past(sign, from + 1);
-    let stop = few_end(s, digits, MOST_EXPONENT);
+    let stop = digits + MOST_EXPONENT;
     let x = read_run(s, digits, stop, 0);
     if x.end == digits {
         return no_reading(from, b);
@@ -749,11 +777,12 @@ fn plain_exponent(s: &[u8], from: usize, b: u8) -> Reading
     }
 }
 
-// The parts of the number at the front of a line.
+// The parts of the number at the front of a text.
 fn parts_of(s: &[u8]) -> Parts
+    requires { ⌜ 40 ≤ length (now s) ⌝ }
     ensures { λ r. ⌜ PartsRead (now (s .entry)) r ⌝ }
 {
-    let first = base::byte_at(s, 0);
+    let first = s[0];
     let digits = plain_digits(s, past(first, 0));
     let reading = plain_exponent(s, digits.end, digits.next);
     let exponent = reading.exponent;
@@ -763,29 +792,6 @@ fn parts_of(s: &[u8]) -> Parts
         exponent,
         next: reading.next,
     }
-}
-
-// Whether a word goes on at `at`: it ends at the line's end and at a blank.
-fn goes_at(s: &[u8], at: usize) -> bool
-    ensures { λ r. ⌜ r ≡ goesAt (now (s .entry)) at ⌝ }
-{
-    if at >= s.len() {
-        return false;
-    }
-    base::in_class(Class::Filled, s[at])
-}
-
-// Whether the byte b tells that a word ends at `at`, or the line does.
-fn ends_by(b: u8, s: &[u8], at: usize) -> bool
-    ensures { λ r. ⌜ r ≡ either (isBlank b) (leb (length (now (s .entry))) at) ⌝ }
-{
-    if b == 32 {
-        return true;
-    }
-    if b == 9 {
-        return true;
-    }
-    s.len() <= at
 }
 
 // Where the letters at `from` end.
@@ -832,101 +838,6 @@ fn plain_value(parts: Parts, c: Scale) -> Number
     judged(parts.negative, m.size, up, down)
 }
 
-// The number that stands at `from`, whatever its word: first the word's end, then what it says.
-fn long_number(s: &[u8], from: usize) -> NumberAt
-    ensures { λ r. ⌜ r ≡ numberAt (now (s .entry)) from ⌝ }
-{
-    if s.len() <= from {
-        return NumberAt {
-            number: Number::Malformed,
-            end: from,
-        };
-    }
-    let end = base::skip(Class::Filled, s, from);
-    NumberAt {
-        number: read_number(&s[from..end]),
-        end,
-    }
-}
-
-// Not known on the short way: the long one tells.
-fn unknown(from: usize) -> Near
-    ensures { λ r. ⌜ r .known ≡ false ⌝ }
-{
-    Near {
-        known: false,
-        number: Number::Malformed,
-        end: from,
-    }
-}
-
-// The number at `from` of which the parts are read: known where letters follow them.
-fn scaled_number(s: &[u8], from: usize, parts: Parts) -> Near
-    requires { ⌜ from < length (now s) ⌝ ∗ ⌜ PartsRead (take (length (now s) - from) (drop from (now s))) parts ⌝ }
-    ensures { λ r. ⌜ Knows (now (s .entry)) from r ⌝ }
-{
-    let digits = parts.digits;
-    if !digits.some {
-        return unknown(from);
-    }
-    if !base::is_letter(parts.next) {
-        return unknown(from);
-    }
-    let exponent = parts.exponent;
-    let end = letters_end(s, from + exponent.end + 1);
-    if goes_at(s, end) {
-        return unknown(from);
-    }
-    let scale = scale_of(parts.next);
-    Near {
-        known: true,
-        number: plain_value(parts, scale),
-        end,
-    }
-}
-
-// The number that stands at `from`: known where its digits are few, and gone over once.
-fn near_number(s: &[u8], from: usize) -> Near
-    ensures { λ r. ⌜ Knows (now (s .entry)) from r ⌝ }
-{
-    if s.len() <= from {
-        return unknown(from);
-    }
-    let parts = parts_of(&s[from..]);
-    let exponent = parts.exponent;
-    let end = from + exponent.end;
-    if !ends_by(parts.next, s, end) {
-        return scaled_number(s, from, parts);
-    }
-    let digits = parts.digits;
-    if !digits.some {
-        return unknown(from);
-    }
-    let scale = Scale { up: 0, down: 0 };
-    Near {
-        known: true,
-        number: plain_value(parts, scale),
-        end,
-    }
-}
-
-// The number that stands at `from` in a line, and where its word ends. The long way is lent another slice and its answer is taken apart:
-// so neither the line nor the answer of the short way has to stand in memory.
-pub fn number_at(s: &[u8], from: usize) -> NumberAt
-    ensures { λ r. ⌜ r ≡ numberAt (now (s .entry)) from ⌝ }
-{
-    let near = near_number(s, from);
-    if near.known {
-        let number = near.number;
-        let end = near.end;
-        return NumberAt { number, end };
-    }
-    let far = long_number(&s[0..], from);
-    let number = far.number;
-    let end = far.end;
-    NumberAt { number, end }
-}
-
 // ---- a number where it stands in a text whose lines are not cut out
 
 // What words are made of: content that is not blank.
@@ -963,9 +874,8 @@ pub fn word_end(s: &[u8], from: usize, comment: u8) -> usize
     i
 }
 
-// The number that stands at `from`, and where its word ends.
-pub fn number_in(s: &[u8], from: usize, comment: u8) -> NumberAt
-    requires { ⌜ isSpelling comment ≡ false ⌝ }
+// The number that stands at `from`, whatever its word: first the word's end, then what it says.
+fn far_number(s: &[u8], from: usize, comment: u8) -> NumberAt
     ensures { λ r. ⌜ r ≡ numberIn comment (now (s .entry)) from ⌝ }
 {
     if s.len() <= from {
@@ -979,6 +889,114 @@ pub fn number_in(s: &[u8], from: usize, comment: u8) -> NumberAt
         number: read_number(&s[from..end]),
         end,
     }
+}
+
+// A number and where its word ends, if they are known.
+pub struct Near {
+    pub known: bool,
+    pub number: Number,
+    pub end: usize,
+}
+
+// Not known on the short way: the long one tells.
+fn unknown(from: usize) -> Near
+    ensures { λ r. ⌜ r .known ≡ false ⌝ }
+{
+    Near {
+        known: false,
+        number: Number::Malformed,
+        end: from,
+    }
+}
+
+// Past the byte at `at` where it is a letter: a unit of two letters is so passed without a branch.
+fn past_letter(s: &[u8], at: usize) -> usize
+    requires { ⌜ at < length (now s) ⌝ }
+    ensures { λ r. ⌜ r ≡ (if isLetter (getD (now (s .entry)) at 0) then at + 1 else at) ⌝ ∗ ⌜ r ≤ at + 1 ⌝ }
+{
+    if base::is_letter(s[at]) {
+        return at + 1;
+    }
+    at
+}
+
+// The number at `from` of which the parts are read and a word goes on: known where letters follow them.
+fn scaled_in(s: &[u8], from: usize, comment: u8, parts: Parts) -> Near
+    requires { ⌜ isSpelling comment ≡ false ⌝ ∗ ⌜ from < length (now s) ⌝ ∗ ⌜ 40 ≤ length (now s) - from ⌝ ∗ ⌜ PartsRead (take (length (now s) - from) (drop from (now s))) parts ⌝ }
+    ensures { λ r. ⌜ Knows comment (now (s .entry)) from r ⌝ }
+{
+    let digits = parts.digits;
+    if !digits.some {
+        return unknown(from);
+    }
+    if !base::is_letter(parts.next) {
+        return unknown(from);
+    }
+    let exponent = parts.exponent;
+    let scale = scale_of(parts.next);
+    let near = past_letter(s, from + exponent.end + 1);
+    if !is_word(comment, s[near]) {
+        return Near {
+            known: true,
+            number: plain_value(parts, scale),
+            end: near,
+        };
+    }
+    let end = letters_end(s, near);
+    if is_word_at(s, end, comment) {
+        return unknown(from);
+    }
+    Near {
+        known: true,
+        number: plain_value(parts, scale),
+        end,
+    }
+}
+
+// The number that stands at `from`: known where its bytes are few, and gone over once.
+fn near_in(s: &[u8], from: usize, comment: u8) -> Near
+    requires { ⌜ isSpelling comment ≡ false ⌝ }
+    ensures { λ r. ⌜ Knows comment (now (s .entry)) from r ⌝ }
+{
+    if s.len() <= from {
+        return unknown(from);
+    }
+    if s.len() - from < ROOM {
+        return unknown(from);
+    }
+    let parts = parts_of(&s[from..]);
+    if is_word(comment, parts.next) {
+        return scaled_in(s, from, comment, parts);
+    }
+    let digits = parts.digits;
+    if !digits.some {
+        return unknown(from);
+    }
+    let exponent = parts.exponent;
+    let scale = Scale { up: 0, down: 0 };
+    Near {
+        known: true,
+        number: plain_value(parts, scale),
+        end: from + exponent.end,
+    }
+}
+
+// The number that stands at `from`, and where its word ends. The long way is lent another slice and its answer is taken apart: so
+// neither the text nor the answer of the short way has to stand in memory.
+pub fn number_in(s: &[u8], from: usize, comment: u8) -> NumberAt
+    requires { ⌜ isSpelling comment ≡ false ⌝ }
+    ensures { λ r. ⌜ r ≡ numberIn comment (now (s .entry)) from ⌝ }
+{
+    let near = near_in(s, from, comment);
+    if near.known {
+        let number = near.number;
+        let end = near.end;
+        return NumberAt { number, end };
+    }
+    let far = far_number(&s[0..], from, comment);
+    let number = far.number;
+    let end = far.end;
+    NumberAt { number, end }
 }
 
 // Whether a word is a number within its bounds.

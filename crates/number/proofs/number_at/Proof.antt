@@ -1,39 +1,40 @@
--- `number::number_at` meets its contract: what is known, else what the long way tells.
+-- `number::number_at` meets its contract: the word from its start to its end.
 -- Assumes nothing.
-use Rattle.number.proofs.InLineLaws.{near-is, far-is}
+use Rattle.base.proofs.RunLaws.{run-starts, run-ends}
+use Rattle.number.proofs.InLineLaws.{at-past, long-is}
 use borrow.Author.Needs.{needs}
 use Rattle.number.proofs.number_at.Statement.{statement}
 use Rattle.number.proofs.number_at.Tie as tie
 
-near-number-requires : tie.Need-near-number-requires
-near-number-requires c κs = search needs
-
 returns : tie.Need-returns
-returns c = search near-is
+returns c = search at-past
 
-sub-long-number : tie.Need-sub-long-number
-sub-long-number c = search needs
+skip-requires : tie.Need-skip-requires
+skip-requires c κs = search needs
 
-part-long-number-start : tie.Need-part-long-number-start
-part-long-number-start c = search needs
+sub-read-number : tie.Need-sub-read-number
+sub-read-number c = search needs
 
-part-long-number-end : tie.Need-part-long-number-end
-part-long-number-end c = search needs
+part-read-number-start : tie.Need-part-read-number-start
+part-read-number-start c = search needs
 
-long-number-requires : tie.Need-long-number-requires
-long-number-requires c κs = search needs
+part-read-number-end : tie.Need-part-read-number-end
+part-read-number-end c = search (needs, run-starts, run-ends)
+
+read-number-requires : tie.Need-read-number-requires
+read-number-requires c κs = search needs
 
 returns-2 : tie.Need-returns-2
-returns-2 c = search far-is
+returns-2 c = search long-is
 
 pub number-at-spec : {M : Type 1} → statement M
 number-at-spec =
     tie.close
     (tie.spec
-    near-number-requires
     returns
-    sub-long-number
-    part-long-number-start
-    part-long-number-end
-    long-number-requires
+    skip-requires
+    sub-read-number
+    part-read-number-start
+    part-read-number-end
+    read-number-requires
     returns-2)

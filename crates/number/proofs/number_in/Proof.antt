@@ -1,40 +1,39 @@
--- `number::number_in` meets its contract: the word from its start to its end.
+-- `number::number_in` meets its contract: what is known, else what the long way tells.
 -- Assumes nothing.
-use Rattle.base.proofs.RunLaws.{run-starts, run-ends}
-use Rattle.number.proofs.InLaws.{in-past, in-is}
+use Rattle.number.proofs.InLaws.{near-is, far-is}
 use borrow.Author.Needs.{needs}
 use Rattle.number.proofs.number_in.Statement.{statement}
 use Rattle.number.proofs.number_in.Tie as tie
 
+near-in-requires : tie.Need-near-in-requires
+near-in-requires c κs = search needs
+
 returns : tie.Need-returns
-returns c = search in-past
+returns c = search near-is
 
-word-end-requires : tie.Need-word-end-requires
-word-end-requires c κs = search needs
+sub-far-number : tie.Need-sub-far-number
+sub-far-number c = search needs
 
-sub-read-number : tie.Need-sub-read-number
-sub-read-number c = search needs
+part-far-number-start : tie.Need-part-far-number-start
+part-far-number-start c = search needs
 
-part-read-number-start : tie.Need-part-read-number-start
-part-read-number-start c = search needs
+part-far-number-end : tie.Need-part-far-number-end
+part-far-number-end c = search needs
 
-part-read-number-end : tie.Need-part-read-number-end
-part-read-number-end c = search (needs, run-starts, run-ends)
-
-read-number-requires : tie.Need-read-number-requires
-read-number-requires c κs = search needs
+far-number-requires : tie.Need-far-number-requires
+far-number-requires c κs = search needs
 
 returns-2 : tie.Need-returns-2
-returns-2 c = search in-is
+returns-2 c = search far-is
 
 pub number-in-spec : {M : Type 1} → statement M
 number-in-spec =
     tie.close
     (tie.spec
+    near-in-requires
     returns
-    word-end-requires
-    sub-read-number
-    part-read-number-start
-    part-read-number-end
-    read-number-requires
+    sub-far-number
+    part-far-number-start
+    part-far-number-end
+    far-number-requires
     returns-2)

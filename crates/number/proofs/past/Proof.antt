@@ -12,10 +12,10 @@ add-result : tie.Need-add-result
 add-result c = search needs
 
 returns : tie.Need-returns
-returns c = search chain
+returns c = (search chain, search needs)
 
 returns-2 : tie.Need-returns-2
-returns-2 c = search chain
+returns-2 c = (search chain, search needs)
 
 pub past-spec : {M : Type 1} → statement M
 past-spec = tie.close (tie.spec is-sign-requires add-result returns returns-2)

@@ -1,15 +1,15 @@
 -- `number::plain_digits` meets its contract: one run of digits, or two with a point between them.
 -- Assumes nothing.
-use Rattle.number.proofs.PlainLaws.{weight-few, digits-one, dot-within, dot-light, digits-two}
+use Rattle.number.proofs.PlainLaws.{weight-few, whole-short, digits-one, dot-light, digits-two}
 use borrow.Author.Needs.{needs}
 use Rattle.number.proofs.plain_digits.Statement.{statement}
 use Rattle.number.proofs.plain_digits.Tie as tie
 
-few-end-requires : tie.Need-few-end-requires
-few-end-requires c κs = search needs
+add-stop : tie.Need-add-stop
+add-stop c = search needs
 
 read-run-requires : tie.Need-read-run-requires
-read-run-requires c κs = search (needs, weight-few)
+read-run-requires c κs = (search needs, (search needs, search (needs, weight-few)))
 
 returns : tie.Need-returns
 returns c = search digits-one
@@ -18,7 +18,7 @@ add-point : tie.Need-add-point
 add-point c = search needs
 
 read-part-requires : tie.Need-read-part-requires
-read-part-requires c κs = (search dot-within, (search needs, search dot-light))
+read-part-requires c κs = (search needs, (search needs, search dot-light))
 
 sub-fraction : tie.Need-sub-fraction
 sub-fraction c = search needs
@@ -33,7 +33,7 @@ pub plain-digits-spec : {M : Type 1} → statement M
 plain-digits-spec =
     tie.close
     (tie.spec
-    few-end-requires
+    add-stop
     read-run-requires
     returns
     add-point

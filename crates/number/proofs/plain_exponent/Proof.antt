@@ -1,6 +1,6 @@
 -- `number::plain_exponent` meets its contract: none without an e, none without digits after it, else what the digits write.
 -- Assumes nothing.
-use Rattle.number.proofs.PlainLaws.{weight-few, exponent-none, e-few, sign-there-within, exponent-bare, exponent-told}
+use Rattle.number.proofs.PlainLaws.{weight-few, exponent-none, exponent-bare, exponent-told}
 use borrow.Author.Needs.{needs}
 use Rattle.number.proofs.plain_exponent.Statement.{statement}
 use Rattle.number.proofs.plain_exponent.Tie as tie
@@ -14,23 +14,23 @@ no-reading-requires c κs = search needs
 returns : tie.Need-returns
 returns c = search exponent-none
 
-add-byte-at : tie.Need-add-byte-at
-add-byte-at c = search needs
+add-sign : tie.Need-add-sign
+add-sign c = search needs
 
-byte-at-requires : tie.Need-byte-at-requires
-byte-at-requires c κs = search needs
+shared-slice-read-sign : tie.Need-shared-slice-read-sign
+shared-slice-read-sign c = search needs
 
 add-past : tie.Need-add-past
 add-past c = search needs
 
 past-requires : tie.Need-past-requires
-past-requires c κs = search e-few
+past-requires c κs = search needs
 
-few-end-requires : tie.Need-few-end-requires
-few-end-requires c κs = search (needs, sign-there-within)
+add-stop : tie.Need-add-stop
+add-stop c = search needs
 
 read-run-requires : tie.Need-read-run-requires
-read-run-requires c κs = (search sign-there-within, (search needs, search (needs, weight-few)))
+read-run-requires c κs = (search needs, (search needs, search (needs, weight-few)))
 
 no-reading-requires-2 : tie.Need-no-reading-requires-2
 no-reading-requires-2 c κs = search needs
@@ -48,11 +48,11 @@ plain-exponent-spec =
     is-e-requires
     no-reading-requires
     returns
-    add-byte-at
-    byte-at-requires
+    add-sign
+    shared-slice-read-sign
     add-past
     past-requires
-    few-end-requires
+    add-stop
     read-run-requires
     no-reading-requires-2
     returns-2

@@ -1,6 +1,6 @@
--- `number::read_part` meets its contract: eight steps of the run at once lead to the same end.
+-- `number::read_part` meets its contract: so many steps of the run at once lead to the same end.
 -- Assumes nothing.
-use Rattle.number.proofs.BlockLaws.{before-fits, block-fits, block-room, block-there, block-read}
+use Rattle.number.proofs.BlockLaws.{before-fits, block-fits, block-room, block-told, block-read}
 use borrow.Author.Needs.{needs}
 use Rattle.number.proofs.read_part.Statement.{statement}
 use Rattle.number.proofs.read_part.Tie as tie
@@ -8,26 +8,29 @@ use Rattle.number.proofs.read_part.Tie as tie
 add-end : tie.Need-add-end
 add-end c = search needs
 
-are-digits-requires : tie.Need-are-digits-requires
-are-digits-requires c κs = search needs
+eight-at-requires : tie.Need-eight-at-requires
+eight-at-requires c κs = search needs
 
-mul-read-run : tie.Need-mul-read-run
-mul-read-run c = search before-fits
+are-eight-requires : tie.Need-are-eight-requires
+are-eight-requires c κs = search needs
 
-block-at-requires : tie.Need-block-at-requires
-block-at-requires c κs = search block-there
+mul-read-four : tie.Need-mul-read-four
+mul-read-four c = search (needs, before-fits 8)
 
-add-read-run : tie.Need-add-read-run
-add-read-run c = search block-fits
+eight-value-requires : tie.Need-eight-value-requires
+eight-value-requires c κs = search (needs, block-told 8)
 
-read-run-requires : tie.Need-read-run-requires
-read-run-requires c κs = (search needs, (search needs, search block-room))
+add-read-four : tie.Need-add-read-four
+add-read-four c = search (block-fits 8)
+
+read-four-requires : tie.Need-read-four-requires
+read-four-requires c κs = (search needs, (search needs, search (block-room 8)))
 
 returns : tie.Need-returns
-returns c = search block-read
+returns c = search (block-read 8)
 
-read-run-requires-2 : tie.Need-read-run-requires-2
-read-run-requires-2 c κs = search needs
+read-run-requires : tie.Need-read-run-requires
+read-run-requires c κs = search needs
 
 returns-2 : tie.Need-returns-2
 returns-2 c = search needs
@@ -37,11 +40,12 @@ read-part-spec =
     tie.close
     (tie.spec
     add-end
-    are-digits-requires
-    mul-read-run
-    block-at-requires
-    add-read-run
-    read-run-requires
+    eight-at-requires
+    are-eight-requires
+    mul-read-four
+    eight-value-requires
+    add-read-four
+    read-four-requires
     returns
-    read-run-requires-2
+    read-run-requires
     returns-2)

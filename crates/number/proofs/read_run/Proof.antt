@@ -1,7 +1,7 @@
 -- `number::read_run` meets its contract. The loop's invariant: what is left, read on from the number so far, gives the whole.
 -- Assumes nothing.
 use borrow.Author.Needs.{needs}
-use Prim.Native.Nat.{_-_, _≤_}
+use Prim.Native.Nat.{_-_, _≤_, _<_}
 use lib.ListN.{length}
 use Rattle.number.specs.At.{runFrom, weight}
 use Rattle.number.proofs.PlainLaws.{Runs, runs-start, runs-on, read-low, read-high, read-last, run-times, run-digit, run-lighter}
@@ -9,7 +9,7 @@ use Rattle.number.proofs.read_run.Statement.{statement}
 use Rattle.number.proofs.read_run.Tie as tie
 
 abbrev Inv-loop : tie.InvT-loop
-Inv-loop s from stop before value₀ i₀ value i = (from ≤ i) × (i ≤ length s) × (i - from ≤ stop - from) × (weight value i stop ≤ weight before from stop) × Runs s i value (runFrom s from before)
+Inv-loop s from stop before value₀ i₀ value i = (from ≤ i) × (i < length s) × (i - from ≤ stop - from) × (weight value i stop ≤ weight before from stop) × Runs s i value (runFrom s from before)
 
 abbrev μ-loop : tie.MeasureT-loop
 μ-loop s from stop before value₀ i₀ value i = stop - i
@@ -44,8 +44,8 @@ loop-less c = search needs
 loop-again : tie.Need-loop-again Inv-loop μ-loop
 loop-again c = (search needs, search needs, search needs, search run-lighter, search runs-on)
 
-byte-at-requires : tie.Need-byte-at-requires Inv-loop μ-loop
-byte-at-requires c κs = search needs
+shared-slice-read-next-2 : tie.Need-shared-slice-read-next-2 Inv-loop μ-loop
+shared-slice-read-next-2 c = search needs
 
 returns-3 : tie.Need-returns-3 Inv-loop μ-loop
 returns-3 c = search (needs, read-last)
@@ -66,5 +66,5 @@ read-run-spec =
     add-i
     loop-less
     loop-again
-    byte-at-requires
+    shared-slice-read-next-2
     returns-3)

@@ -1,16 +1,16 @@
--- `number::long_number` meets its contract: the word from its start to its end.
+-- `number::far_number` meets its contract: the word from its start to its end.
 -- Assumes nothing.
 use Rattle.base.proofs.RunLaws.{run-starts, run-ends}
-use Rattle.number.proofs.InLineLaws.{at-past, long-is}
+use Rattle.number.proofs.InLaws.{in-past, in-is}
 use borrow.Author.Needs.{needs}
-use Rattle.number.proofs.long_number.Statement.{statement}
-use Rattle.number.proofs.long_number.Tie as tie
+use Rattle.number.proofs.far_number.Statement.{statement}
+use Rattle.number.proofs.far_number.Tie as tie
 
 returns : tie.Need-returns
-returns c = search at-past
+returns c = search in-past
 
-skip-requires : tie.Need-skip-requires
-skip-requires c κs = search needs
+word-end-requires : tie.Need-word-end-requires
+word-end-requires c κs = search needs
 
 sub-read-number : tie.Need-sub-read-number
 sub-read-number c = search needs
@@ -25,14 +25,14 @@ read-number-requires : tie.Need-read-number-requires
 read-number-requires c κs = search needs
 
 returns-2 : tie.Need-returns-2
-returns-2 c = search long-is
+returns-2 c = search in-is
 
-pub long-number-spec : {M : Type 1} → statement M
-long-number-spec =
+pub far-number-spec : {M : Type 1} → statement M
+far-number-spec =
     tie.close
     (tie.spec
     returns
-    skip-requires
+    word-end-requires
     sub-read-number
     part-read-number-start
     part-read-number-end
