@@ -8,8 +8,6 @@ use lib.Dec.{eqb, ltb}
 use lib.Seq.{sets}
 use Rattle.base.specs.If.{if_then_else_}
 use Rattle.matrix.specs.declared.Matrix.{Matrix}
-use Rattle.reading.specs.Walk.{Continued}
-use Rattle.reading.specs.declared.Walk.{Walk}
 use Rattle.storing.specs.Notes.{Note, Noted, Before, noteSize}
 use Rattle.body.specs.declared.BodyWalk.{BodyWalk}
 use Rattle.body.specs.Body.{noteOf}
@@ -42,10 +40,3 @@ notesBehind at line m values matrices w notes =
     if w .noted
     then (if eqb (w .part .number) 0 then notesAfter matrices (noteWords (noteOf at line m values w)) notes else notes)
     else notes
-
--- a walk that has gone on from another, with what it carries; the table and the notes are as long as they were
-pub record Going (t table notes : List ℕ) (w : Walk) (table' notes' : List ℕ) (v : Walk) : Type 0 where
-  pub continued : Continued t w v
-  pub carries : v .number ≡ 0 → Carries t table' notes' (v .state .counts .values)
-  pub table-long : length table' ≡ length table
-  pub notes-long : length notes' ≡ length notes

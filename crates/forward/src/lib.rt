@@ -21,9 +21,6 @@ const NOTE: usize = 9;
 // A text that is accepted has no more matrices.
 const MOST_MATRICES: u64 = 1024;
 
-// "to a depth of 8".
-const DEEPEST: u64 = 8;
-
 // The words of a note, at the place of the matrix that was opened last, if there is one.
 fn put_note(notes: &mut [u64], matrices: u64, words: &[u64])
     requires { ⌜ length (now words) ≡ 9 ⌝ }
@@ -155,53 +152,6 @@ fn read_line(
     reading::read_one(text, at, line, s)
 }
 
-// How many fork blocks are open.
-fn depth_of(s: State) -> u64 {
-    let path = s.path;
-    path.depth
-}
-
-// The lines of a block, up to the line that closes it. "A block may hold further blocks, to a depth of 8": an inner block is read by
-// the same function, and the depth still left falls. The file itself is the outermost block.
-fn read_block(
-    text: &[u8],
-    at: usize,
-    line: u64,
-    s: State,
-    left: u64,
-    table: &mut [u64],
-    notes: &mut [u64],
-) -> Walk
-    requires { ⌜ (at < length (now text)) × Onward (now text) at line s × Carries (now text) (now table) (now notes) (s .counts .values) ⌝ }
-    ensures { λ r. ⌜ Reached (now (text .entry)) at line s r
-        × (r .number ≡ 0 → Carries (now (text .entry)) (now (table .exit)) (now (notes .exit)) (r .state .counts .values)) ⌝ }
-{
-    let mut walk = read_line(text, at, line, s, table, notes);
-    let mut depth = depth_of(s);
-    loop {
-        if walk.number != 0 {
-            return walk;
-        }
-        let here = walk.at;
-        if text.len() <= here {
-            return walk;
-        }
-        let state = walk.state;
-        let next = depth_of(state);
-        if next < depth {
-            return walk;
-        }
-        if depth < next {
-            if 0 < left {
-                walk = read_block(text, here, walk.line, state, left - 1, table, notes);
-                continue;
-            }
-        }
-        depth = next;
-        walk = read_line(text, here, walk.line, state, table, notes);
-    }
-}
-
 // Rules 5 to 17 over a whole text: the counts of all records, or the rule that is broken first and its line. Where none is broken, every
 // note that is made tells the truth of the words at the front of the table.
 pub fn read(text: &[u8], table: &mut [u64], notes: &mut [u64]) -> Reading
@@ -213,7 +163,7 @@ pub fn read(text: &[u8], table: &mut [u64], notes: &mut [u64]) -> Reading
     let mut line = 1;
     let mut s = block::start_state();
     while at < text.len() {
-        let walk = read_block(text, at, line, s, DEEPEST, table, notes);
+        let walk = read_line(text, at, line, s, table, notes);
         if walk.number != 0 {
             return Reading::Refused(walk.number, walk.line);
         }

@@ -32,8 +32,8 @@ start-state-requires c κs = search needs
 loop-holds : tie.Need-loop-holds Inv-loop μ-loop
 loop-holds c = (search reading-starts, search reading-whole, search carries-start, refl, refl)
 
-read-block-requires : tie.Need-read-block-requires Inv-loop μ-loop
-read-block-requires c κs = search needs
+read-line-requires : tie.Need-read-line-requires Inv-loop μ-loop
+read-line-requires c κs = search needs
 
 same-length : tie.Need-same-length Inv-loop μ-loop
 same-length c = omega arith
@@ -47,14 +47,14 @@ returns c = (search reading-stops, carries-refused _ _ _ _ _)
 loop-less : tie.Need-loop-less Inv-loop μ-loop
 loop-less c =
     let f : c .before .before .before .before .before .before .before .before .before .before .before .loop .at
-    < c .before .before .before .before .before .before .before .read-block .result .at = search reading-further in
+    < c .before .before .before .before .before .before .before .read-line .result .at = search reading-further in
     omega arith
 
 loop-again : tie.Need-loop-again Inv-loop μ-loop
 loop-again c = (
   search reading-onward,
   search reading-on,
-  c .before .before .before .before .before .before .before .read-block .ensures .1 (search needs),
+  c .before .before .before .before .before .before .before .read-line .ensures .1 (search needs),
   omega arith,
   omega arith,
 )
@@ -79,7 +79,7 @@ read-spec =
     μ-loop
     start-state-requires
     loop-holds
-    read-block-requires
+    read-line-requires
     same-length
     same-length-2
     returns
