@@ -6,14 +6,13 @@ use mathlib.Core.List.{List, [], _∷_}
 use Prim.Native.Nat.{ℕ, zero, suc, _+_, _-_, _*_, _^_, _≤_, _<_}
 use mir.Syntax.{w64}
 use mir.Val.{Fits}
-use native.Mathlib.Nat.{mul-add, mul-assoc, pow-suc}
+use native.Mathlib.Nat.{pow-suc}
 use native.Mathlib.Omega.{arith}
 use lib.ListN.{length, take, drop, getD, length-drop}
 use lib.Seq.{drop-drop, length-take-le}
 use Rattle.base.specs.If.{both}
 use Rattle.base.specs.Bytes.{isDigit}
 use Rattle.base.specs.Runs.{run, all}
-use Rattle.base.specs.Class.{runEnd}
 use Rattle.base.specs.Joined.{Joins}
 use Rattle.base.proofs.IfLaws.{both-first, both-second}
 use Rattle.base.proofs.RunLaws.{all-cons, run-block}

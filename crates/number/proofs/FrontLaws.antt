@@ -25,7 +25,7 @@ use Rattle.number.specs.declared.Number.{Number}
 use Rattle.number.specs.declared.Plain.{Plain}
 use Rattle.number.specs.declared.Reading.{Reading}
 use Rattle.number.specs.declared.Parts.{Parts}
-use Rattle.number.specs.Number.{isSign, isMinus, isPoint, isE, pastSign, noDigits, goesOn, withByte, scan, noExponent, exponentAt, exponentOf, scaleOf, raised, lowered, valueAs, wellFormed, numberFrom, digitsOf, exponentFrom, numberOf}
+use Rattle.number.specs.Number.{isSign, isMinus, isPoint, isE, pastSign, noDigits, goesOn, withByte, scan, exponentAt, exponentOf, scaleOf, raised, lowered, valueAs, wellFormed, numberFrom, digitsOf, exponentFrom, numberOf}
 use Rattle.number.specs.In.{isSpelling}
 use Rattle.number.specs.At.{plainAt, readingAt, partsOf, DigitsRead, ExponentRead, PartsRead, Says}
 use Rattle.number.proofs.CappedLaws.{scan-goes, scan-stops, scan-ends}

@@ -11,7 +11,6 @@ use Rattle.base.specs.Runs.{run}
 use Rattle.base.specs.Class.{isFilled, runEnd}
 use Rattle.number.specs.declared.Number.{Number}
 use Rattle.number.specs.declared.Number.the-variants.{Malformed}
-use Rattle.number.specs.declared.NumberAt.{NumberAt}
 use Rattle.number.specs.Number.{isSign, isMinus, isPoint, isE, pastSign, noDigits, goesOn, scan, noExponent, exponentOf, wellFormed, numberFrom, digitsOf, exponentFrom, numberOf}
 use Rattle.number.specs.At.{wordFrom, numberAt}
 

@@ -14,7 +14,6 @@ use lib.Pow.{pow-pos, pow-mono, pow-add, split, high, low, mod-mod-pow, ones-lt}
 use lib.ListN.{length}
 use lib.Dec.{eqb}
 use borrow.Author.Tests.{eqb-true, le-leb, leb-true}
-use Rattle.base.specs.If.{both}
 use Rattle.base.specs.Bytes.{isDigit, within}
 use Rattle.base.specs.Runs.{all}
 use Rattle.base.specs.Joined.{joined, isByte, Joins}

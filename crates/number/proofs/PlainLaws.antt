@@ -3,13 +3,13 @@
 use mathlib.Core.Path.{_≡_, refl, sym, _∙_, ap}
 use mathlib.Core.Bool.{Bool, true, false, not, true≢false}
 use mathlib.Core.List.{List, [], _∷_}
-use Prim.Native.Nat.{ℕ, zero, suc, _+_, _-_, _*_, _^_, _≤_, _<_, min}
+use Prim.Native.Nat.{ℕ, zero, suc, _+_, _-_, _*_, _^_, _≤_, _<_}
 use mir.Syntax.{w64}
 use mir.Val.{Fits}
 use native.Mathlib.Nat.{add-zero, add-suc, mul-one, mul-add, mul-assoc, mul-comm, mul-le-mul-right, pow-suc, pow-le-pow-right, zero-lt-suc}
 use native.Mathlib.Numerals.{add-one}
 use native.Mathlib.Omega.{arith}
-use lib.ListN.{length, drop, getD, drop-of-length-le, List·getD-eq-default}
+use lib.ListN.{length, drop, getD, drop-of-length-le}
 use lib.Seq.{drop-cons, drop-drop}
 use lib.Dec.{eqb, ltb, leb}
 use borrow.Author.Tests.{eq-eqb, ne-eqb, le-leb, lt-leb, lt-ltb, le-ltb, leb-true, leb-false, ltb-true, ltb-false, not-true, not-false}
@@ -26,11 +26,11 @@ use Rattle.number.specs.declared.Run.{Run}
 use Rattle.number.specs.declared.Reading.{Reading}
 use Rattle.number.specs.Number.{isE, isSign, isMinus, isPoint, pastSign, noDigits, goesOn, withPoint, withDigit, withByte, scan, noExponent, exponentAt, exponentOf}
 use Rattle.number.specs.At.{runFrom, plainAt, noReading, readingAt, weight, RunRead, DigitsRead, ExponentRead}
-use Rattle.number.specs.Capped.{exponentCap, countCap}
+use Rattle.number.specs.Capped.{exponentCap}
 use Rattle.number.proofs.CappedLaws.{scan-goes, scan-stops, scan-ends}
 use Rattle.number.proofs.DigitLaws.{digit-from, digit-to}
 use Rattle.number.proofs.SizeLaws.{sizeOn, size-goes, size-stops, size-ends}
-use Rattle.number.proofs.ReadLaws.{inside, sign-within}
+use Rattle.number.proofs.ReadLaws.{inside}
 use Rattle.number.proofs.TrimLaws.{power-some}
 
 -- ---- the loop over a run of digits
@@ -176,11 +176,6 @@ module _ (s : List ℕ) (i value : ℕ) (whole : Run) (inv : Runs s i value whol
 
   pub runs-on : (w : ℕ) → w ≡ getD s i 0 → 48 ≤ w → w - 48 ≤ 9 → Runs s (i + 1) (10 * value + (w - 48)) whole
   runs-on w same k l = rw same (runs-digit (digit-is (getD s i 0) w same k l))
-
-  -- the run from there on is the whole
-  pub runs-whole : runFrom s i value ≡ whole
-  unfolding runFrom sizeOn
-  runs-whole = runs-same _ _ (inv .value-left) (inv .end-left) (inv .next-left)
 
 -- where the loop ends
 module _ (s : List ℕ) (from stop before i value : ℕ) (start : from ≤ i) (short : i - from ≤ stop - from) (light : weight value i stop ≤ weight before from stop) (inv : Runs s i value (runFrom s from before)) where

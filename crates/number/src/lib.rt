@@ -621,7 +621,7 @@ fn read_run(s: &[u8], from: usize, stop: usize, before: u64) -> Run
     }
 }
 
-// Whether eight bytes, taken together as a word, are digits: the high half of each is 3, and still is with 6 more.
+// Whether eight bytes, taken together as a word, are digits. These are 0x30 to 0x39: the high half of each is 3, and still is with 6 more.
 fn are_eight(word: u64) -> bool
     ensures { λ r. ⌜ AreDigits 8 word r ⌝ }
 {
@@ -651,7 +651,8 @@ fn paired(word: u64, width: u64, factor: u64, mask: u64) -> u64
     (factor * word + (word >> width)) & mask
 }
 
-// The number that eight digits write, taken together as a word.
+// The number that eight digits write, taken together as a word: in three steps, where one digit after the other takes eight, each of which
+// waits for the one before.
 fn eight_value(word: u64) -> u64
     requires { ⌜ all isDigit (bytesOf 8 word) ≡ true ⌝ }
     ensures { λ r. ⌜ r ≡ valueOf 0 (bytesOf 8 word) ⌝ ∗ ⌜ r < 100_000_000 ⌝ }
@@ -662,7 +663,7 @@ fn eight_value(word: u64) -> u64
     paired(fours, 32, 10_000, 0xffff_ffff)
 }
 
-// The number that four digits write.
+// The number that four digits write, in the same way.
 fn four_value(word: u64) -> u64
     requires { ⌜ all isDigit (bytesOf 4 word) ≡ true ⌝ ∗ ⌜ word < 4_294_967_296 ⌝ }
     ensures { λ r. ⌜ r ≡ valueOf 0 (bytesOf 4 word) ⌝ ∗ ⌜ r < 10_000 ⌝ }

@@ -1,6 +1,6 @@
 -- `number::plain_digits` meets its contract: one run of digits, or two with a point between them.
 -- Assumes nothing.
-use Rattle.number.proofs.PlainLaws.{weight-few, whole-short, digits-one, dot-light, digits-two}
+use Rattle.number.proofs.PlainLaws.{weight-few, digits-one, dot-light, digits-two}
 use borrow.Author.Needs.{needs}
 use Rattle.number.proofs.plain_digits.Statement.{statement}
 use Rattle.number.proofs.plain_digits.Tie as tie
