@@ -275,15 +275,6 @@ fork-line c says r ends h = h
 
 -- ---- what the readers of these lines ask for
 
-pub opens-says-in : (c : List ℕ) (t : Bool) → (t ≡ true → OpensMult c) → t ≡ true → section ≡ sayingOf (firstOf (words c))
-opens-says-in c t opens e = opens-says c (opens e)
-
-pub fork-says-in : (c : List ℕ) (says : ℕ) → ((says ≡ 0 → ⊥) → UsualFork c says) → (says ≡ 0 → ⊥) → says ≡ sayingOf (firstOf (words c))
-fork-says-in c says told n = fork-says c says (told n)
-
-pub first-says : (c w : List ℕ) (r : ℕ) → w ≡ firstOf (words c) → r ≡ sayingOf w → r ≡ sayingOf (firstOf (words c))
-first-says c w r e h = h ∙ ap sayingOf e
-
 pub fork-line-in : (c : List ℕ) (says : ℕ) (r : PathLine) → ((says ≡ 0 → ⊥) → UsualFork c says) → (says ≡ 0 → ⊥) → r ≡ plainLine says true → r ≡ pathLineOf c
 fork-line-in c says r told n h = fork-line c says r (told n) h
 

@@ -4,7 +4,7 @@ ghost use mathlib.Core.Bool.{true};
 ghost use Prim.Native.Nat.{_-_, _≤_};
 ghost use lib.Dec.{eqb};
 ghost use Rattle.base.specs.If.{either};
-ghost use Rattle.text.specs.Words.{words, firstOf, fewOf};
+ghost use Rattle.text.specs.Words.{words, fewOf};
 ghost use Rattle.number.specs.declared.Number.the-variants.{Value};
 ghost use Rattle.path.specs.Path.{fork, endfork, end, side, deepest, sayingOf, plainLine, namesOne, isLength, sectionLine, lineSaying, pathLineOf, newPath, isBadFork, isOutOfOrder, isStep, openRule, closedRule, pathRule, withEnd, pathNext, pathOpen, pathLacks};
 ghost use Rattle.path.specs.Section.{amountLine, unitLine, partsLine};
@@ -164,20 +164,6 @@ pub fn saying_of(word: &[u8]) -> u64
         return SIDE;
     }
     NOTHING
-}
-
-// What a whole line says.
-pub fn says_in(content: &[u8]) -> u64
-    ensures { λ r. ⌜ r ≡ sayingOf (firstOf (words (now (content .entry)))) ⌝ }
-{
-    if opens_mult(content) {
-        return SECTION;
-    }
-    let fork = usual_fork(content);
-    if fork != NOTHING {
-        return fork;
-    }
-    saying_of(text::first_word(content))
 }
 
 // A line with no number.
