@@ -26,7 +26,7 @@ use Rattle.models.specs.Models.{modelLines, modelSteps, linesLeft, Open,
 use Rattle.models.specs.declared.ModelWalk.{ModelWalk}
 
 module _ (t : List ℕ) where
-  continued-start : (w : ModelWalk) (table : List ℕ) → Open t (w .number) (w .at) (w .place) (w .filling) table →
+  pub continued-start : (w : ModelWalk) (table : List ℕ) → Open t (w .number) (w .at) (w .place) (w .filling) table →
       Continued t w table w table
   continued-start w table o =
       record {

@@ -44,6 +44,18 @@ modelSteps t ls = stepWrites t (stepsIn (modelLines ls))
 abbrev pub linesLeft : List ℕ → ModelWalk → List Line
 linesLeft t w = linesAt t (w .number) (w .at) (w .place)
 
+-- a walk come to a line, with so many records stored
+abbrev pub movedTo : ModelWalk → ℕ → ℕ → List ℕ → ModelWalk
+movedTo w at n counts =
+    record {
+      at = at;
+      number = n;
+      place = w .place;
+      says = w .says;
+      head = w .head;
+      filling = record { bases = w .filling .bases; counts = counts };
+    }
+
 -- the steps of the model's lines that come here fit
 pub record Open (t : List ℕ) (n at p : ℕ) (f : Filling) (table : List ℕ) : Type 0 where
   pub placed : Placed t n at

@@ -13,14 +13,14 @@ ghost use Rattle.document.specs.Document.{documentOf, headIn};
 ghost use Rattle.document.specs.Found.{Located, lineIn};
 ghost use Rattle.storing.specs.Stores.{Stores};
 ghost use Rattle.steps.specs.Steps.{lowOf, Aims};
-ghost use Rattle.models.specs.Models.{modelsOf, Open, Next, OnPath, Taken, Reached, ReadsModel, FitsModel, FillsModel, ReadyModel, PassesModel};
+ghost use Rattle.models.specs.Models.{modelsOf, movedTo, Open, Next, OnPath, Taken, Continued, Reached, ReadsModel, FitsModel, FillsModel, ReadyModel, PassesModel};
 use document::Found;
 use head::Head;
 use storing::Walk;
 use table::Filling;
 
-// "A block may hold further blocks, to a depth of 8".
-const DEEPEST: u64 = 8;
+// "From `|` on, a line is comment".
+const COMMENT: u8 = b'|';
 
 // What a line says that stands in no path.
 const NOTHING: u64 = 0;
@@ -102,35 +102,66 @@ fn take_line(text: &[u8], line: Found, table: &mut [u64], walk: ModelWalk) -> Mo
 
 // ---- all lines of a model
 
-// The lines of a fork block, from its first line up to the Endfork that closes it. An inner block is gone over by the same function, and
-// the depth still left falls. The model itself is the outermost block.
-fn fill_block(text: &[u8], line: Found, table: &mut [u64], start: ModelWalk, left: u64) -> ModelWalk
+// The walk come to a line, with so many records stored.
+fn walk_at(walk: ModelWalk, at: usize, number: u64, counts: [u64; 7]) -> ModelWalk
+    ensures { λ r. ⌜ r ≡ movedTo walk at number counts ⌝ }
+{
+    let head = walk.head;
+    let filling = walk.filling;
+    let bases = filling.bases;
+    ModelWalk {
+        at,
+        number,
+        place: walk.place,
+        says: walk.says,
+        head,
+        filling: Filling { bases, counts },
+    }
+}
+
+// The lines of a path that follow one another in their usual form. The walk is taken apart, so that no more is carried from line to line
+// than changes there.
+fn pass_usual(text: &[u8], table: &mut [u64], walk: ModelWalk) -> ModelWalk
+    requires { ⌜ (walk .place ≡ place.path) × Open (now text) (walk .number) (walk .at) (walk .place) (walk .filling) (now table) ⌝ }
+    ensures { λ r. ⌜ Continued (now (text .entry)) walk (now (table .entry)) r (now (table .exit)) ⌝ }
+{
+    let filling = walk.filling;
+    let bases = filling.bases;
+    let mut counts = filling.counts;
+    let mut here = walk.at;
+    let mut number = walk.number;
+    while here < text.len() {
+        let ends = text::line_at(text, here, COMMENT);
+        let line = Found {
+            there: true,
+            number,
+            at: here,
+            end: ends.content,
+            next: ends.next,
+            key: document::PLAIN,
+            argument: 0,
+        };
+        let next = steps::put_usual(text, line, table, Filling { bases, counts });
+        if next == 0 {
+            return walk_at(walk, here, number, counts);
+        }
+        here = ends.next;
+        number += 1;
+        counts[table::STEPS] = next;
+    }
+    walk_at(walk, here, number, counts)
+}
+
+// A line of a model, and the lines of its path that follow in their usual form.
+fn fill_lines(text: &[u8], line: Found, table: &mut [u64], start: ModelWalk) -> ModelWalk
     requires { ⌜ Next (now text) line start (now table) ⌝ }
     ensures { λ r. ⌜ Reached (now (text .entry)) start (now (table .entry)) r (now (table .exit)) ⌝ }
 {
-    let mut walk = take_line(text, line, table, start);
-    let mut says = walk.says;
-    loop {
-        if says == path::ENDFORK {
-            return walk;
-        }
-        let next = document::next_line(text, walk.at, walk.number);
-        if !next.there {
-            return walk;
-        }
-        if !place::is_in_model(walk.place) {
-            return walk;
-        }
-        if says == path::FORK {
-            if 0 < left {
-                walk = fill_block(text, next, table, walk, left - 1);
-                says = NOTHING;
-                continue;
-            }
-        }
-        walk = take_line(text, next, table, walk);
-        says = walk.says;
+    let walk = take_line(text, line, table, start);
+    if walk.place != place::PATH {
+        return walk;
     }
+    pass_usual(text, table, walk)
 }
 
 // The lines of a model, from below its keyword up to its end.
@@ -154,7 +185,7 @@ fn fill_steps(text: &[u8], at: usize, number: u64, table: &mut [u64], filling: F
         if !place::is_in_model(walk.place) {
             return walk;
         }
-        walk = fill_block(text, line, table, walk, DEEPEST);
+        walk = fill_lines(text, line, table, walk);
     }
 }
 

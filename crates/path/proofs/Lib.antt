@@ -2,3 +2,4 @@ pub mod SectionLaws
 pub mod LineLaws
 pub mod RuleLaws
 pub mod DepthLaws
+pub mod UsualLaws

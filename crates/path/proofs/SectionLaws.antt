@@ -120,7 +120,7 @@ module _ (content : List ℕ) where
       (λ (n : same (secondOf (leftOf content)) (bytes "Len") ≡ true). section-amount false m (section-told s p (either-right _ _ n)))
       (λ (n : same (secondOf (leftOf content)) (bytes "Len") ≡ false). section-wrong (fails _ _ section-unit (either-false _ _ m n))))
 
-  parts-are : hasEquals content ≡ true → partsLine (leftOf content) (rightOf content) ≡ sectionLine content
+  pub parts-are : hasEquals content ≡ true → partsLine (leftOf content) (rightOf content) ≡ sectionLine content
   unfolding partsLine
   parts-are s =
       by-test (λ (l : PathLine). l ≡ sectionLine content) parted _ _

@@ -1,5 +1,6 @@
 // Document 01, "Paths": "End, items, end", line by line.
 ghost use mathlib.Core.Path.{_≡_};
+ghost use mathlib.Core.Bool.{true};
 ghost use Prim.Native.Nat.{_-_, _≤_};
 ghost use lib.Dec.{eqb};
 ghost use Rattle.base.specs.If.{either};
@@ -7,6 +8,7 @@ ghost use Rattle.text.specs.Words.{words, fewOf};
 ghost use Rattle.number.specs.declared.Number.the-variants.{Value};
 ghost use Rattle.path.specs.Path.{fork, endfork, end, side, deepest, sayingOf, plainLine, namesOne, isLength, sectionLine, lineSaying, pathLineOf, newPath, isBadFork, isOutOfOrder, isStep, openRule, closedRule, pathRule, withEnd, pathNext, pathOpen, pathLacks};
 ghost use Rattle.path.specs.Section.{amountLine, unitLine, partsLine};
+ghost use Rattle.path.specs.Usual.{OpensMult, Paired, UsualSection, UsualFork};
 use number::Number;
 use text::Few;
 
@@ -55,6 +57,92 @@ pub struct PathLine {
     pub formed: bool,
     pub bounded: bool,
 }
+
+// `Section `, `on Mult=`, `Fork`, `Endf` and `fork`, each as one number.
+const SECTION_BYTES: u64 = 2_336_927_755_366_786_387;
+
+const MULT_BYTES: u64 = 4_428_283_584_672_984_687;
+
+const FORK_BYTES: u64 = 1_802_661_702;
+
+const ENDF_BYTES: u64 = 1_717_857_861;
+
+const SMALL_FORK_BYTES: u64 = 1_802_661_734;
+
+// ---- lines as they are mostly written
+
+// How many bytes stand before the amount of such a Section line.
+pub const AMOUNT_AT: usize = 13;
+
+// Whether a line opens with `Section Mult=`, written with one blank.
+pub fn opens_mult(content: &[u8]) -> bool
+    ensures { λ r. ⌜ (r ≡ true → OpensMult (now (content .entry))) ⌝ }
+{
+    if content.len() < AMOUNT_AT {
+        return false;
+    }
+    if base::eight_at(content, 0) != SECTION_BYTES {
+        return false;
+    }
+    base::eight_at(content, 5) == MULT_BYTES
+}
+
+// Where the first of two words ends that have one blank between them and none about them; 0 where the form is another.
+fn pair_end(s: &[u8]) -> usize
+    ensures { λ r. ⌜ ((r ≡ 0 → ⊥) → Paired (now (s .entry)) r) ⌝ }
+{
+    let end = base::past_word(s, 0);
+    if s.len() <= end {
+        return 0;
+    }
+    let name = end + 1;
+    let stop = base::past_word(s, name);
+    if stop == name {
+        return 0;
+    }
+    if stop != s.len() {
+        return 0;
+    }
+    end
+}
+
+// Where the amount ends of a Section line as it is mostly written, `Section Mult=n name`; 0 where the form is another.
+pub fn usual_amount(content: &[u8]) -> usize
+    ensures { λ r. ⌜ ((r ≡ 0 → ⊥) → UsualSection (now (content .entry)) r) ⌝ }
+{
+    if !opens_mult(content) {
+        return 0;
+    }
+    let end = pair_end(&content[AMOUNT_AT..]);
+    if end == 0 {
+        return 0;
+    }
+    AMOUNT_AT + end
+}
+
+// `Fork` or `Endfork` alone; NOTHING where the form is another.
+pub fn usual_fork(content: &[u8]) -> u64
+    ensures { λ r. ⌜ ((r ≡ 0 → ⊥) → UsualFork (now (content .entry)) r) ⌝ }
+{
+    if content.len() == 4 {
+        if base::four_at(content, 0) == FORK_BYTES {
+            return FORK;
+        }
+        return NOTHING;
+    }
+    if content.len() != 7 {
+        return NOTHING;
+    }
+    if base::four_at(content, 0) != ENDF_BYTES {
+        return NOTHING;
+    }
+    if base::four_at(content, 3) != SMALL_FORK_BYTES {
+        return NOTHING;
+    }
+    ENDFORK
+}
+
+// ---- what a line says
 
 // A line is known by its first word.
 pub fn saying_of(word: &[u8]) -> u64
@@ -225,14 +313,41 @@ fn line_saying(says: u64, content: &[u8], few: Few) -> PathLine
     plain_line(NOTHING, true)
 }
 
-// What a line of a path says.
-pub fn path_line(content: &[u8]) -> PathLine
+// A Section line as it is mostly written.
+fn usual_line(content: &[u8], end: usize) -> PathLine
+    requires { ⌜ UsualSection (now content) end ⌝ }
+    ensures { λ r. ⌜ r ≡ pathLineOf (now (content .entry)) ⌝ }
+{
+    let name = end + 1;
+    if argument::is_reserved(&content[name..]) {
+        return plain_line(SECTION, false);
+    }
+    amount_line(true, &content[AMOUNT_AT..end])
+}
+
+// A line of a path by its first word.
+fn told_line(content: &[u8]) -> PathLine
     ensures { λ r. ⌜ r ≡ pathLineOf (now (content .entry)) ⌝ }
 {
     let few = text::few_words(content);
     let first = few.first;
     let says = saying_of(text::marked(content, first));
     line_saying(says, content, few)
+}
+
+// What a line of a path says.
+pub fn path_line(content: &[u8]) -> PathLine
+    ensures { λ r. ⌜ r ≡ pathLineOf (now (content .entry)) ⌝ }
+{
+    let end = usual_amount(content);
+    if end != 0 {
+        return usual_line(content, end);
+    }
+    let fork = usual_fork(content);
+    if fork != NOTHING {
+        return plain_line(fork, true);
+    }
+    told_line(content)
 }
 
 // Nothing read yet.

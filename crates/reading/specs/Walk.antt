@@ -24,6 +24,7 @@ use Rattle.reading.specs.declared.Step.{Step}
 use Rattle.reading.specs.declared.Front.{Front}
 use Rattle.reading.specs.declared.Front.the-variants.{Blanks, Words, Opening}
 use Rattle.reading.specs.declared.Walk.{Walk}
+use Rattle.reading.specs.declared.PathWalk.{PathWalk}
 use Rattle.reading.specs.declared.Reading.{Reading}
 use Rattle.reading.specs.declared.Reading.the-variants.{Refused}
 
@@ -132,6 +133,12 @@ withPath p n s =
 pub record Stepping (p : Path) (n : ℕ) : Type 0 where
   pub depth : p .depth ≤ deepest
   pub steps : n ≤ mostSteps
+
+-- lines of a path are gone over, from one that the path stood so at and so many steps were read before
+pub record Blocked (t : List ℕ) (at line : ℕ) (p : Path) (n : ℕ) (w : PathWalk) : Type 0 where
+  pub crossed : Crossed t at line (Holds place.path (withPath p n)) (withPath (w .part .path) (w .part .steps)) (w .part .number) (w .at) (w .line)
+  pub stays : Stays t at (w .at)
+  pub stepping : Stepping (w .part .path) (w .part .steps)
 
 abbrev withPins : ℕ → Counts → Counts
 withPins n c =

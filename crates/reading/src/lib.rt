@@ -12,7 +12,7 @@ ghost use Rattle.argument.specs.Argument.{isReserved};
 ghost use Rattle.block.specs.declared.State.{State};
 ghost use Rattle.keyword.specs.Bracket.{bracketOf};
 ghost use Rattle.keyword.specs.declared.Bracket.the-variants.{Plain, Indented, Keyword};
-ghost use Rattle.reading.specs.Walk.{Reached, Onward, Passed, Crossed, Holds, Decides, Fronted, Stepping, Opens, Elsewhere, StandsElsewhere, contentAt, Stays, withPath, withPinned};
+ghost use Rattle.reading.specs.Walk.{Reached, Onward, Passed, Crossed, Holds, Decides, Fronted, Stepping, Opens, Elsewhere, StandsElsewhere, contentAt, Stays, Blocked, withPath, withPinned};
 use block::Counts;
 use block::State;
 use keyword::Bracket;
@@ -25,6 +25,9 @@ const COMMENT: u8 = b'|';
 const OPENING: u8 = b'[';
 
 const LINE_FEED: u8 = 10;
+
+// "A block may hold further blocks, to a depth of 8".
+const DEEPEST: u64 = 8;
 
 const CARRIAGE_RETURN: u8 = 13;
 
@@ -439,11 +442,11 @@ fn pass_pins(text: &[u8], at: usize, line: u64, map: Map, pins: u64) -> PinWalk
 
 // A line of a path, with no more of the state than it changes: whether it is taken here, the rule that it breaks, and the path and the
 // count of steps behind it.
-struct Stepped {
-    taken: bool,
-    number: u64,
-    path: Path,
-    steps: u64,
+pub struct Stepped {
+    pub taken: bool,
+    pub number: u64,
+    pub path: Path,
+    pub steps: u64,
 }
 
 fn path_line(content: &[u8], path: Path, steps: u64) -> Stepped
@@ -493,17 +496,16 @@ fn take_step(content: &[u8], path: Path, steps: u64) -> Stepped
 }
 
 // Where lines of a path end, or which rule one of them breaks, and what they come to.
-struct PathWalk {
-    at: usize,
-    line: u64,
-    part: Stepped,
+pub struct PathWalk {
+    pub at: usize,
+    pub line: u64,
+    pub part: Stepped,
 }
 
 // Goes over the lines of a path, up to one that opens or closes a fork block.
 fn pass_path(text: &[u8], at: usize, line: u64, path: Path, steps: u64) -> PathWalk
     requires { ⌜ (at ≤ length (now text)) × (line ≤ at + 1) × Stepping path steps ⌝ }
-    ensures { λ r. ⌜ Crossed (now (text .entry)) at line (Holds place.path (withPath path steps)) (withPath (r .part .path) (r .part .steps)) (r .part .number) (r .at) (r .line)
-        × Stays (now (text .entry)) at (r .at) ⌝ }
+    ensures { λ r. ⌜ Blocked (now (text .entry)) at line path steps r ⌝ }
 {
     let depth = path.depth;
     let mut here = at;
@@ -548,6 +550,40 @@ fn pass_path(text: &[u8], at: usize, line: u64, path: Path, steps: u64) -> PathW
         at: here,
         line: number,
         part,
+    }
+}
+
+// Goes over the lines of a fork block, up to the line that closes it. An inner block is gone over by the same function, and the depth
+// still left falls. The path itself is the outermost block.
+fn pass_block(text: &[u8], at: usize, line: u64, path: Path, steps: u64, left: u64) -> PathWalk
+    requires { ⌜ (at ≤ length (now text)) × (line ≤ at + 1) × Stepping path steps ⌝ }
+    ensures { λ r. ⌜ Blocked (now (text .entry)) at line path steps r ⌝ }
+{
+    let mut walk = pass_path(text, at, line, path, steps);
+    loop {
+        let part = walk.part;
+        let reached = part.path;
+        if part.number != 0 {
+            return walk;
+        }
+        if reached.depth <= path.depth {
+            return walk;
+        }
+        if left == 0 {
+            return walk;
+        }
+        let here = walk.at;
+        let inner = pass_block(text, here, walk.line, reached, part.steps, left - 1);
+        let inside = inner.part;
+        let closed = inside.path;
+        if inside.number != 0 {
+            return inner;
+        }
+        let rest = pass_path(text, inner.at, inner.line, closed, inside.steps);
+        if rest.at <= here {
+            return rest;
+        }
+        walk = rest;
     }
 }
 
@@ -602,7 +638,7 @@ pub fn read_path(text: &[u8], at: usize, line: u64, s: State) -> Walk
 {
     let path = s.path;
     let mut counts = s.counts;
-    let walk = pass_path(text, at, line, path, counts.steps);
+    let walk = pass_block(text, at, line, path, counts.steps, DEEPEST);
     if at < walk.at {
         let part = walk.part;
         let reached = part.path;

@@ -1,3 +1,4 @@
 pub mod WordLaws
 pub mod StepLaws
 pub mod AimLaws
+pub mod UsualLaws

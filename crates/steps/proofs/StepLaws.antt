@@ -90,16 +90,19 @@ module _ (t : List ℕ) (line : Found) (f : Filling) (table : List ℕ) (aimed :
       h ∙ (λ i. indexOf (isNamed t (name i) (line .next)) (aimed .aims .maps-there i))
       ∙ find-map t (endStep t line) (line .next) 0 (documentOf t .maps) maps-ordered ∙ sym (if-true _ _ (eq-eqb 0 0 refl))
 
+  pub section-named : (name : List ℕ) → name ≡ sectionStep t line .name .text → (r : ℕ) →
+      r ≡ findIn t table (getD (f .bases) 4 0) 8 (getD (f .counts) 4 0) name 0 → r ≡ targetIn t (sectionStep t line)
+  unfolding findIn targetOf
+  section-named name is-name r h =
+      h ∙ (λ i. indexOf (isNamed t (is-name i) 0) (aimed .aims .sections-there i))
+      ∙ find-section t (sectionStep t line) 0 (documentOf t .sections) (all-stand t .sections)
+      ∙ sym (if-false _ _ (ne-eqb 1 0 (λ (e : _≡_ {A = ℕ} 1 0). omega arith)) ∙ if-true _ _ (eq-eqb 1 1 refl))
+
   pub section-told : (mark : Mark) → mark ≡ markOf (secondWord (rightWordsOf (pathLine t line))) → (r : ℕ) →
       r ≡ findIn t table (getD (f .bases) 4 0) 8 (getD (f .counts) 4 0) (nameAt t (mark .start) (mark .size)) 0 →
       r ≡ targetIn t (sectionStep t line)
-  unfolding findIn targetOf
   section-told mark is-mark r h =
-      let name : nameAt t (mark .start) (mark .size) ≡ sectionStep t line .name .text =
-      marked-name t _ mark is-mark (right-word-stands t (pathLine t line) line-stands) in
-      h ∙ (λ i. indexOf (isNamed t (name i) 0) (aimed .aims .sections-there i))
-      ∙ find-section t (sectionStep t line) 0 (documentOf t .sections) (all-stand t .sections)
-      ∙ sym (if-false _ _ (ne-eqb 1 0 (λ (e : _≡_ {A = ℕ} 1 0). omega arith)) ∙ if-true _ _ (eq-eqb 1 1 refl))
+      section-named (nameAt t (mark .start) (mark .size)) (marked-name t _ mark is-mark (right-word-stands t (pathLine t line) line-stands)) r h
 
 -- a fork points at nothing
 fork-told : (t : List ℕ) (kind : ℕ) (line : Found) → 1 < kind → 0 ≡ targetIn t (forkStep kind line)
@@ -199,7 +202,7 @@ module _ (t : List ℕ) (line : Found) (says : ℕ) (f : Filling) (table : List 
   module _ (not-end : says ≡ 1 → ⊥) where
     -- a section
     module _ (is : says ≡ 3) where
-      section-here : stepsAt t line ≡ sectionStep t line ∷ []
+      pub section-here : stepsAt t line ≡ sectionStep t line ∷ []
       unfolding stepOf
       section-here = if-false _ _ (unsaid 1 not-end) ∙ if-true _ _ (said 3 is)
 
@@ -213,7 +216,7 @@ module _ (t : List ℕ) (line : Found) (says : ℕ) (f : Filling) (table : List 
     module _ (not-section : says ≡ 3 → ⊥) where
       -- a fork
       module _ (is : says ≡ 4) where
-        fork-here : stepsAt t line ≡ forkStep 2 line ∷ []
+        pub fork-here : stepsAt t line ≡ forkStep 2 line ∷ []
         unfolding stepOf
         fork-here = if-false _ _ (unsaid 1 not-end) ∙ if-false _ _ (unsaid 3 not-section) ∙ if-true _ _ (said 4 is)
 
@@ -227,7 +230,7 @@ module _ (t : List ℕ) (line : Found) (says : ℕ) (f : Filling) (table : List 
       module _ (not-fork : says ≡ 4 → ⊥) where
         -- an endfork
         module _ (is : says ≡ 5) where
-          endfork-here : stepsAt t line ≡ forkStep 3 line ∷ []
+          pub endfork-here : stepsAt t line ≡ forkStep 3 line ∷ []
           unfolding stepOf
           endfork-here =
               if-false _ _ (unsaid 1 not-end) ∙ if-false _ _ (unsaid 3 not-section) ∙ if-false _ _ (unsaid 4 not-fork)

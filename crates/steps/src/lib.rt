@@ -3,6 +3,7 @@ ghost use mathlib.Core.Path.{_≡_};
 ghost use mathlib.Core.List.{[], _∷_};
 ghost use Prim.Native.Nat.{_+_, _*_, _≤_, _<_};
 ghost use lib.ListN.{length, getD};
+ghost use lib.Seq.{sets};
 ghost use Rattle.base.specs.If.{if_then_else_};
 ghost use Rattle.base.specs.Bytes.{bytes};
 ghost use Rattle.base.specs.Runs.{same};
@@ -10,11 +11,13 @@ ghost use Rattle.text.specs.Words.{words, secondOf};
 ghost use Rattle.number.specs.Number.{numberOf};
 ghost use Rattle.number.specs.Integer.{wholeOf};
 ghost use Rattle.place.specs.Place as place;
+ghost use Rattle.table.specs.Filling.{widthOf, position};
 ghost use Rattle.document.specs.Lines.{linesAt, rightWordsOf, secondWord};
 ghost use Rattle.document.specs.Document.{wordIn, amountOf, sideIn};
 ghost use Rattle.document.specs.Found.{Located, markOf};
 ghost use Rattle.name.specs.Name.{nameAt, findIn};
 ghost use Rattle.storing.specs.Stores.{Stores, Placed};
+ghost use Rattle.steps.specs.Usual.{Usable, Put, Puts, Forking, Pairing};
 ghost use Rattle.steps.specs.Steps.{pathLine, endStep, sectionStep, forkStep, targetIn, stepWrites, Aimed, Says, Told, stepsAt};
 use document::Found;
 use document::Mark;
@@ -34,6 +37,8 @@ const ENDFORK: u64 = 3;
 const MAP_WORDS: usize = 7;
 
 const SECTION_WORDS: usize = 8;
+
+const STEP_WORDS: usize = 6;
 
 // ---- what a line says of its step
 
@@ -239,4 +244,75 @@ pub fn put_step(text: &[u8], line: Found, says: u64, table: &mut [u64], filling:
         return put_fork(text, line, ENDFORK, table, filling);
     }
     filling
+}
+
+// ---- lines as they are mostly written
+
+// The words of a step stored behind those of the steps that are stored already: how many there are then.
+fn store_step(table: &mut [u64], filling: Filling, words: &[u64]) -> u64
+    requires { ⌜ (length (now words) ≡ 6) × (position filling 1 + widthOf 1 ≤ length (now table)) ⌝ }
+    ensures { λ r. ⌜ (r ≡ getD (filling .counts) 1 0 + 1) × (now (table .exit) ≡ sets (now (table .entry)) (position filling 1) (now (words .entry))) ⌝ }
+{
+    let bases = filling.bases;
+    let counts = filling.counts;
+    let stored = counts[table::STEPS];
+    let next = stored + 1;
+    base::put_words(
+        table,
+        bases[table::STEPS] + STEP_WORDS * (stored as usize),
+        words,
+    );
+    next
+}
+
+// A line that says Fork or Endfork alone.
+fn store_fork(text: &[u8], line: Found, says: u64, table: &mut [u64], filling: Filling) -> u64
+    requires { ⌜ Forking (now text) line says filling (now table) ⌝ }
+    ensures { λ r. ⌜ Put (now (text .entry)) line filling (now (table .entry)) r (now (table .exit)) ⌝ }
+{
+    let words = [says - 2, 0, 0, 0, 0, line.number];
+    store_step(table, filling, &words)
+}
+
+// `Section Mult=n name`: where the amount ends tells where the name starts.
+fn store_section(text: &[u8], line: Found, end: usize, table: &mut [u64], filling: Filling) -> u64
+    requires { ⌜ Pairing (now text) line end filling (now table) ⌝ }
+    ensures { λ r. ⌜ Put (now (text .entry)) line filling (now (table .entry)) r (now (table .exit)) ⌝ }
+{
+    let from = line.at;
+    let to = line.end;
+    let content = &text[from..to];
+    let bases = filling.bases;
+    let counts = filling.counts;
+    let name = end + 1;
+    let target = name::find_name(
+        text,
+        table,
+        bases[table::SECTIONS],
+        SECTION_WORDS,
+        counts[table::SECTIONS],
+        &content[name..],
+        0,
+    );
+    let times = number::read_integer(&content[path::AMOUNT_AT..end]);
+    let words = [SECTION, target, times.value, 0, 0, line.number];
+    store_step(table, filling, &words)
+}
+
+// The step of a line in a usual form is stored: how many there are then, or 0 where the form is another and nothing is stored.
+pub fn put_usual(text: &[u8], line: Found, table: &mut [u64], filling: Filling) -> u64
+    requires { ⌜ Usable (now text) line filling (now table) ⌝ }
+    ensures { λ r. ⌜ Puts (now (text .entry)) line filling (now (table .entry)) r (now (table .exit)) ⌝ }
+{
+    let at = line.at;
+    let end = line.end;
+    let says = path::usual_fork(&text[at..end]);
+    if says != 0 {
+        return store_fork(text, line, says, table, filling);
+    }
+    let amount = path::usual_amount(&text[at..end]);
+    if amount != 0 {
+        return store_section(text, line, amount, table, filling);
+    }
+    0
 }

@@ -38,8 +38,8 @@ same-length-2 c = search walk-long
 returns-2 : tie.Need-returns-2 Inv-loop μ-loop
 returns-2 c = search model-closes
 
-fill-block-requires : tie.Need-fill-block-requires Inv-loop μ-loop
-fill-block-requires c κs = search walk-next
+fill-lines-requires : tie.Need-fill-lines-requires Inv-loop μ-loop
+fill-lines-requires c κs = search walk-next
 
 loop-less : tie.Need-loop-less Inv-loop μ-loop
 loop-less c = search walk-less
@@ -61,6 +61,6 @@ fill-steps-spec =
     is-in-model-requires
     same-length-2
     returns-2
-    fill-block-requires
+    fill-lines-requires
     loop-less
     loop-again)

@@ -38,16 +38,16 @@ take-step-requires : tie.Need-take-step-requires Inv-loop μ-loop
 take-step-requires c κs = c .before .before .before .loop .inv .2
 
 returns : tie.Need-returns Inv-loop μ-loop
-returns c = (c .before .before .before .before .before .before .loop .inv .3, stays-opens _ _ _ _ (c .before .before .before .before .line-at .ensures) (c .before .before .take-step .ensures .2 (not-true _ (c .if1 .taken))))
+returns c = record { crossed = c .before .before .before .before .before .before .loop .inv .3; stays = stays-opens _ _ _ _ (c .before .before .before .before .line-at .ensures) (c .before .before .take-step .ensures .2 (not-true _ (c .if1 .taken))); stepping = c .before .before .before .before .before .before .loop .inv .2 }
 
 returns-2 : tie.Need-returns-2 Inv-loop μ-loop
-returns-2 c = (crossed-stops _ _ _ _ _ _ _ _ (c .before .before .before .before .before .before .before .before .loop .inv .0) (c .before .before .before .before .before .before .before .before .loop .inv .3) (c .before .before .before .before .before .before .before .loop-test .taken) _ (c .before .before .before .before .before .before .line-at .ensures) _ _ (λ s f. c .before .before .before .before .take-step .ensures .0 (not-false _ (c .before .before .if1 .left)) s (f .0)) (c .if2 .taken), stays-moved _ _ _ _ (c .before .before .before .before .before .before .line-at .ensures) (c .before .before .before .before .before .before .before .loop-test .taken) (c .before .before .before .before .before .before .before .before .loop .inv .3 .onward))
+returns-2 c = record { crossed = crossed-stops _ _ _ _ _ _ _ _ (c .before .before .before .before .before .before .before .before .loop .inv .0) (c .before .before .before .before .before .before .before .before .loop .inv .3) (c .before .before .before .before .before .before .before .loop-test .taken) _ (c .before .before .before .before .before .before .line-at .ensures) _ _ (λ s f. c .before .before .before .before .take-step .ensures .0 (not-false _ (c .before .before .if1 .left)) s (f .0)) (c .if2 .taken); stays = stays-moved _ _ _ _ (c .before .before .before .before .before .before .line-at .ensures) (c .before .before .before .before .before .before .before .loop-test .taken) (c .before .before .before .before .before .before .before .before .loop .inv .3 .onward); stepping = c .before .before .before .before .take-step .ensures .1 }
 
 add-number : tie.Need-add-number Inv-loop μ-loop
 add-number c = search needs
 
 returns-3 : tie.Need-returns-3 Inv-loop μ-loop
-returns-3 c = (crossed-on _ _ _ _ _ _ _ _ (c .before .before .before .before .before .before .before .before .before .before .before .loop .inv .0) (c .before .before .before .before .before .before .before .before .before .before .before .loop .inv .3) (c .before .before .before .before .before .before .before .before .before .before .loop-test .taken) _ (c .before .before .before .before .before .before .before .before .before .line-at .ensures) _ _ (λ s f. c .before .before .before .before .before .before .before .take-step .ensures .0 (not-false _ (c .before .before .before .before .before .if1 .left)) s (f .0)) (c .before .before .before .if2 .left), stays-moved _ _ _ _ (c .before .before .before .before .before .before .before .before .before .line-at .ensures) (c .before .before .before .before .before .before .before .before .before .before .loop-test .taken) (c .before .before .before .before .before .before .before .before .before .before .before .loop .inv .3 .onward))
+returns-3 c = record { crossed = crossed-on _ _ _ _ _ _ _ _ (c .before .before .before .before .before .before .before .before .before .before .before .loop .inv .0) (c .before .before .before .before .before .before .before .before .before .before .before .loop .inv .3) (c .before .before .before .before .before .before .before .before .before .before .loop-test .taken) _ (c .before .before .before .before .before .before .before .before .before .line-at .ensures) _ _ (λ s f. c .before .before .before .before .before .before .before .take-step .ensures .0 (not-false _ (c .before .before .before .before .before .if1 .left)) s (f .0)) (c .before .before .before .if2 .left); stays = stays-moved _ _ _ _ (c .before .before .before .before .before .before .before .before .before .line-at .ensures) (c .before .before .before .before .before .before .before .before .before .before .loop-test .taken) (c .before .before .before .before .before .before .before .before .before .before .before .loop .inv .3 .onward); stepping = c .before .before .before .before .before .before .before .take-step .ensures .1 }
 
 loop-less : tie.Need-loop-less Inv-loop μ-loop
 loop-less c = search crossed-less
@@ -56,7 +56,7 @@ loop-again : tie.Need-loop-again Inv-loop μ-loop
 loop-again c = (c .before .before .before .if2 .left, search needs, c .before .before .before .before .before .before .before .take-step .ensures .1, crossed-on _ _ _ _ _ _ _ _ (c .before .before .before .before .before .before .before .before .before .before .before .loop .inv .0) (c .before .before .before .before .before .before .before .before .before .before .before .loop .inv .3) (c .before .before .before .before .before .before .before .before .before .before .loop-test .taken) _ (c .before .before .before .before .before .before .before .before .before .line-at .ensures) _ _ (λ s f. c .before .before .before .before .before .before .before .take-step .ensures .0 (not-false _ (c .before .before .before .before .before .if1 .left)) s (f .0)) (c .before .before .before .if2 .left))
 
 returns-4 : tie.Need-returns-4 Inv-loop μ-loop
-returns-4 c = (c .before .loop .inv .3, stays-ended _ _ _ (c .loop-test .left))
+returns-4 c = record { crossed = c .before .loop .inv .3; stays = stays-ended _ _ _ (c .loop-test .left); stepping = c .before .loop .inv .2 }
 
 pub pass-path-spec : {M : Type 1} → statement M
 pass-path-spec =

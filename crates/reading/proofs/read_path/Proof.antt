@@ -7,14 +7,14 @@ use borrow.Author.Needs.{needs}
 use Rattle.reading.proofs.read_path.Statement.{statement}
 use Rattle.reading.proofs.read_path.Tie as tie
 
-pass-path-requires : tie.Need-pass-path-requires
-pass-path-requires c κs = (search needs, search needs, search stepping-kept)
+pass-block-requires : tie.Need-pass-block-requires
+pass-block-requires c κs = (search needs, search needs, search stepping-kept)
 
 returns : tie.Need-returns
-returns c = crossed-reached _ _ _ _ _ _ _ _ (c .before .before .before .before .pass-path .ensures .0) _ (c .before .before .before .before .before .before .before .before .pre .2, refl) (c .before .before .before .before .before .before .before .before .pre .1) (c .before .before .if1 .taken)
+returns c = crossed-reached _ _ _ _ _ _ _ _ (c .before .before .before .before .pass-block .ensures .crossed) _ (c .before .before .before .before .before .before .before .before .pre .2, refl) (c .before .before .before .before .before .before .before .before .pre .1) (c .before .before .if1 .taken)
 
 read-one-requires : tie.Need-read-one-requires
-read-one-requires c κs = (search needs, search needs, stays-elsewhere _ _ _ _ (c .before .before .pass-path .ensures .1) (c .before .before .pass-path .ensures .0 .onward) (c .if1 .left) (c .before .before .before .before .before .before .pre .0))
+read-one-requires c κs = (search needs, search needs, stays-elsewhere _ _ _ _ (c .before .before .pass-block .ensures .stays) (c .before .before .pass-block .ensures .crossed .onward) (c .if1 .left) (c .before .before .before .before .before .before .pre .0))
 
 returns-2 : tie.Need-returns-2
 returns-2 c = search needs
@@ -23,7 +23,7 @@ pub read-path-spec : {M : Type 1} → statement M
 read-path-spec =
     tie.close
     (tie.spec
-    pass-path-requires
+    pass-block-requires
     returns
     read-one-requires
     returns-2)
