@@ -13,10 +13,10 @@ use lib.ListN.{length, take, drop, getD, length-drop}
 use lib.Seq.{drop-cons, drop-drop, take-suc, getD-drop, take-all}
 use lib.Dec.{eqb}
 use borrow.Author.Tests.{ne-eqb, eqb-true, eqb-false, not-false}
-use Rattle.base.specs.If.{both, either}
+use Rattle.base.specs.If.{if_then_else_, both, either}
 use Rattle.base.specs.Runs.{run, all}
 use Rattle.base.specs.Class.{isPrinted, isBefore, runEnd}
-use Rattle.base.proofs.IfLaws.{by-cases, both-true, both-first, both-second, either-rest}
+use Rattle.base.proofs.IfLaws.{if-true, if-false, by-cases, both-true, both-first, both-second, either-rest}
 use Rattle.base.proofs.RunLaws.{run-stop, run-block, all-nil, all-cons}
 use Rattle.text.specs.Lines.{lines}
 use Rattle.text.specs.Words.{backRun}
@@ -200,25 +200,82 @@ module _ (u : List ℕ) (line : ℕ) where
   pub ending-starts : Ending line 0
   ending-starts = record { back = 0; amid = amid-starts; short = omega arith }
 
-  -- where the loop stands, and what it has counted
-  pub ending-bounds : (count at : ℕ) → Ending count at → (at ≤ length u) × (count ≤ line + at)
-  ending-bounds count at e =
-      let c : count ≤ line + (at - e .back) = e .amid .counted in
-      let l : e .back ≤ at = e .amid .low in
-      (e .amid .inside, omega arith)
-
   pub ending-passes : (count at : ℕ) → Ending count at → (at ≤ length u) × PassesLines u 0 line (at - backRun (isBefore 10) u at) count
   ending-passes count at e = (e .amid .inside, amid-passes count at (e .back) (e .amid))
 
-  pub ending-on : (count at : ℕ) → Ending count at → 16 ≤ length u - at → (usual : Bool) → usual ≡ all isUsual (take 16 (drop at u)) →
-      not usual ≡ false → (ends : ℕ) → ends ≡ feeds (take 16 (drop at u)) → (ends ≡ 0 → ⊥) → Ending (count + ends) (at + 16)
-  ending-on count at e room usual told t ends counted some =
-      let k : at ≤ length u = e .amid .inside in
-      let s : e .back ≤ 15 = e .short in
-      let o : Over 16 count at (e .back) =
-      over 16 count at (e .back) (omega arith) (sym told ∙ not-false usual t) (omega arith) (e .amid) in
-      let l : o .behind < 16 = o .ended (λ (z : feeds (take 16 (drop at u)) ≡ 0). some (counted ∙ z)) in
-      rw counted (record { back = o .behind; amid = o .amid; short = omega arith })
+  -- blocks in which no line ends stand between the last in which one does and the next to be looked at
+  pub record Running (count mark here : ℕ) : Type 0 where
+    pub ending : Ending count mark
+    pub back : ℕ
+    pub amid : Amid count here back
+    pub near : back + mark ≤ 15 + here
+    pub order : mark ≤ here
+
+  pub running-starts : Running line 0 0
+  running-starts =
+      record { ending = ending-starts; back = 0; amid = amid-starts; near = omega arith; order = omega arith }
+
+  pub running-passes : (count mark here : ℕ) → Running count mark here →
+      (mark ≤ length u) × PassesLines u 0 line (mark - backRun (isBefore 10) u mark) count
+  running-passes count mark here r = ending-passes count mark (r .ending)
+
+  pub running-bounds : (count mark here : ℕ) → Running count mark here → (here ≤ length u) × (count ≤ line + here)
+  running-bounds count mark here r =
+      let c : count ≤ line + (here - r .back) = r .amid .counted in
+      let l : r .back ≤ here = r .amid .low in
+      (r .amid .inside, omega arith)
+
+  module _ (count mark here : ℕ) (r : Running count mark here) (room : 16 ≤ length u - here) (most : ℕ) (small : most ≤ 80)
+      (apart : here - mark ≤ most) (usual : Bool) (told : usual ≡ all isUsual (take 16 (drop here u))) (t : not usual ≡ false) (ends : ℕ)
+      (counted : ends ≡ feeds (take 16 (drop here u))) where
+    passed-block : Over 16 count here (r .back)
+    passed-block =
+        let k : here ≤ length u = r .amid .inside in
+        let n : r .back + mark ≤ 15 + here = r .near in
+        let o : mark ≤ here = r .order in
+        over 16 count here (r .back) (omega arith) (sym told ∙ not-false usual t) (omega arith) (r .amid)
+
+    -- no line ends in the block
+    block-none : ends ≡ 0 → Running (count + ends) mark (here + 16)
+    block-none z =
+        let e : count + ends ≡ count = omega arith in
+        let f : count + feeds (take 16 (drop here u)) ≡ count = omega arith in
+        let b : passed-block .behind ≤ r .back + 16 = passed-block .below in
+        let n : r .back + mark ≤ 15 + here = r .near in
+        let o : mark ≤ here = r .order in
+        rw e
+        (record {
+          ending = r .ending;
+          back = passed-block .behind;
+          amid = rw f at (passed-block .amid);
+          near = omega arith;
+          order = omega arith;
+        })
+
+    block-some : (ends ≡ 0 → ⊥) → Running (count + ends) (here + 16) (here + 16)
+    block-some some =
+        let l : passed-block .behind < 16 = passed-block .ended (λ (z : feeds (take 16 (drop here u)) ≡ 0). some (counted ∙ z)) in
+        rw counted
+        (record {
+          ending = record { back = passed-block .behind; amid = passed-block .amid; short = omega arith };
+          back = passed-block .behind;
+          amid = passed-block .amid;
+          near = omega arith;
+          order = omega arith;
+        })
+
+    pub running-on : (next : ℕ) → next ≡ (if eqb ends 0 then mark else (here + 16)) → Running (count + ends) next (here + 16)
+    running-on next is =
+        by-cases _ (eqb ends 0)
+        (λ (e : eqb ends 0 ≡ true). rw (is ∙ if-true _ _ e) (block-none (eqb-true _ _ e)))
+        (λ (e : eqb ends 0 ≡ false). rw (is ∙ if-false _ _ e) (block-some (eqb-false _ _ e)))
+
+    pub running-order : (next : ℕ) → next ≡ (if eqb ends 0 then mark else (here + 16)) → next ≤ here + 16
+    running-order next is = running-on next is .order
+
+    pub running-ends : (next : ℕ) → next ≡ (if eqb ends 0 then mark else (here + 16)) →
+        (next ≤ length u) × PassesLines u 0 line (next - backRun (isBefore 10) u next) (count + ends)
+    running-ends next is = running-passes (count + ends) next (here + 16) (running-on next is)
 
 -- ---- what the callers see
 

@@ -10,6 +10,8 @@ ghost use Rattle.text.specs.Words.{wordAt, lastWord, backRun, fewOf, wor
 ghost use Rattle.text.specs.ByteRules.{byteRules, terminatorAt, Judges};
 ghost use Rattle.text.specs.Feeds.{feedOf, feeds, isUsual, PassesLines};
 ghost use Rattle.base.specs.Runs.{all};
+ghost use Rattle.base.specs.If.{if_then_else_};
+ghost use lib.Dec.{eqb};
 use base::Class;
 
 // How many bytes of names are looked at together.
@@ -28,6 +30,9 @@ const CARRIAGE_RETURN: u8 = 13;
 const MOST_BYTES: usize = 1048576;
 
 const MOST_CHARACTERS: usize = 120;
+
+// How many bytes a short line has at most.
+const SHORT: usize = 64;
 
 // Of one line: where its content ends, and where the next line starts.
 pub struct Line {
@@ -382,58 +387,71 @@ struct Past {
     line: u64,
 }
 
-// Past all blocks in each of which a line ends: no line between them has more than thirty characters. The last may go on behind them.
-fn past_ends(text: &[u8], line: u64) -> Past
-    requires { ⌜ line + length (now text) ≤ 2_097_152 ⌝ }
+// Where the last block ends in which a line ends: behind the one that was looked at last, or before it.
+fn mark_after(mark: usize, here: usize, ends: u8) -> usize
+    ensures { λ r. ⌜ r ≡ (if eqb ends 0 then mark else here) ⌝ }
+{
+    if ends == 0 {
+        return mark;
+    }
+    here
+}
+
+// Past blocks of bytes that are all such as a line may hold, and LFs: up to the last block in which a line ends, so that no more than a few
+// bytes of the next line are passed. A line of more than so many bytes is left.
+fn past_ends(text: &[u8], line: u64, most: usize) -> Past
+    requires { ⌜ (line + length (now text) ≤ 2_097_152) × (most ≤ 80) ⌝ }
     ensures { λ r. ⌜ (r .at ≤ length (now (text .entry)))
         × PassesLines (now (text .entry)) 0 line (r .at - backRun (isBefore 10) (now (text .entry)) (r .at)) (r .line) ⌝ }
 {
     let mut here = 0;
+    let mut mark = 0;
     let mut count = line;
     while BLOCK <= text.len() - here {
         if !are_usual(text, here) {
             return Past {
-                at: here,
+                at: mark,
                 line: count,
             };
         }
         let ends = feeds_in(text, here);
-        if ends == 0 {
+        count += ends as u64;
+        here += BLOCK;
+        mark = mark_after(mark, here, ends);
+        if most < here - mark {
             return Past {
-                at: here,
+                at: mark,
                 line: count,
             };
         }
-        count += ends as u64;
-        here += BLOCK;
     }
     Past {
-        at: here,
+        at: mark,
         line: count,
     }
 }
 
-// Past short lines that break nothing, up to the start of one that is left to be looked at.
-fn past_short(text: &[u8], line: u64) -> Past
-    requires { ⌜ line + length (now text) ≤ 2_097_152 ⌝ }
+// Past lines that break nothing, up to the start of one that is left to be looked at.
+fn past_short(text: &[u8], line: u64, most: usize) -> Past
+    requires { ⌜ (line + length (now text) ≤ 2_097_152) × (most ≤ 80) ⌝ }
     ensures { λ r. ⌜ PassesLines (now (text .entry)) 0 line (r .at) (r .line) ⌝ }
 {
-    let past = past_ends(text, line);
+    let past = past_ends(text, line, most);
     Past {
         at: skip_back(Class::Before(LINE_FEED), text, past.at),
         line: past.line,
     }
 }
 
-// Behind a short line, which has so many bytes, there are often more of them.
+// Behind a short line, which has so many bytes, there are often more of about its size.
 fn past_more(text: &[u8], at: usize, line: u64, size: usize) -> Past
     requires { ⌜ (at ≤ length (now text)) × (line ≤ at + 1) × (length (now text) ≤ 1_048_576) ⌝ }
     ensures { λ r. ⌜ PassesLines (now (text .entry)) at line (r .at) (r .line) ⌝ }
 {
-    if BLOCK < size {
+    if SHORT < size {
         return Past { at, line };
     }
-    let past = past_short(&text[at..], line);
+    let past = past_short(&text[at..], line, size + BLOCK);
     Past {
         at: at + past.at,
         line: past.line,

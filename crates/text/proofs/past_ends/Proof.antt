@@ -1,22 +1,21 @@
--- `text::past_ends` meets its contract. The loop's invariant: what it has gone past ends amid a line of fewer than sixteen bytes so far.
+-- `text::past_ends` meets its contract. The loop's invariant: the last block in which a line ends, and blocks behind it in which none does.
 -- Assumes nothing.
 use borrow.Author.Needs.{needs}
-use Prim.Native.Nat.{_-_}
+use Prim.Native.Nat.{_-_, _≤_}
 use native.Mathlib.Omega.{arith}
 use lib.ListN.{length}
-use Rattle.text.proofs.FeedLaws.{feeds-told}
-use Rattle.text.proofs.ShortLaws.{Ending, ending-starts, ending-bounds, ending-passes, ending-on}
+use Rattle.text.proofs.ShortLaws.{Running, running-starts, running-passes, running-on, running-order, running-ends}
 use Rattle.text.proofs.past_ends.Statement.{statement}
 use Rattle.text.proofs.past_ends.Tie as tie
 
 abbrev Inv-loop : tie.InvT-loop
-Inv-loop text line here₀ count₀ here count = Ending text line count here
+Inv-loop text line most here₀ mark₀ count₀ here mark count = (here - mark ≤ most) × Running text line count mark here
 
 abbrev μ-loop : tie.MeasureT-loop
-μ-loop text line here₀ count₀ here count = length text - here
+μ-loop text line most here₀ mark₀ count₀ here mark count = length text - here
 
 loop-holds : tie.Need-loop-holds Inv-loop μ-loop
-loop-holds c = search ending-starts
+loop-holds c = (omega arith, search running-starts)
 
 sub-loop : tie.Need-sub-loop Inv-loop μ-loop
 sub-loop c = omega arith
@@ -25,13 +24,10 @@ are-usual-requires : tie.Need-are-usual-requires Inv-loop μ-loop
 are-usual-requires c κs = omega arith
 
 returns : tie.Need-returns Inv-loop μ-loop
-returns c = search ending-passes
+returns c = search running-passes
 
 feeds-in-requires : tie.Need-feeds-in-requires Inv-loop μ-loop
 feeds-in-requires c κs = omega arith
-
-returns-2 : tie.Need-returns-2 Inv-loop μ-loop
-returns-2 c = search ending-passes
 
 cast-count : tie.Need-cast-count Inv-loop μ-loop
 cast-count c = omega arith
@@ -42,14 +38,27 @@ add-count c = omega arith
 add-here : tie.Need-add-here Inv-loop μ-loop
 add-here c = omega arith
 
+mark-after-requires : tie.Need-mark-after-requires Inv-loop μ-loop
+mark-after-requires c κs = search needs
+
+sub-if2 : tie.Need-sub-if2 Inv-loop μ-loop
+sub-if2 c = search running-order
+
+returns-2 : tie.Need-returns-2 Inv-loop μ-loop
+returns-2 c =
+    running-ends _ _ _ _ _ (c .before .before .before .before .before .before .loop .inv .1) (c .before .before .before .before .before .loop-test .taken) _
+    (c .before .before .before .before .before .before .before .before .pre .1) (c .before .before .before .before .before .before .loop .inv .0) _
+    (c .before .before .before .before .are-usual .ensures) (c .before .before .before .if1 .left) _ (c .before .before .feeds-in .ensures) _
+    (c .before .mark-after .ensures)
+
 loop-less : tie.Need-loop-less Inv-loop μ-loop
 loop-less c = omega arith
 
 loop-again : tie.Need-loop-again Inv-loop μ-loop
-loop-again c = search ending-on
+loop-again c = (omega arith, search running-on)
 
 returns-3 : tie.Need-returns-3 Inv-loop μ-loop
-returns-3 c = search ending-passes
+returns-3 c = search running-passes
 
 pub past-ends-spec : {M : Type 1} → statement M
 past-ends-spec =
@@ -62,10 +71,12 @@ past-ends-spec =
     are-usual-requires
     returns
     feeds-in-requires
-    returns-2
     cast-count
     add-count
     add-here
+    mark-after-requires
+    sub-if2
+    returns-2
     loop-less
     loop-again
     returns-3)

@@ -17,6 +17,9 @@ part-past-short-start c = search needs
 part-past-short-end : tie.Need-part-past-short-end
 part-past-short-end c = search needs
 
+add-past-short : tie.Need-add-past-short
+add-past-short c = search needs
+
 past-short-requires : tie.Need-past-short-requires
 past-short-requires c κs = search needs
 
@@ -29,4 +32,12 @@ returns-2 c = search (passes-part, needs)
 pub past-more-spec : {M : Type 1} → statement M
 past-more-spec =
     tie.close
-    (tie.spec returns sub-past-short part-past-short-start part-past-short-end past-short-requires add-t8 returns-2)
+    (tie.spec
+    returns
+    sub-past-short
+    part-past-short-start
+    part-past-short-end
+    add-past-short
+    past-short-requires
+    add-t8
+    returns-2)
