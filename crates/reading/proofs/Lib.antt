@@ -6,3 +6,4 @@ pub mod OutsideLaws
 pub mod CountLaws
 pub mod CrossLaws
 pub mod QuietLaws
+mod ListedLaws
