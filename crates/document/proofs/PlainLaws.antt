@@ -4,14 +4,14 @@ use mathlib.Core.Path.{_≡_, refl, sym, _∙_, ap}
 use mathlib.Core.Bool.{Bool, true, false, not, true≢false}
 use mathlib.Core.List.{List, [], _∷_, _++_, append-assoc, append-nil}
 use Prim.Native.Nat.{ℕ, zero, suc, _+_, _-_, _≤_, _<_}
-use native.Mathlib.Nat.{le-refl, add-zero, zero-add, add-assoc}
+use native.Mathlib.Nat.{le-refl, add-zero, add-assoc}
 use native.Mathlib.Numerals.{add-one}
 use native.Mathlib.Omega.{arith}
-use lib.ListN.{length, take, drop, getD, length-take}
+use lib.ListN.{length, take, drop, getD}
 use lib.Seq.{drop-cons, getD-drop}
 use lib.Dec.{ltb, eqb}
 use borrow.Author.Tests.{eq-eqb, ne-eqb, eqb-true, eqb-false, lt-ltb, le-ltb, ltb-false, not-false}
-use Rattle.base.specs.If.{if_then_else_, both}
+use Rattle.base.specs.If.{both}
 use Rattle.base.specs.Bytes.{lineFeed, isBlank}
 use Rattle.base.specs.Runs.{run, all}
 use Rattle.base.specs.Class.{isBefore, runEnd}
@@ -30,7 +30,9 @@ use Rattle.document.specs.Lines.{Line, plain, linesAt, placeAfter, keyIn
 use Rattle.document.specs.Document.{opensMap, mapAt, opensModel, modelAt, opensSection, sectionAt}
 use Rattle.document.specs.Holds.{Each}
 use Rattle.document.specs.Holds.Each.{none, more}
-use Rattle.document.specs.Found.{lineIn, linesBehind, Finds, IsPlain, Plainly, PassesPlain, Meets, feedOf, feeds, Amid, PassesBytes, EndsLine}
+use Rattle.text.specs.Feeds.{feedOf, feeds}
+use Rattle.text.proofs.FeedLaws.{feed-one, feed-none, feeds-none, feeds-more, feeds-told}
+use Rattle.document.specs.Found.{lineIn, linesBehind, Finds, IsPlain, Plainly, PassesPlain, Meets, Amid, PassesBytes, EndsLine}
 use Rattle.document.specs.Found.Amid.{ended, amid}
 use Rattle.document.specs.declared.Found.{Found}
 use Rattle.document.specs.declared.Passed.{Passed}
@@ -201,31 +203,6 @@ module _ (t : List ℕ) (n₀ at₀ n at : ℕ) (passes : PassesPlain t n₀ at�
 
 -- ---- byte by byte
 
-pub feed-one : (b : ℕ) → b ≡ 10 → 1 ≡ feedOf b
-unfolding feedOf
-feed-one b e = sym (if-true _ _ (eq-eqb b 10 e))
-
-pub feed-none : (b : ℕ) → (b ≡ 10 → ⊥) → 0 ≡ feedOf b
-unfolding feedOf
-feed-none b e = sym (if-false _ _ (ne-eqb b 10 e))
-
-feed-small : (b : ℕ) → feedOf b ≤ 1
-feed-small b =
-    by-cases _ (eqb b 10)
-    (λ (e : eqb b 10 ≡ true). omega (arith, feed-one b (eqb-true _ _ e)))
-    (λ (e : eqb b 10 ≡ false). omega (arith, feed-none b (eqb-false _ _ e)))
-
-pub feed-told : (b f : ℕ) → f ≡ feedOf b → f ≤ 1
-feed-told b f e = omega (arith, e, feed-small b)
-
-feeds-none : feeds [] ≡ 0
-unfolding feeds
-feeds-none = refl
-
-feeds-more : (b : ℕ) (s : List ℕ) → feeds (b ∷ s) ≡ feedOf b + feeds s
-unfolding feeds
-feeds-more b s = refl
-
 one-back : (t : List ℕ) (at : ℕ) → getD t (at + 1 - 1) 0 ≡ getD t at 0
 one-back t at = let e : at + 1 - 1 ≡ at = omega arith in ap (λ (k : ℕ). getD t k 0) e
 
@@ -275,39 +252,7 @@ amid-over t n₀ at₀ (suc k) n at h a m =
     let q : at + 1 + k ≡ at + suc k = omega arith in
     rw (sym e, sym q) r
 
-feeds-few : (s : List ℕ) → feeds s ≤ length s
-feeds-few [] = omega (arith, feeds-none)
-feeds-few (b ∷ s) = omega (arith, feeds-more b s, feed-small b, feeds-few s)
-
--- ---- the loop that counts the LFs of some bytes: what it has counted and what is left give the whole
-
-module _ (t : List ℕ) where
-  pub feeds-start : (from end : ℕ) → end ≡ from + 16 → 0 + feeds (take (end - from) (drop from t)) ≡ feeds (take 16 (drop from t))
-  feeds-start from end e = let k : end - from ≡ 16 = omega arith in zero-add _ ∙ ap (λ (n : ℕ). feeds (take n (drop from t))) k
-
-  module _ (i end count goal : ℕ) (inv : count + feeds (take (end - i) (drop i t)) ≡ goal) where
-    pub feeds-on : i < end → end ≤ length t → (f : ℕ) → f ≡ feedOf (getD t i 0) → count + f + feeds (take (end - (i + 1)) (drop (i + 1) t)) ≡ goal
-    feeds-on h l f e =
-        let k : end - i ≡ suc (end - (i + 1)) = omega arith in
-        let g : i < length t = omega arith in
-        let d : drop i t ≡ getD t i 0 ∷ drop (i + 1) t = drop-cons t i 0 g ∙ ap (λ (j : ℕ). getD t i 0 ∷ drop j t) (sym (add-one i)) in
-        let a : feeds (take (end - i) (drop i t)) ≡ feedOf (getD t i 0) + feeds (take (end - (i + 1)) (drop (i + 1) t)) =
-        ap (λ (n : ℕ). feeds (take n (drop i t))) k ∙ ap (λ (u : List ℕ). feeds (take (suc (end - (i + 1))) u)) d
-        ∙ feeds-more (getD t i 0) (take (end - (i + 1)) (drop (i + 1) t)) in
-        omega arith
-
-    pub feeds-done : end ≤ i → count ≡ goal
-    feeds-done h =
-        let k : end - i ≡ 0 = omega arith in
-        let z : feeds (take (end - i) (drop i t)) ≡ 0 = ap (λ (n : ℕ). feeds (take n (drop i t))) k ∙ feeds-none in
-        omega arith
-
 -- ---- block by block
-
-feeds-told : (t : List ℕ) (from f : ℕ) → f ≡ feeds (take 16 (drop from t)) → f ≤ 16
-feeds-told t from f e =
-    let s : length (take 16 (drop from t)) ≤ 16 = rw (length-take 16 (drop from t)) (omega arith) in
-    omega (arith, feeds-few (take 16 (drop from t)))
 
 pub bytes-none : (t : List ℕ) (n at : ℕ) → (at ≤ length t) × (n ≤ at + 1) → PassesBytes t n at (record { at = at; number = n })
 bytes-none t n at (h, k) =

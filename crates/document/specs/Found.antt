@@ -6,7 +6,7 @@ use mathlib.Core.Bool.{Bool, true, false}
 use mathlib.Core.List.{List, [], _∷_, _++_}
 use Prim.Native.Char.{code}
 use lib.ListN.{length, take, drop, getD}
-use lib.Dec.{leb, eqb}
+use lib.Dec.{leb}
 use Rattle.base.specs.If.{if_then_else_}
 use Rattle.base.specs.Bytes.{lineFeed}
 use Rattle.base.specs.Class.{isBefore, runEnd}
@@ -87,14 +87,6 @@ pub record Meets (t : List ℕ) (n at p : ℕ) (f : Found) : Type 0 where
   pub same-none : f .there ≡ false → Plainly p (linesAt t n at p) []
 
 -- ---- the same, many bytes at once
-
--- how many lines a byte ends, and how many bytes together do
-unfoldable pub feedOf : ℕ → ℕ
-feedOf b = if eqb b lineFeed then 1 else 0
-
-unfoldable pub feeds : List ℕ → ℕ
-feeds [] = 0
-feeds (b ∷ s) = feedOf b + feeds s
 
 -- gone past lines from at₀ on to a byte behind an LF, or to one in the line that starts at s, which does not start with `[`
 pub data Amid (t : List ℕ) (n₀ at₀ : ℕ) : ℕ → ℕ → Type 0 where

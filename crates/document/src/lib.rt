@@ -8,7 +8,7 @@ ghost use Rattle.text.specs.Lines.{pastFeed};
 ghost use Rattle.text.specs.Words.{wordsFrom};
 ghost use Rattle.block.specs.Kept.{mostLines};
 ghost use Rattle.document.specs.Lines.{keyIn, argumentIn, firstWord, secondWord, placeAfter, argumentOf};
-ghost use Rattle.document.specs.Found.{markOf, markAt, Finds, Located, contentIn, lineIn, feedOf, feeds, PassesPlain, PassesBytes, EndsLine, Meets};
+ghost use Rattle.document.specs.Found.{markOf, markAt, Finds, Located, contentIn, lineIn, PassesPlain, PassesBytes, EndsLine, Meets};
 use base::Class;
 use keyword::Bracket;
 use text::Span;
@@ -128,32 +128,7 @@ fn past_line(text: &[u8], at: usize) -> usize
     i
 }
 
-// How many lines a byte ends.
-fn feed_of(b: u8) -> u8
-    ensures { λ r. ⌜ r ≡ feedOf b ⌝ }
-{
-    if b == LINE_FEED {
-        return 1;
-    }
-    0
-}
-
-// How many lines end within sixteen bytes. Each byte is looked at, so that a processor takes them at once.
-fn feeds_in(text: &[u8], from: usize) -> u8
-    requires { ⌜ from + 16 ≤ length (now text) ⌝ }
-    ensures { λ r. ⌜ r ≡ feeds (take 16 (drop from (now (text .entry)))) ⌝ }
-{
-    let end = from + BLOCK;
-    let mut count = 0;
-    let mut i = from;
-    while i < end {
-        count += feed_of(text[i]);
-        i += 1;
-    }
-    count
-}
-
-// Whether none of sixteen bytes is a `[`, looked at in the same way.
+// Whether none of sixteen bytes is a `[`. Each is looked at, so that a processor takes them at once.
 fn is_closed(text: &[u8], from: usize) -> bool
     requires { ⌜ from + 16 ≤ length (now text) ⌝ }
     ensures { λ r. ⌜ r ≡ all (isBefore 91) (take 16 (drop from (now (text .entry)))) ⌝ }
@@ -182,7 +157,7 @@ fn past_blocks(text: &[u8], at: usize, number: u64) -> Passed
                 number: count,
             };
         }
-        count += feeds_in(text, here) as u64;
+        count += text::feeds_in(text, here) as u64;
         here += BLOCK;
     }
     Passed {
@@ -220,7 +195,7 @@ pub fn past_plain(text: &[u8], at: usize, number: u64) -> Passed
                 number: count,
             };
         }
-        let mid = past_blocks(text, here + 1, count + (feed_of(first) as u64));
+        let mid = past_blocks(text, here + 1, count + (text::feed_of(first) as u64));
         let passed = past_rest(text, mid.at, mid.number);
         here = passed.at;
         count = passed.number;

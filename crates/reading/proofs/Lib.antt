@@ -7,3 +7,4 @@ pub mod CountLaws
 pub mod CrossLaws
 pub mod QuietLaws
 pub mod BlockLaws
+mod ListedLaws

@@ -6,6 +6,7 @@ ghost use lib.ListN.{length};
 ghost use Rattle.place.specs.Place as place;
 ghost use Rattle.block.specs.Kept.{Kept, mostLines};
 ghost use Rattle.reading.specs.Reading.{goes, breaks, lineStep, keywordStep, argumentFrom, bracketStep, beforeStep, stepOf, atEnd};
+ghost use Rattle.reading.specs.Listed.{isFree};
 ghost use Rattle.text.specs.Lines.{isBlankLine};
 ghost use Rattle.text.specs.Words.{words, firstOf};
 ghost use Rattle.argument.specs.Argument.{isReserved};
@@ -244,8 +245,27 @@ pub struct Passing {
     pub line: u64,
 }
 
+// A byte with which a line has no bracket at its front, and no word that is reserved.
+fn is_free(b: u8) -> bool
+    ensures { λ r. ⌜ r ≡ isFree b ⌝ }
+{
+    if b <= b' ' {
+        return false;
+    }
+    if b == OPENING {
+        return false;
+    }
+    if b == b'P' {
+        return false;
+    }
+    if b == b'G' {
+        return false;
+    }
+    b != b'N'
+}
+
 // A line of the model list as it should be.
-fn is_listed(content: &[u8]) -> bool
+fn reads_listed(content: &[u8]) -> bool
     ensures { λ r. ⌜ (r ≡ true → (bracketOf (now (content .entry)) ≡ Plain) × (isReserved (firstOf (words (now (content .entry)))) ≡ false)) ⌝ }
 {
     match keyword::read_bracket(content) {
@@ -256,6 +276,16 @@ fn is_listed(content: &[u8]) -> bool
         Bracket::Later => false,
         Bracket::Keyword(_, _) => false,
     }
+}
+
+// The same: most lines tell it by their first byte.
+fn is_listed(content: &[u8]) -> bool
+    ensures { λ r. ⌜ (r ≡ true → (bracketOf (now (content .entry)) ≡ Plain) × (isReserved (firstOf (words (now (content .entry)))) ≡ false)) ⌝ }
+{
+    if is_free(base::byte_at(content, 0)) {
+        return true;
+    }
+    reads_listed(content)
 }
 
 fn is_quiet(content: &[u8], place: u64) -> bool

@@ -73,7 +73,7 @@ terminator-view u i =
 printed-not : (b : ℕ) → isPrinted b ≡ true → (n : ℕ) → isPrinted n ≡ false → b ≡ n → ⊥
 printed-not b e n f g = true≢false (sym e ∙ ap isPrinted g ∙ f)
 
-feed-not-printed : isPrinted lineFeed ≡ false
+pub feed-not-printed : isPrinted lineFeed ≡ false
 unfolding isPrinted within either both
 feed-not-printed = refl
 
@@ -140,11 +140,11 @@ stopOf u = run isPrinted u
 before-stop : (u : List ℕ) (i : ℕ) → i < stopOf u → isBefore lineFeed (getD u i 0) ≡ true
 before-stop u i h = printed-before-feed _ (run-all isPrinted u i h)
 
-is-feed : (b : ℕ) → b ≡ lineFeed → isBefore lineFeed b ≡ false
+pub is-feed : (b : ℕ) → b ≡ lineFeed → isBefore lineFeed b ≡ false
 unfolding isBefore
 is-feed b e = not-not-via (eq-eqb _ _ e)
 
-not-feed : (b : ℕ) → (b ≡ lineFeed → ⊥) → isBefore lineFeed b ≡ true
+pub not-feed : (b : ℕ) → (b ≡ lineFeed → ⊥) → isBefore lineFeed b ≡ true
 unfolding isBefore
 not-feed b e = not-via (ne-eqb _ _ e)
 

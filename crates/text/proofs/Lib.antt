@@ -3,3 +3,6 @@ pub mod WordLaws
 pub mod ByteLaws
 pub mod FormLaws
 mod SameLaws
+pub mod FeedLaws
+mod ShortLaws
+mod SureLaws

@@ -1,15 +1,15 @@
 -- Laws of lines: what the place of a line says of the lines from there on.
 -- Assumes nothing.
 use mathlib.Core.Path.{_≡_, refl, sym, _∙_, ap}
-use mathlib.Core.Bool.{Bool, true, false}
+use mathlib.Core.Bool.{Bool, true, false, not}
 use mathlib.Core.List.{List, [], _∷_, _++_}
 use Prim.Native.Nat.{ℕ, zero, suc, _+_, _-_, _≤_, _<_, zero-le, suc-le-suc}
 use native.Mathlib.Nat.{not-suc-le-zero}
 use native.Mathlib.Omega.{arith}
-use lib.ListN.{length, take, drop, getD, length-drop, drop-of-length-le}
+use lib.ListN.{length, take, drop, getD, length-drop, drop-of-length-le, List·getD-eq-default}
 use lib.Seq.{drop-drop, take-take}
 use lib.Dec.{ltb, eqb, leb·suc-suc}
-use borrow.Author.Tests.{ne-eqb, lt-ltb, le-ltb, ltb-true, ltb-false}
+use borrow.Author.Tests.{not-true, ne-eqb, lt-ltb, le-ltb, ltb-true, ltb-false}
 use Rattle.base.specs.If.{if_then_else_, both}
 use Rattle.base.specs.Bytes.{lineFeed}
 use Rattle.base.specs.Runs.{run}
@@ -71,6 +71,36 @@ module _ (comment : ℕ) (t : List ℕ) (at content end : ℕ) (e : content ≡ 
 
   pub line-unended : length t ≤ end → record { content = content; next = end } ≡ lineAt comment t at
   line-unended h = line-next end (feed-none t end h)
+
+-- where a line has no content, and where a part of it is passed already
+module _ (comment : ℕ) (t : List ℕ) (at : ℕ) where
+  pub content-none : length t ≤ at → at ≡ runEnd (isContent comment) t at
+  content-none h =
+      let k : run (isContent comment) (drop at t) ≡ 0 = run-past (isContent comment) t at h in
+      omega arith
+
+  pub content-stops : (is : Bool) → at < length t → is ≡ isContent comment (getD t at 0) → not is ≡ true → at ≡ runEnd (isContent comment) t at
+  content-stops is h told e =
+      let k : run (isContent comment) (drop at t) ≡ 0 = run-stop (isContent comment) t at h (sym told ∙ not-true is e) in
+      omega arith
+
+  pub content-through : (mid content : ℕ) → comment ≡ 124 → content ≡ runEnd (isContent 124) t mid →
+      runEnd (isContent 124) t mid ≡ runEnd (isContent 124) t at → content ≡ runEnd (isContent comment) t at
+  content-through mid content e f g = f ∙ g ∙ ap (λ (b : ℕ). runEnd (isContent b) t at) (sym e)
+
+-- an LF stands inside the text
+pub feed-inside : (t : List ℕ) (i b : ℕ) → b ≡ getD t i 0 → b ≡ 10 → i < length t
+feed-inside t i b told e =
+    by-cases _ (ltb i (length t)) (λ (h : ltb i (length t) ≡ true). ltb-true _ _ h)
+    (λ (h : ltb i (length t) ≡ false).
+    let z : getD t i 0 ≡ 0 = List·getD-eq-default t 0 (ltb-false _ _ h) in
+    absurd (omega arith))
+
+-- a line whose LF stands where its content ends
+pub line-here : (comment : ℕ) (t : List ℕ) (at content b : ℕ) → content ≡ runEnd (isContent comment) t at → b ≡ getD t content 0 → b ≡ 10 →
+    record { content = content; next = content + 1 } ≡ lineAt comment t at
+line-here comment t at content b is told e =
+    line-ended comment t at content content is (feed-here t content b told e) (feed-inside t content b told e)
 
 -- ---- the first line of a text
 

@@ -5,6 +5,7 @@ use mathlib.Core.Bool.{Bool, true, false, not}
 use mathlib.Core.List.{List, [], _∷_, map, reverse, reverse-append}
 use Prim.Native.Nat.{ℕ, zero, suc, _+_, _-_, _≤_, _<_, min, zero-le}
 use native.Mathlib.Nat.{not-suc-le-zero, add-zero, add-suc, suc-add, add-assoc}
+use native.Mathlib.Numerals.{add-one}
 use native.Mathlib.Omega.{arith}
 use lib.ListN.{length, take, drop, getD, length-drop, drop-of-length-le}
 use lib.Seq.{drop-drop, getD-drop, take-suc, take-nil}
@@ -107,6 +108,15 @@ module _ (o : ℕ) (s : List ℕ) (from : ℕ) where
 back-cons : (p : ℕ → Bool) (s : List ℕ) (j : ℕ) → j < length s → backRun p s (suc j) ≡ run p (getD s j 0 ∷ reverse (take j s))
 unfolding backRun
 back-cons p s j h = rw (take-suc s j 0 h, reverse-append (take j s) (getD s j 0 ∷ []))
+
+-- one byte further on
+module _ (p : ℕ → Bool) (s : List ℕ) (j : ℕ) (h : j < length s) where
+  pub back-grows : p (getD s j 0) ≡ true → backRun p s (j + 1) ≡ backRun p s j + 1
+  unfolding backRun
+  back-grows e = rw (add-one j) (back-cons p s j h ∙ run-goes p _ _ e ∙ sym (add-one _))
+
+  pub back-ends : p (getD s j 0) ≡ false → backRun p s (j + 1) ≡ 0
+  back-ends e = rw (add-one j) (back-cons p s j h ∙ run-stops p _ _ e)
 
 pub back-zero : (p : ℕ → Bool) (s : List ℕ) → backRun p s 0 ≡ 0
 unfolding backRun

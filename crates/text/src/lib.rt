@@ -5,13 +5,23 @@ ghost use Prim.Native.Nat.{_+_, _-_, _<_, _≤_};
 ghost use lib.ListN.{length, take, drop};
 ghost use Rattle.base.specs.Runs.{same};
 ghost use Rattle.text.specs.Lines.{lineAt};
-ghost use Rattle.base.specs.Class.{isBefore, inClass, runEnd};
+ghost use Rattle.base.specs.Class.{isBefore, isContent, inClass, runEnd};
 ghost use Rattle.text.specs.Words.{wordAt, lastWord, backRun, fewOf, words, firstOf, markedBy, toEquals};
 ghost use Rattle.text.specs.ByteRules.{byteRules, terminatorAt, Judges};
+ghost use Rattle.text.specs.Feeds.{feedOf, feeds, isUsual, PassesLines};
+ghost use Rattle.base.specs.Runs.{all};
+ghost use Rattle.base.specs.If.{if_then_else_};
+ghost use lib.Dec.{eqb};
 use base::Class;
 
 // How many bytes of names are looked at together.
 const BLOCK: usize = 16;
+
+// How many bytes of a line are, as one number.
+const EIGHT: usize = 8;
+
+// "From `|` on, a line is comment".
+const BAR: u8 = 124;
 
 const LINE_FEED: u8 = 10;
 
@@ -20,6 +30,9 @@ const CARRIAGE_RETURN: u8 = 13;
 const MOST_BYTES: usize = 1048576;
 
 const MOST_CHARACTERS: usize = 120;
+
+// How many bytes a short line has at most.
+const SHORT: usize = 64;
 
 // Of one line: where its content ends, and where the next line starts.
 pub struct Line {
@@ -46,8 +59,66 @@ pub enum Checked {
     Refused(u64, u64),
 }
 
-// Where the first LF from a place on stands, or the end where there is none. Most lines have no comment: then it stands right here, or
-// behind a comment that says nothing.
+// How many of eight bytes surely are content, from the first on. They are taken as one number: of each byte's low seven bits, a sum with
+// 0x72 reaches the eighth from 14 on, one with 0x04 from `|` on. What lies between needs no further look.
+fn sure_at(text: &[u8], at: usize) -> usize
+    requires { ⌜ at + 8 ≤ length (now text) ⌝ }
+    ensures { λ r. ⌜ (r ≤ 8) × (all (isContent 124) (take r (drop at (now (text .entry)))) ≡ true) ⌝ }
+{
+    let low = base::eight_at(text, at) & 0x7f7f_7f7f_7f7f_7f7f;
+    let least = (low + 0x7272_7272_7272_7272) & 0x8080_8080_8080_8080;
+    let beyond = (low + 0x0404_0404_0404_0404) & 0x8080_8080_8080_8080;
+    let doubt = (0x8080_8080_8080_8080 - least) | beyond;
+    (u64::trailing_zeros(doubt) / 8) as usize
+}
+
+// A place in the content at `from`, near its end: the first byte that needs a look.
+fn past_sure(text: &[u8], from: usize) -> usize
+    requires { ⌜ from ≤ length (now text) ⌝ }
+    ensures { λ r. ⌜ runEnd (isContent 124) (now (text .entry)) r ≡ runEnd (isContent 124) (now (text .entry)) from ⌝ }
+{
+    let mut i = from;
+    while EIGHT <= text.len() - i {
+        let sure = sure_at(text, i);
+        if sure < EIGHT {
+            return i + sure;
+        }
+        i += EIGHT;
+    }
+    i
+}
+
+// The content at `from`, byte by byte.
+fn past_rest(text: &[u8], from: usize, comment: u8) -> usize
+    ensures { λ r. ⌜ r ≡ runEnd (isContent comment) (now (text .entry)) from ⌝ }
+{
+    let mut i = from;
+    while i < text.len() {
+        if !base::in_class(Class::Content(comment), text[i]) {
+            return i;
+        }
+        i += 1;
+    }
+    i
+}
+
+// Past the content of a line at `at`. Many lines have none.
+fn past_content(text: &[u8], at: usize, comment: u8) -> usize
+    ensures { λ r. ⌜ r ≡ runEnd (isContent comment) (now (text .entry)) at ⌝ }
+{
+    if text.len() <= at {
+        return at;
+    }
+    if !base::in_class(Class::Content(comment), text[at]) {
+        return at;
+    }
+    if comment != BAR {
+        return past_rest(text, at, comment);
+    }
+    past_rest(text, past_sure(text, at), BAR)
+}
+
+// Where the first LF from a place on stands, or the end where there is none. It may stand behind a comment that says nothing.
 fn feed_from(text: &[u8], from: usize) -> usize
     ensures { λ r. ⌜ r ≡ runEnd (isBefore 10) (now (text .entry)) from ⌝ }
 {
@@ -63,11 +134,11 @@ fn feed_from(text: &[u8], from: usize) -> usize
     base::skip_far(Class::Before(LINE_FEED), text, from)
 }
 
-// The line that starts at `at`. The search for its LF starts where the content ends, so that each byte is read once.
-pub fn line_at(text: &[u8], at: usize, comment: u8) -> Line
+// A line whose content ends at a place.
+fn ended_at(text: &[u8], at: usize, content: usize, comment: u8) -> Line
+    requires { ⌜ content ≡ runEnd (isContent comment) (now text) at ⌝ }
     ensures { λ r. ⌜ r ≡ lineAt comment (now (text .entry)) at ⌝ }
 {
-    let content = base::past_content(comment, text, at);
     let end = feed_from(text, content);
     if end < text.len() {
         Line {
@@ -77,6 +148,21 @@ pub fn line_at(text: &[u8], at: usize, comment: u8) -> Line
     } else {
         Line { content, next: end }
     }
+}
+
+// The line that starts at `at`. The search for its LF starts where the content ends, so that each byte is read once: most lines have no
+// comment, and it stands right there.
+pub fn line_at(text: &[u8], at: usize, comment: u8) -> Line
+    ensures { λ r. ⌜ r ≡ lineAt comment (now (text .entry)) at ⌝ }
+{
+    let content = past_content(text, at, comment);
+    if base::byte_at(text, content) == LINE_FEED {
+        return Line {
+            content,
+            next: content + 1,
+        };
+    }
+    ended_at(text, at, content, comment)
 }
 
 // The first word at or after `from`: the first of a line from 0, the next from the end of the one before.
@@ -243,6 +329,135 @@ fn line_check(text: &[u8], at: usize) -> LineCheck
     LineCheck { number: 0, next }
 }
 
+// ---- rules 2 to 4 over many short lines at once
+
+// How many lines a byte ends.
+pub fn feed_of(b: u8) -> u8
+    ensures { λ r. ⌜ r ≡ feedOf b ⌝ }
+{
+    if b == LINE_FEED {
+        return 1;
+    }
+    0
+}
+
+// How many lines end within sixteen bytes. Each byte is looked at, so that a processor takes them at once.
+pub fn feeds_in(text: &[u8], from: usize) -> u8
+    requires { ⌜ from + 16 ≤ length (now text) ⌝ }
+    ensures { λ r. ⌜ r ≡ feeds (take 16 (drop from (now (text .entry)))) ⌝ }
+{
+    let end = from + BLOCK;
+    let mut count = 0;
+    let mut i = from;
+    while i < end {
+        count += feed_of(text[i]);
+        i += 1;
+    }
+    count
+}
+
+// A byte that a line may hold, or an LF.
+fn is_usual(b: u8) -> bool
+    ensures { λ r. ⌜ r ≡ isUsual b ⌝ }
+{
+    if b == LINE_FEED {
+        return true;
+    }
+    base::in_class(Class::Printed, b)
+}
+
+// Whether sixteen bytes are all such, looked at in the same way.
+fn are_usual(text: &[u8], from: usize) -> bool
+    requires { ⌜ from + 16 ≤ length (now text) ⌝ }
+    ensures { λ r. ⌜ r ≡ all isUsual (take 16 (drop from (now (text .entry)))) ⌝ }
+{
+    let end = from + BLOCK;
+    let mut whole = true;
+    let mut i = from;
+    while i < end {
+        whole = base::and(whole, is_usual(text[i]));
+        i += 1;
+    }
+    whole
+}
+
+// Where lines have been gone past, and the number of the line there.
+struct Past {
+    at: usize,
+    line: u64,
+}
+
+// Where the last block ends in which a line ends: behind the one that was looked at last, or before it.
+fn mark_after(mark: usize, here: usize, ends: u8) -> usize
+    ensures { λ r. ⌜ r ≡ (if eqb ends 0 then mark else here) ⌝ }
+{
+    if ends == 0 {
+        return mark;
+    }
+    here
+}
+
+// Past blocks of bytes that are all such as a line may hold, and LFs: up to the last block in which a line ends, so that no more than a few
+// bytes of the next line are passed. A line of more than so many bytes is left.
+fn past_ends(text: &[u8], line: u64, most: usize) -> Past
+    requires { ⌜ (line + length (now text) ≤ 2_097_152) × (most ≤ 80) ⌝ }
+    ensures { λ r. ⌜ (r .at ≤ length (now (text .entry)))
+        × PassesLines (now (text .entry)) 0 line (r .at - backRun (isBefore 10) (now (text .entry)) (r .at)) (r .line) ⌝ }
+{
+    let mut here = 0;
+    let mut mark = 0;
+    let mut count = line;
+    while BLOCK <= text.len() - here {
+        if !are_usual(text, here) {
+            return Past {
+                at: mark,
+                line: count,
+            };
+        }
+        let ends = feeds_in(text, here);
+        count += ends as u64;
+        here += BLOCK;
+        mark = mark_after(mark, here, ends);
+        if most < here - mark {
+            return Past {
+                at: mark,
+                line: count,
+            };
+        }
+    }
+    Past {
+        at: mark,
+        line: count,
+    }
+}
+
+// Past lines that break nothing, up to the start of one that is left to be looked at.
+fn past_short(text: &[u8], line: u64, most: usize) -> Past
+    requires { ⌜ (line + length (now text) ≤ 2_097_152) × (most ≤ 80) ⌝ }
+    ensures { λ r. ⌜ PassesLines (now (text .entry)) 0 line (r .at) (r .line) ⌝ }
+{
+    let past = past_ends(text, line, most);
+    Past {
+        at: skip_back(Class::Before(LINE_FEED), text, past.at),
+        line: past.line,
+    }
+}
+
+// Behind a short line, which has so many bytes, there are often more of about its size.
+fn past_more(text: &[u8], at: usize, line: u64, size: usize) -> Past
+    requires { ⌜ (at ≤ length (now text)) × (line ≤ at + 1) × (length (now text) ≤ 1_048_576) ⌝ }
+    ensures { λ r. ⌜ PassesLines (now (text .entry)) at line (r .at) (r .line) ⌝ }
+{
+    if SHORT < size {
+        return Past { at, line };
+    }
+    let past = past_short(&text[at..], line, size + BLOCK);
+    Past {
+        at: at + past.at,
+        line: past.line,
+    }
+}
+
 // Rules 1 to 4 over a whole text.
 pub fn check_bytes(text: &[u8]) -> Checked
     ensures { λ r. ⌜ r ≡ byteRules (now (text .entry)) ⌝ }
@@ -257,8 +472,9 @@ pub fn check_bytes(text: &[u8]) -> Checked
         if check.number != 0 {
             return Checked::Refused(check.number, line);
         }
-        at = check.next;
-        line += 1;
+        let past = past_more(text, check.next, line + 1, check.next - at);
+        at = past.at;
+        line = past.line;
     }
     Checked::Fine
 }

@@ -4,7 +4,8 @@ use Prim.Native.Nat.{_-_}
 use native.Mathlib.Omega.{arith}
 use lib.ListN.{length}
 use Rattle.document.specs.Found.{PassesPlain}
-use Rattle.document.proofs.PlainLaws.{passes-none, feed-told, plain-on, plain-less}
+use Rattle.document.proofs.PlainLaws.{passes-none, plain-on, plain-less}
+use Rattle.text.proofs.FeedLaws.{feed-told}
 use borrow.Author.Needs.{needs}
 use Rattle.document.proofs.past_plain.Statement.{statement}
 use Rattle.document.proofs.past_plain.Tie as tie

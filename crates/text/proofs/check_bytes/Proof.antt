@@ -1,18 +1,23 @@
 -- `text::check_bytes` meets its contract. The loop's invariant: the lines from here on come to what the whole text comes to.
 -- Assumes nothing.
 use borrow.Author.Needs.{needs}
-use mathlib.Core.Path.{_≡_}
-use Prim.Native.Nat.{_+_, _-_, _≤_}
+use Prim.Native.Nat.{_-_}
 use native.Mathlib.Omega.{arith}
-use lib.ListN.{length, drop}
-use Rattle.text.specs.Lines.{lines}
-use Rattle.text.specs.ByteRules.{linesRule, byteRules}
-use Rattle.text.proofs.ByteLaws.{size-refused, size-fine, check-past, check-stop, check-on}
+use lib.ListN.{length}
+use Rattle.text.proofs.ByteLaws.{size-refused, check-past}
+use Rattle.text.proofs.ShortLaws.{
+  Checking,
+  checking-starts,
+  checking-stops,
+  checking-asks,
+  checking-on,
+  checking-less,
+}
 use Rattle.text.proofs.check_bytes.Statement.{statement}
 use Rattle.text.proofs.check_bytes.Tie as tie
 
 abbrev Inv-loop : tie.InvT-loop
-Inv-loop text at₀ line₀ at line = (at ≤ length text) × (line ≤ at + 1) × (linesRule line (lines (drop at text)) ≡ byteRules text)
+Inv-loop text at₀ line₀ at line = Checking text at line
 
 abbrev μ-loop : tie.MeasureT-loop
 μ-loop text at₀ line₀ at line = length text - at
@@ -21,26 +26,28 @@ returns : tie.Need-returns Inv-loop μ-loop
 returns c = search size-refused
 
 loop-holds : tie.Need-loop-holds Inv-loop μ-loop
-loop-holds c = search (needs, size-fine)
+loop-holds c = search checking-starts
 
 line-check-requires : tie.Need-line-check-requires Inv-loop μ-loop
 line-check-requires c κs = search needs
 
 returns-2 : tie.Need-returns-2 Inv-loop μ-loop
-returns-2 c = search check-stop
+returns-2 c = search checking-stops
 
-add-line : tie.Need-add-line Inv-loop μ-loop
-add-line c = search needs
+add-past-more : tie.Need-add-past-more Inv-loop μ-loop
+add-past-more c = search needs
+
+sub-past-more : tie.Need-sub-past-more Inv-loop μ-loop
+sub-past-more c = omega (arith, c .before .before .before .line-check .ensures .on (c .before .if2 .left))
+
+past-more-requires : tie.Need-past-more-requires Inv-loop μ-loop
+past-more-requires c κs = checking-asks _ _ _ (c .before .before .before .before .before .loop .inv) _ _ (c .before .before .before .line-check .ensures) (c .before .if2 .left)
 
 loop-less : tie.Need-loop-less Inv-loop μ-loop
-loop-less c = omega (arith, c .before .before .line-check .ensures .on (c .if2 .left))
+loop-less c = search checking-less
 
 loop-again : tie.Need-loop-again Inv-loop μ-loop
-loop-again c = (
-  omega arith,
-  omega (arith, c .before .before .line-check .ensures .on (c .if2 .left)),
-  check-on _ _ _ _ (c .before .before .before .before .loop .inv .2) _ _ (c .before .before .line-check .ensures) (c .if2 .left),
-)
+loop-again c = search checking-on
 
 returns-3 : tie.Need-returns-3 Inv-loop μ-loop
 returns-3 c = search check-past
@@ -55,7 +62,9 @@ check-bytes-spec =
     loop-holds
     line-check-requires
     returns-2
-    add-line
+    add-past-more
+    sub-past-more
+    past-more-requires
     loop-less
     loop-again
     returns-3)

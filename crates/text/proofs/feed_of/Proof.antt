@@ -1,8 +1,8 @@
--- `document::feed_of` meets its contract.
+-- `text::feed_of` meets its contract.
 -- Assumes nothing.
-use Rattle.document.proofs.PlainLaws.{feed-one, feed-none}
-use Rattle.document.proofs.feed_of.Statement.{statement}
-use Rattle.document.proofs.feed_of.Tie as tie
+use Rattle.text.proofs.FeedLaws.{feed-one, feed-none}
+use Rattle.text.proofs.feed_of.Statement.{statement}
+use Rattle.text.proofs.feed_of.Tie as tie
 
 returns : tie.Need-returns
 returns c = search feed-one

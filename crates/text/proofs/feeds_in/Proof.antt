@@ -1,15 +1,15 @@
--- `document::feeds_in` meets its contract. The loop's invariant: what it has counted and the bytes that are left give the whole.
+-- `text::feeds_in` meets its contract. The loop's invariant: what it has counted and the bytes that are left give the whole.
 -- Assumes nothing.
 use mathlib.Core.Path.{_≡_}
 use Prim.Native.Nat.{_+_, _-_, _≤_}
 use native.Mathlib.Omega.{arith}
 use lib.ListN.{take, drop}
-use Rattle.document.specs.Found.{feeds}
-use Rattle.document.proofs.PlainLaws.{feeds-start, feeds-on, feeds-done, feed-told}
+use Rattle.text.specs.Feeds.{feeds}
+use Rattle.text.proofs.FeedLaws.{feeds-start, feeds-on, feeds-done, feed-told}
 use borrow.Author.Needs.{needs}
-use Rattle.document.proofs.feeds_in.Statement.{statement}
-use Rattle.document.proofs.feeds_in.Tie as tie
-use Rattle.document.proofs.feed_of.Reads as feed-of-reads
+use Rattle.text.proofs.feeds_in.Statement.{statement}
+use Rattle.text.proofs.feeds_in.Tie as tie
+use Rattle.text.proofs.feed_of.Reads as feed-of-reads
 
 abbrev Inv-loop : tie.InvT-loop
 Inv-loop text from end count₀ i₀ count i = (from ≤ i) × (i ≤ end) × (end ≡ from + 16) × (count ≤ i - from) × (count + feeds (take (end - i) (drop i text)) ≡ feeds (take 16 (drop from text)))
