@@ -32,11 +32,6 @@ isBefore stop b = not (eqb b stop)
 unfoldable pub isContent : ℕ → ℕ → Bool
 isContent comment b = both (isBefore comment b) (both (isBefore lineFeed b) (isBefore carriageReturn b))
 
--- Surely content by two comparisons, where `isContent` takes three: no byte below 14 passes, so the terminators do not, and a TAB does not
--- either. It says less than `isContent`, but eight bytes are tested by it at once, and what it leaves is looked at byte by byte.
-unfoldable pub isSure : ℕ → ℕ → Bool
-isSure comment b = both (leb 14 b) (isBefore comment b)
-
 abbrev pub inClass : Class → ℕ → Bool
 inClass Blank = isBlank
 inClass Filled = isFilled

@@ -8,12 +8,10 @@ ghost use Rattle.base.specs.Runs.{all};
 ghost use lib.Seq.{sets};
 ghost use Rattle.base.specs.Bytes.{isBlank, isDigit, isCapital, isSmall, isLetter};
 ghost use Rattle.base.specs.Joined.{Joins};
-ghost use Rattle.base.specs.Class.{isFilled, isNamed, isPrinted, isBefore, isContent, isSure, inClass, runEnd};
+ghost use Rattle.base.specs.Class.{isFilled, isNamed, isPrinted, isBefore, isContent, inClass, runEnd};
 
-// How many bytes are looked at together: of any run, and of a line's content, which is often shorter.
+// How many bytes of a run are looked at together.
 const BLOCK: usize = 16;
-
-const EIGHT: usize = 8;
 
 // A space or a TAB.
 fn is_blank(b: u8) -> bool
@@ -266,77 +264,6 @@ pub fn past_word(s: &[u8], from: usize) -> usize
         i += 1;
     }
     i
-}
-
-// A byte that is surely content: neither the comment byte nor one of the bytes below 14, among which the terminators are. A TAB is left to the
-// byte-wise loop.
-fn is_sure(comment: u8, b: u8) -> bool
-    ensures { λ r. ⌜ r ≡ isSure comment b ⌝ }
-{
-    if b < 14 {
-        return false;
-    }
-    b != comment
-}
-
-// Whether eight bytes are all surely content. Each is looked at, so that a processor takes them at once.
-fn are_sure(comment: u8, s: &[u8], from: usize) -> bool
-    requires { ⌜ from + 8 ≤ length (now s) ⌝ }
-    ensures { λ r. ⌜ r ≡ all (isSure comment) (take 8 (drop from (now (s .entry)))) ⌝ }
-{
-    let end = from + EIGHT;
-    let mut whole = true;
-    let mut i = from;
-    while i < end {
-        whole = and(whole, is_sure(comment, s[i]));
-        i += 1;
-    }
-    whole
-}
-
-// A place in the content at `from`, near its end: past all eights that surely lie in it whole.
-fn past_eights(comment: u8, s: &[u8], from: usize) -> usize
-    ensures { λ r. ⌜ runEnd (isContent comment) (now (s .entry)) r ≡ runEnd (isContent comment) (now (s .entry)) from ⌝ }
-{
-    if s.len() < EIGHT {
-        return from;
-    }
-    let last = s.len() - EIGHT;
-    let mut i = from;
-    while i <= last {
-        if !are_sure(comment, s, i) {
-            return i;
-        }
-        i += EIGHT;
-    }
-    i
-}
-
-// The content at `from`, byte by byte.
-fn past_rest(comment: u8, s: &[u8], from: usize) -> usize
-    ensures { λ r. ⌜ r ≡ runEnd (isContent comment) (now (s .entry)) from ⌝ }
-{
-    let mut i = from;
-    while i < s.len() {
-        if !is_content(comment, s[i]) {
-            return i;
-        }
-        i += 1;
-    }
-    i
-}
-
-// Past the content of a line at `from`. Many lines have none.
-pub fn past_content(comment: u8, s: &[u8], from: usize) -> usize
-    ensures { λ r. ⌜ r ≡ runEnd (isContent comment) (now (s .entry)) from ⌝ }
-{
-    if s.len() <= from {
-        return from;
-    }
-    if !is_content(comment, s[from]) {
-        return from;
-    }
-    past_rest(comment, s, past_eights(comment, s, from))
 }
 
 // Stores the words one after another, the first at `at`.

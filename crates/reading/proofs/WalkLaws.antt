@@ -1,16 +1,16 @@
 -- Laws of the walk over the lines: what one line does, what a step that breaks nothing keeps, and how walks join.
 -- Assumes nothing.
-use mathlib.Core.Path.{_≡_, refl, sym, _∙_, ap, subst}
+use mathlib.Core.Path.{_≡_, refl, sym, _∙_, ap}
 use mathlib.Core.Bool.{Bool, true, false}
-use mathlib.Core.List.{List, [], _∷_}
-use Prim.Native.Nat.{ℕ, suc, _+_, _-_, _≤_, _<_, zero-le}
-use native.Mathlib.Nat.{le-refl, le-trans}
+use mathlib.Core.List.{List, _∷_}
+use Prim.Native.Nat.{ℕ, _+_, _-_, _≤_, _<_, zero-le}
+use native.Mathlib.Nat.{le-refl}
 use native.Mathlib.Omega.{arith}
 use lib.ListN.{length, take, drop, length-drop, drop-of-length-le}
 use lib.Dec.{eqb}
 use borrow.Author.Tests.{eq-eqb, ne-eqb, eqb-true, eqb-false}
-use Rattle.base.specs.If.{if_then_else_}
 use Rattle.base.specs.Runs.{run as run′}
+use Rattle.base.specs.If.{if_then_else_}
 use Rattle.base.specs.Class.{isContent}
 use Rattle.base.proofs.IfLaws.{if-true, if-false, by-cases}
 use Rattle.base.proofs.RunLaws.{run-le}
@@ -48,11 +48,11 @@ use Rattle.reading.specs.Reading.{
   atEnd,
   readingOf,
 }
-use Rattle.reading.specs.Walk.{resume, Onward, Rises, Reached, Continued}
+use Rattle.reading.specs.Walk.{resume, Onward, Rises, Reached}
 use Rattle.reading.specs.declared.Step.{Step}
 use Rattle.reading.specs.declared.Walk.{Walk}
 use Rattle.reading.specs.declared.Reading.{Reading}
-use Rattle.reading.specs.declared.Reading.the-variants.{Read, Refused}
+use Rattle.reading.specs.declared.Reading.the-variants.{Refused}
 use Rattle.reading.proofs.KeptLaws.{line-kept}
 
 -- ---- what a line that breaks nothing keeps
@@ -237,56 +237,6 @@ module _ (t : List ℕ) (at line : ℕ) (s : State) (h : at < length t) (on : On
         (λ (e : eqb (step .number) 0 ≡ true). rw (count ∙ if-true _ _ e) (line-taken (eqb-true _ _ e)))
         (λ (e : eqb (step .number) 0 ≡ false). rw (count ∙ if-false _ _ e) (line-broken (eqb-false _ _ e)))
 
--- ---- walks that join
-
-pub walk-starts : (t : List ℕ) (at line : ℕ) (s : State) (w : Walk) → Reached t at line s w → Continued t w w
-walk-starts t at line s w r =
-    record {
-      same = refl;
-      from = λ (e : w .number ≡ 0). e;
-      further = λ (e : w .number ≡ 0). le-refl (w .at);
-      onward = r .onward;
-      rises = λ (e : w .number ≡ 0). le-refl (w .state .counts .values);
-    }
-
-pub walk-ends : (t : List ℕ) (at line : ℕ) (s : State) (w v : Walk) → Reached t at line s w → Continued t w v → Reached t at line s v
-walk-ends t at line s w v r c =
-    record {
-      same = c .same ∙ r .same;
-      further = λ (e : v .number ≡ 0). let a : at < w .at = r .further (c .from e) in let b : w .at ≤ v .at = c .further e in omega arith;
-      onward = c .onward;
-      rises = λ (e : v .number ≡ 0). le-trans (r .rises (c .from e)) (c .rises e);
-    }
-
--- a walk that goes on from where another has come
-pub walk-joins : (t : List ℕ) (w v u : Walk) → Continued t w v → v .number ≡ 0 → Reached t (v .at) (v .line) (v .state) u → Continued t w u
-unfolding resume
-walk-joins t w v u c z r =
-    record {
-      same = r .same ∙ sym (if-true _ _ (eq-eqb _ _ z)) ∙ c .same;
-      from = λ (e : u .number ≡ 0). c .from z;
-      further = λ (e : u .number ≡ 0). let a : v .at < u .at = r .further e in let b : w .at ≤ v .at = c .further z in omega arith;
-      onward = r .onward;
-      rises = λ (e : u .number ≡ 0). le-trans (c .rises z) (r .rises e);
-    }
-
--- how much a walk has left to go: nothing once a rule is broken
-pub left-of : List ℕ → Walk → ℕ
-left-of t w = if eqb (w .number) 0 then suc (length t - w .at) else 0
-
-pub left-falls : (t : List ℕ) (v u : Walk) → v .number ≡ 0 → v .at < length t → Reached t (v .at) (v .line) (v .state) u → left-of t u < left-of t v
-unfolding left-of
-left-falls t v u z h r =
-    let a : left-of t v ≡ suc (length t - v .at) = if-true _ _ (eq-eqb _ _ z) in
-    by-cases (left-of t u < left-of t v) (eqb (u .number) 0)
-    (λ (e : eqb (u .number) 0 ≡ true).
-    let b : left-of t u ≡ suc (length t - u .at) = if-true _ _ e in
-    let f : v .at < u .at = r .further (eqb-true _ _ e) in
-    omega arith)
-    (λ (e : eqb (u .number) 0 ≡ false).
-    let b : left-of t u ≡ 0 = if-false _ _ e in
-    omega arith)
-
 -- ---- the part of the text that a line's content is
 
 module _ (t : List ℕ) (at : ℕ) (here : Line) (found : here ≡ lineAt commentByte t at) where
@@ -300,9 +250,6 @@ module _ (t : List ℕ) (at : ℕ) (here : Line) (found : here ≡ lineAt commen
       let l : length (drop at t) ≡ length t - at = length-drop at t in
       let r : run′ (isContent commentByte) (drop at t) ≤ length (drop at t) = run-le (isContent commentByte) (drop at t) in
       rw found (omega arith)
-
-pub goes-from : (t : List ℕ) (w v : Walk) → Continued t w v → v .number ≡ 0 → Onward t (v .at) (v .line) (v .state)
-goes-from t w v c z = c .onward z
 
 -- ---- the whole text
 

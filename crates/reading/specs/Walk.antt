@@ -48,14 +48,6 @@ pub record Reached (t : List ℕ) (at line : ℕ) (s : State) (w : Walk) : Type 
   pub onward : w .number ≡ 0 → Onward t (w .at) (w .line) (w .state)
   pub rises : w .number ≡ 0 → Rises s (w .state)
 
--- a walk v that has gone on from where w had come, or is w itself
-pub record Continued (t : List ℕ) (w v : Walk) : Type 0 where
-  pub same : resume t v ≡ resume t w
-  pub from : v .number ≡ 0 → w .number ≡ 0
-  pub further : v .number ≡ 0 → w .at ≤ v .at
-  pub onward : v .number ≡ 0 → Onward t (v .at) (v .line) (v .state)
-  pub rises : v .number ≡ 0 → Rises (w .state) (v .state)
-
 -- ---- lines gone over with a part of the state alone
 
 -- `fits` says which states the lines are met in, `put` what each of them has become behind them: from there the text comes to the same.
