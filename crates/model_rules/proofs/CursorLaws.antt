@@ -1,19 +1,20 @@
 -- Laws of the lines that are looked for by their numbers, and that a step's line says whether it is one of a Mult.
 -- Assumes nothing.
-use mathlib.Core.Path.{_≡_, refl, sym, _∙_, ap}
+use mathlib.Core.Path.{_≡_, refl, sym, _∙_, ap, subst}
 use mathlib.Core.Bool.{Bool, true, false, not}
-use mathlib.Core.List.{List, [], _∷_}
+use mathlib.Core.List.{List, [], _∷_, _++_}
 use Prim.Native.Nat.{ℕ, _+_, _-_, _≤_, _<_, zero-le}
 use native.Mathlib.Nat.{le-refl}
 use native.Mathlib.Omega.{arith}
 use lib.ListN.{length, take, drop, getD}
 use lib.Dec.{ltb, eqb}
 use borrow.Author.Tests.{lt-ltb, le-ltb, eqb-true, not-true, not-false}
-use Rattle.base.specs.If.{if_then_else_}
-use Rattle.base.specs.Bytes.{bytes}
-use Rattle.base.specs.Runs.{run, same}
+use Rattle.base.specs.If.{if_then_else_, both, either}
+use Rattle.base.specs.Bytes.{bytes, isBlank}
+use Rattle.base.specs.Runs.{run, all, same}
 use Rattle.base.proofs.IfLaws.{if-true, if-false, by-cases, by-test}
-use Rattle.text.specs.Lines.{Raw, lines, contentOf, isBlankLine}
+use Rattle.text.specs.Lines.{Raw, lines, contentOf, isBlankLine, lineAt}
+use Rattle.text.specs.declared.Line as text
 use Rattle.text.specs.Words.{wordsFrom, words, secondOf, leftOf, fewOf, markedBy, toEquals}
 use Rattle.text.specs.declared.Few.{Few}
 use Rattle.text.proofs.WordLaws.{second-marked}
@@ -21,6 +22,8 @@ use Rattle.text.proofs.FormLaws.{left-words}
 use Rattle.place.specs.Place as place
 use Rattle.path.specs.Path.{isMult}
 use Rattle.path.specs.Path as path
+use Rattle.path.specs.Usual.{multFront, OpensMult}
+use Rattle.path.proofs.UsualLaws.{opens-is-mult}
 use Rattle.reading.specs.Reading.{commentByte}
 use Rattle.document.specs.Lines.{Line, placeAfter, linesFrom, linesAt, significant, gather, upTo}
 use Rattle.document.specs.Document.{Step, Model, sectionKind, sayingAt, stepOf, stepsIn, opensModel, inModel, modelOf, modelAt, documentIn, documentOf}
@@ -28,13 +31,14 @@ use Rattle.document.specs.Found.{contentIn, lineIn, linesBehind, Located, Finds
 use Rattle.document.specs.declared.Found.{Found}
 use Rattle.document.specs.Holds.{Each}
 use Rattle.document.specs.Holds.Each.{none, more}
+use Rattle.document.proofs.FoundLaws.{pass-over, stop-here, next-further, next-inside, content-ordered, content-inside}
 use Rattle.document.proofs.Goes.{lines-blank, lines-said, lines-none}
 use Rattle.document.proofs.StandsLaws.{Laid, laid, each-join, each-gather, each-if, each-up}
 use Rattle.document.proofs.StandsLaws.Laid.{onward}
 use Rattle.rules.proofs.RisingLaws.{Rising, numbers, all-least}
 use Rattle.rules.proofs.RisingLaws.Rising.{flat, rise}
 use Rattle.rules.proofs.OrderLaws.{lines-rise}
-use Rattle.model_rules.specs.Cursor.{contentAt, Cursor, Tells, TellsStep}
+use Rattle.model_rules.specs.Cursor.{contentAt, Cursor, Seeks, OpensLine, PastMult, Tells, TellsStep}
 use Rattle.model_rules.specs.declared.Told.{Told}
 
 -- ---- Mult before the sign
@@ -89,11 +93,6 @@ content-none m = refl
 pub cursor-starts : (t : List ℕ) → Cursor t 0 1
 unfolding significant
 cursor-starts t = record { within = zero-le; counted = omega arith; valid = λ (m : ℕ) (h : 1 ≤ m). refl }
-
--- lines below the one that is wanted are passed over
-pub record Seeks (t : List ℕ) (wanted at n : ℕ) : Type 0 where
-  pub cursor : Cursor t at n
-  pub low : n ≤ wanted
 
 first-low : {t : List ℕ} {n at : ℕ} {l : Line} {ls : List Line} → Laid t n at (l ∷ ls) → n ≤ l .number
 first-low (onward end h k lies rest) = h
@@ -152,6 +151,80 @@ module _ (t : List ℕ) (wanted at n : ℕ) (seeks : Seeks t wanted at n) (line 
 
     pub seek-on : line .number ≤ wanted → (wanted ≡ line .number → ⊥) → Seeks t wanted (line .next) (line .number + 1)
     seek-on h other = record { cursor = cursor-behind; low = omega arith }
+
+-- ---- lines passed over by their number alone
+
+module _ (t : List ℕ) (at n : ℕ) (h : at < length t) (found : text.Line) (told : found ≡ lineAt 124 t at) where
+  abbrev content : List ℕ
+  content = take (found .content - at) (drop at t)
+
+  -- a line that is blank or not: those numbered higher stand behind it
+  line-passed : (m : ℕ) → n < m → contentAt m (linesAt t n at place.before) ≡ contentAt m (linesAt t (n + 1) (found .next) place.before)
+  line-passed m g =
+      by-cases _ (isBlankLine content)
+      (λ (b : isBlankLine content ≡ true). ap (contentAt m) (pass-over t at h n found told b place.before))
+      (λ (b : isBlankLine content ≡ false).
+      ap (contentAt m) (stop-here t at h n found told b place.before)
+      ∙ content-later m (record { number = n; at = at; place = place.before; content = content }) _ g
+      ∙ place-free t m (n + 1) (found .next) (placeAfter place.before content) place.before)
+
+  next-cursor : Cursor t at n → Cursor t (found .next) (n + 1)
+  next-cursor cursor =
+      let k : n ≤ at + 1 = cursor .counted in
+      let f : at < found .next = next-further t at h n found told in
+      record {
+        within = next-inside t at h n found told;
+        counted = omega arith;
+        valid = λ (m : ℕ) (g : n + 1 ≤ m). sym (line-passed m (omega arith)) ∙ cursor .valid m (omega arith);
+      }
+
+  pub pass-on : (wanted : ℕ) → Seeks t wanted at n → n < wanted → Seeks t wanted (found .next) (n + 1)
+  pass-on wanted seeks g = record { cursor = next-cursor (seeks .cursor); low = omega arith }
+
+pub pass-starts : (t : List ℕ) (wanted at n : ℕ) → Cursor t at n × (n ≤ wanted) → Seeks t wanted at n
+pass-starts t wanted at n (cursor, low) = record { cursor = cursor; low = low }
+
+-- ---- a line that opens with `Section Mult=`
+
+pub past-told : (t : List ℕ) (at : ℕ) → at < length t → (found : text.Line) → found ≡ lineAt 124 t at → (is : Bool) →
+    (is ≡ true → OpensMult (take (found .content - at) (drop at t))) → is ≡ true → PastMult t at (found .next)
+past-told t at h found told is opens e n =
+    record {
+      inside = h;
+      next = ap (λ (l : text.Line). l .next) told;
+      opens = subst (λ (l : text.Line). OpensMult (take (l .content - at) (drop at t))) told (opens e);
+    }
+
+pub past-ordered : (t : List ℕ) (at : ℕ) → at < length t → (found : text.Line) → found ≡ lineAt 124 t at → at ≤ found .content
+past-ordered t at h found told = content-ordered t at h 0 found told
+
+pub past-inside : (t : List ℕ) (at : ℕ) → at < length t → (found : text.Line) → found ≡ lineAt 124 t at → found .content ≤ length t
+past-inside t at h found told = content-inside t at h 0 found told
+
+pub past-none : (t : List ℕ) (at : ℕ) → PastMult t at 0
+past-none t at n = absurd (n refl)
+
+front-filled : (rest : List ℕ) → isBlankLine (multFront ++ rest) ≡ false
+unfolding isBlankLine all isBlank both either if_then_else_
+front-filled rest = refl
+
+pub mult-found : (t : List ℕ) (wanted at n : ℕ) → Seeks t wanted at n → n ≡ wanted → (r : ℕ) → PastMult t at r → (r ≡ 0 → ⊥) →
+    Tells t wanted (record { mult = true; at = r; number = wanted + 1 })
+mult-found t wanted at n seeks e r past some =
+    let line : OpensLine t at r = past some in
+    let c : List ℕ = take (lineAt 124 t at .content - at) (drop at t) in
+    let filled : isBlankLine (take (lineAt 124 t at .content - at) (drop at t)) ≡ false =
+    ap isBlankLine (line .opens .front) ∙ front-filled _ in
+    let here : contentAt wanted (linesAt t n at place.before) ≡ take (lineAt 124 t at .content - at) (drop at t) =
+    ap (contentAt wanted) (stop-here t at (line .inside) n (lineAt 124 t at) refl filled place.before)
+    ∙ content-here wanted (record { number = n; at = at; place = place.before; content = take (lineAt 124 t at .content - at) (drop at t) }) _ (omega arith) in
+    let said : take (lineAt 124 t at .content - at) (drop at t) ≡ contentAt wanted (significant t) =
+    sym here ∙ seeks .cursor .valid wanted (seeks .low) in
+    record {
+      mult = sym (ap isMult (sym said) ∙ opens-is-mult _ (line .opens));
+      cursor = rw (line .next, sym e) (next-cursor t at n (line .inside) (lineAt 124 t at) refl (seeks .cursor));
+      low = omega arith;
+    }
 
 -- ---- the line of a step
 

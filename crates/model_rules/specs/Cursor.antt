@@ -1,15 +1,17 @@
 -- A place of the text from which lines are looked for by their numbers: the table does not hold whether a step is one of a Mult, its line
 -- says it.
 -- Assumes nothing.
-use Prim.Native.Nat.{ℕ, _+_, _≤_}
+use Prim.Native.Nat.{ℕ, _+_, _-_, _≤_, _<_}
 use mathlib.Core.Path.{_≡_}
 use mathlib.Core.Bool.{Bool, true, false}
 use mathlib.Core.List.{List, [], _∷_}
-use lib.ListN.{length, getD}
+use lib.ListN.{length, getD, take, drop}
 use lib.Dec.{ltb}
 use Rattle.base.specs.If.{if_then_else_}
 use Rattle.place.specs.Place as place
+use Rattle.text.specs.Lines.{lineAt}
 use Rattle.path.specs.Path.{isMult}
+use Rattle.path.specs.Usual.{OpensMult}
 use Rattle.document.specs.Lines.{Line, linesAt, significant}
 use Rattle.document.specs.Document.{sectionKind}
 use Rattle.model_rules.specs.declared.Told.{Told}
@@ -36,3 +38,17 @@ pub record TellsStep (t table : List ℕ) (own : ℕ) (r : Told) : Type 0 where
   pub mult : getD table own 0 ≡ sectionKind → r .mult ≡ isMult (contentAt (getD table (own + 5) 0) (significant t))
   pub cursor : Cursor t (r .at) (r .number)
   pub low : r .number ≤ getD table (own + 5) 0 + 1
+
+-- lines below the one that is wanted are passed over
+pub record Seeks (t : List ℕ) (wanted at n : ℕ) : Type 0 where
+  pub cursor : Cursor t at n
+  pub low : n ≤ wanted
+
+-- the line at a place opens with `Section Mult=`, and the next one starts at r; or r is 0
+pub record OpensLine (t : List ℕ) (at r : ℕ) : Type 0 where
+  pub inside : at < length t
+  pub next : r ≡ lineAt 124 t at .next
+  pub opens : OpensMult (take (lineAt 124 t at .content - at) (drop at t))
+
+abbrev pub PastMult : List ℕ → ℕ → ℕ → Type 0
+PastMult t at r = (r ≡ 0 → ⊥) → OpensLine t at r

@@ -11,12 +11,16 @@ ghost use Rattle.rules.specs.Rules.{firstIn, modelFindings};
 ghost use Rattle.rules.specs.Filled.{Filled};
 ghost use Rattle.list_rules.specs.Listed.{Listed};
 ghost use Rattle.name.specs.Marks.{marksMany};
-ghost use Rattle.model_rules.specs.Cursor.{Cursor, Tells, TellsStep};
+ghost use Rattle.model_rules.specs.Cursor.{Cursor, Seeks, PastMult, Tells, TellsStep};
 ghost use Rattle.model_rules.specs.Models.{ModelRoom, ownerAt, modelRuleAt, Awaits, StepsTold};
 use document::Found;
+use document::Passed;
 use rules::Finding;
 use step_rules::Owner;
 use view::View;
+
+// "From `|` on, a line is comment".
+const COMMENT: u8 = b'|';
 
 // "19 TWICE", "20 LIST".
 const TWICE: u64 = 19;
@@ -71,9 +75,33 @@ fn says_mult(text: &[u8], line: Found) -> bool
     is_mult(&text[at..end])
 }
 
-// Whether the line of a number is one of a Mult. The next search goes on behind that line, so that all of them together go over the text once.
-fn tell_mult(text: &[u8], at: usize, number: u64, wanted: u64) -> Told
+// Past the lines numbered below the one that is wanted: what they say is not looked at.
+fn past_lines(text: &[u8], at: usize, number: u64, wanted: u64) -> Passed
     requires { ⌜ Cursor (now text) at number × (number ≤ wanted) ⌝ }
+    ensures { λ r. ⌜ Seeks (now (text .entry)) wanted (r .at) (r .number) ⌝ }
+{
+    let mut here = at;
+    let mut next = number;
+    while next < wanted {
+        if text.len() <= here {
+            return Passed {
+                at: here,
+                number: next,
+            };
+        }
+        let line = text::line_at(text, here, COMMENT);
+        here = line.next;
+        next += 1;
+    }
+    Passed {
+        at: here,
+        number: next,
+    }
+}
+
+// Whether the line of a number is one of a Mult, looked for among the lines from here on that say something.
+fn seek_mult(text: &[u8], at: usize, number: u64, wanted: u64) -> Told
+    requires { ⌜ Seeks (now text) wanted at number ⌝ }
     ensures { λ r. ⌜ Tells (now (text .entry)) wanted r ⌝ }
 {
     let mut here = at;
@@ -104,6 +132,40 @@ fn tell_mult(text: &[u8], at: usize, number: u64, wanted: u64) -> Told
         here = line.next;
         next = line.number + 1;
     }
+}
+
+// Where the next line starts, if the line at a place opens with `Section Mult=`; else 0.
+fn past_mult(text: &[u8], at: usize) -> usize
+    ensures { λ r. ⌜ PastMult (now (text .entry)) at r ⌝ }
+{
+    if text.len() <= at {
+        return 0;
+    }
+    let line = text::line_at(text, at, COMMENT);
+    let end = line.content;
+    if path::opens_mult(&text[at..end]) {
+        return line.next;
+    }
+    0
+}
+
+// Whether the line of a number is one of a Mult. The next search goes on behind that line, so that all of them together go over the text once.
+fn tell_mult(text: &[u8], at: usize, number: u64, wanted: u64) -> Told
+    requires { ⌜ Cursor (now text) at number × (number ≤ wanted) ⌝ }
+    ensures { λ r. ⌜ Tells (now (text .entry)) wanted r ⌝ }
+{
+    let passed = past_lines(text, at, number, wanted);
+    if passed.number == wanted {
+        let behind = past_mult(text, passed.at);
+        if behind != 0 {
+            return Told {
+                mult: true,
+                at: behind,
+                number: wanted + 1,
+            };
+        }
+    }
+    seek_mult(text, passed.at, passed.number, wanted)
 }
 
 // The same for a step. Of one that is not over a section it is not asked, and the search stays where it is.

@@ -1,12 +1,13 @@
--- `model_rules::tell_mult` meets its contract. The loop's invariant: the lines passed over are numbered below the one wanted.
+-- `model_rules::seek_mult` meets its contract. The loop's invariant: the lines passed over are numbered below the one wanted.
 -- Assumes nothing.
 use borrow.Author.Needs.{needs}
 use Prim.Native.Nat.{_-_}
 use native.Mathlib.Omega.{arith}
 use lib.ListN.{length}
-use Rattle.model_rules.proofs.CursorLaws.{Seeks, seek-ends, located, number-small, seek-less, seek-missed, seek-found, seek-on}
-use Rattle.model_rules.proofs.tell_mult.Statement.{statement}
-use Rattle.model_rules.proofs.tell_mult.Tie as tie
+use Rattle.model_rules.specs.Cursor.{Seeks}
+use Rattle.model_rules.proofs.CursorLaws.{seek-ends, located, number-small, seek-less, seek-missed, seek-found, seek-on}
+use Rattle.model_rules.proofs.seek_mult.Statement.{statement}
+use Rattle.model_rules.proofs.seek_mult.Tie as tie
 
 abbrev Inv-loop : tie.InvT-loop
 Inv-loop text at number wanted here₀ next₀ here next = Seeks text wanted here next
@@ -48,8 +49,8 @@ loop-less c = search seek-less
 loop-again : tie.Need-loop-again Inv-loop μ-loop
 loop-again c = search seek-on
 
-pub tell-mult-spec : {M : Type 1} → statement M
-tell-mult-spec =
+pub seek-mult-spec : {M : Type 1} → statement M
+seek-mult-spec =
     tie.close
     (tie.spec
     Inv-loop
