@@ -1,3 +1,4 @@
 pub mod SearchLaws
 pub mod NameLaws
 pub mod MarkLaws
+mod TailLaws

@@ -99,10 +99,9 @@ module _ (t table : List ℕ) (base width count : ℕ) (name : List ℕ) (after 
       unfolding isNamed
       not-behind l = both-not-left _ _ (rw word-first (lt-leb after (getD table at 0) l))
 
-      module _ (bytes : List ℕ) (told : bytes ≡ nameAt t (getD table at 0) (getD table (at + 1) 0)) (is : Bool)
-          (is-same : is ≡ same name bytes) where
+      module _ (is : Bool) (is-same : is ≡ same name (nameAt t (getD table at 0) (getD table (at + 1) 0))) where
         name-same : is ≡ same name (nameAt t (getD (recordAt table width at) 0 0) (getD (recordAt table width at) 1 0))
-        name-same = is-same ∙ ap (same name) (told ∙ (λ j. nameAt t (sym word-first j) (sym word-second j)))
+        name-same = is-same ∙ ap (same name) (λ j. nameAt t (sym word-first j) (sym word-second j))
 
         pub not-named : is ≡ false → isNamed t name after (recordAt table width at) ≡ false
         unfolding isNamed

@@ -4,6 +4,7 @@ use borrow.Author.Needs.{needs}
 use native.Mathlib.Omega.{arith}
 use mathlib.Core.Logic.{⊎-elim}
 use Prim.Native.Nat.{_-_}
+use Rattle.name.specs.Name.{Tails}
 use Rattle.name.proofs.SearchLaws.{
   Searching,
   search-starts,
@@ -18,28 +19,31 @@ use Rattle.name.proofs.find_name.Statement.{statement}
 use Rattle.name.proofs.find_name.Tie as tie
 
 abbrev Inv-loop : tie.InvT-loop
-Inv-loop text table base width count name after i₀ at₀ i at = Searching text table base width count name after i at
+Inv-loop text table base width count name after tail i₀ at₀ i at = Searching text table base width count name after i at × Tails name tail
 
 abbrev μ-loop : tie.MeasureT-loop
-μ-loop text table base width count name after i₀ at₀ i at = count - i
+μ-loop text table base width count name after tail i₀ at₀ i at = count - i
+
+tail-of-requires : tie.Need-tail-of-requires Inv-loop μ-loop
+tail-of-requires c κs = search needs
 
 loop-holds : tie.Need-loop-holds Inv-loop μ-loop
-loop-holds c = search-starts _ _ _ _ _ _ _
+loop-holds c = (search-starts _ _ _ _ _ _ _, c .tail-of .ensures)
 
 mul-start : tie.Need-mul-start Inv-loop μ-loop
 mul-start c =
     omega (
       arith,
-      record-inside _ _ _ _ _ _ _ _ _ (c .before .loop .inv) (c .before .before .before .before .before .pre .0)
-          (c .before .before .before .before .before .pre .1) (c .loop-test .taken),
+      record-inside _ _ _ _ _ _ _ _ _ (c .before .loop .inv .0) (c .before .before .before .before .before .before .pre .0)
+          (c .before .before .before .before .before .before .pre .1) (c .loop-test .taken),
     )
 
 shared-slice-read-start : tie.Need-shared-slice-read-start Inv-loop μ-loop
 shared-slice-read-start c =
     omega (
       arith,
-      record-inside _ _ _ _ _ _ _ _ _ (c .before .before .loop .inv)
-          (c .before .before .before .before .before .before .pre .0) (c .before .before .before .before .before .before .pre .1)
+      record-inside _ _ _ _ _ _ _ _ _ (c .before .before .loop .inv .0)
+          (c .before .before .before .before .before .before .before .pre .0) (c .before .before .before .before .before .before .before .pre .1)
           (c .before .loop-test .taken),
     )
 
@@ -47,34 +51,31 @@ add-size : tie.Need-add-size Inv-loop μ-loop
 add-size c =
     omega (
       arith,
-      record-inside _ _ _ _ _ _ _ _ _ (c .before .before .before .loop .inv)
-          (c .before .before .before .before .before .before .before .pre .0)
-          (c .before .before .before .before .before .before .before .pre .1) (c .before .before .loop-test .taken),
+      record-inside _ _ _ _ _ _ _ _ _ (c .before .before .before .loop .inv .0)
+          (c .before .before .before .before .before .before .before .before .pre .0)
+          (c .before .before .before .before .before .before .before .before .pre .1) (c .before .before .loop-test .taken),
     )
 
 mul-size : tie.Need-mul-size Inv-loop μ-loop
 mul-size c =
     omega (
       arith,
-      record-inside _ _ _ _ _ _ _ _ _ (c .before .before .before .loop .inv)
-          (c .before .before .before .before .before .before .before .pre .0)
-          (c .before .before .before .before .before .before .before .pre .1) (c .before .before .loop-test .taken),
+      record-inside _ _ _ _ _ _ _ _ _ (c .before .before .before .loop .inv .0)
+          (c .before .before .before .before .before .before .before .before .pre .0)
+          (c .before .before .before .before .before .before .before .before .pre .1) (c .before .before .loop-test .taken),
     )
 
 shared-slice-read-size : tie.Need-shared-slice-read-size Inv-loop μ-loop
 shared-slice-read-size c =
     omega (
       arith,
-      record-inside _ _ _ _ _ _ _ _ _ (c .before .before .before .before .loop .inv)
-          (c .before .before .before .before .before .before .before .before .pre .0)
-          (c .before .before .before .before .before .before .before .before .pre .1) (c .before .before .before .loop-test .taken),
+      record-inside _ _ _ _ _ _ _ _ _ (c .before .before .before .before .loop .inv .0)
+          (c .before .before .before .before .before .before .before .before .before .pre .0)
+          (c .before .before .before .before .before .before .before .before .before .pre .1) (c .before .before .before .loop-test .taken),
     )
 
-name-at-requires : tie.Need-name-at-requires Inv-loop μ-loop
-name-at-requires c κs = search needs
-
-same-bytes-requires : tie.Need-same-bytes-requires Inv-loop μ-loop
-same-bytes-requires c κs = search needs
+is-name-requires : tie.Need-is-name-requires Inv-loop μ-loop
+is-name-requires c κs = search needs
 
 returns : tie.Need-returns Inv-loop μ-loop
 returns c = search search-finds
@@ -86,23 +87,25 @@ add-at : tie.Need-add-at Inv-loop μ-loop
 add-at c =
     omega (
       arith,
-      record-inside _ _ _ _ _ _ _ _ _ (c .before .before .before .loop .inv)
-          (c .before .before .before .before .before .before .before .pre .0)
-          (c .before .before .before .before .before .before .before .pre .1) (c .before .before .loop-test .taken),
+      record-inside _ _ _ _ _ _ _ _ _ (c .before .before .before .loop .inv .0)
+          (c .before .before .before .before .before .before .before .before .pre .0)
+          (c .before .before .before .before .before .before .before .before .pre .1) (c .before .before .loop-test .taken),
     )
 
 loop-less : tie.Need-loop-less Inv-loop μ-loop
 loop-less c = search needs
 
 loop-again : tie.Need-loop-again Inv-loop μ-loop
-loop-again c =
-    search-on _ _ _ _ _ _ _ _ _ (c .before .before .before .loop .inv)
-    (c .before .before .before .before .before .before .before .pre .0)
-    (c .before .before .before .before .before .before .before .pre .1) (c .before .before .loop-test .taken)
-    (⊎-elim (λ w. search not-named) (λ w. search not-behind) (c .if1 .came))
+loop-again c = (
+  search-on _ _ _ _ _ _ _ _ _ (c .before .before .before .loop .inv .0)
+      (c .before .before .before .before .before .before .before .before .pre .0)
+      (c .before .before .before .before .before .before .before .before .pre .1) (c .before .before .loop-test .taken)
+      (⊎-elim (λ w. search not-named) (λ w. search not-behind) (c .if1 .came)),
+  c .before .before .before .loop .inv .1,
+)
 
 returns-2 : tie.Need-returns-2 Inv-loop μ-loop
-returns-2 c = search-ends _ _ _ _ _ _ _ _ _ (c .before .loop .inv) (c .loop-test .left)
+returns-2 c = search-ends _ _ _ _ _ _ _ _ _ (c .before .loop .inv .0) (c .loop-test .left)
 
 pub find-name-spec : {M : Type 1} → statement M
 find-name-spec =
@@ -110,14 +113,14 @@ find-name-spec =
     (tie.spec
     Inv-loop
     μ-loop
+    tail-of-requires
     loop-holds
     mul-start
     shared-slice-read-start
     add-size
     mul-size
     shared-slice-read-size
-    name-at-requires
-    same-bytes-requires
+    is-name-requires
     returns
     add-i
     add-at
