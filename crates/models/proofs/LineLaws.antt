@@ -119,7 +119,7 @@ module _ (t : List ℕ) (line : Found) (table : List ℕ) (w : ModelWalk) (on : 
   no-head = both-not-left _ _ (ne-eqb _ _ (λ (e : w .place ≡ 8). let z : _≡_ {A = ℕ} 9 8 = sym (on .place-is) ∙ e in omega arith))
 
   pub step-taken : (f : Filling) (table' : List ℕ) → Stores (w .filling) table (stepWrites t (stepsAt t line)) f table' →
-      Taken t line w table (record { at = line .next; number = line .number + 1; place = 9; says = says; head = w .head; filling = f }) table'
+      Taken t line w table (record { at = line .next; number = line .number + 1; place = 9; head = w .head; filling = f }) table'
   unfolding headIn
   step-taken f table' s =
       record {
@@ -143,7 +143,7 @@ module _ (t : List ℕ) (line : Found) (w : ModelWalk) (table : List ℕ) (next 
 
   -- behind the line, no step stored
   abbrev passed : ℕ → Head → ModelWalk
-  passed p head = record { at = line .next; number = line .number + 1; place = p; says = 0; head = head; filling = w .filling }
+  passed p head = record { at = line .next; number = line .number + 1; place = p; head = head; filling = w .filling }
 
   pub next-located : Located t line
   next-located = next .finds .located (next .there)

@@ -84,7 +84,7 @@ module _ (t : List ℕ) (line : Found) (f : Filling) (table : List ℕ) (fits : 
           table'' ≡ sets table' (position (w .filling) 0)
           (mark .start ∷ mark .size ∷ type ∷ getD (f .counts) 1 0 ∷ (getD (w .filling .counts) 1 0 - getD (f .counts) 1 0) ∷ []) →
           FillsModel t line f table
-          (record { at = w .at; number = w .number; place = w .place; says = w .says; head = w .head; filling = r }) table''
+          (record { at = w .at; number = w .number; place = w .place; head = w .head; filling = r }) table''
       unfolding modelWrites modelWrite modelOf
       model-filled r table'' k h =
           record {

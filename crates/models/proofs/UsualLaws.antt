@@ -110,7 +110,7 @@ module _ (t : List ℕ) (start : ModelWalk) (table₀ : List ℕ) (is-path : sta
     usual-taken : Taken t line walk table (movedTo start (found .next) (n + 1) (set counts 1 (getD counts 1 0 + 1))) table'
     unfolding counted
     usual-taken =
-        let taken : Taken t line walk table (record { at = found .next; number = n + 1; place = 9; says = sayingOf (firstOf (words (contentIn t line))); head = start .head; filling = counted (record { bases = start .filling .bases; counts = counts }) 1 }) table' =
+        let taken : Taken t line walk table (record { at = found .next; number = n + 1; place = 9; head = start .head; filling = counted (record { bases = start .filling .bases; counts = counts }) 1 }) table' =
         step-taken t line table walk (usual-on (put .usual)) (firstOf (words (contentIn t line))) refl _ refl
         (counted (record { bases = start .filling .bases; counts = counts }) 1) table' (put .stores) in
         record {

@@ -109,7 +109,7 @@ module _ (t : List ℕ) where
 
 module _ (t : List ℕ) (n at : ℕ) (f : Filling) (table : List ℕ) (head : Head) (new : head ≡ newHead) where
   abbrev start : ModelWalk
-  start = record { at = at; number = n; place = 8; says = 0; head = head; filling = f }
+  start = record { at = at; number = n; place = 8; head = head; filling = f }
 
   pub model-starts : Open t n at place.head f table → Continued t start table start table
   model-starts o = continued-start t start table o

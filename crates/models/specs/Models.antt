@@ -51,7 +51,6 @@ movedTo w at n counts =
       at = at;
       number = n;
       place = w .place;
-      says = w .says;
       head = w .head;
       filling = record { bases = w .filling .bases; counts = counts };
     }

@@ -22,15 +22,11 @@ use table::Filling;
 // "From `|` on, a line is comment".
 const COMMENT: u8 = b'|';
 
-// What a line says that stands in no path.
-const NOTHING: u64 = 0;
-
-// How far the lines of a model have been gone over: where to go on, what the last line said in a path, and what the head has said.
+// How far the lines of a model have been gone over: where to go on, and what the head has said.
 pub struct ModelWalk {
     pub at: usize,
     pub number: u64,
     pub place: u64,
-    pub says: u64,
     pub head: Head,
     pub filling: Filling,
 }
@@ -75,7 +71,6 @@ fn take_step(text: &[u8], line: Found, table: &mut [u64], walk: ModelWalk) -> Mo
         at: line.next,
         number: line.number + 1,
         place: place::PATH,
-        says,
         head,
         filling: steps::put_step(text, line, says, table, filling),
     }
@@ -94,7 +89,6 @@ fn take_line(text: &[u8], line: Found, table: &mut [u64], walk: ModelWalk) -> Mo
         at: line.next,
         number: line.number + 1,
         place: document::place_after(walk.place, text, line),
-        says: NOTHING,
         head: head_after(text, line, walk.place, head),
         filling,
     }
@@ -113,7 +107,6 @@ fn walk_at(walk: ModelWalk, at: usize, number: u64, counts: [u64; 7]) -> ModelWa
         at,
         number,
         place: walk.place,
-        says: walk.says,
         head,
         filling: Filling { bases, counts },
     }
@@ -173,7 +166,6 @@ fn fill_steps(text: &[u8], at: usize, number: u64, table: &mut [u64], filling: F
         at,
         number,
         place: place::HEAD,
-        says: NOTHING,
         head: head::new_head(),
         filling,
     };
@@ -214,7 +206,6 @@ fn fill_model(text: &[u8], line: Found, table: &mut [u64], filling: Filling) -> 
         at: walk.at,
         number: walk.number,
         place: walk.place,
-        says: walk.says,
         head,
         filling: table::put_record(table, filled, table::MODELS, &words),
     }
