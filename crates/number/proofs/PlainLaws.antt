@@ -6,7 +6,7 @@ use mathlib.Core.List.{List, [], _∷_}
 use Prim.Native.Nat.{ℕ, zero, suc, _+_, _-_, _*_, _^_, _≤_, _<_}
 use mir.Syntax.{w64}
 use mir.Val.{Fits}
-use native.Mathlib.Nat.{add-zero, add-suc, mul-one, mul-add, mul-assoc, mul-comm, mul-le-mul-right, pow-suc, pow-le-pow-right, zero-lt-suc}
+use native.Mathlib.Nat.{add-zero, add-suc, le-refl, mul-one, mul-add, mul-assoc, mul-comm, mul-le-mul-right, pow-suc, pow-le-pow-right, zero-lt-suc}
 use native.Mathlib.Numerals.{add-one}
 use native.Mathlib.Omega.{arith}
 use lib.ListN.{length, drop, getD, drop-of-length-le}
@@ -202,6 +202,13 @@ module _ (s : List ℕ) (from stop before i value : ℕ) (start : from ≤ i) (s
 
   pub read-last : (next : ℕ) → next ≡ getD s i 0 → stop ≤ i → RunRead s from stop before (record { value = value; end = i; next = next })
   read-last next e h = read-halt next e (λ (u : isDigit next ≡ true). h)
+
+-- a run of no digit
+pub read-nothing : (s : List ℕ) (from stop before : ℕ) (t : Bool) → t ≡ isDigit (getD s from 0) → not t ≡ true →
+    RunRead s from stop before (record { value = before; end = from; next = getD s from 0 })
+read-nothing s from stop before t told e =
+    read-other s from stop before from before (omega arith) (omega arith) (le-refl (weight before from stop)) (runs-start s from before)
+    (sym told ∙ not-true t e)
 
 -- two tests whose comparisons hold together have one answer
 pub ltb-alike : (a b c d : ℕ) → (a < b → c < d) → (c < d → a < b) → ltb a b ≡ ltb c d

@@ -673,11 +673,19 @@ fn four_value(word: u64) -> u64
     paired(twos, 16, 100, 0xffff)
 }
 
-// As `read_run`, four digits at once where so many stand there.
+// As `read_run`, four digits at once where so many stand there. Mostly there is none.
 fn read_four(s: &[u8], from: usize, stop: usize, before: u64) -> Run
     requires { ⌜ from < length (now s) ⌝ ∗ ⌜ stop < length (now s) ⌝ ∗ ⌜ weight before from stop ≤ exponentCap ⌝ }
     ensures { λ r. ⌜ RunRead (now (s .entry)) from stop before r ⌝ }
 {
+    let next = s[from];
+    if !base::is_digit(next) {
+        return Run {
+            value: before,
+            end: from,
+            next,
+        };
+    }
     let end = from + 4;
     if end <= stop {
         let word = base::four_at(s, from);
