@@ -66,7 +66,6 @@ NUMBERS = {
     27: ("UNUSED", "section that no step uses"),
     30: ("TABLE", "question over an unsound table"),
     31: ("NOSUCH", "section, kind, row, column or walk place out of range"),
-    32: ("STUCK", "walk meets an Endfork at depth 0 or a Fork at depth 8"),
 }
 
 

@@ -57,7 +57,7 @@ pub none-closed : (d : ℕ) → d ≡ 0 → 0 ≡ d - 1
 none-closed d e = omega arith
 
 -- so many forks are open, and never more than may be
-stays-within : (d kind : ℕ) → d ≤ 8 → depthStays d kind ≡ true → depthAfter d kind ≤ 8
+pub stays-within : (d kind : ℕ) → d ≤ 8 → depthStays d kind ≡ true → depthAfter d kind ≤ 8
 unfolding depthStays depthAfter
 stays-within d kind h e = by-cases _ (eqb kind forkKind) fork other
   where

@@ -60,7 +60,7 @@ fn depth_stays(depth: u64, kind: u64) -> bool
 }
 
 // How many are open after it.
-fn depth_after(depth: u64, kind: u64) -> u64
+pub fn depth_after(depth: u64, kind: u64) -> u64
     requires { ⌜ depth ≤ 8 ⌝ }
     ensures { λ r. ⌜ r ≡ depthAfter depth kind ⌝ }
 {

@@ -2,7 +2,7 @@
 -- exactly as many steps as the path has.
 -- Assumes nothing.
 use mathlib.Core.Path.{_≡_, refl, sym, _∙_, ap, subst}
-use mathlib.Core.Bool.{true, false}
+use mathlib.Core.Bool.{true}
 use mathlib.Core.List.{List, [], _∷_, _++_, map-append}
 use Prim.Native.Nat.{ℕ, zero, suc, _+_, _-_, _≤_, _<_}
 use native.Mathlib.Numerals.{add-one}
@@ -10,9 +10,9 @@ use native.Mathlib.Omega.{arith}
 use lib.ListN.{length, getD, take, length-append, length-map}
 use lib.Seq.{take-at, take-all}
 use lib.Dec.{eqb}
-use borrow.Author.Tests.{eq-eqb, ne-eqb, eqb-true, ltb-true}
+use borrow.Author.Tests.{eq-eqb, ne-eqb, eqb-true}
 use Rattle.base.specs.If.{if_then_else_}
-use Rattle.base.proofs.IfLaws.{if-true, if-false, by-cases, both-first, both-second, not-not-via}
+use Rattle.base.proofs.IfLaws.{if-true, if-false, both-first, both-second, not-not-via}
 use Rattle.document.specs.Document.{Step, Model, Document, documentOf, forkKind, endforkKind}
 use Rattle.document.specs.Records.{ModelRecord, StepRecord, Records, stepRecord, stepRecords, modelRecord, recordsOf}
 use Rattle.document.specs.Holds.{Each}
@@ -20,7 +20,7 @@ use Rattle.document.proofs.StandsLaws.{ModelStands, StepStands, all-stand}
 use Rattle.name.specs.Name.{nameAt}
 use Rattle.rules.specs.Rules.{stepRule}
 use Rattle.rules.proofs.RisingLaws.{each-at}
-use Rattle.sound.specs.Sound.{range, depthStays, depthAfter, depthHolds, isSound}
+use Rattle.sound.specs.Sound.{range, depthAfter, depthHolds, isSound}
 use Rattle.sound.specs.Sound as sound
 use Rattle.soundness.proofs.CrossLaws.{all-steps-kept}
 use Rattle.walk.specs.Walk as walk
@@ -43,8 +43,9 @@ use Rattle.walk.specs.Walk.{
   walkFrom,
 }
 use Rattle.walk.specs.declared.Place.{Place}
+use Rattle.walk.proofs.KindLaws.{moves}
 use Rattle.walk.proofs.ReadyLaws.{right-model}
-use Rattle.walk.proofs.WalkLaws.{first-place, next-place, never-stuck}
+use Rattle.walk.proofs.WalkLaws.{first-place, next-place}
 use Rattle.third_demand.specs.Third.{Taken, placeAfter, nameThrough, sideOf, Shown, kindsOf, Walked}
 use Rattle.third_demand.proofs.WalkTakenLaws.{taken-kept, taken-sound, taken-records}
 use Rattle.third_demand.proofs.WalkRecordLaws.{its-model, its-place, its-step, its-kinds}
@@ -60,7 +61,6 @@ module _ (t table : List ℕ) (is-sound : isSound t table ≡ true) (p : Place) 
   answer-on h =
       let n : p .step ≡ modelOf (recordsOf table) p .steps → ⊥ = λ (e : p .step ≡ modelOf (recordsOf table) p .steps). omega arith in
       if-false _ _ (not-not-via is-sound) ∙ if-false _ _ (not-not-via inside) ∙ if-false _ _ (ne-eqb _ _ n)
-      ∙ if-false _ _ (never-stuck t table is-sound p inside h)
 
   pub answer-done : p .step ≡ modelOf (recordsOf table) p .steps → walk.answerOf t table p ≡ doneAt p
   unfolding walk.answerOf walkFrom walkOn
@@ -68,33 +68,17 @@ module _ (t table : List ℕ) (is-sound : isSound t table ≡ true) (p : Place) 
 
 -- ---- as many forks as endforks
 
-module _ (d kind opens closes : ℕ) (stays : depthStays d kind ≡ true) (h : depthAfter d kind + opens ≡ closes) where
-  balanced-on : d + (if eqb kind forkKind then opens + 1 else opens) ≡ (if eqb kind endforkKind then closes + 1 else closes)
-  unfolding depthAfter depthStays
-  balanced-on =
-      by-cases (d + (if eqb kind forkKind then opens + 1 else opens) ≡ (if eqb kind endforkKind then closes + 1 else closes)) (eqb kind forkKind)
-      (λ (f : eqb kind forkKind ≡ true).
-      let k : kind ≡ 2 = eqb-true kind 2 f in
-      let g : eqb kind endforkKind ≡ false = ne-eqb _ _ (λ (z : kind ≡ 3). omega arith) in
-      let a : d + 1 + opens ≡ closes = rw (if-true (d + 1) (if eqb kind endforkKind then d - 1 else d) f) at h in
-      rw (if-true (opens + 1) opens f, if-false (closes + 1) closes g) (omega arith))
-      (λ (f : eqb kind forkKind ≡ false).
-      by-cases (d + (if eqb kind forkKind then opens + 1 else opens) ≡ (if eqb kind endforkKind then closes + 1 else closes)) (eqb kind endforkKind)
-      (λ (g : eqb kind endforkKind ≡ true).
-      let l : 0 < d = ltb-true 0 d (sym (if-false _ _ f ∙ if-true _ _ g) ∙ stays) in
-      let a : d - 1 + opens ≡ closes = rw (if-false (d + 1) (if eqb kind endforkKind then d - 1 else d) f, if-true (d - 1) d g) at h in
-      rw (if-false (opens + 1) opens f, if-true (closes + 1) closes g) (omega arith))
-      (λ (g : eqb kind endforkKind ≡ false).
-      let a : d + opens ≡ closes = rw (if-false (d + 1) (if eqb kind endforkKind then d - 1 else d) f, if-false (d - 1) d g) at h in
-      rw (if-false (opens + 1) opens f, if-false (closes + 1) closes g) a))
-
 balanced : (d : ℕ) (ks : List ℕ) → depthHolds d ks ≡ true → d + countKind forkKind ks ≡ countKind endforkKind ks
 unfolding depthHolds countKind
 balanced d [] h =
     let e : d ≡ 0 = eqb-true d 0 h in
     omega arith
 balanced d (k ∷ ks) h =
-    balanced-on d k (countKind forkKind ks) (countKind endforkKind ks) (both-first _ _ h) (balanced (depthAfter d k) ks (both-second _ _ h))
+    let rest : depthAfter d k + countKind forkKind ks ≡ countKind endforkKind ks = balanced (depthAfter d k) ks (both-second _ _ h) in
+    let m : depthAfter d k + (if eqb k endforkKind then countKind endforkKind ks + 1 else countKind endforkKind ks) + countKind forkKind ks
+    ≡ d + (if eqb k forkKind then countKind forkKind ks + 1 else countKind forkKind ks) + countKind endforkKind ks =
+    moves d k (both-first _ _ h) (countKind forkKind ks) (countKind endforkKind ks) in
+    omega arith
 
 -- ---- the walk of one model
 

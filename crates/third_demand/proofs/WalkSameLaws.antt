@@ -56,7 +56,6 @@ use Rattle.walk.specs.Walk.{
   isDepth,
   kindsBefore,
   isPlace,
-  isStuck,
   wordsOf,
   nextOf,
   walkOver,
@@ -410,9 +409,7 @@ module _ (t table u other : List ℕ) (taken : Taken t table) (also : Taken u ot
 
     over-same : SameAnswer t table u other (walkOver (stepOf r p) p) (walkOver (stepOf q p) p)
     unfolding walkOver
-    over-same =
-        by-two (isStuck (stepOf r p .kind) (p .depth)) (isStuck (stepOf q p .kind) (p .depth)) (ap (λ (k : ℕ). isStuck k (p .depth)) (steps-here .kind))
-        (refusedWith walk.stuck) _ (refusedWith walk.stuck) _ (stepless false false walk.stuck 0 (record { model = 0; step = 0; depth = 0 })) with-step
+    over-same = with-step
 
     on-same : SameAnswer t table u other (walkOn r p) (walkOn q p)
     unfolding walkOn

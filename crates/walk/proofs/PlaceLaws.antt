@@ -5,7 +5,6 @@ use mathlib.Core.Bool.{Bool, true, false, not}
 use mathlib.Core.List.{List, [], _∷_, map}
 use Prim.Native.Nat.{ℕ, zero, suc, _+_, _-_, _*_, _^_, _≤_, _<_, zero-le}
 use native.Mathlib.Nat.{add-zero, zero-add, sub-zero, mul-zero, mul-suc, le-of-suc-le-suc, not-suc-le-zero}
-use native.Mathlib.Numerals.{add-one}
 use native.Mathlib.Omega.{arith}
 use mir.Syntax.{w64}
 use mir.Val.{Fits}
@@ -16,6 +15,7 @@ use Rattle.base.specs.If.{if_then_else_, both}
 use Rattle.base.proofs.IfLaws.{by-cases, both-rest, both-not-left, both-first, both-second}
 use Rattle.table.specs.Layout.{models, steps}
 use Rattle.view.specs.declared.View.{View}
+use Rattle.path.specs.Path.{deepest}
 use Rattle.document.specs.Document.{forkKind, endforkKind}
 use Rattle.document.specs.Records.{ModelRecord, StepRecord, Records, recordsOf}
 use Rattle.sound.specs.Sound.{range, kindsOf}
@@ -24,6 +24,7 @@ use Rattle.sound.proofs.PlaceLaws.{places-long, kinds-range}
 use Rattle.walk.specs.declared.Place.{Place}
 use Rattle.walk.specs.Walk.{noModel, noRecord, modelOf, stepOf, countKind, isDepth, kindsBefore, isPlace}
 use Rattle.walk.specs.Walkable.{modelPlace, firstOf, manyOf, Walkable, Stands}
+use Rattle.walk.proofs.KindLaws.{still-shallow}
 
 -- ---- opens and closes
 
@@ -127,19 +128,11 @@ module _ (table : List ℕ) (from many opens closes at i : ℕ) (left : CountLef
             let n : depth + closes ≡ opens → ⊥ = λ (k : depth + closes ≡ opens). eqb-false depth (opens - closes) e (omega arith) in
             e ∙ sym (ne-eqb _ _ n)
 
-count-most : (kind : ℕ) (ks : List ℕ) → countKind kind ks ≤ length ks
-unfolding countKind
-count-most kind [] = zero-le
-count-most kind (k ∷ ks) =
-    let h : (if eqb k kind then countKind kind ks + 1 else countKind kind ks) ≤ length ks + 1 = count-few (eqb k kind) (countKind kind ks) (length ks) (count-most kind ks) in
-    rw (sym (add-one (length ks))) h
-
--- a depth that is right is not above the steps gone over
-depth-most : (depth : ℕ) (ks : List ℕ) → isDepth depth ks ≡ true → depth ≤ length ks
+-- a depth that is right, from none open on
+depth-counts : (depth : ℕ) (ks : List ℕ) → isDepth depth ks ≡ true → depth + countKind endforkKind ks ≡ 0 + countKind forkKind ks
 unfolding isDepth
-depth-most depth ks e =
+depth-counts depth ks e =
     let d : depth + countKind endforkKind ks ≡ countKind forkKind ks = eqb-true (depth + countKind endforkKind ks) (countKind forkKind ks) e in
-    let m : countKind forkKind ks ≤ length ks = count-most forkKind ks in
     omega arith
 
 -- ---- the record of an index, and the kinds of the first steps of so many
@@ -161,10 +154,6 @@ unfolding kindsFrom places
 kinds-front table from zero n h = refl
 kinds-front table from (suc many) zero h = absurd (not-suc-le-zero h)
 kinds-front table from (suc many) (suc n) h = ap (λ (ks : List ℕ). getD table from 0 ∷ ks) (kinds-front table (from + 6) many n (le-of-suc-le-suc h))
-
-kinds-many : (table : List ℕ) (from n : ℕ) → length (kindsFrom table from n) ≡ n
-unfolding kindsFrom
-kinds-many table from n = length-map (places 6 from n) (λ (at : ℕ). getD table at 0) ∙ places-long 6 from n
 
 map-map : {A B : Type 0} (g : A → B) (f : ℕ → A) (ps : List ℕ) → map g (map f ps) ≡ map (λ (at : ℕ). g (f at)) ps
 map-map g f [] = refl
@@ -234,17 +223,19 @@ module _ (table : List ℕ) (v : View) (ready : Walkable table v) (p : Place) wh
         let k : p .model < length (records .models) = rw models-all has in
         both-rest _ _ (lt-ltb _ _ k) ∙ ap (λ (m : ModelRecord). both (leb (p .step) (m .steps)) (isDepth (p .depth) (kindsBefore records p))) model-is
 
+    kinds-taken : kindsBefore records p ≡ take (p .step) (kindsFrom table (baseOf v steps + 6 * first) many)
+    unfolding kindsBefore
+    kinds-taken =
+        ap (λ (m : ModelRecord). take (p .step) (range (m .first) (m .steps) (kindsOf (records .steps)))) model-is
+        ∙ ap (λ (ks : List ℕ). take (p .step) (range first many ks)) (kinds-are table v (ready .records))
+        ∙ ap (take (p .step)) (kinds-range table v first many steps-inside)
+
     pub place-past : many < p .step → false ≡ isPlace records p
     place-past h = sym (place-rest ∙ both-not-left _ _ (lt-leb _ _ h))
 
     module _ (upto : p .step ≤ many) where
       kinds-before : kindsBefore records p ≡ kindsFrom table (baseOf v steps + 6 * first) (p .step)
-      unfolding kindsBefore
-      kinds-before =
-          ap (λ (m : ModelRecord). take (p .step) (range (m .first) (m .steps) (kindsOf (records .steps)))) model-is
-          ∙ ap (λ (ks : List ℕ). take (p .step) (range first many ks)) (kinds-are table v (ready .records))
-          ∙ ap (take (p .step)) (kinds-range table v first many steps-inside)
-          ∙ kinds-front table (baseOf v steps + 6 * first) (p .step) many upto
+      kinds-before = kinds-taken ∙ kinds-front table (baseOf v steps + 6 * first) (p .step) many upto
 
       pub before-room : baseOf v steps + 6 * first + 6 * p .step ≤ length table
       before-room = omega (arith, ready .step-room, steps-inside)
@@ -267,8 +258,7 @@ module _ (table : List ℕ) (v : View) (ready : Walkable table v) (p : Place) wh
 
       stands-by : isDepth (p .depth) (kindsBefore records p) ≡ true → Stands table v p
       stands-by e =
-          let d : p .depth ≤ length (kindsFrom table (baseOf v steps + 6 * first) (p .step)) = depth-most (p .depth) _ (ap (isDepth (p .depth)) (sym kinds-before) ∙ e) in
-          let n : length (kindsFrom table (baseOf v steps + 6 * first) (p .step)) ≡ p .step = kinds-many table _ (p .step) in
+          let d : p .depth ≤ deepest = still-shallow (p .step) (kindsFrom table (baseOf v steps + 6 * first) many) 0 (p .depth) zero-le (ready .depths (p .model) has) (depth-counts (p .depth) _ (ap (isDepth (p .depth)) (sym kinds-taken) ∙ e)) in
           let i : first + many ≤ countOf v steps = steps-inside in
           let f : countOf v steps ≤ 4_096 = ready .few-steps in
           let r : baseOf v steps + 6 * countOf v steps ≤ length table = ready .step-room in
@@ -277,7 +267,7 @@ module _ (table : List ℕ) (v : View) (ready : Walkable table v) (p : Place) wh
             step-room = omega arith;
             few-steps = omega arith;
             step-inside = upto;
-            shallow = omega arith;
+            shallow = d;
             model-is = model-is;
             step-is = step-at;
           }

@@ -3,7 +3,7 @@
 use mathlib.Core.Path.{_≡_, sym, _∙_, ap}
 use mathlib.Core.Bool.{Bool, true, false, not}
 use mathlib.Core.List.{List, [], _∷_}
-use Prim.Native.Nat.{ℕ, zero, suc, _+_, _≤_, _<_}
+use Prim.Native.Nat.{ℕ, zero, suc, _+_, _*_, _≤_, _<_}
 use native.Mathlib.Nat.{le-of-suc-le-suc, not-suc-le-zero}
 use native.Mathlib.Omega.{arith}
 use lib.ListN.{length, getD}
@@ -16,8 +16,8 @@ use Rattle.view.proofs.PartLaws.{Viewed, viewed}
 use Rattle.document.specs.Records.{ModelRecord, Records, recordsOf}
 use Rattle.sound_record.proofs.RangeLaws.{range-inside}
 use Rattle.sound.specs.Sound.{every, range, depthHolds, isModel, kindsOf, areSound, isSound}
-use Rattle.sound.specs.Standing.{countOf, recordsAt}
-use Rattle.sound.proofs.PlaceLaws.{kinds-long}
+use Rattle.sound.specs.Standing.{baseOf, countOf, kindsFrom, kindsAt, recordsAt}
+use Rattle.sound.proofs.PlaceLaws.{kinds-long, kinds-range}
 use Rattle.sound.proofs.SoundLaws.{records-here}
 use Rattle.walk.specs.Walk.{noModel}
 use Rattle.walk.specs.Walkable.{firstOf, manyOf, Walkable}
@@ -64,11 +64,22 @@ module _ (t table : List ℕ) (sound : isSound t table ≡ true) where
   same : recordsAt table (viewOf table) ≡ recordsOf table
   same = records-here table (viewOf table) holds
 
-  range-there : (i : ℕ) → i < countOf (viewOf table) models → firstOf table (viewOf table) i + manyOf table (viewOf table) i ≤ countOf (viewOf table) steps
-  range-there i h =
-      let k : i < length (recordsOf table .models) = rw (models-many table (viewOf table) same) h in
-      let n : length (kindsOf (recordsOf table .steps)) ≡ countOf (viewOf table) steps = ap length (kinds-are table (viewOf table) same) ∙ kinds-long table (viewOf table) in
-      rw (n, model-there table (viewOf table) same i h) at (right-model i k .inside)
+  module _ (i : ℕ) (h : i < countOf (viewOf table) models) where
+    right-there : RightModel (recordsOf table) i
+    right-there =
+        let k : i < length (recordsOf table .models) = rw (models-many table (viewOf table) same) h in
+        right-model i k
+
+    range-there : firstOf table (viewOf table) i + manyOf table (viewOf table) i ≤ countOf (viewOf table) steps
+    range-there =
+        let n : length (kindsOf (recordsOf table .steps)) ≡ countOf (viewOf table) steps = ap length (kinds-are table (viewOf table) same) ∙ kinds-long table (viewOf table) in
+        rw (n, model-there table (viewOf table) same i h) at (right-there .inside)
+
+    depth-there : depthHolds 0 (kindsFrom table (baseOf (viewOf table) steps + 6 * firstOf table (viewOf table) i) (manyOf table (viewOf table) i)) ≡ true
+    depth-there =
+        let e : depthHolds 0 (range (firstOf table (viewOf table) i) (manyOf table (viewOf table) i) (kindsAt table (viewOf table))) ≡ true =
+        rw (kinds-are table (viewOf table) same, model-there table (viewOf table) same i h) at (right-there .depth) in
+        rw (kinds-range table (viewOf table) (firstOf table (viewOf table) i) (manyOf table (viewOf table) i) range-there) at e
 
   of-view : Walkable table (viewOf table)
   of-view =
@@ -78,6 +89,7 @@ module _ (t table : List ℕ) (sound : isSound t table ≡ true) where
         step-room = holds .inside steps (omega arith);
         few-steps = holds .few steps (omega arith);
         ranges = range-there;
+        depths = depth-there;
       }
 
   -- for those who call `walk_in`

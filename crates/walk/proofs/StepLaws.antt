@@ -21,10 +21,8 @@ use Rattle.walk.specs.Walk.{
   refusedWith,
   unsound,
   noSuch,
-  stuck,
   modelOf,
   isPlace,
-  isStuck,
   wordsOf,
   nextOf,
   walkOver,
@@ -34,25 +32,17 @@ use Rattle.walk.specs.Walk.{
 }
 use Rattle.walk.specs.Walkable.{firstOf, manyOf, Stands}
 
--- none is open, so none can be closed
-pub none-closed : (d : ℕ) → d ≡ 0 → 0 ≡ d - 1
-none-closed d e = omega arith
-
 pub next-told :
     (p : Place) (kind depth : ℕ) → depth ≡ depthAfter (p .depth) kind →
     _≡_ {A = Place} (record { model = p .model; step = p .step + 1; depth = depth }) (nextOf p kind)
 unfolding nextOf
 next-told p kind depth e = ap (λ (d : ℕ). record { model = p .model; step = p .step + 1; depth = d }) e
 
-module _ (table : List ℕ) (at : ℕ) (p : Place) (is : Bool) (told : is ≡ isStuck (getD table at 0) (p .depth)) where
-  pub over-stuck : is ≡ true → refusedWith stuck ≡ walkOver (stepAt table at) p
-  unfolding walkOver
-  over-stuck e = sym (if-true _ _ (sym told ∙ e))
-
-  pub over-steps :
-      is ≡ false → (next : Place) → next ≡ nextOf p (getD table at 0) → stepped (wordsOf (stepAt table at)) next ≡ walkOver (stepAt table at) p
-  unfolding walkOver
-  over-steps e next n = ap (stepped (wordsOf (stepAt table at))) n ∙ sym (if-false _ _ (sym told ∙ e))
+pub over-steps :
+    (table : List ℕ) (at : ℕ) (p next : Place) → next ≡ nextOf p (getD table at 0) →
+    stepped (wordsOf (stepAt table at)) next ≡ walkOver (stepAt table at) p
+unfolding walkOver
+over-steps table at p next e = ap (stepped (wordsOf (stepAt table at))) e
 
 -- ---- from a place that is in range
 

@@ -21,7 +21,6 @@ use Rattle.walk.specs.Walk.{
   isDepth,
   kindsBefore,
   isPlace,
-  isStuck,
   nextOf,
   walkOver,
   walkOn,
@@ -53,5 +52,5 @@ tried :
     × (answerOf text table (place 0 2 0) ≡ doneAt (place 0 2 0)) × (answerOf text table (place 0 1 0) ≡ refusedWith 31)
     × (answerOf text table (place 0 2 1) ≡ refusedWith 31) × (answerOf text table (place 0 3 0) ≡ refusedWith 31)
     × (answerOf text table (place 1 0 0) ≡ refusedWith 31) × (answerOf [] table (place 1 0 0) ≡ refusedWith 30)
-unfolding if_then_else_ both either within chopped partsIn areWithin basesAt countsAt endAt viewOf recordsIn recordsOf isRange isNameIn hasNoSide every depthStays depthAfter depthHolds isModel isForkStep isStep kindsOf methodsOf areSound areZeros isSound stepOf countKind isDepth kindsBefore isPlace isStuck nextOf walkOver walkOn walkFrom answerOf
+unfolding if_then_else_ both either within chopped partsIn areWithin basesAt countsAt endAt viewOf recordsIn recordsOf isRange isNameIn hasNoSide every depthStays depthAfter depthHolds isModel isForkStep isStep kindsOf methodsOf areSound areZeros isSound stepOf countKind isDepth kindsBefore isPlace nextOf walkOver walkOn walkFrom answerOf
 tried = (refl, refl, refl, refl, refl, refl, refl, refl)

@@ -7,7 +7,6 @@ use mathlib.Core.List.{List, [], _∷_}
 use lib.ListN.{length, getD, take}
 use lib.Dec.{leb, ltb, eqb}
 use Rattle.base.specs.If.{if_then_else_, both}
-use Rattle.path.specs.Path.{deepest}
 use Rattle.document.specs.Document.{forkKind, endforkKind}
 use Rattle.document.specs.Records.{ModelRecord, StepRecord, Records, recordsOf}
 use Rattle.sound.specs.Sound.{range, depthAfter, kindsOf, isSound}
@@ -16,15 +15,12 @@ use Rattle.walk.specs.declared.StepWords.{StepWords}
 use Rattle.walk.specs.declared.Walked.{Walked}
 use Rattle.walk.specs.declared.Walked.the-variants.{Step, Done, Refused}
 
--- the paper's numbers: "30 TABLE", "31 NOSUCH", "32 STUCK"
+-- the paper's numbers: "30 TABLE", "31 NOSUCH"
 abbrev pub unsound : ℕ
 unsound = 30
 
 abbrev pub noSuch : ℕ
 noSuch = 31
-
-abbrev pub stuck : ℕ
-stuck = 32
 
 -- ---- the answer
 
@@ -96,10 +92,6 @@ isPlace r p =
 
 -- ---- one step
 
--- "walk meets an Endfork at depth 0 or a Fork at depth 8"
-unfoldable pub isStuck : ℕ → ℕ → Bool
-isStuck kind depth = if eqb kind endforkKind then eqb depth 0 else if eqb kind forkKind then eqb depth deepest else false
-
 abbrev pub wordsOf : StepRecord → StepWords
 wordsOf s =
     record { kind = s .kind; target = s .target; amount = s .amount; side = s .side; «side_size» = s .sideSize; line = s .line }
@@ -110,7 +102,7 @@ nextOf p kind = record { model = p .model; step = p .step + 1; depth = depthAfte
 
 -- over this step
 unfoldable pub walkOver : StepRecord → Place → WalkWords
-walkOver s p = if isStuck (s .kind) (p .depth) then refusedWith stuck else stepped (wordsOf s) (nextOf p (s .kind))
+walkOver s p = stepped (wordsOf s) (nextOf p (s .kind))
 
 -- ---- the whole
 
@@ -122,6 +114,6 @@ walkOn r p = if eqb (p .step) (modelOf r p .steps) then doneAt p else walkOver (
 unfoldable pub walkFrom : Records → Place → WalkWords
 walkFrom r p = if not (isPlace r p) then refusedWith noSuch else walkOn r p
 
--- "Questions: 30, 31, 32"
+-- "Questions: 30, 31"
 unfoldable pub answerOf : List ℕ → List ℕ → Place → WalkWords
 answerOf t table p = if not (isSound t table) then refusedWith unsound else walkFrom (recordsOf table) p

@@ -1,13 +1,17 @@
--- What a walk asks of a table that is known to be sound: its view tells its records, they lie inside it, and so do the steps of each model.
+-- What a walk asks of a table that is known to be sound: its view tells its records, they lie inside it, and so do the steps of each model, whose
+-- depth holds.
 -- Assumes nothing.
 use Prim.Native.Nat.{ℕ, _+_, _*_, _≤_, _<_}
 use mathlib.Core.Path.{_≡_}
+use mathlib.Core.Bool.{true}
 use mathlib.Core.List.{List}
 use lib.ListN.{length, getD}
 use Rattle.table.specs.Layout.{models, steps}
 use Rattle.view.specs.declared.View.{View}
+use Rattle.path.specs.Path.{deepest}
 use Rattle.document.specs.Records.{recordsOf}
-use Rattle.sound.specs.Standing.{baseOf, countOf, modelAt, stepAt, recordsAt}
+use Rattle.sound.specs.Sound.{depthHolds}
+use Rattle.sound.specs.Standing.{baseOf, countOf, modelAt, stepAt, kindsFrom, recordsAt}
 use Rattle.walk.specs.declared.Place.{Place}
 use Rattle.walk.specs.Walk.{modelOf, stepOf}
 
@@ -27,6 +31,7 @@ pub record Walkable (table : List ℕ) (v : View) : Type 0 where
   pub step-room : baseOf v steps + 6 * countOf v steps ≤ length table
   pub few-steps : countOf v steps ≤ 4_096
   pub ranges : (i : ℕ) → i < countOf v models → firstOf table v i + manyOf table v i ≤ countOf v steps
+  pub depths : (i : ℕ) → i < countOf v models → depthHolds 0 (kindsFrom table (baseOf v steps + 6 * firstOf table v i) (manyOf table v i)) ≡ true
 
 -- and of a place that is in range: what stands there
 pub record Stands (table : List ℕ) (v : View) (p : Place) : Type 0 where
@@ -34,7 +39,7 @@ pub record Stands (table : List ℕ) (v : View) (p : Place) : Type 0 where
   pub step-room : baseOf v steps + 6 * (firstOf table v (p .model) + manyOf table v (p .model)) ≤ length table
   pub few-steps : firstOf table v (p .model) + manyOf table v (p .model) ≤ 4_096
   pub step-inside : p .step ≤ manyOf table v (p .model)
-  pub shallow : p .depth ≤ 4_096
+  pub shallow : p .depth ≤ deepest
   pub model-is : modelOf (recordsOf table) p ≡ modelAt table (modelPlace v (p .model))
   pub step-is :
       p .step < manyOf table v (p .model) → stepOf (recordsOf table) p ≡ stepAt table (baseOf v steps + 6 * (firstOf table v (p .model) + p .step))

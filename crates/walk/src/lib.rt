@@ -4,19 +4,17 @@ ghost use Prim.Native.Nat.{_+_, _*_, _^_, _≤_, _<_};
 ghost use lib.ListN.{length};
 ghost use lib.Dec.{eqb};
 ghost use Rattle.base.specs.If.{if_then_else_};
+ghost use Rattle.path.specs.Path.{deepest};
 ghost use Rattle.document.specs.Records.{recordsOf};
-ghost use Rattle.sound.specs.Sound.{depthAfter};
 ghost use Rattle.sound.specs.Standing.{stepAt, kindsFrom};
-ghost use Rattle.walk.specs.Walk.{walkWords, isDepth, isPlace, isStuck, nextOf, walkOver, walkOn, walkFrom, answerOf};
+ghost use Rattle.walk.specs.Walk.{walkWords, isDepth, isPlace, nextOf, walkOver, walkOn, walkFrom, answerOf};
 ghost use Rattle.walk.specs.Walkable.{Walkable, Stands};
 use view::View;
 
-// "30 UNSOUND", "31 NOSUCH", "32 STUCK".
+// "30 TABLE", "31 NOSUCH".
 const UNSOUND: u64 = 30;
 
 const NOSUCH: u64 = 31;
-
-const STUCK: u64 = 32;
 
 // "2 fork 3 endfork".
 const FORK: u64 = 2;
@@ -27,9 +25,6 @@ const ENDFORK: u64 = 3;
 const MODEL_WORDS: usize = 5;
 
 const STEP_WORDS: usize = 6;
-
-// How many forks may be open.
-const DEEPEST: u64 = 8;
 
 // "A walk place is model, step, depth".
 pub struct Place {
@@ -57,56 +52,24 @@ pub enum Walked {
 
 // ---- one step
 
-fn is_stuck(kind: u64, depth: u64) -> bool
-    ensures { λ r. ⌜ r ≡ isStuck kind depth ⌝ }
-{
-    if kind == ENDFORK {
-        return depth == 0;
-    }
-    if kind == FORK {
-        return depth == DEEPEST;
-    }
-    false
-}
-
-// How many forks are open after a step of this kind.
-fn depth_after(depth: u64, kind: u64) -> u64
-    requires { ⌜ depth ≤ 4_096 ⌝ }
-    ensures { λ r. ⌜ r ≡ depthAfter depth kind ⌝ }
-{
-    if kind == FORK {
-        return depth + 1;
-    }
-    if kind == ENDFORK {
-        if depth == 0 {
-            return 0;
-        }
-        return depth - 1;
-    }
-    depth
-}
-
 // The place behind a step of this kind.
 fn next_of(place: Place, kind: u64) -> Place
-    requires { ⌜ (place .step ≤ 4_096) × (place .depth ≤ 4_096) ⌝ }
+    requires { ⌜ (place .step ≤ 4_096) × (place .depth ≤ deepest) ⌝ }
     ensures { λ r. ⌜ r ≡ nextOf place kind ⌝ }
 {
     Place {
         model: place.model,
         step: place.step + 1,
-        depth: depth_after(place.depth, kind),
+        depth: sound::depth_after(place.depth, kind),
     }
 }
 
 // Over the step that stands at this word.
 fn walk_over(table: &[u64], at: usize, place: Place) -> Walked
-    requires { ⌜ (at + 6 ≤ length (now table)) × (place .step ≤ 4_096) × (place .depth ≤ 4_096) ⌝ }
+    requires { ⌜ (at + 6 ≤ length (now table)) × (place .step ≤ 4_096) × (place .depth ≤ deepest) ⌝ }
     ensures { λ r. ⌜ walkWords r ≡ walkOver (stepAt (now (table .entry)) at) place ⌝ }
 {
     let kind = table[at];
-    if is_stuck(kind, place.depth) {
-        return Walked::Refused(STUCK);
-    }
     Walked::Step(
         StepWords {
             kind,

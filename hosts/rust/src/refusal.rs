@@ -4,7 +4,7 @@ use std::fmt;
 use std::io;
 
 /// What the paper's table of refusals says of each number.
-const NUMBERS: [(u64, &str, &str); 30] = [
+const NUMBERS: [(u64, &str, &str); 29] = [
     (1, "SIZE", "text over 1,048,576 bytes"),
     (2, "BYTE", "byte other than 0x20 to 0x7E, TAB, LF, or CR right before LF"),
     (3, "LONG", "line over 120 characters without its terminator"),
@@ -34,14 +34,13 @@ const NUMBERS: [(u64, &str, &str); 30] = [
     (27, "UNUSED", "section that no step uses"),
     (30, "TABLE", "question over an unsound table"),
     (31, "NOSUCH", "section, kind, row, column or walk place out of range"),
-    (32, "STUCK", "walk meets an Endfork at depth 0 or a Fork at depth 8"),
 ];
 
 /// A refusal of the intake or of a question.
 #[derive(Clone, Copy, Debug, PartialEq, Eq, Hash)]
 #[non_exhaustive]
 pub struct Refusal {
-    /// The paper's number: 1 to 27 from the intake, 30 to 32 from a question.
+    /// The paper's number: 1 to 27 from the intake, 30 or 31 from a question.
     pub number: u64,
     /// The paper's name of the number, such as `ROOM`.
     pub name: &'static str,

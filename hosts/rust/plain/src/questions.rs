@@ -1,9 +1,8 @@
 //! The questions over a filled table: an entry of a section's matrix, and a step of a walk along a model's path.
-//! Refused, they give 30 for an unsound table, else 31 for what is out of range, else 32 for a walk that is stuck.
+//! Refused, they give 30 for an unsound table, else 31 for what is out of range.
 
-use crate::document::DEPTH_BOUND;
 use crate::number::ZERO;
-use crate::refusal::{NO_SUCH, STUCK, TABLE};
+use crate::refusal::{NO_SUCH, TABLE};
 use crate::sound::sound_parts;
 use crate::table::STEP_WORDS;
 
@@ -69,7 +68,7 @@ impl Walked {
 
 /// Takes a step of the walk from the place `model`, `step`, `depth`.
 ///
-/// The error is the number of refusal: 30, 31 or 32.
+/// The error is the number of refusal: 30 or 31.
 pub fn step(text: &[u8], table: &[u64], model: u64, step: u64, depth: u64) -> Result<Walked, u64> {
     let parts = sound_parts(text, table).ok_or(TABLE)?;
     let record = usize::try_from(model).ok().and_then(|model| parts.models.get(model)).ok_or(NO_SUCH)?;
@@ -82,10 +81,10 @@ pub fn step(text: &[u8], table: &[u64], model: u64, step: u64, depth: u64) -> Re
     let Some(words) = steps.get(step as usize) else {
         return Ok(Walked::new(true, &[0; STEP_WORDS], here));
     };
+    // In a sound model the depth stays from 0 to 8, so there is a fork open at each endfork: this cannot go below 0.
     let depth = match words[0] {
-        2 if depth == DEPTH_BOUND => return Err(STUCK),
         2 => depth + 1,
-        3 => depth.checked_sub(1).ok_or(STUCK)?,
+        3 => depth - 1,
         _ => depth,
     };
     Ok(Walked::new(false, words, Place { model, step: step + 1, depth }))

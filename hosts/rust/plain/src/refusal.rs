@@ -37,4 +37,3 @@ pub(crate) const COUNT: u64 = 26;
 pub(crate) const UNUSED: u64 = 27;
 pub(crate) const TABLE: u64 = 30;
 pub(crate) const NO_SUCH: u64 = 31;
-pub(crate) const STUCK: u64 = 32;

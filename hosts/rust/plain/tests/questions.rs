@@ -3,6 +3,8 @@
 
 mod example;
 
+use std::collections::BTreeSet;
+
 use plain::{entry, intake, listing, sound, step, value, Answer, Place, Walked};
 
 /// Offsets of the first record of each part in the table of the example.
@@ -55,6 +57,54 @@ fn bent(bends: &[(usize, u64)]) -> bool {
         table[place] = word;
     }
     sound(&text, &table)
+}
+
+/// A table over the text `x` with a model for each path; a path is the kinds of its steps, none of them an end.
+fn table_of_paths(paths: &[&[u64]]) -> Vec<u64> {
+    let mut table = vec![paths.len() as u64];
+    let mut first = 0;
+    for path in paths {
+        table.extend([0, 1, 0, first, path.len() as u64]);
+        first += path.len() as u64;
+    }
+    table.push(first);
+    for kind in paths.concat() {
+        let multiple = u64::from(kind == 1);
+        table.extend([kind, 0, multiple, 0, 0, 0]);
+    }
+    let section = [0, 1, 0, 1, 0, 0, 0, 0];
+    [&table[..], &[0, 0, 1], &section, &[0, 0]].concat()
+}
+
+/// The path's model among others, which are sound.
+fn table_among_others(path: &[u64]) -> Vec<u64> {
+    table_of_paths(&[&[2, 3], path, &[], &[1, 2, 1, 3]])
+}
+
+/// The kinds of a model's steps.
+fn path_of(table: &[u64], model: u64) -> Vec<u64> {
+    let word = |place: usize| table[1 + 5 * model as usize + place] as usize;
+    let steps = table[1 + 5 * table[0] as usize + 1..].chunks(6);
+    steps.skip(word(3)).take(word(4)).map(|step| step[0]).collect()
+}
+
+/// Opens less closes before each step of a path and behind its last.
+fn depths(path: &[u64]) -> Vec<i64> {
+    let count = |steps: &[u64], kind| steps.iter().filter(|&&step| step == kind).count() as i64;
+    (0..=path.len()).map(|step| count(&path[..step], 2) - count(&path[..step], 3)).collect()
+}
+
+/// The depth at which a path first leaves 0 to 8: 9 by a fork at 8, -1 by an endfork at 0.
+fn depth_outside(path: &[u64]) -> Option<i64> {
+    depths(path).into_iter().find(|depth| !(0..=8).contains(depth))
+}
+
+/// All orders of five steps, each inside 0 to 8 fork blocks; many of them close too much, or too little.
+fn paths() -> Vec<Vec<u64>> {
+    let order = |number: usize| (0..5).map(|place| [1, 2, 3][number / 3_usize.pow(place) % 3]).collect::<Vec<_>>();
+    let orders: Vec<_> = (0..3_usize.pow(5)).map(order).collect();
+    let inside = |forks| orders.iter().map(move |path| [&vec![2; forks][..], path, &vec![3; forks]].concat());
+    (0..=8).flat_map(inside).collect()
 }
 
 #[test]
@@ -264,14 +314,8 @@ fn depth_stays_in_bounds_and_ends_at_zero() {
     assert!(bent(&[(MODEL + 4, 2)]) && !bent(&[(MODEL + 4, 3)]), "a fork left open");
     assert!(!bent(&[(MODEL + 3, 3), (MODEL + 4, 3)]), "an endfork with none open");
     assert!(!bent(&[(STEP + 12, 3), (STEP + 24, 2)]), "an endfork before its fork");
-    let nested = |depth: usize| {
-        let forks = [2, 3].map(|kind| [kind, 0, 0, 0, 0, 0].repeat(depth)).concat();
-        let table = [&[1, 0, 1, 0, 0, 2 * depth as u64, 2 * depth as u64][..], &forks, &[0; 5]].concat();
-        (sound(b"x", &table), table)
-    };
-    assert!(nested(8).0 && !nested(9).0);
-    let walked = step(b"x", &nested(8).1, 0, 7, 7).unwrap();
-    assert_eq!((walked.kind, walked.next), (2, Place { model: 0, step: 8, depth: 8 }));
+    let nested = |depth| sound(b"x", &table_of_paths(&[&[2, 3].map(|kind| vec![kind; depth]).concat()]));
+    assert!(nested(8) && !nested(9));
 }
 
 #[test]
@@ -376,6 +420,72 @@ fn walk_places_out_of_range() {
     }
     assert!(ask(0, 3, 1).is_ok() && ask(0, 6, 0).is_ok());
     assert_eq!(step(&text, &table[..USED - 1], 1, 9, 9), Err(30));
+}
+
+/// Depths to ask a walk for: all that it can have, and some that it cannot.
+const DEPTHS: [u64; 11] = [0, 1, 2, 3, 4, 5, 6, 7, 8, 9, u64::MAX];
+
+/// The one depth in range at a step of a sound table, with what the walk finds there; all others are 31.
+fn only_depth(text: &[u8], table: &[u64], model: u64, at: u64) -> (u64, Walked) {
+    let answers = DEPTHS.map(|depth| (depth, step(text, table, model, at, depth)));
+    let mut in_range = Vec::new();
+    for (depth, answer) in answers {
+        match answer {
+            Ok(walked) => in_range.push((depth, walked)),
+            Err(number) => assert_eq!(number, 31, "model {model} step {at} depth {depth}"),
+        }
+    }
+    assert_eq!(in_range.len(), 1, "model {model} step {at}");
+    in_range[0]
+}
+
+/// Asks at each step of each model of a sound table; gives the kinds met, each with a depth it is met at.
+fn kinds_and_depths_met(text: &[u8], table: &[u64]) -> BTreeSet<(u64, u64)> {
+    let mut met = BTreeSet::new();
+    for model in 0..table[0] {
+        let depths = depths(&path_of(table, model));
+        for at in 0..depths.len() {
+            let (depth, walked) = only_depth(text, table, model, at as u64);
+            assert!(depth <= 8 && depth == depths[at] as u64, "model {model} step {at} depth {depth}");
+            let next = (at + 1).min(depths.len() - 1);
+            assert_eq!(walked.next, Place { model, step: next as u64, depth: depths[next] as u64 });
+            met.insert((walked.kind, depth));
+        }
+    }
+    met
+}
+
+#[test]
+fn a_sound_walk_has_one_depth_and_always_room_to_go_on() {
+    let mut met = BTreeSet::new();
+    for (text, table) in [example(), second_example()] {
+        met.extend(kinds_and_depths_met(&text, &table));
+    }
+    let ends_at_zero = |path: &[u64]| depths(path).last() == Some(&0);
+    for path in paths().iter().filter(|path| ends_at_zero(path) && depth_outside(path).is_none()) {
+        let table = table_among_others(path);
+        assert!(sound(b"x", &table), "{path:?}");
+        met.extend(kinds_and_depths_met(b"x", &table));
+    }
+    let depths_of = |kind| met.iter().filter(|met| met.0 == kind).map(|met| met.1).collect::<Vec<_>>();
+    assert_eq!(depths_of(2), [0, 1, 2, 3, 4, 5, 6, 7], "forks");
+    assert_eq!(depths_of(3), [1, 2, 3, 4, 5, 6, 7, 8], "endforks");
+}
+
+/// Nothing but the depth along one model is wrong here, and still no place of any model answers.
+#[test]
+fn a_path_that_leaves_the_depths_makes_the_table_unsound() {
+    let mut outside = BTreeSet::new();
+    for path in paths() {
+        let Some(depth) = depth_outside(&path) else { continue };
+        outside.insert(depth);
+        let table = table_among_others(&path);
+        for (model, at) in (0..=4).flat_map(|model| (0..=path.len() as u64 + 1).map(move |at| (model, at))) {
+            let answers = DEPTHS.map(|depth| step(b"x", &table, model, at, depth));
+            assert_eq!(answers, [Err(30); DEPTHS.len()], "{path:?} model {model} step {at}");
+        }
+    }
+    assert_eq!(outside, BTreeSet::from([-1, 9]), "both an endfork at 0 and a fork at 8");
 }
 
 #[test]

@@ -1,0 +1,105 @@
+-- The depth of a place in range, over a sound table: at most 8, and never below 0. A walk therefore meets no Fork that may not be opened and no
+-- Endfork with nothing to close, and needs no refusal of its own for them.
+-- Assumes nothing.
+use mathlib.Core.Path.{_≡_, refl, _∙_}
+use mathlib.Core.Bool.{true}
+use mathlib.Core.List.{List, [], _∷_, map}
+use Prim.Native.Nat.{ℕ, zero, suc, _+_, _-_, _≤_, _<_, zero-le}
+use native.Mathlib.Omega.{arith}
+use lib.ListN.{length, take, drop, getD, length-drop}
+use lib.Seq.{getD-drop, getD-take, length-take-le}
+use borrow.Author.Tests.{eq-eqb, eqb-true, le-leb, lt-ltb, ltb-true}
+use Rattle.base.proofs.IfLaws.{both-true, both-first, both-second}
+use Rattle.path.specs.Path.{deepest}
+use Rattle.document.specs.Document.{forkKind, endforkKind}
+use Rattle.document.specs.Records.{StepRecord, Records, recordsOf}
+use Rattle.sound.specs.Sound.{range, depthStays, kindsOf, isSound}
+use Rattle.walk.specs.declared.Place.{Place}
+use Rattle.walk.specs.Walk.{noRecord, modelOf, stepOf, countKind, isDepth, kindsBefore, isPlace}
+use Rattle.walk.proofs.KindLaws.{fork-below, endfork-above, still-holds, still-shallow, closes-few, may-come}
+use Rattle.walk.proofs.ReadyLaws.{RightModel, right-model}
+
+kind-at : (ss : List StepRecord) (i : ℕ) → getD (map (λ (s : StepRecord). s .kind) ss) i 0 ≡ getD ss i noRecord .kind
+kind-at [] i = refl
+kind-at (s ∷ ss) zero = refl
+kind-at (s ∷ ss) (suc i) = kind-at ss i
+
+-- the kinds of all steps of the model that a place names
+abbrev pub pathKinds : Records → Place → List ℕ
+pathKinds r p = range (modelOf r p .first) (modelOf r p .steps) (kindsOf (r .steps))
+
+module _ (t table : List ℕ) (sound : isSound t table ≡ true) where
+  abbrev r : Records
+  r = recordsOf table
+
+  module _ (p : Place) (has : p .model < length (r .models)) where
+    right : RightModel r (p .model)
+    right = right-model t table sound (p .model) has
+
+    -- before any step of a model no more forks are closed than are opened
+    pub never-below : countKind endforkKind (kindsBefore r p) ≤ countKind forkKind (kindsBefore r p)
+    unfolding kindsBefore
+    never-below =
+        let few : countKind endforkKind (take (p .step) (pathKinds r p)) ≤ 0 + countKind forkKind (take (p .step) (pathKinds r p)) = closes-few (p .step) (pathKinds r p) 0 (right .depth) in
+        omega arith
+
+    -- so that at every step of it one depth is in range
+    pub has-depth :
+        p .step ≤ modelOf r p .steps →
+        isPlace r (record { model = p .model; step = p .step; depth = countKind forkKind (kindsBefore r p) - countKind endforkKind (kindsBefore r p) }) ≡ true
+    unfolding isPlace isDepth kindsBefore
+    has-depth h =
+        let few : countKind endforkKind (kindsBefore r p) ≤ countKind forkKind (kindsBefore r p) = never-below in
+        let e : countKind forkKind (kindsBefore r p) - countKind endforkKind (kindsBefore r p) + countKind endforkKind (kindsBefore r p) ≡ countKind forkKind (kindsBefore r p) = omega arith in
+        both-true _ _ (lt-ltb _ _ has) (both-true _ _ (le-leb _ _ h) (eq-eqb _ _ e))
+
+  module _ (p : Place) (in-range : isPlace r p ≡ true) where
+    pub has-model : p .model < length (r .models)
+    unfolding isPlace
+    has-model = ltb-true (p .model) (length (r .models)) (both-first _ _ in-range)
+
+    abbrev kinds : List ℕ
+    kinds = pathKinds r p
+
+    -- "the depth is opens less closes before it"
+    pub its-depth : p .depth + countKind endforkKind (take (p .step) kinds) ≡ countKind forkKind (take (p .step) kinds)
+    unfolding isPlace isDepth kindsBefore
+    its-depth =
+        eqb-true (p .depth + countKind endforkKind (take (p .step) kinds)) (countKind forkKind (take (p .step) kinds))
+        (both-second _ _ (both-second _ _ in-range))
+
+    from-none : p .depth + countKind endforkKind (take (p .step) kinds) ≡ 0 + countKind forkKind (take (p .step) kinds)
+    from-none = omega (arith, its-depth)
+
+    -- no place in range is deeper than 8
+    pub at-most : p .depth ≤ deepest
+    at-most = still-shallow (p .step) kinds 0 (p .depth) zero-le (right p has-model .depth) from-none
+
+    module _ (more : p .step < modelOf r p .steps) where
+      its-steps : length kinds ≡ modelOf r p .steps
+      its-steps =
+          let i : modelOf r p .first + modelOf r p .steps ≤ length (kindsOf (r .steps)) = right p has-model .inside in
+          let l : length (drop (modelOf r p .first) (kindsOf (r .steps))) ≡ length (kindsOf (r .steps)) - modelOf r p .first = length-drop (modelOf r p .first) (kindsOf (r .steps)) in
+          let h : modelOf r p .steps ≤ length (drop (modelOf r p .first) (kindsOf (r .steps))) = omega arith in
+          length-take-le _ _ h
+
+      pub has-step : p .step < length kinds
+      has-step = rw its-steps more
+
+      pub step-kind : getD kinds (p .step) 0 ≡ stepOf r p .kind
+      unfolding stepOf kindsOf
+      step-kind =
+          getD-take (modelOf r p .steps) (drop (modelOf r p .first) (kindsOf (r .steps))) (p .step) 0 more
+          ∙ getD-drop (modelOf r p .first) (kindsOf (r .steps)) (p .step) 0 ∙ kind-at (r .steps) (modelOf r p .first + p .step)
+
+      pub may-be-here : depthStays (p .depth) (stepOf r p .kind) ≡ true
+      may-be-here =
+          rw step-kind at (may-come (p .depth) kinds (p .step) has-step (still-holds (p .step) kinds 0 (p .depth) (right p has-model .depth) from-none))
+
+      -- where the step is a Fork, one more may be opened
+      pub fork-opens : stepOf r p .kind ≡ forkKind → p .depth < deepest
+      fork-opens e = fork-below (p .depth) (stepOf r p .kind) may-be-here (eq-eqb _ _ e)
+
+      -- where it is an Endfork, one is open
+      pub endfork-closes : stepOf r p .kind ≡ endforkKind → 0 < p .depth
+      endfork-closes e = endfork-above (p .depth) (stepOf r p .kind) may-be-here (eq-eqb _ _ e)
