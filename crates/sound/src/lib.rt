@@ -2,6 +2,7 @@
 ghost use mathlib.Core.Path.{_≡_};
 ghost use Prim.Native.Nat.{_+_, _-_, _*_, _≤_, _<_};
 ghost use lib.ListN.{length, drop, getD};
+ghost use Rattle.path.specs.Path.{deepest};
 ghost use Rattle.table.specs.Layout.{widths, maps, pins, matrices};
 ghost use Rattle.document.specs.Holds.{isInside, comesBefore, rises};
 ghost use Rattle.sound.specs.Sound.{depthStays, depthAfter, depthHolds, isModel, isEnd, isSectionStep, isForkStep, isStep, isMap, isPin, areMatrices, isSection, isMatrix, isValue, areZeros, isSound};
@@ -59,9 +60,9 @@ fn depth_stays(depth: u64, kind: u64) -> bool
     true
 }
 
-// How many are open after it.
+// How many forks are open after a step of this kind, where so many were open before it.
 pub fn depth_after(depth: u64, kind: u64) -> u64
-    requires { ⌜ depth ≤ 8 ⌝ }
+    requires { ⌜ depth ≤ deepest ⌝ }
     ensures { λ r. ⌜ r ≡ depthAfter depth kind ⌝ }
 {
     if kind == FORK {

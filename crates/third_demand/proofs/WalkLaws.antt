@@ -9,9 +9,7 @@ use native.Mathlib.Numerals.{add-one}
 use native.Mathlib.Omega.{arith}
 use lib.ListN.{length, getD, take, length-append, length-map}
 use lib.Seq.{take-at, take-all}
-use lib.Dec.{eqb}
 use borrow.Author.Tests.{eq-eqb, ne-eqb, eqb-true}
-use Rattle.base.specs.If.{if_then_else_}
 use Rattle.base.proofs.IfLaws.{if-true, if-false, both-first, both-second, not-not-via}
 use Rattle.document.specs.Document.{Step, Model, Document, documentOf, forkKind, endforkKind}
 use Rattle.document.specs.Records.{ModelRecord, StepRecord, Records, stepRecord, stepRecords, modelRecord, recordsOf}
@@ -43,7 +41,7 @@ use Rattle.walk.specs.Walk.{
   walkFrom,
 }
 use Rattle.walk.specs.declared.Place.{Place}
-use Rattle.walk.proofs.KindLaws.{moves}
+use Rattle.walk.proofs.KindLaws.{Moves, moves}
 use Rattle.walk.proofs.ReadyLaws.{right-model}
 use Rattle.walk.proofs.WalkLaws.{first-place, next-place}
 use Rattle.third_demand.specs.Third.{Taken, placeAfter, nameThrough, sideOf, Shown, kindsOf, Walked}
@@ -75,9 +73,7 @@ balanced d [] h =
     omega arith
 balanced d (k ∷ ks) h =
     let rest : depthAfter d k + countKind forkKind ks ≡ countKind endforkKind ks = balanced (depthAfter d k) ks (both-second _ _ h) in
-    let m : depthAfter d k + (if eqb k endforkKind then countKind endforkKind ks + 1 else countKind endforkKind ks) + countKind forkKind ks
-    ≡ d + (if eqb k forkKind then countKind forkKind ks + 1 else countKind forkKind ks) + countKind endforkKind ks =
-    moves d k (both-first _ _ h) (countKind forkKind ks) (countKind endforkKind ks) in
+    let m : Moves d k (countKind forkKind ks) (countKind endforkKind ks) = moves d k (both-first _ _ h) _ _ in
     omega arith
 
 -- ---- the walk of one model

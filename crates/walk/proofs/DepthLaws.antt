@@ -4,11 +4,11 @@
 use mathlib.Core.Path.{_≡_, refl, _∙_}
 use mathlib.Core.Bool.{true}
 use mathlib.Core.List.{List, [], _∷_, map}
-use Prim.Native.Nat.{ℕ, zero, suc, _+_, _-_, _≤_, _<_, zero-le}
+use Prim.Native.Nat.{ℕ, zero, suc, _+_, _-_, _≤_, _<_}
 use native.Mathlib.Omega.{arith}
 use lib.ListN.{length, take, drop, getD, length-drop}
 use lib.Seq.{getD-drop, getD-take, length-take-le}
-use borrow.Author.Tests.{eq-eqb, eqb-true, le-leb, lt-ltb, ltb-true}
+use borrow.Author.Tests.{eq-eqb, le-leb, lt-ltb, ltb-true}
 use Rattle.base.proofs.IfLaws.{both-true, both-first, both-second}
 use Rattle.path.specs.Path.{deepest}
 use Rattle.document.specs.Document.{forkKind, endforkKind}
@@ -16,7 +16,7 @@ use Rattle.document.specs.Records.{StepRecord, Records, recordsOf}
 use Rattle.sound.specs.Sound.{range, depthStays, kindsOf, isSound}
 use Rattle.walk.specs.declared.Place.{Place}
 use Rattle.walk.specs.Walk.{noRecord, modelOf, stepOf, countKind, isDepth, kindsBefore, isPlace}
-use Rattle.walk.proofs.KindLaws.{fork-below, endfork-above, still-holds, still-shallow, closes-few, may-come}
+use Rattle.walk.proofs.KindLaws.{fork-below, endfork-above, closes-most, depth-counts, depth-most, step-may-come}
 use Rattle.walk.proofs.ReadyLaws.{RightModel, right-model}
 
 kind-at : (ss : List StepRecord) (i : ℕ) → getD (map (λ (s : StepRecord). s .kind) ss) i 0 ≡ getD ss i noRecord .kind
@@ -39,11 +39,9 @@ module _ (t table : List ℕ) (sound : isSound t table ≡ true) where
     -- before any step of a model no more forks are closed than are opened
     pub never-below : countKind endforkKind (kindsBefore r p) ≤ countKind forkKind (kindsBefore r p)
     unfolding kindsBefore
-    never-below =
-        let few : countKind endforkKind (take (p .step) (pathKinds r p)) ≤ 0 + countKind forkKind (take (p .step) (pathKinds r p)) = closes-few (p .step) (pathKinds r p) 0 (right .depth) in
-        omega arith
+    never-below = closes-most (pathKinds r p) (right .depth) (p .step)
 
-    -- so that at every step of it one depth is in range
+    -- so that at every step of it a depth is in range: opens less closes
     pub has-depth :
         p .step ≤ modelOf r p .steps →
         isPlace r (record { model = p .model; step = p .step; depth = countKind forkKind (kindsBefore r p) - countKind endforkKind (kindsBefore r p) }) ≡ true
@@ -61,19 +59,17 @@ module _ (t table : List ℕ) (sound : isSound t table ≡ true) where
     abbrev kinds : List ℕ
     kinds = pathKinds r p
 
+    depth-right : isDepth (p .depth) (take (p .step) kinds) ≡ true
+    unfolding isPlace kindsBefore
+    depth-right = both-second _ _ (both-second _ _ in-range)
+
     -- "the depth is opens less closes before it"
     pub its-depth : p .depth + countKind endforkKind (take (p .step) kinds) ≡ countKind forkKind (take (p .step) kinds)
-    unfolding isPlace isDepth kindsBefore
-    its-depth =
-        eqb-true (p .depth + countKind endforkKind (take (p .step) kinds)) (countKind forkKind (take (p .step) kinds))
-        (both-second _ _ (both-second _ _ in-range))
-
-    from-none : p .depth + countKind endforkKind (take (p .step) kinds) ≡ 0 + countKind forkKind (take (p .step) kinds)
-    from-none = omega (arith, its-depth)
+    its-depth = depth-counts kinds (right p has-model .depth) (p .step) (p .depth) depth-right
 
     -- no place in range is deeper than 8
     pub at-most : p .depth ≤ deepest
-    at-most = still-shallow (p .step) kinds 0 (p .depth) zero-le (right p has-model .depth) from-none
+    at-most = depth-most kinds (right p has-model .depth) (p .step) (p .depth) depth-right
 
     module _ (more : p .step < modelOf r p .steps) where
       its-steps : length kinds ≡ modelOf r p .steps
@@ -93,8 +89,7 @@ module _ (t table : List ℕ) (sound : isSound t table ≡ true) where
           ∙ getD-drop (modelOf r p .first) (kindsOf (r .steps)) (p .step) 0 ∙ kind-at (r .steps) (modelOf r p .first + p .step)
 
       pub may-be-here : depthStays (p .depth) (stepOf r p .kind) ≡ true
-      may-be-here =
-          rw step-kind at (may-come (p .depth) kinds (p .step) has-step (still-holds (p .step) kinds 0 (p .depth) (right p has-model .depth) from-none))
+      may-be-here = rw step-kind at (step-may-come kinds (right p has-model .depth) (p .step) (p .depth) depth-right has-step)
 
       -- where the step is a Fork, one more may be opened
       pub fork-opens : stepOf r p .kind ≡ forkKind → p .depth < deepest

@@ -15,7 +15,7 @@ use Rattle.path.specs.Path.{deepest}
 use Rattle.document.specs.Document.{forkKind, endforkKind}
 use Rattle.sound.specs.Sound.{depthStays, depthAfter, depthHolds}
 use Rattle.sound.proofs.LoopLaws.{stays-within}
-use Rattle.walk.specs.Walk.{countKind}
+use Rattle.walk.specs.Walk.{countKind, isDepth}
 
 -- ---- one step, where it may come
 
@@ -29,61 +29,62 @@ endfork-not-fork kind e =
     let k : kind ≡ 3 = eqb-true kind 3 e in
     ne-eqb _ _ (λ (f : kind ≡ 2). omega arith)
 
+-- a step of this kind changes the depth by what it opens less what it closes, whatever else is opened and closed
+abbrev pub Moves : ℕ → ℕ → ℕ → ℕ → Type 0
+Moves d kind opens closes =
+    depthAfter d kind + (if eqb kind endforkKind then closes + 1 else closes) + opens ≡ d + (if eqb kind forkKind then opens + 1 else opens) + closes
+
 module _ (d kind : ℕ) (stays : depthStays d kind ≡ true) where
-  -- a fork may be opened
+  -- where a fork comes, one more may be opened
   pub fork-below : eqb kind forkKind ≡ true → d < deepest
   unfolding depthStays
   fork-below f = ltb-true d deepest (sym (if-true _ _ f) ∙ stays)
 
-  -- a fork is open that can be closed
+  -- where an endfork comes, one is open
   pub endfork-above : eqb kind endforkKind ≡ true → 0 < d
   unfolding depthStays
   endfork-above g = ltb-true 0 d (sym (if-false _ _ (endfork-not-fork kind g) ∙ if-true _ _ g) ∙ stays)
 
-  -- a step changes the depth by what it opens less what it closes
-  pub moves :
-      (opens closes : ℕ) →
-      depthAfter d kind + (if eqb kind endforkKind then closes + 1 else closes) + opens ≡ d + (if eqb kind forkKind then opens + 1 else opens) + closes
+  pub moves : (opens closes : ℕ) → Moves d kind opens closes
   unfolding depthAfter
   moves opens closes = by-cases _ (eqb kind forkKind) fork other
     where
-      fork : eqb kind forkKind ≡ true → depthAfter d kind + (if eqb kind endforkKind then closes + 1 else closes) + opens ≡ d + (if eqb kind forkKind then opens + 1 else opens) + closes
+      fork : eqb kind forkKind ≡ true → Moves d kind opens closes
       fork f =
           let a : depthAfter d kind ≡ d + 1 = if-true _ _ f in
           let o : (if eqb kind forkKind then opens + 1 else opens) ≡ opens + 1 = if-true _ _ f in
           let c : (if eqb kind endforkKind then closes + 1 else closes) ≡ closes = if-false _ _ (fork-not-endfork kind f) in
           omega arith
 
-      other : eqb kind forkKind ≡ false → depthAfter d kind + (if eqb kind endforkKind then closes + 1 else closes) + opens ≡ d + (if eqb kind forkKind then opens + 1 else opens) + closes
-      other f = by-cases _ (eqb kind endforkKind) shuts stays-so
+      other : eqb kind forkKind ≡ false → Moves d kind opens closes
+      other f = by-cases _ (eqb kind endforkKind) endfork neither
         where
-          shuts : eqb kind endforkKind ≡ true → depthAfter d kind + (if eqb kind endforkKind then closes + 1 else closes) + opens ≡ d + (if eqb kind forkKind then opens + 1 else opens) + closes
-          shuts g =
+          endfork : eqb kind endforkKind ≡ true → Moves d kind opens closes
+          endfork g =
               let l : 0 < d = endfork-above g in
               let a : depthAfter d kind ≡ d - 1 = if-false _ _ f ∙ if-true _ _ g in
               let o : (if eqb kind forkKind then opens + 1 else opens) ≡ opens = if-false _ _ f in
               let c : (if eqb kind endforkKind then closes + 1 else closes) ≡ closes + 1 = if-true _ _ g in
               omega arith
 
-          stays-so : eqb kind endforkKind ≡ false → depthAfter d kind + (if eqb kind endforkKind then closes + 1 else closes) + opens ≡ d + (if eqb kind forkKind then opens + 1 else opens) + closes
-          stays-so g =
+          neither : eqb kind endforkKind ≡ false → Moves d kind opens closes
+          neither g =
               let a : depthAfter d kind ≡ d = if-false _ _ f ∙ if-false _ _ g in
               let o : (if eqb kind forkKind then opens + 1 else opens) ≡ opens = if-false _ _ f in
               let c : (if eqb kind endforkKind then closes + 1 else closes) ≡ closes = if-false _ _ g in
               omega arith
 
-  -- opens less closes from before the step on are those from behind it on
+  -- the depth e at the end is the same whether it is counted from before the step or from behind it
   moves-on :
       (opens closes e : ℕ) → e + (if eqb kind endforkKind then closes + 1 else closes) ≡ d + (if eqb kind forkKind then opens + 1 else opens) →
       e + closes ≡ depthAfter d kind + opens
   moves-on opens closes e h =
-      let m : depthAfter d kind + (if eqb kind endforkKind then closes + 1 else closes) + opens ≡ d + (if eqb kind forkKind then opens + 1 else opens) + closes = moves opens closes in
+      let m : Moves d kind opens closes = moves opens closes in
       omega arith
 
--- ---- the first n steps, where the depth holds
+-- ---- the first n steps, where the depth holds from d on; e is the depth behind them
 
--- it still holds behind them
-pub still-holds :
+still-holds :
     (n : ℕ) (ks : List ℕ) (d e : ℕ) → depthHolds d ks ≡ true → e + countKind endforkKind (take n ks) ≡ d + countKind forkKind (take n ks) →
     depthHolds e (drop n ks) ≡ true
 unfolding depthHolds countKind
@@ -97,8 +98,7 @@ still-holds (suc n) (kind ∷ ks) d e h k =
     still-holds n ks (depthAfter d kind) e (both-second _ _ h)
     (moves-on d kind (both-first _ _ h) (countKind forkKind (take n ks)) (countKind endforkKind (take n ks)) e k)
 
--- behind them no more are open than may be
-pub still-shallow :
+still-shallow :
     (n : ℕ) (ks : List ℕ) (d e : ℕ) → d ≤ deepest → depthHolds d ks ≡ true → e + countKind endforkKind (take n ks) ≡ d + countKind forkKind (take n ks) →
     e ≤ deepest
 unfolding depthHolds countKind
@@ -108,25 +108,47 @@ still-shallow (suc n) (kind ∷ ks) d e l h k =
     still-shallow n ks (depthAfter d kind) e (stays-within d kind l (both-first _ _ h)) (both-second _ _ h)
     (moves-on d kind (both-first _ _ h) (countKind forkKind (take n ks)) (countKind endforkKind (take n ks)) e k)
 
--- they close no more than were open and are opened
-pub closes-few :
+closes-few :
     (n : ℕ) (ks : List ℕ) (d : ℕ) → depthHolds d ks ≡ true → countKind endforkKind (take n ks) ≤ d + countKind forkKind (take n ks)
 unfolding depthHolds countKind
 closes-few zero ks d h = zero-le
 closes-few (suc n) [] d h = zero-le
 closes-few (suc n) (kind ∷ ks) d h =
     let few : countKind endforkKind (take n ks) ≤ depthAfter d kind + countKind forkKind (take n ks) = closes-few n ks (depthAfter d kind) (both-second _ _ h) in
-    let m : depthAfter d kind + (if eqb kind endforkKind then countKind endforkKind (take n ks) + 1 else countKind endforkKind (take n ks)) + countKind forkKind (take n ks)
-    ≡ d + (if eqb kind forkKind then countKind forkKind (take n ks) + 1 else countKind forkKind (take n ks)) + countKind endforkKind (take n ks) =
-    moves d kind (both-first _ _ h) (countKind forkKind (take n ks)) (countKind endforkKind (take n ks)) in
+    let m : Moves d kind (countKind forkKind (take n ks)) (countKind endforkKind (take n ks)) = moves d kind (both-first _ _ h) _ _ in
     omega arith
 
--- the next may come
-pub may-come : (d : ℕ) (ks : List ℕ) (n : ℕ) → n < length ks → depthHolds d (drop n ks) ≡ true → depthStays d (getD ks n 0) ≡ true
+may-come : (d : ℕ) (ks : List ℕ) (n : ℕ) → n < length ks → depthHolds d (drop n ks) ≡ true → depthStays d (getD ks n 0) ≡ true
 unfolding depthHolds
 may-come d [] n h e = absurd (not-suc-le-zero h)
 may-come d (k ∷ ks) zero h e = both-first _ _ e
 may-come d (k ∷ ks) (suc n) h e = may-come d ks n (le-of-suc-le-suc h) e
+
+-- ---- the first n steps of a path whose depth holds
+
+module _ (ks : List ℕ) (holds : depthHolds 0 ks ≡ true) (n : ℕ) where
+  -- they close no more forks than they open
+  pub closes-most : countKind endforkKind (take n ks) ≤ countKind forkKind (take n ks)
+  closes-most =
+      let few : countKind endforkKind (take n ks) ≤ 0 + countKind forkKind (take n ks) = closes-few n ks 0 holds in
+      omega arith
+
+  module _ (depth : ℕ) (right : isDepth depth (take n ks) ≡ true) where
+    -- "the depth is opens less closes"
+    pub depth-counts : depth + countKind endforkKind (take n ks) ≡ countKind forkKind (take n ks)
+    unfolding isDepth
+    depth-counts = eqb-true (depth + countKind endforkKind (take n ks)) (countKind forkKind (take n ks)) right
+
+    from-none : depth + countKind endforkKind (take n ks) ≡ 0 + countKind forkKind (take n ks)
+    from-none = omega (arith, depth-counts)
+
+    -- behind them no more forks are open than may be
+    pub depth-most : depth ≤ deepest
+    depth-most = still-shallow n ks 0 depth zero-le holds from-none
+
+    -- the step behind them may come there
+    pub step-may-come : n < length ks → depthStays depth (getD ks n 0) ≡ true
+    step-may-come h = may-come depth ks n h (still-holds n ks 0 depth holds from-none)
 
 -- ---- one step more is counted
 

@@ -15,7 +15,6 @@ use Rattle.base.specs.If.{if_then_else_, both}
 use Rattle.base.proofs.IfLaws.{by-cases, both-rest, both-not-left, both-first, both-second}
 use Rattle.table.specs.Layout.{models, steps}
 use Rattle.view.specs.declared.View.{View}
-use Rattle.path.specs.Path.{deepest}
 use Rattle.document.specs.Document.{forkKind, endforkKind}
 use Rattle.document.specs.Records.{ModelRecord, StepRecord, Records, recordsOf}
 use Rattle.sound.specs.Sound.{range, kindsOf}
@@ -24,7 +23,7 @@ use Rattle.sound.proofs.PlaceLaws.{places-long, kinds-range}
 use Rattle.walk.specs.declared.Place.{Place}
 use Rattle.walk.specs.Walk.{noModel, noRecord, modelOf, stepOf, countKind, isDepth, kindsBefore, isPlace}
 use Rattle.walk.specs.Walkable.{modelPlace, firstOf, manyOf, Walkable, Stands}
-use Rattle.walk.proofs.KindLaws.{still-shallow}
+use Rattle.walk.proofs.KindLaws.{depth-most}
 
 -- ---- opens and closes
 
@@ -127,13 +126,6 @@ module _ (table : List ℕ) (from many opens closes at i : ℕ) (left : CountLef
         other e =
             let n : depth + closes ≡ opens → ⊥ = λ (k : depth + closes ≡ opens). eqb-false depth (opens - closes) e (omega arith) in
             e ∙ sym (ne-eqb _ _ n)
-
--- a depth that is right, from none open on
-depth-counts : (depth : ℕ) (ks : List ℕ) → isDepth depth ks ≡ true → depth + countKind endforkKind ks ≡ 0 + countKind forkKind ks
-unfolding isDepth
-depth-counts depth ks e =
-    let d : depth + countKind endforkKind ks ≡ countKind forkKind ks = eqb-true (depth + countKind endforkKind ks) (countKind forkKind ks) e in
-    omega arith
 
 -- ---- the record of an index, and the kinds of the first steps of so many
 
@@ -258,7 +250,6 @@ module _ (table : List ℕ) (v : View) (ready : Walkable table v) (p : Place) wh
 
       stands-by : isDepth (p .depth) (kindsBefore records p) ≡ true → Stands table v p
       stands-by e =
-          let d : p .depth ≤ deepest = still-shallow (p .step) (kindsFrom table (baseOf v steps + 6 * first) many) 0 (p .depth) zero-le (ready .depths (p .model) has) (depth-counts (p .depth) _ (ap (isDepth (p .depth)) (sym kinds-taken) ∙ e)) in
           let i : first + many ≤ countOf v steps = steps-inside in
           let f : countOf v steps ≤ 4_096 = ready .few-steps in
           let r : baseOf v steps + 6 * countOf v steps ≤ length table = ready .step-room in
@@ -267,7 +258,7 @@ module _ (table : List ℕ) (v : View) (ready : Walkable table v) (p : Place) wh
             step-room = omega arith;
             few-steps = omega arith;
             step-inside = upto;
-            shallow = d;
+            shallow = depth-most (kindsFrom table (baseOf v steps + 6 * first) many) (ready .depths (p .model) has) (p .step) (p .depth) (ap (isDepth (p .depth)) (sym kinds-taken) ∙ e);
             model-is = model-is;
             step-is = step-at;
           }

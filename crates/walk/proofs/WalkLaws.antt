@@ -36,7 +36,7 @@ use Rattle.walk.specs.Walk.{
   walkFrom,
   answerOf,
 }
-use Rattle.walk.proofs.KindLaws.{moves, count-next}
+use Rattle.walk.proofs.KindLaws.{Moves, moves, count-next}
 use Rattle.walk.proofs.DepthLaws.{pathKinds, has-model, its-depth, has-step, step-kind, may-be-here}
 
 -- ---- one answer
@@ -79,8 +79,7 @@ module _ (t table : List ℕ) (sound : isSound t table ≡ true) (p : Place) (in
         let now : p .depth + countKind endforkKind (take (p .step) its-kinds) ≡ countKind forkKind (take (p .step) its-kinds) = its-depth t table sound p in-range in
         let c : countKind endforkKind (take (p .step + 1) its-kinds) ≡ (if eqb (stepOf r p .kind) endforkKind then countKind endforkKind (take (p .step) its-kinds) + 1 else countKind endforkKind (take (p .step) its-kinds)) = counted endforkKind in
         let o : countKind forkKind (take (p .step + 1) its-kinds) ≡ (if eqb (stepOf r p .kind) forkKind then countKind forkKind (take (p .step) its-kinds) + 1 else countKind forkKind (take (p .step) its-kinds)) = counted forkKind in
-        let m : depthAfter (p .depth) (stepOf r p .kind) + (if eqb (stepOf r p .kind) endforkKind then countKind endforkKind (take (p .step) its-kinds) + 1 else countKind endforkKind (take (p .step) its-kinds)) + countKind forkKind (take (p .step) its-kinds)
-        ≡ p .depth + (if eqb (stepOf r p .kind) forkKind then countKind forkKind (take (p .step) its-kinds) + 1 else countKind forkKind (take (p .step) its-kinds)) + countKind endforkKind (take (p .step) its-kinds) =
+        let m : Moves (p .depth) (stepOf r p .kind) (countKind forkKind (take (p .step) its-kinds)) (countKind endforkKind (take (p .step) its-kinds)) =
         moves (p .depth) (stepOf r p .kind) (may-be-here t table sound p in-range more) _ _ in
         omega arith
 
