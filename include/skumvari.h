@@ -67,7 +67,7 @@ enum skumvari_number {
     SKUMVARI_NUMBER_NUMBER = 13, /* a malformed number or integer */
     SKUMVARI_NUMBER_RANGE = 14, /* a number or integer out of bounds */
     SKUMVARI_NUMBER_FORK = 15, /* in a path: nesting over 8, Endfork with none open, or closing with one open */
-    SKUMVARI_NUMBER_SHAPE = 16, /* a matrix or pin grid of the wrong shape */
+    SKUMVARI_NUMBER_SHAPE = 16, /* a matrix of the wrong shape, or more pins than a map's grid has places */
     SKUMVARI_NUMBER_LIMIT = 17, /* a count above its bound, at the line that passes it */
     SKUMVARI_NUMBER_ROOM = 18, /* the table is shorter than the words needed */
     SKUMVARI_NUMBER_TWICE = 19, /* the second of one name within models, maps, sections, the list or one map's pins */
@@ -97,6 +97,7 @@ size_t skumvari_table_words(void);
  *   models    name start, name length, type (0 SLM_general, 1 SLM_quiescent, 2 MLM), first step, steps
  *   steps     kind, target, amount, side start, side length, line (as in a walk's answer)
  *   maps      name start, name length, order (0 Row_ordered, 1 Column_ordered, 2 Un_ordered), rows, columns, first pin, pins
+ *             (an ordered map has at least one pin and at most rows times columns: places of its grid may be missing)
  *   pins      name start, name length
  *   sections  name start, name length, method (0 Lumped, 1 Distributed), N, then R, L, G, C: index of the matrix plus 1, or 0
  *   matrices  form (0 diagonal, 1 banded, 2 sparse, 3 full), bandwidth, first value, values, line

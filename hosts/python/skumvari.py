@@ -52,7 +52,7 @@ NUMBERS = {
     13: ("NUMBER", "malformed number or integer"),
     14: ("RANGE", "number or integer out of bounds"),
     15: ("FORK", "fork nested deeper than 8, Endfork with none open, or path closed with one open"),
-    16: ("SHAPE", "matrix or pin grid of the wrong shape"),
+    16: ("SHAPE", "matrix of the wrong shape, or more pins than the grid has places"),
     17: ("LIMIT", "count above its bound"),
     18: ("ROOM", "table shorter than the words needed"),
     19: ("TWICE", "second of one name within models, maps, sections, list or one map's pins"),
@@ -186,7 +186,10 @@ class Model(NamedTuple):
 
 
 class PinMap(NamedTuple):
-    """A pin map: its order as in the file, rows and columns (0 where it is Un_ordered), and the names of its pins."""
+    """A pin map: its order as in the file, rows and columns (0 where it is Un_ordered), and the names of its pins.
+
+    An ordered map has at least one pin and at most rows times columns: places of its grid may be missing, and the file does not say which.
+    """
 
     name: str
     order: str

@@ -131,6 +131,9 @@ module _ (k : ℕ) (argument : List ℕ) (s : State) (kept : keywordRule k argum
   pub keyword-misplaced : isMisplaced k s ≡ false
   keyword-misplaced = test-kept 1
 
+  pub keyword-shaped : isShapeBroken k argument s ≡ false
+  keyword-shaped = test-kept 5
+
   -- it leads somewhere
   pub keyword-leads : moved (s .place) k ≡ dead → ⊥
   unfolding isMisplaced
@@ -139,7 +142,7 @@ module _ (k : ℕ) (argument : List ℕ) (s : State) (kept : keywordRule k argum
   module _ (p : s .place ≡ place.matrix) where
     matrix-kept : isMatrixBroken k argument s ≡ false
     unfolding isShapeBroken
-    matrix-kept = sym (if-true _ _ (eq-eqb _ _ p)) ∙ test-kept 5
+    matrix-kept = sym (if-true _ _ (eq-eqb _ _ p)) ∙ keyword-shaped
 
     module _ (keeps : keepsMatrix k ≡ true) where
       inside-kept : isWrongInMatrix k (wholeOf argument .value) (s .matrix) ≡ false

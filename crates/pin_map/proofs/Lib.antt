@@ -1,2 +1,3 @@
+pub mod GridLaws
 pub mod LineLaws
 pub mod MapLaws

@@ -120,13 +120,13 @@ pinRule content m total =
 unfoldable pub withPin : Map → Map
 withPin m = record { order = m .order; rows = m .rows; columns = m .columns; pins = m .pins + 1 }
 
--- "at least one pin"
+-- "at least one pin", and 9 if there is none
 unfoldable pub pinsLack : Map → Bool
 pinsLack m = eqb (m .pins) 0
 
--- "Ordered maps have exactly r times c pins, else 16 at the keyword that ends the map"
+-- change request 3, "an ordered map has at least one and at most rows times columns pins", "16 on a map is given only above the product"
 unfoldable pub isWrongGrid : Map → Bool
-isWrongGrid m = both (isOrdered m) (not (eqb (m .pins) (m .rows * m .columns)))
+isWrongGrid m = both (isOrdered m) (ltb (m .rows * m .columns) (m .pins))
 
 -- the sizes that a map has while no rule is broken: a line gives none above 256
 pub record Bounded (m : Map) : Type 0 where

@@ -331,13 +331,13 @@ pub fn pins_lack(m: Map) -> bool
     m.pins == 0
 }
 
-// "Ordered maps have exactly r times c pins, else 16 at the keyword that ends the map".
+// "an ordered map has at least one and at most rows times columns pins": a corner may be missing. The keyword that ends the map is judged.
 pub fn is_wrong_grid(m: Map) -> bool
     requires { ⌜ Bounded m ⌝ }
     ensures { λ r. ⌜ r ≡ isWrongGrid m ⌝ }
 {
     if is_ordered(m) {
-        return m.pins != m.rows * m.columns;
+        return m.rows * m.columns < m.pins;
     }
     false
 }

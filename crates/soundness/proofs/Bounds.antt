@@ -1,8 +1,9 @@
--- What the rules of the lines leave of a model's type, of a pin map and of a step: each word within the bounds that a sound table asks.
+-- What the rules of the lines leave of a model's type, of a pin map and of a step: each word within the bounds that a sound table asks; and of
+-- a map, beyond that, how many pins it has.
 -- Assumes nothing.
 use mathlib.Core.Path.{_≡_}
 use mathlib.Core.Bool.{true, false}
-use Prim.Native.Nat.{_≤_, _<_}
+use Prim.Native.Nat.{_*_, _≤_, _<_}
 use lib.ListN.{length}
 use Rattle.base.specs.Bytes.{within}
 use Rattle.document.specs.Lines.{noWord}
@@ -22,6 +23,9 @@ pub record RightMap (m : Map) : Type 0 where
   pub order : m .order < 3
   pub grid : isGrid (m .order) (m .rows) (m .columns) ≡ true
   pub pins : length (m .pins) ≤ 256
+  pub some : 1 ≤ length (m .pins)
+  -- an ordered map: Row_ordered is 0, Column_ordered 1
+  pub fits : m .order < 2 → length (m .pins) ≤ m .rows * m .columns
 
 pub record Bounded (d : Document) : Type 0 where
   pub types : Each (λ (m : Model). m .type < 3) (d .models)

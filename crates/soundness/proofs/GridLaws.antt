@@ -269,6 +269,7 @@ module _ (l : MapLine) (m : Map) where
 pub record Grid (m : Map) : Type 0 where
   pub order : m .order - 1 < 3
   pub grid : isGrid (m .order - 1) (m .rows) (m .columns) ≡ true
+  pub ordered : m .order - 1 < 2 → isOrdered m ≡ true
 
 module _ (m : Map) (g : Growing m) (ready : either (eqb (m .order) 0) (both (isOrdered m) (either (eqb (m .rows) 0) (eqb (m .columns) 0))) ≡ false) where
   some-order : m .order ≡ 0 → ⊥
@@ -311,6 +312,10 @@ module _ (m : Map) (g : Growing m) (ready : either (eqb (m .order) 0) (both (isO
             let a : 1 ≤ m .order = omega arith in
             let b : m .order ≤ 2 = omega arith in
             sizes-within (ordered m a b));
+        ordered = λ (f : m .order - 1 < 2).
+            let a : 1 ≤ m .order = omega arith in
+            let b : m .order ≤ 2 = omega arith in
+            ordered m a b;
       }
 
 -- ---- one line above Pin_list

@@ -1,10 +1,10 @@
--- Every pin map of a text that reads to its end has a grid within its bounds and at most 256 pins: the maps are followed line by line as
--- the forward reading goes.
+-- Every pin map of a text that reads to its end has a grid within its bounds, at least one pin and at most 256, and an ordered one at most rows
+-- times columns: the maps are followed line by line as the forward reading goes.
 -- Assumes nothing.
 use mathlib.Core.Path.{_≡_, refl, sym, _∙_, ap, subst}
 use mathlib.Core.Bool.{true, false, true≢false}
 use mathlib.Core.List.{List, [], _∷_, _++_}
-use Prim.Native.Nat.{ℕ, suc, _+_, _≤_, _<_}
+use Prim.Native.Nat.{ℕ, suc, _+_, _*_, _≤_, _<_}
 use native.Mathlib.Omega.{arith}
 use lib.ListN.{length}
 use lib.Dec.{eqb}
@@ -17,11 +17,12 @@ use Rattle.text.specs.Words.{words, firstOf}
 use Rattle.keyword.specs.Names.{icmPinMap}
 use Rattle.place.specs.Place.{moved, movedByLine, inFamily, isText, isInModel, isInFamily, done}
 use Rattle.place.specs.Place as place
-use Rattle.pin_map.specs.PinMap.{mapLineOf, mapRule, mapNext, newMap, pinRule, withPin}
+use Rattle.pin_map.specs.PinMap.{mapLineOf, mapRule, mapNext, newMap, isOrdered, pinRule, withPin, pinsLack, isWrongGrid}
 use Rattle.pin_map.specs.declared.Map as pin_map
 use Rattle.pin_map.proofs.MapLaws.{pin-fits}
+use Rattle.pin_map.proofs.GridLaws.{Fits, fits-only}
 use Rattle.block.specs.State.{startState}
-use Rattle.block.specs.Keywords.{isUnclosed, isMisplaced, keywordRule, mapAfter, keywordNext}
+use Rattle.block.specs.Keywords.{isUnclosed, isMisplaced, isShapeBroken, keywordRule, mapAfter, keywordNext}
 use Rattle.block.specs.declared.Counts.{Counts}
 use Rattle.block.specs.declared.State.{State}
 use Rattle.reading.specs.Reading.{lineRule, lineNext, readingOf}
@@ -33,7 +34,7 @@ use Rattle.document.proofs.Goes.{Idle, Moves, Goes, Ends, idle-outside, text-en
 use Rattle.document.proofs.Goes.Idle.{ended, waits}
 use Rattle.document.proofs.Goes.Moves.{idle, plainly, keyed}
 use Rattle.document.proofs.BlockLaws.{gather-none, gather-more, up-to-none, up-to-in, up-to-out}
-use Rattle.document.proofs.BodyLaws.{keyword-misplaced}
+use Rattle.document.proofs.BodyLaws.{keyword-misplaced, keyword-shaped}
 use Rattle.soundness.proofs.Bounds.{RightMap}
 use Rattle.soundness.proofs.GridLaws.{Growing, new-growing, Grid, next-growing, list-keeps, list-grid}
 
@@ -94,9 +95,9 @@ module _ (content : List ℕ) (s : State) where
     unfolding lineNext movedByLine if_then_else_
     pins-stay = rw p
 
-    pins-count : lineNext content s .map .pins ≡ s .map .pins + 1
-    unfolding lineNext withPin if_then_else_
-    pins-count = rw p
+    pins-next : lineNext content s .map ≡ withPin (s .map)
+    unfolding lineNext if_then_else_
+    pins-next = rw p
 
   module _ (p : s .place ≡ place.mapHead) where
     head-rule : lineRule content s ≡ mapRule (mapLineOf content) (s .map)
@@ -115,28 +116,56 @@ module _ (content : List ℕ) (s : State) where
     unfolding lineNext movedByLine if_then_else_
     head-leads e = rw (p, e)
 
--- a map above its Pin_list is not closed by a keyword
-head-refuses : (k : ℕ) (argument : List ℕ) (s : State) → keywordRule k argument s ≡ 0 → s .place ≡ place.mapHead → ⊥
-unfolding isMisplaced isUnclosed if_then_else_
-head-refuses k argument s kept p =
-    let u : isUnclosed s ≡ false = either-none-first _ _ (either-none-second _ _ (keyword-misplaced k argument s kept)) in
-    let z : true ≡ false = rw p at u in
-    true≢false z
+-- a keyword that breaks no rule
+module _ (k : ℕ) (argument : List ℕ) (s : State) (kept : keywordRule k argument s ≡ 0) where
+  closes-whole : isUnclosed s ≡ false
+  unfolding isMisplaced
+  closes-whole = either-none-first _ _ (either-none-second _ _ (keyword-misplaced k argument s kept))
+
+  -- a map above its Pin_list is not closed by a keyword
+  head-refuses : s .place ≡ place.mapHead → ⊥
+  unfolding isUnclosed if_then_else_
+  head-refuses p =
+      let z : true ≡ false = rw p at closes-whole in
+      true≢false z
+
+  -- below it the map is closed with pins that fit
+  pins-fit : s .place ≡ place.pins → Fits (s .map)
+  unfolding isUnclosed isShapeBroken both if_then_else_
+  pins-fit p =
+      let lack : pinsLack (s .map) ≡ false = rw p at closes-whole in
+      let wrong : isWrongGrid (s .map) ≡ false = rw p at (keyword-shaped k argument s kept) in
+      fits-only (s .map) lack wrong
 
 -- ---- below Pin_list
 
--- what is left of a map that has n pins
-record Pins (n : ℕ) (ls : List Line) : Type 0 where
-  grid : (m : pin_map.Map) → gridIn m (upTo inMap ls) ≡ m
-  few : n + length (gather pinAt (upTo inMap ls)) ≤ 256
+-- what is left of a map as far as m
+record Pins (m : pin_map.Map) (ls : List Line) : Type 0 where
+  grid : (g : pin_map.Map) → gridIn g (upTo inMap ls) ≡ g
+  few : m .pins + length (gather pinAt (upTo inMap ls)) ≤ 256
+  some : 1 ≤ m .pins + length (gather pinAt (upTo inMap ls))
+  fits : isOrdered m ≡ true → m .pins + length (gather pinAt (upTo inMap ls)) ≤ m .rows * m .columns
 
-no-pins : (n : ℕ) (ls : List Line) → n ≤ 256 → upTo inMap ls ≡ [] → Pins n ls
-no-pins n ls h e =
+no-pins : (m : pin_map.Map) (ls : List Line) → m .pins ≤ 256 → Fits m → upTo inMap ls ≡ [] → Pins m ls
+no-pins m ls h fits e =
     let k : length (gather pinAt (upTo inMap ls)) ≡ 0 = ap (λ (xs : List Line). length (gather pinAt xs)) e ∙ ap length (gather-none pinAt) in
-    record { grid = λ (m : pin_map.Map). ap (gridIn m) e ∙ grid-none m; few = omega arith }
+    let one : 1 ≤ m .pins = fits .some in
+    record {
+      grid = λ (g : pin_map.Map). ap (gridIn g) e ∙ grid-none g;
+      few = omega arith;
+      some = omega arith;
+      fits = λ (o : isOrdered m ≡ true).
+          let f : m .pins ≤ m .rows * m .columns = fits .few o in
+          omega arith;
+    }
+
+one-more : (m : pin_map.Map) → m .pins < 256 → withPin m .pins ≤ 256
+unfolding withPin
+one-more m f = omega arith
 
 module _ (l : Line) (ls : List Line) (s : State) (q : l .place ≡ place.pins) (p : s .place ≡ place.pins) where
-  pins-plain : keyOf l ≡ plain → Pins (s .map .pins + 1) ls → Pins (s .map .pins) (l ∷ ls)
+  pins-plain : keyOf l ≡ plain → Pins (withPin (s .map)) ls → Pins (s .map) (l ∷ ls)
+  unfolding withPin isOrdered
   pins-plain k r =
       let up : upTo inMap (l ∷ ls) ≡ l ∷ upTo inMap ls = up-to-in inMap l ls (pins-inside l q k) in
       let above : standsIn place.mapHead l ≡ false = stands-elsewhere l place.mapHead (λ (z : l .place ≡ place.mapHead). omega arith) in
@@ -144,26 +173,31 @@ module _ (l : Line) (ls : List Line) (s : State) (q : l .place ≡ place.pins) (
       ap (λ (xs : List Line). length (gather pinAt xs)) up ∙ pin-here l (upTo inMap ls) (stands-there l place.pins q k) in
       let f : s .map .pins + 1 + length (gather pinAt (upTo inMap ls)) ≤ 256 = r .few in
       record {
-        grid = λ (m : pin_map.Map). ap (gridIn m) up ∙ grid-skip m l (upTo inMap ls) above ∙ r .grid m;
+        grid = λ (g : pin_map.Map). ap (gridIn g) up ∙ grid-skip g l (upTo inMap ls) above ∙ r .grid g;
         few = omega arith;
+        some = omega arith;
+        fits = λ (o : isOrdered (s .map) ≡ true).
+            let fit : s .map .pins + 1 + length (gather pinAt (upTo inMap ls)) ≤ s .map .rows * s .map .columns = r .fits o in
+            omega arith;
       }
 
   pins-step :
-      (s' : State) → Moves l s s' → s .map .pins ≤ 256 → (s' .place ≡ place.pins → s' .map .pins ≤ 256 → Pins (s' .map .pins) ls) →
-      Pins (s .map .pins) (l ∷ ls)
+      (s' : State) → Moves l s s' → s .map .pins ≤ 256 → (s' .place ≡ place.pins → s' .map .pins ≤ 256 → Pins (s' .map) ls) →
+      Pins (s .map) (l ∷ ls)
   pins-step s' (idle (ended x)) h ih = absurd (omega arith)
   pins-step s' (idle (waits x k)) h ih = absurd (omega arith)
   pins-step s' (plainly k kept) h ih =
       let f : s .map .pins < 256 = pin-fits (l .content) (s .map) (s .counts .pins) (sym (pins-rule (l .content) s p) ∙ kept) in
-      let n : lineNext (l .content) s .map .pins ≡ s .map .pins + 1 = pins-count (l .content) s p in
-      let g : lineNext (l .content) s .map .pins ≤ 256 = omega arith in
-      pins-plain k (subst (λ (x : ℕ). Pins x ls) n (ih (pins-stay (l .content) s p) g))
-  pins-step s' (keyed k kept) h ih = no-pins (s .map .pins) (l ∷ ls) h (up-to-out inMap l ls (keyed-outside l k))
+      let n : lineNext (l .content) s .map ≡ withPin (s .map) = pins-next (l .content) s p in
+      let g : lineNext (l .content) s .map .pins ≤ 256 = rw n (one-more (s .map) f) in
+      pins-plain k (subst (λ (m : pin_map.Map). Pins m ls) n (ih (pins-stay (l .content) s p) g))
+  pins-step s' (keyed k kept) h ih =
+      no-pins (s .map) (l ∷ ls) h (pins-fit (keyOf l) (argumentOf l .text) s kept p) (up-to-out inMap l ls (keyed-outside l k))
 
-pins-rest : {s e : State} {ls : List Line} → Goes s ls e → s .place ≡ place.pins → s .map .pins ≤ 256 → Pins (s .map .pins) ls
-pins-rest {s} Goes.none p h = no-pins (s .map .pins) [] h (up-to-none inMap)
-pins-rest (Goes.more {s = s} {s' = s'} {l = l} {ls = ls} q blank mv g) p h =
-    pins-step l ls s (q ∙ p) p s' mv h (λ (x : s' .place ≡ place.pins) (f : s' .map .pins ≤ 256). pins-rest g x f)
+pins-rest : {s e : State} {ls : List Line} → Goes s ls e → e .place ≡ done → s .place ≡ place.pins → s .map .pins ≤ 256 → Pins (s .map) ls
+pins-rest Goes.none d p h = absurd (omega arith)
+pins-rest (Goes.more {s = s} {s' = s'} {l = l} {ls = ls} q blank mv g) d p h =
+    pins-step l ls s (q ∙ p) p s' mv h (λ (x : s' .place ≡ place.pins) (f : s' .map .pins ≤ 256). pins-rest g d x f)
 
 -- ---- above Pin_list
 
@@ -171,6 +205,10 @@ pins-rest (Goes.more {s = s} {s' = s'} {l = l} {ls = ls} q blank mv g) p h =
 record Left (m : pin_map.Map) (ls : List Line) : Type 0 where
   grid : Grid (gridIn m (upTo inMap ls))
   few : length (gather pinAt (upTo inMap ls)) ≤ 256
+  some : 1 ≤ length (gather pinAt (upTo inMap ls))
+  fits :
+      isOrdered (gridIn m (upTo inMap ls)) ≡ true →
+      length (gather pinAt (upTo inMap ls)) ≤ gridIn m (upTo inMap ls) .rows * gridIn m (upTo inMap ls) .columns
 
 module _ (l : Line) (ls : List Line) (s : State) (q : l .place ≡ place.mapHead) (p : s .place ≡ place.mapHead) where
   module _ (k : keyOf l ≡ plain) where
@@ -187,22 +225,36 @@ module _ (l : Line) (ls : List Line) (s : State) (q : l .place ≡ place.mapHead
 
     -- a line that leaves the map above its Pin_list
     head-on : Left (mapNext (mapLineOf (l .content)) (s .map)) ls → Left (s .map) (l ∷ ls)
-    head-on r = record { grid = rw (grid-on (s .map)) (r .grid); few = rw pins-on (r .few) }
+    head-on r =
+        record {
+          grid = rw (grid-on (s .map)) (r .grid);
+          few = rw pins-on (r .few);
+          some = rw pins-on (r .some);
+          fits = rw (pins-on, grid-on (s .map)) (r .fits);
+        }
 
     -- Pin_list
-    head-list : Grid (s .map) → mapNext (mapLineOf (l .content)) (s .map) ≡ s .map → Pins 0 ls → Left (s .map) (l ∷ ls)
-    head-list g same r =
+    head-list :
+        Grid (s .map) → s .map .pins ≡ 0 → mapNext (mapLineOf (l .content)) (s .map) ≡ s .map → Pins (s .map) ls →
+        Left (s .map) (l ∷ ls)
+    head-list g none same r =
         let e : gridIn (s .map) (upTo inMap (l ∷ ls)) ≡ s .map = grid-on (s .map) ∙ r .grid _ ∙ same in
-        let f : 0 + length (gather pinAt (upTo inMap ls)) ≤ 256 = r .few in
+        let f : s .map .pins + length (gather pinAt (upTo inMap ls)) ≤ 256 = r .few in
+        let one : 1 ≤ s .map .pins + length (gather pinAt (upTo inMap ls)) = r .some in
         let n : length (gather pinAt (upTo inMap (l ∷ ls))) ≡ length (gather pinAt (upTo inMap ls)) = pins-on in
-        record { grid = rw e g; few = omega arith }
+        let fit : isOrdered (s .map) ≡ true → length (gather pinAt (upTo inMap (l ∷ ls))) ≤ s .map .rows * s .map .columns =
+        λ (o : isOrdered (s .map) ≡ true).
+        let h : s .map .pins + length (gather pinAt (upTo inMap ls)) ≤ s .map .rows * s .map .columns = r .fits o in
+        omega arith
+        in
+        record { grid = rw e g; few = omega arith; some = omega arith; fits = rw e fit }
 
   module _ (e : State) (growing : Growing (s .map)) where
     head-plain :
-        keyOf l ≡ plain → lineRule (l .content) s ≡ 0 → Goes (lineNext (l .content) s) ls e →
+        e .place ≡ done → keyOf l ≡ plain → lineRule (l .content) s ≡ 0 → Goes (lineNext (l .content) s) ls e →
         (lineNext (l .content) s .place ≡ place.mapHead → Growing (lineNext (l .content) s .map) → Left (lineNext (l .content) s .map) ls) →
         Left (s .map) (l ∷ ls)
-    head-plain k kept g ih =
+    head-plain d k kept g ih =
         let rule : mapRule (mapLineOf (l .content)) (s .map) ≡ 0 = sym (head-rule (l .content) s p) ∙ kept in
         let next : lineNext (l .content) s .map ≡ mapNext (mapLineOf (l .content)) (s .map) = head-next (l .content) s p in
         by-cases (Left (s .map) (l ∷ ls)) (same (firstOf (words (l .content))) (bytes "Pin_list"))
@@ -210,25 +262,25 @@ module _ (l : Line) (ls : List Line) (s : State) (q : l .place ≡ place.mapHead
         let keeps : mapNext (mapLineOf (l .content)) (s .map) ≡ s .map = list-keeps (l .content) (s .map) rule growing b in
         let none : lineNext (l .content) s .map .pins ≡ 0 = ap (λ (m : pin_map.Map). m .pins) (next ∙ keeps) ∙ growing .pins in
         let few : lineNext (l .content) s .map .pins ≤ 256 = omega arith in
-        head-list k (list-grid (l .content) (s .map) rule growing b) keeps
-        (subst (λ (x : ℕ). Pins x ls) none (pins-rest g (head-leads (l .content) s p b) few)))
+        head-list k (list-grid (l .content) (s .map) rule growing b) (growing .pins) keeps
+        (subst (λ (m : pin_map.Map). Pins m ls) (next ∙ keeps) (pins-rest g d (head-leads (l .content) s p b) few)))
         (λ (b : same (firstOf (words (l .content))) (bytes "Pin_list") ≡ false).
         let grows : Growing (lineNext (l .content) s .map) = rw next (next-growing (l .content) (s .map) rule growing) in
         head-on k (rw next at (ih (head-stays (l .content) s p b) grows)))
 
     head-step :
-        (s' : State) → Moves l s s' → Goes s' ls e → (s' .place ≡ place.mapHead → Growing (s' .map) → Left (s' .map) ls) →
+        (s' : State) → Moves l s s' → Goes s' ls e → e .place ≡ done → (s' .place ≡ place.mapHead → Growing (s' .map) → Left (s' .map) ls) →
         Left (s .map) (l ∷ ls)
-    head-step s' (idle (ended x)) g ih = absurd (omega arith)
-    head-step s' (idle (waits x k)) g ih = absurd (omega arith)
-    head-step s' (plainly k kept) g ih = head-plain k kept g ih
-    head-step s' (keyed k kept) g ih = absurd (head-refuses (keyOf l) (argumentOf l .text) s kept p)
+    head-step s' (idle (ended x)) g d ih = absurd (omega arith)
+    head-step s' (idle (waits x k)) g d ih = absurd (omega arith)
+    head-step s' (plainly k kept) g d ih = head-plain d k kept g ih
+    head-step s' (keyed k kept) g d ih = absurd (head-refuses (keyOf l) (argumentOf l .text) s kept p)
 
 head-rest :
     {s e : State} {ls : List Line} → Goes s ls e → e .place ≡ done → s .place ≡ place.mapHead → Growing (s .map) → Left (s .map) ls
 head-rest Goes.none d p h = absurd (omega arith)
 head-rest (Goes.more {s = s} {s' = s'} {e = e} {l = l} {ls = ls} q blank mv g) d p h =
-    head-step l ls s (q ∙ p) p e h s' mv g (λ (x : s' .place ≡ place.mapHead) (f : Growing (s' .map)). head-rest g d x f)
+    head-step l ls s (q ∙ p) p e h s' mv g d (λ (x : s' .place ≡ place.mapHead) (f : Growing (s' .map)). head-rest g d x f)
 
 -- ---- the line that opens a map
 
@@ -289,7 +341,14 @@ module _ (l : Line) (ls : List Line) (s e : State) (d : e .place ≡ done) (q : 
 
   left-right : Left newMap ls → RightMap (mapOf l (upTo inMap ls))
   unfolding mapOf
-  left-right r = record { order = r .grid .order; grid = r .grid .grid; pins = r .few }
+  left-right r =
+      record {
+        order = r .grid .order;
+        grid = r .grid .grid;
+        pins = r .few;
+        some = r .some;
+        fits = λ f. r .fits (r .grid .ordered f);
+      }
 
   map-step : (s' : State) → Moves l s s' → Goes s' ls e → RightMap (mapOf l (upTo inMap ls))
   map-step s' (idle i) g = absurd (idle-family i)

@@ -219,7 +219,8 @@ impl<'a> PinMap<'a> {
         self.0.number(4)
     }
 
-    /// The names of the pins, in the order of the text.
+    /// The names of the pins, in the order of the text. There is at least one; an ordered map has at most rows times columns, since places of
+    /// its grid may be missing, and the file does not say which.
     pub fn pins(self) -> impl ExactSizeIterator<Item = &'a str> + DoubleEndedIterator + 'a {
         self.0.range(Part::Pins, 5).map(Record::name)
     }

@@ -20,7 +20,7 @@ const NUMBERS: [(u64, &str, &str); 29] = [
     (13, "NUMBER", "malformed number or integer"),
     (14, "RANGE", "number or integer out of bounds"),
     (15, "FORK", "fork nested deeper than 8, Endfork with none open, or path closed with one open"),
-    (16, "SHAPE", "matrix or pin grid of the wrong shape"),
+    (16, "SHAPE", "matrix of the wrong shape, or more pins than the grid has places"),
     (17, "LIMIT", "count above its bound"),
     (18, "ROOM", "table shorter than the words needed"),
     (19, "TWICE", "second of one name within models, maps, sections, list or one map's pins"),
