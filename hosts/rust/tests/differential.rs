@@ -1,7 +1,7 @@
 // differential.rs: the proved library against the independent plain reading: every answer and every word of every table must be the same.
 // The texts are the test files with expected answers, files at the paper's bounds, generated files, and damaged ones; tables are bent too.
 //
-// SKUMVARI_SEED, SKUMVARI_CASES and SKUMVARI_SECONDS change what is generated; SKUMVARI_VECTORS is the folder of the test files.
+// SKUMVARI_SEED, SKUMVARI_CASES and SKUMVARI_SECONDS change what is generated.
 #[path = "differential/bounds.rs"]
 mod bounds;
 #[path = "differential/breaks.rs"]
@@ -96,22 +96,19 @@ impl Run {
         Run { seed, case: 0, rubbish, accepted: 0, refused: [0; NUMBERS + 1], bends: Bends::default() }
     }
 
+    /// The test files of the base and of the change requests.
     fn vectors(&mut self) {
-        let folder = match env::var_os("SKUMVARI_VECTORS") {
-            Some(folder) => PathBuf::from(folder),
-            None => Path::new(env!("CARGO_MANIFEST_DIR")).join("../../../shared/vectors"),
-        };
-        let Ok(entries) = fs::read_dir(&folder) else {
-            println!("no test files at {}: only what is built in is compared", folder.display());
-            return;
-        };
-        let mut paths: Vec<PathBuf> = entries.map(|entry| entry.expect("an entry of the folder").path()).collect();
-        paths.retain(|path| path.extension().is_some_and(|extension| extension == "icm"));
-        // The order of a folder is not the same everywhere, and the case numbers go by it.
-        paths.sort();
-        for path in paths {
-            let text = fs::read(&path).expect("a test file");
-            self.try_case(&path.display().to_string(), &text);
+        for folder in ["../../crates/vectors/data", "../vectors"] {
+            let folder = Path::new(env!("CARGO_MANIFEST_DIR")).join(folder);
+            let entries = fs::read_dir(&folder).unwrap_or_else(|error| panic!("{}: {error}", folder.display()));
+            let mut paths: Vec<PathBuf> = entries.map(|entry| entry.expect("an entry of the folder").path()).collect();
+            paths.retain(|path| path.extension().is_some_and(|extension| extension == "icm"));
+            // The order of a folder is not the same everywhere, and the case numbers go by it.
+            paths.sort();
+            for path in paths {
+                let text = fs::read(&path).expect("a test file");
+                self.try_case(&path.display().to_string(), &text);
+            }
         }
     }
 
@@ -235,13 +232,18 @@ impl Run {
     }
 }
 
-/// Notes the enumerations of an accepted file's table, whether ends have sides, and how deep forks go.
+/// Notes the enumerations of an accepted file's table, whether places of a grid are missing and ends have sides, and how deep forks go.
 fn note_reached(text: &[u8], reached: &mut BTreeSet<(&'static str, u64)>) {
     let mut table = vec![0; raw::table_words()];
     let used = raw::intake(text, &mut table).expect("an accepted file");
     let layout = Layout::of(&table[..used]).expect("the parts of an accepted file");
     reached.extend(layout.records(MODELS).map(|model| ("type", model[2])));
-    reached.extend(layout.records(MAPS).map(|map| ("order", map[2])));
+    for map in layout.records(MAPS) {
+        reached.insert(("order", map[2]));
+        if map[2] < 2 {
+            reached.insert(("missing places", u64::from(map[6] < map[3] * map[4])));
+        }
+    }
     reached.extend(layout.records(MATRICES).map(|matrix| ("form", matrix[0])));
     for section in layout.records(SECTIONS) {
         reached.insert(("method", section[2]));
@@ -260,8 +262,8 @@ fn note_reached(text: &[u8], reached: &mut BTreeSet<(&'static str, u64)>) {
 }
 
 fn assert_all_reached(reached: &BTreeSet<(&'static str, u64)>) {
-    for (what, most) in [("type", 2), ("order", 2), ("form", 3), ("method", 1), ("kind", 3), ("side", 1), ("depth", 8)]
-    {
+    let kinds = [("type", 2), ("order", 2), ("missing places", 1), ("form", 3), ("method", 1), ("kind", 3), ("side", 1), ("depth", 8)];
+    for (what, most) in kinds {
         for value in 0..=most {
             assert!(reached.contains(&(what, value)), "no generated file has {what} {value}");
         }

@@ -1,18 +1,14 @@
 // vectors.rs: the test files, whose answers were found from the papers by people and programs apart from this project: those of the base, which the
-// program `vectors` runs too, and those of the change requests.
+// program `vectors` runs too, and those of the change requests. The proved reading and the plain one are each asked all of them.
 #[path = "vectors/base.rs"]
 mod base;
+#[path = "vectors/reading.rs"]
+mod reading;
 #[path = "vectors/requests.rs"]
 mod requests;
 
 use std::fs;
 use std::path::{Path, PathBuf};
-
-use skumvari::{raw, Refusal};
-
-/// The words of the listing program's table, and the bytes of the longest text that it takes.
-const LISTING_WORDS: usize = 8192;
-const LISTING_BYTES: usize = 65536;
 
 /// A path from the repository's root.
 fn path(name: &str) -> PathBuf {
@@ -27,25 +23,56 @@ fn text_of(name: &str) -> String {
     fs::read_to_string(path(name)).unwrap_or_else(|error| panic!("{name}: {error}"))
 }
 
-/// The intake's answer and the table it leaves, which held other words before: those past the words used are zero.
-fn take_in(text: &[u8], words: usize) -> (Result<usize, Refusal>, Vec<u64>) {
-    let mut table = vec![u64::MAX; words];
-    let answer = raw::intake(text, &mut table);
-    let used = answer.unwrap_or(0);
-    assert!(table[used..] == vec![0; words - used], "words that are not used are left as they were");
-    (answer, table)
-}
-
-fn spelled(answer: Result<usize, Refusal>) -> String {
-    match answer {
-        Ok(used) => format!("accepted {used}"),
-        Err(refusal) => format!("refused {} {}", refusal.number, refusal.line),
-    }
-}
-
 /// FNV-1a, 64 bits, over the little-endian bytes of the words.
 fn hash(words: &[u64]) -> String {
     let bytes = words.iter().flat_map(|word| word.to_le_bytes());
     let sum = bytes.fold(0xcbf2_9ce4_8422_2325u64, |hash, byte| (hash ^ u64::from(byte)).wrapping_mul(0x0100_0000_01b3));
     format!("{sum:016x}")
 }
+
+macro_rules! all_of {
+    ($name:ident) => {
+        mod $name {
+            use crate::reading::$name::Reader;
+            use crate::{base, requests};
+
+            #[test]
+            fn base_answers_rooms_hashes_and_listings() {
+                base::answers_rooms_hashes_and_listings::<Reader>();
+            }
+
+            #[test]
+            fn base_numbers() {
+                base::numbers::<Reader>();
+            }
+
+            #[test]
+            fn base_changes() {
+                requests::changes_of_the_base::<Reader>();
+            }
+
+            #[test]
+            fn answers() {
+                requests::answers::<Reader>();
+            }
+
+            #[test]
+            fn hashes() {
+                requests::hashes::<Reader>();
+            }
+
+            #[test]
+            fn rooms_and_listings() {
+                requests::rooms_and_listings::<Reader>();
+            }
+
+            #[test]
+            fn questions() {
+                requests::questions::<Reader>();
+            }
+        }
+    };
+}
+
+all_of!(proved);
+all_of!(plain);

@@ -188,9 +188,10 @@ fn write_map(writer: &mut Writer, map: &Map, pins: usize) {
     let order = *writer.random.pick(&["Row_ordered", "Column_ordered", "Un_ordered"]);
     writer.words(&["Pin_order", order]);
     if order != "Un_ordered" {
-        let divisors: Vec<usize> = (1..=pins).filter(|divisor| pins % divisor == 0).collect();
-        let rows = *writer.random.pick(&divisors);
-        let mut sizes = [("Num_of_rows", rows), ("Num_of_columns", pins / rows)];
+        // as few places as the pins need, or some more: places may be missing
+        let rows = writer.random.between(1, pins);
+        let columns = (pins.div_ceil(rows) + writer.random.below(3)).min(256);
+        let mut sizes = [("Num_of_rows", rows), ("Num_of_columns", columns)];
         writer.random.shuffle(&mut sizes);
         for (name, size) in sizes {
             let line = format!("{name}{}{}", writer.equals(), writer.integer(size));

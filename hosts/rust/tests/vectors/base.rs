@@ -1,10 +1,11 @@
 // base.rs: the base's files. They stand with the programs that run them over the proved code, each with its input and what it must print; here
-// this library is asked the same.
-use skumvari::{Intake, Kind};
+// a reading is asked the same.
+use skumvari::Intake;
 
-use super::{bytes_of, hash, spelled, take_in, text_of, LISTING_BYTES, LISTING_WORDS};
+use crate::reading::{spelled, Reading, LISTING_BYTES, LISTING_WORDS};
+use crate::{bytes_of, hash, text_of};
 
-/// Tells for each line of a program's input what the library says to it, and compares all with what the program must print.
+/// Tells for each line of a program's input what a reading says to it, and compares all with what the program must print.
 fn assert_prints(program: &str, told: impl Fn(&str) -> String) {
     let (input, output) = (text_of(&format!("crates/{program}/stdin")), text_of(&format!("crates/{program}/stdout")));
     let mut rest = output.as_str();
@@ -22,34 +23,35 @@ fn file(name: &str) -> Vec<u8> {
     bytes_of(&format!("crates/vectors/data/{name}"))
 }
 
-/// What the listing program prints of a text, whose table is shorter than the one that this library lends.
-fn listing(text: Vec<u8>) -> String {
-    match take_in(&text, LISTING_WORDS).0 {
-        Ok(_) => Intake::read(text).expect("accepted in a longer table too").listing().to_string(),
-        refused => format!("{}\n", spelled(refused)),
-    }
-}
-
-#[test]
-fn answers_rooms_hashes_and_listings() {
+pub fn answers_rooms_hashes_and_listings<R: Reading>() {
     assert_prints("vectors", |line| {
         let (file_name, asked) = line.split_once(' ').unwrap_or((line, ""));
         let name = file_name.strip_suffix(".icm").expect("a file's name");
         let text = file(file_name);
         match asked {
             "" if text.len() > LISTING_BYTES => format!("{name} toolong\n"),
-            "" => format!("{name} {}\n", spelled(take_in(&text, LISTING_WORDS).0)),
-            "list" if text.len() > LISTING_BYTES => format!("{name}\ntoolong\n"),
-            "list" => format!("{name}\n{}", listing(text)),
+            "" => format!("{name} {}\n", spelled(R::take_in(&text, LISTING_WORDS).0)),
+            "list" => format!("{name}\n{}", R::list(&text)),
             "hash" => {
-                let (answer, table) = take_in(&text, LISTING_WORDS);
+                let (answer, table) = R::take_in(&text, LISTING_WORDS);
                 format!("{name} {} {}\n", answer.expect(name), hash(&table))
             }
             room => {
-                let (answer, _) = take_in(&text, room.parse().expect("a number of words"));
+                let (answer, _) = R::take_in(&text, room.parse().expect("a number of words"));
                 format!("{name} {room} {}\n", spelled(answer))
             }
         }
+    });
+}
+
+/// A value word is 256 m + 2 (k + 64) + s.
+pub fn numbers<R: Reading>() {
+    assert_prints("numbers", |word| match R::number(word) {
+        Ok(value) => {
+            let sign = if value % 2 == 1 { "-" } else { "" };
+            format!("{word} {sign}{} {}\n", value / 256, (value % 256 / 2) as i64 - 64)
+        }
+        Err(number) => format!("{word} {number}\n"),
     });
 }
 
@@ -75,16 +77,4 @@ fn walks_and_matrices_are_what_the_table_says() {
         }
     }
     assert!(accepted > 0);
-}
-
-#[test]
-fn numbers() {
-    let example = include_str!("../paper.icm");
-    assert_prints("numbers", |word| {
-        let told = match Intake::read(example.replace("4.50nH", word)) {
-            Ok(file) => file.entry("S", Kind::Inductance, 1, 1).expect("S L 1 1").to_string().replace('e', " "),
-            Err(refusal) => refusal.number.to_string(),
-        };
-        format!("{word} {told}\n")
-    });
 }
