@@ -5,8 +5,7 @@ ghost use mathlib.Core.Bool.{not};
 ghost use Prim.Native.Nat.{_<_};
 ghost use lib.Dec.{eqb};
 ghost use Rattle.base.specs.If.{if_then_else_, both, either};
-ghost use Rattle.base.specs.Bytes.{within};
-ghost use Rattle.text.specs.Words.{words, firstOf};
+ghost use Rattle.text.specs.Words.{words};
 ghost use Rattle.pin_map.specs.PinMap.{
   orderOf,
   wrongLine,

@@ -9,7 +9,7 @@ use native.Mathlib.Omega.{arith}
 use lib.ListN.{length}
 use lib.Dec.{eqb}
 use borrow.Author.Tests.{eq-eqb, ne-eqb, eqb-true}
-use Rattle.base.specs.If.{if_then_else_, either}
+use Rattle.base.specs.If.{if_then_else_, both, either}
 use Rattle.base.specs.Bytes.{bytes}
 use Rattle.base.specs.Runs.{same}
 use Rattle.base.proofs.IfLaws.{if-true, if-false, by-cases, both-true, both-first, both-second, both-not-left, both-not-right, either-left, either-right, either-false, either-rest, either-none-first, either-none-second}
@@ -33,7 +33,7 @@ use Rattle.document.specs.Holds.{Each}
 use Rattle.document.proofs.Goes.{Idle, Moves, Goes, Ends, idle-outside, text-ends}
 use Rattle.document.proofs.Goes.Idle.{ended, waits}
 use Rattle.document.proofs.Goes.Moves.{idle, plainly, keyed}
-use Rattle.document.proofs.BlockLaws.{gather-none, gather-more, up-to-none, up-to-in, up-to-out}
+use Rattle.document.proofs.BlockLaws.{gather-none, gather-more, up-to-in, up-to-out}
 use Rattle.document.proofs.BodyLaws.{keyword-misplaced, keyword-shaped}
 use Rattle.soundness.proofs.Bounds.{RightMap}
 use Rattle.soundness.proofs.GridLaws.{Growing, new-growing, Grid, next-growing, list-keeps, list-grid}
