@@ -102,7 +102,7 @@ impl Run {
             let folder = Path::new(env!("CARGO_MANIFEST_DIR")).join(folder);
             let entries = fs::read_dir(&folder).unwrap_or_else(|error| panic!("{}: {error}", folder.display()));
             let mut paths: Vec<PathBuf> = entries.map(|entry| entry.expect("an entry of the folder").path()).collect();
-            paths.retain(|path| path.extension().is_some_and(|extension| extension == "icm"));
+            paths.retain(|path| path.extension() == Some("icm".as_ref()));
             // The order of a folder is not the same everywhere, and the case numbers go by it.
             paths.sort();
             for path in paths {
@@ -262,7 +262,16 @@ fn note_reached(text: &[u8], reached: &mut BTreeSet<(&'static str, u64)>) {
 }
 
 fn assert_all_reached(reached: &BTreeSet<(&'static str, u64)>) {
-    let kinds = [("type", 2), ("order", 2), ("missing places", 1), ("form", 3), ("method", 1), ("kind", 3), ("side", 1), ("depth", 8)];
+    let kinds = [
+        ("type", 2),
+        ("order", 2),
+        ("missing places", 1),
+        ("form", 3),
+        ("method", 1),
+        ("kind", 3),
+        ("side", 1),
+        ("depth", 8),
+    ];
     for (what, most) in kinds {
         for value in 0..=most {
             assert!(reached.contains(&(what, value)), "no generated file has {what} {value}");

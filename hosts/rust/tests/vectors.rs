@@ -26,7 +26,8 @@ fn text_of(name: &str) -> String {
 /// FNV-1a, 64 bits, over the little-endian bytes of the words.
 fn hash(words: &[u64]) -> String {
     let bytes = words.iter().flat_map(|word| word.to_le_bytes());
-    let sum = bytes.fold(0xcbf2_9ce4_8422_2325u64, |hash, byte| (hash ^ u64::from(byte)).wrapping_mul(0x0100_0000_01b3));
+    let sum =
+        bytes.fold(0xcbf2_9ce4_8422_2325u64, |hash, byte| (hash ^ u64::from(byte)).wrapping_mul(0x0100_0000_01b3));
     format!("{sum:016x}")
 }
 

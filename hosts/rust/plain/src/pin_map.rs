@@ -1,5 +1,5 @@
 //! A pin map: its order, the sizes of its grid if it has one, then its pins.
-//! Whether the pins fill the grid is known only where the map ends.
+//! Places of the grid may stay without a pin. That there is a pin, and a place for each, is judged where the map ends.
 
 use crate::document::{Named, Order, PinMap, CONDUCTORS_BOUND, MAP_PINS_BOUND, PINS_BOUND};
 use crate::number;
@@ -104,12 +104,12 @@ impl<'a> PinMapReading<'a> {
         }
     }
 
-    /// The complete map, if its pins fill its grid.
+    /// The complete map, if its grid has a place for each of its pins.
     pub fn close(&self, pins: usize) -> Result<PinMap<'a>, u64> {
         let pins = pins - self.first_pin;
         let rows = self.rows.unwrap_or(0);
         let columns = self.columns.unwrap_or(0);
-        if self.is_ordered() && rows * columns != pins as u64 {
+        if self.is_ordered() && pins as u64 > rows * columns {
             return Err(SHAPE);
         }
         let order = self.order.ok_or(PLACE)?;

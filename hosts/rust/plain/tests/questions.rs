@@ -266,6 +266,8 @@ fn maps_keep_their_bounds() {
     assert!(grid(0, 1, 256) && grid(1, 256, 256));
     assert!(!grid(0, 0, 1) && !grid(1, 1, 0) && !grid(0, 257, 1) && !grid(1, 1, 257));
     assert!(grid(2, 0, 0) && !grid(2, 1, 0) && !grid(2, 0, 1));
+    assert!(grid(0, 1, 1) && grid(1, 1, 1), "pins are not compared with places");
+    assert!(bent(&[(MAP + 2, 0), (MAP + 3, 1), (MAP + 4, 1), (MAP + 6, 0)]), "a map may have no pin");
     assert!(bent(&[(MAP + 5, 0), (MAP + 6, 4)]), "ranges may overlap");
     let pins = |of_map| {
         let mut table = vec![0, 0, 1, 0, 1, 2, 0, 0, 0, of_map, 300];

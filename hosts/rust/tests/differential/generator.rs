@@ -190,7 +190,7 @@ fn write_map(writer: &mut Writer, map: &Map, pins: usize) {
     if order != "Un_ordered" {
         // as few places as the pins need, or some more: places may be missing
         let rows = writer.random.between(1, pins);
-        let columns = (pins.div_ceil(rows) + writer.random.below(3)).min(256);
+        let columns = ((pins - 1) / rows + 1 + writer.random.below(3)).min(256);
         let mut sizes = [("Num_of_rows", rows), ("Num_of_columns", columns)];
         writer.random.shuffle(&mut sizes);
         for (name, size) in sizes {

@@ -144,11 +144,11 @@ fn numbers(line: &str) -> Vec<u64> {
 /// The number of refusal and the words of the answer, zeros where it is refused.
 fn answer<R: Reading>(question: &str, text: &[u8], table: &[u64]) -> Vec<u64> {
     let (kind, place) = question.split_once(' ').expect("a question");
-    match (kind, numbers(place)[..]) {
-        ("entry", [section, kind, row, column]) => {
+    match (kind, &numbers(place)[..]) {
+        ("entry", &[section, kind, row, column]) => {
             words(R::entry(text, table, [section, kind, row, column]).map(|value| [value]))
         }
-        ("walk", [model, step, depth]) => words(R::step(text, table, [model, step, depth])),
+        ("walk", &[model, step, depth]) => words(R::step(text, table, [model, step, depth])),
         _ => panic!("not a question: {question}"),
     }
 }
