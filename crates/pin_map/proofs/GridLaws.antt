@@ -37,7 +37,7 @@ module _ (m : Map) (fits : Fits m) where
       by-cases _ (isOrdered m) (λ (o : isOrdered m ≡ true). both-not-right _ _ (le-ltb _ _ (fits .few o)))
       (λ (o : isOrdered m ≡ false). both-not-left _ _ o)
 
--- 16
+-- what 16 says
 pub record Passes (m : Map) : Type 0 where
   pub ordered : isOrdered m ≡ true
   pub more : m .rows * m .columns < m .pins

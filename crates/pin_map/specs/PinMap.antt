@@ -124,7 +124,7 @@ withPin m = record { order = m .order; rows = m .rows; columns = m .columns; pin
 unfoldable pub pinsLack : Map → Bool
 pinsLack m = eqb (m .pins) 0
 
--- change request 3, "an ordered map has at least one and at most rows times columns pins", "16 on a map is given only above the product"
+-- request 3: "an ordered map has at least one and at most rows times columns pins", "16 on a map is given only above the product"
 unfoldable pub isWrongGrid : Map → Bool
 isWrongGrid m = both (isOrdered m) (ltb (m .rows * m .columns) (m .pins))
 

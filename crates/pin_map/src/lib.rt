@@ -330,7 +330,7 @@ pub fn pins_lack(m: Map) -> bool
     m.pins == 0
 }
 
-// "an ordered map has at least one and at most rows times columns pins": a corner may be missing. The keyword that ends the map is judged.
+// "at most rows times columns pins", fewer where a corner is missing; more are 16 at the keyword that ends the map.
 pub fn is_wrong_grid(m: Map) -> bool
     requires { ⌜ Bounded m ⌝ }
     ensures { λ r. ⌜ r ≡ isWrongGrid m ⌝ }

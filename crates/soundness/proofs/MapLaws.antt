@@ -139,7 +139,7 @@ module _ (k : ℕ) (argument : List ℕ) (s : State) (kept : keywordRule k argum
 
 -- ---- below Pin_list
 
--- what is left of a map as far as m
+-- what is left of a map that has been read as far as m
 record Pins (m : pin_map.Map) (ls : List Line) : Type 0 where
   grid : (g : pin_map.Map) → gridIn g (upTo inMap ls) ≡ g
   few : m .pins + length (gather pinAt (upTo inMap ls)) ≤ 256
@@ -201,7 +201,7 @@ pins-rest (Goes.more {s = s} {s' = s'} {l = l} {ls = ls} q blank mv g) d p h =
 
 -- ---- above Pin_list
 
--- what is left of a map as far as m
+-- what is left of a map that has been read as far as m
 record Left (m : pin_map.Map) (ls : List Line) : Type 0 where
   grid : Grid (gridIn m (upTo inMap ls))
   few : length (gather pinAt (upTo inMap ls)) ≤ 256
