@@ -97,7 +97,7 @@ size_t skumvari_table_words(void);
  *   models    name start, name length, type (0 SLM_general, 1 SLM_quiescent, 2 MLM), first step, steps
  *   steps     kind, target, amount, side start, side length, line (as in a walk's answer)
  *   maps      name start, name length, order (0 Row_ordered, 1 Column_ordered, 2 Un_ordered), rows, columns, first pin, pins
- *             (an ordered map has at least one pin and at most rows times columns: places of its grid may be missing)
+ *             (the intake leaves at least one pin a map, and at most rows times columns in an ordered one: places may be missing)
  *   pins      name start, name length
  *   sections  name start, name length, method (0 Lumped, 1 Distributed), N, then R, L, G, C: index of the matrix plus 1, or 0
  *   matrices  form (0 diagonal, 1 banded, 2 sparse, 3 full), bandwidth, first value, values, line
