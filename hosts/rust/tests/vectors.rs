@@ -31,49 +31,35 @@ fn hash(words: &[u64]) -> String {
     format!("{sum:016x}")
 }
 
-macro_rules! all_of {
-    ($name:ident) => {
-        mod $name {
-            use crate::reading::$name::Reader;
-            use crate::{base, requests};
-
+/// A test for each question that is asked of a reading.
+macro_rules! tests {
+    ($($module:ident::$test:ident)*) => {
+        $(
             #[test]
-            fn base_answers_rooms_hashes_and_listings() {
-                base::answers_rooms_hashes_and_listings::<Reader>();
+            fn $test() {
+                crate::$module::$test::<Reader>();
             }
+        )*
+    };
+}
 
-            #[test]
-            fn base_numbers() {
-                base::numbers::<Reader>();
-            }
+macro_rules! ask {
+    ($reading:ident) => {
+        mod $reading {
+            use crate::reading::$reading::Reader;
 
-            #[test]
-            fn base_changes() {
-                requests::changes_of_the_base::<Reader>();
-            }
-
-            #[test]
-            fn answers() {
-                requests::answers::<Reader>();
-            }
-
-            #[test]
-            fn hashes() {
-                requests::hashes::<Reader>();
-            }
-
-            #[test]
-            fn rooms_and_listings() {
-                requests::rooms_and_listings::<Reader>();
-            }
-
-            #[test]
-            fn questions() {
-                requests::questions::<Reader>();
+            tests! {
+                base::answers_rooms_hashes_and_listings
+                base::numbers
+                requests::answers
+                requests::hashes
+                requests::rooms_and_listings
+                requests::changes_of_the_base
+                requests::questions
             }
         }
     };
 }
 
-all_of!(proved);
-all_of!(plain);
+ask!(proved);
+ask!(plain);

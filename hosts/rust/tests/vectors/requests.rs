@@ -1,6 +1,6 @@
 // requests.rs: the files of hosts/vectors, made for the change requests. Each has an answer after each landing; those hold that are told for the
 // landing that was last. The README there tells what the tables hold.
-use std::collections::BTreeMap;
+use std::collections::{BTreeMap, BTreeSet};
 use std::fs;
 
 use crate::reading::{spelled, Reading, LISTING_WORDS};
@@ -42,14 +42,14 @@ fn before(request: &str) -> usize {
     order.split(' ').position(|landing| landing == request).unwrap_or_else(|| panic!("no landing of request {request}"))
 }
 
-/// Of each record the name and what holds after the last landing.
-fn column(name: &str) -> Vec<(String, String)> {
-    let at = before(LANDED) + 1;
+/// Of each record the name and what holds after a landing.
+fn column(name: &str, landing: &str) -> Vec<(String, String)> {
+    let at = before(landing) + 1;
     records(name).into_iter().map(|record| (record[0].clone(), record[at].clone())).collect()
 }
 
 pub fn answers<R: Reading>() {
-    let files = column(LEVELS);
+    let files = column(LEVELS, LANDED);
     for (name, wanted) in &files {
         let text = file(name);
         let (answer, table) = R::take_in(&text, WORDS);
@@ -66,19 +66,33 @@ pub fn answers<R: Reading>() {
 }
 
 pub fn hashes<R: Reading>() {
-    for (name, wanted) in column("hosts/vectors/hashes.txt") {
+    for (name, wanted) in column("hosts/vectors/hashes.txt", LANDED) {
         let (answer, table) = R::take_in(&file(&name), WORDS);
         let told = answer.map_or("-".to_owned(), |used| hash(&table[..used]));
         assert_eq!(told, wanted, "{name}");
     }
 }
 
-/// Tables of other lengths, and listings: both are told for some landings only.
-pub fn rooms_and_listings<R: Reading>() {
-    for record in records("hosts/vectors/rooms.txt").iter().filter(|record| record[1] == LANDED) {
-        let (answer, _) = R::take_in(&file(&record[0]), record[2].parse().expect("a number of words"));
-        assert_eq!(spelled(answer), record[3..].join(" "), "{}", record[..3].join(" "));
+/// Tables of other lengths, told for some landings only. Those of the next one told hold already for a file whose answer stays till then, since the
+/// table it needs stays too.
+fn rooms<R: Reading>() {
+    let rooms = records("hosts/vectors/rooms.txt");
+    let told = rooms.iter().map(|room| &room[1]).filter(|landing| before(landing) >= before(LANDED));
+    let next = told.min_by_key(|landing| before(landing)).expect("a landing");
+    let (now, then) = (column(LEVELS, LANDED), column(LEVELS, next));
+    let stays: BTreeSet<_> = now.iter().zip(&then).filter(|(now, then)| now == then).map(|(file, _)| &file.0).collect();
+    let mut asked = 0;
+    for room in rooms.iter().filter(|room| &room[1] == next && stays.contains(&room[0])) {
+        let (answer, _) = R::take_in(&file(&room[0]), room[2].parse().expect("a number of words"));
+        assert_eq!(spelled(answer), room[3..].join(" "), "{}", room[..3].join(" "));
+        asked += 1;
     }
+    assert!(asked > 0);
+}
+
+/// Listings are told from the landing on that adds a line to all of them, so before it there are none here.
+pub fn rooms_and_listings<R: Reading>() {
+    rooms::<R>();
     for listing in names("hosts/vectors/listings") {
         if let Some(name) = listing.strip_suffix(&format!(".{LANDED}.out")) {
             assert_eq!(R::list(&file(name)), text_of(&format!("hosts/vectors/listings/{listing}")), "{name}");
