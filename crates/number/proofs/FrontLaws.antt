@@ -25,13 +25,14 @@ use Rattle.number.specs.declared.Number.{Number}
 use Rattle.number.specs.declared.Plain.{Plain}
 use Rattle.number.specs.declared.Reading.{Reading}
 use Rattle.number.specs.declared.Parts.{Parts}
-use Rattle.number.specs.Number.{isSign, isMinus, isPoint, isE, pastSign, noDigits, goesOn, withByte, scan, exponentAt, exponentOf, scaleOf, raised, lowered, valueAs, wellFormed, numberFrom, digitsOf, exponentFrom, numberOf}
+use Rattle.number.specs.Number.{isSign, isMinus, isPoint, isE, pastSign, noDigits, goesOn, withByte, scan, exponentAt, exponentOf, powerIn, scaleBy, scaleOf, raised, lowered, valueAs, wellFormed, numberFrom, digitsOf, exponentFrom, numberOf}
 use Rattle.number.specs.In.{isSpelling}
 use Rattle.number.specs.At.{plainAt, readingAt, partsOf, DigitsRead, ExponentRead, PartsRead, Says}
 use Rattle.number.proofs.CappedLaws.{scan-goes, scan-stops, scan-ends}
 use Rattle.number.proofs.AllLaws.{all-from}
 use Rattle.number.proofs.ReadLaws.{inside, sign-within, scan-end, exponent-within}
 use Rattle.number.proofs.DigitLaws.{digit-to}
+use Rattle.number.proofs.ScaleLaws.{outside-gives-nothing}
 use Rattle.number.proofs.NumberLaws.{Shaped, digits-shaped}
 
 -- ---- what numbers are not written with
@@ -74,11 +75,8 @@ module _ (b : ℕ) (none : isSpelling b ≡ false) where
   none-goes d = either-false _ _ none-digit (both-not-left _ _ none-point)
 
   none-scaled : scaleOf b ≡ record { up = 0; down = 0 }
-  unfolding scaleOf isLetter isCapital isSmall within both either
-  none-scaled =
-      if-false _ _ (no-letter 84 refl) ∙ if-false _ _ (no-letter 71 refl) ∙ if-false _ _ (no-letter 77 refl) ∙ if-false _ _ (no-letter 107 refl)
-      ∙ if-false _ _ (no-letter 109 refl) ∙ if-false _ _ (no-letter 117 refl) ∙ if-false _ _ (no-letter 110 refl) ∙ if-false _ _ (no-letter 112 refl)
-      ∙ if-false _ _ (no-letter 102 refl)
+  unfolding all isLetter isCapital isSmall within both either
+  none-scaled = outside-gives-nothing isLetter b refl none-letter
 
 blind-sign : Blind isSign
 unfolding isSign either
@@ -93,7 +91,7 @@ unfolding isE either
 blind-e = record { blind = none-e }
 
 blind-scale : Blind scaleOf
-unfolding scaleOf if_then_else_
+unfolding scaleOf scaleBy powerIn if_then_else_
 blind-scale = record { blind = none-scaled }
 
 blind-digit : Blind isDigit
@@ -364,7 +362,7 @@ module _ (class : ℕ → Bool) (out : (b : ℕ) → class b ≡ false → isSpe
         over-byte
 
     over-scale : record { up = 0; down = 0 } ≡ scaleOf (getD s from 0)
-    unfolding scaleOf if_then_else_
+    unfolding scaleOf scaleBy powerIn if_then_else_
     over-scale =
         ⊎-elim
         (λ (h : length s ≤ from). ap scaleOf (sym (List·getD-eq-default s 0 h)))

@@ -23,6 +23,7 @@ use Rattle.number.specs.Number.{isSign, isE, isMinus, pastSign, noDigits
 use Rattle.number.specs.Capped.{sizeCap, exponentCap, countCap, cappedDigits, cappedExponent, raising, lowering, Kept, Bounded}
 use Rattle.number.proofs.CappedLaws.{scan-goes, scan-stops, scan-ends, byte-cut, kept-cut}
 use Rattle.number.proofs.DigitLaws.{kept-none, kept-next, ends-next}
+use Rattle.number.proofs.ScaleLaws.{scale-up, scale-down}
 use Rattle.number.proofs.ValueLaws.{Agree, value-agree}
 
 -- digits end no further than the bytes go
@@ -83,27 +84,6 @@ exponent-within s from h =
     (λ f. digits-within s (pastSign s (from + 1)) (sign-within s (from + 1) (omega arith))))
     (λ e. h)
 
--- no letter scales by more than 15
-record Small (c : Scale) : Type 0 where
-  up-small : c .up ≤ 15
-  down-small : c .down ≤ 15
-
-small-if : (t : Bool) (x y : Scale) → Small x → Small y → Small (if t then x else y)
-small-if t x y h k = by-test Small t x y (λ e. h) (λ e. k)
-
-scale-small : (b : ℕ) → Small (scaleOf b)
-unfolding scaleOf
-scale-small b =
-    small-if _ _ _ (omega arith) (small-if _ _ _ (omega arith) (small-if _ _ _ (omega arith) (small-if _ _ _ (omega arith)
-    (small-if _ _ _ (omega arith) (small-if _ _ _ (omega arith) (small-if _ _ _ (omega arith) (small-if _ _ _ (omega arith)
-    (small-if _ _ _ (omega arith) (omega arith)))))))))
-
-pub scale-up : (c : Scale) (b : ℕ) → c ≡ scaleOf b → c .up ≤ 15
-scale-up c b e = rw e (scale-small b .up-small)
-
-pub scale-down : (c : Scale) (b : ℕ) → c ≡ scaleOf b → c .down ≤ 15
-scale-down c b e = rw e (scale-small b .down-small)
-
 -- the caps change nothing where no count is greater than a slice is long
 module _ (negative : Bool) (d : Digits) (x : Exponent) (c : Scale) (zeros : d .zeros < countCap) (fraction : d .fraction < countCap) (up : c .up ≤ 15) (down : c .down ≤ 15) where
   exponents : ((raising (cappedExponent x) ≡ 0) × (raising x ≡ 0) × (lowering x ≡ x .size) × (lowering (cappedExponent x) ≡ min (x .size) exponentCap)) ⊎ ((raising (cappedExponent x) ≡ min (x .size) exponentCap) × (raising x ≡ x .size) × (lowering x ≡ 0) × (lowering (cappedExponent x) ≡ 0))
@@ -155,8 +135,7 @@ module _ (s : List ℕ) (start : ℕ) (d : Digits) (x : Exponent) (sign : start 
   number-bounded c b fits e =
       let k : Kept d = digits-kept in
       let h : d .end ≤ length s = digits-end in
-      let small : Small c = rw e (scale-small b) in
-      record { size-cut = k .size-cut; zeros-below = omega arith; fraction-below = omega arith; exponent-cut = size-within; up-small = small .up-small; down-small = small .down-small }
+      record { size-cut = k .size-cut; zeros-below = omega arith; fraction-below = omega arith; exponent-cut = size-within; up-small = scale-up c b e; down-small = scale-down c b e }
 
   formed-same : wellFormed s d x ≡ wellFormed s (digitsOf s) (exponentFrom s (digitsOf s))
   unfolding wellFormed cappedDigits cappedExponent

@@ -1,7 +1,7 @@
 -- A number where it stands in its line: the word that starts at a place, what it says as a number, and where it ends. And what the
 -- reader of words that are not long keeps on its way.
 -- Assumes nothing.
-use Prim.Native.Nat.{ℕ, _+_, _-_, _*_, _/_, _%_, _^_, _≤_, _<_}
+use Prim.Native.Nat.{ℕ, _+_, _-_, _*_, _%_, _^_, _≤_, _<_}
 use mathlib.Core.Path.{_≡_}
 use mathlib.Core.Bool.{true, false}
 use mathlib.Core.List.{List}
@@ -30,10 +30,6 @@ unfoldable pub numberAt : List ℕ → ℕ → NumberAt
 numberAt s from = record { number = numberOf (wordFrom s from); end = runEnd isFilled s from }
 
 -- ---- on the way
-
--- the four bits of a word that stand at a place
-unfoldable pub fourBits : ℕ → ℕ → ℕ
-fourBits word place = word / 2 ^ (4 * place) % 16
 
 -- the number that the run of digits at `from` writes, those before them being a, where the run ends, and the byte there
 unfoldable pub runFrom : List ℕ → ℕ → ℕ → Run

@@ -4,6 +4,7 @@ use Prim.Native.Nat.{ℕ, _+_, _-_, _*_}
 use Prim.Native.Char.{code}
 use mathlib.Core.Bool.{Bool, true, false, not}
 use mathlib.Core.List.{List, [], _∷_}
+use lib.IntN.{ℤ, pos, negsuc, negℤ}
 use lib.ListN.{length, take, drop, getD}
 use lib.Dec.{leb, ltb, eqb}
 use Rattle.base.specs.If.{if_then_else_, both, either}
@@ -13,6 +14,7 @@ use Rattle.number.specs.Integer.{valueOf}
 use Rattle.number.specs.ValueWord.{zeroWord, valueWord}
 use Rattle.number.specs.declared.Digits.{Digits}
 use Rattle.number.specs.declared.Exponent.{Exponent}
+use Rattle.number.specs.declared.Scaling.{Scaling}
 use Rattle.number.specs.declared.Scale.{Scale}
 use Rattle.number.specs.declared.Number.{Number}
 use Rattle.number.specs.declared.Number.the-variants.{Value, Malformed, Range}
@@ -85,18 +87,45 @@ exponentAt s from digits =
 unfoldable pub exponentOf : List ℕ → ℕ → Exponent
 exponentOf s from = if isE (getD s from 0) then exponentAt s from (pastSign s (from + 1)) else noExponent from
 
--- "the first scaling by T G M k m u n p f (12, 9, 6, 3, -3, -6, -9, -12, -15), any other letter by nothing"
+-- a letter that raises the power of ten, or lowers it, by so much
+infix 80 _raises_
+abbrev pub _raises_ : ℕ → ℕ → Scaling
+letter raises power = record { letter = letter; power = pos power }
+
+infix 80 _lowers_
+abbrev pub _lowers_ : ℕ → ℕ → Scaling
+letter lowers power = record { letter = letter; power = negℤ (pos power) }
+
+-- "the first scaling by T G M k m u n p f (12, 9, 6, 3, -3, -6, -9, -12, -15)"
+abbrev pub scalings : List Scaling
+scalings =
+    code "T" raises 12
+    ∷ code "G" raises 9
+    ∷ code "M" raises 6
+    ∷ code "k" raises 3
+    ∷ code "m" lowers 3
+    ∷ code "u" lowers 6
+    ∷ code "n" lowers 9
+    ∷ code "p" lowers 12
+    ∷ code "f" lowers 15
+    ∷ []
+
+-- the power of a letter, looked for in a list; "any other letter by nothing"
+unfoldable pub powerIn : List Scaling → ℕ → ℤ
+powerIn [] b = pos 0
+powerIn (s ∷ others) b = if eqb b (s .letter) then s .power else powerIn others b
+
+-- by how much a number is above zero
+abbrev pub aboveZero : ℤ → ℕ
+aboveZero (pos n) = n
+aboveZero (negsuc n) = 0
+
+-- a power of ten raises by what it is above zero, and lowers by what it is below
+unfoldable pub scaleBy : ℤ → Scale
+scaleBy power = record { up = aboveZero power; down = aboveZero (negℤ power) }
+
 unfoldable pub scaleOf : ℕ → Scale
-scaleOf b =
-    if eqb b (code "T") then record { up = 12; down = 0 } else
-    if eqb b (code "G") then record { up = 9; down = 0 } else
-    if eqb b (code "M") then record { up = 6; down = 0 } else
-    if eqb b (code "k") then record { up = 3; down = 0 } else
-    if eqb b (code "m") then record { up = 0; down = 3 } else
-    if eqb b (code "u") then record { up = 0; down = 6 } else
-    if eqb b (code "n") then record { up = 0; down = 9 } else
-    if eqb b (code "p") then record { up = 0; down = 12 } else
-    if eqb b (code "f") then record { up = 0; down = 15 } else record { up = 0; down = 0 }
+scaleOf b = scaleBy (powerIn scalings b)
 
 -- the power of ten is what raises it less what lowers it: k is raised minus lowered
 unfoldable pub raised : Digits → Exponent → Scale → ℕ

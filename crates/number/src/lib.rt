@@ -9,11 +9,11 @@ ghost use Rattle.base.specs.Bytes.{within, isDigit, isLetter};
 ghost use Rattle.base.specs.Runs.{all};
 ghost use Rattle.base.specs.Class.{runEnd};
 ghost use lib.Dec.{ltb};
-ghost use Rattle.number.specs.Number.{isSign, isMinus, isE, pastSign, goesOn, noDigits, withPoint, withDigit, withByte, scan, noExponent, exponentOf, scaleOf, raised, lowered, valueAs, wellFormed, numberOf, isFormed, isBounded};
+ghost use Rattle.number.specs.Number.{isSign, isMinus, isE, pastSign, goesOn, noDigits, withPoint, withDigit, withByte, scan, noExponent, exponentOf, scalings, powerIn, aboveZero, scaleOf, raised, lowered, valueAs, wellFormed, numberOf, isFormed, isBounded};
 ghost use Rattle.number.specs.Integer.{valueOf, wholeOf};
 ghost use Rattle.number.specs.ValueWord.{valueWord, decimalOf, isDecimal, isValueWord};
 ghost use Rattle.number.specs.Capped.{exponentCap, countCap, cappedDigits, cappedExponent, sizeAt, raising, lowering, Kept, Bounded};
-ghost use Rattle.number.specs.At.{numberAt, fourBits, weight, noReading, RunRead, DigitsRead, ExponentRead, PartsRead, Few, Splits, Says};
+ghost use Rattle.number.specs.At.{numberAt, weight, noReading, RunRead, DigitsRead, ExponentRead, PartsRead, Few, Splits, Says};
 ghost use Rattle.number.specs.Block.{bytesOf, AreDigits, paired};
 ghost use Rattle.number.specs.In.{isWord, isSpelling, isValue, numberIn, Knows};
 use base::Class;
@@ -28,14 +28,24 @@ const MOST_EXPONENT: usize = 9;
 // before the end, and none of them is asked for it.
 const ROOM: usize = 40;
 
-// What the capitals from G on raise by, four bits for each. To find a letter's scale so takes no branch that a processor has to guess.
-const CAPITALS_RAISE: u64 = 0x00c0_0000_0600_0009;
+// A letter that scales a number, and the power of ten that it scales by.
+struct Scaling {
+    letter: u8,
+    power: i8,
+}
 
-// What the small letters from f on raise by.
-const SMALLS_RAISE: u64 = 0x0000_0000_0030_0000;
-
-// And what they lower by.
-const SMALLS_LOWER: u64 = 0x6000_0c09_3000_000f;
+// "the first scaling by T G M k m u n p f (12, 9, 6, 3, -3, -6, -9, -12, -15)": M is mega, m is milli.
+const SCALINGS: [Scaling; 9] = [
+    Scaling { letter: b'T', power: 12 },
+    Scaling { letter: b'G', power: 9 },
+    Scaling { letter: b'M', power: 6 },
+    Scaling { letter: b'k', power: 3 },
+    Scaling { letter: b'm', power: -3 },
+    Scaling { letter: b'u', power: -6 },
+    Scaling { letter: b'n', power: -9 },
+    Scaling { letter: b'p', power: -12 },
+    Scaling { letter: b'f', power: -15 },
+];
 
 // Digits read so far: the number that they write, the same up to the last digit that is not 0, the zeros after that one, how many
 // stand after the point, whether there is a digit and a point, and where they end.
@@ -391,38 +401,42 @@ pub fn read_integer(s: &[u8]) -> Whole
     }
 }
 
-// The four bits of a word that stand at a place.
-fn four_bits(word: u64, place: u64) -> u64
-    requires { ⌜ place < 16 ⌝ }
-    ensures { λ r. ⌜ r ≡ fourBits word place ⌝ }
+// The power of ten that a letter scales by, 0 for "any other letter". All nine are looked at, from the last on, and the first that is
+// the letter stays: so no branch is left that a processor has to guess.
+fn power_of(b: u8) -> i8
+    ensures { λ r. ⌜ r ≡ powerIn scalings b ⌝ }
 {
-    (word >> (4 * place)) % 16
+    let mut power: i8 = 0;
+    let mut i: usize = 9;
+    while i > 0 {
+        i -= 1;
+        let scaling = SCALINGS[i];
+        if b == scaling.letter {
+            power = scaling.power;
+        }
+    }
+    power
 }
 
-// "the first scaling by T G M k m u n p f (12, 9, 6, 3, -3, -6, -9, -12, -15), any other letter by nothing".
+// By how much a power is above zero.
+fn above_zero(power: i8) -> u64
+    ensures { λ r. ⌜ r ≡ aboveZero power ⌝ }
+{
+    if power < 0 {
+        return 0;
+    }
+    power as u64
+}
+
+// What a letter raises by, and what it lowers by.
 fn scale_of(b: u8) -> Scale
     ensures { λ r. ⌜ r ≡ scaleOf b ⌝ }
 {
-    let letter = wide(b);
-    if letter < 71 {
-        return Scale { up: 0, down: 0 };
+    let power = power_of(b);
+    Scale {
+        up: above_zero(power),
+        down: above_zero(-power),
     }
-    if letter < 87 {
-        return Scale {
-            up: four_bits(CAPITALS_RAISE, letter - 71),
-            down: 0,
-        };
-    }
-    if letter < 102 {
-        return Scale { up: 0, down: 0 };
-    }
-    if letter < 118 {
-        return Scale {
-            up: four_bits(SMALLS_RAISE, letter - 102),
-            down: four_bits(SMALLS_LOWER, letter - 102),
-        };
-    }
-    Scale { up: 0, down: 0 }
 }
 
 // The scale of the letter that stands at `at`: none past the end.

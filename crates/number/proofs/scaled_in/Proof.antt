@@ -1,7 +1,7 @@
 -- `number::scaled_in` meets its contract: the first letter scales, and the word ends behind all.
 -- Assumes nothing.
 use Rattle.number.proofs.InLaws.{unknown-knows, scaled-short, scaled-long}
-use Rattle.number.proofs.ReadLaws.{scale-up, scale-down}
+use Rattle.number.proofs.ScaleLaws.{scale-up, scale-down}
 use borrow.Author.Needs.{needs}
 use Rattle.number.proofs.scaled_in.Statement.{statement}
 use Rattle.number.proofs.scaled_in.Tie as tie
