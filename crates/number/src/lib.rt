@@ -36,15 +36,42 @@ struct Scaling {
 
 // "the first scaling by T G M k m u n p f (12, 9, 6, 3, -3, -6, -9, -12, -15)": M is mega, m is milli.
 const SCALINGS: [Scaling; 9] = [
-    Scaling { letter: b'T', power: 12 },
-    Scaling { letter: b'G', power: 9 },
-    Scaling { letter: b'M', power: 6 },
-    Scaling { letter: b'k', power: 3 },
-    Scaling { letter: b'm', power: -3 },
-    Scaling { letter: b'u', power: -6 },
-    Scaling { letter: b'n', power: -9 },
-    Scaling { letter: b'p', power: -12 },
-    Scaling { letter: b'f', power: -15 },
+    Scaling {
+        letter: b'T',
+        power: 12,
+    },
+    Scaling {
+        letter: b'G',
+        power: 9,
+    },
+    Scaling {
+        letter: b'M',
+        power: 6,
+    },
+    Scaling {
+        letter: b'k',
+        power: 3,
+    },
+    Scaling {
+        letter: b'm',
+        power: -3,
+    },
+    Scaling {
+        letter: b'u',
+        power: -6,
+    },
+    Scaling {
+        letter: b'n',
+        power: -9,
+    },
+    Scaling {
+        letter: b'p',
+        power: -12,
+    },
+    Scaling {
+        letter: b'f',
+        power: -15,
+    },
 ];
 
 // Digits read so far: the number that they write, the same up to the last digit that is not 0, the zeros after that one, how many

@@ -1,0 +1,26 @@
+-- `number::scale_of` meets its contract.
+-- Assumes nothing.
+use borrow.Author.Needs.{needs}
+use Rattle.number.proofs.ScaleLaws.{negated-asked, scale-told}
+use Rattle.number.proofs.scale_of.Statement.{statement}
+use Rattle.number.proofs.scale_of.Tie as tie
+
+power-of-requires : tie.Need-power-of-requires
+power-of-requires c κs = search needs
+
+above-zero-requires : tie.Need-above-zero-requires
+above-zero-requires c κs = search needs
+
+sub-above-zero : tie.Need-sub-above-zero
+sub-above-zero c = search (needs, negated-asked)
+
+above-zero-requires-2 : tie.Need-above-zero-requires-2
+above-zero-requires-2 c κs = search needs
+
+returns : tie.Need-returns
+returns c = search (needs, scale-told)
+
+pub scale-of-spec : {M : Type 1} → statement M
+scale-of-spec =
+    tie.close
+    (tie.spec power-of-requires above-zero-requires sub-above-zero above-zero-requires-2 returns)
