@@ -1,4 +1,4 @@
--- `number::above_zero` meets its contract.
+-- `number::above_zero` meets its contract, by the sign.
 -- Assumes nothing.
 use borrow.Author.Needs.{needs}
 use Rattle.number.proofs.ScaleLaws.{not-above, above-cast, above-is}

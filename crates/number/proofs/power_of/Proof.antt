@@ -1,11 +1,11 @@
--- `number::power_of` meets its contract. The loop's invariant: what is found so far is the power among the letters from i on.
+-- `number::power_of` meets its contract. The loop's invariant: what is found so far is what the entries from i on give.
 -- Assumes nothing.
 use borrow.Author.Needs.{needs}
-use mir.Val.{ofZ}
-use mir.Syntax.{w8}
 use mathlib.Core.Path.{_≡_}
 use Prim.Native.Nat.{_≤_}
 use lib.ListN.{drop}
+use mir.Syntax.{w8}
+use mir.Val.{ofZ}
 use Rattle.number.specs.Number.{scalings, powerIn}
 use Rattle.number.proofs.ScaleLaws.{search-found, search-other, search-done}
 use Rattle.number.proofs.power_of.Statement.{statement}

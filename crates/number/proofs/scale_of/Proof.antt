@@ -1,7 +1,7 @@
--- `number::scale_of` meets its contract.
+-- `number::scale_of` meets its contract: a power and its negation, each as far as it is above zero.
 -- Assumes nothing.
 use borrow.Author.Needs.{needs}
-use Rattle.number.proofs.ScaleLaws.{negated-asked, scale-told}
+use Rattle.number.proofs.ScaleLaws.{negated-fits, scale-told}
 use Rattle.number.proofs.scale_of.Statement.{statement}
 use Rattle.number.proofs.scale_of.Tie as tie
 
@@ -12,7 +12,7 @@ above-zero-requires : tie.Need-above-zero-requires
 above-zero-requires c κs = search needs
 
 sub-above-zero : tie.Need-sub-above-zero
-sub-above-zero c = search (needs, negated-asked)
+sub-above-zero c = search (needs, negated-fits)
 
 above-zero-requires-2 : tie.Need-above-zero-requires-2
 above-zero-requires-2 c κs = search needs

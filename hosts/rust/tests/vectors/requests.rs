@@ -6,8 +6,8 @@ use std::fs;
 use crate::reading::{spelled, Reading, LISTING_WORDS};
 use crate::{bytes_of, hash, path, text_of};
 
-/// The request that landed last, of those that change an answer of the intake.
-const LANDED: &str = "3";
+/// The request that landed last, of those whose landings the answers are told for.
+const LANDED: &str = "2";
 
 /// The requests whose landing changes what a question is asked or answered.
 const ASKED_ANEW: [&str; 3] = ["9", "7", "4"];
