@@ -434,7 +434,7 @@ fn power_of(b: u8) -> i8
     ensures { λ r. ⌜ r ≡ powerIn scalings b ⌝ }
 {
     let mut power: i8 = 0;
-    let mut i: usize = 9;
+    let mut i = SCALINGS.len();
     while i > 0 {
         i -= 1;
         let scaling = SCALINGS[i];
