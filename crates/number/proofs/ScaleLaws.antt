@@ -42,14 +42,14 @@ unfolding if_then_else_ powerIn scaleBy scaleOf
 nine-give = refl
 
 abbrev letters : List Scaling → List ℕ
-letters l = map (λ (s : Scaling). s .letter) l
+letters l = map (λ (s : Scaling). s .0) l
 
 -- a byte outside a class that has all letters of a list
 outside : (class : ℕ → Bool) (b : ℕ) (l : List Scaling) → all class (letters l) ≡ true → class b ≡ false → powerIn l b ≡ pos 0
 unfolding all powerIn
 outside class b [] e out = refl
 outside class b (s ∷ l) e out =
-    if-false _ _ (ne-eqb b (s .letter) (λ (h : b ≡ s .letter). true≢false (sym (both-first _ _ e) ∙ ap class (sym h) ∙ out)))
+    if-false _ _ (ne-eqb b (s .0) (λ (h : b ≡ s .0). true≢false (sym (both-first _ _ e) ∙ ap class (sym h) ∙ out)))
     ∙ outside class b l (both-second _ _ e) out
 
 pub outside-gives-nothing : (class : ℕ → Bool) (b : ℕ) → all class (bytes "TGMkmunpf") ≡ true → class b ≡ false → scaleOf b ≡ nothing
@@ -65,13 +65,13 @@ others-give-nothing b e = outside-gives-nothing (λ (c : ℕ). not (eqb b c)) b 
 -- every power of a list is below 15, or from -15 on
 unfoldable little : List Scaling → Bool
 little [] = true
-little (s ∷ l) = both (ltb (mag (s .power)) 15) (little l)
+little (s ∷ l) = both (ltb (mag (s .1)) 15) (little l)
 
 little-in : (l : List Scaling) (b : ℕ) → little l ≡ true → mag (powerIn l b) < 15
 unfolding little powerIn
 little-in [] b e = omega arith
 little-in (s ∷ l) b e =
-    by-test (λ (z : ℤ). mag z < 15) (eqb b (s .letter)) (s .power) (powerIn l b)
+    by-test (λ (z : ℤ). mag z < 15) (eqb b (s .0)) (s .1) (powerIn l b)
     (λ h. ltb-true _ _ (both-first _ _ e))
     (λ h. little-in l b (both-second _ _ e))
 
@@ -106,23 +106,23 @@ power-fits b =
 
 -- what stands past the end of the table
 abbrev pub past : Scaling
-past = record { letter = 0; power = pos 0 }
+past = (0, pos 0)
 
 -- what the entries from one on give: that one's power if it is the letter's, or else what the later ones give
-power-from : (l : List Scaling) (i b : ℕ) → i < length l → powerIn (drop i l) b ≡ (if eqb b (getD l i past .letter) then getD l i past .power else powerIn (drop (suc i) l) b)
+power-from : (l : List Scaling) (i b : ℕ) → i < length l → powerIn (drop i l) b ≡ (if eqb b (getD l i past .0) then getD l i past .1 else powerIn (drop (suc i) l) b)
 unfolding powerIn
 power-from l i b h = rw (drop-cons l i past h) refl
 
 module _ (i b : ℕ) (some : 0 < i) (within : i ≤ 9) where
-  pub search-found : b ≡ getD scalings (i - 1) past .letter → ofZ w8 (getD scalings (i - 1) past .power) ≡ ofZ w8 (powerIn (drop (i - 1) scalings) b)
-  search-found same = ap (ofZ w8) (sym (power-from scalings (i - 1) b (omega arith) ∙ if-true _ _ (eq-eqb b (getD scalings (i - 1) past .letter) same)))
+  pub search-found : b ≡ getD scalings (i - 1) past .0 → ofZ w8 (getD scalings (i - 1) past .1) ≡ ofZ w8 (powerIn (drop (i - 1) scalings) b)
+  search-found same = ap (ofZ w8) (sym (power-from scalings (i - 1) b (omega arith) ∙ if-true _ _ (eq-eqb b (getD scalings (i - 1) past .0) same)))
 
-  pub search-other : (power : ℕ) → (b ≡ getD scalings (i - 1) past .letter → ⊥) → power ≡ ofZ w8 (powerIn (drop i scalings) b) → power ≡ ofZ w8 (powerIn (drop (i - 1) scalings) b)
+  pub search-other : (power : ℕ) → (b ≡ getD scalings (i - 1) past .0 → ⊥) → power ≡ ofZ w8 (powerIn (drop i scalings) b) → power ≡ ofZ w8 (powerIn (drop (i - 1) scalings) b)
   search-other power other inv =
       let next : i ≡ suc (i - 1) = omega arith in
       inv
       ∙ ap (λ (k : ℕ). ofZ w8 (powerIn (drop k scalings) b)) next
-      ∙ ap (ofZ w8) (sym (power-from scalings (i - 1) b (omega arith) ∙ if-false _ _ (ne-eqb b (getD scalings (i - 1) past .letter) other)))
+      ∙ ap (ofZ w8) (sym (power-from scalings (i - 1) b (omega arith) ∙ if-false _ _ (ne-eqb b (getD scalings (i - 1) past .0) other)))
 
 pub search-done : (i b power : ℕ) → i ≤ 0 → power ≡ ofZ w8 (powerIn (drop i scalings) b) → toZ w8 power ≡ powerIn scalings b
 search-done i b power done inv =

@@ -90,11 +90,11 @@ exponentOf s from = if isE (getD s from 0) then exponentAt s from (pastSign s (f
 -- a letter that raises the power of ten, or lowers it, by so much
 infix 80 _raises_
 abbrev pub _raises_ : ℕ → ℕ → Scaling
-letter raises power = record { letter = letter; power = pos power }
+letter raises power = (letter, pos power)
 
 infix 80 _lowers_
 abbrev pub _lowers_ : ℕ → ℕ → Scaling
-letter lowers power = record { letter = letter; power = negℤ (pos power) }
+letter lowers power = (letter, negℤ (pos power))
 
 -- "the first scaling by T G M k m u n p f (12, 9, 6, 3, -3, -6, -9, -12, -15)"
 abbrev pub scalings : List Scaling
@@ -113,7 +113,7 @@ scalings =
 -- the power of a letter, looked for in a list; "any other letter by nothing"
 unfoldable pub powerIn : List Scaling → ℕ → ℤ
 powerIn [] b = pos 0
-powerIn (s ∷ others) b = if eqb b (s .letter) then s .power else powerIn others b
+powerIn (s ∷ others) b = if eqb b (s .0) then s .1 else powerIn others b
 
 -- by how much a number is above zero
 abbrev pub aboveZero : ℤ → ℕ

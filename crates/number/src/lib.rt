@@ -29,49 +29,19 @@ const MOST_EXPONENT: usize = 9;
 const ROOM: usize = 40;
 
 // A letter that scales a number, and the power of ten that it scales by.
-struct Scaling {
-    letter: u8,
-    power: i8,
-}
+struct Scaling(u8, i8);
 
 // "the first scaling by T G M k m u n p f (12, 9, 6, 3, -3, -6, -9, -12, -15)": M is mega, m is milli.
 const SCALINGS: [Scaling; 9] = [
-    Scaling {
-        letter: b'T',
-        power: 12,
-    },
-    Scaling {
-        letter: b'G',
-        power: 9,
-    },
-    Scaling {
-        letter: b'M',
-        power: 6,
-    },
-    Scaling {
-        letter: b'k',
-        power: 3,
-    },
-    Scaling {
-        letter: b'm',
-        power: -3,
-    },
-    Scaling {
-        letter: b'u',
-        power: -6,
-    },
-    Scaling {
-        letter: b'n',
-        power: -9,
-    },
-    Scaling {
-        letter: b'p',
-        power: -12,
-    },
-    Scaling {
-        letter: b'f',
-        power: -15,
-    },
+    Scaling(b'T', 12),
+    Scaling(b'G', 9),
+    Scaling(b'M', 6),
+    Scaling(b'k', 3),
+    Scaling(b'm', -3),
+    Scaling(b'u', -6),
+    Scaling(b'n', -9),
+    Scaling(b'p', -12),
+    Scaling(b'f', -15),
 ];
 
 // Digits read so far: the number that they write, the same up to the last digit that is not 0, the zeros after that one, how many
@@ -438,8 +408,8 @@ fn power_of(b: u8) -> i8
     while i > 0 {
         i -= 1;
         let scaling = SCALINGS[i];
-        if b == scaling.letter {
-            power = scaling.power;
+        if b == scaling.0 {
+            power = scaling.1;
         }
     }
     power
