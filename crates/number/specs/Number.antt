@@ -110,7 +110,7 @@ scalings =
     ∷ code "f" lowers 15
     ∷ []
 
--- the power of a letter, looked for in a list; "any other letter by nothing"
+-- the power of a letter, searched for in a list; "any other letter by nothing"
 unfoldable pub powerIn : List Scaling → ℕ → ℤ
 powerIn [] b = pos 0
 powerIn (s ∷ others) b = if eqb b (s .0) then s .1 else powerIn others b
@@ -124,6 +124,7 @@ aboveZero (negsuc n) = 0
 unfoldable pub scaleBy : ℤ → Scale
 scaleBy power = record { up = aboveZero power; down = aboveZero (negℤ power) }
 
+-- what a letter raises and lowers by
 unfoldable pub scaleOf : ℕ → Scale
 scaleOf b = scaleBy (powerIn scalings b)
 

@@ -31,17 +31,17 @@ const ROOM: usize = 40;
 // A letter that scales a number, and the power of ten that it scales by.
 struct Scaling(u8, i8);
 
-// "the first scaling by T G M k m u n p f (12, 9, 6, 3, -3, -6, -9, -12, -15)": M is mega, m is milli.
+// "the first scaling by T G M k m u n p f (12, 9, 6, 3, -3, -6, -9, -12, -15)". Case counts: 1M is a million, 1m a thousandth.
 const SCALINGS: [Scaling; 9] = [
-    Scaling(b'T', 12),
-    Scaling(b'G', 9),
-    Scaling(b'M', 6),
-    Scaling(b'k', 3),
-    Scaling(b'm', -3),
-    Scaling(b'u', -6),
-    Scaling(b'n', -9),
-    Scaling(b'p', -12),
-    Scaling(b'f', -15),
+    Scaling(b'T', 12), // tera
+    Scaling(b'G', 9), // giga
+    Scaling(b'M', 6), // mega
+    Scaling(b'k', 3), // kilo
+    Scaling(b'm', -3), // milli
+    Scaling(b'u', -6), // micro
+    Scaling(b'n', -9), // nano
+    Scaling(b'p', -12), // pico
+    Scaling(b'f', -15), // femto
 ];
 
 // Digits read so far: the number that they write, the same up to the last digit that is not 0, the zeros after that one, how many
@@ -398,8 +398,8 @@ pub fn read_integer(s: &[u8]) -> Whole
     }
 }
 
-// The power of ten that a letter scales by, 0 for "any other letter". All nine are looked at, from the last on, and the first that is
-// the letter stays: so no branch is left that a processor has to guess.
+// The power of ten that a letter scales by, 0 for "any other letter". All nine entries are looked at, from the last to the first, and what
+// the first one with the letter says stays: so there is no branch that a processor has to guess.
 fn power_of(b: u8) -> i8
     ensures { λ r. ⌜ r ≡ powerIn scalings b ⌝ }
 {
