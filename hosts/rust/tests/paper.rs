@@ -97,6 +97,21 @@ fn entries_by_address() {
     assert_eq!((value.negative(), value.size(), value.exponent(), value.to_f64()), (false, 45, -10, 4.5e-9));
 }
 
+/// "the first scaling by T G M k m u n p f (12, 9, 6, 3, -3, -6, -9, -12, -15), any other letter by nothing", for numbers of few bytes and of many.
+#[test]
+fn each_letter_scales() {
+    let powers = [('T', 12), ('G', 9), ('M', 6), ('k', 3), ('m', -3), ('u', -6), ('n', -9), ('p', -12), ('f', -15)];
+    for letter in ('A'..='Z').chain('a'..='z') {
+        let power = powers.iter().find(|scaling| scaling.0 == letter).map_or(0, |scaling| scaling.1);
+        for zeros in [0, 40] {
+            let word = format!("{}8{letter}H", "0".repeat(zeros));
+            let file = Intake::read(edited("0.8nH", &word)).expect("accepted");
+            let value = file.entry("S", Kind::Inductance, 1, 2).expect("S L 1 2");
+            assert_eq!((value.size(), value.exponent()), (8, power), "{word}");
+        }
+    }
+}
+
 #[test]
 fn entries_that_are_not_there() {
     let file = paper();
