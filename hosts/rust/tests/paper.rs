@@ -105,8 +105,8 @@ fn each_letter_scales() {
         let power = powers.iter().find(|scaling| scaling.0 == letter).map_or(0, |scaling| scaling.1);
         for zeros in [0, 40] {
             let word = format!("{}8{letter}H", "0".repeat(zeros));
-            let file = Intake::read(edited("0.8nH", &word)).expect("accepted");
-            let value = file.entry("S", Kind::Inductance, 1, 2).expect("S L 1 2");
+            let file = Intake::read(edited("4.50nH", &word)).expect("accepted");
+            let value = file.entry("S", Kind::Inductance, 1, 1).expect("S L 1 1");
             assert_eq!((value.size(), value.exponent()), (8, power), "{word}");
         }
     }
