@@ -25,13 +25,13 @@ use Rattle.number.specs.Number.{scalings, powerIn, aboveZero, scaleBy, s
 
 -- ---- what the letters give
 
-abbrev pub up : ℕ → Scale
+abbrev up : ℕ → Scale
 up n = record { up = n; down = 0 }
 
-abbrev pub down : ℕ → Scale
+abbrev down : ℕ → Scale
 down n = record { up = 0; down = n }
 
-abbrev pub nothing : Scale
+abbrev nothing : Scale
 nothing = record { up = 0; down = 0 }
 
 -- each of the nine
@@ -62,7 +62,7 @@ others-give-nothing b e = outside-gives-nothing (λ (c : ℕ). not (eqb b c)) b 
 
 -- ---- no letter scales by more than 15
 
--- every power of a list is below 15, or from -15 on
+-- every power of a list is from -15 to 14
 unfoldable little : List Scaling → Bool
 little [] = true
 little (s ∷ l) = both (ltb (mag (s .1)) 15) (little l)
@@ -79,22 +79,24 @@ power-little : (b : ℕ) → mag (powerIn scalings b) < 15
 unfolding little both
 power-little b = little-in scalings b refl
 
-raises-little : (z : ℤ) → mag z < 15 → aboveZero z ≤ 15
-raises-little (pos n) h = omega arith
-raises-little (negsuc n) h = omega arith
+negated-little : (z : ℤ) → mag z < 15 → mag (negℤ z) < 16
+negated-little (pos zero) h = omega arith
+negated-little (pos (suc n)) h = omega arith
+negated-little (negsuc n) h = omega arith
 
-lowers-little : (z : ℤ) → mag z < 15 → aboveZero (negℤ z) ≤ 15
-lowers-little (pos zero) h = omega arith
-lowers-little (pos (suc n)) h = omega arith
-lowers-little (negsuc n) h = omega arith
+above-little : (z : ℤ) → mag z < 16 → aboveZero z ≤ 15
+above-little (pos n) h = omega arith
+above-little (negsuc n) h = omega arith
 
 pub scale-up : (c : Scale) (b : ℕ) → c ≡ scaleOf b → c .up ≤ 15
 unfolding scaleBy scaleOf
-scale-up c b e = rw e (raises-little (powerIn scalings b) (power-little b))
+scale-up c b e =
+    let h : mag (powerIn scalings b) < 15 = power-little b in
+    rw e (above-little (powerIn scalings b) (omega arith))
 
 pub scale-down : (c : Scale) (b : ℕ) → c ≡ scaleOf b → c .down ≤ 15
 unfolding scaleBy scaleOf
-scale-down c b e = rw e (lowers-little (powerIn scalings b) (power-little b))
+scale-down c b e = rw e (above-little (negℤ (powerIn scalings b)) (negated-little (powerIn scalings b) (power-little b)))
 
 -- ---- the search. The machine has a signed number as its bits, `ofZ w8 z`, and reads it back by `toZ w8`
 
@@ -105,7 +107,7 @@ power-fits b =
     record { sfits = omega arith }
 
 -- what stands past the end of the table
-abbrev pub past : Scaling
+abbrev past : Scaling
 past = (0, pos 0)
 
 -- what the entries from one on give: that one's power if it is the letter's, or else what the later ones give
@@ -153,11 +155,6 @@ module _ (z : ℤ) (fits : SFits w8 z) where
   above-is e = rw (toZ-ofZ fits) (above-at z (rw (toZ-ofZ fits) at e) .1)
 
 -- ---- what raises and what lowers
-
-negated-little : (z : ℤ) → mag z < 15 → mag (negℤ z) < 16
-negated-little (pos zero) h = omega arith
-negated-little (pos (suc n)) h = omega arith
-negated-little (negsuc n) h = omega arith
 
 module _ (b : ℕ) (power : ℤ) (told : power ≡ powerIn scalings b) where
   read-back : toZ w8 (ofZ w8 power) ≡ powerIn scalings b

@@ -115,7 +115,7 @@ unfoldable pub powerIn : List Scaling → ℕ → ℤ
 powerIn [] b = pos 0
 powerIn (s ∷ others) b = if eqb b (s .0) then s .1 else powerIn others b
 
--- by how much a number is above zero
+-- by how much a number is above zero; 0 where it is below
 abbrev pub aboveZero : ℤ → ℕ
 aboveZero (pos n) = n
 aboveZero (negsuc n) = 0

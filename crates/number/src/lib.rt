@@ -415,7 +415,7 @@ fn power_of(b: u8) -> i8
     power
 }
 
-// By how much a power is above zero.
+// By how much a power is above zero; 0 where it is below.
 fn above_zero(power: i8) -> u64
     ensures { λ r. ⌜ r ≡ aboveZero power ⌝ }
 {

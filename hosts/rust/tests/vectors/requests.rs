@@ -6,7 +6,7 @@ use std::fs;
 use crate::reading::{spelled, Reading, LISTING_WORDS};
 use crate::{bytes_of, hash, path, text_of};
 
-/// The request that landed last, of those whose landings the answers are told for.
+/// The request that landed last, of those that the tables of answers have a column for.
 const LANDED: &str = "2";
 
 /// The requests whose landing changes what a question is asked or answered.
