@@ -1,10 +1,12 @@
 //! A plain reading of ICM 1.1 intake files: a text and a lent table go in, words used or a refusal come out.
-//! Beside the intake stand the questions over a filled table (soundness, entry, walk step) and its listing.
+//! Beside the intake stand the questions over a filled table (soundness, entry, walk step), its listing and the
+//! doubles of its values.
 
 #![forbid(unsafe_code)]
 #![warn(missing_docs)]
 
 mod document;
+mod double;
 mod family;
 mod header;
 mod keyword;
@@ -24,6 +26,7 @@ mod sound;
 mod table;
 mod words;
 
+pub use double::{double_of, pair_of};
 pub use listing::listing;
 pub use number::value;
 pub use questions::{entry, step, Place, Walked};
