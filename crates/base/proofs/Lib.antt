@@ -3,3 +3,4 @@ pub mod RunLaws
 pub mod JoinedLaws
 pub mod BrokenLaws
 pub mod StoreLaws
+pub mod TableLaws

@@ -1,4 +1,3 @@
-pub mod TableLaws
 pub mod ByteLaws
 pub mod AllLaws
 pub mod LookupLaws

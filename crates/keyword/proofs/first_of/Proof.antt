@@ -2,8 +2,8 @@
 -- Assumes nothing.
 use mathlib.Core.Path.{_∙_}
 use Rattle.base.specs.If.{if_then_else_}
+use Rattle.base.proofs.TableLaws.{listed-at}
 use Rattle.keyword.specs.Lookup.{shorter, firstOf}
-use Rattle.keyword.proofs.TableLaws.{listed-at}
 use borrow.Author.Needs.{needs}
 use Rattle.keyword.proofs.first_of.Statement.{statement}
 use Rattle.keyword.proofs.first_of.Tie as tie
@@ -16,7 +16,7 @@ from-byte-requires c κs = search needs
 
 returns : tie.Need-returns
 unfolding firstOf shorter if_then_else_
-returns c = c .from-byte .ensures ∙ listed-at firstOf 24 (c .before .args .size) (search needs)
+returns c = c .from-byte .ensures ∙ listed-at firstOf 0 24 (c .before .args .size) (search needs)
 
 pub first-of-spec : {M : Type 1} → statement M
 first-of-spec = tie.close (tie.spec array-read-from-byte from-byte-requires returns)

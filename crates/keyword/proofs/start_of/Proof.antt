@@ -1,8 +1,8 @@
 -- `keyword::start_of` meets its contract: the table is what the rule lists, which the checker computes.
 -- Assumes nothing.
 use mathlib.Core.Path.{_∙_}
+use Rattle.base.proofs.TableLaws.{listed-at}
 use Rattle.keyword.specs.Lookup.{joined, startOf}
-use Rattle.keyword.proofs.TableLaws.{listed-at}
 use borrow.Author.Needs.{needs}
 use Rattle.keyword.proofs.start_of.Statement.{statement}
 use Rattle.keyword.proofs.start_of.Tie as tie
@@ -18,7 +18,7 @@ from-short-requires c κs = search needs
 
 returns : tie.Need-returns
 unfolding startOf joined
-returns c = c .from-short .ensures ∙ listed-at startOf 40 (c .before .args .key) (search needs)
+returns c = c .from-short .ensures ∙ listed-at startOf 0 40 (c .before .args .key) (search needs)
 
 pub start-of-spec : {M : Type 1} → statement M
 start-of-spec =
