@@ -15,13 +15,15 @@
 #include <stdbool.h>
 #include <stddef.h>
 #include <stdint.h>
+#include <string.h>
 
 #ifdef __cplusplus
 extern "C" {
 #endif
 
-/* How many words an answer has: of the intake, an entry and a whole matrix, and of a walk. */
+/* How many words an answer has: of the intake, an entry, a whole matrix and a double, of a pair of doubles, and of a walk. */
 #define SKUMVARI_ANSWER_WORDS 4
+#define SKUMVARI_PAIR_WORDS 5
 #define SKUMVARI_WALK_WORDS 13
 
 /* The words of an answer. The first is 1 where what was asked for is given, and 0 where it is refused: then the number and the line of the
@@ -30,7 +32,13 @@ enum skumvari_answer {
     SKUMVARI_GIVEN = 0,
     SKUMVARI_NUMBER = 1,
     SKUMVARI_LINE = 2,
-    SKUMVARI_WORD = 3 /* intake: words used; entry: the value word; whole matrix: N */
+    SKUMVARI_WORD = 3 /* intake: words used; entry: the value word; whole matrix: N; double: its bits */
+};
+
+/* The words of a pair's answer; the first three as above. */
+enum skumvari_pair_answer {
+    SKUMVARI_FREQUENCY_BITS = 3,
+    SKUMVARI_VALUE_BITS = 4
 };
 
 /* The words of a walk's answer; the first three as above. */
@@ -122,6 +130,23 @@ bool skumvari_walk(const uint8_t *text, size_t text_length, const uint64_t *tabl
  * found, number, line, N. Found 0 with number 0 says that the values are fewer than N times N; they are left as they were, and N is told. */
 bool skumvari_matrix(const uint8_t *text, size_t text_length, const uint64_t *table, size_t table_length, uint64_t section, uint64_t kind,
                      uint64_t *values, size_t values_length, uint64_t *answer, size_t answer_length);
+
+/* The double of a value word, for drawing: m times ten to the k, rounded once; where that is a whole number below two to the 53 it is the number
+ * itself, and zero is plus zero. Answer: drawn, 0, 0, the double's bits. Every word is 0 where the word is outside: k is not from -22 to 22, or the
+ * word is no value word. Then there is no number to draw; only the first word tells this from zero. */
+bool skumvari_double(uint64_t word, uint64_t *answer, size_t answer_length);
+
+/* The doubles of a frequency and a value, which are value words. Answer: drawn, 0, 0, and the bits of each (enum skumvari_pair_answer). Every word is 0
+ * if either is outside. */
+bool skumvari_pair(uint64_t frequency, uint64_t value, uint64_t *answer, size_t answer_length);
+
+/* The double that has these bits. */
+static inline double skumvari_double_of_bits(uint64_t bits)
+{
+    double number;
+    memcpy(&number, &bits, sizeof number);
+    return number;
+}
 
 #ifdef __cplusplus
 }

@@ -67,6 +67,30 @@ pub outside-word : (w : ℕ) → isValueWord w ≡ false → drawnOf w ≡ Outsi
 unfolding drawnOf isDrawn
 outside-word w e = if-false _ _ (both-not-left _ _ e)
 
+abbrev IsPair : DrawnPair → Type 0
+IsPair (Pair x y) = Unit {0}
+IsPair pairs.Outside = ⊥
+
+abbrev firstIn : DrawnPair → Drawn
+firstIn (Pair x y) = Value x
+firstIn pairs.Outside = Outside
+
+abbrev secondIn : DrawnPair → Drawn
+secondIn (Pair x y) = Value y
+secondIn pairs.Outside = Outside
+
+first-of : (p q : Drawn) (x y : Float) → paired p q ≡ Pair x y → p ≡ Value x
+unfolding paired
+first-of (Value a) (Value b) x y e = ap firstIn e
+first-of (Value a) Outside x y e = absurd (subst IsPair (sym e) tt)
+first-of Outside q x y e = absurd (subst IsPair (sym e) tt)
+
+second-of : (p q : Drawn) (x y : Float) → paired p q ≡ Pair x y → q ≡ Value y
+unfolding paired
+second-of (Value a) (Value b) x y e = ap secondIn e
+second-of (Value a) Outside x y e = absurd (subst IsPair (sym e) tt)
+second-of Outside q x y e = absurd (subst IsPair (sym e) tt)
+
 -- "drawing a pair of a frequency and a value answers outside if either is"
 module _ (frequency value : ℕ) where
   pub pair-without-frequency : drawnOf frequency ≡ Outside → paired (drawnOf frequency) (drawnOf value) ≡ pairs.Outside
@@ -84,6 +108,14 @@ module _ (frequency value : ℕ) where
   pub pair-of-both : (x y : Float) → drawnOf frequency ≡ Value x → drawnOf value ≡ Value y → paired (drawnOf frequency) (drawnOf value) ≡ Pair x y
   unfolding paired
   pair-of-both x y e f = rw (e, f)
+
+-- a pair that is drawn is of two that are drawn
+module _ (frequency value : ℕ) (x y : Float) (e : paired (drawnOf frequency) (drawnOf value) ≡ Pair x y) where
+  pub pair-frequency : drawnOf frequency ≡ Value x
+  pair-frequency = first-of (drawnOf frequency) (drawnOf value) x y e
+
+  pub pair-value : drawnOf value ≡ Value y
+  pair-value = second-of (drawnOf frequency) (drawnOf value) x y e
 
 -- ---- what an answer tells of its word
 

@@ -1,11 +1,13 @@
 -- Laws of the answers to hosts: what is lent has room or is left alone, and the words of each case are those of the layout.
 -- Assumes nothing.
 use mathlib.Core.Path.{_≡_, refl, sym, _∙_, ap}
-use mathlib.Core.Bool.{true, false}
+use mathlib.Core.Bool.{true, false, not}
 use mathlib.Core.List.{List, [], _∷_}
 use Prim.Native.Nat.{ℕ, _≤_, _<_}
 use lib.ListN.{length, replicate}
 use lib.Seq.{sets}
+use lib.Dec.{T}
+use lib.Ieee.{Float, binary64, toBits, isNan}
 use borrow.Author.Tests.{le-leb, lt-leb}
 use Rattle.base.proofs.IfLaws.{if-true, if-false}
 use Rattle.intake.specs.Verdict as verdicts
@@ -22,7 +24,13 @@ use Rattle.walk.specs.declared.Walked.the-variants as walked
 use Rattle.whole_matrix.specs.WholeMatrix as matrices
 use Rattle.whole_matrix.specs.declared.Whole.{Whole}
 use Rattle.whole_matrix.specs.declared.Whole.the-variants as whole
-use Rattle.skumvari.specs.Words.{flag, intakeLayout, entryLayout, stepLayout, walkLayout, matrixLayout, isRoom, answered, tableAfter, valuesAfter}
+use Rattle.double.specs.Double.{drawnOf, paired}
+use Rattle.double.specs.declared.Drawn.{Drawn}
+use Rattle.double.specs.declared.Drawn.the-variants as drawn
+use Rattle.double.specs.declared.DrawnPair.{DrawnPair}
+use Rattle.double.specs.declared.DrawnPair.the-variants as pair
+use Rattle.double.proofs.CurveLaws.{never-nan, pair-frequency, pair-value}
+use Rattle.skumvari.specs.Words.{flag, intakeLayout, entryLayout, stepLayout, walkLayout, matrixLayout, doubleLayout, pairLayout, isRoom, answered, tableAfter, valuesAfter}
 
 -- ---- what is lent
 
@@ -146,6 +154,35 @@ module _ (lent after : List ℕ) where
     matrix-refused number e h =
         answer-same _ _ lent after
         ((λ i. flag-false i ∷ number ∷ 0 ∷ 0 ∷ []) ∙ (λ i. matrixLayout (matrices.wholeWords (sym e i))) ∙ ap matrixLayout is) h
+
+  module _ (answer told : Drawn) (is : answer ≡ told) where
+    pub double-drawn : (x : Float) → answer ≡ drawn.Value x → after ≡ answered (1 ∷ 0 ∷ 0 ∷ toBits binary64 x ∷ []) lent → after ≡ answered (doubleLayout told) lent
+    unfolding doubleLayout
+    double-drawn x e h = rw (← is, e) h
+
+    pub double-outside : answer ≡ drawn.Outside → after ≡ answered (0 ∷ 0 ∷ 0 ∷ 0 ∷ []) lent → after ≡ answered (doubleLayout told) lent
+    unfolding doubleLayout
+    double-outside e h = rw (← is, e) h
+
+  module _ (answer told : DrawnPair) (is : answer ≡ told) where
+    pub pair-drawn : (x y : Float) → answer ≡ pair.Pair x y → after ≡ answered (1 ∷ 0 ∷ 0 ∷ toBits binary64 x ∷ toBits binary64 y ∷ []) lent → after ≡ answered (pairLayout told) lent
+    unfolding pairLayout
+    pair-drawn x y e h = rw (← is, e) h
+
+    pub pair-outside : answer ≡ pair.Outside → after ≡ answered (0 ∷ 0 ∷ 0 ∷ 0 ∷ 0 ∷ []) lent → after ≡ answered (pairLayout told) lent
+    unfolding pairLayout
+    pair-outside e h = rw (← is, e) h
+
+-- a double that is drawn has bits: it is no NaN
+pub double-bits : (answer : Drawn) (word : ℕ) (x : Float) → answer ≡ drawnOf word → answer ≡ drawn.Value x → T (not (isNan x))
+double-bits answer word x is e = never-nan word x (sym is ∙ e)
+
+module _ (answer : DrawnPair) (frequency value : ℕ) (x y : Float) (is : answer ≡ paired (drawnOf frequency) (drawnOf value)) (e : answer ≡ pair.Pair x y) where
+  pub frequency-bits : T (not (isNan x))
+  frequency-bits = never-nan frequency x (pair-frequency frequency value x y (sym is ∙ e))
+
+  pub value-bits : T (not (isNan y))
+  value-bits = never-nan value y (pair-value frequency value x y (sym is ∙ e))
 
 -- an answer that is too short is left as it was, whatever it was to hold
 module _ (lent : List ℕ) (short : length lent < 4) where

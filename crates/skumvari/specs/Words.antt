@@ -7,6 +7,7 @@ use mathlib.Core.List.{List, [], _∷_}
 use lib.ListN.{length, replicate}
 use lib.Seq.{sets}
 use lib.Dec.{leb}
+use lib.Ieee.{binary64, toBits}
 use Rattle.base.specs.If.{if_then_else_}
 use Rattle.intake.specs.Verdict.{Outcome}
 use Rattle.entry.specs.Entry.{EntryWords}
@@ -14,6 +15,10 @@ use Rattle.walk.specs.Walk.{WalkWords}
 use Rattle.walk.specs.declared.Place.{Place}
 use Rattle.walk.specs.declared.StepWords.{StepWords}
 use Rattle.whole_matrix.specs.WholeMatrix.{MatrixWords}
+use Rattle.double.specs.declared.Drawn.{Drawn}
+use Rattle.double.specs.declared.Drawn.the-variants as drawn
+use Rattle.double.specs.declared.DrawnPair.{DrawnPair}
+use Rattle.double.specs.declared.DrawnPair.the-variants as pair
 
 unfoldable pub flag : Bool → ℕ
 flag truth = if truth then 1 else 0
@@ -38,6 +43,16 @@ walkLayout w = flag (w .answered) ∷ w .number ∷ w .line ∷ flag (w .done) �
 -- whole matrix: found, number, line, N
 unfoldable pub matrixLayout : MatrixWords → List ℕ
 matrixLayout m = flag (m .found) ∷ m .number ∷ m .line ∷ m .conductors ∷ []
+
+-- double: drawn, no number, no line, the double's bits; all 0 where the word is outside
+unfoldable pub doubleLayout : Drawn → List ℕ
+doubleLayout (drawn.Value x) = 1 ∷ 0 ∷ 0 ∷ toBits binary64 x ∷ []
+doubleLayout drawn.Outside = 0 ∷ 0 ∷ 0 ∷ 0 ∷ []
+
+-- pair: the same with the bits of the frequency's double and of the value's
+unfoldable pub pairLayout : DrawnPair → List ℕ
+pairLayout (pair.Pair x y) = 1 ∷ 0 ∷ 0 ∷ toBits binary64 x ∷ toBits binary64 y ∷ []
+pairLayout pair.Outside = 0 ∷ 0 ∷ 0 ∷ 0 ∷ 0 ∷ []
 
 -- what is lent for an answer of so many words is long enough
 unfoldable pub isRoom : ℕ → List ℕ → Bool

@@ -8,8 +8,11 @@ ghost use Rattle.intake.specs.Verdict.{verdictOf, tableFor};
 ghost use Rattle.entry.specs.Entry as entries;
 ghost use Rattle.walk.specs.Walk as walks;
 ghost use Rattle.whole_matrix.specs.WholeMatrix.{wholeOf, roomAfter};
-ghost use Rattle.skumvari.specs.Words.{intakeLayout, entryLayout, walkLayout, matrixLayout, stepLayout, isRoom, answered, tableAfter, valuesAfter};
+ghost use Rattle.double.specs.Double.{drawnOf, paired};
+ghost use Rattle.skumvari.specs.Words.{intakeLayout, entryLayout, walkLayout, matrixLayout, doubleLayout, pairLayout, stepLayout, isRoom, answered, tableAfter, valuesAfter};
 ghost use Rattle.skumvari.specs.Room.{mostWords};
+use double::Drawn;
+use double::DrawnPair;
 use entry::Answer;
 use walk::Place;
 use walk::StepWords;
@@ -18,8 +21,10 @@ use whole_matrix::Whole;
 
 const TABLE_WORDS: usize = 237_319;
 
-// How many words an answer has: of the intake, an entry or a whole matrix, and of a walk.
+// How many words an answer has: of the intake, an entry, a whole matrix or a double, of a pair of doubles, and of a walk.
 const ANSWER_WORDS: usize = 4;
+
+const PAIR_WORDS: usize = 5;
 
 const WALK_WORDS: usize = 13;
 
@@ -32,6 +37,16 @@ fn put_answer(answer: &mut [u64], given: u64, number: u64, line: u64, word: u64)
         return false;
     }
     base::put_words(answer, 0, &[given, number, line, word]);
+    true
+}
+
+fn put_pair(answer: &mut [u64], given: u64, frequency: u64, value: u64) -> bool
+    ensures { λ r. ⌜ (r ≡ isRoom 5 (now (answer .entry))) × (now (answer .exit) ≡ answered (given ∷ 0 ∷ 0 ∷ frequency ∷ value ∷ []) (now (answer .entry))) ⌝ }
+{
+    if answer.len() < PAIR_WORDS {
+        return false;
+    }
+    base::put_words(answer, 0, &[given, 0, 0, frequency, value]);
     true
 }
 
@@ -187,5 +202,29 @@ pub extern "C" fn skumvari_matrix(
         Whole::Found(conductors) => put_answer(answer, 1, 0, 0, conductors),
         Whole::Short(conductors) => put_answer(answer, 0, 0, 0, conductors),
         Whole::Refused(number) => put_answer(answer, 0, number, 0, 0),
+    }
+}
+
+// The double of a value word, as its bits.
+#[no_mangle]
+pub extern "C" fn skumvari_double(word: u64, answer: &mut [u64]) -> bool
+    ensures { λ r. ⌜ r ≡ isRoom 4 (now (answer .entry)) ⌝ }
+    ensures { λ _. ⌜ now (answer .exit) ≡ answered (doubleLayout (drawnOf word)) (now (answer .entry)) ⌝ }
+{
+    match double::double_of(word) {
+        Drawn::Value(x) => put_answer(answer, 1, 0, 0, f64::to_bits(x)),
+        Drawn::Outside => put_answer(answer, 0, 0, 0, 0),
+    }
+}
+
+// The doubles of a frequency and a value, as their bits.
+#[no_mangle]
+pub extern "C" fn skumvari_pair(frequency: u64, value: u64, answer: &mut [u64]) -> bool
+    ensures { λ r. ⌜ r ≡ isRoom 5 (now (answer .entry)) ⌝ }
+    ensures { λ _. ⌜ now (answer .exit) ≡ answered (pairLayout (paired (drawnOf frequency) (drawnOf value))) (now (answer .entry)) ⌝ }
+{
+    match double::pair_of(frequency, value) {
+        DrawnPair::Pair(x, y) => put_pair(answer, 1, f64::to_bits(x), f64::to_bits(y)),
+        DrawnPair::Outside => put_pair(answer, 0, 0, 0),
     }
 }

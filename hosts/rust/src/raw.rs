@@ -7,8 +7,10 @@ use std::fmt;
 
 use crate::{sys, Refusal, Value};
 
-/// How many words the answer of the intake, of an entry and of a whole matrix has.
+/// How many words the answer of the intake, of an entry, of a whole matrix and of a double has.
 const ANSWER_WORDS: usize = 4;
+/// How many words the answer of a pair of doubles has.
+const PAIR_WORDS: usize = 5;
 /// How many words the answer of a walk has.
 const WALK_WORDS: usize = 13;
 
@@ -139,11 +141,26 @@ impl fmt::Display for MatrixError {
 
 impl std::error::Error for MatrixError {}
 
+/// The double of a value word, m times ten to the k, rounded once. `None` is outside: k is not from -22 to 22, or the word is no value word.
+pub fn double(word: u64) -> Option<f64> {
+    let mut answer = [0; ANSWER_WORDS];
+    let lent = sys::double(word, &mut answer);
+    is_given(lent, &answer).then(|| f64::from_bits(answer[3]))
+}
+
+/// The doubles of a frequency and a value, both value words. `None` if either is outside.
+pub fn pair(frequency: u64, value: u64) -> Option<(f64, f64)> {
+    let mut answer = [0; PAIR_WORDS];
+    let lent = sys::pair(frequency, value, &mut answer);
+    is_given(lent, &answer).then(|| (f64::from_bits(answer[3]), f64::from_bits(answer[4])))
+}
+
 /// The first three words of every answer: given, number, line.
 fn given(lent: bool, answer: &[u64]) -> Result<(), Refusal> {
+    is_given(lent, answer).then_some(()).ok_or_else(|| Refusal::new(answer[1], answer[2]))
+}
+
+fn is_given(lent: bool, answer: &[u64]) -> bool {
     assert!(lent, "the words lent for an answer are as many as the header asks for");
-    match answer[0] {
-        1 => Ok(()),
-        _ => Err(Refusal::new(answer[1], answer[2])),
-    }
+    answer[0] == 1
 }

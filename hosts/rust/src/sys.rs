@@ -48,6 +48,8 @@ mod archive {
             answer: *mut u64,
             answer_length: usize,
         ) -> bool;
+        pub fn skumvari_double(word: u64, answer: *mut u64, answer_length: usize) -> bool;
+        pub fn skumvari_pair(frequency: u64, value: u64, answer: *mut u64, answer_length: usize) -> bool;
     }
 }
 
@@ -135,4 +137,14 @@ pub fn matrix(text: &[u8], table: &[u64], address: [u64; 2], values: &mut [u64],
             answer.len(),
         )
     }
+}
+
+pub fn double(word: u64, answer: &mut [u64]) -> bool {
+    // SAFETY: the pointer and the length are those of a slice.
+    unsafe { archive::skumvari_double(word, answer.as_mut_ptr(), answer.len()) }
+}
+
+pub fn pair(frequency: u64, value: u64, answer: &mut [u64]) -> bool {
+    // SAFETY: the pointer and the length are those of a slice.
+    unsafe { archive::skumvari_pair(frequency, value, answer.as_mut_ptr(), answer.len()) }
 }

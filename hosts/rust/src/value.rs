@@ -3,6 +3,8 @@
 use std::cmp::Ordering;
 use std::fmt;
 
+use crate::raw;
+
 /// The greatest m: 15 digits.
 const SIZE_MOST: u64 = 999_999_999_999_999;
 
@@ -49,9 +51,21 @@ impl Value {
         self == Value::ZERO
     }
 
-    /// The double nearest to the number: rounded once, so in general not the number itself.
-    pub fn to_f64(self) -> f64 {
-        self.to_string().parse().expect("m, e and k are a number to Rust")
+    /// The double to draw the number by: the exact number rounded once, and the number itself where it is whole and below two to the 53.
+    /// `None` where k is not from -22 to 22: there nothing is drawn.
+    ///
+    /// ```
+    /// let value = |word| skumvari::Value::from_word(word).expect("a value word");
+    /// assert_eq!(value(256 * 45 + 2 * (64 - 10)).to_f64(), Some(45.0 / 1e10));
+    /// assert_eq!(value(256 + 2 * (64 + 23)).to_f64(), None); // 1e23
+    /// ```
+    pub fn to_f64(self) -> Option<f64> {
+        raw::double(self.0)
+    }
+
+    /// The doubles of a frequency and a value, a point of a curve; `None` if [`to_f64`](Value::to_f64) has none of either.
+    pub fn pair(frequency: Value, value: Value) -> Option<(f64, f64)> {
+        raw::pair(frequency.0, value.0)
     }
 
     /// The sizes of numbers that are not zero are ordered as these pairs: the place of the first digit, then all 15 digits.
@@ -152,10 +166,15 @@ mod tests {
     }
 
     #[test]
-    fn the_nearest_double() {
-        assert_eq!(value(false, 45, -10).to_f64(), 4.5e-9);
-        assert_eq!(value(true, 1, 3).to_f64(), -1000.0);
-        assert_eq!(Value::ZERO.to_f64().to_bits(), 0);
-        assert_eq!(value(false, SIZE_MOST, 60).to_f64(), 999_999_999_999_999e60);
+    fn doubles_and_pairs() {
+        assert_eq!(value(false, 45, -10).to_f64(), Some(4.5e-9));
+        assert_eq!(value(true, 1, 3).to_f64(), Some(-1000.0));
+        assert_eq!(Value::ZERO.to_f64().map(f64::to_bits), Some(0));
+        assert_eq!(value(false, SIZE_MOST, 22).to_f64(), Some(999_999_999_999_999e22));
+        assert_eq!(value(false, SIZE_MOST, 23).to_f64(), None);
+        let (frequency, outside) = (value(false, 1, 9), value(true, 1, -23));
+        assert_eq!(Value::pair(frequency, value(false, 45, -10)), Some((1e9, 4.5e-9)));
+        assert_eq!(Value::pair(frequency, outside), None);
+        assert_eq!(Value::pair(outside, frequency), None);
     }
 }

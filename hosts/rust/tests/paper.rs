@@ -94,7 +94,7 @@ fn entries_by_address() {
     assert_eq!(entry(2, 1).as_deref(), Ok("8e-10"));
     assert_eq!(file.entry("S", Kind::Capacitance, 1, 1), Ok(Value::ZERO));
     let value = file.entry("S", Kind::Inductance, 1, 1).expect("S L 1 1");
-    assert_eq!((value.negative(), value.size(), value.exponent(), value.to_f64()), (false, 45, -10, 4.5e-9));
+    assert_eq!((value.negative(), value.size(), value.exponent(), value.to_f64()), (false, 45, -10, Some(4.5e-9)));
 }
 
 /// "the first scaling by T G M k m u n p f (12, 9, 6, 3, -3, -6, -9, -12, -15), any other letter by nothing", for numbers of few bytes and of many.
