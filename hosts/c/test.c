@@ -1,6 +1,7 @@
 /* test.c: checks that a C program gets from skumvari.h what the header and the paper promise; one line for each failed check, `ok` at the end.
  * Everything is asked about the paper's example, whose text and numbers stand in the paper's part "Listing". */
 #include <stdio.h>
+#include <stdlib.h>
 #include <string.h>
 
 #include "skumvari.h"
@@ -227,6 +228,103 @@ static void check_walk(void)
     check(steps(table, UINT64_MAX, UINT64_MAX, UINT64_MAX, nosuch), "no greatest place");
 }
 
+static uint64_t value_word(bool negative, uint64_t size, int exponent)
+{
+    return 256 * size + 2 * (uint64_t)(exponent + 64) + negative;
+}
+
+/* Asks for a double and tells whether the answer is this number, bit for bit. */
+static bool draws(uint64_t word, double number)
+{
+    uint64_t answer[SKUMVARI_ANSWER_WORDS + 1];
+    fill(answer, SKUMVARI_ANSWER_WORDS + 1, GUARD);
+    if (!skumvari_double(word, answer, SKUMVARI_ANSWER_WORDS) || answer[SKUMVARI_GIVEN] != 1)
+        return false;
+    double drawn = skumvari_double_of_bits(answer[SKUMVARI_WORD]);
+    return is(answer, 1, 0, 0, answer[SKUMVARI_WORD]) && memcmp(&drawn, &number, sizeof drawn) == 0;
+}
+
+static bool draws_nothing(uint64_t word)
+{
+    uint64_t answer[SKUMVARI_ANSWER_WORDS + 1];
+    fill(answer, SKUMVARI_ANSWER_WORDS + 1, GUARD);
+    return skumvari_double(word, answer, SKUMVARI_ANSWER_WORDS) && is(answer, 0, 0, 0, 0);
+}
+
+/* Asks for a pair and tells whether the answer is these words. */
+static bool pairs(uint64_t frequency, uint64_t value, uint64_t given, double first, double second)
+{
+    uint64_t answer[SKUMVARI_PAIR_WORDS + 1], wanted[SKUMVARI_PAIR_WORDS + 1] = { given };
+    fill(answer, SKUMVARI_PAIR_WORDS + 1, GUARD);
+    memcpy(wanted + SKUMVARI_FREQUENCY_BITS, &first, sizeof first);
+    memcpy(wanted + SKUMVARI_VALUE_BITS, &second, sizeof second);
+    wanted[SKUMVARI_PAIR_WORDS] = GUARD;
+    return skumvari_pair(frequency, value, answer, SKUMVARI_PAIR_WORDS) && memcmp(answer, wanted, sizeof answer) == 0;
+}
+
+static void check_doubles(void)
+{
+    uint64_t frequency = value_word(false, 1, 9), value = value_word(true, 45, -10);
+    check(draws(value, -(45.0 / 1e10)), "-45e-10 is drawn by one division");
+    check(draws(value_word(false, 1, 22), 1e22) && draws_nothing(value_word(false, 1, 23)), "1e22 is drawn and 1e23 is outside");
+    check(draws(value_word(true, 1, -22), -(1 / 1e22)) && draws_nothing(value_word(true, 1, -23)), "-1e-22 is drawn and -1e-23 is outside");
+    check(draws(value_word(false, 900719925474099, 1), 9007199254740990.0), "a whole number below two to the 53 is itself");
+    check(draws(128, 0.0), "zero is plus zero");
+    check(draws_nothing(129) && draws_nothing(0) && draws_nothing(value_word(false, 10, 0)) && draws_nothing(UINT64_MAX),
+          "what is no value word is outside");
+    check(pairs(frequency, value, 1, 1e9, -(45.0 / 1e10)), "a frequency and a value are drawn, in this order");
+    check(pairs(frequency, 129, 0, 0, 0) && pairs(129, value, 0, 0, 0) && pairs(0, 0, 0, 0, 0), "a pair is outside if either is");
+}
+
+/* A number that looks random: splitmix64. */
+static uint64_t random_word(void)
+{
+    static uint64_t state = 11;
+    uint64_t word = state += UINT64_C(0x9e3779b97f4a7c15);
+    word = (word ^ word >> 30) * UINT64_C(0xbf58476d1ce4e5b9);
+    word = (word ^ word >> 27) * UINT64_C(0x94d049bb133111eb);
+    return word ^ word >> 31;
+}
+
+/* The double by C's own operation, and by the C library's reading of m, e and k. */
+static bool draws_as_c(bool negative, uint64_t size, int exponent)
+{
+    static const double tens[] = { 1e0, 1e1, 1e2, 1e3, 1e4, 1e5, 1e6, 1e7, 1e8, 1e9, 1e10, 1e11,
+                                   1e12, 1e13, 1e14, 1e15, 1e16, 1e17, 1e18, 1e19, 1e20, 1e21, 1e22 };
+    char text[40];
+    sprintf(text, "%s%llue%d", negative ? "-" : "", (unsigned long long)size, exponent);
+    double number = exponent < 0 ? (double)size / tens[-exponent] : (double)size * tens[exponent];
+    uint64_t word = value_word(negative, size, exponent);
+    return draws(word, negative ? -number : number) && draws(word, strtod(text, NULL));
+}
+
+/* A million words: every other one of a number of 1 to 15 digits and a k from -30 to 30, the rest any words at all, few of them value words. */
+static void check_many_doubles(void)
+{
+    int drawn = 0, outside = 0, failed = 0;
+    for (int i = 0; i < 1000000; i++) {
+        uint64_t word = random_word();
+        uint64_t size = word / 256;
+        int exponent = (int)(word % 256 / 2) - 64;
+        if (i % 2 == 0) {
+            uint64_t bound = 10;
+            for (uint64_t digits = random_word() % 15; digits > 0; digits--)
+                bound *= 10;
+            size = random_word() % bound;
+            exponent = (int)(random_word() % 61) - 30;
+        }
+        bool negative = word % 2;
+        bool number = size > 0 && size <= UINT64_C(999999999999999) && size % 10 != 0 && exponent >= -22 && exponent <= 22;
+        if (value_word(negative, size, exponent) == 128)
+            continue;
+        failed += number ? !draws_as_c(negative, size, exponent) : !draws_nothing(value_word(negative, size, exponent));
+        drawn += number;
+        outside += !number;
+    }
+    check(failed == 0, "a million doubles are those of C");
+    check(drawn > 300000 && outside > 300000, "of a million words many are drawn and many are not");
+}
+
 /* Words lent for an answer that are too few: false, and nothing is written; of the intake the table is zeroed all the same. */
 static void check_short_answers(void)
 {
@@ -241,7 +339,10 @@ static void check_short_answers(void)
               "entry with a short answer is false");
         check(!skumvari_matrix(bytes(example), example_length, table, USED, 0, SKUMVARI_L, values, 4, answer, room),
               "matrix with a short answer is false");
+        check(!skumvari_double(128, answer, room), "double with a short answer is false");
     }
+    for (size_t room = 0; room < SKUMVARI_PAIR_WORDS; room++)
+        check(!skumvari_pair(128, 128, answer, room), "pair with a short answer is false");
     for (size_t room = 0; room < SKUMVARI_WALK_WORDS; room++)
         check(!skumvari_walk(bytes(example), example_length, table, USED, 0, 0, 0, answer, room), "walk with a short answer is false");
     check(all(answer, SKUMVARI_WALK_WORDS, GUARD) && all(values, 4, GUARD), "a short answer is not written");
@@ -279,6 +380,8 @@ int main(void)
     check_entries();
     check_matrix();
     check_walk();
+    check_doubles();
+    check_many_doubles();
     check_short_answers();
     check_sound();
     if (failures == 0)

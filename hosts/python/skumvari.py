@@ -6,6 +6,7 @@ Every number is told exactly, as a Decimal; what is wrong with a refused file is
     file = skumvari.read("t.icm")
     file.entry("S", "L", 2, 1)               # Decimal('8E-10')
     file.section("S").matrix("L")            # all entries, a list of rows
+    skumvari.double_of(file.entry("S", "L", 2, 1))    # 8e-10, the double to draw it by, or None
     for step in file.model("A").path:        # the steps as the file writes them
         print(step)
 
@@ -17,12 +18,13 @@ import ctypes
 import functools
 import operator
 import os
+import struct
 from dataclasses import dataclass, field
 from decimal import Decimal
 from pathlib import Path
 from typing import NamedTuple, Optional, Union
 
-__all__ = ["read", "reads", "File", "Model", "Step", "PinMap", "Section", "Refused", "NoSuch", "NoSuchModel", "NoSuchSection", "NoSuchEntry"]
+__all__ = ["read", "reads", "double_of", "pair_of", "File", "Model", "Step", "PinMap", "Section", "Refused", "NoSuch", "NoSuchModel", "NoSuchSection", "NoSuchEntry"]
 
 TEXT_MOST = 1_048_576  # bytes; a longer text is refused whatever it holds
 
@@ -31,6 +33,10 @@ TYPES = ("SLM_general", "SLM_quiescent", "MLM")
 ORDERS = ("Row_ordered", "Column_ordered", "Un_ordered")
 METHODS = ("Lumped", "Distributed")
 STEPS = ("end", "section", "fork", "endfork")
+
+ZERO = 128  # the value word of zero
+NO_VALUE = 0  # a word that is no value word
+SIZE_MOST = 999_999_999_999_999  # the greatest m of a value word
 
 # The parts of a table in their order, with the words that a record has.
 PARTS = (("models", 5), ("steps", 6), ("maps", 7), ("pins", 2), ("sections", 8), ("matrices", 5), ("values", 3))
@@ -101,6 +107,7 @@ class NoSuchEntry(NoSuch):
 # --- The shared library -------------------------------------------------------------------------------------------------------------------
 
 ANSWER_WORDS = 4
+PAIR_WORDS = 5
 WALK_WORDS = 13
 
 
@@ -122,6 +129,8 @@ def library():
         "entry": text + words + [word] * 4 + words,
         "walk": text + words + [word] * 3 + words,
         "matrix": text + words + [word] * 2 + words + words,
+        "double": [word] + words,
+        "pair": [word] * 2 + words,
     }.items():
         function = getattr(loaded, "skumvari_" + name)
         function.argtypes, function.restype = arguments, ctypes.c_bool
@@ -134,13 +143,24 @@ def new_words(count):
     return (ctypes.c_uint64 * count)()
 
 
+def _told(lent, answer):
+    """Whether something is given, the number and line of the refusal where not, and the words that are given."""
+    assert lent, "the words lent for an answer are as many as the header asks for"
+    return answer[:3], answer[3:]
+
+
 def _given(lent, answer):
     """The words of an answer, or the refusal that it is."""
-    assert lent, "the words lent for an answer are as many as the header asks for"
-    given, number, line = answer[:3]
+    (given, number, line), words = _told(lent, answer)
     if not given:
         raise Refused(number, line)
-    return answer[3:]
+    return words
+
+
+def _drawn(lent, answer):
+    """The doubles whose bits are an answer, or None where it is outside."""
+    (given, _, _), words = _told(lent, answer)
+    return struct.unpack(f"{len(words)}d", struct.pack(f"{len(words)}Q", *words)) if given else None
 
 
 # --- Values -------------------------------------------------------------------------------------------------------------------------------
@@ -161,6 +181,44 @@ def value_text(word):
     """A value word as the listing prints it: m, e, k."""
     sign, size, exponent = _parts_of(word)
     return f"{'-' * sign}{size}e{exponent}"
+
+
+def _word_of(number):
+    """The value word of an exact number, or a word that is none where no value word is that number."""
+    number = Decimal(number)
+    if not number.is_finite():
+        return NO_VALUE
+    sign, digits, exponent = number.as_tuple()
+    size = int("".join(map(str, digits)))
+    if size == 0:
+        return ZERO
+    while size % 10 == 0:
+        size, exponent = size // 10, exponent + 1
+    return 256 * size + 2 * (exponent + 64) + sign if size <= SIZE_MOST and -60 <= exponent <= 60 else NO_VALUE
+
+
+def _double(word):
+    answer = new_words(ANSWER_WORDS)
+    drawn = _drawn(library().skumvari_double(word, answer, ANSWER_WORDS), answer)
+    return None if drawn is None else drawn[0]
+
+
+def _pair(frequency, value):
+    answer = new_words(PAIR_WORDS)
+    return _drawn(library().skumvari_pair(frequency, value, answer, PAIR_WORDS), answer)
+
+
+def double_of(number):
+    """The float to draw a value of a file by: the exact number rounded once, and the number itself where it is whole and below two to the 53.
+
+    None where nothing is drawn: the number is not m times ten to a k from -22 to 22, with an m of at most 15 digits that does not end in 0.
+    """
+    return _double(_word_of(number))
+
+
+def pair_of(frequency, number):
+    """The floats of a frequency and a value, a point of a curve; None if either is not drawn."""
+    return _pair(_word_of(frequency), _word_of(number))
 
 
 # --- What a file holds --------------------------------------------------------------------------------------------------------------------

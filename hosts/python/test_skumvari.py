@@ -4,6 +4,7 @@ import ctypes
 import decimal
 import pickle
 import re
+import struct
 import tempfile
 import unittest
 from decimal import Decimal
@@ -40,8 +41,9 @@ S L 1 1 45e-10
 S L 1 2 8e-10
 S L 2 2 45e-10
 """
+ROOT = Path(__file__).resolve().parents[2]
 # The test files, with the program that runs them: its input and what it must print.
-VECTORS = Path(__file__).resolve().parents[2] / "crates" / "vectors"
+VECTORS = ROOT / "crates" / "vectors"
 GUARD = 0xA5A5A5A5A5A5A5A5
 
 
@@ -156,7 +158,7 @@ class Refusals(unittest.TestCase):
         self.refused(example(line16="Section Mult=1 T"), "refused 23 NOSECTION: no such section, line 16")
 
     def test_numbers_are_those_of_the_header(self):
-        header = (Path(__file__).resolve().parents[2] / "include" / "skumvari.h").read_text()
+        header = (ROOT / "include" / "skumvari.h").read_text()
         numbers = re.findall(r"^ *SKUMVARI_NUMBER_(\w+) = (\d+)", header, re.MULTILINE)
         self.assertEqual([(name, int(number)) for name, number in numbers], [(name, number) for number, (name, _) in skumvari.NUMBERS.items()])
 
@@ -182,6 +184,47 @@ class Refusals(unittest.TestCase):
                 skumvari.reads(text)
 
 
+def bits(number):
+    """The bits of a float in hexadecimal, as the test file of doubles has them."""
+    return struct.pack(">d", number).hex()
+
+
+class Doubles(unittest.TestCase):
+    def test_values_of_a_file(self):
+        file = skumvari.reads(example(line37="-1e23"))
+        self.assertEqual(skumvari.double_of(file.entry("S", "L", 1, 1)), 45 / 1e10)
+        self.assertIsNone(skumvari.double_of(file.entry("S", "L", 2, 2)))
+        self.assertEqual(bits(skumvari.double_of(file.entry("S", "R", 1, 1))), "0" * 16)
+
+    def test_numbers(self):
+        drawn = {"1e22": 1e22, "-1e-22": -1 / 1e22, "10e21": 1e22, "100e-24": 1 / 1e22, "9007199254740990": 9007199254740990.0, "-2.50": -2.5}
+        for number, wanted in drawn.items():
+            self.assertEqual(skumvari.double_of(Decimal(number)), wanted, number)
+        self.assertEqual(skumvari.double_of(3), 3.0)
+        self.assertEqual(bits(skumvari.double_of(Decimal("-0e99"))), "0" * 16)
+        for number in "1e23", "10e22", "-1e-23", "1234567890.123456", "1e61", "1e999999", "NaN", "sNaN", "Infinity", "-Infinity":
+            self.assertIsNone(skumvari.double_of(Decimal(number)), number)
+
+    def test_pairs(self):
+        frequency, number, outside = Decimal("1e9"), Decimal("-45e-10"), Decimal("1e23")
+        self.assertEqual(skumvari.pair_of(frequency, number), (1e9, -45 / 1e10))
+        for pair in (frequency, outside), (outside, number), (outside, outside):
+            self.assertIsNone(skumvari.pair_of(*pair))
+
+    def test_words(self):
+        lines = [line.split() for line in (ROOT / "hosts" / "vectors" / "doubles.txt").read_text().splitlines()]
+        drawn = 0
+        for word, wanted in lines:
+            number = skumvari._double(int(word))
+            self.assertEqual("outside" if number is None else bits(number), wanted, word)
+            if number is not None:
+                drawn += 1
+                self.assertEqual(number, float(skumvari.value_text(int(word))), word)
+                self.assertEqual(skumvari.double_of(skumvari.value(int(word))), number, word)
+        self.assertGreater(drawn, 100)
+        self.assertGreater(len(lines) - drawn, 100)
+
+
 class Slices(unittest.TestCase):
     """The functions of the shared library themselves, with slices that are too short."""
 
@@ -202,9 +245,12 @@ class Slices(unittest.TestCase):
     def test_short_answers(self):
         for room in range(13):
             self.assertFalse(self.ask("walk", 0, 0, 0, self.answer, room))
+            if room < 5:
+                self.assertFalse(library().skumvari_pair(128, 128, self.answer, room))
             if room < 4:
                 self.assertFalse(self.ask("entry", 0, 1, 1, 1, self.answer, room))
                 self.assertFalse(self.ask("matrix", 0, 1, self.values, 4, self.answer, room))
+                self.assertFalse(library().skumvari_double(128, self.answer, room))
                 other = new_words(93)
                 ctypes.memset(other, 0xA5, ctypes.sizeof(other))
                 self.assertFalse(self.intake(other, 92, room))

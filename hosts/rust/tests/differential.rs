@@ -10,6 +10,8 @@ mod breaks;
 mod compare;
 #[path = "differential/damage.rs"]
 mod damage;
+#[path = "differential/doubles.rs"]
+mod doubles;
 #[path = "differential/generator.rs"]
 mod generator;
 #[path = "differential/layout.rs"]
@@ -38,6 +40,8 @@ const SEED: u64 = 1;
 const CASES: u64 = 240;
 const SECONDS: u64 = 60;
 
+/// How many pairs of words are asked for their doubles.
+const PAIRS: u64 = 500_000;
 /// How many damaged files follow each generated one.
 const DAMAGED: u64 = 7;
 /// Lengths of table: one that most files fit, and that of the listing program.
@@ -86,6 +90,18 @@ fn proved_and_plain_agree() {
     if whole {
         assert_all_reached(&reached);
     }
+}
+
+#[test]
+fn doubles_agree() {
+    let seed = setting("SKUMVARI_SEED", SEED);
+    let mut seen = doubles::Seen::default();
+    for case in 0..PAIRS {
+        let compared = doubles::of_pair(&mut Random::of_case(seed, case), &mut seen);
+        assert_eq!(compared, Ok(()), "SKUMVARI_SEED={seed} case {case}");
+    }
+    println!("doubles: {} drawn, {} outside", seen.drawn, seen.outside);
+    assert!(seen.drawn > PAIRS / 2 && seen.outside > PAIRS / 2);
 }
 
 impl Run {

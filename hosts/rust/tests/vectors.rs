@@ -56,6 +56,7 @@ macro_rules! ask {
                 requests::rooms_and_listings
                 requests::changes_of_the_base
                 requests::questions
+                requests::doubles
             }
         }
     };

@@ -123,3 +123,16 @@ pub fn matrix(text: &[u8], table: &[u64], section: u64, kind: u64, random: &mut 
     }
     Ok(())
 }
+
+/// The double of a word, told as its bits.
+pub fn double(word: u64) -> Outcome<Option<u64>> {
+    let proved = raw::double(word).map(f64::to_bits);
+    same(|| format!("double of {word}"), proved, plain::double_of(word).map(f64::to_bits))?;
+    Ok(proved)
+}
+
+pub fn pair(frequency: u64, value: u64) -> Outcome {
+    let bits = |(first, second): (f64, f64)| (first.to_bits(), second.to_bits());
+    let (proved, plain) = (raw::pair(frequency, value), plain::pair_of(frequency, value));
+    same(|| format!("pair of {frequency} and {value}"), proved.map(bits), plain.map(bits))
+}

@@ -17,6 +17,9 @@ pub trait Reading {
     fn entry(text: &[u8], table: &[u64], place: [u64; 4]) -> Result<u64, u64>;
     /// Done, the words of the step, and the place handed back.
     fn step(text: &[u8], table: &[u64], place: [u64; 3]) -> Result<[u64; 10], u64>;
+    /// The double of a value word, and the pair of a frequency and a value.
+    fn double(word: u64) -> Option<f64>;
+    fn pair(frequency: u64, value: u64) -> Option<(f64, f64)>;
 
     /// The intake's answer and the table it leaves, which held other words before: those past the words used are zero.
     fn take_in(text: &[u8], words: usize) -> (Result<usize, Refused>, Vec<u64>) {
@@ -95,11 +98,19 @@ pub mod proved {
                 next.depth,
             ])
         }
+
+        fn double(word: u64) -> Option<f64> {
+            raw::double(word)
+        }
+
+        fn pair(frequency: u64, value: u64) -> Option<(f64, f64)> {
+            raw::pair(frequency, value)
+        }
     }
 }
 
 pub mod plain {
-    use ::plain::{entry, intake, listing, sound, step, value, Answer};
+    use ::plain::{double_of, entry, intake, listing, pair_of, sound, step, value, Answer};
 
     pub struct Reader;
 
@@ -141,6 +152,14 @@ pub mod plain {
                 walked.next.step,
                 walked.next.depth,
             ])
+        }
+
+        fn double(word: u64) -> Option<f64> {
+            double_of(word)
+        }
+
+        fn pair(frequency: u64, value: u64) -> Option<(f64, f64)> {
+            pair_of(frequency, value)
         }
     }
 }

@@ -171,3 +171,21 @@ fn words<const N: usize>(answer: Result<[u64; N], u64>) -> Vec<u64> {
     let number = answer.err().unwrap_or(0);
     [&[number], &answer.unwrap_or([0; N])[..]].concat()
 }
+
+/// Each word of the file, and each pair of a word and the one below it: a pair is drawn where both are.
+pub fn doubles<R: Reading>() {
+    let bits = |wanted: &str| u64::from_str_radix(wanted, 16).ok();
+    let told = records("hosts/vectors/doubles.txt");
+    let words: Vec<(u64, Option<u64>)> =
+        told.iter().map(|record| (record[0].parse().expect("a word"), bits(&record[1]))).collect();
+    for (word, wanted) in &words {
+        assert_eq!(R::double(*word).map(f64::to_bits), *wanted, "{word}");
+    }
+    for pair in words.windows(2) {
+        let [(frequency, first), (value, second)] = [pair[0], pair[1]];
+        let drawn = R::pair(frequency, value).map(|(x, y)| (x.to_bits(), y.to_bits()));
+        assert_eq!(drawn, first.zip(second), "{frequency} {value}");
+    }
+    let drawn = words.iter().filter(|(_, wanted)| wanted.is_some()).count();
+    assert!(drawn > 0 && drawn < words.len() && told.iter().all(|record| record.len() == 2));
+}
