@@ -21,7 +21,7 @@ use Rattle.base.specs.Bytes.{within}
 use Rattle.base.proofs.IfLaws.{if-true, if-false, by-cases, both-true, both-not-left, both-not-right, both-first}
 use Rattle.number.specs.ValueWord.{zeroWord, decimalOf, isValueWord}
 use Rattle.number.proofs.WordLaws.{Written, word-says}
-use Rattle.double.specs.Double.{asDouble, scaled, signed, double, isDrawn, drawnOf, paired}
+use Rattle.double.specs.Double.{span, asDouble, scaled, signed, double, isDrawn, drawnOf, paired}
 use Rattle.double.specs.declared.Drawn.{Drawn}
 use Rattle.double.specs.declared.Drawn.the-variants.{Value, Outside}
 use Rattle.double.specs.declared.DrawnPair.{DrawnPair}
@@ -44,23 +44,23 @@ drawn-is : (w : ℕ) → isDrawn w ≡ true → drawnOf w ≡ Value (double (dec
 unfolding drawnOf
 drawn-is w e = if-true _ _ e
 
-in-span : (w : ℕ) → isValueWord w ≡ true → 42 ≤ decimalOf w .shifted → decimalOf w .shifted ≤ 86 → isDrawn w ≡ true
+in-span : (w : ℕ) → isValueWord w ≡ true → 64 - span ≤ decimalOf w .shifted → decimalOf w .shifted ≤ 64 + span → isDrawn w ≡ true
 unfolding isDrawn within
 in-span w e low high = both-true _ _ e (both-true _ _ (le-leb _ _ low) (le-leb _ _ high))
 
 -- every value word "with k from -22 to 22"
-pub inside-span : (w : ℕ) → isValueWord w ≡ true → 64 - 22 ≤ decimalOf w .shifted → decimalOf w .shifted ≤ 64 + 22 → drawnOf w ≡ Value (double (decimalOf w))
+pub inside-span : (w : ℕ) → isValueWord w ≡ true → 64 - span ≤ decimalOf w .shifted → decimalOf w .shifted ≤ 64 + span → drawnOf w ≡ Value (double (decimalOf w))
 inside-span w e low high = drawn-is w (in-span w e low high)
 
 -- "Outside that span say so and give no number"
-pub outside-span : (w : ℕ) → (decimalOf w .shifted < 64 - 22) ⊎ (64 + 22 < decimalOf w .shifted) → drawnOf w ≡ Outside
+pub outside-span : (w : ℕ) → (decimalOf w .shifted < 64 - span) ⊎ (64 + span < decimalOf w .shifted) → drawnOf w ≡ Outside
 unfolding drawnOf isDrawn within
 outside-span w h =
     if-false _ _
     (both-not-right _ _
     (⊎-elim
-    (λ (k : decimalOf w .shifted < 42). both-not-left _ _ (lt-leb 42 (decimalOf w .shifted) k))
-    (λ (k : 86 < decimalOf w .shifted). both-not-right _ _ (lt-leb (decimalOf w .shifted) 86 k))
+    (λ (k : decimalOf w .shifted < 64 - span). both-not-left _ _ (lt-leb (64 - span) (decimalOf w .shifted) k))
+    (λ (k : 64 + span < decimalOf w .shifted). both-not-right _ _ (lt-leb (decimalOf w .shifted) (64 + span) k))
     h))
 
 pub outside-word : (w : ℕ) → isValueWord w ≡ false → drawnOf w ≡ Outside
@@ -128,14 +128,14 @@ IsValue (Value x) = Unit {0}
 IsValue Outside = ⊥
 
 record Drew (w : ℕ) (x : Float) : Type 0 where
-  span : isDrawn w ≡ true
+  told : isDrawn w ≡ true
   value : x ≡ double (decimalOf w)
 
 drew : (w : ℕ) (x : Float) → drawnOf w ≡ Value x → Drew w x
 unfolding drawnOf
 drew w x e =
     by-cases (Drew w x) (isDrawn w)
-    (λ (t : isDrawn w ≡ true). record { span = t; value = ap valueIn (sym e ∙ if-true _ _ t) })
+    (λ (t : isDrawn w ≡ true). record { told = t; value = ap valueIn (sym e ∙ if-true _ _ t) })
     (λ (t : isDrawn w ≡ false). absurd (subst IsValue (sym e ∙ if-false _ _ t) tt))
 
 -- it is zero's word, or that of a number
@@ -185,7 +185,7 @@ pub record IsNumber (x : Float) (negative : Bool) : Type 0 where
 written-kept : (w : ℕ) (x : Float) → Drew w x → Written w → IsNumber x (decimalOf w .negative)
 unfolding double
 written-kept w x d k =
-    let s = spanned w (d .span) in
+    let s = spanned w (d .told) in
     let y = scaled (decimalOf w .size) (decimalOf w .shifted) in
     let p = scaled-above (decimalOf w .size) (decimalOf w .shifted) (written-some w k) (s .few) (s .low) (s .high) in
     let v = signed-value (decimalOf w .negative) y (num y) (den y) (own-value y p) in
@@ -201,7 +201,7 @@ written-kept w x d k =
 pub sign-kept : (w : ℕ) (x : Float) → drawnOf w ≡ Value x → (w ≡ zeroWord → ⊥) → IsNumber x (decimalOf w .negative)
 sign-kept w x e n =
     let d = drew w x e in
-    ⊎-elim (λ (z : w ≡ zeroWord). absurd (n z)) (written-kept w x d) (which w (d .span))
+    ⊎-elim (λ (z : w ≡ zeroWord). absurd (n z)) (written-kept w x d) (which w (d .told))
 
 -- ---- never a NaN, nor an infinity
 
@@ -216,7 +216,7 @@ drawn-finite w x e =
     ⊎-elim
     (λ (z : w ≡ zeroWord). subst (λ (y : Float). T (finite y)) (ap valueIn (sym zero-plus ∙ ap drawnOf (sym z) ∙ e)) tt)
     (λ (k : Written w). let n = written-kept w x d k in finite-of-value x (decimalOf w .negative) (n .size) (n .over) (n .value))
-    (which w (d .span))
+    (which w (d .told))
 
 finite-number : (x : Float) → T (finite x) → T (not (isNan x))
 unfolding isNan
@@ -266,9 +266,9 @@ whole-low size shifted n trimmed e =
         ap (λ (k : ℕ). k % 10) f ∙ mul-mod-left (n * 10 ^ (63 - shifted)) 10
 
 -- nor above 15, since ten to the 16 is not below two to the 53
-whole-high : (size shifted n : ℕ) → 0 < size → 64 ≤ shifted → n < 9_007_199_254_740_992 → size * 10 ^ (shifted - 64) ≡ n * 10 ^ (64 - shifted) → shifted ≤ 86
+whole-high : (size shifted n : ℕ) → 0 < size → 64 ≤ shifted → n < 9_007_199_254_740_992 → size * 10 ^ (shifted - 64) ≡ n * 10 ^ (64 - shifted) → shifted ≤ 64 + span
 whole-high size shifted n above low below e =
-    by-cases (shifted ≤ 86) (ltb shifted 80)
+    by-cases (shifted ≤ 64 + span) (ltb shifted 80)
     (λ (t : ltb shifted 80 ≡ true). let h : shifted < 80 = ltb-true shifted 80 t in omega arith)
     (λ (t : ltb shifted 80 ≡ false). absurd (passes (ltb-false shifted 80 t)))
   where

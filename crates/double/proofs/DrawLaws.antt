@@ -3,7 +3,7 @@
 use mathlib.Core.Path.{_≡_, refl, sym, ap, _∙_}
 use mathlib.Core.Bool.{Bool, true, false, not}
 use mathlib.Core.Logic.{⊎-elim}
-use Prim.Native.Nat.{ℕ, _-_, _^_, _≤_, _<_}
+use Prim.Native.Nat.{ℕ, _+_, _-_, _^_, _≤_, _<_}
 use native.Mathlib.Nat.{le-trans}
 use native.Mathlib.Omega.{arith}
 use lib.Dec.{T, leb, lit≤, le→leb}
@@ -16,7 +16,7 @@ use Rattle.base.proofs.IfLaws.{if-true, if-false, both-first, both-second, both
 use Rattle.number.specs.ValueWord.{zeroWord, decimalOf, isValueWord}
 use Rattle.number.specs.declared.Decimal.{Decimal}
 use Rattle.number.proofs.WordLaws.{Written, word-says, decode-build}
-use Rattle.double.specs.Double.{asDouble, scaled, signed, double, isDrawn, drawnOf, paired}
+use Rattle.double.specs.Double.{span, asDouble, scaled, signed, double, isDrawn, drawnOf, paired}
 use Rattle.double.specs.declared.Drawn.{Drawn}
 use Rattle.double.specs.declared.Drawn.the-variants.{Value, Outside}
 use Rattle.double.specs.declared.DrawnPair.{DrawnPair}
@@ -55,8 +55,8 @@ module _ (w : ℕ) (d : Decimal) (x : Float) (decoded : d ≡ decimalOf w) (told
 -- the parts of such a word: m has 15 digits at most, and k is from -22 to 22
 pub record Spanned (d : Decimal) : Type 0 where
   pub few : d .size ≤ 999_999_999_999_999
-  pub low : 42 ≤ d .shifted
-  pub high : d .shifted ≤ 86
+  pub low : 64 - span ≤ d .shifted
+  pub high : d .shifted ≤ 64 + span
 
 -- what a written number's word is decoded to
 pub decoded : (w : ℕ) (k : Written w) → decimalOf w ≡ record { negative = k .negative; size = k .size; shifted = k .shifted }
@@ -78,11 +78,11 @@ word-few w e =
 pub spanned : (w : ℕ) → isDrawn w ≡ true → Spanned (decimalOf w)
 unfolding isDrawn within
 spanned w e =
-    let span : both (leb 42 (decimalOf w .shifted)) (leb (decimalOf w .shifted) 86) ≡ true = both-second _ _ e in
+    let inside : both (leb (64 - span) (decimalOf w .shifted)) (leb (decimalOf w .shifted) (64 + span)) ≡ true = both-second _ _ e in
     record {
       few = word-few w (both-first _ _ e);
-      low = leb-true _ _ (both-first _ _ span);
-      high = leb-true _ _ (both-second _ _ span);
+      low = leb-true _ _ (both-first _ _ inside);
+      high = leb-true _ _ (both-second _ _ inside);
     }
 
 -- what the operation asks of its operands
@@ -90,10 +90,10 @@ module _ (w : ℕ) (d : Decimal) (told : d ≡ decimalOf w) (drawn : isDrawn w �
   pub exact-size : d .size ≤ 9_007_199_254_740_992
   exact-size = rw told (le-trans (spanned w drawn .few) (lit≤ tt))
 
-  pub not-too-low : 42 ≤ d .shifted
+  pub not-too-low : 64 - span ≤ d .shifted
   not-too-low = rw told (spanned w drawn .low)
 
-  pub not-too-high : d .shifted ≤ 86
+  pub not-too-high : d .shifted ≤ 64 + span
   not-too-high = rw told (spanned w drawn .high)
 
 -- by the tests of the code: the call's answer turned round, and two comparisons
@@ -103,13 +103,13 @@ module _ (w : ℕ) (b : Bool) (tested : b ≡ isValueWord w) where
   no-word t = sym (both-not-left _ _ (sym tested ∙ not-true b t))
 
   module _ (d : Decimal) (told : d ≡ decimalOf w) (word : not b ≡ false) where
-    pub too-low : d .shifted < 42 → false ≡ isDrawn w
+    pub too-low : d .shifted < 64 - span → false ≡ isDrawn w
     unfolding isDrawn within
-    too-low h = rw (← told) (sym (both-not-right _ _ (both-not-left _ _ (lt-leb 42 (d .shifted) h))))
+    too-low h = rw (← told) (sym (both-not-right _ _ (both-not-left _ _ (lt-leb (64 - span) (d .shifted) h))))
 
-    pub low-enough : 42 ≤ d .shifted → leb (d .shifted) 86 ≡ isDrawn w
+    pub low-enough : 64 - span ≤ d .shifted → leb (d .shifted) (64 + span) ≡ isDrawn w
     unfolding isDrawn within
-    low-enough h = rw (← told) (sym (both-rest _ _ (sym tested ∙ not-false b word) ∙ both-rest _ _ (le-leb 42 (d .shifted) h)))
+    low-enough h = rw (← told) (sym (both-rest _ _ (sym tested ∙ not-false b word) ∙ both-rest _ _ (le-leb (64 - span) (d .shifted) h)))
 
 -- ---- the answers
 

@@ -32,7 +32,7 @@ use lib.Ieee.Order.{round-mono}
 use lib.Ieee.Positive.{num, den, positive, den-pos, own-value, value→cross, value-pos, positive-of-value, mul-at, between}
 use borrow.Author.Tests.{ne-eqb, ltb-true, ltb-false}
 use Rattle.base.proofs.IfLaws.{by-test}
-use Rattle.double.specs.Double.{asDouble, scaled}
+use Rattle.double.specs.Double.{span, asDouble, scaled}
 
 -- ---- the operands are exact
 
@@ -110,7 +110,7 @@ scaled-fits size shifted =
     (λ (t : ltb shifted 64 ≡ false). mul-fits binary64 (asDouble size) (asDouble (10 ^ (shifted - 64))))
 
 -- of an m that is not zero and has at most 15 digits, and a k from -22 to 22
-module _ (size shifted : ℕ) (above : 0 < size) (few : size ≤ 999_999_999_999_999) (low : 42 ≤ shifted) (high : shifted ≤ 86) where
+module _ (size shifted : ℕ) (above : 0 < size) (few : size ≤ 999_999_999_999_999) (low : 64 - span ≤ shifted) (high : shifted ≤ 64 + span) where
   size-exact : HasValue (asDouble size) false size 1
   size-exact = whole-exact size (omega arith)
 
@@ -140,19 +140,19 @@ module _ (size shifted : ℕ) (above : 0 < size) (few : size ≤ 999_999_999_999
       (power-above (shifted - 64) k) (zero-lt-suc 0) (zero-lt-suc 0) size-exact (ten-exact (shifted - 64) k)
       ∙ rw z)
 
-  -- between one and ten to the 37, over ten to the 22, so it neither overflows nor vanishes
+  -- it lies between two doubles that are above zero: it neither overflows nor vanishes
   pub scaled-above : T (positive (scaled size shifted))
   unfolding round
   scaled-above =
-      let least : 10 ^ (64 - shifted) ≤ 10 ^ 22 = pow-le-pow-right {n = 10} (zero-lt-suc 9) {j = 22} (omega arith) in
-      let most : 10 ^ (shifted - 64) ≤ 10 ^ 22 = pow-le-pow-right {n = 10} (zero-lt-suc 9) {j = 22} (omega arith) in
+      let least : 10 ^ (64 - shifted) ≤ 10 ^ span = pow-le-pow-right {n = 10} (zero-lt-suc 9) {j = span} (omega arith) in
+      let most : 10 ^ (shifted - 64) ≤ 10 ^ span = pow-le-pow-right {n = 10} (zero-lt-suc 9) {j = span} (omega arith) in
       let fifteen : 999_999_999_999_999 ≤ 10 ^ 15 = lit≤ tt in
       let some : 1 ≤ size * 10 ^ (shifted - 64) = mul-pos above (ten-above (shifted - 64)) in
       let z = round binary64 false (size * 10 ^ (shifted - 64)) (10 ^ (64 - shifted)) in
-      let lower : T (le (round binary64 false 1 (10 ^ 22)) z) =
-      round-mono binary64 1 (10 ^ 22) (size * 10 ^ (shifted - 64)) (10 ^ (64 - shifted)) (ten-above 22) (ten-above (64 - shifted)) (mul-le-mul some least) in
-      let upper : T (le z (round binary64 false (10 ^ 15 * 10 ^ 22) 1)) =
-      round-mono binary64 (size * 10 ^ (shifted - 64)) (10 ^ (64 - shifted)) (10 ^ 15 * 10 ^ 22) 1 (ten-above (64 - shifted)) (zero-lt-suc 0)
+      let lower : T (le (round binary64 false 1 (10 ^ span)) z) =
+      round-mono binary64 1 (10 ^ span) (size * 10 ^ (shifted - 64)) (10 ^ (64 - shifted)) (ten-above span) (ten-above (64 - shifted)) (mul-le-mul some least) in
+      let upper : T (le z (round binary64 false (10 ^ 15 * 10 ^ span) 1)) =
+      round-mono binary64 (size * 10 ^ (shifted - 64)) (10 ^ (64 - shifted)) (10 ^ 15 * 10 ^ span) 1 (ten-above (64 - shifted)) (zero-lt-suc 0)
       (mul-le-mul (mul-le-mul (le-trans few fifteen) most) (ten-above (64 - shifted))) in
       subst (λ (x : Float). T (positive x)) (sym rounded)
-      (between (round binary64 false 1 (10 ^ 22)) z (round binary64 false (10 ^ 15 * 10 ^ 22) 1) tt tt lower upper)
+      (between (round binary64 false 1 (10 ^ span)) z (round binary64 false (10 ^ 15 * 10 ^ span) 1) tt tt lower upper)

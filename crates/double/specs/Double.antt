@@ -15,6 +15,10 @@ use Rattle.double.specs.declared.DrawnPair.{DrawnPair}
 use Rattle.double.specs.declared.DrawnPair.the-variants.{Pair}
 use Rattle.double.specs.declared.DrawnPair.the-variants as pairs
 
+-- "k from -22 to 22"
+abbrev pub span : ℕ
+span = 22
+
 -- the double of a whole number: m and the powers of ten up to the 22nd are held exactly (proofs/ExactLaws)
 unfoldable pub asDouble : ℕ → Float
 asDouble n = ofInt binary64 (pos n)
@@ -33,9 +37,9 @@ signed negative x = if negative then neg x else x
 unfoldable pub double : Decimal → Float
 double d = signed (d .negative) (scaled (d .size) (d .shifted))
 
--- "a value m times ten to the k with k from -22 to 22": the word's own k. A word that is no value word is outside.
+-- "a value m times ten to the k with k from -22 to 22": the word's own k (C2 of docs/DECISIONS.md). A word that is no value word is outside.
 unfoldable pub isDrawn : ℕ → Bool
-isDrawn word = both (isValueWord word) (within (64 - 22) (64 + 22) (decimalOf word .shifted))
+isDrawn word = both (isValueWord word) (within (64 - span) (64 + span) (decimalOf word .shifted))
 
 -- "either a drawn value or "outside""
 unfoldable pub drawnOf : ℕ → Drawn

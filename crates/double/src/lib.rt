@@ -2,9 +2,14 @@
 // Nothing is drawn but the one rounded operation on exact numbers; where that cannot be had the answer is that the word is outside.
 ghost use mathlib.Core.Path.{_≡_};
 ghost use mathlib.Core.Bool.{true};
-ghost use Prim.Native.Nat.{_<_, _≤_, _^_};
+ghost use Prim.Native.Nat.{_+_, _-_, _≤_, _^_};
 ghost use Rattle.number.specs.ValueWord.{decimalOf};
-ghost use Rattle.double.specs.Double.{asDouble, scaled, double, isDrawn, drawnOf, paired};
+ghost use Rattle.double.specs.Double.{span, asDouble, scaled, double, isDrawn, drawnOf, paired};
+
+// The least and the greatest k that is drawn, each as k + 64.
+const LEAST: u64 = 64 - 22;
+
+const MOST: u64 = 64 + 22;
 
 // The powers of ten that a double holds exactly: ten to the 23 is none of them.
 const TENS: [f64; 23] = [
@@ -44,7 +49,7 @@ pub enum DrawnPair {
 }
 
 fn power(k: u64) -> f64
-    requires { ⌜ k < 23 ⌝ }
+    requires { ⌜ k ≤ span ⌝ }
     ensures { λ r. ⌜ r ≡ asDouble (10 ^ k) ⌝ }
 {
     TENS[k as usize]
@@ -52,7 +57,7 @@ fn power(k: u64) -> f64
 
 // m times ten to the k, where `shifted` is k + 64. Both numbers are exact, so that only the operation rounds.
 fn scaled(size: u64, shifted: u64) -> f64
-    requires { ⌜ size ≤ 9_007_199_254_740_992 ⌝ ∗ ⌜ 42 ≤ shifted ⌝ ∗ ⌜ shifted ≤ 86 ⌝ }
+    requires { ⌜ size ≤ 9_007_199_254_740_992 ⌝ ∗ ⌜ 64 - span ≤ shifted ⌝ ∗ ⌜ shifted ≤ 64 + span ⌝ }
     ensures { λ r. ⌜ r ≡ scaled size shifted ⌝ }
 {
     let exact = size as f64;
@@ -69,10 +74,10 @@ fn is_drawn(word: u64) -> bool
         return false;
     }
     let shifted = number::decimal_of(word).shifted;
-    if shifted < 42 {
+    if shifted < LEAST {
         return false;
     }
-    shifted <= 86
+    shifted <= MOST
 }
 
 fn double(word: u64) -> f64

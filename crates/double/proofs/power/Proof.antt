@@ -1,9 +1,9 @@
 -- `double::power` meets its contract: the table is what the powers of ten list, which the checker computes.
 -- Assumes nothing.
-use Prim.Native.Nat.{ℕ, _^_}
+use Prim.Native.Nat.{ℕ, suc, _^_}
 use lib.Ieee.{nan, ofInt, ofBits}
 use Rattle.base.proofs.TableLaws.{listed-at}
-use Rattle.double.specs.Double.{asDouble}
+use Rattle.double.specs.Double.{span, asDouble}
 use borrow.Author.Needs.{needs}
 use Rattle.double.proofs.power.Statement.{statement}
 use Rattle.double.proofs.power.Tie as tie
@@ -16,7 +16,7 @@ array-read-result c = search needs
 
 returns : tie.Need-returns
 unfolding asDouble ofInt ofBits
-returns c = listed-at (λ (k : ℕ). asDouble (10 ^ k)) nan 23 (c .args .k) (search needs)
+returns c = listed-at (λ (k : ℕ). asDouble (10 ^ k)) nan (suc span) (c .args .k) (search needs)
 
 pub power-spec : {M : Type 1} → statement M
 power-spec = tie.close (tie.spec mul-result array-read-result returns)
