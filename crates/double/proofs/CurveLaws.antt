@@ -242,7 +242,7 @@ bits-back w x e =
 -- m times ten to the k is n in size, and below two to the 53
 pub record IsWhole (w n : ℕ) : Type 0 where
   pub word : isValueWord w ≡ true
-  pub below : n < 9_007_199_254_740_992
+  pub below : n < 2 ^ 53
   pub value : numerator w ≡ n * denominator w
 
 -- such a k is not below zero, since m does not end in 0
@@ -266,7 +266,7 @@ whole-low size shifted n trimmed e =
         ap (λ (k : ℕ). k % 10) f ∙ mul-mod-left (n * 10 ^ (63 - shifted)) 10
 
 -- nor above 15, since ten to the 16 is not below two to the 53
-whole-high : (size shifted n : ℕ) → 0 < size → 64 ≤ shifted → n < 9_007_199_254_740_992 → size * 10 ^ (shifted - 64) ≡ n * 10 ^ (64 - shifted) → shifted ≤ 64 + span
+whole-high : (size shifted n : ℕ) → 0 < size → 64 ≤ shifted → n < 2 ^ 53 → size * 10 ^ (shifted - 64) ≡ n * 10 ^ (64 - shifted) → shifted ≤ 64 + span
 whole-high size shifted n above low below e =
     by-cases (shifted ≤ 64 + span) (ltb shifted 80)
     (λ (t : ltb shifted 80 ≡ true). let h : shifted < 80 = ltb-true shifted 80 t in omega arith)

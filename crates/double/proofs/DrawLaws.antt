@@ -26,9 +26,9 @@ use Rattle.double.specs.declared.DrawnPair.the-variants as pairs
 -- ---- the one operation
 
 -- an m up to 2 ^ 53 is cast with nothing lost
-pub holds : (n : ℕ) → n ≤ 9_007_199_254_740_992 → T (inFloat binary64 (pos n))
+pub holds : (n : ℕ) → n ≤ 2 ^ 53 → T (inFloat binary64 (pos n))
 unfolding inFloat
-holds n h = le→leb n 9_007_199_254_740_992 h
+holds n h = le→leb n (2 ^ 53) h
 
 module _ (size shifted : ℕ) (power : Float) where
   pub divided : power ≡ asDouble (10 ^ (64 - shifted)) → shifted < 64 → div binary64 (ofInt binary64 (pos size)) power ≡ scaled size shifted
@@ -87,7 +87,7 @@ spanned w e =
 
 -- what the operation asks of its operands
 module _ (w : ℕ) (d : Decimal) (told : d ≡ decimalOf w) (drawn : isDrawn w ≡ true) where
-  pub exact-size : d .size ≤ 9_007_199_254_740_992
+  pub exact-size : d .size ≤ 2 ^ 53
   exact-size = rw told (le-trans (spanned w drawn .few) (lit≤ tt))
 
   pub not-too-low : 64 - span ≤ d .shifted

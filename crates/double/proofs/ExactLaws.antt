@@ -36,7 +36,7 @@ use Rattle.double.specs.Double.{span, asDouble, scaled}
 
 -- ---- the operands are exact
 
-pub whole-exact : (n : ℕ) → n ≤ 9_007_199_254_740_992 → HasValue (asDouble n) false n 1
+pub whole-exact : (n : ℕ) → n ≤ 2 ^ 53 → HasValue (asDouble n) false n 1
 unfolding asDouble ofInt
 whole-exact n h = round-whole binary64 false n h
 

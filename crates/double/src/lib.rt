@@ -6,7 +6,7 @@ ghost use Prim.Native.Nat.{_+_, _-_, _≤_, _^_};
 ghost use Rattle.number.specs.ValueWord.{decimalOf};
 ghost use Rattle.double.specs.Double.{span, asDouble, scaled, double, isDrawn, drawnOf, paired};
 
-// The least and the greatest k that is drawn, each as k + 64.
+// The least and the greatest k that are drawn, as k + 64.
 const LEAST: u64 = 64 - 22;
 
 const MOST: u64 = 64 + 22;
@@ -57,7 +57,7 @@ fn power(k: u64) -> f64
 
 // m times ten to the k, where `shifted` is k + 64. Both numbers are exact, so that only the operation rounds.
 fn scaled(size: u64, shifted: u64) -> f64
-    requires { ⌜ size ≤ 9_007_199_254_740_992 ⌝ ∗ ⌜ 64 - span ≤ shifted ⌝ ∗ ⌜ shifted ≤ 64 + span ⌝ }
+    requires { ⌜ size ≤ 2 ^ 53 ⌝ ∗ ⌜ 64 - span ≤ shifted ⌝ ∗ ⌜ shifted ≤ 64 + span ⌝ }
     ensures { λ r. ⌜ r ≡ scaled size shifted ⌝ }
 {
     let exact = size as f64;
@@ -67,6 +67,7 @@ fn scaled(size: u64, shifted: u64) -> f64
     exact * power(shifted - 64)
 }
 
+// A value word whose k is from -22 to 22.
 fn is_drawn(word: u64) -> bool
     ensures { λ r. ⌜ r ≡ isDrawn word ⌝ }
 {
@@ -80,6 +81,7 @@ fn is_drawn(word: u64) -> bool
     shifted <= MOST
 }
 
+// The operation on m and k, and then the sign.
 fn double(word: u64) -> f64
     requires { ⌜ isDrawn word ≡ true ⌝ }
     ensures { λ r. ⌜ r ≡ double (decimalOf word) ⌝ }
@@ -92,7 +94,7 @@ fn double(word: u64) -> f64
     size
 }
 
-// The double of a value word whose k is from -22 to 22.
+// The double of a word, or that it is outside.
 pub fn double_of(word: u64) -> Drawn
     ensures { λ r. ⌜ r ≡ drawnOf word ⌝ }
 {
@@ -102,7 +104,7 @@ pub fn double_of(word: u64) -> Drawn
     Drawn::Outside
 }
 
-// A frequency and a value; nothing if either is outside.
+// The doubles of a frequency and a value; outside if either is.
 pub fn pair_of(frequency: u64, value: u64) -> DrawnPair
     ensures { λ r. ⌜ r ≡ paired (drawnOf frequency) (drawnOf value) ⌝ }
 {
