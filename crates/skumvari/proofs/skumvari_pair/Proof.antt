@@ -12,10 +12,10 @@ enum-known-x : tie.Need-enum-known-x
 enum-known-x c = search needs
 
 float-to-bits-put-pair : tie.Need-float-to-bits-put-pair
-float-to-bits-put-pair c = search frequency-bits
+float-to-bits-put-pair c = search (frequency-bits, value-bits)
 
 float-to-bits-put-pair-2 : tie.Need-float-to-bits-put-pair-2
-float-to-bits-put-pair-2 c = search value-bits
+float-to-bits-put-pair-2 c = search (frequency-bits, value-bits)
 
 put-pair-requires : tie.Need-put-pair-requires
 put-pair-requires c κs = search needs
