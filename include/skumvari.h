@@ -27,7 +27,7 @@ extern "C" {
 #define SKUMVARI_WALK_WORDS 13
 
 /* The words of an answer. The first is 1 where what was asked for is given, and 0 where it is refused: then the number and the line of the
- * refusal follow (line 0 where no line is to blame), and every other word is 0. */
+ * refusal follow (line 0 where no line is to blame), and every other word is 0. Of a double that is not drawn, which is no refusal, all words are 0. */
 enum skumvari_answer {
     SKUMVARI_GIVEN = 0,
     SKUMVARI_NUMBER = 1,
@@ -132,12 +132,12 @@ bool skumvari_matrix(const uint8_t *text, size_t text_length, const uint64_t *ta
                      uint64_t *values, size_t values_length, uint64_t *answer, size_t answer_length);
 
 /* The double of a value word, for drawing: m times ten to the k, rounded once; where that is a whole number below two to the 53 it is the number
- * itself, and zero is plus zero. Answer: drawn, 0, 0, the double's bits. Every word is 0 where the word is outside: k is not from -22 to 22, or the
- * word is no value word. Then there is no number to draw; only the first word tells this from zero. */
+ * itself, and zero is plus zero. Answer: drawn, 0, 0, the double's bits. All words of the answer are 0 where `word` is outside: k is not from -22 to 22,
+ * or it is no value word. Then there is no number to draw; only the first word of the answer tells this from zero. */
 bool skumvari_double(uint64_t word, uint64_t *answer, size_t answer_length);
 
-/* The doubles of a frequency and a value, which are value words. Answer: drawn, 0, 0, and the bits of each (enum skumvari_pair_answer). Every word is 0
- * if either is outside. */
+/* The doubles of two value words, a frequency and a value. Answer: drawn, 0, 0, and the bits of each (enum skumvari_pair_answer). All words of the answer
+ * are 0 if either is outside. */
 bool skumvari_pair(uint64_t frequency, uint64_t value, uint64_t *answer, size_t answer_length);
 
 /* The double that has these bits. */

@@ -1,5 +1,5 @@
 /* test.c: checks that a C program gets from skumvari.h what the header and the paper promise; one line for each failed check, `ok` at the end.
- * Everything is asked about the paper's example, whose text and numbers stand in the paper's part "Listing". */
+ * All but the doubles is asked about the paper's example, whose text and numbers stand in the paper's part "Listing". */
 #include <stdio.h>
 #include <stdlib.h>
 #include <string.h>
@@ -298,31 +298,38 @@ static bool draws_as_c(bool negative, uint64_t size, int exponent)
     return draws(word, negative ? -number : number) && draws(word, strtod(text, NULL));
 }
 
-/* A million words: every other one of a number of 1 to 15 digits and a k from -30 to 30, the rest any words at all, few of them value words. */
+/* An m of 1 to 15 digits. */
+static uint64_t random_size(void)
+{
+    uint64_t bound = 10;
+    for (uint64_t digits = random_word() % 15; digits > 0; digits--)
+        bound *= 10;
+    return random_word() % bound;
+}
+
+/* A million words that are drawn, and those met on the way that are not: k goes from -30 to 30, and m may be 0 or end in 0. Zero is asked above. */
 static void check_many_doubles(void)
 {
     int drawn = 0, outside = 0, failed = 0;
-    for (int i = 0; i < 1000000; i++) {
-        uint64_t word = random_word();
-        uint64_t size = word / 256;
-        int exponent = (int)(word % 256 / 2) - 64;
-        if (i % 2 == 0) {
-            uint64_t bound = 10;
-            for (uint64_t digits = random_word() % 15; digits > 0; digits--)
-                bound *= 10;
-            size = random_word() % bound;
-            exponent = (int)(random_word() % 61) - 30;
+    while (drawn < 1000000) {
+        bool negative = random_word() % 2;
+        uint64_t size = random_size();
+        int exponent = (int)(random_word() % 61) - 30;
+        if (size % 10 != 0 && exponent >= -22 && exponent <= 22) {
+            failed += !draws_as_c(negative, size, exponent);
+            drawn++;
+        } else if (value_word(negative, size, exponent) != 128) {
+            failed += !draws_nothing(value_word(negative, size, exponent));
+            outside++;
         }
-        bool negative = word % 2;
-        bool number = size > 0 && size <= UINT64_C(999999999999999) && size % 10 != 0 && exponent >= -22 && exponent <= 22;
-        if (value_word(negative, size, exponent) == 128)
-            continue;
-        failed += number ? !draws_as_c(negative, size, exponent) : !draws_nothing(value_word(negative, size, exponent));
-        drawn += number;
-        outside += !number;
     }
-    check(failed == 0, "a million doubles are those of C");
-    check(drawn > 300000 && outside > 300000, "of a million words many are drawn and many are not");
+    check(failed == 0, "a million doubles are those of C, and what is outside is not drawn");
+    check(outside > 100000, "many words were met that are not drawn");
+    for (int i = 0; i < 1000000; i++) {
+        uint64_t word = random_word() | UINT64_C(1) << 63; /* an m of 17 digits */
+        failed += !draws_nothing(word);
+    }
+    check(failed == 0, "words with an m of 17 digits are outside");
 }
 
 /* Words lent for an answer that are too few: false, and nothing is written; of the intake the table is zeroed all the same. */

@@ -1,5 +1,5 @@
 """Reads ICM 1.1 interconnect model files by the proved intake of skumvari.
-Every number is told exactly, as a Decimal; what is wrong with a refused file is told by the paper's number and line.
+Every number of a file is told exactly, as a Decimal; what is wrong with a refused file is told by the paper's number and line.
 
     import skumvari
 
@@ -36,7 +36,7 @@ STEPS = ("end", "section", "fork", "endfork")
 
 ZERO = 128  # the value word of zero
 NO_VALUE = 0  # a word that is no value word
-SIZE_MOST = 999_999_999_999_999  # the greatest m of a value word
+SIZE_DIGITS, EXPONENT_MOST = 15, 60  # of m, and of k either way
 
 # The parts of a table in their order, with the words that a record has.
 PARTS = (("models", 5), ("steps", 6), ("maps", 7), ("pins", 2), ("sections", 8), ("matrices", 5), ("values", 3))
@@ -185,16 +185,20 @@ def value_text(word):
 
 def _word_of(number):
     """The value word of an exact number, or a word that is none where no value word is that number."""
+    if not isinstance(number, (Decimal, int)):
+        raise TypeError(f"a value is a Decimal or an int, not {type(number).__name__}")
     number = Decimal(number)
     if not number.is_finite():
         return NO_VALUE
-    sign, digits, exponent = number.as_tuple()
-    size = int("".join(map(str, digits)))
-    if size == 0:
+    if not number:
         return ZERO
-    while size % 10 == 0:
-        size, exponent = size // 10, exponent + 1
-    return 256 * size + 2 * (exponent + 64) + sign if size <= SIZE_MOST and -60 <= exponent <= 60 else NO_VALUE
+    sign, digits, exponent = number.as_tuple()
+    written = "".join(map(str, digits)).lstrip("0")
+    size = written.rstrip("0")  # m does not end in 0
+    exponent += len(written) - len(size)
+    if len(size) > SIZE_DIGITS or abs(exponent) > EXPONENT_MOST:
+        return NO_VALUE
+    return 256 * int(size) + 2 * (exponent + 64) + sign
 
 
 def _double(word):
@@ -211,7 +215,8 @@ def _pair(frequency, value):
 def double_of(number):
     """The float to draw a value of a file by: the exact number rounded once, and the number itself where it is whole and below two to the 53.
 
-    None where nothing is drawn: the number is not m times ten to a k from -22 to 22, with an m of at most 15 digits that does not end in 0.
+    A value is a Decimal or an int. None where nothing is drawn: it is not m times ten to a k from -22 to 22, with an m of at most 15 digits that
+    does not end in 0.
     """
     return _double(_word_of(number))
 

@@ -200,10 +200,15 @@ class Doubles(unittest.TestCase):
         drawn = {"1e22": 1e22, "-1e-22": -1 / 1e22, "10e21": 1e22, "100e-24": 1 / 1e22, "9007199254740990": 9007199254740990.0, "-2.50": -2.5}
         for number, wanted in drawn.items():
             self.assertEqual(skumvari.double_of(Decimal(number)), wanted, number)
-        self.assertEqual(skumvari.double_of(3), 3.0)
+        self.assertEqual(skumvari.double_of(-300), -300.0)
+        self.assertEqual(skumvari.double_of(Decimal("0001." + "0" * 5000)), 1.0)
         self.assertEqual(bits(skumvari.double_of(Decimal("-0e99"))), "0" * 16)
         for number in "1e23", "10e22", "-1e-23", "1234567890.123456", "1e61", "1e999999", "NaN", "sNaN", "Infinity", "-Infinity":
             self.assertIsNone(skumvari.double_of(Decimal(number)), number)
+        self.assertIsNone(skumvari.double_of(10**5000 + 1))
+        for number in 0.5, "1", None:
+            with self.assertRaises(TypeError):
+                skumvari.double_of(number)
 
     def test_pairs(self):
         frequency, number, outside = Decimal("1e9"), Decimal("-45e-10"), Decimal("1e23")

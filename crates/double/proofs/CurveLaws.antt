@@ -1,5 +1,5 @@
 -- What request 11 promises of the doubles that are drawn: the exact number rounded once, the number itself where it is whole and below two to
--- the 53, its sign, plus zero, never a NaN, one answer bit for bit, and nothing outside the span.
+-- the 53, its sign, plus zero, never a NaN, bits of its own, and nothing outside the span.
 -- Assumes nothing.
 use mathlib.Core.Path.{_≡_, refl, sym, ap, _∙_, subst}
 use mathlib.Core.Bool.{Bool, true, false, not}
@@ -162,10 +162,11 @@ written-rounded w e k =
     ap (signed (decimalOf w .negative)) (rounded (decimalOf w .size) (decimalOf w .shifted) (written-some w k) (s .few) (s .low) (s .high))
     ∙ signed-round (decimalOf w .negative) (numerator w) (denominator w)
 
-pub rounded-once : (w : ℕ) → isDrawn w ≡ true → drawnOf w ≡ Value (round binary64 (decimalOf w .negative) (numerator w) (denominator w))
-rounded-once w e =
-    drawn-is w e
-    ∙ ap Value (⊎-elim (λ (z : w ≡ zeroWord). subst Rounded (sym z) zero-rounded) (written-rounded w e) (which w e))
+rounded-is : (w : ℕ) → isDrawn w ≡ true → Rounded w
+rounded-is w e = ⊎-elim (λ (z : w ≡ zeroWord). subst Rounded (sym z) zero-rounded) (written-rounded w e) (which w e)
+
+pub rounded-once : (w : ℕ) (x : Float) → drawnOf w ≡ Value x → x ≡ round binary64 (decimalOf w .negative) (numerator w) (denominator w)
+rounded-once w x e = let d = drew w x e in d .value ∙ rounded-is w (d .told)
 
 -- ---- zero, and the sign of any other number
 
@@ -227,9 +228,9 @@ finite-number (fin s m e) h = tt
 pub never-nan : (w : ℕ) (x : Float) → drawnOf w ≡ Value x → T (not (isNan x))
 never-nan w x e = finite-number x (drawn-finite w x e)
 
--- ---- one answer, bit for bit
+-- ---- its bits are its own
 
--- the bits that are handed out are read back as the double itself
+-- what is handed out as bits is read back as the double itself, so no two doubles have the same bits
 pub bits-back : (w : ℕ) (x : Float) → drawnOf w ≡ Value x → ofBits binary64 (toBits binary64 x) ≡ x
 unfolding double
 bits-back w x e =
@@ -303,4 +304,5 @@ pub whole-drawn :
     (drawnOf w ≡ Value (round binary64 (decimalOf w .negative) n 1)) × HasValue (round binary64 (decimalOf w .negative) n 1) (decimalOf w .negative) n 1
 whole-drawn w n h =
     let same = round-same binary64 (decimalOf w .negative) (numerator w) (denominator w) n 1 (ten-above (64 - decimalOf w .shifted)) (zero-lt-suc 0) (mul-one (numerator w) ∙ h .value) in
-    (rounded-once w (whole-span w n h) ∙ ap Value same, round-whole binary64 (decimalOf w .negative) n (le-of-lt (h .below)))
+    let told = whole-span w n h in
+    (drawn-is w told ∙ ap Value (rounded-is w told ∙ same), round-whole binary64 (decimalOf w .negative) n (le-of-lt (h .below)))

@@ -19,7 +19,6 @@ use Rattle.number.proofs.WordLaws.{Written, word-says, decode-build}
 use Rattle.double.specs.Double.{span, asDouble, scaled, signed, double, isDrawn, drawnOf, paired}
 use Rattle.double.specs.declared.Drawn.{Drawn}
 use Rattle.double.specs.declared.Drawn.the-variants.{Value, Outside}
-use Rattle.double.specs.declared.DrawnPair.{DrawnPair}
 use Rattle.double.specs.declared.DrawnPair.the-variants.{Pair}
 use Rattle.double.specs.declared.DrawnPair.the-variants as pairs
 

@@ -148,7 +148,7 @@ pub fn double(word: u64) -> Option<f64> {
     is_given(lent, &answer).then(|| f64::from_bits(answer[3]))
 }
 
-/// The doubles of a frequency and a value, both value words. `None` if either is outside.
+/// The doubles of two value words, a frequency and a value. `None` if either is outside.
 pub fn pair(frequency: u64, value: u64) -> Option<(f64, f64)> {
     let mut answer = [0; PAIR_WORDS];
     let lent = sys::pair(frequency, value, &mut answer);
@@ -160,6 +160,7 @@ fn given(lent: bool, answer: &[u64]) -> Result<(), Refusal> {
     is_given(lent, answer).then_some(()).ok_or_else(|| Refusal::new(answer[1], answer[2]))
 }
 
+/// Whether what was asked for is given: the first word of the answer.
 fn is_given(lent: bool, answer: &[u64]) -> bool {
     assert!(lent, "the words lent for an answer are as many as the header asks for");
     answer[0] == 1

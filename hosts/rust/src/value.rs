@@ -63,7 +63,7 @@ impl Value {
         raw::double(self.0)
     }
 
-    /// The doubles of a frequency and a value, a point of a curve; `None` if [`to_f64`](Value::to_f64) has none of either.
+    /// The doubles of a frequency and a value, a point of a curve; `None` if either has none (see [`to_f64`](Value::to_f64)).
     pub fn pair(frequency: Value, value: Value) -> Option<(f64, f64)> {
         raw::pair(frequency.0, value.0)
     }

@@ -1,5 +1,6 @@
 // differential.rs: the proved library against the independent plain reading: every answer and every word of every table must be the same.
-// The texts are the test files with expected answers, files at the paper's bounds, generated files, and damaged ones; tables are bent too.
+// The texts are the test files with expected answers, files at the paper's bounds, generated files, and damaged ones; tables are bent too. The words
+// whose doubles are asked are made at random.
 //
 // SKUMVARI_SEED, SKUMVARI_CASES and SKUMVARI_SECONDS change what is generated.
 #[path = "differential/bounds.rs"]
