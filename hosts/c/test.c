@@ -325,11 +325,10 @@ static void check_many_doubles(void)
     }
     check(failed == 0, "a million doubles are those of C, and what is outside is not drawn");
     check(outside > 100000, "many words were met that are not drawn");
-    for (int i = 0; i < 1000000; i++) {
-        uint64_t word = random_word() | UINT64_C(1) << 63; /* an m of 17 digits */
-        failed += !draws_nothing(word);
-    }
-    check(failed == 0, "words with an m of 17 digits are outside");
+    int long_drawn = 0;
+    for (int i = 0; i < 1000000; i++)
+        long_drawn += !draws_nothing(random_word() | UINT64_C(1) << 63);
+    check(long_drawn == 0, "words with an m of 17 digits are outside");
 }
 
 /* Words lent for an answer that are too few: false, and nothing is written; of the intake the table is zeroed all the same. */
