@@ -24,7 +24,8 @@ from decimal import Decimal
 from pathlib import Path
 from typing import NamedTuple, Optional, Union
 
-__all__ = ["read", "reads", "double_of", "pair_of", "File", "Model", "Step", "PinMap", "Section", "Refused", "NoSuch", "NoSuchModel", "NoSuchSection", "NoSuchEntry"]
+__all__ = ["read", "reads", "double_of", "pair_of", "File", "Model", "Step", "PinMap", "Section"]
+__all__ += ["Refused", "NoSuch", "NoSuchModel", "NoSuchSection", "NoSuchEntry"]
 
 TEXT_MOST = 1_048_576  # bytes; a longer text is refused whatever it holds
 

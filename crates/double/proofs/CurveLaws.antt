@@ -20,14 +20,14 @@ use Rattle.base.specs.If.{if_then_else_, both, either}
 use Rattle.base.specs.Bytes.{within}
 use Rattle.base.proofs.IfLaws.{if-true, if-false, by-cases, both-true, both-not-left, both-not-right, both-first}
 use Rattle.number.specs.ValueWord.{zeroWord, decimalOf, isValueWord}
-use Rattle.number.proofs.WordLaws.{Written, word-says}
+use Rattle.number.proofs.WordLaws.{Written, word-says, decoded}
 use Rattle.double.specs.Double.{span, asDouble, scaled, signed, double, isDrawn, drawnOf, paired}
 use Rattle.double.specs.declared.Drawn.{Drawn}
 use Rattle.double.specs.declared.Drawn.the-variants.{Value, Outside}
 use Rattle.double.specs.declared.DrawnPair.{DrawnPair}
 use Rattle.double.specs.declared.DrawnPair.the-variants.{Pair}
 use Rattle.double.specs.declared.DrawnPair.the-variants as pairs
-use Rattle.double.proofs.DrawLaws.{spanned, decoded}
+use Rattle.double.proofs.DrawLaws.{spanned}
 use Rattle.double.proofs.ExactLaws.{ten-above, scaled-fits, scaled-above, rounded}
 use Rattle.double.proofs.SignLaws.{signed-round, signed-value, signed-fits}
 

@@ -1,11 +1,10 @@
 -- What each `return` of the code asks, with what the tests and the calls answered as premises.
 -- Assumes nothing.
-use mathlib.Core.Path.{_≡_, refl, sym, ap, _∙_}
+use mathlib.Core.Path.{_≡_, refl, sym, _∙_}
 use mathlib.Core.Bool.{Bool, true, false, not}
 use mathlib.Core.Logic.{⊎-elim}
 use Prim.Native.Nat.{ℕ, _+_, _-_, _^_, _≤_, _<_}
 use native.Mathlib.Nat.{le-trans}
-use native.Mathlib.Omega.{arith}
 use lib.Dec.{T, leb, lit≤, le→leb}
 use lib.IntN.{pos}
 use lib.Ieee.{Float, binary64, ofInt, inFloat, mul, div, neg}
@@ -15,7 +14,7 @@ use Rattle.base.specs.Bytes.{within}
 use Rattle.base.proofs.IfLaws.{if-true, if-false, both-first, both-second, both-rest, both-not-left, both-not-right}
 use Rattle.number.specs.ValueWord.{zeroWord, decimalOf, isValueWord}
 use Rattle.number.specs.declared.Decimal.{Decimal}
-use Rattle.number.proofs.WordLaws.{Written, word-says, decode-build}
+use Rattle.number.proofs.WordLaws.{Written, word-says, decoded}
 use Rattle.double.specs.Double.{span, asDouble, scaled, signed, double, isDrawn, drawnOf, paired}
 use Rattle.double.specs.declared.Drawn.{Drawn}
 use Rattle.double.specs.declared.Drawn.the-variants.{Value, Outside}
@@ -40,14 +39,14 @@ module _ (size shifted : ℕ) (power : Float) where
 
 -- ---- the sign
 
-module _ (w : ℕ) (d : Decimal) (x : Float) (decoded : d ≡ decimalOf w) (told : x ≡ scaled (d .size) (d .shifted)) where
+module _ (w : ℕ) (d : Decimal) (x : Float) (parts : d ≡ decimalOf w) (told : x ≡ scaled (d .size) (d .shifted)) where
   pub negated : d .negative ≡ true → neg x ≡ double (decimalOf w)
   unfolding double signed
-  negated t = rw (← decoded, told) (sym (if-true _ _ t))
+  negated t = rw (← parts, told) (sym (if-true _ _ t))
 
   pub kept : d .negative ≡ false → x ≡ double (decimalOf w)
   unfolding double signed
-  kept t = rw (← decoded, told) (sym (if-false _ _ t))
+  kept t = rw (← parts, told) (sym (if-false _ _ t))
 
 -- ---- which words are drawn
 
@@ -56,12 +55,6 @@ pub record Spanned (d : Decimal) : Type 0 where
   pub few : d .size ≤ 999_999_999_999_999
   pub low : 64 - span ≤ d .shifted
   pub high : d .shifted ≤ 64 + span
-
--- what a written number's word is decoded to
-pub decoded : (w : ℕ) (k : Written w) → decimalOf w ≡ record { negative = k .negative; size = k .size; shifted = k .shifted }
-decoded w k =
-    let s : k .shifted < 128 = omega (arith, k .high) in
-    ap decimalOf (k .word) ∙ decode-build (k .negative) (k .size) (k .shifted) s
 
 zero-few : decimalOf zeroWord .size ≤ 999_999_999_999_999
 unfolding decimalOf

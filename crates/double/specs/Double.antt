@@ -33,7 +33,7 @@ scaled size shifted =
 unfoldable pub signed : Bool → Float → Float
 signed negative x = if negative then neg x else x
 
--- "A sign survives; zero is plus zero": of the value words of zero there is one, and it has no sign
+-- "A sign survives; zero is plus zero": zero has one value word, and that has no sign
 unfoldable pub double : Decimal → Float
 double d = signed (d .negative) (scaled (d .size) (d .shifted))
 

@@ -64,6 +64,12 @@ pub record Written (w : ℕ) : Type 0 where
   pub low : 4 ≤ shifted
   pub high : shifted ≤ 124
 
+-- such a number's word is told apart into its parts
+pub decoded : (w : ℕ) (k : Written w) → decimalOf w ≡ record { negative = k .negative; size = k .size; shifted = k .shifted }
+decoded w k =
+    let s : k .shifted < 128 = omega (arith, k .high) in
+    ap decimalOf (k .word) ∙ decode-build (k .negative) (k .size) (k .shifted) s
+
 decimal-parts : (d : Decimal) → isDecimal d ≡ true → (1 ≤ d .size) × (d .size ≤ 999_999_999_999_999) × (d .size % 10 ≡ 0 → ⊥) × (4 ≤ d .shifted) × (d .shifted ≤ 124)
 unfolding isDecimal within
 decimal-parts d e =
@@ -99,9 +105,7 @@ word-zero w e = either-left _ _ (eq-eqb w zeroWord e)
 pub word-written : (w : ℕ) → Written w → isValueWord w ≡ true
 unfolding isValueWord
 word-written w k =
-    let s : k .shifted < 128 = omega (arith, k .high) in
-    let d : decimalOf w ≡ record { negative = k .negative; size = k .size; shifted = k .shifted } = ap decimalOf (k .word) ∙ decode-build (k .negative) (k .size) (k .shifted) s in
-    either-right _ _ (ap isDecimal d ∙ decimal-made (record { negative = k .negative; size = k .size; shifted = k .shifted }) (k .some) (k .few) (k .trimmed) (k .low) (k .high))
+    either-right _ _ (ap isDecimal (decoded w k) ∙ decimal-made (record { negative = k .negative; size = k .size; shifted = k .shifted }) (k .some) (k .few) (k .trimmed) (k .low) (k .high))
 
 pub word-told : (w : ℕ) → ((w ≡ zeroWord) ⊎ Written w) → isValueWord w ≡ true
 word-told w k = ⊎-elim (word-zero w) (word-written w) k
