@@ -1,45 +1,88 @@
-// Rules 19 to 27 over a whole text: what the lines of all kinds break first.
+// The lines of a text that write the records of a table: where a rule is broken.
 ghost use mathlib.Core.Path.{_≡_};
-ghost use Rattle.document.specs.Document.{documentOf};
-ghost use Rattle.rules.specs.Rules.{earlier, crossRule};
-ghost use Rattle.rules.specs.Filled.{Filled};
-use rules::Finding;
+ghost use lib.Dec.{eqb};
+ghost use Prim.Native.Nat.{_-_};
+ghost use Rattle.base.specs.If.{if_then_else_, both};
+ghost use Rattle.doc.specs.Lines.{significant};
+ghost use Rattle.cross_rules.specs.Nth.{writesAt, nthLine};
 
-// The earlier of two, one that breaks nothing never.
-fn earlier_of(a: Finding, b: Finding) -> Finding
-    ensures { λ r. ⌜ r ≡ earlier a b ⌝ }
-{
-    if a.number == 0 {
-        return b;
-    }
-    if b.number == 0 {
-        return a;
-    }
-    if b.line < a.line {
-        return b;
-    }
-    a
+// What a line breaks of the rules 19 to 27, 0 for nothing.
+pub struct Finding {
+    pub number: u64,
+    pub line: u64,
 }
 
-// What a text that the table holds breaks first. The list stands above all models and sections, so where one of its lines breaks a rule
-// only a map above it can come before; the rules of models need the flags of a list that breaks nothing.
-pub fn cross_finding(text: &[u8], table: &[u64]) -> Finding
-    requires { ⌜ Filled (now text) (now table) ⌝ }
-    ensures { λ r. ⌜ r ≡ crossRule (documentOf (now (text .entry))) ⌝ }
+// Whether a line with this keyword in this place writes a record of a part.
+fn writes_at(part: usize, place: u64, key: u64) -> bool
+    ensures { λ r. ⌜ r ≡ writesAt part place key ⌝ }
 {
-    let view = view::view_of(table);
-    let list = list_rules::list_finding(text, table, view);
-    let maps = map_rules::map_finding(text, table, view);
-    if list.number != 0 {
-        let first = Finding {
-            number: list.number,
-            line: list.line,
-        };
-        return earlier_of(first, maps);
+    if part == table_layout::MODELS {
+        if !line_place::is_in_family(place) {
+            return false;
+        }
+        return key == lex_keyword::BEGIN_ICM_MODEL;
     }
-    let listed = list.listed;
-    let models = model_rules::model_finding(text, table, view, listed);
-    let sections = section_rules::section_finding(text, table, view);
-    let below = earlier_of(maps, sections);
-    earlier_of(models, below)
+    if part == table_layout::MAPS {
+        if !line_place::is_in_family(place) {
+            return false;
+        }
+        return key == lex_keyword::ICM_PIN_MAP;
+    }
+    if part == table_layout::SECTIONS {
+        if place != line_place::AFTER {
+            return false;
+        }
+        return key == lex_keyword::BEGIN_ICM_SECTION;
+    }
+    if place != line_place::PINS {
+        return false;
+    }
+    key == doc::PLAIN
+}
+
+// The last of those still to be counted is reached.
+fn is_last(writes: bool, left: u64) -> bool
+    ensures { λ r. ⌜ r ≡ both writes (eqb left 0) ⌝ }
+{
+    if !writes {
+        return false;
+    }
+    left == 0
+}
+
+// One less to be counted if the line writes one.
+fn less_if(writes: bool, left: u64) -> u64
+    ensures { λ r. ⌜ r ≡ (if writes then left - 1 else left) ⌝ }
+{
+    if !writes {
+        return left;
+    }
+    if left == 0 {
+        return 0;
+    }
+    left - 1
+}
+
+// The line that writes the record of a part that is numbered `index`.
+pub fn nth_line(text: &[u8], part: usize, index: u64) -> u64
+    ensures { λ r. ⌜ r ≡ nthLine part index (significant (now (text .entry))) ⌝ }
+{
+    let mut left = index;
+    let mut at = 0;
+    let mut number = 1;
+    let mut place = line_place::BEFORE;
+    loop {
+        let line = doc::next_line(text, at, number);
+        if !line.there {
+            return 0;
+        }
+        let writes = writes_at(part, place, line.key);
+        if is_last(writes, left) {
+            return line.number;
+        }
+        left = less_if(writes, left);
+        place = doc::place_after(place, text, line);
+        at = line.next;
+        number = line.number + 1;
+    }
 }

@@ -39,13 +39,13 @@ fn print_room(room: &[u8], length: usize) {
 
 fn print_refusal(number: u64, line: u64) {
     let mut room = [0u8; 64];
-    let length = listing::write_refusal(number, line, &mut room);
+    let length = out_listing::write_refusal(number, line, &mut room);
     print_room(&room, length);
 }
 
 fn print_value(word: u64) {
     let mut room = [0u8; 64];
-    let length = printing::put_value(&mut room, 0, word, b'\n');
+    let length = out_text::put_value(&mut room, 0, word, b'\n');
     print_room(&room, length);
 }
 
@@ -56,10 +56,10 @@ fn print_line(what: &[u8], word: &[u8]) {
 }
 
 // The table of an accepted file is sound and what is asked for was looked up in it, so a refusal is not to be expected here.
-fn print_entry(answer: entry::Answer) {
+fn print_entry(answer: ask_entry::Answer) {
     match answer {
-        entry::Answer::Found(word) => print_value(word),
-        entry::Answer::Refused(number) => print_refusal(number, 0),
+        ask_entry::Answer::Found(word) => print_value(word),
+        ask_entry::Answer::Refused(number) => print_refusal(number, 0),
     }
 }
 
@@ -74,28 +74,28 @@ fn section_of(text: &[u8], table: &[u64], view: View, name: &[u8]) -> u64
     if !view.fits {
         return 0;
     }
-    name::find_name(
+    table_name::find_name(
         text,
         table,
-        bases[table::SECTIONS],
+        bases[table_layout::SECTIONS],
         SECTION_WORDS,
-        counts[table::SECTIONS],
+        counts[table_layout::SECTIONS],
         name,
         0,
     )
 }
 
 fn kind_of(word: &[u8]) -> u64 {
-    if text::same_bytes(word, b"R") {
+    if lex_line::same_bytes(word, b"R") {
         return 0;
     }
-    if text::same_bytes(word, b"L") {
+    if lex_line::same_bytes(word, b"L") {
         return 1;
     }
-    if text::same_bytes(word, b"G") {
+    if lex_line::same_bytes(word, b"G") {
         return 2;
     }
-    if text::same_bytes(word, b"C") {
+    if lex_line::same_bytes(word, b"C") {
         return 3;
     }
     NO_KIND
@@ -114,11 +114,11 @@ fn kind_asked() -> u64 {
 
 // A word as a row or column of a section with so many conductors; 0 where it is no number or not from 1 to N.
 fn place_of(word: &[u8], conductors: u64) -> u64 {
-    let whole = number::read_integer(word);
+    let whole = lex_number::read_integer(word);
     if !whole.formed {
         return 0;
     }
-    if !number::is_within(1, conductors, whole.value) {
+    if !lex_number::is_within(1, conductors, whole.value) {
         return 0;
     }
     whole.value
@@ -160,14 +160,14 @@ fn answer_in(text: &[u8], table: &[u64], name: &[u8], section: u64, conductors: 
     if column == 0 {
         return;
     }
-    print_entry(entry::entry(text, table, section, kind, row, column));
+    print_entry(ask_entry::entry(text, table, section, kind, row, column));
 }
 
 // N is 0 where there is no such section, and never else.
 fn answer_of(text: &[u8], table: &[u64], name: &[u8]) {
     let view = view::view_of(table);
     let section = section_of(text, table, view, name);
-    let conductors = listing::field_of(table, view, table::SECTIONS, section, CONDUCTORS);
+    let conductors = out_listing::field_of(table, view, table_layout::SECTIONS, section, CONDUCTORS);
     if conductors == 0 {
         print_line(b"no section ", name);
         return;

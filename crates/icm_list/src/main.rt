@@ -30,13 +30,13 @@ fn print_room(room: &[u8], length: usize) {
 
 fn print_listing(text: &[u8], table: &[u64], words: usize) {
     let mut room = listing_room();
-    let length = listing::write_listing(text, table, words, &mut room);
+    let length = out_listing::write_listing(text, table, words, &mut room);
     print_room(&room, length);
 }
 
 fn print_refusal(number: u64, line: u64) {
     let mut room = [0u8; 64];
-    let length = listing::write_refusal(number, line, &mut room);
+    let length = out_listing::write_refusal(number, line, &mut room);
     print_room(&room, length);
 }
 

@@ -4,8 +4,8 @@ ghost use mathlib.Core.Path.{_≡_};
 ghost use Rattle.view.specs.View.{viewOf};
 use intake::Answer;
 use view::View;
-use walk::Place;
-use walk::Walked;
+use ask_walk::Place;
+use ask_walk::Walked;
 
 // The longest file that is taken.
 const MOST: usize = 65536;
@@ -47,7 +47,7 @@ fn print_room(room: &[u8], length: usize) {
 
 fn print_refusal(number: u64, line: u64) {
     let mut room = [0u8; 64];
-    let length = listing::write_refusal(number, line, &mut room);
+    let length = out_listing::write_refusal(number, line, &mut room);
     print_room(&room, length);
 }
 
@@ -69,7 +69,7 @@ fn print_blanks(depth: u64) {
 fn print_step(text: &[u8], table: &[u64], index: u64) {
     let view = view::view_of(table);
     let mut room = [0u8; 512];
-    let length = listing::step_line(&mut room, 0, text, table, view, index);
+    let length = out_listing::step_line(&mut room, 0, text, table, view, index);
     print_room(&room, length);
 }
 
@@ -139,12 +139,12 @@ fn model_of(text: &[u8], table: &[u64], view: View, name: &[u8]) -> u64
     if !view.fits {
         return 0;
     }
-    name::find_name(
+    table_name::find_name(
         text,
         table,
-        bases[table::MODELS],
+        bases[table_layout::MODELS],
         MODEL_WORDS,
-        counts[table::MODELS],
+        counts[table_layout::MODELS],
         name,
         0,
     )
@@ -153,11 +153,11 @@ fn model_of(text: &[u8], table: &[u64], view: View, name: &[u8]) -> u64
 fn walk_model(text: &[u8], table: &[u64], name: &[u8]) {
     let view = view::view_of(table);
     let model = model_of(text, table, view, name);
-    if listing::count_of(table, view, table::MODELS) <= model {
+    if out_listing::count_of(table, view, table_layout::MODELS) <= model {
         print_line(b"no model ", name);
         return;
     }
-    let first = listing::field_of(table, view, table::MODELS, model, FIRST_STEP);
+    let first = out_listing::field_of(table, view, table_layout::MODELS, model, FIRST_STEP);
     walk_from(text, table, first, model);
 }
 

@@ -10,22 +10,22 @@ use lib.Dec.{ltb, eqb}
 use borrow.Author.Tests.{eq-eqb, ne-eqb, ltb-false}
 use Rattle.base.specs.If.{if_then_else_}
 use Rattle.base.proofs.IfLaws.{if-true, if-false, by-cases}
-use Rattle.block.specs.declared.Counts.{Counts}
-use Rattle.text.specs.ByteRules.{byteRules}
-use Rattle.text.specs.declared.Checked as text
-use Rattle.text.specs.declared.Checked.the-variants as bytes
-use Rattle.reading.specs.Reading.{readingOf}
-use Rattle.reading.specs.declared.Reading.{Reading}
-use Rattle.reading.specs.declared.Reading.the-variants as reading
-use Rattle.document.specs.Document.{documentOf}
-use Rattle.document.specs.Records.{tableOf}
-use Rattle.filling.specs.Filled as filled
-use Rattle.filling.specs.Filled.{afterReading, filledOf}
-use Rattle.filling.specs.declared.Filled as filling
-use Rattle.filling.specs.declared.Filled.the-variants.{Stored, Refused}
-use Rattle.rules.specs.Rules.{crossRule}
-use Rattle.rules.specs.Filled.{Filled}
-use Rattle.rules.specs.declared.Finding.{Finding}
+use Rattle.line_keyword.specs.declared.Counts.{Counts}
+use Rattle.lex_line.specs.ByteRules.{byteRules}
+use Rattle.lex_line.specs.declared.Checked as text
+use Rattle.lex_line.specs.declared.Checked.the-variants as bytes
+use Rattle.read_line.specs.Reading.{readingOf}
+use Rattle.read_line.specs.declared.Reading.{Reading}
+use Rattle.read_line.specs.declared.Reading.the-variants as reading
+use Rattle.doc.specs.Document.{documentOf}
+use Rattle.doc.specs.Records.{tableOf}
+use Rattle.fill.specs.Filled as filled
+use Rattle.fill.specs.Filled.{afterReading, filledOf}
+use Rattle.fill.specs.declared.Filled as filling
+use Rattle.fill.specs.declared.Filled.the-variants.{Stored, Refused}
+use Rattle.cross_rules.specs.Rules.{crossRule}
+use Rattle.cross_rules.specs.Filled.{Filled}
+use Rattle.cross_rules.specs.declared.Finding.{Finding}
 use Rattle.intake.specs.Verdict.{Outcome, acceptedWith, refusedBy, crossed, afterFilling, afterBytes, verdictOf, tableFor}
 
 -- ---- the table

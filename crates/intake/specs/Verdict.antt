@@ -7,16 +7,16 @@ use mathlib.Core.List.{List, _++_}
 use lib.ListN.{length, replicate}
 use lib.Dec.{eqb}
 use Rattle.base.specs.If.{if_then_else_}
-use Rattle.text.specs.ByteRules.{byteRules}
-use Rattle.text.specs.declared.Checked.{Checked}
-use Rattle.text.specs.declared.Checked.the-variants as bytes
-use Rattle.document.specs.Document.{documentOf}
-use Rattle.document.specs.Records.{tableOf}
-use Rattle.filling.specs.Filled.{filledOf}
-use Rattle.filling.specs.declared.Filled.{Filled}
-use Rattle.filling.specs.declared.Filled.the-variants as filling
-use Rattle.rules.specs.Rules.{crossRule}
-use Rattle.rules.specs.declared.Finding.{Finding}
+use Rattle.lex_line.specs.ByteRules.{byteRules}
+use Rattle.lex_line.specs.declared.Checked.{Checked}
+use Rattle.lex_line.specs.declared.Checked.the-variants as bytes
+use Rattle.doc.specs.Document.{documentOf}
+use Rattle.doc.specs.Records.{tableOf}
+use Rattle.fill.specs.Filled.{filledOf}
+use Rattle.fill.specs.declared.Filled.{Filled}
+use Rattle.fill.specs.declared.Filled.the-variants as filling
+use Rattle.cross_rules.specs.Rules.{crossRule}
+use Rattle.cross_rules.specs.declared.Finding.{Finding}
 use Rattle.intake.specs.declared.Answer.{Answer}
 use Rattle.intake.specs.declared.Answer.the-variants.{Accepted, Refused}
 

@@ -1,12 +1,12 @@
 // The intake: a text and a lent table, accepted with the words used, or refused with the paper's number and line.
 ghost use mathlib.Core.Path.{_≡_};
 ghost use lib.ListN.{length};
-ghost use Rattle.document.specs.Document.{documentOf};
-ghost use Rattle.filling.specs.Filled.{filledOf};
-ghost use Rattle.rules.specs.Rules.{crossRule};
-ghost use Rattle.rules.specs.Filled.{Filled};
+ghost use Rattle.doc.specs.Document.{documentOf};
+ghost use Rattle.fill.specs.Filled.{filledOf};
+ghost use Rattle.cross_rules.specs.Rules.{crossRule};
+ghost use Rattle.cross_rules.specs.Filled.{Filled};
 ghost use Rattle.intake.specs.Verdict.{answerWords, crossed, afterFilling, verdictOf, tableFor};
-use text::Checked;
+use lex_line::Checked;
 
 // Accepted with the words used, or refused by a rule at a line.
 pub enum Answer {
@@ -19,7 +19,7 @@ fn judge(text: &[u8], table: &mut [u64], words: usize) -> Answer
     requires { ⌜ Filled (now text) (now table) ⌝ }
     ensures { λ r. ⌜ (answerWords r ≡ crossed words (crossRule (documentOf (now (text .entry))))) × (now (table .exit) ≡ tableFor (now (text .entry)) (length (now (table .entry))) (answerWords r)) ⌝ }
 {
-    let finding = cross_rules::cross_finding(text, table);
+    let finding = cross::cross_finding(text, table);
     if finding.number != 0 {
         base::zero_all(table);
         return Answer::Refused(finding.number, finding.line);
@@ -31,9 +31,9 @@ fn judge(text: &[u8], table: &mut [u64], words: usize) -> Answer
 fn take(text: &[u8], table: &mut [u64]) -> Answer
     ensures { λ r. ⌜ (answerWords r ≡ afterFilling (now (text .entry)) (filledOf (now (text .entry)) (length (now (table .entry))))) × (now (table .exit) ≡ tableFor (now (text .entry)) (length (now (table .entry))) (answerWords r)) ⌝ }
 {
-    match filling::fill_table(text, table) {
-        filling::Filled::Stored(words) => judge(text, table, words),
-        filling::Filled::Refused(number, line) => Answer::Refused(number, line),
+    match fill::fill_table(text, table) {
+        fill::Filled::Stored(words) => judge(text, table, words),
+        fill::Filled::Refused(number, line) => Answer::Refused(number, line),
     }
 }
 
@@ -41,7 +41,7 @@ fn take(text: &[u8], table: &mut [u64]) -> Answer
 pub fn intake(text: &[u8], table: &mut [u64]) -> Answer
     ensures { λ r. ⌜ (answerWords r ≡ verdictOf (now (text .entry)) (length (now (table .entry)))) × (now (table .exit) ≡ tableFor (now (text .entry)) (length (now (table .entry))) (answerWords r)) ⌝ }
 {
-    match text::check_bytes(text) {
+    match lex_line::check_bytes(text) {
         Checked::Fine => take(text, table),
         Checked::Refused(number, line) => {
             base::zero_all(table);

@@ -1,3 +1,3 @@
 pub mod PinLaws
+pub mod TableLaws
 pub mod MapLaws
-pub mod PassLaws

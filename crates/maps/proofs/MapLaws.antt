@@ -1,128 +1,173 @@
--- Laws of a map's own record, stored behind its pins, and of the maps one after another.
+-- Laws of the maps gone over: those that are left give what all of them, with their pins, break first.
 -- Assumes nothing.
-use mathlib.Core.Path.{_≡_, refl, sym, _∙_, ap}
+use mathlib.Core.Path.{_≡_, refl, sym, _∙_, ap, subst}
 use mathlib.Core.Bool.{Bool, true, false}
-use mathlib.Core.List.{List, [], _∷_, _++_, map, append-assoc}
-use Prim.Native.Nat.{ℕ, suc, _+_, _-_, _≤_, _<_}
+use mathlib.Core.List.{List, [], _∷_, _++_, append-assoc}
+use Prim.Native.Nat.{ℕ, _+_, _*_, _≤_, _<_}
+use native.Mathlib.Nat.{not-suc-le-zero}
 use native.Mathlib.Omega.{arith}
 use lib.ListN.{length, getD, length-append}
-use lib.Seq.{sets}
-use Rattle.base.specs.If.{if_then_else_}
-use Rattle.place.specs.Place as place
-use Rattle.pin_map.specs.PinMap.{newMap}
-use Rattle.pin_map.specs.declared.Map as pin_map
-use Rattle.table.specs.Layout.{widths}
-use Rattle.table.specs.Filling.{Write, partOf, widthOf, position, counted, fillingAfter, Fits}
-use Rattle.table.specs.declared.Filling.{Filling}
-use Rattle.table.proofs.FillingLaws.{fits-first, fits-rest, length-after, filling-append}
-use Rattle.document.specs.Lines.{linesAt, gather, argumentOf}
-use Rattle.document.specs.Document.{Named, Map, mapOf, mapAt, pinAt, gridIn}
-use Rattle.document.specs.Records.{mapRecord}
-use Rattle.document.specs.Found.{markOf, lineIn, Located}
-use Rattle.document.specs.declared.Found.{Found}
-use Rattle.document.specs.declared.Mark.{Mark}
-use Rattle.document.proofs.PlainLaws.{plain-map}
-use Rattle.storing.specs.Writes.{pinWrite, mapWrite, mapWrites, mapsWrites}
-use Rattle.storing.specs.Stores.{Stores, Placed}
-use Rattle.maps.specs.Maps.{mapLines, pinWrites, ReadsMap, mapBelow, FillsMap, mapsOf}
-use Rattle.maps.specs.declared.MapWalk.{MapWalk}
-use Rattle.storing.proofs.StoreLaws.{put-asked, put-stored, stores-join, count-after, counts-kept, part-append}
-use Rattle.storing.proofs.BlockLaws.{Storable}
+use lib.Dec.{eqb}
+use borrow.Author.Tests.{eqb-true, eqb-false}
+use Rattle.base.specs.Broken.{_when_, firstBroken}
+use Rattle.base.proofs.IfLaws.{by-cases}
+use Rattle.base.proofs.BrokenLaws.{first-broken, first-kept}
+use Rattle.table_layout.specs.Layout.{maps, pins}
+use Rattle.view.specs.View.{viewOf}
+use Rattle.view.specs.declared.View.{View}
+use Rattle.doc.specs.Lines.{significant}
+use Rattle.doc.specs.Document.{Map, Document, documentOf}
+use Rattle.cross_rules.specs.Rules.{mapRule, pinFindings, mapFindings, firstIn, nothing}
+use Rattle.cross_rules.specs.Filled.{Filled}
+use Rattle.cross_rules.specs.Nth.{nthLine}
+use Rattle.cross_rules.specs.declared.Finding.{Finding}
+use Rattle.cross_rules.proofs.KindLaws.{first-here, first-later}
+use Rattle.maps.specs.Pins.{twiceAt, MapRoom, pinsOfMap}
+use Rattle.maps.proofs.TableLaws.{maps-many, rule-here, line-here, room-here, own-here}
 
--- pins are records of one part
-pins-part : (ps : List Named) → length (partOf 3 (map pinWrite ps)) ≡ length ps
-unfolding partOf pinWrite if_then_else_
-pins-part [] = refl
-pins-part (p ∷ ps) = ap suc (pins-part ps)
+-- ---- the first of two lists
 
-own-none : (pin : ℕ) (m : Map) → length (partOf 3 (mapWrite pin m ∷ [])) ≡ 0
-unfolding partOf mapWrite if_then_else_
-own-none pin m = refl
+none-first : firstIn [] .number ≡ 0
+unfolding firstIn nothing
+none-first = refl
 
-pins-then : (ps : List Named) (pin : ℕ) (m : Map) → length (partOf 3 (map pinWrite ps)) + length (partOf 3 (mapWrite pin m ∷ [])) ≡ length ps
-pins-then ps pin m = let a : length (partOf 3 (map pinWrite ps)) ≡ length ps = pins-part ps in let b : length (partOf 3 (mapWrite pin m ∷ [])) ≡ 0 = own-none pin m in omega arith
+abbrev numberOf : Finding → ℕ
+numberOf f = f .number
 
-module _ (t : List ℕ) (line : Found) (f : Filling) (seven : length (f .counts) ≡ 7) where
-  pub map-fits-pins : (size : ℕ) → Fits size f (mapWrites (getD (f .counts) 3 0) (mapBelow t line)) → Fits size f (pinWrites (mapLines t (line .number + 1) (line .next) place.mapHead))
-  unfolding mapWrites mapOf
-  map-fits-pins size h = fits-first size f _ _ h
+first-front : (fs gs : List Finding) → (firstIn fs .number ≡ 0 → ⊥) → firstIn (fs ++ gs) ≡ firstIn fs
+first-front [] gs n = absurd (n none-first)
+first-front (f ∷ fs) gs n =
+    by-cases _ (eqb (f .number) 0)
+    (λ (e : eqb (f .number) 0 ≡ true).
+    let s : firstIn (f ∷ fs) ≡ firstIn fs = first-later f fs (eqb-true _ _ e) in
+    first-later f (fs ++ gs) (eqb-true _ _ e) ∙ first-front fs gs (λ (z : firstIn fs .number ≡ 0). n (ap numberOf s ∙ z)) ∙ sym s)
+    (λ (e : eqb (f .number) 0 ≡ false). first-here f (fs ++ gs) (eqb-false _ _ e) ∙ sym (first-here f fs (eqb-false _ _ e)))
 
-  module _ (w : MapWalk) (table table' : List ℕ) (reads : ReadsMap t (line .number + 1) (line .next) f table w table') where
-    pub pins-counted : getD (w .filling .counts) 3 0 ≡ getD (f .counts) 3 0 + length (mapBelow t line .pins)
-    unfolding mapOf
-    pins-counted =
-        let h : 3 < length (f .counts) = omega arith in
-        ap (λ (x : Filling). getD (x .counts) 3 0) (reads .pins .filled) ∙ count-after 3 (pinWrites (mapLines t (line .number + 1) (line .next) place.mapHead)) f h
-        ∙ ap (λ (n : ℕ). getD (f .counts) 3 0 + n) (pins-part (gather pinAt (mapLines t (line .number + 1) (line .next) place.mapHead)))
+first-behind : (fs gs : List Finding) → firstIn fs .number ≡ 0 → firstIn (fs ++ gs) ≡ firstIn gs
+first-behind [] gs z = refl
+first-behind (f ∷ fs) gs z =
+    by-cases _ (eqb (f .number) 0)
+    (λ (e : eqb (f .number) 0 ≡ true).
+    first-later f (fs ++ gs) (eqb-true _ _ e) ∙ first-behind fs gs (ap numberOf (sym (first-later f fs (eqb-true _ _ e))) ∙ z))
+    (λ (e : eqb (f .number) 0 ≡ false). absurd (eqb-false _ _ e (ap numberOf (sym (first-here f fs (eqb-false _ _ e))) ∙ z)))
 
-    pub map-asked : Fits (length table) f (mapWrites (getD (f .counts) 3 0) (mapBelow t line)) → (2 < length widths) × (_≡_ {A = ℕ} 7 (widthOf 2)) × (position (w .filling) 2 + widthOf 2 ≤ length table')
-    unfolding mapWrites mapWrite mapOf
-    map-asked h =
-        let g : Fits (length table) (w .filling) (mapWrite (getD (f .counts) 3 0) (mapBelow t line) ∷ []) = rw (reads .pins .filled) (fits-rest (length table) f _ _ h) in
-        let l : length table' ≡ length table = ap length (reads .pins .stored) ∙ length-after _ f table in
-        rw l (put-asked (w .filling) [] (mapWrite (getD (f .counts) 3 0) (mapBelow t line)) (length table) 2 _ g refl refl)
+-- ---- what is left
 
-    module _ (mark : Mark) (is-mark : mark ≡ markOf (argumentOf (lineIn t line 0))) (order : ℕ) (is-order : order ≡ w .map .order - 1) where
-      map-words : _≡_ {A = List ℕ} (mark .start ∷ mark .size ∷ order ∷ w .map .rows ∷ w .map .columns ∷ getD (f .counts) 3 0 ∷ (getD (w .filling .counts) 3 0 - getD (f .counts) 3 0) ∷ []) (mapWrite (getD (f .counts) 3 0) (mapBelow t line) .words)
-      unfolding mapWrite mapRecord mapOf markOf
-      map-words =
-          let c : getD (w .filling .counts) 3 0 ≡ getD (f .counts) 3 0 + length (mapBelow t line .pins) = pins-counted in
-          let n : getD (w .filling .counts) 3 0 - getD (f .counts) 3 0 ≡ length (mapBelow t line .pins) = omega arith in
-          let g : w .map ≡ gridIn newMap (mapLines t (line .number + 1) (line .next) place.mapHead) = reads .grid in
-          let o : order ≡ gridIn newMap (mapLines t (line .number + 1) (line .next) place.mapHead) .order - 1 = is-order ∙ ap (λ (m : pin_map.Map). m .order - 1) g in
-          λ i. is-mark i .start ∷ is-mark i .size ∷ o i ∷ g i .rows ∷ g i .columns ∷ getD (f .counts) 3 0 ∷ n i ∷ []
+pub record MapsLeft (t : List ℕ) (i : ℕ) : Type 0 where
+  pub above : List Map
+  pub below : List Map
+  pub all : documentOf t .maps ≡ above ++ below
+  pub place : length above ≡ i
+  pub same : firstIn (mapFindings (documentOf t) below) ≡ firstIn (mapFindings (documentOf t) (documentOf t .maps))
 
-      pub map-filled :
-          (r : Filling) (table'' : List ℕ) → r ≡ counted (w .filling) 2 →
-          table'' ≡ sets table' (position (w .filling) 2) (mark .start ∷ mark .size ∷ order ∷ w .map .rows ∷ w .map .columns ∷ getD (f .counts) 3 0 ∷ (getD (w .filling .counts) 3 0 - getD (f .counts) 3 0) ∷ []) →
-          FillsMap t line f table (record { at = w .at; number = w .number; place = w .place; map = w .map; filling = r }) table''
-      unfolding mapWrites mapWrite mapOf
-      map-filled r table'' k h =
-          record {
-            map = stores-join f (w .filling) r table table' table'' _ (mapWrite (getD (f .counts) 3 0) (mapBelow t line) ∷ []) (reads .pins) (put-stored (w .filling) table' (mapWrite (getD (f .counts) 3 0) (mapBelow t line)) 2 _ r table'' refl map-words k h);
-            rest = reads .rest;
-            placed = reads .placed;
-            onward = reads .onward;
-          }
+pub maps-start : (t : List ℕ) → MapsLeft t 0
+maps-start t = record { above = []; below = documentOf t .maps; all = refl; place = refl; same = refl }
 
--- ---- maps one after another
+record Front (ms : List Map) : Type 0 where
+  one : Map
+  others : List Map
+  whole : ms ≡ one ∷ others
 
-map-part : (pin : ℕ) (m : Map) → length (partOf 3 (mapWrites pin m)) ≡ length (m .pins)
-unfolding mapWrites
-map-part pin m = ap length (part-append 3 (map pinWrite (m .pins)) (mapWrite pin m ∷ [])) ∙ length-append (partOf 3 (map pinWrite (m .pins))) _ ∙ pins-and-none
-  where
-    pins-and-none : length (partOf 3 (map pinWrite (m .pins))) + length (partOf 3 (mapWrite pin m ∷ [])) ≡ length (m .pins)
-    pins-and-none = pins-then (m .pins) pin m
+front-of : (ms : List Map) → 0 < length ms → Front ms
+front-of [] h = absurd (not-suc-le-zero h)
+front-of (m ∷ ms) h = record { one = m; others = ms; whole = refl }
 
--- how many pins are stored after a map
-map-counted : (f : Filling) (m : Map) → length (f .counts) ≡ 7 → getD (fillingAfter (mapWrites (getD (f .counts) 3 0) m) f .counts) 3 0 ≡ getD (f .counts) 3 0 + length (m .pins)
-map-counted f m seven =
-    let h : 3 < length (f .counts) = omega arith in
-    count-after 3 (mapWrites (getD (f .counts) 3 0) m) f h ∙ ap (λ (n : ℕ). getD (f .counts) 3 0 + n) (map-part (getD (f .counts) 3 0) m)
+no-more : (ms : List Map) → length ms ≤ 0 → ms ≡ []
+no-more [] h = refl
+no-more (m ∷ ms) h = absurd (not-suc-le-zero h)
 
-maps-next :
-    (f : Filling) (m : Map) (ms ns : List Map) → getD (fillingAfter (mapWrites (getD (f .counts) 3 0) m) f .counts) 3 0 ≡ getD (f .counts) 3 0 + length (m .pins) →
-    mapsOf (fillingAfter (mapWrites (getD (f .counts) 3 0) m) f) (ms ++ ns) ≡ mapsOf (fillingAfter (mapWrites (getD (f .counts) 3 0) m) f) ms ++ mapsOf (fillingAfter (mapsOf (fillingAfter (mapWrites (getD (f .counts) 3 0) m) f) ms) (fillingAfter (mapWrites (getD (f .counts) 3 0) m) f)) ns →
-    mapsOf f (m ∷ (ms ++ ns)) ≡ mapsOf f (m ∷ ms) ++ mapsOf (fillingAfter (mapsOf f (m ∷ ms)) f) ns
-unfolding mapsWrites
-maps-next f m ms ns c e =
-    rw (sym c)
-    (ap (λ (x : List Write). mapWrites (getD (f .counts) 3 0) m ++ x) e
-    ∙ sym (append-assoc (mapWrites (getD (f .counts) 3 0) m) _ _)
-    ∙ ap (λ (g : Filling). (mapWrites (getD (f .counts) 3 0) m ++ mapsOf (fillingAfter (mapWrites (getD (f .counts) 3 0) m) f) ms) ++ mapsOf g ns) (sym (filling-append (mapWrites (getD (f .counts) 3 0) m) _ f)))
+abbrev ownLine : Document → Map → Finding
+ownLine d m = record { number = mapRule d m; line = m .line }
 
-pub maps-none : (f : Filling) → mapsOf f [] ≡ []
-unfolding mapsWrites
-maps-none f = refl
+none-found : (d : Document) → firstIn (mapFindings d []) ≡ record { number = 0; line = 0 }
+unfolding mapFindings firstIn nothing
+none-found d = refl
 
-pub maps-split : (f : Filling) (ms ns : List Map) → length (f .counts) ≡ 7 → mapsOf f (ms ++ ns) ≡ mapsOf f ms ++ mapsOf (fillingAfter (mapsOf f ms) f) ns
-unfolding mapsWrites fillingAfter
-maps-split f [] ns seven = refl
-maps-split f (m ∷ ms) ns seven =
-    let g : Filling = fillingAfter (mapWrites (getD (f .counts) 3 0) m) f in
-    let c : getD (fillingAfter (mapWrites (getD (f .counts) 3 0) m) f .counts) 3 0 ≡ getD (f .counts) 3 0 + length (m .pins) = map-counted f m seven in
-    let k : length (fillingAfter (mapWrites (getD (f .counts) 3 0) m) f .counts) ≡ 7 = counts-kept (mapWrites (getD (f .counts) 3 0) m) f ∙ seven in
-    maps-next f m ms ns c (maps-split (fillingAfter (mapWrites (getD (f .counts) 3 0) m) f) ms ns k)
+findings-on : (d : Document) (m : Map) (ms : List Map) → mapFindings d (m ∷ ms) ≡ ownLine d m ∷ (pinFindings m ++ mapFindings d ms)
+unfolding mapFindings
+findings-on d m ms = refl
 
-pub maps-storable : Storable mapAt mapsOf
-maps-storable = record { quiet = plain-map; none = maps-none; split = maps-split }
+module _ (t table : List ℕ) (v : View) (holds : Filled t table × (v ≡ viewOf table)) (i : ℕ) (left : MapsLeft t i) where
+  abbrev d : Document
+  d = documentOf t
+
+  abbrev mapBase : ℕ
+  mapBase = getD (v .bases) maps 0
+
+  abbrev pinBase : ℕ
+  pinBase = getD (v .bases) pins 0
+
+  left-many : getD (v .counts) maps 0 ≡ i + length (left .below)
+  left-many =
+      maps-many t table v holds ∙ ap length (left .all) ∙ length-append (left .above) (left .below)
+      ∙ ap (λ (k : ℕ). k + length (left .below)) (left .place)
+
+  pub maps-end : getD (v .counts) maps 0 ≤ i → record { number = 0; line = 0 } ≡ firstIn (mapFindings d (d .maps))
+  maps-end h =
+      let n : getD (v .counts) maps 0 ≡ i + length (left .below) = left-many in
+      let z : left .below ≡ [] = no-more (left .below) (omega arith) in
+      sym (none-found d) ∙ ap (λ (ms : List Map). firstIn (mapFindings d ms)) (sym z) ∙ left .same
+
+  module _ (h : i < getD (v .counts) maps 0) where
+    front : Front (left .below)
+    front =
+        let n : getD (v .counts) maps 0 ≡ i + length (left .below) = left-many in
+        front-of (left .below) (omega arith)
+
+    abbrev m : Map
+    m = front .one
+
+    abbrev behind : List Map
+    behind = front .others
+
+    split : d .maps ≡ left .above ++ (m ∷ behind)
+    split = left .all ∙ ap (λ (ms : List Map). left .above ++ ms) (front .whole)
+
+    pub asks-pins : MapRoom table mapBase pinBase i
+    asks-pins = subst (MapRoom table mapBase pinBase) (left .place) (room-here t table v holds (left .above) behind m split)
+
+    pub asks-map : (mapBase + 7 * i + 7 ≤ length table) × (2 ≤ 7)
+    asks-map = (asks-pins .inside, omega arith)
+
+    same-here : firstIn (ownLine d m ∷ (pinFindings m ++ mapFindings d behind)) ≡ firstIn (mapFindings d (d .maps))
+    same-here =
+        ap firstIn (sym (findings-on d m behind)) ∙ ap (λ (ms : List Map). firstIn (mapFindings d ms)) (sym (front .whole)) ∙ left .same
+
+    module _ (twice : Bool) (is-twice : twice ≡ twiceAt t table mapBase 7 i) where
+      rule-is : firstBroken (19 when twice ∷ []) ≡ mapRule d m
+      rule-is =
+          ap (λ (b : Bool). firstBroken (19 when b ∷ [])) (is-twice ∙ ap (twiceAt t table mapBase 7) (sym (left .place)))
+          ∙ rule-here t table v holds (left .above) behind m split
+
+      pub map-breaks : twice ≡ true → (line : ℕ) → line ≡ nthLine maps i (significant t) → record { number = 19; line = line } ≡ firstIn (mapFindings d (d .maps))
+      map-breaks e line is-line =
+          let n : 19 ≡ mapRule d m = sym (first-broken twice 19 0 e) ∙ rule-is in
+          let l : line ≡ m .line =
+          is-line ∙ ap (λ (k : ℕ). nthLine maps k (significant t)) (sym (left .place)) ∙ line-here t table v holds (left .above) behind m split in
+          let f : record { number = 19; line = line } ≡ ownLine d m = λ j. record { number = n j; line = l j } in
+          f ∙ sym (first-here (ownLine d m) _ (λ (z : mapRule d m ≡ 0). omega arith)) ∙ same-here
+
+      module _ (kept : twice ≡ false) where
+        below-same : firstIn (pinFindings m ++ mapFindings d behind) ≡ firstIn (mapFindings d (d .maps))
+        below-same = sym (first-later (ownLine d m) _ (sym rule-is ∙ first-kept twice 19 0 0 kept refl)) ∙ same-here
+
+        module _ (found : Finding) (is-found : found ≡ firstIn (pinsOfMap t table mapBase pinBase i)) where
+          found-is : found ≡ firstIn (pinFindings m)
+          found-is =
+              is-found ∙ ap (λ (k : ℕ). firstIn (pinsOfMap t table mapBase pinBase k)) (sym (left .place))
+              ∙ ap firstIn (own-here t table v holds (left .above) behind m split)
+
+          pub pins-break : (found .number ≡ 0 → ⊥) → found ≡ firstIn (mapFindings d (d .maps))
+          pins-break n =
+              found-is ∙ sym (first-front (pinFindings m) (mapFindings d behind) (λ (z : firstIn (pinFindings m) .number ≡ 0). n (ap numberOf found-is ∙ z)))
+              ∙ below-same
+
+          pub maps-on : found .number ≡ 0 → MapsLeft t (i + 1)
+          maps-on z =
+              record {
+                above = left .above ++ (m ∷ []);
+                below = behind;
+                all = split ∙ sym (append-assoc (left .above) (m ∷ []) behind);
+                place = length-append (left .above) (m ∷ []) ∙ ap (λ (k : ℕ). k + 1) (left .place);
+                same = sym (first-behind (pinFindings m) (mapFindings d behind) (ap numberOf (sym found-is) ∙ z)) ∙ below-same;
+              }

@@ -1,183 +1,103 @@
-// The maps of a text and their pins, stored in a table.
+// Rule 19 of pin maps and of their pins.
 ghost use mathlib.Core.Path.{_≡_};
-ghost use mathlib.Core.List.{[], _∷_};
-ghost use Prim.Native.Nat.{_+_, _-_, _≤_};
-ghost use lib.ListN.{length, getD};
-ghost use lib.Dec.{eqb};
-ghost use Rattle.base.specs.If.{both};
-ghost use Rattle.keyword.specs.Names.{icmPinMap};
-ghost use Rattle.place.specs.Place.{isInFamily};
-ghost use Rattle.place.specs.Place as place;
-ghost use Rattle.table.specs.Layout.{pins};
-ghost use Rattle.table.specs.Filling.{Fits};
-ghost use Rattle.document.specs.Found.{Located, lineIn};
-ghost use Rattle.document.specs.Lines.{wordsOf, firstWord};
-ghost use Rattle.storing.specs.Writes.{pinWrite, mapWrites};
-ghost use Rattle.storing.specs.Stores.{Stores, Placed, Ready};
-ghost use Rattle.maps.specs.Maps.{mapLines, pinWrites, TakesMap, TakenMap, ReadsMap, mapBelow, FillsMap, mapsOf, PassesMap, FillsMaps};
-ghost use Rattle.document.specs.Document.{mapAt, documentOf};
-use document::Found;
-use pin_map::Map;
-use storing::Walk;
-use table::Filling;
+ghost use Prim.Native.Nat.{_+_, _*_, _≤_};
+ghost use lib.ListN.{length};
+ghost use Rattle.doc.specs.Document.{documentOf};
+ghost use Rattle.table_name.specs.Marks.{marksMany};
+ghost use Rattle.view.specs.View.{viewOf};
+ghost use Rattle.cross_rules.specs.Rules.{firstIn, mapFindings};
+ghost use Rattle.cross_rules.specs.Filled.{Filled};
+ghost use Rattle.maps.specs.Pins.{pinsFrom, MapRoom, pinsOfMap};
+use cross_rules::Finding;
+use view::View;
 
-// How far the lines of a map have been read: where to go on, and what its lines have said.
-pub struct MapWalk {
-    pub at: usize,
-    pub number: u64,
-    pub place: u64,
-    pub map: Map,
-    pub filling: Filling,
-}
+// "19 TWICE".
+const TWICE: u64 = 19;
 
-// A pin: its name is the first word of its line.
-fn put_pin(text: &[u8], line: Found, table: &mut [u64], filling: Filling) -> Filling
-    requires { ⌜ Located (now text) line × Fits (length (now table)) filling (pinWrite (record { name = firstWord (wordsOf (lineIn (now text) line 0)); line = line .number }) ∷ []) ⌝ }
-    ensures { λ r. ⌜ Stores filling (now (table .entry)) (pinWrite (record { name = firstWord (wordsOf (lineIn (now (text .entry)) line 0)); line = line .number }) ∷ []) r (now (table .exit)) ⌝ }
+// How many words a record of a map has, and one of a pin.
+const MAP_WORDS: usize = 7;
+
+const PIN_WORDS: usize = 2;
+
+// A mark that is the number of no map.
+const UNMARKED: u8 = 64;
+
+// The first of a map's pins that has the name of one above it. The record of the map's first pin stands at `base`; it is numbered `first`.
+fn pin_finding(
+    text: &[u8],
+    table: &[u64],
+    marks: &mut [u8; table_name::MARKS],
+    stamp: u8,
+    base: usize,
+    first: u64,
+    count: u64,
+) -> Finding
+    requires { ⌜ (base + 2 * count ≤ length (now table)) × (first + count ≤ 4_096) × (length (now marks) ≡ marksMany) ⌝ }
+    ensures { λ r. ⌜ (r ≡ firstIn (pinsFrom (now (text .entry)) (now (table .entry)) base first 0 count)) × (length (now (marks .exit)) ≡ marksMany) ⌝ }
 {
-    let at = line.at;
-    let end = line.end;
-    let mark = document::first_mark(&text[at..end], at);
-    let words = [mark.start as u64, mark.size as u64];
-    table::put_record(table, filling, table::PINS, &words)
-}
-
-// One line of a map: a pin below its Pin_list, else what it says of the grid.
-fn take_map_line(text: &[u8], line: Found, table: &mut [u64], walk: MapWalk) -> MapWalk
-    requires { ⌜ TakesMap (now text) line (now table) walk ⌝ }
-    ensures { λ r. ⌜ TakenMap (now (text .entry)) line (now (table .entry)) walk r (now (table .exit)) ⌝ }
-{
-    let at = line.at;
-    let end = line.end;
-    let map = walk.map;
-    let filling = walk.filling;
-    if walk.place == place::PINS {
-        let next = put_pin(text, line, table, filling);
-        return MapWalk {
-            at: line.next,
-            number: line.number + 1,
-            place: place::PINS,
-            map,
-            filling: next,
-        };
-    }
-    let said = pin_map::map_line(&text[at..end]);
-    MapWalk {
-        at: line.next,
-        number: line.number + 1,
-        place: document::place_after(walk.place, text, line),
-        map: pin_map::map_next(said, map),
-        filling,
-    }
-}
-
-// The lines of a map, from below its keyword up to the next one.
-fn fill_pins(text: &[u8], at: usize, number: u64, table: &mut [u64], filling: Filling) -> MapWalk
-    requires { ⌜ Placed (now text) number at × Fits (length (now table)) filling (pinWrites (mapLines (now text) number at place.mapHead)) ⌝ }
-    ensures { λ r. ⌜ ReadsMap (now (text .entry)) number at filling (now (table .entry)) r (now (table .exit)) ⌝ }
-{
-    let mut walk = MapWalk {
-        at,
-        number,
-        place: place::MAP_HEAD,
-        map: pin_map::new_map(),
-        filling,
-    };
-    loop {
-        let line = document::next_line(text, walk.at, walk.number);
-        if !line.there {
-            return walk;
+    let mut i = 0;
+    while i < count {
+        if repeated::is_again(text, table, marks, stamp, base, PIN_WORDS, i) {
+            return Finding {
+                number: TWICE,
+                line: cross_rules::nth_line(text, table_layout::PINS, first + i),
+            };
         }
-        if line.key != document::PLAIN {
-            return walk;
-        }
-        walk = take_map_line(text, line, table, walk);
+        i += 1;
     }
+    Finding { number: 0, line: 0 }
 }
 
-// A map: its pins, and behind them its own record.
-fn fill_map(text: &[u8], line: Found, table: &mut [u64], filling: Filling) -> MapWalk
-    requires { ⌜ Located (now text) line × (length (filling .counts) ≡ 7) × Fits (length (now table)) filling (mapWrites (getD (filling .counts) pins 0) (mapBelow (now text) line)) ⌝ }
-    ensures { λ r. ⌜ FillsMap (now (text .entry)) line filling (now (table .entry)) r (now (table .exit)) ⌝ }
+// The same of the map numbered `index`: `maps` and `pins` say where the records of each begin.
+fn own_finding(
+    text: &[u8],
+    table: &[u64],
+    marks: &mut [u8; table_name::MARKS],
+    maps: usize,
+    pins: usize,
+    index: u64,
+) -> Finding
+    requires { ⌜ MapRoom (now table) maps pins index × (length (now marks) ≡ marksMany) ⌝ }
+    ensures { λ r. ⌜ (r ≡ firstIn (pinsOfMap (now (text .entry)) (now (table .entry)) maps pins index)) × (length (now (marks .exit)) ≡ marksMany) ⌝ }
 {
-    let before = filling.counts;
-    let first = before[table::PINS];
-    let walk = fill_pins(text, line.next, line.number + 1, table, filling);
-    let map = walk.map;
-    let filled = walk.filling;
-    let after = filled.counts;
-    let mark = document::argument_mark(text, line);
-    let words = [
-        mark.start as u64,
-        mark.size as u64,
-        storing::one_less(map.order),
-        map.rows,
-        map.columns,
+    let at = maps + MAP_WORDS * (index as usize);
+    let first = table[at + 5];
+    let base = pins + PIN_WORDS * (first as usize);
+    pin_finding(
+        text,
+        table,
+        marks,
+        (index % 64) as u8,
+        base,
         first,
-        after[table::PINS] - first,
-    ];
-    MapWalk {
-        at: walk.at,
-        number: walk.number,
-        place: walk.place,
-        map,
-        filling: table::put_record(table, filled, table::MAPS, &words),
-    }
+        table[at + 6],
+    )
 }
 
-// "pin maps anywhere outside models".
-fn opens_map(place: u64, key: u64) -> bool
-    ensures { λ r. ⌜ r ≡ both (isInFamily place) (eqb key icmPinMap) ⌝ }
+// The first map, or pin of a map, that has a name twice.
+pub fn map_finding(text: &[u8], table: &[u64], view: View) -> Finding
+    requires { ⌜ Filled (now text) (now table) × (view ≡ viewOf (now table)) ⌝ }
+    ensures { λ r. ⌜ r ≡ firstIn (mapFindings (documentOf (now (text .entry))) (documentOf (now (text .entry)) .maps)) ⌝ }
 {
-    if !place::is_in_family(place) {
-        return false;
-    }
-    key == keyword::ICM_PIN_MAP
-}
-
-// A line of the family, and the map that it opens if it opens one.
-fn pass_map(text: &[u8], line: Found, table: &mut [u64], walk: Walk) -> Walk
-    requires { ⌜ Ready mapAt mapsOf (now text) line walk (now table) × (walk .place ≡ place.after → ⊥) ⌝ }
-    ensures { λ r. ⌜ PassesMap (now (text .entry)) line walk (now (table .entry)) r (now (table .exit)) ⌝ }
-{
-    let filling = walk.filling;
-    if opens_map(walk.place, line.key) {
-        let map = fill_map(text, line, table, filling);
-        let filled = map.filling;
-        return Walk {
-            at: map.at,
-            number: map.number,
-            place: map.place,
-            filling: filled,
-        };
-    }
-    Walk {
-        at: line.next,
-        number: line.number + 1,
-        place: document::place_after(walk.place, text, line),
-        filling,
-    }
-}
-
-// All maps with their pins, in the order of the text.
-pub fn fill_maps(text: &[u8], table: &mut [u64], filling: Filling) -> Walk
-    requires { ⌜ (length (filling .counts) ≡ 7) × Fits (length (now table)) filling (mapsOf filling (documentOf (now text) .maps)) ⌝ }
-    ensures { λ r. ⌜ FillsMaps (now (text .entry)) filling (now (table .entry)) r (now (table .exit)) ⌝ }
-{
-    let mut walk = Walk {
-        at: 0,
-        number: 1,
-        place: place::BEFORE,
-        filling,
-    };
-    loop {
-        if walk.place == place::AFTER {
-            return walk;
+    let bases = view.bases;
+    let counts = view.counts;
+    let maps = bases[table_layout::MAPS];
+    let pins = bases[table_layout::PINS];
+    let count = counts[table_layout::MAPS];
+    let mut marks = [UNMARKED; table_name::MARKS];
+    let mut i = 0;
+    while i < count {
+        if repeated::is_twice(text, table, maps, MAP_WORDS, i) {
+            return Finding {
+                number: TWICE,
+                line: cross_rules::nth_line(text, table_layout::MAPS, i),
+            };
         }
-        let line = document::next_keyed(text, walk.at, walk.number, walk.place);
-        if !line.there {
-            return walk;
+        let found = own_finding(text, table, &mut marks, maps, pins, i);
+        if found.number != 0 {
+            return found;
         }
-        walk = pass_map(text, line, table, walk);
+        i += 1;
     }
+    Finding { number: 0, line: 0 }
 }

@@ -1,3 +1,2 @@
-pub mod LineLaws
+pub mod UsedLaws
 pub mod SectionLaws
-pub mod PassLaws

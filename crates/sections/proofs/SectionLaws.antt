@@ -1,383 +1,287 @@
--- Laws of the lines of a section one after another, and of a section's own record, stored behind its matrices.
+-- The rules of a section by the table's records are those of the document.
 -- Assumes nothing.
 use mathlib.Core.Path.{_≡_, refl, sym, _∙_, ap}
 use mathlib.Core.Bool.{Bool, true, false, not}
-use mathlib.Core.List.{List, [], _∷_, _++_, append-assoc}
-use Prim.Native.Nat.{ℕ, _+_, _-_, _≤_, _<_}
-use native.Mathlib.Nat.{le-refl, add-assoc}
+use mathlib.Core.List.{List, [], _∷_, _++_, map, map-append, append-assoc, append-nil}
+use Prim.Native.Nat.{ℕ, zero, suc, _+_, _-_, _*_, _≤_, _<_}
+use native.Mathlib.Nat.{add-zero, le-of-lt}
 use native.Mathlib.Omega.{arith}
-use lib.ListN.{length, getD, replicate, getD-replicate}
+use lib.ListN.{length, getD, take, drop, length-append, length-map}
+use lib.Seq.{getD-drop}
 use lib.Dec.{eqb}
-use lib.Seq.{sets}
-use borrow.Author.Tests.{eq-eqb, eqb-true, not-true, not-false}
-use Rattle.base.specs.If.{either}
-use Rattle.base.proofs.IfLaws.{if-true, if-false, by-cases, both-first, both-second, both-not-right, either-right, either-rest}
-use Rattle.keyword.specs.Names.{row, bandwidth, derivationMethod}
-use Rattle.place.specs.Place.{opensMatrix, keepsMatrix}
-use Rattle.place.specs.Place as place
-use Rattle.table.specs.Layout.{widths}
-use Rattle.table.specs.Filling.{Write, widthOf, position, counted, fillingAfter, Fits}
-use Rattle.table.specs.declared.Filling.{Filling}
-use Rattle.table.proofs.FillingLaws.{fits-first, fits-rest, length-after}
-use Rattle.document.specs.Lines.{Line, plain, keyOf, argumentOf, linesAt, gather, upTo}
-use Rattle.document.specs.Document.{Matrix, Section, conductorsOf, inMatrix, opensMatrixAt, matrixAt, inSection, methodIn, sectionOf}
-use Rattle.document.specs.Records.{placeOf, sectionRecord}
-use Rattle.document.specs.Found.{markOf, lineIn, linesBehind, Located, Finds}
-use Rattle.document.specs.declared.Found.{Found}
-use Rattle.document.specs.declared.Mark.{Mark}
-use Rattle.document.proofs.PassLaws.{section-blocks}
-use Rattle.storing.specs.Writes.{valuesCount, matrixWrites, matricesWrites, sectionWrite, sectionWrites}
-use Rattle.storing.specs.Stores.{Placed}
-use Rattle.storing.specs.Notes.{Noted}
-use Rattle.storing.proofs.StoreLaws.{put-asked, put-stored, stores-join, Pending, pending-start, pending-step, pending-done, pending-same}
-use Rattle.storing.proofs.LineLaws.{up-on, up-stops, up-none, Skipped, skipped-start, skipped-on, skipped-done, gather-on, quiet}
-use Rattle.storing.proofs.NoteLaws.{noted-kept}
-use Rattle.storing.proofs.WriteLaws.{values-counted}
-use Rattle.matrices.specs.Told.{toldOr}
-use Rattle.sections.specs.declared.SectionWalk.{SectionWalk}
-use Rattle.sections.specs.Section.{
-  keptOr,
-  matricesFrom,
-  sectionLine,
-  matrixHere,
-  TakesLine,
-  Passed,
-  TakenLine,
-  sectionLines,
-  matricesIn,
-  PutsLines,
-  FillsLines,
-  linesBelow,
-  sectionBelow,
-  PutsSection,
-  FillsSection,
-}
+use borrow.Author.Tests.{eq-eqb, ne-eqb}
+use Rattle.base.specs.If.{if_then_else_, both, either}
+use Rattle.base.specs.Broken.{_when_, firstBroken}
+use Rattle.table_layout.specs.Layout.{widths, chopped, sections, steps}
+use Rattle.doc.specs.Lines.{significant}
+use Rattle.doc.specs.Document.{Named, Step, Model, Section, Document, documentOf, sectionKind}
+use Rattle.doc.specs.Records.{targetOf, stepRecord, stepRecords, stepWords, SectionRecord, sectionRecord, sectionRecords, sectionWords, flatten, partsOf}
+use Rattle.doc.specs.Holds.{Each, Stands}
+use Rattle.doc.specs.Holds.Each.{none, more}
+use Rattle.doc.proofs.StandsLaws.{all-stand}
+use Rattle.table_name.specs.Name.{nameAt}
+use Rattle.view.specs.View.{bounds, viewOf}
+use Rattle.view.specs.declared.View.{View}
+use Rattle.cross_rules.specs.Rules.{any, isThere, isTwice, sectionName, uses, isUsed, sectionRule, sectionFindings, firstIn, nothing}
+use Rattle.cross_rules.specs.Filled.{Filled}
+use Rattle.cross_rules.specs.declared.Finding.{Finding}
+use Rattle.cross_rules.specs.Nth.{nthLine}
+use Rattle.cross_rules.proofs.TableLaws.{view-holds, part-stands, part-many}
+use Rattle.cross_rules.proofs.OrderLaws.{in-order}
+use Rattle.cross_rules.proofs.TwiceLaws.{section-twice}
+use Rattle.cross_rules.proofs.KindLaws.{first-here, first-later}
+use Rattle.cross_rules.proofs.NthLaws.{section-line}
+use Rattle.repeated.specs.Twice.{nameIn, hasAbove}
+use Rattle.repeated.proofs.NamesLaws.{above-told, section-names, take-map, chopped-first, chopped-word}
+use Rattle.sections.specs.Used.{pointsAt, usedIn, Flags, ruleOf}
 
--- what was noted of the values from where a filling stands
-abbrev pub NotedOf : List ℕ → List ℕ → List ℕ → Filling → Type 0
-NotedOf t table notes f = Noted t table notes (getD (f .bases) 6 0) (getD (f .counts) 6 0)
+-- ---- which sections are used
 
--- ---- the lines of a matrix, within a section
+either-assoc : (a b c : Bool) → either a (either b c) ≡ either (either a b) c
+unfolding either
+either-assoc true b c = refl
+either-assoc false b c = refl
 
--- a line of a matrix stands in the section, opens no matrix and gives no method
-module _ (l : Line) (inside : inMatrix l ≡ true) where
-  in-section : inSection l ≡ true
-  unfolding inMatrix inSection
-  in-section = either-right _ _ (either-right _ _ (both-first _ _ inside))
+any-append : {A : Type 0} (test : A → Bool) (xs ys : List A) → any test (xs ++ ys) ≡ either (any test xs) (any test ys)
+unfolding any either
+any-append test [] ys = refl
+any-append test (x ∷ xs) ys = ap (either (test x)) (any-append test xs ys) ∙ either-assoc (test x) (any test xs) (any test ys)
 
-  key-among : (P : ℕ → Type 0) → P plain → P row → P bandwidth → P (keyOf l)
-  unfolding inMatrix keepsMatrix
-  key-among P p r b =
-      by-cases _ (eqb (keyOf l) plain)
-      (λ (e : eqb (keyOf l) plain ≡ true). rw (eqb-true (keyOf l) plain e) p)
-      (λ (e : eqb (keyOf l) plain ≡ false).
-      let o : either (eqb (keyOf l) row) (eqb (keyOf l) bandwidth) ≡ true = sym (either-rest _ _ e) ∙ both-second _ _ inside in
-      by-cases _ (eqb (keyOf l) row)
-      (λ (f : eqb (keyOf l) row ≡ true). rw (eqb-true (keyOf l) row f) r)
-      (λ (f : eqb (keyOf l) row ≡ false). rw (eqb-true (keyOf l) bandwidth (sym (either-rest _ _ f) ∙ o)) b))
+module _ (d : Document) (i : ℕ) where
+  step-uses : (ss : List Step) → usedIn i (map stepWords (map (stepRecord (d .maps) (d .sections)) ss)) ≡ any (uses d i) ss
+  unfolding usedIn any pointsAt stepRecord uses
+  step-uses [] = refl
+  step-uses (s ∷ ss) = ap (either (both (eqb (s .kind) sectionKind) (eqb (targetOf (d .maps) (d .sections) s) i))) (step-uses ss)
 
-  no-opening : opensMatrix (keyOf l) ≡ false
-  unfolding opensMatrix either
-  no-opening = key-among (λ (k : ℕ). opensMatrix k ≡ false) refl refl refl
+  none-used : usedIn i [] ≡ false
+  unfolding usedIn any
+  none-used = refl
 
-  no-matrix : (ls : List Line) → matrixAt l ls ≡ []
-  unfolding matrixAt opensMatrixAt
-  no-matrix ls = if-false _ _ (both-not-right _ _ no-opening)
+  used-append : (xs ys : List (List ℕ)) → usedIn i (xs ++ ys) ≡ either (usedIn i xs) (usedIn i ys)
+  unfolding usedIn
+  used-append xs ys = any-append (pointsAt i) xs ys
 
-  no-method : (ls : List Line) → methodIn (l ∷ ls) ≡ methodIn ls
-  unfolding methodIn
-  no-method ls = if-false _ _ (key-among (λ (k : ℕ). eqb k derivationMethod ≡ false) refl refl refl)
+  models-use : (ms : List Model) → usedIn i (map stepWords (stepRecords (d .maps) (d .sections) ms)) ≡ any (λ (m : Model). any (uses d i) (m .steps)) ms
+  unfolding stepRecords any
+  models-use [] = none-used
+  models-use (m ∷ ms) = ap (usedIn i) (map-append stepWords (map (stepRecord (d .maps) (d .sections)) (m .steps)) (stepRecords (d .maps) (d .sections) ms)) ∙ used-append _ _ ∙ (λ k. either (step-uses (m .steps) k) (models-use ms k))
 
-up-through : (from rest : List Line) → upTo inSection (upTo inMatrix from ++ rest) ≡ upTo inMatrix from ++ upTo inSection rest
-up-through [] rest = rw (up-none inMatrix)
-up-through (l ∷ from) rest =
-    by-cases _ (inMatrix l)
-    (λ (e : inMatrix l ≡ true).
-    rw (up-on inMatrix l from e)
-    (up-on inSection l (upTo inMatrix from ++ rest) (in-section l e) ∙ ap (λ (ls : List Line). l ∷ ls) (up-through from rest)))
-    (λ (e : inMatrix l ≡ false). rw (up-stops inMatrix l from e))
+  pub used-told : usedIn i (map stepWords (stepRecords (d .maps) (d .sections) (d .models))) ≡ isUsed d i
+  unfolding isUsed
+  used-told = models-use (d .models)
 
-method-through : (from rest : List Line) → methodIn (upTo inMatrix from ++ rest) ≡ methodIn rest
-method-through [] rest = rw (up-none inMatrix)
-method-through (l ∷ from) rest =
-    by-cases _ (inMatrix l)
-    (λ (e : inMatrix l ≡ true). rw (up-on inMatrix l from e) (no-method l e (upTo inMatrix from ++ rest) ∙ method-through from rest))
-    (λ (e : inMatrix l ≡ false). rw (up-stops inMatrix l from e))
+-- ---- one section
 
-module _ (lines rest : List Line) (passed : Passed lines rest) where
-  up-passed : upTo inSection lines ≡ upTo inMatrix (passed .from) ++ upTo inSection rest
-  up-passed = ap (upTo inSection) (passed .all) ∙ up-through (passed .from) rest
+section-count : (first : ℕ) (xs : List Section) → length (sectionRecords first xs) ≡ length xs
+unfolding sectionRecords
+section-count first [] = refl
+section-count first (x ∷ xs) = ap suc (section-count (first + length (x .matrices)) xs)
 
-  matrices-passed : matricesIn (upTo inSection lines) ≡ matricesIn (upTo inSection rest)
-  matrices-passed =
-      ap matricesIn up-passed
-      ∙ quiet matrixAt inMatrix (λ (l : Line) (ls : List Line) (e : inMatrix l ≡ true). no-matrix l e ls) (passed .from)
-      (upTo inSection rest)
+-- the first matrix of the section behind these
+unfoldable firstAt : ℕ → List Section → ℕ
+firstAt first [] = first
+firstAt first (x ∷ xs) = firstAt (first + length (x .matrices)) xs
 
-  method-passed : methodIn (upTo inSection lines) ≡ methodIn (upTo inSection rest)
-  method-passed = ap methodIn up-passed ∙ method-through (passed .from) (upTo inSection rest)
+record-here : (first : ℕ) (above below : List Section) (x : Section) → getD (map sectionWords (sectionRecords first (above ++ (x ∷ below)))) (length above) [] ≡ sectionWords (sectionRecord (firstAt first above) x)
+unfolding sectionRecords firstAt
+record-here first [] below x = refl
+record-here first (y ∷ above) below x = record-here (first + length (y .matrices)) above below x
 
-  skipped-passed : (ls₀ : List Line) → Skipped inSection ls₀ lines → Skipped inSection ls₀ rest
-  skipped-passed ls₀ s =
+records-first : (first : ℕ) (above below : List Section) → take (length above) (sectionRecords first (above ++ below)) ≡ sectionRecords first above
+unfolding sectionRecords
+records-first first [] below = refl
+records-first first (y ∷ above) below = ap (λ (rs : List SectionRecord). sectionRecord first y ∷ rs) (records-first (first + length (y .matrices)) above below)
+
+module _ {P : Section → Type 0} where
+  each-here : (above below : List Section) (x : Section) → Each P (above ++ (x ∷ below)) → P x
+  each-here [] below x (more h hs) = h
+  each-here (y ∷ above) below x (more h hs) = each-here above below x hs
+
+  each-front : (above below : List Section) → Each P (above ++ below) → Each P above
+  each-front [] below hs = none
+  each-front (y ∷ above) below (more h hs) = more h (each-front above below hs)
+
+module _ (t table : List ℕ) (filled : Filled t table) where
+  abbrev d : Document
+  d = documentOf t
+
+  abbrev base : ℕ
+  base = getD (viewOf table .bases) sections 0
+
+  records-are : chopped 8 (getD (viewOf table .counts) sections 0) (drop base table) ≡ map sectionWords (sectionRecords 0 (d .sections))
+  unfolding partsOf flatten
+  records-are = part-stands t table filled sections (omega arith)
+
+  many : getD (viewOf table .counts) sections 0 ≡ length (d .sections)
+  unfolding partsOf flatten
+  many = part-many t table filled sections (omega arith) ∙ length-map (sectionRecords 0 (d .sections)) sectionWords ∙ section-count 0 (d .sections)
+
+  steps-are : chopped 6 (getD (viewOf table .counts) steps 0) (drop (getD (viewOf table .bases) steps 0) table) ≡ map stepWords (stepRecords (d .maps) (d .sections) (d .models))
+  unfolding partsOf flatten
+  steps-are = part-stands t table filled steps (omega arith)
+
+  module _ (above below : List Section) (x : Section) (e : d .sections ≡ above ++ (x ∷ below)) where
+    here : length above < length (d .sections)
+    here = let n : length (d .sections) ≡ length above + suc (length below) = ap length e ∙ length-append above (x ∷ below) in omega arith
+
+    -- the name of the record that stands there
+    word-here : (f : ℕ) → f < 8 → getD table (base + 8 * length above + f) 0 ≡ getD (sectionWords (sectionRecord (firstAt 0 above) x)) f 0
+    word-here f h =
+        let n : base + 8 * length above + f ≡ base + (8 * length above + f) = omega arith in
+        let l : length above < getD (viewOf table .counts) sections 0 = rw many here in
+        ap (λ (m : ℕ). getD table m 0) n ∙ sym (getD-drop base table (8 * length above + f) 0) ∙ sym (chopped-word 8 (getD (viewOf table .counts) sections 0) (length above) f (drop base table) l h)
+        ∙ ap (λ (rs : List (List ℕ)). getD (getD rs (length above) []) f 0) (records-are ∙ ap (λ (xs : List Section). map sectionWords (sectionRecords 0 xs)) e) ∙ ap (λ (r : List ℕ). getD r f 0) (record-here 0 above below x)
+
+    name-here : nameAt t (getD table (base + 8 * length above) 0) (getD table (base + 8 * length above + 1) 0) ≡ x .name .text
+    unfolding sectionRecord nameAt
+    name-here =
+        let z : base + 8 * length above + 0 ≡ base + 8 * length above = add-zero _ in
+        let a : getD table (base + 8 * length above) 0 ≡ x .name .start = ap (λ (m : ℕ). getD table m 0) (sym z) ∙ word-here 0 (omega arith) in
+        let b : getD table (base + 8 * length above + 1) 0 ≡ length (x .name .text) = word-here 1 (omega arith) in
+        (λ i. nameAt t (a i) (b i)) ∙ each-here above below x (rw e at (all-stand t .sections)) .bytes
+
+    first-names : map (nameIn t) (chopped 8 (length above) (drop base table)) ≡ map (λ (m : Named). m .name .text) (map sectionName above)
+    first-names =
+        let l : length above ≤ getD (viewOf table .counts) sections 0 = rw many (le-of-lt here) in
+        ap (map (nameIn t)) (chopped-first 8 (length above) (getD (viewOf table .counts) sections 0) (drop base table) l ∙ ap (take (length above)) (records-are ∙ ap (λ (xs : List Section). map sectionWords (sectionRecords 0 xs)) e))
+        ∙ ap (map (nameIn t)) (take-map sectionWords (length above) (sectionRecords 0 (above ++ (x ∷ below))) ∙ ap (map sectionWords) (records-first 0 above (x ∷ below)))
+        ∙ section-names t 0 above (each-front above (x ∷ below) (rw e at (all-stand t .sections)))
+
+    twice-here : hasAbove t (nameAt t (getD table (base + 8 * length above) 0) (getD table (base + 8 * length above + 1) 0)) (chopped 8 (length above) (drop base table)) ≡ isTwice (map sectionName (d .sections)) (sectionName x)
+    twice-here =
+        ap (λ (n : List ℕ). hasAbove t n (chopped 8 (length above) (drop base table))) name-here
+        ∙ above-told t (map sectionName above) (sectionName x) (chopped 8 (length above) (drop base table)) first-names
+        ∙ sym (section-twice d (in-order t) above below x e)
+
+    module _ (used : List Bool) (flags : Flags used (chopped 6 (getD (viewOf table .counts) steps 0) (drop (getD (viewOf table .bases) steps 0) table))) where
+      few : length above < 256
+      few = let b : getD (viewOf table .counts) sections 0 ≤ 256 = view-holds t table filled .few sections (omega arith) in let m : getD (viewOf table .counts) sections 0 ≡ length (d .sections) = many in let h : length above < length (d .sections) = here in omega arith
+
+      used-here : getD used (length above) false ≡ isUsed d (length above)
+      used-here = flags .told (length above) few ∙ ap (usedIn (length above)) steps-are ∙ used-told d (length above)
+
+      rule-here : ruleOf (hasAbove t (nameAt t (getD table (base + 8 * length above) 0) (getD table (base + 8 * length above + 1) 0)) (chopped 8 (length above) (drop base table))) (getD used (length above) false) ≡ sectionRule d (length above) x
+      unfolding ruleOf sectionRule
+      rule-here = λ i. firstBroken (19 when twice-here i ∷ 27 when not (used-here i) ∷ [])
+
+-- ---- one section after another
+
+-- what the sections left give is what all of them give
+pub record SectionsLeft (t table : List ℕ) (i : ℕ) : Type 0 where
+  pub above : List Section
+  pub below : List Section
+  pub all : documentOf t .sections ≡ above ++ below
+  pub many-above : length above ≡ i
+  pub same : firstIn (sectionFindings (documentOf t) i below) ≡ firstIn (sectionFindings (documentOf t) 0 (documentOf t .sections))
+
+pub sections-start : (t table : List ℕ) → SectionsLeft t table 0
+sections-start t table = record { above = []; below = documentOf t .sections; all = refl; many-above = refl; same = refl }
+
+no-findings : (d : Document) (i : ℕ) → firstIn (sectionFindings d i []) ≡ nothing
+unfolding sectionFindings firstIn
+no-findings d i = refl
+
+finding-on : (d : Document) (i : ℕ) (x : Section) (xs : List Section) → sectionFindings d i (x ∷ xs) ≡ record { number = sectionRule d i x; line = x .line } ∷ sectionFindings d (i + 1) xs
+unfolding sectionFindings
+finding-on d i x xs = refl
+
+-- the line of a section
+line-here : (above below : List Section) (x : Section) → getD (map (λ (s : Section). s .line) (above ++ (x ∷ below))) (length above) 0 ≡ x .line
+line-here [] below x = refl
+line-here (y ∷ above) below x = line-here above below x
+
+module _ (t table : List ℕ) (filled : Filled t table) (used : List Bool) (flags : Flags used (chopped 6 (getD (viewOf table .counts) steps 0) (drop (getD (viewOf table .bases) steps 0) table))) where
+  abbrev start : ℕ
+  start = getD (viewOf table .bases) sections 0
+
+  abbrev whole : Finding
+  whole = firstIn (sectionFindings (documentOf t) 0 (documentOf t .sections))
+
+  -- what the code finds of the section numbered i
+  abbrev ruleAt : ℕ → ℕ
+  ruleAt i = ruleOf (hasAbove t (nameAt t (getD table (start + 8 * i) 0) (getD table (start + 8 * i + 1) 0)) (chopped 8 i (drop start table))) (getD used i false)
+
+  none-behind : (above below : List Section) → documentOf t .sections ≡ above ++ below → getD (viewOf table .counts) sections 0 ≤ length above → below ≡ []
+  none-behind above [] e h = refl
+  none-behind above (x ∷ below) e h =
+      let m : getD (viewOf table .counts) sections 0 ≡ length (documentOf t .sections) = many t table filled in
+      let l : length above < length (documentOf t .sections) = here t table filled above below x e in
+      absurd (omega arith)
+
+  done-with : (i : ℕ) (above below : List Section) → documentOf t .sections ≡ above ++ below → length above ≡ i → firstIn (sectionFindings (documentOf t) i below) ≡ whole → getD (viewOf table .counts) sections 0 ≤ i → record { number = 0; line = 0 } ≡ whole
+  unfolding nothing
+  done-with i above below e n s h =
+      let z : below ≡ [] = none-behind above below e (rw n h) in
+      sym (no-findings (documentOf t) i) ∙ ap (λ (xs : List Section). firstIn (sectionFindings (documentOf t) i xs)) (sym z) ∙ s
+
+  found-with : (i number : ℕ) (above below : List Section) → documentOf t .sections ≡ above ++ below → length above ≡ i → firstIn (sectionFindings (documentOf t) i below) ≡ whole → i < getD (viewOf table .counts) sections 0 → number ≡ ruleAt i → (number ≡ 0 → ⊥) → (line : ℕ) → line ≡ nthLine sections i (significant t) → record { number = number; line = line } ≡ whole
+  found-with i number above [] e n s h r z line l =
+      let m : getD (viewOf table .counts) sections 0 ≡ length (documentOf t .sections) = many t table filled in
+      let k : length (documentOf t .sections) ≡ length above = ap length e ∙ ap length (append-nil above) in
+      absurd (omega arith)
+  found-with i number above (x ∷ below) e n s h r z line l =
+      let a : number ≡ sectionRule (documentOf t) i x = r ∙ rw n at (rule-here t table filled above below x e used flags) in
+      let b : line ≡ x .line = l ∙ section-line t i ∙ ap (λ (xs : List Section). getD (map (λ (y : Section). y .line) xs) i 0) e ∙ rw n at (line-here above below x) in
+      (λ k. record { number = a k; line = b k })
+      ∙ sym (first-here (record { number = sectionRule (documentOf t) i x; line = x .line }) (sectionFindings (documentOf t) (i + 1) below) (λ (q : sectionRule (documentOf t) i x ≡ 0). z (a ∙ q)))
+      ∙ ap firstIn (sym (finding-on (documentOf t) i x below)) ∙ s
+
+  on-with : (i number : ℕ) (above below : List Section) → documentOf t .sections ≡ above ++ below → length above ≡ i → firstIn (sectionFindings (documentOf t) i below) ≡ whole → i < getD (viewOf table .counts) sections 0 → number ≡ ruleAt i → number ≡ 0 → SectionsLeft t table (i + 1)
+  on-with i number above [] e n s h r z =
+      let m : getD (viewOf table .counts) sections 0 ≡ length (documentOf t .sections) = many t table filled in
+      let k : length (documentOf t .sections) ≡ length above = ap length e ∙ ap length (append-nil above) in
+      absurd (omega arith)
+  on-with i number above (x ∷ below) e n s h r z =
+      let a : number ≡ sectionRule (documentOf t) i x = r ∙ rw n at (rule-here t table filled above below x e used flags) in
       record {
-        before = s .before ++ upTo inMatrix (passed .from);
-        all = s .all ∙ ap (λ (x : List Line). s .before ++ x) (passed .all)
-            ∙ sym (append-assoc (s .before) (upTo inMatrix (passed .from)) rest);
-        inner = s .inner ∙ ap (λ (x : List Line). s .before ++ x) up-passed
-            ∙ sym (append-assoc (s .before) (upTo inMatrix (passed .from)) (upTo inSection rest));
+        above = above ++ (x ∷ []);
+        below = below;
+        all = e ∙ sym (append-assoc above (x ∷ []) below);
+        many-above = length-append above (x ∷ []) ∙ ap (λ (k : ℕ). k + 1) n;
+        same = sym (first-later (record { number = sectionRule (documentOf t) i x; line = x .line }) (sectionFindings (documentOf t) (i + 1) below) (sym a ∙ z)) ∙ ap firstIn (sym (finding-on (documentOf t) i x below)) ∙ s;
       }
 
--- ---- matrices one after another
+  -- for the code, whose view is the table's
+  module _ (i : ℕ) (left : SectionsLeft t table i) where
+    sections-done : getD (viewOf table .counts) sections 0 ≤ i → record { number = 0; line = 0 } ≡ whole
+    sections-done h = done-with i (left .above) (left .below) (left .all) (left .many-above) (left .same) h
 
-matrices-append : (value : ℕ) (ms ns : List Matrix) →
-    matricesWrites value (ms ++ ns) ≡ matricesWrites value ms ++ matricesWrites (value + valuesCount ms) ns
-unfolding matricesWrites valuesCount
-matrices-append value [] ns = let z : value ≡ value + 0 = omega arith in ap (λ (n : ℕ). matricesWrites n ns) z
-matrices-append value (m ∷ ms) ns =
-    ap (λ (x : List Write). matrixWrites value m ++ x)
-    (matrices-append (value + length (m .values)) ms ns
-    ∙ ap (λ (n : ℕ). matricesWrites (value + length (m .values)) ms ++ matricesWrites n ns)
-    (add-assoc value (length (m .values)) (valuesCount ms)))
-    ∙ sym (append-assoc (matrixWrites value m) _ _)
+    module _ (h : i < getD (viewOf table .counts) sections 0) (number : ℕ) (r : number ≡ ruleAt i) where
+      sections-found : (number ≡ 0 → ⊥) → (line : ℕ) → line ≡ nthLine sections i (significant t) → record { number = number; line = line } ≡ whole
+      sections-found z line l = found-with i number (left .above) (left .below) (left .all) (left .many-above) (left .same) h r z line l
 
-matrices-split : (f g : Filling) (ms ns : List Matrix) → length (f .counts) ≡ 7 → g ≡ fillingAfter (matricesFrom f ms) f →
-    matricesFrom f (ms ++ ns) ≡ matricesFrom f ms ++ matricesFrom g ns
-matrices-split f g ms ns seven e =
-    let c : getD (g .counts) 6 0 ≡ getD (f .counts) 6 0 + valuesCount ms =
-    ap (λ (x : Filling). getD (x .counts) 6 0) e ∙ values-counted f seven (getD (f .counts) 6 0) ms in
-    matrices-append (getD (f .counts) 6 0) ms ns ∙ ap (λ (n : ℕ). matricesFrom f ms ++ matricesWrites n ns) (sym c)
+      sections-on : number ≡ 0 → SectionsLeft t table (i + 1)
+      sections-on z = on-with i number (left .above) (left .below) (left .all) (left .many-above) (left .same) h r z
 
--- ---- the lines of a section
+  section-asked : (i : ℕ) → i < getD (viewOf table .counts) sections 0 → (start + 8 * i + 8 ≤ length table) × (i < 256)
+  section-asked i h =
+      let r : start + 8 * getD (viewOf table .counts) sections 0 ≤ length table = view-holds t table filled .inside sections (omega arith) in
+      let f : getD (viewOf table .counts) sections 0 ≤ 256 = view-holds t table filled .few sections (omega arith) in
+      (omega arith, omega arith)
 
--- what is left of a section's lines gives what all of them give
-pub record LinesLeft (t : List ℕ) (n₀ at₀ : ℕ) (table₀ : List ℕ) (f₀ : Filling) (w : SectionWalk) (table : List ℕ) : Type 0 where
-  pub pending : Pending (length table₀) f₀ table₀ (matricesFrom f₀ (matricesIn (sectionLines t n₀ at₀ place.sectionHead)))
-      (w .filling) table (matricesFrom (w .filling) (matricesIn (sectionLines t (w .number) (w .at) (w .place))))
-  pub method : toldOr (w .method) (methodIn (sectionLines t (w .number) (w .at) (w .place)))
-      ≡ methodIn (sectionLines t n₀ at₀ place.sectionHead)
-  pub conductors : toldOr (w .conductors) (conductorsOf (matricesIn (sectionLines t (w .number) (w .at) (w .place))))
-      ≡ conductorsOf (matricesIn (sectionLines t n₀ at₀ place.sectionHead))
-  pub kinds :
-      (k : ℕ) → k < 4 →
-      keptOr (getD (w .kinds) k 0)
-      (placeOf k (getD (w .filling .counts) 5 0) (matricesIn (sectionLines t (w .number) (w .at) (w .place))))
-      ≡ placeOf k (getD (f₀ .counts) 5 0) (matricesIn (sectionLines t n₀ at₀ place.sectionHead))
-  pub seven : length (w .filling .counts) ≡ 7
-  pub four : length (w .kinds) ≡ 4
-  pub skipped : Skipped inSection (linesAt t n₀ at₀ place.sectionHead) (linesAt t (w .number) (w .at) (w .place))
-  pub placed : Placed t (w .number) (w .at)
-  pub onward : at₀ ≤ w .at
+steps-inside : (t table : List ℕ) → Filled t table → getD (viewOf table .bases) steps 0 + 6 * getD (viewOf table .counts) steps 0 ≤ length table
+steps-inside t table filled = view-holds t table filled .inside steps (omega arith)
 
-none-told : (n : ℕ) → toldOr (record { told = false; value = 0 }) n ≡ n
-unfolding toldOr
-none-told n = if-false 0 n refl
+-- ---- the same over the view that the code has
 
-none-kept : (k n : ℕ) → k < 4 → keptOr (getD (replicate 4 0) k 0) n ≡ n
-unfolding keptOr
-none-kept k n h = if-true _ _ (eq-eqb _ _ (getD-replicate 4 k 0 0 h))
+module _ (t table : List ℕ) (v : View) (holds : Filled t table × (v ≡ viewOf table)) where
+  pub steps-asked : getD (v .bases) steps 0 + 6 * getD (v .counts) steps 0 ≤ length table
+  steps-asked = rw (holds .1) (steps-inside t table (holds .0))
 
-kept-none : (n : ℕ) → keptOr n 0 ≡ n
-unfolding keptOr
-kept-none n =
-    by-cases _ (eqb n 0)
-    (λ (e : eqb n 0 ≡ true). if-true _ _ e ∙ sym (eqb-true n 0 e))
-    (λ (e : eqb n 0 ≡ false). if-false _ _ e)
+  module _ (used : List Bool) (flags : Flags used (chopped 6 (getD (v .counts) steps 0) (drop (getD (v .bases) steps 0) table))) (i : ℕ) where
+    flags-are : Flags used (chopped 6 (getD (viewOf table .counts) steps 0) (drop (getD (viewOf table .bases) steps 0) table))
+    flags-are = rw (holds .1) at flags
 
-pub lines-start :
-    (t : List ℕ) (n at : ℕ) (table : List ℕ) (f : Filling) → PutsLines t n at table f →
-    LinesLeft t n at table f
-    (record {
-      at = at;
-      number = n;
-      place = 14;
-      method = record { told = false; value = 0 };
-      conductors = record { told = false; value = 0 };
-      kinds = replicate 4 0;
-      filling = f;
-    }) table
-lines-start t n at table f puts =
-    record {
-      pending = pending-start (length table) f table _ (puts .fits);
-      method = none-told _;
-      conductors = none-told _;
-      kinds = λ (k : ℕ) (h : k < 4). none-kept k _ h;
-      seven = puts .seven;
-      four = refl;
-      skipped = skipped-start inSection (linesAt t n at place.sectionHead);
-      placed = puts .placed;
-      onward = le-refl at;
-    }
+    pub rule-asked : i < getD (v .counts) sections 0 → (getD (v .bases) sections 0 + 8 * i + 8 ≤ length table) × (i < 256)
+    rule-asked h = rw (holds .1) (section-asked t table (holds .0) used flags-are i (rw (holds .1) at h))
 
-module _ (t : List ℕ) (n₀ at₀ : ℕ) (table₀ : List ℕ) (f₀ : Filling) (w : SectionWalk) (table : List ℕ)
-    (left : LinesLeft t n₀ at₀ table₀ f₀ w table) (line : Found) (finds : Finds t (w .number) (w .at) line) where
-  lines-done : sectionLines t (w .number) (w .at) (w .place) ≡ [] → FillsLines t n₀ at₀ table₀ f₀ w table
-  unfolding gather matricesWrites methodIn placeOf
-  lines-done e =
-      record {
-        stores = pending-done (length table₀) f₀ table₀ _ (w .filling) table (rw e at (left .pending));
-        method = rw e at (left .method);
-        conductors = rw e at (left .conductors);
-        kinds = λ (k : ℕ) (h : k < 4). sym (kept-none (getD (w .kinds) k 0)) ∙ rw e at (left .kinds k h);
-        four = left .four;
-        rest = skipped-done inSection _ _ (left .skipped) e;
-        placed = left .placed;
-        onward = left .onward;
-      }
+    module _ (left : SectionsLeft t table i) where
+      pub finding-none : getD (v .counts) sections 0 ≤ i → record { number = 0; line = 0 } ≡ firstIn (sectionFindings (documentOf t) 0 (documentOf t .sections))
+      finding-none h = sections-done t table (holds .0) used flags-are i left (rw (holds .1) at h)
 
-  pub lines-text-ends : not (line .there) ≡ true → FillsLines t n₀ at₀ table₀ f₀ w table
-  lines-text-ends h = lines-done (ap (upTo inSection) (finds .same-none (not-true (line .there) h) (w .place)) ∙ up-none inSection)
+      module _ (h : i < getD (v .counts) sections 0) (number : ℕ) (r : number ≡ ruleOf (hasAbove t (nameAt t (getD table (getD (v .bases) sections 0 + 8 * i) 0) (getD table (getD (v .bases) sections 0 + 8 * i + 1) 0)) (chopped 8 i (drop (getD (v .bases) sections 0) table))) (getD used i false)) where
+        pub finding-here : (number ≡ 0 → ⊥) → (line : ℕ) → line ≡ nthLine sections i (significant t) → record { number = number; line = line } ≡ firstIn (sectionFindings (documentOf t) 0 (documentOf t .sections))
+        finding-here z line l = sections-found t table (holds .0) used flags-are i left (rw (holds .1) at h) number (rw (holds .1) at r) z line l
 
-  module _ (there : not (line .there) ≡ false) (inside : Bool)
-      (is-inside : inside ≡ either (eqb (w .place) place.sectionHead)
-      (either (eqb (w .place) place.section) (eqb (w .place) place.matrix))) where
-    found : Located t line
-    found = finds .located (not-false (line .there) there)
-
-    here : linesAt t (w .number) (w .at) (w .place) ≡ sectionLine t line w ∷ linesBehind t line (w .place)
-    here = finds .same-there (not-false (line .there) there) (w .place)
-
-    inside-told : inSection (sectionLine t line w) ≡ inside
-    unfolding inSection
-    inside-told = sym is-inside
-
-    pub lines-close : not inside ≡ true → FillsLines t n₀ at₀ table₀ f₀ w table
-    lines-close h = lines-done (ap (upTo inSection) here ∙ up-stops inSection _ _ (inside-told ∙ not-true inside h))
-
-    module _ (k : not inside ≡ false) where
-      body-on : sectionLines t (w .number) (w .at) (w .place) ≡ sectionLine t line w ∷ upTo inSection (linesBehind t line (w .place))
-      body-on = ap (upTo inSection) here ∙ up-on inSection _ _ (inside-told ∙ not-false inside k)
-
-      matrices-on : matricesIn (sectionLines t (w .number) (w .at) (w .place))
-          ≡ matrixHere t line w ++ matricesIn (upTo inSection (linesBehind t line (w .place)))
-      matrices-on =
-          ap matricesIn body-on ∙ gather-on matrixAt _ _
-          ∙ ap (λ (ms : List Matrix). ms ++ matricesIn (upTo inSection (linesBehind t line (w .place))))
-          (section-blocks .cut (sectionLine t line w) (linesBehind t line (w .place)))
-
-      pub lines-takes : TakesLine t line table w
-      lines-takes =
-          record {
-            located = found;
-            seven = left .seven;
-            four = left .four;
-            fits =
-                rw (left .pending .long)
-                (fits-first (length table₀) (w .filling) (matricesFrom (w .filling) (matrixHere t line w)) _
-                (rw (ap (matricesFrom (w .filling)) matrices-on
-                ∙ matrices-split (w .filling) _ (matrixHere t line w) _ (left .seven) refl) at (left .pending .fits)));
-          }
-
-      module _ (v : SectionWalk) (table' : List ℕ) (taken : TakenLine t line table w v table') where
-        abbrev behind : List Line
-        behind = linesBehind t line (w .place)
-
-        abbrev rest : List Line
-        rest = linesAt t (v .number) (v .at) (v .place)
-
-        matrices-next : matricesIn (sectionLines t (w .number) (w .at) (w .place))
-            ≡ matrixHere t line w ++ matricesIn (upTo inSection rest)
-        matrices-next = matrices-on ∙ ap (λ (ms : List Matrix). matrixHere t line w ++ ms) (matrices-passed behind rest (taken .passed))
-
-        pub lines-less : length t - v .at < length t - w .at
-        lines-less =
-            let a : line .next ≤ v .at = taken .onward in
-            let b : w .at ≤ line .at = finds .behind (not-false (line .there) there) in
-            let c : line .at < line .next = found .further in
-            let d : line .next ≤ length t = found .next-within in
-            omega arith
-
-        pub lines-on : LinesLeft t n₀ at₀ table₀ f₀ v table'
-        lines-on =
-            let a : line .next ≤ v .at = taken .onward in
-            let b : w .at ≤ line .at = finds .behind (not-false (line .there) there) in
-            let c : line .at < line .next = found .further in
-            let o : at₀ ≤ w .at = left .onward in
-            record {
-              pending =
-                  pending-step (length table₀) f₀ table₀ _ (w .filling) table
-                  (matricesFrom (w .filling) (matrixHere t line w)) _ (v .filling) table'
-                  (pending-same (length table₀) f₀ table₀ _ (w .filling) table _ _
-                  (ap (matricesFrom (w .filling)) matrices-next
-                  ∙ matrices-split (w .filling) (v .filling) (matrixHere t line w) (matricesIn (upTo inSection rest)) (left .seven)
-                  (taken .stores .filled)) (left .pending))
-                  (taken .stores);
-              method =
-                  ap (toldOr (v .method)) (sym (method-passed behind rest (taken .passed))) ∙ taken .method-on (upTo inSection behind)
-                  ∙ ap (λ (ls : List Line). toldOr (w .method) (methodIn ls)) (sym body-on) ∙ left .method;
-              conductors =
-                  taken .conductors-on (matricesIn (upTo inSection rest))
-                  ∙ ap (λ (ms : List Matrix). toldOr (w .conductors) (conductorsOf ms)) (sym matrices-next) ∙ left .conductors;
-              kinds =
-                  λ (k : ℕ) (h : k < 4). taken .kinds-on k h (matricesIn (upTo inSection rest))
-                  ∙ ap (λ (ms : List Matrix). keptOr (getD (w .kinds) k 0) (placeOf k (getD (w .filling .counts) 5 0) ms))
-                  (sym matrices-next) ∙ left .kinds k h;
-              seven = taken .seven;
-              four = taken .four;
-              skipped =
-                  skipped-passed behind rest (taken .passed) _
-                  (skipped-on inSection _ _ (left .skipped) (sectionLine t line w) behind here (inside-told ∙ not-false inside k));
-              placed = taken .placed;
-              onward = omega arith;
-            }
-
-        -- what is noted of the matrices behind it stays
-        pub lines-noted : (notes : List ℕ) → NotedOf t table notes (w .filling) → NotedOf t table' notes (v .filling)
-        lines-noted notes noted =
-            noted-kept t table notes table' (w .filling) (v .filling) _ (taken .stores) (lines-takes .fits) (left .seven) noted
-
--- ---- a section's own record
-
-abbrev recordWords : Mark → ℕ → ℕ → List ℕ → List ℕ
-recordWords mark method n kinds =
-    mark .start ∷ mark .size ∷ method ∷ n ∷ getD kinds 0 0 ∷ getD kinds 1 0 ∷ getD kinds 2 0 ∷ getD kinds 3 0 ∷ []
-
-module _ (t : List ℕ) (line : Found) (table : List ℕ) (f : Filling) (puts : PutsSection t line table f) where
-  abbrev below : Section
-  below = sectionBelow t line
-
-  abbrev own : Write
-  own = sectionWrite (getD (f .counts) 5 0) below
-
-  pub lines-puts : PutsLines t (line .number + 1) (line .next) table f
-  unfolding sectionWrites sectionOf
-  lines-puts =
-      let a : line .number ≤ line .at + 1 = puts .located .counted in
-      let b : line .at < line .next = puts .located .further in
-      record {
-        placed = record { within = puts .located .next-within; counted = omega arith };
-        seven = puts .seven;
-        fits = fits-first (length table) f _ _ (puts .fits);
-      }
-
-  module _ (w : SectionWalk) (table' : List ℕ) (fills : FillsLines t (line .number + 1) (line .next) table f w table') where
-    pub section-asked : (4 < length widths) × (_≡_ {A = ℕ} 8 (widthOf 4)) × (position (w .filling) 4 + widthOf 4 ≤ length table')
-    unfolding sectionWrites sectionWrite sectionOf
-    section-asked =
-        let g : Fits (length table) (w .filling) (own ∷ []) = rw (fills .stores .filled) (fits-rest (length table) f _ _ (puts .fits)) in
-        let l : length table' ≡ length table = ap length (fills .stores .stored) ∙ length-after _ f table in
-        rw l (put-asked (w .filling) [] own (length table) 4 _ g refl refl)
-
-    module _ (mark : Mark) (is-mark : mark ≡ markOf (argumentOf (lineIn t line 0))) (method : ℕ)
-        (is-method : method ≡ toldOr (w .method) 0) (n : ℕ) (is-n : n ≡ toldOr (w .conductors) 0) where
-      section-words : recordWords mark method n (w .kinds) ≡ own .words
-      unfolding sectionWrite sectionRecord sectionOf markOf
-      section-words =
-          let m : method ≡ methodIn (linesBelow t line) = is-method ∙ fills .method in
-          let c : n ≡ conductorsOf (matricesIn (linesBelow t line)) = is-n ∙ fills .conductors in
-          λ i. is-mark i .start ∷ is-mark i .size ∷ m i ∷ c i ∷ fills .kinds 0 (omega arith) i ∷ fills .kinds 1 (omega arith) i
-          ∷ fills .kinds 2 (omega arith) i ∷ fills .kinds 3 (omega arith) i ∷ []
-
-      pub section-filled :
-          (r : Filling) (table'' : List ℕ) → r ≡ counted (w .filling) 4 →
-          table'' ≡ sets table' (position (w .filling) 4)
-          (recordWords mark method n (w .kinds)) →
-          FillsSection t line table f (record { at = w .at; number = w .number; place = w .place; filling = r }) table''
-      unfolding sectionWrites sectionWrite sectionOf
-      section-filled r table'' k h =
-          record {
-            stores = stores-join f (w .filling) r table table' table'' _ (own ∷ []) (fills .stores)
-                (put-stored (w .filling) table' own 4 _ r table'' refl section-words k h);
-            rest = fills .rest;
-            placed = fills .placed;
-            onward = fills .onward;
-          }
+        pub finding-later : number ≡ 0 → SectionsLeft t table (i + 1)
+        finding-later z = sections-on t table (holds .0) used flags-are i left (rw (holds .1) at h) number (rw (holds .1) at r) z

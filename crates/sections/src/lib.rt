@@ -1,295 +1,90 @@
-// The sections of a text with their matrices and values, stored in a table.
+// Rules 19 and 27 of sections.
 ghost use mathlib.Core.Path.{_≡_};
+ghost use Prim.Native.Nat.{_+_, _*_, _≤_};
 ghost use Prim.Native.Nat.{_<_};
-ghost use lib.ListN.{length, getD};
-ghost use lib.Dec.{eqb};
-ghost use Rattle.base.specs.If.{both, either};
-ghost use Rattle.keyword.specs.Names.{beginIcmSection};
-ghost use Rattle.place.specs.Place.{opensMatrix};
-ghost use Rattle.place.specs.Place as places;
-ghost use Rattle.table.specs.Filling.{Fits};
-ghost use Rattle.document.specs.Document.{kindOf, sectionAt};
-ghost use Rattle.document.specs.Found.{Located};
-ghost use Rattle.storing.specs.Stores.{Stores, Placed, Passes, Ready};
-ghost use Rattle.storing.specs.Notes.{Noted};
-ghost use Rattle.sections.specs.Sections.{sectionsOf, sectionsLeft};
-ghost use Rattle.sections.specs.Section.{kindsWith, methodAt, methodAfter, TakesLine, TakesMatrix, TakenLine, PutsLines, FillsLines, PutsSection, FillsSection};
-use document::Found;
-use matrices::First;
-use storing::Walk;
-use table::Filling;
+ghost use mathlib.Core.Bool.{false};
+ghost use lib.ListN.{length, getD, drop};
+ghost use Rattle.table_layout.specs.Layout.{chopped};
+ghost use Rattle.doc.specs.Document.{documentOf};
+ghost use Rattle.table_name.specs.Name.{nameAt};
+ghost use Rattle.view.specs.View.{viewOf};
+ghost use Rattle.cross_rules.specs.Rules.{firstIn, sectionFindings};
+ghost use Rattle.cross_rules.specs.Filled.{Filled};
+ghost use Rattle.repeated.specs.Twice.{hasAbove};
+ghost use Rattle.sections.specs.Used.{Flags, slotOf, ruleOf};
+use cross_rules::Finding;
+use view::View;
 
-// How far the lines of a section have been read: where to go on, and what they have said. The first method counts, N is that of the first
-// matrix, and of each kind the first matrix is kept, as its index plus 1, or 0.
-pub struct SectionWalk {
-    pub at: usize,
-    pub number: u64,
-    pub place: u64,
-    pub method: First,
-    pub conductors: First,
-    pub kinds: [u64; 4],
-    pub filling: Filling,
+// The kind of a step over a section.
+const SECTION: u64 = 1;
+
+// The flag that a step raises: that of the section it points at, or the one behind all of them.
+fn slot_of(kind: u64, target: u64) -> usize
+    ensures { λ r. ⌜ r ≡ slotOf kind target ⌝ }
+{
+    if kind != SECTION {
+        return 256;
+    }
+    if 256 <= target {
+        return 256;
+    }
+    target as usize
 }
 
-// "R L G C".
-fn kind_of(key: u64) -> usize
-    ensures { λ r. ⌜ r ≡ kindOf key ⌝ }
+// Which sections the steps point at.
+fn used_sections(table: &[u64], base: usize, count: u64) -> [bool; 257]
+    requires { ⌜ base + 6 * count ≤ length (now table) ⌝ }
+    ensures { λ r. ⌜ Flags r (chopped 6 count (drop base (now (table .entry)))) ⌝ }
 {
-    if key == keyword::RESISTANCE_MATRIX {
-        return 0;
+    let mut used = [false; 257];
+    let mut at = base;
+    let mut i = 0;
+    while i < count {
+        let kind = table[at];
+        let target = table[at + 1];
+        let slot = slot_of(kind, target);
+        used[slot] = true;
+        at += 6;
+        i += 1;
     }
-    if key == keyword::INDUCTANCE_MATRIX {
-        return 1;
-    }
-    if key == keyword::CONDUCTANCE_MATRIX {
-        return 2;
-    }
-    3
+    used
 }
 
-// A matrix of a kind, kept where it is the first.
-fn with_kind(kinds: [u64; 4], kind: usize, index: u64) -> [u64; 4]
-    requires { ⌜ kind < 4 ⌝ }
-    ensures { λ r. ⌜ r ≡ kindsWith kinds kind index ⌝ }
+// What the section numbered `index` breaks.
+fn section_rule(text: &[u8], table: &[u64], base: usize, index: u64, used: [bool; 257]) -> u64
+    requires { ⌜ (base + 8 * index + 8 ≤ length (now table)) × (index < 256) ⌝ }
+    ensures { λ r. ⌜ r ≡ ruleOf (hasAbove (now (text .entry)) (nameAt (now (text .entry)) (getD (now (table .entry)) (base + 8 * index) 0) (getD (now (table .entry)) (base + 8 * index + 1) 0)) (chopped 8 index (drop base (now (table .entry))))) (getD used index false) ⌝ }
 {
-    if kinds[kind] == 0 {
-        let mut next = kinds;
-        next[kind] = index;
-        return next;
+    if repeated::is_twice(text, table, base, 8, index) {
+        return 19;
     }
-    kinds
+    let at = index as usize;
+    if !used[at] {
+        return 27;
+    }
+    0
 }
 
-// Past [Derivation Method] a section holds matrices.
-fn holds_matrices(place: u64) -> bool
-    ensures { λ r. ⌜ r ≡ either (eqb place places.section) (eqb place places.matrix) ⌝ }
+// The first section that breaks a rule.
+pub fn section_finding(text: &[u8], table: &[u64], view: View) -> Finding
+    requires { ⌜ Filled (now text) (now table) × (view ≡ viewOf (now table)) ⌝ }
+    ensures { λ r. ⌜ r ≡ firstIn (sectionFindings (documentOf (now (text .entry))) 0 (documentOf (now (text .entry)) .sections)) ⌝ }
 {
-    if place == place::SECTION {
-        return true;
-    }
-    place == place::MATRIX
-}
-
-// Whether a line read in a place is a section's.
-fn is_in_section(place: u64) -> bool
-    ensures { λ r. ⌜ r ≡ either (eqb place places.sectionHead) (either (eqb place places.section) (eqb place places.matrix)) ⌝ }
-{
-    if place == place::SECTION_HEAD {
-        return true;
-    }
-    holds_matrices(place)
-}
-
-// Whether a keyword opens a matrix where it stands.
-fn opens_matrix(place: u64, key: u64) -> bool
-    ensures { λ r. ⌜ r ≡ both (either (eqb place places.section) (eqb place places.matrix)) (opensMatrix key) ⌝ }
-{
-    if !holds_matrices(place) {
-        return false;
-    }
-    place::opens_matrix(key)
-}
-
-// The argument of [Derivation Method].
-fn method_at(text: &[u8], line: Found) -> u64
-    requires { ⌜ Located (now text) line ⌝ }
-    ensures { λ r. ⌜ r ≡ methodAt (now (text .entry)) line ⌝ }
-{
-    let at = line.at;
-    let end = line.end;
-    argument::method_of(reading::argument_of(&text[at..end], line.argument))
-}
-
-// The first [Derivation Method] counts.
-fn method_after(text: &[u8], line: Found, method: First) -> First
-    requires { ⌜ Located (now text) line ⌝ }
-    ensures { λ r. ⌜ r ≡ methodAfter (now (text .entry)) line method ⌝ }
-{
-    if line.key == keyword::DERIVATION_METHOD {
-        return matrices::first_told(method, method_at(text, line));
-    }
-    method
-}
-
-// A matrix: the lines go on behind its own.
-fn take_matrix(
-    text: &[u8],
-    line: Found,
-    table: &mut [u64],
-    walk: SectionWalk,
-    notes: &[u64],
-) -> SectionWalk
-    requires { ⌜ TakesMatrix (now text) line (now table) walk
-        × Noted (now text) (now table) (now notes) (getD (walk .filling .bases) 6 0) (getD (walk .filling .counts) 6 0) ⌝ }
-    ensures { λ r. ⌜ TakenLine (now (text .entry)) line (now (table .entry)) walk r (now (table .exit)) ⌝ }
-{
-    let filling = walk.filling;
-    let method = walk.method;
-    let before = walk.conductors;
-    let kept = walk.kinds;
-    let stored = matrices::fill_matrix(text, line, table, filling, notes);
-    let filled = stored.filling;
-    let counts = filled.counts;
-    let conductors = matrices::first_told(before, stored.conductors);
-    let kinds = with_kind(kept, kind_of(line.key), counts[table::MATRICES]);
-    SectionWalk {
-        at: stored.at,
-        number: stored.number,
-        place: place::MATRIX,
-        method,
-        conductors,
-        kinds,
-        filling: filled,
-    }
-}
-
-// A line of a section, and the matrix that it opens if it opens one.
-fn take_line(
-    text: &[u8],
-    line: Found,
-    table: &mut [u64],
-    walk: SectionWalk,
-    notes: &[u64],
-) -> SectionWalk
-    requires { ⌜ TakesLine (now text) line (now table) walk
-        × Noted (now text) (now table) (now notes) (getD (walk .filling .bases) 6 0) (getD (walk .filling .counts) 6 0) ⌝ }
-    ensures { λ r. ⌜ TakenLine (now (text .entry)) line (now (table .entry)) walk r (now (table .exit)) ⌝ }
-{
-    if opens_matrix(walk.place, line.key) {
-        return take_matrix(text, line, table, walk, notes);
-    }
-    let before = walk.method;
-    let conductors = walk.conductors;
-    let kinds = walk.kinds;
-    let filling = walk.filling;
-    let method = method_after(text, line, before);
-    SectionWalk {
-        at: line.next,
-        number: line.number + 1,
-        place: document::place_after(walk.place, text, line),
-        method,
-        conductors,
-        kinds,
-        filling,
-    }
-}
-
-// The lines of a section, from below its keyword.
-fn fill_lines(
-    text: &[u8],
-    at: usize,
-    number: u64,
-    table: &mut [u64],
-    filling: Filling,
-    notes: &[u64],
-) -> SectionWalk
-    requires { ⌜ PutsLines (now text) number at (now table) filling
-        × Noted (now text) (now table) (now notes) (getD (filling .bases) 6 0) (getD (filling .counts) 6 0) ⌝ }
-    ensures { λ r. ⌜ FillsLines (now (text .entry)) number at (now (table .entry)) filling r (now (table .exit)) ⌝ }
-{
-    let untold = First {
-        told: false,
-        value: 0,
-    };
-    let mut walk = SectionWalk {
-        at,
-        number,
-        place: place::SECTION_HEAD,
-        method: untold,
-        conductors: untold,
-        kinds: [0; 4],
-        filling,
-    };
-    loop {
-        let line = document::next_line(text, walk.at, walk.number);
-        if !line.there {
-            return walk;
+    let bases = view.bases;
+    let counts = view.counts;
+    let used = used_sections(table, bases[table_layout::STEPS], counts[table_layout::STEPS]);
+    let base = bases[table_layout::SECTIONS];
+    let count = counts[table_layout::SECTIONS];
+    let mut i = 0;
+    while i < count {
+        let number = section_rule(text, table, base, i, used);
+        if number != 0 {
+            return Finding {
+                number,
+                line: cross_rules::nth_line(text, table_layout::SECTIONS, i),
+            };
         }
-        if !is_in_section(walk.place) {
-            return walk;
-        }
-        walk = take_line(text, line, table, walk, notes);
+        i += 1;
     }
-}
-
-// A section: its matrices with their values, and behind them its own record.
-fn fill_section(
-    text: &[u8],
-    line: Found,
-    table: &mut [u64],
-    filling: Filling,
-    notes: &[u64],
-) -> Walk
-    requires { ⌜ PutsSection (now text) line (now table) filling
-        × Noted (now text) (now table) (now notes) (getD (filling .bases) 6 0) (getD (filling .counts) 6 0) ⌝ }
-    ensures { λ r. ⌜ FillsSection (now (text .entry)) line (now (table .entry)) filling r (now (table .exit)) ⌝ }
-{
-    let walk = fill_lines(text, line.next, line.number + 1, table, filling, notes);
-    let filled = walk.filling;
-    let method = walk.method;
-    let conductors = walk.conductors;
-    let kinds = walk.kinds;
-    let mark = document::argument_mark(text, line);
-    let words = [
-        mark.start as u64,
-        mark.size as u64,
-        matrices::told_in(method),
-        matrices::told_in(conductors),
-        kinds[0],
-        kinds[1],
-        kinds[2],
-        kinds[3],
-    ];
-    Walk {
-        at: walk.at,
-        number: walk.number,
-        place: walk.place,
-        filling: table::put_record(table, filled, table::SECTIONS, &words),
-    }
-}
-
-// Sections stand behind the family.
-fn opens_section(place: u64, key: u64) -> bool
-    ensures { λ r. ⌜ r ≡ both (eqb place places.after) (eqb key beginIcmSection) ⌝ }
-{
-    if place != place::AFTER {
-        return false;
-    }
-    key == keyword::BEGIN_ICM_SECTION
-}
-
-// A line, and the section that it opens if it opens one.
-fn pass_section(text: &[u8], line: Found, table: &mut [u64], walk: Walk, notes: &[u64]) -> Walk
-    requires { ⌜ Ready sectionAt sectionsOf (now text) line walk (now table)
-        × Noted (now text) (now table) (now notes) (getD (walk .filling .bases) 6 0) (getD (walk .filling .counts) 6 0) ⌝ }
-    ensures { λ r. ⌜ Passes sectionAt sectionsOf (now (text .entry)) line walk (now (table .entry)) r (now (table .exit)) ⌝ }
-{
-    let filling = walk.filling;
-    if opens_section(walk.place, line.key) {
-        return fill_section(text, line, table, filling, notes);
-    }
-    Walk {
-        at: line.next,
-        number: line.number + 1,
-        place: document::place_after(walk.place, text, line),
-        filling,
-    }
-}
-
-// All sections, from where the walk has come. Where something was noted of a matrix, its lines are not read again.
-pub fn fill_sections(text: &[u8], table: &mut [u64], walk: Walk, notes: &[u64]) -> Filling
-    requires { ⌜ Placed (now text) (walk .number) (walk .at)
-        × (length (walk .filling .counts) ≡ 7)
-        × Fits (length (now table)) (walk .filling) (sectionsOf (walk .filling) (sectionsLeft (now text) walk))
-        × Noted (now text) (now table) (now notes) (getD (walk .filling .bases) 6 0) (getD (walk .filling .counts) 6 0) ⌝ }
-    ensures { λ r. ⌜ Stores (walk .filling) (now (table .entry)) (sectionsOf (walk .filling) (sectionsLeft (now (text .entry)) walk)) r (now (table .exit)) ⌝ }
-{
-    let mut next = walk;
-    loop {
-        let line = document::next_keyed(text, next.at, next.number, next.place);
-        if !line.there {
-            return next.filling;
-        }
-        next = pass_section(text, line, table, next, notes);
-    }
+    Finding { number: 0, line: 0 }
 }

@@ -13,23 +13,23 @@ use Rattle.base.proofs.IfLaws.{if-true, if-false}
 use Rattle.intake.specs.Verdict as verdicts
 use Rattle.intake.specs.declared.Answer as intake
 use Rattle.intake.specs.declared.Answer.the-variants as verdict
-use Rattle.entry.specs.Entry as entries
-use Rattle.entry.specs.declared.Answer as entry
-use Rattle.entry.specs.declared.Answer.the-variants as found
-use Rattle.walk.specs.Walk as walks
-use Rattle.walk.specs.declared.Place.{Place}
-use Rattle.walk.specs.declared.StepWords.{StepWords}
-use Rattle.walk.specs.declared.Walked.{Walked}
-use Rattle.walk.specs.declared.Walked.the-variants as walked
+use Rattle.ask_entry.specs.Entry as entries
+use Rattle.ask_entry.specs.declared.Answer as entry
+use Rattle.ask_entry.specs.declared.Answer.the-variants as found
+use Rattle.ask_walk.specs.Walk as walks
+use Rattle.ask_walk.specs.declared.Place.{Place}
+use Rattle.ask_walk.specs.declared.StepWords.{StepWords}
+use Rattle.ask_walk.specs.declared.Walked.{Walked}
+use Rattle.ask_walk.specs.declared.Walked.the-variants as walked
 use Rattle.whole_matrix.specs.WholeMatrix as matrices
 use Rattle.whole_matrix.specs.declared.Whole.{Whole}
 use Rattle.whole_matrix.specs.declared.Whole.the-variants as whole
-use Rattle.double.specs.Double.{drawnOf, paired}
-use Rattle.double.specs.declared.Drawn.{Drawn}
-use Rattle.double.specs.declared.Drawn.the-variants as drawn
-use Rattle.double.specs.declared.DrawnPair.{DrawnPair}
-use Rattle.double.specs.declared.DrawnPair.the-variants as pair
-use Rattle.double.proofs.CurveLaws.{never-nan, pair-frequency, pair-value}
+use Rattle.out_double.specs.Double.{drawnOf, paired}
+use Rattle.out_double.specs.declared.Drawn.{Drawn}
+use Rattle.out_double.specs.declared.Drawn.the-variants as drawn
+use Rattle.out_double.specs.declared.DrawnPair.{DrawnPair}
+use Rattle.out_double.specs.declared.DrawnPair.the-variants as pair
+use Rattle.out_double.proofs.CurveLaws.{never-nan, pair-frequency, pair-value}
 use Rattle.skumvari.specs.Words.{flag, intakeLayout, entryLayout, stepLayout, walkLayout, matrixLayout, doubleLayout, pairLayout, isRoom, answered, tableAfter, valuesAfter}
 
 -- ---- what is lent

@@ -10,35 +10,35 @@ use borrow.Author.Tests.{eqb-false}
 use Rattle.base.specs.If.{if_then_else_}
 use Rattle.base.specs.Broken.{first}
 use Rattle.base.proofs.IfLaws.{by-test}
-use Rattle.text.specs.Lines.{Raw, lines, contentOf, isBlankLine}
-use Rattle.text.specs.ByteRules as text
-use Rattle.text.specs.ByteRules.{linesRule, byteRules}
-use Rattle.text.specs.declared.Checked.{Checked}
-use Rattle.text.specs.declared.Checked.the-variants as bytes
-use Rattle.keyword.specs.Names.{beginHeader}
-use Rattle.keyword.specs.Bracket.{bracketOf}
-use Rattle.keyword.specs.declared.Bracket.{Bracket}
-use Rattle.keyword.specs.declared.Bracket.the-variants.{Plain, Indented, Bad, Unknown, Later, Keyword}
-use Rattle.place.specs.Place.{isText, before, done}
-use Rattle.head.specs.Head.{headRule}
-use Rattle.path.specs.Path.{openRule, closedRule, pathRule}
-use Rattle.pin_map.specs.PinMap.{mapRule, pinRule}
-use Rattle.matrix.specs.Matrix.{dataRule}
-use Rattle.block.specs.Keywords.{keywordRule}
-use Rattle.block.specs.State.{startState}
-use Rattle.block.specs.declared.State.{State}
-use Rattle.reading.specs.Reading.{listRule, lineRule, goes, breaks, judged, lineStep, keywordStep, bracketStep, beforeStep, stepOf, commentByte, argumentFrom, atEnd, onward, run, readingOf}
-use Rattle.reading.specs.declared.Step.{Step}
-use Rattle.reading.specs.declared.Reading.{Reading}
-use Rattle.reading.specs.declared.Reading.the-variants.{Read, Refused}
-use Rattle.document.specs.Document.{Named, Step as PathStep, Model, Map, Section, Document}
-use Rattle.document.specs.Holds.{Each}
-use Rattle.document.specs.Holds.Each.{none, more}
-use Rattle.document.proofs.StandsLaws.{each-append}
-use Rattle.rules.specs.Rules as rules
-use Rattle.rules.specs.Rules.{listFindings, stepFindings, modelFindings, pinFindings, mapFindings, sectionFindings, findings, nothing, earliest, crossRule}
-use Rattle.rules.specs.declared.Finding.{Finding}
-use Rattle.rules.proofs.KindLaws.{earlier-one}
+use Rattle.lex_line.specs.Lines.{Raw, lines, contentOf, isBlankLine}
+use Rattle.lex_line.specs.ByteRules as text
+use Rattle.lex_line.specs.ByteRules.{linesRule, byteRules}
+use Rattle.lex_line.specs.declared.Checked.{Checked}
+use Rattle.lex_line.specs.declared.Checked.the-variants as bytes
+use Rattle.lex_keyword.specs.Names.{beginHeader}
+use Rattle.lex_keyword.specs.Bracket.{bracketOf}
+use Rattle.lex_keyword.specs.declared.Bracket.{Bracket}
+use Rattle.lex_keyword.specs.declared.Bracket.the-variants.{Plain, Indented, Bad, Unknown, Later, Keyword}
+use Rattle.line_place.specs.Place.{isText, before, done}
+use Rattle.line_head.specs.Head.{headRule}
+use Rattle.line_path.specs.Path.{openRule, closedRule, pathRule}
+use Rattle.line_map.specs.PinMap.{mapRule, pinRule}
+use Rattle.line_matrix.specs.Matrix.{dataRule}
+use Rattle.line_keyword.specs.Keywords.{keywordRule}
+use Rattle.line_keyword.specs.State.{startState}
+use Rattle.line_keyword.specs.declared.State.{State}
+use Rattle.read_line.specs.Reading.{listRule, lineRule, goes, breaks, judged, lineStep, keywordStep, bracketStep, beforeStep, stepOf, commentByte, argumentFrom, atEnd, onward, run, readingOf}
+use Rattle.read_line.specs.declared.Step.{Step}
+use Rattle.read_line.specs.declared.Reading.{Reading}
+use Rattle.read_line.specs.declared.Reading.the-variants.{Read, Refused}
+use Rattle.doc.specs.Document.{Named, Step as PathStep, Model, Map, Section, Document}
+use Rattle.doc.specs.Holds.{Each}
+use Rattle.doc.specs.Holds.Each.{none, more}
+use Rattle.doc.proofs.StandsLaws.{each-append}
+use Rattle.cross_rules.specs.Rules as rules
+use Rattle.cross_rules.specs.Rules.{listFindings, stepFindings, modelFindings, pinFindings, mapFindings, sectionFindings, findings, nothing, earliest, crossRule}
+use Rattle.cross_rules.specs.declared.Finding.{Finding}
+use Rattle.cross_rules.proofs.KindLaws.{earlier-one}
 
 pub record Other (number : ℕ) : Type 0 where
   pub apart : number ≡ 18 → ⊥

@@ -10,22 +10,22 @@ use lib.ListN.{length}
 use lib.Dec.{eqb}
 use borrow.Author.Tests.{le-ltb}
 use Rattle.base.proofs.IfLaws.{if-false, by-test}
-use Rattle.text.specs.ByteRules.{byteRules}
-use Rattle.text.specs.declared.Checked.{Checked}
-use Rattle.text.specs.declared.Checked.the-variants as bytes
-use Rattle.table.specs.Layout.{widths, needed}
-use Rattle.block.specs.declared.Counts.{Counts}
-use Rattle.reading.specs.Reading.{readingOf}
-use Rattle.reading.specs.declared.Reading.{Reading}
-use Rattle.reading.specs.declared.Reading.the-variants as reading
-use Rattle.reading.proofs.CountLaws.{Within, read-within, read-matrices}
-use Rattle.document.specs.Document.{documentOf}
-use Rattle.document.specs.Records.{tableOf}
-use Rattle.document.specs.Holds.{countsOf}
-use Rattle.filling.specs.Filled.{afterReading, filledOf}
-use Rattle.filling.specs.declared.Filled.the-variants.{Stored, Refused}
-use Rattle.filling.proofs.ReadyLaws.{needed-is}
-use Rattle.rules.specs.Rules.{crossRule}
+use Rattle.lex_line.specs.ByteRules.{byteRules}
+use Rattle.lex_line.specs.declared.Checked.{Checked}
+use Rattle.lex_line.specs.declared.Checked.the-variants as bytes
+use Rattle.table_layout.specs.Layout.{widths, needed}
+use Rattle.line_keyword.specs.declared.Counts.{Counts}
+use Rattle.read_line.specs.Reading.{readingOf}
+use Rattle.read_line.specs.declared.Reading.{Reading}
+use Rattle.read_line.specs.declared.Reading.the-variants as reading
+use Rattle.read_line.proofs.CountLaws.{Within, read-within, read-matrices}
+use Rattle.doc.specs.Document.{documentOf}
+use Rattle.doc.specs.Records.{tableOf}
+use Rattle.doc.specs.Holds.{countsOf}
+use Rattle.fill.specs.Filled.{afterReading, filledOf}
+use Rattle.fill.specs.declared.Filled.the-variants.{Stored, Refused}
+use Rattle.fill.proofs.ReadyLaws.{needed-is}
+use Rattle.cross_rules.specs.Rules.{crossRule}
 use Rattle.intake.specs.Verdict.{Outcome, crossed, afterFilling, afterBytes, verdictOf}
 use Rattle.skumvari.specs.Room.{mostWords}
 use Rattle.skumvari.proofs.NumberLaws.{Other, other, OtherBytes, bytes-other, OtherReading, reading-other, cross-other}

@@ -10,15 +10,15 @@ use lib.Dec.{leb}
 use lib.Ieee.{binary64, toBits}
 use Rattle.base.specs.If.{if_then_else_}
 use Rattle.intake.specs.Verdict.{Outcome}
-use Rattle.entry.specs.Entry.{EntryWords}
-use Rattle.walk.specs.Walk.{WalkWords}
-use Rattle.walk.specs.declared.Place.{Place}
-use Rattle.walk.specs.declared.StepWords.{StepWords}
+use Rattle.ask_entry.specs.Entry.{EntryWords}
+use Rattle.ask_walk.specs.Walk.{WalkWords}
+use Rattle.ask_walk.specs.declared.Place.{Place}
+use Rattle.ask_walk.specs.declared.StepWords.{StepWords}
 use Rattle.whole_matrix.specs.WholeMatrix.{MatrixWords}
-use Rattle.double.specs.declared.Drawn.{Drawn}
-use Rattle.double.specs.declared.Drawn.the-variants as drawn
-use Rattle.double.specs.declared.DrawnPair.{DrawnPair}
-use Rattle.double.specs.declared.DrawnPair.the-variants as pair
+use Rattle.out_double.specs.declared.Drawn.{Drawn}
+use Rattle.out_double.specs.declared.Drawn.the-variants as drawn
+use Rattle.out_double.specs.declared.DrawnPair.{DrawnPair}
+use Rattle.out_double.specs.declared.DrawnPair.the-variants as pair
 
 unfoldable pub flag : Bool → ℕ
 flag truth = if truth then 1 else 0

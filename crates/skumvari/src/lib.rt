@@ -3,20 +3,20 @@
 ghost use mathlib.Core.Path.{_≡_};
 ghost use mathlib.Core.List.{[], _∷_};
 ghost use lib.ListN.{length};
-ghost use Rattle.sound.specs.Sound.{isSound};
+ghost use Rattle.ask_sound.specs.Sound.{isSound};
 ghost use Rattle.intake.specs.Verdict.{verdictOf, tableFor};
-ghost use Rattle.entry.specs.Entry as entries;
-ghost use Rattle.walk.specs.Walk as walks;
+ghost use Rattle.ask_entry.specs.Entry as entries;
+ghost use Rattle.ask_walk.specs.Walk as walks;
 ghost use Rattle.whole_matrix.specs.WholeMatrix.{wholeOf, roomAfter};
-ghost use Rattle.double.specs.Double.{drawnOf, paired};
+ghost use Rattle.out_double.specs.Double.{drawnOf, paired};
 ghost use Rattle.skumvari.specs.Words.{intakeLayout, entryLayout, walkLayout, matrixLayout, doubleLayout, pairLayout, stepLayout, isRoom, answered, tableAfter, valuesAfter};
 ghost use Rattle.skumvari.specs.Room.{mostWords};
-use double::Drawn;
-use double::DrawnPair;
-use entry::Answer;
-use walk::Place;
-use walk::StepWords;
-use walk::Walked;
+use out_double::Drawn;
+use out_double::DrawnPair;
+use ask_entry::Answer;
+use ask_walk::Place;
+use ask_walk::StepWords;
+use ask_walk::Walked;
 use whole_matrix::Whole;
 
 const TABLE_WORDS: usize = 237_319;
@@ -130,7 +130,7 @@ pub extern "C" fn skumvari_intake(text: &[u8], table: &mut [u64], answer: &mut [
 pub extern "C" fn skumvari_sound(text: &[u8], table: &[u64]) -> bool
     ensures { λ r. ⌜ r ≡ isSound (now (text .entry)) (now (table .entry)) ⌝ }
 {
-    sound::is_sound(text, table)
+    ask_sound::is_sound(text, table)
 }
 
 // One entry of a section's matrix.
@@ -147,7 +147,7 @@ pub extern "C" fn skumvari_entry(
     ensures { λ r. ⌜ r ≡ isRoom 4 (now (answer .entry)) ⌝ }
     ensures { λ _. ⌜ now (answer .exit) ≡ answered (entryLayout (entries.answerOf (now (text .entry)) (now (table .entry)) section kind row column)) (now (answer .entry)) ⌝ }
 {
-    match entry::entry(text, table, section, kind, row, column) {
+    match ask_entry::entry(text, table, section, kind, row, column) {
         Answer::Found(word) => put_answer(answer, 1, 0, 0, word),
         Answer::Refused(number) => put_answer(answer, 0, number, 0, 0),
     }
@@ -211,7 +211,7 @@ pub extern "C" fn skumvari_double(word: u64, answer: &mut [u64]) -> bool
     ensures { λ r. ⌜ r ≡ isRoom 4 (now (answer .entry)) ⌝ }
     ensures { λ _. ⌜ now (answer .exit) ≡ answered (doubleLayout (drawnOf word)) (now (answer .entry)) ⌝ }
 {
-    match double::double_of(word) {
+    match out_double::double_of(word) {
         Drawn::Value(x) => put_answer(answer, 1, 0, 0, f64::to_bits(x)),
         Drawn::Outside => put_answer(answer, 0, 0, 0, 0),
     }
@@ -223,7 +223,7 @@ pub extern "C" fn skumvari_pair(frequency: u64, value: u64, answer: &mut [u64]) 
     ensures { λ r. ⌜ r ≡ isRoom 5 (now (answer .entry)) ⌝ }
     ensures { λ _. ⌜ now (answer .exit) ≡ answered (pairLayout (paired (drawnOf frequency) (drawnOf value))) (now (answer .entry)) ⌝ }
 {
-    match double::pair_of(frequency, value) {
+    match out_double::pair_of(frequency, value) {
         DrawnPair::Pair(x, y) => put_pair(answer, 1, f64::to_bits(x), f64::to_bits(y)),
         DrawnPair::Outside => put_pair(answer, 0, 0, 0),
     }

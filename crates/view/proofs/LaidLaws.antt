@@ -12,9 +12,9 @@ use lib.Dec.{leb}
 use borrow.Author.Tests.{le-leb}
 use Rattle.base.specs.If.{both}
 use Rattle.base.proofs.IfLaws.{both-true, if-true}
-use Rattle.table.specs.Layout.{widths, joined, layout, AllLong, Wide}
-use Rattle.table.specs.Layout as layout
-use Rattle.table.proofs.LayoutLaws.{length-joined}
+use Rattle.table_layout.specs.Layout.{widths, joined, layout, AllLong, Wide}
+use Rattle.table_layout.specs.Layout as layout
+use Rattle.table_layout.proofs.LayoutLaws.{length-joined}
 use Rattle.view.specs.View.{bounds, areWithin, viewOf}
 use Rattle.view.specs.declared.View.{View}
 

@@ -12,7 +12,7 @@ use lib.Dec.{leb}
 use borrow.Author.Tests.{leb-true}
 use Rattle.base.specs.If.{if_then_else_, both}
 use Rattle.base.proofs.IfLaws.{if-true, if-false, by-cases, both-first, both-second}
-use Rattle.table.specs.Layout.{widths, chopped, partsIn}
+use Rattle.table_layout.specs.Layout.{widths, chopped, partsIn}
 use Rattle.view.specs.View.{bounds, areWithin, basesAt, countsAt, endAt, noView, viewOf}
 use Rattle.view.specs.declared.View.{View}
 

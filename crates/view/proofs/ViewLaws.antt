@@ -15,8 +15,8 @@ use lib.Dec.{leb}
 use borrow.Author.Tests.{le-leb, lt-leb}
 use Rattle.base.specs.If.{if_then_else_, both}
 use Rattle.base.proofs.IfLaws.{if-true, if-false, both-rest, both-not-left}
-use Rattle.table.specs.Layout.{widths}
-use Rattle.table.proofs.StoreLaws.{widths-small}
+use Rattle.table_layout.specs.Layout.{widths}
+use Rattle.table_layout.proofs.StoreLaws.{widths-small}
 use Rattle.view.specs.View.{bounds, areWithin, basesAt, countsAt, endAt, noView, viewOf}
 use Rattle.view.specs.declared.View.{View}
 

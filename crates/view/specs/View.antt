@@ -7,7 +7,7 @@ use mathlib.Core.List.{List, [], _∷_}
 use lib.ListN.{length, getD, replicate}
 use lib.Dec.{leb}
 use Rattle.base.specs.If.{if_then_else_, both}
-use Rattle.table.specs.Layout.{widths}
+use Rattle.table_layout.specs.Layout.{widths}
 use Rattle.view.specs.declared.View.{View}
 
 -- "64 models, 4,096 steps, 64 maps, 4,096 pins, 256 sections, 65,536 values", "matrices 1,024"

@@ -44,14 +44,14 @@ pub fn view_of(table: &[u64]) -> View
     let mut counts = [0; 7];
     let mut at = 0;
     let mut part = 0;
-    while part < table::PARTS {
+    while part < table_layout::PARTS {
         let count = word_at(table, at);
         if BOUNDS[part] < count {
             return no_view();
         }
         bases[part] = at + 1;
         counts[part] = count;
-        at = at + 1 + table::WIDTHS[part] * (count as usize);
+        at = at + 1 + table_layout::WIDTHS[part] * (count as usize);
         part += 1;
     }
     if table.len() < at {

@@ -7,8 +7,8 @@ use native.Mathlib.Nat.{add-zero, suc-mul}
 use native.Mathlib.Omega.{arith}
 use lib.ListN.{length, set, length-set}
 use lib.Seq.{sets, length-sets}
-use Rattle.document.specs.Records.{Records}
-use Rattle.entry.specs.Entry.{entryOf}
+use Rattle.doc.specs.Records.{Records}
+use Rattle.ask_entry.specs.Entry.{entryOf}
 use Rattle.whole_matrix.specs.WholeMatrix.{rowFrom, rowsFrom, squareOf}
 
 -- ---- stores

@@ -13,9 +13,9 @@ use borrow.Author.Tests.{le-leb}
 use Rattle.base.specs.If.{if_then_else_, both}
 use Rattle.base.specs.Bytes.{within}
 use Rattle.base.proofs.IfLaws.{if-true, if-false, both-true, both-first, both-second, not-via, not-not-via, by-cases}
-use Rattle.document.specs.Records.{Records, recordsOf}
-use Rattle.sound.specs.Sound.{isSound}
-use Rattle.entry.specs.Entry.{foundWith, noSection, matrixOf, entryOf, isInRange, answerOf}
+use Rattle.doc.specs.Records.{Records, recordsOf}
+use Rattle.ask_sound.specs.Sound.{isSound}
+use Rattle.ask_entry.specs.Entry.{foundWith, noSection, matrixOf, entryOf, isInRange, answerOf}
 use Rattle.whole_matrix.proofs.RowLaws.{row-long}
 use Rattle.whole_matrix.specs.WholeMatrix.{MatrixWords, foundOf, shortOf, refusedWith, rowFrom, rowsFrom, squareOf, conductorsOf, wholeOf}
 

@@ -13,17 +13,17 @@ use lib.Seq.{sets}
 use borrow.Author.Tests.{leb-true, lt-ltb, le-ltb, not-true, not-false}
 use Rattle.base.specs.Bytes.{within}
 use Rattle.base.proofs.IfLaws.{if-true, if-false, not-via, not-not-via, both-first, both-second}
-use Rattle.table.specs.Layout.{sections, matrices}
+use Rattle.table_layout.specs.Layout.{sections, matrices}
 use Rattle.view.specs.View.{viewOf}
 use Rattle.view.specs.declared.View.{View}
 use Rattle.view.proofs.PartLaws.{viewed}
-use Rattle.document.specs.Records.{SectionRecord, Records, recordsOf}
-use Rattle.sound.specs.Sound.{every, isSection, areSound, isSound}
-use Rattle.sound.specs.Standing.{places, sectionAt, baseOf, countOf, placesOf, recordsAt}
-use Rattle.sound.proofs.SoundLaws.{records-here}
-use Rattle.entry.specs.Entry.{noSection, matrixOf, isInRange}
-use Rattle.entry.specs.Ready.{Ready}
-use Rattle.entry.proofs.ReadyLaws.{ready-of, range-section, matrix-few}
+use Rattle.doc.specs.Records.{SectionRecord, Records, recordsOf}
+use Rattle.ask_sound.specs.Sound.{every, isSection, areSound, isSound}
+use Rattle.ask_sound.specs.Standing.{places, sectionAt, baseOf, countOf, placesOf, recordsAt}
+use Rattle.ask_sound.proofs.SoundLaws.{records-here}
+use Rattle.ask_entry.specs.Entry.{noSection, matrixOf, isInRange}
+use Rattle.ask_entry.specs.Ready.{Ready}
+use Rattle.ask_entry.proofs.ReadyLaws.{ready-of, range-section, matrix-few}
 use Rattle.whole_matrix.specs.WholeMatrix.{foundOf, shortOf, wholeWords, squareOf, conductorsOf, wholeOf, roomAfter}
 use Rattle.whole_matrix.specs.declared.Whole.the-variants.{Found, Short, Refused}
 

@@ -8,9 +8,9 @@ use lib.ListN.{length, getD}
 use lib.Seq.{sets}
 use lib.Dec.{ltb}
 use Rattle.base.specs.If.{if_then_else_}
-use Rattle.document.specs.Records.{Records, recordsOf}
-use Rattle.sound.specs.Sound.{isSound}
-use Rattle.entry.specs.Entry.{noSection, matrixOf, entryOf, isInRange}
+use Rattle.doc.specs.Records.{Records, recordsOf}
+use Rattle.ask_sound.specs.Sound.{isSound}
+use Rattle.ask_entry.specs.Entry.{noSection, matrixOf, entryOf, isInRange}
 use Rattle.whole_matrix.specs.declared.Whole.{Whole}
 use Rattle.whole_matrix.specs.declared.Whole.the-variants.{Found, Short, Refused}
 

@@ -3,10 +3,10 @@ ghost use mathlib.Core.Path.{_≡_};
 ghost use Prim.Native.Nat.{_+_, _*_, _≤_, _<_};
 ghost use lib.ListN.{length};
 ghost use lib.Seq.{sets};
-ghost use Rattle.table.specs.Layout.{sections, matrices};
-ghost use Rattle.document.specs.Records.{recordsOf};
-ghost use Rattle.sound.specs.Standing.{countOf};
-ghost use Rattle.entry.specs.Ready.{Ready};
+ghost use Rattle.table_layout.specs.Layout.{sections, matrices};
+ghost use Rattle.doc.specs.Records.{recordsOf};
+ghost use Rattle.ask_sound.specs.Standing.{countOf};
+ghost use Rattle.ask_entry.specs.Ready.{Ready};
 ghost use Rattle.whole_matrix.specs.WholeMatrix.{wholeWords, rowFrom, rowsFrom, squareOf, conductorsOf, wholeOf, roomAfter};
 use view::View;
 
@@ -43,7 +43,7 @@ fn put_row(
     let mut column = 1;
     let mut to = at;
     while column <= conductors {
-        values[to] = entry::entry_in(table, view, index, row, column);
+        values[to] = ask_entry::entry_in(table, view, index, row, column);
         to += 1;
         column += 1;
     }
@@ -69,7 +69,7 @@ fn conductors_of(table: &[u64], view: View, section: u64) -> u64
     ensures { λ r. ⌜ r ≡ conductorsOf (recordsOf (now (table .entry))) section ⌝ }
 {
     let bases = view.bases;
-    table[bases[table::SECTIONS] + SECTION_WORDS * (section as usize) + CONDUCTORS]
+    table[bases[table_layout::SECTIONS] + SECTION_WORDS * (section as usize) + CONDUCTORS]
 }
 
 // Every entry of a section's matrix. Where it is not found the room is left as it was.
@@ -82,18 +82,18 @@ pub fn whole_matrix(
 ) -> Whole
     ensures { λ r. ⌜ (wholeWords r ≡ wholeOf (now (text .entry)) (now (table .entry)) section kind (length (now (values .entry)))) × (now (values .exit) ≡ roomAfter (now (table .entry)) section kind (wholeWords r) (now (values .entry))) ⌝ }
 {
-    if !sound::is_sound(text, table) {
+    if !ask_sound::is_sound(text, table) {
         return Whole::Refused(UNSOUND);
     }
     let view = view::view_of(table);
-    if !entry::is_in_range(table, view, section, kind, 1, 1) {
+    if !ask_entry::is_in_range(table, view, section, kind, 1, 1) {
         return Whole::Refused(NO_SUCH);
     }
     let conductors = conductors_of(table, view, section);
     if values.len() < (conductors as usize) * (conductors as usize) {
         return Whole::Short(conductors);
     }
-    let index = entry::matrix_of(table, view, section, kind);
+    let index = ask_entry::matrix_of(table, view, section, kind);
     put_rows(table, view, index, conductors, values);
     Whole::Found(conductors)
 }

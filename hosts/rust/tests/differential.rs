@@ -115,7 +115,7 @@ impl Run {
 
     /// The test files of the base and of the change requests.
     fn vectors(&mut self) {
-        for folder in ["../../crates/vectors/data", "../vectors"] {
+        for folder in ["../../crates/test_vectors/data", "../vectors"] {
             let folder = Path::new(env!("CARGO_MANIFEST_DIR")).join(folder);
             let entries = fs::read_dir(&folder).unwrap_or_else(|error| panic!("{}: {error}", folder.display()));
             let mut paths: Vec<PathBuf> = entries.map(|entry| entry.expect("an entry of the folder").path()).collect();

@@ -2,7 +2,7 @@
 -- Assumes nothing.
 use borrow.Author.Needs.{needs}
 use Prim.Native.Nat.{_+_, _-_}
-use Rattle.document.specs.Records.{recordsOf}
+use Rattle.doc.specs.Records.{recordsOf}
 use Rattle.whole_matrix.proofs.RowLaws.{RowsLeft, rows-start, rows-room, rows-on, rows-done}
 use Rattle.whole_matrix.proofs.put_rows.Statement.{statement}
 use Rattle.whole_matrix.proofs.put_rows.Tie as tie

@@ -20,7 +20,7 @@ fn assert_prints(program: &str, told: impl Fn(&str) -> String) {
 }
 
 fn file(name: &str) -> Vec<u8> {
-    bytes_of(&format!("crates/vectors/data/{name}"))
+    bytes_of(&format!("crates/test_vectors/data/{name}"))
 }
 
 pub fn answers_rooms_hashes_and_listings<R: Reading>() {
@@ -57,7 +57,7 @@ pub fn numbers<R: Reading>() {
 
 #[test]
 fn walks_and_matrices_are_what_the_table_says() {
-    let input = text_of("crates/vectors/stdin");
+    let input = text_of("crates/test_vectors/stdin");
     let names = input.lines().filter(|line| !line.contains(' '));
     let mut accepted = 0;
     for (name, file) in names.filter_map(|name| Some((name, Intake::read(file(name)).ok()?))) {

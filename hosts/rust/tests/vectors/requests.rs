@@ -112,7 +112,7 @@ pub fn changes_of_the_base<R: Reading>() {
     }
     assert!(!latest.is_empty());
     for (name, (_, wanted)) in latest {
-        let (answer, _) = R::take_in(&bytes_of(&format!("crates/vectors/data/{name}.icm")), LISTING_WORDS);
+        let (answer, _) = R::take_in(&bytes_of(&format!("crates/test_vectors/data/{name}.icm")), LISTING_WORDS);
         assert_eq!(spelled(answer), wanted, "{name}");
     }
 }

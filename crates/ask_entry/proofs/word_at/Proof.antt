@@ -1,0 +1,88 @@
+-- `ask_entry::word_at` meets its contract. The loop's invariant: what is asked for lies in the part left, or nowhere.
+-- Assumes nothing.
+use Prim.Native.Nat.{_-_}
+use borrow.Author.Needs.{needs}
+use Rattle.ask_entry.proofs.SearchLaws.{Lies, lies-starts, lies-nowhere, lies-behind, lies-front, lies-here}
+use Rattle.ask_entry.proofs.word_at.Statement.{statement}
+use Rattle.ask_entry.proofs.word_at.Tie as tie
+
+abbrev Inv-loop : tie.InvT-loop
+Inv-loop table from many row column low₀ high₀ low high = Lies table from many row column low high
+
+abbrev μ-loop : tie.MeasureT-loop
+μ-loop table from many row column low₀ high₀ low high = high - low
+
+loop-holds : tie.Need-loop-holds Inv-loop μ-loop
+loop-holds c = search lies-starts
+
+sub-middle : tie.Need-sub-middle Inv-loop μ-loop
+sub-middle c = search needs
+
+add-middle : tie.Need-add-middle Inv-loop μ-loop
+add-middle c = search needs
+
+mul-at : tie.Need-mul-at Inv-loop μ-loop
+mul-at c = search needs
+
+add-at : tie.Need-add-at Inv-loop μ-loop
+add-at c = search needs
+
+is-before-requires : tie.Need-is-before-requires Inv-loop μ-loop
+is-before-requires c κs = search needs
+
+add-low : tie.Need-add-low Inv-loop μ-loop
+add-low c = search needs
+
+loop-less : tie.Need-loop-less Inv-loop μ-loop
+loop-less c = search needs
+
+loop-again : tie.Need-loop-again Inv-loop μ-loop
+loop-again c = search lies-behind
+
+is-behind-requires : tie.Need-is-behind-requires Inv-loop μ-loop
+is-behind-requires c κs = search needs
+
+loop-less-2 : tie.Need-loop-less-2 Inv-loop μ-loop
+loop-less-2 c = search needs
+
+loop-again-2 : tie.Need-loop-again-2 Inv-loop μ-loop
+loop-again-2 c = lies-front _ _ _ _ _ _ _ (c .before .before .before .before .before .loop .inv) (c .before .before .before .before .loop-test .taken) _ (c .before .before .before .is-before .ensures) (c .before .before .if1 .left) _ (c .before .is-behind .ensures) (c .if2 .taken)
+
+add-result : tie.Need-add-result Inv-loop μ-loop
+add-result c = search needs
+
+mul-result : tie.Need-mul-result Inv-loop μ-loop
+mul-result c = search needs
+
+shared-slice-read-result : tie.Need-shared-slice-read-result Inv-loop μ-loop
+shared-slice-read-result c = search needs
+
+returns : tie.Need-returns Inv-loop μ-loop
+returns c = lies-here _ _ _ _ _ _ _ (c .before .before .before .before .before .before .loop .inv) (c .before .before .before .before .before .loop-test .taken) _ (c .before .before .before .before .is-before .ensures) (c .before .before .before .if1 .left) _ (c .before .before .is-behind .ensures) (c .before .if2 .left)
+
+returns-2 : tie.Need-returns-2 Inv-loop μ-loop
+returns-2 c = search lies-nowhere
+
+pub word-at-spec : {M : Type 1} → statement M
+word-at-spec =
+    tie.close
+    (tie.spec
+    Inv-loop
+    μ-loop
+    loop-holds
+    sub-middle
+    add-middle
+    mul-at
+    add-at
+    is-before-requires
+    add-low
+    loop-less
+    loop-again
+    is-behind-requires
+    loop-less-2
+    loop-again-2
+    add-result
+    mul-result
+    shared-slice-read-result
+    returns
+    returns-2)

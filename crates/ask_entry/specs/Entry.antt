@@ -1,0 +1,81 @@
+-- Document 01: the question "entry (text, table, section, kind R L G C, row, column: a value word)". "Entries not written, and kinds not
+-- given, are zero; entry (j,i) is entry (i,j)."
+-- Assumes nothing.
+use Prim.Native.Nat.{ℕ, _-_, min, max}
+use mathlib.Core.Bool.{Bool, true, false, not}
+use mathlib.Core.List.{List, [], _∷_}
+use lib.ListN.{length, getD}
+use lib.Dec.{ltb, eqb}
+use Rattle.base.specs.If.{if_then_else_, both}
+use Rattle.base.specs.Bytes.{within}
+use Rattle.lex_number.specs.ValueWord.{zeroWord}
+use Rattle.doc.specs.Document.{Value}
+use Rattle.doc.specs.Records.{SectionRecord, MatrixRecord, Records, recordsOf}
+use Rattle.ask_sound.specs.Sound.{range, isSound}
+use Rattle.ask_entry.specs.declared.Answer.{Answer}
+use Rattle.ask_entry.specs.declared.Answer.the-variants.{Found, Refused}
+
+-- the words of the answer: "refused, they return the number and line 0, every other word 0"; `found` tells an answer from a refusal
+pub record EntryWords : Type 0 where
+  pub found : Bool
+  pub number : ℕ
+  pub line : ℕ
+  pub word : ℕ
+
+abbrev pub foundWith : ℕ → EntryWords
+foundWith word = record { found = true; number = 0; line = 0; word = word }
+
+abbrev pub refusedWith : ℕ → EntryWords
+refusedWith number = record { found = false; number = number; line = 0; word = 0 }
+
+-- the paper's number and words for each case
+abbrev pub entryWords : Answer → EntryWords
+entryWords (Found word) = foundWith word
+entryWords (Refused number) = refusedWith number
+
+-- ---- records by their index; what stands past the last is never asked for
+
+abbrev pub noSection : SectionRecord
+noSection =
+    record { start = 0; size = 0; method = 0; conductors = 0; resistance = 0; inductance = 0; conductance = 0; capacitance = 0 }
+
+abbrev pub noMatrix : MatrixRecord
+noMatrix = record { form = 0; bandwidth = 0; first = 0; values = 0; line = 0 }
+
+-- ---- one entry
+
+-- "R L G C each matrix index plus 1 or 0"
+unfoldable pub matrixOf : SectionRecord → ℕ → ℕ
+matrixOf s kind =
+    if eqb kind 0 then s .resistance else
+    if eqb kind 1 then s .inductance else
+    if eqb kind 2 then s .conductance else s .capacitance
+
+-- the number written for a row and a column, zero where none is
+unfoldable pub wordAt : ℕ → ℕ → List Value → ℕ
+wordAt row column [] = zeroWord
+wordAt row column (v ∷ vs) = if both (eqb (v .row) row) (eqb (v .column) column) then v .word else wordAt row column vs
+
+-- the values of a matrix
+unfoldable pub valuesOf : Records → MatrixRecord → List Value
+valuesOf r m = range (m .first) (m .values) (r .values)
+
+-- of a kind's matrix by its index plus 1; 0 says that the kind is not given
+unfoldable pub entryOf : Records → ℕ → ℕ → ℕ → ℕ
+entryOf r index row column =
+    if eqb index 0 then zeroWord else wordAt (min row column) (max row column) (valuesOf r (getD (r .matrices) (index - 1) noMatrix))
+
+-- "section, kind, row, column (1 to N)"
+unfoldable pub isInRange : Records → ℕ → ℕ → ℕ → ℕ → Bool
+isInRange r section kind row column =
+    both (ltb section (length (r .sections)))
+    (both (ltb kind 4)
+    (both (within 1 (getD (r .sections) section noSection .conductors) row)
+    (within 1 (getD (r .sections) section noSection .conductors) column)))
+
+-- "30 TABLE: question over an unsound table", "31 NOSUCH: section, kind, row, column (1 to N) .. out of range"
+unfoldable pub answerOf : List ℕ → List ℕ → ℕ → ℕ → ℕ → ℕ → EntryWords
+answerOf t table section kind row column =
+    if not (isSound t table) then refusedWith 30 else
+    if not (isInRange (recordsOf table) section kind row column) then refusedWith 31 else
+    foundWith (entryOf (recordsOf table) (matrixOf (getD (recordsOf table .sections) section noSection) kind) row column)

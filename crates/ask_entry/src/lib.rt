@@ -1,0 +1,189 @@
+// Document 01: the question "entry", one entry of a section's matrix as a value word. "Entries not written, and kinds not given, are zero;
+// entry (j,i) is entry (i,j)." A caller that has found its table sound asks `entry_in`, which does not judge it again.
+ghost use mathlib.Core.Path.{_≡_};
+ghost use mathlib.Core.Bool.{true};
+ghost use Prim.Native.Nat.{_+_, _*_, _≤_, _<_, min, max};
+ghost use lib.ListN.{length, getD};
+ghost use Rattle.table_layout.specs.Layout.{sections, matrices};
+ghost use Rattle.doc.specs.Records.{recordsOf};
+ghost use Rattle.doc.specs.Holds.{comesBefore, rises};
+ghost use Rattle.ask_sound.specs.Standing.{valueAt, valuesFrom, countOf};
+ghost use Rattle.ask_entry.specs.Entry.{entryWords, noSection, matrixOf, wordAt, entryOf, isInRange, answerOf};
+ghost use Rattle.ask_entry.specs.Ready.{Ready, asked};
+use view::View;
+
+// "30 TABLE: question over an unsound table", "31 NOSUCH: section, kind, row, column (1 to N) .. out of range".
+const UNSOUND: u64 = 30;
+
+const NO_SUCH: u64 = 31;
+
+// The value word of zero.
+const ZERO: u64 = 128;
+
+// R, L, G, C.
+const KINDS: u64 = 4;
+
+// How many words a record of a section has, of a matrix and of a value.
+const SECTION_WORDS: usize = 8;
+
+const MATRIX_WORDS: usize = 5;
+
+const VALUE_WORDS: usize = 3;
+
+// The value word, or the number of a refusal.
+pub enum Answer {
+    Found(u64),
+    Refused(u64),
+}
+
+// ---- the values of a matrix
+
+fn lesser(a: u64, b: u64) -> u64
+    ensures { λ r. ⌜ r ≡ min a b ⌝ }
+{
+    if a <= b {
+        return a;
+    }
+    b
+}
+
+fn greater(a: u64, b: u64) -> u64
+    ensures { λ r. ⌜ r ≡ max a b ⌝ }
+{
+    if a <= b {
+        return b;
+    }
+    a
+}
+
+// Whether the value that stands at a place comes before the row and column asked for.
+fn is_before(table: &[u64], at: usize, row: u64, column: u64) -> bool
+    requires { ⌜ at + 3 ≤ length (now table) ⌝ }
+    ensures { λ r. ⌜ r ≡ comesBefore (valueAt (now (table .entry)) at) (asked row column) ⌝ }
+{
+    let here = table[at];
+    if here < row {
+        return true;
+    }
+    if here != row {
+        return false;
+    }
+    table[at + 1] < column
+}
+
+// Whether it comes behind them.
+fn is_behind(table: &[u64], at: usize, row: u64, column: u64) -> bool
+    requires { ⌜ at + 3 ≤ length (now table) ⌝ }
+    ensures { λ r. ⌜ r ≡ comesBefore (asked row column) (valueAt (now (table .entry)) at) ⌝ }
+{
+    let here = table[at];
+    if row < here {
+        return true;
+    }
+    if row != here {
+        return false;
+    }
+    column < table[at + 1]
+}
+
+// Of so many rising values, the first of which stands at `from`: what is asked for lies from `low` on and below `high`, or nowhere.
+fn word_at(table: &[u64], from: usize, many: u64, row: u64, column: u64) -> u64
+    requires { ⌜ (from + 3 * many ≤ length (now table)) × (rises 256 (valuesFrom (now table) from many) ≡ true) ⌝ }
+    ensures { λ r. ⌜ r ≡ wordAt row column (valuesFrom (now (table .entry)) from many) ⌝ }
+{
+    let mut low = 0;
+    let mut high = many;
+    while low < high {
+        let middle = low + (high - low) / 2;
+        let at = from + VALUE_WORDS * (middle as usize);
+        if is_before(table, at, row, column) {
+            low = middle + 1;
+            continue;
+        }
+        if is_behind(table, at, row, column) {
+            high = middle;
+            continue;
+        }
+        return table[at + 2];
+    }
+    ZERO
+}
+
+// ---- one entry
+
+// Of a matrix by its index plus 1; 0 says that the kind is not given.
+pub fn entry_in(table: &[u64], view: View, index: u64, row: u64, column: u64) -> u64
+    requires { ⌜ Ready (now table) view × (index ≤ countOf view matrices) ⌝ }
+    ensures { λ r. ⌜ r ≡ entryOf (recordsOf (now (table .entry))) index row column ⌝ }
+{
+    if index == 0 {
+        return ZERO;
+    }
+    let bases = view.bases;
+    let at = bases[table_layout::MATRICES] + MATRIX_WORDS * ((index - 1) as usize);
+    let first = table[at + 2];
+    let many = table[at + 3];
+    let from = bases[table_layout::VALUES] + VALUE_WORDS * (first as usize);
+    word_at(table, from, many, lesser(row, column), greater(row, column))
+}
+
+// Whether the section and the kind are there, and the row and column are 1 to N.
+pub fn is_in_range(
+    table: &[u64],
+    view: View,
+    section: u64,
+    kind: u64,
+    row: u64,
+    column: u64,
+) -> bool
+    requires { ⌜ Ready (now table) view ⌝ }
+    ensures { λ r. ⌜ r ≡ isInRange (recordsOf (now (table .entry))) section kind row column ⌝ }
+{
+    let bases = view.bases;
+    let counts = view.counts;
+    if counts[table_layout::SECTIONS] <= section {
+        return false;
+    }
+    if KINDS <= kind {
+        return false;
+    }
+    let conductors = table[bases[table_layout::SECTIONS] + SECTION_WORDS * (section as usize) + 3];
+    if !lex_number::is_within(1, conductors, row) {
+        return false;
+    }
+    lex_number::is_within(1, conductors, column)
+}
+
+// The index plus 1 of a section's matrix of a kind; 0 where the kind is not given.
+pub fn matrix_of(table: &[u64], view: View, section: u64, kind: u64) -> u64
+    requires { ⌜ Ready (now table) view × (section < countOf view sections) ⌝ }
+    ensures { λ r. ⌜ r ≡ matrixOf (getD (recordsOf (now (table .entry)) .sections) section noSection) kind ⌝ }
+{
+    let bases = view.bases;
+    let at = bases[table_layout::SECTIONS] + SECTION_WORDS * (section as usize);
+    if kind == 0 {
+        return table[at + 4];
+    }
+    if kind == 1 {
+        return table[at + 5];
+    }
+    if kind == 2 {
+        return table[at + 6];
+    }
+    table[at + 7]
+}
+
+// One entry of a section's matrix, as a value word.
+pub fn entry(text: &[u8], table: &[u64], section: u64, kind: u64, row: u64, column: u64) -> Answer
+    ensures { λ r. ⌜ entryWords r ≡ answerOf (now (text .entry)) (now (table .entry)) section kind row column ⌝ }
+{
+    if !ask_sound::is_sound(text, table) {
+        return Answer::Refused(UNSOUND);
+    }
+    let view = view::view_of(table);
+    if !is_in_range(table, view, section, kind, row, column) {
+        return Answer::Refused(NO_SUCH);
+    }
+    let index = matrix_of(table, view, section, kind);
+    Answer::Found(entry_in(table, view, index, row, column))
+}

@@ -1,0 +1,351 @@
+-- Laws of the loops over records one behind the other: what is left of them gives the whole.
+-- Assumes nothing.
+use mathlib.Core.Path.{_≡_, refl, sym, _∙_, ap}
+use mathlib.Core.Bool.{Bool, true, false, not}
+use mathlib.Core.List.{List, [], _∷_, map}
+use Prim.Native.Nat.{ℕ, zero, suc, _+_, _-_, _*_, _^_, _≤_, _<_, zero-le}
+use native.Mathlib.Nat.{add-zero, sub-zero, mul-zero, mul-suc, mul-le-mul, le-refl, not-suc-le-zero}
+use native.Mathlib.Numerals.{add-one}
+use native.Mathlib.Omega.{arith}
+use mir.Syntax.{w64}
+use mir.Val.{Fits}
+use lib.ListN.{length, drop, getD, drop-of-length-le}
+use lib.Seq.{drop-cons}
+use lib.Dec.{eqb}
+use borrow.Author.Tests.{eq-eqb, ne-eqb, ltb-true, not-true, not-false}
+use Rattle.base.specs.If.{if_then_else_, both}
+use Rattle.base.proofs.IfLaws.{if-true, if-false, by-cases, both-rest, both-not-left}
+use Rattle.table_layout.specs.Layout.{widths}
+use Rattle.view.specs.declared.View.{View}
+use Rattle.doc.specs.Document.{Value, forkKind, endforkKind}
+use Rattle.doc.specs.Holds.{isInside, comesBefore, rises}
+use Rattle.ask_sound.specs.Sound.{every, depthStays, depthAfter, depthHolds, areZeros}
+use Rattle.ask_sound.specs.Standing.{places, valueAt, baseOf, countOf, kindsFrom, valuesFrom, placesOf, goesOn, isRecord, areRecords, areParts, ValueReaches, Rooms}
+
+-- i of so many records of a width are gone over, and what is left of them gives the whole
+pub record Left {A : Type 0} (w from many : ℕ) (over : ℕ → ℕ → A) (whole : A) (at i : ℕ) : Type 0 where
+  pub most : i ≤ many
+  pub place : at ≡ from + w * i
+  pub same : over at (many - i) ≡ whole
+
+left-starts : {A : Type 0} (w from many : ℕ) (over : ℕ → ℕ → A) → Left w from many over (over from many) from 0
+left-starts w from many over =
+    record { most = zero-le; place = rw (mul-zero w) (sym (add-zero from)); same = ap (over from) (sub-zero many) }
+
+module _ {A : Type 0} (w from many : ℕ) (over : ℕ → ℕ → A) (whole : A) (at i : ℕ) (left : Left w from many over whole at i) where
+  left-ends : many ≤ i → over at zero ≡ whole
+  left-ends h =
+      let e : many - i ≡ 0 = omega arith in
+      rw e at (left .same)
+
+  module _ (h : i < many) where
+    left-here : over at (suc (many - (i + 1))) ≡ whole
+    left-here =
+        let e : many - i ≡ suc (many - (i + 1)) = omega arith in
+        rw e at (left .same)
+
+    left-on : (next : ℕ → ℕ → A) → next (at + w) (many - (i + 1)) ≡ whole → Left w from many next whole (at + w) (i + 1)
+    left-on next e =
+        let m : w * (i + 1) ≡ w * i + w = rw (add-one i) (mul-suc w i) in
+        let p : at ≡ from + w * i = left .place in
+        record { most = omega arith; place = omega arith; same = e }
+
+-- ---- the depth along a model's steps
+
+-- none is open, so none can be closed
+pub none-closed : (d : ℕ) → d ≡ 0 → 0 ≡ d - 1
+none-closed d e = omega arith
+
+-- so many forks are open, and never more than may be
+pub stays-within : (d kind : ℕ) → d ≤ 8 → depthStays d kind ≡ true → depthAfter d kind ≤ 8
+unfolding depthStays depthAfter
+stays-within d kind h e = by-cases _ (eqb kind forkKind) fork other
+  where
+    fork : eqb kind forkKind ≡ true → depthAfter d kind ≤ 8
+    fork f =
+        let l : d < 8 = ltb-true d 8 (sym (if-true _ _ f) ∙ e) in
+        let k : d + 1 ≤ 8 = omega arith in
+        rw (if-true {b = eqb kind forkKind} (d + 1) (if eqb kind endforkKind then d - 1 else d) f) k
+
+    other : eqb kind forkKind ≡ false → depthAfter d kind ≤ 8
+    other f = rw (if-false {b = eqb kind forkKind} (d + 1) (if eqb kind endforkKind then d - 1 else d) f) (by-cases _ (eqb kind endforkKind) closes stays)
+      where
+        closes : eqb kind endforkKind ≡ true → (if eqb kind endforkKind then d - 1 else d) ≤ 8
+        closes g =
+            let k : d - 1 ≤ 8 = omega arith in
+            rw (if-true {b = eqb kind endforkKind} (d - 1) d g) k
+
+        stays : eqb kind endforkKind ≡ false → (if eqb kind endforkKind then d - 1 else d) ≤ 8
+        stays g = rw (if-false {b = eqb kind endforkKind} (d - 1) d g) h
+
+nothing-left : (d : ℕ) (table : List ℕ) (at : ℕ) → eqb d 0 ≡ depthHolds d (kindsFrom table at zero)
+unfolding depthHolds kindsFrom places
+nothing-left d table at = refl
+
+depth-cons :
+    (d : ℕ) (table : List ℕ) (at n : ℕ) →
+    depthHolds d (kindsFrom table at (suc n)) ≡ both (depthStays d (getD table at 0)) (depthHolds (depthAfter d (getD table at 0)) (kindsFrom table (at + 6) n))
+unfolding depthHolds kindsFrom places
+depth-cons d table at n = refl
+
+pub record DepthLeft (table : List ℕ) (from many depth at i : ℕ) : Type 0 where
+  pub deep : depth ≤ 8
+  pub most : i ≤ many
+  pub place : at ≡ from + 6 * i
+  pub same : depthHolds depth (kindsFrom table at (many - i)) ≡ depthHolds 0 (kindsFrom table from many)
+
+pub depth-starts : (table : List ℕ) (from many : ℕ) → DepthLeft table from many 0 from 0
+depth-starts table from many =
+    record { deep = zero-le; most = zero-le; place = omega arith; same = ap (λ (n : ℕ). depthHolds 0 (kindsFrom table from n)) (sub-zero many) }
+
+module _ (table : List ℕ) (from many depth at i : ℕ) (left : DepthLeft table from many depth at i) where
+  depth-left : Left 6 from many (λ (p n : ℕ). depthHolds depth (kindsFrom table p n)) (depthHolds 0 (kindsFrom table from many)) at i
+  depth-left = record { most = left .most; place = left .place; same = left .same }
+
+  pub depth-ends : many ≤ i → eqb depth 0 ≡ depthHolds 0 (kindsFrom table from many)
+  depth-ends h = nothing-left depth table at ∙ left-ends 6 from many _ _ at i depth-left h
+
+  module _ (h : i < many) (stays : Bool) (told : stays ≡ depthStays depth (getD table at 0)) where
+    pub depth-refused : not stays ≡ true → false ≡ depthHolds 0 (kindsFrom table from many)
+    depth-refused e =
+        sym (both-not-left _ _ (sym told ∙ not-true stays e)) ∙ sym (depth-cons depth table at (many - (i + 1))) ∙ left-here 6 from many _ _ at i depth-left h
+
+    pub depth-on : not stays ≡ false → (after : ℕ) → after ≡ depthAfter depth (getD table at 0) → DepthLeft table from many after (at + 6) (i + 1)
+    depth-on e after is = rw is on
+      where
+        kept : depthStays depth (getD table at 0) ≡ true
+        kept = sym told ∙ not-false stays e
+
+        goes : depthHolds (depthAfter depth (getD table at 0)) (kindsFrom table (at + 6) (many - (i + 1))) ≡ depthHolds 0 (kindsFrom table from many)
+        goes = sym (both-rest _ _ kept) ∙ sym (depth-cons depth table at (many - (i + 1))) ∙ left-here 6 from many _ _ at i depth-left h
+
+        next : Left 6 from many (λ (p n : ℕ). depthHolds (depthAfter depth (getD table at 0)) (kindsFrom table p n)) (depthHolds 0 (kindsFrom table from many)) (at + 6) (i + 1)
+        next = left-on 6 from many _ _ at i depth-left h _ goes
+
+        on : DepthLeft table from many (depthAfter depth (getD table at 0)) (at + 6) (i + 1)
+        on = record { deep = stays-within depth (getD table at 0) (left .deep) kept; most = next .most; place = next .place; same = next .same }
+
+-- ---- the values of a matrix
+
+rises-cons : (n : ℕ) (v : Value) (vs : List Value) → rises n (v ∷ vs) ≡ both (goesOn n (v ∷ vs)) (rises n vs)
+unfolding rises goesOn both
+rises-cons n v [] = both-last (isInside n v)
+  where
+    both-last : (b : Bool) → b ≡ both b true
+    both-last true = refl
+    both-last false = refl
+rises-cons n v (w ∷ vs) = both-first (isInside n v) (comesBefore v w) (rises n (w ∷ vs))
+  where
+    both-first : (a b c : Bool) → both a (both b c) ≡ both (both a b) c
+    both-first true b c = refl
+    both-first false b c = refl
+
+values-cons :
+    (table : List ℕ) (at n : ℕ) →
+    rises 256 (valuesFrom table at (suc n)) ≡ both (goesOn 256 (valuesFrom table at (suc n))) (rises 256 (valuesFrom table (at + 3) n))
+unfolding valuesFrom places
+values-cons table at n = rises-cons 256 (valueAt table at) (map (valueAt table) (places 3 (at + 3) n))
+
+pub no-values : (table : List ℕ) (at : ℕ) → true ≡ rises 256 (valuesFrom table at zero)
+unfolding valuesFrom places rises
+no-values table at = refl
+
+goes-one : (table : List ℕ) (at : ℕ) → goesOn 256 (valuesFrom table at (suc zero)) ≡ isInside 256 (valueAt table at)
+unfolding valuesFrom places goesOn
+goes-one table at = refl
+
+goes-two :
+    (table : List ℕ) (at n : ℕ) →
+    goesOn 256 (valuesFrom table at (suc (suc n))) ≡ both (isInside 256 (valueAt table at)) (comesBefore (valueAt table at) (valueAt table (at + 3)))
+unfolding valuesFrom places goesOn
+goes-two table at n = refl
+
+module _ (table : List ℕ) (at many : ℕ) (some : 1 ≤ many) (inside : Bool) (told : inside ≡ isInside 256 (valueAt table at)) where
+  pub goes-outside : not inside ≡ true → false ≡ goesOn 256 (valuesFrom table at many)
+  goes-outside e = outside many some (sym told ∙ not-true inside e)
+    where
+      outside : (n : ℕ) → 1 ≤ n → isInside 256 (valueAt table at) ≡ false → false ≡ goesOn 256 (valuesFrom table at n)
+      outside zero h f = absurd (not-suc-le-zero h)
+      outside (suc zero) h f = sym (goes-one table at ∙ f)
+      outside (suc (suc n)) h f = sym (goes-two table at n ∙ both-not-left _ _ f)
+
+  module _ (e : not inside ≡ false) where
+    pub goes-last : many ≡ 1 → true ≡ goesOn 256 (valuesFrom table at many)
+    goes-last one = rw one (sym (goes-one table at ∙ sym told ∙ not-false inside e))
+
+    pub goes-before : (many ≡ 1 → ⊥) → (before : Bool) → before ≡ comesBefore (valueAt table at) (valueAt table (at + 3)) → before ≡ goesOn 256 (valuesFrom table at many)
+    goes-before more before is = next many some more
+      where
+        next : (n : ℕ) → 1 ≤ n → (n ≡ 1 → ⊥) → before ≡ goesOn 256 (valuesFrom table at n)
+        next zero h k = absurd (not-suc-le-zero h)
+        next (suc zero) h k = absurd (k refl)
+        next (suc (suc n)) h k = is ∙ sym (goes-two table at n ∙ both-rest _ _ (sym told ∙ not-false inside e))
+
+abbrev pub RiseLeft : List ℕ → ℕ → ℕ → ℕ → ℕ → Type 0
+RiseLeft table from many at i = Left 3 from many (λ (p n : ℕ). rises 256 (valuesFrom table p n)) (rises 256 (valuesFrom table from many)) at i
+
+pub rise-starts : (table : List ℕ) (from many : ℕ) → RiseLeft table from many from 0
+rise-starts table from many = left-starts 3 from many (λ (p n : ℕ). rises 256 (valuesFrom table p n))
+
+module _ (table : List ℕ) (from many at i : ℕ) (left : RiseLeft table from many at i) where
+  pub rise-ends : many ≤ i → true ≡ rises 256 (valuesFrom table from many)
+  rise-ends h = no-values table at ∙ left-ends 3 from many _ _ at i left h
+
+  module _ (h : i < many) (goes : Bool) (told : goes ≡ goesOn 256 (valuesFrom table at (many - i))) where
+    goes-here : goes ≡ goesOn 256 (valuesFrom table at (suc (many - (i + 1))))
+    goes-here =
+        let e : many - i ≡ suc (many - (i + 1)) = omega arith in
+        rw e at told
+
+    pub rise-refused : not goes ≡ true → false ≡ rises 256 (valuesFrom table from many)
+    rise-refused e = sym (both-not-left _ _ (sym goes-here ∙ not-true goes e)) ∙ sym (values-cons table at (many - (i + 1))) ∙ left-here 3 from many _ _ at i left h
+
+    pub rise-on : not goes ≡ false → RiseLeft table from many (at + 3) (i + 1)
+    rise-on e = left-on 3 from many _ _ at i left h _ (sym (both-rest _ _ (sym goes-here ∙ not-false goes e)) ∙ sym (values-cons table at (many - (i + 1))) ∙ left-here 3 from many _ _ at i left h)
+
+-- ---- the records of a part
+
+widths-some : (part : ℕ) → part < 7 → 1 ≤ getD widths part 0
+widths-some zero h = omega arith
+widths-some (suc zero) h = omega arith
+widths-some (suc (suc zero)) h = omega arith
+widths-some (suc (suc (suc zero))) h = omega arith
+widths-some (suc (suc (suc (suc zero)))) h = omega arith
+widths-some (suc (suc (suc (suc (suc zero))))) h = omega arith
+widths-some (suc (suc (suc (suc (suc (suc zero)))))) h = omega arith
+widths-some (suc (suc (suc (suc (suc (suc (suc part))))))) h = absurd (omega arith)
+
+-- i of them are gone over, and the test of those left gives the test of all
+pub record PartLeft (bytes : ℕ) (table : List ℕ) (v : View) (part at i : ℕ) : Type 0 where
+  pub most : i ≤ countOf v part
+  pub place : at ≡ baseOf v part + getD widths part 0 * i
+  pub same : every (isRecord bytes table v part) (places (getD widths part 0) at (countOf v part - i)) ≡ areRecords bytes table v part
+
+module _ (bytes : ℕ) (table : List ℕ) (v : View) (part : ℕ) where
+  abbrev test : ℕ → Bool
+  test = isRecord bytes table v part
+
+  abbrev width : ℕ
+  width = getD widths part 0
+
+  none-left : (at : ℕ) → true ≡ every test (places width at zero)
+  unfolding every places
+  none-left at = refl
+
+  one-more : (at n : ℕ) → every test (places width at (suc n)) ≡ both (test at) (every test (places width (at + width) n))
+  unfolding every places
+  one-more at n = refl
+
+  pub part-starts : PartLeft bytes table v part (baseOf v part) 0
+  unfolding areRecords placesOf
+  part-starts =
+      let l : Left width (baseOf v part) (countOf v part) (λ (p n : ℕ). every test (places width p n)) (areRecords bytes table v part) (baseOf v part) 0 =
+      left-starts width (baseOf v part) (countOf v part) (λ (p n : ℕ). every test (places width p n)) in
+      record { most = l .most; place = l .place; same = l .same }
+
+  module _ (at i : ℕ) (left : PartLeft bytes table v part at i) where
+    part-left : Left width (baseOf v part) (countOf v part) (λ (p n : ℕ). every test (places width p n)) (areRecords bytes table v part) at i
+    part-left = record { most = left .most; place = left .place; same = left .same }
+
+    pub part-ends : countOf v part ≤ i → true ≡ areRecords bytes table v part
+    part-ends h = none-left at ∙ left-ends width (baseOf v part) (countOf v part) _ _ at i part-left h
+
+    -- the record at hand lies inside
+    module _ (rooms : Rooms table v) (p : part < 7) (h : i < countOf v part) where
+      reaches : at + width ≤ length table × width * i + width ≤ length table
+      reaches =
+          let e : at ≡ baseOf v part + width * i = left .place in
+          let m : width * suc i ≤ width * countOf v part = mul-le-mul (le-refl width) h in
+          let s : width * suc i ≡ width * i + width = mul-suc width i in
+          let r : baseOf v part + width * countOf v part ≤ length table = rooms .room part p in
+          (omega arith, omega arith)
+
+      pub record-room : (blocks : List ℕ) → ValueReaches table v blocks → Rooms table v × ValueReaches table v blocks × (part < 7) × (at + width ≤ length table)
+      record-room blocks known = (rooms, known, p, reaches .0)
+
+      pub place-fits : length table * 8 < 2 ^ 63 → Fits w64 (at + width)
+      place-fits l = omega (arith, reaches .0)
+
+      pub index-fits : length table * 8 < 2 ^ 63 → Fits w64 (i + 1)
+      index-fits l =
+          let s : 1 ≤ width = widths-some part p in
+          let m : 1 * i ≤ width * i = mul-le-mul s (le-refl i) in
+          omega (arith, reaches .1)
+
+    module _ (h : i < countOf v part) (sound : Bool) (told : sound ≡ isRecord bytes table v part at) where
+      part-here : both (test at) (every test (places width (at + width) (countOf v part - (i + 1)))) ≡ areRecords bytes table v part
+      part-here = sym (one-more at (countOf v part - (i + 1))) ∙ left-here width (baseOf v part) (countOf v part) _ _ at i part-left h
+
+      pub part-refused : not sound ≡ true → false ≡ areRecords bytes table v part
+      part-refused e = sym (both-not-left _ _ (sym told ∙ not-true sound e)) ∙ part-here
+
+      pub part-on : not sound ≡ false → PartLeft bytes table v part (at + width) (i + 1)
+      part-on e =
+          let l : Left width (baseOf v part) (countOf v part) (λ (p n : ℕ). every test (places width p n)) (areRecords bytes table v part) (at + width) (i + 1) =
+          left-on width (baseOf v part) (countOf v part) _ _ at i part-left h _ (sym (both-rest _ _ (sym told ∙ not-false sound e)) ∙ part-here) in
+          record { most = l .most; place = l .place; same = l .same }
+
+-- ---- the parts
+
+pub record PartsLeft (bytes : ℕ) (table : List ℕ) (v : View) (part : ℕ) : Type 0 where
+  pub most : part ≤ 7
+  pub same : areParts bytes table v part (7 - part) ≡ areParts bytes table v 0 7
+
+none-of : (bytes : ℕ) (table : List ℕ) (v : View) (part : ℕ) → true ≡ areParts bytes table v part zero
+unfolding areParts
+none-of bytes table v part = refl
+
+parts-cons :
+    (bytes : ℕ) (table : List ℕ) (v : View) (part n : ℕ) →
+    areParts bytes table v part (suc n) ≡ both (areRecords bytes table v part) (areParts bytes table v (part + 1) n)
+unfolding areParts
+parts-cons bytes table v part n = refl
+
+module _ (bytes : ℕ) (table : List ℕ) (v : View) where
+  pub parts-start : PartsLeft bytes table v 0
+  parts-start = record { most = zero-le; same = refl }
+
+  module _ (part : ℕ) (left : PartsLeft bytes table v part) where
+    pub parts-end : 7 ≤ part → true ≡ areParts bytes table v 0 7
+    parts-end h =
+        let e : 7 - part ≡ 0 = omega arith in
+        no-parts ∙ ap (areParts bytes table v part) (sym e) ∙ left .same
+      where
+        no-parts : true ≡ areParts bytes table v part zero
+        no-parts = none-of bytes table v part
+
+    module _ (h : part < 7) (sound : Bool) (told : sound ≡ areRecords bytes table v part) where
+      parts-here : both (areRecords bytes table v part) (areParts bytes table v (part + 1) (7 - (part + 1))) ≡ areParts bytes table v 0 7
+      parts-here =
+          let e : 7 - part ≡ suc (7 - (part + 1)) = omega arith in
+          sym (parts-cons bytes table v part (7 - (part + 1))) ∙ ap (areParts bytes table v part) (sym e) ∙ left .same
+
+      pub parts-refused : not sound ≡ true → false ≡ areParts bytes table v 0 7
+      parts-refused e = sym (both-not-left _ _ (sym told ∙ not-true sound e)) ∙ parts-here
+
+      pub parts-on : not sound ≡ false → PartsLeft bytes table v (part + 1)
+      parts-on e = record { most = omega arith; same = sym (both-rest _ _ (sym told ∙ not-false sound e)) ∙ parts-here }
+
+-- ---- the words after the last
+
+zeros-cons : (w : ℕ) (ws : List ℕ) → areZeros (w ∷ ws) ≡ both (eqb w 0) (areZeros ws)
+unfolding areZeros every
+zeros-cons w ws = refl
+
+no-words : true ≡ areZeros []
+unfolding areZeros every
+no-words = refl
+
+module _ (table : List ℕ) (i : ℕ) (whole : Bool) (left : areZeros (drop i table) ≡ whole) where
+  pub zeros-end : length table ≤ i → true ≡ whole
+  zeros-end h = no-words ∙ ap areZeros (sym (drop-of-length-le table h)) ∙ left
+
+  module _ (h : i < length table) where
+    zeros-here : both (eqb (getD table i 0) 0) (areZeros (drop (i + 1) table)) ≡ whole
+    zeros-here = rw (add-one i) (sym (zeros-cons _ _) ∙ ap areZeros (sym (drop-cons table i 0 h)) ∙ left)
+
+    pub zeros-refused : (getD table i 0 ≡ 0 → ⊥) → false ≡ whole
+    zeros-refused e = sym (both-not-left _ _ (ne-eqb _ _ e)) ∙ zeros-here
+
+    pub zeros-on : getD table i 0 ≡ 0 → areZeros (drop (i + 1) table) ≡ whole
+    zeros-on e = sym (both-rest _ _ (eq-eqb _ _ e)) ∙ zeros-here

@@ -1,0 +1,55 @@
+-- `ask_sound::zeros_from` meets its contract. The loop's invariant: the words left give what all of them give.
+-- Assumes nothing.
+use Prim.Native.Nat.{_-_}
+use mathlib.Core.Path.{_≡_}
+use lib.ListN.{length, drop}
+use borrow.Author.Needs.{needs}
+use Rattle.ask_sound.specs.Sound.{areZeros}
+use Rattle.ask_sound.proofs.LoopLaws.{zeros-end, zeros-refused, zeros-on}
+use Rattle.ask_sound.proofs.zeros_from.Statement.{statement}
+use Rattle.ask_sound.proofs.zeros_from.Tie as tie
+
+abbrev Inv-loop : tie.InvT-loop
+Inv-loop table from i₀ i = areZeros (drop i table) ≡ areZeros (drop from table)
+
+abbrev μ-loop : tie.MeasureT-loop
+μ-loop table from i₀ i = length table - i
+
+loop-holds : tie.Need-loop-holds Inv-loop μ-loop
+loop-holds c = search needs
+
+mul-if1 : tie.Need-mul-if1 Inv-loop μ-loop
+mul-if1 c = search needs
+
+shared-slice-read-if1 : tie.Need-shared-slice-read-if1 Inv-loop μ-loop
+shared-slice-read-if1 c = search needs
+
+returns : tie.Need-returns Inv-loop μ-loop
+returns c = search zeros-refused
+
+add-i : tie.Need-add-i Inv-loop μ-loop
+add-i c = search needs
+
+loop-less : tie.Need-loop-less Inv-loop μ-loop
+loop-less c = search needs
+
+loop-again : tie.Need-loop-again Inv-loop μ-loop
+loop-again c = search zeros-on
+
+returns-2 : tie.Need-returns-2 Inv-loop μ-loop
+returns-2 c = search zeros-end
+
+pub zeros-from-spec : {M : Type 1} → statement M
+zeros-from-spec =
+    tie.close
+    (tie.spec
+    Inv-loop
+    μ-loop
+    loop-holds
+    mul-if1
+    shared-slice-read-if1
+    returns
+    add-i
+    loop-less
+    loop-again
+    returns-2)

@@ -1,0 +1,140 @@
+-- Document 01, "The table", from "Sound": what a text and a table handed in must be like, so that questions over them have answers. Every
+-- record is judged; lines are not. All sums are exact, none wraps.
+-- Assumes nothing.
+use Prim.Native.Nat.{ℕ, _+_, _-_}
+use mathlib.Core.Bool.{Bool, true}
+use mathlib.Core.List.{List, [], _∷_, map}
+use lib.ListN.{length, take, drop, getD}
+use lib.Dec.{leb, ltb, eqb}
+use Rattle.base.specs.If.{if_then_else_, both}
+use Rattle.base.specs.Bytes.{within}
+use Rattle.lex_number.specs.ValueWord.{isValueWord}
+use Rattle.line_path.specs.Path.{deepest}
+use Rattle.doc.specs.Document.{Value, endKind, sectionKind, forkKind, endforkKind}
+use Rattle.doc.specs.Records.{
+  ModelRecord,
+  StepRecord,
+  MapRecord,
+  PinRecord,
+  SectionRecord,
+  MatrixRecord,
+  Records,
+  recordsOf,
+}
+use Rattle.doc.specs.Holds.{rises}
+use Rattle.view.specs.View.{viewOf}
+use Rattle.record.specs.Tests.{isRange, isNameIn, hasNoSide, isSide, amountFits, isGrid, isBandwidth}
+
+-- each of a list passes the test
+unfoldable pub every : {A : Type 0} → (A → Bool) → List A → Bool
+every test [] = true
+every test (x ∷ xs) = both (test x) (every test xs)
+
+-- those of a range
+abbrev pub range : {A : Type 0} → ℕ → ℕ → List A → List A
+range first many xs = take many (drop first xs)
+
+-- ---- models
+
+-- a step of this kind may come where d forks are open: a fork opens one more, an endfork closes one
+unfoldable pub depthStays : ℕ → ℕ → Bool
+depthStays d kind = if eqb kind forkKind then ltb d deepest else if eqb kind endforkKind then ltb 0 d else true
+
+unfoldable pub depthAfter : ℕ → ℕ → ℕ
+depthAfter d kind = if eqb kind forkKind then d + 1 else if eqb kind endforkKind then d - 1 else d
+
+-- "each model's depth stays 0 to 8 and ends at 0": along steps of these kinds, d forks being open
+unfoldable pub depthHolds : ℕ → List ℕ → Bool
+depthHolds d [] = eqb d 0
+depthHolds d (kind ∷ kinds) = both (depthStays d kind) (depthHolds (depthAfter d kind) kinds)
+
+-- all steps of the table being of these kinds
+unfoldable pub isModel : ℕ → List ℕ → ModelRecord → Bool
+isModel bytes kinds m =
+    both (isNameIn bytes (m .start) (m .size))
+    (both (ltb (m .type) 3)
+    (both (isRange (m .first) (m .steps) (length kinds)) (depthHolds 0 (range (m .first) (m .steps) kinds))))
+
+-- ---- steps
+
+-- there being so many maps
+unfoldable pub isEnd : ℕ → ℕ → StepRecord → Bool
+isEnd bytes maps s = both (ltb (s .target) maps) (both (eqb (s .amount) 0) (isSide bytes (s .side) (s .sideSize)))
+
+-- the sections being of these methods
+unfoldable pub isSectionStep : List ℕ → StepRecord → Bool
+isSectionStep methods s =
+    both (ltb (s .target) (length methods))
+    (both (amountFits (getD methods (s .target) 0) (s .amount)) (hasNoSide (s .side) (s .sideSize)))
+
+-- "words told to be 0 are 0": a fork's and an endfork's target, amount and side
+unfoldable pub isForkStep : StepRecord → Bool
+isForkStep s = both (eqb (s .target) 0) (both (eqb (s .amount) 0) (hasNoSide (s .side) (s .sideSize)))
+
+unfoldable pub isStep : ℕ → ℕ → List ℕ → StepRecord → Bool
+isStep bytes maps methods s =
+    if eqb (s .kind) endKind then isEnd bytes maps s else
+    if eqb (s .kind) sectionKind then isSectionStep methods s else
+    both (ltb (s .kind) 4) (isForkStep s)
+
+-- ---- maps and pins
+
+-- there being so many pins; "256 a map"
+unfoldable pub isMap : ℕ → ℕ → MapRecord → Bool
+isMap bytes pins m =
+    both (isNameIn bytes (m .start) (m .size))
+    (both (ltb (m .order) 3)
+    (both (isGrid (m .order) (m .rows) (m .columns)) (both (isRange (m .first) (m .pins) pins) (leb (m .pins) 256))))
+
+unfoldable pub isPin : ℕ → PinRecord → Bool
+isPin bytes p = isNameIn bytes (p .start) (p .size)
+
+-- ---- sections, matrices and values
+
+-- "R L G C each matrix index plus 1 or 0", there being so many matrices
+unfoldable pub areMatrices : ℕ → SectionRecord → Bool
+areMatrices matrices s =
+    both (leb (s .resistance) matrices)
+    (both (leb (s .inductance) matrices) (both (leb (s .conductance) matrices) (leb (s .capacitance) matrices)))
+
+unfoldable pub isSection : ℕ → ℕ → SectionRecord → Bool
+isSection bytes matrices s =
+    both (isNameIn bytes (s .start) (s .size))
+    (both (ltb (s .method) 2) (both (within 1 256 (s .conductors)) (areMatrices matrices s)))
+
+-- "a matrix's values rising strictly with 1 <= row <= column <= 256", these being the values of the table
+unfoldable pub isMatrix : List Value → MatrixRecord → Bool
+isMatrix values m =
+    both (ltb (m .form) 4)
+    (both (isBandwidth (m .form) (m .bandwidth))
+    (both (isRange (m .first) (m .values) (length values)) (rises 256 (range (m .first) (m .values) values))))
+
+-- "value words as above"
+unfoldable pub isValue : Value → Bool
+isValue v = isValueWord (v .word)
+
+-- ---- the whole
+
+unfoldable pub kindsOf : List StepRecord → List ℕ
+kindsOf steps = map (λ (s : StepRecord). s .kind) steps
+
+unfoldable pub methodsOf : List SectionRecord → List ℕ
+methodsOf sections = map (λ (s : SectionRecord). s .method) sections
+
+-- the records of a table, over a text of so many bytes
+unfoldable pub areSound : ℕ → Records → Bool
+areSound bytes r =
+    both (every (isModel bytes (kindsOf (r .steps))) (r .models))
+    (both (every (isStep bytes (length (r .maps)) (methodsOf (r .sections))) (r .steps))
+    (both (every (isMap bytes (length (r .pins))) (r .maps))
+    (both (every (isPin bytes) (r .pins))
+    (both (every (isSection bytes (length (r .matrices))) (r .sections))
+    (both (every (isMatrix (r .values)) (r .matrices)) (every isValue (r .values)))))))
+
+unfoldable pub areZeros : List ℕ → Bool
+areZeros words = every (λ (w : ℕ). eqb w 0) words
+
+-- "counts within bounds (matrices 1,024) and the table long enough, all words after zero"
+unfoldable pub isSound : List ℕ → List ℕ → Bool
+isSound t table =
+    both (viewOf table .fits) (both (areZeros (drop (viewOf table .end) table)) (areSound (length t) (recordsOf table)))

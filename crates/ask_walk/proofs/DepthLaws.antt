@@ -1,0 +1,100 @@
+-- The depth of a place in range, over a sound table: at most 8, and never below 0. A walk therefore meets no Fork that may not be opened and no
+-- Endfork with nothing to close, and needs no refusal of its own for them.
+-- Assumes nothing.
+use mathlib.Core.Path.{_≡_, refl, _∙_}
+use mathlib.Core.Bool.{true}
+use mathlib.Core.List.{List, [], _∷_, map}
+use Prim.Native.Nat.{ℕ, zero, suc, _+_, _-_, _≤_, _<_}
+use native.Mathlib.Omega.{arith}
+use lib.ListN.{length, take, drop, getD, length-drop}
+use lib.Seq.{getD-drop, getD-take, length-take-le}
+use borrow.Author.Tests.{eq-eqb, le-leb, lt-ltb, ltb-true}
+use Rattle.base.proofs.IfLaws.{both-true, both-first, both-second}
+use Rattle.line_path.specs.Path.{deepest}
+use Rattle.doc.specs.Document.{forkKind, endforkKind}
+use Rattle.doc.specs.Records.{StepRecord, Records, recordsOf}
+use Rattle.ask_sound.specs.Sound.{range, depthStays, kindsOf, isSound}
+use Rattle.ask_walk.specs.declared.Place.{Place}
+use Rattle.ask_walk.specs.Walk.{noRecord, modelOf, stepOf, countKind, isDepth, kindsBefore, isPlace}
+use Rattle.ask_walk.proofs.KindLaws.{fork-below, endfork-above, closes-most, depth-counts, depth-most, step-may-come}
+use Rattle.ask_walk.proofs.ReadyLaws.{RightModel, right-model}
+
+kind-at : (ss : List StepRecord) (i : ℕ) → getD (map (λ (s : StepRecord). s .kind) ss) i 0 ≡ getD ss i noRecord .kind
+kind-at [] i = refl
+kind-at (s ∷ ss) zero = refl
+kind-at (s ∷ ss) (suc i) = kind-at ss i
+
+-- the kinds of all steps of the model that a place names
+abbrev pub pathKinds : Records → Place → List ℕ
+pathKinds r p = range (modelOf r p .first) (modelOf r p .steps) (kindsOf (r .steps))
+
+module _ (t table : List ℕ) (sound : isSound t table ≡ true) where
+  abbrev r : Records
+  r = recordsOf table
+
+  module _ (p : Place) (has : p .model < length (r .models)) where
+    right : RightModel r (p .model)
+    right = right-model t table sound (p .model) has
+
+    -- before any step of a model no more forks are closed than are opened
+    pub never-below : countKind endforkKind (kindsBefore r p) ≤ countKind forkKind (kindsBefore r p)
+    unfolding kindsBefore
+    never-below = closes-most (pathKinds r p) (right .depth) (p .step)
+
+    -- so that at every step of it a depth is in range: opens less closes
+    pub has-depth :
+        p .step ≤ modelOf r p .steps →
+        isPlace r (record { model = p .model; step = p .step; depth = countKind forkKind (kindsBefore r p) - countKind endforkKind (kindsBefore r p) }) ≡ true
+    unfolding isPlace isDepth kindsBefore
+    has-depth h =
+        let few : countKind endforkKind (kindsBefore r p) ≤ countKind forkKind (kindsBefore r p) = never-below in
+        let e : countKind forkKind (kindsBefore r p) - countKind endforkKind (kindsBefore r p) + countKind endforkKind (kindsBefore r p) ≡ countKind forkKind (kindsBefore r p) = omega arith in
+        both-true _ _ (lt-ltb _ _ has) (both-true _ _ (le-leb _ _ h) (eq-eqb _ _ e))
+
+  module _ (p : Place) (in-range : isPlace r p ≡ true) where
+    pub has-model : p .model < length (r .models)
+    unfolding isPlace
+    has-model = ltb-true (p .model) (length (r .models)) (both-first _ _ in-range)
+
+    abbrev kinds : List ℕ
+    kinds = pathKinds r p
+
+    depth-right : isDepth (p .depth) (take (p .step) kinds) ≡ true
+    unfolding isPlace kindsBefore
+    depth-right = both-second _ _ (both-second _ _ in-range)
+
+    -- "the depth is opens less closes before it"
+    pub its-depth : p .depth + countKind endforkKind (take (p .step) kinds) ≡ countKind forkKind (take (p .step) kinds)
+    its-depth = depth-counts kinds (right p has-model .depth) (p .step) (p .depth) depth-right
+
+    -- no place in range is deeper than 8
+    pub at-most : p .depth ≤ deepest
+    at-most = depth-most kinds (right p has-model .depth) (p .step) (p .depth) depth-right
+
+    module _ (more : p .step < modelOf r p .steps) where
+      its-steps : length kinds ≡ modelOf r p .steps
+      its-steps =
+          let i : modelOf r p .first + modelOf r p .steps ≤ length (kindsOf (r .steps)) = right p has-model .inside in
+          let l : length (drop (modelOf r p .first) (kindsOf (r .steps))) ≡ length (kindsOf (r .steps)) - modelOf r p .first = length-drop (modelOf r p .first) (kindsOf (r .steps)) in
+          let h : modelOf r p .steps ≤ length (drop (modelOf r p .first) (kindsOf (r .steps))) = omega arith in
+          length-take-le _ _ h
+
+      pub has-step : p .step < length kinds
+      has-step = rw its-steps more
+
+      pub step-kind : getD kinds (p .step) 0 ≡ stepOf r p .kind
+      unfolding stepOf kindsOf
+      step-kind =
+          getD-take (modelOf r p .steps) (drop (modelOf r p .first) (kindsOf (r .steps))) (p .step) 0 more
+          ∙ getD-drop (modelOf r p .first) (kindsOf (r .steps)) (p .step) 0 ∙ kind-at (r .steps) (modelOf r p .first + p .step)
+
+      pub may-be-here : depthStays (p .depth) (stepOf r p .kind) ≡ true
+      may-be-here = rw step-kind at (step-may-come kinds (right p has-model .depth) (p .step) (p .depth) depth-right has-step)
+
+      -- where the step is a Fork, one more may be opened
+      pub fork-opens : stepOf r p .kind ≡ forkKind → p .depth < deepest
+      fork-opens e = fork-below (p .depth) (stepOf r p .kind) may-be-here (eq-eqb _ _ e)
+
+      -- where it is an Endfork, one is open
+      pub endfork-closes : stepOf r p .kind ≡ endforkKind → 0 < p .depth
+      endfork-closes e = endfork-above (p .depth) (stepOf r p .kind) may-be-here (eq-eqb _ _ e)

@@ -1,0 +1,57 @@
+-- What the kinds of lines break, put together: with the list first where it breaks something, without it where it does not.
+-- Assumes nothing.
+use mathlib.Core.Path.{_≡_, refl, sym, _∙_, ap}
+use mathlib.Core.List.{List}
+use Prim.Native.Nat.{ℕ, _≤_, _<_}
+use native.Mathlib.Nat.{le-of-lt}
+use Rattle.doc.specs.Document.{documentOf}
+use Rattle.cross_rules.specs.Rules.{
+  listFindings,
+  modelFindings,
+  mapFindings,
+  sectionFindings,
+  firstIn,
+  earlier,
+  crossRule,
+}
+use Rattle.cross_rules.specs.Filled.{Filled}
+use Rattle.cross_rules.specs.declared.Finding.{Finding}
+use Rattle.cross_rules.proofs.KindLaws.{by-kinds, earlier-second, earlier-first, earlier-lower}
+use Rattle.cross_rules.proofs.ListLaws.{list-first}
+
+module _ (a b : Finding) where
+  pub second-stays : a .number ≡ 0 → b ≡ earlier a b
+  second-stays e = sym (earlier-second a b e)
+
+  module _ (n : a .number ≡ 0 → ⊥) where
+    pub first-alone : b .number ≡ 0 → a ≡ earlier a b
+    first-alone e = sym (earlier-first a b n (λ m. absurd (m e)))
+
+    pub second-above : (b .number ≡ 0 → ⊥) → b .line < a .line → b ≡ earlier a b
+    second-above m l = sym (earlier-lower a b n m l)
+
+    pub first-above : a .line ≤ b .line → a ≡ earlier a b
+    first-above l = sym (earlier-first a b n (λ m. l))
+
+module _ (t table : List ℕ) (filled : Filled t table) (number line : ℕ) (maps : Finding)
+    (list-is : record { number = number; line = line } ≡ firstIn (listFindings (documentOf t)))
+    (maps-are : maps ≡ firstIn (mapFindings (documentOf t) (documentOf t .maps))) where
+  abbrev list : Finding
+  list = record { number = number; line = line }
+
+  number-is : number ≡ firstIn (listFindings (documentOf t)) .number
+  number-is = ap (λ (f : Finding). f .number) list-is
+
+  pub with-the-list : (number ≡ 0 → ⊥) → (r : Finding) → r ≡ earlier list maps → r ≡ crossRule (documentOf t)
+  with-the-list n r e =
+      e ∙ (λ i. earlier (list-is i) (maps-are i))
+      ∙ sym (list-first t (filled .counts) (filled .reads) (λ (z : firstIn (listFindings (documentOf t)) .number ≡ 0). n (number-is ∙ z)))
+
+  pub without-the-list :
+      number ≡ 0 → (models sections below r : Finding) →
+      models ≡ firstIn (modelFindings (documentOf t) (documentOf t .models)) →
+      sections ≡ firstIn (sectionFindings (documentOf t) 0 (documentOf t .sections)) → below ≡ earlier maps sections →
+      r ≡ earlier models below → r ≡ crossRule (documentOf t)
+  without-the-list z models sections below r models-are sections-are below-is e =
+      e ∙ ap (earlier models) below-is ∙ (λ i. earlier (models-are i) (earlier (maps-are i) (sections-are i)))
+      ∙ sym (earlier-second (firstIn (listFindings (documentOf t))) _ (sym number-is ∙ z)) ∙ sym (by-kinds t)

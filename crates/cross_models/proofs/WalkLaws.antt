@@ -1,0 +1,117 @@
+-- Laws of the models gone over: those that are left give what all of them break first.
+-- Assumes nothing.
+use mathlib.Core.Path.{_≡_, refl, sym, _∙_, ap}
+use mathlib.Core.Bool.{Bool}
+use mathlib.Core.List.{List, [], _∷_, _++_, map}
+use Prim.Native.Nat.{ℕ, _+_, _≤_, _<_}
+use native.Mathlib.Omega.{arith}
+use lib.ListN.{length, drop, getD, drop-of-length-le}
+use Rattle.table_layout.specs.Layout.{models}
+use Rattle.view.specs.View.{viewOf}
+use Rattle.view.specs.declared.View.{View}
+use Rattle.doc.specs.Lines.{significant}
+use Rattle.doc.specs.Document.{Model, Document, documentOf}
+use Rattle.doc.specs.Holds.{Each}
+use Rattle.doc.specs.Holds.Each.{none, more}
+use Rattle.cross_rules.specs.Rules.{modelRule, modelFindings, firstIn, nothing}
+use Rattle.cross_rules.specs.Filled.{Filled}
+use Rattle.cross_rules.specs.Nth.{nthLine}
+use Rattle.cross_rules.specs.declared.Finding.{Finding}
+use Rattle.cross_rules.proofs.RisingLaws.{all-least}
+use Rattle.cross_rules.proofs.OrderLaws.{in-order}
+use Rattle.cross_rules.proofs.KindLaws.{first-here, first-later}
+use Rattle.cross_rules.proofs.NthLaws.{model-line}
+use Rattle.list.specs.Listed.{Listed}
+use Rattle.list.proofs.NamedLaws.{models-many}
+use Rattle.table_name.specs.Marks.{marksMany}
+use Rattle.cross_models.specs.Cursor.{Cursor}
+use Rattle.cross_models.specs.Models.{ModelRoom, modelRuleAt, belowFirst, Awaits, StepsTold}
+use Rattle.cross_models.specs.declared.StepsFinding.{StepsFinding}
+use Rattle.cross_models.proofs.CursorLaws.{cursor-starts}
+use Rattle.cross_models.proofs.StepsLaws.{Split, drop-to, model-here, room-there, rule-there}
+
+pub record ModelsLeft (t : List ℕ) (at number : ℕ) (marks : List ℕ) (i : ℕ) : Type 0 where
+  pub same :
+      firstIn (modelFindings (documentOf t) (drop i (documentOf t .models))) ≡ firstIn (modelFindings (documentOf t) (documentOf t .models))
+  pub cursor : Cursor t at number
+  pub low : Each (λ (f : Finding). number ≤ f .line) (modelFindings (documentOf t) (drop i (documentOf t .models)))
+  pub whole : length marks ≡ marksMany
+
+pub models-start : (t marks : List ℕ) → length marks ≡ marksMany → ModelsLeft t 0 1 marks 0
+models-start t marks whole =
+    record {
+      same = refl;
+      cursor = cursor-starts t;
+      low = all-least (λ (f : Finding). f .line) (modelFindings (documentOf t) (documentOf t .models)) (in-order t .in-models);
+      whole = whole;
+    }
+
+each-rest : {A : Type 0} {P : A → Type 0} {x : A} {xs : List A} → Each P (x ∷ xs) → Each P xs
+each-rest (more h hs) = hs
+
+line-at : (before : List Model) (m : Model) (behind : List Model) → getD (map (λ (x : Model). x .line) (before ++ (m ∷ behind))) (length before) 0 ≡ m .line
+line-at [] m behind = refl
+line-at (b ∷ before) m behind = line-at before m behind
+
+module _ (t table : List ℕ) (filled : Filled t table) (v : View) (is-view : v ≡ viewOf table) (at number : ℕ) (marks : List ℕ) (i : ℕ) (left : ModelsLeft t at number marks i) where
+  abbrev d : Document
+  d = documentOf t
+
+  pub models-end : getD (v .counts) models 0 ≤ i → record { number = 0; line = 0 } ≡ firstIn (modelFindings d (d .models))
+  unfolding firstIn nothing modelFindings
+  models-end h =
+      let k : length (d .models) ≤ i = rw (models-many t table filled v is-view) at h in
+      let e : drop i (d .models) ≡ [] = drop-of-length-le (d .models) k in
+      rw e at (left .same)
+
+  module _ (h : i < getD (v .counts) models 0) where
+    there : i < length (d .models)
+    there = rw (models-many t table filled v is-view) at h
+
+    abbrev here : Split (d .models) i
+    here = model-here t table filled v is-view i there
+
+    abbrev m : Model
+    m = here .one
+
+    abbrev own : Finding
+    own = record { number = modelRule d m; line = m .line }
+
+    findings-here : modelFindings d (drop i (d .models)) ≡ own ∷ belowFirst d (drop i (d .models))
+    unfolding modelFindings belowFirst
+    findings-here =
+        let e : drop i (d .models) ≡ m ∷ here .behind = drop-to (d .models) i here in
+        rw e
+
+    same-here : firstIn (own ∷ belowFirst d (drop i (d .models))) ≡ firstIn (modelFindings d (d .models))
+    same-here = ap firstIn (sym findings-here) ∙ left .same
+
+    pub asks-model : ModelRoom table v i
+    asks-model = room-there t table filled v is-view i there
+
+    module _ (listed : List Bool) (names : Listed d listed) (rule : ℕ) (is-rule : rule ≡ modelRuleAt t table v listed i) where
+      rule-is : rule ≡ modelRule d m
+      rule-is = is-rule ∙ rule-there t table filled v is-view i there listed names
+
+      pub model-breaks : (rule ≡ 0 → ⊥) → (line : ℕ) → line ≡ nthLine models i (significant t) → record { number = rule; line = line } ≡ firstIn (modelFindings d (d .models))
+      model-breaks n line is-line =
+          let l : line ≡ m .line =
+          is-line ∙ model-line t i ∙ (λ j. getD (map (λ (x : Model). x .line) (here .all j)) (here .place j) 0) ∙ line-at (here .before) m (here .behind) in
+          (λ j. record { number = rule-is j; line = l j }) ∙ sym (first-here own _ (λ (z : modelRule d m ≡ 0). n (rule-is ∙ z))) ∙ same-here
+
+      module _ (kept : rule ≡ 0) where
+        below-same : firstIn (belowFirst d (drop i (d .models))) ≡ firstIn (modelFindings d (d .models))
+        below-same = sym (first-later own _ (sym rule-is ∙ kept)) ∙ same-here
+
+        awaits-here : Awaits t i at number
+        awaits-here = record { there = there; cursor = left .cursor; low = each-rest (rw findings-here at (left .low)) }
+
+        pub asks-steps : Filled t table × (v ≡ viewOf table) × Awaits t i at number × (length marks ≡ marksMany)
+        asks-steps = (filled, is-view, awaits-here, left .whole)
+
+        module _ (found : StepsFinding) (told : StepsTold t i found) where
+          pub steps-break : (found .number ≡ 0 → ⊥) → record { number = found .number; line = found .line } ≡ firstIn (modelFindings d (d .models))
+          steps-break n = told .broken n ∙ below-same
+
+          pub models-on : found .number ≡ 0 → (after : List ℕ) → (found .number ≡ 0 → length after ≡ marksMany) → ModelsLeft t (found .at) (found .next) after (i + 1)
+          models-on z after whole = record { same = told .kept z ∙ below-same; cursor = told .cursor; low = told .low z; whole = whole z }

@@ -1,0 +1,33 @@
+-- `cross_models::model_rule` meets its contract.
+-- Assumes nothing.
+use Rattle.base.proofs.BrokenLaws.{rules}
+use Rattle.cross_models.specs.Models.{modelRuleAt}
+use borrow.Author.Needs.{needs}
+use Rattle.cross_models.proofs.model_rule.Statement.{statement}
+use Rattle.cross_models.proofs.model_rule.Tie as tie
+
+array-read-is-twice : tie.Need-array-read-is-twice
+array-read-is-twice c = search needs
+
+is-twice-requires : tie.Need-is-twice-requires
+is-twice-requires c κs = search needs
+
+returns : tie.Need-returns
+unfolding modelRuleAt
+returns c = search rules
+
+array-read-if2 : tie.Need-array-read-if2
+array-read-if2 c = search needs
+
+returns-2 : tie.Need-returns-2
+unfolding modelRuleAt
+returns-2 c = search rules
+
+returns-3 : tie.Need-returns-3
+unfolding modelRuleAt
+returns-3 c = search rules
+
+pub model-rule-spec : {M : Type 1} → statement M
+model-rule-spec =
+    tie.close
+    (tie.spec array-read-is-twice is-twice-requires returns array-read-if2 returns-2 returns-3)

@@ -1,0 +1,72 @@
+-- `cross_models::steps_finding` meets its contract. The loop's invariant: what is left of the steps, with the models behind, gives the whole.
+-- Assumes nothing.
+use borrow.Author.Needs.{needs}
+use Prim.Native.Nat.{_-_}
+use Rattle.cross_models.proofs.StepsLaws.{StepsLeft, room-asked, steps-start, steps-end, asks-line, asks-rule, step-breaks, steps-on}
+use Rattle.cross_models.proofs.steps_finding.Statement.{statement}
+use Rattle.cross_models.proofs.steps_finding.Tie as tie
+
+abbrev Inv-loop : tie.InvT-loop
+Inv-loop text table view marks₀ index at number owner count own₀ here₀ next₀ i₀ marks own here next i = StepsLeft text table view marks index owner count own here next i
+
+abbrev μ-loop : tie.MeasureT-loop
+μ-loop text table view marks₀ index at number owner count own₀ here₀ next₀ i₀ marks own here next i = count - i
+
+owner-of-requires : tie.Need-owner-of-requires Inv-loop μ-loop
+owner-of-requires c κs = search room-asked
+
+loop-holds : tie.Need-loop-holds Inv-loop μ-loop
+loop-holds c = search steps-start
+
+add-line : tie.Need-add-line Inv-loop μ-loop
+add-line c = search needs
+
+mul-line : tie.Need-mul-line Inv-loop μ-loop
+mul-line c = search needs
+
+shared-slice-read-line : tie.Need-shared-slice-read-line Inv-loop μ-loop
+shared-slice-read-line c = search needs
+
+tell-step-requires : tie.Need-tell-step-requires Inv-loop μ-loop
+tell-step-requires c κs = asks-line _ _ (c .before .before .before .before .before .before .pre .0) _ (c .before .before .before .before .before .before .pre .1) _ _ _ _ _ _ _ _ (c .before .before .loop .inv) (c .before .loop-test .taken)
+
+step-rule-requires : tie.Need-step-rule-requires Inv-loop μ-loop
+step-rule-requires c κs = asks-rule _ _ (c .before .before .before .before .before .before .before .before .pre .0) _ (c .before .before .before .before .before .before .before .before .pre .1) _ _ _ _ _ _ _ _ (c .before .before .before .before .loop .inv) (c .before .before .before .loop-test .taken)
+
+returns : tie.Need-returns Inv-loop μ-loop
+returns c = (search step-breaks, λ z. c .before .step-rule .ensures .marked z .whole)
+
+add-own : tie.Need-add-own Inv-loop μ-loop
+add-own c = search needs
+
+add-i : tie.Need-add-i Inv-loop μ-loop
+add-i c = search needs
+
+loop-less : tie.Need-loop-less Inv-loop μ-loop
+loop-less c = search needs
+
+loop-again : tie.Need-loop-again Inv-loop μ-loop
+loop-again c = search steps-on
+
+returns-2 : tie.Need-returns-2 Inv-loop μ-loop
+returns-2 c = (search steps-end, λ z. c .before .loop .inv .marked .whole)
+
+pub steps-finding-spec : {M : Type 1} → statement M
+steps-finding-spec =
+    tie.close
+    (tie.spec
+    Inv-loop
+    μ-loop
+    owner-of-requires
+    loop-holds
+    add-line
+    mul-line
+    shared-slice-read-line
+    tell-step-requires
+    step-rule-requires
+    returns
+    add-own
+    add-i
+    loop-less
+    loop-again
+    returns-2)

@@ -1,0 +1,300 @@
+// Rules 19 to 26 of models and their steps.
+ghost use mathlib.Core.Path.{_≡_};
+ghost use Prim.Native.Nat.{_+_, _*_, _≤_, _<_};
+ghost use lib.ListN.{length, getD};
+ghost use Rattle.line_path.specs.Path.{isMult};
+ghost use Rattle.table_layout.specs.Layout.{models};
+ghost use Rattle.view.specs.View.{viewOf};
+ghost use Rattle.doc.specs.Document.{documentOf};
+ghost use Rattle.doc.specs.Found.{Located, contentIn};
+ghost use Rattle.cross_rules.specs.Rules.{firstIn, modelFindings};
+ghost use Rattle.cross_rules.specs.Filled.{Filled};
+ghost use Rattle.list.specs.Listed.{Listed};
+ghost use Rattle.table_name.specs.Marks.{marksMany};
+ghost use Rattle.cross_models.specs.Cursor.{Cursor, Seeks, PastMult, Tells, TellsStep};
+ghost use Rattle.cross_models.specs.Models.{ModelRoom, ownerAt, modelRuleAt, Awaits, StepsTold};
+use doc::Found;
+use doc::Passed;
+use cross_rules::Finding;
+use cross_steps::Owner;
+use view::View;
+
+// "From `|` on, a line is comment".
+const COMMENT: u8 = b'|';
+
+// "19 TWICE", "20 LIST".
+const TWICE: u64 = 19;
+
+const LIST: u64 = 20;
+
+// "kind 0 end 1 section 2 fork 3 endfork".
+const SECTION: u64 = 1;
+
+// A mark that is the number of no model.
+const UNMARKED: u8 = 64;
+
+// How many words a record of a model has, and one of a step.
+const MODEL_WORDS: usize = 5;
+
+const STEP_WORDS: usize = 6;
+
+// Whether the line that was asked for says Mult, and where the search for the next one goes on.
+pub struct Told {
+    pub mult: bool,
+    pub at: usize,
+    pub number: u64,
+}
+
+// What the steps of a model break first, and where the search for the lines of the next model's steps goes on.
+pub struct StepsFinding {
+    pub number: u64,
+    pub line: u64,
+    pub at: usize,
+    pub next: u64,
+}
+
+// ---- what the table does not hold
+
+// "`Section Mult=n name`, `Section Len=v name`".
+fn is_mult(content: &[u8]) -> bool
+    ensures { λ r. ⌜ r ≡ isMult (now (content .entry)) ⌝ }
+{
+    let sign = lex_line::equals_at(content);
+    let left = &content[..sign];
+    let few = lex_line::few_words(left);
+    let unit = few.second;
+    lex_line::same_bytes(lex_line::marked(left, unit), b"Mult")
+}
+
+fn says_mult(text: &[u8], line: Found) -> bool
+    requires { ⌜ Located (now text) line ⌝ }
+    ensures { λ r. ⌜ r ≡ isMult (contentIn (now (text .entry)) line) ⌝ }
+{
+    let at = line.at;
+    let end = line.end;
+    is_mult(&text[at..end])
+}
+
+// Past the lines numbered below the one that is wanted: what they say is not looked at.
+fn past_lines(text: &[u8], at: usize, number: u64, wanted: u64) -> Passed
+    requires { ⌜ Cursor (now text) at number × (number ≤ wanted) ⌝ }
+    ensures { λ r. ⌜ Seeks (now (text .entry)) wanted (r .at) (r .number) ⌝ }
+{
+    let mut here = at;
+    let mut next = number;
+    while next < wanted {
+        if text.len() <= here {
+            return Passed {
+                at: here,
+                number: next,
+            };
+        }
+        let line = lex_line::line_at(text, here, COMMENT);
+        here = line.next;
+        next += 1;
+    }
+    Passed {
+        at: here,
+        number: next,
+    }
+}
+
+// Whether the line of a number is one of a Mult, looked for among the lines from here on that say something.
+fn seek_mult(text: &[u8], at: usize, number: u64, wanted: u64) -> Told
+    requires { ⌜ Seeks (now text) wanted at number ⌝ }
+    ensures { λ r. ⌜ Tells (now (text .entry)) wanted r ⌝ }
+{
+    let mut here = at;
+    let mut next = number;
+    loop {
+        let line = doc::next_line(text, here, next);
+        if !line.there {
+            return Told {
+                mult: false,
+                at: here,
+                number: next,
+            };
+        }
+        if wanted < line.number {
+            return Told {
+                mult: says_mult(text, line),
+                at: here,
+                number: next,
+            };
+        }
+        if wanted == line.number {
+            return Told {
+                mult: says_mult(text, line),
+                at: line.next,
+                number: line.number + 1,
+            };
+        }
+        here = line.next;
+        next = line.number + 1;
+    }
+}
+
+// Where the next line starts, if the line at a place opens with `Section Mult=`; else 0.
+fn past_mult(text: &[u8], at: usize) -> usize
+    ensures { λ r. ⌜ PastMult (now (text .entry)) at r ⌝ }
+{
+    if text.len() <= at {
+        return 0;
+    }
+    let line = lex_line::line_at(text, at, COMMENT);
+    let end = line.content;
+    if line_path::opens_mult(&text[at..end]) {
+        return line.next;
+    }
+    0
+}
+
+// Whether the line of a number is one of a Mult. The next search goes on behind that line, so that all of them together go over the text once.
+fn tell_mult(text: &[u8], at: usize, number: u64, wanted: u64) -> Told
+    requires { ⌜ Cursor (now text) at number × (number ≤ wanted) ⌝ }
+    ensures { λ r. ⌜ Tells (now (text .entry)) wanted r ⌝ }
+{
+    let passed = past_lines(text, at, number, wanted);
+    if passed.number == wanted {
+        let behind = past_mult(text, passed.at);
+        if behind != 0 {
+            return Told {
+                mult: true,
+                at: behind,
+                number: wanted + 1,
+            };
+        }
+    }
+    seek_mult(text, passed.at, passed.number, wanted)
+}
+
+// The same for a step. Of one that is not over a section it is not asked, and the search stays where it is.
+fn tell_step(text: &[u8], table: &[u64], own: usize, at: usize, number: u64) -> Told
+    requires { ⌜ (own + 6 ≤ length (now table)) × Cursor (now text) at number × (number ≤ getD (now table) (own + 5) 0) ⌝ }
+    ensures { λ r. ⌜ TellsStep (now (text .entry)) (now (table .entry)) own r ⌝ }
+{
+    if table[own] != SECTION {
+        return Told {
+            mult: false,
+            at,
+            number,
+        };
+    }
+    tell_mult(text, at, number, table[own + 5])
+}
+
+// ---- one model
+
+// A model by its number: 20 is asked of the first model of a name alone, whose flag the list raises.
+fn model_rule(text: &[u8], table: &[u64], view: View, listed: [bool; 65], index: u64) -> u64
+    requires { ⌜ ModelRoom (now table) view index ⌝ }
+    ensures { λ r. ⌜ r ≡ modelRuleAt (now (text .entry)) (now (table .entry)) view listed index ⌝ }
+{
+    let bases = view.bases;
+    if repeated::is_twice(text, table, bases[table_layout::MODELS], MODEL_WORDS, index) {
+        return TWICE;
+    }
+    let flag = index as usize;
+    if !listed[flag] {
+        return LIST;
+    }
+    0
+}
+
+// What a model says for its steps.
+fn owner_of(table: &[u64], view: View, index: u64) -> Owner
+    requires { ⌜ ModelRoom (now table) view index ⌝ }
+    ensures { λ r. ⌜ r ≡ ownerAt (now (table .entry)) view index ⌝ }
+{
+    let bases = view.bases;
+    let counts = view.counts;
+    let at = bases[table_layout::MODELS] + MODEL_WORDS * (index as usize);
+    let from = bases[table_layout::STEPS] + STEP_WORDS * (table[at + 3] as usize);
+    let many = table[at + 4];
+    Owner {
+        kind: table[at + 2],
+        from,
+        many,
+        first: cross_steps::first_target(table, counts[table_layout::MAPS], from, many),
+        stamp: index as u8,
+    }
+}
+
+// The first step of a model that breaks a rule.
+fn steps_finding(
+    text: &[u8],
+    table: &[u64],
+    view: View,
+    marks: &mut [u8; table_name::MARKS],
+    index: u64,
+    at: usize,
+    number: u64,
+) -> StepsFinding
+    requires { ⌜ Filled (now text) (now table) × (view ≡ viewOf (now table)) × Awaits (now text) index at number × (length (now marks) ≡ marksMany) ⌝ }
+    ensures { λ r. ⌜ StepsTold (now (text .entry)) index r × (r .number ≡ 0 → length (now (marks .exit)) ≡ marksMany) ⌝ }
+{
+    let owner = owner_of(table, view, index);
+    let count = owner.many;
+    let mut own = owner.from;
+    let mut here = at;
+    let mut next = number;
+    let mut i = 0;
+    while i < count {
+        let line = table[own + 5];
+        let told = tell_step(text, table, own, here, next);
+        let rule = cross_steps::step_rule(text, table, view, marks, owner, own, i, told.mult);
+        if rule != 0 {
+            return StepsFinding {
+                number: rule,
+                line,
+                at: told.at,
+                next: told.number,
+            };
+        }
+        here = told.at;
+        next = told.number;
+        own += STEP_WORDS;
+        i += 1;
+    }
+    StepsFinding {
+        number: 0,
+        line: 0,
+        at: here,
+        next,
+    }
+}
+
+// ---- all models
+
+// The first line of a model or of one of its steps that breaks a rule. The list breaks none, and `listed` says which models it names.
+pub fn model_finding(text: &[u8], table: &[u64], view: View, listed: [bool; 65]) -> Finding
+    requires { ⌜ Filled (now text) (now table) × (view ≡ viewOf (now table)) × Listed (documentOf (now text)) listed ⌝ }
+    ensures { λ r. ⌜ r ≡ firstIn (modelFindings (documentOf (now (text .entry))) (documentOf (now (text .entry)) .models)) ⌝ }
+{
+    let counts = view.counts;
+    let count = counts[table_layout::MODELS];
+    let mut at = 0;
+    let mut number = 1;
+    let mut marks = [UNMARKED; table_name::MARKS];
+    let mut i = 0;
+    while i < count {
+        let rule = model_rule(text, table, view, listed, i);
+        if rule != 0 {
+            return Finding {
+                number: rule,
+                line: cross_rules::nth_line(text, table_layout::MODELS, i),
+            };
+        }
+        let found = steps_finding(text, table, view, &mut marks, i, at, number);
+        if found.number != 0 {
+            return Finding {
+                number: found.number,
+                line: found.line,
+            };
+        }
+        at = found.at;
+        number = found.next;
+        i += 1;
+    }
+    Finding { number: 0, line: 0 }
+}

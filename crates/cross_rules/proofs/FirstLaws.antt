@@ -1,0 +1,389 @@
+-- The rules 19 to 27 over a document: nothing is given exactly where no line breaks a rule, and what is given is the least rule of the
+-- first line that breaks one.
+-- Assumes nothing.
+use mathlib.Core.Path.{_≡_, refl, sym, _∙_, ap, subst}
+use mathlib.Core.Bool.{Bool, true, false, not, true≢false}
+use mathlib.Core.List.{List, [], _∷_, _++_, map, map-append}
+use Prim.Native.Nat.{ℕ, _+_, _≤_, _<_}
+use native.Mathlib.Nat.{le-trans}
+use native.Mathlib.Omega.{arith}
+use lib.ListN.{length, getD}
+use lib.Dec.{eqb}
+use borrow.Author.Tests.{eqb-true, eqb-false}
+use Rattle.base.specs.If.{if_then_else_, both}
+use Rattle.base.specs.Broken.{Rule, _when_, firstBroken}
+use Rattle.base.proofs.IfLaws.{by-test, by-cases}
+use Rattle.base.proofs.BrokenLaws.{sound, Numbered, none-broken as tests-kept, all-kept as kept-tests, found-broken, found-least}
+use Rattle.base.proofs.BrokenLaws.{Rising as Ascending}
+use Rattle.doc.specs.Document.{Named, Step, Model, Map, Section, Document, documentOf, endKind, sectionKind}
+use Rattle.doc.specs.Holds.{Each}
+use Rattle.doc.specs.Holds.Each.{none, more}
+use Rattle.doc.proofs.StandsLaws.{each-append}
+use Rattle.cross_rules.specs.Rules.{
+  isTwice,
+  isThere,
+  modelName,
+  mapName,
+  sectionName,
+  listRule,
+  modelRule,
+  mapRule,
+  pinRule,
+  isUsed,
+  sectionRule,
+  pinsAt,
+  conductorsAt,
+  hasOtherForm,
+  mapIndex,
+  sectionIndex,
+  hasMap,
+  hasSection,
+  isClashing,
+  firstEnd,
+  differs,
+  endRule,
+  isWrongMethod,
+  isSingleLine,
+  sectionStepRule,
+  stepRule,
+  listFindings,
+  stepFindings,
+  modelFindings,
+  pinFindings,
+  mapFindings,
+  sectionFindings,
+  findings,
+  nothing,
+  earliest,
+  crossRule,
+}
+use Rattle.cross_rules.specs.Listed.{Looked, listRules, modelRules, mapRules, sectionRules, endRules, sectionStepRules, stepRules, pinRules, listLooked, stepLooked, modelLooked, pinLooked, mapLooked, sectionLooked, looked}
+use Rattle.cross_rules.specs.Listed.{Among}
+use Rattle.cross_rules.specs.Listed.Among.{front, further}
+use Rattle.cross_rules.specs.declared.Finding.{Finding}
+use Rattle.cross_rules.proofs.RisingLaws.{each-one}
+use Rattle.cross_rules.proofs.KindLaws.{earlier-second, earlier-one, earlier-other, earlier-breaks, earlier-line}
+use Rattle.cross_rules.proofs.ApartLaws.{one-finding}
+
+-- ---- what a list of rules gives
+
+-- their numbers rise, and none is 0
+record Ranked (rules : List Rule) : Type 0 where
+  numbered : Numbered rules
+  ascending : Ascending 1 rules
+
+-- a rule of the list has the number, and its test is true
+abbrev pub FoundIn : ℕ → List Rule → Type 0
+FoundIn number rules = (i : ℕ) × (i < length rules) × (getD rules i sound .broken ≡ true) × (getD rules i sound .number ≡ number)
+
+-- 0 exactly where no test is true, else the least number whose test is
+pub record Judged (number : ℕ) (rules : List Rule) : Type 0 where
+  pub kept : number ≡ 0 → (i : ℕ) → getD rules i sound .broken ≡ false
+  pub holds : ((i : ℕ) → getD rules i sound .broken ≡ false) → number ≡ 0
+  pub found : 0 < number → FoundIn number rules
+  pub least : (i : ℕ) → i < length rules → getD rules i sound .broken ≡ true → number ≤ getD rules i sound .number
+
+judged : (rules : List Rule) → Ranked rules → Judged (firstBroken rules) rules
+judged rules r =
+    record {
+      kept = kept-tests rules (r .numbered);
+      holds = tests-kept rules;
+      found = found-broken rules (firstBroken rules) refl;
+      least = found-least rules 1 (r .ascending);
+    }
+
+module _ (d : Document) where
+  list-ranked : (n : Named) → Ranked (listRules d n)
+  list-ranked n = record { numbered = (omega arith, (omega arith, tt)); ascending = (omega arith, (omega arith, tt)) }
+
+  model-ranked : (m : Model) → Ranked (modelRules d m)
+  model-ranked m = record { numbered = (omega arith, (omega arith, tt)); ascending = (omega arith, (omega arith, tt)) }
+
+  map-ranked : (m : Map) → Ranked (mapRules d m)
+  map-ranked m = record { numbered = (omega arith, tt); ascending = (omega arith, tt) }
+
+  section-ranked : (i : ℕ) (s : Section) → Ranked (sectionRules d i s)
+  section-ranked i s = record { numbered = (omega arith, (omega arith, tt)); ascending = (omega arith, (omega arith, tt)) }
+
+  end-ranked : (m : Model) (s : Step) → Ranked (endRules d m s)
+  end-ranked m s =
+      record {
+        numbered = (omega arith, (omega arith, (omega arith, tt)));
+        ascending = (omega arith, (omega arith, (omega arith, tt)));
+      }
+
+  section-step-ranked : (m : Model) (s : Step) → Ranked (sectionStepRules d m s)
+  section-step-ranked m s =
+      record {
+        numbered = (omega arith, (omega arith, (omega arith, (omega arith, tt))));
+        ascending = (omega arith, (omega arith, (omega arith, (omega arith, tt))));
+      }
+
+  step-ranked : (m : Model) (s : Step) → Ranked (stepRules d m s)
+  step-ranked m s =
+      by-test Ranked (eqb (s .kind) endKind) _ _ (λ e. end-ranked m s)
+      (λ e.
+      by-test Ranked (eqb (s .kind) sectionKind) _ _ (λ f. section-step-ranked m s) (λ f. record { numbered = tt; ascending = tt }))
+
+pin-ranked : (m : Map) (p : Named) → Ranked (pinRules m p)
+pin-ranked m p = record { numbered = (omega arith, tt); ascending = (omega arith, tt) }
+
+-- ---- what each rule of a line gives
+
+chosen : (b : Bool) (x y : List Rule) (n : ℕ) → n ≡ firstBroken y → (if b then firstBroken x else n) ≡ firstBroken (if b then x else y)
+unfolding if_then_else_
+chosen true x y n e = refl
+chosen false x y n e = e
+
+module _ (d : Document) where
+  step-given : (m : Model) (s : Step) → stepRule d m s ≡ firstBroken (stepRules d m s)
+  unfolding stepRule endRule sectionStepRule
+  step-given m s =
+      chosen (eqb (s .kind) endKind) (endRules d m s) _ _ (chosen (eqb (s .kind) sectionKind) (sectionStepRules d m s) [] 0 refl)
+
+  pub list-judged : (n : Named) → Judged (listRule d n) (listRules d n)
+  unfolding listRule
+  list-judged n = judged (listRules d n) (list-ranked d n)
+
+  pub model-judged : (m : Model) → Judged (modelRule d m) (modelRules d m)
+  unfolding modelRule
+  model-judged m = judged (modelRules d m) (model-ranked d m)
+
+  pub map-judged : (m : Map) → Judged (mapRule d m) (mapRules d m)
+  unfolding mapRule
+  map-judged m = judged (mapRules d m) (map-ranked d m)
+
+  pub section-judged : (i : ℕ) (s : Section) → Judged (sectionRule d i s) (sectionRules d i s)
+  unfolding sectionRule
+  section-judged i s = judged (sectionRules d i s) (section-ranked d i s)
+
+  pub end-judged : (m : Model) (s : Step) → Judged (endRule d m s) (endRules d m s)
+  unfolding endRule
+  end-judged m s = judged (endRules d m s) (end-ranked d m s)
+
+  pub section-step-judged : (m : Model) (s : Step) → Judged (sectionStepRule d m s) (sectionStepRules d m s)
+  unfolding sectionStepRule
+  section-step-judged m s = judged (sectionStepRules d m s) (section-step-ranked d m s)
+
+  pub step-judged : (m : Model) (s : Step) → Judged (stepRule d m s) (stepRules d m s)
+  step-judged m s = rw (step-given m s) (judged (stepRules d m s) (step-ranked d m s))
+
+pub pin-judged : (m : Map) (p : Named) → Judged (pinRule m p) (pinRules m p)
+unfolding pinRule
+pin-judged m p = judged (pinRules m p) (pin-ranked m p)
+
+-- ---- the earliest of many
+
+none-earliest : {fs : List Finding} → Each (λ (f : Finding). f .number ≡ 0) fs → earliest fs .number ≡ 0
+unfolding earliest nothing
+none-earliest none = refl
+none-earliest (more {x = f} {xs = fs} h hs) = ap (λ (g : Finding). g .number) (earlier-second f (earliest fs) h) ∙ none-earliest hs
+
+kept-earliest : (fs : List Finding) → earliest fs .number ≡ 0 → Each (λ (f : Finding). f .number ≡ 0) fs
+unfolding earliest
+kept-earliest [] e = none
+kept-earliest (f ∷ fs) e =
+    by-cases _ (eqb (f .number) 0)
+    (λ (h : eqb (f .number) 0 ≡ true).
+    more (eqb-true _ _ h) (kept-earliest fs (rw (earlier-second f (earliest fs) (eqb-true _ _ h)) at e)))
+    (λ (h : eqb (f .number) 0 ≡ false). absurd (earlier-breaks f (earliest fs) (eqb-false _ _ h) e))
+
+found-earliest : (fs : List Finding) → (earliest fs .number ≡ 0 → ⊥) → Among (earliest fs) fs
+unfolding earliest nothing
+found-earliest [] n = absurd (n refl)
+found-earliest (f ∷ fs) n =
+    earlier-one (λ (g : Finding). (g .number ≡ 0 → ⊥) → Among g (f ∷ fs)) f (earliest fs) (λ m. front)
+    (λ m. further (found-earliest fs m)) n
+
+low-earliest : {g : Finding} {fs : List Finding} → Among g fs → (g .number ≡ 0 → ⊥) → earliest fs .line ≤ g .line
+unfolding earliest
+low-earliest {g} (front {xs = fs}) n = earlier-line g (earliest fs) n
+low-earliest (further {y = f} {xs = fs} m) n =
+    le-trans (earlier-other f (earliest fs) (λ (e : earliest fs .number ≡ 0). n (each-one (kept-earliest fs e) m))) (low-earliest m n)
+
+-- ---- the whole document, by its findings
+
+-- "In each group the earliest line counts"
+pub record First (d : Document) : Type 0 where
+  pub found : Among (crossRule d) (findings d)
+  pub lowest : (f : Finding) → Among f (findings d) → (f .number ≡ 0 → ⊥) → crossRule d .line ≤ f .line
+
+module _ (d : Document) where
+  pub none-broken : Each (λ (f : Finding). f .number ≡ 0) (findings d) → crossRule d .number ≡ 0
+  unfolding crossRule
+  none-broken h = none-earliest h
+
+  pub all-kept : crossRule d .number ≡ 0 → Each (λ (f : Finding). f .number ≡ 0) (findings d)
+  unfolding crossRule
+  all-kept e = kept-earliest (findings d) e
+
+  pub first-found : (crossRule d .number ≡ 0 → ⊥) → First d
+  unfolding crossRule
+  first-found n = record { found = found-earliest (findings d) n; lowest = λ f m k. low-earliest m k }
+
+-- ---- the whole document, by its lines and their rules
+
+abbrev findingOf : Looked → Finding
+findingOf x = record { number = firstBroken (x .rules); line = x .line }
+
+-- one look for each finding
+mapped-found :
+    {A : Type 0} (finding : A → Finding) (look : A → Looked) → ((x : A) → finding x ≡ findingOf (look x)) → (xs : List A) →
+    map finding xs ≡ map findingOf (map look xs)
+mapped-found finding look same [] = refl
+mapped-found finding look same (x ∷ xs) = λ i. same x i ∷ mapped-found finding look same xs i
+
+module _ (d : Document) where
+  list-looked : listFindings d ≡ map findingOf (listLooked d)
+  unfolding listFindings listLooked listRule
+  list-looked = mapped-found _ _ (λ (n : Named). refl) (d .listed)
+
+  step-looked : (m : Model) → stepFindings d m ≡ map findingOf (stepLooked d m)
+  unfolding stepFindings stepLooked
+  step-looked m = mapped-found _ _ (λ (s : Step). ap (λ (n : ℕ). record { number = n; line = s .line }) (step-given d m s)) (m .steps)
+
+  pin-looked : (m : Map) → pinFindings m ≡ map findingOf (pinLooked d m)
+  unfolding pinFindings pinLooked pinRule
+  pin-looked m = mapped-found _ _ (λ (p : Named). refl) (m .pins)
+
+  model-looked : (ms : List Model) → modelFindings d ms ≡ map findingOf (modelLooked d ms)
+  unfolding modelFindings modelLooked modelRule
+  model-looked [] = refl
+  model-looked (m ∷ ms) =
+      ap (λ (fs : List Finding). record { number = modelRule d m; line = m .line } ∷ fs)
+      ((λ i. step-looked m i ++ model-looked ms i) ∙ sym (map-append findingOf (stepLooked d m) (modelLooked d ms)))
+
+  map-looked : (ms : List Map) → mapFindings d ms ≡ map findingOf (mapLooked d ms)
+  unfolding mapFindings mapLooked mapRule
+  map-looked [] = refl
+  map-looked (m ∷ ms) =
+      ap (λ (fs : List Finding). record { number = mapRule d m; line = m .line } ∷ fs)
+      ((λ i. pin-looked m i ++ map-looked ms i) ∙ sym (map-append findingOf (pinLooked d m) (mapLooked d ms)))
+
+  section-looked : (n : ℕ) (ss : List Section) → sectionFindings d n ss ≡ map findingOf (sectionLooked d n ss)
+  unfolding sectionFindings sectionLooked sectionRule
+  section-looked n [] = refl
+  section-looked n (s ∷ ss) =
+      ap (λ (fs : List Finding). record { number = sectionRule d n s; line = s .line } ∷ fs) (section-looked (n + 1) ss)
+
+  findings-looked : findings d ≡ map findingOf (looked d)
+  unfolding findings looked
+  findings-looked =
+      rw (
+        map-append findingOf (listLooked d),
+        map-append findingOf (modelLooked d (d .models)),
+        map-append findingOf (mapLooked d (d .maps)),
+      )
+      (λ i. list-looked i ++ (model-looked (d .models) i ++ (map-looked (d .maps) i ++ section-looked 0 (d .sections) i)))
+
+-- the rules of each are ranked
+abbrev LookRanked : Looked → Type 0
+LookRanked x = Ranked (x .rules)
+
+mapped-ranked : {A : Type 0} (look : A → Looked) → ((x : A) → LookRanked (look x)) → (xs : List A) → Each LookRanked (map look xs)
+mapped-ranked look all [] = none
+mapped-ranked look all (x ∷ xs) = more (all x) (mapped-ranked look all xs)
+
+module _ (d : Document) where
+  models-ranked : (ms : List Model) → Each LookRanked (modelLooked d ms)
+  unfolding modelLooked stepLooked
+  models-ranked [] = none
+  models-ranked (m ∷ ms) = more (model-ranked d m) (each-append (mapped-ranked _ (step-ranked d m) (m .steps)) (models-ranked ms))
+
+  maps-ranked : (ms : List Map) → Each LookRanked (mapLooked d ms)
+  unfolding mapLooked pinLooked
+  maps-ranked [] = none
+  maps-ranked (m ∷ ms) = more (map-ranked d m) (each-append (mapped-ranked _ (pin-ranked m) (m .pins)) (maps-ranked ms))
+
+  sections-ranked : (i : ℕ) (ss : List Section) → Each LookRanked (sectionLooked d i ss)
+  unfolding sectionLooked
+  sections-ranked i [] = none
+  sections-ranked i (s ∷ ss) = more (section-ranked d i s) (sections-ranked (i + 1) ss)
+
+  all-ranked : Each LookRanked (looked d)
+  unfolding looked listLooked
+  all-ranked =
+      each-append (mapped-ranked _ (list-ranked d) (d .listed))
+      (each-append (models-ranked (d .models)) (each-append (maps-ranked (d .maps)) (sections-ranked 0 (d .sections))))
+
+-- the document breaks a rule of this number on this line
+pub record Breaks (d : Document) (line number : ℕ) : Type 0 where
+  pub look : Looked
+  pub among : Among look (looked d)
+  pub place : ℕ
+  pub within : place < length (look .rules)
+  pub broken : getD (look .rules) place sound .broken ≡ true
+  pub on-line : look .line ≡ line
+  pub numbered : getD (look .rules) place sound .number ≡ number
+
+-- one of a mapped list comes from one of the list
+record Source {A B : Type 0} (f : A → B) (xs : List A) (y : B) : Type 0 where
+  source : A
+  among : Among source xs
+  gives : f source ≡ y
+
+module _ {A B : Type 0} (f : A → B) where
+  source-of : (xs : List A) {y : B} → Among y (map f xs) → Source f xs y
+  source-of (x ∷ xs) front = record { source = x; among = front; gives = refl }
+  source-of (x ∷ xs) (further m) = longer (source-of xs m)
+    where
+      longer : {y : B} → Source f xs y → Source f (x ∷ xs) y
+      longer s = record { source = s .source; among = further (s .among); gives = s .gives }
+
+  among-mapped : {x : A} {xs : List A} → Among x xs → Among (f x) (map f xs)
+  among-mapped front = front
+  among-mapped (further m) = further (among-mapped m)
+
+module _ (d : Document) where
+  look-judged : {x : Looked} → Among x (looked d) → Judged (firstBroken (x .rules)) (x .rules)
+  look-judged {x} m = judged (x .rules) (each-one (all-ranked d) m)
+
+  look-found : {x : Looked} → Among x (looked d) → Among (findingOf x) (findings d)
+  look-found m = rw (findings-looked d) (among-mapped findingOf m)
+
+  -- what a line that breaks something is found for
+  breaks-found : {line number : ℕ} (b : Breaks d line number) → firstBroken (b .look .rules) ≡ 0 → ⊥
+  breaks-found b e = true≢false (sym (b .broken) ∙ look-judged (b .among) .kept e (b .place))
+
+  pub none-breaks : crossRule d .number ≡ 0 → (line number : ℕ) → Breaks d line number → ⊥
+  none-breaks e line number b = breaks-found b (each-one (all-kept d e) (look-found (b .among)))
+
+  look-breaks : (x : Looked) → Among x (looked d) → (firstBroken (x .rules) ≡ 0 → ⊥) → Breaks d (x .line) (firstBroken (x .rules))
+  look-breaks x m n = by-place (look-judged m .found (omega arith))
+    where
+      by-place : FoundIn (firstBroken (x .rules)) (x .rules) → Breaks d (x .line) (firstBroken (x .rules))
+      by-place f = record { look = x; among = m; place = f .0; within = f .1; broken = f .2; on-line = refl; numbered = f .3 }
+
+  source-breaks : {f : Finding} → Source findingOf (looked d) f → (f .number ≡ 0 → ⊥) → Breaks d (f .line) (f .number)
+  source-breaks s n =
+      subst (λ (g : Finding). Breaks d (g .line) (g .number)) (s .gives)
+      (look-breaks (s .source) (s .among)
+      (λ (e : firstBroken (s .source .rules) ≡ 0). n (ap (λ (g : Finding). g .number) (sym (s .gives)) ∙ e)))
+
+  -- the rule that is given is broken on the line that is given
+  pub given-breaks : (crossRule d .number ≡ 0 → ⊥) → Breaks d (crossRule d .line) (crossRule d .number)
+  given-breaks n = source-breaks (source-of findingOf (looked d) (rw (findings-looked d) at (first-found d n .found))) n
+
+  pub unbroken : ((line number : ℕ) → Breaks d line number → ⊥) → crossRule d .number ≡ 0
+  unbroken h =
+      by-cases (crossRule d .number ≡ 0) (eqb (crossRule d .number) 0) (λ (e : eqb (crossRule d .number) 0 ≡ true). eqb-true _ _ e)
+      (λ (e : eqb (crossRule d .number) 0 ≡ false). absurd (h _ _ (given-breaks (eqb-false _ _ e))))
+
+  pub lowest-line : (line number : ℕ) → Breaks d line number → crossRule d .line ≤ line
+  lowest-line line number b =
+      let n : crossRule d .number ≡ 0 → ⊥ = λ (e : crossRule d .number ≡ 0). none-breaks e line number b in
+      rw (b .on-line) at (first-found d n .lowest (findingOf (b .look)) (look-found (b .among)) (breaks-found b))
+
+-- "on one line the lowest number": of every text, also of one that is refused
+pub lowest-number :
+    (t : List ℕ) (number : ℕ) → Breaks (documentOf t) (crossRule (documentOf t) .line) number → crossRule (documentOf t) .number ≤ number
+lowest-number t number b =
+    let d : Document = documentOf t in
+    let n : crossRule d .number ≡ 0 → ⊥ = λ (e : crossRule d .number ≡ 0). none-breaks d e (crossRule d .line) number b in
+    let same : findingOf (b .look) ≡ crossRule d =
+    one-finding t (findingOf (b .look)) (crossRule d) (look-found d (b .among)) (first-found d n .found) (b .on-line) in
+    let e : firstBroken (b .look .rules) ≡ crossRule d .number = ap (λ (f : Finding). f .number) same in
+    let l : firstBroken (b .look .rules) ≤ getD (b .look .rules) (b .place) sound .number =
+    look-judged d (b .among) .least (b .place) (b .within) (b .broken) in
+    let m : getD (b .look .rules) (b .place) sound .number ≡ number = b .numbered in
+    omega (arith, e, l, m)

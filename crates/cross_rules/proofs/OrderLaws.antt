@@ -1,0 +1,251 @@
+-- The order of a document: the lines of each of its lists rise, and so do the lines of what is looked at in each kind. It holds of every
+-- text.
+-- Assumes nothing.
+use mathlib.Core.Path.{_≡_, refl, _∙_, ap}
+use mathlib.Core.Bool.{Bool, true, false}
+use mathlib.Core.List.{List, [], _∷_, _++_, map, map-append, append-nil}
+use Prim.Native.Nat.{ℕ, _+_}
+use lib.Dec.{eqb}
+use Rattle.base.specs.If.{if_then_else_}
+use Rattle.base.proofs.IfLaws.{by-test, if-false}
+use Rattle.line_place.specs.Place as place
+use Rattle.line_path.specs.Path as path
+use Rattle.doc.specs.Lines.{Line, significant, standsIn, gather, upTo}
+use Rattle.doc.specs.Document.{
+  Named,
+  Step,
+  Model,
+  Map,
+  Section,
+  Document,
+  sayingAt,
+  stepOf,
+  stepsIn,
+  opensModel,
+  inModel,
+  modelOf,
+  modelAt,
+  listedAt,
+  opensMap,
+  inMap,
+  pinAt,
+  mapOf,
+  mapAt,
+  opensSection,
+  sectionOf,
+  sectionAt,
+  documentIn,
+  documentOf,
+}
+use Rattle.doc.specs.Holds.{Each}
+use Rattle.doc.specs.Holds.Each.{none, more}
+use Rattle.doc.proofs.BlockLaws.{joined}
+use Rattle.doc.proofs.StandsLaws.{Laid, laid}
+use Rattle.doc.proofs.StandsLaws.Laid.{ended, onward}
+use Rattle.doc.proofs.PassLaws.{model-blocks, map-blocks}
+use Rattle.cross_rules.specs.Rules.{listFindings, stepFindings, modelFindings, pinFindings, mapFindings, sectionFindings}
+use Rattle.cross_rules.specs.declared.Finding.{Finding}
+use Rattle.cross_rules.proofs.RisingLaws.{Rising, Gives, numbers, gather-rising, blocks-rising, rising-front, rising-behind}
+use Rattle.cross_rules.proofs.RisingLaws.Rising.{flat, rise}
+use Rattle.cross_rules.proofs.RisingLaws.Gives.{nothing, itself}
+
+-- ---- the lines of what a document holds
+
+abbrev pub nameLines : List Named → List ℕ
+nameLines ns = map (λ (n : Named). n .line) ns
+
+abbrev pub stepLines : List Step → List ℕ
+stepLines ss = map (λ (s : Step). s .line) ss
+
+abbrev pub openings : List Model → List ℕ
+openings ms = map (λ (m : Model). m .line) ms
+
+abbrev pub mapOpenings : List Map → List ℕ
+mapOpenings ms = map (λ (m : Map). m .line) ms
+
+abbrev pub sectionOpenings : List Section → List ℕ
+sectionOpenings ss = map (λ (s : Section). s .line) ss
+
+abbrev pub findingLines : List Finding → List ℕ
+findingLines fs = map (λ (f : Finding). f .line) fs
+
+-- a model's line and those of its steps, a map's and those of its pins
+abbrev modelLines : Model → List ℕ
+modelLines m = m .line ∷ stepLines (m .steps)
+
+abbrev mapLines : Map → List ℕ
+mapLines m = m .line ∷ nameLines (m .pins)
+
+-- ---- what each line gives
+
+module _ (l : Line) (after : List Line) where
+  one-or-none :
+      {A : Type 0} (line : A → ℕ) (b : Bool) (x : A) → line x ≡ l .number →
+      Gives (l .number) [] (map line (if b then x ∷ [] else []))
+  one-or-none line b x e =
+      by-test (λ (xs : List _). Gives (l .number) [] (map line xs)) b (x ∷ []) [] (λ (h : b ≡ true). rw e itself)
+      (λ (h : b ≡ false). nothing)
+
+  listed-own : Gives (l .number) [] (nameLines (listedAt l after))
+  unfolding listedAt
+  listed-own = one-or-none (λ (n : Named). n .line) (standsIn place.list l) _ refl
+
+  pin-own : Gives (l .number) [] (nameLines (pinAt l after))
+  unfolding pinAt
+  pin-own = one-or-none (λ (n : Named). n .line) (standsIn place.pins l) _ refl
+
+  pub model-own : Gives (l .number) [] (openings (modelAt l after))
+  unfolding modelAt modelOf
+  model-own = one-or-none (λ (m : Model). m .line) (opensModel l) _ refl
+
+  map-own : Gives (l .number) [] (mapOpenings (mapAt l after))
+  unfolding mapAt mapOf
+  map-own = one-or-none (λ (m : Map). m .line) (opensMap l) _ refl
+
+  pub section-own : Gives (l .number) [] (sectionOpenings (sectionAt l after))
+  unfolding sectionAt sectionOf
+  section-own = one-or-none (λ (s : Section). s .line) (opensSection l) _ refl
+
+  pub step-own : Gives (l .number) [] (stepLines (stepOf l after))
+  unfolding stepOf
+  step-own =
+      by-test Own (eqb (sayingAt l) path.end) _ _ (λ e. itself)
+      (λ e.
+      by-test Own (eqb (sayingAt l) path.section) _ _ (λ e. itself)
+      (λ e.
+      by-test Own (eqb (sayingAt l) path.fork) _ _ (λ e. itself)
+      (λ e. by-test Own (eqb (sayingAt l) path.endfork) _ _ (λ e. itself) (λ e. nothing))))
+    where
+      Own : List Step → Type 0
+      Own ss = Gives (l .number) [] (stepLines ss)
+
+  -- a line that opens a block gives it whole
+  block-whole :
+      {B : Type 0} (lines : B → List ℕ) (rest : List ℕ) (b : Bool) (x : B) → lines x ≡ l .number ∷ rest →
+      Gives (l .number) rest (joined lines (if b then x ∷ [] else []))
+  unfolding joined
+  block-whole lines rest b x e =
+      by-test (λ (xs : List _). Gives (l .number) rest (joined lines xs)) b (x ∷ []) []
+      (λ (h : b ≡ true). rw (append-nil (lines x), e) itself) (λ (h : b ≡ false). nothing)
+
+  model-whole : Gives (l .number) (stepLines (gather stepOf (upTo inModel after))) (joined modelLines (modelAt l after))
+  unfolding modelAt modelOf stepsIn
+  model-whole = block-whole modelLines _ (opensModel l) _ refl
+
+  map-whole : Gives (l .number) (nameLines (gather pinAt (upTo inMap after))) (joined mapLines (mapAt l after))
+  unfolding mapAt mapOf
+  map-whole = block-whole mapLines _ (opensMap l) _ refl
+
+  model-shut : inModel l ≡ true → modelAt l after ≡ []
+  unfolding modelAt
+  model-shut e = if-false _ _ (model-blocks .apart l e)
+
+  map-shut : inMap l ≡ true → mapAt l after ≡ []
+  unfolding mapAt
+  map-shut e = if-false _ _ (map-blocks .apart l e)
+
+-- ---- the lines of what is looked at
+
+mapped-lines :
+    {A : Type 0} (line : A → ℕ) (finding : A → Finding) → ((x : A) → finding x .line ≡ line x) → (xs : List A) →
+    findingLines (map finding xs) ≡ map line xs
+mapped-lines line finding same [] = refl
+mapped-lines line finding same (x ∷ xs) = λ i. same x i ∷ mapped-lines line finding same xs i
+
+module _ (d : Document) where
+  list-lines : findingLines (listFindings d) ≡ nameLines (d .listed)
+  unfolding listFindings
+  list-lines = mapped-lines (λ (n : Named). n .line) _ (λ (n : Named). refl) (d .listed)
+
+  step-lines : (m : Model) → findingLines (stepFindings d m) ≡ stepLines (m .steps)
+  unfolding stepFindings
+  step-lines m = mapped-lines (λ (s : Step). s .line) _ (λ (s : Step). refl) (m .steps)
+
+  pin-lines : (m : Map) → findingLines (pinFindings m) ≡ nameLines (m .pins)
+  unfolding pinFindings
+  pin-lines m = mapped-lines (λ (p : Named). p .line) _ (λ (p : Named). refl) (m .pins)
+
+  model-lines : (ms : List Model) → findingLines (modelFindings d ms) ≡ joined modelLines ms
+  unfolding modelFindings joined
+  model-lines [] = refl
+  model-lines (m ∷ ms) =
+      ap (λ (ls : List ℕ). m .line ∷ ls) (map-append _ (stepFindings d m) (modelFindings d ms) ∙ (λ i. step-lines m i ++ model-lines ms i))
+
+  map-lines : (ms : List Map) → findingLines (mapFindings d ms) ≡ joined mapLines ms
+  unfolding mapFindings joined
+  map-lines [] = refl
+  map-lines (m ∷ ms) =
+      ap (λ (ls : List ℕ). m .line ∷ ls) (map-append _ (pinFindings m) (mapFindings d ms) ∙ (λ i. pin-lines m i ++ map-lines ms i))
+
+  section-lines : (n : ℕ) (ss : List Section) → findingLines (sectionFindings d n ss) ≡ sectionOpenings ss
+  unfolding sectionFindings
+  section-lines n [] = refl
+  section-lines n (s ∷ ss) = ap (λ (ls : List ℕ). s .line ∷ ls) (section-lines (n + 1) ss)
+
+-- ---- each block of its own
+
+-- the lines of each block are its own line and those of its parts, which stand below it
+each-block :
+    {B : Type 0} (lines : B → List ℕ) (line : B → ℕ) (parts : B → List ℕ) → ((b : B) → lines b ≡ line b ∷ parts b) →
+    {least : ℕ} (bs : List B) → Rising least (joined lines bs) → Each (λ (b : B). Rising (line b + 1) (parts b)) bs
+unfolding joined
+each-block lines line parts whole [] h = none
+each-block lines line parts whole (b ∷ bs) h =
+    more (tail (rw (whole b) at (rising-front (lines b) (joined lines bs) h)))
+    (each-block lines line parts whole bs (rising-behind (lines b) (joined lines bs) h))
+  where
+    tail : {least n : ℕ} {ns : List ℕ} → Rising least (n ∷ ns) → Rising (n + 1) ns
+    tail (rise k rest) = rest
+
+-- ---- the whole document
+
+-- all lines are 1 or above it, and rise
+pub record Ordered (d : Document) : Type 0 where
+  pub listed : Rising 1 (nameLines (d .listed))
+  pub models : Rising 1 (openings (d .models))
+  pub maps : Rising 1 (mapOpenings (d .maps))
+  pub sections : Rising 1 (sectionOpenings (d .sections))
+  pub steps : Each (λ (m : Model). Rising (m .line + 1) (stepLines (m .steps))) (d .models)
+  pub pins : Each (λ (m : Map). Rising (m .line + 1) (nameLines (m .pins))) (d .maps)
+  pub in-list : Rising 1 (findingLines (listFindings d))
+  pub in-models : Rising 1 (findingLines (modelFindings d (d .models)))
+  pub in-maps : Rising 1 (findingLines (mapFindings d (d .maps)))
+  pub in-sections : Rising 1 (findingLines (sectionFindings d 0 (d .sections)))
+
+laid-numbers : {t : List ℕ} {n at : ℕ} {ls : List Line} → Laid t n at ls → Rising n (numbers ls)
+laid-numbers ended = flat
+laid-numbers (onward end h k lies rest) = rise h (laid-numbers rest)
+
+pub lines-rise : (t : List ℕ) → Rising 1 (numbers (significant t))
+unfolding significant
+lines-rise t = laid-numbers (laid t 1 0 place.before)
+
+module _ (ls : List Line) (h : Rising 1 (numbers ls)) where
+  models-rise : Rising 1 (joined modelLines (gather modelAt ls))
+  models-rise = blocks-rising (λ (s : Step). s .line) stepOf step-own modelLines modelAt inModel model-shut model-whole ls h
+
+  maps-rise : Rising 1 (joined mapLines (gather mapAt ls))
+  maps-rise = blocks-rising (λ (p : Named). p .line) pinAt pin-own mapLines mapAt inMap map-shut map-whole ls h
+
+  in-order-of : Ordered (documentIn ls)
+  unfolding documentIn
+  in-order-of =
+      record {
+        listed = gather-rising (λ (n : Named). n .line) listedAt listed-own ls h;
+        models = gather-rising (λ (m : Model). m .line) modelAt model-own ls h;
+        maps = gather-rising (λ (m : Map). m .line) mapAt map-own ls h;
+        sections = gather-rising (λ (s : Section). s .line) sectionAt section-own ls h;
+        steps = each-block modelLines (λ (m : Model). m .line) (λ (m : Model). stepLines (m .steps)) (λ (m : Model). refl) _ models-rise;
+        pins = each-block mapLines (λ (m : Map). m .line) (λ (m : Map). nameLines (m .pins)) (λ (m : Map). refl) _ maps-rise;
+        in-list = rw (list-lines (documentIn ls)) (gather-rising (λ (n : Named). n .line) listedAt listed-own ls h);
+        in-models = rw (model-lines (documentIn ls) (gather modelAt ls)) models-rise;
+        in-maps = rw (map-lines (documentIn ls) (gather mapAt ls)) maps-rise;
+        in-sections =
+            rw (section-lines (documentIn ls) 0 (gather sectionAt ls))
+            (gather-rising (λ (s : Section). s .line) sectionAt section-own ls h);
+      }
+
+-- of every text, also of one that is refused
+pub in-order : (t : List ℕ) → Ordered (documentOf t)
+unfolding documentOf
+in-order t = in-order-of (significant t) (lines-rise t)

@@ -1,0 +1,16 @@
+-- A table that holds what a text says: what the rules 19 to 27 are judged over.
+-- Assumes nothing.
+use Prim.Native.Nat.{ℕ, _-_}
+use mathlib.Core.Path.{_≡_}
+use mathlib.Core.List.{List, _++_}
+use lib.ListN.{length, replicate}
+use Rattle.line_keyword.specs.declared.Counts.{Counts}
+use Rattle.read_line.specs.Reading.{readingOf}
+use Rattle.read_line.specs.declared.Reading.the-variants.{Read}
+use Rattle.doc.specs.Records.{tableOf}
+
+-- the text reads to its end, and the table is its layout and then zeros
+pub record Filled (t table : List ℕ) : Type 0 where
+  pub counts : Counts
+  pub reads : readingOf t ≡ Read counts
+  pub words : table ≡ tableOf t ++ replicate (length table - length (tableOf t)) 0

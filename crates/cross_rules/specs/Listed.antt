@@ -1,0 +1,89 @@
+-- Document 01, rules 19 to 27 as they are listed: for each line of a document the rules that it is looked at for, in the order of refusal,
+-- and the lines in the order in which they are looked at.
+-- Assumes nothing.
+use Prim.Native.Nat.{ℕ, _+_}
+use mathlib.Core.Bool.{not}
+use mathlib.Core.List.{List, [], _∷_, _++_, map}
+use lib.Dec.{eqb}
+use Rattle.base.specs.If.{if_then_else_, both}
+use Rattle.base.specs.Broken.{Rule, _when_}
+use Rattle.doc.specs.Document.{Named, Step, Model, Map, Section, Document, endKind, sectionKind}
+use Rattle.cross_rules.specs.Rules.{isTwice, isThere, modelName, mapName, sectionName, isUsed, pinsAt, conductorsAt, hasOtherForm, mapIndex, sectionIndex, hasMap, hasSection, isClashing, firstEnd, differs, isWrongMethod, isSingleLine}
+
+-- ---- one of a list
+
+pub data Among {A : Type 0} (x : A) : List A → Type 0 where
+  front : {xs : List A} → Among x (x ∷ xs)
+  further : {y : A} {xs : List A} → Among x xs → Among x (y ∷ xs)
+
+-- ---- the rules of each kind of line, as they are listed
+
+module _ (d : Document) where
+  abbrev pub listRules : Named → List Rule
+  listRules n = 19 when isTwice (d .listed) n ∷ 20 when not (isThere (map modelName (d .models)) n) ∷ []
+
+  abbrev pub modelRules : Model → List Rule
+  modelRules m =
+      19 when isTwice (map modelName (d .models)) (modelName m) ∷ 20 when not (isThere (d .listed) (modelName m)) ∷ []
+
+  abbrev pub mapRules : Map → List Rule
+  mapRules m = 19 when isTwice (map mapName (d .maps)) (mapName m) ∷ []
+
+  abbrev pub sectionRules : ℕ → Section → List Rule
+  sectionRules i s = 19 when isTwice (map sectionName (d .sections)) (sectionName s) ∷ 27 when not (isUsed d i) ∷ []
+
+  abbrev pub endRules : Model → Step → List Rule
+  endRules m s =
+      21 when not (hasMap d s)
+      ∷ 22 when isClashing d m s
+      ∷ 26 when both (hasMap d s) (differs d (firstEnd (m .steps)) (pinsAt (d .maps) (mapIndex d s)))
+      ∷ []
+
+  abbrev pub sectionStepRules : Model → Step → List Rule
+  sectionStepRules m s =
+      23 when not (hasSection d s)
+      ∷ 24 when both (hasSection d s) (isWrongMethod d s)
+      ∷ 25 when both (isSingleLine m) (hasOtherForm (d .sections) (sectionIndex d s))
+      ∷ 26 when both (hasSection d s) (differs d (firstEnd (m .steps)) (conductorsAt (d .sections) (sectionIndex d s)))
+      ∷ []
+
+  -- forks break none
+  abbrev pub stepRules : Model → Step → List Rule
+  stepRules m s =
+      if eqb (s .kind) endKind then endRules m s else
+      if eqb (s .kind) sectionKind then sectionStepRules m s else []
+
+abbrev pub pinRules : Map → Named → List Rule
+pinRules m p = 19 when isTwice (m .pins) p ∷ []
+
+-- ---- the lines
+
+-- a line, and the rules that it is looked at for
+pub record Looked : Type 0 where
+  pub line : ℕ
+  pub rules : List Rule
+
+module _ (d : Document) where
+  unfoldable pub listLooked : List Looked
+  listLooked = map (λ (n : Named). record { line = n .line; rules = listRules d n }) (d .listed)
+
+  unfoldable pub stepLooked : Model → List Looked
+  stepLooked m = map (λ (s : Step). record { line = s .line; rules = stepRules d m s }) (m .steps)
+
+  unfoldable pub modelLooked : List Model → List Looked
+  modelLooked [] = []
+  modelLooked (m ∷ ms) = record { line = m .line; rules = modelRules d m } ∷ (stepLooked m ++ modelLooked ms)
+
+  unfoldable pub pinLooked : Map → List Looked
+  pinLooked m = map (λ (p : Named). record { line = p .line; rules = pinRules m p }) (m .pins)
+
+  unfoldable pub mapLooked : List Map → List Looked
+  mapLooked [] = []
+  mapLooked (m ∷ ms) = record { line = m .line; rules = mapRules d m } ∷ (pinLooked m ++ mapLooked ms)
+
+  unfoldable pub sectionLooked : ℕ → List Section → List Looked
+  sectionLooked i [] = []
+  sectionLooked i (s ∷ ss) = record { line = s .line; rules = sectionRules d i s } ∷ sectionLooked (i + 1) ss
+
+  unfoldable pub looked : List Looked
+  looked = listLooked ++ (modelLooked (d .models) ++ (mapLooked (d .maps) ++ sectionLooked 0 (d .sections)))

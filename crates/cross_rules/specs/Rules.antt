@@ -1,0 +1,229 @@
+-- Document 01, "Numbers of refusal": rules 19 to 27, over the whole document. "In the last group a name means its first definition (a
+-- map's, after the line); one that has none breaks only 20, 21 or 23."
+-- Assumes nothing.
+use Prim.Native.Nat.{ℕ, zero, suc, _+_}
+use mathlib.Core.Bool.{Bool, true, false, not}
+use mathlib.Core.List.{List, [], _∷_, _++_, map}
+use lib.ListN.{length}
+use lib.Dec.{ltb, eqb}
+use Rattle.base.specs.If.{if_then_else_, both, either}
+use Rattle.base.specs.Runs.{same}
+use Rattle.base.specs.Broken.{_when_, firstBroken}
+use Rattle.lex_line.specs.Words.{Word}
+use Rattle.line_matrix.specs.Matrix.{diagonal}
+use Rattle.doc.specs.Document.{
+  Named,
+  Step,
+  Model,
+  Map,
+  Matrix,
+  Section,
+  Document,
+  conductorsOf,
+  endKind,
+  sectionKind,
+}
+use Rattle.doc.specs.Records.{indexOf, isMapOf, isSectionOf, targetOf}
+use Rattle.cross_rules.specs.declared.Finding.{Finding}
+
+-- one of the list passes the test
+unfoldable pub any : {A : Type 0} → (A → Bool) → List A → Bool
+any test [] = false
+any test (x ∷ xs) = either (test x) (any test xs)
+
+-- "All else is case sensitive": the same bytes
+unfoldable pub sameWord : Word → Word → Bool
+sameWord v w = same (v .text) (w .text)
+
+-- ---- 19 TWICE: "second of one name within models, maps, sections, list or one map's pins"
+
+-- a name that stands on a line above this one
+unfoldable pub isTwice : List Named → Named → Bool
+isTwice names n = any (λ (m : Named). both (ltb (m .line) (n .line)) (sameWord (m .name) (n .name))) names
+
+unfoldable pub isThere : List Named → Named → Bool
+isThere names n = any (λ (m : Named). sameWord (m .name) (n .name)) names
+
+abbrev pub modelName : Model → Named
+modelName m = record { name = m .name; line = m .line }
+
+abbrev pub mapName : Map → Named
+mapName m = record { name = m .name; line = m .line }
+
+abbrev pub sectionName : Section → Named
+sectionName s = record { name = s .name; line = s .line }
+
+-- ---- lists and models: 20 LIST
+
+-- "listed without one (at the list line)"
+unfoldable pub listRule : Document → Named → ℕ
+listRule d n =
+    firstBroken (19 when isTwice (d .listed) n ∷ 20 when not (isThere (map modelName (d .models)) n) ∷ [])
+
+-- "model not listed (at the model)"
+unfoldable pub modelRule : Document → Model → ℕ
+modelRule d m =
+    firstBroken
+    (19 when isTwice (map modelName (d .models)) (modelName m) ∷ 20 when not (isThere (d .listed) (modelName m)) ∷ [])
+
+-- ---- maps, pins and sections
+
+unfoldable pub mapRule : Document → Map → ℕ
+mapRule d m = firstBroken (19 when isTwice (map mapName (d .maps)) (mapName m) ∷ [])
+
+unfoldable pub pinRule : Map → Named → ℕ
+pinRule m p = firstBroken (19 when isTwice (m .pins) p ∷ [])
+
+-- a step uses the first section of its name
+unfoldable pub uses : Document → ℕ → Step → Bool
+uses d i s = both (eqb (s .kind) sectionKind) (eqb (targetOf (d .maps) (d .sections) s) i)
+
+unfoldable pub isUsed : Document → ℕ → Bool
+isUsed d i = any (λ (m : Model). any (uses d i) (m .steps)) (d .models)
+
+-- "27 UNUSED: section no step uses, at its opening": the section that stands at i
+unfoldable pub sectionRule : Document → ℕ → Section → ℕ
+sectionRule d i s =
+    firstBroken (19 when isTwice (map sectionName (d .sections)) (sectionName s) ∷ 27 when not (isUsed d i) ∷ [])
+
+-- ---- steps
+
+-- the pins of the map that an end is on, and the conductors of the section of a step, at the step's target
+unfoldable pub pinsAt : List Map → ℕ → ℕ
+pinsAt [] i = 0
+pinsAt (m ∷ ms) zero = length (m .pins)
+pinsAt (m ∷ ms) (suc i) = pinsAt ms i
+
+unfoldable pub conductorsAt : List Section → ℕ → ℕ
+conductorsAt [] i = 0
+conductorsAt (s ∷ ss) zero = conductorsOf (s .matrices)
+conductorsAt (s ∷ ss) (suc i) = conductorsAt ss i
+
+unfoldable pub methodAt : List Section → ℕ → ℕ
+methodAt [] i = 0
+methodAt (s ∷ ss) zero = s .method
+methodAt (s ∷ ss) (suc i) = methodAt ss i
+
+-- a matrix "not Diagonal_matrix"
+unfoldable pub isOtherForm : Matrix → Bool
+isOtherForm m = not (eqb (m .form) diagonal)
+
+unfoldable pub hasOtherForm : List Section → ℕ → Bool
+hasOtherForm [] i = false
+hasOtherForm (s ∷ ss) zero = any isOtherForm (s .matrices)
+hasOtherForm (s ∷ ss) (suc i) = hasOtherForm ss i
+
+-- the index of an end's map, of a step's section; as many as there are where none is found
+abbrev pub mapIndex : Document → Step → ℕ
+mapIndex d s = indexOf (isMapOf s) (d .maps)
+
+abbrev pub sectionIndex : Document → Step → ℕ
+sectionIndex d s = indexOf (isSectionOf s) (d .sections)
+
+unfoldable pub hasMap : Document → Step → Bool
+hasMap d s = ltb (mapIndex d s) (length (d .maps))
+
+unfoldable pub hasSection : Document → Step → Bool
+hasSection d s = ltb (sectionIndex d s) (length (d .sections))
+
+-- "22 SIDE: two ends of a path on one map, Side lacking at either or the same"
+unfoldable pub clash : Word → Word → Bool
+clash a b = either (eqb (length (a .text)) 0) (either (eqb (length (b .text)) 0) (sameWord a b))
+
+-- the other one stands on a line above
+unfoldable pub clashes : Document → Step → Step → Bool
+clashes d s other =
+    both (both (eqb (other .kind) endKind) (ltb (other .line) (s .line)))
+    (both (eqb (mapIndex d other) (mapIndex d s)) (clash (other .side) (s .side)))
+
+unfoldable pub isClashing : Document → Model → Step → Bool
+isClashing d m s = both (hasMap d s) (any (clashes d s) (m .steps))
+
+-- "the path's first map": that of its first end
+abbrev pub firstEnd : List Step → List Step
+firstEnd [] = []
+firstEnd (s ∷ ss) = if eqb (s .kind) endKind then s ∷ [] else firstEnd ss
+
+-- "26 COUNT: step whose pins or conductors differ from the pins of the path's first map": so many stand at the step. Where that map is
+-- not found, nothing differs
+abbrev pub differs : Document → List Step → ℕ → Bool
+differs d [] many = false
+differs d (first ∷ more) many = both (hasMap d first) (not (eqb many (pinsAt (d .maps) (mapIndex d first))))
+
+unfoldable pub endRule : Document → Model → Step → ℕ
+endRule d m s =
+    firstBroken
+    (21 when not (hasMap d s)
+    ∷ 22 when isClashing d m s
+    ∷ 26 when both (hasMap d s) (differs d (firstEnd (m .steps)) (pinsAt (d .maps) (mapIndex d s)))
+    ∷ [])
+
+-- "24 METHOD: Mult with Distributed, Len with Lumped"
+unfoldable pub isWrongMethod : Document → Step → Bool
+isWrongMethod d s = if s .mult then eqb (methodAt (d .sections) (sectionIndex d s)) 1 else eqb (methodAt (d .sections) (sectionIndex d s)) 0
+
+-- "SLM_general, SLM_quiescent": the types of the single-line models come first
+unfoldable pub isSingleLine : Model → Bool
+isSingleLine m = ltb (m .type) 2
+
+unfoldable pub sectionStepRule : Document → Model → Step → ℕ
+sectionStepRule d m s =
+    firstBroken
+    (23 when not (hasSection d s)
+    ∷ 24 when both (hasSection d s) (isWrongMethod d s)
+    ∷ 25 when both (isSingleLine m) (hasOtherForm (d .sections) (sectionIndex d s))
+    ∷ 26 when both (hasSection d s) (differs d (firstEnd (m .steps)) (conductorsAt (d .sections) (sectionIndex d s)))
+    ∷ [])
+
+unfoldable pub stepRule : Document → Model → Step → ℕ
+stepRule d m s =
+    if eqb (s .kind) endKind then endRule d m s else
+    if eqb (s .kind) sectionKind then sectionStepRule d m s else 0
+
+-- ---- all lines
+
+-- what a line breaks, 0 for nothing, is a `Finding`
+
+unfoldable pub listFindings : Document → List Finding
+listFindings d = map (λ (n : Named). record { number = listRule d n; line = n .line }) (d .listed)
+
+unfoldable pub stepFindings : Document → Model → List Finding
+stepFindings d m = map (λ (s : Step). record { number = stepRule d m s; line = s .line }) (m .steps)
+
+unfoldable pub modelFindings : Document → List Model → List Finding
+modelFindings d [] = []
+modelFindings d (m ∷ ms) = record { number = modelRule d m; line = m .line } ∷ (stepFindings d m ++ modelFindings d ms)
+
+unfoldable pub pinFindings : Map → List Finding
+pinFindings m = map (λ (p : Named). record { number = pinRule m p; line = p .line }) (m .pins)
+
+unfoldable pub mapFindings : Document → List Map → List Finding
+mapFindings d [] = []
+mapFindings d (m ∷ ms) = record { number = mapRule d m; line = m .line } ∷ (pinFindings m ++ mapFindings d ms)
+
+unfoldable pub sectionFindings : Document → ℕ → List Section → List Finding
+sectionFindings d i [] = []
+sectionFindings d i (s ∷ ss) = record { number = sectionRule d i s; line = s .line } ∷ sectionFindings d (i + 1) ss
+
+unfoldable pub findings : Document → List Finding
+findings d = listFindings d ++ (modelFindings d (d .models) ++ (mapFindings d (d .maps) ++ sectionFindings d 0 (d .sections)))
+
+-- "In each group the earliest line counts": the earlier of two, one that breaks nothing never
+unfoldable pub earlier : Finding → Finding → Finding
+earlier a b = if eqb (a .number) 0 then b else if eqb (b .number) 0 then a else if ltb (b .line) (a .line) then b else a
+
+unfoldable pub nothing : Finding
+nothing = record { number = 0; line = 0 }
+
+unfoldable pub earliest : List Finding → Finding
+earliest [] = nothing
+earliest (f ∷ fs) = earlier f (earliest fs)
+
+-- the first that breaks something, where the lines stand in the order of the text
+unfoldable pub firstIn : List Finding → Finding
+firstIn [] = nothing
+firstIn (f ∷ fs) = if eqb (f .number) 0 then firstIn fs else f
+
+-- what the document breaks first in the group 19 to 27
+unfoldable pub crossRule : Document → Finding
+crossRule d = earliest (findings d)

@@ -1,0 +1,51 @@
+-- `cross_steps::first_matrix` meets its contract.
+-- Assumes nothing.
+use Rattle.cross_steps.proofs.RuleLaws.{first-behind, first-zero, first-least}
+use borrow.Author.Needs.{needs}
+use Rattle.cross_steps.proofs.first_matrix.Statement.{statement}
+use Rattle.cross_steps.proofs.first_matrix.Tie as tie
+
+array-read-if1 : tie.Need-array-read-if1
+array-read-if1 c = search needs
+
+array-read-result : tie.Need-array-read-result
+array-read-result c = search needs
+
+returns : tie.Need-returns
+returns c = search first-behind
+
+array-read-least : tie.Need-array-read-least
+array-read-least c = search needs
+
+mul-least : tie.Need-mul-least
+mul-least c = search needs
+
+add-least : tie.Need-add-least
+add-least c = search needs
+
+least-requires : tie.Need-least-requires
+least-requires c κs = search needs
+
+returns-2 : tie.Need-returns-2
+returns-2 c = search first-zero
+
+sub-result : tie.Need-sub-result
+sub-result c = search needs
+
+returns-3 : tie.Need-returns-3
+returns-3 c = search first-least
+
+pub first-matrix-spec : {M : Type 1} → statement M
+first-matrix-spec =
+    tie.close
+    (tie.spec
+    array-read-if1
+    array-read-result
+    returns
+    array-read-least
+    mul-least
+    add-least
+    least-requires
+    returns-2
+    sub-result
+    returns-3)

@@ -1,0 +1,53 @@
+-- `cross_steps::is_clashing` meets its contract. The loop's invariant: the steps left give what all of them give.
+-- Assumes nothing.
+use borrow.Author.Needs.{needs}
+use Prim.Native.Nat.{_-_}
+use Rattle.cross_steps.specs.StepWords.{meetsAbove}
+use Rattle.cross_steps.proofs.WordLaws.{Left, left-starts, meets-ends, meets-found, meets-on}
+use Rattle.cross_steps.proofs.is_clashing.Statement.{statement}
+use Rattle.cross_steps.proofs.is_clashing.Tie as tie
+
+abbrev Inv-loop : tie.InvT-loop
+Inv-loop text table own from above at₀ i₀ at i = Left 6 (meetsAbove text table own) from above at i
+
+abbrev μ-loop : tie.MeasureT-loop
+μ-loop text table own from above at₀ i₀ at i = above - i
+
+loop-holds : tie.Need-loop-holds Inv-loop μ-loop
+loop-holds c = search left-starts
+
+meets-requires : tie.Need-meets-requires Inv-loop μ-loop
+meets-requires c κs = search needs
+
+returns : tie.Need-returns Inv-loop μ-loop
+returns c = search meets-found
+
+add-at : tie.Need-add-at Inv-loop μ-loop
+add-at c = search needs
+
+add-i : tie.Need-add-i Inv-loop μ-loop
+add-i c = search needs
+
+loop-less : tie.Need-loop-less Inv-loop μ-loop
+loop-less c = search needs
+
+loop-again : tie.Need-loop-again Inv-loop μ-loop
+loop-again c = search meets-on
+
+returns-2 : tie.Need-returns-2 Inv-loop μ-loop
+returns-2 c = search meets-ends
+
+pub is-clashing-spec : {M : Type 1} → statement M
+is-clashing-spec =
+    tie.close
+    (tie.spec
+    Inv-loop
+    μ-loop
+    loop-holds
+    meets-requires
+    returns
+    add-at
+    add-i
+    loop-less
+    loop-again
+    returns-2)

@@ -1,0 +1,59 @@
+-- `cross_steps::mark_at` meets its contract.
+-- Assumes nothing.
+use borrow.Author.Needs.{needs}
+use Rattle.cross_steps.proofs.MarkLaws.{mark-told}
+use Rattle.cross_steps.proofs.mark_at.Statement.{statement}
+use Rattle.cross_steps.proofs.mark_at.Tie as tie
+
+add-name-at : tie.Need-add-name-at
+add-name-at c = search needs
+
+mul-name-at : tie.Need-mul-name-at
+mul-name-at c = search needs
+
+shared-slice-read-name-at : tie.Need-shared-slice-read-name-at
+shared-slice-read-name-at c = search needs
+
+add-name-at-2 : tie.Need-add-name-at-2
+add-name-at-2 c = search needs
+
+mul-name-at-2 : tie.Need-mul-name-at-2
+mul-name-at-2 c = search needs
+
+shared-slice-read-name-at-2 : tie.Need-shared-slice-read-name-at-2
+shared-slice-read-name-at-2 c = search needs
+
+name-at-requires : tie.Need-name-at-requires
+name-at-requires c κs = search needs
+
+add-mark-of : tie.Need-add-mark-of
+add-mark-of c = search needs
+
+mul-mark-of : tie.Need-mul-mark-of
+mul-mark-of c = search needs
+
+shared-slice-read-mark-of : tie.Need-shared-slice-read-mark-of
+shared-slice-read-mark-of c = search needs
+
+mark-of-requires : tie.Need-mark-of-requires
+mark-of-requires c κs = search needs
+
+returns : tie.Need-returns
+returns c = search mark-told
+
+pub mark-at-spec : {M : Type 1} → statement M
+mark-at-spec =
+    tie.close
+    (tie.spec
+    add-name-at
+    mul-name-at
+    shared-slice-read-name-at
+    add-name-at-2
+    mul-name-at-2
+    shared-slice-read-name-at-2
+    name-at-requires
+    add-mark-of
+    mul-mark-of
+    shared-slice-read-mark-of
+    mark-of-requires
+    returns)

@@ -1,0 +1,121 @@
+-- Laws of the words of a line where they stand in the text: what a span marks is the word of the definition.
+-- Assumes nothing.
+use mathlib.Core.Path.{_≡_, refl, sym, _∙_, ap}
+use mathlib.Core.Bool.{Bool, true, false}
+use mathlib.Core.List.{List, [], _∷_}
+use Prim.Native.Nat.{ℕ, _+_, _-_, _≤_, _<_}
+use native.Mathlib.Nat.{add-zero}
+use native.Mathlib.Omega.{arith}
+use lib.ListN.{length, take, drop, length-drop, length-take}
+use lib.Seq.{length-take-le}
+use lib.Dec.{leb}
+use borrow.Author.Tests.{le-leb, lt-leb, leb-true, leb-false}
+use Rattle.base.specs.If.{if_then_else_}
+use Rattle.base.proofs.IfLaws.{if-true, if-false, by-cases}
+use Rattle.lex_line.specs.Words.{Word, wordsFrom, wordAt}
+use Rattle.lex_line.specs.declared.Span.{Span}
+use Rattle.lex_line.proofs.WordLaws.{words-none, words-at, word-ordered, word-within}
+use Rattle.lex_keyword.specs.Bracket.{bracketOf}
+use Rattle.lex_keyword.specs.declared.Bracket.{Bracket}
+use Rattle.lex_keyword.specs.declared.Bracket.the-variants.{Plain, Indented, Bad, Unknown, Later, Keyword}
+use Rattle.lex_keyword.proofs.AnswerLaws.{keyword-known}
+use Rattle.read_line.specs.Reading.{argumentFrom}
+use Rattle.doc.specs.Lines.{Line, argumentIn, argumentOf, noWord, firstWord, secondWord}
+use Rattle.doc.specs.Found.{markOf, markAt, contentIn, lineIn, Located}
+use Rattle.doc.specs.declared.Found.{Found}
+use Rattle.doc.specs.declared.Mark.{Mark}
+
+module _ (s : List ℕ) (offset : ℕ) (word : Span) where
+  pub mark-none : length s ≤ word .start → record { start = 0; size = 0 } ≡ markAt s offset word
+  unfolding markAt
+  mark-none h = sym (if-true _ _ (le-leb _ _ h))
+
+  pub mark-some : word .start < length s → record { start = offset + word .start; size = word .end - word .start } ≡ markAt s offset word
+  unfolding markAt
+  mark-some h = sym (if-false _ _ (lt-leb _ _ h))
+
+-- ---- the first word and the second
+
+marked-at : (s : List ℕ) (start : ℕ) (word : Span) → word .start ≤ word .end → word .end ≤ length s → record { start = start; size = word .end - word .start } ≡ markOf (record { start = start; text = take (word .end - word .start) (drop (word .start) s) })
+unfolding markOf
+marked-at s start word h k =
+    let l : length (drop (word .start) s) ≡ length s - word .start = length-drop (word .start) s in
+    let m : length (take (word .end - word .start) (drop (word .start) s)) ≡ word .end - word .start = length-take-le _ (drop (word .start) s) (omega arith) in
+    λ i. record { start = start; size = sym m i }
+
+no-mark : markOf noWord ≡ record { start = 0; size = 0 }
+unfolding markOf noWord
+no-mark = refl
+
+pub start-after : (s : List ℕ) (from : ℕ) → from ≤ wordAt s from .start
+unfolding wordAt
+start-after s from = omega arith
+
+-- the first of the words from a place of s on
+module _ (s : List ℕ) (offset from : ℕ) (h : from ≤ length s) where
+  mark-first : markAt s offset (wordAt s from) ≡ markOf (firstWord (wordsFrom (offset + from) (drop from s)))
+  mark-first =
+      by-cases _ (leb (length s) (wordAt s from .start))
+      (λ (e : leb (length s) (wordAt s from .start) ≡ true).
+      let z : wordsFrom (offset + from) (drop from s) ≡ [] = words-none offset s from (leb-true _ _ e) in
+      rw z (sym (mark-none s offset (wordAt s from) (leb-true _ _ e)) ∙ sym no-mark))
+      (λ (e : leb (length s) (wordAt s from .start) ≡ false).
+      rw (words-at offset s from (leb-false _ _ e)) (sym (mark-some s offset (wordAt s from) (leb-false _ _ e)) ∙ marked))
+    where
+      marked : record { start = offset + wordAt s from .start; size = wordAt s from .end - wordAt s from .start } ≡ markOf (record { start = offset + wordAt s from .start; text = take (wordAt s from .end - wordAt s from .start) (drop (wordAt s from .start) s) })
+      marked = marked-at s (offset + wordAt s from .start) (wordAt s from) (word-ordered s from (wordAt s from) refl) (word-within s from (wordAt s from) refl h)
+
+module _ (s : List ℕ) (offset : ℕ) (first : Span) (is-first : first ≡ wordAt s 0) (r : Mark) where
+  pub first-marked : r ≡ markAt s offset first → r ≡ markOf (firstWord (wordsFrom offset s))
+  first-marked e =
+      e ∙ ap (markAt s offset) is-first ∙ mark-first s offset 0 (omega arith)
+      ∙ ap (λ (o : ℕ). markOf (firstWord (wordsFrom o s))) (add-zero offset)
+
+  pub second-marked : (second : Span) → second ≡ wordAt s (first .end) → r ≡ markAt s offset second → r ≡ markOf (secondWord (wordsFrom offset s))
+  second-marked second is-second e =
+      let w : second ≡ wordAt s (wordAt s 0 .end) = is-second ∙ ap (λ (x : Span). wordAt s (x .end)) is-first in
+      let z : wordsFrom (offset + 0) (drop 0 s) ≡ wordsFrom offset s = ap (λ (o : ℕ). wordsFrom o s) (add-zero offset) in
+      e ∙ ap (markAt s offset) w
+      ∙ by-cases (markAt s offset (wordAt s (wordAt s 0 .end)) ≡ markOf (secondWord (wordsFrom offset s))) (leb (length s) (wordAt s 0 .start))
+      (λ (b : leb (length s) (wordAt s 0 .start) ≡ true). none-second (leb-true _ _ b) (sym z ∙ words-none offset s 0 (leb-true _ _ b)))
+      (λ (b : leb (length s) (wordAt s 0 .start) ≡ false).
+      mark-first s offset (wordAt s 0 .end) (word-within s 0 (wordAt s 0) refl (omega arith)) ∙ ap (λ (ws : List Word). markOf (secondWord ws)) (sym (words-at offset s 0 (leb-false _ _ b)) ∙ z))
+    where
+      none-second : length s ≤ wordAt s 0 .start → wordsFrom offset s ≡ [] → markAt s offset (wordAt s (wordAt s 0 .end)) ≡ markOf (secondWord (wordsFrom offset s))
+      none-second h z =
+          let o : wordAt s 0 .start ≤ wordAt s 0 .end = word-ordered s 0 (wordAt s 0) refl in
+          let k : wordAt s 0 .end ≤ wordAt s (wordAt s 0 .end) .start = start-after s (wordAt s 0 .end) in
+          rw z (sym (mark-none s offset (wordAt s (wordAt s 0 .end)) (omega arith)) ∙ sym no-mark)
+
+-- ---- arguments
+
+pub argument-in-line : (content : List ℕ) (b : Bracket) → bracketOf content ≡ b → argumentIn b ≤ length content
+argument-in-line content Plain e = omega arith
+argument-in-line content Indented e = omega arith
+argument-in-line content Bad e = omega arith
+argument-in-line content Unknown e = omega arith
+argument-in-line content Later e = omega arith
+argument-in-line content (Keyword k start) e = keyword-known k start content e .inside
+
+module _ (t : List ℕ) (f : Found) (located : Located t f) where
+  content-long : length (contentIn t f) ≡ f .end - f .at
+  content-long =
+      let l : length (drop (f .at) t) ≡ length t - f .at = length-drop (f .at) t in
+      let w : f .end ≤ length t = located .within in
+      length-take-le _ (drop (f .at) t) (omega arith)
+
+  pub argument-within : f .at + f .argument ≤ length t
+  argument-within =
+      let l : length (contentIn t f) ≡ f .end - f .at = content-long in
+      let a : argumentIn (bracketOf (contentIn t f)) ≤ length (contentIn t f) = argument-in-line (contentIn t f) _ refl in
+      let e : f .argument ≡ argumentIn (bracketOf (contentIn t f)) = located .argument-is in
+      let w : f .end ≤ length t = located .within in
+      let o : f .at ≤ f .end = located .ordered in
+      omega arith
+
+  pub argument-told : (argument : List ℕ) → argument ≡ argumentFrom (contentIn t f) (f .argument) → record { start = f .at + f .argument; size = length argument } ≡ markOf (argumentOf (lineIn t f 0))
+  unfolding markOf argumentOf
+  argument-told argument e =
+      let a : f .argument ≡ argumentIn (bracketOf (contentIn t f)) = located .argument-is in
+      let m : length argument ≡ length (argumentFrom (contentIn t f) (argumentIn (bracketOf (contentIn t f)))) = ap length (e ∙ ap (argumentFrom (contentIn t f)) a) in
+      λ i. record { start = f .at + a i; size = m i }

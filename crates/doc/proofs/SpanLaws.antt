@@ -1,0 +1,173 @@
+-- The lines of a section and of its matrices: where they end, and which matrices the document takes from them.
+-- Assumes nothing.
+use mathlib.Core.Path.{_≡_, refl, sym, _∙_, ap}
+use mathlib.Core.Bool.{Bool, true, false}
+use mathlib.Core.List.{List, [], _∷_, _++_}
+use lib.Dec.{eqb}
+use borrow.Author.Tests.{eq-eqb, eqb-true}
+use Rattle.base.specs.If.{either}
+use Rattle.base.proofs.IfLaws.{
+  if-true,
+  if-false,
+  by-cases,
+  both-true,
+  both-first,
+  both-not-right,
+  either-left,
+  either-right,
+  either-false,
+}
+use Rattle.lex_keyword.specs.Names.{row, bandwidth, endIcmSection, derivationMethod}
+use Rattle.line_place.specs.Place.{opensMatrix, keepsMatrix}
+use Rattle.line_place.specs.Place as place
+use Rattle.line_argument.specs.Argument.{formOf}
+use Rattle.line_matrix.specs.Matrix as matrix
+use Rattle.doc.specs.Lines.{Line, plain, keyOf, argumentOf, gather, upTo}
+use Rattle.doc.specs.Document.{Matrix, matrixOf, matrixAt, opensMatrixAt, inMatrix, inSection}
+
+-- ---- lines up to one that does not pass a test
+
+module _ (inside : Line → Bool) (l : Line) (ls : List Line) where
+  pub up-in : inside l ≡ true → upTo inside (l ∷ ls) ≡ l ∷ upTo inside ls
+  unfolding upTo
+  up-in e = if-true _ _ e
+
+  pub up-out : inside l ≡ false → upTo inside (l ∷ ls) ≡ []
+  unfolding upTo
+  up-out e = if-false _ _ e
+
+pub up-none : (inside : Line → Bool) → upTo inside [] ≡ []
+unfolding upTo
+up-none inside = refl
+
+-- a narrower test of what a wider one leaves
+pub up-up :
+    (narrow wide : Line → Bool) → ((l : Line) → narrow l ≡ true → wide l ≡ true) → (ls : List Line) →
+    upTo narrow (upTo wide ls) ≡ upTo narrow ls
+up-up narrow wide h [] = ap (upTo narrow) (up-none wide)
+up-up narrow wide h (l ∷ ls) =
+    by-cases (upTo narrow (upTo wide (l ∷ ls)) ≡ upTo narrow (l ∷ ls)) (narrow l)
+    (λ (e : narrow l ≡ true).
+    ap (upTo narrow) (up-in wide l ls (h l e)) ∙ up-in narrow l (upTo wide ls) e ∙ ap (λ (xs : List Line). l ∷ xs) (up-up narrow wide h ls)
+    ∙ sym (up-in narrow l ls e))
+    (λ (e : narrow l ≡ false).
+    by-cases (upTo narrow (upTo wide (l ∷ ls)) ≡ upTo narrow (l ∷ ls)) (wide l)
+    (λ (f : wide l ≡ true). ap (upTo narrow) (up-in wide l ls f) ∙ up-out narrow l (upTo wide ls) e ∙ sym (up-out narrow l ls e))
+    (λ (f : wide l ≡ false). ap (upTo narrow) (up-out wide l ls f) ∙ up-none narrow ∙ sym (up-out narrow l ls e)))
+
+pub gather-none : {A : Type 0} (here : Line → List Line → List A) → gather here [] ≡ []
+unfolding gather
+gather-none here = refl
+
+pub gather-more :
+    {A : Type 0} (here : Line → List Line → List A) (l : Line) (ls : List Line) →
+    gather here (l ∷ ls) ≡ here l ls ++ gather here ls
+unfolding gather
+gather-more here l ls = refl
+
+-- ---- the lines of a matrix, and of a section
+
+module _ (l : Line) where
+  pub matrix-plain : l .place ≡ place.matrix → keyOf l ≡ plain → inMatrix l ≡ true
+  unfolding inMatrix
+  matrix-plain p k = both-true _ _ (eq-eqb _ _ p) (either-left _ _ (eq-eqb _ _ k))
+
+  pub matrix-kept : l .place ≡ place.matrix → keepsMatrix (keyOf l) ≡ true → inMatrix l ≡ true
+  unfolding inMatrix
+  matrix-kept p k = both-true _ _ (eq-eqb _ _ p) (either-right _ _ k)
+
+  pub matrix-left : eqb (keyOf l) plain ≡ false → keepsMatrix (keyOf l) ≡ false → inMatrix l ≡ false
+  unfolding inMatrix
+  matrix-left k h = both-not-right _ _ (either-false _ _ k h)
+
+  pub section-head : l .place ≡ place.sectionHead → inSection l ≡ true
+  unfolding inSection
+  section-head p = either-left _ _ (eq-eqb _ _ p)
+
+  pub section-first : l .place ≡ place.section → inSection l ≡ true
+  unfolding inSection
+  section-first p = either-right _ _ (either-left _ _ (eq-eqb _ _ p))
+
+  pub section-matrix : l .place ≡ place.matrix → inSection l ≡ true
+  unfolding inSection
+  section-matrix p = either-right _ _ (either-right _ _ (eq-eqb _ _ p))
+
+  pub section-left : l .place ≡ place.after → inSection l ≡ false
+  unfolding inSection either
+  section-left p = rw p
+
+  pub matrix-inside : inMatrix l ≡ true → inSection l ≡ true
+  unfolding inMatrix
+  matrix-inside h = section-matrix (eqb-true _ _ (both-first _ _ h))
+
+-- a line of a section that opens no matrix
+module _ (l : Line) (ls : List Line) where
+  skip-at : (after : List Line) → opensMatrix (keyOf l) ≡ false → matrixAt l after ≡ []
+  unfolding matrixAt opensMatrixAt
+  skip-at after k = if-false _ _ (both-not-right _ _ k)
+
+  pub matrices-skip :
+      inSection l ≡ true → opensMatrix (keyOf l) ≡ false →
+      gather matrixAt (upTo inSection (l ∷ ls)) ≡ gather matrixAt (upTo inSection ls)
+  matrices-skip s k =
+      ap (gather matrixAt) (up-in inSection l ls s) ∙ gather-more matrixAt l (upTo inSection ls)
+      ∙ ap (λ (xs : List Matrix). xs ++ gather matrixAt (upTo inSection ls)) (skip-at (upTo inSection ls) k)
+
+  open-at :
+      (after : List Line) → opensMatrixAt l ≡ true →
+      matrixAt l after ≡ matrixOf l (formOf (argumentOf l .text)) (upTo inMatrix after) ∷ []
+  unfolding matrixAt
+  open-at after k = if-true _ _ k
+
+  -- one that opens a matrix
+  pub matrices-open :
+      inSection l ≡ true → opensMatrixAt l ≡ true →
+      gather matrixAt (upTo inSection (l ∷ ls))
+      ≡ matrixOf l (formOf (argumentOf l .text)) (upTo inMatrix ls) ∷ gather matrixAt (upTo inSection ls)
+  matrices-open s k =
+      ap (gather matrixAt) (up-in inSection l ls s) ∙ gather-more matrixAt l (upTo inSection ls)
+      ∙ ap (λ (xs : List Matrix). xs ++ gather matrixAt (upTo inSection ls)) (open-at (upTo inSection ls) k)
+      ∙ ap (λ (xs : List Line). matrixOf l (formOf (argumentOf l .text)) xs ∷ gather matrixAt (upTo inSection ls))
+      (up-up inMatrix inSection matrix-inside ls)
+
+  pub opens-next : l .place ≡ place.matrix → opensMatrix (keyOf l) ≡ true → opensMatrixAt l ≡ true
+  unfolding opensMatrixAt
+  opens-next p k = both-true _ _ (either-right _ _ (eq-eqb _ _ p)) k
+
+  pub opens-first : l .place ≡ place.section → opensMatrix (keyOf l) ≡ true → opensMatrixAt l ≡ true
+  unfolding opensMatrixAt
+  opens-first p k = both-true _ _ (either-left _ _ (eq-eqb _ _ p)) k
+
+-- the keys that open no matrix
+module _ (l : Line) where
+  pub plain-opens : keyOf l ≡ plain → opensMatrix (keyOf l) ≡ false
+  unfolding opensMatrix either
+  plain-opens k = ap opensMatrix k
+
+  pub row-opens : keyOf l ≡ row → opensMatrix (keyOf l) ≡ false
+  unfolding opensMatrix either
+  row-opens k = ap opensMatrix k
+
+  pub width-opens : keyOf l ≡ bandwidth → opensMatrix (keyOf l) ≡ false
+  unfolding opensMatrix either
+  width-opens k = ap opensMatrix k
+
+  pub end-opens : keyOf l ≡ endIcmSection → opensMatrix (keyOf l) ≡ false
+  unfolding opensMatrix either
+  end-opens k = ap opensMatrix k
+
+  pub method-opens : keyOf l ≡ derivationMethod → opensMatrix (keyOf l) ≡ false
+  unfolding opensMatrix either
+  method-opens k = ap opensMatrix k
+
+  pub row-keeps : keyOf l ≡ row → keepsMatrix (keyOf l) ≡ true
+  unfolding keepsMatrix either
+  row-keeps k = ap keepsMatrix k
+
+  pub width-keeps : keyOf l ≡ bandwidth → keepsMatrix (keyOf l) ≡ true
+  unfolding keepsMatrix either
+  width-keeps k = ap keepsMatrix k
+
+  pub end-closes : keyOf l ≡ endIcmSection → keepsMatrix (keyOf l) ≡ false
+  unfolding keepsMatrix either
+  end-closes k = ap keepsMatrix k

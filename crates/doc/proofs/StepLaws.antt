@@ -1,0 +1,199 @@
+-- The lines of a path of a text that reads to its end: each says one of the five things that a path's lines say, and gives one step
+-- or, a Side, none.
+-- Assumes nothing.
+use mathlib.Core.Path.{_≡_, refl, sym, _∙_}
+use mathlib.Core.Bool.{true, false, not, true≢false}
+use mathlib.Core.List.{List, [], _∷_}
+use Prim.Native.Nat.{ℕ, _+_}
+use native.Mathlib.Omega.{arith}
+use lib.ListN.{length}
+use lib.Dec.{eqb, leb}
+use borrow.Author.Tests.{eq-eqb, ne-eqb, eqb-true, eqb-false}
+use Rattle.base.specs.If.{if_then_else_, both, either}
+use Rattle.base.specs.Broken.{Rule, _when_}
+use Rattle.base.specs.Bytes.{bytes}
+use Rattle.base.specs.Runs.{same}
+use Rattle.base.proofs.IfLaws.{if-true, if-false, by-test, by-cases, both-true, both-not-left, both-not-right, not-via, not-not-via}
+use Rattle.base.proofs.BrokenLaws.{Numbered, all-kept}
+use Rattle.lex_line.specs.Words.{words, firstOf}
+use Rattle.line_place.specs.Place.{isText}
+use Rattle.line_place.specs.Place as place
+use Rattle.line_path.specs.Path.{
+  sayingOf,
+  plainLine,
+  isSectionLine,
+  sectionLine,
+  lineSaying,
+  pathLineOf,
+  closed,
+  mostSteps,
+  isBadFork,
+  isOutOfOrder,
+  isStep,
+  openRule,
+  pathRule,
+}
+use Rattle.line_path.specs.Path as path
+use Rattle.line_path.specs.declared.Path.{Path}
+use Rattle.line_path.specs.declared.PathLine.{PathLine}
+use Rattle.line_path.proofs.RuleLaws.{closed-other}
+use Rattle.line_keyword.specs.Keywords.{oneMoreIf}
+use Rattle.line_keyword.specs.declared.State.{State}
+use Rattle.read_line.specs.Reading.{lineRule}
+use Rattle.doc.specs.Lines.{Line, plain, keyOf, standsIn}
+use Rattle.doc.specs.Document.{Step, sayingAt, stepOf}
+
+-- ---- what a line says
+
+-- one of the six
+saying-none :
+    (w : List ℕ) → eqb (sayingOf w) path.section ≡ false → either (eqb (sayingOf w) path.fork) (eqb (sayingOf w) path.endfork) ≡ false →
+    either (eqb (sayingOf w) path.end) (eqb (sayingOf w) path.side) ≡ false → path.nothing ≡ sayingOf w
+unfolding sayingOf either
+saying-none w =
+    by-test Other (same w (bytes "Section")) _ _
+    (λ e (a : true ≡ false) b c. absurd (true≢false a))
+    (λ e.
+    by-test Other (same w (bytes "Fork")) _ _
+    (λ f a (b : true ≡ false) c. absurd (true≢false b))
+    (λ f.
+    by-test Other (same w (bytes "Endfork")) _ _
+    (λ g a (b : true ≡ false) c. absurd (true≢false b))
+    (λ g.
+    by-test Other (same w (bytes "Model_pinmap")) _ _
+    (λ h a b (c : true ≡ false). absurd (true≢false c))
+    (λ h.
+    by-test Other (same w (bytes "Side")) _ _
+    (λ i a b (c : true ≡ false). absurd (true≢false c))
+    (λ i a b c. refl)))))
+  where
+    Other : ℕ → Type 0
+    Other v =
+        eqb v path.section ≡ false → either (eqb v path.fork) (eqb v path.endfork) ≡ false →
+        either (eqb v path.end) (eqb v path.side) ≡ false → path.nothing ≡ v
+
+section-says : (content : List ℕ) → sectionLine content .says ≡ path.section
+unfolding sectionLine plainLine
+section-says content =
+    by-test (λ (l : PathLine). l .says ≡ path.section) (isSectionLine content) _ _ (λ (e : isSectionLine content ≡ true). refl)
+    (λ (e : isSectionLine content ≡ false). refl)
+
+-- a line of a path says what its first word says
+pub says-said : (content : List ℕ) → pathLineOf content .says ≡ sayingOf (firstOf (words content))
+unfolding pathLineOf lineSaying plainLine
+says-said content =
+    by-test (λ (l : PathLine). l .says ≡ sayingOf (firstOf (words content))) (eqb (sayingOf (firstOf (words content))) path.section) _ _
+    (λ (e : eqb (sayingOf (firstOf (words content))) path.section ≡ true). section-says content ∙ sym (eqb-true _ _ e))
+    (λ (e : eqb (sayingOf (firstOf (words content))) path.section ≡ false).
+    by-test (λ (l : PathLine). l .says ≡ sayingOf (firstOf (words content)))
+    (either (eqb (sayingOf (firstOf (words content))) path.fork) (eqb (sayingOf (firstOf (words content))) path.endfork)) _ _
+    (λ f. refl)
+    (λ (f : either (eqb (sayingOf (firstOf (words content))) path.fork) (eqb (sayingOf (firstOf (words content))) path.endfork) ≡ false).
+    by-test (λ (l : PathLine). l .says ≡ sayingOf (firstOf (words content)))
+    (either (eqb (sayingOf (firstOf (words content))) path.end) (eqb (sayingOf (firstOf (words content))) path.side)) _ _
+    (λ g. refl)
+    (λ (g : either (eqb (sayingOf (firstOf (words content))) path.end) (eqb (sayingOf (firstOf (words content))) path.side) ≡ false).
+    saying-none (firstOf (words content)) e f g)))
+
+-- what a line in a path says is what its document reads
+pub saying-there : (l : Line) → l .place ≡ place.path → keyOf l ≡ plain → sayingAt l ≡ pathLineOf (l .content) .says
+unfolding sayingAt standsIn
+saying-there l e k = if-true _ _ (both-true _ _ (eq-eqb _ _ e) (eq-eqb _ _ k)) ∙ sym (says-said (l .content))
+
+-- elsewhere it says nothing
+pub saying-elsewhere : (l : Line) → (l .place ≡ place.path → ⊥) → sayingAt l ≡ path.nothing
+unfolding sayingAt standsIn
+saying-elsewhere l n = if-false _ _ (both-not-left _ _ (ne-eqb _ _ n))
+
+pub saying-keyed : (l : Line) → eqb (keyOf l) plain ≡ false → sayingAt l ≡ path.nothing
+unfolding sayingAt standsIn
+saying-keyed l k = if-false _ _ (both-not-right _ _ k)
+
+-- ---- what a line of a path that breaks no rule says
+
+pub path-ruled :
+    (content : List ℕ) (s : State) → s .place ≡ place.path → lineRule content s ≡ 0 →
+    pathRule (pathLineOf content) (s .path) (s .counts .steps) ≡ 0
+unfolding lineRule isText either if_then_else_
+path-ruled content s e h = rw e at h
+
+module _ (l : PathLine) (p : Path) (steps : ℕ) where
+  abbrev openRules : List Rule
+  openRules =
+      15 when isBadFork l p
+      ∷ 11 when not (l .right)
+      ∷ 12 when isOutOfOrder l p
+      ∷ 13 when not (l .formed)
+      ∷ 14 when not (l .bounded)
+      ∷ 17 when both (isStep l) (leb mostSteps steps)
+      ∷ []
+
+  numbered : Numbered openRules
+  numbered = (omega arith, (omega arith, (omega arith, (omega arith, (omega arith, (omega arith, tt))))))
+
+  orderly : openRule l p steps ≡ 0 → isOutOfOrder l p ≡ false
+  unfolding openRule
+  orderly h = all-kept openRules numbered h 2
+
+  nothing-disorderly :
+      eqb (l .says) path.side ≡ false → eqb (l .says) path.section ≡ false → eqb (l .says) path.fork ≡ false →
+      eqb (l .says) path.end ≡ false → eqb (l .says) path.endfork ≡ false → isOutOfOrder l p ≡ true
+  unfolding isOutOfOrder
+  nothing-disorderly a b c d e = if-false _ _ a ∙ if-false _ _ b ∙ if-false _ _ c ∙ if-false _ _ d ∙ if-false _ _ e
+
+  pub path-says :
+      pathRule l p steps ≡ 0 → eqb (l .says) path.side ≡ false → eqb (l .says) path.section ≡ false → eqb (l .says) path.fork ≡ false →
+      eqb (l .says) path.end ≡ false → eqb (l .says) path.endfork ≡ false → ⊥
+  unfolding pathRule
+  path-says h a b c d e =
+      by-cases ⊥ (eqb (p .stage) closed)
+      (λ (t : eqb (p .stage) closed ≡ true).
+      let z : 12 ≡ 0 = closed-other l p (eqb-false _ _ a) ∙ sym (if-true _ _ t) ∙ h in
+      omega arith)
+      (λ (t : eqb (p .stage) closed ≡ false). true≢false (sym (nothing-disorderly a b c d e) ∙ orderly (sym (if-false _ _ t) ∙ h)))
+
+-- ---- the steps that it gives
+
+pub silent-step : (l : Line) (after : List Line) → sayingAt l ≡ path.nothing → stepOf l after ≡ []
+unfolding stepOf if_then_else_
+silent-step l after e = rw e
+
+module _ (n v : ℕ) where
+  counts-one : (v ≡ path.side → ⊥) → oneMoreIf (not (eqb v path.side)) n ≡ n + 1
+  unfolding oneMoreIf
+  counts-one h = if-true _ _ (not-via (ne-eqb _ _ h))
+
+  counts-none : v ≡ path.side → oneMoreIf (not (eqb v path.side)) n ≡ n
+  unfolding oneMoreIf
+  counts-none h = if-false _ _ (not-not-via (eq-eqb _ _ h))
+
+module _ (n : ℕ) (l : Line) (after : List Line) where
+  pub said-steps :
+      (eqb (sayingAt l) path.side ≡ false → eqb (sayingAt l) path.section ≡ false → eqb (sayingAt l) path.fork ≡ false →
+      eqb (sayingAt l) path.end ≡ false → eqb (sayingAt l) path.endfork ≡ false → ⊥) →
+      oneMoreIf (not (eqb (sayingAt l) path.side)) n ≡ n + length (stepOf l after)
+  unfolding stepOf
+  said-steps five =
+      by-test Counts (eqb (sayingAt l) path.end) _ _
+      (λ (a : eqb (sayingAt l) path.end ≡ true). one path.end (eqb-true _ _ a) (λ (z : path.end ≡ path.side). omega arith))
+      (λ (a : eqb (sayingAt l) path.end ≡ false).
+      by-test Counts (eqb (sayingAt l) path.section) _ _
+      (λ (b : eqb (sayingAt l) path.section ≡ true). one path.section (eqb-true _ _ b) (λ (z : path.section ≡ path.side). omega arith))
+      (λ (b : eqb (sayingAt l) path.section ≡ false).
+      by-test Counts (eqb (sayingAt l) path.fork) _ _
+      (λ (c : eqb (sayingAt l) path.fork ≡ true). one path.fork (eqb-true _ _ c) (λ (z : path.fork ≡ path.side). omega arith))
+      (λ (c : eqb (sayingAt l) path.fork ≡ false).
+      by-test Counts (eqb (sayingAt l) path.endfork) _ _
+      (λ (d : eqb (sayingAt l) path.endfork ≡ true). one path.endfork (eqb-true _ _ d) (λ (z : path.endfork ≡ path.side). omega arith))
+      (λ (d : eqb (sayingAt l) path.endfork ≡ false).
+      by-cases (Counts []) (eqb (sayingAt l) path.side)
+      (λ (e : eqb (sayingAt l) path.side ≡ true).
+      let z : oneMoreIf (not (eqb (sayingAt l) path.side)) n ≡ n = counts-none n (sayingAt l) (eqb-true _ _ e) in
+      omega arith)
+      (λ (e : eqb (sayingAt l) path.side ≡ false). absurd (five e b c a d))))))
+    where
+      Counts : List Step → Type 0
+      Counts steps = oneMoreIf (not (eqb (sayingAt l) path.side)) n ≡ n + length steps
+
+      one : (v : ℕ) → sayingAt l ≡ v → (v ≡ path.side → ⊥) → oneMoreIf (not (eqb (sayingAt l) path.side)) n ≡ n + 1
+      one v e h = counts-one n (sayingAt l) (λ (z : sayingAt l ≡ path.side). h (sym e ∙ z))

@@ -1,0 +1,108 @@
+-- What the functions that find lines and words promise, in the words of the lines' definitions.
+-- Assumes nothing.
+use Prim.Native.Nat.{ℕ, _+_, _-_, _≤_, _<_}
+use mathlib.Core.Path.{_≡_}
+use mathlib.Core.Bool.{Bool, true, false}
+use mathlib.Core.List.{List, [], _∷_, _++_}
+use Prim.Native.Char.{code}
+use lib.ListN.{length, take, drop, getD}
+use lib.Dec.{leb}
+use Rattle.base.specs.If.{if_then_else_}
+use Rattle.base.specs.Bytes.{lineFeed}
+use Rattle.base.specs.Class.{isBefore, runEnd}
+use Rattle.lex_line.specs.Words.{Word}
+use Rattle.lex_line.specs.declared.Span.{Span}
+use Rattle.lex_keyword.specs.Bracket.{bracketOf}
+use Rattle.line_place.specs.Place.{mapHead}
+use Rattle.doc.specs.Lines.{Line, plain, keyOf, linesAt, placeAfter, keyAt, argumentIn}
+use Rattle.doc.specs.Holds.{Each}
+use Rattle.doc.specs.declared.Found.{Found}
+use Rattle.doc.specs.declared.Mark.{Mark}
+use Rattle.doc.specs.declared.Passed.{Passed}
+
+-- where a word stands
+unfoldable pub markOf : Word → Mark
+markOf w = record { start = w .start; size = length (w .text) }
+
+-- the word that a span marks in a part of the text that starts at `offset`; no word is 0 0
+unfoldable pub markAt : List ℕ → ℕ → Span → Mark
+markAt s offset word =
+    if leb (length s) (word .start)
+    then record { start = 0; size = 0 }
+    else record { start = offset + word .start; size = word .end - word .start }
+
+-- the content of the line that was found, and the line itself, read in the place p
+abbrev pub contentIn : List ℕ → Found → List ℕ
+contentIn t f = take (f .end - f .at) (drop (f .at) t)
+
+abbrev pub lineIn : List ℕ → Found → ℕ → Line
+lineIn t f p = record { number = f .number; at = f .at; place = p; content = contentIn t f }
+
+-- the lines after it
+abbrev pub linesBehind : List ℕ → Found → ℕ → List Line
+linesBehind t f p = linesAt t (f .number + 1) (f .next) (placeAfter p (contentIn t f))
+
+-- a line found lies within the text, and lines are no more than bytes
+pub record Located (t : List ℕ) (f : Found) : Type 0 where
+  pub ordered : f .at ≤ f .end
+  pub within : f .end ≤ length t
+  pub further : f .at < f .next
+  pub next-within : f .next ≤ length t
+  pub counted : f .number ≤ f .at + 1
+  pub key-is : f .key ≡ keyAt (contentIn t f)
+  pub argument-is : f .argument ≡ argumentIn (bracketOf (contentIn t f))
+
+-- the first line from a byte on that says something
+pub record Finds (t : List ℕ) (n at : ℕ) (f : Found) : Type 0 where
+  pub located : f .there ≡ true → Located t f
+  pub behind : f .there ≡ true → at ≤ f .at
+  pub same-there : f .there ≡ true → (p : ℕ) → linesAt t n at p ≡ lineIn t f p ∷ linesBehind t f p
+  pub same-none : f .there ≡ false → (p : ℕ) → linesAt t n at p ≡ []
+
+-- ---- where keywords alone are looked for
+
+-- a line without a keyword in the place p
+pub record IsPlain (p : ℕ) (l : Line) : Type 0 where
+  pub place-is : l .place ≡ p
+  pub key-is : keyOf l ≡ plain
+
+-- these lines are some without a keyword, all in the place p, and then the rest
+pub record Plainly (p : ℕ) (ls rest : List Line) : Type 0 where
+  pub before : List Line
+  pub all : ls ≡ before ++ rest
+  pub each : Each (IsPlain p) before
+
+-- lines without a keyword are gone past: outside the head of a map they lead nowhere
+pub record PassesPlain (t : List ℕ) (n at : ℕ) (r : Passed) : Type 0 where
+  pub onward : at ≤ r .at
+  pub within : r .at ≤ length t
+  pub counted : r .number ≤ r .at + 1
+  pub lines : (p : ℕ) → (p ≡ mapHead → ⊥) → Plainly p (linesAt t n at p) (linesAt t (r .number) (r .at) p)
+
+-- a line from a byte on, read in the place p: those before it have no keyword
+pub record Meets (t : List ℕ) (n at p : ℕ) (f : Found) : Type 0 where
+  pub located : f .there ≡ true → Located t f
+  pub behind : f .there ≡ true → at ≤ f .at
+  pub same-there : f .there ≡ true → Plainly p (linesAt t n at p) (lineIn t f p ∷ linesBehind t f p)
+  pub same-none : f .there ≡ false → Plainly p (linesAt t n at p) []
+
+-- ---- the same, many bytes at once
+
+-- gone past lines from at₀ on to a byte behind an LF, or to one in the line that starts at s, which does not start with `[`
+pub data Amid (t : List ℕ) (n₀ at₀ : ℕ) : ℕ → ℕ → Type 0 where
+  ended : {n at : ℕ} → PassesPlain t n₀ at₀ (record { at = at; number = n }) → getD t (at - 1) 0 ≡ lineFeed → Amid t n₀ at₀ n at
+  amid : {n at : ℕ} (s : ℕ) → PassesPlain t n₀ at₀ (record { at = s; number = n }) → s < at → at ≤ length t →
+      runEnd (isBefore lineFeed) t at ≡ runEnd (isBefore lineFeed) t s → (getD t s 0 ≡ code "[" → ⊥) → (getD t (at - 1) 0 ≡ lineFeed → ⊥) →
+      Amid t n₀ at₀ n at
+
+-- bytes are gone past, wherever the lines began
+pub record PassesBytes (t : List ℕ) (n at : ℕ) (r : Passed) : Type 0 where
+  pub onward : at ≤ r .at
+  pub within : r .at ≤ length t
+  pub counted : r .number ≤ r .at + 1
+  pub over : (n₀ at₀ : ℕ) → Amid t n₀ at₀ n at → Amid t n₀ at₀ (r .number) (r .at)
+
+-- and what is left of their last line
+pub record EndsLine (t : List ℕ) (n at : ℕ) (r : Passed) : Type 0 where
+  pub onward : at ≤ r .at
+  pub past : (n₀ at₀ : ℕ) → Amid t n₀ at₀ n at → PassesPlain t n₀ at₀ r

@@ -1,0 +1,282 @@
+// The lines of a text that say something, and the words of such a line, found where they stand.
+ghost use mathlib.Core.Path.{_≡_};
+ghost use Prim.Native.Nat.{_+_, _≤_};
+ghost use lib.ListN.{length, take, drop};
+ghost use Rattle.base.specs.Runs.{all};
+ghost use Rattle.base.specs.Class.{isBefore, runEnd};
+ghost use Rattle.lex_line.specs.Lines.{pastFeed};
+ghost use Rattle.lex_line.specs.Words.{wordsFrom};
+ghost use Rattle.line_keyword.specs.Kept.{mostLines};
+ghost use Rattle.doc.specs.Lines.{keyIn, argumentIn, firstWord, secondWord, placeAfter, argumentOf};
+ghost use Rattle.doc.specs.Found.{markOf, markAt, Finds, Located, contentIn, lineIn, PassesPlain, PassesBytes, EndsLine, Meets};
+use base::Class;
+use lex_keyword::Bracket;
+use lex_line::Span;
+
+// "From `|` on, a line is comment".
+const COMMENT: u8 = b'|';
+
+// What a keyword opens with, and what a line ends with.
+const OPEN: u8 = b'[';
+
+const LINE_FEED: u8 = 10;
+
+// How many bytes are looked at together.
+const BLOCK: usize = 16;
+
+// What stands for the keyword of a line that has none.
+pub const PLAIN: u64 = 41;
+
+// A line that says something: its number, where it and its content end, and what its bracket says.
+pub struct Found {
+    pub there: bool,
+    pub number: u64,
+    pub at: usize,
+    pub end: usize,
+    pub next: usize,
+    pub key: u64,
+    pub argument: usize,
+}
+
+// Where lines have been gone past: where the next one starts, and its number.
+pub struct Passed {
+    pub at: usize,
+    pub number: u64,
+}
+
+// A word of the text: where it starts, and how many bytes it has.
+pub struct Mark {
+    pub start: usize,
+    pub size: usize,
+}
+
+// The keyword in a bracket.
+fn key_in(bracket: Bracket) -> u64
+    ensures { λ r. ⌜ r ≡ keyIn bracket ⌝ }
+{
+    match bracket {
+        Bracket::Plain => PLAIN,
+        Bracket::Indented => PLAIN,
+        Bracket::Bad => lex_keyword::UNKNOWN,
+        Bracket::Unknown => lex_keyword::UNKNOWN,
+        Bracket::Later => lex_keyword::UNKNOWN,
+        Bracket::Keyword(key, _start) => key,
+    }
+}
+
+// Where the argument after a bracket starts.
+fn argument_in(bracket: Bracket) -> usize
+    ensures { λ r. ⌜ r ≡ argumentIn bracket ⌝ }
+{
+    match bracket {
+        Bracket::Plain => 0,
+        Bracket::Indented => 0,
+        Bracket::Bad => 0,
+        Bracket::Unknown => 0,
+        Bracket::Later => 0,
+        Bracket::Keyword(_key, start) => start,
+    }
+}
+
+// The first line from a byte on that says something: blank lines and comments are passed over.
+pub fn next_line(text: &[u8], at: usize, number: u64) -> Found
+    requires { ⌜ (at ≤ length (now text)) × (number ≤ at + 1) ⌝ }
+    ensures { λ r. ⌜ Finds (now (text .entry)) number at r ⌝ }
+{
+    let mut here = at;
+    let mut line = number;
+    while here < text.len() {
+        let ends = lex_line::line_at(text, here, COMMENT);
+        let end = ends.content;
+        if !read_line::is_blank_line(&text[here..end]) {
+            let bracket = lex_keyword::read_bracket(&text[here..end]);
+            return Found {
+                there: true,
+                number: line,
+                at: here,
+                end,
+                next: ends.next,
+                key: key_in(bracket),
+                argument: argument_in(bracket),
+            };
+        }
+        here = ends.next;
+        line += 1;
+    }
+    Found {
+        there: false,
+        number: line,
+        at: here,
+        end: here,
+        next: here,
+        key: PLAIN,
+        argument: 0,
+    }
+}
+
+// Where the line behind the one at a byte starts. What the line says is not looked at.
+fn past_line(text: &[u8], at: usize) -> usize
+    ensures { λ r. ⌜ r ≡ pastFeed (now (text .entry)) (runEnd (isBefore 10) (now (text .entry)) at) ⌝ }
+{
+    let mut i = at;
+    while i < text.len() {
+        if text[i] == LINE_FEED {
+            return i + 1;
+        }
+        i += 1;
+    }
+    i
+}
+
+// Whether none of sixteen bytes is a `[`. Each is looked at, so that a processor takes them at once.
+fn is_closed(text: &[u8], from: usize) -> bool
+    requires { ⌜ from + 16 ≤ length (now text) ⌝ }
+    ensures { λ r. ⌜ r ≡ all (isBefore 91) (take 16 (drop from (now (text .entry)))) ⌝ }
+{
+    let end = from + BLOCK;
+    let mut whole = true;
+    let mut i = from;
+    while i < end {
+        whole = base::and(whole, base::in_class(Class::Before(OPEN), text[i]));
+        i += 1;
+    }
+    whole
+}
+
+// Past all blocks from a byte on that have no `[`: no line starts with one there. The last of these lines may go on behind them.
+fn past_blocks(text: &[u8], at: usize, number: u64) -> Passed
+    requires { ⌜ (at ≤ length (now text)) × (number ≤ at + 1) ⌝ }
+    ensures { λ r. ⌜ PassesBytes (now (text .entry)) number at r ⌝ }
+{
+    let mut here = at;
+    let mut count = number;
+    while BLOCK <= text.len() - here {
+        if !is_closed(text, here) {
+            return Passed {
+                at: here,
+                number: count,
+            };
+        }
+        count += lex_line::feeds_in(text, here) as u64;
+        here += BLOCK;
+    }
+    Passed {
+        at: here,
+        number: count,
+    }
+}
+
+// What is left of the line before a byte: nothing where that one is an LF.
+fn past_rest(text: &[u8], at: usize, number: u64) -> Passed
+    requires { ⌜ (1 ≤ at) × (at ≤ length (now text)) × (number ≤ at + 1) ⌝ }
+    ensures { λ r. ⌜ EndsLine (now (text .entry)) number at r ⌝ }
+{
+    if text[at - 1] == LINE_FEED {
+        return Passed { at, number };
+    }
+    Passed {
+        at: past_line(text, at),
+        number: number + 1,
+    }
+}
+
+// Past the lines from a byte on that do not start with `[`: none of them has a keyword. A bracket behind blanks is none either.
+pub fn past_plain(text: &[u8], at: usize, number: u64) -> Passed
+    requires { ⌜ (at ≤ length (now text)) × (number ≤ at + 1) ⌝ }
+    ensures { λ r. ⌜ PassesPlain (now (text .entry)) number at r ⌝ }
+{
+    let mut here = at;
+    let mut count = number;
+    while here < text.len() {
+        let first = text[here];
+        if first == OPEN {
+            return Passed {
+                at: here,
+                number: count,
+            };
+        }
+        let mid = past_blocks(text, here + 1, count + (lex_line::feed_of(first) as u64));
+        let passed = past_rest(text, mid.at, mid.number);
+        here = passed.at;
+        count = passed.number;
+    }
+    Passed {
+        at: here,
+        number: count,
+    }
+}
+
+// The next line where keywords alone are looked for. In the head of a map a line without one leads on too, so none is gone past there.
+pub fn next_keyed(text: &[u8], at: usize, number: u64, place: u64) -> Found
+    requires { ⌜ (at ≤ length (now text)) × (number ≤ at + 1) ⌝ }
+    ensures { λ r. ⌜ Meets (now (text .entry)) number at place r ⌝ }
+{
+    if place == line_place::MAP_HEAD {
+        return next_line(text, at, number);
+    }
+    let passed = past_plain(text, at, number);
+    next_line(text, passed.at, passed.number)
+}
+
+// Where a line leads from a place. Without a keyword it leads on only in the head of a map: elsewhere its words are not looked at.
+pub fn place_after(place: u64, text: &[u8], line: Found) -> u64
+    requires { ⌜ Located (now text) line ⌝ }
+    ensures { λ r. ⌜ r ≡ placeAfter place (contentIn (now (text .entry)) line) ⌝ }
+{
+    if line.key == PLAIN {
+        if place != line_place::MAP_HEAD {
+            return place;
+        }
+        let at = line.at;
+        let end = line.end;
+        return line_place::moved_by_line(place, lex_line::first_word(&text[at..end]));
+    }
+    line_place::moved(place, line.key)
+}
+
+// A word of a part of the text that starts at `offset`: no word is 0 0.
+fn mark_of(s: &[u8], offset: usize, word: Span) -> Mark
+    requires { ⌜ (offset + length (now s) ≤ mostLines) × (word .start ≤ word .end) × (word .end ≤ length (now s)) ⌝ }
+    ensures { λ r. ⌜ r ≡ markAt (now (s .entry)) offset word ⌝ }
+{
+    if s.len() <= word.start {
+        return Mark { start: 0, size: 0 };
+    }
+    Mark {
+        start: offset + word.start,
+        size: word.end - word.start,
+    }
+}
+
+// The first word of a part of the text.
+pub fn first_mark(s: &[u8], offset: usize) -> Mark
+    requires { ⌜ offset + length (now s) ≤ mostLines ⌝ }
+    ensures { λ r. ⌜ r ≡ markOf (firstWord (wordsFrom offset (now (s .entry)))) ⌝ }
+{
+    let word = lex_line::word_at(s, 0);
+    mark_of(s, offset, word)
+}
+
+// The second one.
+pub fn second_mark(s: &[u8], offset: usize) -> Mark
+    requires { ⌜ offset + length (now s) ≤ mostLines ⌝ }
+    ensures { λ r. ⌜ r ≡ markOf (secondWord (wordsFrom offset (now (s .entry)))) ⌝ }
+{
+    let first = lex_line::word_at(s, 0);
+    let word = lex_line::word_at(s, first.end);
+    mark_of(s, offset, word)
+}
+
+// The argument of a line's keyword.
+pub fn argument_mark(text: &[u8], line: Found) -> Mark
+    requires { ⌜ Located (now text) line ⌝ }
+    ensures { λ r. ⌜ r ≡ markOf (argumentOf (lineIn (now (text .entry)) line 0)) ⌝ }
+{
+    let at = line.at;
+    let end = line.end;
+    let argument = read_line::argument_of(&text[at..end], line.argument);
+    Mark {
+        start: at + line.argument,
+        size: argument.len(),
+    }
+}

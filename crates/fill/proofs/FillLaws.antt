@@ -1,0 +1,315 @@
+-- The whole filling: after the maps, the sections and the models the table is the layout of the document, and each of the three finds what
+-- it asks for.
+-- Assumes nothing.
+use mathlib.Core.Path.{_≡_, refl, sym, _∙_, ap}
+use mathlib.Core.List.{List, [], _++_, map}
+use Prim.Native.Nat.{ℕ, zero, suc, min, _+_, _-_, _*_, _≤_, _<_}
+use native.Mathlib.Nat.{add-zero, le-refl}
+use native.Mathlib.Omega.{arith}
+use lib.ListN.{length, drop, getD, replicate, length-append, length-replicate, List·getD-map}
+use lib.Seq.{sets, length-sets}
+use Rattle.table_layout.specs.Layout.{widths, layout, needed, chopped, maps, sections, steps, matrices, values, pins}
+use Rattle.table_layout.specs.Filling.{Write, partOf, widthOf, position, tableAfter, fillingAfter, basesFrom, startFilling, headed, opened, Fits}
+use Rattle.table_layout.specs.declared.Filling.{Filling}
+use Rattle.table_layout.proofs.LayoutLaws.{length-layout}
+use Rattle.table_layout.proofs.FillingLaws.{filled, fits, fits-below, fits-first, fits-rest, fits-wider, kept-above, length-after, after-append}
+use Rattle.table_layout.proofs.OpenLaws.{length-opened, opened-zeros, opened-sets, values-last}
+use Rattle.table_layout.proofs.BehindLaws.{overwritten}
+use Rattle.line_keyword.specs.declared.Counts.{Counts}
+use Rattle.read_line.specs.Reading.{readingOf}
+use Rattle.read_line.specs.declared.Reading.the-variants.{Read}
+use Rattle.doc.specs.Document.{Document, documentOf}
+use Rattle.doc.specs.Records.{flatten, partsOf, tableOf, mapRecords, sectionRecords, mapWords, sectionWords}
+use Rattle.doc.specs.Holds.{countsOf}
+use Rattle.doc.proofs.RecordLaws.{records-wide}
+use Rattle.doc.proofs.CountLaws.{counts-agree}
+use Rattle.store_steps.specs.Steps.{lowOf, Aims}
+use Rattle.table_name.proofs.NameLaws.{baseOf, records-at}
+use Rattle.store_base.specs.Writes.{mapsWrites, sectionsWrites, modelsWrites, blocksWrites, writesOf}
+use Rattle.store_base.specs.Stores.{Stores}
+use Rattle.store_base.proofs.StoreLaws.{counts-kept, bases-kept, stores-join}
+use Rattle.store_base.proofs.WriteLaws.{writes-told, writes-known, models-below, no-maps, no-sections, maps-told, sections-told, part-append, part-counted, stored}
+
+-- ---- how the filling stands after the maps and after the sections
+
+module _ (counts : List ℕ) where
+  start-seven : length (startFilling counts .counts) ≡ 7
+  unfolding startFilling
+  start-seven = refl
+
+  start-none : (p : ℕ) → stored (startFilling counts) p ≡ 0
+  unfolding startFilling
+  start-none zero = refl
+  start-none (suc zero) = refl
+  start-none (suc (suc zero)) = refl
+  start-none (suc (suc (suc zero))) = refl
+  start-none (suc (suc (suc (suc zero)))) = refl
+  start-none (suc (suc (suc (suc (suc zero))))) = refl
+  start-none (suc (suc (suc (suc (suc (suc zero)))))) = refl
+  start-none (suc (suc (suc (suc (suc (suc (suc p))))))) = refl
+
+-- a part of which nothing is stored stays at its count
+none-stored : (p : ℕ) (ws : List Write) (f : Filling) → length (f .counts) ≡ 7 → p < 7 → partOf p ws ≡ [] → stored (fillingAfter ws f) p ≡ stored f p
+none-stored p ws f seven h e =
+    let l : p < length (f .counts) = omega arith in
+    let c : stored (fillingAfter ws f) p ≡ stored f p + length (partOf p ws) = part-counted p ws f l in
+    let z : length (partOf p ws) ≡ 0 = ap length e in
+    omega arith
+
+module _ (t : List ℕ) (c : Counts) (reads : readingOf t ≡ Read c) where
+  counts-are : map length (partsOf (flatten (documentOf t))) ≡ countsOf c
+  counts-are = counts-agree t c reads
+
+  pub layout-long : length (layout (partsOf (flatten (documentOf t)))) ≡ needed widths (countsOf c)
+  layout-long = length-layout widths (partsOf (flatten (documentOf t))) (records-wide (flatten (documentOf t))) ∙ ap (needed widths) counts-are
+
+  seven-counts : length (countsOf c) ≡ 7
+  unfolding countsOf
+  seven-counts = refl
+
+  -- as many values are stored as were counted
+  values-counted : length (partOf values (writesOf (documentOf t))) ≡ getD (countsOf c) values 0
+  values-counted =
+      ap length (writes-told (documentOf t) values)
+      ∙ sym (List·getD-map length (partsOf (flatten (documentOf t))) values [])
+      ∙ ap (λ (ns : List ℕ). getD ns values 0) counts-are
+
+-- where the first value goes
+start-values : (counts : List ℕ) → position (startFilling counts) values ≡ getD (basesFrom 0 widths counts) values 0
+unfolding position startFilling widthOf
+start-values counts = add-zero (getD (basesFrom 0 widths counts) values 0)
+
+-- a table with room for all records, and any words where the values belong
+module _ (t : List ℕ) (c : Counts) (reads : readingOf t ≡ Read c) (size : ℕ) (room : needed widths (countsOf c) ≤ size)
+    (vs : List ℕ) (vs-long : length vs ≡ 3 * getD (countsOf c) values 0) where
+  abbrev d : Document
+  d = documentOf t
+
+  abbrev parts : List (List (List ℕ))
+  parts = partsOf (flatten (documentOf t))
+
+  abbrev f₀ : Filling
+  f₀ = startFilling (countsOf c)
+
+  abbrev spare : ℕ
+  spare = size - needed widths (countsOf c)
+
+  abbrev t₀ : List ℕ
+  t₀ = opened 0 widths (countsOf c) (sets (replicate size 0) (needed widths (countsOf c) - length vs) vs)
+
+  pub start-long : length t₀ ≡ size
+  start-long =
+      length-opened 0 widths (countsOf c) (sets (replicate size 0) (needed widths (countsOf c) - length vs) vs)
+      ∙ length-sets (replicate size 0) (needed widths (countsOf c) - length vs) vs
+      ∙ length-replicate size 0
+
+  -- all records fit
+  all-fit : Fits (needed widths (countsOf c)) f₀ (writesOf d)
+  all-fit = rw (counts-are t c reads) at (fits parts (records-wide (flatten d)) (writesOf d) (writes-told d) (writes-known d))
+
+  -- the words lie where the first value goes and behind it
+  values-at : needed widths (countsOf c) - length vs ≡ position f₀ values
+  values-at =
+      let a : getD (basesFrom 0 widths (countsOf c)) values 0 + 3 * getD (countsOf c) values 0 ≡ needed widths (countsOf c) =
+      values-last (countsOf c) (seven-counts t c reads) in
+      let b : position f₀ values ≡ getD (basesFrom 0 widths (countsOf c)) values 0 = start-values (countsOf c) in
+      omega arith
+
+  start-is : t₀ ≡ sets (headed widths (countsOf c) ++ replicate spare 0) (position f₀ values) vs
+  start-is =
+      let h : getD (basesFrom 0 widths (countsOf c)) values 0 ≤ needed widths (countsOf c) - length vs =
+      rw (values-at, start-values (countsOf c)) (le-refl _) in
+      opened-sets (countsOf c) (replicate size 0) (needed widths (countsOf c) - length vs) vs (seven-counts t c reads) h
+      ∙ (λ i. sets (opened-zeros (countsOf c) size room i) (values-at i) vs)
+
+  headed-stored : tableAfter (writesOf d) f₀ (headed widths (countsOf c) ++ replicate spare 0) ≡ layout parts ++ replicate spare 0
+  headed-stored = rw (counts-are t c reads) at (filled parts (records-wide (flatten d)) (writesOf d) spare (writes-told d) (writes-known d))
+
+  all-stored : tableAfter (writesOf d) f₀ t₀ ≡ layout parts ++ replicate spare 0
+  all-stored =
+      let l : length vs ≡ 3 * length (partOf values (writesOf d)) = vs-long ∙ ap (λ (n : ℕ). 3 * n) (sym (values-counted t c reads)) in
+      ap (tableAfter (writesOf d) f₀) start-is
+      ∙ overwritten (needed widths (countsOf c)) f₀ (writesOf d) (headed widths (countsOf c) ++ replicate spare 0) vs
+      all-fit (start-seven (countsOf c)) l
+      ∙ headed-stored
+
+  blocks-fit : Fits size f₀ (blocksWrites d)
+  unfolding writesOf
+  blocks-fit = fits-first size f₀ (blocksWrites d) _ (fits-wider (needed widths (countsOf c)) size f₀ (writesOf d) room all-fit)
+
+  -- ---- maps
+
+  maps-from : mapsWrites (stored f₀ pins) (d .maps) ≡ mapsWrites 0 (d .maps)
+  maps-from = ap (λ (n : ℕ). mapsWrites n (d .maps)) (start-none (countsOf c) pins)
+
+  pub maps-fit : (length (f₀ .counts) ≡ 7) × Fits size f₀ (mapsWrites (stored f₀ pins) (d .maps))
+  unfolding blocksWrites
+  maps-fit = (start-seven (countsOf c), rw maps-from (fits-first size f₀ (mapsWrites 0 (d .maps)) _ blocks-fit))
+
+  -- ---- sections
+
+  module _ (f₁ : Filling) (t₁ : List ℕ) (maps-stored : Stores f₀ t₀ (mapsWrites (stored f₀ pins) (d .maps)) f₁ t₁) where
+    maps-done : Stores f₀ t₀ (mapsWrites 0 (d .maps)) f₁ t₁
+    maps-done = rw maps-from at maps-stored
+
+    after-maps : f₁ ≡ fillingAfter (mapsWrites 0 (d .maps)) f₀
+    after-maps = maps-done .filled
+
+    pub seven-maps : length (f₁ .counts) ≡ 7
+    seven-maps = ap (λ (f : Filling). length (f .counts)) after-maps ∙ counts-kept (mapsWrites 0 (d .maps)) f₀ ∙ start-seven (countsOf c)
+
+    none-after-maps : (p : ℕ) → p < 7 → partOf p (mapsWrites 0 (d .maps)) ≡ [] → stored f₁ p ≡ 0
+    none-after-maps p h e = ap (λ (f : Filling). stored f p) after-maps ∙ none-stored p (mapsWrites 0 (d .maps)) f₀ (start-seven (countsOf c)) h e ∙ start-none (countsOf c) p
+
+    sections-from : sectionsWrites (stored f₁ matrices) (stored f₁ values) (d .sections) ≡ sectionsWrites 0 0 (d .sections)
+    sections-from =
+        let a : stored f₁ matrices ≡ 0 = none-after-maps matrices (omega arith) (no-maps d matrices refl refl) in
+        let b : stored f₁ values ≡ 0 = none-after-maps values (omega arith) (no-maps d values refl refl) in
+        λ i. sectionsWrites (a i) (b i) (d .sections)
+
+    pub sections-fit : Fits (length t₁) f₁ (sectionsWrites (stored f₁ matrices) (stored f₁ values) (d .sections))
+    unfolding blocksWrites
+    sections-fit =
+        let l : length t₁ ≡ size = ap length (maps-done .stored) ∙ length-after (mapsWrites 0 (d .maps)) f₀ t₀ ∙ start-long in
+        rw (l, sections-from, after-maps) (fits-rest size f₀ (mapsWrites 0 (d .maps)) (sectionsWrites 0 0 (d .sections)) blocks-fit)
+
+    -- ---- models
+
+    module _ (f₂ : Filling) (t₂ : List ℕ) (sections-stored : Stores f₁ t₁ (sectionsWrites (stored f₁ matrices) (stored f₁ values) (d .sections)) f₂ t₂) where
+      blocks-done : Stores f₀ t₀ (blocksWrites d) f₂ t₂
+      unfolding blocksWrites
+      blocks-done = stores-join f₀ f₁ f₂ t₀ t₁ t₂ (mapsWrites 0 (d .maps)) (sectionsWrites 0 0 (d .sections)) maps-done (rw sections-from at sections-stored)
+
+      after-blocks : f₂ ≡ fillingAfter (blocksWrites d) f₀
+      after-blocks = blocks-done .filled
+
+      pub seven-blocks : length (f₂ .counts) ≡ 7
+      seven-blocks = ap (λ (f : Filling). length (f .counts)) after-blocks ∙ counts-kept (blocksWrites d) f₀ ∙ start-seven (countsOf c)
+
+      blocks-stored : (p : ℕ) → p < 7 → stored f₂ p ≡ length (partOf p (mapsWrites 0 (d .maps))) + length (partOf p (sectionsWrites 0 0 (d .sections)))
+      unfolding blocksWrites
+      blocks-stored p h =
+          let k : p < length (f₀ .counts) = rw (start-seven (countsOf c)) h in
+          let e : stored f₂ p ≡ stored (fillingAfter (blocksWrites d) f₀) p = ap (λ (f : Filling). stored f p) after-blocks in
+          let s : stored (fillingAfter (blocksWrites d) f₀) p ≡ stored f₀ p + length (partOf p (blocksWrites d)) = part-counted p (blocksWrites d) f₀ k in
+          let z : stored f₀ p ≡ 0 = start-none (countsOf c) p in
+          let l : length (partOf p (blocksWrites d)) ≡ length (partOf p (mapsWrites 0 (d .maps))) + length (partOf p (sectionsWrites 0 0 (d .sections))) = ap length (part-append p (mapsWrites 0 (d .maps)) (sectionsWrites 0 0 (d .sections))) ∙ length-append (partOf p (mapsWrites 0 (d .maps))) _ in
+          omega arith
+
+      no-steps : stored f₂ steps ≡ 0
+      no-steps =
+          let a : length (partOf steps (mapsWrites 0 (d .maps))) ≡ 0 = ap length (no-maps d steps refl refl) in
+          let b : length (partOf steps (sectionsWrites 0 0 (d .sections))) ≡ 0 = ap length (no-sections d steps refl refl refl) in
+          let e : stored f₂ steps ≡ length (partOf steps (mapsWrites 0 (d .maps))) + length (partOf steps (sectionsWrites 0 0 (d .sections))) = blocks-stored steps (omega arith) in
+          omega arith
+
+      pub models-from : modelsWrites (d .maps) (d .sections) (stored f₂ steps) (d .models) ≡ modelsWrites (d .maps) (d .sections) 0 (d .models)
+      models-from = ap (λ (n : ℕ). modelsWrites (d .maps) (d .sections) n (d .models)) no-steps
+
+      -- what the models' records lie below
+      abbrev low : ℕ
+      low = getD (f₀ .bases) maps 0 - 1
+
+      bases-are : f₂ .bases ≡ basesFrom 0 widths (countsOf c)
+      unfolding startFilling
+      bases-are = ap (λ (f : Filling). f .bases) after-blocks ∙ bases-kept (blocksWrites d) f₀
+
+      models-low : Fits low f₂ (modelsWrites (d .maps) (d .sections) (stored f₂ steps) (d .models))
+      unfolding writesOf startFilling
+      models-low =
+          rw (models-from, after-blocks)
+          (rw (counts-are t c reads) at (fits-below parts (records-wide (flatten d)) (blocksWrites d) (modelsWrites (d .maps) (d .sections) 0 (d .models)) 2 (writes-told d) (writes-known d) (omega arith) (models-below (d .maps) (d .sections) 0 (d .models))))
+
+      -- the maps and sections are there: the models' records change nothing above
+      drop-low : drop low t₂ ≡ drop low (layout parts ++ replicate spare 0)
+      unfolding writesOf
+      drop-low =
+          let s : tableAfter (modelsWrites (d .maps) (d .sections) 0 (d .models)) f₂ t₂ ≡ layout parts ++ replicate spare 0 = (λ i. tableAfter (modelsWrites (d .maps) (d .sections) 0 (d .models)) (blocks-done .filled i) (blocks-done .stored i)) ∙ sym (after-append (blocksWrites d) (modelsWrites (d .maps) (d .sections) 0 (d .models)) f₀ t₀) ∙ all-stored in
+          sym (kept-above low f₂ (modelsWrites (d .maps) (d .sections) 0 (d .models)) t₂ (rw models-from at models-low)) ∙ ap (drop low) s
+
+      module _ (p : ℕ) (h : p < 7) where
+        base-is : getD (f₂ .bases) p 0 ≡ baseOf (flatten d) p
+        base-is = ap (λ (bs : List ℕ). getD bs p 0) bases-are ∙ ap (λ (ns : List ℕ). getD (basesFrom 0 widths ns) p 0) (sym (counts-are t c reads))
+
+        -- a part that the models' records do not touch is there
+        part-there : low ≤ baseOf (flatten d) p → stored f₂ p ≡ length (getD parts p []) → chopped (widthOf p) (stored f₂ p) (drop (getD (f₂ .bases) p 0) t₂) ≡ getD parts p []
+        unfolding widthOf
+        part-there k e = (λ i. chopped (getD widths p 0) (e i) (drop (base-is i) t₂)) ∙ records-at (flatten d) (replicate spare 0) t₂ low p h k drop-low
+
+      long-after : length t₂ ≡ size
+      long-after = ap length (blocks-done .stored) ∙ length-after (blocksWrites d) f₀ t₀ ∙ start-long
+
+      maps-counted : stored f₂ maps ≡ length (getD parts maps [])
+      unfolding partsOf flatten
+      maps-counted =
+          let e : stored f₂ maps ≡ length (partOf maps (mapsWrites 0 (d .maps))) + length (partOf maps (sectionsWrites 0 0 (d .sections))) = blocks-stored maps (omega arith) in
+          let a : length (partOf maps (mapsWrites 0 (d .maps))) ≡ length (map mapWords (mapRecords 0 (d .maps))) = ap length (maps-told 0 (d .maps)) in
+          let b : length (partOf maps (sectionsWrites 0 0 (d .sections))) ≡ 0 = ap length (no-sections d maps refl refl refl) in
+          omega arith
+
+      sections-counted : stored f₂ sections ≡ length (getD parts sections [])
+      unfolding partsOf flatten
+      sections-counted =
+          let e : stored f₂ sections ≡ length (partOf sections (mapsWrites 0 (d .maps))) + length (partOf sections (sectionsWrites 0 0 (d .sections))) = blocks-stored sections (omega arith) in
+          let a : length (partOf sections (mapsWrites 0 (d .maps))) ≡ 0 = ap length (no-maps d sections refl refl) in
+          let b : length (partOf sections (sectionsWrites 0 0 (d .sections))) ≡ length (map sectionWords (sectionRecords 0 (d .sections))) = ap length (sections-told 0 0 (d .sections)) in
+          omega arith
+
+      map-count : stored f₂ maps ≡ c .maps
+      unfolding partsOf countsOf
+      map-count = maps-counted ∙ ap (λ (ns : List ℕ). getD ns 2 0) (counts-are t c reads)
+
+      section-count : stored f₂ sections ≡ c .sections
+      unfolding partsOf countsOf
+      section-count = sections-counted ∙ ap (λ (ns : List ℕ). getD ns 4 0) (counts-are t c reads)
+
+      map-base : getD (f₂ .bases) maps 0 ≡ 0 + 1 + 5 * c .models + 1 + 6 * c .steps + 1
+      unfolding basesFrom countsOf
+      map-base = ap (λ (bs : List ℕ). getD bs 2 0) bases-are
+
+      section-base : getD (f₂ .bases) sections 0 ≡ 0 + 1 + 5 * c .models + 1 + 6 * c .steps + 1 + 7 * c .maps + 1 + 2 * c .pins + 1
+      unfolding basesFrom countsOf
+      section-base = ap (λ (bs : List ℕ). getD bs 4 0) bases-are
+
+      low-is : low ≡ 0 + 1 + 5 * c .models + 1 + 6 * c .steps + 1 - 1
+      unfolding startFilling basesFrom countsOf
+      low-is = refl
+
+      room-is : 1 + 5 * c .models + (1 + 6 * c .steps + (1 + 7 * c .maps + (1 + 2 * c .pins + (1 + 8 * c .sections + (1 + 5 * c .matrices + (1 + 3 * c .values + 0)))))) ≤ size
+      unfolding needed countsOf
+      room-is = room
+
+      pub aims : Aims t f₂ t₂
+      unfolding widthOf partsOf flatten
+      aims =
+          let b : getD (f₂ .bases) maps 0 ≡ 0 + 1 + 5 * c .models + 1 + 6 * c .steps + 1 = map-base in
+          let s : getD (f₂ .bases) sections 0 ≡ 0 + 1 + 5 * c .models + 1 + 6 * c .steps + 1 + 7 * c .maps + 1 + 2 * c .pins + 1 = section-base in
+          let l : low ≡ 0 + 1 + 5 * c .models + 1 + 6 * c .steps + 1 - 1 = low-is in
+          let r : 1 + 5 * c .models + (1 + 6 * c .steps + (1 + 7 * c .maps + (1 + 2 * c .pins + (1 + 8 * c .sections + (1 + 5 * c .matrices + (1 + 3 * c .values + 0)))))) ≤ size = room-is in
+          let m : stored f₂ maps ≡ c .maps = map-count in
+          let n : stored f₂ sections ≡ c .sections = section-count in
+          let k : length t₂ ≡ size = long-after in
+          let e : getD (f₂ .bases) maps 0 ≡ baseOf (flatten d) maps = base-is maps (omega arith) in
+          let g : getD (f₂ .bases) sections 0 ≡ baseOf (flatten d) sections = base-is sections (omega arith) in
+          record {
+            maps-there = part-there maps (omega arith) (omega arith) maps-counted;
+            sections-there = part-there sections (omega arith) (omega arith) sections-counted;
+            maps-room = omega arith;
+            sections-room = omega arith;
+          }
+
+      -- the models' records lie below both
+      pub models-fit : Fits (lowOf f₂) f₂ (modelsWrites (d .maps) (d .sections) (stored f₂ steps) (d .models))
+      unfolding lowOf
+      models-fit =
+          let b : getD (f₂ .bases) maps 0 ≡ 0 + 1 + 5 * c .models + 1 + 6 * c .steps + 1 = map-base in
+          let s : getD (f₂ .bases) sections 0 ≡ 0 + 1 + 5 * c .models + 1 + 6 * c .steps + 1 + 7 * c .maps + 1 + 2 * c .pins + 1 = section-base in
+          let l : low ≡ 0 + 1 + 5 * c .models + 1 + 6 * c .steps + 1 - 1 = low-is in
+          fits-wider low (min (getD (f₂ .bases) maps 0) (getD (f₂ .bases) sections 0)) f₂ _ (omega arith) models-low
+
+      -- ---- all of it
+
+      pub all-filled : (f₃ : Filling) (t₃ : List ℕ) → Stores f₂ t₂ (modelsWrites (d .maps) (d .sections) (stored f₂ steps) (d .models)) f₃ t₃ → t₃ ≡ tableOf t ++ replicate spare 0
+      unfolding writesOf tableOf
+      all-filled f₃ t₃ s =
+          stores-join f₀ f₂ f₃ t₀ t₂ t₃ (blocksWrites d) (modelsWrites (d .maps) (d .sections) 0 (d .models)) blocks-done (rw models-from at s) .stored ∙ all-stored

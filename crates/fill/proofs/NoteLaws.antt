@@ -1,0 +1,91 @@
+-- What was noted of the matrices reaches the code that stores the sections: it stays true when the words that it stands for are moved to
+-- where the values belong, when the counts are set, and while the maps are stored.
+-- Assumes nothing.
+use mathlib.Core.Path.{_≡_, refl, sym, _∙_, ap}
+use mathlib.Core.List.{List, _++_, append-nil}
+use Prim.Native.Nat.{ℕ, _+_, _-_, _*_, _≤_}
+use native.Mathlib.Nat.{le-refl}
+use native.Mathlib.Omega.{arith}
+use lib.ListN.{length, take, drop, getD, replicate, length-drop, length-replicate, take-append-drop, drop-of-length-le}
+use lib.Seq.{sets, sets-eq, drop-drop, drop-at, length-take-le}
+use Rattle.table_layout.specs.Layout.{widths, values, needed}
+use Rattle.table_layout.specs.Filling.{basesFrom, startFilling, opened}
+use Rattle.table_layout.proofs.OpenLaws.{length-opened, opened-sets, values-last}
+use Rattle.line_keyword.specs.declared.Counts.{Counts}
+use Rattle.doc.specs.Holds.{countsOf}
+use Rattle.store_base.specs.Notes.{noteAt, Tells, wordsOf, Made, Noted, Before}
+use Rattle.store_base.proofs.NoteLaws.{noted-lifted}
+
+-- ---- the counts are set before the values begin
+
+-- words that reach to the end of a table
+sets-behind : (t : List ℕ) (p : ℕ) (vs : List ℕ) → p + length vs ≡ length t → sets t p vs ≡ take p t ++ vs
+sets-behind t p vs e =
+    let h : p + length vs ≤ length t = omega arith in
+    let k : length t ≤ p + length vs = omega arith in
+    sets-eq vs t p h ∙ ap (λ (u : List ℕ). (take p t ++ vs) ++ u) (drop-of-length-le t k) ∙ append-nil (take p t ++ vs)
+
+drop-opened : (counts t : List ℕ) (p : ℕ) → length counts ≡ 7 → getD (basesFrom 0 widths counts) values 0 ≤ p → p ≤ length t →
+    drop p (opened 0 widths counts t) ≡ drop p t
+drop-opened counts t p seven h room =
+    let u : List ℕ = opened 0 widths counts t in
+    let d : length (drop p t) ≡ length t - p = length-drop p t in
+    let o : length u ≡ length t = length-opened 0 widths counts t in
+    let same : sets t p (drop p t) ≡ t = sets-behind t p (drop p t) (omega arith) ∙ take-append-drop p t in
+    let set : sets u p (drop p t) ≡ take p u ++ drop p t = sets-behind u p (drop p t) (omega arith) in
+    let l : length (take p u) ≡ p = length-take-le p u (omega arith) in
+    ap (λ (w : List ℕ). drop p (opened 0 widths counts w)) (sym same)
+    ∙ ap (drop p) (opened-sets counts t p (drop p t) seven h ∙ set)
+    ∙ drop-at (take p u) (drop p t) p l
+
+-- notes stand for words behind a base: no word before it matters
+noted-same : (t table table' notes : List ℕ) (base from : ℕ) → drop base table' ≡ drop base table → Noted t table notes base from →
+    Noted t table' notes base from
+noted-same t table table' notes base from same noted = record { tells = told }
+  where
+    told : (i : ℕ) → Made (noteAt notes i) → from ≤ noteAt notes i .first → Tells t (noteAt notes i) (wordsOf table' base (noteAt notes i))
+    told i made h =
+        let k : ℕ = 3 * noteAt notes i .first in
+        let d : drop (base + k) table' ≡ drop (base + k) table = sym (drop-drop k base table') ∙ ap (drop k) same ∙ drop-drop k base table in
+        let e : wordsOf table' base (noteAt notes i) ≡ wordsOf table base (noteAt notes i) = ap (take (3 * noteAt notes i .count)) d in
+        rw e (noted .tells i made h)
+
+module _ (c : Counts) where
+  -- where the values begin
+  values-begin : getD (basesFrom 0 widths (countsOf c)) values 0 ≡ needed widths (countsOf c) - 3 * c .values
+  unfolding countsOf
+  values-begin = omega (arith, values-last (countsOf c) refl)
+
+  seven : length (countsOf c) ≡ 7
+  unfolding countsOf
+  seven = refl
+
+  pub noted-opened : (t table notes : List ℕ) → needed widths (countsOf c) ≤ length table →
+      Noted t table notes (needed widths (countsOf c) - 3 * c .values) 0 →
+      Noted t (opened 0 widths (countsOf c) table) notes
+      (getD (startFilling (countsOf c) .bases) values 0)
+      (getD (startFilling (countsOf c) .counts) values 0)
+  unfolding startFilling
+  noted-opened t table notes room noted =
+      let base : ℕ = getD (basesFrom 0 widths (countsOf c)) values 0 in
+      let h : base ≤ length table = omega (arith, values-begin) in
+      noted-same t table (opened 0 widths (countsOf c) table) notes base 0
+      (drop-opened (countsOf c) table base seven (le-refl base) h)
+      (rw values-begin noted)
+
+  -- ---- what is noted at the front of the table, moved to where the values begin
+
+  pub noted-moved : (t table notes : List ℕ) (words : ℕ) → words ≡ needed widths (countsOf c) →
+      words - 3 * c .values + 3 * c .values ≤ length table →
+      Noted t table notes 0 0 → Before notes (c .values) → (moved : List ℕ) →
+      moved ≡ sets (replicate (length table) 0) (words - 3 * c .values) (take (3 * c .values) table) →
+      Noted t moved notes (needed widths (countsOf c) - 3 * c .values) 0
+  noted-moved t table notes words is-words room noted before moved is-moved =
+      rw (is-moved, ← is-words) (noted-lifted t table notes (c .values) (words - 3 * c .values) noted before room)
+
+-- ---- room for notes
+
+pub room-zeros : (notes : List ℕ) (n : ℕ) → notes ≡ replicate n 0 → notes ≡ replicate (length notes) 0
+room-zeros notes n e =
+    let l : length notes ≡ n = ap length e ∙ length-replicate n 0 in
+    e ∙ ap (λ (k : ℕ). replicate k 0) (sym l)

@@ -1,0 +1,357 @@
+-- The relation is wide enough: comment lines and blank lines put in or left out, comments at a line's end, blanks between words, about `=` and at
+-- the ends, and matrices in other forms, all lead from a text to one that is alike.
+-- Assumes nothing.
+use mathlib.Core.Path.{_≡_, refl, sym, _∙_, ap, subst}
+use mathlib.Core.Bool.{Bool, true, false, not, true≢false}
+use mathlib.Core.List.{List, [], _∷_, _++_, map, map-append}
+use Prim.Native.Nat.{ℕ, zero, suc, _+_, _<_}
+use Prim.Native.Char.{code}
+use native.Mathlib.Omega.{arith}
+use lib.ListN.{length, take, drop, length-append}
+use lib.Dec.{ltb, eqb}
+use borrow.Author.Tests.{eq-eqb, ne-eqb, eqb-true, eqb-false, lt-ltb}
+use Rattle.base.specs.If.{if_then_else_, both, either}
+use Rattle.base.specs.Bytes.{bytes, isBlank, lineFeed}
+use Rattle.base.specs.Runs.{run, all}
+use Rattle.base.specs.Class.{isBefore, isFilled, isContent}
+use Rattle.base.proofs.IfLaws.{if-true, if-false, by-cases, both-first, both-second}
+use Rattle.lex_line.specs.Lines.{Raw, pushed, lines, contentOf, isBlankLine}
+use Rattle.lex_line.specs.Words.{goesOn, words, firstOf, toEquals, hasEquals, leftOf, rightOf}
+use Rattle.line_place.specs.Place.{before, moved, movedByLine}
+use Rattle.line_place.specs.Place as place
+use Rattle.read_line.specs.Reading.{commentByte}
+use Rattle.doc.specs.Lines.{Line, plain, keyAt, placeAfter, linesFrom, linesAt, significant, upTo}
+use Rattle.doc.specs.Document.{inMatrix}
+use Rattle.doc.specs.Holds.{Each}
+use Rattle.doc.specs.Holds.Each.{none as each-none, more as each-more}
+use Rattle.doc.proofs.StandsLaws.{each-append}
+use Rattle.doc.proofs.Goes.{lines-blank, lines-said}
+use Rattle.law_alike.specs.Alike.{takesEquals, SameSaying, same-words, same-sides, same-argument, same-text, SameLine, SameNumbers, AlikeLines, Alike}
+use Rattle.law_alike.specs.Alike.AlikeLines.{none, line, matrix}
+use Rattle.law_alike.proofs.SidesLaws.{bare, grow, isOther, words-bare, bare-blank}
+use Rattle.law_alike.proofs.LineLaws.{other-lists}
+
+-- ---- what a line leads to
+
+-- a line says the same as itself
+pub same-self : (p : ℕ) (a : List ℕ) → SameSaying p a a
+same-self p a =
+    by-cases _ (eqb (keyAt a) plain)
+    (λ (e : eqb (keyAt a) plain ≡ true). same-words (eqb-true _ _ e) (eqb-true _ _ e) refl)
+    (λ (e : eqb (keyAt a) plain ≡ false). same-argument (eqb-false _ _ e) refl refl)
+
+abbrev pub contentIn : Raw → List ℕ
+contentIn r = contentOf commentByte (r .bytes)
+
+place-plain : (p : ℕ) (a : List ℕ) → keyAt a ≡ plain → placeAfter p a ≡ movedByLine p (firstOf (words a))
+unfolding placeAfter
+place-plain p a e = if-true _ _ (eq-eqb _ _ e)
+
+place-key : (p : ℕ) (a : List ℕ) → (keyAt a ≡ plain → ⊥) → placeAfter p a ≡ moved p (keyAt a)
+unfolding placeAfter
+place-key p a n = if-false _ _ (ne-eqb _ _ n)
+
+-- a line of a form with a sign does not open the pins
+stays : (p : ℕ) (a : List ℕ) → takesEquals p a ≡ true → movedByLine p (firstOf (words a)) ≡ p
+unfolding movedByLine
+stays p a e =
+    by-cases _ (eqb p place.mapHead)
+    (λ (h : eqb p place.mapHead ≡ true). if-true _ _ h ∙ if-false _ _ (other-lists p a e (eqb-true _ _ h)) ∙ sym (eqb-true _ _ h))
+    (λ (h : eqb p place.mapHead ≡ false). if-false _ _ h)
+
+pub place-same : (p : ℕ) (a b : List ℕ) → SameSaying p a b → placeAfter p a ≡ placeAfter p b
+place-same p a b (same-words e f w) = place-plain p a e ∙ ap (λ (ws : List (List ℕ)). movedByLine p (firstOf ws)) w ∙ sym (place-plain p b f)
+place-same p a b (same-sides e f x y l r) = place-plain p a e ∙ stays p a x ∙ sym (stays p b y) ∙ sym (place-plain p b f)
+place-same p a b (same-argument n k t) = place-key p a n ∙ ap (moved p) k ∙ sym (place-key p b (λ (q : keyAt b ≡ plain). n (k ∙ q)))
+place-same p a b (same-text n k x t) = place-key p a n ∙ ap (moved p) k ∙ sym (place-key p b (λ (q : keyAt b ≡ plain). n (k ∙ q)))
+
+-- ---- lines of two texts, from a place on
+
+-- where the lines lead from a place
+unfoldable pub placeBehind : ℕ → List Raw → ℕ
+placeBehind p [] = p
+placeBehind p (r ∷ rs) = placeBehind (if isBlankLine (contentIn r) then p else placeAfter p (contentIn r)) rs
+
+abbrev pub lineAs : ℕ → ℕ → ℕ → Raw → Line
+lineAs n at p r = record { number = n; at = at; place = p; content = contentIn r }
+
+-- so many lines of a text are those of a matrix, read from a place, and the next one is not
+pub record Ends (p : ℕ) (bs rs : List Raw) : Type 0 where
+  pub stops : (n at m to : ℕ) → upTo inMatrix (linesFrom n at p bs ++ linesFrom m to (placeBehind p bs) rs) ≡ linesFrom n at p bs
+
+-- lines left blank, with a comment or without, stand in either; the others say the same
+pub data SameRaws : ℕ → List Raw → List Raw → Type 0 where
+  ended : {p : ℕ} → SameRaws p [] []
+  blank : {p : ℕ} {r : Raw} {rs qs : List Raw} → isBlankLine (contentIn r) ≡ true → SameRaws p rs qs → SameRaws p (r ∷ rs) qs
+  other-blank : {p : ℕ} {q : Raw} {rs qs : List Raw} → isBlankLine (contentIn q) ≡ true → SameRaws p rs qs → SameRaws p rs (q ∷ qs)
+  says :
+      {p : ℕ} {r q : Raw} {rs qs : List Raw} → isBlankLine (contentIn r) ≡ false → isBlankLine (contentIn q) ≡ false →
+      SameSaying p (contentIn r) (contentIn q) → SameRaws (placeAfter p (contentIn r)) rs qs → SameRaws p (r ∷ rs) (q ∷ qs)
+  -- a matrix in another form: the lines of each go up to the first that is not one of them
+  block :
+      {p : ℕ} {r q : Raw} {rs qs : List Raw} (bs cs : List Raw) → isBlankLine (contentIn r) ≡ false → isBlankLine (contentIn q) ≡ false →
+      ((n at m to : ℕ) → SameNumbers (lineAs n at p r) (linesFrom (n + 1) (at + length (r .bytes) + 1) (placeAfter p (contentIn r)) bs) (lineAs m to p q) (linesFrom (m + 1) (to + length (q .bytes) + 1) (placeAfter p (contentIn q)) cs)) →
+      Ends (placeAfter p (contentIn r)) bs rs → Ends (placeAfter p (contentIn q)) cs qs →
+      placeBehind (placeAfter p (contentIn r)) bs ≡ placeBehind (placeAfter p (contentIn q)) cs →
+      SameRaws (placeBehind (placeAfter p (contentIn r)) bs) rs qs → SameRaws p (r ∷ (bs ++ rs)) (q ∷ (cs ++ qs))
+
+no-lines : (n at p : ℕ) → linesFrom n at p [] ≡ []
+unfolding linesFrom
+no-lines n at p = refl
+
+module _ (p : ℕ) (r : Raw) (bs : List Raw) where
+  place-on : isBlankLine (contentIn r) ≡ true → placeBehind p bs ≡ placeBehind p (r ∷ bs)
+  unfolding placeBehind
+  place-on e = ap (λ (k : ℕ). placeBehind k bs) (sym (if-true _ _ e))
+
+  place-said : isBlankLine (contentIn r) ≡ false → placeBehind (placeAfter p (contentIn r)) bs ≡ placeBehind p (r ∷ bs)
+  unfolding placeBehind
+  place-said e = ap (λ (k : ℕ). placeBehind k bs) (sym (if-false _ _ e))
+
+unfoldable sizeOf : List Raw → ℕ
+sizeOf [] = 0
+sizeOf (r ∷ rs) = length (r .bytes) + 1 + sizeOf rs
+
+-- the lines of some lines and of those behind them
+lines-append : (n at p : ℕ) (bs rs : List Raw) → linesFrom n at p (bs ++ rs) ≡ linesFrom n at p bs ++ linesFrom (n + length bs) (at + sizeOf bs) (placeBehind p bs) rs
+unfolding placeBehind sizeOf
+lines-append n at p [] rs =
+    let a : n ≡ n + 0 = omega arith in
+    let b : at ≡ at + 0 = omega arith in
+    (λ i. linesFrom (a i) (b i) p rs) ∙ ap (λ (ls : List Line). ls ++ linesFrom (n + 0) (at + 0) p rs) (sym (no-lines n at p))
+lines-append n at p (r ∷ bs) rs =
+    let a : n + 1 + length bs ≡ n + suc (length bs) = omega arith in
+    let b : at + length (r .bytes) + 1 + sizeOf bs ≡ at + (length (r .bytes) + 1 + sizeOf bs) = omega arith in
+    by-cases _ (isBlankLine (contentIn r))
+    (λ (e : isBlankLine (contentIn r) ≡ true).
+    lines-blank n at p r (bs ++ rs) e ∙ lines-append (n + 1) (at + length (r .bytes) + 1) p bs rs
+    ∙ (λ i. sym (lines-blank n at p r bs e) i ++ linesFrom (a i) (b i) (place-on p r bs e i) rs))
+    (λ (e : isBlankLine (contentIn r) ≡ false).
+    lines-said n at p r (bs ++ rs) e ∙ ap (λ (ls : List Line). lineAs n at p r ∷ ls) (lines-append (n + 1) (at + length (r .bytes) + 1) (placeAfter p (contentIn r)) bs rs)
+    ∙ (λ i. sym (lines-said n at p r bs e) i ++ linesFrom (a i) (b i) (place-said p r bs e i) rs))
+
+block-lines : (p : ℕ) (r : Raw) (bs rs : List Raw) → isBlankLine (contentIn r) ≡ false → (n at : ℕ) →
+    linesFrom n at p (r ∷ (bs ++ rs)) ≡ lineAs n at p r ∷ (linesFrom (n + 1) (at + length (r .bytes) + 1) (placeAfter p (contentIn r)) bs ++ linesFrom (n + 1 + length bs) (at + length (r .bytes) + 1 + sizeOf bs) (placeBehind (placeAfter p (contentIn r)) bs) rs)
+block-lines p r bs rs e n at = lines-said n at p r (bs ++ rs) e ∙ ap (λ (ls : List Line). lineAs n at p r ∷ ls) (lines-append (n + 1) (at + length (r .bytes) + 1) (placeAfter p (contentIn r)) bs rs)
+
+pub raws-alike : {p : ℕ} {rs qs : List Raw} → SameRaws p rs qs → (n at m to : ℕ) → AlikeLines (linesFrom n at p rs) (linesFrom m to p qs)
+raws-alike {p} ended n at m to = rw (no-lines n at p, no-lines m to p) none
+raws-alike {p} (blank {r = r} {rs = rs} e s) n at m to = rw (lines-blank n at p r rs e) (raws-alike s (n + 1) (at + length (r .bytes) + 1) m to)
+raws-alike {p} (other-blank {q = q} {qs = qs} e s) n at m to = rw (lines-blank m to p q qs e) (raws-alike s n at (m + 1) (to + length (q .bytes) + 1))
+raws-alike {p} (says {r = r} {q = q} {rs = rs} {qs = qs} e f s more-lines) n at m to =
+    rw (lines-said n at p r rs e, lines-said m to p q qs f, sym (place-same p (contentIn r) (contentIn q) s))
+    (line (record { place = refl; saying = s }) (raws-alike more-lines (n + 1) (at + length (r .bytes) + 1) (m + 1) (to + length (q .bytes) + 1)))
+raws-alike {p} (block {r = r} {q = q} {rs = rs} {qs = qs} bs cs e f numbers ends others same more-lines) n at m to =
+    rw (block-lines p r bs rs e n at, block-lines p q cs qs f m to)
+    (matrix (linesFrom (n + 1) (at + length (r .bytes) + 1) (placeAfter p (contentIn r)) bs) (linesFrom (m + 1) (to + length (q .bytes) + 1) (placeAfter p (contentIn q)) cs) (numbers n at m to) (ends .stops _ _ _ _) (others .stops _ _ _ _)
+    (subst (λ (k : ℕ). AlikeLines (linesFrom (n + 1 + length bs) (at + length (r .bytes) + 1 + sizeOf bs) (placeBehind (placeAfter p (contentIn r)) bs) rs) (linesFrom (m + 1 + length cs) (to + length (q .bytes) + 1 + sizeOf cs) k qs)) same
+    (raws-alike more-lines (n + 1 + length bs) (at + length (r .bytes) + 1 + sizeOf bs) (m + 1 + length cs) (to + length (q .bytes) + 1 + sizeOf cs))))
+
+-- the texts
+pub texts-alike : (t u : List ℕ) → SameRaws before (lines t) (lines u) → Alike t u
+unfolding significant linesAt
+texts-alike t u s = raws-alike s 1 0 1 0
+
+-- ---- texts written line by line
+
+-- each line's bytes and an LF
+unfoldable pub textOf : List (List ℕ) → List ℕ
+textOf [] = []
+textOf (c ∷ cs) = c ++ (lineFeed ∷ textOf cs)
+
+-- a line holds no LF
+pub record Whole (c : List ℕ) : Type 0 where
+  pub no-feed : all (isBefore lineFeed) c ≡ true
+
+abbrev pub rawOf : List ℕ → Raw
+rawOf c = record { bytes = c; ended = true }
+
+push-line : (b : ℕ) (l : Raw) (ls : List Raw) → pushed b (l ∷ ls) ≡ record { bytes = b ∷ l .bytes; ended = l .ended } ∷ ls
+unfolding pushed
+push-line b l ls = refl
+
+other-byte : (b : ℕ) → isBefore lineFeed b ≡ true → eqb b lineFeed ≡ false
+unfolding isBefore
+other-byte b e = by-cases _ (eqb b lineFeed) (λ (h : eqb b lineFeed ≡ true). absurd (true≢false (sym e ∙ ap not h))) (λ (h : eqb b lineFeed ≡ false). h)
+
+line-first : (c s : List ℕ) → all (isBefore lineFeed) c ≡ true → lines (c ++ (lineFeed ∷ s)) ≡ rawOf c ∷ lines s
+unfolding lines all
+line-first [] s e = if-true _ _ (eq-eqb lineFeed lineFeed refl)
+line-first (b ∷ c) s e =
+    if-false _ _ (other-byte b (both-first _ _ e)) ∙ ap (pushed b) (line-first c s (both-second _ _ e)) ∙ grown-line b c s
+  where
+    grown-line : (x : ℕ) (y z : List ℕ) → pushed x (rawOf y ∷ lines z) ≡ rawOf (x ∷ y) ∷ lines z
+    grown-line x y z = push-line x (rawOf y) (lines z)
+
+pub text-lines : (cs : List (List ℕ)) → Each Whole cs → lines (textOf cs) ≡ map rawOf cs
+unfolding textOf lines
+text-lines [] each-none = refl
+text-lines (c ∷ cs) (each-more w ws) = line-first c (textOf cs) (w .no-feed) ∙ ap (λ (rs : List Raw). rawOf c ∷ rs) (text-lines cs ws)
+
+-- ---- the same lines, a line more, a line changed
+
+pub raws-self : (p : ℕ) (rs : List Raw) → SameRaws p rs rs
+raws-self p [] = ended
+raws-self p (r ∷ rs) =
+    by-cases _ (isBlankLine (contentIn r))
+    (λ (e : isBlankLine (contentIn r) ≡ true). blank e (other-blank e (raws-self p rs)))
+    (λ (e : isBlankLine (contentIn r) ≡ false). says e e (same-self p (contentIn r)) (raws-self (placeAfter p (contentIn r)) rs))
+
+module _ (rs qs : List Raw) where
+  -- what is the same behind some lines is the same with them in front
+  pub raws-front : (p : ℕ) (xs : List Raw) → SameRaws (placeBehind p xs) rs qs → SameRaws p (xs ++ rs) (xs ++ qs)
+  unfolding placeBehind
+  raws-front p [] s = s
+  raws-front p (x ∷ xs) s =
+      by-cases _ (isBlankLine (contentIn x))
+      (λ (e : isBlankLine (contentIn x) ≡ true). blank e (other-blank e (raws-front p xs (rw (if-true {A = ℕ} p (placeAfter p (contentIn x)) e) at s))))
+      (λ (e : isBlankLine (contentIn x) ≡ false). says e e (same-self p (contentIn x)) (raws-front (placeAfter p (contentIn x)) xs (rw (if-false {A = ℕ} p (placeAfter p (contentIn x)) e) at s)))
+
+module _ (xs ys : List (List ℕ)) (xs-whole : Each Whole xs) (ys-whole : Each Whole ys) where
+  abbrev behind : ℕ
+  behind = placeBehind before (map rawOf xs)
+
+  joined-lines : (zs : List (List ℕ)) → Each Whole zs → lines (textOf (xs ++ zs)) ≡ map rawOf xs ++ map rawOf zs
+  joined-lines zs w = text-lines (xs ++ zs) (each-append xs-whole w) ∙ map-append rawOf xs zs
+
+  -- "comments, blank lines": a line whose content is blank, put in anywhere
+  pub line-put-in : (c : List ℕ) → Whole c → isBlankLine (contentOf commentByte c) ≡ true → Alike (textOf (xs ++ ys)) (textOf (xs ++ (c ∷ ys)))
+  line-put-in c w e =
+      texts-alike _ _
+      (rw (joined-lines ys ys-whole, joined-lines (c ∷ ys) (each-more w ys-whole))
+      (raws-front (map rawOf ys) (rawOf c ∷ map rawOf ys) before (map rawOf xs) (other-blank e (raws-self behind (map rawOf ys)))))
+
+  -- a line that says the same in its place
+  pub line-changed :
+      (a b : List ℕ) → Whole a → Whole b → isBlankLine (contentOf commentByte a) ≡ false → isBlankLine (contentOf commentByte b) ≡ false →
+      SameSaying behind (contentOf commentByte a) (contentOf commentByte b) → Alike (textOf (xs ++ (a ∷ ys))) (textOf (xs ++ (b ∷ ys)))
+  line-changed a b v w e f s =
+      texts-alike _ _
+      (rw (joined-lines (a ∷ ys) (each-more v ys-whole), joined-lines (b ∷ ys) (each-more w ys-whole))
+      (raws-front (rawOf a ∷ map rawOf ys) (rawOf b ∷ map rawOf ys) before (map rawOf xs) (says e f s (raws-self (placeAfter behind (contentOf commentByte a)) (map rawOf ys)))))
+
+-- ---- small laws of lists of bytes
+
+run-whole : (p : ℕ → Bool) (c : List ℕ) → all p c ≡ true → run p c ≡ length c
+unfolding run all
+run-whole p [] e = refl
+run-whole p (b ∷ c) e = if-true _ _ (both-first _ _ e) ∙ ap suc (run-whole p c (both-second _ _ e))
+
+run-stopped : (p : ℕ → Bool) (c x : List ℕ) (b : ℕ) → p b ≡ false → all p c ≡ true → run p (c ++ (b ∷ x)) ≡ length c
+unfolding run all
+run-stopped p [] x b n e = if-false _ _ n
+run-stopped p (d ∷ c) x b n e = if-true _ _ (both-first _ _ e) ∙ ap suc (run-stopped p c x b n (both-second _ _ e))
+
+run-cut : (c x : List ℕ) → all (isContent commentByte) c ≡ true → run (isContent commentByte) (c ++ (commentByte ∷ x)) ≡ length c
+unfolding isContent isBefore both
+run-cut c x e = run-stopped (isContent commentByte) c x commentByte refl e
+
+run-sign : (x y : List ℕ) → all isOther x ≡ true → toEquals (x ++ (code "=" ∷ y)) ≡ length x
+unfolding isBefore
+run-sign x y e = run-stopped isOther x y (code "=") refl e
+
+take-front : (c x : List ℕ) → take (length c) (c ++ x) ≡ c
+take-front [] x = refl
+take-front (b ∷ c) x = ap (λ (s : List ℕ). b ∷ s) (take-front c x)
+
+take-whole : (c : List ℕ) → take (length c) c ≡ c
+take-whole [] = refl
+take-whole (b ∷ c) = ap (λ (s : List ℕ). b ∷ s) (take-whole c)
+
+drop-front : (c : List ℕ) (b : ℕ) (x : List ℕ) → drop (length c + 1) (c ++ (b ∷ x)) ≡ x
+drop-front [] b x = refl
+drop-front (d ∷ c) b x = let n : suc (length c) + 1 ≡ suc (length c + 1) = omega arith in ap (λ (k : ℕ). drop k (d ∷ (c ++ (b ∷ x)))) n ∙ drop-front c b x
+
+front-shorter : (c x : List ℕ) (b : ℕ) (y : List ℕ) → x ≡ b ∷ y → length c < length (c ++ x)
+front-shorter c x b y e = let n : length (c ++ x) ≡ length c + suc (length y) = length-append c x ∙ ap (λ (s : List ℕ). length c + length s) e in omega arith
+
+-- whether a word goes on is told by what stands first
+goes-first : (x y z : List ℕ) (b : ℕ) → goesOn (x ++ (b ∷ y)) ≡ goesOn (x ++ (b ∷ z))
+unfolding goesOn
+goes-first [] y z b = refl
+goes-first (d ∷ x) y z b = refl
+
+bare-choice : (d : ℕ) (s t : List ℕ) → goesOn s ≡ goesOn t → bare s ≡ bare t → bare (d ∷ s) ≡ bare (d ∷ t)
+unfolding bare
+bare-choice d s t g e = λ i. if isBlank d then e i else if g i then grow d (e i) else (d ∷ []) ∷ e i
+
+bare-doubled : (x y : List ℕ) (b c : ℕ) → isBlank b ≡ true → isBlank c ≡ true → bare (x ++ (b ∷ c ∷ y)) ≡ bare (x ++ (b ∷ y))
+bare-doubled [] y b c e f = bare-blank b (c ∷ y) e ∙ bare-blank c y f ∙ sym (bare-blank b y e)
+bare-doubled (d ∷ x) y b c e f = bare-choice d (x ++ (b ∷ c ∷ y)) (x ++ (b ∷ y)) (goes-first x (c ∷ y) y b) (bare-doubled x y b c e f)
+
+goes-end : (s : List ℕ) (b : ℕ) → isBlank b ≡ true → goesOn (s ++ (b ∷ [])) ≡ goesOn s
+unfolding goesOn isFilled
+goes-end [] b e = ap not e
+goes-end (d ∷ s) b e = refl
+
+bare-end : (s : List ℕ) (b : ℕ) → isBlank b ≡ true → bare (s ++ (b ∷ [])) ≡ bare s
+bare-end [] b e = bare-blank b [] e
+bare-end (d ∷ s) b e = bare-choice d (s ++ (b ∷ [])) s (goes-end s b e) (bare-end s b e)
+
+-- ---- comments at a line's end
+
+-- "From `|` on, a line is comment"
+pub comment-cut : (c x : List ℕ) → all (isContent commentByte) c ≡ true → contentOf commentByte (c ++ (commentByte ∷ x)) ≡ contentOf commentByte c
+unfolding contentOf
+comment-cut c x e = ap (λ (n : ℕ). take n (c ++ (commentByte ∷ x))) (run-cut c x e) ∙ take-front c (commentByte ∷ x) ∙ sym (ap (λ (n : ℕ). take n c) (run-whole (isContent commentByte) c e) ∙ take-whole c)
+
+-- ---- blanks
+
+-- a blank beside a blank
+pub blank-doubled : (x y : List ℕ) (b c : ℕ) → isBlank b ≡ true → isBlank c ≡ true → words (x ++ (b ∷ c ∷ y)) ≡ words (x ++ (b ∷ y))
+blank-doubled x y b c e f = words-bare 0 (x ++ (b ∷ c ∷ y)) ∙ bare-doubled x y b c e f ∙ sym (words-bare 0 (x ++ (b ∷ y)))
+
+-- a blank in front, and at the end
+pub blank-front : (b : ℕ) (s : List ℕ) → isBlank b ≡ true → words (b ∷ s) ≡ words s
+blank-front b s e = words-bare 0 (b ∷ s) ∙ bare-blank b s e ∙ sym (words-bare 0 s)
+
+pub blank-end : (s : List ℕ) (b : ℕ) → isBlank b ≡ true → words (s ++ (b ∷ [])) ≡ words s
+blank-end s b e = words-bare 0 (s ++ (b ∷ [])) ∙ bare-end s b e ∙ sym (words-bare 0 s)
+
+-- the sides of a sign are the words of what stands before it and after it
+pub sides-of : (x y : List ℕ) → all isOther x ≡ true → (leftOf (x ++ (code "=" ∷ y)) ≡ words x) × (rightOf (x ++ (code "=" ∷ y)) ≡ words y) × (hasEquals (x ++ (code "=" ∷ y)) ≡ true)
+unfolding leftOf rightOf hasEquals
+sides-of x y e =
+    let n : toEquals (x ++ (code "=" ∷ y)) ≡ length x = run-sign x y e in (
+      ap (λ (k : ℕ). words (take k (x ++ (code "=" ∷ y)))) n ∙ ap words (take-front x (code "=" ∷ y)),
+      ap (λ (k : ℕ). words (drop (k + 1) (x ++ (code "=" ∷ y)))) n ∙ ap words (drop-front x (code "=") y),
+      ap (λ (k : ℕ). ltb k (length (x ++ (code "=" ∷ y)))) n ∙ lt-ltb _ _ (front-shorter x (code "=" ∷ y) (code "=") y refl),
+    )
+
+content-raws : (p : ℕ) (a b : List ℕ) (rs : List Raw) → contentOf commentByte a ≡ contentOf commentByte b → SameRaws p (rawOf a ∷ rs) (rawOf b ∷ rs)
+content-raws p a b rs e =
+    by-cases _ (isBlankLine (contentOf commentByte a))
+    (λ (h : isBlankLine (contentOf commentByte a) ≡ true). blank h (other-blank (ap isBlankLine (sym e) ∙ h) (raws-self p rs)))
+    (λ (h : isBlankLine (contentOf commentByte a) ≡ false).
+    says h (ap isBlankLine (sym e) ∙ h) (subst (SameSaying p (contentOf commentByte a)) e (same-self p (contentOf commentByte a))) (raws-self (placeAfter p (contentOf commentByte a)) rs))
+
+-- ---- edits of one line of a text
+
+module _ (xs ys : List (List ℕ)) (xs-whole : Each Whole xs) (ys-whole : Each Whole ys) where
+  -- two lines of the same content
+  pub content-kept : (a b : List ℕ) → Whole a → Whole b → contentOf commentByte a ≡ contentOf commentByte b → Alike (textOf (xs ++ (a ∷ ys))) (textOf (xs ++ (b ∷ ys)))
+  content-kept a b v w e =
+      texts-alike _ _
+      (rw (joined-lines xs ys xs-whole ys-whole (a ∷ ys) (each-more v ys-whole), joined-lines xs ys xs-whole ys-whole (b ∷ ys) (each-more w ys-whole))
+      (raws-front (rawOf a ∷ map rawOf ys) (rawOf b ∷ map rawOf ys) before (map rawOf xs) (content-raws (placeBehind before (map rawOf xs)) a b (map rawOf ys) e)))
+
+  -- "a comment added at a line's end"
+  pub comment-added : (c x : List ℕ) → Whole c → Whole (c ++ (commentByte ∷ x)) → all (isContent commentByte) c ≡ true → Alike (textOf (xs ++ (c ∷ ys))) (textOf (xs ++ ((c ++ (commentByte ∷ x)) ∷ ys)))
+  comment-added c x v w e = content-kept c (c ++ (commentByte ∷ x)) v w (sym (comment-cut c x e))
+
+-- "blanks between words": a blank beside a blank of a line without a keyword
+pub blank-added : (p : ℕ) (x y : List ℕ) (b c : ℕ) → isBlank b ≡ true → isBlank c ≡ true → keyAt (x ++ (b ∷ y)) ≡ plain → keyAt (x ++ (b ∷ c ∷ y)) ≡ plain → SameSaying p (x ++ (b ∷ y)) (x ++ (b ∷ c ∷ y))
+blank-added p x y b c e f k l = same-words k l (sym (blank-doubled x y b c e f))
+
+-- "blanks .. about `=`": one before the sign, one after it
+module _ (p : ℕ) (x y : List ℕ) (b : ℕ) (e : isBlank b ≡ true) (o : all isOther x ≡ true) (plain-line : keyAt (x ++ (code "=" ∷ y)) ≡ plain) (form : takesEquals p (x ++ (code "=" ∷ y)) ≡ true) where
+  pub blank-before-sign :
+      all isOther (x ++ (b ∷ [])) ≡ true → keyAt ((x ++ (b ∷ [])) ++ (code "=" ∷ y)) ≡ plain → takesEquals p ((x ++ (b ∷ [])) ++ (code "=" ∷ y)) ≡ true →
+      SameSaying p (x ++ (code "=" ∷ y)) ((x ++ (b ∷ [])) ++ (code "=" ∷ y))
+  blank-before-sign q k f =
+      same-sides plain-line k form f (sides-of x y o .0 ∙ sym (sides-of (x ++ (b ∷ [])) y q .0 ∙ blank-end x b e)) (sides-of x y o .1 ∙ sym (sides-of (x ++ (b ∷ [])) y q .1))
+
+  pub blank-after-sign :
+      keyAt (x ++ (code "=" ∷ b ∷ y)) ≡ plain → takesEquals p (x ++ (code "=" ∷ b ∷ y)) ≡ true → SameSaying p (x ++ (code "=" ∷ y)) (x ++ (code "=" ∷ b ∷ y))
+  blank-after-sign k f =
+      same-sides plain-line k form f (sides-of x y o .0 ∙ sym (sides-of x (b ∷ y) o .0)) (sides-of x y o .1 ∙ sym (sides-of x (b ∷ y) o .1 ∙ blank-front b y e))

@@ -1,0 +1,62 @@
+-- What an accepted text is known by: every stage of the intake has passed it.
+-- Assumes nothing.
+use mathlib.Core.Path.{_≡_, refl, sym, _∙_, ap}
+use mathlib.Core.Bool.{Bool, true, false, true≢false}
+use mathlib.Core.List.{List}
+use Prim.Native.Nat.{ℕ, _≤_}
+use lib.ListN.{length}
+use lib.Dec.{ltb, eqb}
+use borrow.Author.Tests.{eqb-true, ltb-false}
+use Rattle.base.specs.If.{if_then_else_}
+use Rattle.base.proofs.IfLaws.{if-true, if-false, by-cases}
+use Rattle.lex_line.specs.ByteRules.{byteRules}
+use Rattle.lex_line.specs.declared.Checked.{Checked}
+use Rattle.lex_line.specs.declared.Checked.the-variants as bytes
+use Rattle.line_keyword.specs.declared.Counts.{Counts}
+use Rattle.read_line.specs.Reading.{readingOf}
+use Rattle.read_line.specs.declared.Reading.{Reading}
+use Rattle.read_line.specs.declared.Reading.the-variants as reading
+use Rattle.doc.specs.Document.{documentOf}
+use Rattle.doc.specs.Records.{tableOf}
+use Rattle.fill.specs.Filled.{filledOf, afterReading}
+use Rattle.fill.specs.declared.Filled.{Filled}
+use Rattle.fill.specs.declared.Filled.the-variants.{Stored, Refused}
+use Rattle.cross_rules.specs.Rules.{crossRule}
+use Rattle.intake.specs.Verdict.{Outcome, acceptedWith, refusedBy, crossed, afterFilling, afterBytes, verdictOf}
+
+-- the bytes are right, the text reads to its end, the table has room, and no rule of 19 to 27 is broken
+pub record Taken (t : List ℕ) (size : ℕ) : Type 0 where
+  pub counts : Counts
+  pub fine : byteRules t ≡ bytes.Fine
+  pub reads : readingOf t ≡ reading.Read counts
+  pub room : length (tableOf t) ≤ size
+  pub kept : crossRule (documentOf t) .number ≡ 0
+
+module _ (t : List ℕ) (size : ℕ) (fine : byteRules t ≡ bytes.Fine) where
+  taken-crossed : (c : Counts) → readingOf t ≡ reading.Read c → length (tableOf t) ≤ size → crossed (length (tableOf t)) (crossRule (documentOf t)) .accepted ≡ true → Taken t size
+  taken-crossed c r l a =
+      by-cases _ (eqb (crossRule (documentOf t) .number) 0)
+      (λ (e : eqb (crossRule (documentOf t) .number) 0 ≡ true). record { counts = c; fine = fine; reads = r; room = l; kept = eqb-true _ _ e })
+      (λ (e : eqb (crossRule (documentOf t) .number) 0 ≡ false). absurd (true≢false (sym a ∙ ap (λ (o : Outcome). o .accepted) (if-false _ _ e))))
+
+  taken-room : (c : Counts) → readingOf t ≡ reading.Read c → afterFilling t (if ltb size (length (tableOf t)) then Refused 18 0 else Stored (length (tableOf t))) .accepted ≡ true → Taken t size
+  taken-room c r a =
+      by-cases _ (ltb size (length (tableOf t)))
+      (λ (e : ltb size (length (tableOf t)) ≡ true). absurd (true≢false (sym a ∙ ap (λ (f : Filled). afterFilling t f .accepted) (if-true _ _ e))))
+      (λ (e : ltb size (length (tableOf t)) ≡ false). taken-crossed c r (ltb-false _ _ e) (ap (λ (f : Filled). afterFilling t f .accepted) (sym (if-false _ _ e)) ∙ a))
+
+  taken-reading : (answer : Reading) → readingOf t ≡ answer → afterFilling t (afterReading t size answer) .accepted ≡ true → Taken t size
+  taken-reading (reading.Read c) r a = taken-room c r a
+  taken-reading (reading.Refused number line) r a = absurd (true≢false (sym a))
+
+  taken-filled : afterFilling t (filledOf t size) .accepted ≡ true → Taken t size
+  unfolding filledOf
+  taken-filled a = taken-reading (readingOf t) refl a
+
+taken-bytes : (t : List ℕ) (size : ℕ) (answer : Checked) → byteRules t ≡ answer → afterBytes t size answer .accepted ≡ true → Taken t size
+taken-bytes t size bytes.Fine e a = taken-filled t size e a
+taken-bytes t size (bytes.Refused number line) e a = absurd (true≢false (sym a))
+
+pub accepted-taken : (t : List ℕ) (size : ℕ) → verdictOf t size .accepted ≡ true → Taken t size
+unfolding verdictOf
+accepted-taken t size a = taken-bytes t size (byteRules t) refl a

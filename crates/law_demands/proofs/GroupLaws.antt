@@ -1,0 +1,375 @@
+-- The groups of the rule book and what the stages of the intake come to: each stage gives what the first look of its group finds.
+-- Assumes nothing.
+use mathlib.Core.Path.{_≡_, refl, sym, _∙_, ap}
+use mathlib.Core.Bool.{Bool, true, false, not, true≢false}
+use mathlib.Core.List.{List, [], _∷_}
+use Prim.Native.Nat.{ℕ, zero, suc, _+_, _*_, _≤_, _<_, zero-le}
+use native.Mathlib.Nat.{le-refl, le-trans}
+use native.Mathlib.Omega.{arith}
+use lib.ListN.{length, getD}
+use lib.Dec.{leb, ltb, eqb}
+use borrow.Author.Tests.{eq-eqb, ne-eqb, eqb-true, eqb-false}
+use Rattle.base.specs.If.{if_then_else_, both, either}
+use Rattle.base.specs.Broken.{Rule, _when_, first, firstBroken}
+use Rattle.base.proofs.IfLaws.{if-true, if-false, by-cases, by-test}
+use Rattle.lex_line.specs.Lines.{Raw, lines, contentOf, isBlankLine}
+use Rattle.lex_line.specs.Words.{words, firstOf}
+use Rattle.lex_line.specs.ByteRules.{lineRule, linesRule, judged}
+use Rattle.lex_line.specs.declared.Checked.{Checked}
+use Rattle.lex_line.specs.declared.Checked.the-variants as bytes
+use Rattle.lex_keyword.specs.Names.{beginHeader}
+use Rattle.lex_keyword.specs.Bracket.{bracketOf}
+use Rattle.lex_keyword.specs.declared.Bracket.{Bracket}
+use Rattle.lex_keyword.specs.declared.Bracket.the-variants.{Plain, Indented, Bad, Unknown, Later, Keyword}
+use Rattle.line_place.specs.Place.{isText, before, done}
+use Rattle.line_place.specs.Place as place
+use Rattle.line_argument.specs.Argument.{isReserved}
+use Rattle.line_head.specs.Head.{headLineOf, headRule}
+use Rattle.line_head.specs.declared.HeadLine.{HeadLine}
+use Rattle.line_head.specs.declared.Head.{Head}
+use Rattle.line_path.specs.Path.{pathLineOf, pathRule, openRule, closedRule, closed, side}
+use Rattle.line_path.specs.declared.PathLine.{PathLine}
+use Rattle.line_path.specs.declared.Path.{Path}
+use Rattle.line_map.specs.PinMap.{mapLineOf, mapRule, pinRule}
+use Rattle.line_map.specs.declared.MapLine.{MapLine}
+use Rattle.line_map.specs.declared.Map.{Map}
+use Rattle.line_matrix.specs.Matrix.{dataLineOf, dataRule}
+use Rattle.line_matrix.specs.declared.DataLine.{DataLine}
+use Rattle.line_matrix.specs.declared.Matrix.{Matrix}
+use Rattle.line_keyword.specs.Keywords.{keywordRule}
+use Rattle.line_keyword.specs.declared.Counts.{Counts}
+use Rattle.line_keyword.specs.declared.State.{State}
+use Rattle.read_line.specs.Reading as reading
+use Rattle.read_line.specs.Reading.{listRule, lineStep, keywordStep, bracketStep, beforeStep, stepOf, goes, breaks, atEnd, onward, run, commentByte, argumentFrom}
+use Rattle.read_line.specs.declared.Step.{Step}
+use Rattle.read_line.specs.declared.Reading.{Reading}
+use Rattle.read_line.specs.declared.Reading.the-variants.{Read, Refused}
+use Rattle.doc.specs.Holds.{Each}
+use Rattle.doc.specs.Holds.Each.{none, more}
+use Rattle.cross_rules.specs.Listed.{Looked}
+use Rattle.law_demands.specs.RuleBook.{sizeRules, characterRules, characterLooked, headRules, openRules, closedRules, pathRules, mapRules, pinRules, dataRules, listRules, lineRules, keywordRules, bracketRules, beforeRules, rulesOn, endRules, forwardLooked, roomRules, forward, rank}
+use Rattle.law_demands.proofs.BookLaws.{Ranked, Given, givenBy, given-later, given-here, Before, InOrder, last, followed, AllRanked}
+
+-- ---- the rules of a line are those of the reading
+
+-- a choice between lists is a choice between what they give
+chosen : (b : Bool) (x y : List Rule) (m n : ℕ) → m ≡ firstBroken x → n ≡ firstBroken y → (if b then m else n) ≡ firstBroken (if b then x else y)
+unfolding if_then_else_
+chosen true x y m n e f = e
+chosen false x y m n e f = f
+
+path-given : (l : PathLine) (p : Path) (steps : ℕ) → pathRule l p steps ≡ firstBroken (pathRules l p steps)
+unfolding pathRule closedRule openRule first
+path-given l p steps = chosen (eqb (p .stage) closed) (closedRules l p) (openRules l p steps) _ _ (chosen (both (eqb (l .says) side) (p .side)) _ _ _ _ refl refl) refl
+
+list-given : (content : List ℕ) → listRule content ≡ firstBroken (listRules content)
+unfolding listRule if_then_else_ first
+list-given content = by-bool (isReserved (firstOf (words content)))
+  where
+    by-bool : (b : Bool) → (if b then 11 else 0) ≡ first b 11 0
+    by-bool true = refl
+    by-bool false = refl
+
+line-given : (content : List ℕ) (s : State) → reading.lineRule content s ≡ firstBroken (lineRules content s)
+unfolding reading.lineRule dataRule pinRule mapRule headRule first
+line-given content s =
+    chosen (isText (s .place)) [] _ _ _ refl
+    (chosen (eqb (s .place) place.matrix) (dataRules (dataLineOf (s .matrix .form) content) (s .matrix) (s .counts .values)) _ _ _ refl
+    (chosen (eqb (s .place) place.path) (pathRules (pathLineOf content) (s .path) (s .counts .steps)) _ _ _ (path-given (pathLineOf content) (s .path) (s .counts .steps))
+    (chosen (eqb (s .place) place.pins) (pinRules content (s .map) (s .counts .pins)) _ _ _ refl
+    (chosen (eqb (s .place) place.mapHead) (mapRules (mapLineOf content) (s .map)) _ _ _ refl
+    (chosen (eqb (s .place) place.head) (headRules (headLineOf content) (s .head)) _ _ _ refl
+    (chosen (eqb (s .place) place.list) (listRules content) (12 when true ∷ []) _ _ (list-given content) refl))))))
+
+keyword-given : (k : ℕ) (argument : List ℕ) (s : State) → keywordRule k argument s ≡ firstBroken (keywordRules k argument s)
+unfolding keywordRule
+keyword-given k argument s = refl
+
+-- the number of a step
+module _ (k : ℕ) (next s : State) where
+  judged-number : reading.judged k next s .number ≡ k
+  unfolding reading.judged goes breaks
+  judged-number =
+      by-cases _ (eqb k 0)
+      (λ (e : eqb k 0 ≡ true). ap (λ (x : Step). x .number) (if-true _ _ e) ∙ sym (eqb-true _ _ e))
+      (λ (e : eqb k 0 ≡ false). ap (λ (x : Step). x .number) (if-false _ _ e))
+
+goes-none : (s : State) → goes s .number ≡ 0
+unfolding goes
+goes-none s = refl
+
+breaks-number : (k : ℕ) (s : State) → breaks k s .number ≡ k
+unfolding breaks
+breaks-number k s = refl
+
+line-number : (content : List ℕ) (s : State) → lineStep content s .number ≡ firstBroken (lineRules content s)
+unfolding lineStep
+line-number content s = judged-number (reading.lineRule content s) _ s ∙ line-given content s
+
+keyword-number : (k : ℕ) (argument : List ℕ) (s : State) → keywordStep k argument s .number ≡ firstBroken (keywordRules k argument s)
+unfolding keywordStep
+keyword-number k argument s = judged-number (keywordRule k argument s) _ s ∙ keyword-given k argument s
+
+-- a choice between steps is a choice between what their lists give
+step-chosen : (b : Bool) (x y : List Rule) (p q : Step) → p .number ≡ firstBroken x → q .number ≡ firstBroken y → (if b then p else q) .number ≡ firstBroken (if b then x else y)
+unfolding if_then_else_
+step-chosen true x y p q e f = e
+step-chosen false x y p q e f = f
+
+broken-at : (k : ℕ) (s : State) → breaks k s .number ≡ firstBroken (k when true ∷ [])
+unfolding breaks first
+broken-at k s = refl
+
+bracket-number : (b : Bracket) (content : List ℕ) (s : State) → bracketStep b content s .number ≡ firstBroken (bracketRules b content s)
+bracket-number Plain content s = line-number content s
+bracket-number Indented content s = step-chosen (isText (s .place)) _ _ _ _ (line-number content s) (broken-at 6 s)
+bracket-number Bad content s = broken-at 6 s
+bracket-number Unknown content s = broken-at 7 s
+bracket-number Later content s = broken-at 8 s
+bracket-number (Keyword k start) content s = keyword-number k (argumentFrom content start) s
+
+before-number : (b : Bracket) (content : List ℕ) (s : State) → beforeStep b content s .number ≡ firstBroken (beforeRules b content s)
+before-number Plain content s = goes-none s
+before-number Indented content s = goes-none s
+before-number Bad content s = goes-none s
+before-number Unknown content s = goes-none s
+before-number Later content s = goes-none s
+before-number (Keyword k start) content s = step-chosen (eqb k beginHeader) _ _ _ _ (keyword-number k (argumentFrom content start) s) (goes-none s)
+
+pub step-number : (content : List ℕ) (s : State) → stepOf content s .number ≡ firstBroken (rulesOn content s)
+unfolding stepOf rulesOn
+step-number content s =
+    step-chosen (isBlankLine content) _ _ _ _ (goes-none s)
+    (step-chosen (eqb (s .place) done) _ _ _ _ (goes-none s)
+    (step-chosen (eqb (s .place) before) _ _ _ _ (before-number (bracketOf content) content s) (bracket-number (bracketOf content) content s)))
+
+-- ---- every list stands in the order of refusal
+
+pub size-ranked : (t : List ℕ) → Ranked 1 (sizeRules t)
+unfolding rank if_then_else_ both
+size-ranked t = record { numbered = (omega arith, tt); ascends = (omega arith, tt) }
+
+character-ranked : (l : Raw) → Ranked 2 (characterRules l)
+unfolding rank if_then_else_ both
+character-ranked l = record { numbered = (omega arith, (omega arith, (omega arith, tt))); ascends = (omega arith, (omega arith, (omega arith, tt))) }
+
+pub room-ranked : (t : List ℕ) (size : ℕ) → Ranked 4 (roomRules t size)
+unfolding rank if_then_else_ both
+room-ranked t size = record { numbered = (omega arith, tt); ascends = (omega arith, tt) }
+
+none-ranked : (g : ℕ) → Ranked g []
+none-ranked g = record { numbered = tt; ascends = tt }
+
+twelve-ranked : (b : Bool) → Ranked forward (12 when b ∷ [])
+unfolding rank if_then_else_ both
+twelve-ranked b = record { numbered = (omega arith, tt); ascends = (omega arith, tt) }
+
+eleven-ranked : (b : Bool) → Ranked forward (11 when b ∷ [])
+unfolding rank if_then_else_ both
+eleven-ranked b = record { numbered = (omega arith, tt); ascends = (omega arith, tt) }
+
+bracket-ranked : (k : ℕ) → 0 < k → (b : Bool) → Ranked forward (k when b ∷ [])
+bracket-ranked k h b = record { numbered = (h, tt); ascends = (zero-le, tt) }
+
+head-ranked : (l : HeadLine) (h : Head) → Ranked forward (headRules l h)
+unfolding rank if_then_else_ both
+head-ranked l h = record { numbered = (omega arith, (omega arith, (omega arith, (omega arith, tt)))); ascends = (omega arith, (omega arith, (omega arith, (omega arith, tt)))) }
+
+map-ranked : (l : MapLine) (m : Map) → Ranked forward (mapRules l m)
+unfolding rank if_then_else_ both
+map-ranked l m = record { numbered = (omega arith, (omega arith, (omega arith, (omega arith, tt)))); ascends = (omega arith, (omega arith, (omega arith, (omega arith, tt)))) }
+
+pin-ranked : (content : List ℕ) (m : Map) (total : ℕ) → Ranked forward (pinRules content m total)
+unfolding rank if_then_else_ both
+pin-ranked content m total = record { numbered = (omega arith, (omega arith, tt)); ascends = (omega arith, (omega arith, tt)) }
+
+data-ranked : (l : DataLine) (m : Matrix) (values : ℕ) → Ranked forward (dataRules l m values)
+unfolding rank if_then_else_ both
+data-ranked l m values = record { numbered = (omega arith, (omega arith, (omega arith, (omega arith, tt)))); ascends = (omega arith, (omega arith, (omega arith, (omega arith, tt)))) }
+
+open-ranked : (l : PathLine) (p : Path) (steps : ℕ) → Ranked forward (openRules l p steps)
+unfolding rank if_then_else_ both
+open-ranked l p steps =
+    record {
+      numbered = (omega arith, (omega arith, (omega arith, (omega arith, (omega arith, (omega arith, tt))))));
+      ascends = (omega arith, (omega arith, (omega arith, (omega arith, (omega arith, (omega arith, tt))))));
+    }
+
+keyword-ranked : (k : ℕ) (argument : List ℕ) (s : State) → Ranked forward (keywordRules k argument s)
+unfolding rank if_then_else_ both
+keyword-ranked k argument s =
+    record {
+      numbered = (omega arith, (omega arith, (omega arith, (omega arith, (omega arith, (omega arith, (omega arith, tt)))))));
+      ascends = (omega arith, (omega arith, (omega arith, (omega arith, (omega arith, (omega arith, (omega arith, tt)))))));
+    }
+
+end-ranked : (s : State) → Ranked forward (endRules s)
+unfolding rank if_then_else_ both
+end-ranked s = record { numbered = (omega arith, (omega arith, tt)); ascends = (omega arith, (omega arith, tt)) }
+
+-- of a choice between two lists
+either-ranked : (b : Bool) (x y : List Rule) → Ranked forward x → Ranked forward y → Ranked forward (if b then x else y)
+either-ranked b x y h k = by-test (Ranked forward) b _ _ (λ e. h) (λ e. k)
+
+path-ranked : (l : PathLine) (p : Path) (steps : ℕ) → Ranked forward (pathRules l p steps)
+path-ranked l p steps =
+    either-ranked (eqb (p .stage) closed) _ _ (either-ranked (both (eqb (l .says) side) (p .side)) _ _ (eleven-ranked _) (twelve-ranked true))
+    (open-ranked l p steps)
+
+line-ranked : (content : List ℕ) (s : State) → Ranked forward (lineRules content s)
+line-ranked content s =
+    either-ranked (isText (s .place)) _ _ (none-ranked forward)
+    (either-ranked (eqb (s .place) place.matrix) _ _ (data-ranked (dataLineOf (s .matrix .form) content) (s .matrix) (s .counts .values))
+    (either-ranked (eqb (s .place) place.path) _ _ (path-ranked (pathLineOf content) (s .path) (s .counts .steps))
+    (either-ranked (eqb (s .place) place.pins) _ _ (pin-ranked content (s .map) (s .counts .pins))
+    (either-ranked (eqb (s .place) place.mapHead) _ _ (map-ranked (mapLineOf content) (s .map))
+    (either-ranked (eqb (s .place) place.head) _ _ (head-ranked (headLineOf content) (s .head))
+    (either-ranked (eqb (s .place) place.list) _ _ (eleven-ranked (isReserved (firstOf (words content)))) (twelve-ranked true)))))))
+
+brackets-ranked : (b : Bracket) (content : List ℕ) (s : State) → Ranked forward (bracketRules b content s)
+brackets-ranked Plain content s = line-ranked content s
+brackets-ranked Indented content s = either-ranked (isText (s .place)) _ _ (line-ranked content s) (bracket-ranked 6 (omega arith) true)
+brackets-ranked Bad content s = bracket-ranked 6 (omega arith) true
+brackets-ranked Unknown content s = bracket-ranked 7 (omega arith) true
+brackets-ranked Later content s = bracket-ranked 8 (omega arith) true
+brackets-ranked (Keyword k start) content s = keyword-ranked k (argumentFrom content start) s
+
+before-ranked : (b : Bracket) (content : List ℕ) (s : State) → Ranked forward (beforeRules b content s)
+before-ranked Plain content s = none-ranked forward
+before-ranked Indented content s = none-ranked forward
+before-ranked Bad content s = none-ranked forward
+before-ranked Unknown content s = none-ranked forward
+before-ranked Later content s = none-ranked forward
+before-ranked (Keyword k start) content s = either-ranked (eqb k beginHeader) _ _ (keyword-ranked k (argumentFrom content start) s) (none-ranked forward)
+
+rules-ranked : (content : List ℕ) (s : State) → Ranked forward (rulesOn content s)
+unfolding rulesOn
+rules-ranked content s =
+    either-ranked (isBlankLine content) _ _ (none-ranked forward)
+    (either-ranked (eqb (s .place) done) _ _ (none-ranked forward)
+    (either-ranked (eqb (s .place) before) _ _ (before-ranked (bracketOf content) content s) (brackets-ranked (bracketOf content) content s)))
+
+-- ---- 2 to 4
+
+-- what the byte rules come to by what the looks give
+abbrev pub checkedBy : Given → Checked
+checkedBy given = if eqb (given .number) 0 then bytes.Fine else bytes.Refused (given .number) (given .line)
+
+lookAt : ℕ → Raw → Looked
+lookAt n l = record { line = n; rules = characterRules l }
+
+pub characters-given : (n : ℕ) (ls : List Raw) → linesRule n ls ≡ checkedBy (givenBy (characterLooked n ls))
+unfolding linesRule judged lineRule characterLooked givenBy
+characters-given n [] = sym (if-true _ _ (eq-eqb 0 0 refl))
+characters-given n (l ∷ ls) =
+    by-cases _ (eqb (firstBroken (characterRules l)) 0)
+    (λ (e : eqb (firstBroken (characterRules l)) 0 ≡ true). if-true _ _ e ∙ characters-given (n + 1) ls ∙ ap checkedBy (sym (if-true _ _ e)))
+    (λ (e : eqb (firstBroken (characterRules l)) 0 ≡ false). if-false _ _ e ∙ sym (if-false _ _ e) ∙ ap checkedBy (sym (if-false _ _ e)))
+
+pub characters-ranked : (n : ℕ) (ls : List Raw) → AllRanked 2 (characterLooked n ls)
+unfolding characterLooked
+characters-ranked n [] = none
+characters-ranked n (l ∷ ls) = more (character-ranked l) (characters-ranked (n + 1) ls)
+
+-- a look on a line before those of looks that stand from a later line on
+before-at : (n : ℕ) (rules : List Rule) (x : Looked) → 0 < n → n < x .line → Before (record { line = n; rules = rules }) x
+before-at n rules x p l = record { above = λ q. (p, l); apart = λ (e : n ≡ x .line). omega arith }
+
+characters-behind : (m : ℕ) (rules : List Rule) (n : ℕ) (ls : List Raw) → 0 < m → m < n → Each (Before (record { line = m; rules = rules })) (characterLooked n ls)
+unfolding characterLooked
+characters-behind m rules n [] p l = none
+characters-behind m rules n (r ∷ ls) p l = more (before-at m rules _ p l) (characters-behind m rules (n + 1) ls p (omega arith))
+
+pub characters-ordered : (n : ℕ) (ls : List Raw) → 0 < n → InOrder (characterLooked n ls)
+unfolding characterLooked
+characters-ordered n [] p = last
+characters-ordered n (l ∷ ls) p = followed (characters-behind n (characterRules l) (n + 1) ls p (omega arith)) (characters-ordered (n + 1) ls (omega arith))
+
+-- ---- 5 to 17
+
+pub data Told : Reading → Given → Type 0 where
+  read-on : (c : Counts) {given : Given} → given .number ≡ 0 → Told (Read c) given
+  refused-at : (number line : ℕ) → (number ≡ 0 → ⊥) → Told (Refused number line) (record { number = number; line = line })
+
+-- what the end of the text breaks
+module _ (s : State) where
+  abbrev endLook : Looked
+  endLook = record { line = 0; rules = endRules s }
+
+  alone : givenBy (endLook ∷ []) ≡ (if eqb (firstBroken (endRules s)) 0 then record { number = 0; line = 0 } else record { number = firstBroken (endRules s); line = 0 })
+  unfolding givenBy
+  alone = refl
+
+  end-first : firstBroken (endRules s) ≡ (if eqb (s .place) before then 5 else if eqb (s .place) done then 0 else 10)
+  unfolding first if_then_else_
+  end-first = by-bools (eqb (s .place) before) (eqb (s .place) done)
+    where
+      by-bools : (b d : Bool) → first b 5 (first (not d) 10 0) ≡ (if b then 5 else if d then 0 else 10)
+      by-bools true d = refl
+      by-bools false true = refl
+      by-bools false false = refl
+
+  end-told : Told (atEnd s) (givenBy (endLook ∷ []))
+  unfolding atEnd
+  end-told =
+      by-cases _ (eqb (s .place) done)
+      (λ (d : eqb (s .place) done ≡ true).
+      let b : eqb (s .place) before ≡ false = ne-eqb _ _ (λ (e : s .place ≡ before). let p : s .place ≡ done = eqb-true _ _ d in omega arith) in
+      let z : firstBroken (endRules s) ≡ 0 = end-first ∙ if-false _ _ b ∙ if-true _ _ d in
+      rw (if-true {A = Reading} (Read (s .counts)) (if eqb (s .place) before then Refused 5 0 else Refused 10 0) d) (read-on (s .counts) (ap (λ (g : Given). g .number) (alone ∙ if-true _ _ (eq-eqb _ _ z)))))
+      (λ (d : eqb (s .place) done ≡ false).
+      by-cases _ (eqb (s .place) before)
+      (λ (b : eqb (s .place) before ≡ true). told 5 (λ (e : 5 ≡ 0). omega arith) (if-false _ _ d ∙ if-true _ _ b) (end-first ∙ if-true _ _ b))
+      (λ (b : eqb (s .place) before ≡ false). told 10 (λ (e : 10 ≡ 0). omega arith) (if-false _ _ d ∙ if-false _ _ b) (end-first ∙ if-false _ _ b ∙ if-false _ _ d)))
+    where
+      told : (k : ℕ) → (k ≡ 0 → ⊥) → (if eqb (s .place) done then Read (s .counts) else (if eqb (s .place) before then Refused 5 0 else Refused 10 0)) ≡ Refused k 0 → firstBroken (endRules s) ≡ k → Told (if eqb (s .place) done then Read (s .counts) else (if eqb (s .place) before then Refused 5 0 else Refused 10 0)) (givenBy (endLook ∷ []))
+      told k n e f =
+          let g : givenBy (endLook ∷ []) ≡ record { number = k; line = 0 } = alone ∙ if-false _ _ (ne-eqb _ _ (λ (z : firstBroken (endRules s) ≡ 0). n (sym f ∙ z))) ∙ ap (λ (m : ℕ). record { number = m; line = 0 }) f in
+          rw (e, g) (refused-at k 0 n)
+
+module _ (step : Step) (n : ℕ) (more-lines : State → Reading) where
+  on-kept : eqb (step .number) 0 ≡ true → onward step n more-lines ≡ more-lines (step .state)
+  unfolding onward
+  on-kept e = if-true _ _ e
+
+  on-broken : eqb (step .number) 0 ≡ false → onward step n more-lines ≡ Refused (step .number) n
+  unfolding onward
+  on-broken e = if-false _ _ e
+
+pub forward-told : (n : ℕ) (ls : List Raw) (s : State) → Told (run n ls s) (givenBy (forwardLooked n ls s))
+unfolding run forwardLooked
+forward-told n [] s = end-told s
+forward-told n (l ∷ ls) s =
+    by-cases _ (eqb (firstBroken (rulesOn (contentOf commentByte (l .bytes)) s)) 0)
+    (λ (e : eqb (firstBroken (rulesOn (contentOf commentByte (l .bytes)) s)) 0 ≡ true).
+    let kept : eqb (stepOf (contentOf commentByte (l .bytes)) s .number) 0 ≡ true = ap (λ (m : ℕ). eqb m 0) (step-number (contentOf commentByte (l .bytes)) s) ∙ e in
+    rw (on-kept (stepOf (contentOf commentByte (l .bytes)) s) n (run (n + 1) ls) kept, if-true {A = List Looked} (forwardLooked (n + 1) ls (stepOf (contentOf commentByte (l .bytes)) s .state)) [] e, given-later (record { line = n; rules = rulesOn (contentOf commentByte (l .bytes)) s }) (forwardLooked (n + 1) ls (stepOf (contentOf commentByte (l .bytes)) s .state)) (eqb-true _ _ e)) (forward-told (n + 1) ls (stepOf (contentOf commentByte (l .bytes)) s .state)))
+    (λ (e : eqb (firstBroken (rulesOn (contentOf commentByte (l .bytes)) s)) 0 ≡ false).
+    let broken : eqb (stepOf (contentOf commentByte (l .bytes)) s .number) 0 ≡ false = ap (λ (m : ℕ). eqb m 0) (step-number (contentOf commentByte (l .bytes)) s) ∙ e in
+    rw (on-broken (stepOf (contentOf commentByte (l .bytes)) s) n (run (n + 1) ls) broken, given-here (record { line = n; rules = rulesOn (contentOf commentByte (l .bytes)) s }) (if eqb (firstBroken (rulesOn (contentOf commentByte (l .bytes)) s)) 0 then forwardLooked (n + 1) ls (stepOf (contentOf commentByte (l .bytes)) s .state) else []) (eqb-false _ _ e), sym (step-number (contentOf commentByte (l .bytes)) s)) (refused-at (stepOf (contentOf commentByte (l .bytes)) s .number) n (eqb-false _ _ broken)))
+
+pub forward-ranked : (n : ℕ) (ls : List Raw) (s : State) → AllRanked forward (forwardLooked n ls s)
+unfolding forwardLooked
+forward-ranked n [] s = more (end-ranked s) none
+forward-ranked n (l ∷ ls) s =
+    more (rules-ranked _ s)
+    (by-test (AllRanked forward) (eqb (firstBroken (rulesOn (contentOf commentByte (l .bytes)) s)) 0) _ _ (λ e. forward-ranked (n + 1) ls (stepOf (contentOf commentByte (l .bytes)) s .state)) (λ e. none))
+
+-- the end of the text stands last
+before-end : (n : ℕ) (rules : List Rule) (s : State) → 0 < n → Before (record { line = n; rules = rules }) (endLook s)
+before-end n rules s p = record { above = λ (q : 0 < 0). absurd (omega arith); apart = λ (e : n ≡ 0). omega arith }
+
+forward-behind : (m : ℕ) (rules : List Rule) (n : ℕ) (ls : List Raw) (s : State) → 0 < m → m < n → Each (Before (record { line = m; rules = rules })) (forwardLooked n ls s)
+unfolding forwardLooked
+forward-behind m rules n [] s p l = more (before-end m rules s p) none
+forward-behind m rules n (r ∷ ls) s p l =
+    more (before-at m rules _ p l)
+    (by-test (Each (Before (record { line = m; rules = rules }))) (eqb (firstBroken (rulesOn (contentOf commentByte (r .bytes)) s)) 0) _ _ (λ e. forward-behind m rules (n + 1) ls (stepOf (contentOf commentByte (r .bytes)) s .state) p (omega arith)) (λ e. none))
+
+pub forward-ordered : (n : ℕ) (ls : List Raw) (s : State) → 0 < n → InOrder (forwardLooked n ls s)
+unfolding forwardLooked
+forward-ordered n [] s p = followed none last
+forward-ordered n (l ∷ ls) s p =
+    followed
+    (by-test (Each (Before _)) (eqb (firstBroken (rulesOn (contentOf commentByte (l .bytes)) s)) 0) _ _ (λ e. forward-behind n _ (n + 1) ls (stepOf (contentOf commentByte (l .bytes)) s .state) p (omega arith)) (λ e. none))
+    (by-test InOrder (eqb (firstBroken (rulesOn (contentOf commentByte (l .bytes)) s)) 0) _ _ (λ e. forward-ordered (n + 1) ls (stepOf (contentOf commentByte (l .bytes)) s .state) (omega arith)) (λ e. last))

@@ -1,0 +1,431 @@
+-- The paper's example is accepted, and so are two texts with the same numbers in other forms, with other comments and blanks, which are alike.
+-- By computation.
+-- Assumes nothing.
+use mathlib.Core.Path.{_≡_, refl, sym, _∙_, subst}
+use mathlib.Core.Bool.{true, false}
+use mathlib.Core.List.{List, [], _∷_, _++_, map}
+use Prim.Native.Nat.{ℕ, _+_, _≤_}
+use native.Mathlib.Omega.{arith}
+use lib.ListN.{length}
+use lib.Dec.{eqb}
+use borrow.Author.Tests.{eqb-true, eqb-false}
+use Rattle.base.proofs.IfLaws.{by-cases}
+use Rattle.base.specs.Bytes.{bytes}
+use Rattle.lex_line.specs.Lines.{Raw, lines, isBlankLine}
+use Rattle.line_place.specs.Place.{before}
+use Rattle.line_place.specs.Place as place
+use Rattle.intake.specs.Verdict.{acceptedWith, verdictOf}
+use Rattle.doc.specs.Lines.{Line, keyOf, placeAfter, linesFrom}
+use Rattle.doc.specs.Document.{opensMatrixAt, conductorsIn}
+use Rattle.law_alike.specs.Written.{writtenAt}
+use Rattle.law_alike.specs.Alike.{SameSaying, same-words, same-sides, formAt, SameNumbers, Alike}
+use Rattle.law_alike.proofs.WideLaws.{textOf, rawOf, contentIn, lineAs, SameRaws, other-blank, says, block, Ends, placeBehind, raws-front, raws-self, texts-alike}
+use Rattle.base.specs.Broken as d0
+use Rattle.base.specs.Bytes as d1
+use Rattle.base.specs.Class as d2
+use Rattle.base.specs.If as d3
+use Rattle.base.specs.Runs as d4
+use Rattle.lex_line.specs.ByteRules as d5
+use Rattle.lex_line.specs.Lines as d6
+use Rattle.lex_line.specs.Words as d7
+use Rattle.lex_number.specs.Capped as d8
+use Rattle.lex_number.specs.Integer as d9
+use Rattle.lex_number.specs.Number as d10
+use Rattle.lex_number.specs.ValueWord as d11
+use Rattle.lex_keyword.specs.Bracket as d12
+use Rattle.lex_keyword.specs.Lookup as d13
+use Rattle.lex_keyword.specs.Names as d14
+use Rattle.lex_keyword.specs.Reading as d15
+use Rattle.line_argument.specs.Argument as d17
+use Rattle.line_head.specs.Head as d18
+use Rattle.line_path.specs.Path as d19
+use Rattle.line_path.specs.Section as d20
+use Rattle.line_map.specs.PinMap as d21
+use Rattle.line_matrix.specs.Matrix as d22
+use Rattle.line_keyword.specs.Keywords as d23
+use Rattle.line_keyword.specs.State as d24
+use Rattle.read_line.specs.Reading as d25
+use Rattle.read_line.specs.Trace as d26
+use Rattle.read_line.specs.Walk as d27
+use Rattle.table_layout.specs.Filling as d28
+use Rattle.table_layout.specs.Layout as d29
+use Rattle.view.specs.View as d30
+use Rattle.doc.specs.Document as d31
+use Rattle.doc.specs.Found as d32
+use Rattle.doc.specs.Holds as d33
+use Rattle.doc.specs.Lines as d34
+use Rattle.doc.specs.Records as d35
+use Rattle.fill.specs.Filled as d36
+use Rattle.cross_rules.specs.Nth as d37
+use Rattle.cross_rules.specs.Rules as d38
+use Rattle.intake.specs.Verdict as d39
+use Rattle.law_alike.specs.Alike as d40
+use Rattle.law_alike.specs.Written as d41
+
+-- the paper's example
+abbrev exampleLines : List (List ℕ)
+exampleLines =
+    bytes "[Begin Header]"
+    ∷ bytes "[ICM Ver] 1.1"
+    ∷ bytes "[File Name] t.icm"
+    ∷ bytes "[File Rev] 0.1"
+    ∷ bytes "[End Header]"
+    ∷ bytes "[Begin ICM Family] D"
+    ∷ bytes "[Manufacturer] O"
+    ∷ bytes "[ICM Model List]"
+    ∷ bytes "A"
+    ∷ bytes "[Begin ICM Model] A"
+    ∷ bytes "ICM_model_type MLM"
+    ∷ bytes "[Tree Path Description]"
+    ∷ bytes "Model_pinmap P"
+    ∷ bytes "Section Mult=2 S"
+    ∷ bytes "Fork"
+    ∷ bytes "Section Mult=1 S"
+    ∷ bytes "Endfork"
+    ∷ bytes "Model_pinmap Q"
+    ∷ bytes "[End ICM Model]"
+    ∷ bytes "[ICM Pin Map] P"
+    ∷ bytes "Pin_order Un_ordered"
+    ∷ bytes "Pin_list"
+    ∷ bytes "A1"
+    ∷ bytes "A2"
+    ∷ bytes "[ICM Pin Map] Q"
+    ∷ bytes "Pin_order Un_ordered"
+    ∷ bytes "Pin_list"
+    ∷ bytes "1"
+    ∷ bytes "2"
+    ∷ bytes "[End ICM Family]"
+    ∷ bytes "[Begin ICM Section] S"
+    ∷ bytes "[Derivation Method] Lumped"
+    ∷ bytes "[Inductance Matrix] Full_matrix"
+    ∷ bytes "[Row] 1"
+    ∷ bytes "4.50nH 0.8nH"
+    ∷ bytes "[Row] 2"
+    ∷ bytes "4.5nH"
+    ∷ bytes "[End ICM Section]"
+    ∷ bytes "[End]"
+    ∷ []
+
+-- two texts that share these lines
+abbrev headerLines : List (List ℕ)
+headerLines =
+    bytes "[Begin Header]"
+    ∷ bytes "[ICM Ver] 1.1"
+    ∷ bytes "[File Name] t.icm"
+    ∷ bytes "[File Rev] 0.1"
+    ∷ bytes "[End Header]"
+    ∷ []
+
+-- and these
+abbrev familyLines : List (List ℕ)
+familyLines =
+    bytes "[Begin ICM Family] D"
+    ∷ bytes "[Manufacturer] O"
+    ∷ bytes "[ICM Model List]"
+    ∷ bytes "A"
+    ∷ bytes "[Begin ICM Model] A"
+    ∷ bytes "ICM_model_type MLM"
+    ∷ bytes "[Tree Path Description]"
+    ∷ []
+
+-- and these, down to the section
+abbrev pathLines : List (List ℕ)
+pathLines =
+    bytes "Fork"
+    ∷ bytes "Section Mult=1 S"
+    ∷ bytes "Endfork"
+    ∷ bytes "Model_pinmap Q"
+    ∷ bytes "[End ICM Model]"
+    ∷ bytes "[ICM Pin Map] P"
+    ∷ bytes "Pin_order Un_ordered"
+    ∷ bytes "Pin_list"
+    ∷ bytes "A1"
+    ∷ bytes "A2"
+    ∷ bytes "[ICM Pin Map] Q"
+    ∷ bytes "Pin_order Un_ordered"
+    ∷ bytes "Pin_list"
+    ∷ bytes "1"
+    ∷ bytes "2"
+    ∷ bytes "[End ICM Family]"
+    ∷ bytes "[Begin ICM Section] S"
+    ∷ bytes "[Derivation Method] Lumped"
+    ∷ []
+
+-- and the last
+abbrev closingLines : List (List ℕ)
+closingLines =
+    bytes "[End ICM Section]"
+    ∷ bytes "[End]"
+    ∷ []
+
+-- R in full
+abbrev resistance : List (List ℕ)
+resistance =
+    bytes "[Row] 1"
+    ∷ bytes "1 0"
+    ∷ bytes "[Row] 2"
+    ∷ bytes "2"
+    ∷ []
+
+-- R, sparse
+abbrev otherResistance : List (List ℕ)
+otherResistance =
+    bytes "[Row] 1"
+    ∷ bytes "1 1"
+    ∷ bytes "[Row] 2"
+    ∷ bytes "2 2"
+    ∷ []
+
+-- L, banded
+abbrev inductance : List (List ℕ)
+inductance =
+    bytes "[Bandwidth] 0"
+    ∷ bytes "[Row] 1"
+    ∷ bytes "3n"
+    ∷ bytes "[Row] 2"
+    ∷ bytes "4n"
+    ∷ []
+
+-- L in full
+abbrev otherInductance : List (List ℕ)
+otherInductance =
+    bytes "[Row] 1"
+    ∷ bytes "3n 0"
+    ∷ bytes "[Row] 2"
+    ∷ bytes "4n"
+    ∷ []
+
+-- G, sparse
+abbrev conductance : List (List ℕ)
+conductance =
+    bytes "[Row] 1"
+    ∷ bytes "1 5"
+    ∷ bytes "[Row] 2"
+    ∷ bytes "2 6"
+    ∷ []
+
+-- G, the diagonal
+abbrev otherConductance : List (List ℕ)
+otherConductance =
+    bytes "5 6"
+    ∷ []
+
+-- C, the diagonal
+abbrev capacitance : List (List ℕ)
+capacitance =
+    bytes "7p 8p"
+    ∷ []
+
+-- C, banded
+abbrev otherCapacitance : List (List ℕ)
+otherCapacitance =
+    bytes "[Bandwidth] 0"
+    ∷ bytes "[Row] 1"
+    ∷ bytes "7p"
+    ∷ bytes "[Row] 2"
+    ∷ bytes "8p"
+    ∷ []
+
+abbrev pub example : List ℕ
+example = textOf exampleLines
+
+-- from the section's matrices on
+abbrev matrixLines : List (List ℕ)
+matrixLines = bytes "[Resistance Matrix] Full_matrix" ∷ (resistance ++ (bytes "[Inductance Matrix] Banded_matrix" ∷ (inductance ++ (bytes "[Conductance Matrix] Sparse_matrix" ∷ (conductance ++ (bytes "[Capacitance Matrix] Diagonal_matrix" ∷ (capacitance ++ closingLines)))))))
+
+abbrev otherMatrixLines : List (List ℕ)
+otherMatrixLines = bytes "[Resistance Matrix] Sparse_matrix" ∷ (otherResistance ++ (bytes "[Inductance Matrix] Full_matrix" ∷ (otherInductance ++ (bytes "[Conductance Matrix] Diagonal_matrix" ∷ (otherConductance ++ (bytes "[Capacitance Matrix] Banded_matrix" ∷ (otherCapacitance ++ closingLines)))))))
+
+abbrev firstLines : List (List ℕ)
+firstLines = headerLines ++ (familyLines ++ (bytes "Model_pinmap P" ∷ bytes "Section Mult=2 S" ∷ (pathLines ++ matrixLines)))
+
+-- a comment line, a blank line, blanks between words and about `=`, a comment at a line's end, and each matrix in another form
+abbrev secondLines : List (List ℕ)
+secondLines = headerLines ++ (bytes "| from another desk" ∷ bytes "  " ∷ (familyLines ++ (bytes "Model_pinmap   P | the first end" ∷ bytes "Section  Mult = 2   S" ∷ (pathLines ++ otherMatrixLines))))
+
+abbrev pub first : List ℕ
+first = textOf firstLines
+
+abbrev pub second : List ℕ
+second = textOf secondLines
+
+-- the lines from each matrix on
+abbrev closing : List Raw
+closing = map rawOf closingLines
+
+abbrev fromC : List Raw
+fromC = rawOf (bytes "[Capacitance Matrix] Diagonal_matrix") ∷ (map rawOf capacitance ++ closing)
+
+abbrev fromOtherC : List Raw
+fromOtherC = rawOf (bytes "[Capacitance Matrix] Banded_matrix") ∷ (map rawOf otherCapacitance ++ closing)
+
+abbrev fromG : List Raw
+fromG = rawOf (bytes "[Conductance Matrix] Sparse_matrix") ∷ (map rawOf conductance ++ fromC)
+
+abbrev fromOtherG : List Raw
+fromOtherG = rawOf (bytes "[Conductance Matrix] Diagonal_matrix") ∷ (map rawOf otherConductance ++ fromOtherC)
+
+abbrev fromL : List Raw
+fromL = rawOf (bytes "[Inductance Matrix] Banded_matrix") ∷ (map rawOf inductance ++ fromG)
+
+abbrev fromOtherL : List Raw
+fromOtherL = rawOf (bytes "[Inductance Matrix] Full_matrix") ∷ (map rawOf otherInductance ++ fromOtherG)
+
+abbrev fromR : List Raw
+fromR = rawOf (bytes "[Resistance Matrix] Full_matrix") ∷ (map rawOf resistance ++ fromL)
+
+abbrev fromOtherR : List Raw
+fromOtherR = rawOf (bytes "[Resistance Matrix] Sparse_matrix") ∷ (map rawOf otherResistance ++ fromOtherL)
+
+-- from the path's first section, from its first end, and from the family on
+abbrev fromSection : List Raw
+fromSection = rawOf (bytes "Section Mult=2 S") ∷ (map rawOf pathLines ++ fromR)
+
+abbrev fromOtherSection : List Raw
+fromOtherSection = rawOf (bytes "Section  Mult = 2   S") ∷ (map rawOf pathLines ++ fromOtherR)
+
+abbrev fromEnd : List Raw
+fromEnd = rawOf (bytes "Model_pinmap P") ∷ fromSection
+
+abbrev fromOtherEnd : List Raw
+fromOtherEnd = rawOf (bytes "Model_pinmap   P | the first end") ∷ fromOtherSection
+
+abbrev fromFamily : List Raw
+fromFamily = map rawOf familyLines ++ fromEnd
+
+abbrev fromOtherFamily : List Raw
+fromOtherFamily = rawOf (bytes "| from another desk") ∷ rawOf (bytes "  ") ∷ (map rawOf familyLines ++ fromOtherEnd)
+
+-- ---- what is computed
+
+-- numbers of two rows
+two-same : (f g : ℕ → ℕ → ℕ) → f 1 1 ≡ g 1 1 → f 1 2 ≡ g 1 2 → f 2 2 ≡ g 2 2 → (i j : ℕ) → 1 ≤ i → i ≤ j → j ≤ 2 → f i j ≡ g i j
+two-same f g a b c i j h k l =
+    by-cases _ (eqb i 1)
+    (λ (e : eqb i 1 ≡ true).
+    by-cases _ (eqb j 1)
+    (λ (d : eqb j 1 ≡ true). subst (λ (n : ℕ). f i n ≡ g i n) (sym (eqb-true j 1 d)) (subst (λ (n : ℕ). f n 1 ≡ g n 1) (sym (eqb-true i 1 e)) a))
+    (λ (d : eqb j 1 ≡ false). let n : j ≡ 1 → ⊥ = eqb-false j 1 d in let t : j ≡ 2 = omega arith in subst (λ (n : ℕ). f i n ≡ g i n) (sym t) (subst (λ (n : ℕ). f n 2 ≡ g n 2) (sym (eqb-true i 1 e)) b)))
+    (λ (e : eqb i 1 ≡ false). let n : i ≡ 1 → ⊥ = eqb-false i 1 e in let t : j ≡ 2 = omega arith in let u : i ≡ 2 = omega arith in subst (λ (n : ℕ). f i n ≡ g i n) (sym t) (subst (λ (n : ℕ). f n 2 ≡ g n 2) (sym u) c))
+
+-- two matrices of two conductors
+same-two :
+    (l : Line) (bs : List Line) (m : Line) (cs : List Line) → opensMatrixAt l ≡ true → l .place ≡ m .place → keyOf l ≡ keyOf m → conductorsIn (formAt l) bs ≡ 2 → conductorsIn (formAt m) cs ≡ 2 →
+    writtenAt (formAt l) bs 1 1 ≡ writtenAt (formAt m) cs 1 1 → writtenAt (formAt l) bs 1 2 ≡ writtenAt (formAt m) cs 1 2 → writtenAt (formAt l) bs 2 2 ≡ writtenAt (formAt m) cs 2 2 → SameNumbers l bs m cs
+same-two l bs m cs o p k c d e f g =
+    record {
+      opens = o;
+      place = p;
+      kind = k;
+      conductors = c ∙ sym d;
+      numbers = λ i j low mid high. two-same (writtenAt (formAt l) bs) (writtenAt (formAt m) cs) e f g i j low mid (rw c at high);
+    }
+
+-- a matrix against one in another form, in the place p: what `block` asks for
+record Blocks (p : ℕ) (r q : Raw) (bs cs rs qs : List Raw) : Type 0 where
+  said : isBlankLine (contentIn r) ≡ false
+  other-said : isBlankLine (contentIn q) ≡ false
+  numbers :
+      (n at m to : ℕ) →
+      SameNumbers (lineAs n at p r) (linesFrom (n + 1) (at + length (r .bytes) + 1) (placeAfter p (contentIn r)) bs) (lineAs m to p q) (linesFrom (m + 1) (to + length (q .bytes) + 1) (placeAfter p (contentIn q)) cs)
+  ends : Ends (placeAfter p (contentIn r)) bs rs
+  others-end : Ends (placeAfter p (contentIn q)) cs qs
+  leads : placeBehind (placeAfter p (contentIn r)) bs ≡ place.matrix
+  others-lead : placeBehind (placeAfter p (contentIn q)) cs ≡ place.matrix
+
+-- a line of a path against one that says the same
+record Says (r q : Raw) : Type 0 where
+  said : isBlankLine (contentIn r) ≡ false
+  other-said : isBlankLine (contentIn q) ≡ false
+  saying : SameSaying place.path (contentIn r) (contentIn q)
+  leads : placeAfter place.path (contentIn r) ≡ place.path
+
+record Computed : Type 0 where
+  example-accepted : verdictOf example 8_192 ≡ acceptedWith 92
+  first-accepted : verdictOf first 8_192 ≡ acceptedWith 125
+  second-accepted : verdictOf second 8_192 ≡ acceptedWith 125
+  first-lines : lines first ≡ map rawOf headerLines ++ fromFamily
+  second-lines : lines second ≡ map rawOf headerLines ++ fromOtherFamily
+  header-leads : placeBehind before (map rawOf headerLines) ≡ place.between
+  comment-blank : isBlankLine (contentIn (rawOf (bytes "| from another desk"))) ≡ true
+  line-blank : isBlankLine (contentIn (rawOf (bytes "  "))) ≡ true
+  family-leads : placeBehind place.between (map rawOf familyLines) ≡ place.path
+  end : Says (rawOf (bytes "Model_pinmap P")) (rawOf (bytes "Model_pinmap   P | the first end"))
+  section : Says (rawOf (bytes "Section Mult=2 S")) (rawOf (bytes "Section  Mult = 2   S"))
+  path-leads : placeBehind place.path (map rawOf pathLines) ≡ place.section
+  resistances : Blocks place.section (rawOf (bytes "[Resistance Matrix] Full_matrix")) (rawOf (bytes "[Resistance Matrix] Sparse_matrix")) (map rawOf resistance) (map rawOf otherResistance) fromL fromOtherL
+  inductances : Blocks place.matrix (rawOf (bytes "[Inductance Matrix] Banded_matrix")) (rawOf (bytes "[Inductance Matrix] Full_matrix")) (map rawOf inductance) (map rawOf otherInductance) fromG fromOtherG
+  conductances : Blocks place.matrix (rawOf (bytes "[Conductance Matrix] Sparse_matrix")) (rawOf (bytes "[Conductance Matrix] Diagonal_matrix")) (map rawOf conductance) (map rawOf otherConductance) fromC fromOtherC
+  capacitances : Blocks place.matrix (rawOf (bytes "[Capacitance Matrix] Diagonal_matrix")) (rawOf (bytes "[Capacitance Matrix] Banded_matrix")) (map rawOf capacitance) (map rawOf otherCapacitance) closing closing
+
+-- every definition that the texts are read by is opened here
+computed : Computed
+unfolding textOf placeBehind d0.first d1.within d1.isBlank d1.isDigit d1.isCapital d1.isSmall d1.isLetter d1.small d2.isFilled d2.isNamed d2.isPrinted d2.isBefore d2.isContent d3.if_then_else_ d3.both d3.either d4.run d4.all d4.same d5.withoutReturn d5.characters d5.lineRule d5.judged d5.linesRule d5.byteRules d5.terminatorAt d6.pushed d6.lines d6.contentOf d6.isBlankLine d6.pastFeed d6.lineAt d7.goesOn d7.grown d7.wordsFrom d7.wordAt d7.backRun d7.lastEnd d7.lastWord d7.fewOf d7.hasEquals d7.leftOf d7.rightOf d8.cappedDigits d8.cappedExponent d8.sizeAt d8.raising d8.lowering d9.valueOf d9.isInteger d9.wholeOf d10.isSign d10.isMinus d10.isPoint d10.isE d10.pastSign d10.noDigits d10.goesOn d10.withPoint d10.withDigit d10.withByte d10.scan d10.noExponent d10.exponentAt d10.exponentOf d10.powerIn d10.scaleBy d10.scaleOf d10.raised d10.lowered d10.inRange d10.valueAs d10.wellFormed d10.numberFrom d10.digitsOf d10.exponentFrom d10.numberOf d11.valueWord d11.decimalOf d11.isDecimal d11.isValueWord d12.isOpen d12.isInside d12.isSeparator d12.isPlainByte d12.push d12.parted d12.isHyphenWord d12.isGoodWord d12.areGoodWords d12.isGoodName d12.nameLength d12.nameOf d12.isClosed d12.isGoodBracket d12.argumentAt d12.namedAs d12.bracketOf d13.joined d13.letters d13.startOf d13.shorter d13.firstOf d13.begins d13.standsAt d14.folded d14.sameName d14.placeOf d14.keyOf d14.isLater d15.opensLine d15.isWordByte d15.closesAt d15.saysName place.opensHeaderText place.standsInHeader place.inHeader place.inFamily place.inModel place.opensMatrix place.inSection place.keepsMatrix place.inMatrix place.afterFamily place.isInHeader place.isInFamily place.isInModel place.moved place.isText place.movedByLine d17.isReserved d17.isOneWord d17.isName d17.isFileByte d17.isExtension d17.isFileName d17.formOf d17.methodOf d17.takesNothing d17.takesText d17.takesName d17.isBadForm d17.isBadArgument d17.isBadInteger d17.isOutOfBounds d18.kindOf d18.wrongLine d18.typeLine d18.ratioOf d18.sgrLine d18.impedanceLine d18.headLineOf d18.isOutOfOrder d18.headRule d18.headNext d18.newHead d18.headLacks d19.sayingOf d19.plainLine d19.namesOne d19.isMult d19.isSectionLine d19.amountFormed d19.amountBounded d19.sectionLine d19.lineSaying d19.pathLineOf d19.newPath d19.isBadFork d19.isOutOfOrder d19.isStep d19.openRule d19.closedRule d19.pathRule d19.withEnd d19.pathNext d19.pathOpen d19.pathLacks d20.amountLine d20.unitLine d20.isParted d20.partsLine d21.orderOf d21.wrongLine d21.orderLine d21.listLine d21.sizeLine d21.mapLineOf d21.newMap d21.isOrdered d21.isOutOfOrder d21.mapRule d21.mapNext d21.isPinLine d21.pinRule d21.withPin d21.pinsLack d21.isWrongGrid d22.newMatrix d22.isWrongBandwidth d22.isWrongRow d22.withBandwidth d22.inRow d22.standsAbove d22.stillFits d22.withRow d22.toldBy d22.areFormed d22.areBounded d22.numbersLine d22.sparseLine d22.dataLineOf d22.isOutOfOrder d22.areTooMany d22.dataRule d22.withColumn d22.dataNext d22.conductorsOf d22.isShaped d22.isWrongShape d22.isTooWide d23.isSeen d23.isOnce d23.hasNoKind d23.kindsLack d23.headerLacks d23.familyLacks d23.isLacking d23.isUnclosed d23.isRepeated d23.isMisplaced d23.isForkOpen d23.isWrongInMatrix d23.isMatrixBroken d23.isShapeBroken d23.closesTooWide d23.isFull d23.isPastBound d23.keywordRule d23.seenAfter d23.headAfter d23.pathAfter d23.mapAfter d23.conductorsAfter d23.sectionAfter d23.matrixAfter d23.oneMoreIf d23.countsAfter d23.keywordNext d24.noCounts d24.noneSeen d24.newSection d24.startState d25.listRule d25.lineRule d25.countsAfterLine d25.lineNext d25.argumentFrom d25.goes d25.breaks d25.judged d25.lineStep d25.keywordStep d25.stepOf d25.atEnd d25.onward d25.run d25.readingOf d26.meetings d26.stateAfter d27.resume d28.partOf d28.widthOf d28.position d28.counted d28.tableAfter d28.fillingAfter d28.basesFrom d28.startFilling d28.headed d29.joined d29.layout d29.needed d29.chopped d29.partsIn d29.countAt d29.beginsIn d30.areWithin d30.basesAt d30.countsAt d30.endAt d30.noView d30.viewOf d31.sayingAt d31.amountOf d31.stepOf d31.stepsIn d31.headIn d31.opensModel d31.inModel d31.modelOf d31.modelAt d31.listedAt d31.opensMap d31.inMap d31.gridIn d31.pinAt d31.mapOf d31.mapAt d31.kindOf d31.opensMatrixAt d31.inMatrix d31.givenBy d31.bandwidthIn d31.nextRow d31.numbersAt d31.sparseAt d31.valuesFrom d31.namedBy d31.greatestIn d31.conductorsIn d31.matrixOf d31.matrixAt d31.opensSection d31.inSection d31.methodIn d31.sectionOf d31.sectionAt d31.documentIn d31.documentOf d32.markOf d32.markAt d33.countsOf d33.comesBefore d33.isInside d33.rises d33.depthHolds d34.keyAt d34.placeAfter d34.linesFrom d34.linesAt d34.significant d34.keyOf d34.argumentOf d34.wordsOf d34.rightWordsOf d34.noWord d34.standsIn d34.gather d34.upTo d35.indexOf d35.isMapOf d35.isSectionOf d35.targetOf d35.stepRecord d35.stepRecords d35.modelRecord d35.modelRecords d35.pinRecord d35.pinRecords d35.mapRecord d35.mapRecords d35.placeOf d35.sectionRecord d35.sectionRecords d35.matricesOf d35.matrixRecord d35.matrixRecords d35.valuesOf d35.flatten d35.partsOf d35.tableOf d35.recordsIn d35.recordsOf d36.filledOf d37.writesAt d37.writesPart d37.nthLine d38.any d38.sameWord d38.isTwice d38.isThere d38.listRule d38.modelRule d38.mapRule d38.pinRule d38.uses d38.isUsed d38.sectionRule d38.pinsAt d38.conductorsAt d38.methodAt d38.isOtherForm d38.hasOtherForm d38.hasMap d38.hasSection d38.clash d38.clashes d38.isClashing d38.endRule d38.isWrongMethod d38.isSingleLine d38.sectionStepRule d38.stepRule d38.listFindings d38.stepFindings d38.modelFindings d38.pinFindings d38.mapFindings d38.sectionFindings d38.findings d38.earlier d38.nothing d38.earliest d38.firstIn d38.crossRule d39.verdictOf d39.tableFor d40.takesEquals d40.takesText d41.isPlain d41.rowLines d41.numbersOf d41.wordOf d41.sparseWord d41.writtenAt d41.foundAt
+computed =
+    record {
+      example-accepted = refl;
+      first-accepted = refl;
+      second-accepted = refl;
+      first-lines = refl;
+      second-lines = refl;
+      header-leads = refl;
+      comment-blank = refl;
+      line-blank = refl;
+      family-leads = refl;
+      end = record { said = refl; other-said = refl; saying = same-words refl refl refl; leads = refl };
+      section = record { said = refl; other-said = refl; saying = same-sides refl refl refl refl refl refl; leads = refl };
+      path-leads = refl;
+      resistances = record { said = refl; other-said = refl; numbers = λ n at m to. same-two _ _ _ _ refl refl refl refl refl refl refl refl; ends = record { stops = λ n at m to. refl }; others-end = record { stops = λ n at m to. refl }; leads = refl; others-lead = refl };
+      inductances = record { said = refl; other-said = refl; numbers = λ n at m to. same-two _ _ _ _ refl refl refl refl refl refl refl refl; ends = record { stops = λ n at m to. refl }; others-end = record { stops = λ n at m to. refl }; leads = refl; others-lead = refl };
+      conductances = record { said = refl; other-said = refl; numbers = λ n at m to. same-two _ _ _ _ refl refl refl refl refl refl refl refl; ends = record { stops = λ n at m to. refl }; others-end = record { stops = λ n at m to. refl }; leads = refl; others-lead = refl };
+      capacitances = record { said = refl; other-said = refl; numbers = λ n at m to. same-two _ _ _ _ refl refl refl refl refl refl refl refl; ends = record { stops = λ n at m to. refl }; others-end = record { stops = λ n at m to. refl }; leads = refl; others-lead = refl };
+    }
+
+pub example-accepted : verdictOf example 8_192 ≡ acceptedWith 92
+example-accepted = computed .example-accepted
+
+pub first-accepted : verdictOf first 8_192 ≡ acceptedWith 125
+first-accepted = computed .first-accepted
+
+pub second-accepted : verdictOf second 8_192 ≡ acceptedWith 125
+second-accepted = computed .second-accepted
+
+-- ---- the two texts are alike
+
+blocks-same : (p : ℕ) (r q : Raw) (bs cs rs qs : List Raw) → Blocks p r q bs cs rs qs → SameRaws place.matrix rs qs → SameRaws p (r ∷ (bs ++ rs)) (q ∷ (cs ++ qs))
+blocks-same p r q bs cs rs qs f s =
+    block bs cs (f .said) (f .other-said) (f .numbers) (f .ends) (f .others-end) (f .leads ∙ sym (f .others-lead)) (subst (λ (k : ℕ). SameRaws k rs qs) (sym (f .leads)) s)
+
+says-same : (r q : Raw) (rs qs : List Raw) → Says r q → SameRaws place.path rs qs → SameRaws place.path (r ∷ rs) (q ∷ qs)
+says-same r q rs qs f s = says (f .said) (f .other-said) (f .saying) (subst (λ (k : ℕ). SameRaws k rs qs) (sym (f .leads)) s)
+
+-- the same lines in front
+front-same : (p k : ℕ) (xs rs qs : List Raw) → placeBehind p xs ≡ k → SameRaws k rs qs → SameRaws p (xs ++ rs) (xs ++ qs)
+front-same p k xs rs qs e s = raws-front rs qs p xs (subst (λ (n : ℕ). SameRaws n rs qs) (sym e) s)
+
+c-same : SameRaws place.matrix fromC fromOtherC
+c-same = blocks-same place.matrix _ _ (map rawOf capacitance) (map rawOf otherCapacitance) closing closing (computed .capacitances) (raws-self place.matrix closing)
+
+g-same : SameRaws place.matrix fromG fromOtherG
+g-same = blocks-same place.matrix _ _ (map rawOf conductance) (map rawOf otherConductance) fromC fromOtherC (computed .conductances) c-same
+
+l-same : SameRaws place.matrix fromL fromOtherL
+l-same = blocks-same place.matrix _ _ (map rawOf inductance) (map rawOf otherInductance) fromG fromOtherG (computed .inductances) g-same
+
+r-same : SameRaws place.section fromR fromOtherR
+r-same = blocks-same place.section _ _ (map rawOf resistance) (map rawOf otherResistance) fromL fromOtherL (computed .resistances) l-same
+
+section-same : SameRaws place.path fromSection fromOtherSection
+section-same = says-same _ _ (map rawOf pathLines ++ fromR) (map rawOf pathLines ++ fromOtherR) (computed .section) (front-same place.path place.section (map rawOf pathLines) fromR fromOtherR (computed .path-leads) r-same)
+
+end-same : SameRaws place.path fromEnd fromOtherEnd
+end-same = says-same _ _ fromSection fromOtherSection (computed .end) section-same
+
+family-same : SameRaws place.between fromFamily fromOtherFamily
+family-same = other-blank (computed .comment-blank) (other-blank (computed .line-blank) (front-same place.between place.path (map rawOf familyLines) fromEnd fromOtherEnd (computed .family-leads) end-same))
+
+all-same : SameRaws before (map rawOf headerLines ++ fromFamily) (map rawOf headerLines ++ fromOtherFamily)
+all-same = front-same before place.between (map rawOf headerLines) fromFamily fromOtherFamily (computed .header-leads) family-same
+
+pub first-second : Alike first second
+first-second = texts-alike first second (rw (computed .first-lines, computed .second-lines) all-same)

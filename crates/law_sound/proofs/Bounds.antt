@@ -1,0 +1,33 @@
+-- What the rules of the lines leave of a model's type, of a pin map and of a step: each word within the bounds that a sound table asks; and of
+-- a map, beyond that, how many pins it has.
+-- Assumes nothing.
+use mathlib.Core.Path.{_≡_}
+use mathlib.Core.Bool.{true, false}
+use Prim.Native.Nat.{_*_, _≤_, _<_}
+use lib.ListN.{length}
+use Rattle.base.specs.Bytes.{within}
+use Rattle.doc.specs.Lines.{noWord}
+use Rattle.doc.specs.Document.{Step, Model, Map, Document, endKind, sectionKind}
+use Rattle.doc.specs.Holds.{Each}
+use Rattle.record.specs.Tests.{isLength, isGrid}
+
+-- "amount: Mult, the Len value word, or 0; side start and length or 0 0"
+pub record RightStep (s : Step) : Type 0 where
+  pub kind : s .kind < 4
+  pub mult : s .kind ≡ sectionKind → s .mult ≡ true → within 1 65_535 (s .amount) ≡ true
+  pub long : s .kind ≡ sectionKind → s .mult ≡ false → isLength (s .amount) ≡ true
+  pub amountless : (s .kind ≡ sectionKind → ⊥) → s .amount ≡ 0
+  pub sideless : (s .kind ≡ endKind → ⊥) → s .side ≡ noWord
+
+pub record RightMap (m : Map) : Type 0 where
+  pub order : m .order < 3
+  pub grid : isGrid (m .order) (m .rows) (m .columns) ≡ true
+  pub pins : length (m .pins) ≤ 256
+  pub some : 1 ≤ length (m .pins)
+  -- an ordered map: Row_ordered is 0, Column_ordered 1
+  pub fits : m .order < 2 → length (m .pins) ≤ m .rows * m .columns
+
+pub record Bounded (d : Document) : Type 0 where
+  pub types : Each (λ (m : Model). m .type < 3) (d .models)
+  pub steps : Each (λ (m : Model). Each RightStep (m .steps)) (d .models)
+  pub maps : Each RightMap (d .maps)

@@ -1,0 +1,41 @@
+-- How a name is looked up: the names as they are compared, one after another, where each of them starts, and the first of each
+-- length. A name is then compared only with those of its own length, at most four of the forty.
+-- Assumes nothing.
+use Prim.Native.Nat.{ℕ, zero, suc}
+use mathlib.Core.Bool.{Bool, true, false}
+use mathlib.Core.List.{List, [], _∷_, _++_, map}
+use lib.ListN.{length, take, drop}
+use lib.Dec.{ltb, eqb}
+use Rattle.base.specs.If.{if_then_else_, both}
+use Rattle.lex_keyword.specs.Names.{folded, names}
+
+-- names as they are compared, one after another
+unfoldable pub joined : List (List ℕ) → List ℕ
+joined [] = []
+joined (n ∷ ns) = map folded n ++ joined ns
+
+unfoldable pub letters : List ℕ
+letters = joined names
+
+-- where the letters of a keyword start
+unfoldable pub startOf : ℕ → ℕ
+startOf key = length (joined (take key names))
+
+-- how many names from the front are shorter
+unfoldable pub shorter : ℕ → List (List ℕ) → ℕ
+shorter size [] = zero
+shorter size (n ∷ ns) = if ltb (length n) size then suc (shorter size ns) else zero
+
+-- the first keyword of at least this length
+unfoldable pub firstOf : ℕ → ℕ
+firstOf size = shorter size names
+
+-- the second list starts with the first
+unfoldable pub begins : List ℕ → List ℕ → Bool
+begins [] t = true
+begins (b ∷ s) [] = false
+begins (b ∷ s) (c ∷ t) = both (eqb b c) (begins s t)
+
+-- a name's bytes, as they are compared, are those of a table from this place on
+unfoldable pub standsAt : List ℕ → List ℕ → ℕ → Bool
+standsAt table name start = begins (map folded name) (drop start table)

@@ -1,0 +1,38 @@
+-- What the parts of the bracket reader answer, each in the words of the bracket's definition.
+-- Assumes nothing.
+use Prim.Native.Nat.{ℕ, _+_}
+use Prim.Native.Char.{code}
+use mathlib.Core.Bool.{Bool, not}
+use mathlib.Core.List.{List}
+use lib.ListN.{length, getD}
+use lib.Dec.{leb, ltb, eqb}
+use Rattle.base.specs.If.{if_then_else_, both, either}
+use Rattle.base.specs.Bytes.{isBlank}
+use Rattle.base.specs.Runs.{run}
+use Rattle.lex_keyword.specs.Names.{keyOf}
+use Rattle.lex_keyword.specs.Bracket.{isOpen, isSeparator, isGoodName, namedAs}
+use Rattle.lex_keyword.specs.declared.Bracket.{Bracket}
+use Rattle.lex_keyword.specs.declared.Bracket.the-variants.{Bad}
+
+-- the first byte that is not blank is a `[`: the line is none that its place takes as plain
+unfoldable pub opensLine : List ℕ → Bool
+opensLine content = isOpen (getD content (run isBlank content) 0)
+
+-- what a word of a name is made of
+unfoldable pub isWordByte : ℕ → Bool
+isWordByte b = not (isSeparator b)
+
+-- a `]` that stands at this place is there, and what follows it is right
+unfoldable pub closesAt : List ℕ → ℕ → Bool
+closesAt content end = both (ltb end (length content)) (either (leb (length content) (end + 1)) (isBlank (getD content (end + 1) 0)))
+
+-- what a closed bracket of this name says
+unfoldable pub saysName : List ℕ → ℕ → Bracket
+saysName name argument = if not (isGoodName name) then Bad else namedAs (keyOf name) argument
+
+-- `Row]` stands after the first byte, and what follows it is right
+unfoldable pub isRow : List ℕ → Bool
+isRow content =
+    both (eqb (getD content 1 0) (code "R"))
+    (both (eqb (getD content 2 0) (code "o"))
+    (both (eqb (getD content 3 0) (code "w")) (both (eqb (getD content 4 0) (code "]")) (closesAt content 4))))

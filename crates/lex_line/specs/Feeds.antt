@@ -1,0 +1,32 @@
+-- Many lines at once: how many LFs some bytes have, and lines that break none of the rules 2 to 4.
+-- Assumes nothing.
+use Prim.Native.Nat.{ℕ, _+_, _≤_}
+use mathlib.Core.Path.{_≡_}
+use mathlib.Core.Bool.{Bool}
+use mathlib.Core.List.{List, [], _∷_}
+use lib.ListN.{length, drop}
+use lib.Dec.{eqb}
+use Rattle.base.specs.If.{if_then_else_, either}
+use Rattle.base.specs.Bytes.{lineFeed}
+use Rattle.base.specs.Class.{isPrinted}
+use Rattle.lex_line.specs.Lines.{lines}
+use Rattle.lex_line.specs.ByteRules.{linesRule}
+
+-- how many lines a byte ends, and how many bytes together do
+unfoldable pub feedOf : ℕ → ℕ
+feedOf b = if eqb b lineFeed then 1 else 0
+
+unfoldable pub feeds : List ℕ → ℕ
+feeds [] = 0
+feeds (b ∷ s) = feedOf b + feeds s
+
+-- a byte that a line may hold, or an LF
+unfoldable pub isUsual : ℕ → Bool
+isUsual b = either (eqb b lineFeed) (isPrinted b)
+
+-- the lines from `at` on come to what those from `next` on come to: the lines between break nothing
+pub record PassesLines (t : List ℕ) (at line next number : ℕ) : Type 0 where
+  pub same : linesRule number (lines (drop next t)) ≡ linesRule line (lines (drop at t))
+  pub onward : at ≤ next
+  pub within : next ≤ length t
+  pub counted : number + at ≤ line + next

@@ -1,0 +1,43 @@
+-- Documents 000, 3 and 01, "Lines and keywords": the lines of a text, and the content of each.
+-- Assumes nothing.
+use Prim.Native.Nat.{ℕ, _+_}
+use mathlib.Core.Bool.{Bool, true, false}
+use mathlib.Core.List.{List, [], _∷_}
+use lib.ListN.{length, take, drop}
+use lib.Dec.{ltb, eqb}
+use Rattle.base.specs.If.{if_then_else_}
+use Rattle.base.specs.Bytes.{lineFeed, isBlank}
+use Rattle.base.specs.Runs.{run, all}
+use Rattle.base.specs.Class.{isBefore, isContent, runEnd}
+use Rattle.lex_line.specs.declared.Line.{Line}
+
+-- a line as it stands in the text: its bytes before the LF, and whether it has one
+pub record Raw : Type 0 where
+  pub bytes : List ℕ
+  pub ended : Bool
+
+-- a byte in front of the line that it belongs to, which is a last line without LF where nothing follows
+unfoldable pub pushed : ℕ → List Raw → List Raw
+pushed b [] = record { bytes = b ∷ []; ended = false } ∷ []
+pushed b (l ∷ ls) = record { bytes = b ∷ l .bytes; ended = l .ended } ∷ ls
+
+-- the lines of a text, each up to its LF; the empty text has none
+unfoldable pub lines : List ℕ → List Raw
+lines [] = []
+lines (b ∷ t) = if eqb b lineFeed then record { bytes = []; ended = true } ∷ lines t else pushed b (lines t)
+
+-- "From `|` on, a line is comment": the bytes before the comment byte or the CR of the terminator
+unfoldable pub contentOf : ℕ → List ℕ → List ℕ
+contentOf comment bytes = take (run (isContent comment) bytes) bytes
+
+-- "lines left blank are skipped"
+unfoldable pub isBlankLine : List ℕ → Bool
+isBlankLine content = all isBlank content
+
+-- past the LF at `end`, or `end` itself where the text ends there
+unfoldable pub pastFeed : List ℕ → ℕ → ℕ
+pastFeed t end = if ltb end (length t) then end + 1 else end
+
+-- of the line that starts at `at`: where its content ends, and where the next line starts
+unfoldable pub lineAt : ℕ → List ℕ → ℕ → Line
+lineAt comment t at = record { content = runEnd (isContent comment) t at; next = pastFeed t (runEnd (isBefore lineFeed) t at) }

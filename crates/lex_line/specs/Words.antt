@@ -1,0 +1,90 @@
+-- Document 01, "Lines and keywords": "Blanks are space and TAB"; words are what stands between them.
+-- Assumes nothing.
+use Prim.Native.Nat.{ℕ, suc, _+_, _-_, min}
+use Prim.Native.Char.{code}
+use mathlib.Core.Bool.{Bool, true, false}
+use mathlib.Core.List.{List, [], _∷_, map, reverse}
+use lib.ListN.{length, take, drop}
+use lib.Dec.{ltb}
+use Rattle.base.specs.If.{if_then_else_}
+use Rattle.base.specs.Bytes.{isBlank}
+use Rattle.base.specs.Runs.{run}
+use Rattle.base.specs.Class.{isBefore, isFilled, runEnd}
+use Rattle.lex_line.specs.declared.Span.{Span}
+use Rattle.lex_line.specs.declared.Few.{Few}
+
+-- a word, with where it starts
+pub record Word : Type 0 where
+  pub start : ℕ
+  pub text : List ℕ
+
+-- a word goes on with what is left: its next byte is there and is not blank
+unfoldable pub goesOn : List ℕ → Bool
+goesOn [] = false
+goesOn (b ∷ s) = isFilled b
+
+-- a byte in front of the word that follows it
+unfoldable pub grown : ℕ → ℕ → List Word → List Word
+grown at b [] = record { start = at; text = b ∷ [] } ∷ []
+grown at b (w ∷ ws) = record { start = at; text = b ∷ w .text } ∷ ws
+
+-- the words of s, whose first byte stands at `at`
+unfoldable pub wordsFrom : ℕ → List ℕ → List Word
+wordsFrom at [] = []
+wordsFrom at (b ∷ s) =
+    if isBlank b then wordsFrom (suc at) s else
+    if goesOn s then grown at b (wordsFrom (suc at) s) else record { start = at; text = b ∷ [] } ∷ wordsFrom (suc at) s
+
+-- the first word at or after `from`; it starts at the end of s where there is none
+unfoldable pub wordAt : List ℕ → ℕ → Span
+wordAt s from = record { start = runEnd isBlank s from; end = runEnd isFilled s (runEnd isBlank s from) }
+
+-- how many bytes before a place, the nearest first, pass the test
+unfoldable pub backRun : (ℕ → Bool) → List ℕ → ℕ → ℕ
+backRun p s place = run p (reverse (take place s))
+
+-- where the blanks at the end of s start
+unfoldable pub lastEnd : List ℕ → ℕ
+lastEnd s = length s - backRun isBlank s (length s)
+
+-- the last word of s; it ends at 0 where there is none
+unfoldable pub lastWord : List ℕ → Span
+lastWord s = record { start = lastEnd s - backRun isFilled s (lastEnd s); end = lastEnd s }
+
+-- the words of a line, as their bytes
+abbrev pub words : List ℕ → List (List ℕ)
+words content = map (λ (w : Word). w .text) (wordsFrom 0 content)
+
+-- the first word of a line and the second; nothing where there is none
+abbrev pub firstOf : List (List ℕ) → List ℕ
+firstOf [] = []
+firstOf (w ∷ ws) = w
+
+abbrev pub secondOf : List (List ℕ) → List ℕ
+secondOf [] = []
+secondOf (w ∷ ws) = firstOf ws
+
+-- a line's first two words, and how many it has: 3 stands for all above 2
+unfoldable pub fewOf : List ℕ → Few
+fewOf s = record { count = min 3 (length (words s)); first = wordAt s 0; second = wordAt s (wordAt s 0 .end) }
+
+-- the bytes that a span marks
+abbrev pub markedBy : List ℕ → Span → List ℕ
+markedBy s w = take (w .end - w .start) (drop (w .start) s)
+
+-- ---- forms with `=`: "Blanks are .. optional about `=`", and the first one is the sign
+
+-- how many bytes stand before the first `=`
+abbrev pub toEquals : List ℕ → ℕ
+toEquals content = run (isBefore (code "=")) content
+
+unfoldable pub hasEquals : List ℕ → Bool
+hasEquals content = ltb (toEquals content) (length content)
+
+-- the words before the sign, all of them where there is none
+unfoldable pub leftOf : List ℕ → List (List ℕ)
+leftOf content = words (take (toEquals content) content)
+
+-- the words after it
+unfoldable pub rightOf : List ℕ → List (List ℕ)
+rightOf content = words (drop (toEquals content + 1) content)

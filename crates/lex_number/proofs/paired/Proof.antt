@@ -1,0 +1,22 @@
+-- `lex_number::paired` meets its contract: as the definition has it.
+-- Assumes nothing.
+use Rattle.lex_number.specs.Block.{paired}
+use borrow.Author.Needs.{needs}
+use Rattle.lex_number.proofs.paired.Statement.{statement}
+use Rattle.lex_number.proofs.paired.Tie as tie
+
+mul-result : tie.Need-mul-result
+mul-result c = search needs
+
+shr-result : tie.Need-shr-result
+shr-result c = search needs
+
+add-result : tie.Need-add-result
+add-result c = search needs
+
+returns : tie.Need-returns
+unfolding paired
+returns c = search needs
+
+pub paired-spec : {M : Type 1} → statement M
+paired-spec = tie.close (tie.spec mul-result shr-result add-result returns)

@@ -1,0 +1,41 @@
+-- A number where it stands in a text whose lines are not cut out: its word ends at a blank, at a terminator and at a comment.
+-- Assumes nothing.
+use Prim.Native.Nat.{ℕ}
+use Prim.Native.Char.{code}
+use mathlib.Core.Path.{_≡_}
+use mathlib.Core.Bool.{Bool, true, false}
+use mathlib.Core.List.{List}
+use lib.ListN.{take, drop}
+use lib.Dec.{eqb}
+use Rattle.base.specs.If.{both, either}
+use Rattle.base.specs.Bytes.{isDigit, isLetter}
+use Rattle.base.specs.Runs.{run}
+use Rattle.base.specs.Class.{isFilled, isContent, runEnd}
+use Rattle.lex_number.specs.Number.{isSign, numberOf}
+use Rattle.lex_number.specs.declared.Number.{Number}
+use Rattle.lex_number.specs.declared.Number.the-variants.{Value, Malformed, Range}
+use Rattle.lex_number.specs.declared.NumberAt.{NumberAt}
+use Rattle.lex_number.specs.declared.Near.{Near}
+
+-- what words are made of: content that is not blank
+unfoldable pub isWord : ℕ → ℕ → Bool
+isWord comment b = both (isContent comment b) (isFilled b)
+
+-- what numbers are written with; no comment byte is one of these
+unfoldable pub isSpelling : ℕ → Bool
+isSpelling b = either (isDigit b) (either (isLetter b) (either (isSign b) (eqb b (code "."))))
+
+-- a number within its bounds: neither 13 nor 14
+abbrev pub isValue : Number → Bool
+isValue (Value word) = true
+isValue Malformed = false
+isValue Range = false
+
+-- the word that starts at `from`, as a number, and where it ends
+unfoldable pub numberIn : ℕ → List ℕ → ℕ → NumberAt
+numberIn comment s from =
+    record { number = numberOf (take (run (isWord comment) (drop from s)) (drop from s)); end = runEnd (isWord comment) s from }
+
+-- an answer that is the number's where it is known
+pub record Knows (comment : ℕ) (s : List ℕ) (from : ℕ) (r : Near) : Type 0 where
+  pub knows : r .known ≡ true → record { number = r .number; end = r .end } ≡ numberIn comment s from

@@ -1,0 +1,115 @@
+-- Laws of arguments, in the words that code has at its returns: what the end of a run of bytes says of one word, of an extension and of a
+-- file name, and what an integer that is read says of the argument.
+-- Assumes nothing.
+use mathlib.Core.Path.{_≡_, sym, _∙_, ap}
+use mathlib.Core.Bool.{Bool, true, false, not}
+use mathlib.Core.List.{List}
+use Prim.Native.Char.{code}
+use Prim.Native.Nat.{ℕ, _+_, _-_, _≤_, _<_}
+use native.Mathlib.Nat.{zero-add}
+use native.Mathlib.Omega.{arith}
+use lib.ListN.{length, take, drop, getD, length-drop, List·getD-eq-default}
+use lib.Seq.{take-all}
+use lib.Dec.{eqb, ltb}
+use borrow.Author.Tests.{eq-eqb, ne-eqb, le-leb, lt-leb, lt-ltb, le-ltb, ltb-true, ltb-false, not-true, not-false}
+use Rattle.base.specs.If.{both}
+use Rattle.base.specs.Bytes.{within}
+use Rattle.base.specs.Class.{isFilled, runEnd}
+use Rattle.base.specs.Runs.{run, all}
+use Rattle.base.proofs.IfLaws.{by-cases, both-true, both-rest, both-not-left, both-not-right}
+use Rattle.lex_number.specs.declared.Whole.{Whole}
+use Rattle.lex_number.specs.Integer.{wholeOf}
+use Rattle.lex_number.proofs.AllLaws.{all-run}
+use Rattle.line_place.specs.Place.{keepsMatrix}
+use Rattle.line_argument.specs.Argument.{isOneWord, isName, isReserved, isFileByte, isExtension, isFileName, isBadInteger}
+
+-- every byte passes where the run from the front ends at the end
+all-told : (p : ℕ → Bool) (s : List ℕ) (end : ℕ) → end ≡ runEnd p s 0 → eqb end (length s) ≡ all p s
+all-told p s end told = ap (λ (n : ℕ). eqb n (length s)) (told ∙ zero-add (run p s)) ∙ sym (all-run p s)
+
+module _ (s : List ℕ) where
+  pub empty-no-word : length s < 1 → false ≡ isOneWord s
+  unfolding isOneWord
+  empty-no-word h = sym (both-not-left _ _ (le-ltb 0 (length s) (omega arith)))
+
+  pub one-word : (end : ℕ) → 1 ≤ length s → end ≡ runEnd isFilled s 0 → eqb end (length s) ≡ isOneWord s
+  unfolding isOneWord
+  one-word end h told = all-told isFilled s end told ∙ sym (both-rest _ _ (lt-ltb 0 (length s) (omega arith)))
+
+  pub empty-no-extension : length s < 1 → false ≡ isExtension s
+  unfolding isExtension within
+  empty-no-extension h = sym (both-not-left _ _ (both-not-left _ _ (lt-leb 1 (length s) h)))
+
+  pub long-no-extension : 3 < length s → false ≡ isExtension s
+  unfolding isExtension within
+  long-no-extension h = sym (both-not-left _ _ (both-not-right _ _ (lt-leb (length s) 3 h)))
+
+  pub extension : (end : ℕ) → 1 ≤ length s → length s ≤ 3 → end ≡ runEnd isFileByte s 0 → eqb end (length s) ≡ isExtension s
+  unfolding isExtension within
+  extension end h k told = all-told isFileByte s end told ∙ sym (both-rest _ _ (both-true _ _ (le-leb 1 (length s) h) (le-leb (length s) 3 k)))
+
+-- t says whether the argument is one word, u whether it is reserved
+module _ (s : List ℕ) (t : Bool) (told : t ≡ isOneWord s) where
+  pub no-word-no-name : not t ≡ true → false ≡ isName s
+  unfolding isName
+  no-word-no-name e = sym (both-not-left _ _ (sym told ∙ not-true t e))
+
+  pub word-name : (u : Bool) → not t ≡ false → u ≡ isReserved s → not u ≡ isName s
+  unfolding isName
+  word-name u e k = ap not k ∙ sym (both-rest _ _ (sym told ∙ not-false t e))
+
+-- where the base of a file name ends, and the byte there
+module _ (s : List ℕ) (period there : ℕ) (told : period ≡ runEnd isFileByte s 0) where
+  period-is : period ≡ run isFileByte s
+  period-is = told ∙ zero-add (run isFileByte s)
+
+  pub no-base : period < 1 → false ≡ isFileName s
+  unfolding isFileName
+  no-base h = sym (both-not-left _ _ (le-ltb 0 (run isFileByte s) (omega (arith, period-is))))
+
+  module _ (byte : there ≡ getD s period 0) (base : 1 ≤ period) where
+    base-told : ltb 0 (run isFileByte s) ≡ true
+    base-told = lt-ltb 0 (run isFileByte s) (omega (arith, period-is))
+
+    byte-is : getD s (run isFileByte s) 0 ≡ there
+    byte-is = ap (λ (n : ℕ). getD s n 0) (sym period-is) ∙ sym byte
+
+    pub no-period : (there ≡ 46 → ⊥) → false ≡ isFileName s
+    unfolding isFileName
+    no-period h = sym (both-rest _ _ base-told ∙ both-not-left _ _ (ap (λ (b : ℕ). eqb b 46) byte-is ∙ ne-eqb there 46 h))
+
+    module _ (is-period : there ≡ 46) where
+      -- past the end there is no byte, so the period stands before it
+      pub past-period : period + 1 ≤ length s
+      past-period =
+          by-cases (period + 1 ≤ length s) (ltb period (length s))
+          (λ (e : ltb period (length s) ≡ true). omega (arith, ltb-true period (length s) e))
+          (λ (e : ltb period (length s) ≡ false).
+          let z : getD s period 0 ≡ 0 = List·getD-eq-default s 0 (ltb-false period (length s) e) in
+          absurd (omega arith))
+
+      pub file-name : (t : Bool) → t ≡ isExtension (take (length s - (period + 1)) (drop (period + 1) s)) → t ≡ isFileName s
+      unfolding isFileName
+      file-name t e =
+          let l : length (drop (period + 1) s) ≡ length s - (period + 1) = length-drop (period + 1) s in
+          let w : take (length s - (period + 1)) (drop (period + 1) s) ≡ drop (period + 1) s = take-all (length s - (period + 1)) (drop (period + 1) s) (omega arith) in
+          let n : period + 1 ≡ run isFileByte s + 1 = ap (λ (n : ℕ). n + 1) period-is in
+          e ∙ ap isExtension (w ∙ ap (λ (n : ℕ). drop n s) n) ∙ sym (both-rest _ _ base-told ∙ both-rest _ _ (ap (λ (b : ℕ). eqb b 46) byte-is ∙ eq-eqb there 46 is-period))
+
+-- the integer that is read is the argument's
+module _ (s : List ℕ) (whole : Whole) (told : whole ≡ wholeOf s) where
+  pub off-rows : (t : Bool) → t ≡ within 1 256 (whole .value) → not t ≡ not (within 1 256 (wholeOf s .value))
+  off-rows t e = rw (e, told)
+
+  pub wide-band : ltb 255 (whole .value) ≡ ltb 255 (wholeOf s .value)
+  wide-band = rw told
+
+-- 13 of a keyword line; t says whether the keyword takes an integer
+module _ (key : ℕ) (s : List ℕ) (t : Bool) (told : t ≡ keepsMatrix key) where
+  pub no-integer : not t ≡ true → false ≡ isBadInteger key s
+  unfolding isBadInteger
+  no-integer e = sym (both-not-left _ _ (sym told ∙ not-true t e))
+
+  pub integer-told : (whole : Whole) → not t ≡ false → whole ≡ wholeOf s → not (whole .formed) ≡ isBadInteger key s
+  unfolding isBadInteger
+  integer-told whole e read = ap (λ (w : Whole). not (w .formed)) read ∙ sym (both-rest _ _ (sym told ∙ not-false t e))

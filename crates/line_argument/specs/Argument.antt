@@ -1,0 +1,120 @@
+-- Document 01, "Lines and keywords" and the sections after it: what stands after each keyword. An argument is given without the blanks
+-- at its ends and without the comment.
+-- Assumes nothing.
+use Prim.Native.Nat.{ℕ, _+_}
+use Prim.Native.Char.{code}
+use mathlib.Core.Bool.{Bool, true, false, not}
+use mathlib.Core.List.{List, [], _∷_}
+use lib.ListN.{length, drop, getD}
+use lib.Dec.{ltb, eqb}
+use Rattle.base.specs.If.{if_then_else_, both, either}
+use Rattle.base.specs.Bytes.{bytes, within, isDigit, isSmall}
+use Rattle.base.specs.Runs.{run, all, same}
+use Rattle.base.specs.Class.{isFilled}
+use Rattle.lex_number.specs.Integer.{wholeOf}
+use Rattle.lex_keyword.specs.Names.{
+  theEnd,
+  row,
+  date,
+  icmVer,
+  fileRev,
+  fileName,
+  bandwidth,
+  endHeader,
+  icmPinMap,
+  beginHeader,
+  manufacturer,
+  endIcmModel,
+  icmModelList,
+  endIcmFamily,
+  redistribution,
+  beginIcmModel,
+  endIcmSection,
+  beginIcmFamily,
+  derivationMethod,
+  beginIcmSection,
+  treePathDescription,
+}
+use Rattle.line_place.specs.Place.{opensMatrix, keepsMatrix}
+
+-- "names .. never POWER, GND, NC or NA"
+unfoldable pub isReserved : List ℕ → Bool
+isReserved w =
+    either (same w (bytes "POWER")) (either (same w (bytes "GND")) (either (same w (bytes "NC")) (same w (bytes "NA"))))
+
+-- one word: something, and no blank in it
+unfoldable pub isOneWord : List ℕ → Bool
+isOneWord s = both (ltb 0 (length s)) (all isFilled s)
+
+-- "names of models, maps, sections .. are one word"
+unfoldable pub isName : List ℕ → Bool
+isName s = both (isOneWord s) (not (isReserved s))
+
+-- "from a-z 0-9 _ -"
+unfoldable pub isFileByte : ℕ → Bool
+isFileByte b = either (isSmall b) (either (isDigit b) (either (eqb b (code "_")) (eqb b (code "-"))))
+
+-- "1 to 3 more"
+unfoldable pub isExtension : List ℕ → Bool
+isExtension s = both (within 1 3 (length s)) (all isFileByte s)
+
+-- "A file name is a base, one period, 1 to 3 more"
+unfoldable pub isFileName : List ℕ → Bool
+isFileName s =
+    both (ltb 0 (run isFileByte s))
+    (both (eqb (getD s (run isFileByte s) 0) (code ".")) (isExtension (drop (run isFileByte s + 1) s)))
+
+-- "Diagonal_matrix", "Banded_matrix", "Sparse_matrix", "Full_matrix", as the table counts them; 4 for none
+unfoldable pub formOf : List ℕ → ℕ
+formOf s =
+    if same s (bytes "Diagonal_matrix") then 0 else
+    if same s (bytes "Banded_matrix") then 1 else
+    if same s (bytes "Sparse_matrix") then 2 else
+    if same s (bytes "Full_matrix") then 3 else 4
+
+-- "[Derivation Method] Lumped or Distributed"; 2 for none
+unfoldable pub methodOf : List ℕ → ℕ
+methodOf s = if same s (bytes "Lumped") then 0 else if same s (bytes "Distributed") then 1 else 2
+
+-- the keywords that take no argument
+unfoldable pub takesNothing : ℕ → Bool
+takesNothing k =
+    either (eqb k beginHeader)
+    (either (eqb k endHeader)
+    (either (eqb k icmModelList)
+    (either (eqb k treePathDescription)
+    (either (eqb k endIcmModel) (either (eqb k endIcmFamily) (either (eqb k endIcmSection) (eqb k theEnd)))))))
+
+-- "Other arguments are non-empty text"
+unfoldable pub takesText : ℕ → Bool
+takesText k = either (eqb k fileRev) (either (eqb k redistribution) (either (eqb k beginIcmFamily) (eqb k manufacturer)))
+
+unfoldable pub takesName : ℕ → Bool
+takesName k = either (eqb k beginIcmModel) (either (eqb k icmPinMap) (eqb k beginIcmSection))
+
+-- the keywords that take a text of their own form
+unfoldable pub isBadForm : ℕ → List ℕ → Bool
+isBadForm k s =
+    if eqb k icmVer then not (same s (bytes "1.1")) else
+    if eqb k fileName then not (isFileName s) else
+    if eqb k date then not (within 1 40 (length s)) else
+    if eqb k derivationMethod then eqb (methodOf s) 2 else false
+
+-- "11 ARGUMENT: argument missing, surplus or not allowed". A keyword that opens a text block takes any text, also none
+unfoldable pub isBadArgument : ℕ → List ℕ → Bool
+isBadArgument k s =
+    if keepsMatrix k then not (isOneWord s) else
+    if opensMatrix k then eqb (formOf s) 4 else
+    if takesNothing k then ltb 0 (length s) else
+    if takesName k then not (isName s) else
+    if takesText k then eqb (length s) 0 else isBadForm k s
+
+-- 13 of a keyword line: [Row] and [Bandwidth] take an integer
+unfoldable pub isBadInteger : ℕ → List ℕ → Bool
+isBadInteger k s = both (keepsMatrix k) (not (wholeOf s .formed))
+
+-- 14 of a keyword line: "[Row] .. 1 to 256; B 0 to 255"
+unfoldable pub isOutOfBounds : ℕ → List ℕ → Bool
+isOutOfBounds k s =
+    if eqb k row then not (within 1 256 (wholeOf s .value)) else
+    if eqb k bandwidth then ltb 255 (wholeOf s .value) else false

@@ -1,0 +1,40 @@
+-- `line_head::is_impedance` meets its contract: the word marked is the first before the sign.
+-- Assumes nothing.
+use Rattle.lex_line.proofs.FormLaws.{marks, sign-taken}
+use Rattle.line_head.proofs.LineLaws.{impedance-named}
+use borrow.Author.Needs.{needs}
+use Rattle.line_head.proofs.is_impedance.Statement.{statement}
+use Rattle.line_head.proofs.is_impedance.Tie as tie
+
+equals-at-requires : tie.Need-equals-at-requires
+equals-at-requires c κs = search needs
+
+slice-aggregate-left : tie.Need-slice-aggregate-left
+slice-aggregate-left c = search sign-taken
+
+few-words-requires : tie.Need-few-words-requires
+few-words-requires c κs = search needs
+
+marked-requires : tie.Need-marked-requires
+marked-requires c κs = search (needs, marks)
+
+slice-aggregate-same-bytes : tie.Need-slice-aggregate-same-bytes
+slice-aggregate-same-bytes c = search needs
+
+same-bytes-requires : tie.Need-same-bytes-requires
+same-bytes-requires c κs = search needs
+
+returns : tie.Need-returns
+returns c = search impedance-named
+
+pub is-impedance-spec : {M : Type 1} → statement M
+is-impedance-spec =
+    tie.close
+    (tie.spec
+    equals-at-requires
+    slice-aggregate-left
+    few-words-requires
+    marked-requires
+    slice-aggregate-same-bytes
+    same-bytes-requires
+    returns)

@@ -1,0 +1,107 @@
+-- Document 01, "Model": the lines of a model before its first keyword.
+-- Assumes nothing.
+use Prim.Native.Nat.{ℕ}
+use Prim.Native.Char.{code}
+use mathlib.Core.Bool.{Bool, true, false, not}
+use mathlib.Core.List.{List, [], _∷_}
+use lib.ListN.{length, take, drop}
+use lib.Dec.{eqb}
+use Rattle.base.specs.If.{if_then_else_, both, either}
+use Rattle.base.specs.Bytes.{bytes, within}
+use Rattle.base.specs.Runs.{run, same}
+use Rattle.base.specs.Class.{isBefore}
+use Rattle.base.specs.Broken.{_when_, firstBroken}
+use Rattle.lex_line.specs.Words.{words, firstOf, secondOf, hasEquals, leftOf, rightOf}
+use Rattle.lex_number.specs.Number.{numberOf, isFormed, isBounded}
+use Rattle.lex_number.specs.Integer.{wholeOf}
+use Rattle.lex_number.specs.declared.Whole.{Whole}
+use Rattle.line_head.specs.declared.Head.{Head}
+use Rattle.line_head.specs.declared.HeadLine.{HeadLine}
+
+-- what a line of the head says: none of the three, or which
+abbrev pub nothing : ℕ
+nothing = 0
+
+abbrev pub modelType : ℕ
+modelType = 1
+
+abbrev pub sgr : ℕ
+sgr = 2
+
+abbrev pub impedance : ℕ
+impedance = 3
+
+-- "SLM_general, SLM_quiescent, MLM", one above the table's count; 0 for none
+unfoldable pub kindOf : List ℕ → ℕ
+kindOf w =
+    if same w (bytes "SLM_general") then 1 else
+    if same w (bytes "SLM_quiescent") then 2 else
+    if same w (bytes "MLM") then 3 else 0
+
+-- a line known by its first word whose rest is wrong
+unfoldable pub wrongLine : ℕ → HeadLine
+wrongLine says = record { says = says; right = false; formed = true; bounded = true; kind = 0 }
+
+-- "ICM_model_type (SLM_general, SLM_quiescent, MLM)"
+unfoldable pub typeLine : List (List ℕ) → HeadLine
+typeLine ws =
+    if both (eqb (length ws) 2) (not (eqb (kindOf (secondOf ws)) 0))
+    then record { says = modelType; right = true; formed = true; bounded = true; kind = kindOf (secondOf ws) }
+    else wrongLine modelType
+
+-- what stands before the first colon of a word
+abbrev pub toColon : List ℕ → ℕ
+toColon w = run (isBefore (code ":")) w
+
+unfoldable pub ratioOf : List ℕ → Whole
+ratioOf w = wholeOf (take (toColon w) w)
+
+-- "`SGR n:1`, n 1 to 65,535"
+unfoldable pub sgrLine : List (List ℕ) → HeadLine
+sgrLine ws =
+    if both (eqb (length ws) 2) (same (drop (toColon (secondOf ws)) (secondOf ws)) (bytes ":1"))
+    then record { says = sgr; right = true; formed = ratioOf (secondOf ws) .formed; bounded = within 1 65_535 (ratioOf (secondOf ws) .value); kind = 0 }
+    else wrongLine sgr
+
+-- "`Ref_impedance=` a number"
+unfoldable pub impedanceLine : List ℕ → HeadLine
+impedanceLine content =
+    if both (hasEquals content) (both (eqb (length (leftOf content)) 1) (eqb (length (rightOf content)) 1))
+    then record { says = impedance; right = true; formed = isFormed (numberOf (firstOf (rightOf content))); bounded = isBounded (numberOf (firstOf (rightOf content))); kind = 0 }
+    else wrongLine impedance
+
+-- a line of the head is known by its first word, which `=` ends where the form has one
+unfoldable pub headLineOf : List ℕ → HeadLine
+headLineOf content =
+    if same (firstOf (words content)) (bytes "ICM_model_type") then typeLine (words content) else
+    if same (firstOf (words content)) (bytes "SGR") then sgrLine (words content) else
+    if same (firstOf (leftOf content)) (bytes "Ref_impedance") then impedanceLine content else
+    record { says = nothing; right = true; formed = true; bounded = true; kind = 0 }
+
+-- each of the three at most once
+unfoldable pub isOutOfOrder : HeadLine → Head → Bool
+isOutOfOrder l h =
+    if eqb (l .says) modelType then not (eqb (h .kind) 0) else
+    if eqb (l .says) sgr then h .sgr else
+    if eqb (l .says) impedance then h .impedance else true
+
+-- "A line its place takes with a wrong rest is 11, repeated or out of order 12"; any other line is 12
+unfoldable pub headRule : HeadLine → Head → ℕ
+headRule l h =
+    firstBroken
+    (11 when not (l .right) ∷ 12 when isOutOfOrder l h ∷ 13 when not (l .formed) ∷ 14 when not (l .bounded) ∷ [])
+
+unfoldable pub headNext : HeadLine → Head → Head
+headNext l h =
+    record {
+      kind = if eqb (l .says) modelType then l .kind else h .kind;
+      sgr = either (eqb (l .says) sgr) (h .sgr);
+      impedance = either (eqb (l .says) impedance) (h .impedance);
+    }
+
+unfoldable pub newHead : Head
+newHead = record { kind = 0; sgr = false; impedance = false }
+
+-- "required for SLM_general .. before the model's first keyword, where one lacking is 9"
+unfoldable pub headLacks : Head → Bool
+headLacks h = either (eqb (h .kind) 0) (both (eqb (h .kind) 1) (not (h .sgr)))

@@ -1,0 +1,96 @@
+-- [Row] and [Bandwidth] inside a matrix: what they break and what is remembered after them is settled by the matrix alone, so that a
+-- matrix can be judged without what stands around it.
+-- Assumes nothing.
+use mathlib.Core.Path.{_≡_, refl, sym, _∙_, ap}
+use mathlib.Core.Bool.{true, false, true≢false}
+use mathlib.Core.List.{List}
+use Prim.Native.Nat.{ℕ}
+use lib.Dec.{eqb}
+use borrow.Author.Tests.{eqb-true, ne-eqb}
+use Rattle.base.specs.If.{if_then_else_, both, either}
+use Rattle.base.specs.Broken.{first}
+use Rattle.base.proofs.IfLaws.{by-cases, either-rest, either-false}
+use Rattle.lex_keyword.specs.Names.{row, bandwidth}
+use Rattle.line_place.specs.Place.{moved, inMatrix, opensMatrix, keepsMatrix, standsInHeader, opensHeaderText}
+use Rattle.line_place.specs.Place as place
+use Rattle.line_keyword.specs.declared.State.{State}
+use Rattle.line_keyword.specs.Keywords.{
+  isOnce,
+  isLacking,
+  isUnclosed,
+  isRepeated,
+  isMisplaced,
+  isForkOpen,
+  isMatrixBroken,
+  isShapeBroken,
+  closesTooWide,
+  isFull,
+  isPastBound,
+  keywordRule,
+  seenAfter,
+  headAfter,
+  pathAfter,
+  mapAfter,
+  conductorsAfter,
+  sectionAfter,
+  matrixAfter,
+  oneMoreIf,
+  countsAfter,
+  keywordNext,
+  keptRule,
+  keptNext,
+}
+
+-- a keyword that keeps a matrix open is one of two
+kept-by : (P : ℕ → Type 0) (k : ℕ) → keepsMatrix k ≡ true → P row → P bandwidth → P k
+unfolding keepsMatrix
+kept-by P k keeps r b =
+    by-cases (P k) (eqb k row)
+    (λ (e : eqb k row ≡ true). let f : k ≡ row = eqb-true k row e in rw f r)
+    (λ (e : eqb k row ≡ false). let f : k ≡ bandwidth = eqb-true k bandwidth (sym (either-rest _ _ e) ∙ keeps) in rw f b)
+
+-- one that opens a matrix keeps none
+pub opens-closes : (k : ℕ) → opensMatrix k ≡ true → keepsMatrix k ≡ false
+unfolding keepsMatrix opensMatrix either
+opens-closes k opens =
+    let other : (j : ℕ) → opensMatrix j ≡ false → eqb k j ≡ false =
+    λ (j : ℕ) (g : opensMatrix j ≡ false). ne-eqb k j (λ (e : k ≡ j). true≢false (sym opens ∙ ap opensMatrix e ∙ g)) in
+    either-false _ _ (other row refl) (other bandwidth refl)
+
+-- what is remembered when a matrix goes on
+abbrev pub goesOn : ℕ → List ℕ → State → State
+goesOn k argument s =
+    record {
+      place = s .place;
+      seen = s .seen;
+      head = s .head;
+      path = s .path;
+      map = s .map;
+      section = s .section;
+      matrix = keptNext k argument (s .matrix) (s .counts .values);
+      counts = s .counts;
+    }
+
+module _ (argument : List ℕ) (s : State) (inside : s .place ≡ place.matrix) where
+  row-rule : keywordRule row argument s ≡ keptRule row argument (s .matrix)
+  unfolding keywordRule keptRule first isForkOpen isMisplaced moved inMatrix keepsMatrix isUnclosed isRepeated isOnce standsInHeader opensHeaderText opensMatrix isLacking isShapeBroken isMatrixBroken isPastBound closesTooWide isFull if_then_else_ both either
+  row-rule = rw inside
+
+  bandwidth-rule : keywordRule bandwidth argument s ≡ keptRule bandwidth argument (s .matrix)
+  unfolding keywordRule keptRule first isForkOpen isMisplaced moved inMatrix keepsMatrix isUnclosed isRepeated isOnce standsInHeader opensHeaderText opensMatrix isLacking isShapeBroken isMatrixBroken isPastBound closesTooWide isFull if_then_else_ both either
+  bandwidth-rule = rw inside
+
+  row-next : keywordNext row argument s ≡ goesOn row argument s
+  unfolding keywordNext keptNext moved inMatrix keepsMatrix opensMatrix seenAfter headAfter pathAfter mapAfter sectionAfter conductorsAfter matrixAfter countsAfter oneMoreIf if_then_else_ either
+  row-next = rw inside
+
+  bandwidth-next : keywordNext bandwidth argument s ≡ goesOn bandwidth argument s
+  unfolding keywordNext keptNext moved inMatrix keepsMatrix opensMatrix seenAfter headAfter pathAfter mapAfter sectionAfter conductorsAfter matrixAfter countsAfter oneMoreIf if_then_else_ either
+  bandwidth-next = rw inside
+
+  module _ (k : ℕ) (keeps : keepsMatrix k ≡ true) where
+    pub kept-rule-is : keywordRule k argument s ≡ keptRule k argument (s .matrix)
+    kept-rule-is = kept-by (λ (j : ℕ). keywordRule j argument s ≡ keptRule j argument (s .matrix)) k keeps row-rule bandwidth-rule
+
+    pub kept-next-is : keywordNext k argument s ≡ goesOn k argument s
+    kept-next-is = kept-by (λ (j : ℕ). keywordNext j argument s ≡ goesOn j argument s) k keeps row-next bandwidth-next

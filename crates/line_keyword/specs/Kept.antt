@@ -1,0 +1,32 @@
+-- What the forward reading keeps while no rule is broken: every count within its bound, so that no sum can wrap. n is how many lines
+-- have been read; no rule counts matrices, and each takes a line.
+-- Assumes nothing.
+use Prim.Native.Nat.{ℕ, _^_, _≤_, _<_}
+use Rattle.line_path.specs.Path.{deepest, mostSteps}
+use Rattle.line_map.specs.PinMap.{Bounded, mostPins}
+use Rattle.line_matrix.specs.Matrix.{mostValues}
+use Rattle.line_keyword.specs.Keywords.{mostModels, mostMaps, mostSections}
+use Rattle.line_keyword.specs.declared.Counts.{Counts}
+use Rattle.line_keyword.specs.declared.State.{State}
+
+-- a text has fewer lines than this, since a slice is shorter than 2^63 bytes
+abbrev pub mostLines : ℕ
+mostLines = 9_223_372_036_854_775_807
+
+-- every count can be raised by one
+pub record Countable (c : Counts) : Type 0 where
+  pub models : c .models < 2 ^ 63
+  pub maps : c .maps < 2 ^ 63
+  pub sections : c .sections < 2 ^ 63
+  pub matrices : c .matrices < 2 ^ 63
+
+pub record Kept (n : ℕ) (s : State) : Type 0 where
+  pub models : s .counts .models ≤ mostModels
+  pub steps : s .counts .steps ≤ mostSteps
+  pub maps : s .counts .maps ≤ mostMaps
+  pub pins : s .counts .pins ≤ mostPins
+  pub sections : s .counts .sections ≤ mostSections
+  pub matrices : s .counts .matrices ≤ n
+  pub values : s .counts .values ≤ mostValues
+  pub depth : s .path .depth ≤ deepest
+  pub grid : Bounded (s .map)

@@ -1,0 +1,265 @@
+-- A keyword line between [Begin Header] and [End]: the rules that it may break, in the order of refusal, and what is remembered after it.
+-- Assumes nothing.
+use Prim.Native.Nat.{ℕ, _+_}
+use mathlib.Core.Bool.{Bool, true, false, not}
+use mathlib.Core.List.{List, [], _∷_}
+use lib.ListN.{getD, set}
+use lib.Dec.{leb, eqb}
+use Rattle.base.specs.If.{if_then_else_, both, either}
+use Rattle.base.specs.Broken.{_when_, firstBroken}
+use Rattle.lex_number.specs.Integer.{wholeOf}
+use Rattle.lex_keyword.specs.Names.{
+  theEnd,
+  row,
+  bandwidth,
+  fileRev,
+  fileName,
+  endHeader,
+  icmPinMap,
+  manufacturer,
+  endIcmModel,
+  icmModelList,
+  endIcmFamily,
+  beginIcmModel,
+  endIcmSection,
+  derivationMethod,
+  resistanceMatrix,
+  inductanceMatrix,
+  beginIcmSection,
+  conductanceMatrix,
+  capacitanceMatrix,
+  treePathDescription,
+  icmModelDescription,
+  icmFamilyDescription,
+}
+use Rattle.line_place.specs.Place.{moved, dead, opensMatrix, keepsMatrix, standsInHeader, opensHeaderText}
+use Rattle.line_place.specs.Place as place
+use Rattle.line_argument.specs.Argument.{isBadArgument, isBadInteger, isOutOfBounds, formOf, methodOf}
+use Rattle.line_head.specs.Head.{headLacks, newHead}
+use Rattle.line_path.specs.Path.{pathOpen, pathLacks, newPath}
+use Rattle.line_map.specs.PinMap.{pinsLack, isWrongGrid, newMap}
+use Rattle.line_matrix.specs.Matrix.{
+  newMatrix,
+  isWrongRow,
+  isWrongBandwidth,
+  isWrongShape,
+  isTooWide,
+  withRow,
+  withBandwidth,
+  conductorsOf,
+}
+use Rattle.line_head.specs.declared.Head.{Head}
+use Rattle.line_path.specs.declared.Path.{Path}
+use Rattle.line_map.specs.declared.Map.{Map}
+use Rattle.line_matrix.specs.declared.Matrix.{Matrix}
+use Rattle.line_keyword.specs.State.{newSection}
+use Rattle.line_keyword.specs.declared.Counts.{Counts}
+use Rattle.line_keyword.specs.declared.Section.{Section}
+use Rattle.line_keyword.specs.declared.State.{State}
+
+unfoldable pub isSeen : ℕ → State → Bool
+isSeen k s = getD (s .seen) k false
+
+-- "each once": the header's keywords; of the family [Manufacturer], [ICM Model List] and its description; of a model its path and its
+-- description; of a section each kind of matrix
+unfoldable pub isOnce : ℕ → Bool
+isOnce k =
+    either (standsInHeader k)
+    (either (opensHeaderText k)
+    (either (opensMatrix k)
+    (either (eqb k manufacturer)
+    (either (eqb k icmModelList)
+    (either (eqb k icmFamilyDescription) (either (eqb k treePathDescription) (eqb k icmModelDescription)))))))
+
+-- no matrix of any kind
+unfoldable pub hasNoKind : State → Bool
+hasNoKind s =
+    both (not (isSeen resistanceMatrix s))
+    (both (not (isSeen inductanceMatrix s)) (both (not (isSeen conductanceMatrix s)) (not (isSeen capacitanceMatrix s))))
+
+-- "at least one matrix .. Distributed needs L and C"
+unfoldable pub kindsLack : State → Bool
+kindsLack s =
+    either (hasNoKind s)
+    (both (eqb (s .section .method) 1) (either (not (isSeen inductanceMatrix s)) (not (isSeen capacitanceMatrix s))))
+
+-- "[File Name] and [File Rev] are required"
+unfoldable pub headerLacks : State → Bool
+headerLacks s = either (not (isSeen fileName s)) (not (isSeen fileRev s))
+
+-- "[Manufacturer] .. once", "At least one model"
+unfoldable pub familyLacks : State → Bool
+familyLacks s = either (not (isSeen manufacturer s)) (eqb (s .counts .models) 0)
+
+-- "the list stands before the first model"; [Manufacturer] and the description above the list; what must be there when a block closes
+unfoldable pub isLacking : ℕ → State → Bool
+isLacking k s =
+    if eqb k endHeader then headerLacks s else
+    if eqb k beginIcmModel then not (isSeen icmModelList s) else
+    if eqb k manufacturer then isSeen icmModelList s else
+    if eqb k icmFamilyDescription then isSeen icmModelList s else
+    if eqb k endIcmFamily then familyLacks s else
+    if eqb k endIcmModel then not (isSeen treePathDescription s) else
+    if eqb k endIcmSection then kindsLack s else
+    if eqb k theEnd then eqb (s .counts .sections) 0 else false
+
+-- what the keyword closes is not whole: a model's head, a path, a pin map
+unfoldable pub isUnclosed : State → Bool
+isUnclosed s =
+    if eqb (s .place) place.head then headLacks (s .head) else
+    if eqb (s .place) place.path then pathLacks (s .path) else
+    if eqb (s .place) place.mapHead then true else
+    if eqb (s .place) place.pins then pinsLack (s .map) else false
+
+-- a keyword that has been read where it may stand once
+unfoldable pub isRepeated : ℕ → State → Bool
+isRepeated k s = both (isOnce k) (isSeen k s)
+
+-- "9 PLACE: keyword misplaced, repeated, or a required part missing when its block closes"
+unfoldable pub isMisplaced : ℕ → State → Bool
+isMisplaced k s =
+    either (eqb (moved (s .place) k) dead)
+    (either (isUnclosed s) (either (isRepeated k s) (isLacking k s)))
+
+-- "15 FORK: .. closing with one open"
+unfoldable pub isForkOpen : State → Bool
+isForkOpen s = both (eqb (s .place) place.path) (pathOpen (s .path))
+
+-- "[Row] or [Bandwidth] missing, surplus or out of order"
+unfoldable pub isWrongInMatrix : ℕ → ℕ → Matrix → Bool
+isWrongInMatrix k value m = if eqb k row then isWrongRow value m else isWrongBandwidth m
+
+-- in a matrix: by [Row] or [Bandwidth] there, or by the matrix that any other keyword closes
+unfoldable pub isMatrixBroken : ℕ → List ℕ → State → Bool
+isMatrixBroken k argument s =
+    if keepsMatrix k
+    then isWrongInMatrix k (wholeOf argument .value) (s .matrix)
+    else isWrongShape (s .matrix) (s .section .conductors) (s .counts .values)
+
+-- "16 SHAPE: matrix or pin grid of the wrong shape"
+unfoldable pub isShapeBroken : ℕ → List ℕ → State → Bool
+isShapeBroken k argument s =
+    if eqb (s .place) place.matrix then isMatrixBroken k argument s else
+    both (eqb (s .place) place.pins) (isWrongGrid (s .map))
+
+-- "64 models", "64 maps", "256 sections"
+abbrev pub mostModels : ℕ
+mostModels = 64
+
+abbrev pub mostMaps : ℕ
+mostMaps = 64
+
+abbrev pub mostSections : ℕ
+mostSections = 256
+
+-- a diagonal over 256, at the keyword that closes it
+unfoldable pub closesTooWide : ℕ → State → Bool
+closesTooWide k s =
+    both (eqb (s .place) place.matrix) (both (not (keepsMatrix k)) (isTooWide (s .matrix) (s .counts .values)))
+
+-- as many as there may be
+unfoldable pub isFull : ℕ → Counts → Bool
+isFull k c =
+    if eqb k beginIcmModel then leb mostModels (c .models) else
+    if eqb k icmPinMap then leb mostMaps (c .maps) else
+    if eqb k beginIcmSection then leb mostSections (c .sections) else false
+
+-- "17 LIMIT: a count above its bound, at the line that passes it"
+unfoldable pub isPastBound : ℕ → State → Bool
+isPastBound k s = either (closesTooWide k s) (isFull k (s .counts))
+
+unfoldable pub keywordRule : ℕ → List ℕ → State → ℕ
+keywordRule k argument s =
+    firstBroken
+    (15 when isForkOpen s
+    ∷ 9 when isMisplaced k s
+    ∷ 11 when isBadArgument k argument
+    ∷ 13 when isBadInteger k argument
+    ∷ 14 when isOutOfBounds k argument
+    ∷ 16 when isShapeBroken k argument s
+    ∷ 17 when isPastBound k s
+    ∷ [])
+
+-- ---- what is remembered
+
+-- the keyword is read; a model has its own path and description, a section its own matrices. One that keeps a matrix open may stand any
+-- number of times, and is not marked
+unfoldable pub seenAfter : ℕ → List Bool → List Bool
+seenAfter k seen =
+    if keepsMatrix k then seen else
+    if eqb k beginIcmModel then set (set seen treePathDescription false) icmModelDescription false else
+    if eqb k beginIcmSection
+    then set (set (set (set seen resistanceMatrix false) inductanceMatrix false) conductanceMatrix false) capacitanceMatrix false
+    else set seen k true
+
+unfoldable pub headAfter : ℕ → Head → Head
+headAfter k h = if eqb k beginIcmModel then newHead else h
+
+unfoldable pub pathAfter : ℕ → Path → Path
+pathAfter k p = if eqb k treePathDescription then newPath else p
+
+unfoldable pub mapAfter : ℕ → Map → Map
+mapAfter k m = if eqb k icmPinMap then newMap else m
+
+-- the conductors of a section are those of the first matrix that closes
+unfoldable pub conductorsAfter : ℕ → State → ℕ
+conductorsAfter k s =
+    if not (eqb (s .place) place.matrix) then s .section .conductors else
+    if keepsMatrix k then s .section .conductors else conductorsOf (s .matrix) (s .counts .values)
+
+unfoldable pub sectionAfter : ℕ → List ℕ → State → Section
+sectionAfter k argument s =
+    if eqb k beginIcmSection then newSection else
+    if eqb k derivationMethod then record { method = methodOf argument; conductors = 0 } else
+    record { method = s .section .method; conductors = conductorsAfter k s }
+
+unfoldable pub matrixAfter : ℕ → List ℕ → State → Matrix
+matrixAfter k argument s =
+    if opensMatrix k then newMatrix (formOf argument) (s .counts .values) else
+    if eqb k row then withRow (wholeOf argument .value) (s .matrix) (s .counts .values) else
+    if eqb k bandwidth then withBandwidth (wholeOf argument .value) (s .matrix) else s .matrix
+
+unfoldable pub oneMoreIf : Bool → ℕ → ℕ
+oneMoreIf b n = if b then n + 1 else n
+
+unfoldable pub countsAfter : ℕ → Counts → Counts
+countsAfter k c =
+    record {
+      models = oneMoreIf (eqb k beginIcmModel) (c .models);
+      steps = c .steps;
+      maps = oneMoreIf (eqb k icmPinMap) (c .maps);
+      pins = c .pins;
+      sections = oneMoreIf (eqb k beginIcmSection) (c .sections);
+      matrices = oneMoreIf (opensMatrix k) (c .matrices);
+      values = c .values;
+    }
+
+unfoldable pub keywordNext : ℕ → List ℕ → State → State
+keywordNext k argument s =
+    record {
+      place = moved (s .place) k;
+      seen = seenAfter k (s .seen);
+      head = headAfter k (s .head);
+      path = pathAfter k (s .path);
+      map = mapAfter k (s .map);
+      section = sectionAfter k argument s;
+      matrix = matrixAfter k argument s;
+      counts = countsAfter k (s .counts);
+    }
+
+-- ---- a keyword that keeps a matrix open, by the matrix alone
+
+-- the rules that [Row] or [Bandwidth] may break in a matrix
+unfoldable pub keptRule : ℕ → List ℕ → Matrix → ℕ
+keptRule k argument m =
+    firstBroken
+    (11 when isBadArgument k argument
+    ∷ 13 when isBadInteger k argument
+    ∷ 14 when isOutOfBounds k argument
+    ∷ 16 when isWrongInMatrix k (wholeOf argument .value) m
+    ∷ [])
+
+-- the matrix after it
+unfoldable pub keptNext : ℕ → List ℕ → Matrix → ℕ → Matrix
+keptNext k argument m values =
+    if eqb k row then withRow (wholeOf argument .value) m values else withBandwidth (wholeOf argument .value) m

@@ -1,0 +1,39 @@
+-- What the forward reading remembers: the place, which keywords were read, and how far the open block has come. No line number and no
+-- offset is in it.
+-- Assumes nothing.
+use Prim.Native.Nat.{ℕ}
+use mathlib.Core.Bool.{Bool, false}
+use mathlib.Core.List.{List}
+use lib.ListN.{replicate}
+use Rattle.line_place.specs.Place.{before}
+use Rattle.line_head.specs.Head.{newHead}
+use Rattle.line_path.specs.Path.{newPath}
+use Rattle.line_map.specs.PinMap.{newMap}
+use Rattle.line_matrix.specs.Matrix.{newMatrix}
+use Rattle.line_keyword.specs.declared.Counts.{Counts}
+use Rattle.line_keyword.specs.declared.Section.{Section}
+use Rattle.line_keyword.specs.declared.State.{State}
+
+unfoldable pub noCounts : Counts
+noCounts = record { models = 0; steps = 0; maps = 0; pins = 0; sections = 0; matrices = 0; values = 0 }
+
+-- no keyword read
+unfoldable pub noneSeen : List Bool
+noneSeen = replicate 40 false
+
+unfoldable pub newSection : Section
+newSection = record { method = 0; conductors = 0 }
+
+-- before the first line
+unfoldable pub startState : State
+startState =
+    record {
+      place = before;
+      seen = noneSeen;
+      head = newHead;
+      path = newPath;
+      map = newMap;
+      section = newSection;
+      matrix = newMatrix 0 0;
+      counts = noCounts;
+    }

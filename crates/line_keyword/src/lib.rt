@@ -1,0 +1,574 @@
+// Keyword lines: what each closes and opens, the rules it may break, and what is remembered after it.
+ghost use mathlib.Core.Path.{_≡_};
+ghost use mathlib.Core.Bool.{true, false};
+ghost use Prim.Native.Nat.{_^_, _<_};
+ghost use Rattle.line_keyword.specs.Keywords.{isOnce, isSeen, hasNoKind, kindsLack, headerLacks, familyLacks, isLacking, isUnclosed, isRepeated, isMisplaced, isForkOpen, isWrongInMatrix, isMatrixBroken, isShapeBroken, closesTooWide, isFull, isPastBound, keywordRule, seenAfter, headAfter, pathAfter, mapAfter, conductorsAfter, sectionAfter, matrixAfter, oneMoreIf, countsAfter, keywordNext, keptRule, keptNext};
+ghost use Rattle.lex_number.specs.Integer.{wholeOf};
+ghost use Rattle.line_place.specs.Place.{keepsMatrix};
+ghost use Rattle.line_argument.specs.Argument.{isOutOfBounds};
+ghost use Rattle.line_keyword.specs.Kept.{Countable};
+ghost use Rattle.line_map.specs.PinMap.{Bounded};
+ghost use Rattle.line_keyword.specs.State.{startState};
+use line_head::Head;
+use line_matrix::Matrix;
+use line_path::Path;
+use line_map::Map;
+
+const DISTRIBUTED: u64 = 1;
+
+const MOST_MODELS: u64 = 64;
+
+const MOST_MAPS: u64 = 64;
+
+const MOST_SECTIONS: u64 = 256;
+
+// How many records of each part have been read.
+pub struct Counts {
+    pub models: u64,
+    pub steps: u64,
+    pub maps: u64,
+    pub pins: u64,
+    pub sections: u64,
+    pub matrices: u64,
+    pub values: u64,
+}
+
+// The section that is open: its method, and its conductors, 0 until a matrix has closed.
+pub struct Section {
+    pub method: u64,
+    pub conductors: u64,
+}
+
+// What the forward reading remembers. No line number and no offset is in it.
+pub struct State {
+    pub place: u64,
+    pub seen: [bool; 40],
+    pub head: Head,
+    pub path: Path,
+    pub map: Map,
+    pub section: Section,
+    pub matrix: Matrix,
+    pub counts: Counts,
+}
+
+// Whether a keyword has been read in the block that is open.
+fn is_seen(key: u64, s: State) -> bool
+    ensures { λ r. ⌜ r ≡ isSeen key s ⌝ }
+{
+    if 40 <= key {
+        return false;
+    }
+    let at = key as usize;
+    let seen = s.seen;
+    seen[at]
+}
+
+// The keywords that stand at most once in the file, a model or a section.
+fn is_once(key: u64) -> bool
+    ensures { λ r. ⌜ r ≡ isOnce key ⌝ }
+{
+    if line_place::stands_in_header(key) {
+        return true;
+    }
+    if line_place::opens_header_text(key) {
+        return true;
+    }
+    if line_place::opens_matrix(key) {
+        return true;
+    }
+    if key == lex_keyword::MANUFACTURER {
+        return true;
+    }
+    if key == lex_keyword::ICM_MODEL_LIST {
+        return true;
+    }
+    if key == lex_keyword::ICM_FAMILY_DESCRIPTION {
+        return true;
+    }
+    if key == lex_keyword::TREE_PATH_DESCRIPTION {
+        return true;
+    }
+    key == lex_keyword::ICM_MODEL_DESCRIPTION
+}
+
+// No matrix of any kind has been read in the section.
+fn has_no_kind(s: State) -> bool
+    ensures { λ r. ⌜ r ≡ hasNoKind s ⌝ }
+{
+    if is_seen(lex_keyword::RESISTANCE_MATRIX, s) {
+        return false;
+    }
+    if is_seen(lex_keyword::INDUCTANCE_MATRIX, s) {
+        return false;
+    }
+    if is_seen(lex_keyword::CONDUCTANCE_MATRIX, s) {
+        return false;
+    }
+    !is_seen(lex_keyword::CAPACITANCE_MATRIX, s)
+}
+
+// A section that closes without a matrix, or a Distributed one without L or C.
+fn kinds_lack(s: State) -> bool
+    ensures { λ r. ⌜ r ≡ kindsLack s ⌝ }
+{
+    if has_no_kind(s) {
+        return true;
+    }
+    let section = s.section;
+    if section.method != DISTRIBUTED {
+        return false;
+    }
+    if !is_seen(lex_keyword::INDUCTANCE_MATRIX, s) {
+        return true;
+    }
+    !is_seen(lex_keyword::CAPACITANCE_MATRIX, s)
+}
+
+fn header_lacks(s: State) -> bool
+    ensures { λ r. ⌜ r ≡ headerLacks s ⌝ }
+{
+    if !is_seen(lex_keyword::FILE_NAME, s) {
+        return true;
+    }
+    !is_seen(lex_keyword::FILE_REV, s)
+}
+
+fn family_lacks(s: State) -> bool
+    ensures { λ r. ⌜ r ≡ familyLacks s ⌝ }
+{
+    if !is_seen(lex_keyword::MANUFACTURER, s) {
+        return true;
+    }
+    let counts = s.counts;
+    counts.models == 0
+}
+
+// What must be there, or must not be there yet, when this keyword comes.
+fn is_lacking(key: u64, s: State) -> bool
+    ensures { λ r. ⌜ r ≡ isLacking key s ⌝ }
+{
+    if key == lex_keyword::END_HEADER {
+        return header_lacks(s);
+    }
+    if key == lex_keyword::BEGIN_ICM_MODEL {
+        return !is_seen(lex_keyword::ICM_MODEL_LIST, s);
+    }
+    if key == lex_keyword::MANUFACTURER {
+        return is_seen(lex_keyword::ICM_MODEL_LIST, s);
+    }
+    if key == lex_keyword::ICM_FAMILY_DESCRIPTION {
+        return is_seen(lex_keyword::ICM_MODEL_LIST, s);
+    }
+    if key == lex_keyword::END_ICM_FAMILY {
+        return family_lacks(s);
+    }
+    if key == lex_keyword::END_ICM_MODEL {
+        return !is_seen(lex_keyword::TREE_PATH_DESCRIPTION, s);
+    }
+    if key == lex_keyword::END_ICM_SECTION {
+        return kinds_lack(s);
+    }
+    if key == lex_keyword::THE_END {
+        let counts = s.counts;
+        return counts.sections == 0;
+    }
+    false
+}
+
+// What the keyword closes is not whole: a model's head, a path, a pin map.
+fn is_unclosed(s: State) -> bool
+    ensures { λ r. ⌜ r ≡ isUnclosed s ⌝ }
+{
+    if s.place == line_place::HEAD {
+        let head = s.head;
+        return line_head::head_lacks(head);
+    }
+    if s.place == line_place::PATH {
+        let path = s.path;
+        return line_path::path_lacks(path);
+    }
+    if s.place == line_place::MAP_HEAD {
+        return true;
+    }
+    if s.place == line_place::PINS {
+        let map = s.map;
+        return line_map::pins_lack(map);
+    }
+    false
+}
+
+// A keyword that has been read where it may stand once.
+fn is_repeated(key: u64, s: State) -> bool
+    ensures { λ r. ⌜ r ≡ isRepeated key s ⌝ }
+{
+    if !is_once(key) {
+        return false;
+    }
+    is_seen(key, s)
+}
+
+// 9: misplaced, repeated, or a required part missing when its block closes.
+fn is_misplaced(key: u64, s: State) -> bool
+    ensures { λ r. ⌜ r ≡ isMisplaced key s ⌝ }
+{
+    if line_place::moved(s.place, key) == line_place::DEAD {
+        return true;
+    }
+    if is_unclosed(s) {
+        return true;
+    }
+    if is_repeated(key, s) {
+        return true;
+    }
+    is_lacking(key, s)
+}
+
+// 15: a path that closes with a fork open.
+fn is_fork_open(s: State) -> bool
+    ensures { λ r. ⌜ r ≡ isForkOpen s ⌝ }
+{
+    if s.place != line_place::PATH {
+        return false;
+    }
+    let path = s.path;
+    line_path::path_open(path)
+}
+
+// [Row] and [Bandwidth] where they stand in a matrix.
+fn is_wrong_in_matrix(key: u64, value: u64, m: Matrix) -> bool
+    ensures { λ r. ⌜ r ≡ isWrongInMatrix key value m ⌝ }
+{
+    if key == lex_keyword::ROW {
+        return line_matrix::is_wrong_row(value, m);
+    }
+    line_matrix::is_wrong_bandwidth(m)
+}
+
+// The same by the argument that stands on the line.
+fn is_wrong_by(key: u64, argument: &[u8], m: Matrix) -> bool
+    ensures { λ r. ⌜ r ≡ isWrongInMatrix key (wholeOf (now (argument .entry)) .value) m ⌝ }
+{
+    let value = lex_number::read_integer(argument);
+    is_wrong_in_matrix(key, value.value, m)
+}
+
+// 16 of a keyword in a matrix: [Row] and [Bandwidth] by their place there, any other by the matrix that it closes.
+fn is_matrix_broken(key: u64, argument: &[u8], s: State) -> bool
+    ensures { λ r. ⌜ r ≡ isMatrixBroken key (now (argument .entry)) s ⌝ }
+{
+    let m = s.matrix;
+    if line_place::keeps_matrix(key) {
+        return is_wrong_by(key, argument, m);
+    }
+    let section = s.section;
+    let counts = s.counts;
+    line_matrix::is_wrong_shape(m, section.conductors, counts.values)
+}
+
+// 16: a matrix or a pin grid of the wrong shape.
+fn is_shape_broken(key: u64, argument: &[u8], s: State) -> bool
+    requires { ⌜ Bounded (s .map) ⌝ }
+    ensures { λ r. ⌜ r ≡ isShapeBroken key (now (argument .entry)) s ⌝ }
+{
+    if s.place == line_place::MATRIX {
+        return is_matrix_broken(key, argument, s);
+    }
+    if s.place != line_place::PINS {
+        return false;
+    }
+    let map = s.map;
+    line_map::is_wrong_grid(map)
+}
+
+// A keyword that closes a Diagonal_matrix of too many numbers.
+fn closes_too_wide(key: u64, s: State) -> bool
+    ensures { λ r. ⌜ r ≡ closesTooWide key s ⌝ }
+{
+    if s.place != line_place::MATRIX {
+        return false;
+    }
+    if line_place::keeps_matrix(key) {
+        return false;
+    }
+    let m = s.matrix;
+    let counts = s.counts;
+    line_matrix::is_too_wide(m, counts.values)
+}
+
+// As many models, maps or sections as there may be.
+fn is_full(key: u64, c: Counts) -> bool
+    ensures { λ r. ⌜ r ≡ isFull key c ⌝ }
+{
+    if key == lex_keyword::BEGIN_ICM_MODEL {
+        return MOST_MODELS <= c.models;
+    }
+    if key == lex_keyword::ICM_PIN_MAP {
+        return MOST_MAPS <= c.maps;
+    }
+    if key == lex_keyword::BEGIN_ICM_SECTION {
+        return MOST_SECTIONS <= c.sections;
+    }
+    false
+}
+
+// 17: a count above its bound.
+fn is_past_bound(key: u64, s: State) -> bool
+    ensures { λ r. ⌜ r ≡ isPastBound key s ⌝ }
+{
+    if closes_too_wide(key, s) {
+        return true;
+    }
+    let counts = s.counts;
+    is_full(key, counts)
+}
+
+// The number of the first rule that a keyword line breaks, 0 for none.
+pub fn keyword_rule(key: u64, argument: &[u8], s: State) -> u64
+    requires { ⌜ Bounded (s .map) ⌝ }
+    ensures { λ r. ⌜ r ≡ keywordRule key (now (argument .entry)) s ⌝ }
+{
+    if is_fork_open(s) {
+        return 15;
+    }
+    if is_misplaced(key, s) {
+        return 9;
+    }
+    if line_argument::is_bad_argument(key, argument) {
+        return 11;
+    }
+    if line_argument::is_bad_integer(key, argument) {
+        return 13;
+    }
+    if line_argument::is_out_of_bounds(key, argument) {
+        return 14;
+    }
+    if is_shape_broken(key, argument, s) {
+        return 16;
+    }
+    if is_past_bound(key, s) {
+        return 17;
+    }
+    0
+}
+
+// ---- what is remembered after a keyword that breaks nothing
+
+// A model has its own path and description, a section its own matrices; [Row] and [Bandwidth] may stand any number of times.
+fn seen_after(key: u64, seen: [bool; 40]) -> [bool; 40]
+    ensures { λ r. ⌜ r ≡ seenAfter key seen ⌝ }
+{
+    if line_place::keeps_matrix(key) {
+        return seen;
+    }
+    let mut next = seen;
+    if key == lex_keyword::BEGIN_ICM_MODEL {
+        next[35] = false;
+        next[36] = false;
+        return next;
+    }
+    if key == lex_keyword::BEGIN_ICM_SECTION {
+        next[28] = false;
+        next[29] = false;
+        next[31] = false;
+        next[32] = false;
+        return next;
+    }
+    if 40 <= key {
+        return next;
+    }
+    let at = key as usize;
+    next[at] = true;
+    next
+}
+
+fn head_after(key: u64, h: Head) -> Head
+    ensures { λ r. ⌜ r ≡ headAfter key h ⌝ }
+{
+    if key == lex_keyword::BEGIN_ICM_MODEL {
+        return line_head::new_head();
+    }
+    h
+}
+
+fn path_after(key: u64, p: Path) -> Path
+    ensures { λ r. ⌜ r ≡ pathAfter key p ⌝ }
+{
+    if key == lex_keyword::TREE_PATH_DESCRIPTION {
+        return line_path::new_path();
+    }
+    p
+}
+
+fn map_after(key: u64, m: Map) -> Map
+    ensures { λ r. ⌜ r ≡ mapAfter key m ⌝ }
+{
+    if key == lex_keyword::ICM_PIN_MAP {
+        return line_map::new_map();
+    }
+    m
+}
+
+// The conductors of a section are those of the first matrix that closes; a later one has as many.
+fn conductors_after(key: u64, s: State) -> u64
+    ensures { λ r. ⌜ r ≡ conductorsAfter key s ⌝ }
+{
+    let section = s.section;
+    if s.place != line_place::MATRIX {
+        return section.conductors;
+    }
+    if line_place::keeps_matrix(key) {
+        return section.conductors;
+    }
+    let m = s.matrix;
+    let counts = s.counts;
+    line_matrix::conductors_of(m, counts.values)
+}
+
+fn section_after(key: u64, argument: &[u8], s: State) -> Section
+    ensures { λ r. ⌜ r ≡ sectionAfter key (now (argument .entry)) s ⌝ }
+{
+    if key == lex_keyword::BEGIN_ICM_SECTION {
+        return Section {
+            method: 0,
+            conductors: 0,
+        };
+    }
+    if key == lex_keyword::DERIVATION_METHOD {
+        return Section {
+            method: line_argument::method_of(argument),
+            conductors: 0,
+        };
+    }
+    let section = s.section;
+    Section {
+        method: section.method,
+        conductors: conductors_after(key, s),
+    }
+}
+
+fn matrix_after(key: u64, argument: &[u8], s: State) -> Matrix
+    requires { ⌜ isOutOfBounds key (now argument) ≡ false ⌝ }
+    ensures { λ r. ⌜ r ≡ matrixAfter key (now (argument .entry)) s ⌝ }
+{
+    let m = s.matrix;
+    let counts = s.counts;
+    if line_place::opens_matrix(key) {
+        return line_matrix::new_matrix(line_argument::form_of(argument), counts.values);
+    }
+    if key == lex_keyword::ROW {
+        let row = lex_number::read_integer(argument);
+        return line_matrix::with_row(row.value, m, counts.values);
+    }
+    if key == lex_keyword::BANDWIDTH {
+        let bandwidth = lex_number::read_integer(argument);
+        return line_matrix::with_bandwidth(bandwidth.value, m);
+    }
+    m
+}
+
+pub fn one_more_if(b: bool, n: u64) -> u64
+    requires { ⌜ n < 2 ^ 63 ⌝ }
+    ensures { λ r. ⌜ r ≡ oneMoreIf b n ⌝ }
+{
+    if b {
+        return n + 1;
+    }
+    n
+}
+
+fn counts_after(key: u64, c: Counts) -> Counts
+    requires { ⌜ Countable c ⌝ }
+    ensures { λ r. ⌜ r ≡ countsAfter key c ⌝ }
+{
+    Counts {
+        models: one_more_if(key == lex_keyword::BEGIN_ICM_MODEL, c.models),
+        steps: c.steps,
+        maps: one_more_if(key == lex_keyword::ICM_PIN_MAP, c.maps),
+        pins: c.pins,
+        sections: one_more_if(key == lex_keyword::BEGIN_ICM_SECTION, c.sections),
+        matrices: one_more_if(line_place::opens_matrix(key), c.matrices),
+        values: c.values,
+    }
+}
+
+// What is remembered after a keyword that breaks nothing.
+pub fn keyword_next(key: u64, argument: &[u8], s: State) -> State
+    requires { ⌜ (isOutOfBounds key (now argument) ≡ false) × Countable (s .counts) ⌝ }
+    ensures { λ r. ⌜ r ≡ keywordNext key (now (argument .entry)) s ⌝ }
+{
+    let seen = s.seen;
+    let head = s.head;
+    let path = s.path;
+    let map = s.map;
+    let counts = s.counts;
+    State {
+        place: line_place::moved(s.place, key),
+        seen: seen_after(key, seen),
+        head: head_after(key, head),
+        path: path_after(key, path),
+        map: map_after(key, map),
+        section: section_after(key, argument, s),
+        matrix: matrix_after(key, argument, s),
+        counts: counts_after(key, counts),
+    }
+}
+
+// ---- [Row] and [Bandwidth] in a matrix, by the matrix alone
+
+// The number of the first rule that [Row] or [Bandwidth] breaks in a matrix, 0 for none.
+pub fn kept_rule(key: u64, argument: &[u8], m: Matrix) -> u64
+    ensures { λ r. ⌜ r ≡ keptRule key (now (argument .entry)) m ⌝ }
+{
+    if line_argument::is_bad_argument(key, argument) {
+        return 11;
+    }
+    if line_argument::is_bad_integer(key, argument) {
+        return 13;
+    }
+    if line_argument::is_out_of_bounds(key, argument) {
+        return 14;
+    }
+    if is_wrong_by(key, argument, m) {
+        return 16;
+    }
+    0
+}
+
+// The matrix after a [Row] or a [Bandwidth] that breaks nothing.
+pub fn kept_next(key: u64, argument: &[u8], m: Matrix, values: u64) -> Matrix
+    requires { ⌜ (keepsMatrix key ≡ true) × (keptRule key (now argument) m ≡ 0) ⌝ }
+    ensures { λ r. ⌜ r ≡ keptNext key (now (argument .entry)) m values ⌝ }
+{
+    let value = lex_number::read_integer(argument);
+    if key == lex_keyword::ROW {
+        return line_matrix::with_row(value.value, m, values);
+    }
+    line_matrix::with_bandwidth(value.value, m)
+}
+
+// What is remembered before the first line: nothing.
+pub fn start_state() -> State
+    ensures { λ r. ⌜ r ≡ startState ⌝ }
+{
+    State {
+        place: line_place::BEFORE,
+        seen: [false; 40],
+        head: line_head::new_head(),
+        path: line_path::new_path(),
+        map: line_map::new_map(),
+        section: Section {
+            method: 0,
+            conductors: 0,
+        },
+        matrix: line_matrix::new_matrix(0, 0),
+        counts: Counts {
+            models: 0,
+            steps: 0,
+            maps: 0,
+            pins: 0,
+            sections: 0,
+            matrices: 0,
+            values: 0,
+        },
+    }
+}

@@ -1,0 +1,134 @@
+-- Document 01, "Pin maps": the lines above Pin_list, and the pins below it.
+-- Assumes nothing.
+use Prim.Native.Nat.{ℕ, _+_, _*_, _≤_}
+use mathlib.Core.Bool.{Bool, true, false, not}
+use mathlib.Core.List.{List, [], _∷_}
+use lib.ListN.{length}
+use lib.Dec.{leb, ltb, eqb}
+use Rattle.base.specs.If.{if_then_else_, both, either}
+use Rattle.base.specs.Bytes.{bytes, within}
+use Rattle.base.specs.Runs.{same}
+use Rattle.base.specs.Broken.{_when_, firstBroken}
+use Rattle.lex_line.specs.Words.{words, firstOf, secondOf, hasEquals, leftOf, rightOf}
+use Rattle.lex_number.specs.Integer.{wholeOf}
+use Rattle.line_map.specs.declared.Map.{Map}
+use Rattle.line_map.specs.declared.MapLine.{MapLine}
+
+-- what a line above Pin_list says
+abbrev pub nothing : ℕ
+nothing = 0
+
+abbrev pub order : ℕ
+order = 1
+
+abbrev pub columns : ℕ
+columns = 2
+
+abbrev pub rows : ℕ
+rows = 3
+
+abbrev pub pinList : ℕ
+pinList = 4
+
+-- "Row_ordered, Column_ordered or Un_ordered", one above the table's count; 0 for none
+unfoldable pub orderOf : List ℕ → ℕ
+orderOf w =
+    if same w (bytes "Row_ordered") then 1 else
+    if same w (bytes "Column_ordered") then 2 else
+    if same w (bytes "Un_ordered") then 3 else 0
+
+unfoldable pub wrongLine : ℕ → MapLine
+wrongLine says = record { says = says; right = false; formed = true; bounded = true; value = 0 }
+
+unfoldable pub orderLine : List (List ℕ) → MapLine
+orderLine ws =
+    if both (eqb (length ws) 2) (not (eqb (orderOf (secondOf ws)) 0))
+    then record { says = order; right = true; formed = true; bounded = true; value = orderOf (secondOf ws) }
+    else wrongLine order
+
+unfoldable pub listLine : List (List ℕ) → MapLine
+listLine ws =
+    if eqb (length ws) 1 then record { says = pinList; right = true; formed = true; bounded = true; value = 0 } else wrongLine pinList
+
+-- "`Num_of_columns = c` and `Num_of_rows = r`", "Num_of_rows, Num_of_columns .. 1 to 256"
+unfoldable pub sizeLine : ℕ → List ℕ → MapLine
+sizeLine says content =
+    if both (hasEquals content) (both (eqb (length (leftOf content)) 1) (eqb (length (rightOf content)) 1))
+    then
+    record {
+      says = says;
+      right = true;
+      formed = wholeOf (firstOf (rightOf content)) .formed;
+      bounded = within 1 256 (wholeOf (firstOf (rightOf content)) .value);
+      value = wholeOf (firstOf (rightOf content)) .value;
+    }
+    else wrongLine says
+
+unfoldable pub mapLineOf : List ℕ → MapLine
+mapLineOf content =
+    if same (firstOf (words content)) (bytes "Pin_order") then orderLine (words content) else
+    if same (firstOf (words content)) (bytes "Pin_list") then listLine (words content) else
+    if same (firstOf (leftOf content)) (bytes "Num_of_columns") then sizeLine columns content else
+    if same (firstOf (leftOf content)) (bytes "Num_of_rows") then sizeLine rows content else
+    record { says = nothing; right = true; formed = true; bounded = true; value = 0 }
+
+unfoldable pub newMap : Map
+newMap = record { order = 0; rows = 0; columns = 0; pins = 0 }
+
+-- Row_ordered or Column_ordered
+unfoldable pub isOrdered : Map → Bool
+isOrdered m = within 1 2 (m .order)
+
+-- "`Pin_order` ..; for the ordered two `Num_of_columns = c` and `Num_of_rows = r`, either first; then `Pin_list`"
+unfoldable pub isOutOfOrder : MapLine → Map → Bool
+isOutOfOrder l m =
+    if eqb (l .says) order then not (eqb (m .order) 0) else
+    if eqb (l .says) columns then either (not (isOrdered m)) (not (eqb (m .columns) 0)) else
+    if eqb (l .says) rows then either (not (isOrdered m)) (not (eqb (m .rows) 0)) else
+    if eqb (l .says) pinList then either (eqb (m .order) 0) (both (isOrdered m) (either (eqb (m .rows) 0) (eqb (m .columns) 0))) else true
+
+unfoldable pub mapRule : MapLine → Map → ℕ
+mapRule l m =
+    firstBroken
+    (11 when not (l .right) ∷ 12 when isOutOfOrder l m ∷ 13 when not (l .formed) ∷ 14 when not (l .bounded) ∷ [])
+
+unfoldable pub mapNext : MapLine → Map → Map
+mapNext l m =
+    record {
+      order = if eqb (l .says) order then l .value else m .order;
+      rows = if eqb (l .says) rows then l .value else m .rows;
+      columns = if eqb (l .says) columns then l .value else m .columns;
+      pins = m .pins;
+    }
+
+-- "4,096 pins (256 a map)"
+abbrev pub mostPins : ℕ
+mostPins = 4_096
+
+abbrev pub mostMapPins : ℕ
+mostMapPins = 256
+
+-- "at least one pin, one a line": its name, perhaps a signal's, which is not read, and no third word
+unfoldable pub isPinLine : List (List ℕ) → Bool
+isPinLine ws = ltb (length ws) 3
+
+unfoldable pub pinRule : List ℕ → Map → ℕ → ℕ
+pinRule content m total =
+    firstBroken
+    (11 when not (isPinLine (words content)) ∷ 17 when either (leb mostMapPins (m .pins)) (leb mostPins total) ∷ [])
+
+unfoldable pub withPin : Map → Map
+withPin m = record { order = m .order; rows = m .rows; columns = m .columns; pins = m .pins + 1 }
+
+-- "at least one pin", and 9 if there is none
+unfoldable pub pinsLack : Map → Bool
+pinsLack m = eqb (m .pins) 0
+
+-- request 3: "an ordered map has at least one and at most rows times columns pins", "16 on a map is given only above the product"
+unfoldable pub isWrongGrid : Map → Bool
+isWrongGrid m = both (isOrdered m) (ltb (m .rows * m .columns) (m .pins))
+
+-- the sizes that a map has while no rule is broken: a line gives none above 256
+pub record Bounded (m : Map) : Type 0 where
+  pub few-rows : m .rows ≤ 256
+  pub few-columns : m .columns ≤ 256

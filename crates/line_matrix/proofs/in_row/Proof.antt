@@ -1,0 +1,16 @@
+-- `line_matrix::in_row` meets its contract: the values since the row's start.
+-- Assumes nothing.
+use Rattle.line_matrix.specs.Matrix.{inRow}
+use borrow.Author.Needs.{needs}
+use Rattle.line_matrix.proofs.in_row.Statement.{statement}
+use Rattle.line_matrix.proofs.in_row.Tie as tie
+
+less-requires : tie.Need-less-requires
+less-requires c κs = search needs
+
+returns : tie.Need-returns
+unfolding inRow
+returns c = cc
+
+pub in-row-spec : {M : Type 1} → statement M
+in-row-spec = tie.close (tie.spec less-requires returns)

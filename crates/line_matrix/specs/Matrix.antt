@@ -1,0 +1,199 @@
+-- Document 01, "Sections and matrices": the rows and numbers of a matrix in its four forms, and its shape.
+-- `values` is how many values have been read in the whole file, so that a row's numbers are those since `from`.
+-- Assumes nothing.
+use Prim.Native.Nat.{ℕ, _+_, _-_, min, max}
+use mathlib.Core.Bool.{Bool, true, false, not}
+use mathlib.Core.List.{List, [], _∷_}
+use lib.ListN.{length}
+use lib.Dec.{leb, ltb, eqb}
+use Rattle.base.specs.If.{if_then_else_, both, either}
+use Rattle.base.specs.Bytes.{within}
+use Rattle.base.specs.Broken.{_when_, firstBroken}
+use Rattle.lex_line.specs.Words.{words, firstOf, secondOf}
+use Rattle.lex_number.specs.Number.{numberOf, isFormed, isBounded}
+use Rattle.lex_number.specs.Integer.{wholeOf}
+use Rattle.lex_number.specs.declared.Whole.{Whole}
+use Rattle.line_matrix.specs.declared.Matrix.{Matrix}
+use Rattle.line_matrix.specs.declared.Rows.{Rows}
+use Rattle.line_matrix.specs.declared.DataLine.{DataLine}
+use Rattle.line_matrix.specs.declared.Told.{Told}
+
+abbrev pub diagonal : ℕ
+diagonal = 0
+
+abbrev pub banded : ℕ
+banded = 1
+
+abbrev pub sparse : ℕ
+sparse = 2
+
+abbrev pub full : ℕ
+full = 3
+
+-- "65,536 values"
+abbrev pub mostValues : ℕ
+mostValues = 65_536
+
+-- the most conductors of any form
+abbrev pub mostConductors : ℕ
+mostConductors = 256
+
+-- a matrix of a form, no row and no number read. The band of a row is the most numbers it may have: B + 1 of a Banded_matrix, 0 before
+-- its [Bandwidth]; all of a Full_matrix
+unfoldable pub newMatrix : ℕ → ℕ → Matrix
+newMatrix form values =
+    record {
+      form = form;
+      band = if eqb form full then mostConductors else 0;
+      first = values;
+      rows = record { row = 0; above = 0; from = values; least = 0; greatest = 0; fits = true };
+    }
+
+-- ---- [Row] and [Bandwidth]
+
+-- "[Bandwidth] B, then [Row] 1 to N"
+unfoldable pub isWrongBandwidth : Matrix → Bool
+isWrongBandwidth m = either (not (eqb (m .form) banded)) (either (not (eqb (m .band) 0)) (not (eqb (m .rows .row) 0)))
+
+-- "[Row] 1 to N in order"; "rising [Row]s"; a Diagonal_matrix has none
+unfoldable pub isWrongRow : ℕ → Matrix → Bool
+isWrongRow row m =
+    if eqb (m .form) diagonal then true else
+    if eqb (m .form) sparse then leb row (m .rows .row) else
+    either (eqb (m .band) 0) (not (eqb row (m .rows .row + 1)))
+
+unfoldable pub withBandwidth : ℕ → Matrix → Matrix
+withBandwidth b m = record { form = m .form; band = b + 1; first = m .first; rows = m .rows }
+
+-- the row now read has so many numbers
+unfoldable pub inRow : Matrix → ℕ → ℕ
+inRow m values = values - m .rows .from
+
+-- "row i has N-i+1 numbers", "row i has 1+min(B, N-i)": of two rows the upper has one more than the lower, or as many as the band
+unfoldable pub standsAbove : Matrix → ℕ → Bool
+standsAbove m values = either (ltb (m .rows .row) 2) (eqb (m .rows .above) (min (m .band) (inRow m values + 1)))
+
+-- all so far fits, the row that the next one ends too
+unfoldable pub stillFits : Matrix → ℕ → Bool
+stillFits m values = both (m .rows .fits) (either (eqb (m .form) sparse) (standsAbove m values))
+
+unfoldable pub withRow : ℕ → Matrix → ℕ → Matrix
+withRow row m values =
+    record {
+      form = m .form;
+      band = m .band;
+      first = m .first;
+      rows =
+          record {
+            row = row;
+            above = inRow m values;
+            from = values;
+            least = row;
+            greatest = max (m .rows .greatest) row;
+            fits = stillFits m values;
+          };
+    }
+
+-- ---- data lines
+
+-- what a word says as a number
+unfoldable pub toldBy : List ℕ → Told
+toldBy w = record { formed = isFormed (numberOf w); bounded = isBounded (numberOf w) }
+
+-- every word is a number; every number is within its bounds
+unfoldable pub areFormed : List (List ℕ) → Bool
+areFormed [] = true
+areFormed (w ∷ ws) = both (toldBy w .formed) (areFormed ws)
+
+unfoldable pub areBounded : List (List ℕ) → Bool
+areBounded [] = true
+areBounded (w ∷ ws) = both (toldBy w .bounded) (areBounded ws)
+
+-- "Numbers may run over lines": a line of numbers
+unfoldable pub numbersLine : List (List ℕ) → DataLine
+numbersLine ws = record { numbers = length ws; column = 0; right = true; formed = areFormed ws; bounded = areBounded ws }
+
+-- a column and what the word behind it says
+abbrev pub pairLine : Whole → Told → DataLine
+pairLine column told =
+    record {
+      numbers = 1;
+      column = column .value;
+      right = true;
+      formed = both (column .formed) (told .formed);
+      bounded = both (within 1 256 (column .value)) (told .bounded);
+    }
+
+-- "lines `column value`": columns 1 to 256
+unfoldable pub sparseLine : List (List ℕ) → DataLine
+sparseLine ws =
+    if eqb (length ws) 2
+    then pairLine (wholeOf (firstOf ws)) (toldBy (secondOf ws))
+    else record { numbers = 0; column = 0; right = false; formed = true; bounded = true }
+
+unfoldable pub dataLineOf : ℕ → List ℕ → DataLine
+dataLineOf form content = if eqb form sparse then sparseLine (words content) else numbersLine (words content)
+
+-- "a data line above the first [Row] of a form with rows, or a sparse line not of two words, is 12"
+unfoldable pub isOutOfOrder : DataLine → Matrix → Bool
+isOutOfOrder l m = either (not (l .right)) (both (not (eqb (m .form) diagonal)) (eqb (m .rows .row) 0))
+
+-- so many numbers more pass the bound
+unfoldable pub areTooMany : ℕ → ℕ → Bool
+areTooMany values numbers = ltb mostValues (values + numbers)
+
+unfoldable pub dataRule : DataLine → Matrix → ℕ → ℕ
+dataRule l m values =
+    firstBroken
+    (12 when isOutOfOrder l m
+    ∷ 13 when not (l .formed)
+    ∷ 14 when not (l .bounded)
+    ∷ 17 when areTooMany values (l .numbers)
+    ∷ [])
+
+-- "columns rising and not below the row"
+unfoldable pub withColumn : ℕ → Matrix → Matrix
+withColumn c m =
+    record {
+      form = m .form;
+      band = m .band;
+      first = m .first;
+      rows =
+          record {
+            row = m .rows .row;
+            above = m .rows .above;
+            from = m .rows .from;
+            least = c + 1;
+            greatest = max (m .rows .greatest) c;
+            fits = both (m .rows .fits) (leb (m .rows .least) c);
+          };
+    }
+
+unfoldable pub dataNext : DataLine → Matrix → Matrix
+dataNext l m = if eqb (m .form) sparse then withColumn (l .column) m else m
+
+-- ---- the shape, at the keyword that closes the matrix
+
+-- "N is the conductor count"; of a Sparse_matrix "the greatest row or column named"
+unfoldable pub conductorsOf : Matrix → ℕ → ℕ
+conductorsOf m values =
+    if eqb (m .form) diagonal then values - m .first else
+    if eqb (m .form) sparse then m .rows .greatest else m .rows .row
+
+-- the rows are of the right lengths, the last of one number; of a Sparse_matrix the columns rise
+unfoldable pub isShaped : Matrix → ℕ → Bool
+isShaped m values =
+    if eqb (m .form) diagonal then true else
+    if eqb (m .form) sparse then m .rows .fits else
+    both (m .rows .fits) (both (standsAbove m values) (eqb (inRow m values) 1))
+
+-- "N is .. the same for a section's matrices": known is that of the matrices before it, 0 where there is none;
+-- "Breaks of shape (a matrix with no number too)"
+unfoldable pub isWrongShape : Matrix → ℕ → ℕ → Bool
+isWrongShape m known values =
+    either (leb values (m .first))
+    (either (not (isShaped m values)) (both (not (eqb known 0)) (not (eqb known (conductorsOf m values)))))
+
+-- "a diagonal over 256 (17)"
+unfoldable pub isTooWide : Matrix → ℕ → Bool
+isTooWide m values = both (eqb (m .form) diagonal) (ltb mostConductors (conductorsOf m values))

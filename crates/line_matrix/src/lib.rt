@@ -1,0 +1,439 @@
+// Document 01, "Sections and matrices": the rows and numbers of a matrix in its four forms, and its shape.
+ghost use mathlib.Core.Path.{_≡_};
+ghost use Prim.Native.Nat.{_-_, _<_, _≤_, min, max};
+ghost use mathlib.Core.Bool.{true, false};
+ghost use Rattle.lex_number.specs.Number.{isFormed, isBounded};
+ghost use Rattle.lex_line.specs.Words.{words};
+ghost use Rattle.line_matrix.specs.Matrix.{newMatrix, isWrongBandwidth, isWrongRow, withBandwidth, inRow, standsAbove, stillFits, withRow, numbersLine, pairLine, sparseLine, dataLineOf, isOutOfOrder, areTooMany, dataRule, withColumn, dataNext, conductorsOf, isShaped, isWrongShape, isTooWide};
+use lex_number::Number;
+use lex_number::Whole;
+
+// The forms, as the table counts them.
+pub const DIAGONAL: u64 = 0;
+
+pub const BANDED: u64 = 1;
+
+pub const SPARSE: u64 = 2;
+
+pub const FULL: u64 = 3;
+
+const MOST_VALUES: u64 = 65536;
+
+const MOST_CONDUCTORS: u64 = 256;
+
+// How far the rows of a matrix have come: the last [Row], how many numbers the row above it has, how many values had been read
+// where it starts, the least column that may come next, the greatest row or column named, and whether all so far fits.
+pub struct Rows {
+    pub row: u64,
+    pub above: u64,
+    pub from: u64,
+    pub least: u64,
+    pub greatest: u64,
+    pub fits: bool,
+}
+
+// A matrix: its form, the most numbers a row may have, how many values had been read where it starts, and its rows.
+pub struct Matrix {
+    pub form: u64,
+    pub band: u64,
+    pub first: u64,
+    pub rows: Rows,
+}
+
+// A data line: how many numbers it writes, its column where it has one, whether it has the words it should, and whether they are
+// numbers and within their bounds.
+pub struct DataLine {
+    pub numbers: u64,
+    pub column: u64,
+    pub right: bool,
+    pub formed: bool,
+    pub bounded: bool,
+}
+
+fn lesser(a: u64, b: u64) -> u64
+    ensures { λ r. ⌜ r ≡ min a b ⌝ }
+{
+    if a < b { a } else { b }
+}
+
+fn greater(a: u64, b: u64) -> u64
+    ensures { λ r. ⌜ r ≡ max a b ⌝ }
+{
+    if a < b { b } else { a }
+}
+
+// What is left of a when b is taken away, 0 where b is more.
+fn less(a: u64, b: u64) -> u64
+    ensures { λ r. ⌜ r ≡ a - b ⌝ }
+{
+    if a < b { 0 } else { a - b }
+}
+
+// A matrix of which only the keyword is read.
+pub fn new_matrix(form: u64, values: u64) -> Matrix
+    ensures { λ r. ⌜ r ≡ newMatrix form values ⌝ }
+{
+    let rows = Rows {
+        row: 0,
+        above: 0,
+        from: values,
+        least: 0,
+        greatest: 0,
+        fits: true,
+    };
+    if form == FULL {
+        return Matrix {
+            form,
+            band: MOST_CONDUCTORS,
+            first: values,
+            rows,
+        };
+    }
+    Matrix {
+        form,
+        band: 0,
+        first: values,
+        rows,
+    }
+}
+
+// [Bandwidth] stands once, in a Banded_matrix, before its rows.
+pub fn is_wrong_bandwidth(m: Matrix) -> bool
+    ensures { λ r. ⌜ r ≡ isWrongBandwidth m ⌝ }
+{
+    if m.form != BANDED {
+        return true;
+    }
+    if m.band != 0 {
+        return true;
+    }
+    let rows = m.rows;
+    rows.row != 0
+}
+
+// [Row] is the next of a Full_matrix or a Banded_matrix, above the last of a Sparse_matrix, and never stands in a Diagonal_matrix.
+pub fn is_wrong_row(row: u64, m: Matrix) -> bool
+    ensures { λ r. ⌜ r ≡ isWrongRow row m ⌝ }
+{
+    let rows = m.rows;
+    if m.form == DIAGONAL {
+        return true;
+    }
+    if m.form == SPARSE {
+        return row <= rows.row;
+    }
+    if m.band == 0 {
+        return true;
+    }
+    if row == 0 {
+        return true;
+    }
+    row - 1 != rows.row
+}
+
+pub fn with_bandwidth(b: u64, m: Matrix) -> Matrix
+    requires { ⌜ b ≤ 255 ⌝ }
+    ensures { λ r. ⌜ r ≡ withBandwidth b m ⌝ }
+{
+    let rows = m.rows;
+    Matrix {
+        form: m.form,
+        band: b + 1,
+        first: m.first,
+        rows,
+    }
+}
+
+fn in_row(m: Matrix, values: u64) -> u64
+    ensures { λ r. ⌜ r ≡ inRow m values ⌝ }
+{
+    let rows = m.rows;
+    less(values, rows.from)
+}
+
+// The row above has one number more than this one, or as many as the band allows.
+fn stands_above(m: Matrix, values: u64) -> bool
+    ensures { λ r. ⌜ r ≡ standsAbove m values ⌝ }
+{
+    let rows = m.rows;
+    if rows.row < 2 {
+        return true;
+    }
+    let count = in_row(m, values);
+    if count < m.band {
+        return rows.above == count + 1;
+    }
+    rows.above == m.band
+}
+
+// All so far fits, the row that the next one ends too.
+fn still_fits(m: Matrix, values: u64) -> bool
+    ensures { λ r. ⌜ r ≡ stillFits m values ⌝ }
+{
+    let rows = m.rows;
+    if !rows.fits {
+        return false;
+    }
+    if m.form == SPARSE {
+        return true;
+    }
+    stands_above(m, values)
+}
+
+pub fn with_row(row: u64, m: Matrix, values: u64) -> Matrix
+    ensures { λ r. ⌜ r ≡ withRow row m values ⌝ }
+{
+    let rows = m.rows;
+    let next = Rows {
+        row,
+        above: in_row(m, values),
+        from: values,
+        least: row,
+        greatest: greater(rows.greatest, row),
+        fits: still_fits(m, values),
+    };
+    Matrix {
+        form: m.form,
+        band: m.band,
+        first: m.first,
+        rows: next,
+    }
+}
+
+// What a word of a data line says as a number.
+struct Told {
+    formed: bool,
+    bounded: bool,
+}
+
+fn told_of(number: Number) -> Told
+    ensures { λ r. ⌜ r ≡ record { formed = isFormed number; bounded = isBounded number } ⌝ }
+{
+    Told {
+        formed: lex_number::is_formed(number),
+        bounded: lex_number::is_bounded(number),
+    }
+}
+
+// A line of numbers: each is read where it stands, and gone over once.
+fn numbers_line(content: &[u8]) -> DataLine
+    ensures { λ r. ⌜ r ≡ numbersLine (words (now (content .entry))) ⌝ }
+{
+    let mut at = 0;
+    let mut numbers = 0;
+    let mut formed = true;
+    let mut bounded = true;
+    while at < content.len() {
+        let start = base::past_blanks(content, at);
+        if content.len() <= start {
+            return DataLine {
+                numbers,
+                column: 0,
+                right: true,
+                formed,
+                bounded,
+            };
+        }
+        let read = lex_number::number_at(content, start);
+        let number = read.number;
+        formed = base::and(formed, lex_number::is_formed(number));
+        bounded = base::and(bounded, lex_number::is_bounded(number));
+        numbers += 1;
+        at = read.end;
+    }
+    DataLine {
+        numbers,
+        column: 0,
+        right: true,
+        formed,
+        bounded,
+    }
+}
+
+// A line of a Sparse_matrix that has not two words.
+fn not_two() -> DataLine
+    ensures { λ r. ⌜ r ≡ record { numbers = 0; column = 0; right = false; formed = true; bounded = true } ⌝ }
+{
+    DataLine {
+        numbers: 0,
+        column: 0,
+        right: false,
+        formed: true,
+        bounded: true,
+    }
+}
+
+// A column and a value.
+fn pair_line(column: Whole, told: Told) -> DataLine
+    ensures { λ r. ⌜ r ≡ pairLine column told ⌝ }
+{
+    DataLine {
+        numbers: 1,
+        column: column.value,
+        right: true,
+        formed: base::and(column.formed, told.formed),
+        bounded: base::and(lex_number::is_within(1, 256, column.value), told.bounded),
+    }
+}
+
+// A line of a Sparse_matrix: a column and a value, which is read where it stands, and gone over once.
+fn sparse_line(content: &[u8]) -> DataLine
+    ensures { λ r. ⌜ r ≡ sparseLine (words (now (content .entry))) ⌝ }
+{
+    let first = lex_line::word_at(content, 0);
+    let start = base::past_blanks(content, first.end);
+    if content.len() <= start {
+        return not_two();
+    }
+    let read = lex_number::number_at(content, start);
+    if base::past_blanks(content, read.end) < content.len() {
+        return not_two();
+    }
+    let number = read.number;
+    let column = lex_number::read_integer(lex_line::marked(content, first));
+    pair_line(column, told_of(number))
+}
+
+// What a line between the keywords of a matrix says.
+pub fn data_line(form: u64, content: &[u8]) -> DataLine
+    ensures { λ r. ⌜ r ≡ dataLineOf form (now (content .entry)) ⌝ }
+{
+    if form == SPARSE {
+        return sparse_line(content);
+    }
+    numbers_line(content)
+}
+
+// A line above the first [Row] of a form with rows, or of other words than its form takes.
+fn is_out_of_order(l: DataLine, m: Matrix) -> bool
+    ensures { λ r. ⌜ r ≡ isOutOfOrder l m ⌝ }
+{
+    let rows = m.rows;
+    if !l.right {
+        return true;
+    }
+    if m.form == DIAGONAL {
+        return false;
+    }
+    rows.row == 0
+}
+
+// Whether so many numbers more pass the bound; the sum is not formed, since it could wrap.
+fn are_too_many(values: u64, numbers: u64) -> bool
+    ensures { λ r. ⌜ r ≡ areTooMany values numbers ⌝ }
+{
+    if MOST_VALUES < values {
+        return true;
+    }
+    MOST_VALUES - values < numbers
+}
+
+pub fn data_rule(l: DataLine, m: Matrix, values: u64) -> u64
+    ensures { λ r. ⌜ r ≡ dataRule l m values ⌝ }
+{
+    if is_out_of_order(l, m) {
+        return 12;
+    }
+    if !l.formed {
+        return 13;
+    }
+    if !l.bounded {
+        return 14;
+    }
+    if are_too_many(values, l.numbers) {
+        return 17;
+    }
+    0
+}
+
+// A value in a column of a Sparse_matrix: columns rise, and none is below the row.
+fn with_column(column: u64, m: Matrix) -> Matrix
+    requires { ⌜ column < 4294967296 ⌝ }
+    ensures { λ r. ⌜ r ≡ withColumn column m ⌝ }
+{
+    let rows = m.rows;
+    let next = Rows {
+        row: rows.row,
+        above: rows.above,
+        from: rows.from,
+        least: column + 1,
+        greatest: greater(rows.greatest, column),
+        fits: base::and(rows.fits, rows.least <= column),
+    };
+    Matrix {
+        form: m.form,
+        band: m.band,
+        first: m.first,
+        rows: next,
+    }
+}
+
+pub fn data_next(l: DataLine, m: Matrix) -> Matrix
+    requires { ⌜ l .column < 4294967296 ⌝ }
+    ensures { λ r. ⌜ r ≡ dataNext l m ⌝ }
+{
+    if m.form == SPARSE {
+        return with_column(l.column, m);
+    }
+    m
+}
+
+// N, by the form: the numbers of a Diagonal_matrix, the greatest row or column of a Sparse_matrix, else the rows.
+pub fn conductors_of(m: Matrix, values: u64) -> u64
+    ensures { λ r. ⌜ r ≡ conductorsOf m values ⌝ }
+{
+    let rows = m.rows;
+    if m.form == DIAGONAL {
+        return less(values, m.first);
+    }
+    if m.form == SPARSE {
+        return rows.greatest;
+    }
+    rows.row
+}
+
+// The rows are of the right lengths, the last of one number; of a Sparse_matrix the columns rise.
+fn is_shaped(m: Matrix, values: u64) -> bool
+    ensures { λ r. ⌜ r ≡ isShaped m values ⌝ }
+{
+    let rows = m.rows;
+    if m.form == DIAGONAL {
+        return true;
+    }
+    if m.form == SPARSE {
+        return rows.fits;
+    }
+    if !rows.fits {
+        return false;
+    }
+    if !stands_above(m, values) {
+        return false;
+    }
+    in_row(m, values) == 1
+}
+
+// At the keyword that closes a matrix: no number, a wrong row, or another N than the matrices before it in the section.
+pub fn is_wrong_shape(m: Matrix, known: u64, values: u64) -> bool
+    ensures { λ r. ⌜ r ≡ isWrongShape m known values ⌝ }
+{
+    if values <= m.first {
+        return true;
+    }
+    if !is_shaped(m, values) {
+        return true;
+    }
+    if known == 0 {
+        return false;
+    }
+    known != conductors_of(m, values)
+}
+
+// A Diagonal_matrix of more numbers than there may be conductors.
+pub fn is_too_wide(m: Matrix, values: u64) -> bool
+    ensures { λ r. ⌜ r ≡ isTooWide m values ⌝ }
+{
+    if m.form != DIAGONAL {
+        return false;
+    }
+    MOST_CONDUCTORS < conductors_of(m, values)
+}

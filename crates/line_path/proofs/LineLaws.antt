@@ -1,0 +1,52 @@
+-- Laws of the lines of a path: what each reader of a line finds by one test after the other is what its definition says.
+-- Assumes nothing.
+use mathlib.Core.Path.{_≡_, sym, _∙_, ap}
+use mathlib.Core.Bool.{Bool, true, false, not}
+use mathlib.Core.List.{List}
+use Prim.Native.Nat.{ℕ}
+use native.Mathlib.Omega.{arith}
+use lib.Dec.{eqb}
+use borrow.Author.Tests.{ne-eqb}
+use Rattle.base.specs.If.{either}
+use Rattle.base.proofs.IfLaws.{if-true, if-false, both-rest, both-not-left}
+use Rattle.lex_line.specs.Words.{words, fewOf, markedBy}
+use Rattle.lex_line.specs.declared.Few.{Few}
+use Rattle.lex_line.proofs.WordLaws.{first-marked, second-marked}
+use Rattle.lex_line.proofs.FormLaws.{counted, counted-not, count-tells}
+use Rattle.line_argument.specs.Argument.{isReserved}
+use Rattle.line_path.specs.Path.{nothing, end, side, section, fork, endfork, sayingOf, plainLine, namesOne, lineSaying, pathLineOf}
+use Rattle.line_path.specs.declared.PathLine.{PathLine}
+
+module _ (content : List ℕ) (few : Few) (told : few ≡ fewOf content) where
+  -- ---- a name
+
+  pub names-none : (few .count ≡ 2 → ⊥) → false ≡ namesOne (words content)
+  unfolding namesOne
+  names-none n = sym (both-not-left _ _ (counted-not content few told 2 (omega arith) n))
+
+  pub names-word : (w : List ℕ) (t : Bool) → few .count ≡ 2 → w ≡ markedBy content (few .second) → t ≡ isReserved w → not t ≡ namesOne (words content)
+  unfolding namesOne
+  names-word w t two there h =
+      ap not (h ∙ ap isReserved (there ∙ second-marked content few told)) ∙ sym (both-rest _ _ (counted content few told 2 (omega arith) two))
+
+  -- ---- a line by what it says
+
+  module _ (says : ℕ) (n : says ≡ section → ⊥) (a : Bool) (alone : a ≡ either (eqb says fork) (eqb says endfork)) where
+    pub says-alone : (r : PathLine) → a ≡ true → r ≡ plainLine says (eqb (few .count) 1) → r ≡ lineSaying says content
+    unfolding lineSaying
+    says-alone r e h =
+        h ∙ ap (plainLine says) (count-tells content few told 1 (omega arith)) ∙ sym (if-false _ _ (ne-eqb says section n) ∙ if-true _ _ (sym alone ∙ e))
+
+    module _ (other : a ≡ false) (b : Bool) (named : b ≡ either (eqb says end) (eqb says side)) where
+      pub says-name : (right : Bool) (r : PathLine) → b ≡ true → right ≡ namesOne (words content) → r ≡ plainLine says right → r ≡ lineSaying says content
+      unfolding lineSaying
+      says-name right r e k h =
+          h ∙ ap (plainLine says) k ∙ sym (if-false _ _ (ne-eqb says section n) ∙ if-false _ _ (sym alone ∙ other) ∙ if-true _ _ (sym named ∙ e))
+
+      pub says-nothing : (r : PathLine) → b ≡ false → r ≡ plainLine nothing true → r ≡ lineSaying says content
+      unfolding lineSaying
+      says-nothing r e h = h ∙ sym (if-false _ _ (ne-eqb says section n) ∙ if-false _ _ (sym alone ∙ other) ∙ if-false _ _ (sym named ∙ e))
+
+  pub line-told : (w : List ℕ) (says : ℕ) (r : PathLine) → w ≡ markedBy content (few .first) → says ≡ sayingOf w → r ≡ lineSaying says content → r ≡ pathLineOf content
+  unfolding pathLineOf
+  line-told w says r there k h = h ∙ ap (λ (n : ℕ). lineSaying n content) (k ∙ ap sayingOf (there ∙ first-marked content few told))

@@ -1,0 +1,90 @@
+-- Laws of the rules of a path: what code finds by one test after the other is what each rule says.
+-- Assumes nothing.
+use mathlib.Core.Path.{_≡_, refl, sym, _∙_, ap}
+use mathlib.Core.Bool.{Bool, true, false, not}
+use Prim.Native.Nat.{ℕ, _-_, _≤_, _<_}
+use native.Mathlib.Omega.{arith}
+use lib.Dec.{leb, ltb, eqb}
+use borrow.Author.Tests.{eq-eqb, ne-eqb, le-leb, lt-leb, lt-ltb, le-ltb, not-true, not-false}
+use Rattle.base.specs.If.{if_then_else_, both, either}
+use Rattle.base.specs.Broken.{first}
+use Rattle.base.proofs.IfLaws.{if-true, if-false, both-true, both-rest, both-not-left, both-not-right, either-left, either-rest, either-comes, either-false, not-via, not-not-via}
+use Rattle.base.proofs.BrokenLaws.{gives-first, gives-later}
+use Rattle.line_path.specs.Path.{end, side, section, fork, endfork, items, deepest, mostSteps, isBadFork, isStep, closedRule, pathNext}
+use Rattle.line_path.specs.declared.Path.{Path}
+use Rattle.line_path.specs.declared.PathLine.{PathLine}
+
+-- ---- 15
+
+module _ (l : PathLine) (p : Path) where
+  pub bad-fork : l .says ≡ fork → leb deepest (p .depth) ≡ isBadFork l p
+  unfolding isBadFork
+  bad-fork e =
+      sym (either-comes _ _ (both-not-left _ _ (ne-eqb (l .says) endfork (λ (f : l .says ≡ endfork). omega arith))) ∙ both-rest _ _ (eq-eqb _ _ e))
+
+  module _ (n : l .says ≡ fork → ⊥) where
+    pub bad-endfork : l .says ≡ endfork → eqb (p .depth) 0 ≡ isBadFork l p
+    unfolding isBadFork
+    bad-endfork e = sym (either-rest _ _ (both-not-left _ _ (ne-eqb _ _ n)) ∙ both-rest _ _ (eq-eqb _ _ e))
+
+    pub bad-neither : (l .says ≡ endfork → ⊥) → false ≡ isBadFork l p
+    unfolding isBadFork
+    bad-neither m = sym (either-false _ _ (both-not-left _ _ (ne-eqb _ _ n)) (both-not-left _ _ (ne-eqb _ _ m)))
+
+-- ---- 12
+
+module _ (stage : ℕ) (ended : Bool) where
+  pub fork-early : stage < items → true ≡ either (ltb stage items) ended
+  fork-early h = sym (either-left _ _ (lt-ltb stage items h))
+
+  pub fork-late : items ≤ stage → ended ≡ either (ltb stage items) ended
+  fork-late h = sym (either-rest _ _ (le-ltb stage items h))
+
+-- only an Endfork is left that stands nowhere out of order
+pub no-endfork : (b : Bool) → not b ≡ (if b then false else true)
+unfolding if_then_else_
+no-endfork true = refl
+no-endfork false = refl
+
+-- ---- 17, of which t says whether the line is a step
+
+module _ (l : PathLine) (steps : ℕ) (t : Bool) (told : t ≡ isStep l) where
+  pub side-free : not t ≡ true → 0 ≡ first (both (isStep l) (leb mostSteps steps)) 17 0
+  side-free e = gives-later _ _ _ 0 (both-not-left _ _ (sym told ∙ not-true t e)) refl
+
+  pub step-over : not t ≡ false → mostSteps ≤ steps → 17 ≡ first (both (isStep l) (leb mostSteps steps)) 17 0
+  step-over e h = gives-first _ _ _ (both-true _ _ (sym told ∙ not-false t e) (le-leb mostSteps steps h))
+
+  pub step-free : steps < mostSteps → 0 ≡ first (both (isStep l) (leb mostSteps steps)) 17 0
+  step-free h = gives-later _ _ _ 0 (both-not-right _ _ (lt-leb mostSteps steps h)) refl
+
+-- ---- a closed path
+
+module _ (l : PathLine) (p : Path) where
+  pub closed-other : (l .says ≡ side → ⊥) → 12 ≡ closedRule l p
+  unfolding closedRule
+  closed-other n = sym (if-false _ _ (both-not-left _ _ (ne-eqb _ _ n)))
+
+  pub closed-late : not (p .side) ≡ true → 12 ≡ closedRule l p
+  unfolding closedRule
+  closed-late e = sym (if-false _ _ (both-not-right _ _ (not-true _ e)))
+
+  module _ (says : l .says ≡ side) (next : not (p .side) ≡ false) where
+    closed-side : both (eqb (l .says) side) (p .side) ≡ true
+    closed-side = both-true _ _ (eq-eqb _ _ says) (not-false _ next)
+
+    pub closed-right : l .right ≡ true → 0 ≡ closedRule l p
+    unfolding closedRule
+    closed-right e = gives-later _ _ _ 0 (not-not-via e) refl ∙ sym (if-true _ _ closed-side)
+
+    pub closed-wrong : l .right ≡ false → 11 ≡ closedRule l p
+    unfolding closedRule
+    closed-wrong e = gives-first _ _ _ (not-via e) ∙ sym (if-true _ _ closed-side)
+
+-- ---- a block less
+
+pub next-endfork : (l : PathLine) (p : Path) (depth : ℕ) → (l .says ≡ end → ⊥) → (l .says ≡ section → ⊥) → (l .says ≡ fork → ⊥) → l .says ≡ endfork → depth ≡ p .depth - 1 → record { stage = items; depth = depth; ended = false; side = false } ≡ pathNext l p
+unfolding pathNext
+next-endfork l p depth n m o e h =
+    ap (λ (d : ℕ). record { stage = items; depth = d; ended = false; side = false }) h
+    ∙ sym (if-false _ _ (ne-eqb _ _ n) ∙ if-false _ _ (ne-eqb _ _ m) ∙ if-false _ _ (ne-eqb _ _ o) ∙ if-true _ _ (eq-eqb _ _ e))

@@ -1,0 +1,68 @@
+-- `line_path::parts_line` meets its contract: each `return` by what the calls before it answered.
+-- Assumes nothing.
+use Rattle.lex_line.proofs.FormLaws.{marks}
+use Rattle.line_path.proofs.SectionLaws.{parts-before, parts-after, parts-reserved, parts-right}
+use borrow.Author.Needs.{needs}
+use Rattle.line_path.proofs.parts_line.Statement.{statement}
+use Rattle.line_path.proofs.parts_line.Tie as tie
+
+few-words-requires : tie.Need-few-words-requires
+few-words-requires c κs = search needs
+
+plain-line-requires : tie.Need-plain-line-requires
+plain-line-requires c κs = search needs
+
+returns : tie.Need-returns
+returns c = search parts-before
+
+few-words-requires-2 : tie.Need-few-words-requires-2
+few-words-requires-2 c κs = search needs
+
+plain-line-requires-2 : tie.Need-plain-line-requires-2
+plain-line-requires-2 c κs = search needs
+
+returns-2 : tie.Need-returns-2
+returns-2 c = search parts-after
+
+marked-requires : tie.Need-marked-requires
+marked-requires c κs = search (needs, marks)
+
+is-reserved-requires : tie.Need-is-reserved-requires
+is-reserved-requires c κs = search needs
+
+plain-line-requires-3 : tie.Need-plain-line-requires-3
+plain-line-requires-3 c κs = search needs
+
+returns-3 : tie.Need-returns-3
+returns-3 c = search parts-reserved
+
+marked-requires-2 : tie.Need-marked-requires-2
+marked-requires-2 c κs = search (needs, marks)
+
+marked-requires-3 : tie.Need-marked-requires-3
+marked-requires-3 c κs = search (needs, marks)
+
+unit-line-requires : tie.Need-unit-line-requires
+unit-line-requires c κs = search needs
+
+returns-4 : tie.Need-returns-4
+returns-4 c = search parts-right
+
+pub parts-line-spec : {M : Type 1} → statement M
+parts-line-spec =
+    tie.close
+    (tie.spec
+    few-words-requires
+    plain-line-requires
+    returns
+    few-words-requires-2
+    plain-line-requires-2
+    returns-2
+    marked-requires
+    is-reserved-requires
+    plain-line-requires-3
+    returns-3
+    marked-requires-2
+    marked-requires-3
+    unit-line-requires
+    returns-4)

@@ -1,0 +1,43 @@
+-- `line_path::path_line` meets its contract: a line as it is mostly written is known at once.
+-- Assumes nothing.
+use Rattle.line_path.proofs.UsualLaws.{fork-line-in, usual-in}
+use borrow.Author.Needs.{needs}
+use Rattle.line_path.proofs.path_line.Statement.{statement}
+use Rattle.line_path.proofs.path_line.Tie as tie
+
+usual-amount-requires : tie.Need-usual-amount-requires
+usual-amount-requires c κs = search needs
+
+usual-line-requires : tie.Need-usual-line-requires
+usual-line-requires c κs = search usual-in
+
+returns : tie.Need-returns
+returns c = search needs
+
+usual-fork-requires : tie.Need-usual-fork-requires
+usual-fork-requires c κs = search needs
+
+plain-line-requires : tie.Need-plain-line-requires
+plain-line-requires c κs = search needs
+
+returns-2 : tie.Need-returns-2
+returns-2 c = search fork-line-in
+
+told-line-requires : tie.Need-told-line-requires
+told-line-requires c κs = search needs
+
+returns-3 : tie.Need-returns-3
+returns-3 c = search needs
+
+pub path-line-spec : {M : Type 1} → statement M
+path-line-spec =
+    tie.close
+    (tie.spec
+    usual-amount-requires
+    usual-line-requires
+    returns
+    usual-fork-requires
+    plain-line-requires
+    returns-2
+    told-line-requires
+    returns-3)

@@ -1,0 +1,27 @@
+-- `line_path::told_line` meets its contract: the word marked is the line's first.
+-- Assumes nothing.
+use Rattle.lex_line.proofs.FormLaws.{marks}
+use Rattle.line_path.proofs.LineLaws.{line-told}
+use borrow.Author.Needs.{needs}
+use Rattle.line_path.proofs.told_line.Statement.{statement}
+use Rattle.line_path.proofs.told_line.Tie as tie
+
+few-words-requires : tie.Need-few-words-requires
+few-words-requires c κs = search needs
+
+marked-requires : tie.Need-marked-requires
+marked-requires c κs = search (needs, marks)
+
+saying-of-requires : tie.Need-saying-of-requires
+saying-of-requires c κs = search needs
+
+line-saying-requires : tie.Need-line-saying-requires
+line-saying-requires c κs = search needs
+
+returns : tie.Need-returns
+returns c = search line-told
+
+pub told-line-spec : {M : Type 1} → statement M
+told-line-spec =
+    tie.close
+    (tie.spec few-words-requires marked-requires saying-of-requires line-saying-requires returns)

@@ -1,0 +1,177 @@
+-- Document 01, "Paths": "End, items, end", line by line.
+-- Assumes nothing.
+use Prim.Native.Nat.{ℕ, _+_, _-_, _%_}
+use mathlib.Core.Bool.{Bool, true, false, not}
+use mathlib.Core.List.{List, [], _∷_}
+use lib.ListN.{length}
+use lib.Dec.{leb, ltb, eqb}
+use Rattle.base.specs.If.{if_then_else_, both, either}
+use Rattle.base.specs.Bytes.{bytes, within}
+use Rattle.base.specs.Runs.{same}
+use Rattle.base.specs.Broken.{_when_, firstBroken}
+use Rattle.lex_line.specs.Words.{words, firstOf, secondOf, hasEquals, leftOf, rightOf}
+use Rattle.lex_number.specs.Number.{numberOf, isFormed}
+use Rattle.lex_number.specs.Integer.{wholeOf}
+use Rattle.lex_number.specs.ValueWord.{zeroWord}
+use Rattle.lex_number.specs.declared.Number.{Number}
+use Rattle.lex_number.specs.declared.Number.the-variants.{Value, Malformed, Range}
+use Rattle.line_argument.specs.Argument.{isReserved}
+use Rattle.line_path.specs.declared.Path.{Path}
+use Rattle.line_path.specs.declared.PathLine.{PathLine}
+
+-- what a line of a path says
+abbrev pub nothing : ℕ
+nothing = 0
+
+-- Model_pinmap
+abbrev pub end : ℕ
+end = 1
+
+abbrev pub side : ℕ
+side = 2
+
+abbrev pub section : ℕ
+section = 3
+
+abbrev pub fork : ℕ
+fork = 4
+
+abbrev pub endfork : ℕ
+endfork = 5
+
+unfoldable pub sayingOf : List ℕ → ℕ
+sayingOf w =
+    if same w (bytes "Section") then section else
+    if same w (bytes "Fork") then fork else
+    if same w (bytes "Endfork") then endfork else
+    if same w (bytes "Model_pinmap") then end else
+    if same w (bytes "Side") then side else nothing
+
+unfoldable pub plainLine : ℕ → Bool → PathLine
+plainLine says right = record { says = says; right = right; formed = true; bounded = true }
+
+-- "`Model_pinmap name`", "`Side name`": one word more, never a reserved one
+unfoldable pub namesOne : List (List ℕ) → Bool
+namesOne ws = both (eqb (length ws) 2) (not (isReserved (secondOf ws)))
+
+-- "Len=v name (v above zero)": "Zero is 14 only as a Len"
+abbrev pub isLength : Number → Bool
+isLength (Value w) = both (not (eqb w zeroWord)) (eqb (w % 2) 0)
+isLength Malformed = true
+isLength Range = false
+
+-- "`Section Mult=n name`, `Section Len=v name`"
+unfoldable pub isMult : List ℕ → Bool
+isMult content = same (secondOf (leftOf content)) (bytes "Mult")
+
+unfoldable pub isSectionLine : List ℕ → Bool
+isSectionLine content =
+    both (hasEquals content)
+    (both (both (eqb (length (leftOf content)) 2) (eqb (length (rightOf content)) 2))
+    (both (either (isMult content) (same (secondOf (leftOf content)) (bytes "Len"))) (not (isReserved (secondOf (rightOf content))))))
+
+unfoldable pub amountFormed : Bool → List ℕ → Bool
+amountFormed mult amount = if mult then wholeOf amount .formed else isFormed (numberOf amount)
+
+unfoldable pub amountBounded : Bool → List ℕ → Bool
+amountBounded mult amount = if mult then within 1 65_535 (wholeOf amount .value) else isLength (numberOf amount)
+
+unfoldable pub sectionLine : List ℕ → PathLine
+sectionLine content =
+    if isSectionLine content
+    then record { says = section; right = true; formed = amountFormed (isMult content) (firstOf (rightOf content)); bounded = amountBounded (isMult content) (firstOf (rightOf content)) }
+    else plainLine section false
+
+unfoldable pub lineSaying : ℕ → List ℕ → PathLine
+lineSaying says content =
+    if eqb says section then sectionLine content else
+    if either (eqb says fork) (eqb says endfork) then plainLine says (eqb (length (words content)) 1) else
+    if either (eqb says end) (eqb says side) then plainLine says (namesOne (words content)) else plainLine nothing true
+
+unfoldable pub pathLineOf : List ℕ → PathLine
+pathLineOf content = lineSaying (sayingOf (firstOf (words content))) content
+
+-- how far a path has come: its first end still to come, its first Section still to come, its items, its closing end read
+abbrev pub starting : ℕ
+starting = 0
+
+abbrev pub started : ℕ
+started = 1
+
+abbrev pub items : ℕ
+items = 2
+
+abbrev pub closed : ℕ
+closed = 3
+
+unfoldable pub newPath : Path
+newPath = record { stage = starting; depth = 0; ended = false; side = false }
+
+-- "A block may hold further blocks, to a depth of 8"
+abbrev pub deepest : ℕ
+deepest = 8
+
+-- "4,096 steps"
+abbrev pub mostSteps : ℕ
+mostSteps = 4_096
+
+-- "15 FORK: nesting over 8, Endfork with none open"
+unfoldable pub isBadFork : PathLine → Path → Bool
+isBadFork l p =
+    either (both (eqb (l .says) fork) (leb deepest (p .depth))) (both (eqb (l .says) endfork) (eqb (p .depth) 0))
+
+-- "perhaps with `Side name` as the next line read"; "The first item is a Section"; "perhaps one end as last"
+unfoldable pub isOutOfOrder : PathLine → Path → Bool
+isOutOfOrder l p =
+    if eqb (l .says) side then not (p .side) else
+    if eqb (l .says) section then either (eqb (p .stage) starting) (p .ended) else
+    if eqb (l .says) fork then either (ltb (p .stage) items) (p .ended) else
+    if eqb (l .says) end then either (eqb (p .stage) started) (p .ended) else
+    if eqb (l .says) endfork then false else true
+
+-- the lines that are steps: all but Side
+unfoldable pub isStep : PathLine → Bool
+isStep l = not (eqb (l .says) side)
+
+-- "15 .. goes before 9, 11 and 12"
+unfoldable pub openRule : PathLine → Path → ℕ → ℕ
+openRule l p steps =
+    firstBroken
+    (15 when isBadFork l p
+    ∷ 11 when not (l .right)
+    ∷ 12 when isOutOfOrder l p
+    ∷ 13 when not (l .formed)
+    ∷ 14 when not (l .bounded)
+    ∷ 17 when both (isStep l) (leb mostSteps steps)
+    ∷ [])
+
+-- "The end at depth 0 closes the path": only its Side may follow
+unfoldable pub closedRule : PathLine → Path → ℕ
+closedRule l p =
+    if both (eqb (l .says) side) (p .side) then firstBroken (11 when not (l .right) ∷ []) else 12
+
+unfoldable pub pathRule : PathLine → Path → ℕ → ℕ
+pathRule l p steps = if eqb (p .stage) closed then closedRule l p else openRule l p steps
+
+-- an end: the first, the closing one, or the last of a fork block
+unfoldable pub withEnd : Path → Path
+withEnd p =
+    if eqb (p .stage) starting then record { stage = started; depth = p .depth; ended = false; side = true } else
+    if eqb (p .depth) 0 then record { stage = closed; depth = 0; ended = false; side = true } else
+    record { stage = items; depth = p .depth; ended = true; side = true }
+
+unfoldable pub pathNext : PathLine → Path → Path
+pathNext l p =
+    if eqb (l .says) end then withEnd p else
+    if eqb (l .says) section then record { stage = items; depth = p .depth; ended = false; side = false } else
+    if eqb (l .says) fork then record { stage = items; depth = p .depth + 1; ended = false; side = false } else
+    if eqb (l .says) endfork then record { stage = items; depth = p .depth - 1; ended = false; side = false } else
+    record { stage = p .stage; depth = p .depth; ended = p .ended; side = false }
+
+-- "closing with one open" is 15
+unfoldable pub pathOpen : Path → Bool
+pathOpen p = ltb 0 (p .depth)
+
+-- its first end, its first Section or its last end lacks
+unfoldable pub pathLacks : Path → Bool
+pathLacks p = not (eqb (p .stage) closed)

@@ -1,0 +1,34 @@
+-- A Section line as it is read: what stands before its `=` and after it, then its unit and its amount. `SectionLaws` says that
+-- this is the line of `Path`.
+-- Assumes nothing.
+use Prim.Native.Nat.{ℕ}
+use mathlib.Core.Bool.{Bool, true, false, not}
+use mathlib.Core.List.{List}
+use lib.ListN.{length}
+use lib.Dec.{eqb}
+use Rattle.base.specs.If.{if_then_else_, both}
+use Rattle.base.specs.Bytes.{bytes}
+use Rattle.base.specs.Runs.{same}
+use Rattle.lex_line.specs.Words.{firstOf, secondOf}
+use Rattle.line_argument.specs.Argument.{isReserved}
+use Rattle.line_path.specs.Path.{section, plainLine, amountFormed, amountBounded}
+use Rattle.line_path.specs.declared.PathLine.{PathLine}
+
+-- an amount of a right line, a Mult or a Len
+unfoldable pub amountLine : Bool → List ℕ → PathLine
+amountLine mult amount =
+    record { says = section; right = true; formed = amountFormed mult amount; bounded = amountBounded mult amount }
+
+unfoldable pub unitLine : List ℕ → List ℕ → PathLine
+unitLine unit amount =
+    if same unit (bytes "Mult") then amountLine true amount else
+    if same unit (bytes "Len") then amountLine false amount else plainLine section false
+
+-- two words before the sign, and a number and a name after it
+unfoldable pub isParted : List (List ℕ) → List (List ℕ) → Bool
+isParted left right =
+    both (eqb (length left) 2) (both (eqb (length right) 2) (not (isReserved (secondOf right))))
+
+unfoldable pub partsLine : List (List ℕ) → List (List ℕ) → PathLine
+partsLine left right =
+    if isParted left right then unitLine (secondOf left) (firstOf right) else plainLine section false

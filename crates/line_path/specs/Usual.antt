@@ -1,0 +1,35 @@
+-- The lines of a path as they are mostly written: `Section Mult=n name` with one blank between its words, `Fork` and `Endfork` alone.
+-- Assumes nothing.
+use Prim.Native.Nat.{ℕ, _+_, _-_, _≤_, _<_}
+use mathlib.Core.Path.{_≡_}
+use mathlib.Core.List.{List, _++_}
+use lib.ListN.{length, drop}
+use Rattle.base.specs.Bytes.{bytes}
+use Rattle.lex_line.specs.Words.{wordAt}
+use Rattle.line_path.specs.Path.{fork, endfork}
+
+-- what stands before the amount
+abbrev pub multFront : List ℕ
+multFront = bytes "Section Mult="
+
+pub record OpensMult (content : List ℕ) : Type 0 where
+  pub front : content ≡ multFront ++ drop 13 content
+  pub long : 13 ≤ length content
+
+-- two words with one blank between them and none about them; the first ends at r
+pub record Paired (s : List ℕ) (r : ℕ) : Type 0 where
+  pub some : 0 < r
+  pub inside : r + 1 < length s
+  pub first : wordAt s 0 ≡ record { start = 0; end = r }
+  pub second : wordAt s r ≡ record { start = r + 1; end = length s }
+
+-- `Section Mult=n name`: the amount ends at `end`, and behind one blank the name goes up to the end of the line
+pub record UsualSection (content : List ℕ) (end : ℕ) : Type 0 where
+  pub opens : OpensMult content
+  pub above : 13 < end
+  pub pair : Paired (drop 13 content) (end - 13)
+
+-- a line of one word
+pub data UsualFork : List ℕ → ℕ → Type 0 where
+  forks : UsualFork (bytes "Fork") fork
+  ends : UsualFork (bytes "Endfork") endfork

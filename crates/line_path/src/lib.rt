@@ -1,0 +1,558 @@
+// Document 01, "Paths": "End, items, end", line by line.
+ghost use mathlib.Core.Path.{_≡_};
+ghost use mathlib.Core.Bool.{true};
+ghost use Prim.Native.Nat.{_-_, _≤_};
+ghost use lib.Dec.{eqb};
+ghost use Rattle.base.specs.If.{either};
+ghost use Rattle.lex_line.specs.Words.{words, fewOf};
+ghost use Rattle.lex_number.specs.declared.Number.the-variants.{Value};
+ghost use Rattle.line_path.specs.Path.{fork, endfork, end, side, deepest, sayingOf, plainLine, namesOne, isLength, sectionLine, lineSaying, pathLineOf, newPath, isBadFork, isOutOfOrder, isStep, openRule, closedRule, pathRule, withEnd, pathNext, pathOpen, pathLacks};
+ghost use Rattle.line_path.specs.Section.{amountLine, unitLine, partsLine};
+ghost use Rattle.line_path.specs.Usual.{OpensMult, Paired, UsualSection, UsualFork};
+use lex_number::Number;
+use lex_line::Few;
+
+// What a line of a path says: Model_pinmap is an end.
+const NOTHING: u64 = 0;
+
+pub const END: u64 = 1;
+
+pub const SIDE: u64 = 2;
+
+pub const SECTION: u64 = 3;
+
+pub const FORK: u64 = 4;
+
+pub const ENDFORK: u64 = 5;
+
+// How far a path has come: its first end still to come, its first Section still to come, its items, its closing end read.
+const STARTING: u64 = 0;
+
+const STARTED: u64 = 1;
+
+const ITEMS: u64 = 2;
+
+const CLOSED: u64 = 3;
+
+// "A block may hold further blocks, to a depth of 8".
+const DEEPEST: u64 = 8;
+
+const MOST_STEPS: u64 = 4_096;
+
+const ZERO_WORD: u64 = 128;
+
+// Where a path stands: how far it has come, in how many fork blocks, whether the block's end has been read, and whether the next
+// line may be a Side.
+pub struct Path {
+    pub stage: u64,
+    pub depth: u64,
+    pub ended: bool,
+    pub side: bool,
+}
+
+// What one line says: which line it is, whether its rest is right, its number formed and within its bounds.
+pub struct PathLine {
+    pub says: u64,
+    pub right: bool,
+    pub formed: bool,
+    pub bounded: bool,
+}
+
+// `Section `, `on Mult=`, `Fork`, `Endf` and `fork`, each as one number.
+const SECTION_BYTES: u64 = 2_336_927_755_366_786_387;
+
+const MULT_BYTES: u64 = 4_428_283_584_672_984_687;
+
+const FORK_BYTES: u64 = 1_802_661_702;
+
+const ENDF_BYTES: u64 = 1_717_857_861;
+
+const SMALL_FORK_BYTES: u64 = 1_802_661_734;
+
+// ---- lines as they are mostly written
+
+// How many bytes stand before the amount of such a Section line.
+pub const AMOUNT_AT: usize = 13;
+
+// Whether a line opens with `Section Mult=`, written with one blank.
+pub fn opens_mult(content: &[u8]) -> bool
+    ensures { λ r. ⌜ (r ≡ true → OpensMult (now (content .entry))) ⌝ }
+{
+    if content.len() < AMOUNT_AT {
+        return false;
+    }
+    if base::eight_at(content, 0) != SECTION_BYTES {
+        return false;
+    }
+    base::eight_at(content, 5) == MULT_BYTES
+}
+
+// Where the first of two words ends that have one blank between them and none about them; 0 where the form is another.
+fn pair_end(s: &[u8]) -> usize
+    ensures { λ r. ⌜ ((r ≡ 0 → ⊥) → Paired (now (s .entry)) r) ⌝ }
+{
+    let end = base::past_word(s, 0);
+    if s.len() <= end {
+        return 0;
+    }
+    let name = end + 1;
+    let stop = base::past_word(s, name);
+    if stop == name {
+        return 0;
+    }
+    if stop != s.len() {
+        return 0;
+    }
+    end
+}
+
+// Where the amount ends of a Section line as it is mostly written, `Section Mult=n name`; 0 where the form is another.
+pub fn usual_amount(content: &[u8]) -> usize
+    ensures { λ r. ⌜ ((r ≡ 0 → ⊥) → UsualSection (now (content .entry)) r) ⌝ }
+{
+    if !opens_mult(content) {
+        return 0;
+    }
+    let end = pair_end(&content[AMOUNT_AT..]);
+    if end == 0 {
+        return 0;
+    }
+    AMOUNT_AT + end
+}
+
+// `Fork` or `Endfork` alone; NOTHING where the form is another.
+pub fn usual_fork(content: &[u8]) -> u64
+    ensures { λ r. ⌜ ((r ≡ 0 → ⊥) → UsualFork (now (content .entry)) r) ⌝ }
+{
+    if content.len() == 4 {
+        if base::four_at(content, 0) == FORK_BYTES {
+            return FORK;
+        }
+        return NOTHING;
+    }
+    if content.len() != 7 {
+        return NOTHING;
+    }
+    if base::four_at(content, 0) != ENDF_BYTES {
+        return NOTHING;
+    }
+    if base::four_at(content, 3) != SMALL_FORK_BYTES {
+        return NOTHING;
+    }
+    ENDFORK
+}
+
+// ---- what a line says
+
+// A line is known by its first word.
+pub fn saying_of(word: &[u8]) -> u64
+    ensures { λ r. ⌜ r ≡ sayingOf (now (word .entry)) ⌝ }
+{
+    if lex_line::same_bytes(word, b"Section") {
+        return SECTION;
+    }
+    if lex_line::same_bytes(word, b"Fork") {
+        return FORK;
+    }
+    if lex_line::same_bytes(word, b"Endfork") {
+        return ENDFORK;
+    }
+    if lex_line::same_bytes(word, b"Model_pinmap") {
+        return END;
+    }
+    if lex_line::same_bytes(word, b"Side") {
+        return SIDE;
+    }
+    NOTHING
+}
+
+// A line with no number.
+fn plain_line(says: u64, right: bool) -> PathLine
+    ensures { λ r. ⌜ r ≡ plainLine says right ⌝ }
+{
+    PathLine {
+        says: says,
+        right: right,
+        formed: true,
+        bounded: true,
+    }
+}
+
+// "`Model_pinmap name`", "`Side name`": one word more, never a reserved one.
+fn names_one(content: &[u8], few: Few) -> bool
+    requires { ⌜ few ≡ fewOf (now content) ⌝ }
+    ensures { λ r. ⌜ r ≡ namesOne (words (now (content .entry))) ⌝ }
+{
+    if few.count != 2 {
+        return false;
+    }
+    let second = few.second;
+    !line_argument::is_reserved(lex_line::marked(content, second))
+}
+
+// A value word that is above zero: not the word of zero, and its sign bit not set.
+fn is_above_zero(word: u64) -> bool
+    ensures { λ r. ⌜ r ≡ isLength (Value word) ⌝ }
+{
+    if word == ZERO_WORD {
+        return false;
+    }
+    word % 2 == 0
+}
+
+// "Len=v name (v above zero)": zero, a negative and a number out of its bounds are 14; a word that is no number is 13 and not this.
+fn is_length(n: Number) -> bool
+    ensures { λ r. ⌜ r ≡ isLength n ⌝ }
+{
+    match n {
+        Number::Value(word) => is_above_zero(word),
+        Number::Malformed => true,
+        Number::Range => false,
+    }
+}
+
+// Mult is an integer from 1 to 65,535, Len a number above zero.
+fn amount_line(mult: bool, amount: &[u8]) -> PathLine
+    ensures { λ r. ⌜ r ≡ amountLine mult (now (amount .entry)) ⌝ }
+{
+    if mult {
+        let times = lex_number::read_integer(amount);
+        return PathLine {
+            says: SECTION,
+            right: true,
+            formed: times.formed,
+            bounded: lex_number::is_within(1, 65_535, times.value),
+        };
+    }
+    let length = lex_number::read_number(amount);
+    PathLine {
+        says: SECTION,
+        right: true,
+        formed: lex_number::is_formed(length),
+        bounded: is_length(length),
+    }
+}
+
+fn unit_line(unit: &[u8], amount: &[u8]) -> PathLine
+    ensures { λ r. ⌜ r ≡ unitLine (now (unit .entry)) (now (amount .entry)) ⌝ }
+{
+    if lex_line::same_bytes(unit, b"Mult") {
+        return amount_line(true, amount);
+    }
+    if lex_line::same_bytes(unit, b"Len") {
+        return amount_line(false, amount);
+    }
+    plain_line(SECTION, false)
+}
+
+// Of a Section line, what stands before its sign and what stands after it: Section and the unit, the amount and the name.
+fn parts_line(left: &[u8], right: &[u8]) -> PathLine
+    ensures { λ r. ⌜ r ≡ partsLine (words (now (left .entry))) (words (now (right .entry))) ⌝ }
+{
+    let before = lex_line::few_words(left);
+    if before.count != 2 {
+        return plain_line(SECTION, false);
+    }
+    let after = lex_line::few_words(right);
+    if after.count != 2 {
+        return plain_line(SECTION, false);
+    }
+    let name = after.second;
+    if line_argument::is_reserved(lex_line::marked(right, name)) {
+        return plain_line(SECTION, false);
+    }
+    let unit = before.second;
+    let amount = after.first;
+    unit_line(lex_line::marked(left, unit), lex_line::marked(right, amount))
+}
+
+// "`Section Mult=n name`, `Section Len=v name`".
+fn section_line(content: &[u8]) -> PathLine
+    ensures { λ r. ⌜ r ≡ sectionLine (now (content .entry)) ⌝ }
+{
+    let sign = lex_line::equals_at(content);
+    if content.len() <= sign {
+        return plain_line(SECTION, false);
+    }
+    parts_line(&content[..sign], &content[sign + 1..])
+}
+
+// Fork and Endfork have no other word.
+fn stands_alone(says: u64) -> bool
+    ensures { λ r. ⌜ r ≡ either (eqb says fork) (eqb says endfork) ⌝ }
+{
+    if says == FORK {
+        return true;
+    }
+    says == ENDFORK
+}
+
+// Model_pinmap and Side have a name.
+fn takes_name(says: u64) -> bool
+    ensures { λ r. ⌜ r ≡ either (eqb says end) (eqb says side) ⌝ }
+{
+    if says == END {
+        return true;
+    }
+    says == SIDE
+}
+
+fn line_saying(says: u64, content: &[u8], few: Few) -> PathLine
+    requires { ⌜ few ≡ fewOf (now content) ⌝ }
+    ensures { λ r. ⌜ r ≡ lineSaying says (now (content .entry)) ⌝ }
+{
+    if says == SECTION {
+        return section_line(content);
+    }
+    if stands_alone(says) {
+        return plain_line(says, few.count == 1);
+    }
+    if takes_name(says) {
+        return plain_line(says, names_one(content, few));
+    }
+    plain_line(NOTHING, true)
+}
+
+// A Section line as it is mostly written.
+fn usual_line(content: &[u8], end: usize) -> PathLine
+    requires { ⌜ UsualSection (now content) end ⌝ }
+    ensures { λ r. ⌜ r ≡ pathLineOf (now (content .entry)) ⌝ }
+{
+    let name = end + 1;
+    if line_argument::is_reserved(&content[name..]) {
+        return plain_line(SECTION, false);
+    }
+    amount_line(true, &content[AMOUNT_AT..end])
+}
+
+// A line of a path by its first word.
+fn told_line(content: &[u8]) -> PathLine
+    ensures { λ r. ⌜ r ≡ pathLineOf (now (content .entry)) ⌝ }
+{
+    let few = lex_line::few_words(content);
+    let first = few.first;
+    let says = saying_of(lex_line::marked(content, first));
+    line_saying(says, content, few)
+}
+
+// What a line of a path says.
+pub fn path_line(content: &[u8]) -> PathLine
+    ensures { λ r. ⌜ r ≡ pathLineOf (now (content .entry)) ⌝ }
+{
+    let end = usual_amount(content);
+    if end != 0 {
+        return usual_line(content, end);
+    }
+    let fork = usual_fork(content);
+    if fork != NOTHING {
+        return plain_line(fork, true);
+    }
+    told_line(content)
+}
+
+// Nothing read yet.
+pub fn new_path() -> Path
+    ensures { λ r. ⌜ r ≡ newPath ⌝ }
+{
+    Path {
+        stage: STARTING,
+        depth: 0,
+        ended: false,
+        side: false,
+    }
+}
+
+// "15 FORK: nesting over 8, Endfork with none open".
+fn is_bad_fork(l: PathLine, p: Path) -> bool
+    ensures { λ r. ⌜ r ≡ isBadFork l p ⌝ }
+{
+    if l.says == FORK {
+        return DEEPEST <= p.depth;
+    }
+    if l.says == ENDFORK {
+        return p.depth == 0;
+    }
+    false
+}
+
+// "perhaps with `Side name` as the next line read"; "The first item is a Section"; "perhaps one end as last". An Endfork with a
+// block open stands nowhere out of order.
+fn is_out_of_order(l: PathLine, p: Path) -> bool
+    ensures { λ r. ⌜ r ≡ isOutOfOrder l p ⌝ }
+{
+    if l.says == SIDE {
+        return !p.side;
+    }
+    if l.says == SECTION {
+        if p.stage == STARTING {
+            return true;
+        }
+        return p.ended;
+    }
+    if l.says == FORK {
+        if p.stage < ITEMS {
+            return true;
+        }
+        return p.ended;
+    }
+    if l.says == END {
+        if p.stage == STARTED {
+            return true;
+        }
+        return p.ended;
+    }
+    l.says != ENDFORK
+}
+
+// The lines that are steps: all but Side.
+pub fn is_step(l: PathLine) -> bool
+    ensures { λ r. ⌜ r ≡ isStep l ⌝ }
+{
+    l.says != SIDE
+}
+
+// Of a path not closed yet: 15 "goes before 9, 11 and 12".
+fn open_rule(l: PathLine, p: Path, steps: u64) -> u64
+    ensures { λ r. ⌜ r ≡ openRule l p steps ⌝ }
+{
+    if is_bad_fork(l, p) {
+        return 15;
+    }
+    if !l.right {
+        return 11;
+    }
+    if is_out_of_order(l, p) {
+        return 12;
+    }
+    if !l.formed {
+        return 13;
+    }
+    if !l.bounded {
+        return 14;
+    }
+    if !is_step(l) {
+        return 0;
+    }
+    if MOST_STEPS <= steps {
+        return 17;
+    }
+    0
+}
+
+// "The end at depth 0 closes the path": only its Side may follow.
+fn closed_rule(l: PathLine, p: Path) -> u64
+    ensures { λ r. ⌜ r ≡ closedRule l p ⌝ }
+{
+    if l.says != SIDE {
+        return 12;
+    }
+    if !p.side {
+        return 12;
+    }
+    if l.right {
+        return 0;
+    }
+    11
+}
+
+// The number of the rule that a line breaks, 0 for none; `steps` are those read before it.
+pub fn path_rule(l: PathLine, p: Path, steps: u64) -> u64
+    ensures { λ r. ⌜ r ≡ pathRule l p steps ⌝ }
+{
+    if p.stage == CLOSED {
+        return closed_rule(l, p);
+    }
+    open_rule(l, p, steps)
+}
+
+// An end: the first, the closing one, or the last of a fork block.
+fn with_end(p: Path) -> Path
+    ensures { λ r. ⌜ r ≡ withEnd p ⌝ }
+{
+    if p.stage == STARTING {
+        return Path {
+            stage: STARTED,
+            depth: p.depth,
+            ended: false,
+            side: true,
+        };
+    }
+    if p.depth == 0 {
+        return Path {
+            stage: CLOSED,
+            depth: 0,
+            ended: false,
+            side: true,
+        };
+    }
+    Path {
+        stage: ITEMS,
+        depth: p.depth,
+        ended: true,
+        side: true,
+    }
+}
+
+// One block less; where none is open rule 15 has spoken.
+fn less(depth: u64) -> u64
+    ensures { λ r. ⌜ r ≡ depth - 1 ⌝ }
+{
+    if depth == 0 {
+        return 0;
+    }
+    depth - 1
+}
+
+// Where the path stands once a line that breaks nothing has been read.
+pub fn path_next(l: PathLine, p: Path) -> Path
+    requires { ⌜ p .depth ≤ deepest ⌝ }
+    ensures { λ r. ⌜ r ≡ pathNext l p ⌝ }
+{
+    if l.says == END {
+        return with_end(p);
+    }
+    if l.says == SECTION {
+        return Path {
+            stage: ITEMS,
+            depth: p.depth,
+            ended: false,
+            side: false,
+        };
+    }
+    if l.says == FORK {
+        return Path {
+            stage: ITEMS,
+            depth: p.depth + 1,
+            ended: false,
+            side: false,
+        };
+    }
+    if l.says == ENDFORK {
+        return Path {
+            stage: ITEMS,
+            depth: less(p.depth),
+            ended: false,
+            side: false,
+        };
+    }
+    Path {
+        stage: p.stage,
+        depth: p.depth,
+        ended: p.ended,
+        side: false,
+    }
+}
+
+// A fork block still open where the path is closed: 15.
+pub fn path_open(p: Path) -> bool
+    ensures { λ r. ⌜ r ≡ pathOpen p ⌝ }
+{
+    0 < p.depth
+}
+
+// Its first end, its first Section or its last end lacks where the path is closed: 9.
+pub fn path_lacks(p: Path) -> bool
+    ensures { λ r. ⌜ r ≡ pathLacks p ⌝ }
+{
+    p.stage != CLOSED
+}

@@ -1,0 +1,59 @@
+-- `out_listing::all_matrix_lines` meets its contract. The loop's invariant: the lines left, written from the next place on, give all of them.
+-- Assumes nothing.
+use borrow.Author.Needs.{needs}
+use mathlib.Core.Path.{_≡_}
+use Prim.Native.Nat.{_+_}
+use Rattle.out_text.proofs.WrittenLaws.{Rest, rest-starts}
+use Rattle.out_listing.specs.Listing.{linesFrom, matrixText}
+use Rattle.out_listing.proofs.LoopLaws.{lines-on, lines-done}
+use Rattle.out_listing.proofs.all_matrix_lines.Statement.{statement}
+use Rattle.out_listing.proofs.all_matrix_lines.Tie as tie
+
+abbrev Inv-loop : tie.InvT-loop
+Inv-loop out₀ at text table view count next₀ i₀ left₀ out next i left = (i + left ≡ count) × Rest out₀ at (linesFrom (matrixText text table) count 0) out next (linesFrom (matrixText text table) left i)
+
+abbrev μ-loop : tie.MeasureT-loop
+μ-loop out₀ at text table view count next₀ i₀ left₀ out next i left = left
+
+lesser-requires : tie.Need-lesser-requires Inv-loop μ-loop
+lesser-requires c κs = search needs
+
+loop-holds : tie.Need-loop-holds Inv-loop μ-loop
+loop-holds c = search (needs, rest-starts)
+
+matrix-lines-requires : tie.Need-matrix-lines-requires Inv-loop μ-loop
+matrix-lines-requires c κs = search needs
+
+add-i : tie.Need-add-i Inv-loop μ-loop
+add-i c = search needs
+
+sub-left : tie.Need-sub-left Inv-loop μ-loop
+sub-left c = search needs
+
+loop-less : tie.Need-loop-less Inv-loop μ-loop
+loop-less c = search needs
+
+loop-again : tie.Need-loop-again Inv-loop μ-loop
+loop-again c = search (needs, lines-on)
+
+same-length : tie.Need-same-length Inv-loop μ-loop
+same-length c = search needs
+
+returns : tie.Need-returns Inv-loop μ-loop
+returns c = search lines-done
+
+pub all-matrix-lines-spec : {M : Type 1} → statement M
+all-matrix-lines-spec =
+    tie.close
+    (tie.spec
+    Inv-loop
+    μ-loop
+    lesser-requires
+    loop-holds
+    matrix-lines-requires
+    add-i
+    sub-left
+    loop-less
+    loop-again
+    same-length
+    returns)

@@ -1,0 +1,39 @@
+-- A table as the listing reads it: the words of its records, and the section and kind of each matrix.
+-- Assumes nothing.
+use Prim.Native.Nat.{ℕ, zero, suc, _+_, _-_, _*_, min}
+use mathlib.Core.List.{List}
+use lib.ListN.{getD}
+use lib.Dec.{ltb, eqb}
+use Rattle.base.specs.If.{if_then_else_}
+use Rattle.table_layout.specs.Layout.{widths, sections, matrices, values}
+use Rattle.view.specs.View.{viewOf}
+
+module _ (table : List ℕ) where
+  -- how many records a part has
+  unfoldable pub countOf : ℕ → ℕ
+  countOf part = getD (viewOf table .counts) part 0
+
+  -- the word numbered `field` of the record numbered `i` of a part; 0 where the part has no such record
+  unfoldable pub fieldOf : ℕ → ℕ → ℕ → ℕ
+  fieldOf part i field =
+      if ltb i (countOf part) then getD table (getD (viewOf table .bases) part 0 + getD widths part 0 * i + field) 0 else 0
+
+  -- which kind of the section numbered i the matrix numbered j is; 4 where it is none of them. "R L G C each matrix index plus 1 or 0"
+  unfoldable pub kindIn : ℕ → ℕ → ℕ
+  kindIn j i =
+      if eqb (fieldOf sections i 4) (j + 1) then 0 else
+      if eqb (fieldOf sections i 5) (j + 1) then 1 else
+      if eqb (fieldOf sections i 6) (j + 1) then 2 else
+      if eqb (fieldOf sections i 7) (j + 1) then 3 else 4
+
+  -- the first of so many sections from i on that has the matrix numbered j; the one behind them where none has
+  unfoldable pub ownerFrom : ℕ → ℕ → ℕ → ℕ
+  ownerFrom j zero i = i
+  ownerFrom j (suc many) i = if ltb (kindIn j i) 4 then i else ownerFrom j many (i + 1)
+
+  unfoldable pub ownerOf : ℕ → ℕ
+  ownerOf j = ownerFrom j (countOf sections) 0
+
+  -- how many values the matrix numbered j has, as far as the table goes
+  unfoldable pub valuesIn : ℕ → ℕ
+  valuesIn j = min (fieldOf matrices j 3) (countOf values - fieldOf matrices j 2)

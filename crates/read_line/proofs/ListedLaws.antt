@@ -1,0 +1,86 @@
+-- Laws of lines of the model list by their first byte: it starts the first word, so that no bracket stands before it.
+-- Assumes nothing.
+use mathlib.Core.Path.{_≡_, refl, sym, _∙_, ap}
+use mathlib.Core.Bool.{Bool, true, false, not, true≢false}
+use mathlib.Core.List.{List, [], _∷_, map}
+use Prim.Native.Nat.{ℕ, _+_, _<_}
+use native.Mathlib.Omega.{arith}
+use lib.ListN.{getD}
+use lib.Dec.{ltb, eqb}
+use borrow.Author.Tests.{ne-eqb, eqb-false, ltb-true, not-true}
+use Rattle.base.specs.If.{if_then_else_, both, either}
+use Rattle.base.specs.Bytes.{isBlank, bytes}
+use Rattle.base.specs.Runs.{run, same}
+use Rattle.base.specs.Class.{runEnd}
+use Rattle.base.proofs.IfLaws.{if-false, by-test, both-first, both-second, both-not-left, either-false}
+use Rattle.base.proofs.RunLaws.{run-stops}
+use Rattle.lex_line.specs.Words.{Word, goesOn, grown, wordsFrom, words, firstOf}
+use Rattle.lex_keyword.specs.Bracket.{bracketOf}
+use Rattle.lex_keyword.specs.declared.Bracket.the-variants.{Plain}
+use Rattle.lex_keyword.proofs.BracketLaws.{reads-plain}
+use Rattle.line_argument.specs.Argument.{isReserved}
+use Rattle.read_line.specs.Listed.{isFree}
+
+-- what such a byte is not
+record Unlike (b : ℕ) : Type 0 where
+  high : 32 < b
+  bracket : b ≡ 91 → ⊥
+  power : b ≡ 80 → ⊥
+  ground : b ≡ 71 → ⊥
+  none : b ≡ 78 → ⊥
+
+unlike : (b : ℕ) → isFree b ≡ true → Unlike b
+unfolding isFree
+unlike b e =
+    record {
+      high = ltb-true 32 b (both-first _ _ e);
+      bracket = eqb-false b 91 (not-true _ (both-first _ _ (both-second _ _ e)));
+      power = eqb-false b 80 (not-true _ (both-first _ _ (both-second _ _ (both-second _ _ e))));
+      ground = eqb-false b 71 (not-true _ (both-first _ _ (both-second _ _ (both-second _ _ (both-second _ _ e)))));
+      none = eqb-false b 78 (not-true _ (both-second _ _ (both-second _ _ (both-second _ _ (both-second _ _ e)))));
+    }
+
+not-blank : (b : ℕ) → 32 < b → isBlank b ≡ false
+unfolding isBlank
+not-blank b h = either-false _ _ (ne-eqb b 32 (λ (e : b ≡ 32). omega arith)) (ne-eqb b 9 (λ (e : b ≡ 9). omega arith))
+
+-- words that start otherwise
+other-start : (b c : ℕ) (x y : List ℕ) → (b ≡ c → ⊥) → same (b ∷ x) (c ∷ y) ≡ false
+unfolding same
+other-start b c x y h = both-not-left _ _ (ne-eqb b c h)
+
+not-reserved : (b : ℕ) (x : List ℕ) → Unlike b → isReserved (b ∷ x) ≡ false
+unfolding isReserved
+not-reserved b x u =
+    either-false _ _ (other-start b 80 x _ (u .power))
+    (either-false _ _ (other-start b 71 x _ (u .ground))
+    (either-false _ _ (other-start b 78 x _ (u .none)) (other-start b 78 x _ (u .none))))
+
+abbrev isTaken : List Word → Bool
+isTaken ws = isReserved (firstOf (map (λ (w : Word). w .text) ws))
+
+grown-free : (b : ℕ) (ws : List Word) → Unlike b → isTaken (grown 0 b ws) ≡ false
+unfolding grown
+grown-free b [] u = not-reserved b [] u
+grown-free b (w ∷ ws) u = not-reserved b (w .text) u
+
+first-free : (b : ℕ) (s : List ℕ) → Unlike b → isTaken (wordsFrom 0 (b ∷ s)) ≡ false
+unfolding wordsFrom
+first-free b s u =
+    ap isTaken (if-false _ _ (not-blank b (u .high)))
+    ∙ by-test (λ (ws : List Word). isTaken ws ≡ false) (goesOn s) _ _ (λ e. grown-free b (wordsFrom 1 s) u) (λ e. not-reserved b [] u)
+
+starts-plain : (b : ℕ) (s : List ℕ) → Unlike b → bracketOf (b ∷ s) ≡ Plain
+starts-plain b s u =
+    let r : run isBlank (b ∷ s) ≡ 0 = run-stops isBlank b s (not-blank b (u .high)) in
+    let front : 0 ≡ runEnd isBlank (b ∷ s) 0 = omega arith in
+    sym (reads-plain (b ∷ s) 0 b front refl (u .bracket))
+
+pub free-listed : (content : List ℕ) (b : ℕ) (is : Bool) → b ≡ getD content 0 0 → is ≡ isFree b → is ≡ true →
+    (bracketOf content ≡ Plain) × (isReserved (firstOf (words content)) ≡ false)
+free-listed [] b is told free e =
+    let u : 32 < b = unlike b (sym free ∙ e) .high in
+    absurd (omega arith)
+free-listed (c ∷ s) b is told free e =
+    let u : Unlike c = unlike c (ap isFree (sym told) ∙ sym free ∙ e) in
+    (starts-plain c s u, first-free c s u)

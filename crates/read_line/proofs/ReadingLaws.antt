@@ -1,0 +1,169 @@
+-- The laws of the forward reading: a text reads to its end exactly when no line breaks a rule where it is met; what is refused is the
+-- first line that breaks one, with the first rule of its list; and what holds of every state on the way.
+-- Assumes nothing.
+use mathlib.Core.Path.{_≡_, refl, sym, _∙_, ap, subst}
+use mathlib.Core.Bool.{Bool, true, false}
+use mathlib.Core.List.{List, [], _∷_}
+use Prim.Native.Nat.{ℕ, zero, suc, _+_, _≤_, _<_, zero-le, suc-le-suc}
+use native.Mathlib.Nat.{le-refl}
+use native.Mathlib.Omega.{arith}
+use lib.Dec.{eqb}
+use borrow.Author.Tests.{eq-eqb, ne-eqb, eqb-true, eqb-false}
+use Rattle.base.specs.If.{if_then_else_}
+use Rattle.base.proofs.IfLaws.{if-true, if-false, by-cases}
+use Rattle.lex_line.specs.Lines.{Raw, lines}
+use Rattle.line_keyword.specs.Kept.{Kept}
+use Rattle.line_keyword.specs.State.{startState}
+use Rattle.line_keyword.specs.declared.Counts.{Counts}
+use Rattle.line_keyword.specs.declared.State.{State}
+use Rattle.line_keyword.proofs.KeptLaws.{start-kept}
+use Rattle.line_place.specs.Place.{before, done}
+use Rattle.read_line.specs.Reading.{commentByte, stepOf, onward, run, atEnd, readingOf}
+use Rattle.read_line.specs.Trace.{Meeting, brokenAt, afterwards, meetingOf, meetings, stateAfter, AllGo, none, more, FirstBroken, here, later}
+use Rattle.read_line.specs.declared.Reading.{Reading}
+use Rattle.read_line.specs.declared.Reading.the-variants.{Read, Refused}
+use Rattle.read_line.proofs.WalkLaws.{step-kept}
+
+-- ---- the run, line by line
+
+module _ (n : ℕ) (l : Raw) (ls : List Raw) (s : State) where
+  run-goes : brokenAt (meetingOf n l s) ≡ 0 → run n (l ∷ ls) s ≡ run (n + 1) ls (afterwards (meetingOf n l s))
+  unfolding run onward
+  run-goes e = if-true _ _ (eq-eqb _ _ e)
+
+  run-stops : (brokenAt (meetingOf n l s) ≡ 0 → ⊥) → run n (l ∷ ls) s ≡ Refused (brokenAt (meetingOf n l s)) n
+  unfolding run onward
+  run-stops e = if-false _ _ (ne-eqb _ _ e)
+
+  pub meet-goes : brokenAt (meetingOf n l s) ≡ 0 → meetings n (l ∷ ls) s ≡ meetingOf n l s ∷ meetings (n + 1) ls (afterwards (meetingOf n l s))
+  unfolding meetings
+  meet-goes e = ap (λ (ms : List Meeting). meetingOf n l s ∷ ms) (if-true _ _ (eq-eqb _ _ e))
+
+  pub meet-stops : (brokenAt (meetingOf n l s) ≡ 0 → ⊥) → meetings n (l ∷ ls) s ≡ meetingOf n l s ∷ []
+  unfolding meetings
+  meet-stops e = ap (λ (ms : List Meeting). meetingOf n l s ∷ ms) (if-false _ _ (ne-eqb _ _ e))
+
+-- by whether a line breaks something
+pub by-broken : (P : Type 0) (m : Meeting) → (brokenAt m ≡ 0 → P) → ((brokenAt m ≡ 0 → ⊥) → P) → P
+by-broken P m h k = by-cases P (eqb (brokenAt m) 0) (λ (e : eqb (brokenAt m) 0 ≡ true). h (eqb-true _ _ e)) (λ (e : eqb (brokenAt m) 0 ≡ false). k (eqb-false _ _ e))
+
+pub head-goes : (m : Meeting) (ms : List Meeting) → AllGo (m ∷ ms) → brokenAt m ≡ 0
+head-goes m ms (more e rest) = e
+
+pub tail-goes : (m : Meeting) (ms : List Meeting) → AllGo (m ∷ ms) → AllGo ms
+tail-goes m ms (more e rest) = rest
+
+-- ---- the answers told apart
+
+refused-not-read : (k n : ℕ) (c : Counts) → Refused k n ≡ Read c → ⊥
+refused-not-read k n c e =
+    let z : _≡_ {A = ℕ} 0 1 = cc in
+    omega arith
+
+-- what the end of the text gives is at line 0
+end-not-line : (s : State) (k m : ℕ) → 0 < m → atEnd s ≡ Refused k m → ⊥
+unfolding atEnd
+end-not-line s k m h e =
+    by-cases ⊥ (eqb (s .place) done)
+    (λ (d : eqb (s .place) done ≡ true). refused-not-read k m (s .counts) (sym e ∙ if-true _ _ d))
+    (λ (d : eqb (s .place) done ≡ false).
+    by-cases ⊥ (eqb (s .place) before)
+    (λ (b : eqb (s .place) before ≡ true). let r : Refused 5 0 ≡ Refused k m = sym (if-false _ _ d ∙ if-true _ _ b) ∙ e in let z : 0 ≡ m = cc in omega arith)
+    (λ (b : eqb (s .place) before ≡ false). let r : Refused 10 0 ≡ Refused k m = sym (if-false _ _ d ∙ if-false _ _ b) ∙ e in let z : 0 ≡ m = cc in omega arith))
+
+end-done : (s : State) (c : Counts) → atEnd s ≡ Read c → s .place ≡ done
+unfolding atEnd
+end-done s c e =
+    by-cases (s .place ≡ done) (eqb (s .place) done) (λ (d : eqb (s .place) done ≡ true). eqb-true _ _ d)
+    (λ (d : eqb (s .place) done ≡ false).
+    by-cases (s .place ≡ done) (eqb (s .place) before)
+    (λ (b : eqb (s .place) before ≡ true). absurd (refused-not-read 5 0 c (sym (if-false _ _ d ∙ if-true _ _ b) ∙ e)))
+    (λ (b : eqb (s .place) before ≡ false). absurd (refused-not-read 10 0 c (sym (if-false _ _ d ∙ if-false _ _ b) ∙ e))))
+
+refused-here : (m : Meeting) (k n : ℕ) → (brokenAt m ≡ 0 → ⊥) → Refused (brokenAt m) (m .line) ≡ Refused k n → FirstBroken k n (m ∷ [])
+refused-here m k n z e =
+    let a : brokenAt m ≡ k = cc in
+    let b : m .line ≡ n = cc in
+    subst (λ (x : ℕ). FirstBroken x n (m ∷ [])) a (subst (λ (x : ℕ). FirstBroken (brokenAt m) x (m ∷ [])) b (here z))
+
+abbrev Filled : List Meeting → Type 0
+Filled [] = ⊥
+Filled (m ∷ ms) = Unit {0}
+
+first-filled : (ms : List Meeting) (k n : ℕ) → FirstBroken k n ms → Filled ms
+first-filled _ _ _ (here b) = tt
+first-filled _ k n (later e f) = tt
+
+no-first : (k n : ℕ) → FirstBroken k n [] → ⊥
+no-first k n f = first-filled [] k n f
+
+first-later : (m : Meeting) (ms : List Meeting) (k n : ℕ) → brokenAt m ≡ 0 → FirstBroken k n (m ∷ ms) → FirstBroken k n ms
+first-later m ms _ _ z (here b) = absurd (b z)
+first-later m ms k n z (later e f) = f
+
+first-here : (m : Meeting) (k n : ℕ) → (brokenAt m ≡ 0 → ⊥) → FirstBroken k n (m ∷ []) → Refused (brokenAt m) (m .line) ≡ Refused k n
+first-here m _ _ z (here b) = refl
+first-here m k n z (later e f) = absurd (z e)
+
+-- ---- nothing broken: the text comes to what its last state says
+
+pub all-read : (n : ℕ) (ls : List Raw) (s : State) → AllGo (meetings n ls s) → run n ls s ≡ atEnd (stateAfter n ls s)
+unfolding stateAfter run
+all-read n [] s a = refl
+all-read n (l ∷ ls) s a =
+    by-broken (run n (l ∷ ls) s ≡ atEnd (stateAfter n (l ∷ ls) s)) (meetingOf n l s)
+    (λ (e : brokenAt (meetingOf n l s) ≡ 0).
+    let b : AllGo (meetingOf n l s ∷ meetings (n + 1) ls (afterwards (meetingOf n l s))) = rw (meet-goes n l ls s e) at a in
+    run-goes n l ls s e ∙ all-read (n + 1) ls (afterwards (meetingOf n l s)) (tail-goes _ _ b))
+    (λ (e : brokenAt (meetingOf n l s) ≡ 0 → ⊥).
+    let b : AllGo (meetingOf n l s ∷ []) = rw (meet-stops n l ls s e) at a in
+    absurd (e (head-goes _ _ b)))
+
+-- ---- read to its end: nothing was broken
+
+pub read-goes : (n : ℕ) (ls : List Raw) (s : State) (c : Counts) → run n ls s ≡ Read c → AllGo (meetings n ls s)
+unfolding meetings
+read-goes n [] s c e = none
+read-goes n (l ∷ ls) s c e =
+    by-broken (AllGo (meetings n (l ∷ ls) s)) (meetingOf n l s)
+    (λ (z : brokenAt (meetingOf n l s) ≡ 0). rw (meet-goes n l ls s z) (more z (read-goes (n + 1) ls (afterwards (meetingOf n l s)) c (sym (run-goes n l ls s z) ∙ e))))
+    (λ (z : brokenAt (meetingOf n l s) ≡ 0 → ⊥). absurd (refused-not-read _ _ c (sym (run-stops n l ls s z) ∙ e)))
+
+-- ---- refused: the first line that breaks a rule
+
+pub refused-first : (n : ℕ) (ls : List Raw) (s : State) (k m : ℕ) → 0 < m → run n ls s ≡ Refused k m → FirstBroken k m (meetings n ls s)
+unfolding run
+refused-first n [] s k m h e = absurd (end-not-line s k m h e)
+refused-first n (l ∷ ls) s k m h e =
+    by-broken (FirstBroken k m (meetings n (l ∷ ls) s)) (meetingOf n l s)
+    (λ (z : brokenAt (meetingOf n l s) ≡ 0). rw (meet-goes n l ls s z) (later z (refused-first (n + 1) ls (afterwards (meetingOf n l s)) k m h (sym (run-goes n l ls s z) ∙ e))))
+    (λ (z : brokenAt (meetingOf n l s) ≡ 0 → ⊥).
+    let r : Refused (brokenAt (meetingOf n l s)) n ≡ Refused k m = sym (run-stops n l ls s z) ∙ e in
+    rw (meet-stops n l ls s z) (refused-here (meetingOf n l s) k m z r))
+
+pub first-refused : (n : ℕ) (ls : List Raw) (s : State) (k m : ℕ) → FirstBroken k m (meetings n ls s) → run n ls s ≡ Refused k m
+unfolding meetings
+first-refused n [] s k m f = absurd (no-first k m f)
+first-refused n (l ∷ ls) s k m f =
+    by-broken (run n (l ∷ ls) s ≡ Refused k m) (meetingOf n l s)
+    (λ (z : brokenAt (meetingOf n l s) ≡ 0).
+    let g : FirstBroken k m (meetingOf n l s ∷ meetings (n + 1) ls (afterwards (meetingOf n l s))) = rw (meet-goes n l ls s z) at f in
+    run-goes n l ls s z ∙ first-refused (n + 1) ls (afterwards (meetingOf n l s)) k m (first-later _ _ k m z g))
+    (λ (z : brokenAt (meetingOf n l s) ≡ 0 → ⊥).
+    let g : FirstBroken k m (meetingOf n l s ∷ []) = rw (meet-stops n l ls s z) at f in
+    run-stops n l ls s z ∙ first-here _ k m z g)
+
+-- ---- a whole text
+
+-- it reads to its end exactly when no line breaks a rule where it is met and the last place is after [End]
+pub reads-when : (t : List ℕ) → AllGo (meetings 1 (lines t) startState) → stateAfter 1 (lines t) startState .place ≡ done → readingOf t ≡ Read (stateAfter 1 (lines t) startState .counts)
+unfolding readingOf atEnd
+reads-when t a p = all-read 1 (lines t) startState a ∙ if-true _ _ (eq-eqb _ _ p)
+
+pub reads-only : (t : List ℕ) (c : Counts) → readingOf t ≡ Read c → AllGo (meetings 1 (lines t) startState)
+unfolding readingOf
+reads-only t c e = read-goes 1 (lines t) startState c e
+
+pub reads-done : (t : List ℕ) (c : Counts) → readingOf t ≡ Read c → stateAfter 1 (lines t) startState .place ≡ done
+unfolding readingOf
+reads-done t c e = end-done (stateAfter 1 (lines t) startState) c (sym (all-read 1 (lines t) startState (reads-only t c e)) ∙ e)

@@ -1,0 +1,145 @@
+-- The forward reading: what each line may break in its place, what is remembered after it, and what the whole text comes to.
+-- Assumes nothing.
+use Prim.Native.Nat.{ℕ, _+_, _-_}
+use Prim.Native.Char.{code}
+use mathlib.Core.Bool.{Bool, true, false, not}
+use mathlib.Core.List.{List, [], _∷_}
+use lib.ListN.{length, take, drop}
+use lib.Dec.{eqb}
+use Rattle.base.specs.If.{if_then_else_, both}
+use Rattle.lex_line.specs.Lines.{Raw, lines, contentOf, isBlankLine}
+use Rattle.lex_line.specs.Words.{words, firstOf, lastEnd}
+use Rattle.lex_keyword.specs.Names.{beginHeader}
+use Rattle.lex_keyword.specs.Bracket.{bracketOf}
+use Rattle.lex_keyword.specs.declared.Bracket.{Bracket}
+use Rattle.lex_keyword.specs.declared.Bracket.the-variants.{Plain, Indented, Bad, Unknown, Later, Keyword}
+use Rattle.line_place.specs.Place.{movedByLine, isText, before, done}
+use Rattle.line_place.specs.Place as place
+use Rattle.line_argument.specs.Argument.{isReserved, isBadArgument}
+use Rattle.line_head.specs.Head.{headLineOf, headRule, headNext}
+use Rattle.line_path.specs.Path.{pathLineOf, pathRule, pathNext, isStep}
+use Rattle.line_map.specs.PinMap.{mapLineOf, mapRule, mapNext, pinRule, withPin}
+use Rattle.line_matrix.specs.Matrix.{dataLineOf, dataRule, dataNext}
+use Rattle.line_keyword.specs.Keywords.{keywordRule, keywordNext, oneMoreIf}
+use Rattle.line_keyword.specs.State.{startState}
+use Rattle.line_keyword.specs.declared.Counts.{Counts}
+use Rattle.line_keyword.specs.declared.State.{State}
+use Rattle.read_line.specs.declared.Step.{Step}
+use Rattle.read_line.specs.declared.Reading.{Reading}
+use Rattle.read_line.specs.declared.Reading.the-variants.{Read, Refused}
+
+-- ---- lines without a keyword
+
+-- "one model per line, first word the name", which is never a reserved word
+unfoldable pub listRule : List ℕ → ℕ
+listRule content = if isReserved (firstOf (words content)) then 11 else 0
+
+-- "12 LINE: other line that its place does not take"; a text block takes any line
+unfoldable pub lineRule : List ℕ → State → ℕ
+lineRule content s =
+    if isText (s .place) then 0 else
+    if eqb (s .place) place.matrix then dataRule (dataLineOf (s .matrix .form) content) (s .matrix) (s .counts .values) else
+    if eqb (s .place) place.path then pathRule (pathLineOf content) (s .path) (s .counts .steps) else
+    if eqb (s .place) place.pins then pinRule content (s .map) (s .counts .pins) else
+    if eqb (s .place) place.mapHead then mapRule (mapLineOf content) (s .map) else
+    if eqb (s .place) place.head then headRule (headLineOf content) (s .head) else
+    if eqb (s .place) place.list then listRule content else 12
+
+unfoldable pub countsAfterLine : List ℕ → State → Counts
+countsAfterLine content s =
+    record {
+      models = s .counts .models;
+      steps = oneMoreIf (both (eqb (s .place) place.path) (isStep (pathLineOf content))) (s .counts .steps);
+      maps = s .counts .maps;
+      pins = oneMoreIf (eqb (s .place) place.pins) (s .counts .pins);
+      sections = s .counts .sections;
+      matrices = s .counts .matrices;
+      values = if eqb (s .place) place.matrix then s .counts .values + dataLineOf (s .matrix .form) content .numbers else s .counts .values;
+    }
+
+unfoldable pub lineNext : List ℕ → State → State
+lineNext content s =
+    record {
+      place = movedByLine (s .place) (firstOf (words content));
+      seen = s .seen;
+      head = if eqb (s .place) place.head then headNext (headLineOf content) (s .head) else s .head;
+      path = if eqb (s .place) place.path then pathNext (pathLineOf content) (s .path) else s .path;
+      map =
+          if eqb (s .place) place.mapHead then mapNext (mapLineOf content) (s .map) else
+          if eqb (s .place) place.pins then withPin (s .map) else s .map;
+      section = s .section;
+      matrix = if eqb (s .place) place.matrix then dataNext (dataLineOf (s .matrix .form) content) (s .matrix) else s .matrix;
+      counts = countsAfterLine content s;
+    }
+
+-- ---- one line
+
+-- the argument of a keyword, without the blanks at its ends
+unfoldable pub argumentFrom : List ℕ → ℕ → List ℕ
+argumentFrom content start = take (lastEnd content - start) (drop start content)
+
+-- the line breaks nothing, and leads on
+unfoldable pub goes : State → Step
+goes s = record { number = 0; state = s }
+
+-- the line breaks a rule
+unfoldable pub breaks : ℕ → State → Step
+breaks k s = record { number = k; state = s }
+
+unfoldable pub judged : ℕ → State → State → Step
+judged k next s = if eqb k 0 then goes next else breaks k s
+
+unfoldable pub lineStep : List ℕ → State → Step
+lineStep content s = judged (lineRule content s) (lineNext content s) s
+
+unfoldable pub keywordStep : ℕ → List ℕ → State → Step
+keywordStep k argument s = judged (keywordRule k argument s) (keywordNext k argument s) s
+
+-- 6 for a bad bracket, 7 for a keyword not of 000, 8 for a later one, before all else
+abbrev pub bracketStep : Bracket → List ℕ → State → Step
+bracketStep Plain content s = lineStep content s
+bracketStep Indented content s = if isText (s .place) then lineStep content s else breaks 6 s
+bracketStep Bad content s = breaks 6 s
+bracketStep Unknown content s = breaks 7 s
+bracketStep Later content s = breaks 8 s
+bracketStep (Keyword k start) content s = keywordStep k (argumentFrom content start) s
+
+-- "Lines before [Begin Header] .. are read only for 2, 3, 4": only that keyword, well formed and in column 1, counts there
+abbrev pub beforeStep : Bracket → List ℕ → State → Step
+beforeStep Plain content s = goes s
+beforeStep Indented content s = goes s
+beforeStep Bad content s = goes s
+beforeStep Unknown content s = goes s
+beforeStep Later content s = goes s
+beforeStep (Keyword k start) content s = if eqb k beginHeader then keywordStep k (argumentFrom content start) s else goes s
+
+-- "lines left blank are skipped"; nor is a line after [End] looked at
+unfoldable pub stepOf : List ℕ → State → Step
+stepOf content s =
+    if isBlankLine content then goes s else
+    if eqb (s .place) done then goes s else
+    if eqb (s .place) before then beforeStep (bracketOf content) content s else bracketStep (bracketOf content) content s
+
+-- ---- the whole text
+
+-- "From `|` on, a line is comment"
+abbrev pub commentByte : ℕ
+commentByte = code "|"
+
+-- "5 HEADER: no [Begin Header] line (line 0)", "10 END: text stops before [End] (line 0)"
+unfoldable pub atEnd : State → Reading
+atEnd s =
+    if eqb (s .place) done then Read (s .counts) else
+    if eqb (s .place) before then Refused 5 0 else Refused 10 0
+
+-- "5 to 17 reading forward .. the earliest line counts"
+unfoldable pub onward : Step → ℕ → (State → Reading) → Reading
+onward step n more = if eqb (step .number) 0 then more (step .state) else Refused (step .number) n
+
+unfoldable pub run : ℕ → List Raw → State → Reading
+run n [] s = atEnd s
+run n (l ∷ ls) s = onward (stepOf (contentOf commentByte (l .bytes)) s) n (run (n + 1) ls)
+
+-- what a text that breaks none of the rules 1 to 4 comes to in the group 5 to 17
+unfoldable pub readingOf : List ℕ → Reading
+readingOf t = run 1 (lines t) startState

@@ -1,0 +1,700 @@
+// Rules 5 to 17, line by line: what a line comes to in its place, and lines gone over together. The walk over a whole text is made of these.
+ghost use mathlib.Core.Path.{_≡_};
+ghost use mathlib.Core.Bool.{true, false};
+ghost use Prim.Native.Nat.{_+_, _≤_, _<_};
+ghost use lib.ListN.{length};
+ghost use Rattle.line_place.specs.Place as place;
+ghost use Rattle.line_keyword.specs.Kept.{Kept, mostLines};
+ghost use Rattle.read_line.specs.Reading.{goes, breaks, lineStep, keywordStep, argumentFrom, bracketStep, beforeStep, stepOf, atEnd};
+ghost use Rattle.read_line.specs.Listed.{isFree};
+ghost use Rattle.lex_line.specs.Lines.{isBlankLine};
+ghost use Rattle.lex_line.specs.Words.{words, firstOf};
+ghost use Rattle.line_argument.specs.Argument.{isReserved};
+ghost use Rattle.line_keyword.specs.declared.State.{State};
+ghost use Rattle.lex_keyword.specs.Bracket.{bracketOf};
+ghost use Rattle.lex_keyword.specs.declared.Bracket.the-variants.{Plain, Indented, Keyword};
+ghost use Rattle.read_line.specs.Walk.{Reached, Onward, Passed, Crossed, Holds, Decides, Fronted, Stepping, Opens, Elsewhere, StandsElsewhere, contentAt, Stays, Blocked, withPath, withPinned};
+use line_keyword::Counts;
+use line_keyword::State;
+use lex_keyword::Bracket;
+use line_path::Path;
+use line_map::Map;
+
+// "From `|` on, a line is comment".
+const COMMENT: u8 = b'|';
+
+const OPENING: u8 = b'[';
+
+const LINE_FEED: u8 = 10;
+
+// "A block may hold further blocks, to a depth of 8".
+const DEEPEST: u64 = 8;
+
+const CARRIAGE_RETURN: u8 = 13;
+
+// What one line comes to: the number of the rule that it breaks, 0 for none, and what is remembered after it.
+pub struct Step {
+    pub number: u64,
+    pub state: State,
+}
+
+// What a text comes to in the group 5 to 17.
+pub enum Reading {
+    Read(Counts),
+    Refused(u64, u64),
+}
+
+// How far a walk over the lines has come: where it goes on, at which line and in which state; or the rule broken, and its line.
+pub struct Walk {
+    pub number: u64,
+    pub at: usize,
+    pub line: u64,
+    pub state: State,
+}
+
+fn goes_on(s: State) -> Step
+    ensures { λ r. ⌜ r ≡ goes s ⌝ }
+{
+    Step {
+        number: 0,
+        state: s,
+    }
+}
+
+fn stops(number: u64, s: State) -> Step
+    ensures { λ r. ⌜ r ≡ breaks number s ⌝ }
+{
+    Step { number, state: s }
+}
+
+// ---- lines without a keyword, place by place
+
+// A list line: its first word is never a reserved one.
+fn list_step(content: &[u8], s: State) -> Step
+    requires { ⌜ s .place ≡ place.list ⌝ }
+    ensures { λ r. ⌜ r ≡ lineStep (now (content .entry)) s ⌝ }
+{
+    if line_argument::is_reserved(lex_line::first_word(content)) {
+        return stops(11, s);
+    }
+    goes_on(s)
+}
+
+fn head_step(content: &[u8], s: State) -> Step
+    requires { ⌜ s .place ≡ place.head ⌝ }
+    ensures { λ r. ⌜ r ≡ lineStep (now (content .entry)) s ⌝ }
+{
+    let line = line_head::head_line(content);
+    let head = s.head;
+    let number = line_head::head_rule(line, head);
+    if number != 0 {
+        return stops(number, s);
+    }
+    let mut next = s;
+    next.head = line_head::head_next(line, head);
+    goes_on(next)
+}
+
+fn map_step(content: &[u8], s: State) -> Step
+    requires { ⌜ s .place ≡ place.mapHead ⌝ }
+    ensures { λ r. ⌜ r ≡ lineStep (now (content .entry)) s ⌝ }
+{
+    let line = line_map::map_line(content);
+    let map = s.map;
+    let number = line_map::map_rule(line, map);
+    if number != 0 {
+        return stops(number, s);
+    }
+    let mut next = s;
+    next.place = line_place::moved_by_line(s.place, lex_line::first_word(content));
+    next.map = line_map::map_next(line, map);
+    goes_on(next)
+}
+
+// A line without a keyword: what its place takes. The lines of a matrix, a path and a pin list are not read here but with the part of
+// the state that they change, several at once (`read_matrix::pass_data`, `pass_path`, `pass_pins`).
+fn line_step(content: &[u8], s: State) -> Step
+    requires { ⌜ Elsewhere (s .place) ⌝ }
+    ensures { λ r. ⌜ r ≡ lineStep (now (content .entry)) s ⌝ }
+{
+    if s.place == line_place::LIST {
+        return list_step(content, s);
+    }
+    if s.place == line_place::MAP_HEAD {
+        return map_step(content, s);
+    }
+    if s.place == line_place::HEAD {
+        return head_step(content, s);
+    }
+    if line_place::is_text(s.place) {
+        return goes_on(s);
+    }
+    stops(12, s)
+}
+
+// ---- one line
+
+// A keyword line: the rules that it may break, then what is remembered.
+fn keyword_step(key: u64, argument: &[u8], s: State) -> Step
+    requires { ⌜ Kept mostLines s ⌝ }
+    ensures { λ r. ⌜ r ≡ keywordStep key (now (argument .entry)) s ⌝ }
+{
+    let number = line_keyword::keyword_rule(key, argument, s);
+    if number != 0 {
+        return stops(number, s);
+    }
+    goes_on(line_keyword::keyword_next(key, argument, s))
+}
+
+// The argument of a keyword, without the blanks at its ends.
+pub fn argument_of(content: &[u8], start: usize) -> &[u8]
+    ensures { λ r. ⌜ now r ≡ argumentFrom (now (content .entry)) start ⌝ }
+{
+    let last = lex_line::last_word(content);
+    let end = last.end;
+    if end <= start {
+        return &content[..0];
+    }
+    &content[start..end]
+}
+
+fn named_step(key: u64, start: usize, content: &[u8], s: State) -> Step
+    requires { ⌜ Kept mostLines s ⌝ }
+    ensures { λ r. ⌜ r ≡ keywordStep key (argumentFrom (now (content .entry)) start) s ⌝ }
+{
+    keyword_step(key, argument_of(content, start), s)
+}
+
+// An indented bracket is text in a text block, and bad elsewhere.
+fn indented_step(content: &[u8], s: State) -> Step
+    ensures { λ r. ⌜ r ≡ bracketStep Indented (now (content .entry)) s ⌝ }
+{
+    if line_place::is_text(s.place) {
+        return line_step(content, s);
+    }
+    stops(6, s)
+}
+
+fn bracket_step(content: &[u8], s: State) -> Step
+    requires { ⌜ Kept mostLines s × (bracketOf (now content) ≡ Plain → Elsewhere (s .place)) ⌝ }
+    ensures { λ r. ⌜ r ≡ bracketStep (bracketOf (now (content .entry))) (now (content .entry)) s ⌝ }
+{
+    match lex_keyword::read_bracket(content) {
+        Bracket::Plain => line_step(content, s),
+        Bracket::Indented => indented_step(content, s),
+        Bracket::Bad => stops(6, s),
+        Bracket::Unknown => stops(7, s),
+        Bracket::Later => stops(8, s),
+        Bracket::Keyword(key, start) => named_step(key, start, content, s),
+    }
+}
+
+// [Begin Header] is looked for; every other keyword is passed over.
+fn opening_step(key: u64, start: usize, content: &[u8], s: State) -> Step
+    requires { ⌜ Kept mostLines s ⌝ }
+    ensures { λ r. ⌜ r ≡ beforeStep (Keyword key start) (now (content .entry)) s ⌝ }
+{
+    if key == lex_keyword::BEGIN_HEADER {
+        return named_step(key, start, content, s);
+    }
+    goes_on(s)
+}
+
+fn before_step(content: &[u8], s: State) -> Step
+    requires { ⌜ Kept mostLines s ⌝ }
+    ensures { λ r. ⌜ r ≡ beforeStep (bracketOf (now (content .entry))) (now (content .entry)) s ⌝ }
+{
+    match lex_keyword::read_bracket(content) {
+        Bracket::Plain => goes_on(s),
+        Bracket::Indented => goes_on(s),
+        Bracket::Bad => goes_on(s),
+        Bracket::Unknown => goes_on(s),
+        Bracket::Later => goes_on(s),
+        Bracket::Keyword(key, start) => opening_step(key, start, content, s),
+    }
+}
+
+pub fn is_blank_line(content: &[u8]) -> bool
+    ensures { λ r. ⌜ r ≡ isBlankLine (now (content .entry)) ⌝ }
+{
+    base::past_blanks(content, 0) == content.len()
+}
+
+// One line, given by its content.
+fn take_line(content: &[u8], s: State) -> Step
+    requires { ⌜ Kept mostLines s × StandsElsewhere (now content) (s .place) ⌝ }
+    ensures { λ r. ⌜ r ≡ stepOf (now (content .entry)) s ⌝ }
+{
+    if is_blank_line(content) {
+        return goes_on(s);
+    }
+    if s.place == line_place::DONE {
+        return goes_on(s);
+    }
+    if s.place == line_place::BEFORE {
+        return before_step(content, s);
+    }
+    bracket_step(content, s)
+}
+
+// ---- lines that change nothing
+
+// Where lines that change nothing end, and at which line.
+pub struct Passing {
+    pub at: usize,
+    pub line: u64,
+}
+
+// A byte with which a line has no bracket at its front, and no word that is reserved.
+fn is_free(b: u8) -> bool
+    ensures { λ r. ⌜ r ≡ isFree b ⌝ }
+{
+    if b <= b' ' {
+        return false;
+    }
+    if b == OPENING {
+        return false;
+    }
+    if b == b'P' {
+        return false;
+    }
+    if b == b'G' {
+        return false;
+    }
+    b != b'N'
+}
+
+// A line of the model list as it should be.
+fn reads_listed(content: &[u8]) -> bool
+    ensures { λ r. ⌜ (r ≡ true → (bracketOf (now (content .entry)) ≡ Plain) × (isReserved (firstOf (words (now (content .entry)))) ≡ false)) ⌝ }
+{
+    match lex_keyword::read_bracket(content) {
+        Bracket::Plain => !line_argument::is_reserved(lex_line::first_word(content)),
+        Bracket::Indented => false,
+        Bracket::Bad => false,
+        Bracket::Unknown => false,
+        Bracket::Later => false,
+        Bracket::Keyword(_, _) => false,
+    }
+}
+
+// The same: most lines tell it by their first byte.
+fn is_listed(content: &[u8]) -> bool
+    ensures { λ r. ⌜ (r ≡ true → (bracketOf (now (content .entry)) ≡ Plain) × (isReserved (firstOf (words (now (content .entry)))) ≡ false)) ⌝ }
+{
+    if is_free(base::byte_at(content, 0)) {
+        return true;
+    }
+    reads_listed(content)
+}
+
+fn is_quiet(content: &[u8], place: u64) -> bool
+    ensures { λ r. ⌜ (r ≡ true → (s : State) → s .place ≡ place → stepOf (now (content .entry)) s ≡ goes s) ⌝ }
+{
+    if is_blank_line(content) {
+        return true;
+    }
+    if place == line_place::LIST {
+        return is_listed(content);
+    }
+    false
+}
+
+// A look at the first byte: an empty line, a comment, or a place whose lines mostly change nothing.
+fn may_be_quiet(text: &[u8], at: usize, place: u64) -> bool {
+    if place == line_place::LIST {
+        return true;
+    }
+    let first = base::byte_at(text, at);
+    if first == LINE_FEED {
+        return true;
+    }
+    if first == CARRIAGE_RETURN {
+        return true;
+    }
+    first == COMMENT
+}
+
+// Goes past lines that change nothing, with no look at what is remembered but for the place.
+pub fn pass_quiet(text: &[u8], at: usize, line: u64, place: u64) -> Passing
+    requires { ⌜ (at ≤ length (now text)) × (line ≤ at + 1) ⌝ }
+    ensures { λ r. ⌜ Passed (now (text .entry)) at line place (r .at) (r .line) ⌝ }
+{
+    let mut here = at;
+    let mut number = line;
+    while here < text.len() {
+        if !may_be_quiet(text, here, place) {
+            return Passing {
+                at: here,
+                line: number,
+            };
+        }
+        let found = lex_line::line_at(text, here, COMMENT);
+        let content = found.content;
+        if !is_quiet(&text[here..content], place) {
+            return Passing {
+                at: here,
+                line: number,
+            };
+        }
+        here = found.next;
+        number += 1;
+    }
+    Passing {
+        at: here,
+        line: number,
+    }
+}
+
+// ---- lines that change one part
+
+// What stands at the front of a line: nothing, words, or a bracket.
+pub enum Front {
+    Blanks,
+    Words,
+    Opening,
+}
+
+pub fn front_of(content: &[u8]) -> Front
+    ensures { λ r. ⌜ Fronted (now (content .entry)) r ⌝ }
+{
+    let front = base::past_blanks(content, 0);
+    if front == content.len() {
+        return Front::Blanks;
+    }
+    if base::byte_at(content, front) == OPENING {
+        return Front::Opening;
+    }
+    Front::Words
+}
+
+// A pin line, with no more of the state than it changes: whether it is taken here, the rule that it breaks, and the map and the count
+// of pins behind it.
+struct Pinned {
+    taken: bool,
+    number: u64,
+    map: Map,
+    pins: u64,
+}
+
+fn pin_line(content: &[u8], map: Map, pins: u64) -> Pinned
+    ensures { λ r. ⌜ (r .taken ≡ true)
+        × Decides place.pins (withPinned map pins) (lineStep (now (content .entry))) (r .number) (withPinned (r .map) (r .pins)) ⌝ }
+{
+    let number = line_map::pin_rule(content, map, pins);
+    if number != 0 {
+        return Pinned {
+            taken: true,
+            number,
+            map,
+            pins,
+        };
+    }
+    Pinned {
+        taken: true,
+        number: 0,
+        map: line_map::with_pin(map),
+        pins: pins + 1,
+    }
+}
+
+// A line of a pin list.
+fn take_pin(content: &[u8], map: Map, pins: u64) -> Pinned
+    ensures { λ r. ⌜ (r .taken ≡ true → Decides place.pins (withPinned map pins) (stepOf (now (content .entry))) (r .number) (withPinned (r .map) (r .pins)))
+        × (r .taken ≡ false → Opens (now (content .entry))) ⌝ }
+{
+    match front_of(content) {
+        Front::Blanks => Pinned {
+            taken: true,
+            number: 0,
+            map,
+            pins,
+        },
+        Front::Words => pin_line(content, map, pins),
+        Front::Opening => Pinned {
+            taken: false,
+            number: 0,
+            map,
+            pins,
+        },
+    }
+}
+
+// Where the pin lines end, or which rule one of them breaks, and what they come to.
+struct PinWalk {
+    at: usize,
+    line: u64,
+    part: Pinned,
+}
+
+// Goes over the lines of a pin list.
+fn pass_pins(text: &[u8], at: usize, line: u64, map: Map, pins: u64) -> PinWalk
+    requires { ⌜ (at ≤ length (now text)) × (line ≤ at + 1) ⌝ }
+    ensures { λ r. ⌜ Crossed (now (text .entry)) at line (Holds place.pins (withPinned map pins)) (withPinned (r .part .map) (r .part .pins)) (r .part .number) (r .at) (r .line)
+        × Stays (now (text .entry)) at (r .at) ⌝ }
+{
+    let mut here = at;
+    let mut number = line;
+    let mut part = Pinned {
+        taken: true,
+        number: 0,
+        map,
+        pins,
+    };
+    while here < text.len() {
+        let found = lex_line::line_at(text, here, COMMENT);
+        let content = found.content;
+        let next = take_pin(&text[here..content], part.map, part.pins);
+        if !next.taken {
+            return PinWalk {
+                at: here,
+                line: number,
+                part,
+            };
+        }
+        here = found.next;
+        part = next;
+        if part.number != 0 {
+            return PinWalk {
+                at: here,
+                line: number,
+                part,
+            };
+        }
+        number += 1;
+    }
+    PinWalk {
+        at: here,
+        line: number,
+        part,
+    }
+}
+
+// A line of a path, with no more of the state than it changes: whether it is taken here, the rule that it breaks, and the path and the
+// count of steps behind it.
+pub struct Stepped {
+    pub taken: bool,
+    pub number: u64,
+    pub path: Path,
+    pub steps: u64,
+}
+
+fn path_line(content: &[u8], path: Path, steps: u64) -> Stepped
+    requires { ⌜ Stepping path steps ⌝ }
+    ensures { λ r. ⌜ (r .taken ≡ true)
+        × Decides place.path (withPath path steps) (lineStep (now (content .entry))) (r .number) (withPath (r .path) (r .steps)) × Stepping (r .path) (r .steps) ⌝ }
+{
+    let line = line_path::path_line(content);
+    let number = line_path::path_rule(line, path, steps);
+    if number != 0 {
+        return Stepped {
+            taken: true,
+            number,
+            path,
+            steps,
+        };
+    }
+    Stepped {
+        taken: true,
+        number: 0,
+        path: line_path::path_next(line, path),
+        steps: line_keyword::one_more_if(line_path::is_step(line), steps),
+    }
+}
+
+// A line of a path.
+fn take_step(content: &[u8], path: Path, steps: u64) -> Stepped
+    requires { ⌜ Stepping path steps ⌝ }
+    ensures { λ r. ⌜ (r .taken ≡ true → Decides place.path (withPath path steps) (stepOf (now (content .entry))) (r .number) (withPath (r .path) (r .steps)))
+        × Stepping (r .path) (r .steps) × (r .taken ≡ false → Opens (now (content .entry))) ⌝ }
+{
+    match front_of(content) {
+        Front::Blanks => Stepped {
+            taken: true,
+            number: 0,
+            path,
+            steps,
+        },
+        Front::Words => path_line(content, path, steps),
+        Front::Opening => Stepped {
+            taken: false,
+            number: 0,
+            path,
+            steps,
+        },
+    }
+}
+
+// Where lines of a path end, or which rule one of them breaks, and what they come to.
+pub struct PathWalk {
+    pub at: usize,
+    pub line: u64,
+    pub part: Stepped,
+}
+
+// Goes over the lines of a path, up to one that opens or closes a fork block.
+fn pass_path(text: &[u8], at: usize, line: u64, path: Path, steps: u64) -> PathWalk
+    requires { ⌜ (at ≤ length (now text)) × (line ≤ at + 1) × Stepping path steps ⌝ }
+    ensures { λ r. ⌜ Blocked (now (text .entry)) at line path steps r ⌝ }
+{
+    let depth = path.depth;
+    let mut here = at;
+    let mut number = line;
+    let mut part = Stepped {
+        taken: true,
+        number: 0,
+        path,
+        steps,
+    };
+    while here < text.len() {
+        let found = lex_line::line_at(text, here, COMMENT);
+        let content = found.content;
+        let next = take_step(&text[here..content], part.path, part.steps);
+        if !next.taken {
+            return PathWalk {
+                at: here,
+                line: number,
+                part,
+            };
+        }
+        here = found.next;
+        part = next;
+        if part.number != 0 {
+            return PathWalk {
+                at: here,
+                line: number,
+                part,
+            };
+        }
+        number += 1;
+        let reached = part.path;
+        if reached.depth != depth {
+            return PathWalk {
+                at: here,
+                line: number,
+                part,
+            };
+        }
+    }
+    PathWalk {
+        at: here,
+        line: number,
+        part,
+    }
+}
+
+// Goes over the lines of a fork block, up to the line that closes it. An inner block is gone over by the same function, and the depth
+// still left falls. The path itself is the outermost block.
+fn pass_block(text: &[u8], at: usize, line: u64, path: Path, steps: u64, left: u64) -> PathWalk
+    requires { ⌜ (at ≤ length (now text)) × (line ≤ at + 1) × Stepping path steps ⌝ }
+    ensures { λ r. ⌜ Blocked (now (text .entry)) at line path steps r ⌝ }
+{
+    let mut walk = pass_path(text, at, line, path, steps);
+    loop {
+        let part = walk.part;
+        let reached = part.path;
+        if part.number != 0 {
+            return walk;
+        }
+        if reached.depth <= path.depth {
+            return walk;
+        }
+        if left == 0 {
+            return walk;
+        }
+        let here = walk.at;
+        let inner = pass_block(text, here, walk.line, reached, part.steps, left - 1);
+        let inside = inner.part;
+        let closed = inside.path;
+        if inside.number != 0 {
+            return inner;
+        }
+        let rest = pass_path(text, inner.at, inner.line, closed, inside.steps);
+        if rest.at <= here {
+            return rest;
+        }
+        walk = rest;
+    }
+}
+
+// ---- a walk
+
+// The line at a place: each byte is gone over a bounded number of times.
+pub fn read_one(text: &[u8], at: usize, line: u64, s: State) -> Walk
+    requires { ⌜ (at < length (now text)) × Onward (now text) at line s × StandsElsewhere (contentAt (now text) at) (s .place) ⌝ }
+    ensures { λ r. ⌜ Reached (now (text .entry)) at line s r ⌝ }
+{
+    let here = lex_line::line_at(text, at, COMMENT);
+    let content = here.content;
+    let taken = take_line(&text[at..content], s);
+    let state = taken.state;
+    Walk {
+        number: taken.number,
+        at: here.next,
+        line: line_keyword::one_more_if(taken.number == 0, line),
+        state,
+    }
+}
+
+// The lines up to the keyword behind a pin list, or that keyword's line.
+pub fn read_pins(text: &[u8], at: usize, line: u64, s: State) -> Walk
+    requires { ⌜ (at < length (now text)) × Onward (now text) at line s × (s .place ≡ place.pins) ⌝ }
+    ensures { λ r. ⌜ Reached (now (text .entry)) at line s r ⌝ }
+{
+    let map = s.map;
+    let mut counts = s.counts;
+    let walk = pass_pins(text, at, line, map, counts.pins);
+    if at < walk.at {
+        let part = walk.part;
+        let reached = part.map;
+        counts.pins = part.pins;
+        let mut state = s;
+        state.map = reached;
+        state.counts = counts;
+        return Walk {
+            number: part.number,
+            at: walk.at,
+            line: walk.line,
+            state,
+        };
+    }
+    read_one(text, at, line, s)
+}
+
+// The lines of a path up to one that opens or closes a fork block, or the line of a keyword.
+pub fn read_path(text: &[u8], at: usize, line: u64, s: State) -> Walk
+    requires { ⌜ (at < length (now text)) × Onward (now text) at line s × (s .place ≡ place.path) ⌝ }
+    ensures { λ r. ⌜ Reached (now (text .entry)) at line s r ⌝ }
+{
+    let path = s.path;
+    let mut counts = s.counts;
+    let walk = pass_block(text, at, line, path, counts.steps, DEEPEST);
+    if at < walk.at {
+        let part = walk.part;
+        let reached = part.path;
+        counts.steps = part.steps;
+        let mut state = s;
+        state.path = reached;
+        state.counts = counts;
+        return Walk {
+            number: part.number,
+            at: walk.at,
+            line: walk.line,
+            state,
+        };
+    }
+    read_one(text, at, line, s)
+}
+
+pub fn at_end(s: State) -> Reading
+    ensures { λ r. ⌜ r ≡ atEnd s ⌝ }
+{
+    if s.place == line_place::DONE {
+        let counts = s.counts;
+        return Reading::Read(counts);
+    }
+    if s.place == line_place::BEFORE {
+        return Reading::Refused(5, 0);
+    }
+    Reading::Refused(10, 0)
+}

@@ -1,0 +1,62 @@
+-- `read_matrix::data_line` meets its contract: the rule, then what is remembered.
+-- Assumes nothing.
+use Prim.Native.Nat.{_+_, _≤_}
+use native.Mathlib.Omega.{arith}
+use Rattle.line_matrix.specs.Matrix.{mostValues}
+use Rattle.read_line.proofs.StepLaws.{values-small}
+use Rattle.read_line.proofs.KeptLaws.{column-small}
+use Rattle.read_matrix.proofs.LineLaws.{judged-stops, judged-goes}
+use borrow.Author.Needs.{needs}
+use Rattle.read_matrix.proofs.data_line.Statement.{statement}
+use Rattle.read_matrix.proofs.data_line.Tie as tie
+use Rattle.read_matrix.proofs.new_note.Reads as new-note-reads
+use Rattle.line_matrix.proofs.data_line.Reads as data-line-reads
+use Rattle.line_matrix.proofs.data_next.Reads as data-next-reads
+use Rattle.line_matrix.proofs.data_rule.Reads as data-rule-reads
+
+data-line-requires : tie.Need-data-line-requires
+data-line-requires c κs = search needs
+
+data-rule-requires : tie.Need-data-rule-requires
+data-rule-requires c κs = search needs
+
+new-note-requires : tie.Need-new-note-requires
+new-note-requires c κs = search needs
+
+returns : tie.Need-returns
+returns c = λ note table.
+    judged-stops _ (c .before .before .before .before .before .pre .0) (c .before .before .before .before .before .pre .1) _ _ _ (c .before .before
+    .before .data-line .ensures) _ (c .before .before .data-rule .ensures) _ (c .new-note .ensures) _ _
+    (c .before .if1 .taken)
+
+data-next-requires : tie.Need-data-next-requires
+data-next-requires c κs = search column-small
+
+add-t9 : tie.Need-add-t9
+add-t9 c = let few : c .before .before .before .before .before .before .args .values + c .before .before .before .before .data-line .result .numbers
+    ≤ mostValues =
+    values-small _ _ _ _ (c .before .before .before .data-rule .ensures) (c .before .before .if1 .left) in
+    omega arith
+
+new-note-requires-2 : tie.Need-new-note-requires-2
+new-note-requires-2 c κs = search needs
+
+returns-2 : tie.Need-returns-2
+returns-2 c = λ note table.
+    judged-goes _ (c .before .before .before .before .before .before .before .pre .0) (c .before .before .before .before .before .before .before
+    .pre .1) _ _ _ (c .before .before .before .before .before .data-line .ensures) _ (c .before .before .before .before .data-rule .ensures) _ (c
+    .new-note2 .ensures) _ _
+    (c .before .before .before .if1 .left) _ (c .before .before .data-next .ensures)
+
+pub data-line-spec : {M : Type 1} → statement M
+data-line-spec =
+    tie.close
+    (tie.spec
+    data-line-requires
+    data-rule-requires
+    new-note-requires
+    returns
+    data-next-requires
+    add-t9
+    new-note-requires-2
+    returns-2)

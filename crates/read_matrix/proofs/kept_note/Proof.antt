@@ -1,0 +1,23 @@
+-- `read_matrix::kept_note` meets its contract: by the keyword.
+-- Assumes nothing.
+use Rattle.read_matrix.proofs.LineLaws.{row-noted, bandwidth-noted}
+use borrow.Author.Needs.{needs}
+use Rattle.read_matrix.proofs.kept_note.Statement.{statement}
+use Rattle.read_matrix.proofs.kept_note.Tie as tie
+use Rattle.read_matrix.proofs.greater.Reads as greater-reads
+use Rattle.store_matrices.proofs.first_told.Reads as first-told-reads
+
+greater-requires : tie.Need-greater-requires
+greater-requires c κs = search needs
+
+returns : tie.Need-returns
+returns c = search row-noted
+
+first-told-requires : tie.Need-first-told-requires
+first-told-requires c κs = search needs
+
+returns-2 : tie.Need-returns-2
+returns-2 c = search bandwidth-noted
+
+pub kept-note-spec : {M : Type 1} → statement M
+kept-note-spec = tie.close (tie.spec greater-requires returns first-told-requires returns-2)

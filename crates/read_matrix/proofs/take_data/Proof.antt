@@ -1,0 +1,53 @@
+-- `read_matrix::take_data` meets its contract: by the front of the line.
+-- Assumes nothing.
+use Rattle.read_line.proofs.QuietLaws.{blanks-front, words-front, opening-front}
+use Rattle.read_matrix.proofs.LineLaws.{blank-takes}
+use borrow.Author.Needs.{needs}
+use Rattle.read_matrix.proofs.take_data.Statement.{statement}
+use Rattle.read_matrix.proofs.take_data.Tie as tie
+use Rattle.read_matrix.proofs.data_line.Reads as data-line-reads
+use Rattle.read_matrix.proofs.opened_line.Reads as opened-line-reads
+use Rattle.read_line.proofs.front_of.Reads as front-of-reads
+
+front-of-requires : tie.Need-front-of-requires
+front-of-requires c κs = search needs
+
+enum-told : tie.Need-enum-told
+enum-told c = search needs
+
+enum-told-2 : tie.Need-enum-told-2
+enum-told-2 c = search needs
+
+data-line-requires : tie.Need-data-line-requires
+data-line-requires c κs = words-front _ _ (c .before .before .front-of .ensures) (c .enum-told2 .given .1)
+
+enum-told-3 : tie.Need-enum-told-3
+enum-told-3 c = search needs
+
+opened-line-requires : tie.Need-opened-line-requires
+opened-line-requires c κs = let front = opening-front _ _ (c .before .before .front-of .ensures) (c .enum-told3 .given .1) in
+    (front .0, front .1, search needs)
+
+returns : tie.Need-returns
+returns c = λ table. blank-takes _ _ _ _ _ (blanks-front _ _ (c .before .before .front-of .ensures) (c .enum-told .given .1)) (c .before .before
+    .before .before .pre)
+
+returns-2 : tie.Need-returns-2
+returns-2 c = c .data-line .ensures _
+
+returns-3 : tie.Need-returns-3
+returns-3 c = search needs
+
+pub take-data-spec : {M : Type 1} → statement M
+take-data-spec =
+    tie.close
+    (tie.spec
+    front-of-requires
+    enum-told
+    enum-told-2
+    data-line-requires
+    enum-told-3
+    opened-line-requires
+    returns
+    returns-2
+    returns-3)

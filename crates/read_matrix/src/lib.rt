@@ -1,0 +1,644 @@
+// The lines of a matrix, judged and noted in one go: its numbers are stored in the lent table as they are judged, so that nobody has to
+// read them again.
+ghost use mathlib.Core.Path.{_≡_};
+ghost use mathlib.Core.Bool.{true, false};
+ghost use Prim.Native.Nat.{_+_, _*_, _≤_, _<_, max};
+ghost use lib.ListN.{length};
+ghost use Rattle.lex_line.specs.Lines.{isBlankLine, lineAt};
+ghost use Rattle.lex_keyword.specs.Bracket.{bracketOf};
+ghost use Rattle.lex_keyword.specs.declared.Bracket.the-variants.{Plain, Keyword};
+ghost use Rattle.line_place.specs.Place.{keepsMatrix};
+ghost use Rattle.read_line.specs.Reading.{commentByte};
+ghost use Rattle.read_line.specs.Walk.{Opens, Fronted, contentAt};
+ghost use Rattle.line_matrix.specs.Matrix.{sparse, mostValues};
+ghost use Rattle.store_matrices.specs.Numbers.{mostGiven};
+ghost use Rattle.read_numbers.specs.declared.Note as noting;
+ghost use Rattle.read_numbers.specs.Noting.{Bounded};
+ghost use Rattle.read_matrix.specs.Body.{noNote, keptNote, Keeps, TakesAlone, Goes};
+ghost use Rattle.read_matrix.specs.Run.{Leads, Ordered, Runs, numbersPart, TakesNumbers, pairsMatrix, pairsPart, TakesPair};
+use lex_keyword::Bracket;
+use store_matrices::First;
+use line_matrix::Matrix;
+use line_matrix::Rows;
+use read_numbers::Note;
+use read_line::Front;
+
+// "From `|` on, a line is comment".
+const COMMENT: u8 = b'|';
+
+const OPENING: u8 = b'[';
+
+const MOST_VALUES: u64 = 65536;
+
+// A line of a matrix, with no more of the state than it changes: whether it is taken here, or is a keyword that ends the matrix, the rule
+// that it breaks, the matrix and the count of values behind it, and what is noted.
+pub struct Data {
+    pub taken: bool,
+    pub ends: bool,
+    pub number: u64,
+    pub matrix: Matrix,
+    pub values: u64,
+    pub note: Note,
+}
+
+// A note of nothing: where lines are judged alone, or before the first of them is noted.
+fn new_note(whole: bool) -> Note
+    ensures { λ r. ⌜ r ≡ noNote whole ⌝ }
+{
+    let bandwidth = First {
+        told: false,
+        value: 0,
+    };
+    Note {
+        whole,
+        row: 1,
+        column: 1,
+        bandwidth,
+        greatest: 0,
+    }
+}
+
+// A line of numbers that is judged alone: where it breaks no rule, not all is noted any more.
+fn data_line(content: &[u8], matrix: Matrix, values: u64) -> Data
+    requires { ⌜ (isBlankLine (now content) ≡ false) × (bracketOf (now content) ≡ Plain) ⌝ }
+    ensures { λ r. ⌜ ((note : noting.Note) → TakesAlone (now (content .entry)) matrix values note r) ⌝ }
+{
+    let line = line_matrix::data_line(matrix.form, content);
+    let number = line_matrix::data_rule(line, matrix, values);
+    if number != 0 {
+        return Data {
+            taken: true,
+            ends: false,
+            number,
+            matrix,
+            values,
+            note: new_note(false),
+        };
+    }
+    Data {
+        taken: true,
+        ends: false,
+        number: 0,
+        matrix: line_matrix::data_next(line, matrix),
+        values: values + line.numbers,
+        note: new_note(false),
+    }
+}
+
+fn greater(a: u64, b: u64) -> u64
+    ensures { λ r. ⌜ r ≡ max a b ⌝ }
+{
+    if a < b { b } else { a }
+}
+
+// [Row] i: the next number stands at (i, i). Of [Bandwidth] the first counts.
+fn kept_note(key: u64, value: u64, note: Note) -> Note
+    ensures { λ r. ⌜ r ≡ keptNote key value note ⌝ }
+{
+    let before = note.bandwidth;
+    if key == lex_keyword::ROW {
+        return Note {
+            whole: note.whole,
+            row: value,
+            column: value,
+            bandwidth: before,
+            greatest: greater(note.greatest, value),
+        };
+    }
+    Note {
+        whole: note.whole,
+        row: note.row,
+        column: note.column,
+        bandwidth: store_matrices::first_told(before, value),
+        greatest: note.greatest,
+    }
+}
+
+// [Row] or [Bandwidth].
+fn kept_line(key: u64, argument: &[u8], matrix: Matrix, values: u64, note: Note) -> Data
+    requires { ⌜ (keepsMatrix key ≡ true) × Bounded note values ⌝ }
+    ensures { λ r. ⌜ Keeps key (now (argument .entry)) matrix values note r ⌝ }
+{
+    let number = line_keyword::kept_rule(key, argument, matrix);
+    if number != 0 {
+        return Data {
+            taken: true,
+            ends: false,
+            number,
+            matrix,
+            values,
+            note,
+        };
+    }
+    let whole = lex_number::read_integer(argument);
+    Data {
+        taken: true,
+        ends: false,
+        number: 0,
+        matrix: line_keyword::kept_next(key, argument, matrix, values),
+        values,
+        note: kept_note(key, whole.value, note),
+    }
+}
+
+// A line that is not taken here.
+fn left_line(ends: bool, matrix: Matrix, values: u64, note: Note) -> Data
+    ensures { λ r. ⌜ r ≡ record { taken = false; ends = ends; number = 0; matrix = matrix; values = values; note = note } ⌝ }
+{
+    Data {
+        taken: false,
+        ends,
+        number: 0,
+        matrix,
+        values,
+        note,
+    }
+}
+
+// A keyword: [Row] and [Bandwidth] keep a matrix, any other ends it.
+fn named_line(
+    key: u64,
+    start: usize,
+    content: &[u8],
+    matrix: Matrix,
+    values: u64,
+    note: Note,
+) -> Data
+    requires { ⌜ (isBlankLine (now content) ≡ false) × (bracketOf (now content) ≡ Keyword key start) × Bounded note values ⌝ }
+    ensures { λ r. ⌜ TakesAlone (now (content .entry)) matrix values note r ⌝ }
+{
+    if line_place::keeps_matrix(key) {
+        return kept_line(
+            key,
+            read_line::argument_of(content, start),
+            matrix,
+            values,
+            note,
+        );
+    }
+    left_line(key != doc::PLAIN, matrix, values, note)
+}
+
+// A line with a bracket at its front.
+fn opened_line(content: &[u8], matrix: Matrix, values: u64, note: Note) -> Data
+    requires { ⌜ (isBlankLine (now content) ≡ false) × Opens (now content) × Bounded note values ⌝ }
+    ensures { λ r. ⌜ TakesAlone (now (content .entry)) matrix values note r ⌝ }
+{
+    match lex_keyword::read_bracket(content) {
+        Bracket::Plain => left_line(false, matrix, values, note),
+        Bracket::Indented => left_line(false, matrix, values, note),
+        Bracket::Bad => left_line(false, matrix, values, note),
+        Bracket::Unknown => left_line(false, matrix, values, note),
+        Bracket::Later => left_line(false, matrix, values, note),
+        Bracket::Keyword(key, start) => named_line(key, start, content, matrix, values, note),
+    }
+}
+
+// A line of a matrix that is no part of a run.
+fn take_data(content: &[u8], matrix: Matrix, values: u64, note: Note) -> Data
+    requires { ⌜ Bounded note values ⌝ }
+    ensures { λ r. ⌜ TakesAlone (now (content .entry)) matrix values note r ⌝ }
+{
+    match read_line::front_of(content) {
+        Front::Blanks => Data {
+            taken: true,
+            ends: false,
+            number: 0,
+            matrix,
+            values,
+            note,
+        },
+        Front::Words => data_line(content, matrix, values),
+        Front::Opening => opened_line(content, matrix, values, note),
+    }
+}
+
+// Where the lines of a matrix end, or which rule one of them breaks, what they come to, and whether all their numbers are noted.
+pub struct BodyWalk {
+    pub at: usize,
+    pub line: u64,
+    pub part: Data,
+    pub noted: bool,
+}
+
+// Whether there is room for so many values.
+fn has_room(values: u64, words: usize) -> bool
+    ensures { λ r. ⌜ (r ≡ true → 3 * values ≤ words) ⌝ }
+{
+    if MOST_VALUES < values {
+        return false;
+    }
+    3 * values <= (words as u64)
+}
+
+// ---- runs of plain lines: what they change is kept in numbers of its own while they last, and any other line is left to take_data
+
+// Where a run of lines ends, and what the lines of the matrix come to there.
+struct Run {
+    at: usize,
+    line: u64,
+    part: Data,
+}
+
+// What stands at the front of the line that starts at a place, as `read_line::front_of` tells it of a line's content: the line's end is not
+// looked for.
+fn front_at(text: &[u8], here: usize) -> Front
+    ensures { λ r. ⌜ Fronted (contentAt (now (text .entry)) here) r ⌝ }
+{
+    let start = base::past_blanks(text, here);
+    if !lex_number::is_word_at(text, start, COMMENT) {
+        return Front::Blanks;
+    }
+    if base::byte_at(text, start) == OPENING {
+        return Front::Opening;
+    }
+    Front::Words
+}
+
+// Where the line behind the one whose content ends at a place starts.
+fn next_line(text: &[u8], end: usize) -> usize
+    ensures { λ r. ⌜ r ≡ lineAt commentByte (now (text .entry)) end .next ⌝ }
+{
+    let line = lex_line::line_at(text, end, COMMENT);
+    line.next
+}
+
+// A line of numbers: whether it is taken, whether what is noted still tells all, how many values are read, where the next stands, and where
+// the next line starts.
+struct TakenNumbers {
+    taken: bool,
+    whole: bool,
+    values: u64,
+    row: u64,
+    column: u64,
+    next: usize,
+}
+
+// A line that is no part of the run. One whose numbers are stored though it breaks a rule spoils what is noted.
+fn left_numbers(whole: bool, values: u64, row: u64, column: u64) -> TakenNumbers
+    ensures { λ r. ⌜ r ≡ record { taken = false; whole = whole; values = values; row = row; column = column; next = 0 } ⌝ }
+{
+    TakenNumbers {
+        taken: false,
+        whole,
+        values,
+        row,
+        column,
+        next: 0,
+    }
+}
+
+fn plain_numbers(
+    text: &[u8],
+    here: usize,
+    form: u64,
+    values: u64,
+    table: &mut [u64],
+    row: u64,
+    column: u64,
+) -> TakenNumbers
+    requires { ⌜ (isBlankLine (contentAt (now text) here) ≡ false) × (bracketOf (contentAt (now text) here) ≡ Plain) ⌝
+        ∗ ⌜ row ≤ mostGiven + values ⌝ ∗ ⌜ column ≤ mostGiven + values ⌝ ∗ ⌜ values ≤ mostValues ⌝ ∗ ⌜ (form ≡ sparse → ⊥) ⌝ }
+    ensures { λ r. ⌜ TakesNumbers (now (text .entry)) here form values row column (now (table .entry)) r (now (table .exit)) ⌝ }
+{
+    let numbers = read_numbers::read_numbers(text, here, form, values, table, row, column);
+    if !numbers.noted {
+        return left_numbers(false, values, row, column);
+    }
+    if MOST_VALUES - values < numbers.count {
+        return left_numbers(false, values, row, column);
+    }
+    TakenNumbers {
+        taken: true,
+        whole: true,
+        values: values + numbers.count,
+        row: numbers.row,
+        column: numbers.column,
+        next: next_line(text, numbers.end),
+    }
+}
+
+fn take_numbers(
+    text: &[u8],
+    here: usize,
+    form: u64,
+    values: u64,
+    table: &mut [u64],
+    row: u64,
+    column: u64,
+) -> TakenNumbers
+    requires { ⌜ row ≤ mostGiven + values ⌝ ∗ ⌜ column ≤ mostGiven + values ⌝ ∗ ⌜ values ≤ mostValues ⌝ ∗ ⌜ (form ≡ sparse → ⊥) ⌝ }
+    ensures { λ r. ⌜ TakesNumbers (now (text .entry)) here form values row column (now (table .entry)) r (now (table .exit)) ⌝ }
+{
+    match front_at(text, here) {
+        Front::Blanks => left_numbers(true, values, row, column),
+        Front::Words => plain_numbers(text, here, form, values, table, row, column),
+        Front::Opening => left_numbers(true, values, row, column),
+    }
+}
+
+fn numbers_passed(
+    at: usize,
+    line: u64,
+    part: Data,
+    whole: bool,
+    values: u64,
+    row: u64,
+    column: u64,
+) -> Run
+    ensures { λ r. ⌜ r ≡ record { at = at; line = line; part = numbersPart part whole values row column } ⌝ }
+{
+    let matrix = part.matrix;
+    let before = part.note;
+    let bandwidth = before.bandwidth;
+    let note = Note {
+        whole,
+        row,
+        column,
+        bandwidth,
+        greatest: before.greatest,
+    };
+    let reached = Data {
+        taken: true,
+        ends: false,
+        number: 0,
+        matrix,
+        values,
+        note,
+    };
+    Run {
+        at,
+        line,
+        part: reached,
+    }
+}
+
+// A run of lines of numbers.
+fn pass_numbers(text: &[u8], at: usize, line: u64, part: Data, table: &mut [u64]) -> Run
+    requires { ⌜ Runs (now text) at line part ⌝ ∗ ⌜ (part .matrix .form ≡ sparse → ⊥) ⌝ }
+    ensures { λ r. ⌜ Leads (now (text .entry)) at line part (now (table .entry)) r (now (table .exit)) ⌝ }
+{
+    let matrix = part.matrix;
+    let form = matrix.form;
+    let note = part.note;
+    let mut here = at;
+    let mut number = line;
+    let mut values = part.values;
+    let mut row = note.row;
+    let mut column = note.column;
+    while here < text.len() {
+        let next = take_numbers(text, here, form, values, table, row, column);
+        if !next.taken {
+            return numbers_passed(here, number, part, next.whole, values, row, column);
+        }
+        here = next.next;
+        number += 1;
+        values = next.values;
+        row = next.row;
+        column = next.column;
+    }
+    numbers_passed(here, number, part, true, values, row, column)
+}
+
+// A line of a Sparse_matrix: whether it is taken, whether what is noted still tells all, its column, and where the next line starts.
+struct TakenPair {
+    taken: bool,
+    whole: bool,
+    column: u64,
+    next: usize,
+}
+
+// A line that is no part of the run.
+fn left_pair(whole: bool) -> TakenPair
+    ensures { λ r. ⌜ r ≡ record { taken = false; whole = whole; column = 0; next = 0 } ⌝ }
+{
+    TakenPair {
+        taken: false,
+        whole,
+        column: 0,
+        next: 0,
+    }
+}
+
+fn plain_pair(text: &[u8], here: usize, values: u64, table: &mut [u64], row: u64) -> TakenPair
+    requires { ⌜ (isBlankLine (contentAt (now text) here) ≡ false) × (bracketOf (contentAt (now text) here) ≡ Plain) ⌝
+        ∗ ⌜ row ≤ mostGiven + values ⌝ }
+    ensures { λ r. ⌜ TakesPair (now (text .entry)) here values row (now (table .entry)) r (now (table .exit)) ⌝ }
+{
+    if MOST_VALUES <= values {
+        return left_pair(true);
+    }
+    let pair = read_numbers::read_pair(text, here, values, table, row);
+    if !pair.noted {
+        return left_pair(false);
+    }
+    TakenPair {
+        taken: true,
+        whole: true,
+        column: pair.column,
+        next: next_line(text, pair.end),
+    }
+}
+
+fn take_pair(text: &[u8], here: usize, values: u64, table: &mut [u64], row: u64) -> TakenPair
+    requires { ⌜ row ≤ mostGiven + values ⌝ }
+    ensures { λ r. ⌜ TakesPair (now (text .entry)) here values row (now (table .entry)) r (now (table .exit)) ⌝ }
+{
+    match front_at(text, here) {
+        Front::Blanks => left_pair(true),
+        Front::Words => plain_pair(text, here, values, table, row),
+        Front::Opening => left_pair(true),
+    }
+}
+
+// What a run of lines of a Sparse_matrix changes of its rows.
+fn pairs_matrix(matrix: Matrix, least: u64, greatest: u64, fits: bool) -> Matrix
+    ensures { λ r. ⌜ r ≡ pairsMatrix matrix least greatest fits ⌝ }
+{
+    let before = matrix.rows;
+    let rows = Rows {
+        row: before.row,
+        above: before.above,
+        from: before.from,
+        least,
+        greatest,
+        fits,
+    };
+    Matrix {
+        form: matrix.form,
+        band: matrix.band,
+        first: matrix.first,
+        rows,
+    }
+}
+
+fn pairs_passed(
+    at: usize,
+    line: u64,
+    part: Data,
+    whole: bool,
+    values: u64,
+    matrix: Matrix,
+    named: u64,
+) -> Run
+    ensures { λ r. ⌜ r ≡ record { at = at; line = line; part = pairsPart part whole values matrix named } ⌝ }
+{
+    let before = part.note;
+    let bandwidth = before.bandwidth;
+    let note = Note {
+        whole,
+        row: before.row,
+        column: before.column,
+        bandwidth,
+        greatest: named,
+    };
+    let reached = Data {
+        taken: true,
+        ends: false,
+        number: 0,
+        matrix,
+        values,
+        note,
+    };
+    Run {
+        at,
+        line,
+        part: reached,
+    }
+}
+
+// A run of lines of a Sparse_matrix.
+fn pass_pairs(text: &[u8], at: usize, line: u64, part: Data, table: &mut [u64]) -> Run
+    requires { ⌜ Runs (now text) at line part ⌝ ∗ ⌜ part .matrix .form ≡ sparse ⌝ }
+    ensures { λ r. ⌜ Leads (now (text .entry)) at line part (now (table .entry)) r (now (table .exit)) ⌝ }
+{
+    let matrix = part.matrix;
+    let rows = matrix.rows;
+    let note = part.note;
+    let row = note.row;
+    let mut here = at;
+    let mut number = line;
+    let mut values = part.values;
+    let mut least = rows.least;
+    let mut greatest = rows.greatest;
+    let mut fits = rows.fits;
+    let mut named = note.greatest;
+    while here < text.len() {
+        let next = take_pair(text, here, values, table, row);
+        if !next.taken {
+            let reached = pairs_matrix(matrix, least, greatest, fits);
+            return pairs_passed(here, number, part, next.whole, values, reached, named);
+        }
+        here = next.next;
+        number += 1;
+        values += 1;
+        fits = base::and(fits, least <= next.column);
+        least = next.column + 1;
+        greatest = greater(greatest, next.column);
+        named = greater(named, next.column);
+    }
+    let reached = pairs_matrix(matrix, least, greatest, fits);
+    pairs_passed(here, number, part, true, values, reached, named)
+}
+
+// A form with rows has one.
+fn is_ordered(matrix: Matrix) -> bool
+    ensures { λ r. ⌜ (r ≡ true → Ordered matrix) ⌝ }
+{
+    if matrix.form == line_matrix::DIAGONAL {
+        return true;
+    }
+    let rows = matrix.rows;
+    rows.row != 0
+}
+
+// A run of plain lines, which may be none.
+fn pass_run(text: &[u8], at: usize, line: u64, part: Data, table: &mut [u64]) -> Run
+    requires { ⌜ at ≤ length (now text) ⌝ ∗ ⌜ line ≤ at + 1 ⌝ ∗ ⌜ Bounded (part .note) (part .values) ⌝ }
+    ensures { λ r. ⌜ Leads (now (text .entry)) at line part (now (table .entry)) r (now (table .exit)) ⌝ }
+{
+    let note = part.note;
+    if !note.whole {
+        return Run { at, line, part };
+    }
+    if MOST_VALUES < part.values {
+        return Run { at, line, part };
+    }
+    let matrix = part.matrix;
+    if !is_ordered(matrix) {
+        return Run { at, line, part };
+    }
+    if matrix.form == line_matrix::SPARSE {
+        return pass_pairs(text, at, line, part, table);
+    }
+    pass_numbers(text, at, line, part, table)
+}
+
+// Goes over the lines of a matrix, up to the keyword that ends it.
+pub fn pass_data(
+    text: &[u8],
+    at: usize,
+    line: u64,
+    matrix: Matrix,
+    values: u64,
+    table: &mut [u64],
+) -> BodyWalk
+    requires { ⌜ (at ≤ length (now text)) × (line ≤ at + 1) ⌝ }
+    ensures { λ r. ⌜ Goes (now (text .entry)) at line matrix values (now (table .entry)) r (now (table .exit)) ⌝ }
+{
+    let mut here = at;
+    let mut number = line;
+    let mut part = Data {
+        taken: true,
+        ends: false,
+        number: 0,
+        matrix,
+        values,
+        note: new_note(has_room(values, table.len())),
+    };
+    while here < text.len() {
+        let run = pass_run(text, here, number, part, table);
+        here = run.at;
+        number = run.line;
+        part = run.part;
+        if text.len() <= here {
+            let note = part.note;
+            return BodyWalk {
+                at: here,
+                line: number,
+                part,
+                noted: note.whole,
+            };
+        }
+        let found = lex_line::line_at(text, here, COMMENT);
+        let content = found.content;
+        let next = take_data(&text[here..content], part.matrix, part.values, part.note);
+        if !next.taken {
+            let note = part.note;
+            return BodyWalk {
+                at: here,
+                line: number,
+                part,
+                noted: base::and(next.ends, note.whole),
+            };
+        }
+        here = found.next;
+        part = next;
+        if part.number != 0 {
+            return BodyWalk {
+                at: here,
+                line: number,
+                part,
+                noted: false,
+            };
+        }
+        number += 1;
+    }
+    let note = part.note;
+    BodyWalk {
+        at: here,
+        line: number,
+        part,
+        noted: note.whole,
+    }
+}

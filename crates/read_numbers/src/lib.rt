@@ -1,0 +1,171 @@
+// A line of numbers judged and noted at once: each number is read where it stands in the text, and its row, column and value word are stored at
+// the front of the lent table, behind those of the values read before it. A line is gone over once: where it ends is seen by the way.
+ghost use mathlib.Core.Path.{_≡_};
+ghost use mathlib.Core.Bool.{true, false};
+ghost use Prim.Native.Nat.{_+_, _≤_};
+ghost use Rattle.line_matrix.specs.Matrix.{sparse, mostValues};
+ghost use Rattle.read_line.specs.Walk.{contentAt};
+ghost use Rattle.store_matrices.specs.Numbers.{mostGiven};
+ghost use Rattle.read_numbers.specs.Noting.{NotesNumbers, NotesPair};
+ghost use Rattle.read_numbers.specs.Steps.{Stores, numbersOf, pairOf};
+use store_matrices::Cursor;
+use store_matrices::First;
+
+// "From `|` on, a line is comment".
+const COMMENT: u8 = b'|';
+
+// How many words a value has.
+const WORDS: usize = 3;
+
+// What the lines of a matrix have said so far: whether all their numbers are noted, where the next number stands, the bandwidth, and the
+// greatest row or column that is named.
+pub struct Note {
+    pub whole: bool,
+    pub row: u64,
+    pub column: u64,
+    pub bandwidth: First,
+    pub greatest: u64,
+}
+
+// What a line of numbers comes to: whether all are numbers within their bounds and noted, and then how many they are, where the next number
+// stands, and where the line's content ends.
+pub struct Numbers {
+    pub noted: bool,
+    pub count: u64,
+    pub row: u64,
+    pub column: u64,
+    pub end: usize,
+}
+
+// What a line of a Sparse_matrix comes to: whether column and value are within their bounds and noted, and then the column, and where the
+// line's content ends.
+pub struct Pair {
+    pub noted: bool,
+    pub column: u64,
+    pub end: usize,
+}
+
+// Whether a table of so many words has room for a value at a place.
+fn has_room(place: usize, words: usize) -> bool
+    ensures { λ r. ⌜ (r ≡ true → place + 3 ≤ words) ⌝ }
+{
+    if words < place {
+        return false;
+    }
+    WORDS <= words - place
+}
+
+fn numbers_of(noted: bool, cursor: Cursor, end: usize) -> Numbers
+    ensures { λ r. ⌜ r ≡ numbersOf noted cursor end ⌝ }
+{
+    Numbers {
+        noted,
+        count: cursor.count,
+        row: cursor.row,
+        column: cursor.column,
+        end,
+    }
+}
+
+// The numbers from a place up to the end of its line, the first of which stands in this row and column: each is read where it stands and
+// stored. Where one is none, or out of its bounds, or there is no room, they are not noted.
+fn store_numbers(
+    text: &[u8],
+    from: usize,
+    form: u64,
+    values: u64,
+    table: &mut [u64],
+    row: u64,
+    column: u64,
+) -> Numbers
+    requires { ⌜ row ≤ mostGiven + values ⌝ ∗ ⌜ column ≤ mostGiven + values ⌝ ∗ ⌜ values ≤ mostValues ⌝ }
+    ensures { λ r. ⌜ Stores form (now (text .entry)) from (now (table .entry)) values row column (now (table .exit)) r ⌝ }
+{
+    let mut at = from;
+    let mut cursor = Cursor {
+        row,
+        column,
+        count: 0,
+        place: WORDS * (values as usize),
+    };
+    loop {
+        let start = base::past_blanks(text, at);
+        if !lex_number::is_word_at(text, start, COMMENT) {
+            return numbers_of(true, cursor, start);
+        }
+        if !has_room(cursor.place, table.len()) {
+            return numbers_of(false, cursor, start);
+        }
+        let read = lex_number::number_in(text, start, COMMENT);
+        let number = read.number;
+        if !lex_number::is_value(number) {
+            return numbers_of(false, cursor, start);
+        }
+        cursor = store_matrices::put_number(number, form, table, cursor);
+        at = read.end;
+    }
+}
+
+// A line of numbers, the first of which stands in this row and column.
+pub fn read_numbers(
+    text: &[u8],
+    here: usize,
+    form: u64,
+    values: u64,
+    table: &mut [u64],
+    row: u64,
+    column: u64,
+) -> Numbers
+    requires { ⌜ row ≤ mostGiven + values ⌝ ∗ ⌜ column ≤ mostGiven + values ⌝ ∗ ⌜ values ≤ mostValues ⌝ ∗ ⌜ (form ≡ sparse → ⊥) ⌝ }
+    ensures { λ r. ⌜ NotesNumbers form (now (text .entry)) here (now (table .entry)) values row column (now (table .exit)) r ⌝ }
+{
+    store_numbers(text, here, form, values, table, row, column)
+}
+
+// A line of a Sparse_matrix that is not noted.
+fn no_pair(end: usize) -> Pair
+    ensures { λ r. ⌜ r ≡ record { noted = false; column = 0; end = end } ⌝ }
+{
+    Pair {
+        noted: false,
+        column: 0,
+        end,
+    }
+}
+
+fn pair_of(column: u64, numbers: Numbers) -> Pair
+    ensures { λ r. ⌜ r ≡ pairOf column numbers ⌝ }
+{
+    if !numbers.noted {
+        return no_pair(numbers.end);
+    }
+    if numbers.count != 1 {
+        return no_pair(numbers.end);
+    }
+    Pair {
+        noted: true,
+        column,
+        end: numbers.end,
+    }
+}
+
+// A line of a Sparse_matrix, which has a word: a column, and behind it a value.
+pub fn read_pair(text: &[u8], here: usize, values: u64, table: &mut [u64], row: u64) -> Pair
+    requires { ⌜ row ≤ mostGiven + values ⌝ ∗ ⌜ values ≤ mostValues ⌝ }
+    ensures { λ r. ⌜ NotesPair (now (text .entry)) here (now (table .entry)) values row (now (table .exit)) r ⌝ }
+{
+    let start = base::past_blanks(text, here);
+    if !lex_number::is_word_at(text, start, COMMENT) {
+        return no_pair(start);
+    }
+    let end = lex_number::word_end(text, start, COMMENT);
+    let column = lex_number::read_integer(&text[start..end]);
+    if !column.formed {
+        return no_pair(start);
+    }
+    if !lex_number::is_within(1, 256, column.value) {
+        return no_pair(start);
+    }
+    let numbers = store_numbers(text, end, line_matrix::SPARSE, values, table, row, column.value);
+    pair_of(column.value, numbers)
+}

@@ -1,0 +1,176 @@
+// The walk over a whole text, rules 5 to 17: it goes from line to line, and notes each matrix as it goes, so that nobody has to read its
+// numbers again.
+ghost use mathlib.Core.Path.{_≡_};
+ghost use Prim.Native.Nat.{_≤_, _<_};
+ghost use lib.ListN.{length, replicate};
+ghost use Rattle.line_place.specs.Place as place;
+ghost use Rattle.line_keyword.specs.declared.Counts.{Counts};
+ghost use Rattle.read_line.specs.Reading.{readingOf};
+ghost use Rattle.read_line.specs.declared.Reading.the-variants.{Read};
+ghost use Rattle.read_line.specs.Walk.{Reached, Onward};
+ghost use Rattle.read_text.specs.Forward.{Carries, notesAfter, notesBehind};
+use line_keyword::State;
+use read_matrix::BodyWalk;
+use line_matrix::Matrix;
+use read_line::Reading;
+use read_line::Walk;
+
+// How many words a note has.
+const NOTE: usize = 9;
+
+// A text that is accepted has no more matrices.
+const MOST_MATRICES: u64 = 1024;
+
+// The words of a note, at the place of the matrix that was opened last, if there is one.
+fn put_note(notes: &mut [u64], matrices: u64, words: &[u64])
+    requires { ⌜ length (now words) ≡ 9 ⌝ }
+    ensures { λ _. ⌜ now (notes .exit) ≡ notesAfter matrices (now (words .entry)) (now (notes .entry)) ⌝ }
+{
+    if matrices < 1 {
+        return;
+    }
+    if MOST_MATRICES < matrices {
+        return;
+    }
+    let at = NOTE * ((matrices - 1) as usize);
+    if notes.len() < at + NOTE {
+        return;
+    }
+    base::put_words(notes, at, words);
+}
+
+// Notes a matrix whose numbers are all stored: which lines it has, and what they say.
+fn note_matrix(
+    at: usize,
+    line: u64,
+    matrix: Matrix,
+    values: u64,
+    matrices: u64,
+    walk: BodyWalk,
+    notes: &mut [u64],
+)
+    requires { ⌜ values ≤ walk .part .values ⌝ }
+    ensures { λ _. ⌜ now (notes .exit) ≡ notesBehind at line matrix values matrices walk (now (notes .entry)) ⌝ }
+{
+    if !walk.noted {
+        return;
+    }
+    let part = walk.part;
+    if part.number != 0 {
+        return;
+    }
+    let note = part.note;
+    let bandwidth = note.bandwidth;
+    let words = [
+        at as u64,
+        line,
+        matrix.form,
+        values,
+        walk.at as u64,
+        walk.line,
+        store_matrices::told_in(bandwidth),
+        note.greatest,
+        part.values - values,
+    ];
+    put_note(notes, matrices, &words);
+}
+
+// The lines of a matrix up to the keyword that ends it, or that keyword's line.
+fn read_data(
+    text: &[u8],
+    at: usize,
+    line: u64,
+    s: State,
+    table: &mut [u64],
+    notes: &mut [u64],
+) -> Walk
+    requires { ⌜ (at < length (now text)) × Onward (now text) at line s × (s .place ≡ place.matrix)
+        × Carries (now text) (now table) (now notes) (s .counts .values) ⌝ }
+    ensures { λ r. ⌜ Reached (now (text .entry)) at line s r
+        × (r .number ≡ 0 → Carries (now (text .entry)) (now (table .exit)) (now (notes .exit)) (r .state .counts .values)) ⌝ }
+{
+    let matrix = s.matrix;
+    let mut counts = s.counts;
+    let walk = read_matrix::pass_data(text, at, line, matrix, counts.values, table);
+    if at < walk.at {
+        note_matrix(
+            at,
+            line,
+            matrix,
+            counts.values,
+            counts.matrices,
+            walk,
+            notes,
+        );
+        let part = walk.part;
+        let reached = part.matrix;
+        counts.values = part.values;
+        let mut state = s;
+        state.matrix = reached;
+        state.counts = counts;
+        return Walk {
+            number: part.number,
+            at: walk.at,
+            line: walk.line,
+            state,
+        };
+    }
+    read_line::read_one(text, at, line, s)
+}
+
+// The line at a place, or lines that change nothing or one part alone.
+fn read_line(
+    text: &[u8],
+    at: usize,
+    line: u64,
+    s: State,
+    table: &mut [u64],
+    notes: &mut [u64],
+) -> Walk
+    requires { ⌜ (at < length (now text)) × Onward (now text) at line s × Carries (now text) (now table) (now notes) (s .counts .values) ⌝ }
+    ensures { λ r. ⌜ Reached (now (text .entry)) at line s r
+        × (r .number ≡ 0 → Carries (now (text .entry)) (now (table .exit)) (now (notes .exit)) (r .state .counts .values)) ⌝ }
+{
+    if s.place == line_place::MATRIX {
+        return read_data(text, at, line, s, table, notes);
+    }
+    if s.place == line_place::PATH {
+        return read_line::read_path(text, at, line, s);
+    }
+    if s.place == line_place::PINS {
+        return read_line::read_pins(text, at, line, s);
+    }
+    let passing = read_line::pass_quiet(text, at, line, s.place);
+    if at < passing.at {
+        return Walk {
+            number: 0,
+            at: passing.at,
+            line: passing.line,
+            state: s,
+        };
+    }
+    read_line::read_one(text, at, line, s)
+}
+
+// Rules 5 to 17 over a whole text: the counts of all records, or the rule that is broken first and its line. Where none is broken, every
+// note that is made tells the truth of the words at the front of the table.
+pub fn read(text: &[u8], table: &mut [u64], notes: &mut [u64]) -> Reading
+    requires { ⌜ now notes ≡ replicate (length (now notes)) 0 ⌝ }
+    ensures { λ r. ⌜ (r ≡ readingOf (now (text .entry)))
+        × ((c : Counts) → r ≡ Read c → Carries (now (text .entry)) (now (table .exit)) (now (notes .exit)) (c .values)) ⌝ }
+{
+    let mut at = 0;
+    let mut line = 1;
+    let mut s = line_keyword::start_state();
+    while at < text.len() {
+        let walk = read_line(text, at, line, s, table, notes);
+        if walk.number != 0 {
+            return Reading::Refused(walk.number, walk.line);
+        }
+        at = walk.at;
+        line = walk.line;
+        let state = walk.state;
+        s = state;
+    }
+    read_line::at_end(s)
+}

@@ -1,9 +1,0 @@
-pub mod TableLaws
-pub mod NthLaws
-pub mod RisingLaws
-pub mod OrderLaws
-pub mod KindLaws
-pub mod TwiceLaws
-pub mod ListLaws
-pub mod ApartLaws
-pub mod FirstLaws

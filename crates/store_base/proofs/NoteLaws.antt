@@ -1,0 +1,96 @@
+-- Laws of what is noted of matrices: it stays true when the words that the notes stand for are moved up in the table, and while records are
+-- stored before those that are still to be taken.
+-- Assumes nothing.
+use mathlib.Core.Path.{_≡_, sym, _∙_, ap}
+use mathlib.Core.List.{List, _++_}
+use Prim.Native.Nat.{ℕ, _+_, _-_, _*_, _≤_, _<_}
+use native.Mathlib.Nat.{zero-add}
+use native.Mathlib.Omega.{arith}
+use lib.ListN.{length, take, drop, getD, replicate, length-drop, length-replicate, take-append-drop}
+use lib.Seq.{sets, length-take-le, take-append-le, drop-append-le, drop-append-add, drop-drop}
+use Rattle.table_layout.specs.Layout.{values}
+use Rattle.table_layout.specs.Filling.{Write, partOf, widthOf, position, fillingAfter, Fits}
+use Rattle.table_layout.specs.declared.Filling.{Filling}
+use Rattle.table_layout.proofs.LiftLaws.{sets-zeros}
+use Rattle.table_layout.proofs.BehindLaws.{kept-behind}
+use Rattle.store_base.specs.Stores.{Stores}
+use Rattle.store_base.specs.Notes.{Note, noteAt, Tells, wordsOf, Made, Noted, Before}
+use Rattle.store_base.proofs.StoreLaws.{count-after, bases-kept}
+
+-- ---- moved up
+
+-- words that lie in the first part of a list
+front-words : (a b : ℕ) (xs ys : List ℕ) → a + b ≤ length xs → take b (drop a (xs ++ ys)) ≡ take b (drop a xs)
+front-words a b xs ys h =
+    let l : length (drop a xs) ≡ length xs - a = length-drop a xs in
+    let k : b ≤ length (drop a xs) = omega arith in
+    ap (take b) (drop-append-le a xs ys (omega arith)) ∙ take-append-le b (drop a xs) ys k
+
+words-moved : (table : List ℕ) (a b m up : ℕ) → a + b ≤ m → up + m ≤ length table →
+    take b (drop (up + a) (sets (replicate (length table) 0) up (take m table))) ≡ take b (drop a table)
+words-moved table a b m up h room =
+    let l : length (take m table) ≡ m = length-take-le m table (omega arith) in
+    let k : up + length (take m table) ≤ length table = omega arith in
+    let n : a + b ≤ length (take m table) = omega arith in
+    let behind : List ℕ = replicate (length table - (up + length (take m table))) 0 in
+    let z : length {A = ℕ} (replicate up 0) ≡ up = length-replicate up 0 in
+    let d : drop (up + a) (replicate up 0 ++ (take m table ++ behind)) ≡ drop a (take m table ++ behind) =
+    ap (λ (i : ℕ). drop (i + a) (replicate up 0 ++ (take m table ++ behind))) (sym z) ∙ drop-append-add (replicate up 0) (take m table ++ behind) a in
+    ap (λ (u : List ℕ). take b (drop (up + a) u)) (sets-zeros (length table) up (take m table) k)
+    ∙ ap (take b) d
+    ∙ front-words a b (take m table) behind n
+    ∙ sym (front-words a b (take m table) (drop m table) n)
+    ∙ ap (λ (u : List ℕ). take b (drop a u)) (take-append-drop m table)
+
+-- the words of all notes, moved up from the front of the table
+pub noted-lifted : (t table notes : List ℕ) (v up : ℕ) → Noted t table notes 0 0 → Before notes v → up + 3 * v ≤ length table →
+    Noted t (sets (replicate (length table) 0) up (take (3 * v) table)) notes up 0
+noted-lifted t table notes v up noted before room = record { tells = told }
+  where
+    told : (i : ℕ) → Made (noteAt notes i) → 0 ≤ noteAt notes i .first →
+        Tells t (noteAt notes i) (wordsOf (sets (replicate (length table) 0) up (take (3 * v) table)) up (noteAt notes i))
+    told i made from =
+        let n : Note = noteAt notes i in
+        let b : n .first + n .count ≤ v = before .before i made in
+        let h : 3 * n .first + 3 * n .count ≤ 3 * v = omega arith in
+        let e : wordsOf (sets (replicate (length table) 0) up (take (3 * v) table)) up n ≡ take (3 * n .count) (drop (3 * n .first) table) =
+        words-moved table (3 * n .first) (3 * n .count) (3 * v) up h room in
+        let w : Tells t n (take (3 * n .count) (drop (3 * n .first) table)) = rw (zero-add (3 * n .first)) at (noted .tells i made from) in
+        rw e w
+
+-- ---- while records are stored
+
+-- what is the same from a place on is so from any later one
+drop-later : (m n : ℕ) (u v : List ℕ) → m ≤ n → drop m u ≡ drop m v → drop n u ≡ drop n v
+drop-later m n u v h e =
+    let k : n ≡ m + (n - m) = omega arith in
+    let a : drop n u ≡ drop (n - m) (drop m u) = ap (λ (i : ℕ). drop i u) k ∙ sym (drop-drop (n - m) m u) in
+    let b : drop n v ≡ drop (n - m) (drop m v) = ap (λ (i : ℕ). drop i v) k ∙ sym (drop-drop (n - m) m v) in
+    a ∙ ap (drop (n - m)) e ∙ sym b
+
+pub noted-kept : (t table notes table' : List ℕ) (f f' : Filling) (ws : List Write) → Stores f table ws f' table' → Fits (length table) f ws →
+    length (f .counts) ≡ 7 → Noted t table notes (getD (f .bases) values 0) (getD (f .counts) values 0) →
+    Noted t table' notes (getD (f' .bases) values 0) (getD (f' .counts) values 0)
+unfolding position widthOf
+noted-kept t table notes table' f f' ws stores fits seven noted = record { tells = told }
+  where
+    told : (i : ℕ) → Made (noteAt notes i) → getD (f' .counts) values 0 ≤ noteAt notes i .first →
+        Tells t (noteAt notes i) (wordsOf table' (getD (f' .bases) values 0) (noteAt notes i))
+    told i made from =
+        let n : Note = noteAt notes i in
+        let base : ℕ = getD (f .bases) values 0 in
+        let b : getD (f' .bases) values 0 ≡ base =
+        ap (λ (g : Filling). getD (g .bases) values 0) (stores .filled) ∙ ap (λ (bs : List ℕ). getD bs values 0) (bases-kept ws f) in
+        let l : values < length (f .counts) = omega arith in
+        let k : getD (f' .counts) values 0 ≡ getD (f .counts) values 0 + length (partOf values ws) =
+        ap (λ (g : Filling). getD (g .counts) values 0) (stores .filled) ∙ count-after values ws f l in
+        let p : position (fillingAfter ws f) values ≡ base + 3 * getD (f' .counts) values 0 =
+        ap (λ (g : Filling). position g values) (sym (stores .filled)) ∙ ap (λ (x : ℕ). x + 3 * getD (f' .counts) values 0) b in
+        let s : drop (position (fillingAfter ws f) values) table' ≡ drop (position (fillingAfter ws f) values) table =
+        ap (drop (position (fillingAfter ws f) values)) (stores .stored) ∙ kept-behind (length table) f ws table fits seven in
+        let h : position (fillingAfter ws f) values ≤ base + 3 * n .first = omega arith in
+        let d : drop (base + 3 * n .first) table' ≡ drop (base + 3 * n .first) table =
+        drop-later (position (fillingAfter ws f) values) (base + 3 * n .first) table' table h s in
+        let e : wordsOf table' (getD (f' .bases) values 0) n ≡ wordsOf table base n =
+        ap (λ (x : ℕ). wordsOf table' x n) b ∙ ap (take (3 * n .count)) d in
+        rw e (noted .tells i made (omega arith))

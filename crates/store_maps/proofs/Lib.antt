@@ -1,0 +1,3 @@
+pub mod PinLaws
+pub mod MapLaws
+pub mod PassLaws

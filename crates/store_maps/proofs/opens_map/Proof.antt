@@ -1,0 +1,18 @@
+-- `store_maps::opens_map` meets its contract.
+-- Assumes nothing.
+use Rattle.base.proofs.IfLaws.{chain}
+use borrow.Author.Needs.{needs}
+use Rattle.store_maps.proofs.opens_map.Statement.{statement}
+use Rattle.store_maps.proofs.opens_map.Tie as tie
+
+is-in-family-requires : tie.Need-is-in-family-requires
+is-in-family-requires c κs = search needs
+
+returns : tie.Need-returns
+returns c = search chain
+
+returns-2 : tie.Need-returns-2
+returns-2 c = search chain
+
+pub opens-map-spec : {M : Type 1} → statement M
+opens-map-spec = tie.close (tie.spec is-in-family-requires returns returns-2)

@@ -1,0 +1,229 @@
+-- Laws of what was noted of a matrix: its values stand in the table where they would be stored, so that storing them changes nothing, and
+-- what a note says of the lines is what the lines say.
+-- Assumes nothing.
+use mathlib.Core.Path.{_≡_, refl, sym, _∙_, ap}
+use mathlib.Core.Bool.{Bool, true}
+use mathlib.Core.List.{List, [], _∷_, map}
+use Prim.Native.Nat.{ℕ, zero, suc, _+_, _*_, _^_, _≤_, _<_}
+use native.Mathlib.Nat.{add-zero, le-of-eq}
+use native.Mathlib.Omega.{arith}
+use mir.Syntax.{w64}
+use mir.Val as val
+use lib.ListN.{length, take, drop, getD, set, length-set}
+use lib.Dec.{eqb}
+use lib.Seq.{sets, getD-take, getD-drop, drop-drop, set-getD, set-set, getD-set-same}
+use borrow.Author.Tests.{eqb-true, eqb-false, not-true}
+use Rattle.base.specs.If.{both}
+use Rattle.base.proofs.IfLaws.{if-true, both-first, both-second}
+use Rattle.table_layout.specs.Layout.{joined}
+use Rattle.table_layout.specs.Filling.{widthOf, position, counted, tableAfter, fillingAfter, Fits}
+use Rattle.table_layout.specs.declared.Filling.{Filling}
+use Rattle.table_layout.proofs.FillingLaws.{fits-room, fits-next}
+use Rattle.doc.specs.Document.{Value, valuesFrom}
+use Rattle.store_base.specs.Writes.{valueWrite}
+use Rattle.store_base.specs.Stores.{Stores}
+use Rattle.store_base.specs.Notes.{valuesWords, Note, noteAt, noteValues, Tells, wordsOf, Noted}
+use Rattle.store_matrices.specs.declared.NoteWords.{NoteWords}
+use Rattle.store_matrices.specs.declared.MatrixWalk.{MatrixWalk}
+use Rattle.store_matrices.specs.Told.{toldOr}
+use Rattle.store_matrices.specs.Noted.{noteIn, isOf, notedWalk}
+use Rattle.store_matrices.specs.Matrices.{matrixLines, PutsValues, FillsValues}
+
+-- ---- words that stand where they are stored
+
+drop-take-one : (n : ℕ) (l : List ℕ) → drop 1 (take (suc n) l) ≡ take n (drop 1 l)
+drop-take-one zero [] = refl
+drop-take-one (suc n) [] = refl
+drop-take-one n (x ∷ l) = refl
+
+pub sets-same : (t : List ℕ) (p : ℕ) (ws : List ℕ) → take (length ws) (drop p t) ≡ ws → sets t p ws ≡ t
+sets-same t p [] h = refl
+sets-same t p (w ∷ ws) h =
+    let z : p + 0 ≡ p = add-zero p in
+    let o : p + 1 ≡ suc p = omega arith in
+    let a : getD (take (suc (length ws)) (drop p t)) 0 0 ≡ getD (drop p t) 0 0 = getD-take (suc (length ws)) (drop p t) 0 0 (omega arith) in
+    let b : getD (drop p t) 0 0 ≡ getD t p 0 = getD-drop p t 0 0 ∙ ap (λ (i : ℕ). getD t i 0) z in
+    let e : getD t p 0 ≡ w = sym b ∙ sym a ∙ ap (λ (l : List ℕ). getD l 0 0) h in
+    let s : set t p w ≡ t = ap (set t p) (sym e) ∙ set-getD t p 0 in
+    let r : take (length ws) (drop (suc p) t) ≡ ws =
+    ap (take (length ws)) (ap (λ (i : ℕ). drop i t) (sym o) ∙ sym (drop-drop 1 p t)) ∙ sym (drop-take-one (length ws) (drop p t)) ∙ ap (drop 1) h in
+    ap (λ (u : List ℕ). sets u (suc p) ws) s ∙ sets-same t (suc p) ws r
+
+-- ---- values one after another
+
+pub values-long : (vs : List Value) → length (valuesWords vs) ≡ 3 * length vs
+unfolding valuesWords joined
+values-long [] = refl
+values-long (v ∷ vs) = let h : length (valuesWords vs) ≡ 3 * length vs = values-long vs in omega arith
+
+module _ (f : Filling) (seven : length (f .counts) ≡ 7) where
+  next-seven : length (counted f 6 .counts) ≡ 7
+  unfolding counted
+  next-seven = length-set (f .counts) 6 (getD (f .counts) 6 0 + 1) ∙ seven
+
+  next-count : getD (counted f 6 .counts) 6 0 ≡ getD (f .counts) 6 0 + 1
+  unfolding counted
+  next-count = getD-set-same (f .counts) 6 (getD (f .counts) 6 0 + 1) 0 (rw seven (omega arith))
+
+  next-position : position (counted f 6) 6 ≡ suc (suc (suc (position f 6)))
+  unfolding position widthOf counted
+  next-position =
+      let c : getD (set (f .counts) 6 (getD (f .counts) 6 0 + 1)) 6 0 ≡ getD (f .counts) 6 0 + 1 = next-count in
+      omega arith
+
+pub values-over : (vs : List Value) (f : Filling) (t : List ℕ) → length (f .counts) ≡ 7 →
+    tableAfter (map valueWrite vs) f t ≡ sets t (position f 6) (valuesWords vs)
+unfolding tableAfter valueWrite valuesWords joined
+values-over [] f t seven = refl
+values-over (v ∷ vs) f t seven =
+    values-over vs (counted f 6) (sets t (position f 6) (v .row ∷ v .column ∷ v .word ∷ [])) (next-seven f seven)
+    ∙ ap (λ (p : ℕ). sets (sets t (position f 6) (v .row ∷ v .column ∷ v .word ∷ [])) p (valuesWords vs)) (next-position f seven)
+
+pub filling-over : (vs : List Value) (f : Filling) → length (f .counts) ≡ 7 →
+    fillingAfter (map valueWrite vs) f ≡ record { bases = f .bases; counts = set (f .counts) 6 (getD (f .counts) 6 0 + length vs) }
+unfolding fillingAfter valueWrite counted
+filling-over [] f seven =
+    let z : getD (f .counts) 6 0 + 0 ≡ getD (f .counts) 6 0 = add-zero (getD (f .counts) 6 0) in
+    rw (z, set-getD (f .counts) 6 0)
+filling-over (v ∷ vs) f seven =
+    let n : getD (f .counts) 6 0 + 1 + length vs ≡ getD (f .counts) 6 0 + suc (length vs) = omega arith in
+    filling-over vs (counted f 6) (next-seven f seven)
+    ∙ rw (next-count f seven, set-set (f .counts) 6 (getD (f .counts) 6 0 + 1) (getD (f .counts) 6 0 + 1 + length vs), n)
+
+width-three : widthOf 6 ≡ 3
+unfolding widthOf
+width-three = refl
+
+-- values that fit end within the table
+values-room : (size : ℕ) (vs : List Value) (f : Filling) → length (f .counts) ≡ 7 → position f 6 ≤ size → Fits size f (map valueWrite vs) →
+    position f 6 + 3 * length vs ≤ size
+unfolding valueWrite
+values-room size [] f seven room h = omega arith
+values-room size (v ∷ vs) f seven room h =
+    let r : position f 6 + widthOf 6 ≤ size = fits-room size f (valueWrite v) (map valueWrite vs) h in
+    let p : position (counted f 6) 6 ≡ suc (suc (suc (position f 6))) = next-position f seven in
+    let w : widthOf 6 ≡ 3 = width-three in
+    let k : position (counted f 6) 6 + 3 * length vs ≤ size =
+    values-room size vs (counted f 6) (next-seven f seven) (omega arith) (fits-next size f (valueWrite v) (map valueWrite vs) h) in
+    omega arith
+
+-- the first of them begins there
+value-there : (size : ℕ) (v : Value) (vs : List Value) (f : Filling) → Fits size f (map valueWrite (v ∷ vs)) → position f 6 ≤ size
+unfolding valueWrite
+value-there size v vs f h =
+    let r : position f 6 + widthOf 6 ≤ size = fits-room size f (valueWrite v) (map valueWrite vs) h in
+    omega arith
+
+-- so few that no sum wraps
+values-few : (size : ℕ) (vs : List Value) (f : Filling) → length (f .counts) ≡ 7 → Fits size f (map valueWrite vs) → size * 8 < 2 ^ 63 →
+    0 < length vs → getD (f .counts) 6 0 + length vs < 2 ^ 64
+unfolding position widthOf
+values-few size [] f seven h long some = absurd (omega arith)
+values-few size (v ∷ vs) f seven h long some =
+    let r : position f 6 ≤ size = value-there size v vs f h in
+    let e : getD (f .bases) 6 0 + 3 * getD (f .counts) 6 0 + 3 * suc (length vs) ≤ size = values-room size (v ∷ vs) f seven r h in
+    omega arith
+
+-- ---- a note taken for the lines
+
+count-in : (n : Note) → noteIn n .count ≡ n .count
+unfolding noteIn
+count-in n = refl
+
+module _ (t table : List ℕ) (f : Filling) (seven : length (f .counts) ≡ 7) (n : Note) (first : n .first ≡ getD (f .counts) 6 0)
+    (tells : Tells t n (wordsOf table (getD (f .bases) 6 0) n)) where
+  abbrev told : List Value
+  told = noteValues t n
+
+  -- its words stand where the next value goes
+  words-there : take (length (valuesWords told)) (drop (position f 6) table) ≡ valuesWords told
+  unfolding position widthOf
+  words-there =
+      let l : length (valuesWords told) ≡ 3 * n .count = values-long told ∙ ap (λ (k : ℕ). 3 * k) (sym (tells .count-is)) in
+      let e : take (3 * n .count) (drop (getD (f .bases) 6 0 + 3 * getD (f .counts) 6 0) table) ≡ valuesWords told =
+      rw first at (tells .words-are) in
+      rw l e
+
+  note-stores : Stores f table (map valueWrite told) (notedWalk (noteIn n) (getD (f .counts) 6 0) f .spot .filling) table
+  unfolding notedWalk noteIn
+  note-stores =
+      record {
+        stored = sym (values-over told f table seven ∙ sets-same table (position f 6) (valuesWords told) words-there);
+        filled =
+            ap (λ (k : ℕ). record { bases = f .bases; counts = set (f .counts) 6 (getD (f .counts) 6 0 + k) }) (tells .count-is)
+            ∙ sym (filling-over told f seven);
+      }
+
+  note-fills : FillsValues t (n .number) (n .at) (n .form) table f (notedWalk (noteIn n) (getD (f .counts) 6 0) f) table
+  unfolding notedWalk noteIn toldOr
+  note-fills =
+      record {
+        stores = note-stores;
+        bandwidth = if-true _ _ refl ∙ tells .bandwidth-is;
+        greatest = tells .greatest-is;
+        rest = tells .rest;
+        placed = tells .placed;
+        onward = tells .onward;
+      }
+
+  note-taken : (number at form : ℕ) → n .number ≡ number → n .at ≡ at → n .form ≡ form →
+      FillsValues t number at form table f (notedWalk (noteIn n) (getD (f .counts) 6 0) f) table
+  note-taken number at form a b c = rw (sym a, sym b, sym c) note-fills
+
+-- what the test says of a note
+record Right (n : Note) (at number form first : ℕ) : Type 0 where
+  made : 0 < n .further
+  at-is : n .at ≡ at
+  number-is : n .number ≡ number
+  form-is : n .form ≡ form
+  first-is : n .first ≡ first
+
+right : (n : Note) (at number form first : ℕ) → isOf (noteIn n) at number form first ≡ true → Right n at number form first
+unfolding isOf noteIn
+right n at number form first e =
+    let made : n .further ≡ 0 → ⊥ = eqb-false (n .further) 0 (not-true _ (both-first _ _ e)) in
+    let a : both (eqb (n .at) at) (both (eqb (n .number) number) (both (eqb (n .form) form) (eqb (n .first) first))) ≡ true = both-second _ _ e in
+    let b : both (eqb (n .number) number) (both (eqb (n .form) form) (eqb (n .first) first)) ≡ true = both-second _ _ a in
+    let c : both (eqb (n .form) form) (eqb (n .first) first) ≡ true = both-second _ _ b in
+    record {
+      made = omega arith;
+      at-is = eqb-true _ _ (both-first _ _ a);
+      number-is = eqb-true _ _ (both-first _ _ b);
+      form-is = eqb-true _ _ (both-first _ _ c);
+      first-is = eqb-true _ _ (both-second _ _ c);
+    }
+
+module _ (t : List ℕ) (n at form : ℕ) (table : List ℕ) (f : Filling) (notes : List ℕ) (puts : PutsValues t n at form table f)
+    (noted : Noted t table notes (getD (f .bases) 6 0) (getD (f .counts) 6 0)) (i : ℕ) (note : NoteWords)
+    (is-note : note ≡ noteIn (noteAt notes i)) (answer : Bool) (is-answer : answer ≡ isOf note at n form (getD (f .counts) 6 0))
+    (yes-of : answer ≡ true) where
+  found : Right (noteAt notes i) at n form (getD (f .counts) 6 0)
+  found =
+      right (noteAt notes i) at n form (getD (f .counts) 6 0)
+      (ap (λ (x : NoteWords). isOf x at n form (getD (f .counts) 6 0)) (sym is-note) ∙ sym is-answer ∙ yes-of)
+
+  tells-here : Tells t (noteAt notes i) (wordsOf table (getD (f .bases) 6 0) (noteAt notes i))
+  tells-here = noted .tells i (found .made) (le-of-eq (sym (found .first-is)))
+
+  -- so few that no sum wraps
+  pub note-few : length table * 8 < 2 ^ 63 → 0 < note .count → getD (f .counts) 6 0 + note .count < 2 ^ 64
+  note-few long some =
+      let c : note .count ≡ noteAt notes i .count = ap (λ (x : NoteWords). x .count) is-note ∙ count-in (noteAt notes i) in
+      let d : note .count ≡ length (valuesFrom form 1 1 (matrixLines t n at)) =
+      c ∙ tells-here .count-is
+      ∙ (λ j. length (valuesFrom (found .form-is j) 1 1 (matrixLines t (found .number-is j) (found .at-is j)))) in
+      rw d (values-few (length table) (valuesFrom form 1 1 (matrixLines t n at)) f (puts .seven) (puts .fits) long (rw d at some))
+
+  pub noted-fills : (w : MatrixWalk) → w ≡ notedWalk note (getD (f .counts) 6 0) f → FillsValues t n at form table f w table
+  noted-fills w is-w =
+      let e : w ≡ notedWalk (noteIn (noteAt notes i)) (getD (f .counts) 6 0) f =
+      is-w ∙ ap (λ (x : NoteWords). notedWalk x (getD (f .counts) 6 0) f) is-note in
+      let g : FillsValues t n at form table f (notedWalk (noteIn (noteAt notes i)) (getD (f .counts) 6 0) f) table =
+      note-taken t table f (puts .seven) (noteAt notes i) (found .first-is) tells-here n at form (found .number-is) (found .at-is)
+      (found .form-is) in
+      rw e g
+
+-- a sum with nothing is no more
+pub sum-fits : (first count : ℕ) → val.Fits w64 first → (0 < count → first + count < 2 ^ 64) → val.Fits w64 (first + count)
+sum-fits first zero h few = rw (add-zero first) h
+sum-fits first (suc n) h few = let l : first + suc n < 2 ^ 64 = few (omega arith) in omega arith

@@ -1,0 +1,79 @@
+-- `store_matrices::fill_matrix` meets its contract: the values, then the matrix' own record.
+-- Assumes nothing.
+use native.Mathlib.Omega.{arith}
+use mathlib.Core.Path.{refl}
+use Rattle.store_matrices.proofs.MatrixLaws.{values-puts, values-counted, matrix-asked, matrix-filled}
+use borrow.Author.Needs.{needs}
+use Rattle.store_matrices.proofs.fill_matrix.Statement.{statement}
+use Rattle.store_matrices.proofs.fill_matrix.Tie as tie
+
+array-read-first : tie.Need-array-read-first
+array-read-first c = search needs
+
+form-at-requires : tie.Need-form-at-requires
+form-at-requires c κs = search needs
+
+add-noted-values : tie.Need-add-noted-values
+add-noted-values c = search needs
+
+noted-values-requires : tie.Need-noted-values-requires
+noted-values-requires c κs = search (values-puts, needs)
+
+array-read-values : tie.Need-array-read-values
+array-read-values c = search needs
+
+sub-values : tie.Need-sub-values
+sub-values c =
+    omega (
+      arith,
+      values-counted _ _ _ _
+          (c .before .before .before .before .before .before .before .before .before .before .before .before .before .before .pre .0) _
+          (c .before .before .before .before .before .before .before .before .before .form-at .ensures) _ _
+          (c .before .before .before .before .before .before .noted-values .ensures),
+    )
+
+told-in-requires : tie.Need-told-in-requires
+told-in-requires c κs = search needs
+
+conductors-in-requires : tie.Need-conductors-in-requires
+conductors-in-requires c κs = search needs
+
+slice-aggregate-put-record : tie.Need-slice-aggregate-put-record
+slice-aggregate-put-record c = search needs
+
+put-record-requires : tie.Need-put-record-requires
+put-record-requires c κs =
+    matrix-asked _ _ _ _
+    (c .before .before .before .before .before .before .before .before .before .before .before .before .before .before .before .before .before .before .pre .0) _
+    (c .before .before .before .before .before .before .before .before .before .before .before .before .before .form-at .ensures) _ _
+    (c .before .before .before .before .before .before .before .before .before .before .noted-values .ensures)
+
+same-length : tie.Need-same-length
+same-length c = search needs
+
+returns : tie.Need-returns
+returns c =
+    matrix-filled _ _ _ _
+    (c .before .before .before .before .before .before .before .before .before .before .before .before .before .before .before .before .before .before .before .before .before .pre .0) _
+    (c .before .before .before .before .before .before .before .before .before .before .before .before .before .before .before .before .form-at .ensures) _ _
+    (c .before .before .before .before .before .before .before .before .before .before .before .before .before .noted-values .ensures)
+    _ (c .before .before .before .before .before .before .told-in .ensures) _ refl _
+    (c .before .before .before .before .before .conductors-in .ensures) _ _ (c .before .before .put-record .ensures .0)
+    (c .before .before .put-record .ensures .1)
+
+pub fill-matrix-spec : {M : Type 1} → statement M
+fill-matrix-spec =
+    tie.close
+    (tie.spec
+    array-read-first
+    form-at-requires
+    add-noted-values
+    noted-values-requires
+    array-read-values
+    sub-values
+    told-in-requires
+    conductors-in-requires
+    slice-aggregate-put-record
+    put-record-requires
+    same-length
+    returns)

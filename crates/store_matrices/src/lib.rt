@@ -1,0 +1,533 @@
+// The matrices of a section and their values, stored in a table.
+ghost use mathlib.Core.Path.{_≡_};
+ghost use mathlib.Core.List.{[], _∷_};
+ghost use Prim.Native.Nat.{_+_, _*_, _^_, _≤_, _<_, max};
+ghost use lib.ListN.{length, getD};
+ghost use lib.Dec.{eqb};
+ghost use lib.Seq.{sets};
+ghost use Rattle.base.specs.If.{if_then_else_, either};
+ghost use Rattle.line_place.specs.Place.{keepsMatrix};
+ghost use Rattle.line_argument.specs.Argument.{formOf};
+ghost use Rattle.line_matrix.specs.Matrix.{diagonal};
+ghost use Rattle.table_layout.specs.Filling.{position, Fits};
+ghost use Rattle.doc.specs.Lines.{plain, argumentOf};
+ghost use Rattle.doc.specs.Found.{Located, lineIn};
+ghost use Rattle.doc.specs.Document.{wordIn, nextRow, givenBy};
+ghost use Rattle.store_base.specs.Writes.{valueWrite};
+ghost use Rattle.store_base.specs.Stores.{Stores};
+ghost use Rattle.store_base.specs.Notes.{noteAt, Noted};
+ghost use Rattle.store_matrices.specs.Noted.{noteIn, isOf, notedWalk};
+ghost use Rattle.store_matrices.specs.Told.{firstTold, toldOr};
+ghost use Rattle.store_matrices.specs.Numbers.{Roomy, cursorOf, spotOf, nextCursor, PutsNumbers, FillsNumbers, PutsSparse, FillsSparse};
+ghost use Rattle.store_matrices.specs.Matrices.{withRow, withBandwidth, TakesLine, TakesData, TakenLine, PutsValues, FillsValues, PutsMatrix, FillsMatrix};
+use doc::Found;
+use lex_number::Number;
+use table_layout::Filling;
+
+// What the first of many tells, if one has told anything.
+pub struct First {
+    pub told: bool,
+    pub value: u64,
+}
+
+// Where the next number of a matrix stands, and where its record goes.
+pub struct Spot {
+    pub row: u64,
+    pub column: u64,
+    pub filling: Filling,
+}
+
+// Where the next number of a line goes: its row and column, how many values are stored before it, and its place in the table.
+pub struct Cursor {
+    pub row: u64,
+    pub column: u64,
+    pub count: u64,
+    pub place: usize,
+}
+
+// A line of a Sparse_matrix: the column that it names, and where the next record goes.
+pub struct Placing {
+    pub column: u64,
+    pub filling: Filling,
+}
+
+// How far the lines of a matrix have been read: where to go on, and what they have said. Of [Bandwidth] the first counts, of rows and
+// columns the greatest that is named.
+pub struct MatrixWalk {
+    pub at: usize,
+    pub number: u64,
+    pub bandwidth: First,
+    pub greatest: u64,
+    pub spot: Spot,
+}
+
+// What was noted of a matrix while its lines were judged: where they start and the number of the first, the form that they are read in,
+// how many values stand before theirs, where they end and the number of the line there, and what they say.
+pub struct NoteWords {
+    pub at: u64,
+    pub number: u64,
+    pub form: u64,
+    pub first: u64,
+    pub further: u64,
+    pub next: u64,
+    pub bandwidth: u64,
+    pub greatest: u64,
+    pub count: u64,
+}
+
+// A matrix that is stored: where the lines go on behind it, and its conductors.
+pub struct Stored {
+    pub at: usize,
+    pub number: u64,
+    pub conductors: u64,
+    pub filling: Filling,
+}
+
+// One more tells something: it counts where none has before.
+pub fn first_told(first: First, value: u64) -> First
+    ensures { λ r. ⌜ r ≡ firstTold first value ⌝ }
+{
+    if first.told {
+        return first;
+    }
+    First { told: true, value }
+}
+
+// What was told, 0 where nothing was.
+pub fn told_in(first: First) -> u64
+    ensures { λ r. ⌜ r ≡ toldOr first 0 ⌝ }
+{
+    if first.told {
+        return first.value;
+    }
+    0
+}
+
+pub fn greater(a: u64, b: u64) -> u64
+    ensures { λ r. ⌜ r ≡ max a b ⌝ }
+{
+    if a < b { b } else { a }
+}
+
+// The value word of a number.
+fn value_in(number: Number) -> u64
+    ensures { λ r. ⌜ r ≡ wordIn number ⌝ }
+{
+    match number {
+        Number::Value(word) => word,
+        Number::Malformed => 0,
+        Number::Range => 0,
+    }
+}
+
+// A number of a matrix, at its row and column.
+fn put_value(number: Number, row: u64, column: u64, table: &mut [u64], filling: Filling) -> Filling
+    requires { ⌜ Fits (length (now table)) filling (valueWrite (record { row = row; column = column; word = wordIn number }) ∷ []) ⌝ }
+    ensures { λ r. ⌜ Stores filling (now (table .entry)) (valueWrite (record { row = row; column = column; word = wordIn number }) ∷ []) r (now (table .exit)) ⌝ }
+{
+    let words = [row, column, value_in(number)];
+    table_layout::put_record(table, filling, table_layout::VALUES, &words)
+}
+
+// Down the diagonal, else along the row.
+fn next_row(form: u64, row: u64) -> u64
+    requires { ⌜ row < 18_446_744_073_709_551_615 ⌝ }
+    ensures { λ r. ⌜ r ≡ nextRow form row ⌝ }
+{
+    if form == line_matrix::DIAGONAL {
+        return row + 1;
+    }
+    row
+}
+
+// Where the first number of a line goes.
+fn cursor_at(spot: Spot) -> Cursor
+    requires { ⌜ position (spot .filling) 6 < 9_223_372_036_854_775_808 ⌝ }
+    ensures { λ r. ⌜ r ≡ cursorOf spot ⌝ }
+{
+    let filling = spot.filling;
+    let bases = filling.bases;
+    let counts = filling.counts;
+    let count = counts[table_layout::VALUES];
+    let place = bases[table_layout::VALUES] + 3 * (count as usize);
+    Cursor {
+        row: spot.row,
+        column: spot.column,
+        count,
+        place,
+    }
+}
+
+// Where the numbers of the next line go, once those of a line are stored.
+fn spot_at(spot: Spot, cursor: Cursor) -> Spot
+    ensures { λ r. ⌜ r ≡ spotOf (spot .filling) cursor ⌝ }
+{
+    let filling = spot.filling;
+    let bases = filling.bases;
+    let mut counts = filling.counts;
+    counts[table_layout::VALUES] = cursor.count;
+    let filled = Filling { bases, counts };
+    Spot {
+        row: cursor.row,
+        column: cursor.column,
+        filling: filled,
+    }
+}
+
+// A number where the last one has led to.
+pub fn put_number(number: Number, form: u64, table: &mut [u64], cursor: Cursor) -> Cursor
+    requires { ⌜ Roomy (length (now table)) cursor ⌝ }
+    ensures { λ r. ⌜ (r ≡ nextCursor form cursor) × (now (table .exit) ≡ sets (now (table .entry)) (cursor .place) (cursor .row ∷ cursor .column ∷ wordIn number ∷ [])) ⌝ }
+{
+    let place = cursor.place;
+    let row = cursor.row;
+    let column = cursor.column;
+    table[place] = row;
+    table[place + 1] = column;
+    table[place + 2] = value_in(number);
+    Cursor {
+        row: next_row(form, row),
+        column: column + 1,
+        count: cursor.count + 1,
+        place: place + 3,
+    }
+}
+
+// The numbers of a line: each is read where it stands, and stored.
+fn fill_numbers(content: &[u8], form: u64, table: &mut [u64], spot: Spot) -> Spot
+    requires { ⌜ PutsNumbers form (now content) (now table) spot ⌝ }
+    ensures { λ r. ⌜ FillsNumbers form (now (content .entry)) (now (table .entry)) spot r (now (table .exit)) ⌝ }
+{
+    if content.len() <= base::past_blanks(content, 0) {
+        return spot;
+    }
+    let mut at = 0;
+    let mut cursor = cursor_at(spot);
+    while at < content.len() {
+        let start = base::past_blanks(content, at);
+        if content.len() <= start {
+            return spot_at(spot, cursor);
+        }
+        let read = lex_number::number_at(content, start);
+        let number = read.number;
+        cursor = put_number(number, form, table, cursor);
+        at = read.end;
+    }
+    spot_at(spot, cursor)
+}
+
+// A line of a Sparse_matrix: "lines `column value`".
+fn fill_sparse(content: &[u8], row: u64, table: &mut [u64], filling: Filling) -> Placing
+    requires { ⌜ PutsSparse (now content) row (now table) filling ⌝ }
+    ensures { λ r. ⌜ FillsSparse (now (content .entry)) row (now (table .entry)) filling r (now (table .exit)) ⌝ }
+{
+    let word = lex_line::word_at(content, 0);
+    let column = lex_number::read_integer(lex_line::marked(content, word));
+    let read = lex_number::number_at(content, base::past_blanks(content, word.end));
+    let number = read.number;
+    Placing {
+        column: column.value,
+        filling: put_value(number, row, column.value, table, filling),
+    }
+}
+
+// The integer after [Row] or [Bandwidth].
+fn given_by(text: &[u8], line: Found) -> u64
+    requires { ⌜ Located (now text) line ⌝ }
+    ensures { λ r. ⌜ r ≡ givenBy (lineIn (now (text .entry)) line 0) ⌝ }
+{
+    let at = line.at;
+    let end = line.end;
+    let whole = lex_number::read_integer(read_line::argument_of(&text[at..end], line.argument));
+    whole.value
+}
+
+// [Row] i: the next number stands at (i, i).
+fn take_row(text: &[u8], line: Found, walk: MatrixWalk) -> MatrixWalk
+    requires { ⌜ Located (now text) line ⌝ }
+    ensures { λ r. ⌜ r ≡ withRow (givenBy (lineIn (now (text .entry)) line 0)) line walk ⌝ }
+{
+    let spot = walk.spot;
+    let bandwidth = walk.bandwidth;
+    let filling = spot.filling;
+    let row = given_by(text, line);
+    let next = Spot {
+        row,
+        column: row,
+        filling,
+    };
+    MatrixWalk {
+        at: line.next,
+        number: line.number + 1,
+        bandwidth,
+        greatest: greater(walk.greatest, row),
+        spot: next,
+    }
+}
+
+// [Bandwidth] stands once; where it does not, the first counts.
+fn take_bandwidth(text: &[u8], line: Found, walk: MatrixWalk) -> MatrixWalk
+    requires { ⌜ Located (now text) line ⌝ }
+    ensures { λ r. ⌜ r ≡ withBandwidth (givenBy (lineIn (now (text .entry)) line 0)) line walk ⌝ }
+{
+    let spot = walk.spot;
+    let before = walk.bandwidth;
+    let bandwidth = first_told(before, given_by(text, line));
+    MatrixWalk {
+        at: line.next,
+        number: line.number + 1,
+        bandwidth,
+        greatest: walk.greatest,
+        spot,
+    }
+}
+
+// A line without a keyword: a column and a value of a Sparse_matrix, else numbers.
+fn take_data(text: &[u8], line: Found, form: u64, table: &mut [u64], walk: MatrixWalk) -> MatrixWalk
+    requires { ⌜ TakesData (now text) line form (now table) walk ⌝ }
+    ensures { λ r. ⌜ TakenLine (now (text .entry)) line form (now (table .entry)) walk r (now (table .exit)) ⌝ }
+{
+    let at = line.at;
+    let end = line.end;
+    let spot = walk.spot;
+    let bandwidth = walk.bandwidth;
+    if form == line_matrix::SPARSE {
+        let filling = spot.filling;
+        let placing = fill_sparse(&text[at..end], spot.row, table, filling);
+        let filled = placing.filling;
+        let next = Spot {
+            row: spot.row,
+            column: spot.column,
+            filling: filled,
+        };
+        return MatrixWalk {
+            at: line.next,
+            number: line.number + 1,
+            bandwidth,
+            greatest: greater(walk.greatest, placing.column),
+            spot: next,
+        };
+    }
+    let next = fill_numbers(&text[at..end], form, table, spot);
+    MatrixWalk {
+        at: line.next,
+        number: line.number + 1,
+        bandwidth,
+        greatest: walk.greatest,
+        spot: next,
+    }
+}
+
+// A line of a matrix, by its keyword.
+fn take_line(text: &[u8], line: Found, form: u64, table: &mut [u64], walk: MatrixWalk) -> MatrixWalk
+    requires { ⌜ TakesLine (now text) line form (now table) walk ⌝ }
+    ensures { λ r. ⌜ TakenLine (now (text .entry)) line form (now (table .entry)) walk r (now (table .exit)) ⌝ }
+{
+    if line.key == lex_keyword::ROW {
+        return take_row(text, line, walk);
+    }
+    if line.key == lex_keyword::BANDWIDTH {
+        return take_bandwidth(text, line, walk);
+    }
+    take_data(text, line, form, table, walk)
+}
+
+// The first keyword that is not [Row] or [Bandwidth] ends a matrix.
+fn stays_in_matrix(key: u64) -> bool
+    ensures { λ r. ⌜ r ≡ either (eqb key plain) (keepsMatrix key) ⌝ }
+{
+    if key == doc::PLAIN {
+        return true;
+    }
+    line_place::keeps_matrix(key)
+}
+
+// The lines of a matrix, from below its keyword.
+fn fill_values(
+    text: &[u8],
+    at: usize,
+    number: u64,
+    form: u64,
+    table: &mut [u64],
+    filling: Filling,
+) -> MatrixWalk
+    requires { ⌜ PutsValues (now text) number at form (now table) filling ⌝ }
+    ensures { λ r. ⌜ FillsValues (now (text .entry)) number at form (now (table .entry)) filling r (now (table .exit)) ⌝ }
+{
+    let bandwidth = First {
+        told: false,
+        value: 0,
+    };
+    let spot = Spot {
+        row: 1,
+        column: 1,
+        filling,
+    };
+    let mut walk = MatrixWalk {
+        at,
+        number,
+        bandwidth,
+        greatest: 0,
+        spot,
+    };
+    loop {
+        let line = doc::next_line(text, walk.at, walk.number);
+        if !line.there {
+            return walk;
+        }
+        if !stays_in_matrix(line.key) {
+            return walk;
+        }
+        walk = take_line(text, line, form, table, walk);
+    }
+}
+
+// The note numbered i.
+pub fn note_at(notes: &[u64], i: usize) -> NoteWords
+    requires { ⌜ 9 * i + 9 ≤ length (now notes) ⌝ }
+    ensures { λ r. ⌜ r ≡ noteIn (noteAt (now (notes .entry)) i) ⌝ }
+{
+    let from = 9 * i;
+    NoteWords {
+        at: notes[from],
+        number: notes[from + 1],
+        form: notes[from + 2],
+        first: notes[from + 3],
+        further: notes[from + 4],
+        next: notes[from + 5],
+        bandwidth: notes[from + 6],
+        greatest: notes[from + 7],
+        count: notes[from + 8],
+    }
+}
+
+// Whether a note is made, and of the lines at hand: read in this form, so many values standing before theirs.
+fn is_of(note: NoteWords, at: u64, number: u64, form: u64, first: u64) -> bool
+    ensures { λ r. ⌜ r ≡ isOf note at number form first ⌝ }
+{
+    if note.further == 0 {
+        return false;
+    }
+    if note.at != at {
+        return false;
+    }
+    if note.number != number {
+        return false;
+    }
+    if note.form != form {
+        return false;
+    }
+    note.first == first
+}
+
+// What a note says of the lines: their values stand in the table already, behind the first ones.
+fn noted_walk(note: NoteWords, first: u64, filling: Filling) -> MatrixWalk
+    requires { ⌜ (0 < note .count → first + note .count < 2 ^ 64) ⌝ }
+    ensures { λ r. ⌜ r ≡ notedWalk note first filling ⌝ }
+{
+    let bandwidth = First {
+        told: true,
+        value: note.bandwidth,
+    };
+    let bases = filling.bases;
+    let mut counts = filling.counts;
+    counts[table_layout::VALUES] = first + note.count;
+    let filled = Filling { bases, counts };
+    let spot = Spot {
+        row: 1,
+        column: 1,
+        filling: filled,
+    };
+    MatrixWalk {
+        at: note.further as usize,
+        number: note.next,
+        bandwidth,
+        greatest: note.greatest,
+        spot,
+    }
+}
+
+// The lines of a matrix, by what was noted of them where it was, else as they stand.
+fn noted_values(
+    text: &[u8],
+    at: usize,
+    number: u64,
+    form: u64,
+    table: &mut [u64],
+    filling: Filling,
+    notes: &[u64],
+) -> MatrixWalk
+    requires { ⌜ PutsValues (now text) number at form (now table) filling
+        × Noted (now text) (now table) (now notes) (getD (filling .bases) 6 0) (getD (filling .counts) 6 0) ⌝ }
+    ensures { λ r. ⌜ FillsValues (now (text .entry)) number at form (now (table .entry)) filling r (now (table .exit)) ⌝ }
+{
+    let counts = filling.counts;
+    let first = counts[table_layout::VALUES];
+    let index = counts[table_layout::MATRICES] as usize;
+    if notes.len() / 9 <= index {
+        return fill_values(text, at, number, form, table, filling);
+    }
+    let note = note_at(notes, index);
+    if is_of(note, at as u64, number, form, first) {
+        return noted_walk(note, first, filling);
+    }
+    fill_values(text, at, number, form, table, filling)
+}
+
+// The form of a matrix, after its keyword.
+fn form_at(text: &[u8], line: Found) -> u64
+    requires { ⌜ Located (now text) line ⌝ }
+    ensures { λ r. ⌜ r ≡ formOf (argumentOf (lineIn (now (text .entry)) line 0) .text) ⌝ }
+{
+    let at = line.at;
+    let end = line.end;
+    line_argument::form_of(read_line::argument_of(&text[at..end], line.argument))
+}
+
+// N of a matrix: its numbers down the diagonal, else the greatest row or column that it names.
+fn conductors_in(form: u64, values: u64, greatest: u64) -> u64
+    ensures { λ r. ⌜ r ≡ (if eqb form diagonal then values else greatest) ⌝ }
+{
+    if form == line_matrix::DIAGONAL {
+        return values;
+    }
+    greatest
+}
+
+// A matrix: its values, and behind them its own record.
+pub fn fill_matrix(
+    text: &[u8],
+    line: Found,
+    table: &mut [u64],
+    filling: Filling,
+    notes: &[u64],
+) -> Stored
+    requires { ⌜ PutsMatrix (now text) line (now table) filling
+        × Noted (now text) (now table) (now notes) (getD (filling .bases) 6 0) (getD (filling .counts) 6 0) ⌝ }
+    ensures { λ r. ⌜ FillsMatrix (now (text .entry)) line (now (table .entry)) filling r (now (table .exit)) ⌝ }
+{
+    let before = filling.counts;
+    let first = before[table_layout::VALUES];
+    let form = form_at(text, line);
+    let walk = noted_values(
+        text,
+        line.next,
+        line.number + 1,
+        form,
+        table,
+        filling,
+        notes,
+    );
+    let spot = walk.spot;
+    let bandwidth = walk.bandwidth;
+    let filled = spot.filling;
+    let after = filled.counts;
+    let values = after[table_layout::VALUES] - first;
+    let words = [form, told_in(bandwidth), first, values, line.number];
+    Stored {
+        at: walk.at,
+        number: walk.number,
+        conductors: conductors_in(form, values, walk.greatest),
+        filling: table_layout::put_record(table, filled, table_layout::MATRICES, &words),
+    }
+}

@@ -1,0 +1,130 @@
+-- Laws of a model's own record, stored behind its steps, and of the models one after another.
+-- Assumes nothing.
+use mathlib.Core.Path.{_≡_, refl, sym, _∙_, ap}
+use mathlib.Core.List.{List, [], _∷_, _++_, append-assoc}
+use Prim.Native.Nat.{ℕ, _+_, _-_, _≤_, _<_}
+use native.Mathlib.Omega.{arith}
+use lib.ListN.{length, getD}
+use lib.Seq.{sets}
+use Rattle.line_place.specs.Place as place
+use Rattle.line_head.specs.Head.{newHead}
+use Rattle.line_head.specs.declared.Head.{Head}
+use Rattle.table_layout.specs.Layout.{widths}
+use Rattle.table_layout.specs.Filling.{Write, widthOf, position, counted, fillingAfter, Fits}
+use Rattle.table_layout.specs.declared.Filling.{Filling}
+use Rattle.table_layout.proofs.FillingLaws.{fits-first, fits-rest, length-after, filling-append}
+use Rattle.doc.specs.Lines.{linesAt, argumentOf}
+use Rattle.doc.specs.Document.{Model, documentOf, headIn, stepsIn, modelOf, modelAt}
+use Rattle.doc.specs.Records.{modelRecord}
+use Rattle.doc.specs.Found.{markOf, lineIn}
+use Rattle.doc.specs.declared.Found.{Found}
+use Rattle.doc.specs.declared.Mark.{Mark}
+use Rattle.store_steps.specs.Steps.{lowOf}
+use Rattle.doc.proofs.PlainLaws.{plain-model}
+use Rattle.store_base.specs.Writes.{modelWrite, modelWrites, modelsWrites}
+use Rattle.store_base.proofs.StoreLaws.{put-asked, put-stored, stores-join, counts-kept}
+use Rattle.store_base.proofs.WriteLaws.{steps-stored, steps-counted}
+use Rattle.store_base.proofs.BlockLaws.{Storable}
+use Rattle.store_models.specs.Models.{modelsOf, modelLines, modelSteps, Open, ReadsModel, modelBelow, modelIn, FitsModel, FillsModel}
+use Rattle.store_models.specs.declared.ModelWalk.{ModelWalk}
+
+-- ---- one model
+
+-- its own record
+abbrev own : List ℕ → Found → Filling → Write
+own t line f = modelWrite (getD (f .counts) 1 0) (modelBelow t line)
+
+module _ (t : List ℕ) (line : Found) (f : Filling) (table : List ℕ) (fits : FitsModel t line f table) where
+  fits-all : Fits (lowOf f) f (modelSteps t (linesAt t (line .number + 1) (line .next) place.head) ++ (own t line f ∷ []))
+  unfolding modelWrites modelOf
+  fits-all = fits .fits
+
+  pub model-open : Open t (line .number + 1) (line .next) place.head f table
+  model-open =
+      let c : line .at < line .next = fits .located .further in
+      let q : line .number ≤ line .at + 1 = fits .located .counted in
+      record {
+        placed = record { within = fits .located .next-within; counted = omega arith };
+        last = fits .last;
+        aims = fits .aims;
+        fits = fits-first (lowOf f) f _ _ fits-all;
+      }
+
+  module _ (w : ModelWalk) (table' : List ℕ) (reads : ReadsModel t (line .number + 1) (line .next) f table w table') where
+    pub model-counted : getD (w .filling .counts) 1 0 ≡ getD (f .counts) 1 0 + length (modelBelow t line .steps)
+    unfolding modelOf
+    model-counted =
+        ap (λ (x : Filling). getD (x .counts) 1 0) (reads .steps .filled)
+        ∙ steps-stored f (fits .seven) (documentOf t .maps) (documentOf t .sections)
+        (stepsIn (modelLines (linesAt t (line .number + 1) (line .next) place.head)))
+
+    pub model-asked : (0 < length widths) × (_≡_ {A = ℕ} 5 (widthOf 0)) × (position (w .filling) 0 + widthOf 0 ≤ length table')
+    unfolding modelWrite lowOf
+    model-asked =
+        let g : Fits (lowOf f) (w .filling) (own t line f ∷ []) = rw (reads .steps .filled) (fits-rest (lowOf f) f _ _ fits-all) in
+        let l : length table' ≡ length table = ap length (reads .steps .stored) ∙ length-after _ f table in
+        let asked : (0 < length widths) × (_≡_ {A = ℕ} 5 (widthOf 0)) × (position (w .filling) 0 + widthOf 0 ≤ lowOf f) =
+        put-asked (w .filling) [] (own t line f) (lowOf f) 0 (own t line f .words) g refl refl in
+        (asked .0, asked .1, omega (arith, asked .2, fits .aims .maps-room))
+
+    module _ (mark : Mark) (is-mark : mark ≡ markOf (argumentOf (lineIn t line 0))) (type : ℕ) (is-type : type ≡ w .head .kind - 1) where
+      model-words : _≡_ {A = List ℕ}
+          (mark .start ∷ mark .size ∷ type ∷ getD (f .counts) 1 0 ∷ (getD (w .filling .counts) 1 0 - getD (f .counts) 1 0) ∷ [])
+          (own t line f .words)
+      unfolding modelWrite modelRecord modelOf markOf
+      model-words =
+          let c : getD (w .filling .counts) 1 0 ≡ getD (f .counts) 1 0 + length (modelBelow t line .steps) = model-counted in
+          let n : getD (w .filling .counts) 1 0 - getD (f .counts) 1 0 ≡ length (modelBelow t line .steps) = omega arith in
+          let k : type ≡ headIn newHead (modelLines (linesAt t (line .number + 1) (line .next) place.head)) .kind - 1 =
+          is-type ∙ ap (λ (h : Head). h .kind - 1) (reads .head) in
+          λ i. is-mark i .start ∷ is-mark i .size ∷ k i ∷ getD (f .counts) 1 0 ∷ n i ∷ []
+
+      pub model-filled :
+          (r : Filling) (table'' : List ℕ) → r ≡ counted (w .filling) 0 →
+          table'' ≡ sets table' (position (w .filling) 0)
+          (mark .start ∷ mark .size ∷ type ∷ getD (f .counts) 1 0 ∷ (getD (w .filling .counts) 1 0 - getD (f .counts) 1 0) ∷ []) →
+          FillsModel t line f table
+          (record { at = w .at; number = w .number; place = w .place; head = w .head; filling = r }) table''
+      unfolding modelWrites modelWrite modelOf
+      model-filled r table'' k h =
+          record {
+            model =
+                stores-join f (w .filling) r table table' table'' _ (own t line f ∷ []) (reads .steps)
+                (put-stored (w .filling) table' (own t line f) 0 _ r table'' refl model-words k h);
+            rest = reads .rest;
+            placed = reads .placed;
+            onward = reads .onward;
+          }
+
+-- ---- models one after another
+
+module _ (t : List ℕ) where
+  -- where the next model's steps are counted from
+  abbrev after : Filling → Model → Filling
+  after f m = fillingAfter (modelIn t f m) f
+
+  models-next : (f : Filling) (m : Model) (ms ns : List Model) → getD (after f m .counts) 1 0 ≡ getD (f .counts) 1 0 + length (m .steps) →
+      modelsOf t (after f m) (ms ++ ns)
+      ≡ modelsOf t (after f m) ms ++ modelsOf t (fillingAfter (modelsOf t (after f m) ms) (after f m)) ns →
+      modelsOf t f (m ∷ (ms ++ ns)) ≡ modelsOf t f (m ∷ ms) ++ modelsOf t (fillingAfter (modelsOf t f (m ∷ ms)) f) ns
+  unfolding modelsWrites
+  models-next f m ms ns c e =
+      rw (sym c)
+      (ap (λ (x : List Write). modelIn t f m ++ x) e
+      ∙ sym (append-assoc (modelIn t f m) _ _)
+      ∙ ap (λ (g : Filling). (modelIn t f m ++ modelsOf t (after f m) ms) ++ modelsOf t g ns) (sym (filling-append (modelIn t f m) _ f)))
+
+  pub models-none : (f : Filling) → modelsOf t f [] ≡ []
+  unfolding modelsWrites
+  models-none f = refl
+
+  models-split : (f : Filling) (ms ns : List Model) → length (f .counts) ≡ 7 →
+      modelsOf t f (ms ++ ns) ≡ modelsOf t f ms ++ modelsOf t (fillingAfter (modelsOf t f ms) f) ns
+  unfolding modelsWrites fillingAfter
+  models-split f [] ns seven = refl
+  models-split f (m ∷ ms) ns seven =
+      models-next f m ms ns (steps-counted f seven (documentOf t .maps) (documentOf t .sections) (getD (f .counts) 1 0) m)
+      (models-split (after f m) ms ns (counts-kept (modelIn t f m) f ∙ seven))
+
+  pub models-storable : Storable modelAt (modelsOf t)
+  models-storable = record { quiet = plain-model; none = models-none; split = models-split }

@@ -1,0 +1,67 @@
+-- `store_models::fill_model` meets its contract: the steps, then the model's own record.
+-- Assumes nothing.
+use native.Mathlib.Omega.{arith}
+use Rattle.store_models.proofs.ModelLaws.{model-open, model-counted, model-asked, model-filled}
+use borrow.Author.Needs.{needs}
+use Rattle.store_models.proofs.fill_model.Statement.{statement}
+use Rattle.store_models.proofs.fill_model.Tie as tie
+
+array-read-first : tie.Need-array-read-first
+array-read-first c = search needs
+
+add-fill-steps : tie.Need-add-fill-steps
+add-fill-steps c = search needs
+
+fill-steps-requires : tie.Need-fill-steps-requires
+fill-steps-requires c κs = search model-open
+
+argument-mark-requires : tie.Need-argument-mark-requires
+argument-mark-requires c κs = search needs
+
+one-less-requires : tie.Need-one-less-requires
+one-less-requires c κs = search needs
+
+array-read-t22 : tie.Need-array-read-t22
+array-read-t22 c = search needs
+
+sub-t23 : tie.Need-sub-t23
+sub-t23 c =
+    omega (
+      arith,
+      model-counted _
+          (c .before .before .before .before .before .before .before .before .before .before .before .before .before .args .line) _ _
+          (c .before .before .before .before .before .before .before .before .before .before .before .before .before .pre) _ _
+          (c .before .before .before .before .before .before .before .fill-steps .ensures),
+    )
+
+slice-aggregate-put-record : tie.Need-slice-aggregate-put-record
+slice-aggregate-put-record c = search needs
+
+put-record-requires : tie.Need-put-record-requires
+put-record-requires c κs =
+    model-asked _
+    (c .before .before .before .before .before .before .before .before .before .before .before .before .before .before .before .args .line)
+    _ _ (c .before .before .before .before .before .before .before .before .before .before .before .before .before .before .before .pre)
+    _ _ (c .before .before .before .before .before .before .before .before .before .fill-steps .ensures)
+
+same-length : tie.Need-same-length
+same-length c = search needs
+
+returns : tie.Need-returns
+returns c = search model-filled
+
+pub fill-model-spec : {M : Type 1} → statement M
+fill-model-spec =
+    tie.close
+    (tie.spec
+    array-read-first
+    add-fill-steps
+    fill-steps-requires
+    argument-mark-requires
+    one-less-requires
+    array-read-t22
+    sub-t23
+    slice-aggregate-put-record
+    put-record-requires
+    same-length
+    returns)

@@ -1,0 +1,35 @@
+-- `store_sections::method_at` meets its contract.
+-- Assumes nothing.
+use Rattle.store_sections.proofs.LineLaws.{method-told}
+use borrow.Author.Needs.{needs}
+use Rattle.store_sections.proofs.method_at.Statement.{statement}
+use Rattle.store_sections.proofs.method_at.Tie as tie
+
+sub-argument-of : tie.Need-sub-argument-of
+sub-argument-of c = search needs
+
+part-argument-of-start : tie.Need-part-argument-of-start
+part-argument-of-start c = search needs
+
+part-argument-of-end : tie.Need-part-argument-of-end
+part-argument-of-end c = search needs
+
+argument-of-requires : tie.Need-argument-of-requires
+argument-of-requires c κs = search needs
+
+method-of-requires : tie.Need-method-of-requires
+method-of-requires c κs = search needs
+
+returns : tie.Need-returns
+returns c = search method-told
+
+pub method-at-spec : {M : Type 1} → statement M
+method-at-spec =
+    tie.close
+    (tie.spec
+    sub-argument-of
+    part-argument-of-start
+    part-argument-of-end
+    argument-of-requires
+    method-of-requires
+    returns)

@@ -1,0 +1,295 @@
+// The sections of a text with their matrices and values, stored in a table.
+ghost use mathlib.Core.Path.{_≡_};
+ghost use Prim.Native.Nat.{_<_};
+ghost use lib.ListN.{length, getD};
+ghost use lib.Dec.{eqb};
+ghost use Rattle.base.specs.If.{both, either};
+ghost use Rattle.lex_keyword.specs.Names.{beginIcmSection};
+ghost use Rattle.line_place.specs.Place.{opensMatrix};
+ghost use Rattle.line_place.specs.Place as places;
+ghost use Rattle.table_layout.specs.Filling.{Fits};
+ghost use Rattle.doc.specs.Document.{kindOf, sectionAt};
+ghost use Rattle.doc.specs.Found.{Located};
+ghost use Rattle.store_base.specs.Stores.{Stores, Placed, Passes, Ready};
+ghost use Rattle.store_base.specs.Notes.{Noted};
+ghost use Rattle.store_sections.specs.Sections.{sectionsOf, sectionsLeft};
+ghost use Rattle.store_sections.specs.Section.{kindsWith, methodAt, methodAfter, TakesLine, TakesMatrix, TakenLine, PutsLines, FillsLines, PutsSection, FillsSection};
+use doc::Found;
+use store_matrices::First;
+use store_base::Walk;
+use table_layout::Filling;
+
+// How far the lines of a section have been read: where to go on, and what they have said. The first method counts, N is that of the first
+// matrix, and of each kind the first matrix is kept, as its index plus 1, or 0.
+pub struct SectionWalk {
+    pub at: usize,
+    pub number: u64,
+    pub place: u64,
+    pub method: First,
+    pub conductors: First,
+    pub kinds: [u64; 4],
+    pub filling: Filling,
+}
+
+// "R L G C".
+fn kind_of(key: u64) -> usize
+    ensures { λ r. ⌜ r ≡ kindOf key ⌝ }
+{
+    if key == lex_keyword::RESISTANCE_MATRIX {
+        return 0;
+    }
+    if key == lex_keyword::INDUCTANCE_MATRIX {
+        return 1;
+    }
+    if key == lex_keyword::CONDUCTANCE_MATRIX {
+        return 2;
+    }
+    3
+}
+
+// A matrix of a kind, kept where it is the first.
+fn with_kind(kinds: [u64; 4], kind: usize, index: u64) -> [u64; 4]
+    requires { ⌜ kind < 4 ⌝ }
+    ensures { λ r. ⌜ r ≡ kindsWith kinds kind index ⌝ }
+{
+    if kinds[kind] == 0 {
+        let mut next = kinds;
+        next[kind] = index;
+        return next;
+    }
+    kinds
+}
+
+// Past [Derivation Method] a section holds matrices.
+fn holds_matrices(place: u64) -> bool
+    ensures { λ r. ⌜ r ≡ either (eqb place places.section) (eqb place places.matrix) ⌝ }
+{
+    if place == line_place::SECTION {
+        return true;
+    }
+    place == line_place::MATRIX
+}
+
+// Whether a line read in a place is a section's.
+fn is_in_section(place: u64) -> bool
+    ensures { λ r. ⌜ r ≡ either (eqb place places.sectionHead) (either (eqb place places.section) (eqb place places.matrix)) ⌝ }
+{
+    if place == line_place::SECTION_HEAD {
+        return true;
+    }
+    holds_matrices(place)
+}
+
+// Whether a keyword opens a matrix where it stands.
+fn opens_matrix(place: u64, key: u64) -> bool
+    ensures { λ r. ⌜ r ≡ both (either (eqb place places.section) (eqb place places.matrix)) (opensMatrix key) ⌝ }
+{
+    if !holds_matrices(place) {
+        return false;
+    }
+    line_place::opens_matrix(key)
+}
+
+// The argument of [Derivation Method].
+fn method_at(text: &[u8], line: Found) -> u64
+    requires { ⌜ Located (now text) line ⌝ }
+    ensures { λ r. ⌜ r ≡ methodAt (now (text .entry)) line ⌝ }
+{
+    let at = line.at;
+    let end = line.end;
+    line_argument::method_of(read_line::argument_of(&text[at..end], line.argument))
+}
+
+// The first [Derivation Method] counts.
+fn method_after(text: &[u8], line: Found, method: First) -> First
+    requires { ⌜ Located (now text) line ⌝ }
+    ensures { λ r. ⌜ r ≡ methodAfter (now (text .entry)) line method ⌝ }
+{
+    if line.key == lex_keyword::DERIVATION_METHOD {
+        return store_matrices::first_told(method, method_at(text, line));
+    }
+    method
+}
+
+// A matrix: the lines go on behind its own.
+fn take_matrix(
+    text: &[u8],
+    line: Found,
+    table: &mut [u64],
+    walk: SectionWalk,
+    notes: &[u64],
+) -> SectionWalk
+    requires { ⌜ TakesMatrix (now text) line (now table) walk
+        × Noted (now text) (now table) (now notes) (getD (walk .filling .bases) 6 0) (getD (walk .filling .counts) 6 0) ⌝ }
+    ensures { λ r. ⌜ TakenLine (now (text .entry)) line (now (table .entry)) walk r (now (table .exit)) ⌝ }
+{
+    let filling = walk.filling;
+    let method = walk.method;
+    let before = walk.conductors;
+    let kept = walk.kinds;
+    let stored = store_matrices::fill_matrix(text, line, table, filling, notes);
+    let filled = stored.filling;
+    let counts = filled.counts;
+    let conductors = store_matrices::first_told(before, stored.conductors);
+    let kinds = with_kind(kept, kind_of(line.key), counts[table_layout::MATRICES]);
+    SectionWalk {
+        at: stored.at,
+        number: stored.number,
+        place: line_place::MATRIX,
+        method,
+        conductors,
+        kinds,
+        filling: filled,
+    }
+}
+
+// A line of a section, and the matrix that it opens if it opens one.
+fn take_line(
+    text: &[u8],
+    line: Found,
+    table: &mut [u64],
+    walk: SectionWalk,
+    notes: &[u64],
+) -> SectionWalk
+    requires { ⌜ TakesLine (now text) line (now table) walk
+        × Noted (now text) (now table) (now notes) (getD (walk .filling .bases) 6 0) (getD (walk .filling .counts) 6 0) ⌝ }
+    ensures { λ r. ⌜ TakenLine (now (text .entry)) line (now (table .entry)) walk r (now (table .exit)) ⌝ }
+{
+    if opens_matrix(walk.place, line.key) {
+        return take_matrix(text, line, table, walk, notes);
+    }
+    let before = walk.method;
+    let conductors = walk.conductors;
+    let kinds = walk.kinds;
+    let filling = walk.filling;
+    let method = method_after(text, line, before);
+    SectionWalk {
+        at: line.next,
+        number: line.number + 1,
+        place: doc::place_after(walk.place, text, line),
+        method,
+        conductors,
+        kinds,
+        filling,
+    }
+}
+
+// The lines of a section, from below its keyword.
+fn fill_lines(
+    text: &[u8],
+    at: usize,
+    number: u64,
+    table: &mut [u64],
+    filling: Filling,
+    notes: &[u64],
+) -> SectionWalk
+    requires { ⌜ PutsLines (now text) number at (now table) filling
+        × Noted (now text) (now table) (now notes) (getD (filling .bases) 6 0) (getD (filling .counts) 6 0) ⌝ }
+    ensures { λ r. ⌜ FillsLines (now (text .entry)) number at (now (table .entry)) filling r (now (table .exit)) ⌝ }
+{
+    let untold = First {
+        told: false,
+        value: 0,
+    };
+    let mut walk = SectionWalk {
+        at,
+        number,
+        place: line_place::SECTION_HEAD,
+        method: untold,
+        conductors: untold,
+        kinds: [0; 4],
+        filling,
+    };
+    loop {
+        let line = doc::next_line(text, walk.at, walk.number);
+        if !line.there {
+            return walk;
+        }
+        if !is_in_section(walk.place) {
+            return walk;
+        }
+        walk = take_line(text, line, table, walk, notes);
+    }
+}
+
+// A section: its matrices with their values, and behind them its own record.
+fn fill_section(
+    text: &[u8],
+    line: Found,
+    table: &mut [u64],
+    filling: Filling,
+    notes: &[u64],
+) -> Walk
+    requires { ⌜ PutsSection (now text) line (now table) filling
+        × Noted (now text) (now table) (now notes) (getD (filling .bases) 6 0) (getD (filling .counts) 6 0) ⌝ }
+    ensures { λ r. ⌜ FillsSection (now (text .entry)) line (now (table .entry)) filling r (now (table .exit)) ⌝ }
+{
+    let walk = fill_lines(text, line.next, line.number + 1, table, filling, notes);
+    let filled = walk.filling;
+    let method = walk.method;
+    let conductors = walk.conductors;
+    let kinds = walk.kinds;
+    let mark = doc::argument_mark(text, line);
+    let words = [
+        mark.start as u64,
+        mark.size as u64,
+        store_matrices::told_in(method),
+        store_matrices::told_in(conductors),
+        kinds[0],
+        kinds[1],
+        kinds[2],
+        kinds[3],
+    ];
+    Walk {
+        at: walk.at,
+        number: walk.number,
+        place: walk.place,
+        filling: table_layout::put_record(table, filled, table_layout::SECTIONS, &words),
+    }
+}
+
+// Sections stand behind the family.
+fn opens_section(place: u64, key: u64) -> bool
+    ensures { λ r. ⌜ r ≡ both (eqb place places.after) (eqb key beginIcmSection) ⌝ }
+{
+    if place != line_place::AFTER {
+        return false;
+    }
+    key == lex_keyword::BEGIN_ICM_SECTION
+}
+
+// A line, and the section that it opens if it opens one.
+fn pass_section(text: &[u8], line: Found, table: &mut [u64], walk: Walk, notes: &[u64]) -> Walk
+    requires { ⌜ Ready sectionAt sectionsOf (now text) line walk (now table)
+        × Noted (now text) (now table) (now notes) (getD (walk .filling .bases) 6 0) (getD (walk .filling .counts) 6 0) ⌝ }
+    ensures { λ r. ⌜ Passes sectionAt sectionsOf (now (text .entry)) line walk (now (table .entry)) r (now (table .exit)) ⌝ }
+{
+    let filling = walk.filling;
+    if opens_section(walk.place, line.key) {
+        return fill_section(text, line, table, filling, notes);
+    }
+    Walk {
+        at: line.next,
+        number: line.number + 1,
+        place: doc::place_after(walk.place, text, line),
+        filling,
+    }
+}
+
+// All sections, from where the walk has come. Where something was noted of a matrix, its lines are not read again.
+pub fn fill_sections(text: &[u8], table: &mut [u64], walk: Walk, notes: &[u64]) -> Filling
+    requires { ⌜ Placed (now text) (walk .number) (walk .at)
+        × (length (walk .filling .counts) ≡ 7)
+        × Fits (length (now table)) (walk .filling) (sectionsOf (walk .filling) (sectionsLeft (now text) walk))
+        × Noted (now text) (now table) (now notes) (getD (walk .filling .bases) 6 0) (getD (walk .filling .counts) 6 0) ⌝ }
+    ensures { λ r. ⌜ Stores (walk .filling) (now (table .entry)) (sectionsOf (walk .filling) (sectionsLeft (now (text .entry)) walk)) r (now (table .exit)) ⌝ }
+{
+    let mut next = walk;
+    loop {
+        let line = doc::next_keyed(text, next.at, next.number, next.place);
+        if !line.there {
+            return next.filling;
+        }
+        next = pass_section(text, line, table, next, notes);
+    }
+}

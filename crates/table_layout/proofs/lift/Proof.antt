@@ -1,0 +1,35 @@
+-- `table_layout::lift` meets its contract: the words are moved, and zeros stored before and behind them.
+-- Assumes nothing.
+use Rattle.table_layout.proofs.LiftLaws.{lifted}
+use borrow.Author.Needs.{needs}
+use Rattle.table_layout.proofs.lift.Statement.{statement}
+use Rattle.table_layout.proofs.lift.Tie as tie
+
+move-up-requires : tie.Need-move-up-requires
+move-up-requires c κs = search needs
+
+zero-front-requires : tie.Need-zero-front-requires
+zero-front-requires c κs = search needs
+
+add-zero-from : tie.Need-add-zero-from
+add-zero-from c = search needs
+
+zero-from-requires : tie.Need-zero-from-requires
+zero-from-requires c κs = search needs
+
+same-length : tie.Need-same-length
+same-length c = search needs
+
+returns : tie.Need-returns
+returns c = search lifted
+
+pub lift-spec : {M : Type 1} → statement M
+lift-spec =
+    tie.close
+    (tie.spec
+    move-up-requires
+    zero-front-requires
+    add-zero-from
+    zero-from-requires
+    same-length
+    returns)

@@ -1,0 +1,81 @@
+-- How a table is filled: records are stored one by one, each behind those of its part that are stored already. The counts stand in the
+-- table from the start, so that it is known where each part begins.
+-- Assumes nothing.
+use Prim.Native.Nat.{ℕ, suc, _+_, _*_, _≤_, _<_}
+use mathlib.Core.Path.{_≡_}
+use mathlib.Core.Bool.{Bool}
+use mathlib.Core.List.{List, [], _∷_, _++_}
+use lib.ListN.{length, getD, set, replicate}
+use lib.Seq.{sets}
+use lib.Dec.{eqb}
+use Rattle.base.specs.If.{if_then_else_}
+use Rattle.table_layout.specs.Layout.{widths, values}
+use Rattle.table_layout.specs.declared.Filling.{Filling}
+
+-- a record to store: its part and its words
+pub record Write : Type 0 where
+  pub part : ℕ
+  pub words : List ℕ
+
+-- the words of the records of one part, in the order in which they are stored
+unfoldable pub partOf : ℕ → List Write → List (List ℕ)
+partOf p [] = []
+partOf p (w ∷ ws) = if eqb (w .part) p then w .words ∷ partOf p ws else partOf p ws
+
+-- how many words a record of a part has
+unfoldable pub widthOf : ℕ → ℕ
+widthOf p = getD widths p 0
+
+-- where the next record of a part is stored
+unfoldable pub position : Filling → ℕ → ℕ
+position f p = getD (f .bases) p 0 + widthOf p * getD (f .counts) p 0
+
+-- one record of a part more
+unfoldable pub counted : Filling → ℕ → Filling
+counted f p = record { bases = f .bases; counts = set (f .counts) p (getD (f .counts) p 0 + 1) }
+
+-- the table after these records are stored, and where the next ones go
+unfoldable pub tableAfter : List Write → Filling → List ℕ → List ℕ
+tableAfter [] f t = t
+tableAfter (w ∷ ws) f t = tableAfter ws (counted f (w .part)) (sets t (position f (w .part)) (w .words))
+
+unfoldable pub fillingAfter : List Write → Filling → Filling
+fillingAfter [] f = f
+fillingAfter (w ∷ ws) f = fillingAfter ws (counted f (w .part))
+
+-- records of the parts before the values end before the values begin: values may stand there already
+abbrev pub Apart : Filling → ℕ → Type 0
+Apart f p = p < values → position f p + widthOf p ≤ getD (f .bases) values 0
+
+-- each record is as wide as its part asks, is stored below `size`, and is no value's or lies before them
+pub data Fits (size : ℕ) : Filling → List Write → Type 0 where
+  none : {f : Filling} → Fits size f []
+  more : {f : Filling} {w : Write} {ws : List Write} →
+      w .part < length widths → length (w .words) ≡ widthOf (w .part) → position f (w .part) + widthOf (w .part) ≤ size →
+      Apart f (w .part) → Fits size (counted f (w .part)) ws → Fits size f (w ∷ ws)
+
+-- where the records of each part begin, the first part's count standing at `at`
+unfoldable pub basesFrom : ℕ → List ℕ → List ℕ → List ℕ
+basesFrom at [] counts = []
+basesFrom at (w ∷ ws) [] = []
+basesFrom at (w ∷ ws) (c ∷ cs) = (at + 1) ∷ basesFrom (at + 1 + w * c) ws cs
+
+-- nothing stored, for so many records of each part
+unfoldable pub startFilling : List ℕ → Filling
+startFilling counts = record { bases = basesFrom 0 widths counts; counts = replicate (length widths) 0 }
+
+-- the table that holds the counts, and zeros for the records
+unfoldable pub headed : List ℕ → List ℕ → List ℕ
+headed [] counts = []
+headed (w ∷ ws) [] = []
+headed (w ∷ ws) (c ∷ cs) = (c ∷ replicate (w * c) 0) ++ headed ws cs
+
+-- each part's count is set where the part begins
+unfoldable pub opened : ℕ → List ℕ → List ℕ → List ℕ → List ℕ
+opened at [] counts t = t
+opened at (w ∷ ws) [] t = t
+opened at (w ∷ ws) (c ∷ cs) t = opened (at + 1 + w * c) ws cs (set t at c)
+
+-- "65,536 values" is the greatest of the bounds: no count is above it, so no sum of theirs wraps
+pub record Few (counts : List ℕ) : Type 0 where
+  pub few : (p : ℕ) → getD counts p 0 ≤ 65_536

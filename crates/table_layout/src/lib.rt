@@ -1,0 +1,117 @@
+// The table's parts: how many words they need, where each begins, and the storing of one record.
+ghost use mathlib.Core.Path.{_≡_};
+ghost use Prim.Native.Nat.{ℕ, _+_, _≤_, _<_};
+ghost use lib.ListN.{length, take, replicate};
+ghost use lib.Seq.{sets};
+ghost use Rattle.table_layout.specs.Layout.{widths, needed};
+ghost use Rattle.table_layout.specs.Filling.{widthOf, position, counted, startFilling, opened, Few};
+
+pub const MODELS: usize = 0;
+
+pub const STEPS: usize = 1;
+
+pub const MAPS: usize = 2;
+
+pub const PINS: usize = 3;
+
+pub const SECTIONS: usize = 4;
+
+pub const MATRICES: usize = 5;
+
+pub const VALUES: usize = 6;
+
+pub const PARTS: usize = 7;
+
+// How many words a record of each part has.
+pub const WIDTHS: [usize; 7] = [5, 6, 7, 2, 8, 5, 3];
+
+// Where the records of each part begin, and how many of them are stored.
+pub struct Filling {
+    pub bases: [usize; 7],
+    pub counts: [u64; 7],
+}
+
+// The words that so many records of each part need.
+pub fn words_needed(counts: [u64; 7]) -> usize
+    requires { ⌜ Few counts ⌝ }
+    ensures { λ r. ⌜ r ≡ needed widths counts ⌝ }
+{
+    let mut words = 0;
+    let mut part = 0;
+    while part < PARTS {
+        words = words + 1 + WIDTHS[part] * (counts[part] as usize);
+        part += 1;
+    }
+    words
+}
+
+// The first words moved up, from the last down: none is stored over before it is moved.
+fn move_up(table: &mut [u64], count: usize, up: usize)
+    requires { ⌜ up + count ≤ length (now table) ⌝ }
+    ensures { λ _. ⌜ now (table .exit) ≡ sets (now (table .entry)) up (take count (now (table .entry))) ⌝ }
+{
+    let mut i = count;
+    while 0 < i {
+        let next = i - 1;
+        table[up + next] = table[next];
+        i = next;
+    }
+}
+
+// Zeros for the first words.
+fn zero_front(table: &mut [u64], count: usize)
+    requires { ⌜ count ≤ length (now table) ⌝ }
+    ensures { λ _. ⌜ now (table .exit) ≡ sets (now (table .entry)) 0 (replicate count 0) ⌝ }
+{
+    let mut i = 0;
+    while i < count {
+        table[i] = 0;
+        i += 1;
+    }
+}
+
+// The first words moved up to where they belong, with zeros before and behind them.
+pub fn lift(table: &mut [u64], count: usize, up: usize)
+    requires { ⌜ up + count ≤ length (now table) ⌝ }
+    ensures { λ _. ⌜ now (table .exit) ≡ sets (replicate (length (now (table .entry))) 0) up (take count (now (table .entry))) ⌝ }
+{
+    move_up(table, count, up);
+    zero_front(table, up);
+    base::zero_from(table, up + count);
+}
+
+// The counts stored, each where its part begins.
+pub fn open_parts(table: &mut [u64], counts: [u64; 7]) -> Filling
+    requires { ⌜ Few counts × (needed widths counts ≤ length (now table)) ⌝ }
+    ensures { λ r. ⌜ (r ≡ startFilling counts) × (now (table .exit) ≡ opened 0 widths counts (now (table .entry))) ⌝ }
+{
+    let mut bases = [0; 7];
+    let mut at = 0;
+    let mut part = 0;
+    while part < PARTS {
+        let count = counts[part];
+        let first = at + 1;
+        table[at] = count;
+        bases[part] = first;
+        at = first + WIDTHS[part] * (count as usize);
+        part += 1;
+    }
+    Filling {
+        bases,
+        counts: [0; 7],
+    }
+}
+
+// One record stored behind those of its part.
+pub fn put_record(table: &mut [u64], filling: Filling, part: usize, words: &[u64]) -> Filling
+    requires { ⌜ (part < length widths) × (length (now words) ≡ widthOf part) × (position filling part + widthOf part ≤ length (now table)) ⌝ }
+    ensures { λ r. ⌜ (r ≡ counted filling part) × (now (table .exit) ≡ sets (now (table .entry)) (position filling part) (now (words .entry))) ⌝ }
+{
+    let bases = filling.bases;
+    let mut counts = filling.counts;
+    let stored = counts[part];
+    let next = stored + 1;
+    base::put_words(table, bases[part] + WIDTHS[part] * (stored as usize), words);
+    counts[part] = next;
+    Filling { bases, counts }
+}
