@@ -12,8 +12,8 @@ use Rattle.base.specs.If.{if_then_else_, both}
 use Rattle.base.proofs.IfLaws.{if-true, if-false, not-via, not-not-via}
 use Rattle.lex_number.specs.ValueWord.{zeroWord}
 use Rattle.table_layout.specs.Layout.{sections, matrices}
-use Rattle.view.specs.View.{viewOf}
-use Rattle.view.specs.declared.View.{View}
+use Rattle.table_layout.specs.View.{viewOf}
+use Rattle.table_layout.specs.declared.View.{View}
 use Rattle.doc.specs.Records.{Records, recordsOf}
 use Rattle.ask_sound.specs.Sound.{isSound}
 use Rattle.ask_sound.specs.Standing.{countOf}

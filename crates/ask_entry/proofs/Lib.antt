@@ -2,3 +2,6 @@ pub mod OrderLaws
 pub mod SearchLaws
 pub mod ReadyLaws
 pub mod EntryLaws
+mod RowLaws
+mod WholeLaws
+pub mod SquareLaws

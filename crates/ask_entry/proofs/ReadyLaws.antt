@@ -15,12 +15,12 @@ use Rattle.base.specs.Bytes.{within}
 use Rattle.base.proofs.IfLaws.{if-true, if-false, by-test, both-true, both-rest, both-not-left, both-first, both-second}
 use Rattle.lex_number.specs.ValueWord.{zeroWord}
 use Rattle.table_layout.specs.Layout.{sections, matrices, values}
-use Rattle.view.specs.View.{viewOf}
-use Rattle.view.specs.declared.View.{View}
-use Rattle.view.proofs.PartLaws.{Viewed, viewed}
+use Rattle.table_layout.specs.View.{viewOf}
+use Rattle.table_layout.specs.declared.View.{View}
+use Rattle.table_layout.proofs.PartLaws.{Viewed, viewed}
 use Rattle.doc.specs.Records.{SectionRecord, MatrixRecord, Records, recordsOf}
 use Rattle.doc.specs.Holds.{rises}
-use Rattle.record.proofs.RangeLaws.{range-inside}
+use Rattle.ask_sound.proofs.RangeLaws.{range-inside}
 use Rattle.ask_sound.specs.Sound.{every, range, areMatrices, isSection, isMatrix, areSound, isSound}
 use Rattle.ask_sound.specs.Standing.{places, sectionAt, matrixAt, baseOf, countOf, placesOf, valuesFrom, valuesAt, recordsAt}
 use Rattle.ask_sound.proofs.PlaceLaws.{places-long, values-long, values-range}

@@ -1,2 +1,3 @@
 pub mod Entry
 pub mod Ready
+pub mod WholeMatrix

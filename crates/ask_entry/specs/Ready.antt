@@ -6,8 +6,8 @@ use mathlib.Core.Bool.{true}
 use mathlib.Core.List.{List}
 use lib.ListN.{length}
 use Rattle.table_layout.specs.Layout.{sections, matrices, values}
-use Rattle.view.specs.View.{viewOf}
-use Rattle.view.specs.declared.View.{View}
+use Rattle.table_layout.specs.View.{viewOf}
+use Rattle.table_layout.specs.declared.View.{View}
 use Rattle.doc.specs.Document.{Value}
 use Rattle.doc.specs.Records.{recordsOf}
 use Rattle.ask_sound.specs.Sound.{every, areMatrices, isMatrix}

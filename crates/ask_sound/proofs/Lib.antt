@@ -4,3 +4,4 @@ pub mod ReachLaws
 pub mod RecordLaws
 pub mod SoundLaws
 pub mod DepthLaws
+pub mod RangeLaws

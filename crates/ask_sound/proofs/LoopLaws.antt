@@ -16,7 +16,7 @@ use borrow.Author.Tests.{eq-eqb, ne-eqb, ltb-true, not-true, not-false}
 use Rattle.base.specs.If.{if_then_else_, both}
 use Rattle.base.proofs.IfLaws.{if-true, if-false, by-cases, both-rest, both-not-left}
 use Rattle.table_layout.specs.Layout.{widths}
-use Rattle.view.specs.declared.View.{View}
+use Rattle.table_layout.specs.declared.View.{View}
 use Rattle.doc.specs.Document.{Value, forkKind, endforkKind}
 use Rattle.doc.specs.Holds.{isInside, comesBefore, rises}
 use Rattle.ask_sound.specs.Sound.{every, depthStays, depthAfter, depthHolds, areZeros}

@@ -7,7 +7,7 @@ use native.Mathlib.Nat.{add-zero, mul-zero, mul-suc, le-of-suc-le-suc, not-suc-l
 use native.Mathlib.Omega.{arith}
 use lib.ListN.{length, take, drop, getD, length-map}
 use Rattle.table_layout.specs.Layout.{steps, sections, values}
-use Rattle.view.specs.declared.View.{View}
+use Rattle.table_layout.specs.declared.View.{View}
 use Rattle.ask_sound.specs.Sound.{range}
 use Rattle.ask_sound.specs.Standing.{places, valueAt, baseOf, countOf, kindsFrom, valuesFrom, kindsAt, methodsAt, valuesAt}
 

@@ -12,10 +12,10 @@ use borrow.Author.Tests.{lt-ltb, le-ltb, not-true, not-false}
 use Rattle.base.specs.If.{if_then_else_, both}
 use Rattle.base.proofs.IfLaws.{both-rest, both-not-left}
 use Rattle.table_layout.specs.Layout.{widths, steps, sections, values}
-use Rattle.view.specs.declared.View.{View}
+use Rattle.table_layout.specs.declared.View.{View}
 use Rattle.doc.specs.Holds.{rises}
-use Rattle.record.specs.Tests.{isRange, isNameIn, hasNoSide, amountFits, isBandwidth}
-use Rattle.record.proofs.RangeLaws.{range-inside}
+use Rattle.ask_sound.specs.Tests.{isRange, isNameIn, hasNoSide, amountFits, isBandwidth}
+use Rattle.ask_sound.proofs.RangeLaws.{range-inside}
 use Rattle.ask_sound.specs.Sound.{range, depthHolds, isModel, isSectionStep, isMatrix, isValue}
 use Rattle.ask_sound.specs.Standing.{modelAt, stepAt, matrixAt, valueAt, baseOf, countOf, kindsFrom, valuesFrom, kindsAt, methodsAt, valuesAt, isRecord, ValueReaches, Rooms}
 use Rattle.ask_sound.proofs.PlaceLaws.{kinds-long, kinds-range, methods-long, method-word, values-long, values-range}

@@ -12,9 +12,9 @@ use borrow.Author.Tests.{not-true, not-false}
 use Rattle.base.specs.If.{if_then_else_, both}
 use Rattle.base.proofs.IfLaws.{both-rest, both-not-left}
 use Rattle.table_layout.specs.Layout.{widths, models, steps, maps, pins, sections, matrices, values, chopped, partsIn}
-use Rattle.view.specs.View.{viewOf}
-use Rattle.view.specs.declared.View.{View}
-use Rattle.view.proofs.PartLaws.{Viewed, viewed}
+use Rattle.table_layout.specs.View.{viewOf}
+use Rattle.table_layout.specs.declared.View.{View}
+use Rattle.table_layout.proofs.PartLaws.{Viewed, viewed}
 use Rattle.doc.specs.Records.{StepRecord, SectionRecord, Records, toModel, toStep, toMap, toPin, toSection, toMatrix, toValue, recordsIn, recordsOf}
 use Rattle.ask_sound.specs.Sound.{
   every,

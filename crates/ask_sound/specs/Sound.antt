@@ -22,8 +22,8 @@ use Rattle.doc.specs.Records.{
   recordsOf,
 }
 use Rattle.doc.specs.Holds.{rises}
-use Rattle.view.specs.View.{viewOf}
-use Rattle.record.specs.Tests.{isRange, isNameIn, hasNoSide, isSide, amountFits, isGrid, isBandwidth}
+use Rattle.table_layout.specs.View.{viewOf}
+use Rattle.ask_sound.specs.Tests.{isRange, isNameIn, hasNoSide, isSide, amountFits, isGrid, isBandwidth}
 
 -- each of a list passes the test
 unfoldable pub every : {A : Type 0} → (A → Bool) → List A → Bool

@@ -8,7 +8,7 @@ use lib.ListN.{length, getD}
 use lib.Dec.{eqb}
 use Rattle.base.specs.If.{if_then_else_, both}
 use Rattle.table_layout.specs.Layout.{widths, models, steps, maps, pins, sections, matrices, values}
-use Rattle.view.specs.declared.View.{View}
+use Rattle.table_layout.specs.declared.View.{View}
 use Rattle.doc.specs.Document.{Value}
 use Rattle.doc.specs.Records.{ModelRecord, StepRecord, MapRecord, PinRecord, SectionRecord, MatrixRecord, Records}
 use Rattle.doc.specs.Holds.{isInside, comesBefore}

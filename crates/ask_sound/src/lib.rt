@@ -7,7 +7,8 @@ ghost use Rattle.table_layout.specs.Layout.{widths, maps, pins, matrices};
 ghost use Rattle.doc.specs.Holds.{isInside, comesBefore, rises};
 ghost use Rattle.ask_sound.specs.Sound.{depthStays, depthAfter, depthHolds, isModel, isEnd, isSectionStep, isForkStep, isStep, isMap, isPin, areMatrices, isSection, isMatrix, isValue, areZeros, isSound};
 ghost use Rattle.ask_sound.specs.Standing.{modelAt, stepAt, mapAt, pinAt, sectionAt, matrixAt, valueAt, kindsFrom, valuesFrom, kindsAt, methodsAt, valuesAt, countOf, goesOn, reach, Reaches, ValueReaches, isRecord, areRecords, areParts, Rooms};
-use view::View;
+use table_layout::View;
+pub mod record;
 
 // "kind 0 end 1 section 2 fork 3 endfork".
 const END: u64 = 0;
@@ -472,7 +473,7 @@ fn zeros_from(table: &[u64], from: usize) -> bool
 pub fn is_sound(text: &[u8], table: &[u64]) -> bool
     ensures { λ r. ⌜ r ≡ isSound (now (text .entry)) (now (table .entry)) ⌝ }
 {
-    let view = view::view_of(table);
+    let view = table_layout::view_of(table);
     if !view.fits {
         return false;
     }

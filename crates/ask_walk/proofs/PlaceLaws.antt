@@ -14,7 +14,7 @@ use borrow.Author.Tests.{eq-eqb, ne-eqb, eqb-true, eqb-false, le-leb, lt-leb, le
 use Rattle.base.specs.If.{if_then_else_, both}
 use Rattle.base.proofs.IfLaws.{by-cases, both-rest, both-not-left, both-first, both-second}
 use Rattle.table_layout.specs.Layout.{models, steps}
-use Rattle.view.specs.declared.View.{View}
+use Rattle.table_layout.specs.declared.View.{View}
 use Rattle.doc.specs.Document.{forkKind, endforkKind}
 use Rattle.doc.specs.Records.{ModelRecord, StepRecord, Records, recordsOf}
 use Rattle.ask_sound.specs.Sound.{range, kindsOf}

@@ -10,11 +10,11 @@ use lib.ListN.{length, getD}
 use borrow.Author.Tests.{not-false}
 use Rattle.base.proofs.IfLaws.{both-first, both-second}
 use Rattle.table_layout.specs.Layout.{models, steps}
-use Rattle.view.specs.View.{viewOf}
-use Rattle.view.specs.declared.View.{View}
-use Rattle.view.proofs.PartLaws.{Viewed, viewed}
+use Rattle.table_layout.specs.View.{viewOf}
+use Rattle.table_layout.specs.declared.View.{View}
+use Rattle.table_layout.proofs.PartLaws.{Viewed, viewed}
 use Rattle.doc.specs.Records.{ModelRecord, Records, recordsOf}
-use Rattle.record.proofs.RangeLaws.{range-inside}
+use Rattle.ask_sound.proofs.RangeLaws.{range-inside}
 use Rattle.ask_sound.specs.Sound.{every, range, depthHolds, isModel, kindsOf, areSound, isSound}
 use Rattle.ask_sound.specs.Standing.{baseOf, countOf, kindsFrom, kindsAt, recordsAt}
 use Rattle.ask_sound.proofs.PlaceLaws.{kinds-long, kinds-range}

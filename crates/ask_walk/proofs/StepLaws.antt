@@ -9,7 +9,7 @@ use lib.ListN.{getD}
 use borrow.Author.Tests.{eq-eqb, ne-eqb}
 use Rattle.base.proofs.IfLaws.{if-true, if-false}
 use Rattle.table_layout.specs.Layout.{steps}
-use Rattle.view.specs.declared.View.{View}
+use Rattle.table_layout.specs.declared.View.{View}
 use Rattle.doc.specs.Records.{ModelRecord, StepRecord, Records, recordsOf}
 use Rattle.ask_sound.specs.Sound.{depthAfter, isSound}
 use Rattle.ask_sound.specs.Standing.{baseOf, stepAt}

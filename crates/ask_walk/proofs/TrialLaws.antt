@@ -6,9 +6,9 @@ use Prim.Native.Nat.{ℕ}
 use Rattle.base.specs.If.{if_then_else_, both, either}
 use Rattle.base.specs.Bytes.{within}
 use Rattle.table_layout.specs.Layout.{chopped, partsIn}
-use Rattle.view.specs.View.{areWithin, basesAt, countsAt, endAt, viewOf}
+use Rattle.table_layout.specs.View.{areWithin, basesAt, countsAt, endAt, viewOf}
 use Rattle.doc.specs.Records.{recordsIn, recordsOf}
-use Rattle.record.specs.Tests.{isRange, isNameIn, hasNoSide}
+use Rattle.ask_sound.specs.Tests.{isRange, isNameIn, hasNoSide}
 use Rattle.ask_sound.specs.Sound.{every, depthStays, depthAfter, depthHolds, isModel, isForkStep, isStep, kindsOf, methodsOf, areSound, areZeros, isSound}
 use Rattle.ask_walk.specs.declared.Place.{Place}
 use Rattle.ask_walk.specs.declared.StepWords.{StepWords}

@@ -7,7 +7,7 @@ use mathlib.Core.Bool.{true}
 use mathlib.Core.List.{List}
 use lib.ListN.{length, getD}
 use Rattle.table_layout.specs.Layout.{models, steps}
-use Rattle.view.specs.declared.View.{View}
+use Rattle.table_layout.specs.declared.View.{View}
 use Rattle.line_path.specs.Path.{deepest}
 use Rattle.doc.specs.Records.{recordsOf}
 use Rattle.ask_sound.specs.Sound.{depthHolds}

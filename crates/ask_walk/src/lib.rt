@@ -9,7 +9,7 @@ ghost use Rattle.doc.specs.Records.{recordsOf};
 ghost use Rattle.ask_sound.specs.Standing.{stepAt, kindsFrom};
 ghost use Rattle.ask_walk.specs.Walk.{walkWords, isDepth, isPlace, nextOf, walkOver, walkOn, walkFrom, answerOf};
 ghost use Rattle.ask_walk.specs.Walkable.{Walkable, Stands};
-use view::View;
+use table_layout::View;
 
 // "30 TABLE", "31 NOSUCH".
 const UNSOUND: u64 = 30;
@@ -183,6 +183,6 @@ impl Place {
         if !ask_sound::is_sound(text, table) {
             return Walked::Refused(UNSOUND);
         }
-        walk_in(table, view::view_of(table), self)
+        walk_in(table, table_layout::view_of(table), self)
     }
 }

@@ -16,8 +16,8 @@ use Rattle.base.proofs.IfLaws.{if-true, if-false, by-cases, either-none-first, 
 use Rattle.base.proofs.RunLaws.{same-refl, same-equal}
 use Rattle.base.proofs.BrokenLaws.{first-broken, first-kept}
 use Rattle.table_layout.specs.Layout.{models, steps, maps, chopped}
-use Rattle.view.specs.View.{viewOf}
-use Rattle.view.specs.declared.View.{View}
+use Rattle.table_layout.specs.View.{viewOf}
+use Rattle.table_layout.specs.declared.View.{View}
 use Rattle.doc.specs.Document.{Named, Step, Model, Map, Section, Document, documentOf}
 use Rattle.doc.specs.Records.{
   indexOf,
@@ -41,10 +41,10 @@ use Rattle.cross_rules.proofs.RisingLaws.{each-at}
 use Rattle.cross_rules.proofs.OrderLaws.{in-order}
 use Rattle.cross_rules.proofs.TwiceLaws.{model-twice}
 use Rattle.cross_rules.proofs.TableLaws.{view-holds, part-stands, part-many}
-use Rattle.repeated.specs.Twice.{nameIn, hasAbove}
-use Rattle.list.specs.Listed.{namedBy, isListed, Listed}
-use Rattle.list.proofs.NamedLaws.{same-turned, any-by, texts, first-has}
-use Rattle.list.proofs.NamedLaws.{first as firstNamed}
+use Rattle.cross_rules.specs.Twice.{nameIn, hasAbove}
+use Rattle.cross_names.specs.Listed.{namedBy, isListed, Listed}
+use Rattle.cross_names.proofs.NamedLaws.{same-turned, any-by, texts, first-has}
+use Rattle.cross_names.proofs.NamedLaws.{first as firstNamed}
 use Rattle.cross_steps.specs.StepWords.{firstTarget}
 use Rattle.cross_steps.specs.declared.Owner.{Owner}
 use Rattle.cross_steps.proofs.StandingLaws.{Words, Standing, standing, standing-front, standing-behind}

@@ -11,8 +11,8 @@ use lib.ListN.{length, drop, getD, length-append}
 use lib.Seq.{drop-at}
 use Rattle.line_path.specs.Path.{isMult}
 use Rattle.table_layout.specs.Layout.{models, maps, sections, matrices}
-use Rattle.view.specs.View.{viewOf}
-use Rattle.view.specs.declared.View.{View}
+use Rattle.table_layout.specs.View.{viewOf}
+use Rattle.table_layout.specs.declared.View.{View}
 use Rattle.doc.specs.Lines.{significant}
 use Rattle.doc.specs.Document.{Step, Model, Document, sectionKind, documentOf}
 use Rattle.doc.specs.Holds.{Each}
@@ -26,8 +26,8 @@ use Rattle.cross_rules.proofs.RisingLaws.Rising.{flat, rise}
 use Rattle.cross_rules.proofs.OrderLaws.{findingLines, in-order}
 use Rattle.cross_rules.proofs.KindLaws.{first-here, first-later}
 use Rattle.cross_rules.proofs.TableLaws.{view-holds}
-use Rattle.list.specs.Listed.{Listed}
-use Rattle.list.proofs.NamedLaws.{models-many}
+use Rattle.cross_names.specs.Listed.{Listed}
+use Rattle.cross_names.proofs.NamedLaws.{models-many}
 use Rattle.cross_steps.specs.StepWords.{Rooms, stepRuleAt}
 use Rattle.table_name.specs.Marks.{marksMany}
 use Rattle.cross_steps.specs.Marks.{Marked, Below, Judged}

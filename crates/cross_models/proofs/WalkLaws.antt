@@ -7,8 +7,8 @@ use Prim.Native.Nat.{ℕ, _+_, _≤_, _<_}
 use native.Mathlib.Omega.{arith}
 use lib.ListN.{length, drop, getD, drop-of-length-le}
 use Rattle.table_layout.specs.Layout.{models}
-use Rattle.view.specs.View.{viewOf}
-use Rattle.view.specs.declared.View.{View}
+use Rattle.table_layout.specs.View.{viewOf}
+use Rattle.table_layout.specs.declared.View.{View}
 use Rattle.doc.specs.Lines.{significant}
 use Rattle.doc.specs.Document.{Model, Document, documentOf}
 use Rattle.doc.specs.Holds.{Each}
@@ -21,8 +21,8 @@ use Rattle.cross_rules.proofs.RisingLaws.{all-least}
 use Rattle.cross_rules.proofs.OrderLaws.{in-order}
 use Rattle.cross_rules.proofs.KindLaws.{first-here, first-later}
 use Rattle.cross_rules.proofs.NthLaws.{model-line}
-use Rattle.list.specs.Listed.{Listed}
-use Rattle.list.proofs.NamedLaws.{models-many}
+use Rattle.cross_names.specs.Listed.{Listed}
+use Rattle.cross_names.proofs.NamedLaws.{models-many}
 use Rattle.table_name.specs.Marks.{marksMany}
 use Rattle.cross_models.specs.Cursor.{Cursor}
 use Rattle.cross_models.specs.Models.{ModelRoom, modelRuleAt, belowFirst, Awaits, StepsTold}

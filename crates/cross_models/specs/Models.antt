@@ -7,13 +7,13 @@ use mathlib.Core.List.{List, [], _∷_, _++_}
 use lib.ListN.{length, drop, getD}
 use Rattle.base.specs.Broken.{_when_, firstBroken}
 use Rattle.table_layout.specs.Layout.{models, steps, maps, chopped}
-use Rattle.view.specs.declared.View.{View}
+use Rattle.table_layout.specs.declared.View.{View}
 use Rattle.doc.specs.Document.{Model, Document, documentOf}
 use Rattle.doc.specs.Holds.{Each}
 use Rattle.table_name.specs.Name.{nameAt}
 use Rattle.cross_rules.specs.Rules.{stepFindings, modelFindings, firstIn}
 use Rattle.cross_rules.specs.declared.Finding.{Finding}
-use Rattle.repeated.specs.Twice.{hasAbove}
+use Rattle.cross_rules.specs.Twice.{hasAbove}
 use Rattle.cross_steps.specs.StepWords.{firstTarget}
 use Rattle.cross_steps.specs.declared.Owner.{Owner}
 use Rattle.cross_models.specs.Cursor.{Cursor}

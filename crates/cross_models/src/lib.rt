@@ -4,12 +4,12 @@ ghost use Prim.Native.Nat.{_+_, _*_, _≤_, _<_};
 ghost use lib.ListN.{length, getD};
 ghost use Rattle.line_path.specs.Path.{isMult};
 ghost use Rattle.table_layout.specs.Layout.{models};
-ghost use Rattle.view.specs.View.{viewOf};
+ghost use Rattle.table_layout.specs.View.{viewOf};
 ghost use Rattle.doc.specs.Document.{documentOf};
 ghost use Rattle.doc.specs.Found.{Located, contentIn};
 ghost use Rattle.cross_rules.specs.Rules.{firstIn, modelFindings};
 ghost use Rattle.cross_rules.specs.Filled.{Filled};
-ghost use Rattle.list.specs.Listed.{Listed};
+ghost use Rattle.cross_names.specs.Listed.{Listed};
 ghost use Rattle.table_name.specs.Marks.{marksMany};
 ghost use Rattle.cross_models.specs.Cursor.{Cursor, Seeks, PastMult, Tells, TellsStep};
 ghost use Rattle.cross_models.specs.Models.{ModelRoom, ownerAt, modelRuleAt, Awaits, StepsTold};
@@ -17,7 +17,7 @@ use doc::Found;
 use doc::Passed;
 use cross_rules::Finding;
 use cross_steps::Owner;
-use view::View;
+use table_layout::View;
 
 // "From `|` on, a line is comment".
 const COMMENT: u8 = b'|';
@@ -191,7 +191,7 @@ fn model_rule(text: &[u8], table: &[u64], view: View, listed: [bool; 65], index:
     ensures { λ r. ⌜ r ≡ modelRuleAt (now (text .entry)) (now (table .entry)) view listed index ⌝ }
 {
     let bases = view.bases;
-    if repeated::is_twice(text, table, bases[table_layout::MODELS], MODEL_WORDS, index) {
+    if cross_rules::is_twice(text, table, bases[table_layout::MODELS], MODEL_WORDS, index) {
         return TWICE;
     }
     let flag = index as usize;

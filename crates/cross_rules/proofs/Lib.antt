@@ -7,3 +7,6 @@ pub mod TwiceLaws
 pub mod ListLaws
 pub mod ApartLaws
 pub mod FirstLaws
+pub mod RepeatedLaws
+pub mod NamesLaws
+pub mod MarkedLaws

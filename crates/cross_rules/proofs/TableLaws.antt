@@ -15,10 +15,10 @@ use Rattle.doc.specs.Records.{flatten, partsOf, tableOf}
 use Rattle.doc.specs.Holds.{countsOf}
 use Rattle.doc.proofs.RecordLaws.{records-wide}
 use Rattle.doc.proofs.CountLaws.{counts-agree}
-use Rattle.view.specs.View.{bounds, viewOf}
-use Rattle.view.specs.declared.View.{View}
-use Rattle.view.proofs.PartLaws.{Viewed, viewed}
-use Rattle.view.proofs.LaidLaws.{AllFew, laid-view}
+use Rattle.table_layout.specs.View.{bounds, viewOf}
+use Rattle.table_layout.specs.declared.View.{View}
+use Rattle.table_layout.proofs.PartLaws.{Viewed, viewed}
+use Rattle.table_layout.proofs.LaidLaws.{AllFew, laid-view}
 use Rattle.cross_rules.specs.Filled.{Filled}
 
 getD-lengths : (parts : List (List (List ℕ))) (p : ℕ) → getD (map length parts) p 0 ≡ length (getD parts p [])

@@ -15,8 +15,8 @@ use Rattle.base.specs.Runs.{same}
 use Rattle.base.specs.Broken.{_when_, firstBroken}
 use Rattle.base.proofs.IfLaws.{if-true, if-false, by-cases, both-rest, both-not-left, both-not-right}
 use Rattle.table_layout.specs.Layout.{maps, sections, matrices}
-use Rattle.view.specs.View.{viewOf}
-use Rattle.view.specs.declared.View.{View}
+use Rattle.table_layout.specs.View.{viewOf}
+use Rattle.table_layout.specs.declared.View.{View}
 use Rattle.doc.specs.Document.{Step, Model, Map, Section, Document, endKind, sectionKind, documentOf}
 use Rattle.doc.specs.Records.{
   targetOf,

@@ -13,7 +13,7 @@ use Rattle.base.specs.If.{both}
 use Rattle.base.proofs.IfLaws.{if-true, if-false, both-true, both-rest, both-not-left, both-not-right, not-via, not-not-via}
 use Rattle.base.proofs.BrokenLaws.{gives-first, gives-later}
 use Rattle.table_layout.specs.Layout.{maps, sections, matrices}
-use Rattle.view.specs.declared.View.{View}
+use Rattle.table_layout.specs.declared.View.{View}
 use Rattle.cross_steps.specs.StepWords.{
   Rooms,
   meetsAbove,

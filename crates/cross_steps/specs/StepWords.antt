@@ -11,7 +11,7 @@ use Rattle.base.specs.Runs.{same}
 use Rattle.base.specs.Broken.{_when_, firstBroken}
 use Rattle.line_matrix.specs.Matrix.{diagonal}
 use Rattle.table_layout.specs.Layout.{maps, sections, matrices}
-use Rattle.view.specs.declared.View.{View}
+use Rattle.table_layout.specs.declared.View.{View}
 use Rattle.doc.specs.Document.{endKind, sectionKind}
 use Rattle.table_name.specs.Name.{nameAt}
 use Rattle.cross_steps.specs.declared.Owner.{Owner}

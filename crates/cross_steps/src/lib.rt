@@ -5,7 +5,7 @@ ghost use lib.ListN.{length, getD};
 ghost use Rattle.table_layout.specs.Layout.{maps, sections};
 ghost use Rattle.cross_steps.specs.StepWords.{Rooms, clashAt, meetsAt, meetsAbove, firstTarget, pinsOf, differsFrom, lesserOf, leastAt, firstMatrix, otherIn, otherForm, kindBroken, wrongMethod, endRuleAt, sectionRuleAt, stepRuleAt};
 ghost use Rattle.cross_steps.specs.Marks.{markAt, isMarked, Marked, Below, Judged};
-use view::View;
+use table_layout::View;
 
 // "kind 0 end 1 section 2 fork 3 endfork".
 const END: u64 = 0;

@@ -1,9 +1,9 @@
 // Prints one entry of a section's matrix in an ICM file, as the listing prints a value, or says on one line why there is none.
 // Run as: icm_entry FILE SECTION KIND ROW COLUMN, the kind R, L, G or C, row and column from 1 on
 ghost use mathlib.Core.Path.{_≡_};
-ghost use Rattle.view.specs.View.{viewOf};
+ghost use Rattle.table_layout.specs.View.{viewOf};
 use intake::Answer;
-use view::View;
+use table_layout::View;
 
 // The longest file that is taken.
 const MOST: usize = 65536;
@@ -165,7 +165,7 @@ fn answer_in(text: &[u8], table: &[u64], name: &[u8], section: u64, conductors: 
 
 // N is 0 where there is no such section, and never else.
 fn answer_of(text: &[u8], table: &[u64], name: &[u8]) {
-    let view = view::view_of(table);
+    let view = table_layout::view_of(table);
     let section = section_of(text, table, view, name);
     let conductors = out_listing::field_of(table, view, table_layout::SECTIONS, section, CONDUCTORS);
     if conductors == 0 {

@@ -1,9 +1,9 @@
 // Prints the steps of a model's path in an ICM file, as the listing does, each two blanks further in for every fork that it stands in.
 // Run as: icm_walk FILE MODEL
 ghost use mathlib.Core.Path.{_≡_};
-ghost use Rattle.view.specs.View.{viewOf};
+ghost use Rattle.table_layout.specs.View.{viewOf};
 use intake::Answer;
-use view::View;
+use table_layout::View;
 use ask_walk::Place;
 use ask_walk::Walked;
 
@@ -67,7 +67,7 @@ fn print_blanks(depth: u64) {
 
 // A step's line has at most two names and two numbers.
 fn print_step(text: &[u8], table: &[u64], index: u64) {
-    let view = view::view_of(table);
+    let view = table_layout::view_of(table);
     let mut room = [0u8; 512];
     let length = out_listing::step_line(&mut room, 0, text, table, view, index);
     print_room(&room, length);
@@ -151,7 +151,7 @@ fn model_of(text: &[u8], table: &[u64], view: View, name: &[u8]) -> u64
 }
 
 fn walk_model(text: &[u8], table: &[u64], name: &[u8]) {
-    let view = view::view_of(table);
+    let view = table_layout::view_of(table);
     let model = model_of(text, table, view, name);
     if out_listing::count_of(table, view, table_layout::MODELS) <= model {
         print_line(b"no model ", name);

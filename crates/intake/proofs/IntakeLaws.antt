@@ -19,10 +19,10 @@ use Rattle.read_line.specs.declared.Reading.{Reading}
 use Rattle.read_line.specs.declared.Reading.the-variants as reading
 use Rattle.doc.specs.Document.{documentOf}
 use Rattle.doc.specs.Records.{tableOf}
-use Rattle.fill.specs.Filled as filled
-use Rattle.fill.specs.Filled.{afterReading, filledOf}
-use Rattle.fill.specs.declared.Filled as filling
-use Rattle.fill.specs.declared.Filled.the-variants.{Stored, Refused}
+use Rattle.intake.specs.Filled as filled
+use Rattle.intake.specs.Filled.{afterReading, filledOf}
+use Rattle.intake.specs.declared.fill.Filled as filling
+use Rattle.intake.specs.declared.fill.Filled.the-variants.{Stored, Refused}
 use Rattle.cross_rules.specs.Rules.{crossRule}
 use Rattle.cross_rules.specs.Filled.{Filled}
 use Rattle.cross_rules.specs.declared.Finding.{Finding}

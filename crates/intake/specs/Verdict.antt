@@ -12,9 +12,9 @@ use Rattle.lex_line.specs.declared.Checked.{Checked}
 use Rattle.lex_line.specs.declared.Checked.the-variants as bytes
 use Rattle.doc.specs.Document.{documentOf}
 use Rattle.doc.specs.Records.{tableOf}
-use Rattle.fill.specs.Filled.{filledOf}
-use Rattle.fill.specs.declared.Filled.{Filled}
-use Rattle.fill.specs.declared.Filled.the-variants as filling
+use Rattle.intake.specs.Filled.{filledOf}
+use Rattle.intake.specs.declared.fill.Filled.{Filled}
+use Rattle.intake.specs.declared.fill.Filled.the-variants as filling
 use Rattle.cross_rules.specs.Rules.{crossRule}
 use Rattle.cross_rules.specs.declared.Finding.{Finding}
 use Rattle.intake.specs.declared.Answer.{Answer}

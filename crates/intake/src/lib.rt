@@ -2,11 +2,13 @@
 ghost use mathlib.Core.Path.{_≡_};
 ghost use lib.ListN.{length};
 ghost use Rattle.doc.specs.Document.{documentOf};
-ghost use Rattle.fill.specs.Filled.{filledOf};
+ghost use Rattle.intake.specs.Filled.{filledOf};
 ghost use Rattle.cross_rules.specs.Rules.{crossRule};
 ghost use Rattle.cross_rules.specs.Filled.{Filled};
 ghost use Rattle.intake.specs.Verdict.{answerWords, crossed, afterFilling, verdictOf, tableFor};
 use lex_line::Checked;
+pub mod fill;
+pub mod cross;
 
 // Accepted with the words used, or refused by a rule at a line.
 pub enum Answer {

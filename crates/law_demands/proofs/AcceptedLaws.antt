@@ -18,9 +18,9 @@ use Rattle.read_line.specs.declared.Reading.{Reading}
 use Rattle.read_line.specs.declared.Reading.the-variants as reading
 use Rattle.doc.specs.Document.{documentOf}
 use Rattle.doc.specs.Records.{tableOf}
-use Rattle.fill.specs.Filled.{filledOf, afterReading}
-use Rattle.fill.specs.declared.Filled.{Filled}
-use Rattle.fill.specs.declared.Filled.the-variants.{Stored, Refused}
+use Rattle.intake.specs.Filled.{filledOf, afterReading}
+use Rattle.intake.specs.declared.fill.Filled.{Filled}
+use Rattle.intake.specs.declared.fill.Filled.the-variants.{Stored, Refused}
 use Rattle.cross_rules.specs.Rules.{crossRule}
 use Rattle.intake.specs.Verdict.{Outcome, acceptedWith, refusedBy, crossed, afterFilling, afterBytes, verdictOf}
 

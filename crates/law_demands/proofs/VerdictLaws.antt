@@ -27,9 +27,9 @@ use Rattle.doc.specs.Records.{tableOf}
 use Rattle.doc.specs.Holds.{Each}
 use Rattle.doc.specs.Holds.Each.{none, more}
 use Rattle.doc.proofs.StandsLaws.{each-append}
-use Rattle.fill.specs.Filled.{filledOf, afterReading}
-use Rattle.fill.specs.declared.Filled.{Filled}
-use Rattle.fill.specs.declared.Filled.the-variants as filled
+use Rattle.intake.specs.Filled.{filledOf, afterReading}
+use Rattle.intake.specs.declared.fill.Filled.{Filled}
+use Rattle.intake.specs.declared.fill.Filled.the-variants as filled
 use Rattle.cross_rules.specs.Rules.{findings, listFindings, modelFindings, mapFindings, sectionFindings, crossRule}
 use Rattle.cross_rules.specs.declared.Finding.{Finding}
 use Rattle.cross_rules.proofs.OrderLaws.{in-order}

@@ -49,13 +49,13 @@ use Rattle.read_line.specs.Trace as d26
 use Rattle.read_line.specs.Walk as d27
 use Rattle.table_layout.specs.Filling as d28
 use Rattle.table_layout.specs.Layout as d29
-use Rattle.view.specs.View as d30
+use Rattle.table_layout.specs.View as d30
 use Rattle.doc.specs.Document as d31
 use Rattle.doc.specs.Found as d32
 use Rattle.doc.specs.Holds as d33
 use Rattle.doc.specs.Lines as d34
 use Rattle.doc.specs.Records as d35
-use Rattle.fill.specs.Filled as d36
+use Rattle.intake.specs.Filled as d36
 use Rattle.cross_rules.specs.Nth as d37
 use Rattle.cross_rules.specs.Rules as d38
 use Rattle.intake.specs.Verdict as d39

@@ -37,7 +37,7 @@ use Rattle.doc.proofs.Goes.{Goes, Moves, idle-outside, text-ends}
 use Rattle.doc.proofs.Goes.Moves.{idle, plainly, keyed}
 use Rattle.doc.proofs.StepLaws.{says-said, saying-there, saying-elsewhere, saying-keyed, path-ruled}
 use Rattle.doc.proofs.StandsLaws.{each-gather, each-if, each-up}
-use Rattle.record.specs.Tests.{isLength}
+use Rattle.ask_sound.specs.Tests.{isLength}
 use Rattle.law_sound.proofs.Bounds.{RightStep}
 
 -- ---- the amount of a line that breaks no rule

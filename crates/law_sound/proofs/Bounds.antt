@@ -9,7 +9,7 @@ use Rattle.base.specs.Bytes.{within}
 use Rattle.doc.specs.Lines.{noWord}
 use Rattle.doc.specs.Document.{Step, Model, Map, Document, endKind, sectionKind}
 use Rattle.doc.specs.Holds.{Each}
-use Rattle.record.specs.Tests.{isLength, isGrid}
+use Rattle.ask_sound.specs.Tests.{isLength, isGrid}
 
 -- "amount: Mult, the Len value word, or 0; side start and length or 0 0"
 pub record RightStep (s : Step) : Type 0 where

@@ -11,8 +11,8 @@ use lib.Seq.{drop-drop, getD-drop, drop-at}
 use Rattle.base.proofs.IfLaws.{if-true, if-false, by-cases, both-true}
 use Rattle.table_layout.specs.Layout.{widths, joined, layout, AllLong, Wide}
 use Rattle.table_layout.proofs.LayoutLaws.{length-joined}
-use Rattle.view.specs.View.{bounds, areWithin, endAt, noView, viewOf}
-use Rattle.view.specs.declared.View.{View}
+use Rattle.table_layout.specs.View.{bounds, areWithin, endAt, noView, viewOf}
+use Rattle.table_layout.specs.declared.View.{View}
 use Rattle.doc.specs.Document.{documentOf}
 use Rattle.doc.specs.Records.{flatten, tableOf, recordsOf}
 use Rattle.doc.proofs.RecordLaws.{records-wide, records-back}

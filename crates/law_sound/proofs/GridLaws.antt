@@ -47,7 +47,7 @@ use Rattle.line_map.specs.PinMap.{
 }
 use Rattle.line_map.specs.declared.Map.{Map}
 use Rattle.line_map.specs.declared.MapLine.{MapLine}
-use Rattle.record.specs.Tests.{isGrid}
+use Rattle.ask_sound.specs.Tests.{isGrid}
 use Rattle.law_sound.proofs.PartLaws.{within-is}
 
 -- ---- what a line gives

@@ -23,7 +23,7 @@ use Rattle.doc.proofs.NamedLaws.{MapNamed}
 use Rattle.doc.proofs.MatrixLaws.{RightValue, RightMatrix}
 use Rattle.doc.proofs.SectionLaws.{RightSection}
 use Rattle.cross_rules.proofs.RisingLaws.{each-by}
-use Rattle.record.specs.Tests.{isRange, isNameIn, isBandwidth}
+use Rattle.ask_sound.specs.Tests.{isRange, isNameIn, isBandwidth}
 use Rattle.ask_sound.specs.Sound.{
   every,
   range,

@@ -16,7 +16,7 @@ use Rattle.line_keyword.specs.declared.Counts.{Counts}
 use Rattle.read_line.specs.Reading.{readingOf}
 use Rattle.read_line.specs.declared.Reading.the-variants.{Read}
 use Rattle.table_layout.specs.Layout.{widths, needed}
-use Rattle.view.specs.View.{viewOf}
+use Rattle.table_layout.specs.View.{viewOf}
 use Rattle.doc.specs.Document.{documentOf}
 use Rattle.doc.specs.Records.{flatten, partsOf, tableOf}
 use Rattle.doc.proofs.RecordLaws.{table-long}

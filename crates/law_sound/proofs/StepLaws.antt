@@ -19,7 +19,7 @@ use Rattle.doc.specs.Holds.Each.{none, more}
 use Rattle.doc.proofs.NamedLaws.{StepNamed, ModelNamed}
 use Rattle.doc.proofs.SectionLaws.{RightSection}
 use Rattle.cross_rules.specs.Rules.{methodAt, mapIndex, sectionIndex, isWrongMethod, stepRule}
-use Rattle.record.specs.Tests.{hasNoSide, isSide, amountFits}
+use Rattle.ask_sound.specs.Tests.{hasNoSide, isSide, amountFits}
 use Rattle.ask_sound.specs.Sound.{every, isEnd, isSectionStep, isForkStep, isStep, methodsOf}
 use Rattle.law_sound.proofs.EveryLaws.{every-none, every-more, every-append}
 use Rattle.law_sound.proofs.Bounds.{RightStep}

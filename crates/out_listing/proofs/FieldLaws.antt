@@ -13,9 +13,9 @@ use lib.Dec.{ltb}
 use borrow.Author.Tests.{lt-ltb, le-ltb, ltb-true, ltb-false}
 use Rattle.base.proofs.IfLaws.{if-true, if-false, by-test, by-cases}
 use Rattle.table_layout.specs.Layout.{widths, values}
-use Rattle.view.specs.View.{bounds, areWithin, countsAt, noView, viewOf}
-use Rattle.view.specs.declared.View.{View}
-use Rattle.view.proofs.PartLaws.{viewed}
+use Rattle.table_layout.specs.View.{bounds, areWithin, countsAt, noView, viewOf}
+use Rattle.table_layout.specs.declared.View.{View}
+use Rattle.table_layout.proofs.PartLaws.{viewed}
 use Rattle.out_listing.specs.Fields.{countOf, fieldOf}
 
 zeros-at : (n p : ℕ) → getD {A = ℕ} (replicate n 0) p 0 ≡ 0

@@ -6,7 +6,7 @@ use lib.ListN.{getD}
 use lib.Dec.{ltb, eqb}
 use Rattle.base.specs.If.{if_then_else_}
 use Rattle.table_layout.specs.Layout.{widths, sections, matrices, values}
-use Rattle.view.specs.View.{viewOf}
+use Rattle.table_layout.specs.View.{viewOf}
 
 module _ (table : List ℕ) where
   -- how many records a part has

@@ -4,13 +4,13 @@ ghost use mathlib.Core.Path.{_≡_};
 ghost use mathlib.Core.List.{_∷_, [], _++_};
 ghost use Prim.Native.Nat.{_+_};
 ghost use lib.Dec.{eqb};
-ghost use Rattle.view.specs.View.{viewOf};
+ghost use Rattle.table_layout.specs.View.{viewOf};
 ghost use Rattle.out_text.specs.Printing.{lineOf, decimal, valueText};
 ghost use Rattle.out_text.specs.Written.{Written};
 ghost use Rattle.table_layout.specs.Layout.{sections};
 ghost use Rattle.out_listing.specs.Fields.{countOf, fieldOf, kindIn, ownerOf, valuesIn};
 ghost use Rattle.out_listing.specs.Listing.{typeText, methodText, kindText, linesFrom, nameOf, modelLine, sideOf, endLine, amountText, sectionStepLine, stepLine, mapLine, sectionLine, valueLine, recordLine, partText, matrixText, valuesText, partsText, listing, refusalText};
-use view::View;
+use table_layout::View;
 
 // The kinds of steps.
 const END: u64 = 0;
@@ -530,7 +530,7 @@ fn put_values(out: &mut [u8], at: usize, text: &[u8], table: &[u64], view: View)
 pub fn write_listing(text: &[u8], table: &[u64], words: usize, out: &mut [u8]) -> usize
     ensures { λ r. ⌜ Written (now (out .entry)) (now (out .exit)) 0 r (listing (now (text .entry)) (now (table .entry)) words) ⌝ }
 {
-    let view = view::view_of(table);
+    let view = table_layout::view_of(table);
     let parts = head_line(out, 0, b"accepted", words as u64);
     let values = put_parts(out, parts, text, table, view);
     put_values(out, values, text, table, view)

@@ -21,9 +21,9 @@ use Rattle.ask_walk.specs.declared.Place.{Place}
 use Rattle.ask_walk.specs.declared.StepWords.{StepWords}
 use Rattle.ask_walk.specs.declared.Walked.{Walked}
 use Rattle.ask_walk.specs.declared.Walked.the-variants as walked
-use Rattle.whole_matrix.specs.WholeMatrix as matrices
-use Rattle.whole_matrix.specs.declared.Whole.{Whole}
-use Rattle.whole_matrix.specs.declared.Whole.the-variants as whole
+use Rattle.ask_entry.specs.WholeMatrix as matrices
+use Rattle.ask_entry.specs.declared.Whole.{Whole}
+use Rattle.ask_entry.specs.declared.Whole.the-variants as whole
 use Rattle.out_double.specs.Double.{drawnOf, paired}
 use Rattle.out_double.specs.declared.Drawn.{Drawn}
 use Rattle.out_double.specs.declared.Drawn.the-variants as drawn

@@ -22,9 +22,9 @@ use Rattle.read_line.proofs.CountLaws.{Within, read-within, read-matrices}
 use Rattle.doc.specs.Document.{documentOf}
 use Rattle.doc.specs.Records.{tableOf}
 use Rattle.doc.specs.Holds.{countsOf}
-use Rattle.fill.specs.Filled.{afterReading, filledOf}
-use Rattle.fill.specs.declared.Filled.the-variants.{Stored, Refused}
-use Rattle.fill.proofs.ReadyLaws.{needed-is}
+use Rattle.intake.specs.Filled.{afterReading, filledOf}
+use Rattle.intake.specs.declared.fill.Filled.the-variants.{Stored, Refused}
+use Rattle.intake.proofs.ReadyLaws.{needed-is}
 use Rattle.cross_rules.specs.Rules.{crossRule}
 use Rattle.intake.specs.Verdict.{Outcome, crossed, afterFilling, afterBytes, verdictOf}
 use Rattle.skumvari.specs.Room.{mostWords}

@@ -14,7 +14,7 @@ use Rattle.ask_entry.specs.Entry.{EntryWords}
 use Rattle.ask_walk.specs.Walk.{WalkWords}
 use Rattle.ask_walk.specs.declared.Place.{Place}
 use Rattle.ask_walk.specs.declared.StepWords.{StepWords}
-use Rattle.whole_matrix.specs.WholeMatrix.{MatrixWords}
+use Rattle.ask_entry.specs.WholeMatrix.{MatrixWords}
 use Rattle.out_double.specs.declared.Drawn.{Drawn}
 use Rattle.out_double.specs.declared.Drawn.the-variants as drawn
 use Rattle.out_double.specs.declared.DrawnPair.{DrawnPair}

@@ -7,7 +7,7 @@ ghost use Rattle.ask_sound.specs.Sound.{isSound};
 ghost use Rattle.intake.specs.Verdict.{verdictOf, tableFor};
 ghost use Rattle.ask_entry.specs.Entry as entries;
 ghost use Rattle.ask_walk.specs.Walk as walks;
-ghost use Rattle.whole_matrix.specs.WholeMatrix.{wholeOf, roomAfter};
+ghost use Rattle.ask_entry.specs.WholeMatrix.{wholeOf, roomAfter};
 ghost use Rattle.out_double.specs.Double.{drawnOf, paired};
 ghost use Rattle.skumvari.specs.Words.{intakeLayout, entryLayout, walkLayout, matrixLayout, doubleLayout, pairLayout, stepLayout, isRoom, answered, tableAfter, valuesAfter};
 ghost use Rattle.skumvari.specs.Room.{mostWords};
@@ -17,7 +17,7 @@ use ask_entry::Answer;
 use ask_walk::Place;
 use ask_walk::StepWords;
 use ask_walk::Walked;
-use whole_matrix::Whole;
+use ask_entry::Whole;
 
 const TABLE_WORDS: usize = 237_319;
 
@@ -198,7 +198,7 @@ pub extern "C" fn skumvari_matrix(
     if answer.len() < ANSWER_WORDS {
         return false;
     }
-    match whole_matrix::whole_matrix(text, table, section, kind, values) {
+    match ask_entry::whole_matrix(text, table, section, kind, values) {
         Whole::Found(conductors) => put_answer(answer, 1, 0, 0, conductors),
         Whole::Short(conductors) => put_answer(answer, 0, 0, 0, conductors),
         Whole::Refused(number) => put_answer(answer, 0, number, 0, 0),

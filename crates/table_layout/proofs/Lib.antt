@@ -5,3 +5,6 @@ pub mod StoreLaws
 pub mod BehindLaws
 pub mod OpenLaws
 pub mod LiftLaws
+pub mod ViewLaws
+pub mod PartLaws
+pub mod LaidLaws

@@ -1,10 +1,11 @@
 // The table's parts: how many words they need, where each begins, and the storing of one record.
 ghost use mathlib.Core.Path.{_≡_};
 ghost use Prim.Native.Nat.{ℕ, _+_, _≤_, _<_};
-ghost use lib.ListN.{length, take, replicate};
+ghost use lib.ListN.{length, take, replicate, getD};
 ghost use lib.Seq.{sets};
 ghost use Rattle.table_layout.specs.Layout.{widths, needed};
 ghost use Rattle.table_layout.specs.Filling.{widthOf, position, counted, startFilling, opened, Few};
+ghost use Rattle.table_layout.specs.View.{viewOf, noView};
 
 pub const MODELS: usize = 0;
 
@@ -114,4 +115,68 @@ pub fn put_record(table: &mut [u64], filling: Filling, part: usize, words: &[u64
     base::put_words(table, bases[part] + WIDTHS[part] * (stored as usize), words);
     counts[part] = next;
     Filling { bases, counts }
+}
+
+// ---- How a table's parts lie in it, by the counts that it gives itself.
+
+// The most records that each part may have.
+const BOUNDS: [u64; 7] = [64, 4096, 64, 4096, 256, 1024, 65536];
+
+// Where the records of each part begin, how many there are, and where the last one ends. It fits if no count is above its bound and all
+// records lie inside the table.
+pub struct View {
+    pub fits: bool,
+    pub bases: [usize; 7],
+    pub counts: [u64; 7],
+    pub end: usize,
+}
+
+fn no_view() -> View
+    ensures { λ r. ⌜ r ≡ noView ⌝ }
+{
+    View {
+        fits: false,
+        bases: [0; 7],
+        counts: [0; 7],
+        end: 0,
+    }
+}
+
+// A word of a table, 0 past its end.
+fn word_at(table: &[u64], at: usize) -> u64
+    ensures { λ r. ⌜ r ≡ getD (now (table .entry)) at 0 ⌝ }
+{
+    if table.len() <= at {
+        return 0;
+    }
+    table[at]
+}
+
+// The view of any table.
+pub fn view_of(table: &[u64]) -> View
+    ensures { λ r. ⌜ r ≡ viewOf (now (table .entry)) ⌝ }
+{
+    let mut bases = [0; 7];
+    let mut counts = [0; 7];
+    let mut at = 0;
+    let mut part = 0;
+    while part < PARTS {
+        let count = word_at(table, at);
+        if BOUNDS[part] < count {
+            return no_view();
+        }
+        bases[part] = at + 1;
+        counts[part] = count;
+        at = at + 1 + WIDTHS[part] * (count as usize);
+        part += 1;
+    }
+    if table.len() < at {
+        return no_view();
+    }
+    View {
+        fits: true,
+        bases,
+        counts,
+        end: at,
+    }
 }

@@ -6,9 +6,9 @@ use mathlib.Core.List.{List}
 use Prim.Native.Nat.{ℕ, _+_, _*_, _≤_}
 use native.Mathlib.Omega.{arith}
 use lib.ListN.{length, getD}
-use Rattle.view.specs.View.{viewOf}
-use Rattle.view.specs.declared.View.{View}
-use Rattle.view.proofs.PartLaws.{viewed}
+use Rattle.table_layout.specs.View.{viewOf}
+use Rattle.table_layout.specs.declared.View.{View}
+use Rattle.table_layout.proofs.PartLaws.{viewed}
 use borrow.Author.Tests.{not-false}
 use borrow.Author.Needs.{needs}
 use Rattle.icm_entry.proofs.section_of.Statement.{statement}

@@ -1,0 +1,78 @@
+-- A section's matrix of a kind as a whole: every entry of its N rows and N columns, row by row. Document 01: "Entries not written, and kinds
+-- not given, are zero; entry (j,i) is entry (i,j)."
+-- Assumes nothing.
+use Prim.Native.Nat.{ℕ, zero, suc, _+_, _*_}
+use mathlib.Core.Bool.{Bool, true, false, not}
+use mathlib.Core.List.{List, [], _∷_, _++_}
+use lib.ListN.{length, getD}
+use lib.Seq.{sets}
+use lib.Dec.{ltb}
+use Rattle.base.specs.If.{if_then_else_}
+use Rattle.doc.specs.Records.{Records, recordsOf}
+use Rattle.ask_sound.specs.Sound.{isSound}
+use Rattle.ask_entry.specs.Entry.{noSection, matrixOf, entryOf, isInRange}
+use Rattle.ask_entry.specs.declared.Whole.{Whole}
+use Rattle.ask_entry.specs.declared.Whole.the-variants.{Found, Short, Refused}
+
+-- ---- the answer
+
+-- the words of the answer: "refused, they return the number and line 0, every other word 0". N alone, with nothing found and no number, says
+-- that the room lent is shorter than N times N words
+pub record MatrixWords : Type 0 where
+  pub found : Bool
+  pub number : ℕ
+  pub line : ℕ
+  pub conductors : ℕ
+
+abbrev pub foundOf : ℕ → MatrixWords
+foundOf conductors = record { found = true; number = 0; line = 0; conductors = conductors }
+
+abbrev pub shortOf : ℕ → MatrixWords
+shortOf conductors = record { found = false; number = 0; line = 0; conductors = conductors }
+
+abbrev pub refusedWith : ℕ → MatrixWords
+refusedWith number = record { found = false; number = number; line = 0; conductors = 0 }
+
+-- the paper's number and words for each case
+abbrev pub wholeWords : Whole → MatrixWords
+wholeWords (Found conductors) = foundOf conductors
+wholeWords (Short conductors) = shortOf conductors
+wholeWords (Refused number) = refusedWith number
+
+-- ---- the entries, of a matrix by its index plus 1
+
+-- so many of a row, from a column on
+unfoldable pub rowFrom : Records → ℕ → ℕ → ℕ → ℕ → List ℕ
+rowFrom r index row column zero = []
+rowFrom r index row column (suc left) = entryOf r index row column ∷ rowFrom r index row (column + 1) left
+
+-- so many rows of N columns, from a row on
+unfoldable pub rowsFrom : Records → ℕ → ℕ → ℕ → ℕ → List ℕ
+rowsFrom r index conductors row zero = []
+rowsFrom r index conductors row (suc left) = rowFrom r index row 1 conductors ++ rowsFrom r index conductors (row + 1) left
+
+unfoldable pub squareOf : Records → ℕ → ℕ → List ℕ
+squareOf r index conductors = rowsFrom r index conductors 1 conductors
+
+-- ---- the whole
+
+-- N of a section
+unfoldable pub conductorsOf : Records → ℕ → ℕ
+conductorsOf r section = getD (r .sections) section noSection .conductors
+
+-- "30 TABLE: question over an unsound table", "31 NOSUCH: section, kind .. out of range": every section that is there has a row 1 and a
+-- column 1. Then whether so many words are room enough
+unfoldable pub wholeOf : List ℕ → List ℕ → ℕ → ℕ → ℕ → MatrixWords
+wholeOf t table section kind room =
+    if not (isSound t table) then refusedWith 30 else
+    if not (isInRange (recordsOf table) section kind 1 1) then refusedWith 31 else
+    if ltb room (conductorsOf (recordsOf table) section * conductorsOf (recordsOf table) section) then
+    shortOf (conductorsOf (recordsOf table) section)
+    else foundOf (conductorsOf (recordsOf table) section)
+
+-- the room after an answer: the entries from its start on where the matrix was found, and else as it was
+unfoldable pub roomAfter : List ℕ → ℕ → ℕ → MatrixWords → List ℕ → List ℕ
+roomAfter table section kind answer room =
+    if answer .found then
+    sets room 0 (squareOf (recordsOf table) (matrixOf (getD (recordsOf table .sections) section noSection) kind) (answer .conductors))
+    else room

@@ -1,0 +1,109 @@
+// What the words of one record must be like, so that questions over its table have answers.
+ghost use mathlib.Core.Path.{_≡_};
+ghost use Rattle.ask_sound.specs.Tests.{isRange, isNameIn, hasNoSide, isSide, isLength, amountFits, isGrid, isBandwidth};
+
+// The most bytes of a name.
+const LONGEST: u64 = 120;
+
+// The value word of zero.
+const ZERO: u64 = 128;
+
+// "Lumped, Distributed".
+const LUMPED: u64 = 0;
+
+// "Row_ordered, Column_ordered or Un_ordered".
+const UNORDERED: u64 = 2;
+
+// The most rows, columns, conductors, and the greatest Mult.
+const MOST: u64 = 256;
+
+const MOST_MULT: u64 = 65_535;
+
+const WIDEST: u64 = 255;
+
+// Whether so many from `first` on are all among so many. No sum is taken: it might wrap.
+pub fn is_range(first: u64, many: u64, all: u64) -> bool
+    ensures { λ r. ⌜ r ≡ isRange first many all ⌝ }
+{
+    if all < many {
+        return false;
+    }
+    first <= all - many
+}
+
+// A name inside a text of so many bytes.
+pub fn is_name_in(bytes: u64, start: u64, size: u64) -> bool
+    ensures { λ r. ⌜ r ≡ isNameIn bytes start size ⌝ }
+{
+    if !lex_number::is_within(1, LONGEST, size) {
+        return false;
+    }
+    is_range(start, size, bytes)
+}
+
+pub fn has_no_side(start: u64, size: u64) -> bool
+    ensures { λ r. ⌜ r ≡ hasNoSide start size ⌝ }
+{
+    if start != 0 {
+        return false;
+    }
+    size == 0
+}
+
+// The side of an end: none, or a name.
+pub fn is_side(bytes: u64, start: u64, size: u64) -> bool
+    ensures { λ r. ⌜ r ≡ isSide bytes start size ⌝ }
+{
+    if has_no_side(start, size) {
+        return true;
+    }
+    is_name_in(bytes, start, size)
+}
+
+// A value word above zero.
+fn is_length(word: u64) -> bool
+    ensures { λ r. ⌜ r ≡ isLength word ⌝ }
+{
+    if !lex_number::is_value_word(word) {
+        return false;
+    }
+    if word == ZERO {
+        return false;
+    }
+    word % 2 == 0
+}
+
+// The amount of a step over a section of this method.
+pub fn amount_fits(method: u64, amount: u64) -> bool
+    ensures { λ r. ⌜ r ≡ amountFits method amount ⌝ }
+{
+    if method == LUMPED {
+        return lex_number::is_within(1, MOST_MULT, amount);
+    }
+    is_length(amount)
+}
+
+// Rows and columns of a map.
+pub fn is_grid(order: u64, rows: u64, columns: u64) -> bool
+    ensures { λ r. ⌜ r ≡ isGrid order rows columns ⌝ }
+{
+    if order == UNORDERED {
+        if rows != 0 {
+            return false;
+        }
+        return columns == 0;
+    }
+    if !lex_number::is_within(1, MOST, rows) {
+        return false;
+    }
+    lex_number::is_within(1, MOST, columns)
+}
+
+pub fn is_bandwidth(form: u64, bandwidth: u64) -> bool
+    ensures { λ r. ⌜ r ≡ isBandwidth form bandwidth ⌝ }
+{
+    if form == line_matrix::BANDED {
+        return bandwidth <= WIDEST;
+    }
+    bandwidth == 0
+}

@@ -1,0 +1,173 @@
+-- Laws of the maps gone over: those that are left give what all of them, with their pins, break first.
+-- Assumes nothing.
+use mathlib.Core.Path.{_≡_, refl, sym, _∙_, ap, subst}
+use mathlib.Core.Bool.{Bool, true, false}
+use mathlib.Core.List.{List, [], _∷_, _++_, append-assoc}
+use Prim.Native.Nat.{ℕ, _+_, _*_, _≤_, _<_}
+use native.Mathlib.Nat.{not-suc-le-zero}
+use native.Mathlib.Omega.{arith}
+use lib.ListN.{length, getD, length-append}
+use lib.Dec.{eqb}
+use borrow.Author.Tests.{eqb-true, eqb-false}
+use Rattle.base.specs.Broken.{_when_, firstBroken}
+use Rattle.base.proofs.IfLaws.{by-cases}
+use Rattle.base.proofs.BrokenLaws.{first-broken, first-kept}
+use Rattle.table_layout.specs.Layout.{maps, pins}
+use Rattle.table_layout.specs.View.{viewOf}
+use Rattle.table_layout.specs.declared.View.{View}
+use Rattle.doc.specs.Lines.{significant}
+use Rattle.doc.specs.Document.{Map, Document, documentOf}
+use Rattle.cross_rules.specs.Rules.{mapRule, pinFindings, mapFindings, firstIn, nothing}
+use Rattle.cross_rules.specs.Filled.{Filled}
+use Rattle.cross_rules.specs.Nth.{nthLine}
+use Rattle.cross_rules.specs.declared.Finding.{Finding}
+use Rattle.cross_rules.proofs.KindLaws.{first-here, first-later}
+use Rattle.cross_names.specs.Pins.{twiceAt, MapRoom, pinsOfMap}
+use Rattle.cross_names.proofs.TableLaws.{maps-many, rule-here, line-here, room-here, own-here}
+
+-- ---- the first of two lists
+
+none-first : firstIn [] .number ≡ 0
+unfolding firstIn nothing
+none-first = refl
+
+abbrev numberOf : Finding → ℕ
+numberOf f = f .number
+
+first-front : (fs gs : List Finding) → (firstIn fs .number ≡ 0 → ⊥) → firstIn (fs ++ gs) ≡ firstIn fs
+first-front [] gs n = absurd (n none-first)
+first-front (f ∷ fs) gs n =
+    by-cases _ (eqb (f .number) 0)
+    (λ (e : eqb (f .number) 0 ≡ true).
+    let s : firstIn (f ∷ fs) ≡ firstIn fs = first-later f fs (eqb-true _ _ e) in
+    first-later f (fs ++ gs) (eqb-true _ _ e) ∙ first-front fs gs (λ (z : firstIn fs .number ≡ 0). n (ap numberOf s ∙ z)) ∙ sym s)
+    (λ (e : eqb (f .number) 0 ≡ false). first-here f (fs ++ gs) (eqb-false _ _ e) ∙ sym (first-here f fs (eqb-false _ _ e)))
+
+first-behind : (fs gs : List Finding) → firstIn fs .number ≡ 0 → firstIn (fs ++ gs) ≡ firstIn gs
+first-behind [] gs z = refl
+first-behind (f ∷ fs) gs z =
+    by-cases _ (eqb (f .number) 0)
+    (λ (e : eqb (f .number) 0 ≡ true).
+    first-later f (fs ++ gs) (eqb-true _ _ e) ∙ first-behind fs gs (ap numberOf (sym (first-later f fs (eqb-true _ _ e))) ∙ z))
+    (λ (e : eqb (f .number) 0 ≡ false). absurd (eqb-false _ _ e (ap numberOf (sym (first-here f fs (eqb-false _ _ e))) ∙ z)))
+
+-- ---- what is left
+
+pub record MapsLeft (t : List ℕ) (i : ℕ) : Type 0 where
+  pub above : List Map
+  pub below : List Map
+  pub all : documentOf t .maps ≡ above ++ below
+  pub place : length above ≡ i
+  pub same : firstIn (mapFindings (documentOf t) below) ≡ firstIn (mapFindings (documentOf t) (documentOf t .maps))
+
+pub maps-start : (t : List ℕ) → MapsLeft t 0
+maps-start t = record { above = []; below = documentOf t .maps; all = refl; place = refl; same = refl }
+
+record Front (ms : List Map) : Type 0 where
+  one : Map
+  others : List Map
+  whole : ms ≡ one ∷ others
+
+front-of : (ms : List Map) → 0 < length ms → Front ms
+front-of [] h = absurd (not-suc-le-zero h)
+front-of (m ∷ ms) h = record { one = m; others = ms; whole = refl }
+
+no-more : (ms : List Map) → length ms ≤ 0 → ms ≡ []
+no-more [] h = refl
+no-more (m ∷ ms) h = absurd (not-suc-le-zero h)
+
+abbrev ownLine : Document → Map → Finding
+ownLine d m = record { number = mapRule d m; line = m .line }
+
+none-found : (d : Document) → firstIn (mapFindings d []) ≡ record { number = 0; line = 0 }
+unfolding mapFindings firstIn nothing
+none-found d = refl
+
+findings-on : (d : Document) (m : Map) (ms : List Map) → mapFindings d (m ∷ ms) ≡ ownLine d m ∷ (pinFindings m ++ mapFindings d ms)
+unfolding mapFindings
+findings-on d m ms = refl
+
+module _ (t table : List ℕ) (v : View) (holds : Filled t table × (v ≡ viewOf table)) (i : ℕ) (left : MapsLeft t i) where
+  abbrev d : Document
+  d = documentOf t
+
+  abbrev mapBase : ℕ
+  mapBase = getD (v .bases) maps 0
+
+  abbrev pinBase : ℕ
+  pinBase = getD (v .bases) pins 0
+
+  left-many : getD (v .counts) maps 0 ≡ i + length (left .below)
+  left-many =
+      maps-many t table v holds ∙ ap length (left .all) ∙ length-append (left .above) (left .below)
+      ∙ ap (λ (k : ℕ). k + length (left .below)) (left .place)
+
+  pub maps-end : getD (v .counts) maps 0 ≤ i → record { number = 0; line = 0 } ≡ firstIn (mapFindings d (d .maps))
+  maps-end h =
+      let n : getD (v .counts) maps 0 ≡ i + length (left .below) = left-many in
+      let z : left .below ≡ [] = no-more (left .below) (omega arith) in
+      sym (none-found d) ∙ ap (λ (ms : List Map). firstIn (mapFindings d ms)) (sym z) ∙ left .same
+
+  module _ (h : i < getD (v .counts) maps 0) where
+    front : Front (left .below)
+    front =
+        let n : getD (v .counts) maps 0 ≡ i + length (left .below) = left-many in
+        front-of (left .below) (omega arith)
+
+    abbrev m : Map
+    m = front .one
+
+    abbrev behind : List Map
+    behind = front .others
+
+    split : d .maps ≡ left .above ++ (m ∷ behind)
+    split = left .all ∙ ap (λ (ms : List Map). left .above ++ ms) (front .whole)
+
+    pub asks-pins : MapRoom table mapBase pinBase i
+    asks-pins = subst (MapRoom table mapBase pinBase) (left .place) (room-here t table v holds (left .above) behind m split)
+
+    pub asks-map : (mapBase + 7 * i + 7 ≤ length table) × (2 ≤ 7)
+    asks-map = (asks-pins .inside, omega arith)
+
+    same-here : firstIn (ownLine d m ∷ (pinFindings m ++ mapFindings d behind)) ≡ firstIn (mapFindings d (d .maps))
+    same-here =
+        ap firstIn (sym (findings-on d m behind)) ∙ ap (λ (ms : List Map). firstIn (mapFindings d ms)) (sym (front .whole)) ∙ left .same
+
+    module _ (twice : Bool) (is-twice : twice ≡ twiceAt t table mapBase 7 i) where
+      rule-is : firstBroken (19 when twice ∷ []) ≡ mapRule d m
+      rule-is =
+          ap (λ (b : Bool). firstBroken (19 when b ∷ [])) (is-twice ∙ ap (twiceAt t table mapBase 7) (sym (left .place)))
+          ∙ rule-here t table v holds (left .above) behind m split
+
+      pub map-breaks : twice ≡ true → (line : ℕ) → line ≡ nthLine maps i (significant t) → record { number = 19; line = line } ≡ firstIn (mapFindings d (d .maps))
+      map-breaks e line is-line =
+          let n : 19 ≡ mapRule d m = sym (first-broken twice 19 0 e) ∙ rule-is in
+          let l : line ≡ m .line =
+          is-line ∙ ap (λ (k : ℕ). nthLine maps k (significant t)) (sym (left .place)) ∙ line-here t table v holds (left .above) behind m split in
+          let f : record { number = 19; line = line } ≡ ownLine d m = λ j. record { number = n j; line = l j } in
+          f ∙ sym (first-here (ownLine d m) _ (λ (z : mapRule d m ≡ 0). omega arith)) ∙ same-here
+
+      module _ (kept : twice ≡ false) where
+        below-same : firstIn (pinFindings m ++ mapFindings d behind) ≡ firstIn (mapFindings d (d .maps))
+        below-same = sym (first-later (ownLine d m) _ (sym rule-is ∙ first-kept twice 19 0 0 kept refl)) ∙ same-here
+
+        module _ (found : Finding) (is-found : found ≡ firstIn (pinsOfMap t table mapBase pinBase i)) where
+          found-is : found ≡ firstIn (pinFindings m)
+          found-is =
+              is-found ∙ ap (λ (k : ℕ). firstIn (pinsOfMap t table mapBase pinBase k)) (sym (left .place))
+              ∙ ap firstIn (own-here t table v holds (left .above) behind m split)
+
+          pub pins-break : (found .number ≡ 0 → ⊥) → found ≡ firstIn (mapFindings d (d .maps))
+          pins-break n =
+              found-is ∙ sym (first-front (pinFindings m) (mapFindings d behind) (λ (z : firstIn (pinFindings m) .number ≡ 0). n (ap numberOf found-is ∙ z)))
+              ∙ below-same
+
+          pub maps-on : found .number ≡ 0 → MapsLeft t (i + 1)
+          maps-on z =
+              record {
+                above = left .above ++ (m ∷ []);
+                below = behind;
+                all = split ∙ sym (append-assoc (left .above) (m ∷ []) behind);
+                place = length-append (left .above) (m ∷ []) ∙ ap (λ (k : ℕ). k + 1) (left .place);
+                same = sym (first-behind (pinFindings m) (mapFindings d behind) (ap numberOf (sym found-is) ∙ z)) ∙ below-same;
+              }

@@ -1,0 +1,70 @@
+-- Laws of the pins of one map gone over: those that are left give what all of them break first.
+-- Assumes nothing.
+use mathlib.Core.Path.{_≡_, refl, sym, _∙_, ap}
+use mathlib.Core.Bool.{Bool, true, false}
+use mathlib.Core.List.{List, [], _∷_}
+use Prim.Native.Nat.{ℕ, zero, suc, _+_, _-_, _≤_, _<_}
+use native.Mathlib.Nat.{sub-zero}
+use native.Mathlib.Omega.{arith}
+use Rattle.base.specs.Broken.{_when_, firstBroken}
+use Rattle.base.proofs.BrokenLaws.{first-broken, first-kept}
+use Rattle.table_layout.specs.Layout.{pins}
+use Rattle.doc.specs.Lines.{significant}
+use Rattle.cross_rules.specs.Rules.{firstIn, nothing}
+use Rattle.cross_rules.specs.Nth.{nthLine}
+use Rattle.cross_rules.specs.declared.Finding.{Finding}
+use Rattle.cross_rules.proofs.KindLaws.{first-here, first-later}
+use Rattle.cross_names.specs.Pins.{twiceAt, pinAt, pinsFrom}
+
+pub record PinsLeft (t table : List ℕ) (base first count i : ℕ) : Type 0 where
+  pub same : firstIn (pinsFrom t table base first i (count - i)) ≡ firstIn (pinsFrom t table base first 0 count)
+
+module _ (t table : List ℕ) (base first : ℕ) where
+  none-left : (i : ℕ) → firstIn (pinsFrom t table base first i zero) ≡ record { number = 0; line = 0 }
+  unfolding pinsFrom firstIn nothing
+  none-left i = refl
+
+  one-left : (i n : ℕ) → pinsFrom t table base first i (suc n) ≡ pinAt t table base first i ∷ pinsFrom t table base first (i + 1) n
+  unfolding pinsFrom
+  one-left i n = refl
+
+  found-here : (i line : ℕ) → twiceAt t table base 2 i ≡ true → line ≡ nthLine pins (first + i) (significant t) → record { number = 19; line = line } ≡ pinAt t table base first i
+  unfolding pinAt
+  found-here i line b l =
+      let n : 19 ≡ firstBroken (19 when twiceAt t table base 2 i ∷ []) = sym (first-broken (twiceAt t table base 2 i) 19 0 b) in
+      λ j. record { number = n j; line = l j }
+
+  kept-here : (i : ℕ) → twiceAt t table base 2 i ≡ false → pinAt t table base first i .number ≡ 0
+  unfolding pinAt
+  kept-here i b = first-kept (twiceAt t table base 2 i) 19 0 0 b refl
+
+module _ (t table : List ℕ) (base first count : ℕ) where
+  abbrev whole : Finding
+  whole = firstIn (pinsFrom t table base first 0 count)
+
+  pub pins-start : PinsLeft t table base first count 0
+  pins-start = record { same = ap (λ (n : ℕ). firstIn (pinsFrom t table base first 0 n)) (sub-zero count) }
+
+  module _ (i : ℕ) (left : PinsLeft t table base first count i) where
+    pub pins-end : count ≤ i → record { number = 0; line = 0 } ≡ whole
+    pins-end h =
+        let z : count - i ≡ 0 = omega arith in
+        sym (none-left t table base first i) ∙ ap (λ (n : ℕ). firstIn (pinsFrom t table base first i n)) (sym z) ∙ left .same
+
+    module _ (h : i < count) (twice : Bool) (is-twice : twice ≡ twiceAt t table base 2 i) where
+      same-here : firstIn (pinAt t table base first i ∷ pinsFrom t table base first (i + 1) (count - (i + 1))) ≡ whole
+      same-here =
+          let c : count - i ≡ suc (count - (i + 1)) = omega arith in
+          ap firstIn (sym (one-left t table base first i (count - (i + 1))))
+          ∙ ap (λ (n : ℕ). firstIn (pinsFrom t table base first i n)) (sym c)
+          ∙ left .same
+
+      pub pin-breaks : twice ≡ true → (line : ℕ) → line ≡ nthLine pins (first + i) (significant t) → record { number = 19; line = line } ≡ whole
+      pin-breaks e line l =
+          let f : record { number = 19; line = line } ≡ pinAt t table base first i = found-here t table base first i line (sym is-twice ∙ e) l in
+          let n : 19 ≡ pinAt t table base first i .number = ap (λ (x : Finding). x .number) f in
+          f ∙ sym (first-here (pinAt t table base first i) _ (λ (z : pinAt t table base first i .number ≡ 0). omega arith)) ∙ same-here
+
+      pub pins-on : twice ≡ false → PinsLeft t table base first count (i + 1)
+      pins-on e =
+          record { same = sym (first-later (pinAt t table base first i) _ (kept-here t table base first i (sym is-twice ∙ e))) ∙ same-here }

@@ -1,0 +1,25 @@
+-- `cross_names::list::judge_line` meets its contract.
+-- Assumes nothing.
+use Rattle.base.proofs.IfLaws.{chain}
+use Rattle.cross_names.specs.Judged.{lineJudged}
+use borrow.Author.Needs.{needs}
+use Rattle.cross_names.proofs.list.judge_line.Statement.{statement}
+use Rattle.cross_names.proofs.list.judge_line.Tie as tie
+
+stands-in-list-requires : tie.Need-stands-in-list-requires
+stands-in-list-requires c κs = search needs
+
+returns : tie.Need-returns
+unfolding lineJudged
+returns c = search chain
+
+judge-name-requires : tie.Need-judge-name-requires
+judge-name-requires c κs = search needs
+
+returns-2 : tie.Need-returns-2
+unfolding lineJudged
+returns-2 c = search chain
+
+pub judge-line-spec : {M : Type 1} → statement M
+judge-line-spec =
+    tie.close (tie.spec stands-in-list-requires returns judge-name-requires returns-2)

@@ -1,0 +1,47 @@
+-- `cross_names::list::model_found` meets its contract.
+-- Assumes nothing.
+use Rattle.cross_names.proofs.NamedLaws.{found-first}
+use borrow.Author.Needs.{needs}
+use Rattle.cross_names.proofs.list.model_found.Statement.{statement}
+use Rattle.cross_names.proofs.list.model_found.Tie as tie
+
+sub-first-mark : tie.Need-sub-first-mark
+sub-first-mark c = search needs
+
+part-first-mark-start : tie.Need-part-first-mark-start
+part-first-mark-start c = search needs
+
+part-first-mark-end : tie.Need-part-first-mark-end
+part-first-mark-end c = search needs
+
+first-mark-requires : tie.Need-first-mark-requires
+first-mark-requires c κs = search needs
+
+name-at-requires : tie.Need-name-at-requires
+name-at-requires c κs = search needs
+
+array-read-find-name : tie.Need-array-read-find-name
+array-read-find-name c = search needs
+
+array-read-find-name-2 : tie.Need-array-read-find-name-2
+array-read-find-name-2 c = search needs
+
+find-name-requires : tie.Need-find-name-requires
+find-name-requires c κs = search needs
+
+returns : tie.Need-returns
+returns c = search found-first
+
+pub model-found-spec : {M : Type 1} → statement M
+model-found-spec =
+    tie.close
+    (tie.spec
+    sub-first-mark
+    part-first-mark-start
+    part-first-mark-end
+    first-mark-requires
+    name-at-requires
+    array-read-find-name
+    array-read-find-name-2
+    find-name-requires
+    returns)

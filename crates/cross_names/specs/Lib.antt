@@ -1,0 +1,4 @@
+pub mod Listed
+pub mod Judged
+pub mod Pins
+pub mod Used

@@ -1,0 +1,179 @@
+// Rules 19 and 20 of the model list.
+ghost use mathlib.Core.Path.{_≡_};
+ghost use Prim.Native.Nat.{_+_, _≤_};
+ghost use lib.ListN.{length};
+ghost use lib.Dec.{eqb};
+ghost use Rattle.base.specs.If.{both};
+ghost use Rattle.lex_keyword.specs.Names.{beginIcmModel};
+ghost use Rattle.line_place.specs.Place.{isInFamily, list};
+ghost use Rattle.doc.specs.Lines.{plain};
+ghost use Rattle.doc.specs.Document.{documentOf};
+ghost use Rattle.doc.specs.Found.{Located};
+ghost use Rattle.cross_rules.specs.Rules.{firstIn, listFindings};
+ghost use Rattle.cross_rules.specs.Filled.{Filled};
+ghost use Rattle.table_layout.specs.View.{viewOf};
+ghost use Rattle.cross_names.specs.Listed.{Listed};
+ghost use Rattle.cross_names.specs.Judged.{ModelsIn, modelFound, nameJudged, lineJudged, Nears};
+use doc::Found;
+use table_layout::View;
+
+// "20 LIST": listed without a model. "19 TWICE": the second of one name.
+const LIST: u64 = 20;
+
+const TWICE: u64 = 19;
+
+// How many words a record of a model has.
+const MODEL_WORDS: usize = 5;
+
+// The flag behind those of all models: it is raised by a line that names none.
+const NO_MODEL: usize = 64;
+
+// What the list breaks, and, where it breaks nothing, which models it names: a flag for each, and one behind them.
+pub struct ListFinding {
+    pub number: u64,
+    pub line: u64,
+    pub listed: [bool; 65],
+}
+
+// What one line breaks, 0 for nothing, and the flag that it raises.
+pub struct Judged {
+    pub number: u64,
+    pub slot: usize,
+}
+
+// A line of the list.
+fn stands_in_list(place: u64, key: u64) -> bool
+    ensures { λ r. ⌜ r ≡ both (eqb place list) (eqb key plain) ⌝ }
+{
+    if place != line_place::LIST {
+        return false;
+    }
+    key == doc::PLAIN
+}
+
+// The list stands above all models.
+fn opens_model(place: u64, key: u64) -> bool
+    ensures { λ r. ⌜ r ≡ both (isInFamily place) (eqb key beginIcmModel) ⌝ }
+{
+    if !line_place::is_in_family(place) {
+        return false;
+    }
+    key == lex_keyword::BEGIN_ICM_MODEL
+}
+
+// The next line that may say something of the list: in the list any line, elsewhere one with a keyword.
+fn next_told(text: &[u8], at: usize, number: u64, place: u64) -> Found
+    requires { ⌜ (at ≤ length (now text)) × (number ≤ at + 1) ⌝ }
+    ensures { λ r. ⌜ Nears (now (text .entry)) number at place r ⌝ }
+{
+    if place == line_place::LIST {
+        return doc::next_line(text, at, number);
+    }
+    doc::next_keyed(text, at, number, place)
+}
+
+// The first model of the name that a line opens with; as many as there are where none has it.
+fn model_found(text: &[u8], table: &[u64], view: View, line: Found) -> u64
+    requires { ⌜ ModelsIn (now table) view × Located (now text) line ⌝ }
+    ensures { λ r. ⌜ r ≡ modelFound (now (text .entry)) (now (table .entry)) view line ⌝ }
+{
+    let bases = view.bases;
+    let counts = view.counts;
+    let at = line.at;
+    let end = line.end;
+    let mark = doc::first_mark(&text[at..end], at);
+    let name = table_name::name_at(text, mark.start as u64, mark.size as u64);
+    table_name::find_name(
+        text,
+        table,
+        bases[table_layout::MODELS],
+        MODEL_WORDS,
+        counts[table_layout::MODELS],
+        name,
+        0,
+    )
+}
+
+// A name of the list, by the model that it finds: where all lines above it break nothing, a second one finds a flag raised.
+fn judge_name(text: &[u8], table: &[u64], view: View, line: Found, listed: [bool; 65]) -> Judged
+    requires { ⌜ ModelsIn (now table) view × Located (now text) line ⌝ }
+    ensures { λ r. ⌜ r ≡ nameJudged (now (text .entry)) (now (table .entry)) view line listed ⌝ }
+{
+    let counts = view.counts;
+    let index = model_found(text, table, view, line);
+    if counts[table_layout::MODELS] <= index {
+        return Judged {
+            number: LIST,
+            slot: NO_MODEL,
+        };
+    }
+    let slot = index as usize;
+    if listed[slot] {
+        return Judged {
+            number: TWICE,
+            slot,
+        };
+    }
+    Judged { number: 0, slot }
+}
+
+fn judge_line(
+    text: &[u8],
+    table: &[u64],
+    view: View,
+    place: u64,
+    line: Found,
+    listed: [bool; 65],
+) -> Judged
+    requires { ⌜ ModelsIn (now table) view × Located (now text) line ⌝ }
+    ensures { λ r. ⌜ r ≡ lineJudged (now (text .entry)) (now (table .entry)) view place line listed ⌝ }
+{
+    if !stands_in_list(place, line.key) {
+        return Judged {
+            number: 0,
+            slot: NO_MODEL,
+        };
+    }
+    judge_name(text, table, view, line, listed)
+}
+
+// The lines of the list, up to the first that breaks a rule. At most 64 models exist, so the search ends after at most 65 lines.
+pub fn list_finding(text: &[u8], table: &[u64], view: View) -> ListFinding
+    requires { ⌜ Filled (now text) (now table) × (view ≡ viewOf (now table)) ⌝ }
+    ensures { λ r. ⌜ (record { number = r .number; line = r .line } ≡ firstIn (listFindings (documentOf (now (text .entry))))) × (r .number ≡ 0 → Listed (documentOf (now (text .entry))) (r .listed)) ⌝ }
+{
+    let mut listed = [false; 65];
+    let mut at = 0;
+    let mut number = 1;
+    let mut place = line_place::BEFORE;
+    loop {
+        let line = next_told(text, at, number, place);
+        if !line.there {
+            return ListFinding {
+                number: 0,
+                line: 0,
+                listed,
+            };
+        }
+        if opens_model(place, line.key) {
+            return ListFinding {
+                number: 0,
+                line: 0,
+                listed,
+            };
+        }
+        let judged = judge_line(text, table, view, place, line, listed);
+        if judged.number != 0 {
+            return ListFinding {
+                number: judged.number,
+                line: line.number,
+                listed,
+            };
+        }
+        let slot = judged.slot;
+        listed[slot] = true;
+        place = doc::place_after(place, text, line);
+        at = line.next;
+        number = line.number + 1;
+    }
+}

@@ -1,0 +1,103 @@
+// Rule 19 of pin maps and of their pins.
+ghost use mathlib.Core.Path.{_≡_};
+ghost use Prim.Native.Nat.{_+_, _*_, _≤_};
+ghost use lib.ListN.{length};
+ghost use Rattle.doc.specs.Document.{documentOf};
+ghost use Rattle.table_name.specs.Marks.{marksMany};
+ghost use Rattle.table_layout.specs.View.{viewOf};
+ghost use Rattle.cross_rules.specs.Rules.{firstIn, mapFindings};
+ghost use Rattle.cross_rules.specs.Filled.{Filled};
+ghost use Rattle.cross_names.specs.Pins.{pinsFrom, MapRoom, pinsOfMap};
+use cross_rules::Finding;
+use table_layout::View;
+
+// "19 TWICE".
+const TWICE: u64 = 19;
+
+// How many words a record of a map has, and one of a pin.
+const MAP_WORDS: usize = 7;
+
+const PIN_WORDS: usize = 2;
+
+// A mark that is the number of no map.
+const UNMARKED: u8 = 64;
+
+// The first of a map's pins that has the name of one above it. The record of the map's first pin stands at `base`; it is numbered `first`.
+fn pin_finding(
+    text: &[u8],
+    table: &[u64],
+    marks: &mut [u8; table_name::MARKS],
+    stamp: u8,
+    base: usize,
+    first: u64,
+    count: u64,
+) -> Finding
+    requires { ⌜ (base + 2 * count ≤ length (now table)) × (first + count ≤ 4_096) × (length (now marks) ≡ marksMany) ⌝ }
+    ensures { λ r. ⌜ (r ≡ firstIn (pinsFrom (now (text .entry)) (now (table .entry)) base first 0 count)) × (length (now (marks .exit)) ≡ marksMany) ⌝ }
+{
+    let mut i = 0;
+    while i < count {
+        if cross_rules::is_again(text, table, marks, stamp, base, PIN_WORDS, i) {
+            return Finding {
+                number: TWICE,
+                line: cross_rules::nth_line(text, table_layout::PINS, first + i),
+            };
+        }
+        i += 1;
+    }
+    Finding { number: 0, line: 0 }
+}
+
+// The same of the map numbered `index`: `maps` and `pins` say where the records of each begin.
+fn own_finding(
+    text: &[u8],
+    table: &[u64],
+    marks: &mut [u8; table_name::MARKS],
+    maps: usize,
+    pins: usize,
+    index: u64,
+) -> Finding
+    requires { ⌜ MapRoom (now table) maps pins index × (length (now marks) ≡ marksMany) ⌝ }
+    ensures { λ r. ⌜ (r ≡ firstIn (pinsOfMap (now (text .entry)) (now (table .entry)) maps pins index)) × (length (now (marks .exit)) ≡ marksMany) ⌝ }
+{
+    let at = maps + MAP_WORDS * (index as usize);
+    let first = table[at + 5];
+    let base = pins + PIN_WORDS * (first as usize);
+    pin_finding(
+        text,
+        table,
+        marks,
+        (index % 64) as u8,
+        base,
+        first,
+        table[at + 6],
+    )
+}
+
+// The first map, or pin of a map, that has a name twice.
+pub fn map_finding(text: &[u8], table: &[u64], view: View) -> Finding
+    requires { ⌜ Filled (now text) (now table) × (view ≡ viewOf (now table)) ⌝ }
+    ensures { λ r. ⌜ r ≡ firstIn (mapFindings (documentOf (now (text .entry))) (documentOf (now (text .entry)) .maps)) ⌝ }
+{
+    let bases = view.bases;
+    let counts = view.counts;
+    let maps = bases[table_layout::MAPS];
+    let pins = bases[table_layout::PINS];
+    let count = counts[table_layout::MAPS];
+    let mut marks = [UNMARKED; table_name::MARKS];
+    let mut i = 0;
+    while i < count {
+        if cross_rules::is_twice(text, table, maps, MAP_WORDS, i) {
+            return Finding {
+                number: TWICE,
+                line: cross_rules::nth_line(text, table_layout::MAPS, i),
+            };
+        }
+        let found = own_finding(text, table, &mut marks, maps, pins, i);
+        if found.number != 0 {
+            return found;
+        }
+        i += 1;
+    }
+    Finding { number: 0, line: 0 }
+}

@@ -1,3 +1,0 @@
-pub mod FillLaws
-pub mod ReadyLaws
-pub mod NoteLaws

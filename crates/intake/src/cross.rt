@@ -1,0 +1,45 @@
+// Rules 19 to 27 over a whole text: what the lines of all kinds break first.
+ghost use mathlib.Core.Path.{_≡_};
+ghost use Rattle.doc.specs.Document.{documentOf};
+ghost use Rattle.cross_rules.specs.Rules.{earlier, crossRule};
+ghost use Rattle.cross_rules.specs.Filled.{Filled};
+use cross_rules::Finding;
+
+// The earlier of two, one that breaks nothing never.
+fn earlier_of(a: Finding, b: Finding) -> Finding
+    ensures { λ r. ⌜ r ≡ earlier a b ⌝ }
+{
+    if a.number == 0 {
+        return b;
+    }
+    if b.number == 0 {
+        return a;
+    }
+    if b.line < a.line {
+        return b;
+    }
+    a
+}
+
+// What a text that the table holds breaks first. The list stands above all models and sections, so where one of its lines breaks a rule
+// only a map above it can come before; the rules of models need the flags of a list that breaks nothing.
+pub fn cross_finding(text: &[u8], table: &[u64]) -> Finding
+    requires { ⌜ Filled (now text) (now table) ⌝ }
+    ensures { λ r. ⌜ r ≡ crossRule (documentOf (now (text .entry))) ⌝ }
+{
+    let view = table_layout::view_of(table);
+    let list = cross_names::list::list_finding(text, table, view);
+    let maps = cross_names::maps::map_finding(text, table, view);
+    if list.number != 0 {
+        let first = Finding {
+            number: list.number,
+            line: list.line,
+        };
+        return earlier_of(first, maps);
+    }
+    let listed = list.listed;
+    let models = cross_models::model_finding(text, table, view, listed);
+    let sections = cross_names::sections::section_finding(text, table, view);
+    let below = earlier_of(maps, sections);
+    earlier_of(models, below)
+}

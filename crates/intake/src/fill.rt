@@ -1,0 +1,92 @@
+// The filling of a lent table: the forward reading, the room, and the records of all parts.
+ghost use mathlib.Core.Path.{_≡_};
+ghost use mathlib.Core.List.{_++_};
+ghost use Prim.Native.Nat.{_-_, _*_, _≤_};
+ghost use lib.ListN.{length, replicate};
+ghost use Rattle.table_layout.specs.Layout.{widths, needed};
+ghost use Rattle.read_line.specs.Reading.{readingOf};
+ghost use Rattle.read_line.specs.declared.Reading.the-variants.{Read};
+ghost use Rattle.doc.specs.Holds.{countsOf};
+ghost use Rattle.doc.specs.Records.{tableOf};
+ghost use Rattle.store_base.specs.Notes.{Noted, Before};
+ghost use Rattle.intake.specs.Filled.{filledOf, tableFor, Lifted};
+use line_keyword::Counts;
+use read_line::Reading;
+
+// How many words a value has.
+const WORDS: usize = 3;
+
+// A text stored, with the words used, or the rule that it breaks and its line.
+pub enum Filled {
+    Stored(usize),
+    Refused(u64, u64),
+}
+
+// The counts of the forward reading in the order of the parts.
+fn counts_of(counts: Counts) -> [u64; 7]
+    ensures { λ r. ⌜ r ≡ countsOf counts ⌝ }
+{
+    [
+        counts.models,
+        counts.steps,
+        counts.maps,
+        counts.pins,
+        counts.sections,
+        counts.matrices,
+        counts.values,
+    ]
+}
+
+// The records of all parts, in a table that is long enough and holds zeros, but for words where the values belong. Where these are the words
+// of a matrix that was noted, its lines are not read again. Models come last, since their steps point at maps and sections.
+fn fill(text: &[u8], table: &mut [u64], counts: Counts, notes: &[u64])
+    requires { ⌜ (readingOf (now text) ≡ Read counts)
+        × (needed widths (countsOf counts) ≤ length (now table))
+        × Lifted (countsOf counts) (now table)
+        × Noted (now text) (now table) (now notes) (needed widths (countsOf counts) - 3 * counts .values) 0 ⌝ }
+    ensures { λ _. ⌜ now (table .exit) ≡ tableOf (now (text .entry)) ++ replicate (length (now (table .entry)) - length (tableOf (now (text .entry)))) 0 ⌝ }
+{
+    let filling = table_layout::open_parts(table, counts_of(counts));
+    let walk = store_maps::fill_maps(text, table, filling);
+    let filled = store_sections::fill_sections(text, table, walk, notes);
+    store_models::fill_models(text, table, filled);
+}
+
+// A text that reads to its end: its records, if the table has room for them. The words of what was noted stand at the front of the table.
+fn store(text: &[u8], table: &mut [u64], counts: Counts, notes: &[u64]) -> Filled
+    requires { ⌜ (readingOf (now text) ≡ Read counts)
+        × Noted (now text) (now table) (now notes) 0 0
+        × Before (now notes) (counts .values) ⌝ }
+    ensures { λ r. ⌜ (r ≡ filledOf (now (text .entry)) (length (now (table .entry)))) × (now (table .exit) ≡ tableFor (now (text .entry)) (length (now (table .entry))) r) ⌝ }
+{
+    let words = table_layout::words_needed(counts_of(counts));
+    if table.len() < words {
+        base::zero_all(table);
+        return Filled::Refused(18, 0);
+    }
+    let lifted = WORDS * (counts.values as usize);
+    table_layout::lift(table, lifted, words - lifted);
+    fill(text, table, counts, notes);
+    Filled::Stored(words)
+}
+
+// Room for notes: nine words for each of at most 1,024 matrices. They come from a function so that no proof has to look at all of them.
+fn notes_room() -> [u64; 9216]
+    ensures { λ r. ⌜ r ≡ replicate 9216 0 ⌝ }
+{
+    [0; 9216]
+}
+
+// Rules 5 to 18 over a text and a lent table: what the text says is stored, or nothing.
+pub fn fill_table(text: &[u8], table: &mut [u64]) -> Filled
+    ensures { λ r. ⌜ (r ≡ filledOf (now (text .entry)) (length (now (table .entry)))) × (now (table .exit) ≡ tableFor (now (text .entry)) (length (now (table .entry))) r) ⌝ }
+{
+    let mut notes = notes_room();
+    match read_text::read(text, table, &mut notes) {
+        Reading::Read(counts) => store(text, table, counts, &notes),
+        Reading::Refused(number, line) => {
+            base::zero_all(table);
+            Filled::Refused(number, line)
+        }
+    }
+}

@@ -1,2 +1,0 @@
-pub mod NamedLaws
-pub mod ListLaws

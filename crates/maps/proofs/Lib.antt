@@ -1,3 +1,0 @@
-pub mod PinLaws
-pub mod TableLaws
-pub mod MapLaws

@@ -1,3 +1,0 @@
-pub mod TwiceLaws
-pub mod NamesLaws
-pub mod MarkedLaws

@@ -1,2 +1,0 @@
-pub mod UsedLaws
-pub mod SectionLaws

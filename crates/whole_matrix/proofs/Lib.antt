@@ -1,3 +1,0 @@
-mod RowLaws
-mod WholeLaws
-pub mod SquareLaws
