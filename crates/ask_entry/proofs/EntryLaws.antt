@@ -16,9 +16,9 @@ use Rattle.table_layout.specs.View.{viewOf}
 use Rattle.table_layout.specs.declared.View.{View}
 use Rattle.doc.specs.Records.{Records, recordsOf}
 use Rattle.ask_sound.specs.Sound.{isSound}
-use Rattle.ask_sound.specs.Standing.{countOf}
+use Rattle.ask_sound.specs.Way.Standing.{countOf}
 use Rattle.ask_entry.specs.Entry.{EntryWords, foundWith, refusedWith, entryWords, noSection, noMatrix, matrixOf, wordAt, valuesOf, entryOf, isInRange, answerOf}
-use Rattle.ask_entry.specs.Ready.{Ready}
+use Rattle.ask_entry.specs.Way.Ready.{Ready}
 use Rattle.ask_entry.specs.declared.Answer.{Answer}
 use Rattle.ask_entry.specs.declared.Answer.the-variants.{Found, Refused}
 use Rattle.ask_entry.proofs.ReadyLaws.{ready-of, range-section, matrix-few}

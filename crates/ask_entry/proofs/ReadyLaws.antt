@@ -22,11 +22,11 @@ use Rattle.doc.specs.Records.{SectionRecord, MatrixRecord, Records, recordsOf}
 use Rattle.doc.specs.Holds.{rises}
 use Rattle.ask_sound.proofs.RangeLaws.{range-inside}
 use Rattle.ask_sound.specs.Sound.{every, range, areMatrices, isSection, isMatrix, areSound, isSound}
-use Rattle.ask_sound.specs.Standing.{places, sectionAt, matrixAt, baseOf, countOf, placesOf, valuesFrom, valuesAt, recordsAt}
+use Rattle.ask_sound.specs.Way.Standing.{places, sectionAt, matrixAt, baseOf, countOf, placesOf, valuesFrom, valuesAt, recordsAt}
 use Rattle.ask_sound.proofs.PlaceLaws.{places-long, values-long, values-range}
 use Rattle.ask_sound.proofs.SoundLaws.{records-here}
 use Rattle.ask_entry.specs.Entry.{noSection, noMatrix, matrixOf, wordAt, valuesOf, entryOf, isInRange}
-use Rattle.ask_entry.specs.Ready.{Ready}
+use Rattle.ask_entry.specs.Way.Ready.{Ready}
 
 -- ---- lists
 

@@ -15,10 +15,10 @@ use Rattle.base.proofs.IfLaws.{if-true, if-false, both-true, both-first, both-s
 use Rattle.lex_number.specs.ValueWord.{zeroWord}
 use Rattle.doc.specs.Document.{Value}
 use Rattle.doc.specs.Holds.{isInside, comesBefore, rises}
-use Rattle.ask_sound.specs.Standing.{places, valueAt, valuesFrom}
+use Rattle.ask_sound.specs.Way.Standing.{places, valueAt, valuesFrom}
 use Rattle.ask_sound.proofs.LoopLaws.{no-values}
 use Rattle.ask_entry.specs.Entry.{wordAt}
-use Rattle.ask_entry.specs.Ready.{asked}
+use Rattle.ask_entry.specs.Way.Ready.{asked}
 use Rattle.ask_entry.proofs.OrderLaws.{Before, before-is, before-before, before-other, behind-other, same-row, same-column}
 
 -- ---- values that rise

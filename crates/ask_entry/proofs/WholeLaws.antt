@@ -19,10 +19,10 @@ use Rattle.table_layout.specs.declared.View.{View}
 use Rattle.table_layout.proofs.PartLaws.{viewed}
 use Rattle.doc.specs.Records.{SectionRecord, Records, recordsOf}
 use Rattle.ask_sound.specs.Sound.{every, isSection, areSound, isSound}
-use Rattle.ask_sound.specs.Standing.{places, sectionAt, baseOf, countOf, placesOf, recordsAt}
+use Rattle.ask_sound.specs.Way.Standing.{places, sectionAt, baseOf, countOf, placesOf, recordsAt}
 use Rattle.ask_sound.proofs.SoundLaws.{records-here}
 use Rattle.ask_entry.specs.Entry.{noSection, matrixOf, isInRange}
-use Rattle.ask_entry.specs.Ready.{Ready}
+use Rattle.ask_entry.specs.Way.Ready.{Ready}
 use Rattle.ask_entry.proofs.ReadyLaws.{ready-of, range-section, matrix-few}
 use Rattle.ask_entry.specs.WholeMatrix.{foundOf, shortOf, wholeWords, squareOf, conductorsOf, wholeOf, roomAfter}
 use Rattle.ask_entry.specs.declared.Whole.the-variants.{Found, Short, Refused}

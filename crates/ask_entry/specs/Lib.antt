@@ -1,3 +1,3 @@
 pub mod Entry
-pub mod Ready
 pub mod WholeMatrix
+pub mod Way

@@ -20,7 +20,7 @@ use Rattle.table_layout.specs.declared.View.{View}
 use Rattle.doc.specs.Document.{Value, forkKind, endforkKind}
 use Rattle.doc.specs.Holds.{isInside, comesBefore, rises}
 use Rattle.ask_sound.specs.Sound.{every, depthStays, depthAfter, depthHolds, areZeros}
-use Rattle.ask_sound.specs.Standing.{places, valueAt, baseOf, countOf, kindsFrom, valuesFrom, placesOf, goesOn, isRecord, areRecords, areParts, ValueReaches, Rooms}
+use Rattle.ask_sound.specs.Way.Standing.{places, valueAt, baseOf, countOf, kindsFrom, valuesFrom, placesOf, goesOn, isRecord, areRecords, areParts, ValueReaches, Rooms}
 
 -- i of so many records of a width are gone over, and what is left of them gives the whole
 pub record Left {A : Type 0} (w from many : ℕ) (over : ℕ → ℕ → A) (whole : A) (at i : ℕ) : Type 0 where

@@ -9,7 +9,7 @@ use lib.ListN.{length, take, drop, getD, length-map}
 use Rattle.table_layout.specs.Layout.{steps, sections, values}
 use Rattle.table_layout.specs.declared.View.{View}
 use Rattle.ask_sound.specs.Sound.{range}
-use Rattle.ask_sound.specs.Standing.{places, valueAt, baseOf, countOf, kindsFrom, valuesFrom, kindsAt, methodsAt, valuesAt}
+use Rattle.ask_sound.specs.Way.Standing.{places, valueAt, baseOf, countOf, kindsFrom, valuesFrom, kindsAt, methodsAt, valuesAt}
 
 -- ---- places
 

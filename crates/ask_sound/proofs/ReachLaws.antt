@@ -15,7 +15,7 @@ use borrow.Author.Tests.{le-leb, lt-leb, leb-true, leb-false, eqb-true, eqb-fals
 use Rattle.base.specs.If.{if_then_else_, both}
 use Rattle.base.proofs.IfLaws.{if-true, if-false, by-test, by-cases}
 use Rattle.doc.specs.Holds.{isInside, comesBefore, rises}
-use Rattle.ask_sound.specs.Standing.{places, valueAt, valuesFrom, reach, reachAt, Reaches}
+use Rattle.ask_sound.specs.Way.Standing.{places, valueAt, valuesFrom, reach, reachAt, Reaches}
 use Rattle.ask_sound.proofs.LoopLaws.{no-values, RiseLeft}
 
 leb-suc : (x y : ℕ) → leb x y ≡ leb (suc x) (suc y)

@@ -17,7 +17,7 @@ use Rattle.doc.specs.Holds.{rises}
 use Rattle.ask_sound.specs.Tests.{isRange, isNameIn, hasNoSide, amountFits, isBandwidth}
 use Rattle.ask_sound.proofs.RangeLaws.{range-inside}
 use Rattle.ask_sound.specs.Sound.{range, depthHolds, isModel, isSectionStep, isMatrix, isValue}
-use Rattle.ask_sound.specs.Standing.{modelAt, stepAt, matrixAt, valueAt, baseOf, countOf, kindsFrom, valuesFrom, kindsAt, methodsAt, valuesAt, isRecord, ValueReaches, Rooms}
+use Rattle.ask_sound.specs.Way.Standing.{modelAt, stepAt, matrixAt, valueAt, baseOf, countOf, kindsFrom, valuesFrom, kindsAt, methodsAt, valuesAt, isRecord, ValueReaches, Rooms}
 use Rattle.ask_sound.proofs.PlaceLaws.{kinds-long, kinds-range, methods-long, method-word, values-long, values-range}
 
 -- ---- models

@@ -31,7 +31,7 @@ use Rattle.ask_sound.specs.Sound.{
   areZeros,
   isSound,
 }
-use Rattle.ask_sound.specs.Standing.{
+use Rattle.ask_sound.specs.Way.Standing.{
   places,
   modelAt,
   stepAt,

@@ -1,3 +1,3 @@
 pub mod Sound
-pub mod Standing
 pub mod Tests
+pub mod Way

@@ -18,11 +18,11 @@ use Rattle.table_layout.specs.declared.View.{View}
 use Rattle.doc.specs.Document.{forkKind, endforkKind}
 use Rattle.doc.specs.Records.{ModelRecord, StepRecord, Records, recordsOf}
 use Rattle.ask_sound.specs.Sound.{range, kindsOf}
-use Rattle.ask_sound.specs.Standing.{places, placesOf, baseOf, countOf, modelAt, stepAt, kindsFrom, kindsAt, recordsAt}
+use Rattle.ask_sound.specs.Way.Standing.{places, placesOf, baseOf, countOf, modelAt, stepAt, kindsFrom, kindsAt, recordsAt}
 use Rattle.ask_sound.proofs.PlaceLaws.{places-long, kinds-range}
 use Rattle.ask_walk.specs.declared.Place.{Place}
 use Rattle.ask_walk.specs.Walk.{noModel, noRecord, modelOf, stepOf, countKind, isDepth, kindsBefore, isPlace}
-use Rattle.ask_walk.specs.Walkable.{modelPlace, firstOf, manyOf, Walkable, Stands}
+use Rattle.ask_walk.specs.Way.Walkable.{modelPlace, firstOf, manyOf, Walkable, Stands}
 use Rattle.ask_walk.proofs.KindLaws.{depth-most}
 
 -- ---- opens and closes

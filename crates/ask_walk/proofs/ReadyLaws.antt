@@ -16,11 +16,11 @@ use Rattle.table_layout.proofs.PartLaws.{Viewed, viewed}
 use Rattle.doc.specs.Records.{ModelRecord, Records, recordsOf}
 use Rattle.ask_sound.proofs.RangeLaws.{range-inside}
 use Rattle.ask_sound.specs.Sound.{every, range, depthHolds, isModel, kindsOf, areSound, isSound}
-use Rattle.ask_sound.specs.Standing.{baseOf, countOf, kindsFrom, kindsAt, recordsAt}
+use Rattle.ask_sound.specs.Way.Standing.{baseOf, countOf, kindsFrom, kindsAt, recordsAt}
 use Rattle.ask_sound.proofs.PlaceLaws.{kinds-long, kinds-range}
 use Rattle.ask_sound.proofs.SoundLaws.{records-here}
 use Rattle.ask_walk.specs.Walk.{noModel}
-use Rattle.ask_walk.specs.Walkable.{firstOf, manyOf, Walkable}
+use Rattle.ask_walk.specs.Way.Walkable.{firstOf, manyOf, Walkable}
 use Rattle.ask_walk.proofs.PlaceLaws.{models-many, kinds-are, model-there}
 
 every-at : {A : Type 0} (test : A → Bool) (none : A) (xs : List A) (i : ℕ) → every test xs ≡ true → i < length xs → test (getD xs i none) ≡ true

@@ -12,7 +12,7 @@ use Rattle.table_layout.specs.Layout.{steps}
 use Rattle.table_layout.specs.declared.View.{View}
 use Rattle.doc.specs.Records.{ModelRecord, StepRecord, Records, recordsOf}
 use Rattle.ask_sound.specs.Sound.{depthAfter, isSound}
-use Rattle.ask_sound.specs.Standing.{baseOf, stepAt}
+use Rattle.ask_sound.specs.Way.Standing.{baseOf, stepAt}
 use Rattle.ask_walk.specs.declared.Place.{Place}
 use Rattle.ask_walk.specs.Walk.{
   WalkWords,
@@ -30,7 +30,7 @@ use Rattle.ask_walk.specs.Walk.{
   walkFrom,
   answerOf,
 }
-use Rattle.ask_walk.specs.Walkable.{firstOf, manyOf, Stands}
+use Rattle.ask_walk.specs.Way.Walkable.{firstOf, manyOf, Stands}
 
 pub next-told :
     (p : Place) (kind depth : ℕ) → depth ≡ depthAfter (p .depth) kind →

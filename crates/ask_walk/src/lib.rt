@@ -6,9 +6,9 @@ ghost use lib.Dec.{eqb};
 ghost use Rattle.base.specs.If.{if_then_else_};
 ghost use Rattle.line_path.specs.Path.{deepest};
 ghost use Rattle.doc.specs.Records.{recordsOf};
-ghost use Rattle.ask_sound.specs.Standing.{stepAt, kindsFrom};
+ghost use Rattle.ask_sound.specs.Way.Standing.{stepAt, kindsFrom};
 ghost use Rattle.ask_walk.specs.Walk.{walkWords, isDepth, isPlace, nextOf, walkOver, walkOn, walkFrom, answerOf};
-ghost use Rattle.ask_walk.specs.Walkable.{Walkable, Stands};
+ghost use Rattle.ask_walk.specs.Way.Walkable.{Walkable, Stands};
 use table_layout::View;
 
 // "30 TABLE", "31 NOSUCH".

@@ -13,7 +13,7 @@ use lib.Dec.{ltb}
 use borrow.Author.Tests.{lt-ltb, ltb-true}
 use Rattle.base.specs.If.{both}
 use Rattle.base.specs.Runs.{all}
-use Rattle.base.specs.Joined.{joined, isByte, Joins}
+use Rattle.base.specs.Way.Joined.{joined, isByte, Joins}
 use Rattle.base.proofs.IfLaws.{both-true, both-first, both-second}
 use Rattle.base.proofs.RunLaws.{all-nil, all-cons}
 

@@ -7,7 +7,7 @@ ghost use Rattle.base.specs.If.{both};
 ghost use Rattle.base.specs.Runs.{all};
 ghost use lib.Seq.{sets};
 ghost use Rattle.base.specs.Bytes.{isBlank, isDigit, isCapital, isSmall, isLetter};
-ghost use Rattle.base.specs.Joined.{Joins};
+ghost use Rattle.base.specs.Way.Joined.{Joins};
 ghost use Rattle.base.specs.Class.{isFilled, isNamed, isPrinted, isBefore, isContent, inClass, runEnd};
 
 // How many bytes of a run are looked at together.

@@ -22,12 +22,12 @@ use Rattle.lex_line.proofs.FormLaws.{left-words}
 use Rattle.line_place.specs.Place as place
 use Rattle.line_path.specs.Path.{isMult}
 use Rattle.line_path.specs.Path as path
-use Rattle.line_path.specs.Usual.{multFront, OpensMult}
+use Rattle.line_path.specs.Way.Usual.{multFront, OpensMult}
 use Rattle.line_path.proofs.UsualLaws.{opens-is-mult}
 use Rattle.read_line.specs.Reading.{commentByte}
 use Rattle.doc.specs.Lines.{Line, placeAfter, linesFrom, linesAt, significant, gather, upTo}
 use Rattle.doc.specs.Document.{Step, Model, sectionKind, sayingAt, stepOf, stepsIn, opensModel, inModel, modelOf, modelAt, documentIn, documentOf}
-use Rattle.doc.specs.Found.{contentIn, lineIn, linesBehind, Located, Finds}
+use Rattle.doc.specs.Way.Found.{contentIn, lineIn, linesBehind, Located, Finds}
 use Rattle.doc.specs.declared.Found.{Found}
 use Rattle.doc.specs.Holds.{Each}
 use Rattle.doc.specs.Holds.Each.{none, more}
@@ -38,7 +38,7 @@ use Rattle.doc.proofs.StandsLaws.Laid.{onward}
 use Rattle.cross_rules.proofs.RisingLaws.{Rising, numbers, all-least}
 use Rattle.cross_rules.proofs.RisingLaws.Rising.{flat, rise}
 use Rattle.cross_rules.proofs.OrderLaws.{lines-rise}
-use Rattle.cross_models.specs.Cursor.{contentAt, Cursor, Seeks, OpensLine, PastMult, Tells, TellsStep}
+use Rattle.cross_models.specs.Way.Cursor.{contentAt, Cursor, Seeks, OpensLine, PastMult, Tells, TellsStep}
 use Rattle.cross_models.specs.declared.Told.{Told}
 
 -- ---- Mult before the sign

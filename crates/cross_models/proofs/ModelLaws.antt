@@ -36,21 +36,21 @@ use Rattle.doc.specs.Holds.Each.{none, more}
 use Rattle.doc.proofs.StandsLaws.{ModelStands, all-stand}
 use Rattle.table_name.specs.Name.{nameAt}
 use Rattle.cross_rules.specs.Rules.{any, sameWord, isTwice, isThere, modelName, modelRule}
-use Rattle.cross_rules.specs.Filled.{Filled}
+use Rattle.cross_rules.specs.Way.Filled.{Filled}
 use Rattle.cross_rules.proofs.RisingLaws.{each-at}
 use Rattle.cross_rules.proofs.OrderLaws.{in-order}
 use Rattle.cross_rules.proofs.TwiceLaws.{model-twice}
 use Rattle.cross_rules.proofs.TableLaws.{view-holds, part-stands, part-many}
-use Rattle.cross_rules.specs.Twice.{nameIn, hasAbove}
-use Rattle.cross_names.specs.Listed.{namedBy, isListed, Listed}
+use Rattle.cross_rules.specs.Way.Twice.{nameIn, hasAbove}
+use Rattle.cross_names.specs.Way.Listed.{namedBy, isListed, Listed}
 use Rattle.cross_names.proofs.NamedLaws.{same-turned, any-by, texts, first-has}
 use Rattle.cross_names.proofs.NamedLaws.{first as firstNamed}
-use Rattle.cross_steps.specs.StepWords.{firstTarget}
+use Rattle.cross_steps.specs.Way.StepWords.{firstTarget}
 use Rattle.cross_steps.specs.declared.Owner.{Owner}
 use Rattle.cross_steps.proofs.StandingLaws.{Words, Standing, standing, standing-front, standing-behind}
 use Rattle.cross_steps.proofs.StandingLaws as records
 use Rattle.cross_steps.proofs.JoinLaws.{Owns}
-use Rattle.cross_models.specs.Models.{modelAt, stepsAt, ModelRoom, ownerAt, modelRuleAt}
+use Rattle.cross_models.specs.Way.Models.{modelAt, stepsAt, ModelRoom, ownerAt, modelRuleAt}
 
 -- ---- what a model says for its steps
 

@@ -19,24 +19,24 @@ use Rattle.doc.specs.Holds.{Each}
 use Rattle.doc.specs.Holds.Each.{none, more}
 use Rattle.doc.proofs.StandsLaws.{ModelStands, StepStands, all-stand}
 use Rattle.cross_rules.specs.Rules.{modelRule, stepRule, stepFindings, modelFindings, firstIn}
-use Rattle.cross_rules.specs.Filled.{Filled}
+use Rattle.cross_rules.specs.Way.Filled.{Filled}
 use Rattle.cross_rules.specs.declared.Finding.{Finding}
 use Rattle.cross_rules.proofs.RisingLaws.{Rising, rising-wider, rising-behind, all-least, each-at}
 use Rattle.cross_rules.proofs.RisingLaws.Rising.{flat, rise}
 use Rattle.cross_rules.proofs.OrderLaws.{findingLines, in-order}
 use Rattle.cross_rules.proofs.KindLaws.{first-here, first-later}
 use Rattle.cross_rules.proofs.TableLaws.{view-holds}
-use Rattle.cross_names.specs.Listed.{Listed}
+use Rattle.cross_names.specs.Way.Listed.{Listed}
 use Rattle.cross_names.proofs.NamedLaws.{models-many}
-use Rattle.cross_steps.specs.StepWords.{Rooms, stepRuleAt}
-use Rattle.table_name.specs.Marks.{marksMany}
-use Rattle.cross_steps.specs.Marks.{Marked, Below, Judged}
+use Rattle.cross_steps.specs.Way.StepWords.{Rooms, stepRuleAt}
+use Rattle.table_name.specs.Way.Marks.{marksMany}
+use Rattle.cross_steps.specs.Way.Marks.{Marked, Below, Judged}
 use Rattle.cross_steps.specs.declared.Owner.{Owner}
 use Rattle.cross_steps.proofs.MarkLaws.{marked-starts}
 use Rattle.cross_steps.proofs.JoinLaws.{Owns, table-tells, rooms-of, kind-here, line-here, step-is}
 use Rattle.cross_steps.proofs.JoinLaws as join
-use Rattle.cross_models.specs.Cursor.{contentAt, Cursor, TellsStep}
-use Rattle.cross_models.specs.Models.{stepsAt, modelAt, ModelRoom, ownerAt, modelRuleAt, belowFirst, Awaits, StepsTold}
+use Rattle.cross_models.specs.Way.Cursor.{contentAt, Cursor, TellsStep}
+use Rattle.cross_models.specs.Way.Models.{stepsAt, modelAt, ModelRoom, ownerAt, modelRuleAt, belowFirst, Awaits, StepsTold}
 use Rattle.cross_models.specs.declared.StepsFinding.{StepsFinding}
 use Rattle.cross_models.specs.declared.Told.{Told}
 use Rattle.cross_models.proofs.CursorLaws.{MultSaid, all-said}

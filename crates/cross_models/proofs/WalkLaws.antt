@@ -14,18 +14,18 @@ use Rattle.doc.specs.Document.{Model, Document, documentOf}
 use Rattle.doc.specs.Holds.{Each}
 use Rattle.doc.specs.Holds.Each.{none, more}
 use Rattle.cross_rules.specs.Rules.{modelRule, modelFindings, firstIn, nothing}
-use Rattle.cross_rules.specs.Filled.{Filled}
-use Rattle.cross_rules.specs.Nth.{nthLine}
+use Rattle.cross_rules.specs.Way.Filled.{Filled}
+use Rattle.cross_rules.specs.Way.Nth.{nthLine}
 use Rattle.cross_rules.specs.declared.Finding.{Finding}
 use Rattle.cross_rules.proofs.RisingLaws.{all-least}
 use Rattle.cross_rules.proofs.OrderLaws.{in-order}
 use Rattle.cross_rules.proofs.KindLaws.{first-here, first-later}
 use Rattle.cross_rules.proofs.NthLaws.{model-line}
-use Rattle.cross_names.specs.Listed.{Listed}
+use Rattle.cross_names.specs.Way.Listed.{Listed}
 use Rattle.cross_names.proofs.NamedLaws.{models-many}
-use Rattle.table_name.specs.Marks.{marksMany}
-use Rattle.cross_models.specs.Cursor.{Cursor}
-use Rattle.cross_models.specs.Models.{ModelRoom, modelRuleAt, belowFirst, Awaits, StepsTold}
+use Rattle.table_name.specs.Way.Marks.{marksMany}
+use Rattle.cross_models.specs.Way.Cursor.{Cursor}
+use Rattle.cross_models.specs.Way.Models.{ModelRoom, modelRuleAt, belowFirst, Awaits, StepsTold}
 use Rattle.cross_models.specs.declared.StepsFinding.{StepsFinding}
 use Rattle.cross_models.proofs.CursorLaws.{cursor-starts}
 use Rattle.cross_models.proofs.StepsLaws.{Split, drop-to, model-here, room-there, rule-there}

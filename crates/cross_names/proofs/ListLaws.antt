@@ -23,7 +23,7 @@ use Rattle.table_layout.specs.View.{viewOf}
 use Rattle.table_layout.specs.declared.View.{View}
 use Rattle.doc.specs.Lines.{Line, plain, keyOf, placeAfter, linesAt, significant, gather, upTo, standsIn, wordsOf, firstWord}
 use Rattle.doc.specs.Document.{Named, Model, Document, listedAt, opensModel, modelOf, modelAt, inModel, documentIn, documentOf}
-use Rattle.doc.specs.Found.{contentIn, lineIn, linesBehind, Located, Finds, IsPlain, Plainly, Meets}
+use Rattle.doc.specs.Way.Found.{contentIn, lineIn, linesBehind, Located, Finds, IsPlain, Plainly, Meets}
 use Rattle.doc.specs.declared.Found.{Found}
 use Rattle.doc.specs.Holds.{Each}
 use Rattle.doc.specs.Holds.Each.{none, more}
@@ -31,7 +31,7 @@ use Rattle.doc.proofs.StandsLaws.{each-append, each-gather, each-if}
 use Rattle.doc.proofs.BlockLaws.{gather-none, gather-more}
 use Rattle.doc.proofs.PlainLaws.{plainly-quiet, meets-found}
 use Rattle.cross_rules.specs.Rules.{any, isTwice, isThere, modelName, listRule, listFindings, nothing, firstIn}
-use Rattle.cross_rules.specs.Filled.{Filled}
+use Rattle.cross_rules.specs.Way.Filled.{Filled}
 use Rattle.cross_rules.specs.declared.Finding.{Finding}
 use Rattle.cross_rules.specs.Listed.{Among}
 use Rattle.cross_rules.specs.Listed.Among.{front, further}
@@ -41,8 +41,8 @@ use Rattle.cross_rules.proofs.OrderLaws.{in-order, lines-rise}
 use Rattle.cross_rules.proofs.ListLaws.{models-below}
 use Rattle.cross_rules.proofs.TwiceLaws.{listed-twice}
 use Rattle.cross_rules.proofs.KindLaws.{first-here, first-later}
-use Rattle.cross_names.specs.Listed.{namedBy, isListed, Listed}
-use Rattle.cross_names.specs.Judged.{ModelsIn, noModel, modelFound, judgedBy, nameJudged, lineJudged, Nears}
+use Rattle.cross_names.specs.Way.Listed.{namedBy, isListed, Listed}
+use Rattle.cross_names.specs.Way.Judged.{ModelsIn, noModel, modelFound, judgedBy, nameJudged, lineJudged, Nears}
 use Rattle.cross_names.specs.declared.list.Judged.{Judged}
 use Rattle.cross_names.proofs.NamedLaws.{above-found, above-none, there-found, models-many, models-in, model-is}
 

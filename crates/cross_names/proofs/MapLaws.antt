@@ -18,11 +18,11 @@ use Rattle.table_layout.specs.declared.View.{View}
 use Rattle.doc.specs.Lines.{significant}
 use Rattle.doc.specs.Document.{Map, Document, documentOf}
 use Rattle.cross_rules.specs.Rules.{mapRule, pinFindings, mapFindings, firstIn, nothing}
-use Rattle.cross_rules.specs.Filled.{Filled}
-use Rattle.cross_rules.specs.Nth.{nthLine}
+use Rattle.cross_rules.specs.Way.Filled.{Filled}
+use Rattle.cross_rules.specs.Way.Nth.{nthLine}
 use Rattle.cross_rules.specs.declared.Finding.{Finding}
 use Rattle.cross_rules.proofs.KindLaws.{first-here, first-later}
-use Rattle.cross_names.specs.Pins.{twiceAt, MapRoom, pinsOfMap}
+use Rattle.cross_names.specs.Way.Pins.{twiceAt, MapRoom, pinsOfMap}
 use Rattle.cross_names.proofs.TableLaws.{maps-many, rule-here, line-here, room-here, own-here}
 
 -- ---- the first of two lists

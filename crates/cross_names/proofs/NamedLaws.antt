@@ -22,7 +22,7 @@ use Rattle.table_layout.proofs.PartLaws.{Viewed}
 use Rattle.doc.specs.Lines.{Line, wordsOf, firstWord}
 use Rattle.doc.specs.Document.{Named, Model, Document, documentOf}
 use Rattle.doc.specs.Records.{indexOf, modelRecord, modelRecords, modelWords, flatten, partsOf}
-use Rattle.doc.specs.Found.{contentIn, lineIn, Located, markOf}
+use Rattle.doc.specs.Way.Found.{contentIn, lineIn, Located, markOf}
 use Rattle.doc.specs.declared.Found.{Found}
 use Rattle.doc.specs.declared.Mark.{Mark}
 use Rattle.doc.specs.Holds.{Each, Stands}
@@ -31,11 +31,11 @@ use Rattle.doc.proofs.StandsLaws.{LineStands, ModelStands, first-word-stands, a
 use Rattle.doc.proofs.CountLaws.{models-long}
 use Rattle.table_name.specs.Name.{nameAt, isNamed, findIn}
 use Rattle.cross_rules.specs.Rules.{any, sameWord, isThere, modelName}
-use Rattle.cross_rules.specs.Filled.{Filled}
+use Rattle.cross_rules.specs.Way.Filled.{Filled}
 use Rattle.cross_rules.proofs.TableLaws.{view-holds, part-stands, part-many}
-use Rattle.cross_names.specs.Listed.{namedBy}
+use Rattle.cross_names.specs.Way.Listed.{namedBy}
 use Rattle.cross_names.specs.declared.list.Judged.{Judged}
-use Rattle.cross_names.specs.Judged.{ModelsIn, modelFound, noModel, judgedBy, nameJudged}
+use Rattle.cross_names.specs.Way.Judged.{ModelsIn, modelFound, noModel, judgedBy, nameJudged}
 
 -- ---- names that are the same
 

@@ -11,10 +11,10 @@ use Rattle.base.proofs.BrokenLaws.{first-broken, first-kept}
 use Rattle.table_layout.specs.Layout.{pins}
 use Rattle.doc.specs.Lines.{significant}
 use Rattle.cross_rules.specs.Rules.{firstIn, nothing}
-use Rattle.cross_rules.specs.Nth.{nthLine}
+use Rattle.cross_rules.specs.Way.Nth.{nthLine}
 use Rattle.cross_rules.specs.declared.Finding.{Finding}
 use Rattle.cross_rules.proofs.KindLaws.{first-here, first-later}
-use Rattle.cross_names.specs.Pins.{twiceAt, pinAt, pinsFrom}
+use Rattle.cross_names.specs.Way.Pins.{twiceAt, pinAt, pinsFrom}
 
 pub record PinsLeft (t table : List ℕ) (base first count i : ℕ) : Type 0 where
   pub same : firstIn (pinsFrom t table base first i (count - i)) ≡ firstIn (pinsFrom t table base first 0 count)

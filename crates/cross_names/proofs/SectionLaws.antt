@@ -23,17 +23,17 @@ use Rattle.table_name.specs.Name.{nameAt}
 use Rattle.table_layout.specs.View.{bounds, viewOf}
 use Rattle.table_layout.specs.declared.View.{View}
 use Rattle.cross_rules.specs.Rules.{any, isThere, isTwice, sectionName, uses, isUsed, sectionRule, sectionFindings, firstIn, nothing}
-use Rattle.cross_rules.specs.Filled.{Filled}
+use Rattle.cross_rules.specs.Way.Filled.{Filled}
 use Rattle.cross_rules.specs.declared.Finding.{Finding}
-use Rattle.cross_rules.specs.Nth.{nthLine}
+use Rattle.cross_rules.specs.Way.Nth.{nthLine}
 use Rattle.cross_rules.proofs.TableLaws.{view-holds, part-stands, part-many}
 use Rattle.cross_rules.proofs.OrderLaws.{in-order}
 use Rattle.cross_rules.proofs.TwiceLaws.{section-twice}
 use Rattle.cross_rules.proofs.KindLaws.{first-here, first-later}
 use Rattle.cross_rules.proofs.NthLaws.{section-line}
-use Rattle.cross_rules.specs.Twice.{nameIn, hasAbove}
+use Rattle.cross_rules.specs.Way.Twice.{nameIn, hasAbove}
 use Rattle.cross_rules.proofs.NamesLaws.{above-told, section-names, take-map, chopped-first, chopped-word}
-use Rattle.cross_names.specs.Used.{pointsAt, usedIn, Flags, ruleOf}
+use Rattle.cross_names.specs.Way.Used.{pointsAt, usedIn, Flags, ruleOf}
 
 -- ---- which sections are used
 

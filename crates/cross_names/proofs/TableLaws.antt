@@ -20,17 +20,17 @@ use Rattle.doc.proofs.StandsLaws.{MapStands, all-stand}
 use Rattle.table_name.specs.Name.{nameAt}
 use Rattle.base.specs.Broken.{_when_, firstBroken}
 use Rattle.cross_rules.specs.Rules.{isTwice, isThere, mapName, mapRule, pinRule, pinFindings}
-use Rattle.cross_rules.specs.Filled.{Filled}
-use Rattle.cross_rules.specs.Nth.{nthLine}
+use Rattle.cross_rules.specs.Way.Filled.{Filled}
+use Rattle.cross_rules.specs.Way.Nth.{nthLine}
 use Rattle.cross_rules.specs.declared.Finding.{Finding}
 use Rattle.cross_rules.proofs.RisingLaws.{each-at}
 use Rattle.cross_rules.proofs.OrderLaws.{in-order}
 use Rattle.cross_rules.proofs.TwiceLaws.{map-twice, pin-twice}
 use Rattle.cross_rules.proofs.TableLaws.{view-holds, part-stands, part-many}
 use Rattle.cross_rules.proofs.NthLaws.{map-line, pin-line}
-use Rattle.cross_rules.specs.Twice.{nameIn, hasAbove}
+use Rattle.cross_rules.specs.Way.Twice.{nameIn, hasAbove}
 use Rattle.cross_rules.proofs.NamesLaws.{above-told, map-names, pin-names, take-map, chopped-first, chopped-word}
-use Rattle.cross_names.specs.Pins.{twiceAt, pinAt, pinsFrom, firstPin, manyPins, MapRoom, pinsOfMap}
+use Rattle.cross_names.specs.Way.Pins.{twiceAt, pinAt, pinsFrom, firstPin, manyPins, MapRoom, pinsOfMap}
 
 -- ---- lists
 

@@ -16,7 +16,7 @@ use Rattle.base.proofs.IfLaws.{if-true, if-false, by-test, by-cases, both-rest,
 use Rattle.doc.specs.Document.{sectionKind}
 use Rattle.table_layout.specs.Layout.{chopped}
 use Rattle.cross_rules.specs.Rules.{any}
-use Rattle.cross_names.specs.Used.{pointsAt, usedIn, Flags, slotOf}
+use Rattle.cross_names.specs.Way.Used.{pointsAt, usedIn, Flags, slotOf}
 
 far : (i target : ℕ) → i < 256 → eqb target i ≡ eqb (if leb 256 target then 256 else target) i
 far i target h =

@@ -1,4 +1,1 @@
-pub mod Listed
-pub mod Judged
-pub mod Pins
-pub mod Used
+pub mod Way

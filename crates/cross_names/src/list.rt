@@ -8,12 +8,12 @@ ghost use Rattle.lex_keyword.specs.Names.{beginIcmModel};
 ghost use Rattle.line_place.specs.Place.{isInFamily, list};
 ghost use Rattle.doc.specs.Lines.{plain};
 ghost use Rattle.doc.specs.Document.{documentOf};
-ghost use Rattle.doc.specs.Found.{Located};
+ghost use Rattle.doc.specs.Way.Found.{Located};
 ghost use Rattle.cross_rules.specs.Rules.{firstIn, listFindings};
-ghost use Rattle.cross_rules.specs.Filled.{Filled};
+ghost use Rattle.cross_rules.specs.Way.Filled.{Filled};
 ghost use Rattle.table_layout.specs.View.{viewOf};
-ghost use Rattle.cross_names.specs.Listed.{Listed};
-ghost use Rattle.cross_names.specs.Judged.{ModelsIn, modelFound, nameJudged, lineJudged, Nears};
+ghost use Rattle.cross_names.specs.Way.Listed.{Listed};
+ghost use Rattle.cross_names.specs.Way.Judged.{ModelsIn, modelFound, nameJudged, lineJudged, Nears};
 use doc::Found;
 use table_layout::View;
 

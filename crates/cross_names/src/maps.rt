@@ -3,11 +3,11 @@ ghost use mathlib.Core.Path.{_≡_};
 ghost use Prim.Native.Nat.{_+_, _*_, _≤_};
 ghost use lib.ListN.{length};
 ghost use Rattle.doc.specs.Document.{documentOf};
-ghost use Rattle.table_name.specs.Marks.{marksMany};
+ghost use Rattle.table_name.specs.Way.Marks.{marksMany};
 ghost use Rattle.table_layout.specs.View.{viewOf};
 ghost use Rattle.cross_rules.specs.Rules.{firstIn, mapFindings};
-ghost use Rattle.cross_rules.specs.Filled.{Filled};
-ghost use Rattle.cross_names.specs.Pins.{pinsFrom, MapRoom, pinsOfMap};
+ghost use Rattle.cross_rules.specs.Way.Filled.{Filled};
+ghost use Rattle.cross_names.specs.Way.Pins.{pinsFrom, MapRoom, pinsOfMap};
 use cross_rules::Finding;
 use table_layout::View;
 

@@ -9,9 +9,9 @@ ghost use Rattle.doc.specs.Document.{documentOf};
 ghost use Rattle.table_name.specs.Name.{nameAt};
 ghost use Rattle.table_layout.specs.View.{viewOf};
 ghost use Rattle.cross_rules.specs.Rules.{firstIn, sectionFindings};
-ghost use Rattle.cross_rules.specs.Filled.{Filled};
-ghost use Rattle.cross_rules.specs.Twice.{hasAbove};
-ghost use Rattle.cross_names.specs.Used.{Flags, slotOf, ruleOf};
+ghost use Rattle.cross_rules.specs.Way.Filled.{Filled};
+ghost use Rattle.cross_rules.specs.Way.Twice.{hasAbove};
+ghost use Rattle.cross_names.specs.Way.Used.{Flags, slotOf, ruleOf};
 use cross_rules::Finding;
 use table_layout::View;
 

@@ -14,9 +14,9 @@ use Rattle.line_place.specs.Place as place
 use Rattle.table_layout.specs.Layout.{models, maps, pins, sections}
 use Rattle.doc.specs.Lines.{Line, keyOf, placeAfter, linesAt, significant, gather, upTo, standsIn, firstWord, wordsOf}
 use Rattle.doc.specs.Document.{Named, Model, Map, Section, opensModel, inModel, modelOf, modelAt, opensMap, inMap, mapOf, mapAt, pinAt, opensSection, inSection, sectionOf, sectionAt, documentIn, documentOf}
-use Rattle.doc.specs.Found.{contentIn, lineIn, linesBehind, Located, Finds}
+use Rattle.doc.specs.Way.Found.{contentIn, lineIn, linesBehind, Located, Finds}
 use Rattle.doc.specs.declared.Found.{Found}
-use Rattle.cross_rules.specs.Nth.{writesAt, writesPart, nthLine}
+use Rattle.cross_rules.specs.Way.Nth.{writesAt, writesPart, nthLine}
 
 -- none is left to be counted
 pub less-none : (writes : Bool) (left : ℕ) → not writes ≡ false → left ≡ 0 → 0 ≡ (if writes then left - 1 else left)

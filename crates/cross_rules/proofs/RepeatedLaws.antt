@@ -16,7 +16,7 @@ use Rattle.table_layout.proofs.LayoutLaws.{length-chopped}
 use Rattle.doc.specs.Records.{indexOf}
 use Rattle.table_name.specs.Name.{nameAt, isNamed, findIn}
 use Rattle.cross_rules.specs.Rules.{any}
-use Rattle.cross_rules.specs.Twice.{nameIn, hasAbove}
+use Rattle.cross_rules.specs.Way.Twice.{nameIn, hasAbove}
 
 -- the first that passes a test stands before the end exactly where one passes it
 found-any : {A : Type 0} (test : A → Bool) (xs : List A) → ltb (indexOf test xs) (length xs) ≡ any test xs

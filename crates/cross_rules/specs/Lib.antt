@@ -1,5 +1,3 @@
 pub mod Rules
-pub mod Filled
-pub mod Nth
 pub mod Listed
-pub mod Twice
+pub mod Way

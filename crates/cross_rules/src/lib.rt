@@ -4,11 +4,11 @@ ghost use lib.Dec.{eqb};
 ghost use Prim.Native.Nat.{_-_, _+_, _*_, _≤_};
 ghost use Rattle.base.specs.If.{if_then_else_, both};
 ghost use Rattle.doc.specs.Lines.{significant};
-ghost use Rattle.cross_rules.specs.Nth.{writesAt, nthLine};
+ghost use Rattle.cross_rules.specs.Way.Nth.{writesAt, nthLine};
 ghost use lib.ListN.{length, getD, drop};
 ghost use Rattle.table_layout.specs.Layout.{chopped};
 ghost use Rattle.table_name.specs.Name.{nameAt};
-ghost use Rattle.cross_rules.specs.Twice.{hasAbove, Marked};
+ghost use Rattle.cross_rules.specs.Way.Twice.{hasAbove, Marked};
 
 // What a line breaks of the rules 19 to 27, 0 for nothing.
 pub struct Finding {

@@ -59,12 +59,12 @@ use Rattle.cross_rules.specs.Rules.{
   sectionStepRule,
   stepRule,
 }
-use Rattle.cross_rules.specs.Filled.{Filled}
+use Rattle.cross_rules.specs.Way.Filled.{Filled}
 use Rattle.cross_rules.proofs.RisingLaws.{each-at}
 use Rattle.cross_rules.proofs.OrderLaws.{Ordered}
 use Rattle.cross_rules.proofs.TwiceLaws.{meets, clashing-above}
 use Rattle.cross_rules.proofs.TableLaws.{view-holds, part-stands, part-many}
-use Rattle.cross_steps.specs.StepWords.{
+use Rattle.cross_steps.specs.Way.StepWords.{
   Rooms,
   sideAt,
   clashAt,

@@ -14,10 +14,10 @@ use Rattle.base.proofs.IfLaws.{by-cases, both-first, both-second, either-left, 
 use Rattle.base.proofs.RunLaws.{same-equal}
 use Rattle.doc.specs.Document.{endKind}
 use Rattle.table_name.specs.Name.{nameAt}
-use Rattle.cross_steps.specs.StepWords.{sideAt, clashAt, meetsAt, meetsAbove}
-use Rattle.table_name.specs.Marks.{marksMany, markOf}
+use Rattle.cross_steps.specs.Way.StepWords.{sideAt, clashAt, meetsAt, meetsAbove}
+use Rattle.table_name.specs.Way.Marks.{marksMany, markOf}
 use Rattle.table_name.proofs.MarkLaws.{of-inside}
-use Rattle.cross_steps.specs.Marks.{markAt, isMarked, Marked, Below}
+use Rattle.cross_steps.specs.Way.Marks.{markAt, isMarked, Marked, Below}
 use Rattle.cross_steps.specs.declared.Owner.{Owner}
 
 -- ---- the mark of a side

@@ -14,7 +14,7 @@ use Rattle.base.proofs.IfLaws.{if-true, if-false, both-true, both-rest, both-no
 use Rattle.base.proofs.BrokenLaws.{gives-first, gives-later}
 use Rattle.table_layout.specs.Layout.{maps, sections, matrices}
 use Rattle.table_layout.specs.declared.View.{View}
-use Rattle.cross_steps.specs.StepWords.{
+use Rattle.cross_steps.specs.Way.StepWords.{
   Rooms,
   meetsAbove,
   pinsOf,

@@ -20,7 +20,7 @@ use Rattle.doc.specs.Holds as holds
 use Rattle.doc.proofs.SectionLaws.{RightSection}
 use Rattle.doc.proofs.MatrixLaws.{RightMatrix}
 use Rattle.cross_rules.specs.Rules.{any, pinsAt, conductorsAt, methodAt, isOtherForm, hasOtherForm}
-use Rattle.cross_steps.specs.StepWords.{lesserOf, leastAt, otherIn}
+use Rattle.cross_steps.specs.Way.StepWords.{lesserOf, leastAt, otherIn}
 use Rattle.cross_steps.proofs.StandingLaws.{Words, Standing}
 use Rattle.cross_steps.proofs.StandingLaws.Standing.{none, more}
 

@@ -16,7 +16,7 @@ use Rattle.base.proofs.IfLaws.{if-true, if-false, either-left, either-rest, not
 use Rattle.line_matrix.specs.Matrix.{diagonal}
 use Rattle.doc.specs.Document.{endKind}
 use Rattle.table_name.specs.Name.{nameAt}
-use Rattle.cross_steps.specs.StepWords.{sideAt, clashAt, meetsAt, meetsAbove, firstTarget, lesserOf, leastAt, otherIn}
+use Rattle.cross_steps.specs.Way.StepWords.{sideAt, clashAt, meetsAt, meetsAbove, firstTarget, lesserOf, leastAt, otherIn}
 
 -- the sides of two ends, none of which lacks
 pub sides-told :

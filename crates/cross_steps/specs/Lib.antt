@@ -1,2 +1,1 @@
-pub mod StepWords
-pub mod Marks
+pub mod Way

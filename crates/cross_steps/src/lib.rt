@@ -3,8 +3,8 @@ ghost use mathlib.Core.Path.{_≡_};
 ghost use Prim.Native.Nat.{_+_, _*_, _≤_, _<_};
 ghost use lib.ListN.{length, getD};
 ghost use Rattle.table_layout.specs.Layout.{maps, sections};
-ghost use Rattle.cross_steps.specs.StepWords.{Rooms, clashAt, meetsAt, meetsAbove, firstTarget, pinsOf, differsFrom, lesserOf, leastAt, firstMatrix, otherIn, otherForm, kindBroken, wrongMethod, endRuleAt, sectionRuleAt, stepRuleAt};
-ghost use Rattle.cross_steps.specs.Marks.{markAt, isMarked, Marked, Below, Judged};
+ghost use Rattle.cross_steps.specs.Way.StepWords.{Rooms, clashAt, meetsAt, meetsAbove, firstTarget, pinsOf, differsFrom, lesserOf, leastAt, firstMatrix, otherIn, otherForm, kindBroken, wrongMethod, endRuleAt, sectionRuleAt, stepRuleAt};
+ghost use Rattle.cross_steps.specs.Way.Marks.{markAt, isMarked, Marked, Below, Judged};
 use table_layout::View;
 
 // "kind 0 end 1 section 2 fork 3 endfork".

@@ -21,7 +21,7 @@ use Rattle.lex_keyword.specs.declared.Bracket.the-variants.{Plain, Indented, Ba
 use Rattle.lex_keyword.proofs.AnswerLaws.{keyword-known}
 use Rattle.read_line.specs.Reading.{argumentFrom}
 use Rattle.doc.specs.Lines.{Line, argumentIn, argumentOf, noWord, firstWord, secondWord}
-use Rattle.doc.specs.Found.{markOf, markAt, contentIn, lineIn, Located}
+use Rattle.doc.specs.Way.Found.{markOf, markAt, contentIn, lineIn, Located}
 use Rattle.doc.specs.declared.Found.{Found}
 use Rattle.doc.specs.declared.Mark.{Mark}
 

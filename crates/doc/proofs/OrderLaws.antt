@@ -18,7 +18,7 @@ use Rattle.doc.specs.Lines.{Line, plain, argumentIn, linesAt, significan
 use Rattle.doc.specs.Document.{Map, opensMap, mapOf, mapAt, documentIn, documentOf}
 use Rattle.doc.specs.Holds.{Each}
 use Rattle.doc.specs.Holds.Each.{none, more}
-use Rattle.doc.specs.Found.{lineIn, linesBehind, Located, Finds}
+use Rattle.doc.specs.Way.Found.{lineIn, linesBehind, Located, Finds}
 use Rattle.doc.specs.declared.Found.{Found}
 use Rattle.doc.proofs.MarkLaws.{argument-in-line}
 use Rattle.doc.proofs.StandsLaws.{each-append, each-gather, each-if, Laid, laid}

@@ -30,10 +30,10 @@ use Rattle.doc.specs.Lines.{Line, plain, linesAt, placeAfter, keyIn, key
 use Rattle.doc.specs.Document.{opensMap, mapAt, opensModel, modelAt, opensSection, sectionAt}
 use Rattle.doc.specs.Holds.{Each}
 use Rattle.doc.specs.Holds.Each.{none, more}
-use Rattle.lex_line.specs.Feeds.{feedOf, feeds}
+use Rattle.lex_line.specs.Way.Feeds.{feedOf, feeds}
 use Rattle.lex_line.proofs.FeedLaws.{feed-one, feed-none, feeds-none, feeds-more, feeds-told}
-use Rattle.doc.specs.Found.{lineIn, linesBehind, Finds, IsPlain, Plainly, PassesPlain, Meets, Amid, PassesBytes, EndsLine}
-use Rattle.doc.specs.Found.Amid.{ended, amid}
+use Rattle.doc.specs.Way.Found.{lineIn, linesBehind, Finds, IsPlain, Plainly, PassesPlain, Meets, Amid, PassesBytes, EndsLine}
+use Rattle.doc.specs.Way.Found.Amid.{ended, amid}
 use Rattle.doc.specs.declared.Found.{Found}
 use Rattle.doc.specs.declared.Passed.{Passed}
 use Rattle.doc.proofs.FoundLaws.{pass-over, stop-here, next-further, next-inside}

@@ -2,4 +2,4 @@ pub mod Lines
 pub mod Document
 pub mod Records
 pub mod Holds
-pub mod Found
+pub mod Way

@@ -14,7 +14,7 @@ use Rattle.cross_rules.specs.Rules.{
   earlier,
   crossRule,
 }
-use Rattle.cross_rules.specs.Filled.{Filled}
+use Rattle.cross_rules.specs.Way.Filled.{Filled}
 use Rattle.cross_rules.specs.declared.Finding.{Finding}
 use Rattle.cross_rules.proofs.KindLaws.{by-kinds, earlier-second, earlier-first, earlier-lower}
 use Rattle.cross_rules.proofs.ListLaws.{list-first}

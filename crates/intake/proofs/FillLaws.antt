@@ -9,7 +9,7 @@ use native.Mathlib.Omega.{arith}
 use lib.ListN.{length, drop, getD, replicate, length-append, length-replicate, List·getD-map}
 use lib.Seq.{sets, length-sets}
 use Rattle.table_layout.specs.Layout.{widths, layout, needed, chopped, maps, sections, steps, matrices, values, pins}
-use Rattle.table_layout.specs.Filling.{Write, partOf, widthOf, position, tableAfter, fillingAfter, basesFrom, startFilling, headed, opened, Fits}
+use Rattle.table_layout.specs.Way.Filling.{Write, partOf, widthOf, position, tableAfter, fillingAfter, basesFrom, startFilling, headed, opened, Fits}
 use Rattle.table_layout.specs.declared.Filling.{Filling}
 use Rattle.table_layout.proofs.LayoutLaws.{length-layout}
 use Rattle.table_layout.proofs.FillingLaws.{filled, fits, fits-below, fits-first, fits-rest, fits-wider, kept-above, length-after, after-append}
@@ -23,10 +23,10 @@ use Rattle.doc.specs.Records.{flatten, partsOf, tableOf, mapRecords, sectionRec
 use Rattle.doc.specs.Holds.{countsOf}
 use Rattle.doc.proofs.RecordLaws.{records-wide}
 use Rattle.doc.proofs.CountLaws.{counts-agree}
-use Rattle.store_steps.specs.Steps.{lowOf, Aims}
+use Rattle.store_steps.specs.Way.Steps.{lowOf, Aims}
 use Rattle.table_name.proofs.NameLaws.{baseOf, records-at}
-use Rattle.store_base.specs.Writes.{mapsWrites, sectionsWrites, modelsWrites, blocksWrites, writesOf}
-use Rattle.store_base.specs.Stores.{Stores}
+use Rattle.store_base.specs.Way.Writes.{mapsWrites, sectionsWrites, modelsWrites, blocksWrites, writesOf}
+use Rattle.store_base.specs.Way.Stores.{Stores}
 use Rattle.store_base.proofs.StoreLaws.{counts-kept, bases-kept, stores-join}
 use Rattle.store_base.proofs.WriteLaws.{writes-told, writes-known, models-below, no-maps, no-sections, maps-told, sections-told, part-append, part-counted, stored}
 

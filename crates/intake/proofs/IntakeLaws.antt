@@ -24,7 +24,7 @@ use Rattle.intake.specs.Filled.{afterReading, filledOf}
 use Rattle.intake.specs.declared.fill.Filled as filling
 use Rattle.intake.specs.declared.fill.Filled.the-variants.{Stored, Refused}
 use Rattle.cross_rules.specs.Rules.{crossRule}
-use Rattle.cross_rules.specs.Filled.{Filled}
+use Rattle.cross_rules.specs.Way.Filled.{Filled}
 use Rattle.cross_rules.specs.declared.Finding.{Finding}
 use Rattle.intake.specs.Verdict.{Outcome, acceptedWith, refusedBy, crossed, afterFilling, afterBytes, verdictOf, tableFor}
 

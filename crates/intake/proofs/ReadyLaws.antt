@@ -11,8 +11,8 @@ use lib.Seq.{sets, length-sets, length-take-le}
 use borrow.Author.Tests.{lt-ltb, le-ltb}
 use Rattle.base.proofs.IfLaws.{if-true, if-false}
 use Rattle.table_layout.specs.Layout.{widths, needed, maps}
-use Rattle.table_layout.specs.Filling.{startFilling, opened, Few}
-use Rattle.table_layout.specs.Filling as filling
+use Rattle.table_layout.specs.Way.Filling.{startFilling, opened, Few}
+use Rattle.table_layout.specs.Way.Filling as filling
 use Rattle.table_layout.specs.declared.Filling.{Filling}
 use Rattle.table_layout.proofs.OpenLaws.{values-last}
 use Rattle.line_keyword.specs.declared.Counts.{Counts}
@@ -23,15 +23,15 @@ use Rattle.read_line.proofs.CountLaws.{read-within, read-matrices}
 use Rattle.doc.specs.Document.{documentOf}
 use Rattle.doc.specs.Records.{tableOf}
 use Rattle.doc.specs.Holds.{countsOf}
-use Rattle.store_base.specs.Stores.{Stores, Placed}
-use Rattle.store_base.specs.Notes.{Noted, Before}
+use Rattle.store_base.specs.Way.Stores.{Stores, Placed}
+use Rattle.store_base.specs.Way.Notes.{Noted, Before}
 use Rattle.store_base.specs.declared.Walk.{Walk}
 use Rattle.store_base.proofs.NoteLaws.{noted-kept}
-use Rattle.store_maps.specs.Maps.{mapsOf, FillsMaps}
-use Rattle.store_sections.specs.Sections.{sectionsOf, sectionsLeft}
-use Rattle.store_steps.specs.Steps.{lowOf, Aims}
-use Rattle.store_models.specs.Models.{modelsOf}
-use Rattle.read_text.specs.Forward.{Carries}
+use Rattle.store_maps.specs.Way.Maps.{mapsOf, FillsMaps}
+use Rattle.store_sections.specs.Way.Sections.{sectionsOf, sectionsLeft}
+use Rattle.store_steps.specs.Way.Steps.{lowOf, Aims}
+use Rattle.store_models.specs.Way.Models.{modelsOf}
+use Rattle.read_text.specs.Way.Forward.{Carries}
 use Rattle.intake.specs.Filled.{afterReading, filledOf, tableFor, Lifted}
 use Rattle.intake.specs.declared.fill.Filled.{Filled}
 use Rattle.intake.specs.declared.fill.Filled.the-variants.{Stored, Refused}

@@ -2,7 +2,7 @@
 ghost use mathlib.Core.Path.{_≡_};
 ghost use Rattle.doc.specs.Document.{documentOf};
 ghost use Rattle.cross_rules.specs.Rules.{earlier, crossRule};
-ghost use Rattle.cross_rules.specs.Filled.{Filled};
+ghost use Rattle.cross_rules.specs.Way.Filled.{Filled};
 use cross_rules::Finding;
 
 // The earlier of two, one that breaks nothing never.

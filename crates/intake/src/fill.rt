@@ -8,7 +8,7 @@ ghost use Rattle.read_line.specs.Reading.{readingOf};
 ghost use Rattle.read_line.specs.declared.Reading.the-variants.{Read};
 ghost use Rattle.doc.specs.Holds.{countsOf};
 ghost use Rattle.doc.specs.Records.{tableOf};
-ghost use Rattle.store_base.specs.Notes.{Noted, Before};
+ghost use Rattle.store_base.specs.Way.Notes.{Noted, Before};
 ghost use Rattle.intake.specs.Filled.{filledOf, tableFor, Lifted};
 use line_keyword::Counts;
 use read_line::Reading;

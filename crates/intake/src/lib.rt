@@ -4,7 +4,7 @@ ghost use lib.ListN.{length};
 ghost use Rattle.doc.specs.Document.{documentOf};
 ghost use Rattle.intake.specs.Filled.{filledOf};
 ghost use Rattle.cross_rules.specs.Rules.{crossRule};
-ghost use Rattle.cross_rules.specs.Filled.{Filled};
+ghost use Rattle.cross_rules.specs.Way.Filled.{Filled};
 ghost use Rattle.intake.specs.Verdict.{answerWords, crossed, afterFilling, verdictOf, tableFor};
 use lex_line::Checked;
 pub mod fill;

@@ -30,8 +30,8 @@ use Rattle.doc.specs.Holds.{Each}
 use Rattle.doc.specs.Holds.Each.{none as each-none, more as each-more}
 use Rattle.law_alike.specs.Alike.{takesText, SameSaying, SameLine, SameNumbers, AlikeLines}
 use Rattle.law_alike.specs.Alike.AlikeLines.{none, line, matrix}
-use Rattle.law_alike.specs.Same.{All2, SameNamed, SameStep, SameModel, SameMap}
-use Rattle.law_alike.specs.Same.All2.{none as all2-none, more as all2-more}
+use Rattle.law_alike.specs.Way.Same.{All2, SameNamed, SameStep, SameModel, SameMap}
+use Rattle.law_alike.specs.Way.Same.All2.{none as all2-none, more as all2-more}
 use Rattle.law_alike.proofs.SidesLaws.{bare, words-bare}
 use Rattle.law_alike.proofs.LineLaws.{SameSides, SamePlain, plain-same, head-same, map-same, SamePath, path-same, mult-same, amount-same, words-same, argument-same}
 use Rattle.law_alike.proofs.GatherLaws.{all2-append, all2-if, keys-same, stands-same, isDeep, opening-deep, body-deep, block-inside, body-place, other-opens, gather-alike, up-alike}

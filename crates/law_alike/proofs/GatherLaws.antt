@@ -18,8 +18,8 @@ use Rattle.doc.specs.Holds.{Each}
 use Rattle.doc.specs.Holds.Each.{none as each-none, more as each-more}
 use Rattle.law_alike.specs.Alike.{SameSaying, SameLine, SameNumbers, AlikeLines}
 use Rattle.law_alike.specs.Alike.AlikeLines.{none, line, matrix}
-use Rattle.law_alike.specs.Same.{All2}
-use Rattle.law_alike.specs.Same.All2.{none as all2-none, more as all2-more}
+use Rattle.law_alike.specs.Way.Same.{All2}
+use Rattle.law_alike.specs.Way.Same.All2.{none as all2-none, more as all2-more}
 use Rattle.law_alike.proofs.LineLaws.{key-same}
 
 -- ---- lists to each other

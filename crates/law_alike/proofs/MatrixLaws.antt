@@ -29,8 +29,8 @@ use Rattle.doc.specs.Holds.Each.{none as each-none, more as each-more}
 use Rattle.law_alike.specs.Written.{isPlain, rowLines, numbersOf, wordOf, sparseWord, writtenAt}
 use Rattle.law_alike.specs.Alike.{takesText, SameSaying, SameLine, formAt, SameNumbers, AlikeLines, Alike}
 use Rattle.law_alike.specs.Alike.AlikeLines.{none, line, matrix}
-use Rattle.law_alike.specs.Same.{All2, SameMatrix, SameSection, SameDocument}
-use Rattle.law_alike.specs.Same.All2.{none as all2-none, more as all2-more}
+use Rattle.law_alike.specs.Way.Same.{All2, SameMatrix, SameSection, SameDocument}
+use Rattle.law_alike.specs.Way.Same.All2.{none as all2-none, more as all2-more}
 use Rattle.law_alike.proofs.LineLaws.{plain-same, words-same}
 use Rattle.law_alike.proofs.GatherLaws.{all2-append, keys-same, isDeep, opening-deep, opening-key, body-place, body-key, body-deep, block-inside, up-inside, other-opens, gather-alike, up-nothing, up-on, up-off, section-alike}
 use Rattle.law_alike.proofs.FamilyLaws.{all2-choice, named-same, deep-place, listed-alike, models-alike, maps-alike}

@@ -1,3 +1,3 @@
 pub mod Written
 pub mod Alike
-pub mod Same
+pub mod Way

@@ -16,7 +16,7 @@ use Rattle.doc.proofs.NamedLaws.{ModelNamed, AllNamed, all-named}
 use Rattle.doc.proofs.DepthLaws.{read-deep}
 use Rattle.doc.proofs.SectionLaws.{RightSection, text-sections}
 use Rattle.cross_rules.specs.Rules.{crossRule}
-use Rattle.cross_rules.specs.Filled.{Filled}
+use Rattle.cross_rules.specs.Way.Filled.{Filled}
 use Rattle.cross_rules.proofs.TableLaws.{view-fits}
 use Rattle.ask_sound.specs.Sound.{areSound, isSound}
 use Rattle.law_sound.proofs.EndLaws.{filled-zeros, filled-records}

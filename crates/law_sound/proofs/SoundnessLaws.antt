@@ -21,7 +21,7 @@ use Rattle.doc.specs.Document.{documentOf}
 use Rattle.doc.specs.Records.{flatten, partsOf, tableOf}
 use Rattle.doc.proofs.RecordLaws.{table-long}
 use Rattle.cross_rules.specs.Rules.{crossRule}
-use Rattle.cross_rules.specs.Filled.{Filled}
+use Rattle.cross_rules.specs.Way.Filled.{Filled}
 use Rattle.ask_sound.specs.Sound.{isSound}
 use Rattle.law_sound.proofs.EndLaws.{filled-end}
 use Rattle.law_sound.proofs.Bounds.{Bounded}

@@ -20,7 +20,7 @@ use Rattle.doc.proofs.SectionLaws.{RightSection, text-sections}
 use Rattle.cross_rules.proofs.RisingLaws.{each-at}
 use Rattle.law_demands.proofs.AcceptedLaws as accepted
 use Rattle.ask_entry.specs.Entry.{foundWith, noSection, matrixOf, entryOf, isInRange, answerOf}
-use Rattle.law_alike.specs.Same.{All2, SameMatrix, SameSection, SameDocument}
+use Rattle.law_alike.specs.Way.Same.{All2, SameMatrix, SameSection, SameDocument}
 use Rattle.law_third.specs.Third.{Taken}
 use Rattle.law_third.proofs.EntryRecordLaws.{givenAt, given-here, given-later, flat-sections, sections-long, section-given, section-conductors}
 use Rattle.law_third.proofs.EntryLaws.{answerOver, taken-kept, answer-over, over-inside, over-outside, least, ordered, greatest}

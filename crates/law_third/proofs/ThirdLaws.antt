@@ -4,7 +4,7 @@ use mathlib.Core.List.{List}
 use Prim.Native.Nat.{ℕ}
 use Rattle.doc.specs.Document.{documentOf}
 use Rattle.law_alike.specs.Alike.{Alike}
-use Rattle.law_alike.specs.Same.{SameDocument}
+use Rattle.law_alike.specs.Way.Same.{SameDocument}
 use Rattle.law_alike.proofs.MatrixLaws.{documents-alike}
 use Rattle.law_demands.proofs.AcceptedLaws as accepted
 use Rattle.law_third.specs.Third.{Taken, SameAnswers, Third}

@@ -65,7 +65,7 @@ use Rattle.ask_walk.specs.Walk.{
 use Rattle.ask_walk.specs.declared.Place.{Place}
 use Rattle.ask_walk.specs.declared.StepWords.{StepWords}
 use Rattle.ask_entry.specs.Entry as entry
-use Rattle.law_alike.specs.Same.{All2, SameStep, SameModel, SameMap, SameSection, SameDocument}
+use Rattle.law_alike.specs.Way.Same.{All2, SameStep, SameModel, SameMap, SameSection, SameDocument}
 use Rattle.law_alike.proofs.GatherLaws.{all2-append}
 use Rattle.law_third.specs.Third.{Taken, noMap, nameThrough, sideOf, SameAnswer}
 use Rattle.law_third.proofs.WalkTakenLaws.{taken-kept, taken-sound, taken-records}

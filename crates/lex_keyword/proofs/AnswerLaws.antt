@@ -15,7 +15,7 @@ use Rattle.base.proofs.IfLaws.{if-true, by-test, both-first, not-via}
 use Rattle.base.proofs.RunLaws.{run-le}
 use Rattle.lex_keyword.specs.Names.{folded, sameName, names, placeOf, keyOf, isLater, unknown}
 use Rattle.lex_keyword.specs.Bracket.{nameLength, nameOf, isClosed, isGoodBracket, argumentAt, namedAs, bracketOf}
-use Rattle.lex_keyword.specs.Reading.{opensLine}
+use Rattle.lex_keyword.specs.Way.Reading.{opensLine}
 use Rattle.lex_keyword.specs.declared.Bracket.{Bracket}
 use Rattle.lex_keyword.specs.declared.Bracket.the-variants.{Plain, Indented, Bad, Unknown, Later, Keyword}
 

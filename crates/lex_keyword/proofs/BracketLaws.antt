@@ -16,7 +16,7 @@ use Rattle.base.specs.Runs.{run}
 use Rattle.base.proofs.IfLaws.{if-true, if-false, both-rest, both-not-left, both-first, not-via, not-not-via}
 use Rattle.lex_keyword.specs.Names.{keyOf, isLater}
 use Rattle.lex_keyword.specs.Bracket.{isOpen, isInside, isGoodName, parted, areGoodWords, nameLength, nameOf, isClosed, isGoodBracket, argumentAt, namedAs, bracketOf}
-use Rattle.lex_keyword.specs.Reading.{closesAt, saysName}
+use Rattle.lex_keyword.specs.Way.Reading.{closesAt, saysName}
 use Rattle.lex_keyword.specs.declared.Bracket.{Bracket}
 use Rattle.lex_keyword.specs.declared.Bracket.the-variants.{Plain, Indented, Bad, Unknown, Later, Keyword}
 

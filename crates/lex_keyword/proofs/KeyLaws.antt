@@ -17,7 +17,7 @@ use Rattle.base.specs.Runs.{same}
 use Rattle.base.proofs.IfLaws.{if-true, if-false, by-cases, both-first, both-second}
 use Rattle.base.proofs.RunLaws.{same-equal}
 use Rattle.lex_keyword.specs.Names.{folded, sameName, names, placeOf, keyOf}
-use Rattle.lex_keyword.specs.Lookup.{shorter, firstOf}
+use Rattle.lex_keyword.specs.Way.Lookup.{shorter, firstOf}
 
 pub same-long : (a n : List ℕ) → sameName a n ≡ true → length a ≡ length n
 unfolding sameName

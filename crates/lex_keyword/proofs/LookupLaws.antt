@@ -16,7 +16,7 @@ use Rattle.base.specs.If.{both}
 use Rattle.base.specs.Runs.{same}
 use Rattle.base.proofs.IfLaws.{both-rest, both-not-left}
 use Rattle.lex_keyword.specs.Names.{folded, sameName, names}
-use Rattle.lex_keyword.specs.Lookup.{joined, letters, startOf, begins, standsAt}
+use Rattle.lex_keyword.specs.Way.Lookup.{joined, letters, startOf, begins, standsAt}
 
 begins-cons : (b c : ℕ) (s t : List ℕ) → begins (b ∷ s) (c ∷ t) ≡ both (eqb b c) (begins s t)
 unfolding begins

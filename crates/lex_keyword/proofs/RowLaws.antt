@@ -16,7 +16,7 @@ use Rattle.base.specs.Runs.{run, all, same}
 use Rattle.base.proofs.IfLaws.{both-not-left, both-not-right, both-first, both-second}
 use Rattle.lex_keyword.specs.Names.{folded, sameName, placeOf, keyOf, isLater, row}
 use Rattle.lex_keyword.specs.Bracket.{isSeparator, isPlainByte, push, parted, isHyphenWord, isGoodWord, areGoodWords, isGoodName, namedAs, bracketOf}
-use Rattle.lex_keyword.specs.Reading.{closesAt, saysName, isRow}
+use Rattle.lex_keyword.specs.Way.Reading.{closesAt, saysName, isRow}
 use Rattle.lex_keyword.specs.declared.Bracket.the-variants.{Keyword}
 use Rattle.lex_keyword.proofs.BracketLaws.{closes-before, reads-name}
 

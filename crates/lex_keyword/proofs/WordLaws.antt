@@ -17,9 +17,9 @@ use Rattle.base.specs.Class.{runEnd}
 use Rattle.base.proofs.IfLaws.{if-true, if-false, by-cases, both-rest, both-not-left, either-left, either-rest}
 use Rattle.base.proofs.RunLaws.{run-goes, run-stops, run-le}
 use Rattle.lex_keyword.specs.Names.{folded, sameName}
-use Rattle.lex_keyword.specs.Lookup.{standsAt}
+use Rattle.lex_keyword.specs.Way.Lookup.{standsAt}
 use Rattle.lex_keyword.specs.Bracket.{isSeparator, push, parted, isPlainByte, isHyphenWord, isGoodWord, areGoodWords}
-use Rattle.lex_keyword.specs.Reading.{isWordByte}
+use Rattle.lex_keyword.specs.Way.Reading.{isWordByte}
 use Rattle.lex_keyword.proofs.LookupLaws.{begins-same}
 use Rattle.lex_keyword.proofs.KeyLaws.{not-same}
 

@@ -1,4 +1,3 @@
 pub mod Names
 pub mod Bracket
-pub mod Lookup
-pub mod Reading
+pub mod Way

@@ -8,8 +8,8 @@ ghost use Rattle.base.specs.Bytes.{isBlank};
 ghost use Rattle.base.specs.Class.{runEnd};
 ghost use Rattle.base.specs.Runs.{all};
 ghost use Rattle.lex_keyword.specs.Names.{folded, names, sameName, keyOf, isLater};
-ghost use Rattle.lex_keyword.specs.Lookup.{letters, startOf, firstOf, standsAt};
-ghost use Rattle.lex_keyword.specs.Reading.{isWordByte, closesAt, saysName, isRow};
+ghost use Rattle.lex_keyword.specs.Way.Lookup.{letters, startOf, firstOf, standsAt};
+ghost use Rattle.lex_keyword.specs.Way.Reading.{isWordByte, closesAt, saysName, isRow};
 ghost use Rattle.lex_keyword.specs.Bracket.{isPlainByte, parted, isHyphenWord, isGoodWord, areGoodWords, isGoodName, namedAs, bracketOf};
 
 pub enum Bracket {

@@ -12,7 +12,7 @@ use lib.Seq.{drop-cons}
 use lib.Dec.{eqb}
 use borrow.Author.Tests.{eq-eqb, ne-eqb, eqb-true, eqb-false}
 use Rattle.base.proofs.IfLaws.{if-true, if-false, by-cases}
-use Rattle.lex_line.specs.Feeds.{feedOf, feeds}
+use Rattle.lex_line.specs.Way.Feeds.{feedOf, feeds}
 
 pub feed-one : (b : ℕ) → b ≡ 10 → 1 ≡ feedOf b
 unfolding feedOf

@@ -22,7 +22,7 @@ use Rattle.lex_line.specs.Lines.{lines}
 use Rattle.lex_line.specs.Words.{backRun}
 use Rattle.lex_line.specs.ByteRules.{linesRule, byteRules, Judges}
 use Rattle.lex_line.specs.declared.Checked.the-variants.{Refused}
-use Rattle.lex_line.specs.Feeds.{feedOf, feeds, isUsual, PassesLines}
+use Rattle.lex_line.specs.Way.Feeds.{feedOf, feeds, isUsual, PassesLines}
 use Rattle.lex_line.proofs.WordLaws.{back-zero, back-grows, back-ends}
 use Rattle.lex_line.proofs.ByteLaws.{is-feed, not-feed, feed-not-printed, terminator-feed, line-fine, check-on, check-stop, size-fine}
 use Rattle.lex_line.proofs.FeedLaws.{feed-one, feed-none, feeds-none, feeds-more, feeds-told}

@@ -16,7 +16,7 @@ use borrow.Author.Tests.{ne-eqb, ltb-true, ltb-false}
 use Rattle.base.specs.If.{both}
 use Rattle.base.specs.Runs.{run, all}
 use Rattle.base.specs.Class.{isBefore, isContent, runEnd}
-use Rattle.base.specs.Joined.{joined, isByte, Joins}
+use Rattle.base.specs.Way.Joined.{joined, isByte, Joins}
 use Rattle.base.proofs.IfLaws.{by-cases, both-true, both-first, both-second, not-via}
 use Rattle.base.proofs.RunLaws.{all-nil, all-cons, run-block}
 use Rattle.base.proofs.JoinedLaws.{joined-cons, byte-below}

@@ -1,4 +1,4 @@
 pub mod Lines
 pub mod Words
 pub mod ByteRules
-pub mod Feeds
+pub mod Way

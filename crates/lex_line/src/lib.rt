@@ -8,7 +8,7 @@ ghost use Rattle.lex_line.specs.Lines.{lineAt};
 ghost use Rattle.base.specs.Class.{isBefore, isContent, inClass, runEnd};
 ghost use Rattle.lex_line.specs.Words.{wordAt, lastWord, backRun, fewOf, words, firstOf, markedBy, toEquals};
 ghost use Rattle.lex_line.specs.ByteRules.{byteRules, terminatorAt, Judges};
-ghost use Rattle.lex_line.specs.Feeds.{feedOf, feeds, isUsual, PassesLines};
+ghost use Rattle.lex_line.specs.Way.Feeds.{feedOf, feeds, isUsual, PassesLines};
 ghost use Rattle.base.specs.Runs.{all};
 ghost use Rattle.base.specs.If.{if_then_else_};
 ghost use lib.Dec.{eqb};

@@ -13,14 +13,14 @@ use lib.Seq.{drop-drop, length-take-le}
 use Rattle.base.specs.If.{both}
 use Rattle.base.specs.Bytes.{isDigit}
 use Rattle.base.specs.Runs.{run, all}
-use Rattle.base.specs.Joined.{Joins}
+use Rattle.base.specs.Way.Joined.{Joins}
 use Rattle.base.proofs.IfLaws.{both-first, both-second}
 use Rattle.base.proofs.RunLaws.{all-cons, run-block}
 use Rattle.lex_number.specs.declared.Run.{Run}
 use Rattle.lex_number.specs.Integer.{valueOf}
-use Rattle.lex_number.specs.Capped.{exponentCap}
-use Rattle.lex_number.specs.At.{runFrom, weight, RunRead}
-use Rattle.lex_number.specs.Block.{bytesOf, AreDigits}
+use Rattle.lex_number.specs.Way.Capped.{exponentCap}
+use Rattle.lex_number.specs.Way.At.{runFrom, weight, RunRead}
+use Rattle.lex_number.specs.Way.Block.{bytesOf, AreDigits}
 use Rattle.lex_number.proofs.SizeLaws.{sizeOn, size-goes}
 use Rattle.lex_number.proofs.PlainLaws.{runs-same, weight-above, weight-more}
 use Rattle.lex_number.proofs.TrimLaws.{power-some}

@@ -11,7 +11,7 @@ use Rattle.base.specs.If.{if_then_else_}
 use Rattle.base.proofs.IfLaws.{if-true, if-false, by-cases}
 use Rattle.lex_number.specs.declared.Digits.{Digits}
 use Rattle.lex_number.specs.Number.{isPoint, goesOn, withPoint, withDigit, withByte, scan}
-use Rattle.lex_number.specs.Capped.{sizeCap, cappedDigits, Kept}
+use Rattle.lex_number.specs.Way.Capped.{sizeCap, cappedDigits, Kept}
 
 -- one digit more: a number cut before the step gives the same as one cut after it
 pub cut-step : (cap a v : ℕ) → min (10 * min a cap + v) cap ≡ min (10 * a + v) cap

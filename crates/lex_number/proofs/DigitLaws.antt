@@ -15,7 +15,7 @@ use Rattle.base.specs.Bytes.{isDigit, within}
 use Rattle.base.proofs.IfLaws.{if-true, if-false, by-test, either-left, either-rest, both-rest, both-not-left, both-first, both-second, either-false, either-comes}
 use Rattle.lex_number.specs.declared.Digits.{Digits}
 use Rattle.lex_number.specs.Number.{isPoint, noDigits, goesOn, withPoint, withDigit, withByte, scan}
-use Rattle.lex_number.specs.Capped.{sizeCap, cappedDigits, Kept}
+use Rattle.lex_number.specs.Way.Capped.{sizeCap, cappedDigits, Kept}
 use Rattle.lex_number.proofs.CappedLaws.{scan-goes, scan-stops, scan-ends, scan-cut, kept-cut}
 
 module _ (d : Digits) (b : ℕ) (t : Bool) (told : t ≡ isDigit b) where

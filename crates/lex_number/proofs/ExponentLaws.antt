@@ -13,7 +13,7 @@ use Rattle.base.specs.Runs.{run}
 use Rattle.base.proofs.IfLaws.{if-true, if-false}
 use Rattle.lex_number.specs.declared.Exponent.{Exponent}
 use Rattle.lex_number.specs.Number.{isE, isMinus, pastSign, noExponent, exponentAt, exponentOf}
-use Rattle.lex_number.specs.Capped.{cappedExponent, sizeAt}
+use Rattle.lex_number.specs.Way.Capped.{cappedExponent, sizeAt}
 
 none-cut : (from : ℕ) → cappedExponent (noExponent from) ≡ noExponent from
 unfolding cappedExponent noExponent

@@ -26,8 +26,8 @@ use Rattle.lex_number.specs.declared.Plain.{Plain}
 use Rattle.lex_number.specs.declared.Reading.{Reading}
 use Rattle.lex_number.specs.declared.Parts.{Parts}
 use Rattle.lex_number.specs.Number.{isSign, isMinus, isPoint, isE, pastSign, noDigits, goesOn, withByte, scan, exponentAt, exponentOf, powerIn, scaleBy, scaleOf, raised, lowered, valueAs, wellFormed, numberFrom, digitsOf, exponentFrom, numberOf}
-use Rattle.lex_number.specs.In.{isSpelling}
-use Rattle.lex_number.specs.At.{plainAt, readingAt, partsOf, DigitsRead, ExponentRead, PartsRead, Says}
+use Rattle.lex_number.specs.Way.In.{isSpelling}
+use Rattle.lex_number.specs.Way.At.{plainAt, readingAt, partsOf, DigitsRead, ExponentRead, PartsRead, Says}
 use Rattle.lex_number.proofs.CappedLaws.{scan-goes, scan-stops, scan-ends}
 use Rattle.lex_number.proofs.AllLaws.{all-from}
 use Rattle.lex_number.proofs.ReadLaws.{inside, sign-within, scan-end, exponent-within}

@@ -24,8 +24,8 @@ use Rattle.lex_number.specs.declared.Near.{Near}
 use Rattle.lex_number.specs.declared.Parts.{Parts}
 use Rattle.lex_number.specs.declared.Scale.{Scale}
 use Rattle.lex_number.specs.Number.{isSign, scaleOf, numberOf}
-use Rattle.lex_number.specs.At.{PartsRead, Says}
-use Rattle.lex_number.specs.In.{isWord, isSpelling, numberIn, Knows}
+use Rattle.lex_number.specs.Way.At.{PartsRead, Says}
+use Rattle.lex_number.specs.Way.In.{isWord, isSpelling, numberIn, Knows}
 use Rattle.lex_number.proofs.FrontLaws.{word, none-letter, plain-here, scaled-here}
 use Rattle.lex_number.proofs.InLineLaws.{number-nothing}
 

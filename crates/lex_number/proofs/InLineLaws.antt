@@ -12,7 +12,7 @@ use Rattle.base.specs.Class.{isFilled, runEnd}
 use Rattle.lex_number.specs.declared.Number.{Number}
 use Rattle.lex_number.specs.declared.Number.the-variants.{Malformed}
 use Rattle.lex_number.specs.Number.{isSign, isMinus, isPoint, isE, pastSign, noDigits, goesOn, scan, noExponent, exponentOf, wellFormed, numberFrom, digitsOf, exponentFrom, numberOf}
-use Rattle.lex_number.specs.At.{wordFrom, numberAt}
+use Rattle.lex_number.specs.Way.At.{wordFrom, numberAt}
 
 pub number-nothing : Malformed ≡ numberOf []
 unfolding if_then_else_ both either isSign isMinus isPoint isE pastSign noDigits goesOn scan noExponent exponentOf wellFormed numberFrom digitsOf exponentFrom numberOf

@@ -16,7 +16,7 @@ use Rattle.base.specs.Runs.{run, all}
 use Rattle.base.proofs.IfLaws.{if-true, if-false, by-cases, both-true, both-not-left, both-not-right, both-first, both-second}
 use Rattle.lex_number.specs.declared.Exponent.{Exponent}
 use Rattle.lex_number.specs.Integer.{valueOf, isInteger, wholeOf}
-use Rattle.lex_number.specs.Capped.{exponentCap, cappedExponent, sizeAt}
+use Rattle.lex_number.specs.Way.Capped.{exponentCap, cappedExponent, sizeAt}
 use Rattle.lex_number.proofs.AllLaws.{all-run}
 use Rattle.lex_number.proofs.DigitLaws.{digit-to}
 

@@ -18,7 +18,7 @@ use Rattle.lex_number.specs.declared.Scale.{Scale}
 use Rattle.lex_number.specs.declared.Number.the-variants.{Value, Malformed, Range}
 use Rattle.lex_number.specs.ValueWord.{zeroWord, valueWord, decimalOf, isValueWord}
 use Rattle.lex_number.specs.Number.{isMinus, isPoint, pastSign, noDigits, goesOn, withPoint, withDigit, withByte, scan, digitsOf, exponentFrom, scaleOf, raised, lowered, inRange, valueAs, wellFormed, numberFrom, numberOf}
-use Rattle.lex_number.specs.Capped.{raising}
+use Rattle.lex_number.specs.Way.Capped.{raising}
 use Rattle.lex_number.proofs.CappedLaws.{scan-goes, scan-stops, scan-ends}
 use Rattle.lex_number.proofs.DigitLaws.{digit-to}
 use Rattle.lex_number.proofs.ValueLaws.{Stands, stands-told, value-zero, value-inside, value-outside}

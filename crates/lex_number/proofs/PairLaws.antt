@@ -16,12 +16,12 @@ use lib.Dec.{eqb}
 use borrow.Author.Tests.{eqb-true, le-leb, leb-true}
 use Rattle.base.specs.Bytes.{isDigit, within}
 use Rattle.base.specs.Runs.{all}
-use Rattle.base.specs.Joined.{joined, isByte, Joins}
+use Rattle.base.specs.Way.Joined.{joined, isByte, Joins}
 use Rattle.base.proofs.IfLaws.{both-true, both-first, both-second}
 use Rattle.base.proofs.RunLaws.{all-nil, all-cons}
 use Rattle.base.proofs.JoinedLaws.{joined-nil, joined-cons, byte-below}
 use Rattle.lex_number.specs.Integer.{valueOf}
-use Rattle.lex_number.specs.Block.{bytesOf, AreDigits, paired}
+use Rattle.lex_number.specs.Way.Block.{bytesOf, AreDigits, paired}
 use Rattle.lex_number.proofs.DigitLaws.{digit-from, digit-to}
 
 -- ---- the bytes of a word

@@ -25,8 +25,8 @@ use Rattle.lex_number.specs.declared.Plain.{Plain}
 use Rattle.lex_number.specs.declared.Run.{Run}
 use Rattle.lex_number.specs.declared.Reading.{Reading}
 use Rattle.lex_number.specs.Number.{isE, isSign, isMinus, isPoint, pastSign, noDigits, goesOn, withPoint, withDigit, withByte, scan, noExponent, exponentAt, exponentOf}
-use Rattle.lex_number.specs.At.{runFrom, plainAt, noReading, readingAt, weight, RunRead, DigitsRead, ExponentRead}
-use Rattle.lex_number.specs.Capped.{exponentCap}
+use Rattle.lex_number.specs.Way.At.{runFrom, plainAt, noReading, readingAt, weight, RunRead, DigitsRead, ExponentRead}
+use Rattle.lex_number.specs.Way.Capped.{exponentCap}
 use Rattle.lex_number.proofs.CappedLaws.{scan-goes, scan-stops, scan-ends}
 use Rattle.lex_number.proofs.DigitLaws.{digit-from, digit-to}
 use Rattle.lex_number.proofs.SizeLaws.{sizeOn, size-goes, size-stops, size-ends}

@@ -20,7 +20,7 @@ use Rattle.lex_number.specs.declared.Scale.{Scale}
 use Rattle.lex_number.specs.declared.Number.{Number}
 use Rattle.lex_number.specs.declared.Number.the-variants.{Malformed}
 use Rattle.lex_number.specs.Number.{isSign, isE, isMinus, pastSign, noDigits, goesOn, withByte, scan, digitsOf, noExponent, exponentAt, exponentOf, exponentFrom, scaleOf, raised, lowered, valueAs, wellFormed, numberFrom, numberOf}
-use Rattle.lex_number.specs.Capped.{sizeCap, exponentCap, countCap, cappedDigits, cappedExponent, raising, lowering, Kept, Bounded}
+use Rattle.lex_number.specs.Way.Capped.{sizeCap, exponentCap, countCap, cappedDigits, cappedExponent, raising, lowering, Kept, Bounded}
 use Rattle.lex_number.proofs.CappedLaws.{scan-goes, scan-stops, scan-ends, byte-cut, kept-cut}
 use Rattle.lex_number.proofs.DigitLaws.{kept-none, kept-next, ends-next}
 use Rattle.lex_number.proofs.ScaleLaws.{scale-up, scale-down}

@@ -14,7 +14,7 @@ use Rattle.base.specs.Runs.{run}
 use Rattle.base.proofs.RunLaws.{run-goes, run-stops, run-nil}
 use Rattle.lex_number.specs.declared.Exponent.{Exponent}
 use Rattle.lex_number.specs.Integer.{valueOf}
-use Rattle.lex_number.specs.Capped.{exponentCap}
+use Rattle.lex_number.specs.Way.Capped.{exponentCap}
 use Rattle.lex_number.proofs.CappedLaws.{cut-step, cut-twice}
 use Rattle.lex_number.proofs.DigitLaws.{digit-from, digit-to}
 

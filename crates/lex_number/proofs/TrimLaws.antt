@@ -20,8 +20,8 @@ use Rattle.lex_number.specs.declared.Number.the-variants.{Value}
 use Rattle.lex_number.specs.declared.Parts.{Parts}
 use Rattle.lex_number.specs.ValueWord.{zeroWord}
 use Rattle.lex_number.specs.Number.{raised, lowered, valueAs}
-use Rattle.lex_number.specs.Capped.{raising, lowering}
-use Rattle.lex_number.specs.At.{Splits, Says}
+use Rattle.lex_number.specs.Way.Capped.{raising, lowering}
+use Rattle.lex_number.specs.Way.At.{Splits, Says}
 use Rattle.lex_number.proofs.ValueLaws.{value-zero}
 
 -- one zero more: ten times the number

@@ -21,7 +21,7 @@ use Rattle.lex_number.specs.declared.Number.{Number}
 use Rattle.lex_number.specs.declared.Number.the-variants.{Value, Range}
 use Rattle.lex_number.specs.ValueWord.{zeroWord, valueWord}
 use Rattle.lex_number.specs.Number.{raised, lowered, inRange, valueAs, wellFormed}
-use Rattle.lex_number.specs.Capped.{sizeCap, exponentCap, raising, lowering, Bounded}
+use Rattle.lex_number.specs.Way.Capped.{sizeCap, exponentCap, raising, lowering, Bounded}
 use Rattle.lex_number.proofs.AllLaws.{all-from}
 
 module _ (s : List ℕ) (d : Digits) (x : Exponent) where

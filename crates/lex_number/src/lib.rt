@@ -12,10 +12,10 @@ ghost use lib.Dec.{ltb};
 ghost use Rattle.lex_number.specs.Number.{isSign, isMinus, isE, pastSign, goesOn, noDigits, withPoint, withDigit, withByte, scan, noExponent, exponentOf, scalings, powerIn, aboveZero, scaleOf, raised, lowered, valueAs, wellFormed, numberOf, isFormed, isBounded};
 ghost use Rattle.lex_number.specs.Integer.{valueOf, wholeOf};
 ghost use Rattle.lex_number.specs.ValueWord.{valueWord, decimalOf, isDecimal, isValueWord};
-ghost use Rattle.lex_number.specs.Capped.{exponentCap, countCap, cappedDigits, cappedExponent, sizeAt, raising, lowering, Kept, Bounded};
-ghost use Rattle.lex_number.specs.At.{numberAt, weight, noReading, RunRead, DigitsRead, ExponentRead, PartsRead, Few, Splits, Says};
-ghost use Rattle.lex_number.specs.Block.{bytesOf, AreDigits, paired};
-ghost use Rattle.lex_number.specs.In.{isWord, isSpelling, isValue, numberIn, Knows};
+ghost use Rattle.lex_number.specs.Way.Capped.{exponentCap, countCap, cappedDigits, cappedExponent, sizeAt, raising, lowering, Kept, Bounded};
+ghost use Rattle.lex_number.specs.Way.At.{numberAt, weight, noReading, RunRead, DigitsRead, ExponentRead, PartsRead, Few, Splits, Says};
+ghost use Rattle.lex_number.specs.Way.Block.{bytesOf, AreDigits, paired};
+ghost use Rattle.lex_number.specs.Way.In.{isWord, isSpelling, isValue, numberIn, Knows};
 use base::Class;
 
 // Digits are read at once up to so many bytes, their point counted: what they write fits a word. A number of more goes the long way.

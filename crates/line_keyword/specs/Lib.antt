@@ -1,3 +1,3 @@
 pub mod State
 pub mod Keywords
-pub mod Kept
+pub mod Way

@@ -6,7 +6,7 @@ ghost use Rattle.line_keyword.specs.Keywords.{isOnce, isSeen, hasNoKind,
 ghost use Rattle.lex_number.specs.Integer.{wholeOf};
 ghost use Rattle.line_place.specs.Place.{keepsMatrix};
 ghost use Rattle.line_argument.specs.Argument.{isOutOfBounds};
-ghost use Rattle.line_keyword.specs.Kept.{Countable};
+ghost use Rattle.line_keyword.specs.Way.Kept.{Countable};
 ghost use Rattle.line_map.specs.PinMap.{Bounded};
 ghost use Rattle.line_keyword.specs.State.{startState};
 use line_head::Head;

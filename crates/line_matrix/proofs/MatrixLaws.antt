@@ -17,7 +17,7 @@ use Rattle.line_matrix.specs.declared.Told.{Told}
 use Rattle.base.specs.Bytes.{isBlank}
 use Rattle.base.specs.Runs.{run}
 use Rattle.base.specs.Class.{isFilled, runEnd}
-use Rattle.lex_number.specs.At.{wordFrom, numberAt}
+use Rattle.lex_number.specs.Way.At.{wordFrom, numberAt}
 use Rattle.lex_number.specs.declared.NumberAt.{NumberAt}
 use Rattle.lex_number.specs.Number.{numberOf, isFormed, isBounded}
 use Rattle.lex_number.specs.Integer.{wholeOf}

@@ -21,7 +21,7 @@ use Rattle.lex_number.specs.declared.Number.{Number}
 use Rattle.lex_number.specs.declared.Whole.{Whole}
 use Rattle.line_argument.specs.Argument.{isReserved}
 use Rattle.line_path.specs.Path.{section, plainLine, isLength, isMult, isSectionLine, amountFormed, amountBounded, sectionLine}
-use Rattle.line_path.specs.Section.{amountLine, unitLine, isParted, partsLine}
+use Rattle.line_path.specs.Way.Section.{amountLine, unitLine, isParted, partsLine}
 use Rattle.line_path.specs.declared.PathLine.{PathLine}
 
 -- ---- the amount

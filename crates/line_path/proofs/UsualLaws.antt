@@ -15,7 +15,7 @@ use Rattle.base.specs.If.{if_then_else_, both, either}
 use Rattle.base.specs.Bytes.{bytes, isBlank}
 use Rattle.base.specs.Runs.{run, all, same}
 use Rattle.base.specs.Class.{isFilled, isBefore, runEnd}
-use Rattle.base.specs.Joined.{joined, isByte, Joins}
+use Rattle.base.specs.Way.Joined.{joined, isByte, Joins}
 use Rattle.base.proofs.IfLaws.{if-true, if-false, both-true, not-via, not-not-via}
 use Rattle.base.proofs.RunLaws.{run-nil, run-goes, run-stops, run-le, run-on, run-end-at, run-all, run-is}
 use Rattle.base.proofs.JoinedLaws.{joined-same}
@@ -25,8 +25,8 @@ use Rattle.lex_line.specs.declared.Span.{Span}
 use Rattle.lex_line.proofs.FormLaws.{part-from}
 use Rattle.line_argument.specs.Argument.{isReserved}
 use Rattle.line_path.specs.Path.{section, fork, endfork, sayingOf, plainLine, isMult, sectionLine, lineSaying, pathLineOf}
-use Rattle.line_path.specs.Section.{amountLine, unitLine, isParted, partsLine}
-use Rattle.line_path.specs.Usual.{multFront, OpensMult, Paired, UsualSection, UsualFork, forks, ends}
+use Rattle.line_path.specs.Way.Section.{amountLine, unitLine, isParted, partsLine}
+use Rattle.line_path.specs.Way.Usual.{multFront, OpensMult, Paired, UsualSection, UsualFork, forks, ends}
 use Rattle.line_path.specs.declared.PathLine.{PathLine}
 use Rattle.line_path.proofs.SectionLaws.{parts-are}
 

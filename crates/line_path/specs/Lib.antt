@@ -1,3 +1,2 @@
 pub mod Path
-pub mod Section
-pub mod Usual
+pub mod Way

@@ -7,8 +7,8 @@ ghost use Rattle.base.specs.If.{either};
 ghost use Rattle.lex_line.specs.Words.{words, fewOf};
 ghost use Rattle.lex_number.specs.declared.Number.the-variants.{Value};
 ghost use Rattle.line_path.specs.Path.{fork, endfork, end, side, deepest, sayingOf, plainLine, namesOne, isLength, sectionLine, lineSaying, pathLineOf, newPath, isBadFork, isOutOfOrder, isStep, openRule, closedRule, pathRule, withEnd, pathNext, pathOpen, pathLacks};
-ghost use Rattle.line_path.specs.Section.{amountLine, unitLine, partsLine};
-ghost use Rattle.line_path.specs.Usual.{OpensMult, Paired, UsualSection, UsualFork};
+ghost use Rattle.line_path.specs.Way.Section.{amountLine, unitLine, partsLine};
+ghost use Rattle.line_path.specs.Way.Usual.{OpensMult, Paired, UsualSection, UsualFork};
 use lex_number::Number;
 use lex_line::Few;
 

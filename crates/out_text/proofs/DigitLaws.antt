@@ -9,7 +9,7 @@ use lib.Seq.{drop-cons, take-all, getD-set-same, drop-set-lt}
 use borrow.Author.Tests.{lt-ltb, le-ltb}
 use Rattle.base.proofs.IfLaws.{if-true, if-false}
 use Rattle.out_text.specs.Printing.{lastDigit, digitsBefore, decimal}
-use Rattle.out_text.specs.Digits.{Holds}
+use Rattle.out_text.specs.Way.Digits.{Holds}
 use Rattle.out_text.specs.declared.Digits.{Digits}
 use Rattle.out_text.specs.Written.{Written}
 use Rattle.out_text.proofs.WrittenLaws.{written-is}

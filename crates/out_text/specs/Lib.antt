@@ -1,3 +1,3 @@
 pub mod Printing
 pub mod Written
-pub mod Digits
+pub mod Way

@@ -5,7 +5,7 @@ ghost use mathlib.Core.List.{_∷_, [], _++_};
 ghost use Prim.Native.Nat.{min};
 ghost use Rattle.out_text.specs.Printing.{lastDigit, decimal, signText, exponentText, valueText};
 ghost use Rattle.out_text.specs.Written.{Written};
-ghost use Rattle.out_text.specs.Digits.{Holds};
+ghost use Rattle.out_text.specs.Way.Digits.{Holds};
 
 // The digits of a number: the bytes from `from` on.
 struct Digits {

@@ -11,10 +11,10 @@ use Rattle.base.proofs.IfLaws.{if-true}
 use Rattle.lex_line.specs.Lines.{lines}
 use Rattle.line_place.specs.Place as place
 use Rattle.line_path.specs.declared.Path.{Path}
-use Rattle.line_keyword.specs.Kept.{Kept}
+use Rattle.line_keyword.specs.Way.Kept.{Kept}
 use Rattle.line_keyword.specs.declared.State.{State}
 use Rattle.read_line.specs.Reading.{run}
-use Rattle.read_line.specs.Walk.{resume, Rises, Crossed, Holds, Stepping, Stays, withPath, Blocked}
+use Rattle.read_line.specs.Way.Walk.{resume, Rises, Crossed, Holds, Stepping, Stays, withPath, Blocked}
 use Rattle.read_line.specs.declared.PathWalk.{PathWalk}
 
 module _ (t : List ℕ) (at line : ℕ) (p : Path) (n : ℕ) (w : PathWalk) (first : Blocked t at line p n w) (whole : w .part .number ≡ 0) where

@@ -66,7 +66,7 @@ use Rattle.line_place.specs.Place.{
   movedByLine,
 }
 use Rattle.line_place.specs.Place as place
-use Rattle.line_keyword.specs.Kept.{Kept}
+use Rattle.line_keyword.specs.Way.Kept.{Kept}
 use Rattle.line_keyword.specs.Keywords.{isSeen, isOnce, isRepeated, isMisplaced, seenAfter, oneMoreIf, countsAfter, keywordRule, keywordNext}
 use Rattle.line_keyword.specs.State.{noCounts, noneSeen, startState}
 use Rattle.line_keyword.specs.declared.Counts.{Counts}
@@ -74,7 +74,7 @@ use Rattle.line_keyword.specs.declared.State.{State}
 use Rattle.line_keyword.proofs.InsideLaws.{opens-closes}
 use Rattle.line_keyword.proofs.KeptLaws.{start-kept, kept-more}
 use Rattle.read_line.specs.Reading.{stepOf, lineRule, countsAfterLine, lineNext, readingOf}
-use Rattle.read_line.specs.Trace.{stateAfter}
+use Rattle.read_line.specs.Way.Trace.{stateAfter}
 use Rattle.read_line.specs.declared.Reading.the-variants.{Read}
 use Rattle.read_line.proofs.WalkLaws.{step-kept}
 use Rattle.read_line.proofs.ReadingLaws.{reads-only, reads-when, reads-done}

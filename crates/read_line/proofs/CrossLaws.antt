@@ -12,10 +12,10 @@ use Rattle.base.proofs.IfLaws.{if-true, if-false}
 use Rattle.lex_line.specs.Lines.{lines, lineAt}
 use Rattle.lex_line.specs.declared.Line.{Line}
 use Rattle.lex_line.proofs.LineLaws.{next-on, next-within}
-use Rattle.line_keyword.specs.Kept.{Kept}
+use Rattle.line_keyword.specs.Way.Kept.{Kept}
 use Rattle.line_keyword.specs.declared.State.{State}
 use Rattle.read_line.specs.Reading.{commentByte, breaks, stepOf, onward, run}
-use Rattle.read_line.specs.Walk.{resume, Onward, Rises, Reached, Crossed, Opens, contentAt, StandsElsewhere, Stays}
+use Rattle.read_line.specs.Way.Walk.{resume, Onward, Rises, Reached, Crossed, Opens, contentAt, StandsElsewhere, Stays}
 use Rattle.read_line.specs.declared.Step.{Step}
 use Rattle.read_line.specs.declared.Reading.{Reading}
 use Rattle.read_line.specs.declared.Reading.the-variants.{Refused}

@@ -19,7 +19,7 @@ use Rattle.lex_keyword.specs.Bracket.{bracketOf}
 use Rattle.lex_keyword.specs.declared.Bracket.the-variants.{Plain}
 use Rattle.lex_keyword.proofs.BracketLaws.{reads-plain}
 use Rattle.line_argument.specs.Argument.{isReserved}
-use Rattle.read_line.specs.Listed.{isFree}
+use Rattle.read_line.specs.Way.Listed.{isFree}
 
 -- what such a byte is not
 record Unlike (b : ℕ) : Type 0 where

@@ -41,7 +41,7 @@ use Rattle.read_line.specs.Reading.{
   beforeStep,
   stepOf,
 }
-use Rattle.read_line.specs.Trace.{brokenAt, afterwards, meetingOf, meetings, stateAfter, AllGo}
+use Rattle.read_line.specs.Way.Trace.{brokenAt, afterwards, meetingOf, meetings, stateAfter, AllGo}
 use Rattle.read_line.specs.declared.Step.{Step}
 use Rattle.read_line.proofs.ReadingLaws.{meet-goes, meet-stops, by-broken, head-goes, tail-goes}
 

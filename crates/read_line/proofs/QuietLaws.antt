@@ -26,7 +26,7 @@ use Rattle.line_place.specs.Place as place
 use Rattle.line_argument.specs.Argument.{isReserved}
 use Rattle.line_keyword.specs.declared.State.{State}
 use Rattle.read_line.specs.Reading.{goes, breaks, lineStep, bracketStep, stepOf}
-use Rattle.read_line.specs.Walk.{Opens, Decides, Fronted}
+use Rattle.read_line.specs.Way.Walk.{Opens, Decides, Fronted}
 use Rattle.read_line.specs.declared.Front.{Front}
 use Rattle.read_line.specs.declared.Front.the-variants.{Blanks, Words, Opening}
 use Rattle.read_line.proofs.StepLaws.{list-goes, blank-told}

@@ -12,14 +12,14 @@ use borrow.Author.Tests.{eq-eqb, ne-eqb, eqb-true, eqb-false}
 use Rattle.base.specs.If.{if_then_else_}
 use Rattle.base.proofs.IfLaws.{if-true, if-false, by-cases}
 use Rattle.lex_line.specs.Lines.{Raw, lines}
-use Rattle.line_keyword.specs.Kept.{Kept}
+use Rattle.line_keyword.specs.Way.Kept.{Kept}
 use Rattle.line_keyword.specs.State.{startState}
 use Rattle.line_keyword.specs.declared.Counts.{Counts}
 use Rattle.line_keyword.specs.declared.State.{State}
 use Rattle.line_keyword.proofs.KeptLaws.{start-kept}
 use Rattle.line_place.specs.Place.{before, done}
 use Rattle.read_line.specs.Reading.{commentByte, stepOf, onward, run, atEnd, readingOf}
-use Rattle.read_line.specs.Trace.{Meeting, brokenAt, afterwards, meetingOf, meetings, stateAfter, AllGo, none, more, FirstBroken, here, later}
+use Rattle.read_line.specs.Way.Trace.{Meeting, brokenAt, afterwards, meetingOf, meetings, stateAfter, AllGo, none, more, FirstBroken, here, later}
 use Rattle.read_line.specs.declared.Reading.{Reading}
 use Rattle.read_line.specs.declared.Reading.the-variants.{Read, Refused}
 use Rattle.read_line.proofs.WalkLaws.{step-kept}

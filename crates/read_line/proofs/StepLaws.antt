@@ -29,7 +29,7 @@ use Rattle.read_line.proofs.KeptLaws.{data-fits, pin-total, step-room}
 use Rattle.line_matrix.specs.declared.Matrix.{Matrix}
 use Rattle.line_matrix.specs.declared.DataLine.{DataLine}
 use Rattle.line_keyword.specs.Keywords.{oneMoreIf, keywordRule, keywordNext}
-use Rattle.line_keyword.specs.Kept.{Kept, Countable, mostLines}
+use Rattle.line_keyword.specs.Way.Kept.{Kept, Countable, mostLines}
 use Rattle.line_keyword.proofs.KeptLaws.{keyword-bounds, kept-countable, more-within}
 use Rattle.line_argument.specs.Argument.{isOutOfBounds}
 use Rattle.base.specs.Bytes.{isBlank}
@@ -45,7 +45,7 @@ use native.Mathlib.Nat.{zero-add}
 use Rattle.line_keyword.specs.declared.State.{State}
 use Rattle.read_line.specs.declared.Step.{Step}
 use Rattle.read_line.specs.Reading.{listRule, lineRule, countsAfterLine, lineNext, goes, breaks, judged, lineStep, keywordStep, argumentFrom, bracketStep, beforeStep}
-use Rattle.read_line.specs.Walk.{Decides, Stepping, Elsewhere, withPath, withPinned, withMatrix}
+use Rattle.read_line.specs.Way.Walk.{Decides, Stepping, Elsewhere, withPath, withPinned, withMatrix}
 
 -- ---- a line judged
 

@@ -17,7 +17,7 @@ use Rattle.base.proofs.RunLaws.{run-le}
 use Rattle.lex_line.specs.Lines.{Raw, lines, contentOf, isBlankLine, lineAt}
 use Rattle.lex_line.specs.declared.Line.{Line}
 use Rattle.lex_line.proofs.LineLaws.{firstOf, lines-at, next-on, next-within, content-at}
-use Rattle.line_keyword.specs.Kept.{Kept}
+use Rattle.line_keyword.specs.Way.Kept.{Kept}
 use Rattle.line_keyword.proofs.KeptLaws.{start-kept, keyword-kept, kept-more}
 use Rattle.line_keyword.specs.State.{startState}
 use Rattle.line_keyword.specs.Keywords.{keywordRule, keywordNext, countsAfter, oneMoreIf}
@@ -48,7 +48,7 @@ use Rattle.read_line.specs.Reading.{
   atEnd,
   readingOf,
 }
-use Rattle.read_line.specs.Walk.{resume, Onward, Rises, Reached}
+use Rattle.read_line.specs.Way.Walk.{resume, Onward, Rises, Reached}
 use Rattle.read_line.specs.declared.Step.{Step}
 use Rattle.read_line.specs.declared.Walk.{Walk}
 use Rattle.read_line.specs.declared.Reading.{Reading}

@@ -1,4 +1,2 @@
 pub mod Reading
-pub mod Walk
-pub mod Trace
-pub mod Listed
+pub mod Way

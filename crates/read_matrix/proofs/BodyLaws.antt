@@ -18,22 +18,22 @@ use Rattle.table_layout.specs.Layout.{joined}
 use Rattle.line_matrix.specs.declared.Matrix.{Matrix}
 use Rattle.line_keyword.specs.declared.State.{State}
 use Rattle.read_line.specs.Reading.{commentByte, breaks, stepOf}
-use Rattle.read_line.specs.Walk.{Holds, withMatrix}
+use Rattle.read_line.specs.Way.Walk.{Holds, withMatrix}
 use Rattle.read_line.proofs.CrossLaws.{crossed-none, crossed-on, crossed-stops, stays-opens, stays-moved, stays-ended}
 use Rattle.doc.specs.Lines.{Line, keyOf, placeAfter, linesAt, upTo}
 use Rattle.doc.specs.Document.{Value, inMatrix, valuesFrom, bandwidthIn, greatestIn}
 use Rattle.doc.specs.Records.{valueWords}
 use Rattle.doc.proofs.FoundLaws.{pass-over, stop-here, nothing-left}
-use Rattle.store_base.specs.Stores.{Placed}
-use Rattle.store_base.specs.Notes.{bodyLines, valuesWords, Note, Tells, wordsOf}
+use Rattle.store_base.specs.Way.Stores.{Placed}
+use Rattle.store_base.specs.Way.Notes.{bodyLines, valuesWords, Note, Tells, wordsOf}
 use Rattle.store_base.proofs.LineLaws.{up-on, up-stops, up-none}
-use Rattle.store_matrices.specs.Told.{toldOr}
+use Rattle.store_matrices.specs.Way.Told.{toldOr}
 use Rattle.store_matrices.proofs.MatrixLaws.{matrix-stays, told-untold}
 use Rattle.read_numbers.specs.declared.Note as noting
-use Rattle.read_numbers.specs.Noting.{Adds}
+use Rattle.read_numbers.specs.Way.Noting.{Adds}
 use Rattle.read_matrix.specs.declared.Data.{Data}
-use Rattle.read_matrix.specs.Body.{noNote, Behind, Ends, Takes, Goes, noteOf}
-use Rattle.read_matrix.specs.Run.{Left, Gone}
+use Rattle.read_matrix.specs.Way.Body.{noNote, Behind, Ends, Takes, Goes, noteOf}
+use Rattle.read_matrix.specs.Way.Run.{Left, Gone}
 use Rattle.read_matrix.proofs.LineLaws.{no-bounded, behind-same}
 
 -- the same lines, told otherwise

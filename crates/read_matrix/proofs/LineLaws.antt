@@ -27,20 +27,20 @@ use Rattle.line_keyword.specs.Keywords.{keywordRule, keptRule, keptNext}
 use Rattle.line_keyword.specs.declared.State.{State}
 use Rattle.line_keyword.proofs.InsideLaws.{kept-rule-is, kept-next-is}
 use Rattle.read_line.specs.Reading.{argumentFrom, goes, breaks, bracketStep, keywordStep, stepOf}
-use Rattle.read_line.specs.Walk.{Decides, Opens, withMatrix}
+use Rattle.read_line.specs.Way.Walk.{Decides, Opens, withMatrix}
 use Rattle.read_line.specs.declared.Front.the-variants.{Words}
 use Rattle.read_line.proofs.StepLaws.{data-stops, data-goes, keyword-stops, keyword-goes}
 use Rattle.read_line.proofs.QuietLaws.{words-decide, quiet-blank}
 use Rattle.doc.specs.Lines.{Line, plain, keyIn, keyAt, keyOf, argumentIn, argumentOf}
 use Rattle.doc.specs.Document.{Value, inMatrix, givenBy, bandwidthIn, greatestIn}
-use Rattle.store_base.specs.Notes.{valuesWords}
-use Rattle.store_matrices.specs.Told.{firstTold, toldOr}
+use Rattle.store_base.specs.Way.Notes.{valuesWords}
+use Rattle.store_matrices.specs.Way.Told.{firstTold, toldOr}
 use Rattle.store_matrices.specs.declared.First.{First}
 use Rattle.store_matrices.proofs.BodyLaws.{told-first, whole-below, most-of, row-values, row-bandwidth, row-greatest, bandwidth-values, bandwidth-told, bandwidth-greatest}
 use Rattle.read_numbers.specs.declared.Note.{Note}
-use Rattle.read_numbers.specs.Noting.{Bounded, Adds}
+use Rattle.read_numbers.specs.Way.Noting.{Bounded, Adds}
 use Rattle.read_matrix.specs.declared.Data.{Data}
-use Rattle.read_matrix.specs.Body.{noNote, keptNote, Keeps, Behind, Extends, Ends, Takes}
+use Rattle.read_matrix.specs.Way.Body.{noNote, keptNote, Keeps, Behind, Extends, Ends, Takes}
 
 -- ---- notes
 

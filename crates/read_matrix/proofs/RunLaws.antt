@@ -27,20 +27,20 @@ use Rattle.line_matrix.specs.Matrix.{sparse, mostValues, dataLineOf, isOutOfOrd
 use Rattle.line_matrix.specs.declared.Matrix.{Matrix}
 use Rattle.line_matrix.specs.declared.DataLine.{DataLine}
 use Rattle.read_line.specs.Reading.{commentByte}
-use Rattle.read_line.specs.Walk.{contentAt}
+use Rattle.read_line.specs.Way.Walk.{contentAt}
 use Rattle.read_line.proofs.KeptLaws.{column-small}
 use Rattle.doc.specs.Lines.{Line, plain, keyOf}
-use Rattle.store_matrices.specs.Numbers.{mostGiven}
+use Rattle.store_matrices.specs.Way.Numbers.{mostGiven}
 use Rattle.read_numbers.specs.declared.Note.{Note}
 use Rattle.read_numbers.specs.declared.Numbers.{Numbers}
 use Rattle.read_numbers.specs.declared.Pair.{Pair}
-use Rattle.read_numbers.specs.Noting.{Bounded, Adds, movedTo, namedTo, NotesNumbers, NotesPair}
+use Rattle.read_numbers.specs.Way.Noting.{Bounded, Adds, movedTo, namedTo, NotesNumbers, NotesPair}
 use Rattle.read_matrix.specs.declared.Data.{Data}
 use Rattle.read_matrix.specs.declared.Run.{Run}
 use Rattle.read_matrix.specs.declared.TakenNumbers.{TakenNumbers}
 use Rattle.read_matrix.specs.declared.TakenPair.{TakenPair}
-use Rattle.read_matrix.specs.Body.{Behind, Takes, TakesAlone, Goes}
-use Rattle.read_matrix.specs.Run.{Gone, Leads, Ordered, Runs, numbersPart, TakesNumbers, pairsMatrix, pairsPart, TakesPair}
+use Rattle.read_matrix.specs.Way.Body.{Behind, Takes, TakesAlone, Goes}
+use Rattle.read_matrix.specs.Way.Run.{Gone, Leads, Ordered, Runs, numbersPart, TakesNumbers, pairsMatrix, pairsPart, TakesPair}
 use Rattle.read_matrix.proofs.LineLaws.{behind-same, noted-goes}
 use Rattle.read_matrix.proofs.BodyLaws.{behind-on, gone-ends, gone-leaves, gone-stops, gone-on}
 

@@ -19,9 +19,9 @@ use Rattle.base.proofs.RunLaws.{run-nil, run-goes, run-stops, run-le, run-all, 
 use Rattle.lex_line.specs.Lines.{lineAt}
 use Rattle.lex_line.specs.Words.{Word, goesOn, grown, wordsFrom, wordAt, words, markedBy}
 use Rattle.lex_line.proofs.WordLaws.{wordsAfter, after-at, after-none}
-use Rattle.lex_number.specs.In.{isWord}
+use Rattle.lex_number.specs.Way.In.{isWord}
 use Rattle.read_line.specs.Reading.{commentByte}
-use Rattle.read_line.specs.Walk.{contentAt}
+use Rattle.read_line.specs.Way.Walk.{contentAt}
 
 -- ---- runs within a run
 

@@ -20,23 +20,23 @@ use Rattle.lex_line.specs.Lines.{lineAt}
 use Rattle.lex_line.specs.Words.{words, firstOf}
 use Rattle.lex_number.specs.Number.{isSign, numberOf, isFormed, isBounded}
 use Rattle.lex_number.specs.Integer.{wholeOf}
-use Rattle.lex_number.specs.In.{isWord, isSpelling, isValue, numberIn}
+use Rattle.lex_number.specs.Way.In.{isWord, isSpelling, isValue, numberIn}
 use Rattle.lex_number.specs.declared.Number.{Number}
 use Rattle.lex_number.specs.declared.Number.the-variants.{Value, Malformed, Range}
 use Rattle.lex_number.specs.declared.NumberAt.{NumberAt}
 use Rattle.lex_number.specs.declared.Whole.{Whole}
 use Rattle.line_matrix.specs.Matrix.{sparse, mostValues, toldBy, areFormed, areBounded, numbersLine, sparseLine, dataLineOf}
 use Rattle.read_line.specs.Reading.{commentByte}
-use Rattle.read_line.specs.Walk.{contentAt}
+use Rattle.read_line.specs.Way.Walk.{contentAt}
 use Rattle.table_layout.specs.Layout.{joined}
 use Rattle.doc.specs.Lines.{Line, plain, keyOf}
 use Rattle.doc.specs.Document as document
 use Rattle.doc.specs.Document.{wordIn, nextRow, numbersAt, sparseAt, valuesFrom, bandwidthIn, greatestIn}
-use Rattle.store_base.specs.Notes.{valuesWords}
+use Rattle.store_base.specs.Way.Notes.{valuesWords}
 use Rattle.store_matrices.specs.declared.Cursor.{Cursor}
 use Rattle.store_matrices.specs.declared.First.{First}
-use Rattle.store_matrices.specs.Told.{toldOr}
-use Rattle.store_matrices.specs.Numbers.{mostGiven, rowAfter, nextCursor, Roomy}
+use Rattle.store_matrices.specs.Way.Told.{toldOr}
+use Rattle.store_matrices.specs.Way.Numbers.{mostGiven, rowAfter, nextCursor, Roomy}
 use Rattle.store_matrices.proofs.NumberLaws.{row-on, row-same, row-most}
 use Rattle.store_matrices.proofs.BodyLaws.{
   plain-bandwidth,
@@ -50,8 +50,8 @@ use Rattle.store_matrices.proofs.BodyLaws.{
 use Rattle.read_numbers.specs.declared.Note.{Note}
 use Rattle.read_numbers.specs.declared.Numbers.{Numbers}
 use Rattle.read_numbers.specs.declared.Pair.{Pair}
-use Rattle.read_numbers.specs.Noting.{Bounded, Adds, movedTo, namedTo, NotesNumbers, NotesPair}
-use Rattle.read_numbers.specs.Steps.{numbersOf, Stored, Stores, pairOf}
+use Rattle.read_numbers.specs.Way.Noting.{Bounded, Adds, movedTo, namedTo, NotesNumbers, NotesPair}
+use Rattle.read_numbers.specs.Way.Steps.{numbersOf, Stored, Stores, pairOf}
 use Rattle.read_numbers.proofs.InTextLaws.{ends-here, no-words, one-word, same-end, word-on}
 
 -- ---- the words of values, stored one after another

@@ -1,2 +1,1 @@
-pub mod Noting
-pub mod Steps
+pub mod Way

@@ -4,10 +4,10 @@ ghost use mathlib.Core.Path.{_≡_};
 ghost use mathlib.Core.Bool.{true, false};
 ghost use Prim.Native.Nat.{_+_, _≤_};
 ghost use Rattle.line_matrix.specs.Matrix.{sparse, mostValues};
-ghost use Rattle.read_line.specs.Walk.{contentAt};
-ghost use Rattle.store_matrices.specs.Numbers.{mostGiven};
-ghost use Rattle.read_numbers.specs.Noting.{NotesNumbers, NotesPair};
-ghost use Rattle.read_numbers.specs.Steps.{Stores, numbersOf, pairOf};
+ghost use Rattle.read_line.specs.Way.Walk.{contentAt};
+ghost use Rattle.store_matrices.specs.Way.Numbers.{mostGiven};
+ghost use Rattle.read_numbers.specs.Way.Noting.{NotesNumbers, NotesPair};
+ghost use Rattle.read_numbers.specs.Way.Steps.{Stores, numbersOf, pairOf};
 use store_matrices::Cursor;
 use store_matrices::First;
 

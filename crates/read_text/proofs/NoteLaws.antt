@@ -17,15 +17,15 @@ use Rattle.line_matrix.specs.declared.Matrix.{Matrix}
 use Rattle.line_keyword.specs.declared.Counts.{Counts}
 use Rattle.line_keyword.specs.declared.State.{State}
 use Rattle.read_line.specs.Reading.{atEnd}
-use Rattle.read_line.specs.Walk.{Reached}
+use Rattle.read_line.specs.Way.Walk.{Reached}
 use Rattle.read_line.specs.declared.Walk.{Walk}
 use Rattle.read_line.specs.declared.Reading.{Reading}
 use Rattle.read_line.specs.declared.Reading.the-variants.{Read, Refused}
-use Rattle.store_base.specs.Notes.{Note, noteAt, noteSize, Tells, wordsOf, Made}
-use Rattle.store_matrices.specs.Told.{toldOr}
+use Rattle.store_base.specs.Way.Notes.{Note, noteAt, noteSize, Tells, wordsOf, Made}
+use Rattle.store_matrices.specs.Way.Told.{toldOr}
 use Rattle.read_matrix.specs.declared.BodyWalk.{BodyWalk}
-use Rattle.read_matrix.specs.Body.{Behind, Goes, noteOf}
-use Rattle.read_text.specs.Forward.{Carries, mostMatrices, noteWords, notesAfter, notesBehind}
+use Rattle.read_matrix.specs.Way.Body.{Behind, Goes, noteOf}
+use Rattle.read_text.specs.Way.Forward.{Carries, mostMatrices, noteWords, notesAfter, notesBehind}
 
 -- ---- none at the start
 

@@ -1,1 +1,1 @@
-pub mod Forward
+pub mod Way

@@ -7,14 +7,14 @@ use Prim.Native.Nat.{ℕ, _+_, _-_, _≤_, _<_}
 use native.Mathlib.Omega.{arith}
 use lib.ListN.{length}
 use borrow.Author.Tests.{not-true, not-false}
-use Rattle.table_layout.specs.Filling.{Write, fillingAfter, Fits}
+use Rattle.table_layout.specs.Way.Filling.{Write, fillingAfter, Fits}
 use Rattle.table_layout.specs.declared.Filling.{Filling}
 use Rattle.table_layout.proofs.FillingLaws.{fits-first}
 use Rattle.doc.specs.Lines.{Line, plain, keyOf, linesAt, gather}
-use Rattle.doc.specs.Found.{lineIn, linesBehind, Located, IsPlain, Plainly, Meets}
+use Rattle.doc.specs.Way.Found.{lineIn, linesBehind, Located, IsPlain, Plainly, Meets}
 use Rattle.doc.specs.declared.Found.{Found}
 use Rattle.doc.proofs.PlainLaws.{plainly-quiet}
-use Rattle.store_base.specs.Stores.{Stores, Placed, Passes, Ready}
+use Rattle.store_base.specs.Way.Stores.{Stores, Placed, Passes, Ready}
 use Rattle.store_base.specs.declared.Walk.{Walk}
 use Rattle.store_base.proofs.StoreLaws.{Pending, pending-start, pending-step, pending-done, pending-same}
 use Rattle.store_base.proofs.LineLaws.{gather-none, gather-on}

@@ -9,12 +9,12 @@ use native.Mathlib.Omega.{arith}
 use lib.ListN.{length, take, drop, getD, replicate, length-drop, length-replicate, take-append-drop}
 use lib.Seq.{sets, length-take-le, take-append-le, drop-append-le, drop-append-add, drop-drop}
 use Rattle.table_layout.specs.Layout.{values}
-use Rattle.table_layout.specs.Filling.{Write, partOf, widthOf, position, fillingAfter, Fits}
+use Rattle.table_layout.specs.Way.Filling.{Write, partOf, widthOf, position, fillingAfter, Fits}
 use Rattle.table_layout.specs.declared.Filling.{Filling}
 use Rattle.table_layout.proofs.LiftLaws.{sets-zeros}
 use Rattle.table_layout.proofs.BehindLaws.{kept-behind}
-use Rattle.store_base.specs.Stores.{Stores}
-use Rattle.store_base.specs.Notes.{Note, noteAt, Tells, wordsOf, Made, Noted, Before}
+use Rattle.store_base.specs.Way.Stores.{Stores}
+use Rattle.store_base.specs.Way.Notes.{Note, noteAt, Tells, wordsOf, Made, Noted, Before}
 use Rattle.store_base.proofs.StoreLaws.{count-after, bases-kept}
 
 -- ---- moved up

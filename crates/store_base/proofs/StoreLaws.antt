@@ -12,10 +12,10 @@ use lib.Dec.{eqb}
 use borrow.Author.Tests.{eq-eqb, ne-eqb, eqb-true, eqb-false}
 use Rattle.base.proofs.IfLaws.{if-true, if-false, by-cases}
 use Rattle.table_layout.specs.Layout.{widths}
-use Rattle.table_layout.specs.Filling.{Write, partOf, widthOf, position, counted, tableAfter, fillingAfter, Fits}
+use Rattle.table_layout.specs.Way.Filling.{Write, partOf, widthOf, position, counted, tableAfter, fillingAfter, Fits}
 use Rattle.table_layout.specs.declared.Filling.{Filling}
 use Rattle.table_layout.proofs.FillingLaws.{after-append, filling-append, length-after, fits-first, fits-rest, fits-part, fits-width, fits-room, fits-next, kept-above}
-use Rattle.store_base.specs.Stores.{Stores}
+use Rattle.store_base.specs.Way.Stores.{Stores}
 
 -- ---- one record
 

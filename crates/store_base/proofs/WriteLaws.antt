@@ -13,7 +13,7 @@ use lib.Dec.{eqb}
 use borrow.Author.Tests.{ne-eqb, eqb-true, eqb-false}
 use Rattle.base.proofs.IfLaws.{if-true, if-false, by-cases}
 use Rattle.table_layout.specs.Layout.{models, steps, maps, pins, sections, matrices, values, widths}
-use Rattle.table_layout.specs.Filling.{Write, partOf, counted, fillingAfter}
+use Rattle.table_layout.specs.Way.Filling.{Write, partOf, counted, fillingAfter}
 use Rattle.table_layout.specs.declared.Filling.{Filling}
 use Rattle.table_layout.proofs.FillingLaws.{Below, Known}
 use Rattle.doc.specs.Document.{Named, Step, Model, Map, Value, Matrix, Section, Document}
@@ -44,7 +44,7 @@ use Rattle.doc.specs.Records.{
   valueWords,
   partsOf,
 }
-use Rattle.store_base.specs.Writes.{
+use Rattle.store_base.specs.Way.Writes.{
   pinWrite,
   mapWrite,
   mapWrites,

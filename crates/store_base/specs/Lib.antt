@@ -1,3 +1,1 @@
-pub mod Writes
-pub mod Stores
-pub mod Notes
+pub mod Way

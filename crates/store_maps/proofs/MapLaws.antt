@@ -12,19 +12,19 @@ use Rattle.line_place.specs.Place as place
 use Rattle.line_map.specs.PinMap.{newMap}
 use Rattle.line_map.specs.declared.Map as pin_map
 use Rattle.table_layout.specs.Layout.{widths}
-use Rattle.table_layout.specs.Filling.{Write, partOf, widthOf, position, counted, fillingAfter, Fits}
+use Rattle.table_layout.specs.Way.Filling.{Write, partOf, widthOf, position, counted, fillingAfter, Fits}
 use Rattle.table_layout.specs.declared.Filling.{Filling}
 use Rattle.table_layout.proofs.FillingLaws.{fits-first, fits-rest, length-after, filling-append}
 use Rattle.doc.specs.Lines.{linesAt, gather, argumentOf}
 use Rattle.doc.specs.Document.{Named, Map, mapOf, mapAt, pinAt, gridIn}
 use Rattle.doc.specs.Records.{mapRecord}
-use Rattle.doc.specs.Found.{markOf, lineIn, Located}
+use Rattle.doc.specs.Way.Found.{markOf, lineIn, Located}
 use Rattle.doc.specs.declared.Found.{Found}
 use Rattle.doc.specs.declared.Mark.{Mark}
 use Rattle.doc.proofs.PlainLaws.{plain-map}
-use Rattle.store_base.specs.Writes.{pinWrite, mapWrite, mapWrites, mapsWrites}
-use Rattle.store_base.specs.Stores.{Stores, Placed}
-use Rattle.store_maps.specs.Maps.{mapLines, pinWrites, ReadsMap, mapBelow, FillsMap, mapsOf}
+use Rattle.store_base.specs.Way.Writes.{pinWrite, mapWrite, mapWrites, mapsWrites}
+use Rattle.store_base.specs.Way.Stores.{Stores, Placed}
+use Rattle.store_maps.specs.Way.Maps.{mapLines, pinWrites, ReadsMap, mapBelow, FillsMap, mapsOf}
 use Rattle.store_maps.specs.declared.MapWalk.{MapWalk}
 use Rattle.store_base.proofs.StoreLaws.{put-asked, put-stored, stores-join, count-after, counts-kept, part-append}
 use Rattle.store_base.proofs.BlockLaws.{Storable}

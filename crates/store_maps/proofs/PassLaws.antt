@@ -14,21 +14,21 @@ use Rattle.base.proofs.IfLaws.{if-true, if-false, by-cases, both-first, both-se
 use Rattle.lex_keyword.specs.Names.{icmPinMap, beginIcmSection}
 use Rattle.line_place.specs.Place.{isInFamily, isInModel, moved, inFamily}
 use Rattle.line_place.specs.Place as place
-use Rattle.table_layout.specs.Filling.{Write, Fits}
+use Rattle.table_layout.specs.Way.Filling.{Write, Fits}
 use Rattle.table_layout.specs.declared.Filling.{Filling}
 use Rattle.doc.specs.Lines.{Line, plain, keyAt, keyOf, placeAfter, linesAt, significant, gather, upTo, argumentOf}
 use Rattle.doc.specs.Document.{Map, inMap, opensMap, mapOf, mapAt, opensSection, sectionAt, documentOf, documentIn}
-use Rattle.doc.specs.Found.{contentIn, lineIn, linesBehind, Located, IsPlain, Plainly, Meets}
+use Rattle.doc.specs.Way.Found.{contentIn, lineIn, linesBehind, Located, IsPlain, Plainly, Meets}
 use Rattle.doc.specs.declared.Found.{Found}
 use Rattle.doc.proofs.PlainLaws.{plain-map, plain-section, plainly-quiet}
-use Rattle.store_base.specs.Writes.{mapWrites, mapsWrites}
-use Rattle.store_base.specs.Stores.{Stores, Placed, Passes, Ready}
+use Rattle.store_base.specs.Way.Writes.{mapWrites, mapsWrites}
+use Rattle.store_base.specs.Way.Stores.{Stores, Placed, Passes, Ready}
 use Rattle.store_base.specs.declared.Walk.{Walk}
 use Rattle.store_base.proofs.StoreLaws.{stores-none}
 use Rattle.store_base.proofs.LineLaws.{gather-quiet, quiet}
 use Rattle.store_base.proofs.LateLaws.{late-quiet, late-map}
 use Rattle.store_base.proofs.BlockLaws.{BlocksLeft, blocks-start, blocks-done, blocks-end, block-fits, blocks-on, blocks-less}
-use Rattle.store_maps.specs.Maps.{mapLines, mapBelow, FillsMap, mapsOf, PassesMap, FillsMaps}
+use Rattle.store_maps.specs.Way.Maps.{mapLines, mapBelow, FillsMap, mapsOf, PassesMap, FillsMaps}
 use Rattle.store_maps.specs.declared.MapWalk.{MapWalk}
 use Rattle.store_maps.proofs.PinLaws.{map-plain}
 use Rattle.store_maps.proofs.MapLaws.{maps-none, maps-storable}

@@ -21,18 +21,18 @@ use Rattle.line_map.specs.PinMap.{mapLineOf, mapNext, newMap}
 use Rattle.line_map.specs.declared.Map as pin_map
 use Rattle.line_map.specs.declared.MapLine.{MapLine}
 use Rattle.table_layout.specs.Layout.{widths}
-use Rattle.table_layout.specs.Filling.{Write, widthOf, position, counted, Fits}
+use Rattle.table_layout.specs.Way.Filling.{Write, widthOf, position, counted, Fits}
 use Rattle.table_layout.specs.declared.Filling.{Filling}
 use Rattle.table_layout.proofs.FillingLaws.{fits-first}
 use Rattle.doc.specs.Lines.{Line, plain, keyAt, keyOf, placeAfter, linesAt, standsIn, gather, upTo, wordsOf, firstWord}
 use Rattle.doc.specs.Records.{pinRecord}
 use Rattle.doc.specs.Document.{Named, inMap, pinAt, gridIn}
-use Rattle.doc.specs.Found.{markOf, contentIn, lineIn, linesBehind, Located, Finds}
+use Rattle.doc.specs.Way.Found.{markOf, contentIn, lineIn, linesBehind, Located, Finds}
 use Rattle.doc.specs.declared.Found.{Found}
 use Rattle.doc.specs.declared.Mark.{Mark}
-use Rattle.store_base.specs.Writes.{pinWrite}
-use Rattle.store_base.specs.Stores.{Stores, Placed}
-use Rattle.store_maps.specs.Maps.{mapLines, mapLine, pinWrites, TakesMap, TakenMap, ReadsMap}
+use Rattle.store_base.specs.Way.Writes.{pinWrite}
+use Rattle.store_base.specs.Way.Stores.{Stores, Placed}
+use Rattle.store_maps.specs.Way.Maps.{mapLines, mapLine, pinWrites, TakesMap, TakenMap, ReadsMap}
 use Rattle.store_maps.specs.declared.MapWalk.{MapWalk}
 use Rattle.store_base.proofs.StoreLaws.{put-asked, put-stored, stores-none, Pending, pending-start, pending-step, pending-done, pending-same}
 use Rattle.store_base.proofs.LineLaws.{up-on, up-stops, up-none, Skipped, skipped-start, skipped-on, skipped-done, gather-none, gather-on}

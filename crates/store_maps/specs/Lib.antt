@@ -1,1 +1,1 @@
-pub mod Maps
+pub mod Way

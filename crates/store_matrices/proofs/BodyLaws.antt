@@ -30,23 +30,23 @@ use Rattle.lex_keyword.specs.Names.{row, bandwidth}
 use Rattle.line_place.specs.Place.{keepsMatrix}
 use Rattle.line_matrix.specs.Matrix.{sparse}
 use Rattle.read_line.specs.Reading.{argumentFrom}
-use Rattle.table_layout.specs.Filling.{Write, Fits}
+use Rattle.table_layout.specs.Way.Filling.{Write, Fits}
 use Rattle.table_layout.specs.declared.Filling.{Filling}
 use Rattle.table_layout.proofs.FillingLaws.{fits-first}
 use Rattle.doc.specs.Lines.{Line, plain, keyOf, argumentOf}
 use Rattle.doc.specs.Document.{Value, inMatrix, givenBy, bandwidthIn, numbersAt, sparseAt, valuesFrom, namedBy, greatestIn}
-use Rattle.doc.specs.Found.{contentIn, lineIn, Located}
+use Rattle.doc.specs.Way.Found.{contentIn, lineIn, Located}
 use Rattle.doc.specs.declared.Found.{Found}
-use Rattle.store_base.specs.Writes.{valueWrite}
+use Rattle.store_base.specs.Way.Writes.{valueWrite}
 use Rattle.store_base.proofs.StoreLaws.{stores-none}
 use Rattle.store_matrices.specs.declared.First.{First}
 use Rattle.store_matrices.specs.declared.Spot.{Spot}
 use Rattle.store_matrices.specs.declared.Placing.{Placing}
 use Rattle.store_matrices.specs.declared.MatrixWalk.{MatrixWalk}
-use Rattle.store_matrices.specs.Told.{firstTold, toldOr}
-use Rattle.store_matrices.specs.Numbers.{valueWrites, rowAfter, PutsNumbers, FillsNumbers, PutsSparse, FillsSparse}
+use Rattle.store_matrices.specs.Way.Told.{firstTold, toldOr}
+use Rattle.store_matrices.specs.Way.Numbers.{valueWrites, rowAfter, PutsNumbers, FillsNumbers, PutsSparse, FillsSparse}
 use Rattle.store_matrices.proofs.NumberLaws.{counted-on}
-use Rattle.store_matrices.specs.Matrices.{matrixLine, bodyWrites, withRow, withBandwidth, TakesLine, TakesData, TakenLine}
+use Rattle.store_matrices.specs.Way.Matrices.{matrixLine, bodyWrites, withRow, withBandwidth, TakesLine, TakesData, TakenLine}
 
 -- the first that tells something counts, whatever the rest tell
 pub told-first : (f : First) (n m : ℕ) → toldOr (firstTold f n) m ≡ toldOr f n

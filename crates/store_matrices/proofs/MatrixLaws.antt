@@ -18,24 +18,24 @@ use Rattle.line_matrix.specs.Matrix.{diagonal}
 use Rattle.line_argument.specs.Argument.{formOf}
 use Rattle.read_line.specs.Reading.{argumentFrom}
 use Rattle.table_layout.specs.Layout.{widths}
-use Rattle.table_layout.specs.Filling.{widthOf, position, counted, Fits}
+use Rattle.table_layout.specs.Way.Filling.{widthOf, position, counted, Fits}
 use Rattle.table_layout.specs.declared.Filling.{Filling}
 use Rattle.table_layout.proofs.FillingLaws.{fits-first, fits-rest, length-after}
 use Rattle.doc.specs.Lines.{Line, plain, keyAt, keyOf, argumentOf, placeAfter, linesAt, upTo}
 use Rattle.doc.specs.Document.{Matrix, inMatrix, valuesFrom, bandwidthIn, greatestIn, conductorsIn, matrixOf}
 use Rattle.doc.specs.Records.{matrixRecord}
-use Rattle.doc.specs.Found.{contentIn, lineIn, linesBehind, Located, Finds}
+use Rattle.doc.specs.Way.Found.{contentIn, lineIn, linesBehind, Located, Finds}
 use Rattle.doc.specs.declared.Found.{Found}
-use Rattle.store_base.specs.Writes.{matrixWrite, matrixWrites}
-use Rattle.store_base.specs.Stores.{Placed}
+use Rattle.store_base.specs.Way.Writes.{matrixWrite, matrixWrites}
+use Rattle.store_base.specs.Way.Stores.{Placed}
 use Rattle.store_base.proofs.StoreLaws.{put-asked, put-stored, stores-join, Pending, pending-start, pending-step, pending-done, pending-same}
 use Rattle.store_base.proofs.LineLaws.{up-on, up-stops, up-none, Skipped, skipped-start, skipped-on, skipped-done}
 use Rattle.store_base.proofs.WriteLaws.{values-stored}
 use Rattle.store_matrices.specs.declared.MatrixWalk.{MatrixWalk}
-use Rattle.store_matrices.specs.Told.{untold, toldOr}
-use Rattle.store_matrices.specs.Numbers.{Counted}
+use Rattle.store_matrices.specs.Way.Told.{untold, toldOr}
+use Rattle.store_matrices.specs.Way.Numbers.{Counted}
 use Rattle.store_matrices.proofs.BodyLaws.{fits-line}
-use Rattle.store_matrices.specs.Matrices.{
+use Rattle.store_matrices.specs.Way.Matrices.{
   matrixLines,
   matrixLine,
   bodyWrites,

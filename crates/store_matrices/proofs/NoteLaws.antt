@@ -16,18 +16,18 @@ use borrow.Author.Tests.{eqb-true, eqb-false, not-true}
 use Rattle.base.specs.If.{both}
 use Rattle.base.proofs.IfLaws.{if-true, both-first, both-second}
 use Rattle.table_layout.specs.Layout.{joined}
-use Rattle.table_layout.specs.Filling.{widthOf, position, counted, tableAfter, fillingAfter, Fits}
+use Rattle.table_layout.specs.Way.Filling.{widthOf, position, counted, tableAfter, fillingAfter, Fits}
 use Rattle.table_layout.specs.declared.Filling.{Filling}
 use Rattle.table_layout.proofs.FillingLaws.{fits-room, fits-next}
 use Rattle.doc.specs.Document.{Value, valuesFrom}
-use Rattle.store_base.specs.Writes.{valueWrite}
-use Rattle.store_base.specs.Stores.{Stores}
-use Rattle.store_base.specs.Notes.{valuesWords, Note, noteAt, noteValues, Tells, wordsOf, Noted}
+use Rattle.store_base.specs.Way.Writes.{valueWrite}
+use Rattle.store_base.specs.Way.Stores.{Stores}
+use Rattle.store_base.specs.Way.Notes.{valuesWords, Note, noteAt, noteValues, Tells, wordsOf, Noted}
 use Rattle.store_matrices.specs.declared.NoteWords.{NoteWords}
 use Rattle.store_matrices.specs.declared.MatrixWalk.{MatrixWalk}
-use Rattle.store_matrices.specs.Told.{toldOr}
-use Rattle.store_matrices.specs.Noted.{noteIn, isOf, notedWalk}
-use Rattle.store_matrices.specs.Matrices.{matrixLines, PutsValues, FillsValues}
+use Rattle.store_matrices.specs.Way.Told.{toldOr}
+use Rattle.store_matrices.specs.Way.Noted.{noteIn, isOf, notedWalk}
+use Rattle.store_matrices.specs.Way.Matrices.{matrixLines, PutsValues, FillsValues}
 
 -- ---- words that stand where they are stored
 

@@ -19,19 +19,19 @@ use Rattle.lex_line.specs.declared.Span.{Span}
 use Rattle.lex_line.proofs.WordLaws.{wordsAfter, after-at, after-none, after-past, end-past, word-within, first-marked, second-marked}
 use Rattle.lex_number.specs.Number.{numberOf}
 use Rattle.lex_number.specs.Integer.{wholeOf}
-use Rattle.lex_number.specs.At.{numberAt}
+use Rattle.lex_number.specs.Way.At.{numberAt}
 use Rattle.lex_number.specs.declared.Number.{Number}
 use Rattle.lex_number.specs.declared.NumberAt.{NumberAt}
 use Rattle.lex_number.specs.declared.Whole.{Whole}
 use Rattle.line_matrix.specs.Matrix.{diagonal}
 use Rattle.line_matrix.proofs.MatrixLaws.{placed-found, placed-number, marked-number, second-ends}
 use Rattle.table_layout.specs.Layout.{widths}
-use Rattle.table_layout.specs.Filling.{partOf, widthOf, position, counted, Fits}
+use Rattle.table_layout.specs.Way.Filling.{partOf, widthOf, position, counted, Fits}
 use Rattle.table_layout.specs.declared.Filling.{Filling}
 use Rattle.table_layout.proofs.FillingLaws.{fits-first}
 use Rattle.doc.specs.Document.{Value, wordIn, nextRow, numbersAt, sparseAt}
-use Rattle.store_base.specs.Writes.{valueWrite}
-use Rattle.store_base.specs.Stores.{Stores}
+use Rattle.store_base.specs.Way.Writes.{valueWrite}
+use Rattle.store_base.specs.Way.Stores.{Stores}
 use Rattle.store_base.proofs.StoreLaws.{
   put-asked,
   put-stored,
@@ -45,7 +45,7 @@ use Rattle.store_base.proofs.StoreLaws.{
 }
 use Rattle.store_matrices.specs.declared.Spot.{Spot}
 use Rattle.store_matrices.specs.declared.Cursor.{Cursor}
-use Rattle.store_matrices.specs.Numbers.{
+use Rattle.store_matrices.specs.Way.Numbers.{
   Counted,
   numberHere,
   cursorOf,

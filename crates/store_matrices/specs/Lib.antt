@@ -1,4 +1,1 @@
-pub mod Told
-pub mod Numbers
-pub mod Matrices
-pub mod Noted
+pub mod Way

@@ -18,21 +18,21 @@ use Rattle.line_head.specs.declared.Head.{Head}
 use Rattle.line_head.specs.declared.HeadLine.{HeadLine}
 use Rattle.line_path.specs.Path.{sayingOf}
 use Rattle.line_path.specs.Path as path
-use Rattle.table_layout.specs.Filling.{fillingAfter, Fits}
+use Rattle.table_layout.specs.Way.Filling.{fillingAfter, Fits}
 use Rattle.table_layout.specs.declared.Filling.{Filling}
 use Rattle.table_layout.proofs.FillingLaws.{fits-first, fits-rest}
 use Rattle.doc.specs.Lines.{Line, plain, keyOf, placeAfter, linesAt, standsIn, gather, upTo}
 use Rattle.doc.specs.Document.{Step, headIn, sayingAt, sideIn, stepOf, stepsIn, inModel}
-use Rattle.doc.specs.Found.{contentIn, lineIn, linesBehind, Located}
+use Rattle.doc.specs.Way.Found.{contentIn, lineIn, linesBehind, Located}
 use Rattle.doc.specs.declared.Found.{Found}
 use Rattle.doc.proofs.OrderLaws.{maps-behind}
-use Rattle.store_steps.specs.Steps.{stepIn, stepWrites, lowOf, stepsAt, Told}
+use Rattle.store_steps.specs.Way.Steps.{stepIn, stepWrites, lowOf, stepsAt, Told}
 use Rattle.store_steps.proofs.StepLaws.{path-stays}
 use Rattle.store_steps.proofs.AimLaws.{bases-kept, low-same, steps-below, aims-kept}
-use Rattle.store_base.specs.Stores.{Stores}
+use Rattle.store_base.specs.Way.Stores.{Stores}
 use Rattle.store_base.proofs.StoreLaws.{stores-none}
 use Rattle.store_base.proofs.LineLaws.{up-on, up-stops, up-none, gather-on}
-use Rattle.store_models.specs.Models.{modelLines, modelSteps, linesLeft, Open, Next, OnPath, Taken, Reached}
+use Rattle.store_models.specs.Way.Models.{modelLines, modelSteps, linesLeft, Open, Next, OnPath, Taken, Reached}
 use Rattle.store_models.specs.declared.ModelWalk.{ModelWalk}
 
 -- ---- a line by its place

@@ -10,22 +10,22 @@ use Rattle.line_place.specs.Place as place
 use Rattle.line_head.specs.Head.{newHead}
 use Rattle.line_head.specs.declared.Head.{Head}
 use Rattle.table_layout.specs.Layout.{widths}
-use Rattle.table_layout.specs.Filling.{Write, widthOf, position, counted, fillingAfter, Fits}
+use Rattle.table_layout.specs.Way.Filling.{Write, widthOf, position, counted, fillingAfter, Fits}
 use Rattle.table_layout.specs.declared.Filling.{Filling}
 use Rattle.table_layout.proofs.FillingLaws.{fits-first, fits-rest, length-after, filling-append}
 use Rattle.doc.specs.Lines.{linesAt, argumentOf}
 use Rattle.doc.specs.Document.{Model, documentOf, headIn, stepsIn, modelOf, modelAt}
 use Rattle.doc.specs.Records.{modelRecord}
-use Rattle.doc.specs.Found.{markOf, lineIn}
+use Rattle.doc.specs.Way.Found.{markOf, lineIn}
 use Rattle.doc.specs.declared.Found.{Found}
 use Rattle.doc.specs.declared.Mark.{Mark}
-use Rattle.store_steps.specs.Steps.{lowOf}
+use Rattle.store_steps.specs.Way.Steps.{lowOf}
 use Rattle.doc.proofs.PlainLaws.{plain-model}
-use Rattle.store_base.specs.Writes.{modelWrite, modelWrites, modelsWrites}
+use Rattle.store_base.specs.Way.Writes.{modelWrite, modelWrites, modelsWrites}
 use Rattle.store_base.proofs.StoreLaws.{put-asked, put-stored, stores-join, counts-kept}
 use Rattle.store_base.proofs.WriteLaws.{steps-stored, steps-counted}
 use Rattle.store_base.proofs.BlockLaws.{Storable}
-use Rattle.store_models.specs.Models.{modelsOf, modelLines, modelSteps, Open, ReadsModel, modelBelow, modelIn, FitsModel, FillsModel}
+use Rattle.store_models.specs.Way.Models.{modelsOf, modelLines, modelSteps, Open, ReadsModel, modelBelow, modelIn, FitsModel, FillsModel}
 use Rattle.store_models.specs.declared.ModelWalk.{ModelWalk}
 
 -- ---- one model

@@ -14,24 +14,24 @@ use Rattle.base.proofs.IfLaws.{if-true, if-false, by-cases, both-first, both-se
 use Rattle.lex_keyword.specs.Names.{beginIcmModel}
 use Rattle.line_place.specs.Place.{isInFamily, isInModel, moved, inFamily}
 use Rattle.line_place.specs.Place as place
-use Rattle.table_layout.specs.Filling.{widthOf, Fits}
+use Rattle.table_layout.specs.Way.Filling.{widthOf, Fits}
 use Rattle.table_layout.specs.declared.Filling.{Filling}
 use Rattle.table_layout.proofs.FillingLaws.{fits-wider}
 use Rattle.doc.specs.Lines.{Line, plain, keyAt, keyOf, placeAfter, linesAt, significant, gather, argumentOf}
 use Rattle.doc.specs.Document.{inModel, opensModel, modelOf, modelAt, documentOf, documentIn}
-use Rattle.doc.specs.Found.{contentIn, lineIn, linesBehind, Plainly, Meets}
+use Rattle.doc.specs.Way.Found.{contentIn, lineIn, linesBehind, Plainly, Meets}
 use Rattle.doc.specs.declared.Found.{Found}
-use Rattle.store_steps.specs.Steps.{lowOf, Aims}
+use Rattle.store_steps.specs.Way.Steps.{lowOf, Aims}
 use Rattle.store_steps.proofs.AimLaws.{bases-kept, low-same, aims-kept}
-use Rattle.store_base.specs.Writes.{modelsWrites}
-use Rattle.store_base.specs.Stores.{Stores}
+use Rattle.store_base.specs.Way.Writes.{modelsWrites}
+use Rattle.store_base.specs.Way.Stores.{Stores}
 use Rattle.store_base.specs.declared.Walk.{Walk}
 use Rattle.store_base.proofs.StoreLaws.{stores-none}
 use Rattle.store_base.proofs.LineLaws.{quiet}
 use Rattle.store_base.proofs.LateLaws.{late-quiet, late-model}
 use Rattle.store_base.proofs.WriteLaws.{models-below}
 use Rattle.store_base.proofs.BlockLaws.{BlocksLeft, blocks-start, blocks-done, blocks-end, block-fits, blocks-on, blocks-less}
-use Rattle.store_models.specs.Models.{
+use Rattle.store_models.specs.Way.Models.{
   modelsOf,
   Last,
   modelLines,

@@ -21,17 +21,17 @@ use Rattle.lex_keyword.specs.declared.Bracket.the-variants.{Plain}
 use Rattle.line_place.specs.Place.{isInModel}
 use Rattle.line_place.specs.Place as place
 use Rattle.line_path.specs.Path.{sayingOf}
-use Rattle.line_path.specs.Usual.{multFront, UsualSection, UsualFork, forks, ends}
-use Rattle.table_layout.specs.Filling.{counted}
+use Rattle.line_path.specs.Way.Usual.{multFront, UsualSection, UsualFork, forks, ends}
+use Rattle.table_layout.specs.Way.Filling.{counted}
 use Rattle.table_layout.specs.declared.Filling.{Filling}
 use Rattle.doc.specs.Lines.{plain, linesAt}
-use Rattle.doc.specs.Found.{contentIn, Finds}
+use Rattle.doc.specs.Way.Found.{contentIn, Finds}
 use Rattle.doc.specs.declared.Found.{Found}
 use Rattle.doc.proofs.FoundLaws.{search-starts, search-finds, content-ordered, content-inside, search-less}
-use Rattle.store_base.specs.Stores.{Stores}
-use Rattle.store_steps.specs.Steps.{stepWrites, stepsAt}
-use Rattle.store_steps.specs.Usual.{Usual, single, pair, Usable, Put, Puts}
-use Rattle.store_models.specs.Models.{movedTo, Open, Next, OnPath, Taken, Continued, Reached}
+use Rattle.store_base.specs.Way.Stores.{Stores}
+use Rattle.store_steps.specs.Way.Steps.{stepWrites, stepsAt}
+use Rattle.store_steps.specs.Way.Usual.{Usual, single, pair, Usable, Put, Puts}
+use Rattle.store_models.specs.Way.Models.{movedTo, Open, Next, OnPath, Taken, Continued, Reached}
 use Rattle.store_models.specs.declared.ModelWalk.{ModelWalk}
 use Rattle.store_models.proofs.LineLaws.{next-says, step-taken, taken-reached}
 use Rattle.store_models.proofs.WalkLaws.{walk-joins, walk-long}

@@ -12,17 +12,17 @@ use Rattle.line_place.specs.Place.{isInModel}
 use Rattle.line_place.specs.Place as place
 use Rattle.line_head.specs.Head.{newHead}
 use Rattle.line_head.specs.declared.Head.{Head}
-use Rattle.table_layout.specs.Filling.{Write}
+use Rattle.table_layout.specs.Way.Filling.{Write}
 use Rattle.table_layout.specs.declared.Filling.{Filling}
 use Rattle.table_layout.proofs.FillingLaws.{length-after}
 use Rattle.doc.specs.Lines.{Line, linesAt, gather}
 use Rattle.doc.specs.Document.{headIn, stepOf, stepsIn, inModel}
-use Rattle.doc.specs.Found.{lineIn, linesBehind, Finds}
+use Rattle.doc.specs.Way.Found.{lineIn, linesBehind, Finds}
 use Rattle.doc.specs.declared.Found.{Found}
-use Rattle.store_steps.specs.Steps.{stepWrites}
+use Rattle.store_steps.specs.Way.Steps.{stepWrites}
 use Rattle.store_base.proofs.StoreLaws.{stores-none, stores-join}
 use Rattle.store_base.proofs.LineLaws.{up-none, up-stops}
-use Rattle.store_models.specs.Models.{modelLines, modelSteps, linesLeft, Open, Next, Continued, Reached, ReadsModel}
+use Rattle.store_models.specs.Way.Models.{modelLines, modelSteps, linesLeft, Open, Next, Continued, Reached, ReadsModel}
 use Rattle.store_models.specs.declared.ModelWalk.{ModelWalk}
 
 module _ (t : List ℕ) where

@@ -1,1 +1,1 @@
-pub mod Models
+pub mod Way

@@ -21,19 +21,19 @@ use Rattle.table_layout.specs.declared.Filling.{Filling}
 use Rattle.doc.specs.Lines.{Line, plain, keyAt, keyOf, argumentOf, placeAfter, linesAt, upTo}
 use Rattle.doc.specs.Document.{Matrix, conductorsOf, kindOf, inMatrix, opensMatrixAt, matrixOf, matrixAt, methodIn}
 use Rattle.doc.specs.Records.{placeOf}
-use Rattle.doc.specs.Found.{contentIn, lineIn, linesBehind, Located}
+use Rattle.doc.specs.Way.Found.{contentIn, lineIn, linesBehind, Located}
 use Rattle.doc.specs.declared.Found.{Found}
-use Rattle.store_base.specs.Writes.{matrixWrites, matricesWrites}
+use Rattle.store_base.specs.Way.Writes.{matrixWrites, matricesWrites}
 use Rattle.store_base.proofs.StoreLaws.{stores-none, counts-kept}
 use Rattle.store_base.proofs.LineLaws.{up-none}
 use Rattle.store_base.proofs.WriteLaws.{matrix-counted}
-use Rattle.store_matrices.specs.Told.{firstTold, toldOr}
+use Rattle.store_matrices.specs.Way.Told.{firstTold, toldOr}
 use Rattle.store_matrices.specs.declared.First.{First}
 use Rattle.store_matrices.specs.declared.Stored.{Stored}
-use Rattle.store_matrices.specs.Matrices.{formBelow, matrixBelow, PutsMatrix, FillsMatrix}
+use Rattle.store_matrices.specs.Way.Matrices.{formBelow, matrixBelow, PutsMatrix, FillsMatrix}
 use Rattle.store_matrices.proofs.BodyLaws.{told-first}
 use Rattle.store_sections.specs.declared.SectionWalk.{SectionWalk}
-use Rattle.store_sections.specs.Section.{
+use Rattle.store_sections.specs.Way.Section.{
   kindsWith,
   keptOr,
   methodAt,

@@ -14,25 +14,25 @@ use Rattle.base.proofs.IfLaws.{if-true, if-false, both-first, both-second}
 use Rattle.lex_keyword.specs.Names.{beginIcmSection}
 use Rattle.line_place.specs.Place.{moved, afterFamily}
 use Rattle.line_place.specs.Place as place
-use Rattle.table_layout.specs.Filling.{Write, fillingAfter}
+use Rattle.table_layout.specs.Way.Filling.{Write, fillingAfter}
 use Rattle.table_layout.specs.declared.Filling.{Filling}
 use Rattle.table_layout.proofs.FillingLaws.{filling-append}
 use Rattle.doc.specs.Lines.{Line, keyAt, keyOf, argumentOf, placeAfter, linesAt, gather, upTo}
 use Rattle.doc.specs.Document.{Section, inSection, opensSection, sectionOf, sectionAt}
-use Rattle.doc.specs.Found.{contentIn, lineIn, linesBehind, Meets}
+use Rattle.doc.specs.Way.Found.{contentIn, lineIn, linesBehind, Meets}
 use Rattle.doc.specs.declared.Found.{Found}
 use Rattle.doc.proofs.PassLaws.{section-blocks}
 use Rattle.doc.proofs.PlainLaws.{plain-section}
-use Rattle.store_base.specs.Writes.{valuesCount, sectionWrites, sectionsWrites}
-use Rattle.store_base.specs.Stores.{Passes, Ready}
+use Rattle.store_base.specs.Way.Writes.{valuesCount, sectionWrites, sectionsWrites}
+use Rattle.store_base.specs.Way.Stores.{Passes, Ready}
 use Rattle.store_base.specs.declared.Walk.{Walk}
 use Rattle.store_base.proofs.StoreLaws.{stores-none, counts-kept}
 use Rattle.store_base.proofs.LineLaws.{quiet}
 use Rattle.store_base.proofs.NoteLaws.{noted-kept}
 use Rattle.store_base.proofs.WriteLaws.{section-matrices-counted, section-values-counted}
 use Rattle.store_base.proofs.BlockLaws.{Storable, BlocksLeft, block-fits}
-use Rattle.store_sections.specs.Section.{sectionBelow, PutsSection, FillsSection}
-use Rattle.store_sections.specs.Sections.{sectionsOf}
+use Rattle.store_sections.specs.Way.Section.{sectionBelow, PutsSection, FillsSection}
+use Rattle.store_sections.specs.Way.Sections.{sectionsOf}
 use Rattle.store_sections.proofs.SectionLaws.{NotedOf}
 
 -- ---- what is stored of sections

@@ -16,26 +16,26 @@ use Rattle.lex_keyword.specs.Names.{row, bandwidth, derivationMethod}
 use Rattle.line_place.specs.Place.{opensMatrix, keepsMatrix}
 use Rattle.line_place.specs.Place as place
 use Rattle.table_layout.specs.Layout.{widths}
-use Rattle.table_layout.specs.Filling.{Write, widthOf, position, counted, fillingAfter, Fits}
+use Rattle.table_layout.specs.Way.Filling.{Write, widthOf, position, counted, fillingAfter, Fits}
 use Rattle.table_layout.specs.declared.Filling.{Filling}
 use Rattle.table_layout.proofs.FillingLaws.{fits-first, fits-rest, length-after}
 use Rattle.doc.specs.Lines.{Line, plain, keyOf, argumentOf, linesAt, gather, upTo}
 use Rattle.doc.specs.Document.{Matrix, Section, conductorsOf, inMatrix, opensMatrixAt, matrixAt, inSection, methodIn, sectionOf}
 use Rattle.doc.specs.Records.{placeOf, sectionRecord}
-use Rattle.doc.specs.Found.{markOf, lineIn, linesBehind, Located, Finds}
+use Rattle.doc.specs.Way.Found.{markOf, lineIn, linesBehind, Located, Finds}
 use Rattle.doc.specs.declared.Found.{Found}
 use Rattle.doc.specs.declared.Mark.{Mark}
 use Rattle.doc.proofs.PassLaws.{section-blocks}
-use Rattle.store_base.specs.Writes.{valuesCount, matrixWrites, matricesWrites, sectionWrite, sectionWrites}
-use Rattle.store_base.specs.Stores.{Placed}
-use Rattle.store_base.specs.Notes.{Noted}
+use Rattle.store_base.specs.Way.Writes.{valuesCount, matrixWrites, matricesWrites, sectionWrite, sectionWrites}
+use Rattle.store_base.specs.Way.Stores.{Placed}
+use Rattle.store_base.specs.Way.Notes.{Noted}
 use Rattle.store_base.proofs.StoreLaws.{put-asked, put-stored, stores-join, Pending, pending-start, pending-step, pending-done, pending-same}
 use Rattle.store_base.proofs.LineLaws.{up-on, up-stops, up-none, Skipped, skipped-start, skipped-on, skipped-done, gather-on, quiet}
 use Rattle.store_base.proofs.NoteLaws.{noted-kept}
 use Rattle.store_base.proofs.WriteLaws.{values-counted}
-use Rattle.store_matrices.specs.Told.{toldOr}
+use Rattle.store_matrices.specs.Way.Told.{toldOr}
 use Rattle.store_sections.specs.declared.SectionWalk.{SectionWalk}
-use Rattle.store_sections.specs.Section.{
+use Rattle.store_sections.specs.Way.Section.{
   keptOr,
   matricesFrom,
   sectionLine,

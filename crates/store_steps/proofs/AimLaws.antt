@@ -7,13 +7,13 @@ use native.Mathlib.Omega.{arith}
 use lib.ListN.{length, drop, getD}
 use lib.Seq.{drop-drop, getD-set-other}
 use Rattle.table_layout.specs.Layout.{maps, sections, chopped}
-use Rattle.table_layout.specs.Filling.{Write, counted, tableAfter, fillingAfter, Fits}
+use Rattle.table_layout.specs.Way.Filling.{Write, counted, tableAfter, fillingAfter, Fits}
 use Rattle.table_layout.specs.declared.Filling.{Filling}
 use Rattle.table_layout.proofs.FillingLaws.{length-after, kept-above, Below}
 use Rattle.doc.specs.Document.{Step}
-use Rattle.store_base.specs.Writes.{stepWrite}
-use Rattle.store_base.specs.Stores.{Stores}
-use Rattle.store_steps.specs.Steps.{stepIn, stepWrites, lowOf, Aims}
+use Rattle.store_base.specs.Way.Writes.{stepWrite}
+use Rattle.store_base.specs.Way.Stores.{Stores}
+use Rattle.store_steps.specs.Way.Steps.{stepIn, stepWrites, lowOf, Aims}
 
 pub bases-kept : (ws : List Write) (f : Filling) → fillingAfter ws f .bases ≡ f .bases
 unfolding fillingAfter counted

@@ -14,23 +14,23 @@ use Rattle.lex_line.specs.Words.{Word, wordsFrom}
 use Rattle.line_place.specs.Place.{movedByLine}
 use Rattle.line_place.specs.Place as place
 use Rattle.table_layout.specs.Layout.{widths}
-use Rattle.table_layout.specs.Filling.{widthOf, position, counted}
+use Rattle.table_layout.specs.Way.Filling.{widthOf, position, counted}
 use Rattle.table_layout.specs.declared.Filling.{Filling}
 use Rattle.doc.specs.Lines.{plain, keyAt, placeAfter, linesAt, wordsOf, rightWordsOf, noWord, secondWord}
 use Rattle.doc.specs.Document.{Step, Map, documentOf, amountOf, sayingAt, sideIn, stepOf}
 use Rattle.doc.specs.Records.{indexOf, targetOf, stepRecord}
 use Rattle.doc.specs.Holds.{Each, Stands}
 use Rattle.doc.specs.Holds.Each.{none, more}
-use Rattle.doc.specs.Found.{markOf, contentIn, linesBehind}
+use Rattle.doc.specs.Way.Found.{markOf, contentIn, linesBehind}
 use Rattle.doc.specs.declared.Found.{Found}
 use Rattle.doc.specs.declared.Mark.{Mark}
 use Rattle.doc.proofs.StandsLaws.{LineStands, second-word-stands, right-word-stands, MapStands, all-stand}
 use Rattle.table_name.specs.Name.{nameAt, isNamed, findIn}
 use Rattle.table_name.proofs.NameLaws.{Ordered, find-map, find-section}
-use Rattle.store_base.specs.Writes.{stepWrite}
-use Rattle.store_base.specs.Stores.{Stores}
+use Rattle.store_base.specs.Way.Writes.{stepWrite}
+use Rattle.store_base.specs.Way.Stores.{Stores}
 use Rattle.store_base.proofs.StoreLaws.{put-asked, put-stored, stores-none}
-use Rattle.store_steps.specs.Steps.{
+use Rattle.store_steps.specs.Way.Steps.{
   pathLine,
   pathBehind,
   endStep,

@@ -15,18 +15,18 @@ use Rattle.lex_line.proofs.WordLaws.{words-at}
 use Rattle.lex_number.specs.Integer.{wholeOf}
 use Rattle.lex_number.specs.declared.Whole.{Whole}
 use Rattle.line_path.specs.Path.{sayingOf, isMult}
-use Rattle.line_path.specs.Usual.{Paired, UsualSection, UsualFork, forks, ends}
+use Rattle.line_path.specs.Way.Usual.{Paired, UsualSection, UsualFork, forks, ends}
 use Rattle.line_path.proofs.UsualLaws.{opens-says, opens-equals, opens-is-mult, usual-right, usual-within, fork-says}
-use Rattle.table_layout.specs.Filling.{widthOf, position, counted}
+use Rattle.table_layout.specs.Way.Filling.{widthOf, position, counted}
 use Rattle.table_layout.specs.declared.Filling.{Filling}
 use Rattle.doc.specs.Lines.{rightWordsOf, secondWord}
 use Rattle.doc.specs.Document.{amountOf}
-use Rattle.doc.specs.Found.{contentIn}
+use Rattle.doc.specs.Way.Found.{contentIn}
 use Rattle.doc.specs.declared.Found.{Found}
 use Rattle.table_name.specs.Name.{findIn}
-use Rattle.store_base.specs.Stores.{Stores}
-use Rattle.store_steps.specs.Steps.{pathLine, sectionStep, forkStep, targetIn, stepWrites, Says, Told, stepsAt}
-use Rattle.store_steps.specs.Usual.{Usual, single, pair, Usable, Put, Puts, Forking, Pairing}
+use Rattle.store_base.specs.Way.Stores.{Stores}
+use Rattle.store_steps.specs.Way.Steps.{pathLine, sectionStep, forkStep, targetIn, stepWrites, Says, Told, stepsAt}
+use Rattle.store_steps.specs.Way.Usual.{Usual, single, pair, Usable, Put, Puts, Forking, Pairing}
 use Rattle.store_steps.proofs.StepLaws.{
   section-named,
   step-asked,

@@ -34,10 +34,10 @@ use Rattle.line_path.specs.Path.{sayingOf, isMult}
 use Rattle.line_path.specs.Path as path
 use Rattle.doc.specs.Lines.{plain, keyOf, linesAt, wordsOf, rightWordsOf, noWord, secondWord, standsIn}
 use Rattle.doc.specs.Document.{wordIn, sayingAt, amountOf, sideIn}
-use Rattle.doc.specs.Found.{markOf, contentIn, Located, Finds}
+use Rattle.doc.specs.Way.Found.{markOf, contentIn, Located, Finds}
 use Rattle.doc.specs.declared.Found.{Found}
 use Rattle.doc.specs.declared.Mark.{Mark}
-use Rattle.store_steps.specs.Steps.{pathLine}
+use Rattle.store_steps.specs.Way.Steps.{pathLine}
 
 -- what is not other than a number is that number
 eq-of-not-not : (m n : ℕ) → ((m ≡ n → ⊥) → ⊥) → m ≡ n

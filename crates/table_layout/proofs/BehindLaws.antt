@@ -14,7 +14,7 @@ use borrow.Author.Tests.{eqb-true, eqb-false}
 use Rattle.base.proofs.IfLaws.{by-cases}
 use Rattle.table_layout.specs.declared.Filling.{Filling}
 use Rattle.table_layout.specs.Layout.{widths, values}
-use Rattle.table_layout.specs.Filling.{Write, partOf, widthOf, position, counted, tableAfter, fillingAfter, Fits, Apart}
+use Rattle.table_layout.specs.Way.Filling.{Write, partOf, widthOf, position, counted, tableAfter, fillingAfter, Fits, Apart}
 use Rattle.table_layout.proofs.FillingLaws.{kept-above, part-here, part-there}
 
 -- ---- runs of stores that lie apart, and one over another

@@ -10,7 +10,7 @@ use native.Mathlib.Omega.{arith}
 use lib.ListN.{length, drop, getD, set, replicate, length-append, length-replicate, length-set, replicate-append-replicate, drop-of-length-le}
 use lib.Seq.{sets, drop-cons, set-at}
 use Rattle.table_layout.specs.Layout.{widths, values, needed}
-use Rattle.table_layout.specs.Filling.{headed, basesFrom, opened}
+use Rattle.table_layout.specs.Way.Filling.{headed, basesFrom, opened}
 use Rattle.table_layout.proofs.FillingLaws.{begin, end, ends-below, ends-last}
 use Rattle.table_layout.proofs.BehindLaws.{set-sets}
 

@@ -1,3 +1,3 @@
 pub mod Layout
-pub mod Filling
 pub mod View
+pub mod Way

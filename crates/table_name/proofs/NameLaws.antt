@@ -13,7 +13,7 @@ use Rattle.base.specs.Runs.{same}
 use Rattle.base.proofs.IfLaws.{both-rest}
 use Rattle.lex_line.specs.Words.{Word}
 use Rattle.table_layout.specs.Layout.{widths, maps, sections, layout, chopped}
-use Rattle.table_layout.specs.Filling.{basesFrom}
+use Rattle.table_layout.specs.Way.Filling.{basesFrom}
 use Rattle.table_layout.proofs.LayoutLaws.{part-stands}
 use Rattle.doc.specs.Document.{Step, Map, Section, Document}
 use Rattle.doc.specs.Records.{

@@ -11,7 +11,7 @@ use lib.Seq.{drop-drop, take-take, take-nil, getD-take, getD-drop}
 use lib.Dec.{eqb}
 use borrow.Author.Tests.{eq-eqb, eqb-false, not-true}
 use Rattle.base.specs.Runs.{same}
-use Rattle.base.specs.Joined.{joined, Joins}
+use Rattle.base.specs.Way.Joined.{joined, Joins}
 use Rattle.base.proofs.IfLaws.{by-cases}
 use Rattle.base.proofs.RunLaws.{same-equal}
 use Rattle.table_name.specs.Name.{nameAt, Tails}

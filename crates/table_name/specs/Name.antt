@@ -8,7 +8,7 @@ use lib.ListN.{length, take, drop, getD}
 use lib.Dec.{leb}
 use Rattle.base.specs.If.{both}
 use Rattle.base.specs.Runs.{same}
-use Rattle.base.specs.Joined.{Joins}
+use Rattle.base.specs.Way.Joined.{Joins}
 use Rattle.table_layout.specs.Layout.{chopped}
 use Rattle.doc.specs.Records.{indexOf}
 

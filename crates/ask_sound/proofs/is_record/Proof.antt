@@ -1,7 +1,7 @@
 -- `ask_sound::is_record` meets its contract: each `return` by the tests that led there.
 -- Assumes nothing.
 use Rattle.base.proofs.IfLaws.{chain}
-use Rattle.ask_sound.specs.Standing.{isRecord}
+use Rattle.ask_sound.specs.Way.Standing.{isRecord}
 use Rattle.ask_sound.proofs.RecordLaws.{model-fits, step-fits, map-fits, pin-fits, section-fits-in, matrix-fits, matrix-record, value-fits, value-record}
 use borrow.Author.Needs.{needs}
 use Rattle.ask_sound.proofs.is_record.Statement.{statement}

@@ -1,7 +1,7 @@
 -- `cross_models::model_rule` meets its contract.
 -- Assumes nothing.
 use Rattle.base.proofs.BrokenLaws.{rules}
-use Rattle.cross_models.specs.Models.{modelRuleAt}
+use Rattle.cross_models.specs.Way.Models.{modelRuleAt}
 use borrow.Author.Needs.{needs}
 use Rattle.cross_models.proofs.model_rule.Statement.{statement}
 use Rattle.cross_models.proofs.model_rule.Tie as tie

@@ -1,7 +1,7 @@
 -- `cross_models::past_lines` meets its contract. The loop's invariant: the lines passed over are numbered below the one wanted.
 -- Assumes nothing.
 use Rattle.cross_models.proofs.CursorLaws.{pass-starts, pass-on}
-use Rattle.cross_models.specs.Cursor.{Seeks}
+use Rattle.cross_models.specs.Way.Cursor.{Seeks}
 use Prim.Native.Nat.{_-_}
 use borrow.Author.Needs.{needs}
 use Rattle.cross_models.proofs.past_lines.Statement.{statement}

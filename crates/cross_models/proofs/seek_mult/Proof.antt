@@ -4,7 +4,7 @@ use borrow.Author.Needs.{needs}
 use Prim.Native.Nat.{_-_}
 use native.Mathlib.Omega.{arith}
 use lib.ListN.{length}
-use Rattle.cross_models.specs.Cursor.{Seeks}
+use Rattle.cross_models.specs.Way.Cursor.{Seeks}
 use Rattle.cross_models.proofs.CursorLaws.{seek-ends, located, number-small, seek-less, seek-missed, seek-found, seek-on}
 use Rattle.cross_models.proofs.seek_mult.Statement.{statement}
 use Rattle.cross_models.proofs.seek_mult.Tie as tie

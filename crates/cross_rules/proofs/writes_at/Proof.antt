@@ -1,7 +1,7 @@
 -- `cross_rules::writes_at` meets its contract.
 -- Assumes nothing.
 use Rattle.base.proofs.IfLaws.{chain}
-use Rattle.cross_rules.specs.Nth.{writesAt}
+use Rattle.cross_rules.specs.Way.Nth.{writesAt}
 use borrow.Author.Needs.{needs}
 use Rattle.cross_rules.proofs.writes_at.Statement.{statement}
 use Rattle.cross_rules.proofs.writes_at.Tie as tie

@@ -1,7 +1,7 @@
 -- `cross_steps::clash` meets its contract.
 -- Assumes nothing.
 use Rattle.base.proofs.IfLaws.{chain}
-use Rattle.cross_steps.specs.StepWords.{clashAt}
+use Rattle.cross_steps.specs.Way.StepWords.{clashAt}
 use Rattle.cross_steps.proofs.WordLaws.{sides-told}
 use borrow.Author.Needs.{needs}
 use Rattle.cross_steps.proofs.clash.Statement.{statement}

@@ -2,7 +2,7 @@
 -- Assumes nothing.
 use borrow.Author.Needs.{needs}
 use Prim.Native.Nat.{_-_}
-use Rattle.cross_steps.specs.StepWords.{firstTarget}
+use Rattle.cross_steps.specs.Way.StepWords.{firstTarget}
 use Rattle.cross_steps.proofs.WordLaws.{Left, left-starts, target-none, target-found, target-on}
 use Rattle.cross_steps.proofs.first_target.Statement.{statement}
 use Rattle.cross_steps.proofs.first_target.Tie as tie

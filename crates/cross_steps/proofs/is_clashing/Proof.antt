@@ -2,7 +2,7 @@
 -- Assumes nothing.
 use borrow.Author.Needs.{needs}
 use Prim.Native.Nat.{_-_}
-use Rattle.cross_steps.specs.StepWords.{meetsAbove}
+use Rattle.cross_steps.specs.Way.StepWords.{meetsAbove}
 use Rattle.cross_steps.proofs.WordLaws.{Left, left-starts, meets-ends, meets-found, meets-on}
 use Rattle.cross_steps.proofs.is_clashing.Statement.{statement}
 use Rattle.cross_steps.proofs.is_clashing.Tie as tie

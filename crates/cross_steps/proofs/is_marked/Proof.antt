@@ -2,7 +2,7 @@
 -- Assumes nothing.
 use borrow.Author.Needs.{needs}
 use Rattle.base.proofs.IfLaws.{chain}
-use Rattle.cross_steps.specs.Marks.{isMarked}
+use Rattle.cross_steps.specs.Way.Marks.{isMarked}
 use Rattle.table_name.proofs.MarkLaws.{of-inside}
 use Rattle.cross_steps.proofs.MarkLaws.{at-inside, bare-marked, own-marked}
 use Rattle.cross_steps.proofs.is_marked.Statement.{statement}

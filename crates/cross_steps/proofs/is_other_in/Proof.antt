@@ -2,7 +2,7 @@
 -- Assumes nothing.
 use borrow.Author.Needs.{needs}
 use Prim.Native.Nat.{_-_}
-use Rattle.cross_steps.specs.StepWords.{otherIn}
+use Rattle.cross_steps.specs.Way.StepWords.{otherIn}
 use Rattle.cross_steps.proofs.WordLaws.{Left, left-starts, other-ends, other-found, other-on}
 use Rattle.cross_steps.proofs.is_other_in.Statement.{statement}
 use Rattle.cross_steps.proofs.is_other_in.Tie as tie

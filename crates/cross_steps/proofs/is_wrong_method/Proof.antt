@@ -1,7 +1,7 @@
 -- `cross_steps::is_wrong_method` meets its contract.
 -- Assumes nothing.
 use Rattle.base.proofs.IfLaws.{chain}
-use Rattle.cross_steps.specs.StepWords.{wrongMethod}
+use Rattle.cross_steps.specs.Way.StepWords.{wrongMethod}
 use Rattle.cross_steps.proofs.is_wrong_method.Statement.{statement}
 use Rattle.cross_steps.proofs.is_wrong_method.Tie as tie
 

@@ -1,7 +1,7 @@
 -- `cross_steps::lesser` meets its contract.
 -- Assumes nothing.
 use Rattle.base.proofs.IfLaws.{chain}
-use Rattle.cross_steps.specs.StepWords.{lesserOf}
+use Rattle.cross_steps.specs.Way.StepWords.{lesserOf}
 use Rattle.cross_steps.proofs.lesser.Statement.{statement}
 use Rattle.cross_steps.proofs.lesser.Tie as tie
 

@@ -1,7 +1,7 @@
 -- `cross_steps::meets` meets its contract.
 -- Assumes nothing.
 use Rattle.base.proofs.IfLaws.{chain}
-use Rattle.cross_steps.specs.StepWords.{meetsAt}
+use Rattle.cross_steps.specs.Way.StepWords.{meetsAt}
 use borrow.Author.Needs.{needs}
 use Rattle.cross_steps.proofs.meets.Statement.{statement}
 use Rattle.cross_steps.proofs.meets.Tie as tie

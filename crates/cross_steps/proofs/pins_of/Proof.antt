@@ -1,6 +1,6 @@
 -- `cross_steps::pins_of` meets its contract.
 -- Assumes nothing.
-use Rattle.cross_steps.specs.StepWords.{pinsOf}
+use Rattle.cross_steps.specs.Way.StepWords.{pinsOf}
 use borrow.Author.Needs.{needs}
 use Rattle.cross_steps.proofs.pins_of.Statement.{statement}
 use Rattle.cross_steps.proofs.pins_of.Tie as tie

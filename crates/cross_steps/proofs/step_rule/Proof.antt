@@ -1,7 +1,7 @@
 -- `cross_steps::step_rule` meets its contract.
 -- Assumes nothing.
 use Rattle.base.proofs.IfLaws.{chain}
-use Rattle.cross_steps.specs.StepWords.{stepRuleAt}
+use Rattle.cross_steps.specs.Way.StepWords.{stepRuleAt}
 use Rattle.cross_steps.proofs.MarkLaws.{other-marked}
 use borrow.Author.Needs.{needs}
 use Rattle.cross_steps.proofs.step_rule.Statement.{statement}

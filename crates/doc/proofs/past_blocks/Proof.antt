@@ -2,7 +2,7 @@
 -- Assumes nothing.
 use Prim.Native.Nat.{_-_}
 use lib.ListN.{length}
-use Rattle.doc.specs.Found.{PassesBytes}
+use Rattle.doc.specs.Way.Found.{PassesBytes}
 use Rattle.doc.proofs.PlainLaws.{bytes-none, bytes-on}
 use borrow.Author.Needs.{needs}
 use Rattle.doc.proofs.past_blocks.Statement.{statement}

@@ -3,7 +3,7 @@
 use Prim.Native.Nat.{_-_}
 use native.Mathlib.Omega.{arith}
 use lib.ListN.{length}
-use Rattle.doc.specs.Found.{PassesPlain}
+use Rattle.doc.specs.Way.Found.{PassesPlain}
 use Rattle.doc.proofs.PlainLaws.{passes-none, plain-on, plain-less}
 use Rattle.lex_line.proofs.FeedLaws.{feed-told}
 use borrow.Author.Needs.{needs}

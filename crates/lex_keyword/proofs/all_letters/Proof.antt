@@ -4,7 +4,7 @@ use mathlib.Core.Path.{refl}
 use Rattle.base.specs.If.{if_then_else_, both}
 use Rattle.base.specs.Bytes.{small, isCapital, within}
 use Rattle.lex_keyword.specs.Names.{folded}
-use Rattle.lex_keyword.specs.Lookup.{joined, letters}
+use Rattle.lex_keyword.specs.Way.Lookup.{joined, letters}
 use Rattle.lex_keyword.proofs.all_letters.Statement.{statement}
 use Rattle.lex_keyword.proofs.all_letters.Tie as tie
 

@@ -1,7 +1,7 @@
 -- `lex_keyword::closes_at` meets its contract: each `return` by the tests that led there.
 -- Assumes nothing.
 use Rattle.base.proofs.IfLaws.{ifs, both-rest, either-rest}
-use Rattle.lex_keyword.specs.Reading.{closesAt}
+use Rattle.lex_keyword.specs.Way.Reading.{closesAt}
 use borrow.Author.Needs.{needs}
 use Rattle.lex_keyword.proofs.closes_at.Statement.{statement}
 use Rattle.lex_keyword.proofs.closes_at.Tie as tie

@@ -3,7 +3,7 @@
 use mathlib.Core.Path.{_∙_}
 use Rattle.base.specs.If.{if_then_else_}
 use Rattle.base.proofs.TableLaws.{listed-at}
-use Rattle.lex_keyword.specs.Lookup.{shorter, firstOf}
+use Rattle.lex_keyword.specs.Way.Lookup.{shorter, firstOf}
 use borrow.Author.Needs.{needs}
 use Rattle.lex_keyword.proofs.first_of.Statement.{statement}
 use Rattle.lex_keyword.proofs.first_of.Tie as tie

@@ -1,7 +1,7 @@
 -- `lex_keyword::is_row` meets its contract: each `return` by the tests that led there.
 -- Assumes nothing.
 use Rattle.base.proofs.IfLaws.{chain}
-use Rattle.lex_keyword.specs.Reading.{isRow}
+use Rattle.lex_keyword.specs.Way.Reading.{isRow}
 use Rattle.lex_keyword.proofs.RowLaws.{row-short}
 use borrow.Author.Needs.{needs}
 use Rattle.lex_keyword.proofs.is_row.Statement.{statement}

@@ -2,7 +2,7 @@
 -- Assumes nothing.
 use Rattle.base.proofs.IfLaws.{ifs}
 use Rattle.lex_keyword.specs.Bracket.{isSeparator}
-use Rattle.lex_keyword.specs.Reading.{isWordByte}
+use Rattle.lex_keyword.specs.Way.Reading.{isWordByte}
 use Rattle.lex_keyword.proofs.is_word_byte.Statement.{statement}
 use Rattle.lex_keyword.proofs.is_word_byte.Tie as tie
 

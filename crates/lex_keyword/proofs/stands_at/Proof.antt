@@ -4,7 +4,7 @@ use borrow.Author.Needs.{needs}
 use mathlib.Core.Path.{_≡_}
 use Prim.Native.Nat.{_-_}
 use lib.ListN.{length}
-use Rattle.lex_keyword.specs.Lookup.{standsAt}
+use Rattle.lex_keyword.specs.Way.Lookup.{standsAt}
 use Rattle.lex_keyword.proofs.LookupLaws.{standsFrom, stands-first, stands-on, stands-stop, stands-past}
 use Rattle.lex_keyword.proofs.stands_at.Statement.{statement}
 use Rattle.lex_keyword.proofs.stands_at.Tie as tie

@@ -2,7 +2,7 @@
 -- Assumes nothing.
 use mathlib.Core.Path.{_∙_}
 use Rattle.base.proofs.TableLaws.{listed-at}
-use Rattle.lex_keyword.specs.Lookup.{joined, startOf}
+use Rattle.lex_keyword.specs.Way.Lookup.{joined, startOf}
 use borrow.Author.Needs.{needs}
 use Rattle.lex_keyword.proofs.start_of.Statement.{statement}
 use Rattle.lex_keyword.proofs.start_of.Tie as tie

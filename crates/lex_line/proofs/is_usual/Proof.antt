@@ -2,7 +2,7 @@
 -- Assumes nothing.
 use borrow.Author.Needs.{needs}
 use Rattle.base.proofs.IfLaws.{chain}
-use Rattle.lex_line.specs.Feeds.{isUsual}
+use Rattle.lex_line.specs.Way.Feeds.{isUsual}
 use Rattle.lex_line.proofs.is_usual.Statement.{statement}
 use Rattle.lex_line.proofs.is_usual.Tie as tie
 

@@ -1,7 +1,7 @@
 -- `lex_number::lowering` meets its contract: each `return` by the sign.
 -- Assumes nothing.
 use Rattle.base.proofs.IfLaws.{ifs}
-use Rattle.lex_number.specs.Capped.{lowering}
+use Rattle.lex_number.specs.Way.Capped.{lowering}
 use Rattle.lex_number.proofs.lowering.Statement.{statement}
 use Rattle.lex_number.proofs.lowering.Tie as tie
 

@@ -1,6 +1,6 @@
 -- `lex_number::paired` meets its contract: as the definition has it.
 -- Assumes nothing.
-use Rattle.lex_number.specs.Block.{paired}
+use Rattle.lex_number.specs.Way.Block.{paired}
 use borrow.Author.Needs.{needs}
 use Rattle.lex_number.proofs.paired.Statement.{statement}
 use Rattle.lex_number.proofs.paired.Tie as tie

@@ -1,7 +1,7 @@
 -- `lex_number::raising` meets its contract: each `return` by the sign.
 -- Assumes nothing.
 use Rattle.base.proofs.IfLaws.{ifs}
-use Rattle.lex_number.specs.Capped.{raising}
+use Rattle.lex_number.specs.Way.Capped.{raising}
 use Rattle.lex_number.proofs.raising.Statement.{statement}
 use Rattle.lex_number.proofs.raising.Tie as tie
 

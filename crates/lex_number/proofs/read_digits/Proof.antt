@@ -5,7 +5,7 @@ use mathlib.Core.Path.{_≡_}
 use Prim.Native.Nat.{_-_}
 use lib.ListN.{length, drop}
 use Rattle.lex_number.specs.Number.{scan, noDigits}
-use Rattle.lex_number.specs.Capped.{cappedDigits, Kept}
+use Rattle.lex_number.specs.Way.Capped.{cappedDigits, Kept}
 use Rattle.lex_number.proofs.DigitLaws.{start-kept, start-end, start-same, kept-next, end-next, digits-past, digits-stop, digits-on, goes-told}
 use Rattle.lex_number.proofs.read_digits.Statement.{statement}
 use Rattle.lex_number.proofs.read_digits.Tie as tie

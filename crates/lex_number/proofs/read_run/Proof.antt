@@ -3,7 +3,7 @@
 use borrow.Author.Needs.{needs}
 use Prim.Native.Nat.{_-_, _≤_, _<_}
 use lib.ListN.{length}
-use Rattle.lex_number.specs.At.{runFrom, weight}
+use Rattle.lex_number.specs.Way.At.{runFrom, weight}
 use Rattle.lex_number.proofs.PlainLaws.{Runs, runs-start, runs-on, read-low, read-high, read-last, run-times, run-digit, run-lighter}
 use Rattle.lex_number.proofs.read_run.Statement.{statement}
 use Rattle.lex_number.proofs.read_run.Tie as tie

@@ -7,7 +7,7 @@ use lib.ListN.{length, drop}
 use Rattle.base.specs.Bytes.{isDigit}
 use Rattle.base.specs.Runs.{run}
 use Rattle.base.proofs.RunLaws.{tested-on, tested-stop, reach-past}
-use Rattle.lex_number.specs.Capped.{exponentCap, cappedExponent, sizeAt}
+use Rattle.lex_number.specs.Way.Capped.{exponentCap, cappedExponent, sizeAt}
 use Rattle.lex_number.proofs.SizeLaws.{sizeOn, exponents-same, told-from, told-to, size-past, size-stop, size-on, next-cut}
 use Rattle.lex_number.proofs.read_size.Statement.{statement}
 use Rattle.lex_number.proofs.read_size.Tie as tie

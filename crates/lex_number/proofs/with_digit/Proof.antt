@@ -2,7 +2,7 @@
 -- Assumes nothing.
 use Rattle.base.proofs.IfLaws.{ifs}
 use Rattle.lex_number.specs.Number.{withDigit}
-use Rattle.lex_number.specs.Capped.{cappedDigits}
+use Rattle.lex_number.specs.Way.Capped.{cappedDigits}
 use Rattle.lex_number.proofs.DigitLaws.{digits-same, size-stays, size-grows}
 use borrow.Author.Needs.{needs}
 use Rattle.lex_number.proofs.with_digit.Statement.{statement}

@@ -7,7 +7,7 @@ use lib.ListN.{length, drop}
 use Rattle.base.specs.Runs.{run}
 use Rattle.base.specs.Class.{runEnd}
 use Rattle.base.proofs.RunLaws.{tested-on, tested-stop, reach-past}
-use Rattle.lex_number.specs.In.{isWord}
+use Rattle.lex_number.specs.Way.In.{isWord}
 use Rattle.lex_number.proofs.word_end.Statement.{statement}
 use Rattle.lex_number.proofs.word_end.Tie as tie
 

@@ -1,7 +1,7 @@
 -- `line_path::unit_line` meets its contract: each `return` by the words compared so far.
 -- Assumes nothing.
 use Rattle.base.proofs.IfLaws.{chain}
-use Rattle.line_path.specs.Section.{unitLine}
+use Rattle.line_path.specs.Way.Section.{unitLine}
 use borrow.Author.Needs.{needs}
 use Rattle.line_path.proofs.unit_line.Statement.{statement}
 use Rattle.line_path.proofs.unit_line.Tie as tie

@@ -4,7 +4,7 @@
 use borrow.Author.Needs.{needs}
 use native.Mathlib.Omega.{arith}
 use lib.ListN.{length}
-use Rattle.read_line.specs.Walk.{Blocked}
+use Rattle.read_line.specs.Way.Walk.{Blocked}
 use Rattle.read_line.proofs.BlockLaws.{block-counted, block-joins, block-rest, block-less, inner-counted}
 use Prim.Native.Nat.{ℕ, _+_, _-_, _≤_, _<_}
 use borrow.Fn.Kinds.{In}

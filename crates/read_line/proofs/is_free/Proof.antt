@@ -1,7 +1,7 @@
 -- `read_line::is_free` meets its contract.
 -- Assumes nothing.
 use Rattle.base.proofs.IfLaws.{chain}
-use Rattle.read_line.specs.Listed.{isFree}
+use Rattle.read_line.specs.Way.Listed.{isFree}
 use Rattle.read_line.proofs.is_free.Statement.{statement}
 use Rattle.read_line.proofs.is_free.Tie as tie
 

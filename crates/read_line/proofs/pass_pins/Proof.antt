@@ -5,7 +5,7 @@ use Prim.Native.Nat.{_+_, _-_, _≤_}
 use lib.ListN.{length}
 use borrow.Author.Tests.{not-true, not-false}
 use Rattle.line_place.specs.Place as place
-use Rattle.read_line.specs.Walk.{Crossed, Holds, withPinned}
+use Rattle.read_line.specs.Way.Walk.{Crossed, Holds, withPinned}
 use Rattle.read_line.proofs.WalkLaws.{content-start, content-within}
 use Rattle.read_line.proofs.CrossLaws.{crossed-none, crossed-on, crossed-stops, crossed-less, stays-opens, stays-moved, stays-ended}
 use borrow.Author.Needs.{needs}

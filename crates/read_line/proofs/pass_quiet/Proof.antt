@@ -5,7 +5,7 @@ use mathlib.Core.Path.{refl}
 use Prim.Native.Nat.{_+_, _-_, _≤_}
 use lib.ListN.{length}
 use borrow.Author.Tests.{not-false}
-use Rattle.read_line.specs.Walk.{Passed}
+use Rattle.read_line.specs.Way.Walk.{Passed}
 use Rattle.read_line.proofs.WalkLaws.{content-start, content-within}
 use Rattle.read_line.proofs.QuietLaws.{quiet-decides}
 use Rattle.read_line.proofs.CrossLaws.{crossed-none, crossed-on, crossed-less}

@@ -1,7 +1,7 @@
 -- `read_matrix::numbers_passed` meets its contract.
 -- Assumes nothing.
 use mathlib.Core.Path.{refl}
-use Rattle.read_matrix.specs.Run.{numbersPart}
+use Rattle.read_matrix.specs.Way.Run.{numbersPart}
 use Rattle.read_matrix.proofs.numbers_passed.Statement.{statement}
 use Rattle.read_matrix.proofs.numbers_passed.Tie as tie
 

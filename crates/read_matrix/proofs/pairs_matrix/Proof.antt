@@ -1,7 +1,7 @@
 -- `read_matrix::pairs_matrix` meets its contract.
 -- Assumes nothing.
 use mathlib.Core.Path.{refl}
-use Rattle.read_matrix.specs.Run.{pairsMatrix}
+use Rattle.read_matrix.specs.Way.Run.{pairsMatrix}
 use Rattle.read_matrix.proofs.pairs_matrix.Statement.{statement}
 use Rattle.read_matrix.proofs.pairs_matrix.Tie as tie
 

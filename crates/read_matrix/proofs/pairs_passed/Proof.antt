@@ -1,7 +1,7 @@
 -- `read_matrix::pairs_passed` meets its contract.
 -- Assumes nothing.
 use mathlib.Core.Path.{refl}
-use Rattle.read_matrix.specs.Run.{pairsPart}
+use Rattle.read_matrix.specs.Way.Run.{pairsPart}
 use Rattle.read_matrix.proofs.pairs_passed.Statement.{statement}
 use Rattle.read_matrix.proofs.pairs_passed.Tie as tie
 

@@ -5,7 +5,7 @@ use Prim.Native.Nat.{_+_, _-_, _*_, _^_, _≤_, _<_}
 use native.Mathlib.Omega.{arith}
 use lib.ListN.{length}
 use Rattle.read_line.proofs.WalkLaws.{content-start, content-within}
-use Rattle.read_matrix.specs.Run.{Gone}
+use Rattle.read_matrix.specs.Way.Run.{Gone}
 use Rattle.read_matrix.proofs.BodyLaws.{gone-start, gone-ends}
 use Rattle.read_matrix.proofs.RunLaws.{gone-counted, run-gone, run-bounded, run-ends, run-less, run-leaves, run-stops, run-on}
 use borrow.Author.Needs.{needs}

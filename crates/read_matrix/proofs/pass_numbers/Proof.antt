@@ -3,7 +3,7 @@
 use mathlib.Core.Bool.{true}
 use Prim.Native.Nat.{_-_}
 use lib.ListN.{length}
-use Rattle.read_matrix.specs.Run.{numbersPart}
+use Rattle.read_matrix.specs.Way.Run.{numbersPart}
 use Rattle.read_matrix.proofs.RunLaws.{On, numbers-start, numbers-row, numbers-column, numbers-few, numbers-end, numbers-leave, numbers-less, numbers-next}
 use borrow.Author.Needs.{needs}
 use Rattle.read_matrix.proofs.pass_numbers.Statement.{statement}

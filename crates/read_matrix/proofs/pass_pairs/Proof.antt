@@ -3,7 +3,7 @@
 use mathlib.Core.Bool.{true}
 use Prim.Native.Nat.{_-_}
 use lib.ListN.{length}
-use Rattle.read_matrix.specs.Run.{pairsMatrix, pairsPart}
+use Rattle.read_matrix.specs.Way.Run.{pairsMatrix, pairsPart}
 use Rattle.read_matrix.proofs.RunLaws.{On, pairs-start, pairs-row, pairs-end, pairs-leave, pairs-long, pairs-values, pairs-column, pairs-less, pairs-next}
 use borrow.Author.Needs.{needs}
 use Rattle.read_matrix.proofs.pass_pairs.Statement.{statement}

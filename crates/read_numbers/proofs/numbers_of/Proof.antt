@@ -1,7 +1,7 @@
 -- `read_numbers::numbers_of` meets its contract.
 -- Assumes nothing.
 use mathlib.Core.Path.{refl}
-use Rattle.read_numbers.specs.Steps.{numbersOf}
+use Rattle.read_numbers.specs.Way.Steps.{numbersOf}
 use Rattle.read_numbers.proofs.numbers_of.Statement.{statement}
 use Rattle.read_numbers.proofs.numbers_of.Tie as tie
 

@@ -7,9 +7,9 @@ use native.Mathlib.Omega.{arith}
 use lib.ListN.{length, drop}
 use Rattle.lex_line.specs.Lines.{lines}
 use Rattle.read_line.specs.Reading.{run, readingOf}
-use Rattle.read_line.specs.Walk.{Onward}
+use Rattle.read_line.specs.Way.Walk.{Onward}
 use Rattle.read_line.proofs.WalkLaws.{reading-starts, reading-whole, reading-ends, reading-stops, reading-on, reading-onward, reading-further}
-use Rattle.read_text.specs.Forward.{Carries}
+use Rattle.read_text.specs.Way.Forward.{Carries}
 use Rattle.read_text.proofs.NoteLaws.{carries-start, carries-refused, carries-end}
 use borrow.Author.Needs.{needs}
 use Rattle.read_text.proofs.read.Statement.{statement}

@@ -1,7 +1,7 @@
 -- `store_matrices::first_told` meets its contract.
 -- Assumes nothing.
 use Rattle.base.proofs.IfLaws.{chain}
-use Rattle.store_matrices.specs.Told.{firstTold}
+use Rattle.store_matrices.specs.Way.Told.{firstTold}
 use Rattle.store_matrices.proofs.first_told.Statement.{statement}
 use Rattle.store_matrices.proofs.first_told.Tie as tie
 

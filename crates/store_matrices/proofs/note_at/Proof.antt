@@ -1,8 +1,8 @@
 -- `store_matrices::note_at` meets its contract: nine words, one behind the other.
 -- Assumes nothing.
 use mathlib.Core.Path.{refl}
-use Rattle.store_base.specs.Notes.{noteAt}
-use Rattle.store_matrices.specs.Noted.{noteIn}
+use Rattle.store_base.specs.Way.Notes.{noteAt}
+use Rattle.store_matrices.specs.Way.Noted.{noteIn}
 use borrow.Author.Needs.{needs}
 use Rattle.store_matrices.proofs.note_at.Statement.{statement}
 use Rattle.store_matrices.proofs.note_at.Tie as tie

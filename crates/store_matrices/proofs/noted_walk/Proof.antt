@@ -1,7 +1,7 @@
 -- `store_matrices::noted_walk` meets its contract.
 -- Assumes nothing.
 use mathlib.Core.Path.{refl}
-use Rattle.store_matrices.specs.Noted.{notedWalk}
+use Rattle.store_matrices.specs.Way.Noted.{notedWalk}
 use Rattle.store_matrices.proofs.NoteLaws.{sum-fits}
 use borrow.Author.Needs.{needs}
 use Rattle.store_matrices.proofs.noted_walk.Statement.{statement}

@@ -1,7 +1,7 @@
 -- `store_matrices::told_in` meets its contract.
 -- Assumes nothing.
 use Rattle.base.proofs.IfLaws.{chain}
-use Rattle.store_matrices.specs.Told.{toldOr}
+use Rattle.store_matrices.specs.Way.Told.{toldOr}
 use Rattle.store_matrices.proofs.told_in.Statement.{statement}
 use Rattle.store_matrices.proofs.told_in.Tie as tie
 

@@ -3,7 +3,7 @@
 use borrow.Author.Needs.{needs}
 use Prim.Native.Nat.{_-_}
 use lib.ListN.{length}
-use Rattle.store_models.specs.Models.{Continued}
+use Rattle.store_models.specs.Way.Models.{Continued}
 use Rattle.store_models.proofs.WalkLaws.{model-starts, model-text-ends, model-closes, walk-long, walk-joins, walk-next, walk-less}
 use Rattle.store_models.proofs.fill_steps.Statement.{statement}
 use Rattle.store_models.proofs.fill_steps.Tie as tie

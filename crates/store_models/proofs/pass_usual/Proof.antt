@@ -2,7 +2,7 @@
 -- Assumes nothing.
 use Rattle.store_models.proofs.UsualLaws.{usual-asked, usual-again, usual-stops, usual-long, usual-ends, usual-less}
 use Rattle.store_models.proofs.WalkLaws.{continued-start, walk-long}
-use Rattle.store_models.specs.Models.{movedTo, Continued}
+use Rattle.store_models.specs.Way.Models.{movedTo, Continued}
 use Prim.Native.Nat.{_-_}
 use lib.ListN.{length}
 use borrow.Author.Needs.{needs}

@@ -6,7 +6,7 @@ use mathlib.Core.Path.{refl}
 use lib.ListN.{length}
 use Rattle.doc.specs.Document.{sectionAt}
 use Rattle.store_base.proofs.BlockLaws.{BlocksLeft, blocks-start, blocks-end, blocks-less, blocks-on}
-use Rattle.store_sections.specs.Sections.{sectionsOf, sectionsLeft}
+use Rattle.store_sections.specs.Way.Sections.{sectionsOf, sectionsLeft}
 use Rattle.store_sections.proofs.SectionLaws.{NotedOf}
 use Rattle.store_sections.proofs.PassLaws.{sections-storable, section-ready, section-noted}
 use Rattle.store_sections.proofs.fill_sections.Statement.{statement}

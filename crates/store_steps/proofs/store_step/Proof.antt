@@ -1,6 +1,6 @@
 -- `store_steps::store_step` meets its contract. That its count does not wrap follows from the room that it asks.
 -- Assumes nothing.
-use Rattle.table_layout.specs.Filling.{position, widthOf}
+use Rattle.table_layout.specs.Way.Filling.{position, widthOf}
 use borrow.Author.Needs.{needs}
 use Rattle.store_steps.proofs.store_step.Statement.{statement}
 use Rattle.store_steps.proofs.store_step.Tie as tie

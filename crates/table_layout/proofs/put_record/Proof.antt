@@ -1,6 +1,6 @@
 -- `table_layout::put_record` meets its contract. That its count does not wrap follows from the room that it asks: every record has a word at least.
 -- Assumes nothing.
-use Rattle.table_layout.specs.Filling.{position, widthOf, counted}
+use Rattle.table_layout.specs.Way.Filling.{position, widthOf, counted}
 use Rattle.table_layout.proofs.StoreLaws.{count-fits}
 use borrow.Author.Needs.{needs}
 use Rattle.table_layout.proofs.put_record.Statement.{statement}

@@ -1,7 +1,7 @@
 -- `cross_names::list::judge_line` meets its contract.
 -- Assumes nothing.
 use Rattle.base.proofs.IfLaws.{chain}
-use Rattle.cross_names.specs.Judged.{lineJudged}
+use Rattle.cross_names.specs.Way.Judged.{lineJudged}
 use borrow.Author.Needs.{needs}
 use Rattle.cross_names.proofs.list.judge_line.Statement.{statement}
 use Rattle.cross_names.proofs.list.judge_line.Tie as tie

@@ -1,6 +1,6 @@
 -- `cross_names::maps::own_finding` meets its contract.
 -- Assumes nothing.
-use Rattle.cross_names.specs.Pins.{pinsOfMap}
+use Rattle.cross_names.specs.Way.Pins.{pinsOfMap}
 use borrow.Author.Needs.{needs}
 use Rattle.cross_names.proofs.maps.own_finding.Statement.{statement}
 use Rattle.cross_names.proofs.maps.own_finding.Tie as tie

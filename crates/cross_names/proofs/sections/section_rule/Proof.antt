@@ -1,7 +1,7 @@
 -- `cross_names::sections::section_rule` meets its contract.
 -- Assumes nothing.
 use Rattle.base.proofs.BrokenLaws.{rules}
-use Rattle.cross_names.specs.Used.{ruleOf}
+use Rattle.cross_names.specs.Way.Used.{ruleOf}
 use borrow.Author.Needs.{needs}
 use Rattle.cross_names.proofs.sections.section_rule.Statement.{statement}
 use Rattle.cross_names.proofs.sections.section_rule.Tie as tie

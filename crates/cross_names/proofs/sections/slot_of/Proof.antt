@@ -1,7 +1,7 @@
 -- `cross_names::sections::slot_of` meets its contract.
 -- Assumes nothing.
 use Rattle.base.proofs.IfLaws.{chain}
-use Rattle.cross_names.specs.Used.{slotOf}
+use Rattle.cross_names.specs.Way.Used.{slotOf}
 use Rattle.cross_names.proofs.sections.slot_of.Statement.{statement}
 use Rattle.cross_names.proofs.sections.slot_of.Tie as tie
 

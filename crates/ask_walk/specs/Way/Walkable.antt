@@ -1,0 +1,45 @@
+-- What a walk asks of a table that is known to be sound: its view tells its records, they lie inside it, and so do the steps of each model, whose
+-- depth holds.
+-- Assumes nothing.
+use Prim.Native.Nat.{ℕ, _+_, _*_, _≤_, _<_}
+use mathlib.Core.Path.{_≡_}
+use mathlib.Core.Bool.{true}
+use mathlib.Core.List.{List}
+use lib.ListN.{length, getD}
+use Rattle.table_layout.specs.Layout.{models, steps}
+use Rattle.table_layout.specs.declared.View.{View}
+use Rattle.line_path.specs.Path.{deepest}
+use Rattle.doc.specs.Records.{recordsOf}
+use Rattle.ask_sound.specs.Sound.{depthHolds}
+use Rattle.ask_sound.specs.Way.Standing.{baseOf, countOf, modelAt, stepAt, kindsFrom, recordsAt}
+use Rattle.ask_walk.specs.declared.Place.{Place}
+use Rattle.ask_walk.specs.Walk.{modelOf, stepOf}
+
+-- where a model stands by its index, its first step, and how many it has
+abbrev pub modelPlace : View → ℕ → ℕ
+modelPlace v i = baseOf v models + 5 * i
+
+abbrev pub firstOf : List ℕ → View → ℕ → ℕ
+firstOf table v i = getD table (modelPlace v i + 3) 0
+
+abbrev pub manyOf : List ℕ → View → ℕ → ℕ
+manyOf table v i = getD table (modelPlace v i + 4) 0
+
+pub record Walkable (table : List ℕ) (v : View) : Type 0 where
+  pub records : recordsAt table v ≡ recordsOf table
+  pub model-room : baseOf v models + 5 * countOf v models ≤ length table
+  pub step-room : baseOf v steps + 6 * countOf v steps ≤ length table
+  pub few-steps : countOf v steps ≤ 4_096
+  pub ranges : (i : ℕ) → i < countOf v models → firstOf table v i + manyOf table v i ≤ countOf v steps
+  pub depths : (i : ℕ) → i < countOf v models → depthHolds 0 (kindsFrom table (baseOf v steps + 6 * firstOf table v i) (manyOf table v i)) ≡ true
+
+-- and of a place that is in range: what stands there
+pub record Stands (table : List ℕ) (v : View) (p : Place) : Type 0 where
+  pub model-room : modelPlace v (p .model) + 5 ≤ length table
+  pub step-room : baseOf v steps + 6 * (firstOf table v (p .model) + manyOf table v (p .model)) ≤ length table
+  pub few-steps : firstOf table v (p .model) + manyOf table v (p .model) ≤ 4_096
+  pub step-inside : p .step ≤ manyOf table v (p .model)
+  pub shallow : p .depth ≤ deepest
+  pub model-is : modelOf (recordsOf table) p ≡ modelAt table (modelPlace v (p .model))
+  pub step-is :
+      p .step < manyOf table v (p .model) → stepOf (recordsOf table) p ≡ stepAt table (baseOf v steps + 6 * (firstOf table v (p .model) + p .step))

@@ -1,0 +1,4 @@
+pub mod At
+pub mod Block
+pub mod Capped
+pub mod In

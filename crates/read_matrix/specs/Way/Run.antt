@@ -1,0 +1,143 @@
+-- What is promised of runs of plain lines inside a matrix: wherever the lines of a matrix have been gone over up to the run, they have been
+-- gone over up to its end.
+-- Assumes nothing.
+use Prim.Native.Nat.{ℕ, _+_, _*_, _≤_, _<_, max}
+use mathlib.Core.Path.{_≡_}
+use mathlib.Core.Bool.{Bool, true, false, not}
+use mathlib.Core.List.{List, _++_}
+use lib.ListN.{length}
+use lib.Seq.{sets}
+use lib.Dec.{eqb}
+use Rattle.base.specs.If.{both}
+use Rattle.lex_line.specs.Lines.{lineAt}
+use Rattle.line_place.specs.Place as place
+use Rattle.line_matrix.specs.Matrix.{diagonal, sparse, mostValues, withColumn}
+use Rattle.line_matrix.specs.declared.Matrix.{Matrix}
+use Rattle.read_line.specs.Reading.{commentByte}
+use Rattle.read_line.specs.Way.Walk.{Crossed, Holds, withMatrix, contentAt}
+use Rattle.doc.specs.Lines.{Line, linesAt}
+use Rattle.doc.specs.Document.{valuesFrom, bandwidthIn, greatestIn}
+use Rattle.store_base.specs.Way.Notes.{bodyLines, valuesWords}
+use Rattle.store_matrices.specs.Way.Told.{toldOr}
+use Rattle.read_numbers.specs.declared.Note.{Note}
+use Rattle.read_numbers.specs.Way.Noting.{Bounded, movedTo, namedTo}
+use Rattle.read_matrix.specs.declared.Data.{Data}
+use Rattle.read_matrix.specs.declared.Run.{Run}
+use Rattle.read_matrix.specs.declared.TakenNumbers.{TakenNumbers}
+use Rattle.read_matrix.specs.declared.TakenPair.{TakenPair}
+use Rattle.read_matrix.specs.Way.Body.{Behind, Takes}
+
+-- what is left of a matrix' lines, noted behind what is noted, gives what all of them give
+pub record Left (t : List ℕ) (n₀ at₀ form : ℕ) (table₀ : List ℕ) (values₀ n at : ℕ) (table : List ℕ) (values : ℕ) (a : Note) : Type 0 where
+  pub image :
+      sets table (3 * values) (valuesWords (valuesFrom form (a .row) (a .column) (bodyLines t n at)))
+      ≡ sets table₀ (3 * values₀) (valuesWords (valuesFrom form 1 1 (bodyLines t n₀ at₀)))
+  pub count : values + length (valuesFrom form (a .row) (a .column) (bodyLines t n at)) ≡ values₀ + length (valuesFrom form 1 1 (bodyLines t n₀ at₀))
+  pub bandwidth : toldOr (a .bandwidth) (bandwidthIn (bodyLines t n at)) ≡ bandwidthIn (bodyLines t n₀ at₀)
+  pub greatest : max (a .greatest) (greatestIn form (bodyLines t n at)) ≡ greatestIn form (bodyLines t n₀ at₀)
+  -- what comes after them comes after all of them
+  pub rest : (ls : List Line) → linesAt t n at place.matrix ≡ bodyLines t n at ++ ls → linesAt t n₀ at₀ place.matrix ≡ bodyLines t n₀ at₀ ++ ls
+  pub room : 3 * values ≤ length table
+
+-- how far the lines of a matrix have been gone over, no rule being broken
+pub record Gone (t : List ℕ) (at line : ℕ) (m : Matrix) (values : ℕ) (table₀ : List ℕ) (here number : ℕ) (part : Data) (table : List ℕ) : Type 0 where
+  pub whole : part .number ≡ 0
+  pub crossed : Crossed t at line (Holds place.matrix (withMatrix m values)) (withMatrix (part .matrix) (part .values)) (part .number) here number
+  pub form : part .matrix .form ≡ m .form
+  pub behind : Behind values table₀ table
+  pub rises : values ≤ part .values
+  pub bounded : Bounded (part .note) (part .values)
+  pub left : part .note .whole ≡ true → Left t line at (m .form) table₀ values number here table (part .values) (part .note)
+
+-- a run of lines: what had been gone over up to it has been gone over up to its end
+pub record Leads (t : List ℕ) (at line : ℕ) (part : Data) (table : List ℕ) (r : Run) (table' : List ℕ) : Type 0 where
+  pub gone : (at₀ line₀ : ℕ) (m : Matrix) (values : ℕ) (table₀ : List ℕ) → Gone t at₀ line₀ m values table₀ at line part table →
+      Gone t at₀ line₀ m values table₀ (r .at) (r .line) (r .part) table'
+  pub onward : at ≤ r .at
+  pub long : length table' ≡ length table
+
+-- a data line may stand here: a form with rows has one
+abbrev pub Ordered : Matrix → Type 0
+Ordered m = both (not (eqb (m .form) diagonal)) (eqb (m .rows .row) 0) ≡ false
+
+-- what a run asks for: lines that are noted, and so few values that one line more can be counted
+pub record Runs (t : List ℕ) (at line : ℕ) (part : Data) : Type 0 where
+  pub within : at ≤ length t
+  pub counted : line ≤ at + 1
+  pub bounded : Bounded (part .note) (part .values)
+  pub few : part .values ≤ mostValues
+  pub whole : part .note .whole ≡ true
+  pub ordered : Ordered (part .matrix)
+
+-- ---- lines of numbers
+
+-- what such a run has come to, by what it changes
+unfoldable pub numbersPart : Data → Bool → ℕ → ℕ → ℕ → Data
+numbersPart part whole values row column =
+    record {
+      taken = true;
+      ends = false;
+      number = 0;
+      matrix = part .matrix;
+      values = values;
+      note = record { whole = whole; row = row; column = column; bandwidth = part .note .bandwidth; greatest = part .note .greatest };
+    }
+
+-- the line at a place as one of a run of numbers, whatever the matrix and the note: it is taken, or not a line of the run. One that breaks a rule may have
+-- changed what lies behind the values.
+pub record TakesNumbers (t : List ℕ) (here form values row column : ℕ) (table : List ℕ) (r : TakenNumbers) (table' : List ℕ) : Type 0 where
+  pub behind : Behind values table table'
+  pub kept : r .taken ≡ false → r .whole ≡ true → table' ≡ table
+  pub few : r .taken ≡ true → r .values ≤ mostValues
+  pub onward : r .taken ≡ true → r .next ≡ lineAt commentByte t here .next
+  pub takes : r .taken ≡ true → (m : Matrix) → m .form ≡ form → Ordered m → (a : Note) → a .whole ≡ true → a .row ≡ row → a .column ≡ column →
+      Takes (contentAt t here) m values a table
+      (record { taken = true; ends = false; number = 0; matrix = m; values = r .values; note = movedTo (r .row) (r .column) a }) table'
+
+-- ---- lines of a column and a value
+
+-- the matrix and what is noted of it, by what such a run changes
+unfoldable pub pairsMatrix : Matrix → ℕ → ℕ → Bool → Matrix
+pairsMatrix m least greatest fits =
+    record {
+      form = m .form;
+      band = m .band;
+      first = m .first;
+      rows =
+          record {
+            row = m .rows .row;
+            above = m .rows .above;
+            from = m .rows .from;
+            least = least;
+            greatest = greatest;
+            fits = fits;
+          };
+    }
+
+unfoldable pub pairsPart : Data → Bool → ℕ → Matrix → ℕ → Data
+pairsPart part whole values matrix named =
+    record {
+      taken = true;
+      ends = false;
+      number = 0;
+      matrix = matrix;
+      values = values;
+      note =
+          record {
+            whole = whole;
+            row = part .note .row;
+            column = part .note .column;
+            bandwidth = part .note .bandwidth;
+            greatest = named;
+          };
+    }
+
+pub record TakesPair (t : List ℕ) (here values row : ℕ) (table : List ℕ) (r : TakenPair) (table' : List ℕ) : Type 0 where
+  pub behind : Behind values table table'
+  pub kept : r .taken ≡ false → r .whole ≡ true → table' ≡ table
+  pub few : r .taken ≡ true → values < mostValues
+  pub narrow : r .taken ≡ true → r .column < 4_294_967_296
+  pub onward : r .taken ≡ true → r .next ≡ lineAt commentByte t here .next
+  pub takes : r .taken ≡ true → (m : Matrix) → m .form ≡ sparse → Ordered m → (a : Note) → a .whole ≡ true → Bounded a values → a .row ≡ row →
+      Takes (contentAt t here) m values a table
+      (record { taken = true; ends = false; number = 0; matrix = withColumn (r .column) m; values = values + 1; note = namedTo (r .column) a }) table'

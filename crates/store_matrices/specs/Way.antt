@@ -1,0 +1,4 @@
+pub mod Matrices
+pub mod Noted
+pub mod Numbers
+pub mod Told

@@ -1,0 +1,47 @@
+-- What was noted of a matrix, as the code takes it: its words, whether it is of the lines at hand, and what it says of them.
+-- Assumes nothing.
+use Prim.Native.Nat.{ℕ, _+_}
+use mathlib.Core.Bool.{Bool, true, not}
+use lib.ListN.{set}
+use lib.Dec.{eqb}
+use Rattle.base.specs.If.{both}
+use Rattle.table_layout.specs.Layout.{values}
+use Rattle.table_layout.specs.declared.Filling.{Filling}
+use Rattle.store_base.specs.Way.Notes.{Note}
+use Rattle.store_matrices.specs.declared.NoteWords.{NoteWords}
+use Rattle.store_matrices.specs.declared.MatrixWalk.{MatrixWalk}
+
+unfoldable pub noteIn : Note → NoteWords
+noteIn n =
+    record {
+      at = n .at;
+      number = n .number;
+      form = n .form;
+      first = n .first;
+      further = n .further;
+      next = n .next;
+      bandwidth = n .bandwidth;
+      greatest = n .greatest;
+      count = n .count;
+    }
+
+-- it is made, and of the lines that start there, read in this form, so many values standing before theirs
+unfoldable pub isOf : NoteWords → ℕ → ℕ → ℕ → ℕ → Bool
+isOf n at number form first =
+    both (not (eqb (n .further) 0))
+    (both (eqb (n .at) at) (both (eqb (n .number) number) (both (eqb (n .form) form) (eqb (n .first) first))))
+
+-- where the lines end, and what they say; their values are counted as stored behind the first ones
+unfoldable pub notedWalk : NoteWords → ℕ → Filling → MatrixWalk
+notedWalk n first f =
+    record {
+      at = n .further;
+      number = n .next;
+      bandwidth = record { told = true; value = n .bandwidth };
+      greatest = n .greatest;
+      spot = record {
+        row = 1;
+        column = 1;
+        filling = record { bases = f .bases; counts = set (f .counts) values (first + n .count) };
+      };
+    }

@@ -1,0 +1,135 @@
+-- What the functions that store one section promise, in the words of the document.
+-- Assumes nothing.
+use Prim.Native.Nat.{ℕ, _+_, _≤_, _<_}
+use mathlib.Core.Path.{_≡_}
+use mathlib.Core.Bool.{true}
+use mathlib.Core.List.{List, _∷_, _++_}
+use lib.ListN.{length, getD, set}
+use lib.Dec.{eqb}
+use Rattle.base.specs.If.{if_then_else_}
+use Rattle.lex_keyword.specs.Names.{derivationMethod}
+use Rattle.line_place.specs.Place as place
+use Rattle.line_argument.specs.Argument.{methodOf}
+use Rattle.table_layout.specs.Layout.{matrices, values}
+use Rattle.table_layout.specs.Way.Filling.{Write, Fits}
+use Rattle.table_layout.specs.declared.Filling.{Filling}
+use Rattle.doc.specs.Lines.{Line, argumentOf, linesAt, gather, upTo}
+use Rattle.doc.specs.Document.{Matrix, Section, conductorsOf, inMatrix, opensMatrixAt, matrixAt, inSection, methodIn, sectionOf}
+use Rattle.doc.specs.Records.{placeOf}
+use Rattle.doc.specs.Way.Found.{Located, lineIn, linesBehind}
+use Rattle.doc.specs.declared.Found.{Found}
+use Rattle.store_base.specs.Way.Writes.{matricesWrites, sectionWrites}
+use Rattle.store_base.specs.Way.Stores.{Stores, Placed}
+use Rattle.store_base.specs.declared.Walk.{Walk}
+use Rattle.store_matrices.specs.Way.Told.{firstTold, toldOr}
+use Rattle.store_matrices.specs.declared.First.{First}
+use Rattle.store_sections.specs.declared.SectionWalk.{SectionWalk}
+
+-- ---- what a section's record holds of its lines
+
+-- of a kind, the first matrix is kept
+unfoldable pub kindsWith : List ℕ → ℕ → ℕ → List ℕ
+kindsWith kinds kind index = if eqb (getD kinds kind 0) 0 then set kinds kind index else kinds
+
+-- the one that is kept, if there is one, else the one that the rest gives
+unfoldable pub keptOr : ℕ → ℕ → ℕ
+keptOr kept rest = if eqb kept 0 then rest else kept
+
+abbrev pub methodAt : List ℕ → Found → ℕ
+methodAt t line = methodOf (argumentOf (lineIn t line 0) .text)
+
+unfoldable pub methodAfter : List ℕ → Found → First → First
+methodAfter t line method = if eqb (line .key) derivationMethod then firstTold method (methodAt t line) else method
+
+-- ---- one line
+
+-- what is stored of matrices, counted from where the filling stands
+abbrev pub matricesFrom : Filling → List Matrix → List Write
+matricesFrom f ms = matricesWrites (getD (f .counts) values 0) ms
+
+-- the line that was found, read where a walk over a section's lines has come, and the matrix that it opens, if it opens one
+abbrev pub sectionLine : List ℕ → Found → SectionWalk → Line
+sectionLine t line w = lineIn t line (w .place)
+
+abbrev pub matrixHere : List ℕ → Found → SectionWalk → List Matrix
+matrixHere t line w = matrixAt (sectionLine t line w) (linesBehind t line (w .place))
+
+-- a line of a section, whose matrix fits
+pub record TakesLine (t : List ℕ) (line : Found) (table : List ℕ) (w : SectionWalk) : Type 0 where
+  pub located : Located t line
+  pub seven : length (w .filling .counts) ≡ 7
+  pub four : length (w .kinds) ≡ 4
+  pub fits : Fits (length table) (w .filling) (matricesFrom (w .filling) (matrixHere t line w))
+
+pub record TakesMatrix (t : List ℕ) (line : Found) (table : List ℕ) (w : SectionWalk) : Type 0 where
+  pub takes : TakesLine t line table w
+  pub opens : opensMatrixAt (sectionLine t line w) ≡ true
+
+-- lines of a matrix, or none, are gone over
+pub record Passed (lines rest : List Line) : Type 0 where
+  pub from : List Line
+  pub all : lines ≡ upTo inMatrix from ++ rest
+
+-- the matrix is stored, and what the lines behind it add to the section is as if they were read with it
+pub record TakenLine (t : List ℕ) (line : Found) (table : List ℕ) (w v : SectionWalk) (table' : List ℕ) : Type 0 where
+  pub stores : Stores (w .filling) table (matricesFrom (w .filling) (matrixHere t line w)) (v .filling) table'
+  pub passed : Passed (linesBehind t line (w .place)) (linesAt t (v .number) (v .at) (v .place))
+  pub method-on : (ls : List Line) → toldOr (v .method) (methodIn ls) ≡ toldOr (w .method) (methodIn (sectionLine t line w ∷ ls))
+  pub conductors-on : (ms : List Matrix) →
+      toldOr (v .conductors) (conductorsOf ms) ≡ toldOr (w .conductors) (conductorsOf (matrixHere t line w ++ ms))
+  pub kinds-on :
+      (k : ℕ) → k < 4 → (ms : List Matrix) →
+      keptOr (getD (v .kinds) k 0) (placeOf k (getD (v .filling .counts) matrices 0) ms)
+      ≡ keptOr (getD (w .kinds) k 0) (placeOf k (getD (w .filling .counts) matrices 0) (matrixHere t line w ++ ms))
+  pub seven : length (v .filling .counts) ≡ 7
+  pub four : length (v .kinds) ≡ 4
+  pub placed : Placed t (v .number) (v .at)
+  pub onward : line .next ≤ v .at
+
+-- ---- the lines of a section
+
+-- those that are still to be read, and the matrices among them
+abbrev pub sectionLines : List ℕ → ℕ → ℕ → ℕ → List Line
+sectionLines t n at p = upTo inSection (linesAt t n at p)
+
+abbrev pub matricesIn : List Line → List Matrix
+matricesIn body = gather matrixAt body
+
+pub record PutsLines (t : List ℕ) (n at : ℕ) (table : List ℕ) (f : Filling) : Type 0 where
+  pub placed : Placed t n at
+  pub seven : length (f .counts) ≡ 7
+  pub fits : Fits (length table) f (matricesFrom f (matricesIn (sectionLines t n at place.sectionHead)))
+
+-- the matrices are stored, and all that the section's record holds is told
+pub record FillsLines (t : List ℕ) (n at : ℕ) (table : List ℕ) (f : Filling) (w : SectionWalk) (table' : List ℕ) : Type 0 where
+  pub stores : Stores f table (matricesFrom f (matricesIn (sectionLines t n at place.sectionHead))) (w .filling) table'
+  pub method : toldOr (w .method) 0 ≡ methodIn (sectionLines t n at place.sectionHead)
+  pub conductors : toldOr (w .conductors) 0 ≡ conductorsOf (matricesIn (sectionLines t n at place.sectionHead))
+  pub kinds : (k : ℕ) → k < 4 →
+      getD (w .kinds) k 0 ≡ placeOf k (getD (f .counts) matrices 0) (matricesIn (sectionLines t n at place.sectionHead))
+  pub four : length (w .kinds) ≡ 4
+  pub rest : linesAt t n at place.sectionHead ≡ sectionLines t n at place.sectionHead ++ linesAt t (w .number) (w .at) (w .place)
+  pub placed : Placed t (w .number) (w .at)
+  pub onward : at ≤ w .at
+
+-- ---- a section
+
+-- the lines below a keyword that was found, and the section that it opens
+abbrev pub linesBelow : List ℕ → Found → List Line
+linesBelow t line = sectionLines t (line .number + 1) (line .next) place.sectionHead
+
+abbrev pub sectionBelow : List ℕ → Found → Section
+sectionBelow t line = sectionOf (lineIn t line 0) (linesBelow t line)
+
+pub record PutsSection (t : List ℕ) (line : Found) (table : List ℕ) (f : Filling) : Type 0 where
+  pub located : Located t line
+  pub seven : length (f .counts) ≡ 7
+  pub fits : Fits (length table) f (sectionWrites (getD (f .counts) matrices 0) (getD (f .counts) values 0) (sectionBelow t line))
+
+-- it is stored, and the lines go on behind its own
+pub record FillsSection (t : List ℕ) (line : Found) (table : List ℕ) (f : Filling) (w : Walk) (table' : List ℕ) : Type 0 where
+  pub stores : Stores f table (sectionWrites (getD (f .counts) matrices 0) (getD (f .counts) values 0) (sectionBelow t line))
+      (w .filling) table'
+  pub rest : linesAt t (line .number + 1) (line .next) place.sectionHead ≡ linesBelow t line ++ linesAt t (w .number) (w .at) (w .place)
+  pub placed : Placed t (w .number) (w .at)
+  pub onward : line .next ≤ w .at
