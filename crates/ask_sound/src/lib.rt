@@ -8,6 +8,7 @@ ghost use Rattle.doc.specs.Holds.{isInside, comesBefore, rises};
 ghost use Rattle.ask_sound.specs.Sound.{depthStays, depthAfter, depthHolds, isModel, isEnd, isSectionStep, isForkStep, isStep, isMap, isPin, areMatrices, isSection, isMatrix, isValue, areZeros, isSound};
 ghost use Rattle.ask_sound.specs.Way.Standing.{modelAt, stepAt, mapAt, pinAt, sectionAt, matrixAt, valueAt, kindsFrom, valuesFrom, kindsAt, methodsAt, valuesAt, countOf, goesOn, reach, Reaches, ValueReaches, isRecord, areRecords, areParts, Rooms};
 use table_layout::View;
+
 pub mod record;
 
 // "kind 0 end 1 section 2 fork 3 endfork".

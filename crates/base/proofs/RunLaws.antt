@@ -15,7 +15,7 @@ use lib.Dec.{eqb}
 use borrow.Author.Tests.{eqb-true, eq-eqb, ne-eqb, not-true, not-false}
 use Rattle.base.specs.If.{if_then_else_, both}
 use Rattle.base.specs.Runs.{run, all, same}
-use Rattle.base.specs.Class.{runEnd}
+use Rattle.base.specs.Way.Class.{runEnd}
 use Rattle.base.proofs.IfLaws.{if-true, if-false, by-test, by-cases, both-true, both-not-left, both-not-right, both-rest, both-first, both-second}
 
 pub run-cons : (p : ℕ → Bool) (b : ℕ) (s : List ℕ) → run p (b ∷ s) ≡ (if p b then suc (run p s) else zero)

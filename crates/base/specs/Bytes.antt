@@ -51,3 +51,19 @@ isLetter b = either (isCapital b) (isSmall b)
 -- a letter as its small one: what "case does not count" compares
 unfoldable pub small : ℕ → ℕ
 small b = if isCapital b then b + 32 else b
+
+-- any byte but a blank: what a word is made of
+unfoldable pub isFilled : ℕ → Bool
+isFilled b = not (isBlank b)
+
+-- "0x20 to 0x7E, TAB"
+unfoldable pub isPrinted : ℕ → Bool
+isPrinted b = either (within 32 126 b) (eqb b tab)
+
+-- any byte but one
+unfoldable pub isBefore : ℕ → ℕ → Bool
+isBefore stop b = not (eqb b stop)
+
+-- any byte but the comment byte and those of a terminator: what the content of a line is made of
+unfoldable pub isContent : ℕ → ℕ → Bool
+isContent comment b = both (isBefore comment b) (both (isBefore lineFeed b) (isBefore carriageReturn b))

@@ -1,1 +1,2 @@
 pub mod Joined
+pub mod Class

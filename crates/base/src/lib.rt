@@ -6,9 +6,9 @@ ghost use lib.ListN.{length, getD, take, drop, replicate};
 ghost use Rattle.base.specs.If.{both};
 ghost use Rattle.base.specs.Runs.{all};
 ghost use lib.Seq.{sets};
-ghost use Rattle.base.specs.Bytes.{isBlank, isDigit, isCapital, isSmall, isLetter};
+ghost use Rattle.base.specs.Bytes.{isBlank, isDigit, isCapital, isSmall, isLetter, isFilled, isPrinted, isBefore, isContent};
 ghost use Rattle.base.specs.Way.Joined.{Joins};
-ghost use Rattle.base.specs.Class.{isFilled, isNamed, isPrinted, isBefore, isContent, inClass, runEnd};
+ghost use Rattle.base.specs.Way.Class.{isNamed, inClass, runEnd};
 
 // How many bytes of a run are looked at together.
 const BLOCK: usize = 16;

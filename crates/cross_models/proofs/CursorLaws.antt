@@ -13,9 +13,11 @@ use Rattle.base.specs.If.{if_then_else_, both, either}
 use Rattle.base.specs.Bytes.{bytes, isBlank}
 use Rattle.base.specs.Runs.{run, all, same}
 use Rattle.base.proofs.IfLaws.{if-true, if-false, by-cases, by-test}
-use Rattle.lex_line.specs.Lines.{Raw, lines, contentOf, isBlankLine, lineAt}
+use Rattle.lex_line.specs.Lines.{Raw, lines, contentOf, isBlankLine}
+use Rattle.lex_line.specs.Way.LineEnds.{lineAt}
 use Rattle.lex_line.specs.declared.Line as text
-use Rattle.lex_line.specs.Words.{wordsFrom, words, secondOf, leftOf, fewOf, markedBy, toEquals}
+use Rattle.lex_line.specs.Words.{wordsFrom, words, secondOf, leftOf, toEquals}
+use Rattle.lex_line.specs.Way.Spans.{fewOf, markedBy}
 use Rattle.lex_line.specs.declared.Few.{Few}
 use Rattle.lex_line.proofs.WordLaws.{second-marked}
 use Rattle.lex_line.proofs.FormLaws.{left-words}

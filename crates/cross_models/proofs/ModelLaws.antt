@@ -43,8 +43,7 @@ use Rattle.cross_rules.proofs.TwiceLaws.{model-twice}
 use Rattle.cross_rules.proofs.TableLaws.{view-holds, part-stands, part-many}
 use Rattle.cross_rules.specs.Way.Twice.{nameIn, hasAbove}
 use Rattle.cross_names.specs.Way.Listed.{namedBy, isListed, Listed}
-use Rattle.cross_names.proofs.NamedLaws.{same-turned, any-by, texts, first-has}
-use Rattle.cross_names.proofs.NamedLaws.{first as firstNamed}
+use Rattle.cross_names.proofs.NamedLaws.{same-turned, any-by, texts, first-has, first as firstNamed}
 use Rattle.cross_steps.specs.Way.StepWords.{firstTarget}
 use Rattle.cross_steps.specs.declared.Owner.{Owner}
 use Rattle.cross_steps.proofs.StandingLaws.{Words, Standing, standing, standing-front, standing-behind}

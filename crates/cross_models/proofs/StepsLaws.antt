@@ -18,7 +18,8 @@ use Rattle.doc.specs.Document.{Step, Model, Document, sectionKind, documentOf}
 use Rattle.doc.specs.Holds.{Each}
 use Rattle.doc.specs.Holds.Each.{none, more}
 use Rattle.doc.proofs.StandsLaws.{ModelStands, StepStands, all-stand}
-use Rattle.cross_rules.specs.Rules.{modelRule, stepRule, stepFindings, modelFindings, firstIn}
+use Rattle.cross_rules.specs.Rules.{modelRule, stepRule, stepFindings, modelFindings}
+use Rattle.cross_rules.specs.Way.First.{firstIn}
 use Rattle.cross_rules.specs.Way.Filled.{Filled}
 use Rattle.cross_rules.specs.declared.Finding.{Finding}
 use Rattle.cross_rules.proofs.RisingLaws.{Rising, rising-wider, rising-behind, all-least, each-at}

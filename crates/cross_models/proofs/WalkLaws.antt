@@ -13,7 +13,8 @@ use Rattle.doc.specs.Lines.{significant}
 use Rattle.doc.specs.Document.{Model, Document, documentOf}
 use Rattle.doc.specs.Holds.{Each}
 use Rattle.doc.specs.Holds.Each.{none, more}
-use Rattle.cross_rules.specs.Rules.{modelRule, modelFindings, firstIn, nothing}
+use Rattle.cross_rules.specs.Rules.{modelRule, modelFindings, nothing}
+use Rattle.cross_rules.specs.Way.First.{firstIn}
 use Rattle.cross_rules.specs.Way.Filled.{Filled}
 use Rattle.cross_rules.specs.Way.Nth.{nthLine}
 use Rattle.cross_rules.specs.declared.Finding.{Finding}

@@ -7,16 +7,17 @@ ghost use Rattle.table_layout.specs.Layout.{models};
 ghost use Rattle.table_layout.specs.View.{viewOf};
 ghost use Rattle.doc.specs.Document.{documentOf};
 ghost use Rattle.doc.specs.Way.Found.{Located, contentIn};
-ghost use Rattle.cross_rules.specs.Rules.{firstIn, modelFindings};
+ghost use Rattle.cross_rules.specs.Rules.{modelFindings};
+ghost use Rattle.cross_rules.specs.Way.First.{firstIn};
 ghost use Rattle.cross_rules.specs.Way.Filled.{Filled};
 ghost use Rattle.cross_names.specs.Way.Listed.{Listed};
 ghost use Rattle.table_name.specs.Way.Marks.{marksMany};
 ghost use Rattle.cross_models.specs.Way.Cursor.{Cursor, Seeks, PastMult, Tells, TellsStep};
 ghost use Rattle.cross_models.specs.Way.Models.{ModelRoom, ownerAt, modelRuleAt, Awaits, StepsTold};
-use doc::Found;
-use doc::Passed;
 use cross_rules::Finding;
 use cross_steps::Owner;
+use doc::Found;
+use doc::Passed;
 use table_layout::View;
 
 // "From `|` on, a line is comment".

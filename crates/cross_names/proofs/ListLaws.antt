@@ -30,7 +30,8 @@ use Rattle.doc.specs.Holds.Each.{none, more}
 use Rattle.doc.proofs.StandsLaws.{each-append, each-gather, each-if}
 use Rattle.doc.proofs.BlockLaws.{gather-none, gather-more}
 use Rattle.doc.proofs.PlainLaws.{plainly-quiet, meets-found}
-use Rattle.cross_rules.specs.Rules.{any, isTwice, isThere, modelName, listRule, listFindings, nothing, firstIn}
+use Rattle.cross_rules.specs.Rules.{any, isTwice, isThere, modelName, listRule, listFindings, nothing}
+use Rattle.cross_rules.specs.Way.First.{firstIn}
 use Rattle.cross_rules.specs.Way.Filled.{Filled}
 use Rattle.cross_rules.specs.declared.Finding.{Finding}
 use Rattle.cross_rules.specs.Listed.{Among}

@@ -17,7 +17,8 @@ use Rattle.table_layout.specs.View.{viewOf}
 use Rattle.table_layout.specs.declared.View.{View}
 use Rattle.doc.specs.Lines.{significant}
 use Rattle.doc.specs.Document.{Map, Document, documentOf}
-use Rattle.cross_rules.specs.Rules.{mapRule, pinFindings, mapFindings, firstIn, nothing}
+use Rattle.cross_rules.specs.Rules.{mapRule, pinFindings, mapFindings, nothing}
+use Rattle.cross_rules.specs.Way.First.{firstIn}
 use Rattle.cross_rules.specs.Way.Filled.{Filled}
 use Rattle.cross_rules.specs.Way.Nth.{nthLine}
 use Rattle.cross_rules.specs.declared.Finding.{Finding}

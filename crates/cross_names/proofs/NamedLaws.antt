@@ -25,11 +25,13 @@ use Rattle.doc.specs.Records.{indexOf, modelRecord, modelRecords, modelWords, f
 use Rattle.doc.specs.Way.Found.{contentIn, lineIn, Located, markOf}
 use Rattle.doc.specs.declared.Found.{Found}
 use Rattle.doc.specs.declared.Mark.{Mark}
-use Rattle.doc.specs.Holds.{Each, Stands}
+use Rattle.doc.specs.Holds.{Each}
+use Rattle.doc.specs.Way.Holds.{Stands}
 use Rattle.doc.specs.Holds.Each.{none, more}
 use Rattle.doc.proofs.StandsLaws.{LineStands, ModelStands, first-word-stands, all-stand}
 use Rattle.doc.proofs.CountLaws.{models-long}
-use Rattle.table_name.specs.Name.{nameAt, isNamed, findIn}
+use Rattle.table_name.specs.Name.{nameAt}
+use Rattle.table_name.specs.Way.Search.{isNamed, findIn}
 use Rattle.cross_rules.specs.Rules.{any, sameWord, isThere, modelName}
 use Rattle.cross_rules.specs.Way.Filled.{Filled}
 use Rattle.cross_rules.proofs.TableLaws.{view-holds, part-stands, part-many}

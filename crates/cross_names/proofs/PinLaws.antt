@@ -10,7 +10,8 @@ use Rattle.base.specs.Broken.{_when_, firstBroken}
 use Rattle.base.proofs.BrokenLaws.{first-broken, first-kept}
 use Rattle.table_layout.specs.Layout.{pins}
 use Rattle.doc.specs.Lines.{significant}
-use Rattle.cross_rules.specs.Rules.{firstIn, nothing}
+use Rattle.cross_rules.specs.Rules.{nothing}
+use Rattle.cross_rules.specs.Way.First.{firstIn}
 use Rattle.cross_rules.specs.Way.Nth.{nthLine}
 use Rattle.cross_rules.specs.declared.Finding.{Finding}
 use Rattle.cross_rules.proofs.KindLaws.{first-here, first-later}

@@ -16,13 +16,15 @@ use Rattle.table_layout.specs.Layout.{widths, chopped, sections, steps}
 use Rattle.doc.specs.Lines.{significant}
 use Rattle.doc.specs.Document.{Named, Step, Model, Section, Document, documentOf, sectionKind}
 use Rattle.doc.specs.Records.{targetOf, stepRecord, stepRecords, stepWords, SectionRecord, sectionRecord, sectionRecords, sectionWords, flatten, partsOf}
-use Rattle.doc.specs.Holds.{Each, Stands}
+use Rattle.doc.specs.Holds.{Each}
+use Rattle.doc.specs.Way.Holds.{Stands}
 use Rattle.doc.specs.Holds.Each.{none, more}
 use Rattle.doc.proofs.StandsLaws.{all-stand}
 use Rattle.table_name.specs.Name.{nameAt}
 use Rattle.table_layout.specs.View.{bounds, viewOf}
 use Rattle.table_layout.specs.declared.View.{View}
-use Rattle.cross_rules.specs.Rules.{any, isThere, isTwice, sectionName, uses, isUsed, sectionRule, sectionFindings, firstIn, nothing}
+use Rattle.cross_rules.specs.Rules.{any, isThere, isTwice, sectionName, uses, isUsed, sectionRule, sectionFindings, nothing}
+use Rattle.cross_rules.specs.Way.First.{firstIn}
 use Rattle.cross_rules.specs.Way.Filled.{Filled}
 use Rattle.cross_rules.specs.declared.Finding.{Finding}
 use Rattle.cross_rules.specs.Way.Nth.{nthLine}

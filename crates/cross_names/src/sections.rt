@@ -1,14 +1,14 @@
 // Rules 19 and 27 of sections.
 ghost use mathlib.Core.Path.{_≡_};
-ghost use Prim.Native.Nat.{_+_, _*_, _≤_};
-ghost use Prim.Native.Nat.{_<_};
+ghost use Prim.Native.Nat.{_+_, _*_, _≤_, _<_};
 ghost use mathlib.Core.Bool.{false};
 ghost use lib.ListN.{length, getD, drop};
 ghost use Rattle.table_layout.specs.Layout.{chopped};
 ghost use Rattle.doc.specs.Document.{documentOf};
 ghost use Rattle.table_name.specs.Name.{nameAt};
 ghost use Rattle.table_layout.specs.View.{viewOf};
-ghost use Rattle.cross_rules.specs.Rules.{firstIn, sectionFindings};
+ghost use Rattle.cross_rules.specs.Rules.{sectionFindings};
+ghost use Rattle.cross_rules.specs.Way.First.{firstIn};
 ghost use Rattle.cross_rules.specs.Way.Filled.{Filled};
 ghost use Rattle.cross_rules.specs.Way.Twice.{hasAbove};
 ghost use Rattle.cross_names.specs.Way.Used.{Flags, slotOf, ruleOf};
@@ -72,7 +72,11 @@ pub fn section_finding(text: &[u8], table: &[u64], view: View) -> Finding
 {
     let bases = view.bases;
     let counts = view.counts;
-    let used = used_sections(table, bases[table_layout::STEPS], counts[table_layout::STEPS]);
+    let used = used_sections(
+        table,
+        bases[table_layout::STEPS],
+        counts[table_layout::STEPS],
+    );
     let base = bases[table_layout::SECTIONS];
     let count = counts[table_layout::SECTIONS];
     let mut i = 0;

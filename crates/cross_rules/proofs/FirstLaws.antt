@@ -13,8 +13,7 @@ use borrow.Author.Tests.{eqb-true, eqb-false}
 use Rattle.base.specs.If.{if_then_else_, both}
 use Rattle.base.specs.Broken.{Rule, _when_, firstBroken}
 use Rattle.base.proofs.IfLaws.{by-test, by-cases}
-use Rattle.base.proofs.BrokenLaws.{sound, Numbered, none-broken as tests-kept, all-kept as kept-tests, found-broken, found-least}
-use Rattle.base.proofs.BrokenLaws.{Rising as Ascending}
+use Rattle.base.proofs.BrokenLaws.{sound, Numbered, none-broken as tests-kept, all-kept as kept-tests, found-broken, found-least, Rising as Ascending}
 use Rattle.doc.specs.Document.{Named, Step, Model, Map, Section, Document, documentOf, endKind, sectionKind}
 use Rattle.doc.specs.Holds.{Each}
 use Rattle.doc.specs.Holds.Each.{none, more}
@@ -57,8 +56,7 @@ use Rattle.cross_rules.specs.Rules.{
   earliest,
   crossRule,
 }
-use Rattle.cross_rules.specs.Listed.{Looked, listRules, modelRules, mapRules, sectionRules, endRules, sectionStepRules, stepRules, pinRules, listLooked, stepLooked, modelLooked, pinLooked, mapLooked, sectionLooked, looked}
-use Rattle.cross_rules.specs.Listed.{Among}
+use Rattle.cross_rules.specs.Listed.{Looked, listRules, modelRules, mapRules, sectionRules, endRules, sectionStepRules, stepRules, pinRules, listLooked, stepLooked, modelLooked, pinLooked, mapLooked, sectionLooked, looked, Among}
 use Rattle.cross_rules.specs.Listed.Among.{front, further}
 use Rattle.cross_rules.specs.declared.Finding.{Finding}
 use Rattle.cross_rules.proofs.RisingLaws.{each-one}

@@ -20,9 +20,9 @@ use Rattle.cross_rules.specs.Rules.{
   earlier,
   nothing,
   earliest,
-  firstIn,
   crossRule,
 }
+use Rattle.cross_rules.specs.Way.First.{firstIn}
 use Rattle.cross_rules.specs.declared.Finding.{Finding}
 use Rattle.cross_rules.proofs.RisingLaws.{Rising}
 use Rattle.cross_rules.proofs.RisingLaws.Rising.{rise}

@@ -105,9 +105,9 @@ use Rattle.cross_rules.specs.Rules.{
   sectionFindings,
   earlier,
   nothing,
-  firstIn,
   crossRule,
 }
+use Rattle.cross_rules.specs.Way.First.{firstIn}
 use Rattle.cross_rules.specs.declared.Finding.{Finding}
 use Rattle.cross_rules.proofs.RisingLaws.{Rising, Gives, each-by, all-least, numbers, gather-rising}
 use Rattle.cross_rules.proofs.RisingLaws.Rising.{rise}

@@ -17,7 +17,8 @@ use Rattle.lex_line.specs.Words.{Word}
 use Rattle.table_layout.specs.Layout.{chopped}
 use Rattle.doc.specs.Document.{Named, Model, Map, Section}
 use Rattle.doc.specs.Records.{modelRecord, modelRecords, mapRecord, mapRecords, pinRecord, sectionRecord, sectionRecords, modelWords, mapWords, pinWords, sectionWords}
-use Rattle.doc.specs.Holds.{Each, Stands}
+use Rattle.doc.specs.Holds.{Each}
+use Rattle.doc.specs.Way.Holds.{Stands}
 use Rattle.doc.specs.Holds.Each.{none, more}
 use Rattle.doc.proofs.StandsLaws.{ModelStands, MapStands}
 use Rattle.table_name.specs.Name.{nameAt}

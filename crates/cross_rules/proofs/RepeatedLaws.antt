@@ -14,7 +14,8 @@ use Rattle.base.proofs.IfLaws.{if-true, if-false, by-cases, both-rest, either-l
 use Rattle.table_layout.specs.Layout.{chopped}
 use Rattle.table_layout.proofs.LayoutLaws.{length-chopped}
 use Rattle.doc.specs.Records.{indexOf}
-use Rattle.table_name.specs.Name.{nameAt, isNamed, findIn}
+use Rattle.table_name.specs.Name.{nameAt}
+use Rattle.table_name.specs.Way.Search.{isNamed, findIn}
 use Rattle.cross_rules.specs.Rules.{any}
 use Rattle.cross_rules.specs.Way.Twice.{nameIn, hasAbove}
 

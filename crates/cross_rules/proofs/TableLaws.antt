@@ -12,7 +12,7 @@ use Rattle.table_layout.specs.Layout.{widths, layout, chopped, partsIn}
 use Rattle.table_layout.proofs.LayoutLaws.{taken-apart, length-chopped}
 use Rattle.doc.specs.Document.{documentOf}
 use Rattle.doc.specs.Records.{flatten, partsOf, tableOf}
-use Rattle.doc.specs.Holds.{countsOf}
+use Rattle.doc.specs.Way.Holds.{countsOf}
 use Rattle.doc.proofs.RecordLaws.{records-wide}
 use Rattle.doc.proofs.CountLaws.{counts-agree}
 use Rattle.table_layout.specs.View.{bounds, viewOf}

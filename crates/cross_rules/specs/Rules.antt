@@ -2,7 +2,7 @@
 -- map's, after the line); one that has none breaks only 20, 21 or 23."
 -- Assumes nothing.
 use Prim.Native.Nat.{ℕ, zero, suc, _+_}
-use mathlib.Core.Bool.{Bool, true, false, not}
+use mathlib.Core.Bool.{Bool, false, not}
 use mathlib.Core.List.{List, [], _∷_, _++_, map}
 use lib.ListN.{length}
 use lib.Dec.{ltb, eqb}
@@ -218,11 +218,6 @@ nothing = record { number = 0; line = 0 }
 unfoldable pub earliest : List Finding → Finding
 earliest [] = nothing
 earliest (f ∷ fs) = earlier f (earliest fs)
-
--- the first that breaks something, where the lines stand in the order of the text
-unfoldable pub firstIn : List Finding → Finding
-firstIn [] = nothing
-firstIn (f ∷ fs) = if eqb (f .number) 0 then firstIn fs else f
 
 -- what the document breaks first in the group 19 to 27
 unfoldable pub crossRule : Document → Finding

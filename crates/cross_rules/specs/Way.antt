@@ -1,3 +1,4 @@
 pub mod Filled
 pub mod Nth
 pub mod Twice
+pub mod First

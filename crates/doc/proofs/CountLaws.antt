@@ -53,7 +53,7 @@ use Rattle.doc.specs.Document.{
   documentOf,
 }
 use Rattle.doc.specs.Records.{modelRecords, mapRecords, sectionRecords, matrixRecords, matricesOf, valuesOf, flatten, partsOf}
-use Rattle.doc.specs.Holds.{countsOf}
+use Rattle.doc.specs.Way.Holds.{countsOf}
 use Rattle.doc.proofs.Goes.{
   Idle,
   Moves,

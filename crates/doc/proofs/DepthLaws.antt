@@ -48,7 +48,8 @@ use Rattle.doc.specs.Document.{
   documentIn,
   documentOf,
 }
-use Rattle.doc.specs.Holds.{Each, depthHolds}
+use Rattle.doc.specs.Holds.{Each}
+use Rattle.doc.specs.Way.Holds.{depthHolds}
 use Rattle.doc.proofs.Goes.{Moves, idle, plainly, keyed, Goes, none, more, MetBy, AllMet, Ends, idle-outside, text-ends}
 use Rattle.doc.proofs.BlockLaws.{gather-none, gather-more, up-to-none, up-to-in, up-to-out}
 use Rattle.doc.proofs.StepLaws.{saying-there, saying-elsewhere, saying-keyed, path-ruled}

@@ -8,16 +8,15 @@ use native.Mathlib.Omega.{arith}
 use lib.ListN.{length, take, drop, length-drop, drop-of-length-le}
 use lib.Seq.{length-take-le}
 use borrow.Author.Tests.{not-true, not-false, eq-eqb, ne-eqb}
-use Rattle.base.specs.Bytes.{lineFeed}
+use Rattle.base.specs.Bytes.{lineFeed, isBefore, isContent}
 use Rattle.base.specs.Runs.{run}
-use Rattle.base.specs.Class.{isBefore, isContent}
 use Rattle.base.proofs.IfLaws.{by-cases, if-true, if-false}
 use Rattle.base.proofs.RunLaws.{run-le}
-use Rattle.lex_line.specs.Lines.{lines, contentOf, isBlankLine, lineAt}
+use Rattle.lex_line.specs.Lines.{lines, contentOf, isBlankLine}
+use Rattle.lex_line.specs.Way.LineEnds.{lineAt}
 use Rattle.lex_line.specs.declared.Line as text
 use Rattle.lex_line.proofs.LineLaws.{firstOf, lines-nil, lines-at, next-on, next-within, next-ended, next-unended, content-at}
-use Rattle.lex_line.specs.Words.{words}
-use Rattle.lex_line.specs.Words.{firstOf as firstWordOf}
+use Rattle.lex_line.specs.Words.{words, firstOf as firstWordOf}
 use Rattle.line_place.specs.Place.{moved, movedByLine, mapHead}
 use Rattle.lex_keyword.specs.Bracket.{bracketOf}
 use Rattle.lex_keyword.specs.declared.Bracket.{Bracket}

@@ -12,7 +12,8 @@ use lib.Dec.{leb}
 use borrow.Author.Tests.{le-leb, lt-leb, leb-true, leb-false}
 use Rattle.base.specs.If.{if_then_else_}
 use Rattle.base.proofs.IfLaws.{if-true, if-false, by-cases}
-use Rattle.lex_line.specs.Words.{Word, wordsFrom, wordAt}
+use Rattle.lex_line.specs.Words.{Word, wordsFrom}
+use Rattle.lex_line.specs.Way.Spans.{wordAt}
 use Rattle.lex_line.specs.declared.Span.{Span}
 use Rattle.lex_line.proofs.WordLaws.{words-none, words-at, word-ordered, word-within}
 use Rattle.lex_keyword.specs.Bracket.{bracketOf}

@@ -11,9 +11,8 @@ use lib.ListN.{length, drop, length-take, length-drop, length-map}
 use lib.Dec.{ltb, leb, eqb}
 use borrow.Author.Tests.{eqb-true, eqb-false, eq-eqb, ltb-true, ltb-false, not-false}
 use Rattle.base.specs.If.{if_then_else_, both, either}
-use Rattle.base.specs.Bytes.{isBlank, carriageReturn}
+use Rattle.base.specs.Bytes.{isBlank, carriageReturn, isBefore, isContent, isPrinted}
 use Rattle.base.specs.Runs.{run, all}
-use Rattle.base.specs.Class.{isBefore, isContent, isPrinted}
 use Rattle.base.specs.Broken.{_when_}
 use Rattle.base.proofs.IfLaws.{
   if-true,
@@ -31,8 +30,7 @@ use Rattle.base.proofs.RunLaws.{run-nil, run-cons, run-stops, run-le, all-nil, 
 use Rattle.base.proofs.BrokenLaws.{all-kept}
 use Rattle.lex_line.specs.Lines.{Raw, lines, contentOf, isBlankLine}
 use Rattle.lex_line.specs.Words.{Word, goesOn, grown, wordsFrom, words, firstOf, lastEnd, toEquals, rightOf}
-use Rattle.lex_line.specs.ByteRules.{mostBytes, mostCharacters, withoutReturn, characters, judged, linesRule, byteRules}
-use Rattle.lex_line.specs.ByteRules.{lineRule as rawRule}
+use Rattle.lex_line.specs.ByteRules.{mostBytes, mostCharacters, withoutReturn, characters, judged, linesRule, byteRules, lineRule as rawRule}
 use Rattle.lex_line.specs.declared.Checked.{Checked}
 use Rattle.lex_line.specs.declared.Checked.the-variants.{Fine, Refused}
 use Rattle.lex_keyword.specs.Names.{icmPinMap, beginIcmModel, beginIcmSection}
@@ -111,13 +109,13 @@ use Rattle.doc.specs.Document.{
   documentIn,
   documentOf,
 }
-use Rattle.doc.specs.Holds.{Each, Stands, IsName}
+use Rattle.doc.specs.Holds.{Each}
+use Rattle.doc.specs.Way.Holds.{Stands, IsName}
 use Rattle.doc.specs.Holds.Each.{none, more}
 use Rattle.doc.proofs.Goes.{Goes, Moves, lines-blank, lines-said, lines-none, text-ends}
 use Rattle.doc.proofs.Goes.Idle.{ended, waits}
 use Rattle.doc.proofs.Goes.Moves.{idle, plainly, keyed}
-use Rattle.doc.proofs.StandsLaws.{each-join, each-gather, each-if, each-up}
-use Rattle.doc.proofs.StandsLaws.{LineStands, words-stand, argument-stands, lines-stand}
+use Rattle.doc.proofs.StandsLaws.{each-join, each-gather, each-if, each-up, LineStands, words-stand, argument-stands, lines-stand}
 
 -- ---- no line is too long
 

@@ -12,12 +12,13 @@ use lib.Seq.{drop-cons, getD-drop}
 use lib.Dec.{ltb, eqb}
 use borrow.Author.Tests.{eq-eqb, ne-eqb, eqb-true, eqb-false, lt-ltb, le-ltb, ltb-false, not-false}
 use Rattle.base.specs.If.{both}
-use Rattle.base.specs.Bytes.{lineFeed, isBlank}
+use Rattle.base.specs.Bytes.{lineFeed, isBlank, isBefore}
 use Rattle.base.specs.Runs.{run, all}
-use Rattle.base.specs.Class.{isBefore, runEnd}
+use Rattle.base.specs.Way.Class.{runEnd}
 use Rattle.base.proofs.IfLaws.{by-cases, by-test, if-true, if-false, both-first, both-second, both-not-right, not-via, not-not-via}
 use Rattle.base.proofs.RunLaws.{reach-on, reach-stop, reach-past, all-cons}
-use Rattle.lex_line.specs.Lines.{isBlankLine, pastFeed, lineAt}
+use Rattle.lex_line.specs.Lines.{isBlankLine}
+use Rattle.lex_line.specs.Way.LineEnds.{pastFeed, lineAt}
 use Rattle.lex_line.specs.declared.Line as text
 use Rattle.lex_line.specs.Words.{words, firstOf}
 use Rattle.line_place.specs.Place.{movedByLine, mapHead}

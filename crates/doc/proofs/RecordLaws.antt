@@ -4,7 +4,8 @@ use mathlib.Core.Path.{_≡_, refl}
 use mathlib.Core.List.{List, [], _∷_, _++_, map}
 use Prim.Native.Nat.{ℕ}
 use lib.ListN.{length, replicate}
-use Rattle.table_layout.specs.Layout.{widths, layout, needed, AllLong, Wide}
+use Rattle.table_layout.specs.Layout.{widths, layout}
+use Rattle.table_layout.specs.Way.Parts.{needed, AllLong, Wide}
 use Rattle.table_layout.proofs.LayoutLaws.{length-layout, taken-apart}
 use Rattle.doc.specs.Document.{Value, documentOf}
 use Rattle.doc.specs.Records.{

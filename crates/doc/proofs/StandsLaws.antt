@@ -12,14 +12,16 @@ use lib.Seq.{length-take-le, take-append-seam, take-append-le, drop-append-le, d
 use lib.Dec.{ltb, leb, eqb}
 use borrow.Author.Tests.{ltb-true, ltb-false, leb-true, leb-false}
 use Rattle.base.specs.If.{if_then_else_}
-use Rattle.base.specs.Bytes.{lineFeed}
+use Rattle.base.specs.Bytes.{lineFeed, isBefore, isContent}
 use Rattle.base.specs.Runs.{run}
-use Rattle.base.specs.Class.{isBefore, isContent, runEnd}
+use Rattle.base.specs.Way.Class.{runEnd}
 use Rattle.base.proofs.IfLaws.{by-cases, by-test}
 use Rattle.base.proofs.RunLaws.{run-wider}
-use Rattle.lex_line.specs.Lines.{isBlankLine, pastFeed, lineAt}
+use Rattle.lex_line.specs.Lines.{isBlankLine}
+use Rattle.lex_line.specs.Way.LineEnds.{pastFeed, lineAt}
 use Rattle.lex_line.specs.declared.Line as text
-use Rattle.lex_line.specs.Words.{Word, wordsFrom, wordAt, lastEnd, toEquals}
+use Rattle.lex_line.specs.Words.{Word, wordsFrom, lastEnd, toEquals}
+use Rattle.lex_line.specs.Way.Spans.{wordAt}
 use Rattle.lex_line.proofs.LineLaws.{content-before-feed}
 use Rattle.lex_line.proofs.WordLaws.{words-none, words-at, end-past}
 use Rattle.lex_keyword.specs.Bracket.{bracketOf}
@@ -68,7 +70,8 @@ use Rattle.doc.specs.Document.{
   documentIn,
   documentOf,
 }
-use Rattle.doc.specs.Holds.{Each, Stands}
+use Rattle.doc.specs.Holds.{Each}
+use Rattle.doc.specs.Way.Holds.{Stands}
 use Rattle.doc.specs.Holds.Each.{none, more}
 use Rattle.doc.proofs.FoundLaws.{pass-over, stop-here, next-further, content-ordered, content-inside, nothing-left}
 use Rattle.doc.proofs.MarkLaws.{start-after, argument-in-line}

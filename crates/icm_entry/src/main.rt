@@ -167,7 +167,13 @@ fn answer_in(text: &[u8], table: &[u64], name: &[u8], section: u64, conductors: 
 fn answer_of(text: &[u8], table: &[u64], name: &[u8]) {
     let view = table_layout::view_of(table);
     let section = section_of(text, table, view, name);
-    let conductors = out_listing::field_of(table, view, table_layout::SECTIONS, section, CONDUCTORS);
+    let conductors = out_listing::field_of(
+        table,
+        view,
+        table_layout::SECTIONS,
+        section,
+        CONDUCTORS,
+    );
     if conductors == 0 {
         print_line(b"no section ", name);
         return;

@@ -2,10 +2,10 @@
 // Run as: icm_walk FILE MODEL
 ghost use mathlib.Core.Path.{_≡_};
 ghost use Rattle.table_layout.specs.View.{viewOf};
-use intake::Answer;
-use table_layout::View;
 use ask_walk::Place;
 use ask_walk::Walked;
+use intake::Answer;
+use table_layout::View;
 
 // The longest file that is taken.
 const MOST: usize = 65536;

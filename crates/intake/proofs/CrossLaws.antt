@@ -5,15 +5,8 @@ use mathlib.Core.List.{List}
 use Prim.Native.Nat.{ℕ, _≤_, _<_}
 use native.Mathlib.Nat.{le-of-lt}
 use Rattle.doc.specs.Document.{documentOf}
-use Rattle.cross_rules.specs.Rules.{
-  listFindings,
-  modelFindings,
-  mapFindings,
-  sectionFindings,
-  firstIn,
-  earlier,
-  crossRule,
-}
+use Rattle.cross_rules.specs.Rules.{listFindings, modelFindings, mapFindings, sectionFindings, earlier, crossRule}
+use Rattle.cross_rules.specs.Way.First.{firstIn}
 use Rattle.cross_rules.specs.Way.Filled.{Filled}
 use Rattle.cross_rules.specs.declared.Finding.{Finding}
 use Rattle.cross_rules.proofs.KindLaws.{by-kinds, earlier-second, earlier-first, earlier-lower}

@@ -8,7 +8,8 @@ use native.Mathlib.Nat.{add-zero, le-refl}
 use native.Mathlib.Omega.{arith}
 use lib.ListN.{length, drop, getD, replicate, length-append, length-replicate, List·getD-map}
 use lib.Seq.{sets, length-sets}
-use Rattle.table_layout.specs.Layout.{widths, layout, needed, chopped, maps, sections, steps, matrices, values, pins}
+use Rattle.table_layout.specs.Layout.{widths, layout, chopped, maps, sections, steps, matrices, values, pins}
+use Rattle.table_layout.specs.Way.Parts.{needed}
 use Rattle.table_layout.specs.Way.Filling.{Write, partOf, widthOf, position, tableAfter, fillingAfter, basesFrom, startFilling, headed, opened, Fits}
 use Rattle.table_layout.specs.declared.Filling.{Filling}
 use Rattle.table_layout.proofs.LayoutLaws.{length-layout}
@@ -20,7 +21,7 @@ use Rattle.read_line.specs.Reading.{readingOf}
 use Rattle.read_line.specs.declared.Reading.the-variants.{Read}
 use Rattle.doc.specs.Document.{Document, documentOf}
 use Rattle.doc.specs.Records.{flatten, partsOf, tableOf, mapRecords, sectionRecords, mapWords, sectionWords}
-use Rattle.doc.specs.Holds.{countsOf}
+use Rattle.doc.specs.Way.Holds.{countsOf}
 use Rattle.doc.proofs.RecordLaws.{records-wide}
 use Rattle.doc.proofs.CountLaws.{counts-agree}
 use Rattle.store_steps.specs.Way.Steps.{lowOf, Aims}

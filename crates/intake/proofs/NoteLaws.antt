@@ -8,11 +8,12 @@ use native.Mathlib.Nat.{le-refl}
 use native.Mathlib.Omega.{arith}
 use lib.ListN.{length, take, drop, getD, replicate, length-drop, length-replicate, take-append-drop, drop-of-length-le}
 use lib.Seq.{sets, sets-eq, drop-drop, drop-at, length-take-le}
-use Rattle.table_layout.specs.Layout.{widths, values, needed}
+use Rattle.table_layout.specs.Layout.{widths, values}
+use Rattle.table_layout.specs.Way.Parts.{needed}
 use Rattle.table_layout.specs.Way.Filling.{basesFrom, startFilling, opened}
 use Rattle.table_layout.proofs.OpenLaws.{length-opened, opened-sets, values-last}
 use Rattle.line_keyword.specs.declared.Counts.{Counts}
-use Rattle.doc.specs.Holds.{countsOf}
+use Rattle.doc.specs.Way.Holds.{countsOf}
 use Rattle.store_base.specs.Way.Notes.{noteAt, Tells, wordsOf, Made, Noted, Before}
 use Rattle.store_base.proofs.NoteLaws.{noted-lifted}
 

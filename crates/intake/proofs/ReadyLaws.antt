@@ -10,7 +10,8 @@ use lib.ListN.{length, take, getD, replicate, length-replicate}
 use lib.Seq.{sets, length-sets, length-take-le}
 use borrow.Author.Tests.{lt-ltb, le-ltb}
 use Rattle.base.proofs.IfLaws.{if-true, if-false}
-use Rattle.table_layout.specs.Layout.{widths, needed, maps}
+use Rattle.table_layout.specs.Layout.{widths, maps}
+use Rattle.table_layout.specs.Way.Parts.{needed}
 use Rattle.table_layout.specs.Way.Filling.{startFilling, opened, Few}
 use Rattle.table_layout.specs.Way.Filling as filling
 use Rattle.table_layout.specs.declared.Filling.{Filling}
@@ -22,7 +23,7 @@ use Rattle.read_line.specs.declared.Reading.the-variants as reading
 use Rattle.read_line.proofs.CountLaws.{read-within, read-matrices}
 use Rattle.doc.specs.Document.{documentOf}
 use Rattle.doc.specs.Records.{tableOf}
-use Rattle.doc.specs.Holds.{countsOf}
+use Rattle.doc.specs.Way.Holds.{countsOf}
 use Rattle.store_base.specs.Way.Stores.{Stores, Placed}
 use Rattle.store_base.specs.Way.Notes.{Noted, Before}
 use Rattle.store_base.specs.declared.Walk.{Walk}
@@ -32,7 +33,8 @@ use Rattle.store_sections.specs.Way.Sections.{sectionsOf, sectionsLeft}
 use Rattle.store_steps.specs.Way.Steps.{lowOf, Aims}
 use Rattle.store_models.specs.Way.Models.{modelsOf}
 use Rattle.read_text.specs.Way.Forward.{Carries}
-use Rattle.intake.specs.Filled.{afterReading, filledOf, tableFor, Lifted}
+use Rattle.intake.specs.Filled.{afterReading, filledOf}
+use Rattle.intake.specs.Way.Filled.{tableFor, Lifted}
 use Rattle.intake.specs.declared.fill.Filled.{Filled}
 use Rattle.intake.specs.declared.fill.Filled.the-variants.{Stored, Refused}
 use Rattle.intake.proofs.FillLaws.{start-long, layout-long, maps-fit, seven-maps, sections-fit, seven-blocks, models-fit, aims, all-filled}

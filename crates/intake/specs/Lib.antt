@@ -1,2 +1,3 @@
 pub mod Verdict
 pub mod Filled
+pub mod Way

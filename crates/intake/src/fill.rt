@@ -3,13 +3,15 @@ ghost use mathlib.Core.Path.{_≡_};
 ghost use mathlib.Core.List.{_++_};
 ghost use Prim.Native.Nat.{_-_, _*_, _≤_};
 ghost use lib.ListN.{length, replicate};
-ghost use Rattle.table_layout.specs.Layout.{widths, needed};
+ghost use Rattle.table_layout.specs.Layout.{widths};
+ghost use Rattle.table_layout.specs.Way.Parts.{needed};
 ghost use Rattle.read_line.specs.Reading.{readingOf};
 ghost use Rattle.read_line.specs.declared.Reading.the-variants.{Read};
-ghost use Rattle.doc.specs.Holds.{countsOf};
+ghost use Rattle.doc.specs.Way.Holds.{countsOf};
 ghost use Rattle.doc.specs.Records.{tableOf};
 ghost use Rattle.store_base.specs.Way.Notes.{Noted, Before};
-ghost use Rattle.intake.specs.Filled.{filledOf, tableFor, Lifted};
+ghost use Rattle.intake.specs.Filled.{filledOf};
+ghost use Rattle.intake.specs.Way.Filled.{tableFor, Lifted};
 use line_keyword::Counts;
 use read_line::Reading;
 

@@ -7,8 +7,9 @@ ghost use Rattle.cross_rules.specs.Rules.{crossRule};
 ghost use Rattle.cross_rules.specs.Way.Filled.{Filled};
 ghost use Rattle.intake.specs.Verdict.{answerWords, crossed, afterFilling, verdictOf, tableFor};
 use lex_line::Checked;
-pub mod fill;
+
 pub mod cross;
+pub mod fill;
 
 // Accepted with the words used, or refused by a rule at a line.
 pub enum Answer {

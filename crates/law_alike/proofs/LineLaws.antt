@@ -9,9 +9,8 @@ use lib.ListN.{length}
 use lib.Dec.{eqb}
 use borrow.Author.Tests.{eq-eqb, ne-eqb, eqb-true}
 use Rattle.base.specs.If.{if_then_else_, both, either}
-use Rattle.base.specs.Bytes.{bytes}
+use Rattle.base.specs.Bytes.{bytes, isBefore}
 use Rattle.base.specs.Runs.{same}
-use Rattle.base.specs.Class.{isBefore}
 use Rattle.base.proofs.IfLaws.{if-true, if-false, by-cases, both-first, both-second, both-not-left, either-false, either-rest}
 use Rattle.base.proofs.RunLaws.{same-equal}
 use Rattle.lex_line.specs.Words.{words, firstOf, secondOf, hasEquals, leftOf, rightOf}

@@ -12,9 +12,8 @@ use lib.ListN.{length, take, drop}
 use lib.Dec.{ltb, eqb}
 use borrow.Author.Tests.{lt-ltb, le-ltb, ltb-true, ltb-false, eqb-true, eqb-false, eq-eqb, ne-eqb}
 use Rattle.base.specs.If.{if_then_else_, either}
-use Rattle.base.specs.Bytes.{isBlank, space, tab}
+use Rattle.base.specs.Bytes.{isBlank, space, tab, isBefore, isFilled}
 use Rattle.base.specs.Runs.{run, same}
-use Rattle.base.specs.Class.{isBefore, isFilled}
 use Rattle.base.proofs.IfLaws.{if-true, if-false, by-cases, either-false, not-via, not-not-via}
 use Rattle.base.proofs.RunLaws.{run-goes, run-stops, run-nil, same-refl, same-equal}
 use Rattle.lex_line.specs.Words.{Word, goesOn, grown, wordsFrom, words, firstOf, toEquals, hasEquals, leftOf, rightOf}

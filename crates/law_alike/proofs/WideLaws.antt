@@ -11,9 +11,8 @@ use lib.ListN.{length, take, drop, length-append}
 use lib.Dec.{ltb, eqb}
 use borrow.Author.Tests.{eq-eqb, ne-eqb, eqb-true, eqb-false, lt-ltb}
 use Rattle.base.specs.If.{if_then_else_, both, either}
-use Rattle.base.specs.Bytes.{bytes, isBlank, lineFeed}
+use Rattle.base.specs.Bytes.{bytes, isBlank, lineFeed, isBefore, isFilled, isContent}
 use Rattle.base.specs.Runs.{run, all}
-use Rattle.base.specs.Class.{isBefore, isFilled, isContent}
 use Rattle.base.proofs.IfLaws.{if-true, if-false, by-cases, both-first, both-second}
 use Rattle.lex_line.specs.Lines.{Raw, pushed, lines, contentOf, isBlankLine}
 use Rattle.lex_line.specs.Words.{goesOn, words, firstOf, toEquals, hasEquals, leftOf, rightOf}

@@ -99,7 +99,8 @@ use Rattle.doc.proofs.BodyLaws.{
   matrix-leads,
 }
 use Rattle.doc.proofs.SectionLaws.{Written}
-use Rattle.law_alike.specs.Written.{isPlain, rowLines, numbersOf, wordOf, sparseWord, writtenAt, foundAt}
+use Rattle.law_alike.specs.Written.{isPlain, rowLines, numbersOf, wordOf, sparseWord, writtenAt}
+use Rattle.law_alike.specs.Way.Found.{foundAt}
 use Rattle.law_alike.specs.Alike.{formAt}
 
 -- ---- one value after another

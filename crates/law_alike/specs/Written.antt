@@ -2,7 +2,7 @@
 -- zero".
 -- Assumes nothing.
 use Prim.Native.Nat.{ℕ, _-_}
-use mathlib.Core.Bool.{Bool, true, false}
+use mathlib.Core.Bool.{Bool}
 use mathlib.Core.List.{List, [], _∷_, _++_, map}
 use lib.ListN.{getD}
 use lib.Dec.{eqb}
@@ -14,7 +14,7 @@ use Rattle.lex_number.specs.ValueWord.{zeroWord}
 use Rattle.lex_keyword.specs.Names.{row}
 use Rattle.line_matrix.specs.Matrix.{diagonal, sparse}
 use Rattle.doc.specs.Lines.{Line, plain, keyOf, upTo}
-use Rattle.doc.specs.Document.{Value, wordIn, givenBy}
+use Rattle.doc.specs.Document.{wordIn, givenBy}
 
 unfoldable pub isPlain : Line → Bool
 isPlain l = eqb (keyOf l) plain
@@ -44,8 +44,3 @@ unfoldable pub writtenAt : ℕ → List Line → ℕ → ℕ → ℕ
 writtenAt form body i j =
     if eqb form diagonal then (if eqb i j then wordOf (i - 1) (numbersOf body) else zeroWord) else
     if eqb form sparse then sparseWord j (rowLines i body) else wordOf (j - i) (numbersOf (rowLines i body))
-
--- what values give there: the first that has this row and this column
-unfoldable pub foundAt : ℕ → ℕ → List Value → ℕ
-foundAt i j [] = zeroWord
-foundAt i j (v ∷ vs) = if both (eqb (v .row) i) (eqb (v .column) j) then v .word else foundAt i j vs

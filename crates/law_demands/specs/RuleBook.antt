@@ -9,7 +9,7 @@ use lib.ListN.{length, getD}
 use lib.Dec.{leb, ltb, eqb}
 use Rattle.base.specs.If.{if_then_else_, both, either}
 use Rattle.base.specs.Runs.{all}
-use Rattle.base.specs.Class.{isPrinted}
+use Rattle.base.specs.Bytes.{isPrinted}
 use Rattle.base.specs.Broken.{Rule, _when_, firstBroken}
 use Rattle.lex_line.specs.Lines.{Raw, lines, contentOf, isBlankLine}
 use Rattle.lex_line.specs.Words.{words, firstOf}

@@ -22,7 +22,7 @@ use Rattle.law_alike.specs.Alike.{SameSaying, same-words, same-sides, formAt, S
 use Rattle.law_alike.proofs.WideLaws.{textOf, rawOf, contentIn, lineAs, SameRaws, other-blank, says, block, Ends, placeBehind, raws-front, raws-self, texts-alike}
 use Rattle.base.specs.Broken as d0
 use Rattle.base.specs.Bytes as d1
-use Rattle.base.specs.Class as d2
+use Rattle.base.specs.Way.Class as d2
 use Rattle.base.specs.If as d3
 use Rattle.base.specs.Runs as d4
 use Rattle.lex_line.specs.ByteRules as d5

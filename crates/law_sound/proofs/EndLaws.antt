@@ -9,7 +9,8 @@ use native.Mathlib.Omega.{arith}
 use lib.ListN.{length, drop, getD, replicate, length-append}
 use lib.Seq.{drop-drop, getD-drop, drop-at}
 use Rattle.base.proofs.IfLaws.{if-true, if-false, by-cases, both-true}
-use Rattle.table_layout.specs.Layout.{widths, joined, layout, AllLong, Wide}
+use Rattle.table_layout.specs.Layout.{widths, joined, layout}
+use Rattle.table_layout.specs.Way.Parts.{AllLong, Wide}
 use Rattle.table_layout.proofs.LayoutLaws.{length-joined}
 use Rattle.table_layout.specs.View.{bounds, areWithin, endAt, noView, viewOf}
 use Rattle.table_layout.specs.declared.View.{View}

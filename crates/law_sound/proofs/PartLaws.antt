@@ -15,7 +15,8 @@ use Rattle.line_matrix.specs.Matrix.{banded}
 use Rattle.lex_line.specs.Words.{Word}
 use Rattle.doc.specs.Document.{Named, Step, Model, Map, Value, Matrix, Section, conductorsOf}
 use Rattle.doc.specs.Records.{StepRecord, stepRecord, stepRecords, modelRecord, modelRecords, pinRecord, pinRecords, mapRecord, mapRecords, placeOf, sectionRecord, sectionRecords, matricesOf, matrixRecord, matrixRecords, valuesOf}
-use Rattle.doc.specs.Holds.{Each, IsName, isInside, rises}
+use Rattle.doc.specs.Holds.{Each, isInside, rises}
+use Rattle.doc.specs.Way.Holds.{IsName}
 use Rattle.doc.specs.Holds as holds
 use Rattle.doc.specs.Holds.Each.{none, more}
 use Rattle.doc.proofs.StandsLaws.{each-append}

@@ -15,7 +15,8 @@ use Rattle.lex_line.specs.declared.Checked.the-variants.{Fine}
 use Rattle.line_keyword.specs.declared.Counts.{Counts}
 use Rattle.read_line.specs.Reading.{readingOf}
 use Rattle.read_line.specs.declared.Reading.the-variants.{Read}
-use Rattle.table_layout.specs.Layout.{widths, needed}
+use Rattle.table_layout.specs.Layout.{widths}
+use Rattle.table_layout.specs.Way.Parts.{needed}
 use Rattle.table_layout.specs.View.{viewOf}
 use Rattle.doc.specs.Document.{documentOf}
 use Rattle.doc.specs.Records.{flatten, partsOf, tableOf}

@@ -14,7 +14,8 @@ use Rattle.lex_line.specs.Words.{Word}
 use Rattle.doc.specs.Lines.{noWord}
 use Rattle.doc.specs.Document.{Step, Model, Map, Section, Document, endKind, sectionKind}
 use Rattle.doc.specs.Records.{StepRecord, targetOf, stepRecord, stepRecords, mapRecords, sectionRecord, sectionRecords}
-use Rattle.doc.specs.Holds.{Each, IsName}
+use Rattle.doc.specs.Holds.{Each}
+use Rattle.doc.specs.Way.Holds.{IsName}
 use Rattle.doc.specs.Holds.Each.{none, more}
 use Rattle.doc.proofs.NamedLaws.{StepNamed, ModelNamed}
 use Rattle.doc.proofs.SectionLaws.{RightSection}

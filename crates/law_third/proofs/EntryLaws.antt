@@ -25,7 +25,8 @@ use Rattle.law_demands.proofs.DemandLaws.{demanded}
 use Rattle.law_sound.proofs.IntakeLaws.{intake-sound}
 use Rattle.ask_entry.specs.Entry.{EntryWords, foundWith, refusedWith, noSection, matrixOf, entryOf, isInRange, answerOf}
 use Rattle.ask_entry.proofs.EntryLaws.{exchange}
-use Rattle.law_alike.specs.Written.{writtenAt, foundAt}
+use Rattle.law_alike.specs.Written.{writtenAt}
+use Rattle.law_alike.specs.Way.Found.{foundAt}
 use Rattle.law_alike.specs.Alike.{formAt}
 use Rattle.law_alike.proofs.WrittenLaws.{Found, EachOpening, text-openings, FoundMatrix, text-found}
 use Rattle.law_third.specs.Third.{Taken, WrittenBy, Entered}

@@ -21,7 +21,7 @@ use Rattle.ask_sound.specs.Sound.{range}
 use Rattle.law_sound.proofs.EveryLaws.{range-middle}
 use Rattle.ask_entry.specs.Entry.{noSection, noMatrix, matrixOf, wordAt, entryOf, isInRange}
 use Rattle.ask_entry.specs.Entry as entry
-use Rattle.law_alike.specs.Written.{foundAt}
+use Rattle.law_alike.specs.Way.Found.{foundAt}
 
 -- ---- what matrices give
 

@@ -16,7 +16,8 @@ use Rattle.line_path.specs.Path as path
 use Rattle.doc.specs.Lines.{Line, noWord, significant, upTo}
 use Rattle.doc.specs.Document.{Step, Model, Map, Section, Document, endKind, sectionKind, sayingAt, stepOf, stepsIn, opensModel, inModel, modelOf, modelAt, documentIn, documentOf}
 use Rattle.doc.specs.Records.{indexOf, isMapOf, isSectionOf, targetOf, stepRecord, mapRecord, mapRecords, sectionRecord, sectionRecords, flatten}
-use Rattle.doc.specs.Holds.{Each, Stands}
+use Rattle.doc.specs.Holds.{Each}
+use Rattle.doc.specs.Way.Holds.{Stands}
 use Rattle.doc.specs.Holds.Each.{none, more}
 use Rattle.doc.proofs.StandsLaws.{MapStands, all-stand, each-gather, each-if}
 use Rattle.table_name.specs.Name.{nameAt}

@@ -10,8 +10,8 @@ use lib.ListN.{length, take, drop, getD}
 use lib.Dec.{eqb}
 use borrow.Author.Tests.{eq-eqb, ne-eqb, lt-ltb, le-ltb, ltb-true, not-true, not-false}
 use Rattle.base.specs.If.{if_then_else_}
-use Rattle.base.specs.Bytes.{isBlank, isLetter}
-use Rattle.base.specs.Class.{isBefore, runEnd}
+use Rattle.base.specs.Bytes.{isBlank, isLetter, isBefore}
+use Rattle.base.specs.Way.Class.{runEnd}
 use Rattle.base.specs.Runs.{run}
 use Rattle.base.proofs.IfLaws.{if-true, if-false, both-rest, both-not-left, both-first, not-via, not-not-via}
 use Rattle.lex_keyword.specs.Names.{keyOf, isLater}

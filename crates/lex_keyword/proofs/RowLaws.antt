@@ -10,8 +10,8 @@ use lib.ListN.{length, take, drop, getD}
 use lib.Seq.{drop-cons}
 use borrow.Author.Tests.{eqb-true, le-ltb}
 use Rattle.base.specs.If.{if_then_else_, both, either}
-use Rattle.base.specs.Bytes.{isBlank, isLetter, isCapital, isSmall, isDigit, within, small}
-use Rattle.base.specs.Class.{isBefore, runEnd}
+use Rattle.base.specs.Bytes.{isBlank, isLetter, isCapital, isSmall, isDigit, within, small, isBefore}
+use Rattle.base.specs.Way.Class.{runEnd}
 use Rattle.base.specs.Runs.{run, all, same}
 use Rattle.base.proofs.IfLaws.{both-not-left, both-not-right, both-first, both-second}
 use Rattle.lex_keyword.specs.Names.{folded, sameName, placeOf, keyOf, isLater, row}

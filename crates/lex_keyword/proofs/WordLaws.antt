@@ -13,7 +13,7 @@ use borrow.Author.Tests.{lt-ltb, le-ltb, not-true, not-false}
 use Rattle.base.specs.If.{both, either}
 use Rattle.base.specs.Bytes.{bytes}
 use Rattle.base.specs.Runs.{run, all}
-use Rattle.base.specs.Class.{runEnd}
+use Rattle.base.specs.Way.Class.{runEnd}
 use Rattle.base.proofs.IfLaws.{if-true, if-false, by-cases, both-rest, both-not-left, either-left, either-rest}
 use Rattle.base.proofs.RunLaws.{run-goes, run-stops, run-le}
 use Rattle.lex_keyword.specs.Names.{folded, sameName}

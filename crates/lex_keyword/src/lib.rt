@@ -5,7 +5,7 @@ ghost use mathlib.Core.List.{[]};
 ghost use Prim.Native.Nat.{_+_, _≤_, _<_};
 ghost use lib.ListN.{length, getD};
 ghost use Rattle.base.specs.Bytes.{isBlank};
-ghost use Rattle.base.specs.Class.{runEnd};
+ghost use Rattle.base.specs.Way.Class.{runEnd};
 ghost use Rattle.base.specs.Runs.{all};
 ghost use Rattle.lex_keyword.specs.Names.{folded, names, sameName, keyOf, isLater};
 ghost use Rattle.lex_keyword.specs.Way.Lookup.{letters, startOf, firstOf, standsAt};

@@ -13,17 +13,19 @@ use lib.Dec.{ltb, eqb}
 use borrow.Author.Tests.{eqb-true, eqb-false, eq-eqb, ne-eqb, lt-ltb, le-ltb, ltb-true, ltb-false, not-false}
 use borrow.Author.Count.{below-more}
 use Rattle.base.specs.If.{if_then_else_, both, either}
-use Rattle.base.specs.Bytes.{lineFeed, carriageReturn, within}
+use Rattle.base.specs.Bytes.{lineFeed, carriageReturn, within, isPrinted, isBefore}
 use Rattle.base.specs.Runs.{run, all}
-use Rattle.base.specs.Class.{isPrinted, isBefore, runEnd}
+use Rattle.base.specs.Way.Class.{runEnd}
 use Rattle.base.specs.Broken.{_when_, first, firstBroken}
 use Rattle.base.proofs.IfLaws.{if-true, if-false, by-test, by-cases, both-true, both-not-left, both-not-right, both-rest, both-first, both-second, not-via, not-not-via}
 use Rattle.base.proofs.RunLaws.{run-stop, run-nil, run-goes, run-stops, run-le, run-all, run-end, run-is, run-wider, run-take, all-nil, all-cons, all-run, run-whole, run-short, all-take, run-append}
 use Rattle.base.proofs.BrokenLaws.{first-broken, first-kept, firsts}
-use Rattle.lex_line.specs.Lines.{Raw, lines, lineAt}
+use Rattle.lex_line.specs.Lines.{Raw, lines}
+use Rattle.lex_line.specs.Way.LineEnds.{lineAt, terminatorAt}
 use Rattle.lex_line.specs.declared.Checked.{Checked}
 use Rattle.lex_line.specs.declared.Checked.the-variants.{Fine, Refused}
-use Rattle.lex_line.specs.ByteRules.{mostBytes, mostCharacters, withoutReturn, characters, lineRule, judged, linesRule, terminatorAt, Judges, byteRules}
+use Rattle.lex_line.specs.ByteRules.{mostBytes, mostCharacters, withoutReturn, characters, lineRule, judged, linesRule, byteRules}
+use Rattle.lex_line.specs.Way.Judges.{Judges}
 use Rattle.lex_line.proofs.LineLaws.{firstOf, lines-at, next-on, next-within, next-ended}
 
 -- ---- terminators

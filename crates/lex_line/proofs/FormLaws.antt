@@ -10,10 +10,11 @@ use lib.ListN.{length, take, drop, length-drop}
 use lib.Seq.{take-all, length-take-le}
 use lib.Dec.{eqb}
 use borrow.Author.Tests.{eq-eqb, ne-eqb, eqb-true, eqb-false, lt-ltb, le-ltb}
-use Rattle.base.specs.Class.{isBefore}
+use Rattle.base.specs.Bytes.{isBefore}
 use Rattle.base.proofs.IfLaws.{by-cases}
 use Rattle.base.proofs.RunLaws.{run-le}
-use Rattle.lex_line.specs.Words.{words, fewOf, toEquals, hasEquals, leftOf, rightOf}
+use Rattle.lex_line.specs.Words.{words, toEquals, hasEquals, leftOf, rightOf}
+use Rattle.lex_line.specs.Way.Spans.{fewOf}
 use Rattle.lex_line.specs.declared.Few.{Few}
 use Rattle.lex_line.proofs.WordLaws.{first-ordered, first-within, second-ordered, second-within}
 

@@ -11,12 +11,13 @@ use lib.Seq.{drop-drop, take-take}
 use lib.Dec.{ltb, eqb, leb·suc-suc}
 use borrow.Author.Tests.{not-true, ne-eqb, lt-ltb, le-ltb, ltb-true, ltb-false}
 use Rattle.base.specs.If.{if_then_else_, both}
-use Rattle.base.specs.Bytes.{lineFeed}
+use Rattle.base.specs.Bytes.{lineFeed, isBefore, isContent}
 use Rattle.base.specs.Runs.{run}
-use Rattle.base.specs.Class.{isBefore, isContent, runEnd}
+use Rattle.base.specs.Way.Class.{runEnd}
 use Rattle.base.proofs.IfLaws.{if-true, if-false, by-cases, both-first, both-second, not-via, not-not-via}
 use Rattle.base.proofs.RunLaws.{run-nil, run-goes, run-stops, run-on, run-stop, run-past, run-le, run-through, run-wider, run-take}
-use Rattle.lex_line.specs.Lines.{Raw, pushed, lines, contentOf, pastFeed, lineAt}
+use Rattle.lex_line.specs.Lines.{Raw, pushed, lines, contentOf}
+use Rattle.lex_line.specs.Way.LineEnds.{pastFeed, lineAt}
 use Rattle.lex_line.specs.declared.Line.{Line}
 
 pub content-before-feed : (comment b : ℕ) → isContent comment b ≡ true → isBefore lineFeed b ≡ true

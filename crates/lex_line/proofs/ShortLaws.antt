@@ -15,12 +15,14 @@ use lib.Dec.{eqb}
 use borrow.Author.Tests.{ne-eqb, eqb-true, eqb-false, not-false}
 use Rattle.base.specs.If.{if_then_else_, both, either}
 use Rattle.base.specs.Runs.{run, all}
-use Rattle.base.specs.Class.{isPrinted, isBefore, runEnd}
+use Rattle.base.specs.Way.Class.{runEnd}
+use Rattle.base.specs.Bytes.{isPrinted, isBefore}
 use Rattle.base.proofs.IfLaws.{if-true, if-false, by-cases, both-true, both-first, both-second, either-rest}
 use Rattle.base.proofs.RunLaws.{run-stop, run-block, all-nil, all-cons}
 use Rattle.lex_line.specs.Lines.{lines}
 use Rattle.lex_line.specs.Words.{backRun}
-use Rattle.lex_line.specs.ByteRules.{linesRule, byteRules, Judges}
+use Rattle.lex_line.specs.ByteRules.{linesRule, byteRules}
+use Rattle.lex_line.specs.Way.Judges.{Judges}
 use Rattle.lex_line.specs.declared.Checked.the-variants.{Refused}
 use Rattle.lex_line.specs.Way.Feeds.{feedOf, feeds, isUsual, PassesLines}
 use Rattle.lex_line.proofs.WordLaws.{back-zero, back-grows, back-ends}

@@ -15,7 +15,8 @@ use lib.Dec.{ltb}
 use borrow.Author.Tests.{ne-eqb, ltb-true, ltb-false}
 use Rattle.base.specs.If.{both}
 use Rattle.base.specs.Runs.{run, all}
-use Rattle.base.specs.Class.{isBefore, isContent, runEnd}
+use Rattle.base.specs.Way.Class.{runEnd}
+use Rattle.base.specs.Bytes.{isBefore, isContent}
 use Rattle.base.specs.Way.Joined.{joined, isByte, Joins}
 use Rattle.base.proofs.IfLaws.{by-cases, both-true, both-first, both-second, not-via}
 use Rattle.base.proofs.RunLaws.{all-nil, all-cons, run-block}

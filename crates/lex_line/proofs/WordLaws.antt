@@ -12,12 +12,13 @@ use lib.Seq.{drop-drop, getD-drop, take-suc, take-nil}
 use lib.Dec.{ltb}
 use borrow.Author.Tests.{not-true, not-false, ltb-true, ltb-false}
 use Rattle.base.specs.If.{if_then_else_}
-use Rattle.base.specs.Bytes.{isBlank}
+use Rattle.base.specs.Bytes.{isBlank, isFilled}
 use Rattle.base.specs.Runs.{run}
-use Rattle.base.specs.Class.{isFilled, runEnd}
+use Rattle.base.specs.Way.Class.{runEnd}
 use Rattle.base.proofs.IfLaws.{if-true, if-false, by-cases, not-via, not-not-via}
 use Rattle.base.proofs.RunLaws.{run-nil, run-goes, run-stops, run-le, run-on, run-end-at}
-use Rattle.lex_line.specs.Words.{Word, goesOn, grown, wordsFrom, wordAt, backRun, words, firstOf, secondOf, fewOf, markedBy}
+use Rattle.lex_line.specs.Words.{Word, goesOn, grown, wordsFrom, backRun, words, firstOf, secondOf}
+use Rattle.lex_line.specs.Way.Spans.{wordAt, fewOf, markedBy}
 use Rattle.lex_line.specs.declared.Span.{Span}
 use Rattle.lex_line.specs.declared.Few.{Few}
 

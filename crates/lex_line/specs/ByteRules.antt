@@ -1,15 +1,13 @@
 -- Document 01, "Numbers of refusal": rules 1 to 4, over all lines of a text.
 -- Assumes nothing.
-use Prim.Native.Nat.{ℕ, suc, _+_, _<_, _≤_}
-use mathlib.Core.Path.{_≡_}
-use mathlib.Core.Bool.{Bool, true, false, not}
+use Prim.Native.Nat.{ℕ, _+_}
+use mathlib.Core.Bool.{not}
 use mathlib.Core.List.{List, [], _∷_}
-use lib.ListN.{length, drop, getD}
+use lib.ListN.{length}
 use lib.Dec.{ltb, eqb}
-use Rattle.base.specs.If.{if_then_else_, both}
-use Rattle.base.specs.Bytes.{lineFeed, carriageReturn}
+use Rattle.base.specs.If.{if_then_else_}
+use Rattle.base.specs.Bytes.{carriageReturn, isPrinted}
 use Rattle.base.specs.Runs.{all}
-use Rattle.base.specs.Class.{isPrinted}
 use Rattle.base.specs.Broken.{_when_, firstBroken}
 use Rattle.lex_line.specs.Lines.{Raw, lines}
 use Rattle.lex_line.specs.declared.Checked.{Checked}
@@ -51,15 +49,3 @@ linesRule n (l ∷ ls) = judged (lineRule l) n (linesRule (n + 1) ls)
 -- rules 1 to 4: 1 first, at line 0
 unfoldable pub byteRules : List ℕ → Checked
 byteRules t = if ltb mostBytes (length t) then Refused 1 0 else linesRule 1 (lines t)
-
--- how long the terminator at a place is: LF, or CR right before LF, or none
-unfoldable pub terminatorAt : List ℕ → ℕ → ℕ
-terminatorAt t i =
-    if eqb (getD t i 0) lineFeed then 1 else
-    if both (eqb (getD t i 0) carriageReturn) (eqb (getD t (i + 1) 0) lineFeed) then 2 else 0
-
--- a number and a place at which the lines from `at` on come to the same as that number at this line, and the lines from `next` on
-pub record Judges (t : List ℕ) (at number next : ℕ) : Type 0 where
-  pub same : (n : ℕ) → linesRule n (lines (drop at t)) ≡ judged number n (linesRule (n + 1) (lines (drop next t)))
-  pub on : number ≡ 0 → at < next
-  pub within : next ≤ length t

@@ -1,15 +1,13 @@
 -- Documents 000, 3 and 01, "Lines and keywords": the lines of a text, and the content of each.
 -- Assumes nothing.
-use Prim.Native.Nat.{ℕ, _+_}
+use Prim.Native.Nat.{ℕ}
 use mathlib.Core.Bool.{Bool, true, false}
 use mathlib.Core.List.{List, [], _∷_}
-use lib.ListN.{length, take, drop}
-use lib.Dec.{ltb, eqb}
+use lib.ListN.{take}
+use lib.Dec.{eqb}
 use Rattle.base.specs.If.{if_then_else_}
-use Rattle.base.specs.Bytes.{lineFeed, isBlank}
+use Rattle.base.specs.Bytes.{lineFeed, isBlank, isContent}
 use Rattle.base.specs.Runs.{run, all}
-use Rattle.base.specs.Class.{isBefore, isContent, runEnd}
-use Rattle.lex_line.specs.declared.Line.{Line}
 
 -- a line as it stands in the text: its bytes before the LF, and whether it has one
 pub record Raw : Type 0 where
@@ -33,11 +31,3 @@ contentOf comment bytes = take (run (isContent comment) bytes) bytes
 -- "lines left blank are skipped"
 unfoldable pub isBlankLine : List ℕ → Bool
 isBlankLine content = all isBlank content
-
--- past the LF at `end`, or `end` itself where the text ends there
-unfoldable pub pastFeed : List ℕ → ℕ → ℕ
-pastFeed t end = if ltb end (length t) then end + 1 else end
-
--- of the line that starts at `at`: where its content ends, and where the next line starts
-unfoldable pub lineAt : ℕ → List ℕ → ℕ → Line
-lineAt comment t at = record { content = runEnd (isContent comment) t at; next = pastFeed t (runEnd (isBefore lineFeed) t at) }

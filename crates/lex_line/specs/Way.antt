@@ -1,1 +1,4 @@
 pub mod Feeds
+pub mod Spans
+pub mod LineEnds
+pub mod Judges

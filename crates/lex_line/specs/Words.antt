@@ -1,17 +1,14 @@
 -- Document 01, "Lines and keywords": "Blanks are space and TAB"; words are what stands between them.
 -- Assumes nothing.
-use Prim.Native.Nat.{ℕ, suc, _+_, _-_, min}
+use Prim.Native.Nat.{ℕ, suc, _+_, _-_}
 use Prim.Native.Char.{code}
-use mathlib.Core.Bool.{Bool, true, false}
+use mathlib.Core.Bool.{Bool, false}
 use mathlib.Core.List.{List, [], _∷_, map, reverse}
 use lib.ListN.{length, take, drop}
 use lib.Dec.{ltb}
 use Rattle.base.specs.If.{if_then_else_}
-use Rattle.base.specs.Bytes.{isBlank}
+use Rattle.base.specs.Bytes.{isBlank, isBefore, isFilled}
 use Rattle.base.specs.Runs.{run}
-use Rattle.base.specs.Class.{isBefore, isFilled, runEnd}
-use Rattle.lex_line.specs.declared.Span.{Span}
-use Rattle.lex_line.specs.declared.Few.{Few}
 
 -- a word, with where it starts
 pub record Word : Type 0 where
@@ -35,10 +32,6 @@ wordsFrom at (b ∷ s) =
     if isBlank b then wordsFrom (suc at) s else
     if goesOn s then grown at b (wordsFrom (suc at) s) else record { start = at; text = b ∷ [] } ∷ wordsFrom (suc at) s
 
--- the first word at or after `from`; it starts at the end of s where there is none
-unfoldable pub wordAt : List ℕ → ℕ → Span
-wordAt s from = record { start = runEnd isBlank s from; end = runEnd isFilled s (runEnd isBlank s from) }
-
 -- how many bytes before a place, the nearest first, pass the test
 unfoldable pub backRun : (ℕ → Bool) → List ℕ → ℕ → ℕ
 backRun p s place = run p (reverse (take place s))
@@ -46,10 +39,6 @@ backRun p s place = run p (reverse (take place s))
 -- where the blanks at the end of s start
 unfoldable pub lastEnd : List ℕ → ℕ
 lastEnd s = length s - backRun isBlank s (length s)
-
--- the last word of s; it ends at 0 where there is none
-unfoldable pub lastWord : List ℕ → Span
-lastWord s = record { start = lastEnd s - backRun isFilled s (lastEnd s); end = lastEnd s }
 
 -- the words of a line, as their bytes
 abbrev pub words : List ℕ → List (List ℕ)
@@ -63,14 +52,6 @@ firstOf (w ∷ ws) = w
 abbrev pub secondOf : List (List ℕ) → List ℕ
 secondOf [] = []
 secondOf (w ∷ ws) = firstOf ws
-
--- a line's first two words, and how many it has: 3 stands for all above 2
-unfoldable pub fewOf : List ℕ → Few
-fewOf s = record { count = min 3 (length (words s)); first = wordAt s 0; second = wordAt s (wordAt s 0 .end) }
-
--- the bytes that a span marks
-abbrev pub markedBy : List ℕ → Span → List ℕ
-markedBy s w = take (w .end - w .start) (drop (w .start) s)
 
 -- ---- forms with `=`: "Blanks are .. optional about `=`", and the first one is the sign
 

@@ -15,7 +15,7 @@ use borrow.Author.Tests.{eq-eqb, ne-eqb, lt-leb, ltb-true, ltb-false, leb-true, 
 use Rattle.base.specs.If.{if_then_else_, both, either}
 use Rattle.base.specs.Bytes.{isDigit, isCapital, isSmall, isLetter, within}
 use Rattle.base.specs.Runs.{run, all}
-use Rattle.base.specs.Class.{runEnd}
+use Rattle.base.specs.Way.Class.{runEnd}
 use Rattle.base.proofs.IfLaws.{if-true, if-false, by-cases, by-test, both-true, both-not-left, either-false, either-none-first, either-none-second}
 use Rattle.base.proofs.RunLaws.{run-goes, run-stops, run-nil, run-on, run-le, run-all, run-end, run-past, run-stop, run-take, run-wider}
 use Rattle.lex_number.specs.declared.Digits.{Digits}

@@ -12,9 +12,9 @@ use lib.Seq.{take-all}
 use lib.Dec.{eqb, ltb}
 use borrow.Author.Tests.{ne-eqb, lt-ltb, le-ltb, ltb-false, not-true, not-false}
 use Rattle.base.specs.If.{if_then_else_, both, either}
-use Rattle.base.specs.Bytes.{isBlank, isDigit, isCapital, isSmall, isLetter, within}
+use Rattle.base.specs.Bytes.{isBlank, isDigit, isCapital, isSmall, isLetter, within, isFilled, isBefore, isContent}
 use Rattle.base.specs.Runs.{run}
-use Rattle.base.specs.Class.{isFilled, isBefore, isContent, runEnd}
+use Rattle.base.specs.Way.Class.{runEnd}
 use Rattle.base.proofs.IfLaws.{if-true, if-false, by-cases, both-true, both-not-left, both-rest, either-false}
 use Rattle.base.proofs.RunLaws.{run-on, run-stop}
 use Rattle.lex_number.specs.declared.Number.{Number}

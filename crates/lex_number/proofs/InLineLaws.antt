@@ -8,7 +8,8 @@ use native.Mathlib.Omega.{arith}
 use lib.ListN.{length, take, drop, drop-of-length-le}
 use Rattle.base.specs.If.{if_then_else_, both, either}
 use Rattle.base.specs.Runs.{run}
-use Rattle.base.specs.Class.{isFilled, runEnd}
+use Rattle.base.specs.Way.Class.{runEnd}
+use Rattle.base.specs.Bytes.{isFilled}
 use Rattle.lex_number.specs.declared.Number.{Number}
 use Rattle.lex_number.specs.declared.Number.the-variants.{Malformed}
 use Rattle.lex_number.specs.Number.{isSign, isMinus, isPoint, isE, pastSign, noDigits, goesOn, scan, noExponent, exponentOf, wellFormed, numberFrom, digitsOf, exponentFrom, numberOf}

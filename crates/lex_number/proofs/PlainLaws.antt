@@ -16,7 +16,7 @@ use borrow.Author.Tests.{eq-eqb, ne-eqb, le-leb, lt-leb, lt-ltb, le-ltb, leb-tru
 use Rattle.base.specs.If.{if_then_else_, both, either}
 use Rattle.base.specs.Bytes.{isDigit, within}
 use Rattle.base.specs.Runs.{run}
-use Rattle.base.specs.Class.{runEnd}
+use Rattle.base.specs.Way.Class.{runEnd}
 use Rattle.base.proofs.IfLaws.{if-true, if-false, by-cases, by-test, both-true, both-not-left, both-not-right, both-rest, either-left, either-right, either-rest, either-false}
 use Rattle.base.proofs.RunLaws.{run-goes, run-stops, run-nil, run-end-at, run-on, run-stop, run-past}
 use Rattle.lex_number.specs.declared.Digits.{Digits}

@@ -7,7 +7,7 @@ ghost use lib.ListN.{length, take, drop, getD};
 ghost use Rattle.base.specs.If.{if_then_else_, both};
 ghost use Rattle.base.specs.Bytes.{within, isDigit, isLetter};
 ghost use Rattle.base.specs.Runs.{all};
-ghost use Rattle.base.specs.Class.{runEnd};
+ghost use Rattle.base.specs.Way.Class.{runEnd};
 ghost use lib.Dec.{ltb};
 ghost use Rattle.lex_number.specs.Number.{isSign, isMinus, isE, pastSign, goesOn, noDigits, withPoint, withDigit, withByte, scan, noExponent, exponentOf, scalings, powerIn, aboveZero, scaleOf, raised, lowered, valueAs, wellFormed, numberOf, isFormed, isBounded};
 ghost use Rattle.lex_number.specs.Integer.{valueOf, wholeOf};

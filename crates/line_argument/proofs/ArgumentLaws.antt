@@ -13,8 +13,8 @@ use lib.Seq.{take-all}
 use lib.Dec.{eqb, ltb}
 use borrow.Author.Tests.{eq-eqb, ne-eqb, le-leb, lt-leb, lt-ltb, le-ltb, ltb-true, ltb-false, not-true, not-false}
 use Rattle.base.specs.If.{both}
-use Rattle.base.specs.Bytes.{within}
-use Rattle.base.specs.Class.{isFilled, runEnd}
+use Rattle.base.specs.Bytes.{within, isFilled}
+use Rattle.base.specs.Way.Class.{runEnd}
 use Rattle.base.specs.Runs.{run, all}
 use Rattle.base.proofs.IfLaws.{by-cases, both-true, both-rest, both-not-left, both-not-right}
 use Rattle.lex_number.specs.declared.Whole.{Whole}

@@ -8,9 +8,8 @@ use mathlib.Core.List.{List, [], _∷_}
 use lib.ListN.{length, drop, getD}
 use lib.Dec.{ltb, eqb}
 use Rattle.base.specs.If.{if_then_else_, both, either}
-use Rattle.base.specs.Bytes.{bytes, within, isDigit, isSmall}
+use Rattle.base.specs.Bytes.{bytes, within, isDigit, isSmall, isFilled}
 use Rattle.base.specs.Runs.{run, all, same}
-use Rattle.base.specs.Class.{isFilled}
 use Rattle.lex_number.specs.Integer.{wholeOf}
 use Rattle.lex_keyword.specs.Names.{
   theEnd,

@@ -4,7 +4,7 @@ use base::Class;
 ghost use mathlib.Core.Path.{_≡_};
 ghost use lib.ListN.{length};
 ghost use Rattle.base.specs.Bytes.{within};
-ghost use Rattle.base.specs.Class.{runEnd};
+ghost use Rattle.base.specs.Way.Class.{runEnd};
 ghost use Rattle.line_argument.specs.Argument.{
   isReserved,
   isOneWord,

@@ -11,12 +11,13 @@ use lib.ListN.{length, take, drop}
 use lib.Seq.{length-take-le}
 use lib.Dec.{eqb}
 use borrow.Author.Tests.{eq-eqb, ne-eqb, not-true, not-false}
-use Rattle.base.specs.Bytes.{bytes, within}
+use Rattle.base.specs.Bytes.{bytes, within, isBefore}
 use Rattle.base.specs.Runs.{same}
-use Rattle.base.specs.Class.{isBefore, runEnd}
+use Rattle.base.specs.Way.Class.{runEnd}
 use Rattle.base.proofs.IfLaws.{if-true, if-false, both-true, both-not-left, both-not-right, not-via, not-not-via}
 use Rattle.base.proofs.RunLaws.{run-le}
-use Rattle.lex_line.specs.Words.{words, firstOf, secondOf, leftOf, rightOf, fewOf, markedBy, toEquals}
+use Rattle.lex_line.specs.Words.{words, firstOf, secondOf, leftOf, rightOf, toEquals}
+use Rattle.lex_line.specs.Way.Spans.{fewOf, markedBy}
 use Rattle.lex_line.specs.declared.Few.{Few}
 use Rattle.lex_line.proofs.WordLaws.{first-marked, second-marked}
 use Rattle.lex_line.proofs.FormLaws.{counted, counted-not, part-from, sign-none, sign-there, left-words, right-words}

@@ -7,9 +7,8 @@ use mathlib.Core.List.{List, [], _∷_}
 use lib.ListN.{length, take, drop}
 use lib.Dec.{eqb}
 use Rattle.base.specs.If.{if_then_else_, both, either}
-use Rattle.base.specs.Bytes.{bytes, within}
+use Rattle.base.specs.Bytes.{bytes, within, isBefore}
 use Rattle.base.specs.Runs.{run, same}
-use Rattle.base.specs.Class.{isBefore}
 use Rattle.base.specs.Broken.{_when_, firstBroken}
 use Rattle.lex_line.specs.Words.{words, firstOf, secondOf, hasEquals, leftOf, rightOf}
 use Rattle.lex_number.specs.Number.{numberOf, isFormed, isBounded}

@@ -2,7 +2,8 @@
 ghost use mathlib.Core.Path.{_≡_};
 ghost use Rattle.base.specs.Bytes.{bytes};
 ghost use Rattle.base.specs.Runs.{same};
-ghost use Rattle.lex_line.specs.Words.{words, firstOf, leftOf, fewOf};
+ghost use Rattle.lex_line.specs.Words.{words, firstOf, leftOf};
+ghost use Rattle.lex_line.specs.Way.Spans.{fewOf};
 ghost use Rattle.line_head.specs.Head.{kindOf, wrongLine, typeLine, sgrLine, impedanceLine, headLineOf, isOutOfOrder, headRule, headNext, newHead, headLacks};
 use base::Class;
 use lex_line::Few;

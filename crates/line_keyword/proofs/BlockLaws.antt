@@ -27,9 +27,8 @@ use Rattle.line_keyword.specs.Keywords.{
   oneMoreIf,
   countsAfter,
   keywordNext,
-  keptRule,
-  keptNext,
 }
+use Rattle.line_keyword.specs.Way.Row.{keptRule, keptNext}
 use Rattle.line_head.specs.Head.{newHead}
 use Rattle.line_head.specs.declared.Head.{Head}
 use Rattle.line_path.specs.Path.{newPath}

@@ -37,9 +37,8 @@ use Rattle.line_keyword.specs.Keywords.{
   oneMoreIf,
   countsAfter,
   keywordNext,
-  keptRule,
-  keptNext,
 }
+use Rattle.line_keyword.specs.Way.Row.{keptRule, keptNext}
 
 -- a keyword that keeps a matrix open is one of two
 kept-by : (P : ℕ → Type 0) (k : ℕ) → keepsMatrix k ≡ true → P row → P bandwidth → P k

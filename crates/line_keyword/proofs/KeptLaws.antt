@@ -18,7 +18,7 @@ use Rattle.line_argument.specs.Argument.{isBadArgument, isBadInteger, isOutOfBo
 use Rattle.line_path.specs.Path.{deepest, newPath}
 use Rattle.line_path.specs.declared.Path.{Path}
 use Rattle.line_path.proofs.DepthLaws.{new-outside}
-use Rattle.line_map.specs.PinMap.{Bounded}
+use Rattle.line_map.specs.Way.Bounded.{Bounded}
 use Rattle.line_map.specs.declared.Map.{Map}
 use Rattle.line_map.proofs.MapLaws.{new-bounded}
 use Rattle.line_keyword.specs.declared.Counts.{Counts}

@@ -246,20 +246,3 @@ keywordNext k argument s =
       matrix = matrixAfter k argument s;
       counts = countsAfter k (s .counts);
     }
-
--- ---- a keyword that keeps a matrix open, by the matrix alone
-
--- the rules that [Row] or [Bandwidth] may break in a matrix
-unfoldable pub keptRule : ℕ → List ℕ → Matrix → ℕ
-keptRule k argument m =
-    firstBroken
-    (11 when isBadArgument k argument
-    ∷ 13 when isBadInteger k argument
-    ∷ 14 when isOutOfBounds k argument
-    ∷ 16 when isWrongInMatrix k (wholeOf argument .value) m
-    ∷ [])
-
--- the matrix after it
-unfoldable pub keptNext : ℕ → List ℕ → Matrix → ℕ → Matrix
-keptNext k argument m values =
-    if eqb k row then withRow (wholeOf argument .value) m values else withBandwidth (wholeOf argument .value) m

@@ -2,17 +2,18 @@
 ghost use mathlib.Core.Path.{_≡_};
 ghost use mathlib.Core.Bool.{true, false};
 ghost use Prim.Native.Nat.{_^_, _<_};
-ghost use Rattle.line_keyword.specs.Keywords.{isOnce, isSeen, hasNoKind, kindsLack, headerLacks, familyLacks, isLacking, isUnclosed, isRepeated, isMisplaced, isForkOpen, isWrongInMatrix, isMatrixBroken, isShapeBroken, closesTooWide, isFull, isPastBound, keywordRule, seenAfter, headAfter, pathAfter, mapAfter, conductorsAfter, sectionAfter, matrixAfter, oneMoreIf, countsAfter, keywordNext, keptRule, keptNext};
+ghost use Rattle.line_keyword.specs.Keywords.{isOnce, isSeen, hasNoKind, kindsLack, headerLacks, familyLacks, isLacking, isUnclosed, isRepeated, isMisplaced, isForkOpen, isWrongInMatrix, isMatrixBroken, isShapeBroken, closesTooWide, isFull, isPastBound, keywordRule, seenAfter, headAfter, pathAfter, mapAfter, conductorsAfter, sectionAfter, matrixAfter, oneMoreIf, countsAfter, keywordNext};
+ghost use Rattle.line_keyword.specs.Way.Row.{keptRule, keptNext};
 ghost use Rattle.lex_number.specs.Integer.{wholeOf};
 ghost use Rattle.line_place.specs.Place.{keepsMatrix};
 ghost use Rattle.line_argument.specs.Argument.{isOutOfBounds};
 ghost use Rattle.line_keyword.specs.Way.Kept.{Countable};
-ghost use Rattle.line_map.specs.PinMap.{Bounded};
+ghost use Rattle.line_map.specs.Way.Bounded.{Bounded};
 ghost use Rattle.line_keyword.specs.State.{startState};
 use line_head::Head;
+use line_map::Map;
 use line_matrix::Matrix;
 use line_path::Path;
-use line_map::Map;
 
 const DISTRIBUTED: u64 = 1;
 

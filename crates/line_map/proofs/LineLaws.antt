@@ -14,7 +14,8 @@ use Rattle.base.specs.Runs.{same}
 use Rattle.base.proofs.IfLaws.{if-true, if-false, both-true, both-rest, both-not-left, not-via, not-not-via}
 use Rattle.base.proofs.RunLaws.{run-le}
 use Rattle.lex_line.specs.declared.Few.{Few}
-use Rattle.lex_line.specs.Words.{words, firstOf, secondOf, fewOf, markedBy, toEquals, hasEquals, leftOf, rightOf}
+use Rattle.lex_line.specs.Words.{words, firstOf, secondOf, toEquals, hasEquals, leftOf, rightOf}
+use Rattle.lex_line.specs.Way.Spans.{fewOf, markedBy}
 use Rattle.lex_line.proofs.WordLaws.{first-marked, second-marked}
 use Rattle.lex_number.specs.declared.Whole.{Whole}
 use Rattle.lex_number.specs.Integer.{wholeOf}

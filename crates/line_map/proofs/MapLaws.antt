@@ -18,7 +18,8 @@ use Rattle.lex_line.specs.Words.{words, firstOf, secondOf, rightOf}
 use Rattle.lex_number.specs.Integer.{wholeOf}
 use Rattle.line_map.specs.declared.Map.{Map}
 use Rattle.line_map.specs.declared.MapLine.{MapLine}
-use Rattle.line_map.specs.PinMap.{order, columns, rows, orderOf, wrongLine, orderLine, listLine, sizeLine, mapLineOf, newMap, isOrdered, isOutOfOrder, mapRule, mapNext, mostPins, mostMapPins, isPinLine, pinRule, withPin, Bounded}
+use Rattle.line_map.specs.PinMap.{order, columns, rows, orderOf, wrongLine, orderLine, listLine, sizeLine, mapLineOf, newMap, isOrdered, isOutOfOrder, mapRule, mapNext, mostPins, mostMapPins, isPinLine, pinRule, withPin}
+use Rattle.line_map.specs.Way.Bounded.{Bounded}
 
 -- t says whether the map is ordered
 module _ (m : Map) (given : ℕ) (t : Bool) (told : t ≡ isOrdered m) where

@@ -1,1 +1,2 @@
 pub mod PinMap
+pub mod Way

@@ -1,6 +1,6 @@
 -- Document 01, "Pin maps": the lines above Pin_list, and the pins below it.
 -- Assumes nothing.
-use Prim.Native.Nat.{ℕ, _+_, _*_, _≤_}
+use Prim.Native.Nat.{ℕ, _+_, _*_}
 use mathlib.Core.Bool.{Bool, true, false, not}
 use mathlib.Core.List.{List, [], _∷_}
 use lib.ListN.{length}
@@ -127,8 +127,3 @@ pinsLack m = eqb (m .pins) 0
 -- request 3: "an ordered map has at least one and at most rows times columns pins", "16 on a map is given only above the product"
 unfoldable pub isWrongGrid : Map → Bool
 isWrongGrid m = both (isOrdered m) (ltb (m .rows * m .columns) (m .pins))
-
--- the sizes that a map has while no rule is broken: a line gives none above 256
-pub record Bounded (m : Map) : Type 0 where
-  pub few-rows : m .rows ≤ 256
-  pub few-columns : m .columns ≤ 256

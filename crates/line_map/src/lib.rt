@@ -22,8 +22,8 @@ ghost use Rattle.line_map.specs.PinMap.{
   withPin,
   pinsLack,
   isWrongGrid,
-  Bounded,
 };
+ghost use Rattle.line_map.specs.Way.Bounded.{Bounded};
 
 // A map as far as it is read. The order is one above the table's count, so that 0 says of each of the three that it is still to come.
 pub struct Map {

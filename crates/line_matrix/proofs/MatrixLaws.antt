@@ -14,15 +14,16 @@ use Rattle.line_matrix.specs.declared.Matrix.{Matrix}
 use Rattle.line_matrix.specs.declared.Rows.{Rows}
 use Rattle.line_matrix.specs.declared.DataLine.{DataLine}
 use Rattle.line_matrix.specs.declared.Told.{Told}
-use Rattle.base.specs.Bytes.{isBlank}
+use Rattle.base.specs.Bytes.{isBlank, isFilled}
 use Rattle.base.specs.Runs.{run}
-use Rattle.base.specs.Class.{isFilled, runEnd}
+use Rattle.base.specs.Way.Class.{runEnd}
 use Rattle.lex_number.specs.Way.At.{wordFrom, numberAt}
 use Rattle.lex_number.specs.declared.NumberAt.{NumberAt}
 use Rattle.lex_number.specs.Number.{numberOf, isFormed, isBounded}
 use Rattle.lex_number.specs.Integer.{wholeOf}
 use Rattle.lex_number.specs.declared.Whole.{Whole}
-use Rattle.lex_line.specs.Words.{words, firstOf, secondOf, markedBy, wordAt, fewOf}
+use Rattle.lex_line.specs.Words.{words, firstOf, secondOf}
+use Rattle.lex_line.specs.Way.Spans.{markedBy, wordAt, fewOf}
 use Rattle.lex_line.specs.declared.Span.{Span}
 use Rattle.lex_line.specs.declared.Few.{Few}
 use Rattle.lex_line.proofs.FormLaws.{counted, counted-not}

@@ -9,7 +9,8 @@ use lib.Dec.{eqb}
 use borrow.Author.Tests.{ne-eqb}
 use Rattle.base.specs.If.{either}
 use Rattle.base.proofs.IfLaws.{if-true, if-false, both-rest, both-not-left}
-use Rattle.lex_line.specs.Words.{words, fewOf, markedBy}
+use Rattle.lex_line.specs.Words.{words}
+use Rattle.lex_line.specs.Way.Spans.{fewOf, markedBy}
 use Rattle.lex_line.specs.declared.Few.{Few}
 use Rattle.lex_line.proofs.WordLaws.{first-marked, second-marked}
 use Rattle.lex_line.proofs.FormLaws.{counted, counted-not, count-tells}

@@ -11,7 +11,8 @@ use Rattle.base.specs.If.{if_then_else_, both, either}
 use Rattle.base.specs.Bytes.{bytes, within}
 use Rattle.base.specs.Runs.{same}
 use Rattle.base.proofs.IfLaws.{if-true, if-false, by-cases, by-test, both-true, both-not-left, both-not-right, both-first, both-second, either-left, either-right, either-false, not-via, not-not-via}
-use Rattle.lex_line.specs.Words.{words, firstOf, secondOf, hasEquals, leftOf, rightOf, fewOf, markedBy, toEquals}
+use Rattle.lex_line.specs.Words.{words, firstOf, secondOf, hasEquals, leftOf, rightOf, toEquals}
+use Rattle.lex_line.specs.Way.Spans.{fewOf, markedBy}
 use Rattle.lex_line.specs.declared.Few.{Few}
 use Rattle.lex_line.proofs.WordLaws.{first-marked, second-marked}
 use Rattle.lex_line.proofs.FormLaws.{counted, counted-not, sign-none, sign-there, left-words, right-words}

@@ -12,14 +12,15 @@ use lib.Seq.{drop-cons, drop-drop, getD-drop, length-take-le, take-all}
 use lib.Dec.{eqb, ltb}
 use borrow.Author.Tests.{eqb-true, eqb-false, not-true, not-false, lt-ltb}
 use Rattle.base.specs.If.{if_then_else_, both, either}
-use Rattle.base.specs.Bytes.{bytes, isBlank}
+use Rattle.base.specs.Bytes.{bytes, isBlank, isFilled, isBefore}
 use Rattle.base.specs.Runs.{run, all, same}
-use Rattle.base.specs.Class.{isFilled, isBefore, runEnd}
+use Rattle.base.specs.Way.Class.{runEnd}
 use Rattle.base.specs.Way.Joined.{joined, isByte, Joins}
 use Rattle.base.proofs.IfLaws.{if-true, if-false, both-true, not-via, not-not-via}
 use Rattle.base.proofs.RunLaws.{run-nil, run-goes, run-stops, run-le, run-on, run-end-at, run-all, run-is}
 use Rattle.base.proofs.JoinedLaws.{joined-same}
-use Rattle.lex_line.specs.Words.{wordsFrom, goesOn, grown, wordAt, words, firstOf, secondOf, leftOf, rightOf, hasEquals, toEquals, markedBy}
+use Rattle.lex_line.specs.Words.{wordsFrom, goesOn, grown, words, firstOf, secondOf, leftOf, rightOf, hasEquals, toEquals}
+use Rattle.lex_line.specs.Way.Spans.{wordAt, markedBy}
 use Rattle.lex_line.proofs.WordLaws.{after-at, after-none, after-past, wordsAfter}
 use Rattle.lex_line.specs.declared.Span.{Span}
 use Rattle.lex_line.proofs.FormLaws.{part-from}

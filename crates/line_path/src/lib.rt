@@ -4,13 +4,14 @@ ghost use mathlib.Core.Bool.{true};
 ghost use Prim.Native.Nat.{_-_, _≤_};
 ghost use lib.Dec.{eqb};
 ghost use Rattle.base.specs.If.{either};
-ghost use Rattle.lex_line.specs.Words.{words, fewOf};
+ghost use Rattle.lex_line.specs.Words.{words};
+ghost use Rattle.lex_line.specs.Way.Spans.{fewOf};
 ghost use Rattle.lex_number.specs.declared.Number.the-variants.{Value};
 ghost use Rattle.line_path.specs.Path.{fork, endfork, end, side, deepest, sayingOf, plainLine, namesOne, isLength, sectionLine, lineSaying, pathLineOf, newPath, isBadFork, isOutOfOrder, isStep, openRule, closedRule, pathRule, withEnd, pathNext, pathOpen, pathLacks};
 ghost use Rattle.line_path.specs.Way.Section.{amountLine, unitLine, partsLine};
 ghost use Rattle.line_path.specs.Way.Usual.{OpensMult, Paired, UsualSection, UsualFork};
-use lex_number::Number;
 use lex_line::Few;
+use lex_number::Number;
 
 // What a line of a path says: Model_pinmap is an end.
 const NOTHING: u64 = 0;
@@ -263,7 +264,10 @@ fn parts_line(left: &[u8], right: &[u8]) -> PathLine
     }
     let unit = before.second;
     let amount = after.first;
-    unit_line(lex_line::marked(left, unit), lex_line::marked(right, amount))
+    unit_line(
+        lex_line::marked(left, unit),
+        lex_line::marked(right, amount),
+    )
 }
 
 // "`Section Mult=n name`, `Section Len=v name`".

@@ -171,9 +171,27 @@ pub fn model_line(
     ensures { λ r. ⌜ Written (now (out .entry)) (now (out .exit)) at r (modelLine (now (text .entry)) (now (table .entry)) index) ⌝ }
 {
     let model_type = field_of(table, view, table_layout::MODELS, index, 2);
-    let second = put_name(out, at, text, table, view, table_layout::MODELS, index, b' ');
+    let second = put_name(
+        out,
+        at,
+        text,
+        table,
+        view,
+        table_layout::MODELS,
+        index,
+        b' ',
+    );
     let third = put_type(out, second, model_type, b' ');
-    put_number(out, third, table, view, table_layout::MODELS, index, 4, b'\n')
+    put_number(
+        out,
+        third,
+        table,
+        view,
+        table_layout::MODELS,
+        index,
+        4,
+        b'\n',
+    )
 }
 
 pub fn map_line(
@@ -188,7 +206,16 @@ pub fn map_line(
     ensures { λ r. ⌜ Written (now (out .entry)) (now (out .exit)) at r (mapLine (now (text .entry)) (now (table .entry)) index) ⌝ }
 {
     let second = put_name(out, at, text, table, view, table_layout::MAPS, index, b' ');
-    put_number(out, second, table, view, table_layout::MAPS, index, 6, b'\n')
+    put_number(
+        out,
+        second,
+        table,
+        view,
+        table_layout::MAPS,
+        index,
+        6,
+        b'\n',
+    )
 }
 
 pub fn section_line(
@@ -203,9 +230,27 @@ pub fn section_line(
     ensures { λ r. ⌜ Written (now (out .entry)) (now (out .exit)) at r (sectionLine (now (text .entry)) (now (table .entry)) index) ⌝ }
 {
     let method = field_of(table, view, table_layout::SECTIONS, index, 2);
-    let second = put_name(out, at, text, table, view, table_layout::SECTIONS, index, b' ');
+    let second = put_name(
+        out,
+        at,
+        text,
+        table,
+        view,
+        table_layout::SECTIONS,
+        index,
+        b' ',
+    );
     let third = put_method(out, second, method, b' ');
-    put_number(out, third, table, view, table_layout::SECTIONS, index, 3, b'\n')
+    put_number(
+        out,
+        third,
+        table,
+        view,
+        table_layout::SECTIONS,
+        index,
+        3,
+        b'\n',
+    )
 }
 
 // The Side of an end.
@@ -225,9 +270,27 @@ fn end_line(out: &mut [u8], at: usize, text: &[u8], table: &[u64], view: View, i
     let map = field_of(table, view, table_layout::STEPS, index, 1);
     let size = field_of(table, view, table_layout::STEPS, index, 4);
     let second = out_text::put_field(out, at, b"end", b' ');
-    let third = put_number(out, second, table, view, table_layout::STEPS, index, 5, b' ');
+    let third = put_number(
+        out,
+        second,
+        table,
+        view,
+        table_layout::STEPS,
+        index,
+        5,
+        b' ',
+    );
     if size == 0 {
-        return put_name(out, third, text, table, view, table_layout::MAPS, map, b'\n');
+        return put_name(
+            out,
+            third,
+            text,
+            table,
+            view,
+            table_layout::MAPS,
+            map,
+            b'\n',
+        );
     }
     let fourth = put_name(out, third, text, table, view, table_layout::MAPS, map, b' ');
     put_side(out, fourth, text, table, view, index)
@@ -259,7 +322,16 @@ fn section_step_line(
 {
     let section = field_of(table, view, table_layout::STEPS, index, 1);
     let second = out_text::put_field(out, at, b"section", b' ');
-    let third = put_number(out, second, table, view, table_layout::STEPS, index, 5, b' ');
+    let third = put_number(
+        out,
+        second,
+        table,
+        view,
+        table_layout::STEPS,
+        index,
+        5,
+        b' ',
+    );
     let fourth = put_name(
         out,
         third,
@@ -462,11 +534,47 @@ fn value_line(
     requires { ⌜ view ≡ viewOf (now table) ⌝ }
     ensures { λ r. ⌜ Written (now (out .entry)) (now (out .exit)) at r (valueLine (now (text .entry)) (now (table .entry)) section kind value) ⌝ }
 {
-    let second = put_name(out, at, text, table, view, table_layout::SECTIONS, section, b' ');
+    let second = put_name(
+        out,
+        at,
+        text,
+        table,
+        view,
+        table_layout::SECTIONS,
+        section,
+        b' ',
+    );
     let third = put_kind(out, second, kind, b' ');
-    let fourth = put_number(out, third, table, view, table_layout::VALUES, value, 0, b' ');
-    let fifth = put_number(out, fourth, table, view, table_layout::VALUES, value, 1, b' ');
-    put_word(out, fifth, table, view, table_layout::VALUES, value, 2, b'\n')
+    let fourth = put_number(
+        out,
+        third,
+        table,
+        view,
+        table_layout::VALUES,
+        value,
+        0,
+        b' ',
+    );
+    let fifth = put_number(
+        out,
+        fourth,
+        table,
+        view,
+        table_layout::VALUES,
+        value,
+        1,
+        b' ',
+    );
+    put_word(
+        out,
+        fifth,
+        table,
+        view,
+        table_layout::VALUES,
+        value,
+        2,
+        b'\n',
+    )
 }
 
 fn matrix_lines(

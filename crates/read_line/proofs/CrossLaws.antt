@@ -9,7 +9,8 @@ use native.Mathlib.Omega.{arith}
 use lib.ListN.{length, take, drop}
 use borrow.Author.Tests.{eq-eqb, ne-eqb}
 use Rattle.base.proofs.IfLaws.{if-true, if-false}
-use Rattle.lex_line.specs.Lines.{lines, lineAt}
+use Rattle.lex_line.specs.Lines.{lines}
+use Rattle.lex_line.specs.Way.LineEnds.{lineAt}
 use Rattle.lex_line.specs.declared.Line.{Line}
 use Rattle.lex_line.proofs.LineLaws.{next-on, next-within}
 use Rattle.line_keyword.specs.Way.Kept.{Kept}

@@ -23,7 +23,8 @@ use Rattle.line_path.specs.declared.Path.{Path}
 use Rattle.line_path.specs.declared.PathLine.{PathLine}
 use Rattle.line_path.proofs.RuleLaws.{closed-other}
 use Rattle.line_path.proofs.DepthLaws.{depth-within}
-use Rattle.line_map.specs.PinMap.{mostPins, mostMapPins, Bounded, isPinLine, mapLineOf, mapRule, pinRule}
+use Rattle.line_map.specs.PinMap.{mostPins, mostMapPins, isPinLine, mapLineOf, mapRule, pinRule}
+use Rattle.line_map.specs.Way.Bounded.{Bounded}
 use Rattle.line_map.specs.declared.Map.{Map}
 use Rattle.line_map.proofs.MapLaws.{next-bounded, pin-bounded}
 use Rattle.line_matrix.specs.Matrix.{sparse, mostValues, sparseLine, numbersLine, dataLineOf, areTooMany, dataRule}

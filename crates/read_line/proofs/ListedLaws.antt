@@ -11,7 +11,7 @@ use borrow.Author.Tests.{ne-eqb, eqb-false, ltb-true, not-true}
 use Rattle.base.specs.If.{if_then_else_, both, either}
 use Rattle.base.specs.Bytes.{isBlank, bytes}
 use Rattle.base.specs.Runs.{run, same}
-use Rattle.base.specs.Class.{runEnd}
+use Rattle.base.specs.Way.Class.{runEnd}
 use Rattle.base.proofs.IfLaws.{if-false, by-test, both-first, both-second, both-not-left, either-false}
 use Rattle.base.proofs.RunLaws.{run-stops}
 use Rattle.lex_line.specs.Words.{Word, goesOn, grown, wordsFrom, words, firstOf}

@@ -13,7 +13,7 @@ use borrow.Author.Tests.{eq-eqb, ne-eqb, not-true}
 use Rattle.base.specs.If.{if_then_else_}
 use Rattle.base.specs.Bytes.{isBlank}
 use Rattle.base.specs.Runs.{run}
-use Rattle.base.specs.Class.{runEnd}
+use Rattle.base.specs.Way.Class.{runEnd}
 use Rattle.base.proofs.IfLaws.{if-true, if-false, by-test, by-cases}
 use Rattle.lex_line.specs.Lines.{isBlankLine}
 use Rattle.lex_line.specs.Words.{words, firstOf}

@@ -9,10 +9,11 @@ use lib.Dec.{eqb}
 use borrow.Author.Tests.{eq-eqb, ne-eqb, eqb-true, eqb-false, ltb-false}
 use Rattle.base.specs.If.{if_then_else_, both, either}
 use Rattle.base.proofs.IfLaws.{if-true, if-false, by-cases, either-rest}
-use Rattle.lex_line.specs.Words.{words, firstOf, lastEnd, lastWord}
+use Rattle.lex_line.specs.Words.{words, firstOf, lastEnd}
+use Rattle.lex_line.specs.Way.Spans.{lastWord}
 use Rattle.line_place.specs.Place.{movedByLine, isText}
 use Rattle.line_place.specs.Place as place
-use Rattle.line_argument.specs.Argument.{isReserved}
+use Rattle.line_argument.specs.Argument.{isReserved, isOutOfBounds}
 use Rattle.line_head.specs.Head.{headLineOf, headRule, headNext}
 use Rattle.line_head.specs.declared.Head.{Head}
 use Rattle.line_head.specs.declared.HeadLine.{HeadLine}
@@ -31,10 +32,9 @@ use Rattle.line_matrix.specs.declared.DataLine.{DataLine}
 use Rattle.line_keyword.specs.Keywords.{oneMoreIf, keywordRule, keywordNext}
 use Rattle.line_keyword.specs.Way.Kept.{Kept, Countable, mostLines}
 use Rattle.line_keyword.proofs.KeptLaws.{keyword-bounds, kept-countable, more-within}
-use Rattle.line_argument.specs.Argument.{isOutOfBounds}
 use Rattle.base.specs.Bytes.{isBlank}
 use Rattle.base.specs.Runs.{run, all}
-use Rattle.base.specs.Class.{runEnd}
+use Rattle.base.specs.Way.Class.{runEnd}
 use Rattle.base.proofs.RunLaws.{run-whole, all-run}
 use Rattle.lex_line.specs.Lines.{isBlankLine}
 use Rattle.lex_line.specs.declared.Span.{Span}

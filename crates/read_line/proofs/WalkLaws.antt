@@ -11,10 +11,11 @@ use lib.Dec.{eqb}
 use borrow.Author.Tests.{eq-eqb, ne-eqb, eqb-true, eqb-false}
 use Rattle.base.specs.Runs.{run as run′}
 use Rattle.base.specs.If.{if_then_else_}
-use Rattle.base.specs.Class.{isContent}
+use Rattle.base.specs.Bytes.{isContent}
 use Rattle.base.proofs.IfLaws.{if-true, if-false, by-cases}
 use Rattle.base.proofs.RunLaws.{run-le}
-use Rattle.lex_line.specs.Lines.{Raw, lines, contentOf, isBlankLine, lineAt}
+use Rattle.lex_line.specs.Lines.{Raw, lines, contentOf, isBlankLine}
+use Rattle.lex_line.specs.Way.LineEnds.{lineAt}
 use Rattle.lex_line.specs.declared.Line.{Line}
 use Rattle.lex_line.proofs.LineLaws.{firstOf, lines-at, next-on, next-within, content-at}
 use Rattle.line_keyword.specs.Way.Kept.{Kept}

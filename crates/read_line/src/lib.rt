@@ -14,11 +14,11 @@ ghost use Rattle.line_keyword.specs.declared.State.{State};
 ghost use Rattle.lex_keyword.specs.Bracket.{bracketOf};
 ghost use Rattle.lex_keyword.specs.declared.Bracket.the-variants.{Plain, Indented, Keyword};
 ghost use Rattle.read_line.specs.Way.Walk.{Reached, Onward, Passed, Crossed, Holds, Decides, Fronted, Stepping, Opens, Elsewhere, StandsElsewhere, contentAt, Stays, Blocked, withPath, withPinned};
+use lex_keyword::Bracket;
 use line_keyword::Counts;
 use line_keyword::State;
-use lex_keyword::Bracket;
-use line_path::Path;
 use line_map::Map;
+use line_path::Path;
 
 // "From `|` on, a line is comment".
 const COMMENT: u8 = b'|';

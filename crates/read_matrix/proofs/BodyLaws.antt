@@ -11,7 +11,8 @@ use lib.ListN.{length, take, drop, length-append}
 use lib.Seq.{sets, take-take, sets-eq, drop-append-add, take-append-seam, length-take-le}
 use Rattle.base.specs.If.{both}
 use Rattle.base.proofs.IfLaws.{by-cases, both-first, both-second}
-use Rattle.lex_line.specs.Lines.{isBlankLine, lineAt}
+use Rattle.lex_line.specs.Lines.{isBlankLine}
+use Rattle.lex_line.specs.Way.LineEnds.{lineAt}
 use Rattle.lex_line.specs.declared.Line as text
 use Rattle.line_place.specs.Place as place
 use Rattle.table_layout.specs.Layout.{joined}

@@ -23,7 +23,8 @@ use Rattle.line_place.specs.Place as place
 use Rattle.line_matrix.specs.Matrix.{sparse, dataLineOf, dataRule, dataNext, withColumn, withRow, withBandwidth}
 use Rattle.line_matrix.specs.declared.Matrix.{Matrix}
 use Rattle.line_matrix.specs.declared.DataLine.{DataLine}
-use Rattle.line_keyword.specs.Keywords.{keywordRule, keptRule, keptNext}
+use Rattle.line_keyword.specs.Keywords.{keywordRule}
+use Rattle.line_keyword.specs.Way.Row.{keptRule, keptNext}
 use Rattle.line_keyword.specs.declared.State.{State}
 use Rattle.line_keyword.proofs.InsideLaws.{kept-rule-is, kept-next-is}
 use Rattle.read_line.specs.Reading.{argumentFrom, goes, breaks, bracketStep, keywordStep, stepOf}

@@ -14,10 +14,11 @@ use borrow.Author.Tests.{eq-eqb, ne-eqb, not-true, not-false, le-ltb}
 use Rattle.base.specs.If.{both}
 use Rattle.base.proofs.IfLaws.{if-true, if-false, both-first, both-second, both-not-left, both-not-right, either-false, not-not-via}
 use Rattle.base.proofs.BrokenLaws.{gives-later}
-use Rattle.base.specs.Bytes.{lineFeed}
-use Rattle.base.specs.Class.{isBefore, isContent, runEnd}
+use Rattle.base.specs.Bytes.{lineFeed, isBefore, isContent}
+use Rattle.base.specs.Way.Class.{runEnd}
 use Rattle.base.proofs.RunLaws.{run-through}
-use Rattle.lex_line.specs.Lines.{isBlankLine, pastFeed, lineAt}
+use Rattle.lex_line.specs.Lines.{isBlankLine}
+use Rattle.lex_line.specs.Way.LineEnds.{pastFeed, lineAt}
 use Rattle.lex_line.specs.declared.Line as text
 use Rattle.lex_line.proofs.LineLaws.{next-on, content-before-feed}
 use Rattle.lex_keyword.specs.Bracket.{bracketOf}

@@ -4,7 +4,8 @@ ghost use mathlib.Core.Path.{_≡_};
 ghost use mathlib.Core.Bool.{true, false};
 ghost use Prim.Native.Nat.{_+_, _*_, _≤_, _<_, max};
 ghost use lib.ListN.{length};
-ghost use Rattle.lex_line.specs.Lines.{isBlankLine, lineAt};
+ghost use Rattle.lex_line.specs.Lines.{isBlankLine};
+ghost use Rattle.lex_line.specs.Way.LineEnds.{lineAt};
 ghost use Rattle.lex_keyword.specs.Bracket.{bracketOf};
 ghost use Rattle.lex_keyword.specs.declared.Bracket.the-variants.{Plain, Keyword};
 ghost use Rattle.line_place.specs.Place.{keepsMatrix};
@@ -17,11 +18,11 @@ ghost use Rattle.read_numbers.specs.Way.Noting.{Bounded};
 ghost use Rattle.read_matrix.specs.Way.Body.{noNote, keptNote, Keeps, TakesAlone, Goes};
 ghost use Rattle.read_matrix.specs.Way.Run.{Leads, Ordered, Runs, numbersPart, TakesNumbers, pairsMatrix, pairsPart, TakesPair};
 use lex_keyword::Bracket;
-use store_matrices::First;
 use line_matrix::Matrix;
 use line_matrix::Rows;
-use read_numbers::Note;
 use read_line::Front;
+use read_numbers::Note;
+use store_matrices::First;
 
 // "From `|` on, a line is comment".
 const COMMENT: u8 = b'|';

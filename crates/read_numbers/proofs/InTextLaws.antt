@@ -11,13 +11,14 @@ use lib.Seq.{drop-drop, getD-drop, getD-take, length-take-le, take-take}
 use lib.Dec.{ltb, eqb}
 use borrow.Author.Tests.{ltb-true, ltb-false, lt-ltb, eqb-true}
 use Rattle.base.specs.If.{if_then_else_, both}
-use Rattle.base.specs.Bytes.{isBlank, lineFeed, carriageReturn}
+use Rattle.base.specs.Bytes.{isBlank, lineFeed, carriageReturn, isBefore, isFilled, isContent}
 use Rattle.base.specs.Runs.{run}
-use Rattle.base.specs.Class.{isBefore, isFilled, isContent, runEnd}
+use Rattle.base.specs.Way.Class.{runEnd}
 use Rattle.base.proofs.IfLaws.{if-true, if-false, by-cases, both-true, both-first, both-second, both-not-left, both-not-right, both-rest, either-rest, not-via}
 use Rattle.base.proofs.RunLaws.{run-nil, run-goes, run-stops, run-le, run-all, run-end, run-wider, run-take, run-on}
-use Rattle.lex_line.specs.Lines.{lineAt}
-use Rattle.lex_line.specs.Words.{Word, goesOn, grown, wordsFrom, wordAt, words, markedBy}
+use Rattle.lex_line.specs.Way.LineEnds.{lineAt}
+use Rattle.lex_line.specs.Words.{Word, goesOn, grown, wordsFrom, words}
+use Rattle.lex_line.specs.Way.Spans.{wordAt, markedBy}
 use Rattle.lex_line.proofs.WordLaws.{wordsAfter, after-at, after-none}
 use Rattle.lex_number.specs.Way.In.{isWord}
 use Rattle.read_line.specs.Reading.{commentByte}

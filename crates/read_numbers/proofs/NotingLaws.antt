@@ -13,10 +13,10 @@ use borrow.Author.Tests.{eq-eqb, ne-eqb, eqb-true, leb-true, ltb-true, not-true,
 use Rattle.base.specs.If.{both, either}
 use Rattle.base.specs.Bytes.{isBlank, isDigit, isCapital, isSmall, isLetter, within}
 use Rattle.base.specs.Runs.{run}
-use Rattle.base.specs.Class.{runEnd}
+use Rattle.base.specs.Way.Class.{runEnd}
 use Rattle.base.proofs.IfLaws.{if-true, if-false, by-test, both-true, both-first, both-second, both-not-left, both-not-right}
 use Rattle.base.proofs.RunLaws.{run-ends}
-use Rattle.lex_line.specs.Lines.{lineAt}
+use Rattle.lex_line.specs.Way.LineEnds.{lineAt}
 use Rattle.lex_line.specs.Words.{words, firstOf}
 use Rattle.lex_number.specs.Number.{isSign, numberOf, isFormed, isBounded}
 use Rattle.lex_number.specs.Integer.{wholeOf}

@@ -166,6 +166,14 @@ pub fn read_pair(text: &[u8], here: usize, values: u64, table: &mut [u64], row: 
     if !lex_number::is_within(1, 256, column.value) {
         return no_pair(start);
     }
-    let numbers = store_numbers(text, end, line_matrix::SPARSE, values, table, row, column.value);
+    let numbers = store_numbers(
+        text,
+        end,
+        line_matrix::SPARSE,
+        values,
+        table,
+        row,
+        column.value,
+    );
     pair_of(column.value, numbers)
 }

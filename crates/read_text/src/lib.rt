@@ -10,10 +10,10 @@ ghost use Rattle.read_line.specs.declared.Reading.the-variants.{Read};
 ghost use Rattle.read_line.specs.Way.Walk.{Reached, Onward};
 ghost use Rattle.read_text.specs.Way.Forward.{Carries, notesAfter, notesBehind};
 use line_keyword::State;
-use read_matrix::BodyWalk;
 use line_matrix::Matrix;
 use read_line::Reading;
 use read_line::Walk;
+use read_matrix::BodyWalk;
 
 // How many words a note has.
 const NOTE: usize = 9;

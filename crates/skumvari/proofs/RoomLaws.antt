@@ -13,7 +13,8 @@ use Rattle.base.proofs.IfLaws.{if-false, by-test}
 use Rattle.lex_line.specs.ByteRules.{byteRules}
 use Rattle.lex_line.specs.declared.Checked.{Checked}
 use Rattle.lex_line.specs.declared.Checked.the-variants as bytes
-use Rattle.table_layout.specs.Layout.{widths, needed}
+use Rattle.table_layout.specs.Layout.{widths}
+use Rattle.table_layout.specs.Way.Parts.{needed}
 use Rattle.line_keyword.specs.declared.Counts.{Counts}
 use Rattle.read_line.specs.Reading.{readingOf}
 use Rattle.read_line.specs.declared.Reading.{Reading}
@@ -21,7 +22,7 @@ use Rattle.read_line.specs.declared.Reading.the-variants as reading
 use Rattle.read_line.proofs.CountLaws.{Within, read-within, read-matrices}
 use Rattle.doc.specs.Document.{documentOf}
 use Rattle.doc.specs.Records.{tableOf}
-use Rattle.doc.specs.Holds.{countsOf}
+use Rattle.doc.specs.Way.Holds.{countsOf}
 use Rattle.intake.specs.Filled.{afterReading, filledOf}
 use Rattle.intake.specs.declared.fill.Filled.the-variants.{Stored, Refused}
 use Rattle.intake.proofs.ReadyLaws.{needed-is}

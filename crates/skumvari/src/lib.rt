@@ -11,13 +11,13 @@ ghost use Rattle.ask_entry.specs.WholeMatrix.{wholeOf, roomAfter};
 ghost use Rattle.out_double.specs.Double.{drawnOf, paired};
 ghost use Rattle.skumvari.specs.Words.{intakeLayout, entryLayout, walkLayout, matrixLayout, doubleLayout, pairLayout, stepLayout, isRoom, answered, tableAfter, valuesAfter};
 ghost use Rattle.skumvari.specs.Room.{mostWords};
-use out_double::Drawn;
-use out_double::DrawnPair;
 use ask_entry::Answer;
+use ask_entry::Whole;
 use ask_walk::Place;
 use ask_walk::StepWords;
 use ask_walk::Walked;
-use ask_entry::Whole;
+use out_double::Drawn;
+use out_double::DrawnPair;
 
 const TABLE_WORDS: usize = 237_319;
 

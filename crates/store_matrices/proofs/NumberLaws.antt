@@ -13,8 +13,9 @@ use lib.Seq.{sets, set-getD, getD-set-same}
 use Rattle.base.specs.If.{if_then_else_}
 use Rattle.base.proofs.IfLaws.{if-true, if-false, by-cases}
 use Rattle.base.specs.Bytes.{isBlank}
-use Rattle.base.specs.Class.{runEnd}
-use Rattle.lex_line.specs.Words.{words, firstOf, secondOf, wordAt, markedBy, fewOf}
+use Rattle.base.specs.Way.Class.{runEnd}
+use Rattle.lex_line.specs.Words.{words, firstOf, secondOf}
+use Rattle.lex_line.specs.Way.Spans.{wordAt, markedBy, fewOf}
 use Rattle.lex_line.specs.declared.Span.{Span}
 use Rattle.lex_line.proofs.WordLaws.{wordsAfter, after-at, after-none, after-past, end-past, word-within, first-marked, second-marked}
 use Rattle.lex_number.specs.Number.{numberOf}

@@ -12,7 +12,8 @@ use Rattle.base.specs.If.{if_then_else_, both, either}
 use Rattle.base.specs.Bytes.{isBlank}
 use Rattle.base.specs.Runs.{run, all}
 use Rattle.base.proofs.IfLaws.{both-true}
-use Rattle.lex_line.specs.Lines.{isBlankLine, lineAt}
+use Rattle.lex_line.specs.Lines.{isBlankLine}
+use Rattle.lex_line.specs.Way.LineEnds.{lineAt}
 use Rattle.lex_line.specs.declared.Line as text
 use Rattle.lex_line.specs.Words.{words, firstOf}
 use Rattle.lex_keyword.specs.Bracket.{bracketOf, isOpen}

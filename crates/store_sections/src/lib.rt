@@ -15,8 +15,8 @@ ghost use Rattle.store_base.specs.Way.Notes.{Noted};
 ghost use Rattle.store_sections.specs.Way.Sections.{sectionsOf, sectionsLeft};
 ghost use Rattle.store_sections.specs.Way.Section.{kindsWith, methodAt, methodAfter, TakesLine, TakesMatrix, TakenLine, PutsLines, FillsLines, PutsSection, FillsSection};
 use doc::Found;
-use store_matrices::First;
 use store_base::Walk;
+use store_matrices::First;
 use table_layout::Filling;
 
 // How far the lines of a section have been read: where to go on, and what they have said. The first method counts, N is that of the first

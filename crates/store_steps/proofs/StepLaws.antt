@@ -19,13 +19,15 @@ use Rattle.table_layout.specs.declared.Filling.{Filling}
 use Rattle.doc.specs.Lines.{plain, keyAt, placeAfter, linesAt, wordsOf, rightWordsOf, noWord, secondWord}
 use Rattle.doc.specs.Document.{Step, Map, documentOf, amountOf, sayingAt, sideIn, stepOf}
 use Rattle.doc.specs.Records.{indexOf, targetOf, stepRecord}
-use Rattle.doc.specs.Holds.{Each, Stands}
+use Rattle.doc.specs.Holds.{Each}
+use Rattle.doc.specs.Way.Holds.{Stands}
 use Rattle.doc.specs.Holds.Each.{none, more}
 use Rattle.doc.specs.Way.Found.{markOf, contentIn, linesBehind}
 use Rattle.doc.specs.declared.Found.{Found}
 use Rattle.doc.specs.declared.Mark.{Mark}
 use Rattle.doc.proofs.StandsLaws.{LineStands, second-word-stands, right-word-stands, MapStands, all-stand}
-use Rattle.table_name.specs.Name.{nameAt, isNamed, findIn}
+use Rattle.table_name.specs.Name.{nameAt}
+use Rattle.table_name.specs.Way.Search.{isNamed, findIn}
 use Rattle.table_name.proofs.NameLaws.{Ordered, find-map, find-section}
 use Rattle.store_base.specs.Way.Writes.{stepWrite}
 use Rattle.store_base.specs.Way.Stores.{Stores}

@@ -10,7 +10,8 @@ use lib.ListN.{length, take, drop, getD, length-drop}
 use lib.Seq.{sets, drop-drop}
 use Rattle.base.proofs.IfLaws.{if-true}
 use Rattle.base.specs.Bytes.{bytes}
-use Rattle.lex_line.specs.Words.{Word, wordsFrom, wordAt, words, firstOf, toEquals, rightOf}
+use Rattle.lex_line.specs.Words.{Word, wordsFrom, words, firstOf, toEquals, rightOf}
+use Rattle.lex_line.specs.Way.Spans.{wordAt}
 use Rattle.lex_line.proofs.WordLaws.{words-at}
 use Rattle.lex_number.specs.Integer.{wholeOf}
 use Rattle.lex_number.specs.declared.Whole.{Whole}
@@ -23,7 +24,7 @@ use Rattle.doc.specs.Lines.{rightWordsOf, secondWord}
 use Rattle.doc.specs.Document.{amountOf}
 use Rattle.doc.specs.Way.Found.{contentIn}
 use Rattle.doc.specs.declared.Found.{Found}
-use Rattle.table_name.specs.Name.{findIn}
+use Rattle.table_name.specs.Way.Search.{findIn}
 use Rattle.store_base.specs.Way.Stores.{Stores}
 use Rattle.store_steps.specs.Way.Steps.{pathLine, sectionStep, forkStep, targetIn, stepWrites, Says, Told, stepsAt}
 use Rattle.store_steps.specs.Way.Usual.{Usual, single, pair, Usable, Put, Puts, Forking, Pairing}

@@ -12,7 +12,8 @@ use Rattle.base.specs.If.{if_then_else_, both, either}
 use Rattle.base.specs.Bytes.{bytes, within}
 use Rattle.base.specs.Runs.{same}
 use Rattle.base.proofs.IfLaws.{if-true, if-false, by-test, by-cases, both-true, both-not-right}
-use Rattle.lex_line.specs.Words.{wordsFrom, words, firstOf, secondOf, fewOf, markedBy, toEquals, rightOf, leftOf}
+use Rattle.lex_line.specs.Words.{wordsFrom, words, firstOf, secondOf, toEquals, rightOf, leftOf}
+use Rattle.lex_line.specs.Way.Spans.{fewOf, markedBy}
 use Rattle.lex_line.specs.declared.Few.{Few}
 use Rattle.lex_line.proofs.WordLaws.{second-marked}
 use Rattle.lex_line.proofs.FormLaws.{part-from, left-words, right-words}

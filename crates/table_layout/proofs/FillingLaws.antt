@@ -12,9 +12,9 @@ use lib.Dec.{eqb}
 use borrow.Author.Tests.{eq-eqb, eqb-true, eqb-false}
 use Rattle.base.proofs.IfLaws.{if-true, if-false, by-cases}
 use Rattle.table_layout.specs.declared.Filling.{Filling}
-use Rattle.table_layout.specs.Layout.{widths, values, layout, needed, AllLong, Wide}
-use Rattle.table_layout.specs.Way.Filling.{Write, partOf, widthOf, position, counted, tableAfter, fillingAfter, Fits, Apart}
-use Rattle.table_layout.specs.Way.Filling.{basesFrom, startFilling, headed}
+use Rattle.table_layout.specs.Layout.{widths, values, layout}
+use Rattle.table_layout.specs.Way.Parts.{needed, AllLong, Wide}
+use Rattle.table_layout.specs.Way.Filling.{Write, partOf, widthOf, position, counted, tableAfter, fillingAfter, Fits, Apart, basesFrom, startFilling, headed}
 use Rattle.table_layout.proofs.PartlyLaws.{grown, partly, bare, bare-headed, bare-wide, bare-at, all-laid, store-partly}
 
 -- ---- writes one after the other

@@ -12,7 +12,8 @@ use lib.Dec.{leb}
 use borrow.Author.Tests.{le-leb}
 use Rattle.base.specs.If.{both}
 use Rattle.base.proofs.IfLaws.{both-true, if-true}
-use Rattle.table_layout.specs.Layout.{widths, joined, layout, AllLong, Wide}
+use Rattle.table_layout.specs.Layout.{widths, joined, layout}
+use Rattle.table_layout.specs.Way.Parts.{AllLong, Wide}
 use Rattle.table_layout.specs.Layout as layout
 use Rattle.table_layout.proofs.LayoutLaws.{length-joined}
 use Rattle.table_layout.specs.View.{bounds, areWithin, viewOf}

@@ -8,7 +8,8 @@ use native.Mathlib.Numerals.{one-add}
 use native.Mathlib.Omega.{arith}
 use lib.ListN.{length, take, drop, getD, replicate, length-append}
 use lib.Seq.{drop-drop, take-at, drop-at, getD-drop, getD-take}
-use Rattle.table_layout.specs.Layout.{joined, layout, needed, AllLong, Wide, chopped, partsIn, countAt, beginsIn}
+use Rattle.table_layout.specs.Layout.{joined, layout, chopped, partsIn}
+use Rattle.table_layout.specs.Way.Parts.{needed, AllLong, Wide, countAt, beginsIn}
 use Rattle.table_layout.specs.Way.Filling.{basesFrom}
 
 -- ---- how long

@@ -9,7 +9,8 @@ use native.Mathlib.Numerals.{add-one}
 use native.Mathlib.Omega.{arith}
 use lib.ListN.{length, drop, getD, set, replicate, length-append, length-replicate, length-set, replicate-append-replicate, drop-of-length-le}
 use lib.Seq.{sets, drop-cons, set-at}
-use Rattle.table_layout.specs.Layout.{widths, values, needed}
+use Rattle.table_layout.specs.Layout.{widths, values}
+use Rattle.table_layout.specs.Way.Parts.{needed}
 use Rattle.table_layout.specs.Way.Filling.{headed, basesFrom, opened}
 use Rattle.table_layout.proofs.FillingLaws.{begin, end, ends-below, ends-last}
 use Rattle.table_layout.proofs.BehindLaws.{set-sets}

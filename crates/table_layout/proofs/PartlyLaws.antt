@@ -7,7 +7,8 @@ use native.Mathlib.Nat.{add-comm, mul-zero, mul-suc, mul-add, sub-zero, sub-self
 use native.Mathlib.Omega.{arith}
 use lib.ListN.{length, getD, set, replicate, length-append, length-replicate, replicate-append-replicate}
 use lib.Seq.{sets, sets-eq, take-at, drop-append-add, drop-at}
-use Rattle.table_layout.specs.Layout.{joined, layout, AllLong, Wide}
+use Rattle.table_layout.specs.Layout.{joined, layout}
+use Rattle.table_layout.specs.Way.Parts.{AllLong, Wide}
 use Rattle.table_layout.specs.Way.Filling.{basesFrom, headed}
 use Rattle.table_layout.proofs.LayoutLaws.{length-joined}
 

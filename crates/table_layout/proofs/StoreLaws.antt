@@ -11,7 +11,8 @@ use native.Mathlib.Omega.{arith}
 use lib.ListN.{length, drop, getD, set, replicate, drop-of-length-le}
 use lib.Seq.{sets, drop-cons, sets-eq}
 use Rattle.table_layout.specs.declared.Filling.{Filling}
-use Rattle.table_layout.specs.Layout.{widths, needed}
+use Rattle.table_layout.specs.Layout.{widths}
+use Rattle.table_layout.specs.Way.Parts.{needed}
 use Rattle.table_layout.specs.Way.Filling.{basesFrom, startFilling, Few, position, widthOf}
 
 -- ---- a loop over the parts: the words before a part, and what it and those after it need

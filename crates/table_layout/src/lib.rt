@@ -3,7 +3,8 @@ ghost use mathlib.Core.Path.{_≡_};
 ghost use Prim.Native.Nat.{ℕ, _+_, _≤_, _<_};
 ghost use lib.ListN.{length, take, replicate, getD};
 ghost use lib.Seq.{sets};
-ghost use Rattle.table_layout.specs.Layout.{widths, needed};
+ghost use Rattle.table_layout.specs.Layout.{widths};
+ghost use Rattle.table_layout.specs.Way.Parts.{needed};
 ghost use Rattle.table_layout.specs.Way.Filling.{widthOf, position, counted, startFilling, opened, Few};
 ghost use Rattle.table_layout.specs.View.{viewOf, noView};
 

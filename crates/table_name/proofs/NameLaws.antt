@@ -30,11 +30,13 @@ use Rattle.doc.specs.Records.{
   flatten,
   partsOf,
 }
-use Rattle.doc.specs.Holds.{Stands, Each}
+use Rattle.doc.specs.Holds.{Each}
+use Rattle.doc.specs.Way.Holds.{Stands}
 use Rattle.doc.specs.Holds.Each.{none, more}
 use Rattle.doc.proofs.RecordLaws.{records-wide}
 use Rattle.doc.proofs.StandsLaws.{MapStands, each-join}
-use Rattle.table_name.specs.Name.{nameAt, isNamed, findIn}
+use Rattle.table_name.specs.Name.{nameAt}
+use Rattle.table_name.specs.Way.Search.{isNamed, findIn}
 
 -- ---- records by their names
 

@@ -14,7 +14,8 @@ use Rattle.base.specs.Runs.{same}
 use Rattle.base.proofs.IfLaws.{if-true, if-false, both-true, both-not-left, both-not-right}
 use Rattle.table_layout.specs.Layout.{chopped}
 use Rattle.doc.specs.Records.{indexOf}
-use Rattle.table_name.specs.Name.{nameAt, isNamed, findIn}
+use Rattle.table_name.specs.Name.{nameAt}
+use Rattle.table_name.specs.Way.Search.{isNamed, findIn}
 
 -- ---- the bytes of a name
 

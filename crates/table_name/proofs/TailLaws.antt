@@ -14,7 +14,8 @@ use Rattle.base.specs.Runs.{same}
 use Rattle.base.specs.Way.Joined.{joined, Joins}
 use Rattle.base.proofs.IfLaws.{by-cases}
 use Rattle.base.proofs.RunLaws.{same-equal}
-use Rattle.table_name.specs.Name.{nameAt, Tails}
+use Rattle.table_name.specs.Name.{nameAt}
+use Rattle.table_name.specs.Way.Search.{Tails}
 
 drop-take : (k n : ℕ) (l : List ℕ) → drop k (take n l) ≡ take (n - k) (drop k l)
 drop-take zero n l = ap (λ (m : ℕ). take m l) (sym (sub-zero n))

@@ -4,7 +4,8 @@ ghost use mathlib.Core.Bool.{true, false};
 ghost use Prim.Native.Nat.{ℕ, _+_, _*_, _≤_, _<_};
 ghost use lib.ListN.{length};
 ghost use Rattle.base.specs.Runs.{same};
-ghost use Rattle.table_name.specs.Name.{nameAt, findIn, Tails};
+ghost use Rattle.table_name.specs.Name.{nameAt};
+ghost use Rattle.table_name.specs.Way.Search.{findIn, Tails};
 ghost use Rattle.table_name.specs.Way.Marks.{markOf};
 
 // How many bytes at a name's end are looked at together.

@@ -16,11 +16,11 @@
 // Any other line that is not empty, one with a number that is none too, is answered `what` and the line.
 ghost use Prim.Native.Nat.{_≤_};
 ghost use lib.ListN.{length};
-use base::Class;
-use intake::Answer;
 use ask_walk::Place;
 use ask_walk::StepWords;
 use ask_walk::Walked;
+use base::Class;
+use intake::Answer;
 
 // The longest text, and the longest table.
 const MOST: usize = 65536;

@@ -224,7 +224,10 @@ fn run_line(line: &[u8]) {
     let few = lex_line::few_words(line);
     let first = few.first;
     let second = few.second;
-    run_file(lex_line::marked(line, first), lex_line::marked(line, second));
+    run_file(
+        lex_line::marked(line, first),
+        lex_line::marked(line, second),
+    );
 }
 
 fn run_lines(lines: &[u8]) {

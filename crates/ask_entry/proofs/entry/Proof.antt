@@ -2,7 +2,6 @@
 -- Assumes nothing.
 use borrow.Author.Needs.{needs}
 use Rattle.ask_entry.proofs.EntryLaws.{answer-unsound, answer-ready, answer-no-such, answer-section, answer-matrix, answer-found}
-use borrow.Author.Needs.{needs}
 use Rattle.ask_entry.proofs.entry.Statement.{statement}
 use Rattle.ask_entry.proofs.entry.Tie as tie
 

@@ -2,7 +2,6 @@
 -- Assumes nothing.
 use borrow.Author.Needs.{needs}
 use Rattle.ask_entry.proofs.ReadyLaws.{entry-none, first-fits, from-fits, search-ready, entry-found}
-use borrow.Author.Needs.{needs}
 use Rattle.ask_entry.proofs.entry_in.Statement.{statement}
 use Rattle.ask_entry.proofs.entry_in.Tie as tie
 

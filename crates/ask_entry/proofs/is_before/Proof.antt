@@ -3,7 +3,6 @@
 use Rattle.base.proofs.IfLaws.{chain}
 use Rattle.doc.specs.Holds.{comesBefore}
 use borrow.Author.Needs.{needs}
-use borrow.Author.Needs.{needs}
 use Rattle.ask_entry.proofs.is_before.Statement.{statement}
 use Rattle.ask_entry.proofs.is_before.Tie as tie
 

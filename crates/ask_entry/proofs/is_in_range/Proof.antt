@@ -2,7 +2,6 @@
 -- Assumes nothing.
 use borrow.Author.Needs.{needs}
 use Rattle.ask_entry.proofs.ReadyLaws.{range-no-section, range-no-kind, range-no-row, range-column}
-use borrow.Author.Needs.{needs}
 use Rattle.ask_entry.proofs.is_in_range.Statement.{statement}
 use Rattle.ask_entry.proofs.is_in_range.Tie as tie
 

@@ -2,7 +2,6 @@
 -- Assumes nothing.
 use borrow.Author.Needs.{needs}
 use Rattle.ask_entry.proofs.ReadyLaws.{kind-resistance, kind-inductance, kind-conductance, kind-capacitance}
-use borrow.Author.Needs.{needs}
 use Rattle.ask_entry.proofs.matrix_of.Statement.{statement}
 use Rattle.ask_entry.proofs.matrix_of.Tie as tie
 

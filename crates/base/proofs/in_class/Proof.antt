@@ -1,6 +1,6 @@
 -- `base::in_class` meets its contract: each arm is the class's own test.
 -- Assumes nothing.
-use Rattle.base.specs.Class.{isBefore}
+use Rattle.base.specs.Bytes.{isBefore}
 use borrow.Author.Needs.{needs}
 use Rattle.base.proofs.in_class.Statement.{statement}
 use Rattle.base.proofs.in_class.Tie as tie

@@ -6,7 +6,7 @@ use Prim.Native.Nat.{_+_, _-_, _≤_}
 use lib.ListN.{take, drop}
 use Rattle.base.specs.If.{both}
 use Rattle.base.specs.Runs.{all}
-use Rattle.base.specs.Class.{inClass}
+use Rattle.base.specs.Way.Class.{inClass}
 use Rattle.base.proofs.RunLaws.{block-start, block-goes, block-done}
 use Rattle.base.proofs.is_block.Statement.{statement}
 use Rattle.base.proofs.is_block.Tie as tie

@@ -1,6 +1,6 @@
 -- `base::is_content` meets its contract: each `return` by the tests that led there.
 -- Assumes nothing.
-use Rattle.base.specs.Class.{isContent, isBefore}
+use Rattle.base.specs.Bytes.{isContent, isBefore}
 use Rattle.base.proofs.IfLaws.{ifs, both-rest}
 use Rattle.base.proofs.is_content.Statement.{statement}
 use Rattle.base.proofs.is_content.Tie as tie

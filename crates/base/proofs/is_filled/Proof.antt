@@ -1,7 +1,6 @@
 -- `base::is_filled` meets its contract: each `return` by the tests that led there.
 -- Assumes nothing.
-use Rattle.base.specs.Bytes.{isBlank}
-use Rattle.base.specs.Class.{isFilled}
+use Rattle.base.specs.Bytes.{isBlank, isFilled}
 use Rattle.base.proofs.IfLaws.{ifs, either-rest}
 use Rattle.base.proofs.is_filled.Statement.{statement}
 use Rattle.base.proofs.is_filled.Tie as tie

@@ -1,7 +1,7 @@
 -- `base::is_named` meets its contract: each `return` by the tests that led there.
 -- Assumes nothing.
-use Rattle.base.specs.Bytes.{isBlank}
-use Rattle.base.specs.Class.{isNamed, isFilled}
+use Rattle.base.specs.Bytes.{isBlank, isFilled}
+use Rattle.base.specs.Way.Class.{isNamed}
 use Rattle.base.proofs.IfLaws.{ifs, both-rest}
 use Rattle.base.proofs.is_named.Statement.{statement}
 use Rattle.base.proofs.is_named.Tie as tie

@@ -1,7 +1,6 @@
 -- `base::is_printed` meets its contract: each `return` by the tests that led there.
 -- Assumes nothing.
-use Rattle.base.specs.Bytes.{within}
-use Rattle.base.specs.Class.{isPrinted}
+use Rattle.base.specs.Bytes.{within, isPrinted}
 use Rattle.base.proofs.IfLaws.{ifs, both-rest, either-comes}
 use Rattle.base.proofs.is_printed.Statement.{statement}
 use Rattle.base.proofs.is_printed.Tie as tie

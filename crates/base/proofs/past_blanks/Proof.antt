@@ -6,7 +6,7 @@ use Prim.Native.Nat.{_+_, _-_}
 use lib.ListN.{length, drop}
 use Rattle.base.specs.Bytes.{isBlank}
 use Rattle.base.specs.Runs.{run}
-use Rattle.base.specs.Class.{runEnd}
+use Rattle.base.specs.Way.Class.{runEnd}
 use Rattle.base.proofs.RunLaws.{tested-on, tested-stop, reach-past}
 use Rattle.base.proofs.past_blanks.Statement.{statement}
 use Rattle.base.proofs.past_blanks.Tie as tie

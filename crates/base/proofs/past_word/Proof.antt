@@ -5,7 +5,8 @@ use mathlib.Core.Path.{_≡_}
 use Prim.Native.Nat.{_+_, _-_}
 use lib.ListN.{length, drop}
 use Rattle.base.specs.Runs.{run}
-use Rattle.base.specs.Class.{isFilled, runEnd}
+use Rattle.base.specs.Way.Class.{runEnd}
+use Rattle.base.specs.Bytes.{isFilled}
 use Rattle.base.proofs.RunLaws.{tested-on, tested-stop, reach-past}
 use Rattle.base.proofs.past_word.Statement.{statement}
 use Rattle.base.proofs.past_word.Tie as tie

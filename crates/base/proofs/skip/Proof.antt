@@ -4,7 +4,7 @@ use borrow.Author.Needs.{needs}
 use mathlib.Core.Path.{_≡_}
 use Prim.Native.Nat.{_-_, _≤_}
 use lib.ListN.{length}
-use Rattle.base.specs.Class.{inClass, runEnd}
+use Rattle.base.specs.Way.Class.{inClass, runEnd}
 use Rattle.base.proofs.RunLaws.{tested-on, tested-stop, reach-past}
 use Rattle.base.proofs.skip.Statement.{statement}
 use Rattle.base.proofs.skip.Tie as tie

@@ -4,7 +4,7 @@ use borrow.Author.Needs.{needs}
 use mathlib.Core.Path.{_≡_, refl}
 use Prim.Native.Nat.{_-_, _+_, _≤_}
 use lib.ListN.{length}
-use Rattle.base.specs.Class.{inClass, runEnd}
+use Rattle.base.specs.Way.Class.{inClass, runEnd}
 use Rattle.base.proofs.RunLaws.{block-on}
 use Rattle.base.proofs.skip_blocks.Statement.{statement}
 use Rattle.base.proofs.skip_blocks.Tie as tie

@@ -9,7 +9,7 @@ use lib.ListN.{length, getD, take, drop}
 use lib.Dec.{ltb}
 use Rattle.base.specs.If.{if_then_else_}
 use Rattle.line_place.specs.Place as place
-use Rattle.lex_line.specs.Lines.{lineAt}
+use Rattle.lex_line.specs.Way.LineEnds.{lineAt}
 use Rattle.line_path.specs.Path.{isMult}
 use Rattle.line_path.specs.Way.Usual.{OpensMult}
 use Rattle.doc.specs.Lines.{Line, linesAt, significant}

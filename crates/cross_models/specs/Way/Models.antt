@@ -11,7 +11,8 @@ use Rattle.table_layout.specs.declared.View.{View}
 use Rattle.doc.specs.Document.{Model, Document, documentOf}
 use Rattle.doc.specs.Holds.{Each}
 use Rattle.table_name.specs.Name.{nameAt}
-use Rattle.cross_rules.specs.Rules.{stepFindings, modelFindings, firstIn}
+use Rattle.cross_rules.specs.Rules.{stepFindings, modelFindings}
+use Rattle.cross_rules.specs.Way.First.{firstIn}
 use Rattle.cross_rules.specs.declared.Finding.{Finding}
 use Rattle.cross_rules.specs.Way.Twice.{hasAbove}
 use Rattle.cross_steps.specs.Way.StepWords.{firstTarget}

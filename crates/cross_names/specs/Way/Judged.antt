@@ -14,7 +14,7 @@ use Rattle.doc.specs.Lines.{plain, linesAt, gather, wordsOf, firstWord}
 use Rattle.doc.specs.Document.{listedAt}
 use Rattle.doc.specs.Way.Found.{lineIn, linesBehind, Meets}
 use Rattle.doc.specs.declared.Found.{Found}
-use Rattle.table_name.specs.Name.{findIn}
+use Rattle.table_name.specs.Way.Search.{findIn}
 use Rattle.cross_names.specs.declared.list.Judged.{Judged}
 
 -- the records of the models lie inside the table, and are not too many

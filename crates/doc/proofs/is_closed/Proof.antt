@@ -5,7 +5,7 @@ use Prim.Native.Nat.{_+_, _-_, _≤_}
 use lib.ListN.{take, drop}
 use Rattle.base.specs.If.{both}
 use Rattle.base.specs.Runs.{all}
-use Rattle.base.specs.Class.{isBefore}
+use Rattle.base.specs.Bytes.{isBefore}
 use Rattle.base.proofs.RunLaws.{block-start, block-goes, block-done}
 use borrow.Author.Needs.{needs}
 use Rattle.doc.proofs.is_closed.Statement.{statement}

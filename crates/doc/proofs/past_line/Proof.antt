@@ -3,7 +3,8 @@
 use mathlib.Core.Path.{_≡_}
 use Prim.Native.Nat.{_-_}
 use lib.ListN.{length}
-use Rattle.base.specs.Class.{isBefore, runEnd}
+use Rattle.base.specs.Way.Class.{runEnd}
+use Rattle.base.specs.Bytes.{isBefore}
 use Rattle.doc.proofs.PlainLaws.{feed-on, feed-found, feed-ends}
 use borrow.Author.Needs.{needs}
 use Rattle.doc.proofs.past_line.Statement.{statement}

@@ -8,8 +8,8 @@ use Prim.Native.Char.{code}
 use lib.ListN.{length, take, drop, getD}
 use lib.Dec.{leb}
 use Rattle.base.specs.If.{if_then_else_}
-use Rattle.base.specs.Bytes.{lineFeed}
-use Rattle.base.specs.Class.{isBefore, runEnd}
+use Rattle.base.specs.Bytes.{lineFeed, isBefore}
+use Rattle.base.specs.Way.Class.{runEnd}
 use Rattle.lex_line.specs.Words.{Word}
 use Rattle.lex_line.specs.declared.Span.{Span}
 use Rattle.lex_keyword.specs.Bracket.{bracketOf}

@@ -4,7 +4,7 @@ use Prim.Native.Nat.{ℕ, _≤_}
 use mathlib.Core.Path.{_≡_}
 use mathlib.Core.List.{List, [], _∷_}
 use Rattle.doc.specs.Document.{Named, Step, Model, Map, Matrix, Section, Document}
-use Rattle.law_alike.specs.Written.{foundAt}
+use Rattle.law_alike.specs.Way.Found.{foundAt}
 
 -- each of one list to the one at its place in the other
 pub data All2 {A B : Type 0} (Rel : A → B → Type 0) : List A → List B → Type 0 where

@@ -1,6 +1,7 @@
 -- `lex_line::last_word` meets its contract: the blanks at the end, then what is not blank before them.
 -- Assumes nothing.
-use Rattle.lex_line.specs.Words.{lastWord, lastEnd}
+use Rattle.lex_line.specs.Words.{lastEnd}
+use Rattle.lex_line.specs.Way.Spans.{lastWord}
 use borrow.Author.Needs.{needs}
 use Rattle.lex_line.proofs.last_word.Statement.{statement}
 use Rattle.lex_line.proofs.last_word.Tie as tie

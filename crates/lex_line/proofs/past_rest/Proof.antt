@@ -4,7 +4,8 @@ use borrow.Author.Needs.{needs}
 use mathlib.Core.Path.{_≡_}
 use Prim.Native.Nat.{_-_, _≤_}
 use lib.ListN.{length}
-use Rattle.base.specs.Class.{isContent, runEnd}
+use Rattle.base.specs.Way.Class.{runEnd}
+use Rattle.base.specs.Bytes.{isContent}
 use Rattle.base.proofs.RunLaws.{tested-on, tested-stop, reach-past}
 use Rattle.lex_line.proofs.past_rest.Statement.{statement}
 use Rattle.lex_line.proofs.past_rest.Tie as tie

@@ -5,7 +5,8 @@ use mathlib.Core.Path.{_≡_}
 use Prim.Native.Nat.{_-_, _≤_}
 use native.Mathlib.Omega.{arith}
 use lib.ListN.{length}
-use Rattle.base.specs.Class.{isContent, runEnd}
+use Rattle.base.specs.Way.Class.{runEnd}
+use Rattle.base.specs.Bytes.{isContent}
 use Rattle.lex_line.proofs.SureLaws.{sure-on, sure-whole}
 use Rattle.lex_line.proofs.past_sure.Statement.{statement}
 use Rattle.lex_line.proofs.past_sure.Tie as tie

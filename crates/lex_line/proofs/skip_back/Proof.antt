@@ -4,7 +4,7 @@ use borrow.Author.Needs.{needs}
 use mathlib.Core.Path.{_≡_}
 use Prim.Native.Nat.{_-_, _≤_}
 use lib.ListN.{length}
-use Rattle.base.specs.Class.{inClass}
+use Rattle.base.specs.Way.Class.{inClass}
 use Rattle.lex_line.specs.Words.{backRun}
 use Rattle.lex_line.proofs.WordLaws.{back-on, back-stop, back-past}
 use Rattle.lex_line.proofs.skip_back.Statement.{statement}

@@ -1,6 +1,6 @@
 -- `lex_line::word_at` meets its contract: the blanks, then what is not blank.
 -- Assumes nothing.
-use Rattle.lex_line.specs.Words.{wordAt}
+use Rattle.lex_line.specs.Way.Spans.{wordAt}
 use borrow.Author.Needs.{needs}
 use Rattle.lex_line.proofs.word_at.Statement.{statement}
 use Rattle.lex_line.proofs.word_at.Tie as tie

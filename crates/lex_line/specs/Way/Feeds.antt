@@ -7,8 +7,7 @@ use mathlib.Core.List.{List, [], _∷_}
 use lib.ListN.{length, drop}
 use lib.Dec.{eqb}
 use Rattle.base.specs.If.{if_then_else_, either}
-use Rattle.base.specs.Bytes.{lineFeed}
-use Rattle.base.specs.Class.{isPrinted}
+use Rattle.base.specs.Bytes.{lineFeed, isPrinted}
 use Rattle.lex_line.specs.Lines.{lines}
 use Rattle.lex_line.specs.ByteRules.{linesRule}
 

@@ -6,7 +6,7 @@ use Prim.Native.Nat.{_+_, _-_}
 use lib.ListN.{length, drop}
 use Rattle.base.specs.Bytes.{isLetter}
 use Rattle.base.specs.Runs.{run}
-use Rattle.base.specs.Class.{runEnd}
+use Rattle.base.specs.Way.Class.{runEnd}
 use Rattle.base.proofs.RunLaws.{tested-on, tested-stop, reach-past}
 use Rattle.lex_number.proofs.letters_end.Statement.{statement}
 use Rattle.lex_number.proofs.letters_end.Tie as tie

@@ -5,7 +5,7 @@ use mathlib.Core.Path.{_≡_}
 use Prim.Native.Nat.{_+_, _-_}
 use lib.ListN.{length, drop}
 use Rattle.base.specs.Runs.{run}
-use Rattle.base.specs.Class.{runEnd}
+use Rattle.base.specs.Way.Class.{runEnd}
 use Rattle.base.proofs.RunLaws.{tested-on, tested-stop, reach-past}
 use Rattle.lex_number.specs.Way.In.{isWord}
 use Rattle.lex_number.proofs.word_end.Statement.{statement}

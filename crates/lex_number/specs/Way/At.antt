@@ -7,9 +7,9 @@ use mathlib.Core.Bool.{true, false}
 use mathlib.Core.List.{List}
 use mathlib.Core.Logic.{_⊎_}
 use lib.ListN.{take, drop, getD}
-use Rattle.base.specs.Bytes.{isDigit}
+use Rattle.base.specs.Bytes.{isDigit, isFilled}
 use Rattle.base.specs.Runs.{run}
-use Rattle.base.specs.Class.{isFilled, runEnd}
+use Rattle.base.specs.Way.Class.{runEnd}
 use Rattle.lex_number.specs.Integer.{valueOf}
 use Rattle.lex_number.specs.Number.{isMinus, noDigits, scan, noExponent, exponentOf, raised, lowered, valueAs, digitsOf, exponentFrom, numberOf}
 use Rattle.lex_number.specs.declared.Digits.{Digits}

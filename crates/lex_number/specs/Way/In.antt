@@ -8,9 +8,9 @@ use mathlib.Core.List.{List}
 use lib.ListN.{take, drop}
 use lib.Dec.{eqb}
 use Rattle.base.specs.If.{both, either}
-use Rattle.base.specs.Bytes.{isDigit, isLetter}
+use Rattle.base.specs.Bytes.{isDigit, isLetter, isFilled, isContent}
 use Rattle.base.specs.Runs.{run}
-use Rattle.base.specs.Class.{isFilled, isContent, runEnd}
+use Rattle.base.specs.Way.Class.{runEnd}
 use Rattle.lex_number.specs.Number.{isSign, numberOf}
 use Rattle.lex_number.specs.declared.Number.{Number}
 use Rattle.lex_number.specs.declared.Number.the-variants.{Value, Malformed, Range}

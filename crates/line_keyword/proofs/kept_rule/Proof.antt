@@ -1,7 +1,7 @@
 -- `line_keyword::kept_rule` meets its contract: the tests of the list in its order.
 -- Assumes nothing.
 use Rattle.base.proofs.BrokenLaws.{rules}
-use Rattle.line_keyword.specs.Keywords.{keptRule}
+use Rattle.line_keyword.specs.Way.Row.{keptRule}
 use borrow.Author.Needs.{needs}
 use Rattle.line_keyword.proofs.kept_rule.Statement.{statement}
 use Rattle.line_keyword.proofs.kept_rule.Tie as tie

@@ -3,7 +3,8 @@
 -- Assumes nothing.
 use Prim.Native.Nat.{ℕ, _^_, _≤_, _<_}
 use Rattle.line_path.specs.Path.{deepest, mostSteps}
-use Rattle.line_map.specs.PinMap.{Bounded, mostPins}
+use Rattle.line_map.specs.PinMap.{mostPins}
+use Rattle.line_map.specs.Way.Bounded.{Bounded}
 use Rattle.line_matrix.specs.Matrix.{mostValues}
 use Rattle.line_keyword.specs.Keywords.{mostModels, mostMaps, mostSections}
 use Rattle.line_keyword.specs.declared.Counts.{Counts}

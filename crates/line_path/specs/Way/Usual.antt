@@ -5,7 +5,7 @@ use mathlib.Core.Path.{_≡_}
 use mathlib.Core.List.{List, _++_}
 use lib.ListN.{length, drop}
 use Rattle.base.specs.Bytes.{bytes}
-use Rattle.lex_line.specs.Words.{wordAt}
+use Rattle.lex_line.specs.Way.Spans.{wordAt}
 use Rattle.line_path.specs.Path.{fork, endfork}
 
 -- what stands before the amount

@@ -8,7 +8,8 @@ use mathlib.Core.List.{List}
 use lib.ListN.{length, take, drop}
 use lib.Dec.{eqb}
 use Rattle.base.specs.If.{if_then_else_}
-use Rattle.lex_line.specs.Lines.{lines, isBlankLine, lineAt}
+use Rattle.lex_line.specs.Lines.{lines, isBlankLine}
+use Rattle.lex_line.specs.Way.LineEnds.{lineAt}
 use Rattle.lex_keyword.specs.Bracket.{bracketOf}
 use Rattle.lex_keyword.specs.declared.Bracket.the-variants.{Plain}
 use Rattle.line_place.specs.Place as place

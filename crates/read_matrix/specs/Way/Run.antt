@@ -9,7 +9,7 @@ use lib.ListN.{length}
 use lib.Seq.{sets}
 use lib.Dec.{eqb}
 use Rattle.base.specs.If.{both}
-use Rattle.lex_line.specs.Lines.{lineAt}
+use Rattle.lex_line.specs.Way.LineEnds.{lineAt}
 use Rattle.line_place.specs.Place as place
 use Rattle.line_matrix.specs.Matrix.{diagonal, sparse, mostValues, withColumn}
 use Rattle.line_matrix.specs.declared.Matrix.{Matrix}

@@ -7,7 +7,7 @@ use mathlib.Core.Bool.{true}
 use mathlib.Core.List.{List, _∷_}
 use lib.ListN.{length, take}
 use lib.Seq.{sets}
-use Rattle.lex_line.specs.Lines.{lineAt}
+use Rattle.lex_line.specs.Way.LineEnds.{lineAt}
 use Rattle.line_matrix.specs.Matrix.{sparse, dataLineOf}
 use Rattle.read_line.specs.Reading.{commentByte}
 use Rattle.read_line.specs.Way.Walk.{contentAt}

@@ -8,7 +8,7 @@ use lib.ListN.{length, take}
 use lib.Seq.{sets}
 use lib.Dec.{eqb}
 use Rattle.base.specs.If.{if_then_else_, both}
-use Rattle.lex_line.specs.Lines.{lineAt}
+use Rattle.lex_line.specs.Way.LineEnds.{lineAt}
 use Rattle.lex_line.specs.Words.{words}
 use Rattle.line_matrix.specs.Matrix.{areFormed, areBounded}
 use Rattle.read_line.specs.Reading.{commentByte}

@@ -6,10 +6,10 @@ use Prim.Native.Nat.{_+_, _-_, _≤_}
 use native.Mathlib.Nat.{zero-add}
 use lib.ListN.{length, drop}
 use lib.Seq.{sets}
-use Rattle.table_layout.specs.Layout.{widths, needed}
+use Rattle.table_layout.specs.Layout.{widths}
+use Rattle.table_layout.specs.Way.Parts.{needed}
 use Rattle.table_layout.specs.Way.Filling.{basesFrom, opened}
-use Rattle.table_layout.proofs.StoreLaws.{part-on, place-within, place-fits, first-fits, part-fits, sum-fits}
-use Rattle.table_layout.proofs.StoreLaws.{bases-start, bases-on, bases-done}
+use Rattle.table_layout.proofs.StoreLaws.{part-on, place-within, place-fits, first-fits, part-fits, sum-fits, bases-start, bases-on, bases-done}
 use Rattle.table_layout.proofs.OpenLaws.{opened-on, opened-done}
 use Rattle.table_layout.proofs.open_parts.Statement.{statement}
 use Rattle.table_layout.proofs.open_parts.Tie as tie

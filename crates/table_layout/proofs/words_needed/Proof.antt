@@ -5,7 +5,8 @@ use mathlib.Core.Path.{_≡_}
 use Prim.Native.Nat.{_+_, _-_, _≤_}
 use native.Mathlib.Nat.{zero-add}
 use lib.ListN.{length, drop}
-use Rattle.table_layout.specs.Layout.{widths, needed}
+use Rattle.table_layout.specs.Layout.{widths}
+use Rattle.table_layout.specs.Way.Parts.{needed}
 use Rattle.table_layout.proofs.StoreLaws.{part-on, parts-done, first-fits, part-fits, sum-fits}
 use Rattle.table_layout.proofs.words_needed.Statement.{statement}
 use Rattle.table_layout.proofs.words_needed.Tie as tie

@@ -4,7 +4,7 @@ use borrow.Author.Needs.{needs}
 use native.Mathlib.Omega.{arith}
 use mathlib.Core.Logic.{⊎-elim}
 use Prim.Native.Nat.{_-_}
-use Rattle.table_name.specs.Name.{Tails}
+use Rattle.table_name.specs.Way.Search.{Tails}
 use Rattle.table_name.proofs.SearchLaws.{
   Searching,
   search-starts,

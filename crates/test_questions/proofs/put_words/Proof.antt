@@ -6,7 +6,7 @@ use mathlib.Core.List.{List}
 use Prim.Native.Nat.{ℕ, _-_, _≤_, _<_}
 use native.Mathlib.Omega.{arith}
 use Rattle.lex_line.specs.declared.Span.{Span}
-use Rattle.lex_line.specs.Words.{wordAt}
+use Rattle.lex_line.specs.Way.Spans.{wordAt}
 use lib.ListN.{length}
 use Rattle.lex_line.proofs.WordLaws.{word-ordered, word-within, end-past}
 use Rattle.test_questions.proofs.put_words.Statement.{statement}

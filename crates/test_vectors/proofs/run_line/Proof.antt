@@ -2,7 +2,6 @@
 -- Assumes nothing.
 use Rattle.lex_line.proofs.FormLaws.{marks}
 use borrow.Author.Needs.{needs}
-use borrow.Author.Needs.{needs}
 use Rattle.test_vectors.proofs.run_line.Statement.{statement}
 use Rattle.test_vectors.proofs.run_line.Tie as tie
 

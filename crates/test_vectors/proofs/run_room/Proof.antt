@@ -4,7 +4,6 @@ use mathlib.Core.Path.{sym}
 use native.Mathlib.Omega.{arith}
 use lib.Seq.{length-take-le}
 use borrow.Author.Needs.{needs}
-use borrow.Author.Needs.{needs}
 use Rattle.test_vectors.proofs.run_room.Statement.{statement}
 use Rattle.test_vectors.proofs.run_room.Tie as tie
 

@@ -2,7 +2,6 @@
 -- Assumes nothing.
 use Rattle.base.proofs.IfLaws.{chain}
 use borrow.Author.Needs.{needs}
-use borrow.Author.Needs.{needs}
 use Rattle.cross_names.proofs.list.opens_model.Statement.{statement}
 use Rattle.cross_names.proofs.list.opens_model.Tie as tie
 

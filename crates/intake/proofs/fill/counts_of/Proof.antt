@@ -1,7 +1,7 @@
 -- `intake::fill::counts_of` meets its contract.
 -- Assumes nothing.
 use mathlib.Core.Path.{refl}
-use Rattle.doc.specs.Holds.{countsOf}
+use Rattle.doc.specs.Way.Holds.{countsOf}
 use Rattle.intake.proofs.fill.fill.counts_of.Statement.{statement}
 use Rattle.intake.proofs.fill.fill.counts_of.Tie as tie
 

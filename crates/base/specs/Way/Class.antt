@@ -5,32 +5,16 @@ use Prim.Native.Char.{code}
 use mathlib.Core.Bool.{Bool, not}
 use mathlib.Core.List.{List}
 use lib.ListN.{drop}
-use lib.Dec.{leb, eqb}
-use Rattle.base.specs.If.{both, either}
-use Rattle.base.specs.Bytes.{isBlank, isDigit, isLetter, within, tab, lineFeed, carriageReturn}
+use lib.Dec.{eqb}
+use Rattle.base.specs.If.{both}
+use Rattle.base.specs.Bytes.{isBlank, isDigit, isLetter, isFilled, isPrinted, isBefore, isContent}
 use Rattle.base.specs.Runs.{run}
 use Rattle.base.specs.declared.Class.{Class}
 use Rattle.base.specs.declared.Class.the-variants.{Blank, Filled, Named, Digit, Letter, Printed, Before, Content}
 
--- any byte but a blank: what a word is made of
-unfoldable pub isFilled : ℕ → Bool
-isFilled b = not (isBlank b)
-
 -- the same but `=`: what a word is made of in a form that has one
 unfoldable pub isNamed : ℕ → Bool
 isNamed b = both (isFilled b) (not (eqb b (code "=")))
-
--- "0x20 to 0x7E, TAB"
-unfoldable pub isPrinted : ℕ → Bool
-isPrinted b = either (within 32 126 b) (eqb b tab)
-
--- any byte but one
-unfoldable pub isBefore : ℕ → ℕ → Bool
-isBefore stop b = not (eqb b stop)
-
--- any byte but the comment byte and those of a terminator: what the content of a line is made of
-unfoldable pub isContent : ℕ → ℕ → Bool
-isContent comment b = both (isBefore comment b) (both (isBefore lineFeed b) (isBefore carriageReturn b))
 
 abbrev pub inClass : Class → ℕ → Bool
 inClass Blank = isBlank

@@ -1,0 +1,24 @@
+-- What the lent table holds on the way: once it is filled, or refused, and once the values stand where they belong.
+-- Assumes nothing.
+use Prim.Native.Nat.{ℕ, _-_, _*_}
+use mathlib.Core.Path.{_≡_}
+use mathlib.Core.List.{List, _++_}
+use lib.ListN.{length, getD, replicate}
+use lib.Seq.{sets}
+use Rattle.table_layout.specs.Layout.{widths, values}
+use Rattle.table_layout.specs.Way.Parts.{needed}
+use Rattle.read_line.specs.declared.Reading.the-variants as reading
+use Rattle.doc.specs.Records.{tableOf}
+use Rattle.intake.specs.declared.fill.Filled.{Filled}
+use Rattle.intake.specs.declared.fill.Filled.the-variants.{Stored, Refused}
+
+-- "A refused intake zeroes the table, an accepted one the words past those used"
+abbrev pub tableFor : List ℕ → ℕ → Filled → List ℕ
+tableFor t size (Stored words) = tableOf t ++ replicate (size - length (tableOf t)) 0
+tableFor t size (Refused number line) = replicate size 0
+
+-- a table of zeros, but for words where the values of so many records of each part belong
+pub record Lifted (counts table : List ℕ) : Type 0 where
+  pub words : List ℕ
+  pub long : length words ≡ 3 * getD counts values 0
+  pub image : table ≡ sets (replicate (length table) 0) (needed widths counts - length words) words

@@ -1,0 +1,14 @@
+-- The number that a list of values gives at a row and a column.
+-- Assumes nothing.
+use Prim.Native.Nat.{ℕ}
+use mathlib.Core.List.{List, [], _∷_}
+use lib.Dec.{eqb}
+use Rattle.base.specs.If.{if_then_else_, both}
+use Rattle.lex_number.specs.ValueWord.{zeroWord}
+use Rattle.lex_keyword.specs.Names.{row}
+use Rattle.doc.specs.Document.{Value}
+
+-- what values give there: the first that has this row and this column
+unfoldable pub foundAt : ℕ → ℕ → List Value → ℕ
+foundAt i j [] = zeroWord
+foundAt i j (v ∷ vs) = if both (eqb (v .row) i) (eqb (v .column) j) then v .word else foundAt i j vs

@@ -1,0 +1,29 @@
+-- [Row] and [Bandwidth] by the matrix alone: what they break there, and the matrix after them. They change nothing else of the state.
+-- Assumes nothing.
+use Prim.Native.Nat.{ℕ}
+use mathlib.Core.List.{List, [], _∷_}
+use lib.Dec.{eqb}
+use Rattle.base.specs.If.{if_then_else_}
+use Rattle.base.specs.Broken.{_when_, firstBroken}
+use Rattle.lex_number.specs.Integer.{wholeOf}
+use Rattle.lex_keyword.specs.Names.{row}
+use Rattle.line_place.specs.Place as place
+use Rattle.line_argument.specs.Argument.{isBadArgument, isBadInteger, isOutOfBounds}
+use Rattle.line_matrix.specs.Matrix.{withRow, withBandwidth}
+use Rattle.line_matrix.specs.declared.Matrix.{Matrix}
+use Rattle.line_keyword.specs.Keywords.{isWrongInMatrix}
+
+-- the rules that [Row] or [Bandwidth] may break in a matrix
+unfoldable pub keptRule : ℕ → List ℕ → Matrix → ℕ
+keptRule k argument m =
+    firstBroken
+    (11 when isBadArgument k argument
+    ∷ 13 when isBadInteger k argument
+    ∷ 14 when isOutOfBounds k argument
+    ∷ 16 when isWrongInMatrix k (wholeOf argument .value) m
+    ∷ [])
+
+-- the matrix after it
+unfoldable pub keptNext : ℕ → List ℕ → Matrix → ℕ → Matrix
+keptNext k argument m values =
+    if eqb k row then withRow (wholeOf argument .value) m values else withBandwidth (wholeOf argument .value) m
