@@ -17,7 +17,7 @@ use Rattle.table_layout.specs.declared.View.{View}
 use Rattle.doc.specs.Records.{Records, recordsOf}
 use Rattle.ask_sound.specs.Sound.{isSound}
 use Rattle.ask_sound.specs.Way.Standing.{countOf}
-use Rattle.ask_entry.specs.Entry.{EntryWords, foundWith, refusedWith, entryWords, noSection, noMatrix, matrixOf, wordAt, valuesOf, entryOf, isInRange, answerOf}
+use Rattle.ask_entry.specs.Entry.{EntryWords, foundWith, entryRefused, entryWords, noSection, noMatrix, matrixIndex, wordAt, matrixValues, entryOf, isInRange, entryAnswer}
 use Rattle.ask_entry.specs.Way.Ready.{Ready}
 use Rattle.ask_entry.specs.declared.Answer.{Answer}
 use Rattle.ask_entry.specs.declared.Answer.the-variants.{Found, Refused}
@@ -38,20 +38,20 @@ entry-exchange r index row column =
     λ i.
     if eqb index 0
     then zeroWord
-    else wordAt (min-comm row column i) (max-comm row column i) (valuesOf r (getD (r .matrices) (index - 1) noMatrix))
+    else wordAt (min-comm row column i) (max-comm row column i) (matrixValues r (getD (r .matrices) (index - 1) noMatrix))
 
 range-exchange : (r : Records) (section kind row column : ℕ) → isInRange r section kind row column ≡ isInRange r section kind column row
 unfolding isInRange
 range-exchange r section kind row column =
     ap (λ (b : Bool). both (ltb section (length (r .sections))) (both (ltb kind 4) b)) (both-swap _ _)
 
-pub exchange : (t table : List ℕ) (section kind row column : ℕ) → answerOf t table section kind row column ≡ answerOf t table section kind column row
-unfolding answerOf
+pub exchange : (t table : List ℕ) (section kind row column : ℕ) → entryAnswer t table section kind row column ≡ entryAnswer t table section kind column row
+unfolding entryAnswer
 exchange t table section kind row column =
     λ i.
-    if not (isSound t table) then refusedWith 30 else
-    if not (range-exchange (recordsOf table) section kind row column i) then refusedWith 31 else
-    foundWith (entry-exchange (recordsOf table) (matrixOf (getD (recordsOf table .sections) section noSection) kind) row column i)
+    if not (isSound t table) then entryRefused 30 else
+    if not (range-exchange (recordsOf table) section kind row column i) then entryRefused 31 else
+    foundWith (entry-exchange (recordsOf table) (matrixIndex (getD (recordsOf table .sections) section noSection) kind) row column i)
 
 -- ---- one answer
 
@@ -63,14 +63,14 @@ one-answer (Refused x) (Refused y) e = ap (λ (w : EntryWords). Refused (w .numb
 
 -- any two answers that keep the promise are the same
 pub unique : (t table : List ℕ) (section kind row column : ℕ) (a b : Answer) →
-    entryWords a ≡ answerOf t table section kind row column → entryWords b ≡ answerOf t table section kind row column → a ≡ b
+    entryWords a ≡ entryAnswer t table section kind row column → entryWords b ≡ entryAnswer t table section kind row column → a ≡ b
 unique t table section kind row column a b e f = one-answer a b (e ∙ sym f)
 
 -- ---- what each `return` knows
 
 module _ (t table : List ℕ) (section kind row column : ℕ) (sound : Bool) (is-sound : sound ≡ isSound t table) where
-  pub answer-unsound : not sound ≡ true → entryWords (Refused 30) ≡ answerOf t table section kind row column
-  unfolding answerOf
+  pub answer-unsound : not sound ≡ true → entryWords (Refused 30) ≡ entryAnswer t table section kind row column
+  unfolding entryAnswer
   answer-unsound e = sym (if-true _ _ (not-via (sym is-sound ∙ not-true sound e)))
 
   module _ (kept : not sound ≡ false) (v : View) (is-view : v ≡ viewOf table) where
@@ -81,8 +81,8 @@ module _ (t table : List ℕ) (section kind row column : ℕ) (sound : Bool) (is
     answer-ready = ready-of t table table-sound v is-view
 
     module _ (inside : Bool) (is-inside : inside ≡ isInRange (recordsOf table) section kind row column) where
-      pub answer-no-such : not inside ≡ true → entryWords (Refused 31) ≡ answerOf t table section kind row column
-      unfolding answerOf
+      pub answer-no-such : not inside ≡ true → entryWords (Refused 31) ≡ entryAnswer t table section kind row column
+      unfolding entryAnswer
       answer-no-such e = sym (if-false _ _ (not-not-via table-sound) ∙ if-true _ _ (not-via (sym is-inside ∙ not-true inside e)))
 
       module _ (there : not inside ≡ false) where
@@ -92,15 +92,15 @@ module _ (t table : List ℕ) (section kind row column : ℕ) (sound : Bool) (is
         pub answer-section : Ready table v × (section < countOf v sections)
         answer-section = (answer-ready, range-section table v answer-ready section kind row column in-range)
 
-        module _ (index : ℕ) (is-index : index ≡ matrixOf (getD (recordsOf table .sections) section noSection) kind) where
+        module _ (index : ℕ) (is-index : index ≡ matrixIndex (getD (recordsOf table .sections) section noSection) kind) where
           pub answer-matrix : Ready table v × (index ≤ countOf v matrices)
           answer-matrix =
-              let few : matrixOf (getD (recordsOf table .sections) section noSection) kind ≤ countOf v matrices =
+              let few : matrixIndex (getD (recordsOf table .sections) section noSection) kind ≤ countOf v matrices =
               matrix-few table v answer-ready section (range-section table v answer-ready section kind row column in-range) kind in
               (answer-ready, rw is-index few)
 
-          pub answer-found : (word : ℕ) → word ≡ entryOf (recordsOf table) index row column → entryWords (Found word) ≡ answerOf t table section kind row column
-          unfolding answerOf
+          pub answer-found : (word : ℕ) → word ≡ entryOf (recordsOf table) index row column → entryWords (Found word) ≡ entryAnswer t table section kind row column
+          unfolding entryAnswer
           answer-found word e =
               ap foundWith (e ∙ ap (λ (n : ℕ). entryOf (recordsOf table) n row column) is-index)
               ∙ sym (if-false _ _ (not-not-via table-sound) ∙ if-false _ _ (not-not-via in-range))

@@ -25,7 +25,7 @@ use Rattle.ask_sound.specs.Sound.{every, range, areMatrices, isSection, isMatri
 use Rattle.ask_sound.specs.Way.Standing.{places, sectionAt, matrixAt, baseOf, countOf, placesOf, valuesFrom, valuesAt, recordsAt}
 use Rattle.ask_sound.proofs.PlaceLaws.{places-long, values-long, values-range}
 use Rattle.ask_sound.proofs.SoundLaws.{records-here}
-use Rattle.ask_entry.specs.Entry.{noSection, noMatrix, matrixOf, wordAt, valuesOf, entryOf, isInRange}
+use Rattle.ask_entry.specs.Entry.{noSection, noMatrix, matrixIndex, wordAt, matrixValues, entryOf, isInRange}
 use Rattle.ask_entry.specs.Way.Ready.{Ready}
 
 -- ---- lists
@@ -62,8 +62,8 @@ module _ {A : Type 0} where
   every-other test other follows [] e = refl
   every-other test other follows (x ∷ xs) e = both-true _ _ (follows x (both-first _ _ e)) (every-other test other follows xs (both-second _ _ e))
 
-kinds-few : (s : SectionRecord) (many kind : ℕ) → areMatrices many s ≡ true → matrixOf s kind ≤ many
-unfolding areMatrices matrixOf
+kinds-few : (s : SectionRecord) (many kind : ℕ) → areMatrices many s ≡ true → matrixIndex s kind ≤ many
+unfolding areMatrices matrixIndex
 kinds-few s many kind e =
     by-test (λ (n : ℕ). n ≤ many) (eqb kind 0) _ _ (λ h. leb-true _ _ (both-first _ _ e))
     (λ h. by-test (λ (n : ℕ). n ≤ many) (eqb kind 1) _ _ (λ k. leb-true _ _ (both-first _ _ (both-second _ _ e)))
@@ -141,29 +141,29 @@ module _ (table : List ℕ) (v : View) (ready : Ready table v) where
       abbrev at : ℕ
       at = baseOf v sections + 8 * section
 
-      told : (word : ℕ) → word ≡ matrixOf (sectionAt table at) kind → word ≡ matrixOf (getD (recordsOf table .sections) section noSection) kind
-      told word e = e ∙ ap (λ (s : SectionRecord). matrixOf s kind) (sym (section-here has))
+      told : (word : ℕ) → word ≡ matrixIndex (sectionAt table at) kind → word ≡ matrixIndex (getD (recordsOf table .sections) section noSection) kind
+      told word e = e ∙ ap (λ (s : SectionRecord). matrixIndex s kind) (sym (section-here has))
 
-      pub kind-resistance : kind ≡ 0 → getD table (baseOf v sections + 8 * section + 4) 0 ≡ matrixOf (getD (recordsOf table .sections) section noSection) kind
-      unfolding matrixOf
+      pub kind-resistance : kind ≡ 0 → getD table (baseOf v sections + 8 * section + 4) 0 ≡ matrixIndex (getD (recordsOf table .sections) section noSection) kind
+      unfolding matrixIndex
       kind-resistance e = told _ (sym (if-true _ _ (eq-eqb kind 0 e)))
 
       module _ (a : kind ≡ 0 → ⊥) where
-        pub kind-inductance : kind ≡ 1 → getD table (baseOf v sections + 8 * section + 5) 0 ≡ matrixOf (getD (recordsOf table .sections) section noSection) kind
-        unfolding matrixOf
+        pub kind-inductance : kind ≡ 1 → getD table (baseOf v sections + 8 * section + 5) 0 ≡ matrixIndex (getD (recordsOf table .sections) section noSection) kind
+        unfolding matrixIndex
         kind-inductance e = told _ (sym (if-false _ _ (ne-eqb kind 0 a) ∙ if-true _ _ (eq-eqb kind 1 e)))
 
         module _ (b : kind ≡ 1 → ⊥) where
-          pub kind-conductance : kind ≡ 2 → getD table (baseOf v sections + 8 * section + 6) 0 ≡ matrixOf (getD (recordsOf table .sections) section noSection) kind
-          unfolding matrixOf
+          pub kind-conductance : kind ≡ 2 → getD table (baseOf v sections + 8 * section + 6) 0 ≡ matrixIndex (getD (recordsOf table .sections) section noSection) kind
+          unfolding matrixIndex
           kind-conductance e = told _ (sym (if-false _ _ (ne-eqb kind 0 a) ∙ if-false _ _ (ne-eqb kind 1 b) ∙ if-true _ _ (eq-eqb kind 2 e)))
 
-          pub kind-capacitance : (kind ≡ 2 → ⊥) → getD table (baseOf v sections + 8 * section + 7) 0 ≡ matrixOf (getD (recordsOf table .sections) section noSection) kind
-          unfolding matrixOf
+          pub kind-capacitance : (kind ≡ 2 → ⊥) → getD table (baseOf v sections + 8 * section + 7) 0 ≡ matrixIndex (getD (recordsOf table .sections) section noSection) kind
+          unfolding matrixIndex
           kind-capacitance d = told _ (sym (if-false _ _ (ne-eqb kind 0 a) ∙ if-false _ _ (ne-eqb kind 1 b) ∙ if-false _ _ (ne-eqb kind 2 d)))
 
       -- none of them is the index of a matrix that is not there
-      pub matrix-few : matrixOf (getD (recordsOf table .sections) section noSection) kind ≤ countOf v matrices
+      pub matrix-few : matrixIndex (getD (recordsOf table .sections) section noSection) kind ≤ countOf v matrices
       matrix-few =
           let l : section < length (recordsOf table .sections) = rw sections-long has in
           let e : areMatrices (length (recordsOf table .matrices)) (getD (recordsOf table .sections) section noSection) ≡ true =
@@ -267,7 +267,7 @@ module _ (table : List ℕ) (v : View) (ready : Ready table v) where
       pub entry-found : (row column low high word : ℕ) → low ≡ min row column → high ≡ max row column →
           word ≡ wordAt low high (valuesFrom table (baseOf v values + 3 * getD table (baseOf v matrices + 5 * (index - 1) + 2) 0) (getD table (baseOf v matrices + 5 * (index - 1) + 3) 0)) →
           word ≡ entryOf (recordsOf table) index row column
-      unfolding entryOf valuesOf
+      unfolding entryOf matrixValues
       entry-found row column low high word is-low is-high e =
           let i : first + many ≤ countOf v values = values-inside in
           let vs : valuesFrom table (baseOf v values + 3 * first) many ≡ range first many (recordsOf table .values) =

@@ -14,7 +14,7 @@ use Rattle.base.specs.If.{if_then_else_, both}
 use Rattle.base.proofs.IfLaws.{if-true, if-false, both-true, both-first, both-second}
 use Rattle.lex_number.specs.ValueWord.{zeroWord}
 use Rattle.doc.specs.Document.{Value}
-use Rattle.doc.specs.Holds.{isInside, comesBefore, rises}
+use Rattle.doc.specs.Holds.{isInUpperHalf, comesBefore, rises}
 use Rattle.ask_sound.specs.Way.Standing.{places, valueAt, valuesFrom}
 use Rattle.ask_sound.proofs.LoopLaws.{no-values}
 use Rattle.ask_entry.specs.Entry.{wordAt}
@@ -30,17 +30,17 @@ module _ (table : List ℕ) where
   abbrev here : ℕ → Value
   here at = valueAt table at
 
-  rises-one : (at : ℕ) → rises 256 (valuesFrom table at (suc zero)) ≡ isInside 256 (here at)
+  rises-one : (at : ℕ) → rises 256 (valuesFrom table at (suc zero)) ≡ isInUpperHalf 256 (here at)
   unfolding valuesFrom places rises
   rises-one at = refl
 
   rises-two :
       (at n : ℕ) →
-      rises 256 (valuesFrom table at (suc (suc n))) ≡ both (isInside 256 (here at)) (both (comesBefore (here at) (here (at + 3))) (rises 256 (valuesFrom table (at + 3) (suc n))))
+      rises 256 (valuesFrom table at (suc (suc n))) ≡ both (isInUpperHalf 256 (here at)) (both (comesBefore (here at) (here (at + 3))) (rises 256 (valuesFrom table (at + 3) (suc n))))
   unfolding valuesFrom places rises
   rises-two at n = refl
 
-  rises-first : (at n : ℕ) → Rising at (suc n) → isInside 256 (here at) ≡ true
+  rises-first : (at n : ℕ) → Rising at (suc n) → isInUpperHalf 256 (here at) ≡ true
   rises-first at zero e = sym (rises-one at) ∙ e
   rises-first at (suc n) e = both-first _ _ (sym (rises-two at n) ∙ e)
 

@@ -15,9 +15,9 @@ use Rattle.base.specs.Bytes.{within}
 use Rattle.base.proofs.IfLaws.{if-true, if-false, both-true, both-first, both-second, not-via, not-not-via, by-cases}
 use Rattle.doc.specs.Records.{Records, recordsOf}
 use Rattle.ask_sound.specs.Sound.{isSound}
-use Rattle.ask_entry.specs.Entry.{foundWith, noSection, matrixOf, entryOf, isInRange, answerOf}
+use Rattle.ask_entry.specs.Entry.{foundWith, noSection, matrixIndex, entryOf, isInRange, entryAnswer}
 use Rattle.ask_entry.proofs.RowLaws.{row-long}
-use Rattle.ask_entry.specs.WholeMatrix.{MatrixWords, foundOf, shortOf, refusedWith, rowFrom, rowsFrom, squareOf, conductorsOf, wholeOf}
+use Rattle.ask_entry.specs.WholeMatrix.{MatrixWords, foundOf, shortOf, matrixRefused, rowFrom, rowsFrom, squareOf, sectionConductors, matrixAnswer}
 
 module _ (r : Records) (index : ℕ) where
   row-at : (row column many k : ℕ) → k < many → getD (rowFrom r index row column many) k 0 ≡ entryOf r index row (column + k)
@@ -66,19 +66,19 @@ inside : (low high x : ℕ) → low ≤ x → x ≤ high → within low high x �
 unfolding within
 inside low high x h k = both-true _ _ (le-leb low x h) (le-leb x high k)
 
-module _ (t table : List ℕ) (section kind room conductors : ℕ) (found : wholeOf t table section kind room ≡ foundOf conductors) where
-  -- the three tests of `wholeOf`, one after the other
+module _ (t table : List ℕ) (section kind room conductors : ℕ) (found : matrixAnswer t table section kind room ≡ foundOf conductors) where
+  -- the three tests of `matrixAnswer`, one after the other
   sound-first : isSound t table ≡ true
-  unfolding wholeOf
+  unfolding matrixAnswer
   sound-first =
       by-cases _ (isSound t table)
       (λ (e : isSound t table ≡ true). e)
       (λ (e : isSound t table ≡ false). absurd (true≢false (sym (ap (λ (w : MatrixWords). w .found) found) ∙ ap (λ (w : MatrixWords). w .found) (if-true _ _ (not-via e)))))
 
-  past-sound : (if not (isInRange (recordsOf table) section kind 1 1) then refusedWith 31 else
-      if ltb room (conductorsOf (recordsOf table) section * conductorsOf (recordsOf table) section) then shortOf (conductorsOf (recordsOf table) section)
-      else foundOf (conductorsOf (recordsOf table) section)) ≡ foundOf conductors
-  unfolding wholeOf
+  past-sound : (if not (isInRange (recordsOf table) section kind 1 1) then matrixRefused 31 else
+      if ltb room (sectionConductors (recordsOf table) section * sectionConductors (recordsOf table) section) then shortOf (sectionConductors (recordsOf table) section)
+      else foundOf (sectionConductors (recordsOf table) section)) ≡ foundOf conductors
+  unfolding matrixAnswer
   past-sound = sym (if-false _ _ (not-not-via sound-first)) ∙ found
 
   range-then : isInRange (recordsOf table) section kind 1 1 ≡ true
@@ -87,30 +87,30 @@ module _ (t table : List ℕ) (section kind room conductors : ℕ) (found : whol
       (λ (e : isInRange (recordsOf table) section kind 1 1 ≡ true). e)
       (λ (e : isInRange (recordsOf table) section kind 1 1 ≡ false). absurd (true≢false (sym (ap (λ (w : MatrixWords). w .found) past-sound) ∙ ap (λ (w : MatrixWords). w .found) (if-true _ _ (not-via e)))))
 
-  past-range : (if ltb room (conductorsOf (recordsOf table) section * conductorsOf (recordsOf table) section) then shortOf (conductorsOf (recordsOf table) section)
-      else foundOf (conductorsOf (recordsOf table) section)) ≡ foundOf conductors
+  past-range : (if ltb room (sectionConductors (recordsOf table) section * sectionConductors (recordsOf table) section) then shortOf (sectionConductors (recordsOf table) section)
+      else foundOf (sectionConductors (recordsOf table) section)) ≡ foundOf conductors
   past-range = sym (if-false _ _ (not-not-via range-then)) ∙ past-sound
 
-  pub conductors-told : conductorsOf (recordsOf table) section ≡ conductors
+  pub conductors-told : sectionConductors (recordsOf table) section ≡ conductors
   conductors-told =
-      by-cases _ (ltb room (conductorsOf (recordsOf table) section * conductorsOf (recordsOf table) section))
-      (λ (e : ltb room (conductorsOf (recordsOf table) section * conductorsOf (recordsOf table) section) ≡ true). ap (λ (w : MatrixWords). w .conductors) (sym (if-true _ _ e) ∙ past-range))
-      (λ (e : ltb room (conductorsOf (recordsOf table) section * conductorsOf (recordsOf table) section) ≡ false). ap (λ (w : MatrixWords). w .conductors) (sym (if-false _ _ e) ∙ past-range))
+      by-cases _ (ltb room (sectionConductors (recordsOf table) section * sectionConductors (recordsOf table) section))
+      (λ (e : ltb room (sectionConductors (recordsOf table) section * sectionConductors (recordsOf table) section) ≡ true). ap (λ (w : MatrixWords). w .conductors) (sym (if-true _ _ e) ∙ past-range))
+      (λ (e : ltb room (sectionConductors (recordsOf table) section * sectionConductors (recordsOf table) section) ≡ false). ap (λ (w : MatrixWords). w .conductors) (sym (if-false _ _ e) ∙ past-range))
 
   in-range : (row column : ℕ) → 1 ≤ row → row ≤ conductors → 1 ≤ column → column ≤ conductors → isInRange (recordsOf table) section kind row column ≡ true
-  unfolding isInRange conductorsOf
+  unfolding isInRange sectionConductors
   in-range row column a b c d =
-      let rest : both (ltb kind 4) (both (within 1 (conductorsOf (recordsOf table) section) 1) (within 1 (conductorsOf (recordsOf table) section) 1)) ≡ true = both-second _ _ range-then in
+      let rest : both (ltb kind 4) (both (within 1 (sectionConductors (recordsOf table) section) 1) (within 1 (sectionConductors (recordsOf table) section) 1)) ≡ true = both-second _ _ range-then in
       both-true _ _ (both-first _ _ range-then)
       (both-true _ _ (both-first _ _ rest)
       (rw conductors-told (both-true _ _ (inside 1 conductors row a b) (inside 1 conductors column c d))))
 
   -- "entry" answers with the word that stands at its row and column
   pub square-entry : (row column : ℕ) → 1 ≤ row → row ≤ conductors → 1 ≤ column → column ≤ conductors →
-      answerOf t table section kind row column
-      ≡ foundWith (getD (squareOf (recordsOf table) (matrixOf (getD (recordsOf table .sections) section noSection) kind) conductors) ((row - 1) * conductors + (column - 1)) 0)
-  unfolding answerOf
+      entryAnswer t table section kind row column
+      ≡ foundWith (getD (squareOf (recordsOf table) (matrixIndex (getD (recordsOf table .sections) section noSection) kind) conductors) ((row - 1) * conductors + (column - 1)) 0)
+  unfolding entryAnswer
   square-entry row column a b c d =
       if-false _ _ (not-not-via sound-first)
       ∙ if-false _ _ (not-not-via (in-range row column a b c d))
-      ∙ ap foundWith (sym (square-at (recordsOf table) (matrixOf (getD (recordsOf table .sections) section noSection) kind) conductors row column a b c d))
+      ∙ ap foundWith (sym (square-at (recordsOf table) (matrixIndex (getD (recordsOf table .sections) section noSection) kind) conductors row column a b c d))

@@ -21,10 +21,10 @@ use Rattle.doc.specs.Records.{SectionRecord, Records, recordsOf}
 use Rattle.ask_sound.specs.Sound.{every, isSection, areSound, isSound}
 use Rattle.ask_sound.specs.Way.Standing.{places, sectionAt, baseOf, countOf, placesOf, recordsAt}
 use Rattle.ask_sound.proofs.SoundLaws.{records-here}
-use Rattle.ask_entry.specs.Entry.{noSection, matrixOf, isInRange}
+use Rattle.ask_entry.specs.Entry.{noSection, matrixIndex, isInRange}
 use Rattle.ask_entry.specs.Way.Ready.{Ready}
 use Rattle.ask_entry.proofs.ReadyLaws.{ready-of, range-section, matrix-few}
-use Rattle.ask_entry.specs.WholeMatrix.{foundOf, shortOf, wholeWords, squareOf, conductorsOf, wholeOf, roomAfter}
+use Rattle.ask_entry.specs.WholeMatrix.{foundOf, shortOf, wholeWords, squareOf, sectionConductors, matrixAnswer, roomAfter}
 use Rattle.ask_entry.specs.declared.Whole.the-variants.{Found, Short, Refused}
 
 -- ---- lists
@@ -64,15 +64,15 @@ module _ (table : List ℕ) (v : View) (ready : Ready table v) (section : ℕ) (
   unfolding recordsAt placesOf
   sections-are = ap (λ (r : Records). r .sections) (sym records-are)
 
-  pub conductors-here : getD table (baseOf v sections + 8 * section + 3) 0 ≡ conductorsOf (recordsOf table) section
-  unfolding conductorsOf
+  pub conductors-here : getD table (baseOf v sections + 8 * section + 3) 0 ≡ sectionConductors (recordsOf table) section
+  unfolding sectionConductors
   conductors-here =
       ap (λ (s : SectionRecord). s .conductors)
       (sym (ap (λ (ss : List SectionRecord). getD ss section noSection) sections-are
       ∙ stands-at (sectionAt table) (λ s. true) 8 noSection (baseOf v sections) section (countOf v sections) has))
 
-  conductors-within : (t : List ℕ) → isSound t table ≡ true → conductorsOf (recordsOf table) section ≤ 256
-  unfolding isSound areSound conductorsOf
+  conductors-within : (t : List ℕ) → isSound t table ≡ true → sectionConductors (recordsOf table) section ≤ 256
+  unfolding isSound areSound sectionConductors
   conductors-within t sound =
       let all : every (isSection (length t) (length (recordsOf table .matrices))) (recordsOf table .sections) ≡ true =
       both-first _ _ (both-second _ _ (both-second _ _ (both-second _ _ (both-second _ _ (both-second _ _ (both-second _ _ sound)))))) in
@@ -86,8 +86,8 @@ module _ (table : List ℕ) (v : View) (ready : Ready table v) (section : ℕ) (
 
 module _ (t table : List ℕ) (section kind : ℕ) (sound : Bool) (is-sound : sound ≡ isSound t table) where
   pub whole-unsound : (values : List ℕ) → not sound ≡ true →
-      (wholeWords (Refused 30) ≡ wholeOf t table section kind (length values)) × (values ≡ roomAfter table section kind (wholeWords (Refused 30)) values)
-  unfolding wholeOf roomAfter
+      (wholeWords (Refused 30) ≡ matrixAnswer t table section kind (length values)) × (values ≡ roomAfter table section kind (wholeWords (Refused 30)) values)
+  unfolding matrixAnswer roomAfter
   whole-unsound values e = (sym (if-true _ _ (not-via (sym is-sound ∙ not-true sound e))), sym (if-false _ _ refl))
 
   module _ (kept : not sound ≡ false) (v : View) (is-view : v ≡ viewOf table) where
@@ -99,8 +99,8 @@ module _ (t table : List ℕ) (section kind : ℕ) (sound : Bool) (is-sound : so
 
     module _ (inside : Bool) (is-inside : inside ≡ isInRange (recordsOf table) section kind 1 1) where
       pub whole-no-such : (values : List ℕ) → not inside ≡ true →
-          (wholeWords (Refused 31) ≡ wholeOf t table section kind (length values)) × (values ≡ roomAfter table section kind (wholeWords (Refused 31)) values)
-      unfolding wholeOf roomAfter
+          (wholeWords (Refused 31) ≡ matrixAnswer t table section kind (length values)) × (values ≡ roomAfter table section kind (wholeWords (Refused 31)) values)
+      unfolding matrixAnswer roomAfter
       whole-no-such values e =
           (sym (if-false _ _ (not-not-via table-sound) ∙ if-true _ _ (not-via (sym is-inside ∙ not-true inside e))), sym (if-false _ _ refl))
 
@@ -114,7 +114,7 @@ module _ (t table : List ℕ) (section kind : ℕ) (sound : Bool) (is-sound : so
         pub whole-section : Ready table v × (section < countOf v sections)
         whole-section = (whole-ready, has-section)
 
-        module _ (conductors : ℕ) (is-conductors : conductors ≡ conductorsOf (recordsOf table) section) where
+        module _ (conductors : ℕ) (is-conductors : conductors ≡ sectionConductors (recordsOf table) section) where
           few : conductors ≤ 256
           few = rw is-conductors (conductors-within table v whole-ready section has-section t table-sound)
 
@@ -124,15 +124,15 @@ module _ (t table : List ℕ) (section kind : ℕ) (sound : Bool) (is-sound : so
               omega arith
 
           abbrev square : ℕ
-          square = conductorsOf (recordsOf table) section * conductorsOf (recordsOf table) section
+          square = sectionConductors (recordsOf table) section * sectionConductors (recordsOf table) section
 
           square-is : conductors * conductors ≡ square
           square-is = λ i. is-conductors i * is-conductors i
 
           pub whole-short : (values : List ℕ) → length values < conductors * conductors →
-              (wholeWords (Short conductors) ≡ wholeOf t table section kind (length values))
+              (wholeWords (Short conductors) ≡ matrixAnswer t table section kind (length values))
               × (values ≡ roomAfter table section kind (wholeWords (Short conductors)) values)
-          unfolding wholeOf roomAfter
+          unfolding matrixAnswer roomAfter
           whole-short values h =
               let k : length values < square = rw square-is at h in (
                 ap shortOf is-conductors
@@ -140,19 +140,19 @@ module _ (t table : List ℕ) (section kind : ℕ) (sound : Bool) (is-sound : so
                 sym (if-false _ _ refl),
               )
 
-          module _ (index : ℕ) (is-index : index ≡ matrixOf (getD (recordsOf table .sections) section noSection) kind) where
+          module _ (index : ℕ) (is-index : index ≡ matrixIndex (getD (recordsOf table .sections) section noSection) kind) where
             pub rows-ready : (room : ℕ) → conductors * conductors ≤ room →
                 Ready table v × (index ≤ countOf v matrices) × (conductors ≤ 256) × (conductors * conductors ≤ room)
             rows-ready room h =
-                let m : matrixOf (getD (recordsOf table .sections) section noSection) kind ≤ countOf v matrices =
+                let m : matrixIndex (getD (recordsOf table .sections) section noSection) kind ≤ countOf v matrices =
                 matrix-few table v whole-ready section has-section kind in
                 (whole-ready, rw is-index m, few, h)
 
             pub whole-found : (values : List ℕ) → conductors * conductors ≤ length values →
                 (after : List ℕ) → after ≡ sets values 0 (squareOf (recordsOf table) index conductors) →
-                (wholeWords (Found conductors) ≡ wholeOf t table section kind (length values))
+                (wholeWords (Found conductors) ≡ matrixAnswer t table section kind (length values))
                 × (after ≡ roomAfter table section kind (wholeWords (Found conductors)) values)
-            unfolding wholeOf roomAfter
+            unfolding matrixAnswer roomAfter
             whole-found values room after e =
                 let k : square ≤ length values = rw square-is at room in (
                   ap foundOf is-conductors

@@ -25,13 +25,13 @@ pub record EntryWords : Type 0 where
 abbrev pub foundWith : ℕ → EntryWords
 foundWith word = record { found = true; number = 0; line = 0; word = word }
 
-abbrev pub refusedWith : ℕ → EntryWords
-refusedWith number = record { found = false; number = number; line = 0; word = 0 }
+abbrev pub entryRefused : ℕ → EntryWords
+entryRefused number = record { found = false; number = number; line = 0; word = 0 }
 
 -- the paper's number and words for each case
 abbrev pub entryWords : Answer → EntryWords
 entryWords (Found word) = foundWith word
-entryWords (Refused number) = refusedWith number
+entryWords (Refused number) = entryRefused number
 
 -- ---- records by their index; what stands past the last is never asked for
 
@@ -45,8 +45,8 @@ noMatrix = record { form = 0; bandwidth = 0; first = 0; values = 0; line = 0 }
 -- ---- one entry
 
 -- "R L G C each matrix index plus 1 or 0"
-unfoldable pub matrixOf : SectionRecord → ℕ → ℕ
-matrixOf s kind =
+unfoldable pub matrixIndex : SectionRecord → ℕ → ℕ
+matrixIndex s kind =
     if eqb kind 0 then s .resistance else
     if eqb kind 1 then s .inductance else
     if eqb kind 2 then s .conductance else s .capacitance
@@ -57,13 +57,13 @@ wordAt row column [] = zeroWord
 wordAt row column (v ∷ vs) = if both (eqb (v .row) row) (eqb (v .column) column) then v .word else wordAt row column vs
 
 -- the values of a matrix
-unfoldable pub valuesOf : Records → MatrixRecord → List Value
-valuesOf r m = range (m .first) (m .values) (r .values)
+unfoldable pub matrixValues : Records → MatrixRecord → List Value
+matrixValues r m = range (m .first) (m .values) (r .values)
 
 -- of a kind's matrix by its index plus 1; 0 says that the kind is not given
 unfoldable pub entryOf : Records → ℕ → ℕ → ℕ → ℕ
 entryOf r index row column =
-    if eqb index 0 then zeroWord else wordAt (min row column) (max row column) (valuesOf r (getD (r .matrices) (index - 1) noMatrix))
+    if eqb index 0 then zeroWord else wordAt (min row column) (max row column) (matrixValues r (getD (r .matrices) (index - 1) noMatrix))
 
 -- "section, kind, row, column (1 to N)"
 unfoldable pub isInRange : Records → ℕ → ℕ → ℕ → ℕ → Bool
@@ -74,8 +74,8 @@ isInRange r section kind row column =
     (within 1 (getD (r .sections) section noSection .conductors) column)))
 
 -- "30 TABLE: question over an unsound table", "31 NOSUCH: section, kind, row, column (1 to N) .. out of range"
-unfoldable pub answerOf : List ℕ → List ℕ → ℕ → ℕ → ℕ → ℕ → EntryWords
-answerOf t table section kind row column =
-    if not (isSound t table) then refusedWith 30 else
-    if not (isInRange (recordsOf table) section kind row column) then refusedWith 31 else
-    foundWith (entryOf (recordsOf table) (matrixOf (getD (recordsOf table .sections) section noSection) kind) row column)
+unfoldable pub entryAnswer : List ℕ → List ℕ → ℕ → ℕ → ℕ → ℕ → EntryWords
+entryAnswer t table section kind row column =
+    if not (isSound t table) then entryRefused 30 else
+    if not (isInRange (recordsOf table) section kind row column) then entryRefused 31 else
+    foundWith (entryOf (recordsOf table) (matrixIndex (getD (recordsOf table .sections) section noSection) kind) row column)

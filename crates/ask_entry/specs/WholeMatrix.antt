@@ -10,7 +10,7 @@ use lib.Dec.{ltb}
 use Rattle.base.specs.If.{if_then_else_}
 use Rattle.doc.specs.Records.{Records, recordsOf}
 use Rattle.ask_sound.specs.Sound.{isSound}
-use Rattle.ask_entry.specs.Entry.{noSection, matrixOf, entryOf, isInRange}
+use Rattle.ask_entry.specs.Entry.{noSection, matrixIndex, entryOf, isInRange}
 use Rattle.ask_entry.specs.declared.Whole.{Whole}
 use Rattle.ask_entry.specs.declared.Whole.the-variants.{Found, Short, Refused}
 
@@ -30,14 +30,14 @@ foundOf conductors = record { found = true; number = 0; line = 0; conductors = c
 abbrev pub shortOf : ℕ → MatrixWords
 shortOf conductors = record { found = false; number = 0; line = 0; conductors = conductors }
 
-abbrev pub refusedWith : ℕ → MatrixWords
-refusedWith number = record { found = false; number = number; line = 0; conductors = 0 }
+abbrev pub matrixRefused : ℕ → MatrixWords
+matrixRefused number = record { found = false; number = number; line = 0; conductors = 0 }
 
 -- the paper's number and words for each case
 abbrev pub wholeWords : Whole → MatrixWords
 wholeWords (Found conductors) = foundOf conductors
 wholeWords (Short conductors) = shortOf conductors
-wholeWords (Refused number) = refusedWith number
+wholeWords (Refused number) = matrixRefused number
 
 -- ---- the entries, of a matrix by its index plus 1
 
@@ -57,22 +57,22 @@ squareOf r index conductors = rowsFrom r index conductors 1 conductors
 -- ---- the whole
 
 -- N of a section
-unfoldable pub conductorsOf : Records → ℕ → ℕ
-conductorsOf r section = getD (r .sections) section noSection .conductors
+unfoldable pub sectionConductors : Records → ℕ → ℕ
+sectionConductors r section = getD (r .sections) section noSection .conductors
 
 -- "30 TABLE: question over an unsound table", "31 NOSUCH: section, kind .. out of range": every section that is there has a row 1 and a
 -- column 1. Then whether so many words are room enough
-unfoldable pub wholeOf : List ℕ → List ℕ → ℕ → ℕ → ℕ → MatrixWords
-wholeOf t table section kind room =
-    if not (isSound t table) then refusedWith 30 else
-    if not (isInRange (recordsOf table) section kind 1 1) then refusedWith 31 else
-    if ltb room (conductorsOf (recordsOf table) section * conductorsOf (recordsOf table) section) then
-    shortOf (conductorsOf (recordsOf table) section)
-    else foundOf (conductorsOf (recordsOf table) section)
+unfoldable pub matrixAnswer : List ℕ → List ℕ → ℕ → ℕ → ℕ → MatrixWords
+matrixAnswer t table section kind room =
+    if not (isSound t table) then matrixRefused 30 else
+    if not (isInRange (recordsOf table) section kind 1 1) then matrixRefused 31 else
+    if ltb room (sectionConductors (recordsOf table) section * sectionConductors (recordsOf table) section) then
+    shortOf (sectionConductors (recordsOf table) section)
+    else foundOf (sectionConductors (recordsOf table) section)
 
 -- the room after an answer: the entries from its start on where the matrix was found, and else as it was
 unfoldable pub roomAfter : List ℕ → ℕ → ℕ → MatrixWords → List ℕ → List ℕ
 roomAfter table section kind answer room =
     if answer .found then
-    sets room 0 (squareOf (recordsOf table) (matrixOf (getD (recordsOf table .sections) section noSection) kind) (answer .conductors))
+    sets room 0 (squareOf (recordsOf table) (matrixIndex (getD (recordsOf table .sections) section noSection) kind) (answer .conductors))
     else room

@@ -8,10 +8,10 @@ ghost use Rattle.table_layout.specs.Layout.{sections, matrices};
 ghost use Rattle.doc.specs.Records.{recordsOf};
 ghost use Rattle.doc.specs.Holds.{comesBefore, rises};
 ghost use Rattle.ask_sound.specs.Way.Standing.{valueAt, valuesFrom, countOf};
-ghost use Rattle.ask_entry.specs.Entry.{entryWords, noSection, matrixOf, wordAt, entryOf, isInRange, answerOf};
+ghost use Rattle.ask_entry.specs.Entry.{entryWords, noSection, matrixIndex, wordAt, entryOf, isInRange, entryAnswer};
 ghost use Rattle.ask_entry.specs.Way.Ready.{Ready, asked};
 ghost use lib.Seq.{sets};
-ghost use Rattle.ask_entry.specs.WholeMatrix.{wholeWords, rowFrom, rowsFrom, squareOf, conductorsOf, wholeOf, roomAfter};
+ghost use Rattle.ask_entry.specs.WholeMatrix.{wholeWords, rowFrom, rowsFrom, squareOf, sectionConductors, matrixAnswer, roomAfter};
 use table_layout::View;
 
 // "30 TABLE: question over an unsound table", "31 NOSUCH: section, kind, row, column (1 to N) .. out of range".
@@ -162,7 +162,7 @@ pub fn is_in_range(
 // The index plus 1 of a section's matrix of a kind; 0 where the kind is not given.
 pub fn matrix_of(table: &[u64], view: View, section: u64, kind: u64) -> u64
     requires { ⌜ Ready (now table) view × (section < countOf view sections) ⌝ }
-    ensures { λ r. ⌜ r ≡ matrixOf (getD (recordsOf (now (table .entry)) .sections) section noSection) kind ⌝ }
+    ensures { λ r. ⌜ r ≡ matrixIndex (getD (recordsOf (now (table .entry)) .sections) section noSection) kind ⌝ }
 {
     let bases = view.bases;
     let at = bases[table_layout::SECTIONS] + SECTION_WORDS * (section as usize);
@@ -180,7 +180,7 @@ pub fn matrix_of(table: &[u64], view: View, section: u64, kind: u64) -> u64
 
 // One entry of a section's matrix, as a value word.
 pub fn entry(text: &[u8], table: &[u64], section: u64, kind: u64, row: u64, column: u64) -> Answer
-    ensures { λ r. ⌜ entryWords r ≡ answerOf (now (text .entry)) (now (table .entry)) section kind row column ⌝ }
+    ensures { λ r. ⌜ entryWords r ≡ entryAnswer (now (text .entry)) (now (table .entry)) section kind row column ⌝ }
 {
     if !ask_sound::is_sound(text, table) {
         return Answer::Refused(UNSOUND);
@@ -241,7 +241,7 @@ fn put_rows(table: &[u64], view: View, index: u64, conductors: u64, values: &mut
 // N of a section.
 fn conductors_of(table: &[u64], view: View, section: u64) -> u64
     requires { ⌜ Ready (now table) view × (section < countOf view sections) ⌝ }
-    ensures { λ r. ⌜ r ≡ conductorsOf (recordsOf (now (table .entry))) section ⌝ }
+    ensures { λ r. ⌜ r ≡ sectionConductors (recordsOf (now (table .entry))) section ⌝ }
 {
     let bases = view.bases;
     table[bases[table_layout::SECTIONS] + SECTION_WORDS * (section as usize) + CONDUCTORS]
@@ -255,7 +255,7 @@ pub fn whole_matrix(
     kind: u64,
     values: &mut [u64],
 ) -> Whole
-    ensures { λ r. ⌜ (wholeWords r ≡ wholeOf (now (text .entry)) (now (table .entry)) section kind (length (now (values .entry)))) × (now (values .exit) ≡ roomAfter (now (table .entry)) section kind (wholeWords r) (now (values .entry))) ⌝ }
+    ensures { λ r. ⌜ (wholeWords r ≡ matrixAnswer (now (text .entry)) (now (table .entry)) section kind (length (now (values .entry)))) × (now (values .exit) ≡ roomAfter (now (table .entry)) section kind (wholeWords r) (now (values .entry))) ⌝ }
 {
     if !ask_sound::is_sound(text, table) {
         return Whole::Refused(UNSOUND);

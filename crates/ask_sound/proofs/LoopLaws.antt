@@ -18,7 +18,7 @@ use Rattle.base.proofs.IfLaws.{if-true, if-false, by-cases, both-rest, both-not
 use Rattle.table_layout.specs.Layout.{widths}
 use Rattle.table_layout.specs.declared.View.{View}
 use Rattle.doc.specs.Document.{Value, forkKind, endforkKind}
-use Rattle.doc.specs.Holds.{isInside, comesBefore, rises}
+use Rattle.doc.specs.Holds.{isInUpperHalf, comesBefore, rises}
 use Rattle.ask_sound.specs.Sound.{every, depthStays, depthAfter, depthHolds, areZeros}
 use Rattle.ask_sound.specs.Way.Standing.{places, valueAt, baseOf, countOf, kindsFrom, valuesFrom, placesOf, goesOn, isRecord, areRecords, areParts, ValueReaches, Rooms}
 
@@ -129,12 +129,12 @@ module _ (table : List ℕ) (from many depth at i : ℕ) (left : DepthLeft table
 
 rises-cons : (n : ℕ) (v : Value) (vs : List Value) → rises n (v ∷ vs) ≡ both (goesOn n (v ∷ vs)) (rises n vs)
 unfolding rises goesOn both
-rises-cons n v [] = both-last (isInside n v)
+rises-cons n v [] = both-last (isInUpperHalf n v)
   where
     both-last : (b : Bool) → b ≡ both b true
     both-last true = refl
     both-last false = refl
-rises-cons n v (w ∷ vs) = both-first (isInside n v) (comesBefore v w) (rises n (w ∷ vs))
+rises-cons n v (w ∷ vs) = both-first (isInUpperHalf n v) (comesBefore v w) (rises n (w ∷ vs))
   where
     both-first : (a b c : Bool) → both a (both b c) ≡ both (both a b) c
     both-first true b c = refl
@@ -150,21 +150,21 @@ pub no-values : (table : List ℕ) (at : ℕ) → true ≡ rises 256 (valuesFrom
 unfolding valuesFrom places rises
 no-values table at = refl
 
-goes-one : (table : List ℕ) (at : ℕ) → goesOn 256 (valuesFrom table at (suc zero)) ≡ isInside 256 (valueAt table at)
+goes-one : (table : List ℕ) (at : ℕ) → goesOn 256 (valuesFrom table at (suc zero)) ≡ isInUpperHalf 256 (valueAt table at)
 unfolding valuesFrom places goesOn
 goes-one table at = refl
 
 goes-two :
     (table : List ℕ) (at n : ℕ) →
-    goesOn 256 (valuesFrom table at (suc (suc n))) ≡ both (isInside 256 (valueAt table at)) (comesBefore (valueAt table at) (valueAt table (at + 3)))
+    goesOn 256 (valuesFrom table at (suc (suc n))) ≡ both (isInUpperHalf 256 (valueAt table at)) (comesBefore (valueAt table at) (valueAt table (at + 3)))
 unfolding valuesFrom places goesOn
 goes-two table at n = refl
 
-module _ (table : List ℕ) (at many : ℕ) (some : 1 ≤ many) (inside : Bool) (told : inside ≡ isInside 256 (valueAt table at)) where
+module _ (table : List ℕ) (at many : ℕ) (some : 1 ≤ many) (inside : Bool) (told : inside ≡ isInUpperHalf 256 (valueAt table at)) where
   pub goes-outside : not inside ≡ true → false ≡ goesOn 256 (valuesFrom table at many)
   goes-outside e = outside many some (sym told ∙ not-true inside e)
     where
-      outside : (n : ℕ) → 1 ≤ n → isInside 256 (valueAt table at) ≡ false → false ≡ goesOn 256 (valuesFrom table at n)
+      outside : (n : ℕ) → 1 ≤ n → isInUpperHalf 256 (valueAt table at) ≡ false → false ≡ goesOn 256 (valuesFrom table at n)
       outside zero h f = absurd (not-suc-le-zero h)
       outside (suc zero) h f = sym (goes-one table at ∙ f)
       outside (suc (suc n)) h f = sym (goes-two table at n ∙ both-not-left _ _ f)

@@ -14,7 +14,7 @@ use lib.Dec.{leb, eqb}
 use borrow.Author.Tests.{le-leb, lt-leb, leb-true, leb-false, eqb-true, eqb-false, not-true, not-false}
 use Rattle.base.specs.If.{if_then_else_, both}
 use Rattle.base.proofs.IfLaws.{if-true, if-false, by-test, by-cases}
-use Rattle.doc.specs.Holds.{isInside, comesBefore, rises}
+use Rattle.doc.specs.Holds.{isInUpperHalf, comesBefore, rises}
 use Rattle.ask_sound.specs.Way.Standing.{places, valueAt, valuesFrom, reach, reachAt, Reaches}
 use Rattle.ask_sound.proofs.LoopLaws.{no-values, RiseLeft}
 
@@ -44,7 +44,7 @@ more-rise false b k r = sym (lt-leb (suc (suc k)) 0 (suc-le-suc zero-le))
 
 module _ (table : List ℕ) where
   abbrev inside : ℕ → Bool
-  inside at = isInside 256 (valueAt table at)
+  inside at = isInUpperHalf 256 (valueAt table at)
 
   abbrev before : ℕ → Bool
   before at = comesBefore (valueAt table at) (valueAt table (at + 3))

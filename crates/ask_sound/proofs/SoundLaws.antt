@@ -25,7 +25,7 @@ use Rattle.ask_sound.specs.Sound.{
   isSection,
   isMatrix,
   isValue,
-  kindsOf,
+  recordKinds,
   methodsOf,
   areSound,
   areZeros,
@@ -199,8 +199,8 @@ module _ (bytes : ℕ) (table : List ℕ) (v : View) where
   abbrev r : Records
   r = recordsAt table v
 
-  kinds-are : kindsAt table v ≡ kindsOf (r .steps)
-  unfolding kindsAt kindsFrom kindsOf recordsAt placesOf
+  kinds-are : kindsAt table v ≡ recordKinds (r .steps)
+  unfolding kindsAt kindsFrom recordKinds recordsAt placesOf
   kinds-are = map-map (λ (s : StepRecord). s .kind) (stepAt table) (placesOf v steps)
 
   methods-are : methodsAt table v ≡ methodsOf (r .sections)
@@ -223,7 +223,7 @@ module _ (bytes : ℕ) (table : List ℕ) (v : View) where
   unfolding recordsAt placesOf
   matrices-are = sym (length-map (places 5 (baseOf v matrices) (countOf v matrices)) (matrixAt table) ∙ places-long 5 _ _)
 
-  models-sound : areRecords bytes table v 0 ≡ every (isModel bytes (kindsOf (r .steps))) (r .models)
+  models-sound : areRecords bytes table v 0 ≡ every (isModel bytes (recordKinds (r .steps))) (r .models)
   unfolding areRecords isRecord if_then_else_ recordsAt
   models-sound = sym (every-map (isModel bytes (kindsAt table v)) (modelAt table) (placesOf v models)) ∙ ap (λ (ks : List ℕ). every (isModel bytes ks) (map (modelAt table) (placesOf v models))) kinds-are
 

@@ -115,8 +115,8 @@ isValue v = isValueWord (v .word)
 
 -- ---- the whole
 
-unfoldable pub kindsOf : List StepRecord → List ℕ
-kindsOf steps = map (λ (s : StepRecord). s .kind) steps
+unfoldable pub recordKinds : List StepRecord → List ℕ
+recordKinds steps = map (λ (s : StepRecord). s .kind) steps
 
 unfoldable pub methodsOf : List SectionRecord → List ℕ
 methodsOf sections = map (λ (s : SectionRecord). s .method) sections
@@ -124,7 +124,7 @@ methodsOf sections = map (λ (s : SectionRecord). s .method) sections
 -- the records of a table, over a text of so many bytes
 unfoldable pub areSound : ℕ → Records → Bool
 areSound bytes r =
-    both (every (isModel bytes (kindsOf (r .steps))) (r .models))
+    both (every (isModel bytes (recordKinds (r .steps))) (r .models))
     (both (every (isStep bytes (length (r .maps)) (methodsOf (r .sections))) (r .steps))
     (both (every (isMap bytes (length (r .pins))) (r .maps))
     (both (every (isPin bytes) (r .pins))

@@ -26,12 +26,12 @@ unfoldable pub isSide : ℕ → ℕ → ℕ → Bool
 isSide bytes start size = either (hasNoSide start size) (isNameIn bytes start size)
 
 -- "v above zero": a value word that is not zero and not negative
-unfoldable pub isLength : ℕ → Bool
-isLength w = both (isValueWord w) (both (not (eqb w zeroWord)) (eqb (w % 2) 0))
+unfoldable pub isLengthWord : ℕ → Bool
+isLengthWord w = both (isValueWord w) (both (not (eqb w zeroWord)) (eqb (w % 2) 0))
 
 -- "a Section amount fits its method": Mult of a Lumped section, Len of a Distributed one
 unfoldable pub amountFits : ℕ → ℕ → Bool
-amountFits method amount = if eqb method 0 then within 1 65_535 amount else isLength amount
+amountFits method amount = if eqb method 0 then within 1 65_535 amount else isLengthWord amount
 
 -- ---- maps and matrices
 

@@ -4,7 +4,7 @@ ghost use Prim.Native.Nat.{_+_, _-_, _*_, _≤_, _<_};
 ghost use lib.ListN.{length, drop, getD};
 ghost use Rattle.line_path.specs.Path.{deepest};
 ghost use Rattle.table_layout.specs.Layout.{widths, maps, pins, matrices};
-ghost use Rattle.doc.specs.Holds.{isInside, comesBefore, rises};
+ghost use Rattle.doc.specs.Holds.{isInUpperHalf, comesBefore, rises};
 ghost use Rattle.ask_sound.specs.Sound.{depthStays, depthAfter, depthHolds, isModel, isEnd, isSectionStep, isForkStep, isStep, isMap, isPin, areMatrices, isSection, isMatrix, isValue, areZeros, isSound};
 ghost use Rattle.ask_sound.specs.Way.Standing.{modelAt, stepAt, mapAt, pinAt, sectionAt, matrixAt, valueAt, kindsFrom, valuesFrom, kindsAt, methodsAt, valuesAt, countOf, goesOn, reach, Reaches, ValueReaches, isRecord, areRecords, areParts, Rooms};
 use table_layout::View;
@@ -254,7 +254,7 @@ fn is_section(bytes: u64, table: &[u64], matrices: u64, at: usize) -> bool
 // "1 <= row <= column <= 256".
 fn is_inside(table: &[u64], at: usize) -> bool
     requires { ⌜ at + 3 ≤ length (now table) ⌝ }
-    ensures { λ r. ⌜ r ≡ isInside 256 (valueAt (now (table .entry)) at) ⌝ }
+    ensures { λ r. ⌜ r ≡ isInUpperHalf 256 (valueAt (now (table .entry)) at) ⌝ }
 {
     let row = table[at];
     let column = table[at + 1];

@@ -1,6 +1,6 @@
 // What the words of one record must be like, so that questions over its table have answers.
 ghost use mathlib.Core.Path.{_≡_};
-ghost use Rattle.ask_sound.specs.Tests.{isRange, isNameIn, hasNoSide, isSide, isLength, amountFits, isGrid, isBandwidth};
+ghost use Rattle.ask_sound.specs.Tests.{isRange, isNameIn, hasNoSide, isSide, isLengthWord, amountFits, isGrid, isBandwidth};
 
 // The most bytes of a name.
 const LONGEST: u64 = 120;
@@ -62,7 +62,7 @@ pub fn is_side(bytes: u64, start: u64, size: u64) -> bool
 
 // A value word above zero.
 fn is_length(word: u64) -> bool
-    ensures { λ r. ⌜ r ≡ isLength word ⌝ }
+    ensures { λ r. ⌜ r ≡ isLengthWord word ⌝ }
 {
     if !lex_number::is_value_word(word) {
         return false;

@@ -13,9 +13,9 @@ use Rattle.base.proofs.IfLaws.{both-true, both-first, both-second}
 use Rattle.line_path.specs.Path.{deepest}
 use Rattle.doc.specs.Document.{forkKind, endforkKind}
 use Rattle.doc.specs.Records.{StepRecord, Records, recordsOf}
-use Rattle.ask_sound.specs.Sound.{range, depthStays, kindsOf, isSound}
+use Rattle.ask_sound.specs.Sound.{range, depthStays, recordKinds, isSound}
 use Rattle.ask_walk.specs.declared.Place.{Place}
-use Rattle.ask_walk.specs.Walk.{noRecord, modelOf, stepOf, countKind, isDepth, kindsBefore, isPlace}
+use Rattle.ask_walk.specs.Walk.{noRecord, modelAtPlace, stepAtPlace, countKind, isDepth, kindsBefore, isPlace}
 use Rattle.ask_walk.proofs.KindLaws.{fork-below, endfork-above, closes-most, depth-counts, depth-most, step-may-come}
 use Rattle.ask_walk.proofs.ReadyLaws.{RightModel, right-model}
 
@@ -26,7 +26,7 @@ kind-at (s ∷ ss) (suc i) = kind-at ss i
 
 -- the kinds of all steps of the model that a place names
 abbrev pub pathKinds : Records → Place → List ℕ
-pathKinds r p = range (modelOf r p .first) (modelOf r p .steps) (kindsOf (r .steps))
+pathKinds r p = range (modelAtPlace r p .first) (modelAtPlace r p .steps) (recordKinds (r .steps))
 
 module _ (t table : List ℕ) (sound : isSound t table ≡ true) where
   abbrev r : Records
@@ -43,7 +43,7 @@ module _ (t table : List ℕ) (sound : isSound t table ≡ true) where
 
     -- so that at every step of it a depth is in range: opens less closes
     pub has-depth :
-        p .step ≤ modelOf r p .steps →
+        p .step ≤ modelAtPlace r p .steps →
         isPlace r (record { model = p .model; step = p .step; depth = countKind forkKind (kindsBefore r p) - countKind endforkKind (kindsBefore r p) }) ≡ true
     unfolding isPlace isDepth kindsBefore
     has-depth h =
@@ -71,30 +71,30 @@ module _ (t table : List ℕ) (sound : isSound t table ≡ true) where
     pub at-most : p .depth ≤ deepest
     at-most = depth-most kinds (right p has-model .depth) (p .step) (p .depth) depth-right
 
-    module _ (more : p .step < modelOf r p .steps) where
-      its-steps : length kinds ≡ modelOf r p .steps
+    module _ (more : p .step < modelAtPlace r p .steps) where
+      its-steps : length kinds ≡ modelAtPlace r p .steps
       its-steps =
-          let i : modelOf r p .first + modelOf r p .steps ≤ length (kindsOf (r .steps)) = right p has-model .inside in
-          let l : length (drop (modelOf r p .first) (kindsOf (r .steps))) ≡ length (kindsOf (r .steps)) - modelOf r p .first = length-drop (modelOf r p .first) (kindsOf (r .steps)) in
-          let h : modelOf r p .steps ≤ length (drop (modelOf r p .first) (kindsOf (r .steps))) = omega arith in
+          let i : modelAtPlace r p .first + modelAtPlace r p .steps ≤ length (recordKinds (r .steps)) = right p has-model .inside in
+          let l : length (drop (modelAtPlace r p .first) (recordKinds (r .steps))) ≡ length (recordKinds (r .steps)) - modelAtPlace r p .first = length-drop (modelAtPlace r p .first) (recordKinds (r .steps)) in
+          let h : modelAtPlace r p .steps ≤ length (drop (modelAtPlace r p .first) (recordKinds (r .steps))) = omega arith in
           length-take-le _ _ h
 
       pub has-step : p .step < length kinds
       has-step = rw its-steps more
 
-      pub step-kind : getD kinds (p .step) 0 ≡ stepOf r p .kind
-      unfolding stepOf kindsOf
+      pub step-kind : getD kinds (p .step) 0 ≡ stepAtPlace r p .kind
+      unfolding stepAtPlace recordKinds
       step-kind =
-          getD-take (modelOf r p .steps) (drop (modelOf r p .first) (kindsOf (r .steps))) (p .step) 0 more
-          ∙ getD-drop (modelOf r p .first) (kindsOf (r .steps)) (p .step) 0 ∙ kind-at (r .steps) (modelOf r p .first + p .step)
+          getD-take (modelAtPlace r p .steps) (drop (modelAtPlace r p .first) (recordKinds (r .steps))) (p .step) 0 more
+          ∙ getD-drop (modelAtPlace r p .first) (recordKinds (r .steps)) (p .step) 0 ∙ kind-at (r .steps) (modelAtPlace r p .first + p .step)
 
-      pub may-be-here : depthStays (p .depth) (stepOf r p .kind) ≡ true
+      pub may-be-here : depthStays (p .depth) (stepAtPlace r p .kind) ≡ true
       may-be-here = rw step-kind at (step-may-come kinds (right p has-model .depth) (p .step) (p .depth) depth-right has-step)
 
       -- where the step is a Fork, one more may be opened
-      pub fork-opens : stepOf r p .kind ≡ forkKind → p .depth < deepest
-      fork-opens e = fork-below (p .depth) (stepOf r p .kind) may-be-here (eq-eqb _ _ e)
+      pub fork-opens : stepAtPlace r p .kind ≡ forkKind → p .depth < deepest
+      fork-opens e = fork-below (p .depth) (stepAtPlace r p .kind) may-be-here (eq-eqb _ _ e)
 
       -- where it is an Endfork, one is open
-      pub endfork-closes : stepOf r p .kind ≡ endforkKind → 0 < p .depth
-      endfork-closes e = endfork-above (p .depth) (stepOf r p .kind) may-be-here (eq-eqb _ _ e)
+      pub endfork-closes : stepAtPlace r p .kind ≡ endforkKind → 0 < p .depth
+      endfork-closes e = endfork-above (p .depth) (stepAtPlace r p .kind) may-be-here (eq-eqb _ _ e)

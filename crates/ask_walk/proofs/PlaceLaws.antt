@@ -17,11 +17,11 @@ use Rattle.table_layout.specs.Layout.{models, steps}
 use Rattle.table_layout.specs.declared.View.{View}
 use Rattle.doc.specs.Document.{forkKind, endforkKind}
 use Rattle.doc.specs.Records.{ModelRecord, StepRecord, Records, recordsOf}
-use Rattle.ask_sound.specs.Sound.{range, kindsOf}
+use Rattle.ask_sound.specs.Sound.{range, recordKinds}
 use Rattle.ask_sound.specs.Way.Standing.{places, placesOf, baseOf, countOf, modelAt, stepAt, kindsFrom, kindsAt, recordsAt}
 use Rattle.ask_sound.proofs.PlaceLaws.{places-long, kinds-range}
 use Rattle.ask_walk.specs.declared.Place.{Place}
-use Rattle.ask_walk.specs.Walk.{noModel, noRecord, modelOf, stepOf, countKind, isDepth, kindsBefore, isPlace}
+use Rattle.ask_walk.specs.Walk.{noModel, noRecord, modelAtPlace, stepAtPlace, countKind, isDepth, kindsBefore, isPlace}
 use Rattle.ask_walk.specs.Way.Walkable.{modelPlace, firstOf, manyOf, Walkable, Stands}
 use Rattle.ask_walk.proofs.KindLaws.{depth-most}
 
@@ -165,8 +165,8 @@ module _ (table : List ℕ) (v : View) (same : recordsAt table v ≡ recordsOf t
   pub models-many : length (recordsOf table .models) ≡ countOf v models
   models-many = ap length (sym models-are) ∙ length-map (places 5 (baseOf v models) (countOf v models)) (modelAt table) ∙ places-long 5 _ _
 
-  pub kinds-are : kindsOf (recordsOf table .steps) ≡ kindsAt table v
-  unfolding kindsOf kindsAt kindsFrom
+  pub kinds-are : recordKinds (recordsOf table .steps) ≡ kindsAt table v
+  unfolding recordKinds kindsAt kindsFrom
   kinds-are = ap (map (λ (s : StepRecord). s .kind)) (sym steps-are) ∙ map-map (λ (s : StepRecord). s .kind) (stepAt table) (places 6 (baseOf v steps) (countOf v steps))
 
   pub model-there : (i : ℕ) → i < countOf v models → getD (recordsOf table .models) i noModel ≡ modelAt table (modelPlace v i)
@@ -203,7 +203,7 @@ module _ (table : List ℕ) (v : View) (ready : Walkable table v) (p : Place) wh
     model-fits : at + 5 ≤ length table
     model-fits = omega (arith, ready .model-room)
 
-    model-is : modelOf records p ≡ modelAt table at
+    model-is : modelAtPlace records p ≡ modelAt table at
     model-is = model-there table v (ready .records) (p .model) has
 
     steps-inside : first + many ≤ countOf v steps
@@ -218,7 +218,7 @@ module _ (table : List ℕ) (v : View) (ready : Walkable table v) (p : Place) wh
     kinds-taken : kindsBefore records p ≡ take (p .step) (kindsFrom table (baseOf v steps + 6 * first) many)
     unfolding kindsBefore
     kinds-taken =
-        ap (λ (m : ModelRecord). take (p .step) (range (m .first) (m .steps) (kindsOf (records .steps)))) model-is
+        ap (λ (m : ModelRecord). take (p .step) (range (m .first) (m .steps) (recordKinds (records .steps)))) model-is
         ∙ ap (λ (ks : List ℕ). take (p .step) (range first many ks)) (kinds-are table v (ready .records))
         ∙ ap (take (p .step)) (kinds-range table v first many steps-inside)
 
@@ -241,8 +241,8 @@ module _ (table : List ℕ) (v : View) (ready : Walkable table v) (p : Place) wh
       pub place-deep : (r : Bool) → r ≡ isDepth (p .depth) (kindsFrom table (baseOf v steps + 6 * first) (p .step)) → r ≡ isPlace records p
       place-deep r e = e ∙ ap (isDepth (p .depth)) (sym kinds-before) ∙ sym (place-rest ∙ both-rest _ _ (le-leb _ _ upto))
 
-      step-at : p .step < many → stepOf records p ≡ stepAt table (baseOf v steps + 6 * (first + p .step))
-      unfolding stepOf
+      step-at : p .step < many → stepAtPlace records p ≡ stepAt table (baseOf v steps + 6 * (first + p .step))
+      unfolding stepAtPlace
       step-at h =
           let k : first + p .step < countOf v steps = omega (arith, steps-inside) in
           ap (λ (m : ModelRecord). getD (records .steps) (m .first + p .step) noRecord) model-is

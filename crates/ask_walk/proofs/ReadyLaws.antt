@@ -15,7 +15,7 @@ use Rattle.table_layout.specs.declared.View.{View}
 use Rattle.table_layout.proofs.PartLaws.{Viewed, viewed}
 use Rattle.doc.specs.Records.{ModelRecord, Records, recordsOf}
 use Rattle.ask_sound.proofs.RangeLaws.{range-inside}
-use Rattle.ask_sound.specs.Sound.{every, range, depthHolds, isModel, kindsOf, areSound, isSound}
+use Rattle.ask_sound.specs.Sound.{every, range, depthHolds, isModel, recordKinds, areSound, isSound}
 use Rattle.ask_sound.specs.Way.Standing.{baseOf, countOf, kindsFrom, kindsAt, recordsAt}
 use Rattle.ask_sound.proofs.PlaceLaws.{kinds-long, kinds-range}
 use Rattle.ask_sound.proofs.SoundLaws.{records-here}
@@ -31,8 +31,8 @@ every-at test none (x ∷ xs) (suc i) e h = every-at test none xs i (both-second
 
 -- the model of an index: its steps lie inside, and its depth holds
 pub record RightModel (r : Records) (i : ℕ) : Type 0 where
-  pub inside : getD (r .models) i noModel .first + getD (r .models) i noModel .steps ≤ length (kindsOf (r .steps))
-  pub depth : depthHolds 0 (range (getD (r .models) i noModel .first) (getD (r .models) i noModel .steps) (kindsOf (r .steps))) ≡ true
+  pub inside : getD (r .models) i noModel .first + getD (r .models) i noModel .steps ≤ length (recordKinds (r .steps))
+  pub depth : depthHolds 0 (range (getD (r .models) i noModel .first) (getD (r .models) i noModel .steps) (recordKinds (r .steps))) ≡ true
 
 model-right : (bytes : ℕ) (kinds : List ℕ) (m : ModelRecord) → isModel bytes kinds m ≡ true → (m .first + m .steps ≤ length kinds) × (depthHolds 0 (range (m .first) (m .steps) kinds) ≡ true)
 unfolding isModel
@@ -49,13 +49,13 @@ module _ (t table : List ℕ) (sound : isSound t table ≡ true) where
   unfolding isSound
   records-sound = both-second _ _ (both-second _ _ sound)
 
-  models-sound : every (isModel (length t) (kindsOf (recordsOf table .steps))) (recordsOf table .models) ≡ true
+  models-sound : every (isModel (length t) (recordKinds (recordsOf table .steps))) (recordsOf table .models) ≡ true
   unfolding areSound
   models-sound = both-first _ _ records-sound
 
   pub right-model : (i : ℕ) → i < length (recordsOf table .models) → RightModel (recordsOf table) i
   right-model i h =
-      let right : _ = model-right (length t) (kindsOf (recordsOf table .steps)) _ (every-at _ noModel (recordsOf table .models) i models-sound h) in
+      let right : _ = model-right (length t) (recordKinds (recordsOf table .steps)) _ (every-at _ noModel (recordsOf table .models) i models-sound h) in
       record { inside = right .0; depth = right .1 }
 
   holds : Viewed table (viewOf table)
@@ -72,7 +72,7 @@ module _ (t table : List ℕ) (sound : isSound t table ≡ true) where
 
     range-there : firstOf table (viewOf table) i + manyOf table (viewOf table) i ≤ countOf (viewOf table) steps
     range-there =
-        let n : length (kindsOf (recordsOf table .steps)) ≡ countOf (viewOf table) steps = ap length (kinds-are table (viewOf table) same) ∙ kinds-long table (viewOf table) in
+        let n : length (recordKinds (recordsOf table .steps)) ≡ countOf (viewOf table) steps = ap length (kinds-are table (viewOf table) same) ∙ kinds-long table (viewOf table) in
         rw (n, model-there table (viewOf table) same i h) at (right-there .inside)
 
     depth-there : depthHolds 0 (kindsFrom table (baseOf (viewOf table) steps + 6 * firstOf table (viewOf table) i) (manyOf table (viewOf table) i)) ≡ true

@@ -18,17 +18,17 @@ use Rattle.ask_walk.specs.Walk.{
   WalkWords,
   stepped,
   doneAt,
-  refusedWith,
+  walkRefused,
   unsound,
   noSuch,
-  modelOf,
+  modelAtPlace,
   isPlace,
-  wordsOf,
+  stepWords,
   nextOf,
   walkOver,
   walkOn,
   walkFrom,
-  answerOf,
+  walkAnswer,
 }
 use Rattle.ask_walk.specs.Way.Walkable.{firstOf, manyOf, Stands}
 
@@ -40,9 +40,9 @@ next-told p kind depth e = ap (λ (d : ℕ). record { model = p .model; step = p
 
 pub over-steps :
     (table : List ℕ) (at : ℕ) (p next : Place) → next ≡ nextOf p (getD table at 0) →
-    stepped (wordsOf (stepAt table at)) next ≡ walkOver (stepAt table at) p
+    stepped (stepWords (stepAt table at)) next ≡ walkOver (stepAt table at) p
 unfolding walkOver
-over-steps table at p next e = ap (stepped (wordsOf (stepAt table at))) e
+over-steps table at p next e = ap (stepped (stepWords (stepAt table at))) e
 
 -- ---- from a place that is in range
 
@@ -59,12 +59,12 @@ module _ (table : List ℕ) (v : View) (p : Place) (here : Stands table v p) whe
       let h : p .step ≤ manyOf table v (p .model) = here .step-inside in
       let k : p .step < manyOf table v (p .model) = omega arith in
       e ∙ ap (λ (s : StepRecord). walkOver s p) (sym (here .step-is k))
-      ∙ sym (if-false _ _ (ne-eqb _ _ (λ (f : p .step ≡ modelOf (recordsOf table) p .steps). n (f ∙ ap (λ (m : ModelRecord). m .steps) (here .model-is)))))
+      ∙ sym (if-false _ _ (ne-eqb _ _ (λ (f : p .step ≡ modelAtPlace (recordsOf table) p .steps). n (f ∙ ap (λ (m : ModelRecord). m .steps) (here .model-is)))))
 
 -- ---- 31 and 30
 
 module _ (r : Records) (p : Place) (is : Bool) (told : is ≡ isPlace r p) where
-  pub from-none : not is ≡ true → refusedWith noSuch ≡ walkFrom r p
+  pub from-none : not is ≡ true → walkRefused noSuch ≡ walkFrom r p
   unfolding walkFrom
   from-none e = sym (if-true _ _ (ap not (sym told) ∙ e))
 
@@ -73,10 +73,10 @@ module _ (r : Records) (p : Place) (is : Bool) (told : is ≡ isPlace r p) where
   from-place e answer f = f ∙ sym (if-false _ _ (ap not (sym told) ∙ e))
 
 module _ (t table : List ℕ) (p : Place) (is : Bool) (told : is ≡ isSound t table) where
-  pub walk-unsound : not is ≡ true → refusedWith unsound ≡ answerOf t table p
-  unfolding answerOf
+  pub walk-unsound : not is ≡ true → walkRefused unsound ≡ walkAnswer t table p
+  unfolding walkAnswer
   walk-unsound e = sym (if-true _ _ (ap not (sym told) ∙ e))
 
-  pub walk-sound : not is ≡ false → (answer : WalkWords) → answer ≡ walkFrom (recordsOf table) p → answer ≡ answerOf t table p
-  unfolding answerOf
+  pub walk-sound : not is ≡ false → (answer : WalkWords) → answer ≡ walkFrom (recordsOf table) p → answer ≡ walkAnswer t table p
+  unfolding walkAnswer
   walk-sound e answer f = f ∙ sym (if-false _ _ (ap not (sym told) ∙ e))

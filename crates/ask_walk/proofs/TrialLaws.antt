@@ -9,14 +9,14 @@ use Rattle.table_layout.specs.Layout.{chopped, partsIn}
 use Rattle.table_layout.specs.View.{areWithin, basesAt, countsAt, endAt, viewOf}
 use Rattle.doc.specs.Records.{recordsIn, recordsOf}
 use Rattle.ask_sound.specs.Tests.{isRange, isNameIn, hasNoSide}
-use Rattle.ask_sound.specs.Sound.{every, depthStays, depthAfter, depthHolds, isModel, isForkStep, isStep, kindsOf, methodsOf, areSound, areZeros, isSound}
+use Rattle.ask_sound.specs.Sound.{every, depthStays, depthAfter, depthHolds, isModel, isForkStep, isStep, recordKinds, methodsOf, areSound, areZeros, isSound}
 use Rattle.ask_walk.specs.declared.Place.{Place}
 use Rattle.ask_walk.specs.declared.StepWords.{StepWords}
 use Rattle.ask_walk.specs.Walk.{
   stepped,
   doneAt,
-  refusedWith,
-  stepOf,
+  walkRefused,
+  stepAtPlace,
   countKind,
   isDepth,
   kindsBefore,
@@ -25,7 +25,7 @@ use Rattle.ask_walk.specs.Walk.{
   walkOver,
   walkOn,
   walkFrom,
-  answerOf,
+  walkAnswer,
 }
 
 abbrev place : ℕ → ℕ → ℕ → Place
@@ -48,9 +48,9 @@ endfork = record { kind = 3; target = 0; amount = 0; side = 0; «side_size» = 0
 
 -- what each place asked is to answer
 tried :
-    (answerOf text table (place 0 0 0) ≡ stepped fork (place 0 1 1)) × (answerOf text table (place 0 1 1) ≡ stepped endfork (place 0 2 0))
-    × (answerOf text table (place 0 2 0) ≡ doneAt (place 0 2 0)) × (answerOf text table (place 0 1 0) ≡ refusedWith 31)
-    × (answerOf text table (place 0 2 1) ≡ refusedWith 31) × (answerOf text table (place 0 3 0) ≡ refusedWith 31)
-    × (answerOf text table (place 1 0 0) ≡ refusedWith 31) × (answerOf [] table (place 1 0 0) ≡ refusedWith 30)
-unfolding if_then_else_ both either within chopped partsIn areWithin basesAt countsAt endAt viewOf recordsIn recordsOf isRange isNameIn hasNoSide every depthStays depthAfter depthHolds isModel isForkStep isStep kindsOf methodsOf areSound areZeros isSound stepOf countKind isDepth kindsBefore isPlace nextOf walkOver walkOn walkFrom answerOf
+    (walkAnswer text table (place 0 0 0) ≡ stepped fork (place 0 1 1)) × (walkAnswer text table (place 0 1 1) ≡ stepped endfork (place 0 2 0))
+    × (walkAnswer text table (place 0 2 0) ≡ doneAt (place 0 2 0)) × (walkAnswer text table (place 0 1 0) ≡ walkRefused 31)
+    × (walkAnswer text table (place 0 2 1) ≡ walkRefused 31) × (walkAnswer text table (place 0 3 0) ≡ walkRefused 31)
+    × (walkAnswer text table (place 1 0 0) ≡ walkRefused 31) × (walkAnswer [] table (place 1 0 0) ≡ walkRefused 30)
+unfolding if_then_else_ both either within chopped partsIn areWithin basesAt countsAt endAt viewOf recordsIn recordsOf isRange isNameIn hasNoSide every depthStays depthAfter depthHolds isModel isForkStep isStep recordKinds methodsOf areSound areZeros isSound stepAtPlace countKind isDepth kindsBefore isPlace nextOf walkOver walkOn walkFrom walkAnswer
 tried = (refl, refl, refl, refl, refl, refl, refl, refl)

@@ -20,10 +20,10 @@ use Rattle.ask_walk.specs.declared.Walked.the-variants.{Step, Done, Refu
 use Rattle.ask_walk.specs.Walk.{
   WalkWords,
   walkWords,
-  refusedWith,
+  walkRefused,
   noModel,
-  modelOf,
-  stepOf,
+  modelAtPlace,
+  stepAtPlace,
   countKind,
   isDepth,
   kindsBefore,
@@ -34,7 +34,7 @@ use Rattle.ask_walk.specs.Walk.{
   walkOver,
   walkOn,
   walkFrom,
-  answerOf,
+  walkAnswer,
 }
 use Rattle.ask_walk.proofs.KindLaws.{Moves, moves, count-next}
 use Rattle.ask_walk.proofs.DepthLaws.{pathKinds, has-model, its-depth, has-step, step-kind, may-be-here}
@@ -69,25 +69,25 @@ module _ (t table : List ℕ) (sound : isSound t table ≡ true) (p : Place) (in
   abbrev its-kinds : List ℕ
   its-kinds = pathKinds r p
 
-  module _ (more : p .step < modelOf r p .steps) where
-    counted : (kind : ℕ) → countKind kind (take (p .step + 1) its-kinds) ≡ (if eqb (stepOf r p .kind) kind then countKind kind (take (p .step) its-kinds) + 1 else countKind kind (take (p .step) its-kinds))
+  module _ (more : p .step < modelAtPlace r p .steps) where
+    counted : (kind : ℕ) → countKind kind (take (p .step + 1) its-kinds) ≡ (if eqb (stepAtPlace r p .kind) kind then countKind kind (take (p .step) its-kinds) + 1 else countKind kind (take (p .step) its-kinds))
     counted kind = rw (add-one (p .step)) (rw (step-kind t table sound p in-range more) at (count-next kind its-kinds (p .step) (has-step t table sound p in-range more)))
 
     next-depth :
-        depthAfter (p .depth) (stepOf r p .kind) + countKind endforkKind (take (p .step + 1) its-kinds) ≡ countKind forkKind (take (p .step + 1) its-kinds)
+        depthAfter (p .depth) (stepAtPlace r p .kind) + countKind endforkKind (take (p .step + 1) its-kinds) ≡ countKind forkKind (take (p .step + 1) its-kinds)
     next-depth =
         let now : p .depth + countKind endforkKind (take (p .step) its-kinds) ≡ countKind forkKind (take (p .step) its-kinds) = its-depth t table sound p in-range in
-        let c : countKind endforkKind (take (p .step + 1) its-kinds) ≡ (if eqb (stepOf r p .kind) endforkKind then countKind endforkKind (take (p .step) its-kinds) + 1 else countKind endforkKind (take (p .step) its-kinds)) = counted endforkKind in
-        let o : countKind forkKind (take (p .step + 1) its-kinds) ≡ (if eqb (stepOf r p .kind) forkKind then countKind forkKind (take (p .step) its-kinds) + 1 else countKind forkKind (take (p .step) its-kinds)) = counted forkKind in
-        let m : Moves (p .depth) (stepOf r p .kind) (countKind forkKind (take (p .step) its-kinds)) (countKind endforkKind (take (p .step) its-kinds)) =
-        moves (p .depth) (stepOf r p .kind) (may-be-here t table sound p in-range more) _ _ in
+        let c : countKind endforkKind (take (p .step + 1) its-kinds) ≡ (if eqb (stepAtPlace r p .kind) endforkKind then countKind endforkKind (take (p .step) its-kinds) + 1 else countKind endforkKind (take (p .step) its-kinds)) = counted endforkKind in
+        let o : countKind forkKind (take (p .step + 1) its-kinds) ≡ (if eqb (stepAtPlace r p .kind) forkKind then countKind forkKind (take (p .step) its-kinds) + 1 else countKind forkKind (take (p .step) its-kinds)) = counted forkKind in
+        let m : Moves (p .depth) (stepAtPlace r p .kind) (countKind forkKind (take (p .step) its-kinds)) (countKind endforkKind (take (p .step) its-kinds)) =
+        moves (p .depth) (stepAtPlace r p .kind) (may-be-here t table sound p in-range more) _ _ in
         omega arith
 
     -- the place handed back is in range again
-    pub next-place : isPlace r (nextOf p (stepOf r p .kind)) ≡ true
+    pub next-place : isPlace r (nextOf p (stepAtPlace r p .kind)) ≡ true
     unfolding isPlace isDepth kindsBefore nextOf
     next-place =
-        let h : p .step + 1 ≤ modelOf r p .steps = omega (arith, more) in
+        let h : p .step + 1 ≤ modelAtPlace r p .steps = omega (arith, more) in
         both-true _ _ (lt-ltb _ _ (has-model t table sound p in-range)) (both-true _ _ (le-leb _ _ h) (eq-eqb _ _ next-depth))
 
 -- the first place of any model is in range
@@ -101,12 +101,12 @@ first-place r i h = both-true _ _ (lt-ltb _ _ h) (both-true _ _ (le-leb 0 (getD 
 on-answers : (r : Records) (p : Place) → (walkOn r p .answered ≡ true) × (walkOn r p .number ≡ 0)
 unfolding walkOn walkOver
 on-answers r p =
-    by-test (λ (w : WalkWords). (w .answered ≡ true) × (w .number ≡ 0)) (eqb (p .step) (modelOf r p .steps)) _ _ (λ e. (refl, refl)) (λ e. (refl, refl))
+    by-test (λ (w : WalkWords). (w .answered ≡ true) × (w .number ≡ 0)) (eqb (p .step) (modelAtPlace r p .steps)) _ _ (λ e. (refl, refl)) (λ e. (refl, refl))
 
 module _ (on : WalkWords) (answers : (on .answered ≡ true) × (on .number ≡ 0)) where
   two-numbers :
       (sound place : Bool) →
-      (if not sound then refusedWith unsound else if not place then refusedWith noSuch else on) .number
+      (if not sound then walkRefused unsound else if not place then walkRefused noSuch else on) .number
       ≡ (if not sound then unsound else if not place then noSuch else 0)
   unfolding if_then_else_
   two-numbers true true = answers .1
@@ -114,7 +114,7 @@ module _ (on : WalkWords) (answers : (on .answered ≡ true) × (on .number ≡ 
   two-numbers false place = refl
 
   two-refuse :
-      (sound place : Bool) → (if not sound then refusedWith unsound else if not place then refusedWith noSuch else on) .answered ≡ both sound place
+      (sound place : Bool) → (if not sound then walkRefused unsound else if not place then walkRefused noSuch else on) .answered ≡ both sound place
   unfolding if_then_else_ both
   two-refuse true true = answers .0
   two-refuse true false = refl
@@ -122,11 +122,11 @@ module _ (on : WalkWords) (answers : (on .answered ≡ true) × (on .number ≡ 
 
 module _ (t table : List ℕ) (p : Place) where
   -- "Questions: 30, 31"
-  pub refused-by : answerOf t table p .number ≡ (if not (isSound t table) then unsound else if not (isPlace (recordsOf table) p) then noSuch else 0)
-  unfolding answerOf walkFrom
+  pub refused-by : walkAnswer t table p .number ≡ (if not (isSound t table) then unsound else if not (isPlace (recordsOf table) p) then noSuch else 0)
+  unfolding walkAnswer walkFrom
   refused-by = two-numbers (walkOn (recordsOf table) p) (on-answers (recordsOf table) p) (isSound t table) (isPlace (recordsOf table) p)
 
   -- from every place in range of every sound table, and from no other, a walk is answered
-  pub answered-when : answerOf t table p .answered ≡ both (isSound t table) (isPlace (recordsOf table) p)
-  unfolding answerOf walkFrom
+  pub answered-when : walkAnswer t table p .answered ≡ both (isSound t table) (isPlace (recordsOf table) p)
+  unfolding walkAnswer walkFrom
   answered-when = two-refuse (walkOn (recordsOf table) p) (on-answers (recordsOf table) p) (isSound t table) (isPlace (recordsOf table) p)

@@ -9,7 +9,7 @@ use lib.Dec.{leb, ltb, eqb}
 use Rattle.base.specs.If.{if_then_else_, both}
 use Rattle.doc.specs.Document.{forkKind, endforkKind}
 use Rattle.doc.specs.Records.{ModelRecord, StepRecord, Records, recordsOf}
-use Rattle.ask_sound.specs.Sound.{range, depthAfter, kindsOf, isSound}
+use Rattle.ask_sound.specs.Sound.{range, depthAfter, recordKinds, isSound}
 use Rattle.ask_walk.specs.declared.Place.{Place}
 use Rattle.ask_walk.specs.declared.StepWords.{StepWords}
 use Rattle.ask_walk.specs.declared.Walked.{Walked}
@@ -44,15 +44,15 @@ abbrev pub doneAt : Place → WalkWords
 doneAt place = record { answered = true; number = 0; line = 0; done = true; step = noStep; next = place }
 
 -- "refused, they return the number and line 0, every other word 0"
-abbrev pub refusedWith : ℕ → WalkWords
-refusedWith number =
+abbrev pub walkRefused : ℕ → WalkWords
+walkRefused number =
     record { answered = false; number = number; line = 0; done = false; step = noStep; next = record { model = 0; step = 0; depth = 0 } }
 
 -- the paper's number and words for each case
 abbrev pub walkWords : Walked → WalkWords
 walkWords (Step words next) = stepped words next
 walkWords (Done place) = doneAt place
-walkWords (Refused number) = refusedWith number
+walkWords (Refused number) = walkRefused number
 
 -- ---- models and steps by their index; what stands past the last is never asked for
 
@@ -62,12 +62,12 @@ noModel = record { start = 0; size = 0; type = 0; first = 0; steps = 0 }
 abbrev pub noRecord : StepRecord
 noRecord = record { kind = 0; target = 0; amount = 0; side = 0; sideSize = 0; line = 0 }
 
-abbrev pub modelOf : Records → Place → ModelRecord
-modelOf r p = getD (r .models) (p .model) noModel
+abbrev pub modelAtPlace : Records → Place → ModelRecord
+modelAtPlace r p = getD (r .models) (p .model) noModel
 
 -- the step that a place stands before
-unfoldable pub stepOf : Records → Place → StepRecord
-stepOf r p = getD (r .steps) (modelOf r p .first + p .step) noRecord
+unfoldable pub stepAtPlace : Records → Place → StepRecord
+stepAtPlace r p = getD (r .steps) (modelAtPlace r p .first + p .step) noRecord
 
 -- ---- places
 
@@ -82,18 +82,18 @@ isDepth depth kinds = eqb (depth + countKind endforkKind kinds) (countKind forkK
 
 -- the kinds of the model's steps before the place
 unfoldable pub kindsBefore : Records → Place → List ℕ
-kindsBefore r p = take (p .step) (range (modelOf r p .first) (modelOf r p .steps) (kindsOf (r .steps)))
+kindsBefore r p = take (p .step) (range (modelAtPlace r p .first) (modelAtPlace r p .steps) (recordKinds (r .steps)))
 
 -- "in range if the model exists, the step is at most the model's steps and the depth is opens less closes before it"
 unfoldable pub isPlace : Records → Place → Bool
 isPlace r p =
     both (ltb (p .model) (length (r .models)))
-    (both (leb (p .step) (modelOf r p .steps)) (isDepth (p .depth) (kindsBefore r p)))
+    (both (leb (p .step) (modelAtPlace r p .steps)) (isDepth (p .depth) (kindsBefore r p)))
 
 -- ---- one step
 
-abbrev pub wordsOf : StepRecord → StepWords
-wordsOf s =
+abbrev pub stepWords : StepRecord → StepWords
+stepWords s =
     record { kind = s .kind; target = s .target; amount = s .amount; side = s .side; «side_size» = s .sideSize; line = s .line }
 
 -- the place behind a step of this kind
@@ -102,18 +102,18 @@ nextOf p kind = record { model = p .model; step = p .step + 1; depth = depthAfte
 
 -- over this step
 unfoldable pub walkOver : StepRecord → Place → WalkWords
-walkOver s p = stepped (wordsOf s) (nextOf p (s .kind))
+walkOver s p = stepped (stepWords s) (nextOf p (s .kind))
 
 -- ---- the whole
 
 -- "At step equal to steps it says done"; the place is in range
 unfoldable pub walkOn : Records → Place → WalkWords
-walkOn r p = if eqb (p .step) (modelOf r p .steps) then doneAt p else walkOver (stepOf r p) p
+walkOn r p = if eqb (p .step) (modelAtPlace r p .steps) then doneAt p else walkOver (stepAtPlace r p) p
 
 -- the table is sound
 unfoldable pub walkFrom : Records → Place → WalkWords
-walkFrom r p = if not (isPlace r p) then refusedWith noSuch else walkOn r p
+walkFrom r p = if not (isPlace r p) then walkRefused noSuch else walkOn r p
 
 -- "Questions: 30, 31"
-unfoldable pub answerOf : List ℕ → List ℕ → Place → WalkWords
-answerOf t table p = if not (isSound t table) then refusedWith unsound else walkFrom (recordsOf table) p
+unfoldable pub walkAnswer : List ℕ → List ℕ → Place → WalkWords
+walkAnswer t table p = if not (isSound t table) then walkRefused unsound else walkFrom (recordsOf table) p

@@ -7,7 +7,7 @@ ghost use Rattle.base.specs.If.{if_then_else_};
 ghost use Rattle.line_path.specs.Path.{deepest};
 ghost use Rattle.doc.specs.Records.{recordsOf};
 ghost use Rattle.ask_sound.specs.Way.Standing.{stepAt, kindsFrom};
-ghost use Rattle.ask_walk.specs.Walk.{walkWords, isDepth, isPlace, nextOf, walkOver, walkOn, walkFrom, answerOf};
+ghost use Rattle.ask_walk.specs.Walk.{walkWords, isDepth, isPlace, nextOf, walkOver, walkOn, walkFrom, walkAnswer};
 ghost use Rattle.ask_walk.specs.Way.Walkable.{Walkable, Stands};
 use table_layout::View;
 
@@ -178,7 +178,7 @@ pub fn walk_in(table: &[u64], view: View, place: Place) -> Walked
 impl Place {
     // One step from this place, over every text and every table.
     pub fn step(self, text: &[u8], table: &[u64]) -> Walked
-        ensures { λ r. ⌜ walkWords r ≡ answerOf (now (text .entry)) (now (table .entry)) self ⌝ }
+        ensures { λ r. ⌜ walkWords r ≡ walkAnswer (now (text .entry)) (now (table .entry)) self ⌝ }
     {
         if !ask_sound::is_sound(text, table) {
             return Walked::Refused(UNSOUND);

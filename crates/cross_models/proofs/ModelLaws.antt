@@ -36,7 +36,7 @@ use Rattle.doc.specs.Holds.Each.{none, more}
 use Rattle.doc.proofs.StandsLaws.{ModelStands, all-stand}
 use Rattle.table_name.specs.Name.{nameAt}
 use Rattle.cross_rules.specs.Rules.{any, sameWord, isTwice, isThere, modelName, modelRule}
-use Rattle.cross_rules.specs.Way.Filled.{Filled}
+use Rattle.cross_rules.specs.Way.Filled.{HoldsText}
 use Rattle.cross_rules.proofs.RisingLaws.{each-at}
 use Rattle.cross_rules.proofs.OrderLaws.{in-order}
 use Rattle.cross_rules.proofs.TwiceLaws.{model-twice}
@@ -201,7 +201,7 @@ each-up-to : {A : Type 0} {P : A → Type 0} (xs ys : List A) → Each P (xs ++ 
 each-up-to [] ys h = none
 each-up-to (x ∷ xs) ys (more h hs) = more h (each-up-to xs ys hs)
 
-module _ (t table : List ℕ) (filled : Filled t table) (v : View) (is-view : v ≡ viewOf table) where
+module _ (t table : List ℕ) (filled : HoldsText t table) (v : View) (is-view : v ≡ viewOf table) where
   models-chopped : chopped 5 (getD (v .counts) models 0) (drop (getD (v .bases) models 0) table) ≡ map modelWords (modelRecords 0 (documentOf t .models))
   unfolding partsOf flatten
   models-chopped = rw is-view (part-stands t table filled 0 (omega arith))

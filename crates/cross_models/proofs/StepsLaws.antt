@@ -20,7 +20,7 @@ use Rattle.doc.specs.Holds.Each.{none, more}
 use Rattle.doc.proofs.StandsLaws.{ModelStands, StepStands, all-stand}
 use Rattle.cross_rules.specs.Rules.{modelRule, stepRule, stepFindings, modelFindings}
 use Rattle.cross_rules.specs.Way.First.{firstIn}
-use Rattle.cross_rules.specs.Way.Filled.{Filled}
+use Rattle.cross_rules.specs.Way.Filled.{HoldsText}
 use Rattle.cross_rules.specs.declared.Finding.{Finding}
 use Rattle.cross_rules.proofs.RisingLaws.{Rising, rising-wider, rising-behind, all-least, each-at}
 use Rattle.cross_rules.proofs.RisingLaws.Rising.{flat, rise}
@@ -151,7 +151,7 @@ pub record StepsLeft (t table : List ℕ) (v : View) (marks : List ℕ) (index :
   pub cursor : Cursor t here next
   pub rising : Rising next (findingLines (rest (documentOf t) (split .one) below (split .behind)))
 
-module _ (t table : List ℕ) (filled : Filled t table) (v : View) (is-view : v ≡ viewOf table) where
+module _ (t table : List ℕ) (filled : HoldsText t table) (v : View) (is-view : v ≡ viewOf table) where
   tells : join.Tells table v (documentOf t)
   tells = rw is-view (table-tells t table filled)
 

@@ -13,9 +13,9 @@ use Rattle.doc.specs.Lines.{significant}
 use Rattle.doc.specs.Document.{Model, Document, documentOf}
 use Rattle.doc.specs.Holds.{Each}
 use Rattle.doc.specs.Holds.Each.{none, more}
-use Rattle.cross_rules.specs.Rules.{modelRule, modelFindings, nothing}
+use Rattle.cross_rules.specs.Rules.{modelRule, modelFindings, noFinding}
 use Rattle.cross_rules.specs.Way.First.{firstIn}
-use Rattle.cross_rules.specs.Way.Filled.{Filled}
+use Rattle.cross_rules.specs.Way.Filled.{HoldsText}
 use Rattle.cross_rules.specs.Way.Nth.{nthLine}
 use Rattle.cross_rules.specs.declared.Finding.{Finding}
 use Rattle.cross_rules.proofs.RisingLaws.{all-least}
@@ -54,12 +54,12 @@ line-at : (before : List Model) (m : Model) (behind : List Model) → getD (map 
 line-at [] m behind = refl
 line-at (b ∷ before) m behind = line-at before m behind
 
-module _ (t table : List ℕ) (filled : Filled t table) (v : View) (is-view : v ≡ viewOf table) (at number : ℕ) (marks : List ℕ) (i : ℕ) (left : ModelsLeft t at number marks i) where
+module _ (t table : List ℕ) (filled : HoldsText t table) (v : View) (is-view : v ≡ viewOf table) (at number : ℕ) (marks : List ℕ) (i : ℕ) (left : ModelsLeft t at number marks i) where
   abbrev d : Document
   d = documentOf t
 
   pub models-end : getD (v .counts) models 0 ≤ i → record { number = 0; line = 0 } ≡ firstIn (modelFindings d (d .models))
-  unfolding firstIn nothing modelFindings
+  unfolding firstIn noFinding modelFindings
   models-end h =
       let k : length (d .models) ≤ i = rw (models-many t table filled v is-view) at h in
       let e : drop i (d .models) ≡ [] = drop-of-length-le (d .models) k in
@@ -107,7 +107,7 @@ module _ (t table : List ℕ) (filled : Filled t table) (v : View) (is-view : v 
         awaits-here : Awaits t i at number
         awaits-here = record { there = there; cursor = left .cursor; low = each-rest (rw findings-here at (left .low)) }
 
-        pub asks-steps : Filled t table × (v ≡ viewOf table) × Awaits t i at number × (length marks ≡ marksMany)
+        pub asks-steps : HoldsText t table × (v ≡ viewOf table) × Awaits t i at number × (length marks ≡ marksMany)
         asks-steps = (filled, is-view, awaits-here, left .whole)
 
         module _ (found : StepsFinding) (told : StepsTold t i found) where

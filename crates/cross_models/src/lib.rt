@@ -9,7 +9,7 @@ ghost use Rattle.doc.specs.Document.{documentOf};
 ghost use Rattle.doc.specs.Way.Found.{Located, contentIn};
 ghost use Rattle.cross_rules.specs.Rules.{modelFindings};
 ghost use Rattle.cross_rules.specs.Way.First.{firstIn};
-ghost use Rattle.cross_rules.specs.Way.Filled.{Filled};
+ghost use Rattle.cross_rules.specs.Way.Filled.{HoldsText};
 ghost use Rattle.cross_names.specs.Way.Listed.{Listed};
 ghost use Rattle.table_name.specs.Way.Marks.{marksMany};
 ghost use Rattle.cross_models.specs.Way.Cursor.{Cursor, Seeks, PastMult, Tells, TellsStep};
@@ -231,7 +231,7 @@ fn steps_finding(
     at: usize,
     number: u64,
 ) -> StepsFinding
-    requires { ⌜ Filled (now text) (now table) × (view ≡ viewOf (now table)) × Awaits (now text) index at number × (length (now marks) ≡ marksMany) ⌝ }
+    requires { ⌜ HoldsText (now text) (now table) × (view ≡ viewOf (now table)) × Awaits (now text) index at number × (length (now marks) ≡ marksMany) ⌝ }
     ensures { λ r. ⌜ StepsTold (now (text .entry)) index r × (r .number ≡ 0 → length (now (marks .exit)) ≡ marksMany) ⌝ }
 {
     let owner = owner_of(table, view, index);
@@ -269,7 +269,7 @@ fn steps_finding(
 
 // The first line of a model or of one of its steps that breaks a rule. The list breaks none, and `listed` says which models it names.
 pub fn model_finding(text: &[u8], table: &[u64], view: View, listed: [bool; 65]) -> Finding
-    requires { ⌜ Filled (now text) (now table) × (view ≡ viewOf (now table)) × Listed (documentOf (now text)) listed ⌝ }
+    requires { ⌜ HoldsText (now text) (now table) × (view ≡ viewOf (now table)) × Listed (documentOf (now text)) listed ⌝ }
     ensures { λ r. ⌜ r ≡ firstIn (modelFindings (documentOf (now (text .entry))) (documentOf (now (text .entry)) .models)) ⌝ }
 {
     let counts = view.counts;

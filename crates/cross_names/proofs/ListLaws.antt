@@ -30,9 +30,9 @@ use Rattle.doc.specs.Holds.Each.{none, more}
 use Rattle.doc.proofs.StandsLaws.{each-append, each-gather, each-if}
 use Rattle.doc.proofs.BlockLaws.{gather-none, gather-more}
 use Rattle.doc.proofs.PlainLaws.{plainly-quiet, meets-found}
-use Rattle.cross_rules.specs.Rules.{any, isTwice, isThere, modelName, listRule, listFindings, nothing}
+use Rattle.cross_rules.specs.Rules.{any, isTwice, isThere, modelName, listNameRule, listFindings, noFinding}
 use Rattle.cross_rules.specs.Way.First.{firstIn}
-use Rattle.cross_rules.specs.Way.Filled.{Filled}
+use Rattle.cross_rules.specs.Way.Filled.{HoldsText}
 use Rattle.cross_rules.specs.declared.Finding.{Finding}
 use Rattle.cross_rules.specs.Listed.{Among}
 use Rattle.cross_rules.specs.Listed.Among.{front, further}
@@ -49,7 +49,7 @@ use Rattle.cross_names.proofs.NamedLaws.{above-found, above-none, there
 
 -- what a line of the list breaks
 abbrev finding : Document → Named → Finding
-finding d n = record { number = listRule d n; line = n .line }
+finding d n = record { number = listNameRule d n; line = n .line }
 
 -- a line above names the model numbered i
 abbrev raised : Document → List Named → ℕ → Bool
@@ -65,9 +65,9 @@ pub record Names (l : Line) (ls : List Line) (n : Named) : Type 0 where
 -- what a line turns out to be
 pub data Outcome (d : Document) (l : Line) (ls : List Line) : Judged → Type 0 where
   silent : listedAt l ls ≡ [] → Outcome d l ls (record { number = 0; slot = noModel })
-  broken : (n : Named) → Names l ls n → (number slot : ℕ) → listRule d n ≡ number → (number ≡ 0 → ⊥) → slot ≤ 64 →
+  broken : (n : Named) → Names l ls n → (number slot : ℕ) → listNameRule d n ≡ number → (number ≡ 0 → ⊥) → slot ≤ 64 →
       Outcome d l ls (record { number = number; slot = slot })
-  fresh : (n : Named) → Names l ls n → (slot : ℕ) → listRule d n ≡ 0 → slot ≡ namedBy d n → slot < length (d .models) →
+  fresh : (n : Named) → Names l ls n → (slot : ℕ) → listNameRule d n ≡ 0 → slot ≡ namedBy d n → slot < length (d .models) →
       Outcome d l ls (record { number = 0; slot = slot })
 
 -- the lines above the name n break nothing, and raise the flags
@@ -78,8 +78,8 @@ module _ (t : List ℕ) (listed : List Bool) (above below : List Named) (n : Nam
   twice-is : isTwice (d .listed) n ≡ isThere above n
   twice-is = listed-twice d (in-order t) above below n split
 
-  rule-none : Each (λ (a : Named). namedBy d a < length (d .models)) above → length (d .models) ≤ namedBy d n → listRule d n ≡ 20
-  unfolding listRule
+  rule-none : Each (λ (a : Named). namedBy d a < length (d .models)) above → length (d .models) ≤ namedBy d n → listNameRule d n ≡ 20
+  unfolding listNameRule
   rule-none have h =
       first-kept _ 19 _ 20 (twice-is ∙ above-none d n have h) (first-broken _ 20 0 (not-via (there-found d n ∙ le-ltb _ _ h)))
 
@@ -87,12 +87,12 @@ module _ (t : List ℕ) (listed : List Bool) (above below : List Named) (n : Nam
     flag-is : isTwice (d .listed) n ≡ getD listed (namedBy d n) false
     flag-is = twice-is ∙ above-found d n above h ∙ sym (told (namedBy d n) (omega arith))
 
-    rule-twice : getD listed (namedBy d n) false ≡ true → listRule d n ≡ 19
-    unfolding listRule
+    rule-twice : getD listed (namedBy d n) false ≡ true → listNameRule d n ≡ 19
+    unfolding listNameRule
     rule-twice e = first-broken _ 19 _ (flag-is ∙ e)
 
-    rule-fresh : getD listed (namedBy d n) false ≡ false → listRule d n ≡ 0
-    unfolding listRule
+    rule-fresh : getD listed (namedBy d n) false ≡ false → listNameRule d n ≡ 0
+    unfolding listNameRule
     rule-fresh e = first-kept _ 19 _ 0 (flag-is ∙ e) (first-kept _ 20 _ 0 (not-not-via (there-found d n ∙ lt-ltb _ _ h)) refl)
 
 small : {index many : ℕ} → index < many → many ≤ 64 → index ≤ 64
@@ -235,7 +235,7 @@ breaks-by {d} {l} {ls} later (broken m names number slot e ne low) same n =
     let f : finding d m ≡ record { number = number; line = l .number } = λ i. record { number = e i; line = names .line i } in
     let g : firstIn (map (finding d) (listedAt l ls ++ later)) ≡ finding d m =
     ap (λ (ns : List Named). firstIn (map (finding d) (ns ++ later))) (names .one)
-    ∙ first-here (finding d m) (map (finding d) later) (λ (z : listRule d m ≡ 0). ne (sym e ∙ z)) in
+    ∙ first-here (finding d m) (map (finding d) later) (λ (z : listNameRule d m ≡ 0). ne (sym e ∙ z)) in
     sym f ∙ sym g ∙ same
 breaks-by later (fresh m names slot e is h) same n = absurd (n refl)
 
@@ -297,7 +297,7 @@ Gives t number line listed =
 module _ (t : List ℕ) (listed : List Bool) (at n p : ℕ) (left : ListLeft t listed at n p) where
   -- nothing is left
   list-done : gather listedAt (linesAt t n at p) ≡ [] → Gives t 0 0 listed
-  unfolding firstIn nothing isListed
+  unfolding firstIn noFinding isListed
   list-done e =
       let all : documentOf t .listed ≡ left .above = left .rest ∙ ap (λ (ns : List Named). left .above ++ ns) e ∙ append-nil (left .above) in (
         ap (λ (ns : List Named). firstIn (map (finding (documentOf t)) ns)) (sym e) ∙ left .same,
@@ -358,7 +358,7 @@ module _ (t : List ℕ) (listed : List Bool) (at n p : ℕ) (left : ListLeft t l
       unfolding listedAt standsIn keyOf
       listed-is = ap (λ (k : ℕ). if both (eqb p place.list) (eqb k plain) then name ∷ [] else []) (sym (found .key-is))
 
-      module _ (table : List ℕ) (filled : Filled t table) (v : View) (is-view : v ≡ viewOf table) where
+      module _ (table : List ℕ) (filled : HoldsText t table) (v : View) (is-view : v ≡ viewOf table) where
         abbrev count : ℕ
         count = getD (v .counts) models 0
 

@@ -17,9 +17,9 @@ use Rattle.table_layout.specs.View.{viewOf}
 use Rattle.table_layout.specs.declared.View.{View}
 use Rattle.doc.specs.Lines.{significant}
 use Rattle.doc.specs.Document.{Map, Document, documentOf}
-use Rattle.cross_rules.specs.Rules.{mapRule, pinFindings, mapFindings, nothing}
+use Rattle.cross_rules.specs.Rules.{mapNameRule, pinFindings, mapFindings, noFinding}
 use Rattle.cross_rules.specs.Way.First.{firstIn}
-use Rattle.cross_rules.specs.Way.Filled.{Filled}
+use Rattle.cross_rules.specs.Way.Filled.{HoldsText}
 use Rattle.cross_rules.specs.Way.Nth.{nthLine}
 use Rattle.cross_rules.specs.declared.Finding.{Finding}
 use Rattle.cross_rules.proofs.KindLaws.{first-here, first-later}
@@ -29,7 +29,7 @@ use Rattle.cross_names.proofs.TableLaws.{maps-many, rule-here, line-her
 -- ---- the first of two lists
 
 none-first : firstIn [] .number ≡ 0
-unfolding firstIn nothing
+unfolding firstIn noFinding
 none-first = refl
 
 abbrev numberOf : Finding → ℕ
@@ -78,17 +78,17 @@ no-more [] h = refl
 no-more (m ∷ ms) h = absurd (not-suc-le-zero h)
 
 abbrev ownLine : Document → Map → Finding
-ownLine d m = record { number = mapRule d m; line = m .line }
+ownLine d m = record { number = mapNameRule d m; line = m .line }
 
 none-found : (d : Document) → firstIn (mapFindings d []) ≡ record { number = 0; line = 0 }
-unfolding mapFindings firstIn nothing
+unfolding mapFindings firstIn noFinding
 none-found d = refl
 
 findings-on : (d : Document) (m : Map) (ms : List Map) → mapFindings d (m ∷ ms) ≡ ownLine d m ∷ (pinFindings m ++ mapFindings d ms)
 unfolding mapFindings
 findings-on d m ms = refl
 
-module _ (t table : List ℕ) (v : View) (holds : Filled t table × (v ≡ viewOf table)) (i : ℕ) (left : MapsLeft t i) where
+module _ (t table : List ℕ) (v : View) (holds : HoldsText t table × (v ≡ viewOf table)) (i : ℕ) (left : MapsLeft t i) where
   abbrev d : Document
   d = documentOf t
 
@@ -135,18 +135,18 @@ module _ (t table : List ℕ) (v : View) (holds : Filled t table × (v ≡ viewO
         ap firstIn (sym (findings-on d m behind)) ∙ ap (λ (ms : List Map). firstIn (mapFindings d ms)) (sym (front .whole)) ∙ left .same
 
     module _ (twice : Bool) (is-twice : twice ≡ twiceAt t table mapBase 7 i) where
-      rule-is : firstBroken (19 when twice ∷ []) ≡ mapRule d m
+      rule-is : firstBroken (19 when twice ∷ []) ≡ mapNameRule d m
       rule-is =
           ap (λ (b : Bool). firstBroken (19 when b ∷ [])) (is-twice ∙ ap (twiceAt t table mapBase 7) (sym (left .place)))
           ∙ rule-here t table v holds (left .above) behind m split
 
       pub map-breaks : twice ≡ true → (line : ℕ) → line ≡ nthLine maps i (significant t) → record { number = 19; line = line } ≡ firstIn (mapFindings d (d .maps))
       map-breaks e line is-line =
-          let n : 19 ≡ mapRule d m = sym (first-broken twice 19 0 e) ∙ rule-is in
+          let n : 19 ≡ mapNameRule d m = sym (first-broken twice 19 0 e) ∙ rule-is in
           let l : line ≡ m .line =
           is-line ∙ ap (λ (k : ℕ). nthLine maps k (significant t)) (sym (left .place)) ∙ line-here t table v holds (left .above) behind m split in
           let f : record { number = 19; line = line } ≡ ownLine d m = λ j. record { number = n j; line = l j } in
-          f ∙ sym (first-here (ownLine d m) _ (λ (z : mapRule d m ≡ 0). omega arith)) ∙ same-here
+          f ∙ sym (first-here (ownLine d m) _ (λ (z : mapNameRule d m ≡ 0). omega arith)) ∙ same-here
 
       module _ (kept : twice ≡ false) where
         below-same : firstIn (pinFindings m ++ mapFindings d behind) ≡ firstIn (mapFindings d (d .maps))

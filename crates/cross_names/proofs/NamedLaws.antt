@@ -33,7 +33,7 @@ use Rattle.doc.proofs.CountLaws.{models-long}
 use Rattle.table_name.specs.Name.{nameAt}
 use Rattle.table_name.specs.Way.Search.{isNamed, findIn}
 use Rattle.cross_rules.specs.Rules.{any, sameWord, isThere, modelName}
-use Rattle.cross_rules.specs.Way.Filled.{Filled}
+use Rattle.cross_rules.specs.Way.Filled.{HoldsText}
 use Rattle.cross_rules.proofs.TableLaws.{view-holds, part-stands, part-many}
 use Rattle.cross_names.specs.Way.Listed.{namedBy}
 use Rattle.cross_names.specs.declared.list.Judged.{Judged}
@@ -137,7 +137,7 @@ module _ (t : List ℕ) (name : List ℕ) where
   find-model from none = refl
   find-model from (more {x = m} {xs = ms} h hs) = λ i. if model-named from m h i then 0 else suc (find-model (from + length (m .steps)) hs i)
 
-module _ (t table : List ℕ) (filled : Filled t table) (v : View) (is-view : v ≡ viewOf table) where
+module _ (t table : List ℕ) (filled : HoldsText t table) (v : View) (is-view : v ≡ viewOf table) where
   abbrev d : Document
   d = documentOf t
 

@@ -10,7 +10,7 @@ use Rattle.base.specs.Broken.{_when_, firstBroken}
 use Rattle.base.proofs.BrokenLaws.{first-broken, first-kept}
 use Rattle.table_layout.specs.Layout.{pins}
 use Rattle.doc.specs.Lines.{significant}
-use Rattle.cross_rules.specs.Rules.{nothing}
+use Rattle.cross_rules.specs.Rules.{noFinding}
 use Rattle.cross_rules.specs.Way.First.{firstIn}
 use Rattle.cross_rules.specs.Way.Nth.{nthLine}
 use Rattle.cross_rules.specs.declared.Finding.{Finding}
@@ -22,7 +22,7 @@ pub record PinsLeft (t table : List ℕ) (base first count i : ℕ) : Type 0 whe
 
 module _ (t table : List ℕ) (base first : ℕ) where
   none-left : (i : ℕ) → firstIn (pinsFrom t table base first i zero) ≡ record { number = 0; line = 0 }
-  unfolding pinsFrom firstIn nothing
+  unfolding pinsFrom firstIn noFinding
   none-left i = refl
 
   one-left : (i n : ℕ) → pinsFrom t table base first i (suc n) ≡ pinAt t table base first i ∷ pinsFrom t table base first (i + 1) n

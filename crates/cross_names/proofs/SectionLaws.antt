@@ -23,9 +23,9 @@ use Rattle.doc.proofs.StandsLaws.{all-stand}
 use Rattle.table_name.specs.Name.{nameAt}
 use Rattle.table_layout.specs.View.{bounds, viewOf}
 use Rattle.table_layout.specs.declared.View.{View}
-use Rattle.cross_rules.specs.Rules.{any, isThere, isTwice, sectionName, uses, isUsed, sectionRule, sectionFindings, nothing}
+use Rattle.cross_rules.specs.Rules.{any, isThere, isTwice, sectionName, uses, isUsed, sectionRule, sectionFindings, noFinding}
 use Rattle.cross_rules.specs.Way.First.{firstIn}
-use Rattle.cross_rules.specs.Way.Filled.{Filled}
+use Rattle.cross_rules.specs.Way.Filled.{HoldsText}
 use Rattle.cross_rules.specs.declared.Finding.{Finding}
 use Rattle.cross_rules.specs.Way.Nth.{nthLine}
 use Rattle.cross_rules.proofs.TableLaws.{view-holds, part-stands, part-many}
@@ -103,7 +103,7 @@ module _ {P : Section → Type 0} where
   each-front [] below hs = none
   each-front (y ∷ above) below (more h hs) = more h (each-front above below hs)
 
-module _ (t table : List ℕ) (filled : Filled t table) where
+module _ (t table : List ℕ) (filled : HoldsText t table) where
   abbrev d : Document
   d = documentOf t
 
@@ -179,7 +179,7 @@ pub record SectionsLeft (t table : List ℕ) (i : ℕ) : Type 0 where
 pub sections-start : (t table : List ℕ) → SectionsLeft t table 0
 sections-start t table = record { above = []; below = documentOf t .sections; all = refl; many-above = refl; same = refl }
 
-no-findings : (d : Document) (i : ℕ) → firstIn (sectionFindings d i []) ≡ nothing
+no-findings : (d : Document) (i : ℕ) → firstIn (sectionFindings d i []) ≡ noFinding
 unfolding sectionFindings firstIn
 no-findings d i = refl
 
@@ -192,7 +192,7 @@ line-here : (above below : List Section) (x : Section) → getD (map (λ (s : Se
 line-here [] below x = refl
 line-here (y ∷ above) below x = line-here above below x
 
-module _ (t table : List ℕ) (filled : Filled t table) (used : List Bool) (flags : Flags used (chopped 6 (getD (viewOf table .counts) steps 0) (drop (getD (viewOf table .bases) steps 0) table))) where
+module _ (t table : List ℕ) (filled : HoldsText t table) (used : List Bool) (flags : Flags used (chopped 6 (getD (viewOf table .counts) steps 0) (drop (getD (viewOf table .bases) steps 0) table))) where
   abbrev start : ℕ
   start = getD (viewOf table .bases) sections 0
 
@@ -211,7 +211,7 @@ module _ (t table : List ℕ) (filled : Filled t table) (used : List Bool) (flag
       absurd (omega arith)
 
   done-with : (i : ℕ) (above below : List Section) → documentOf t .sections ≡ above ++ below → length above ≡ i → firstIn (sectionFindings (documentOf t) i below) ≡ whole → getD (viewOf table .counts) sections 0 ≤ i → record { number = 0; line = 0 } ≡ whole
-  unfolding nothing
+  unfolding noFinding
   done-with i above below e n s h =
       let z : below ≡ [] = none-behind above below e (rw n h) in
       sym (no-findings (documentOf t) i) ∙ ap (λ (xs : List Section). firstIn (sectionFindings (documentOf t) i xs)) (sym z) ∙ s
@@ -261,12 +261,12 @@ module _ (t table : List ℕ) (filled : Filled t table) (used : List Bool) (flag
       let f : getD (viewOf table .counts) sections 0 ≤ 256 = view-holds t table filled .few sections (omega arith) in
       (omega arith, omega arith)
 
-steps-inside : (t table : List ℕ) → Filled t table → getD (viewOf table .bases) steps 0 + 6 * getD (viewOf table .counts) steps 0 ≤ length table
+steps-inside : (t table : List ℕ) → HoldsText t table → getD (viewOf table .bases) steps 0 + 6 * getD (viewOf table .counts) steps 0 ≤ length table
 steps-inside t table filled = view-holds t table filled .inside steps (omega arith)
 
 -- ---- the same over the view that the code has
 
-module _ (t table : List ℕ) (v : View) (holds : Filled t table × (v ≡ viewOf table)) where
+module _ (t table : List ℕ) (v : View) (holds : HoldsText t table × (v ≡ viewOf table)) where
   pub steps-asked : getD (v .bases) steps 0 + 6 * getD (v .counts) steps 0 ≤ length table
   steps-asked = rw (holds .1) (steps-inside t table (holds .0))
 

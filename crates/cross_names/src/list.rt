@@ -11,7 +11,7 @@ ghost use Rattle.doc.specs.Document.{documentOf};
 ghost use Rattle.doc.specs.Way.Found.{Located};
 ghost use Rattle.cross_rules.specs.Rules.{listFindings};
 ghost use Rattle.cross_rules.specs.Way.First.{firstIn};
-ghost use Rattle.cross_rules.specs.Way.Filled.{Filled};
+ghost use Rattle.cross_rules.specs.Way.Filled.{HoldsText};
 ghost use Rattle.table_layout.specs.View.{viewOf};
 ghost use Rattle.cross_names.specs.Way.Listed.{Listed};
 ghost use Rattle.cross_names.specs.Way.Judged.{ModelsIn, modelFound, nameJudged, lineJudged, Nears};
@@ -140,7 +140,7 @@ fn judge_line(
 
 // The lines of the list, up to the first that breaks a rule. At most 64 models exist, so the search ends after at most 65 lines.
 pub fn list_finding(text: &[u8], table: &[u64], view: View) -> ListFinding
-    requires { ⌜ Filled (now text) (now table) × (view ≡ viewOf (now table)) ⌝ }
+    requires { ⌜ HoldsText (now text) (now table) × (view ≡ viewOf (now table)) ⌝ }
     ensures { λ r. ⌜ (record { number = r .number; line = r .line } ≡ firstIn (listFindings (documentOf (now (text .entry))))) × (r .number ≡ 0 → Listed (documentOf (now (text .entry))) (r .listed)) ⌝ }
 {
     let mut listed = [false; 65];

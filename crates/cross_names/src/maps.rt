@@ -7,7 +7,7 @@ ghost use Rattle.table_name.specs.Way.Marks.{marksMany};
 ghost use Rattle.table_layout.specs.View.{viewOf};
 ghost use Rattle.cross_rules.specs.Rules.{mapFindings};
 ghost use Rattle.cross_rules.specs.Way.First.{firstIn};
-ghost use Rattle.cross_rules.specs.Way.Filled.{Filled};
+ghost use Rattle.cross_rules.specs.Way.Filled.{HoldsText};
 ghost use Rattle.cross_names.specs.Way.Pins.{pinsFrom, MapRoom, pinsOfMap};
 use cross_rules::Finding;
 use table_layout::View;
@@ -77,7 +77,7 @@ fn own_finding(
 
 // The first map, or pin of a map, that has a name twice.
 pub fn map_finding(text: &[u8], table: &[u64], view: View) -> Finding
-    requires { ⌜ Filled (now text) (now table) × (view ≡ viewOf (now table)) ⌝ }
+    requires { ⌜ HoldsText (now text) (now table) × (view ≡ viewOf (now table)) ⌝ }
     ensures { λ r. ⌜ r ≡ firstIn (mapFindings (documentOf (now (text .entry))) (documentOf (now (text .entry)) .maps)) ⌝ }
 {
     let bases = view.bases;

@@ -9,7 +9,7 @@ ghost use Rattle.table_name.specs.Name.{nameAt};
 ghost use Rattle.table_layout.specs.View.{viewOf};
 ghost use Rattle.cross_rules.specs.Rules.{sectionFindings};
 ghost use Rattle.cross_rules.specs.Way.First.{firstIn};
-ghost use Rattle.cross_rules.specs.Way.Filled.{Filled};
+ghost use Rattle.cross_rules.specs.Way.Filled.{HoldsText};
 ghost use Rattle.cross_rules.specs.Way.Twice.{hasAbove};
 ghost use Rattle.cross_names.specs.Way.Used.{Flags, slotOf, ruleOf};
 use cross_rules::Finding;
@@ -67,7 +67,7 @@ fn section_rule(text: &[u8], table: &[u64], base: usize, index: u64, used: [bool
 
 // The first section that breaks a rule.
 pub fn section_finding(text: &[u8], table: &[u64], view: View) -> Finding
-    requires { ⌜ Filled (now text) (now table) × (view ≡ viewOf (now table)) ⌝ }
+    requires { ⌜ HoldsText (now text) (now table) × (view ≡ viewOf (now table)) ⌝ }
     ensures { λ r. ⌜ r ≡ firstIn (sectionFindings (documentOf (now (text .entry))) 0 (documentOf (now (text .entry)) .sections)) ⌝ }
 {
     let bases = view.bases;

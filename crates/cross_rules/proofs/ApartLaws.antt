@@ -68,7 +68,7 @@ data Part : Type 0 where
 
 -- of a line without a keyword, and of one with the keyword k
 unfoldable plainPart : ℕ → Part
-plainPart p = if eqb p place.list then list else if eqb p place.path then models else if eqb p place.pins then maps else other
+plainPart p = if eqb p place.list then list else if eqb p place.path then models else if eqb p place.pinList then maps else other
 
 unfoldable keyedPart : ℕ → Part
 keyedPart k = if eqb k beginIcmModel then models else if eqb k icmPinMap then maps else if eqb k beginIcmSection then sections else other
@@ -138,7 +138,7 @@ module _ (ls : List Line) where
 
     pin-comes : Each (λ (n : Named). Comes ls maps (n .line)) (pinAt l after)
     unfolding pinAt plainPart if_then_else_
-    pin-comes = each-if (standsIn place.pins l) _ (plain-comes place.pins)
+    pin-comes = each-if (standsIn place.pinList l) _ (plain-comes place.pinList)
 
     section-comes : Each (λ (s : Section). Comes ls sections (s .line)) (sectionAt l after)
     unfolding sectionAt sectionOf opensSection keyedPart if_then_else_

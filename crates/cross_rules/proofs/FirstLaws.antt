@@ -24,10 +24,10 @@ use Rattle.cross_rules.specs.Rules.{
   modelName,
   mapName,
   sectionName,
-  listRule,
+  listNameRule,
   modelRule,
-  mapRule,
-  pinRule,
+  mapNameRule,
+  pinNameRule,
   isUsed,
   sectionRule,
   pinsAt,
@@ -52,11 +52,11 @@ use Rattle.cross_rules.specs.Rules.{
   mapFindings,
   sectionFindings,
   findings,
-  nothing,
+  noFinding,
   earliest,
   crossRule,
 }
-use Rattle.cross_rules.specs.Listed.{Looked, listRules, modelRules, mapRules, sectionRules, endRules, sectionStepRules, stepRules, pinRules, listLooked, stepLooked, modelLooked, pinLooked, mapLooked, sectionLooked, looked, Among}
+use Rattle.cross_rules.specs.Listed.{Looked, listNameRules, modelRules, mapNameRules, sectionRules, endStepRules, sectionStepRules, stepRules, pinNameRules, listLooked, stepLooked, modelLooked, pinLooked, mapLooked, sectionLooked, looked, Among}
 use Rattle.cross_rules.specs.Listed.Among.{front, further}
 use Rattle.cross_rules.specs.declared.Finding.{Finding}
 use Rattle.cross_rules.proofs.RisingLaws.{each-one}
@@ -91,19 +91,19 @@ judged rules r =
     }
 
 module _ (d : Document) where
-  list-ranked : (n : Named) → Ranked (listRules d n)
+  list-ranked : (n : Named) → Ranked (listNameRules d n)
   list-ranked n = record { numbered = (omega arith, (omega arith, tt)); ascending = (omega arith, (omega arith, tt)) }
 
   model-ranked : (m : Model) → Ranked (modelRules d m)
   model-ranked m = record { numbered = (omega arith, (omega arith, tt)); ascending = (omega arith, (omega arith, tt)) }
 
-  map-ranked : (m : Map) → Ranked (mapRules d m)
+  map-ranked : (m : Map) → Ranked (mapNameRules d m)
   map-ranked m = record { numbered = (omega arith, tt); ascending = (omega arith, tt) }
 
   section-ranked : (i : ℕ) (s : Section) → Ranked (sectionRules d i s)
   section-ranked i s = record { numbered = (omega arith, (omega arith, tt)); ascending = (omega arith, (omega arith, tt)) }
 
-  end-ranked : (m : Model) (s : Step) → Ranked (endRules d m s)
+  end-ranked : (m : Model) (s : Step) → Ranked (endStepRules d m s)
   end-ranked m s =
       record {
         numbered = (omega arith, (omega arith, (omega arith, tt)));
@@ -123,7 +123,7 @@ module _ (d : Document) where
       (λ e.
       by-test Ranked (eqb (s .kind) sectionKind) _ _ (λ f. section-step-ranked m s) (λ f. record { numbered = tt; ascending = tt }))
 
-pin-ranked : (m : Map) (p : Named) → Ranked (pinRules m p)
+pin-ranked : (m : Map) (p : Named) → Ranked (pinNameRules m p)
 pin-ranked m p = record { numbered = (omega arith, tt); ascending = (omega arith, tt) }
 
 -- ---- what each rule of a line gives
@@ -137,27 +137,27 @@ module _ (d : Document) where
   step-given : (m : Model) (s : Step) → stepRule d m s ≡ firstBroken (stepRules d m s)
   unfolding stepRule endRule sectionStepRule
   step-given m s =
-      chosen (eqb (s .kind) endKind) (endRules d m s) _ _ (chosen (eqb (s .kind) sectionKind) (sectionStepRules d m s) [] 0 refl)
+      chosen (eqb (s .kind) endKind) (endStepRules d m s) _ _ (chosen (eqb (s .kind) sectionKind) (sectionStepRules d m s) [] 0 refl)
 
-  pub list-judged : (n : Named) → Judged (listRule d n) (listRules d n)
-  unfolding listRule
-  list-judged n = judged (listRules d n) (list-ranked d n)
+  pub list-judged : (n : Named) → Judged (listNameRule d n) (listNameRules d n)
+  unfolding listNameRule
+  list-judged n = judged (listNameRules d n) (list-ranked d n)
 
   pub model-judged : (m : Model) → Judged (modelRule d m) (modelRules d m)
   unfolding modelRule
   model-judged m = judged (modelRules d m) (model-ranked d m)
 
-  pub map-judged : (m : Map) → Judged (mapRule d m) (mapRules d m)
-  unfolding mapRule
-  map-judged m = judged (mapRules d m) (map-ranked d m)
+  pub map-judged : (m : Map) → Judged (mapNameRule d m) (mapNameRules d m)
+  unfolding mapNameRule
+  map-judged m = judged (mapNameRules d m) (map-ranked d m)
 
   pub section-judged : (i : ℕ) (s : Section) → Judged (sectionRule d i s) (sectionRules d i s)
   unfolding sectionRule
   section-judged i s = judged (sectionRules d i s) (section-ranked d i s)
 
-  pub end-judged : (m : Model) (s : Step) → Judged (endRule d m s) (endRules d m s)
+  pub end-judged : (m : Model) (s : Step) → Judged (endRule d m s) (endStepRules d m s)
   unfolding endRule
-  end-judged m s = judged (endRules d m s) (end-ranked d m s)
+  end-judged m s = judged (endStepRules d m s) (end-ranked d m s)
 
   pub section-step-judged : (m : Model) (s : Step) → Judged (sectionStepRule d m s) (sectionStepRules d m s)
   unfolding sectionStepRule
@@ -166,14 +166,14 @@ module _ (d : Document) where
   pub step-judged : (m : Model) (s : Step) → Judged (stepRule d m s) (stepRules d m s)
   step-judged m s = rw (step-given m s) (judged (stepRules d m s) (step-ranked d m s))
 
-pub pin-judged : (m : Map) (p : Named) → Judged (pinRule m p) (pinRules m p)
-unfolding pinRule
-pin-judged m p = judged (pinRules m p) (pin-ranked m p)
+pub pin-judged : (m : Map) (p : Named) → Judged (pinNameRule m p) (pinNameRules m p)
+unfolding pinNameRule
+pin-judged m p = judged (pinNameRules m p) (pin-ranked m p)
 
 -- ---- the earliest of many
 
 none-earliest : {fs : List Finding} → Each (λ (f : Finding). f .number ≡ 0) fs → earliest fs .number ≡ 0
-unfolding earliest nothing
+unfolding earliest noFinding
 none-earliest none = refl
 none-earliest (more {x = f} {xs = fs} h hs) = ap (λ (g : Finding). g .number) (earlier-second f (earliest fs) h) ∙ none-earliest hs
 
@@ -187,7 +187,7 @@ kept-earliest (f ∷ fs) e =
     (λ (h : eqb (f .number) 0 ≡ false). absurd (earlier-breaks f (earliest fs) (eqb-false _ _ h) e))
 
 found-earliest : (fs : List Finding) → (earliest fs .number ≡ 0 → ⊥) → Among (earliest fs) fs
-unfolding earliest nothing
+unfolding earliest noFinding
 found-earliest [] n = absurd (n refl)
 found-earliest (f ∷ fs) n =
     earlier-one (λ (g : Finding). (g .number ≡ 0 → ⊥) → Among g (f ∷ fs)) f (earliest fs) (λ m. front)
@@ -233,7 +233,7 @@ mapped-found finding look same (x ∷ xs) = λ i. same x i ∷ mapped-found find
 
 module _ (d : Document) where
   list-looked : listFindings d ≡ map findingOf (listLooked d)
-  unfolding listFindings listLooked listRule
+  unfolding listFindings listLooked listNameRule
   list-looked = mapped-found _ _ (λ (n : Named). refl) (d .listed)
 
   step-looked : (m : Model) → stepFindings d m ≡ map findingOf (stepLooked d m)
@@ -241,7 +241,7 @@ module _ (d : Document) where
   step-looked m = mapped-found _ _ (λ (s : Step). ap (λ (n : ℕ). record { number = n; line = s .line }) (step-given d m s)) (m .steps)
 
   pin-looked : (m : Map) → pinFindings m ≡ map findingOf (pinLooked d m)
-  unfolding pinFindings pinLooked pinRule
+  unfolding pinFindings pinLooked pinNameRule
   pin-looked m = mapped-found _ _ (λ (p : Named). refl) (m .pins)
 
   model-looked : (ms : List Model) → modelFindings d ms ≡ map findingOf (modelLooked d ms)
@@ -252,10 +252,10 @@ module _ (d : Document) where
       ((λ i. step-looked m i ++ model-looked ms i) ∙ sym (map-append findingOf (stepLooked d m) (modelLooked d ms)))
 
   map-looked : (ms : List Map) → mapFindings d ms ≡ map findingOf (mapLooked d ms)
-  unfolding mapFindings mapLooked mapRule
+  unfolding mapFindings mapLooked mapNameRule
   map-looked [] = refl
   map-looked (m ∷ ms) =
-      ap (λ (fs : List Finding). record { number = mapRule d m; line = m .line } ∷ fs)
+      ap (λ (fs : List Finding). record { number = mapNameRule d m; line = m .line } ∷ fs)
       ((λ i. pin-looked m i ++ map-looked ms i) ∙ sym (map-append findingOf (pinLooked d m) (mapLooked d ms)))
 
   section-looked : (n : ℕ) (ss : List Section) → sectionFindings d n ss ≡ map findingOf (sectionLooked d n ss)

@@ -18,7 +18,7 @@ use Rattle.cross_rules.specs.Rules.{
   sectionFindings,
   findings,
   earlier,
-  nothing,
+  noFinding,
   earliest,
   crossRule,
 }
@@ -121,8 +121,8 @@ earlier-assoc x y z = apart x y z (which x y) refl (which y z) refl
 -- ---- the earliest of many
 
 pub earliest-append : (xs ys : List Finding) → earliest (xs ++ ys) ≡ earlier (earliest xs) (earliest ys)
-unfolding earliest nothing
-earliest-append [] ys = sym (earlier-second nothing (earliest ys) refl)
+unfolding earliest noFinding
+earliest-append [] ys = sym (earlier-second noFinding (earliest ys) refl)
 earliest-append (x ∷ xs) ys = ap (earlier x) (earliest-append xs ys) ∙ sym (earlier-assoc x (earliest xs) (earliest ys))
 
 -- ---- the first of many whose lines rise
@@ -137,7 +137,7 @@ module _ (f : Finding) (fs : List Finding) where
   first-later e = if-true _ _ (eq-eqb _ _ e)
 
 pub first-low : {least : ℕ} (fs : List Finding) → Rising least (findingLines fs) → (firstIn fs .number ≡ 0 → ⊥) → least ≤ firstIn fs .line
-unfolding firstIn nothing
+unfolding firstIn noFinding
 first-low [] h n = absurd (n refl)
 first-low (f ∷ fs) (rise h rest) n =
     by-cases _ (eqb (f .number) 0)

@@ -104,7 +104,7 @@ use Rattle.cross_rules.specs.Rules.{
   mapFindings,
   sectionFindings,
   earlier,
-  nothing,
+  noFinding,
   crossRule,
 }
 use Rattle.cross_rules.specs.Way.First.{firstIn}
@@ -435,7 +435,7 @@ sections-below t =
 first-holds :
     {A : Type 0} (finding : A → Finding) (P : ℕ → Type 0) {xs : List A} → Each (λ (x : A). P (finding x .line)) xs →
     (firstIn (map finding xs) .number ≡ 0 → ⊥) → P (firstIn (map finding xs) .line)
-unfolding firstIn nothing
+unfolding firstIn noFinding
 first-holds finding P each-none n = absurd (n refl)
 first-holds finding P (each-more {x = x} {xs = xs} h hs) n =
     by-cases _ (eqb (finding x .number) 0)
@@ -455,7 +455,7 @@ module _ (d : Document) where
       (line : ℕ) {least : ℕ} {ms : List Model} → Each (λ (m : Model). line < m .line) ms →
       Rising least (findingLines (modelFindings d ms)) → (firstIn (modelFindings d ms) .number ≡ 0 → ⊥) →
       line < firstIn (modelFindings d ms) .line
-  unfolding modelFindings firstIn nothing
+  unfolding modelFindings firstIn noFinding
   models-low line each-none r n = absurd (n refl)
   models-low line (each-more {x = m} {xs = ms} h hs) r n =
       le-trans h (above-low (record { number = modelRule d m; line = m .line }) (stepFindings d m ++ modelFindings d ms) r n)
@@ -464,7 +464,7 @@ module _ (d : Document) where
       (line i : ℕ) {least : ℕ} {ss : List Section} → Each (λ (s : Section). line < s .line) ss →
       Rising least (findingLines (sectionFindings d i ss)) → (firstIn (sectionFindings d i ss) .number ≡ 0 → ⊥) →
       line < firstIn (sectionFindings d i ss) .line
-  unfolding sectionFindings firstIn nothing
+  unfolding sectionFindings firstIn noFinding
   sections-low line i each-none r n = absurd (n refl)
   sections-low line i (each-more {x = s} {xs = ss} h hs) r n =
       le-trans h (above-low (record { number = sectionRule d i s; line = s .line }) (sectionFindings d (i + 1) ss) r n)

@@ -144,7 +144,7 @@ section-one l ls = one-or-none (λ (s : Section). s .line) (l .number) (opensSec
 
 pin-one : (l : Line) (ls : List Line) → map (λ (p : Named). p .line) (pinAt l ls) ≡ (if writesPart pins l then l .number ∷ [] else [])
 unfolding pinAt standsIn writesPart writesAt if_then_else_
-pin-one l ls = one-or-none (λ (p : Named). p .line) (l .number) (standsIn place.pins l) (record { name = firstWord (wordsOf l); line = l .number }) refl
+pin-one l ls = one-or-none (λ (p : Named). p .line) (l .number) (standsIn place.pinList l) (record { name = firstWord (wordsOf l); line = l .number }) refl
 
 module _ (t : List ℕ) (i : ℕ) where
   pub model-line : nthLine models i (significant t) ≡ getD (map (λ (m : Model). m .line) (documentOf t .models)) i 0

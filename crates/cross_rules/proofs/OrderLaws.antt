@@ -92,7 +92,7 @@ module _ (l : Line) (after : List Line) where
 
   pin-own : Gives (l .number) [] (nameLines (pinAt l after))
   unfolding pinAt
-  pin-own = one-or-none (λ (n : Named). n .line) (standsIn place.pins l) _ refl
+  pin-own = one-or-none (λ (n : Named). n .line) (standsIn place.pinList l) _ refl
 
   pub model-own : Gives (l .number) [] (openings (modelAt l after))
   unfolding modelAt modelOf

@@ -19,14 +19,14 @@ use Rattle.table_layout.specs.View.{bounds, viewOf}
 use Rattle.table_layout.specs.declared.View.{View}
 use Rattle.table_layout.proofs.PartLaws.{Viewed, viewed}
 use Rattle.table_layout.proofs.LaidLaws.{AllFew, laid-view}
-use Rattle.cross_rules.specs.Way.Filled.{Filled}
+use Rattle.cross_rules.specs.Way.Filled.{HoldsText}
 
 getD-lengths : (parts : List (List (List ℕ))) (p : ℕ) → getD (map length parts) p 0 ≡ length (getD parts p [])
 getD-lengths [] p = refl
 getD-lengths (r ∷ rs) zero = refl
 getD-lengths (r ∷ rs) (suc p) = getD-lengths rs p
 
-module _ (t table : List ℕ) (filled : Filled t table) where
+module _ (t table : List ℕ) (filled : HoldsText t table) where
   abbrev parts : List (List (List ℕ))
   parts = partsOf (flatten (documentOf t))
 

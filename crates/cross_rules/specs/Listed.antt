@@ -19,21 +19,21 @@ pub data Among {A : Type 0} (x : A) : List A → Type 0 where
 -- ---- the rules of each kind of line, as they are listed
 
 module _ (d : Document) where
-  abbrev pub listRules : Named → List Rule
-  listRules n = 19 when isTwice (d .listed) n ∷ 20 when not (isThere (map modelName (d .models)) n) ∷ []
+  abbrev pub listNameRules : Named → List Rule
+  listNameRules n = 19 when isTwice (d .listed) n ∷ 20 when not (isThere (map modelName (d .models)) n) ∷ []
 
   abbrev pub modelRules : Model → List Rule
   modelRules m =
       19 when isTwice (map modelName (d .models)) (modelName m) ∷ 20 when not (isThere (d .listed) (modelName m)) ∷ []
 
-  abbrev pub mapRules : Map → List Rule
-  mapRules m = 19 when isTwice (map mapName (d .maps)) (mapName m) ∷ []
+  abbrev pub mapNameRules : Map → List Rule
+  mapNameRules m = 19 when isTwice (map mapName (d .maps)) (mapName m) ∷ []
 
   abbrev pub sectionRules : ℕ → Section → List Rule
   sectionRules i s = 19 when isTwice (map sectionName (d .sections)) (sectionName s) ∷ 27 when not (isUsed d i) ∷ []
 
-  abbrev pub endRules : Model → Step → List Rule
-  endRules m s =
+  abbrev pub endStepRules : Model → Step → List Rule
+  endStepRules m s =
       21 when not (hasMap d s)
       ∷ 22 when isClashing d m s
       ∷ 26 when both (hasMap d s) (differs d (firstEnd (m .steps)) (pinsAt (d .maps) (mapIndex d s)))
@@ -50,11 +50,11 @@ module _ (d : Document) where
   -- forks break none
   abbrev pub stepRules : Model → Step → List Rule
   stepRules m s =
-      if eqb (s .kind) endKind then endRules m s else
+      if eqb (s .kind) endKind then endStepRules m s else
       if eqb (s .kind) sectionKind then sectionStepRules m s else []
 
-abbrev pub pinRules : Map → Named → List Rule
-pinRules m p = 19 when isTwice (m .pins) p ∷ []
+abbrev pub pinNameRules : Map → Named → List Rule
+pinNameRules m p = 19 when isTwice (m .pins) p ∷ []
 
 -- ---- the lines
 
@@ -65,7 +65,7 @@ pub record Looked : Type 0 where
 
 module _ (d : Document) where
   unfoldable pub listLooked : List Looked
-  listLooked = map (λ (n : Named). record { line = n .line; rules = listRules d n }) (d .listed)
+  listLooked = map (λ (n : Named). record { line = n .line; rules = listNameRules d n }) (d .listed)
 
   unfoldable pub stepLooked : Model → List Looked
   stepLooked m = map (λ (s : Step). record { line = s .line; rules = stepRules d m s }) (m .steps)
@@ -75,11 +75,11 @@ module _ (d : Document) where
   modelLooked (m ∷ ms) = record { line = m .line; rules = modelRules d m } ∷ (stepLooked m ++ modelLooked ms)
 
   unfoldable pub pinLooked : Map → List Looked
-  pinLooked m = map (λ (p : Named). record { line = p .line; rules = pinRules m p }) (m .pins)
+  pinLooked m = map (λ (p : Named). record { line = p .line; rules = pinNameRules m p }) (m .pins)
 
   unfoldable pub mapLooked : List Map → List Looked
   mapLooked [] = []
-  mapLooked (m ∷ ms) = record { line = m .line; rules = mapRules d m } ∷ (pinLooked m ++ mapLooked ms)
+  mapLooked (m ∷ ms) = record { line = m .line; rules = mapNameRules d m } ∷ (pinLooked m ++ mapLooked ms)
 
   unfoldable pub sectionLooked : ℕ → List Section → List Looked
   sectionLooked i [] = []

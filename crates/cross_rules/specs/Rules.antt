@@ -56,8 +56,8 @@ sectionName s = record { name = s .name; line = s .line }
 -- ---- lists and models: 20 LIST
 
 -- "listed without one (at the list line)"
-unfoldable pub listRule : Document → Named → ℕ
-listRule d n =
+unfoldable pub listNameRule : Document → Named → ℕ
+listNameRule d n =
     firstBroken (19 when isTwice (d .listed) n ∷ 20 when not (isThere (map modelName (d .models)) n) ∷ [])
 
 -- "model not listed (at the model)"
@@ -68,11 +68,11 @@ modelRule d m =
 
 -- ---- maps, pins and sections
 
-unfoldable pub mapRule : Document → Map → ℕ
-mapRule d m = firstBroken (19 when isTwice (map mapName (d .maps)) (mapName m) ∷ [])
+unfoldable pub mapNameRule : Document → Map → ℕ
+mapNameRule d m = firstBroken (19 when isTwice (map mapName (d .maps)) (mapName m) ∷ [])
 
-unfoldable pub pinRule : Map → Named → ℕ
-pinRule m p = firstBroken (19 when isTwice (m .pins) p ∷ [])
+unfoldable pub pinNameRule : Map → Named → ℕ
+pinNameRule m p = firstBroken (19 when isTwice (m .pins) p ∷ [])
 
 -- a step uses the first section of its name
 unfoldable pub uses : Document → ℕ → Step → Bool
@@ -185,7 +185,7 @@ stepRule d m s =
 -- what a line breaks, 0 for nothing, is a `Finding`
 
 unfoldable pub listFindings : Document → List Finding
-listFindings d = map (λ (n : Named). record { number = listRule d n; line = n .line }) (d .listed)
+listFindings d = map (λ (n : Named). record { number = listNameRule d n; line = n .line }) (d .listed)
 
 unfoldable pub stepFindings : Document → Model → List Finding
 stepFindings d m = map (λ (s : Step). record { number = stepRule d m s; line = s .line }) (m .steps)
@@ -195,11 +195,11 @@ modelFindings d [] = []
 modelFindings d (m ∷ ms) = record { number = modelRule d m; line = m .line } ∷ (stepFindings d m ++ modelFindings d ms)
 
 unfoldable pub pinFindings : Map → List Finding
-pinFindings m = map (λ (p : Named). record { number = pinRule m p; line = p .line }) (m .pins)
+pinFindings m = map (λ (p : Named). record { number = pinNameRule m p; line = p .line }) (m .pins)
 
 unfoldable pub mapFindings : Document → List Map → List Finding
 mapFindings d [] = []
-mapFindings d (m ∷ ms) = record { number = mapRule d m; line = m .line } ∷ (pinFindings m ++ mapFindings d ms)
+mapFindings d (m ∷ ms) = record { number = mapNameRule d m; line = m .line } ∷ (pinFindings m ++ mapFindings d ms)
 
 unfoldable pub sectionFindings : Document → ℕ → List Section → List Finding
 sectionFindings d i [] = []
@@ -212,11 +212,11 @@ findings d = listFindings d ++ (modelFindings d (d .models) ++ (mapFindings d (d
 unfoldable pub earlier : Finding → Finding → Finding
 earlier a b = if eqb (a .number) 0 then b else if eqb (b .number) 0 then a else if ltb (b .line) (a .line) then b else a
 
-unfoldable pub nothing : Finding
-nothing = record { number = 0; line = 0 }
+unfoldable pub noFinding : Finding
+noFinding = record { number = 0; line = 0 }
 
 unfoldable pub earliest : List Finding → Finding
-earliest [] = nothing
+earliest [] = noFinding
 earliest (f ∷ fs) = earlier f (earliest fs)
 
 -- what the document breaks first in the group 19 to 27

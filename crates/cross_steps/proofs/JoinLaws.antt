@@ -59,7 +59,7 @@ use Rattle.cross_rules.specs.Rules.{
   sectionStepRule,
   stepRule,
 }
-use Rattle.cross_rules.specs.Way.Filled.{Filled}
+use Rattle.cross_rules.specs.Way.Filled.{HoldsText}
 use Rattle.cross_rules.proofs.RisingLaws.{each-at}
 use Rattle.cross_rules.proofs.OrderLaws.{Ordered}
 use Rattle.cross_rules.proofs.TwiceLaws.{meets, clashing-above}
@@ -100,7 +100,7 @@ pub record Tells (table : List ℕ) (v : View) (d : Document) : Type 0 where
   pub many-matrices : getD (v .counts) matrices 0 ≡ length (matricesOf (d .sections))
   pub right : Each RightSection (d .sections)
 
-module _ (t table : List ℕ) (filled : Filled t table) where
+module _ (t table : List ℕ) (filled : HoldsText t table) where
   pub table-tells : Tells table (viewOf table) (documentOf t)
   unfolding partsOf flatten
   table-tells =

@@ -14,7 +14,7 @@ use Rattle.base.specs.If.{if_then_else_, either}
 use Rattle.base.proofs.IfLaws.{if-true, if-false, by-cases, by-test}
 use Rattle.line_matrix.specs.Matrix.{diagonal}
 use Rattle.doc.specs.Document.{Map, Matrix, Section, conductorsOf}
-use Rattle.doc.specs.Records.{mapRecord, mapRecords, mapWords, placeOf, sectionRecord, sectionRecords, sectionWords, matricesOf, matrixRecord, matrixRecords, matrixWords}
+use Rattle.doc.specs.Records.{mapRecord, mapRecords, mapWords, indexOfKind, sectionRecord, sectionRecords, sectionWords, matricesOf, matrixRecord, matrixRecords, matrixWords}
 use Rattle.doc.specs.Holds.{Each}
 use Rattle.doc.specs.Holds as holds
 use Rattle.doc.proofs.SectionLaws.{RightSection}
@@ -102,15 +102,15 @@ pub data OrMore (low : ℕ) : ℕ → Type 0 where
   lacks : OrMore low 0
   stands : {n : ℕ} → low ≤ n → OrMore low n
 
-place-low : (kind low first : ℕ) (ms : List Matrix) → low ≤ first + 1 → OrMore low (placeOf kind first ms)
-unfolding placeOf
+place-low : (kind low first : ℕ) (ms : List Matrix) → low ≤ first + 1 → OrMore low (indexOfKind kind first ms)
+unfolding indexOfKind
 place-low kind low first [] h = lacks
 place-low kind low first (m ∷ ms) h =
     by-test (OrMore low) (eqb (m .kind) kind) _ _ (λ (e : eqb (m .kind) kind ≡ true). stands h)
     (λ (e : eqb (m .kind) kind ≡ false). place-low kind low (first + 1) ms (omega arith))
 
-place-first : (kind first : ℕ) (m : Matrix) (ms : List Matrix) → m .kind ≡ kind → placeOf kind first (m ∷ ms) ≡ first + 1
-unfolding placeOf
+place-first : (kind first : ℕ) (m : Matrix) (ms : List Matrix) → m .kind ≡ kind → indexOfKind kind first (m ∷ ms) ≡ first + 1
+unfolding indexOfKind
 place-first kind first m ms e = if-true _ _ (eq-eqb _ _ e)
 
 zero-low : {low n : ℕ} → low ≤ n → n ≡ 0 → low ≡ 0
@@ -170,7 +170,7 @@ module _ (low : ℕ) where
 -- the first matrix has one of the four kinds
 module _ (first : ℕ) (m : Matrix) (ms : List Matrix) (known : m .kind ≤ 3) where
   abbrev word : ℕ → ℕ
-  word kind = placeOf kind first (m ∷ ms)
+  word kind = indexOfKind kind first (m ∷ ms)
 
   low : (kind : ℕ) → OrMore (first + 1) (word kind)
   low kind = place-low kind (first + 1) first (m ∷ ms) (le-refl (first + 1))
@@ -199,7 +199,7 @@ module _ (first : ℕ) (m : Matrix) (ms : List Matrix) (known : m .kind ≤ 3) w
       last e f g = omega (arith, known)
 
 least-of : (first : ℕ) (ms : List Matrix) {n : ℕ} → 1 ≤ length ms → Each (RightMatrix n) ms →
-    least (first + 1) (placeOf 0 first ms) (placeOf 1 first ms) (placeOf 2 first ms) (placeOf 3 first ms) ≡ first + 1
+    least (first + 1) (indexOfKind 0 first ms) (indexOfKind 1 first ms) (indexOfKind 2 first ms) (indexOfKind 3 first ms) ≡ first + 1
 least-of first [] h holds.Each.none = absurd (not-suc-le-zero h)
 least-of first (m ∷ ms) h (holds.Each.more r rs) = least-is first m ms (r .kind)
 

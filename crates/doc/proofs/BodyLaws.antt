@@ -55,7 +55,7 @@ use Rattle.line_matrix.specs.Matrix.{
   dataLineOf,
   dataRule,
   dataNext,
-  conductorsOf,
+  shapeConductors,
 }
 use Rattle.line_keyword.specs.declared.State.{State}
 use Rattle.line_keyword.proofs.InsideLaws.{opens-closes}
@@ -160,7 +160,7 @@ module _ (k : ℕ) (argument : List ℕ) (s : State) (kept : keywordRule k argum
           sym (both-rest _ _ (eq-eqb _ _ p) ∙ both-rest _ _ (not-via closes)) ∙ either-none-first _ _ (test-kept 6)
 
       pub keyword-closes :
-          Closed (s .section .conductors) (conductorsOf (s .matrix) (s .counts .values)) (s .matrix) (s .counts .values)
+          Closed (s .section .conductors) (shapeConductors (s .matrix) (s .counts .values)) (s .matrix) (s .counts .values)
       keyword-closes = closed-told (s .section .conductors) (s .matrix) (s .counts .values) shape-kept wide-kept
 
 -- [Row]
@@ -266,13 +266,13 @@ module _ (k : ℕ) (opens : opensMatrix k ≡ true) where
       unfolding keywordNext moved inMatrix
       next-place = if-true _ _ (eq-eqb _ _ p) ∙ if-false _ _ (opens-closes k opens) ∙ open-leads
 
-      next-conductors : conductorsAfter k s ≡ conductorsOf (s .matrix) (s .counts .values)
+      next-conductors : conductorsAfter k s ≡ shapeConductors (s .matrix) (s .counts .values)
       unfolding conductorsAfter
       next-conductors = if-false _ _ (not-not-via (eq-eqb _ _ p)) ∙ if-false _ _ (opens-closes k opens)
 
       -- in the place of a matrix, which it closes
       pub next-onward :
-          Onward (keywordNext k argument s) (conductorsOf (s .matrix) (s .counts .values))
+          Onward (keywordNext k argument s) (shapeConductors (s .matrix) (s .counts .values))
           (newMatrix (formOf argument) (s .counts .values)) (s .counts .values)
       next-onward =
           record { place = next-place; conductors = open-conductors ∙ next-conductors; matrix = open-matrix; values = open-values }

@@ -14,7 +14,7 @@ use Rattle.lex_keyword.specs.Names.{icmPinMap, beginHeader, beginIcmModel, begi
 use Rattle.line_place.specs.Place.{isInHeader, isInFamily, isInModel, opensMatrix, moved}
 use Rattle.line_place.specs.Place as place
 use Rattle.line_argument.specs.Argument.{formOf}
-use Rattle.line_path.specs.Path.{pathLineOf, isStep}
+use Rattle.line_path.specs.Path.{pathLineOf, isStepLine}
 use Rattle.line_path.specs.Path as path
 use Rattle.line_keyword.specs.Keywords.{isMisplaced, oneMoreIf, countsAfter, keywordRule, keywordNext}
 use Rattle.line_keyword.specs.State.{startState, noCounts}
@@ -238,22 +238,22 @@ unfolding pinAt standsIn lineNext countsAfterLine keywordNext countsAfter
 pins-counted =
     record {
       idly = λ l s e i after.
-          if-false _ _ (both-not-left _ _ (idle-outside (λ (p : ℕ). eqb p place.pins) refl refl l s e i));
+          if-false _ _ (both-not-left _ _ (idle-outside (λ (p : ℕ). eqb p place.pinList) refl refl l s e i));
       plainly = λ l s e k h after.
-          one-added (s .counts .pins) _ (eqb (s .place) place.pins) (standsIn place.pins l)
-          (ap (λ (p : ℕ). eqb p place.pins) (sym e) ∙ pins-plain l k);
+          one-added (s .counts .pins) _ (eqb (s .place) place.pinList) (standsIn place.pinList l)
+          (ap (λ (p : ℕ). eqb p place.pinList) (sym e) ∙ pins-plain l k);
       keyed = λ l s e k p after.
-          none-added (s .counts .pins) _ (standsIn place.pins l) (both-not-right _ _ k);
+          none-added (s .counts .pins) _ (standsIn place.pinList l) (both-not-right _ _ k);
     }
   where
-    pins-plain : (l : Line) → keyOf l ≡ plain → eqb (l .place) place.pins ≡ both (eqb (l .place) place.pins) (eqb (keyOf l) plain)
+    pins-plain : (l : Line) → keyOf l ≡ plain → eqb (l .place) place.pinList ≡ both (eqb (l .place) place.pinList) (eqb (keyOf l) plain)
     pins-plain l k = both-with _ _ (eq-eqb (keyOf l) plain k)
 
 -- ---- steps
 
 module _ (l : Line) (s : State) (e : l .place ≡ s .place) (k : keyOf l ≡ plain) (h : lineRule (l .content) s ≡ 0) (after : List Line) where
   steps-in-path : s .place ≡ place.path → lineNext (l .content) s .counts .steps ≡ s .counts .steps + length (stepOf l after)
-  unfolding lineNext countsAfterLine isStep
+  unfolding lineNext countsAfterLine isStepLine
   steps-in-path there =
       let says : sayingAt l ≡ pathLineOf (l .content) .says = saying-there l (e ∙ there) k in
       ap (λ (b : Bool). oneMoreIf b (s .counts .steps)) (both-rest _ _ (eq-eqb (s .place) place.path there))

@@ -49,7 +49,7 @@ use Rattle.doc.specs.Document.{
   documentOf,
 }
 use Rattle.doc.specs.Holds.{Each}
-use Rattle.doc.specs.Way.Holds.{depthHolds}
+use Rattle.doc.specs.Way.Holds.{depthOfSteps}
 use Rattle.doc.proofs.Goes.{Moves, idle, plainly, keyed, Goes, none, more, MetBy, AllMet, Ends, idle-outside, text-ends}
 use Rattle.doc.proofs.BlockLaws.{gather-none, gather-more, up-to-none, up-to-in, up-to-out}
 use Rattle.doc.proofs.StepLaws.{saying-there, saying-elsewhere, saying-keyed, path-ruled}
@@ -60,41 +60,41 @@ use Rattle.doc.proofs.StepLaws.{saying-there, saying-elsewhere, saying-
 module _ (l : Line) (after : List Line) (d d' : ℕ) (rest : List Step) where
   said-deep :
       (sayingAt l ≡ path.fork → (d < deepest) × (d' ≡ d + 1)) → (sayingAt l ≡ path.endfork → d' + 1 ≡ d) →
-      ((sayingAt l ≡ path.fork → ⊥) → (sayingAt l ≡ path.endfork → ⊥) → d' ≡ d) → depthHolds d' rest ≡ true →
-      depthHolds d (stepOf l after ++ rest) ≡ true
-  unfolding stepOf depthHolds if_then_else_
+      ((sayingAt l ≡ path.fork → ⊥) → (sayingAt l ≡ path.endfork → ⊥) → d' ≡ d) → depthOfSteps d' rest ≡ true →
+      depthOfSteps d (stepOf l after ++ rest) ≡ true
+  unfolding stepOf depthOfSteps if_then_else_
   said-deep forks endforks others h =
-      by-test (λ (xs : List Step). depthHolds d (xs ++ rest) ≡ true) (eqb (sayingAt l) path.end) _ _
+      by-test (λ (xs : List Step). depthOfSteps d (xs ++ rest) ≡ true) (eqb (sayingAt l) path.end) _ _
       (λ (a : eqb (sayingAt l) path.end ≡ true).
       stays path.end (eqb-true _ _ a) (λ (z : path.end ≡ path.fork). omega arith) (λ (z : path.end ≡ path.endfork). omega arith))
       (λ (a : eqb (sayingAt l) path.end ≡ false).
-      by-test (λ (xs : List Step). depthHolds d (xs ++ rest) ≡ true) (eqb (sayingAt l) path.section) _ _
+      by-test (λ (xs : List Step). depthOfSteps d (xs ++ rest) ≡ true) (eqb (sayingAt l) path.section) _ _
       (λ (b : eqb (sayingAt l) path.section ≡ true).
       stays path.section (eqb-true _ _ b) (λ (z : path.section ≡ path.fork). omega arith) (λ (z : path.section ≡ path.endfork). omega arith))
       (λ (b : eqb (sayingAt l) path.section ≡ false).
-      by-test (λ (xs : List Step). depthHolds d (xs ++ rest) ≡ true) (eqb (sayingAt l) path.fork) _ _
+      by-test (λ (xs : List Step). depthOfSteps d (xs ++ rest) ≡ true) (eqb (sayingAt l) path.fork) _ _
       (λ (c : eqb (sayingAt l) path.fork ≡ true).
       let f : (d < deepest) × (d' ≡ d + 1) = forks (eqb-true _ _ c) in
       both-true _ _ (lt-ltb d deepest (f .0)) (rw (f .1) at h))
       (λ (c : eqb (sayingAt l) path.fork ≡ false).
-      by-test (λ (xs : List Step). depthHolds d (xs ++ rest) ≡ true) (eqb (sayingAt l) path.endfork) _ _
+      by-test (λ (xs : List Step). depthOfSteps d (xs ++ rest) ≡ true) (eqb (sayingAt l) path.endfork) _ _
       (λ (f : eqb (sayingAt l) path.endfork ≡ true).
       let g : d' + 1 ≡ d = endforks (eqb-true _ _ f) in
       let k : d' ≡ d - 1 = omega arith in
       both-true _ _ (lt-ltb 0 d (omega arith)) (rw k at h))
       (λ (f : eqb (sayingAt l) path.endfork ≡ false). rw (others (eqb-false _ _ c) (eqb-false _ _ f)) at h))))
     where
-      stays : (v : ℕ) → sayingAt l ≡ v → (v ≡ path.fork → ⊥) → (v ≡ path.endfork → ⊥) → depthHolds d rest ≡ true
+      stays : (v : ℕ) → sayingAt l ≡ v → (v ≡ path.fork → ⊥) → (v ≡ path.endfork → ⊥) → depthOfSteps d rest ≡ true
       stays v e n m =
           rw (others (λ (z : sayingAt l ≡ path.fork). n (sym e ∙ z)) (λ (z : sayingAt l ≡ path.endfork). m (sym e ∙ z))) at h
 
 -- a line that gives no step, where the depth stays
 silent-deep :
-    (l : Line) (after : List Line) (d d' : ℕ) (rest : List Step) → sayingAt l ≡ path.nothing → d' ≡ d → depthHolds d' rest ≡ true →
-    depthHolds d (stepOf l after ++ rest) ≡ true
+    (l : Line) (after : List Line) (d d' : ℕ) (rest : List Step) → sayingAt l ≡ path.saysNothing → d' ≡ d → depthOfSteps d' rest ≡ true →
+    depthOfSteps d (stepOf l after ++ rest) ≡ true
 silent-deep l after d d' rest e k h =
-    said-deep l after d d' rest (λ (z : sayingAt l ≡ path.fork). let f : path.nothing ≡ path.fork = sym e ∙ z in absurd (omega arith))
-    (λ (z : sayingAt l ≡ path.endfork). let f : path.nothing ≡ path.endfork = sym e ∙ z in absurd (omega arith))
+    said-deep l after d d' rest (λ (z : sayingAt l ≡ path.fork). let f : path.saysNothing ≡ path.fork = sym e ∙ z in absurd (omega arith))
+    (λ (z : sayingAt l ≡ path.endfork). let f : path.saysNothing ≡ path.endfork = sym e ∙ z in absurd (omega arith))
     (λ (n : sayingAt l ≡ path.fork → ⊥) (m : sayingAt l ≡ path.endfork → ⊥). k) h
 
 -- ---- one line of a text
@@ -111,7 +111,7 @@ path-same content s t = if-false _ _ t
 module _ (l : Line) (after : List Line) (s : State) (e : l .place ≡ s .place) (rest : List Step) where
   path-deep :
       keyOf l ≡ plain → lineRule (l .content) s ≡ 0 → eqb (s .place) place.path ≡ true →
-      depthHolds (lineNext (l .content) s .path .depth) rest ≡ true → depthHolds (s .path .depth) (stepOf l after ++ rest) ≡ true
+      depthOfSteps (lineNext (l .content) s .path .depth) rest ≡ true → depthOfSteps (s .path .depth) (stepOf l after ++ rest) ≡ true
   path-deep k h t deep =
       let there : s .place ≡ place.path = eqb-true _ _ t in
       let says : sayingAt l ≡ pathLineOf (l .content) .says = saying-there l (e ∙ there) k in
@@ -130,8 +130,8 @@ module _ (l : Line) (after : List Line) (s : State) (e : l .place ≡ s .place) 
       (rw next at deep)
 
   line-deep :
-      keyOf l ≡ plain → lineRule (l .content) s ≡ 0 → depthHolds (lineNext (l .content) s .path .depth) rest ≡ true →
-      depthHolds (s .path .depth) (stepOf l after ++ rest) ≡ true
+      keyOf l ≡ plain → lineRule (l .content) s ≡ 0 → depthOfSteps (lineNext (l .content) s .path .depth) rest ≡ true →
+      depthOfSteps (s .path .depth) (stepOf l after ++ rest) ≡ true
   line-deep k h deep =
       by-cases _ (eqb (s .place) place.path) (λ (t : eqb (s .place) place.path ≡ true). path-deep k h t deep)
       (λ (t : eqb (s .place) place.path ≡ false).
@@ -155,8 +155,8 @@ module _ (l : Line) (s : State) (e : l .place ≡ s .place) (out : Outside s) wh
   moves-outside s' (keyed k h) met = keyword-outside (keyOf l) (argumentOf l .text) s met out h
 
   moves-deep :
-      (s' : State) → Moves l s s' → (after : List Line) (rest : List Step) → depthHolds (s' .path .depth) rest ≡ true →
-      depthHolds (s .path .depth) (stepOf l after ++ rest) ≡ true
+      (s' : State) → Moves l s s' → (after : List Line) (rest : List Step) → depthOfSteps (s' .path .depth) rest ≡ true →
+      depthOfSteps (s .path .depth) (stepOf l after ++ rest) ≡ true
   moves-deep s' (idle i) after rest deep =
       silent-deep l after (s .path .depth) (s .path .depth) rest
       (saying-elsewhere l (eqb-false _ _ (idle-outside (λ (p : ℕ). eqb p place.path) refl refl l s e i))) refl deep
@@ -182,9 +182,9 @@ steps-more : (l : Line) (ls : List Line) → stepsIn (l ∷ ls) ≡ stepOf l ls 
 unfolding stepsIn
 steps-more l ls = gather-more stepOf l ls
 
-flat-none : (d : ℕ) → d ≡ 0 → depthHolds d (stepsIn []) ≡ true
-unfolding depthHolds
-flat-none d e = ap (depthHolds d) steps-none ∙ eq-eqb _ _ e
+flat-none : (d : ℕ) → d ≡ 0 → depthOfSteps d (stepsIn []) ≡ true
+unfolding depthOfSteps
+flat-none d e = ap (depthOfSteps d) steps-none ∙ eq-eqb _ _ e
 
 outside-flat : (l : Line) (s : State) → l .place ≡ s .place → Outside s → inModel l ≡ false → s .path .depth ≡ 0
 unfolding inModel isInModel
@@ -194,29 +194,29 @@ outside-flat l s e out t =
 -- what is left of a model, the forks that are open being as many as the state has
 model-deep :
     {s e : State} (ls : List Line) (g : Goes s ls e) → AllMet g → Outside s → e .place ≡ place.done →
-    depthHolds (s .path .depth) (stepsIn (upTo inModel ls)) ≡ true
+    depthOfSteps (s .path .depth) (stepsIn (upTo inModel ls)) ≡ true
 model-deep {s} [] none met out end =
-    ap (λ (ms : List Line). depthHolds (s .path .depth) (stepsIn ms)) (up-to-none inModel)
+    ap (λ (ms : List Line). depthOfSteps (s .path .depth) (stepsIn ms)) (up-to-none inModel)
     ∙ flat-none _ (out .flat (λ (z : s .place ≡ place.path). let k : place.done ≡ place.path = sym end ∙ z in omega arith))
 model-deep {s} (l ∷ ls) (more {s' = s'} p b m g) met out end =
     by-cases _ (inModel l)
     (λ (t : inModel l ≡ true).
-    ap (λ (ms : List Line). depthHolds (s .path .depth) (stepsIn ms)) (up-to-in inModel l ls t)
-    ∙ ap (depthHolds (s .path .depth)) (steps-more l (upTo inModel ls))
+    ap (λ (ms : List Line). depthOfSteps (s .path .depth) (stepsIn ms)) (up-to-in inModel l ls t)
+    ∙ ap (depthOfSteps (s .path .depth)) (steps-more l (upTo inModel ls))
     ∙ moves-deep l s p out s' m (upTo inModel ls) (stepsIn (upTo inModel ls))
     (model-deep ls g (met .1) (moves-outside l s p out s' m (met .0)) end))
     (λ (t : inModel l ≡ false).
-    ap (λ (ms : List Line). depthHolds (s .path .depth) (stepsIn ms)) (up-to-out inModel l ls t) ∙ flat-none _ (outside-flat l s p out t))
+    ap (λ (ms : List Line). depthOfSteps (s .path .depth) (stepsIn ms)) (up-to-out inModel l ls t) ∙ flat-none _ (outside-flat l s p out t))
 
 abbrev Deep : Model → Type 0
-Deep m = depthHolds 0 (m .steps) ≡ true
+Deep m = depthOfSteps 0 (m .steps) ≡ true
 
 each-append : {A : Type 0} {P : A → Type 0} (xs ys : List A) → Each P xs → Each P ys → Each P (xs ++ ys)
 each-append [] ys Each.none h = h
 each-append (x ∷ xs) ys (Each.more p ps) h = Each.more p (each-append xs ys ps h)
 
 opened-deep :
-    (l : Line) (ls : List Line) → (opensModel l ≡ true → depthHolds 0 (stepsIn (upTo inModel ls)) ≡ true) → Each Deep (modelAt l ls)
+    (l : Line) (ls : List Line) → (opensModel l ≡ true → depthOfSteps 0 (stepsIn (upTo inModel ls)) ≡ true) → Each Deep (modelAt l ls)
 unfolding modelAt modelOf
 opened-deep l ls h =
     by-test (λ (ms : List Model). Each Deep ms) (opensModel l) _ _ (λ (t : opensModel l ≡ true). Each.more (h t) Each.none)
@@ -234,7 +234,7 @@ models-deep {s} (l ∷ ls) (more {s' = s'} p b m g) met out end =
 
 -- "each model's depth stays 0 to 8 and ends at 0"
 pub read-deep :
-    (t : List ℕ) (c : Counts) → readingOf t ≡ Read c → Each (λ (m : Model). depthHolds 0 (m .steps) ≡ true) (documentOf t .models)
+    (t : List ℕ) (c : Counts) → readingOf t ≡ Read c → Each (λ (m : Model). depthOfSteps 0 (m .steps) ≡ true) (documentOf t .models)
 unfolding documentOf documentIn
 read-deep t c h =
     let ends : Ends startState (significant t) c = text-ends t c h in

@@ -23,7 +23,7 @@ use Rattle.line_keyword.specs.State.{startState}
 use Rattle.line_keyword.specs.Keywords.{keywordRule, keywordNext}
 use Rattle.line_keyword.specs.declared.Counts.{Counts}
 use Rattle.line_keyword.specs.declared.State.{State}
-use Rattle.read_line.specs.Reading.{lineRule, lineNext, argumentFrom, goes, breaks, judged, lineStep, keywordStep, bracketStep, beforeStep, stepOf, onward, run, atEnd, readingOf, commentByte}
+use Rattle.read_line.specs.Reading.{lineRule, lineNext, argumentFrom, goes, breaks, judged, lineStep, keywordStep, bracketStep, beforeStep, lineResult, onward, readFrom, atEnd, readingOf, commentByte}
 use Rattle.read_line.proofs.OutsideLaws.{Met}
 use Rattle.read_line.specs.declared.Step.{Step}
 use Rattle.read_line.specs.declared.Reading.{Reading}
@@ -69,7 +69,7 @@ pub record Moved (l : Line) (s : State) : Type 0 where
   pub next : State
   pub moves : Moves l s next
   pub met : MetBy moves
-  pub is-next : stepOf (l .content) s .state ≡ next
+  pub is-next : lineResult (l .content) s .state ≡ next
 
 judged-zero : (k : ℕ) (next s : State) → judged k next s .number ≡ 0 → k ≡ 0
 unfolding judged breaks
@@ -97,7 +97,7 @@ module _ (l : Line) (s : State) where
         let h : k < 40 = keyword-known k start (l .content) b .known in
         ne-eqb _ _ (λ (e : keyOf l ≡ plain). let z : k ≡ 41 = sym key-is ∙ e in omega arith)
 
-    by-keyword : Met k s → keywordStep k (argumentFrom (l .content) start) s .number ≡ 0 → stepOf (l .content) s ≡ keywordStep k (argumentFrom (l .content) start) s → Moved l s
+    by-keyword : Met k s → keywordStep k (argumentFrom (l .content) start) s .number ≡ 0 → lineResult (l .content) s ≡ keywordStep k (argumentFrom (l .content) start) s → Moved l s
     unfolding keywordStep
     by-keyword met h e =
         let z : keywordRule k (argumentFrom (l .content) start) s ≡ 0 = judged-zero _ _ _ h in
@@ -109,14 +109,14 @@ module _ (l : Line) (s : State) where
           is-next = ap (λ (x : Step). x .state) e ∙ judged-next _ _ _ z ∙ (λ i. keywordNext (sym key-is i) (sym argument-is i) s);
         }
 
-  by-line : keyOf l ≡ plain → lineStep (l .content) s .number ≡ 0 → stepOf (l .content) s ≡ lineStep (l .content) s → Moved l s
+  by-line : keyOf l ≡ plain → lineStep (l .content) s .number ≡ 0 → lineResult (l .content) s ≡ lineStep (l .content) s → Moved l s
   unfolding lineStep
   by-line k h e =
       let z : lineRule (l .content) s ≡ 0 = judged-zero _ _ _ h in
       record { next = lineNext (l .content) s; moves = plainly k z; met = tt; is-next = ap (λ (x : Step). x .state) e ∙ judged-next _ _ _ z }
 
   -- by what its bracket says, in a place that reads lines
-  read-moved : ((k : ℕ) → Met k s) → (b : Bracket) → bracketOf (l .content) ≡ b → stepOf (l .content) s ≡ bracketStep b (l .content) s → bracketStep b (l .content) s .number ≡ 0 → Moved l s
+  read-moved : ((k : ℕ) → Met k s) → (b : Bracket) → bracketOf (l .content) ≡ b → lineResult (l .content) s ≡ bracketStep b (l .content) s → bracketStep b (l .content) s .number ≡ 0 → Moved l s
   unfolding breaks keyOf keyAt
   read-moved met Plain b e h = by-line (ap keyIn b) h e
   read-moved met Indented b e h =
@@ -132,14 +132,14 @@ module _ (l : Line) (s : State) where
   early-met : (k : ℕ) → k ≡ beginHeader → s .place ≡ before → Met k s
   early-met k e p = record { on = λ (d : s .place ≡ done). omega arith; first = λ (b : s .place ≡ before). e }
 
-  passed-over : s .place ≡ before → eqb (keyOf l) beginHeader ≡ false → stepOf (l .content) s ≡ goes s → Moved l s
+  passed-over : s .place ≡ before → eqb (keyOf l) beginHeader ≡ false → lineResult (l .content) s ≡ goes s → Moved l s
   unfolding goes
   passed-over p k e = record { next = s; moves = idle (waits p k); met = tt; is-next = ap (λ (y : Step). y .state) e }
 
   not-header : (k : ℕ) → keyOf l ≡ k → (k ≡ beginHeader → ⊥) → eqb (keyOf l) beginHeader ≡ false
   not-header k e h = ne-eqb _ _ (λ (x : keyOf l ≡ beginHeader). h (sym e ∙ x))
 
-  early-moved : (b : Bracket) → bracketOf (l .content) ≡ b → s .place ≡ before → stepOf (l .content) s ≡ beforeStep b (l .content) s → beforeStep b (l .content) s .number ≡ 0 → Moved l s
+  early-moved : (b : Bracket) → bracketOf (l .content) ≡ b → s .place ≡ before → lineResult (l .content) s ≡ beforeStep b (l .content) s → beforeStep b (l .content) s .number ≡ 0 → Moved l s
   unfolding keyOf keyAt
   early-moved Plain b p e h = passed-over p (not-header 41 (ap keyIn b) (λ (x : 41 ≡ 15). omega arith)) e
   early-moved Indented b p e h = passed-over p (not-header 41 (ap keyIn b) (λ (x : 41 ≡ 15). omega arith)) e
@@ -151,18 +151,18 @@ module _ (l : Line) (s : State) where
       (λ (t : eqb k beginHeader ≡ true). let x : beforeStep (Keyword k start) (l .content) s ≡ keywordStep k (argumentFrom (l .content) start) s = if-true _ _ t in by-keyword k start b (early-met k (eqb-true _ _ t) p) (ap (λ (y : Step). y .number) (sym x) ∙ h) (e ∙ x))
       (λ (t : eqb k beginHeader ≡ false). let x : beforeStep (Keyword k start) (l .content) s ≡ goes s = if-false _ _ t in passed-over p (not-header k (ap keyIn b) (eqb-false _ _ t)) (e ∙ x))
 
-  pub line-moves : isBlankLine (l .content) ≡ false → stepOf (l .content) s .number ≡ 0 → Moved l s
-  unfolding stepOf goes
+  pub line-moves : isBlankLine (l .content) ≡ false → lineResult (l .content) s .number ≡ 0 → Moved l s
+  unfolding lineResult goes
   line-moves blank h =
       by-cases (Moved l s) (eqb (s .place) done)
       (λ (d : eqb (s .place) done ≡ true). record { next = s; moves = idle (ended (eqb-true _ _ d)); met = tt; is-next = ap (λ (y : Step). y .state) (if-false _ _ blank ∙ if-true _ _ d) })
       (λ (d : eqb (s .place) done ≡ false).
       by-cases (Moved l s) (eqb (s .place) before)
       (λ (p : eqb (s .place) before ≡ true).
-      let x : stepOf (l .content) s ≡ beforeStep (bracketOf (l .content)) (l .content) s = if-false _ _ blank ∙ if-false _ _ d ∙ if-true _ _ p in
+      let x : lineResult (l .content) s ≡ beforeStep (bracketOf (l .content)) (l .content) s = if-false _ _ blank ∙ if-false _ _ d ∙ if-true _ _ p in
       early-moved (bracketOf (l .content)) refl (eqb-true _ _ p) x (ap (λ (y : Step). y .number) (sym x) ∙ h))
       (λ (p : eqb (s .place) before ≡ false).
-      let x : stepOf (l .content) s ≡ bracketStep (bracketOf (l .content)) (l .content) s = if-false _ _ blank ∙ if-false _ _ d ∙ if-false _ _ p in
+      let x : lineResult (l .content) s ≡ bracketStep (bracketOf (l .content)) (l .content) s = if-false _ _ blank ∙ if-false _ _ d ∙ if-false _ _ p in
       read-moved (λ (k : ℕ). record { on = eqb-false _ _ d; first = λ (f : s .place ≡ before). absurd (eqb-false _ _ p f) }) (bracketOf (l .content)) refl x (ap (λ (y : Step). y .number) (sym x) ∙ h)))
 
 -- ---- places
@@ -207,15 +207,15 @@ refused-not-read k n c e =
     omega arith
 
 pub record Onward (n : ℕ) (r : Raw) (rs : List Raw) (s : State) (c : Counts) : Type 0 where
-  pub kept : stepOf (contentOf commentByte (r .bytes)) s .number ≡ 0
-  pub rest : run (n + 1) rs (stepOf (contentOf commentByte (r .bytes)) s .state) ≡ Read c
+  pub kept : lineResult (contentOf commentByte (r .bytes)) s .number ≡ 0
+  pub rest : readFrom (n + 1) rs (lineResult (contentOf commentByte (r .bytes)) s .state) ≡ Read c
 
-run-on : (n : ℕ) (r : Raw) (rs : List Raw) (s : State) (c : Counts) → run n (r ∷ rs) s ≡ Read c → Onward n r rs s c
-unfolding run onward
+run-on : (n : ℕ) (r : Raw) (rs : List Raw) (s : State) (c : Counts) → readFrom n (r ∷ rs) s ≡ Read c → Onward n r rs s c
+unfolding readFrom onward
 run-on n r rs s c h =
-    by-cases (Onward n r rs s c) (eqb (stepOf (contentOf commentByte (r .bytes)) s .number) 0)
-    (λ (e : eqb (stepOf (contentOf commentByte (r .bytes)) s .number) 0 ≡ true). record { kept = eqb-true _ _ e; rest = sym (if-true _ _ e) ∙ h })
-    (λ (e : eqb (stepOf (contentOf commentByte (r .bytes)) s .number) 0 ≡ false). absurd (refused-not-read _ _ c (sym (if-false _ _ e) ∙ h)))
+    by-cases (Onward n r rs s c) (eqb (lineResult (contentOf commentByte (r .bytes)) s .number) 0)
+    (λ (e : eqb (lineResult (contentOf commentByte (r .bytes)) s .number) 0 ≡ true). record { kept = eqb-true _ _ e; rest = sym (if-true _ _ e) ∙ h })
+    (λ (e : eqb (lineResult (contentOf commentByte (r .bytes)) s .number) 0 ≡ false). absurd (refused-not-read _ _ c (sym (if-false _ _ e) ∙ h)))
 
 end-done : (s : State) (c : Counts) → atEnd s ≡ Read c → (s .place ≡ done) × (s .counts ≡ c)
 unfolding atEnd
@@ -230,8 +230,8 @@ end-done s c h =
     read-same : (a b : Counts) → Read a ≡ Read b → a ≡ b
     read-same a b e = cc
 
-blank-goes : (content : List ℕ) (s : State) → isBlankLine content ≡ true → stepOf content s .state ≡ s
-unfolding stepOf goes
+blank-goes : (content : List ℕ) (s : State) → isBlankLine content ≡ true → lineResult content s .state ≡ s
+unfolding lineResult goes
 blank-goes content s e = ap (λ (y : Step). y .state) (if-true _ _ e)
 
 -- one line more in front
@@ -255,24 +255,24 @@ pub lines-none : (n at p : ℕ) → linesFrom n at p [] ≡ []
 unfolding linesFrom
 lines-none n at p = refl
 
-run-none : (n : ℕ) (s : State) → run n [] s ≡ atEnd s
-unfolding run
+run-none : (n : ℕ) (s : State) → readFrom n [] s ≡ atEnd s
+unfolding readFrom
 run-none n s = refl
 
-ends-none : (n at : ℕ) (s : State) (c : Counts) → run n [] s ≡ Read c → Ends s (linesFrom n at (s .place) []) c
+ends-none : (n at : ℕ) (s : State) (c : Counts) → readFrom n [] s ≡ Read c → Ends s (linesFrom n at (s .place) []) c
 ends-none n at s c h =
     let e : (s .place ≡ done) × (s .counts ≡ c) = end-done s c (sym (run-none n s) ∙ h) in
     rw (lines-none n at (s .place)) (record { end = s; goes = none; met = tt; done = e .0; counts = e .1 })
 
 module _ (n at : ℕ) (r : Raw) (rs : List Raw) (s : State) (c : Counts) (o : Onward n r rs s c) where
-  ends-blank : isBlankLine (contentOf commentByte (r .bytes)) ≡ true → (run (n + 1) rs s ≡ Read c → Ends s (linesFrom (n + 1) (at + length (r .bytes) + 1) (s .place) rs) c) → Ends s (linesFrom n at (s .place) (r ∷ rs)) c
+  ends-blank : isBlankLine (contentOf commentByte (r .bytes)) ≡ true → (readFrom (n + 1) rs s ≡ Read c → Ends s (linesFrom (n + 1) (at + length (r .bytes) + 1) (s .place) rs) c) → Ends s (linesFrom n at (s .place) (r ∷ rs)) c
   ends-blank b more-ends =
       let e : Ends s (linesFrom (n + 1) (at + length (r .bytes) + 1) (s .place) rs) c = more-ends (rw (blank-goes (contentOf commentByte (r .bytes)) s b) at (o .rest)) in
       rw (lines-blank n at (s .place) r rs b) e
 
   ends-said :
       isBlankLine (contentOf commentByte (r .bytes)) ≡ false →
-      ((s' : State) → run (n + 1) rs s' ≡ Read c → Ends s' (linesFrom (n + 1) (at + length (r .bytes) + 1) (s' .place) rs) c) → Ends s (linesFrom n at (s .place) (r ∷ rs)) c
+      ((s' : State) → readFrom (n + 1) rs s' ≡ Read c → Ends s' (linesFrom (n + 1) (at + length (r .bytes) + 1) (s' .place) rs) c) → Ends s (linesFrom n at (s .place) (r ∷ rs)) c
   ends-said b more-ends =
       let m : Moved (lineOf n at (s .place) r) s = line-moves (lineOf n at (s .place) r) s b (o .kept) in
       let q : m .next .place ≡ placeAfter (s .place) (contentOf commentByte (r .bytes)) = moves-place (lineOf n at (s .place) r) s (m .next) (m .moves) in
@@ -280,7 +280,7 @@ module _ (n at : ℕ) (r : Raw) (rs : List Raw) (s : State) (c : Counts) (o : On
       rw (lines-said n at (s .place) r rs b)
       (grown (lineOf n at (s .place) r) s m (linesFrom (n + 1) (at + length (r .bytes) + 1) (placeAfter (s .place) (contentOf commentByte (r .bytes))) rs) c refl b (rw q at e))
 
-pub run-ends : (n at : ℕ) (rs : List Raw) (s : State) (c : Counts) → run n rs s ≡ Read c → Ends s (linesFrom n at (s .place) rs) c
+pub run-ends : (n at : ℕ) (rs : List Raw) (s : State) (c : Counts) → readFrom n rs s ≡ Read c → Ends s (linesFrom n at (s .place) rs) c
 run-ends n at [] s c h = ends-none n at s c h
 run-ends n at (r ∷ rs) s c h =
     let o : Onward n r rs s c = run-on n r rs s c h in

@@ -225,7 +225,7 @@ module _ (P : ℕ → Type 0) (p k : ℕ) where
 
 module _ (P : ℕ → Type 0) (p : ℕ) where
   -- without a keyword only Pin_list leads to another place
-  by-line : (first : List ℕ) → (p ≡ place.mapHead → P place.pins) → P p → P (movedByLine p first)
+  by-line : (first : List ℕ) → (p ≡ place.mapHead → P place.pinList) → P p → P (movedByLine p first)
   unfolding movedByLine
   by-line first pins stay =
       by-test P (eqb p place.mapHead) _ _
@@ -235,13 +235,13 @@ module _ (P : ℕ → Type 0) (p : ℕ) where
       (λ (n : eqb p place.mapHead ≡ false). stay)
 
   pub by-content :
-      (content : List ℕ) → (keyAt content ≡ plain → (p ≡ place.mapHead → P place.pins) × P p) →
+      (content : List ℕ) → (keyAt content ≡ plain → (p ≡ place.mapHead → P place.pinList) × P p) →
       (eqb (keyAt content) plain ≡ false → P (moved p (keyAt content))) → P (placeAfter p content)
   unfolding placeAfter
   by-content content plainly keyed =
       by-test P (eqb (keyAt content) plain) _ _
       (λ (t : eqb (keyAt content) plain ≡ true).
-      let h : (p ≡ place.mapHead → P place.pins) × P p = plainly (eqb-true _ _ t) in
+      let h : (p ≡ place.mapHead → P place.pinList) × P p = plainly (eqb-true _ _ t) in
       by-line (firstOf (words content)) (h .0) (h .1))
       keyed
 
@@ -284,12 +284,12 @@ model-entered p content out shut =
 -- a pin map is entered by [ICM Pin Map] alone, and left by every keyword
 pub record OutsideMap (p : ℕ) : Type 0 where
   pub head : eqb p place.mapHead ≡ false
-  pub pins : eqb p place.pins ≡ false
+  pub pins : eqb p place.pinList ≡ false
 
 elsewhere-map : (p : ℕ) → isInFamily p ≡ false → OutsideMap p
 unfolding isInFamily
 elsewhere-map p e =
-    let f : either (eqb p place.mapHead) (eqb p place.pins) ≡ false =
+    let f : either (eqb p place.mapHead) (eqb p place.pinList) ≡ false =
     either-none-second _ _ (either-none-second _ _ (either-none-second _ _ e)) in
     record { head = either-none-first _ _ f; pins = either-none-second _ _ f }
 

@@ -29,8 +29,8 @@ use Rattle.base.proofs.IfLaws.{
 use Rattle.base.proofs.RunLaws.{run-nil, run-cons, run-stops, run-le, all-nil, all-cons}
 use Rattle.base.proofs.BrokenLaws.{all-kept}
 use Rattle.lex_line.specs.Lines.{Raw, lines, contentOf, isBlankLine}
-use Rattle.lex_line.specs.Words.{Word, goesOn, grown, wordsFrom, words, firstOf, lastEnd, toEquals, rightOf}
-use Rattle.lex_line.specs.ByteRules.{mostBytes, mostCharacters, withoutReturn, characters, judged, linesRule, byteRules, lineRule as rawRule}
+use Rattle.lex_line.specs.Words.{Word, wordGoesOn, grown, wordsFrom, words, firstOf, lastEnd, toEquals, rightOf}
+use Rattle.lex_line.specs.ByteRules.{mostBytes, mostCharacters, withoutReturn, characters, refusedOr, linesRule, byteRules, lineRule as rawRule}
 use Rattle.lex_line.specs.declared.Checked.{Checked}
 use Rattle.lex_line.specs.declared.Checked.the-variants.{Fine, Refused}
 use Rattle.lex_keyword.specs.Names.{icmPinMap, beginIcmModel, beginIcmSection}
@@ -48,8 +48,8 @@ use Rattle.line_path.specs.Path.{
   pathLineOf,
   mostSteps,
   isBadFork,
-  isOutOfOrder,
-  isStep,
+  isPathOutOfOrder,
+  isStepLine,
   openRule,
   closedRule,
   pathRule,
@@ -152,15 +152,15 @@ refused-not-fine k n e =
     let z : _≡_ {A = ℕ} 0 1 = cc in
     omega arith
 
-module _ (k n : ℕ) (later : Checked) (h : judged k n later ≡ Fine) where
+module _ (k n : ℕ) (later : Checked) (h : refusedOr k n later ≡ Fine) where
   judged-zero : k ≡ 0
-  unfolding judged
+  unfolding refusedOr
   judged-zero =
       by-cases (k ≡ 0) (eqb k 0) (λ (e : eqb k 0 ≡ true). eqb-true _ _ e)
       (λ (e : eqb k 0 ≡ false). absurd (refused-not-fine k n (sym (if-false _ _ e) ∙ h)))
 
   judged-later : later ≡ Fine
-  unfolding judged
+  unfolding refusedOr
   judged-later = sym (if-true later (Refused k n) (eq-eqb k 0 judged-zero)) ∙ h
 
 line-short : (r : Raw) → rawRule r ≡ 0 → length (contentOf commentByte (r .bytes)) ≤ mostCharacters
@@ -219,9 +219,9 @@ words-sized at (b ∷ s) =
     by-test (Each (Sized (suc (length s)))) (isBlank b) _ _
     (λ (e : isBlank b ≡ true). sized-more (length s) (suc (length s)) (omega arith) (words-sized (suc at) s))
     (λ (e : isBlank b ≡ false).
-    by-test (Each (Sized (suc (length s)))) (goesOn s) _ _
-    (λ (g : goesOn s ≡ true). grown-sized (length s) at b (wordsFrom (suc at) s) (words-sized (suc at) s))
-    (λ (g : goesOn s ≡ false).
+    by-test (Each (Sized (suc (length s)))) (wordGoesOn s) _ _
+    (λ (g : wordGoesOn s ≡ true). grown-sized (length s) at b (wordsFrom (suc at) s) (words-sized (suc at) s))
+    (λ (g : wordGoesOn s ≡ false).
     more (record {
       some =
           suc-le-suc zero-le;
@@ -244,12 +244,12 @@ words-count a b (c ∷ s) =
     (λ (e : isBlank c ≡ true). ap length (if-true _ _ e) ∙ words-count (suc a) (suc b) s
     ∙ sym (ap length (if-true (wordsFrom (suc b) s) _ e)))
     (λ (e : isBlank c ≡ false).
-    by-cases (length (wordsFrom a (c ∷ s)) ≡ length (wordsFrom b (c ∷ s))) (goesOn s)
-    (λ (g : goesOn s ≡ true).
+    by-cases (length (wordsFrom a (c ∷ s)) ≡ length (wordsFrom b (c ∷ s))) (wordGoesOn s)
+    (λ (g : wordGoesOn s ≡ true).
     ap length (if-false _ _ e ∙ if-true _ _ g) ∙ grown-count a b c (wordsFrom (suc a) s) (wordsFrom (suc b) s)
     (words-count (suc a) (suc b) s)
     ∙ sym (ap length (if-false (wordsFrom (suc b) s) _ e ∙ if-true (grown b c (wordsFrom (suc b) s)) _ g)))
-    (λ (g : goesOn s ≡ false).
+    (λ (g : wordGoesOn s ≡ false).
     ap length (if-false _ _ e ∙ if-false _ _ g) ∙ ap suc (words-count (suc a) (suc b) s)
     ∙ sym (ap length (if-false (wordsFrom (suc b) s) _ e ∙ if-false (grown b c (wordsFrom (suc b) s)) _ g))))
 
@@ -266,8 +266,8 @@ words-there a (b ∷ s) h =
     by-test (λ (ws : List Word). 1 ≤ length ws) (isBlank b) _ _
     (λ (e : isBlank b ≡ true). words-there (suc a) s (sym (both-rest (isBlank b) (all isBlank s) e) ∙ sym (all-cons isBlank b s) ∙ h))
     (λ (e : isBlank b ≡ false).
-    by-test (λ (ws : List Word). 1 ≤ length ws) (goesOn s) _ _ (λ (g : goesOn s ≡ true). grown-there a b (wordsFrom (suc a) s))
-    (λ (g : goesOn s ≡ false). suc-le-suc zero-le))
+    by-test (λ (ws : List Word). 1 ≤ length ws) (wordGoesOn s) _ _ (λ (g : wordGoesOn s ≡ true). grown-there a b (wordsFrom (suc a) s))
+    (λ (g : wordGoesOn s ≡ false). suc-le-suc zero-le))
 
 -- ---- what a line that breaks no rule has
 
@@ -310,10 +310,10 @@ module _ (l : PathLine) (p : Path) (steps : ℕ) where
       (all-kept
       (15 when isBadFork l p
       ∷ 11 when not (l .right)
-      ∷ 12 when isOutOfOrder l p
+      ∷ 12 when isPathOutOfOrder l p
       ∷ 13 when not (l .formed)
       ∷ 14 when not (l .bounded)
-      ∷ 17 when both (isStep l) (leb mostSteps steps)
+      ∷ 17 when both (isStepLine l) (leb mostSteps steps)
       ∷ [])
       (omega arith, (omega arith, (omega arith, (omega arith, (omega arith, (omega arith, tt)))))) kept 1)
 
@@ -536,7 +536,7 @@ module _ (t : List ℕ) where
 
   pin-named : (l : Line) (ls : List Line) → Written t l → Each (Written t) ls → Each (λ (p : Named). IsName t (p .name)) (pinAt l ls)
   unfolding pinAt
-  pin-named l ls h hs = each-if (standsIn place.pins l) _ (λ (e : standsIn place.pins l ≡ true). first-named t l h)
+  pin-named l ls h hs = each-if (standsIn place.pinList l) _ (λ (e : standsIn place.pinList l ≡ true). first-named t l h)
 
   side-given : {ls : List Line} → Each (Written t) ls → (sideIn ls ≡ noWord) ⊎ IsName t (sideIn ls)
   side-given none = inl refl

@@ -76,7 +76,7 @@ use Rattle.doc.proofs.StepLaws.{saying-elsewhere, silent-step}
 -- ---- steps of models
 
 -- outside every model a line says nothing of a path
-silent : (l : Line) → inModel l ≡ false → sayingAt l ≡ path.nothing
+silent : (l : Line) → inModel l ≡ false → sayingAt l ≡ path.saysNothing
 unfolding inModel isInModel
 silent l out = saying-elsewhere l (eqb-false _ _ (either-none-first _ _ (either-none-second _ _ out)))
 

@@ -17,7 +17,7 @@ use Rattle.lex_keyword.specs.Names.{row, bandwidth}
 use Rattle.line_matrix.specs.Matrix.{diagonal, sparse}
 use Rattle.doc.specs.Lines.{Line, plain, keyOf}
 use Rattle.doc.specs.Document.{Value, wordIn, nextRow, numbersAt, sparseAt, valuesFrom, givenBy}
-use Rattle.doc.specs.Holds.{Each, comesBefore, isInside, rises}
+use Rattle.doc.specs.Holds.{Each, comesBefore, isInUpperHalf, rises}
 
 -- ---- values that rise
 
@@ -38,8 +38,8 @@ pub data Rising (n : ℕ) : ℕ → ℕ → List Value → Type 0 where
       {r c : ℕ} (v : Value) (vs : List Value) → From r c v → Inside n v → Rising n (v .row) (v .column + 1) vs →
       Rising n r c (v ∷ vs)
 
-inside-told : (n : ℕ) (v : Value) → Inside n v → isInside n v ≡ true
-unfolding isInside
+inside-told : (n : ℕ) (v : Value) → Inside n v → isInUpperHalf n v ≡ true
+unfolding isInUpperHalf
 inside-told n v h = both-true _ _ (le-leb _ _ (h .low)) (both-true _ _ (le-leb _ _ (h .right)) (le-leb _ _ (h .high)))
 
 before-told : (v w : Value) → From (v .row) (v .column + 1) w → comesBefore v w ≡ true

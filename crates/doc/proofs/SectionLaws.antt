@@ -37,7 +37,7 @@ use Rattle.lex_keyword.specs.Names.{
 }
 use Rattle.line_place.specs.Place.{opensMatrix, keepsMatrix, done, moved, afterFamily, isText, isInModel, isInFamily, isInHeader}
 use Rattle.line_place.specs.Place as place
-use Rattle.line_argument.specs.Argument.{formOf, methodOf, takesNothing, takesText, takesName, isBadForm, isBadArgument}
+use Rattle.line_argument.specs.Argument.{formOf, methodOf, takesNothing, takesFreeText, takesName, isBadForm, isBadArgument}
 use Rattle.line_matrix.specs.Matrix.{newMatrix}
 use Rattle.line_matrix.specs.Matrix as matrix
 use Rattle.line_keyword.specs.declared.State.{State}
@@ -161,7 +161,7 @@ Kept l s = keywordRule (keyOf l) (argumentOf l .text) s ≡ 0
 
 -- the conductors of a matrix that closes here
 abbrev closing : State → ℕ
-closing s = matrix.conductorsOf (s .matrix) (s .counts .values)
+closing s = matrix.shapeConductors (s .matrix) (s .counts .values)
 
 -- a matrix opens, with so many conductors known
 module _
@@ -492,7 +492,7 @@ method-most argument =
     (λ e. by-test (λ (n : ℕ). n ≤ 2) _ _ _ (λ e. omega arith) (λ e. omega arith))
 
 method-told : (argument : List ℕ) → isBadArgument derivationMethod argument ≡ false → methodOf argument ≤ 1
-unfolding isBadArgument keepsMatrix opensMatrix takesNothing takesName takesText isBadForm either if_then_else_
+unfolding isBadArgument keepsMatrix opensMatrix takesNothing takesName takesFreeText isBadForm either if_then_else_
 method-told argument h =
     let e : methodOf argument ≡ 2 → ⊥ = eqb-false _ _ h in
     let g : methodOf argument ≤ 2 = method-most argument in

@@ -47,12 +47,12 @@ use Rattle.line_matrix.specs.Matrix.{
   numbersLine,
   sparseLine,
   dataLineOf,
-  isOutOfOrder,
+  isDataOutOfOrder,
   areTooMany,
   dataRule,
   withColumn,
   dataNext,
-  conductorsOf,
+  shapeConductors,
   isShaped,
   isWrongShape,
   isTooWide,
@@ -142,7 +142,7 @@ one-of false true e = inr refl
 one-of false false e = absurd (true≢false e)
 
 module _ (known : ℕ) (m : Matrix) (v : ℕ) (wrong : isWrongShape m known v ≡ false) (wide : isTooWide m v ≡ false) where
-  closed-shape : either (not (isShaped m v)) (both (not (eqb known 0)) (not (eqb known (conductorsOf m v)))) ≡ false
+  closed-shape : either (not (isShaped m v)) (both (not (eqb known 0)) (not (eqb known (shapeConductors m v)))) ≡ false
   unfolding isWrongShape
   closed-shape = either-none-second _ _ wrong
 
@@ -153,19 +153,19 @@ module _ (known : ℕ) (m : Matrix) (v : ℕ) (wrong : isWrongShape m known v �
   unfolding isWrongShape
   closed-some = leb-false v (m .first) (either-none-first _ _ wrong)
 
-  closed-same : (known ≡ 0) ⊎ (known ≡ conductorsOf m v)
-  closed-same = told (one-of (eqb known 0) (eqb known (conductorsOf m v)) (either-none-second _ _ closed-shape))
+  closed-same : (known ≡ 0) ⊎ (known ≡ shapeConductors m v)
+  closed-same = told (one-of (eqb known 0) (eqb known (shapeConductors m v)) (either-none-second _ _ closed-shape))
     where
-      told : (eqb known 0 ≡ true) ⊎ (eqb known (conductorsOf m v) ≡ true) → (known ≡ 0) ⊎ (known ≡ conductorsOf m v)
+      told : (eqb known 0 ≡ true) ⊎ (eqb known (shapeConductors m v) ≡ true) → (known ≡ 0) ⊎ (known ≡ shapeConductors m v)
       told (inl e) = inl (eqb-true _ _ e)
       told (inr e) = inr (eqb-true _ _ e)
 
-  closed-narrow : m .form ≡ diagonal → conductorsOf m v ≤ 256
+  closed-narrow : m .form ≡ diagonal → shapeConductors m v ≤ 256
   unfolding isTooWide
-  closed-narrow d = ltb-false mostConductors (conductorsOf m v) (sym (both-rest _ _ (eq-eqb _ _ d)) ∙ wide)
+  closed-narrow d = ltb-false mostConductors (shapeConductors m v) (sym (both-rest _ _ (eq-eqb _ _ d)) ∙ wide)
 
-  closed-down : m .form ≡ diagonal → v - m .first ≡ conductorsOf m v
-  unfolding conductorsOf
+  closed-down : m .form ≡ diagonal → v - m .first ≡ shapeConductors m v
+  unfolding shapeConductors
   closed-down d = sym (if-true _ _ (eq-eqb _ _ d))
 
   module _ (f : m .form ≡ sparse) where
@@ -176,8 +176,8 @@ module _ (known : ℕ) (m : Matrix) (v : ℕ) (wrong : isWrongShape m known v �
     unfolding isShaped
     closed-fits = sym (if-false _ _ sparse-rowed ∙ if-true _ _ (eq-eqb _ _ f)) ∙ closed-shaped
 
-    closed-named : m .rows .greatest ≡ conductorsOf m v
-    unfolding conductorsOf
+    closed-named : m .rows .greatest ≡ shapeConductors m v
+    unfolding shapeConductors
     closed-named = sym (if-false _ _ sparse-rowed ∙ if-true _ _ (eq-eqb _ _ f))
 
   module _ (d : m .form ≡ diagonal → ⊥) (f : m .form ≡ sparse → ⊥) where
@@ -185,11 +185,11 @@ module _ (known : ℕ) (m : Matrix) (v : ℕ) (wrong : isWrongShape m known v �
     unfolding isShaped
     closed-lengths = sym (if-false _ _ (ne-eqb _ _ d) ∙ if-false _ _ (ne-eqb _ _ f)) ∙ closed-shaped
 
-    closed-last : m .rows .row ≡ conductorsOf m v
-    unfolding conductorsOf
+    closed-last : m .rows .row ≡ shapeConductors m v
+    unfolding shapeConductors
     closed-last = sym (if-false _ _ (ne-eqb _ _ d) ∙ if-false _ _ (ne-eqb _ _ f))
 
-    closed-rows : LastRow (conductorsOf m v) m v
+    closed-rows : LastRow (shapeConductors m v) m v
     closed-rows =
         record {
           fits = both-first _ _ closed-lengths;
@@ -198,7 +198,7 @@ module _ (known : ℕ) (m : Matrix) (v : ℕ) (wrong : isWrongShape m known v �
           last = closed-last;
         }
 
-  pub closed-told : Closed known (conductorsOf m v) m v
+  pub closed-told : Closed known (shapeConductors m v) m v
   closed-told =
       record {
         some = closed-some;
@@ -251,18 +251,18 @@ module _ (d : DataLine) (m : Matrix) (v : ℕ) (kept : dataRule d m v ≡ 0) whe
   -- the tests of its rules, in their order
   abbrev dataTests : List Rule
   dataTests =
-      12 when isOutOfOrder d m ∷ 13 when not (d .formed) ∷ 14 when not (d .bounded) ∷ 17 when areTooMany v (d .numbers) ∷ []
+      12 when isDataOutOfOrder d m ∷ 13 when not (d .formed) ∷ 14 when not (d .bounded) ∷ 17 when areTooMany v (d .numbers) ∷ []
 
   data-test : (i : ℕ) → getD dataTests i sound .broken ≡ false
   unfolding dataRule
   data-test i = all-kept dataTests (omega arith, (omega arith, (omega arith, (omega arith, tt)))) kept i
 
   data-right : d .right ≡ true
-  unfolding isOutOfOrder
+  unfolding isDataOutOfOrder
   data-right = not-false _ (either-none-first _ _ (data-test 0))
 
   data-placed : Placed m
-  unfolding isOutOfOrder
+  unfolding isDataOutOfOrder
   data-placed f e =
       true≢false
       (sym (eq-eqb (m .rows .row) 0 e)

@@ -304,7 +304,7 @@ module _ (t : List ℕ) where
 
   pin-stands : (l : Line) (ls : List Line) → LineStands t l → Each (LineStands t) ls → Each (λ (p : Named). Stands t (p .name)) (pinAt l ls)
   unfolding pinAt
-  pin-stands l ls h hs = each-if (standsIn place.pins l) _ (λ (e : standsIn place.pins l ≡ true). first-word-stands t l h)
+  pin-stands l ls h hs = each-if (standsIn place.pinList l) _ (λ (e : standsIn place.pinList l ≡ true). first-word-stands t l h)
 
   side-stands : {ls : List Line} → Each (LineStands t) ls → Stands t (sideIn ls)
   side-stands none = no-word-stands t

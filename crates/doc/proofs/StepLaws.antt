@@ -28,8 +28,8 @@ use Rattle.line_path.specs.Path.{
   closed,
   mostSteps,
   isBadFork,
-  isOutOfOrder,
-  isStep,
+  isPathOutOfOrder,
+  isStepLine,
   openRule,
   pathRule,
 }
@@ -48,7 +48,7 @@ use Rattle.doc.specs.Document.{Step, sayingAt, stepOf}
 -- one of the six
 saying-none :
     (w : List ℕ) → eqb (sayingOf w) path.section ≡ false → either (eqb (sayingOf w) path.fork) (eqb (sayingOf w) path.endfork) ≡ false →
-    either (eqb (sayingOf w) path.end) (eqb (sayingOf w) path.side) ≡ false → path.nothing ≡ sayingOf w
+    either (eqb (sayingOf w) path.end) (eqb (sayingOf w) path.side) ≡ false → path.saysNothing ≡ sayingOf w
 unfolding sayingOf either
 saying-none w =
     by-test Other (same w (bytes "Section")) _ _
@@ -70,7 +70,7 @@ saying-none w =
     Other : ℕ → Type 0
     Other v =
         eqb v path.section ≡ false → either (eqb v path.fork) (eqb v path.endfork) ≡ false →
-        either (eqb v path.end) (eqb v path.side) ≡ false → path.nothing ≡ v
+        either (eqb v path.end) (eqb v path.side) ≡ false → path.saysNothing ≡ v
 
 section-says : (content : List ℕ) → sectionLine content .says ≡ path.section
 unfolding sectionLine plainLine
@@ -101,11 +101,11 @@ unfolding sayingAt standsIn
 saying-there l e k = if-true _ _ (both-true _ _ (eq-eqb _ _ e) (eq-eqb _ _ k)) ∙ sym (says-said (l .content))
 
 -- elsewhere it says nothing
-pub saying-elsewhere : (l : Line) → (l .place ≡ place.path → ⊥) → sayingAt l ≡ path.nothing
+pub saying-elsewhere : (l : Line) → (l .place ≡ place.path → ⊥) → sayingAt l ≡ path.saysNothing
 unfolding sayingAt standsIn
 saying-elsewhere l n = if-false _ _ (both-not-left _ _ (ne-eqb _ _ n))
 
-pub saying-keyed : (l : Line) → eqb (keyOf l) plain ≡ false → sayingAt l ≡ path.nothing
+pub saying-keyed : (l : Line) → eqb (keyOf l) plain ≡ false → sayingAt l ≡ path.saysNothing
 unfolding sayingAt standsIn
 saying-keyed l k = if-false _ _ (both-not-right _ _ k)
 
@@ -122,23 +122,23 @@ module _ (l : PathLine) (p : Path) (steps : ℕ) where
   openRules =
       15 when isBadFork l p
       ∷ 11 when not (l .right)
-      ∷ 12 when isOutOfOrder l p
+      ∷ 12 when isPathOutOfOrder l p
       ∷ 13 when not (l .formed)
       ∷ 14 when not (l .bounded)
-      ∷ 17 when both (isStep l) (leb mostSteps steps)
+      ∷ 17 when both (isStepLine l) (leb mostSteps steps)
       ∷ []
 
   numbered : Numbered openRules
   numbered = (omega arith, (omega arith, (omega arith, (omega arith, (omega arith, (omega arith, tt))))))
 
-  orderly : openRule l p steps ≡ 0 → isOutOfOrder l p ≡ false
+  orderly : openRule l p steps ≡ 0 → isPathOutOfOrder l p ≡ false
   unfolding openRule
   orderly h = all-kept openRules numbered h 2
 
   nothing-disorderly :
       eqb (l .says) path.side ≡ false → eqb (l .says) path.section ≡ false → eqb (l .says) path.fork ≡ false →
-      eqb (l .says) path.end ≡ false → eqb (l .says) path.endfork ≡ false → isOutOfOrder l p ≡ true
-  unfolding isOutOfOrder
+      eqb (l .says) path.end ≡ false → eqb (l .says) path.endfork ≡ false → isPathOutOfOrder l p ≡ true
+  unfolding isPathOutOfOrder
   nothing-disorderly a b c d e = if-false _ _ a ∙ if-false _ _ b ∙ if-false _ _ c ∙ if-false _ _ d ∙ if-false _ _ e
 
   pub path-says :
@@ -154,7 +154,7 @@ module _ (l : PathLine) (p : Path) (steps : ℕ) where
 
 -- ---- the steps that it gives
 
-pub silent-step : (l : Line) (after : List Line) → sayingAt l ≡ path.nothing → stepOf l after ≡ []
+pub silent-step : (l : Line) (after : List Line) → sayingAt l ≡ path.saysNothing → stepOf l after ≡ []
 unfolding stepOf if_then_else_
 silent-step l after e = rw e
 

@@ -40,7 +40,7 @@ use Rattle.line_matrix.specs.Matrix.{
   numbersLine,
   sparseLine,
   dataLineOf,
-  isOutOfOrder,
+  isDataOutOfOrder,
   areTooMany,
   dataRule,
   dataNext,
@@ -142,7 +142,7 @@ data-ruled content s e h = rw e at h
 module _ (l : DataLine) (m : matrix.Matrix) (values : ℕ) where
   abbrev dataRules : List Rule
   dataRules =
-      12 when isOutOfOrder l m
+      12 when isDataOutOfOrder l m
       ∷ 13 when not (l .formed)
       ∷ 14 when not (l .bounded)
       ∷ 17 when areTooMany values (l .numbers)
@@ -152,7 +152,7 @@ module _ (l : DataLine) (m : matrix.Matrix) (values : ℕ) where
   numbered = (omega arith, (omega arith, (omega arith, (omega arith, tt))))
 
   data-right : dataRule l m values ≡ 0 → l .right ≡ true
-  unfolding dataRule isOutOfOrder
+  unfolding dataRule isDataOutOfOrder
   data-right h = not-false _ (either-none-first _ _ (all-kept dataRules numbered h 0))
 
 sparse-one : (ws : List (List ℕ)) → sparseLine ws .right ≡ true → sparseLine ws .numbers ≡ 1

@@ -126,7 +126,7 @@ wordIn number.Range = 0
 
 -- what a line of a path says; a line that stands in no path says nothing
 unfoldable pub sayingAt : Line → ℕ
-sayingAt l = if standsIn place.path l then sayingOf (firstOf (words (l .content))) else path.nothing
+sayingAt l = if standsIn place.path l then sayingOf (firstOf (words (l .content))) else path.saysNothing
 
 -- "amount: Mult, the Len value word"
 unfoldable pub amountOf : List ℕ → ℕ
@@ -185,7 +185,7 @@ opensMap l = both (isInFamily (l .place)) (eqb (keyOf l) icmPinMap)
 
 -- "A path, map or list closes at the next keyword"
 unfoldable pub inMap : Line → Bool
-inMap l = either (standsIn place.mapHead l) (standsIn place.pins l)
+inMap l = either (standsIn place.mapHead l) (standsIn place.pinList l)
 
 -- what the lines above its Pin_list say; `order` is one above the table's count of orders
 unfoldable pub gridIn : pin_map.Map → List Line → pin_map.Map
@@ -194,7 +194,7 @@ gridIn m (l ∷ ls) = gridIn (if standsIn place.mapHead l then mapNext (mapLineO
 
 -- "one a line"
 unfoldable pub pinAt : Line → List Line → List Named
-pinAt l after = if standsIn place.pins l then record { name = firstWord (wordsOf l); line = l .number } ∷ [] else []
+pinAt l after = if standsIn place.pinList l then record { name = firstWord (wordsOf l); line = l .number } ∷ [] else []
 
 unfoldable pub mapOf : Line → List Line → Map
 mapOf l body =

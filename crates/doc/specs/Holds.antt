@@ -17,10 +17,10 @@ pub data Each {A : Type 0} (P : A → Type 0) : List A → Type 0 where
 unfoldable pub comesBefore : Value → Value → Bool
 comesBefore v w = either (ltb (v .row) (w .row)) (both (eqb (v .row) (w .row)) (ltb (v .column) (w .column)))
 
-unfoldable pub isInside : ℕ → Value → Bool
-isInside n v = both (leb 1 (v .row)) (both (leb (v .row) (v .column)) (leb (v .column) n))
+unfoldable pub isInUpperHalf : ℕ → Value → Bool
+isInUpperHalf n v = both (leb 1 (v .row)) (both (leb (v .row) (v .column)) (leb (v .column) n))
 
 unfoldable pub rises : ℕ → List Value → Bool
 rises n [] = true
-rises n (v ∷ []) = isInside n v
-rises n (v ∷ w ∷ vs) = both (isInside n v) (both (comesBefore v w) (rises n (w ∷ vs)))
+rises n (v ∷ []) = isInUpperHalf n v
+rises n (v ∷ w ∷ vs) = both (isInUpperHalf n v) (both (comesBefore v w) (rises n (w ∷ vs)))

@@ -157,9 +157,9 @@ mapRecords first [] = []
 mapRecords first (m ∷ ms) = mapRecord first m ∷ mapRecords (first + length (m .pins)) ms
 
 -- "each matrix index plus 1 or 0": of a kind, the first matrix being `first`
-unfoldable pub placeOf : ℕ → ℕ → List Matrix → ℕ
-placeOf kind first [] = 0
-placeOf kind first (m ∷ ms) = if eqb (m .kind) kind then first + 1 else placeOf kind (first + 1) ms
+unfoldable pub indexOfKind : ℕ → ℕ → List Matrix → ℕ
+indexOfKind kind first [] = 0
+indexOfKind kind first (m ∷ ms) = if eqb (m .kind) kind then first + 1 else indexOfKind kind (first + 1) ms
 
 -- its first matrix is `first`
 unfoldable pub sectionRecord : ℕ → Section → SectionRecord
@@ -169,10 +169,10 @@ sectionRecord first s =
       size = length (s .name .text);
       method = s .method;
       conductors = conductorsOf (s .matrices);
-      resistance = placeOf 0 first (s .matrices);
-      inductance = placeOf 1 first (s .matrices);
-      conductance = placeOf 2 first (s .matrices);
-      capacitance = placeOf 3 first (s .matrices);
+      resistance = indexOfKind 0 first (s .matrices);
+      inductance = indexOfKind 1 first (s .matrices);
+      conductance = indexOfKind 2 first (s .matrices);
+      capacitance = indexOfKind 3 first (s .matrices);
     }
 
 unfoldable pub sectionRecords : ℕ → List Section → List SectionRecord

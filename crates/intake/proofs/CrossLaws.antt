@@ -7,7 +7,7 @@ use native.Mathlib.Nat.{le-of-lt}
 use Rattle.doc.specs.Document.{documentOf}
 use Rattle.cross_rules.specs.Rules.{listFindings, modelFindings, mapFindings, sectionFindings, earlier, crossRule}
 use Rattle.cross_rules.specs.Way.First.{firstIn}
-use Rattle.cross_rules.specs.Way.Filled.{Filled}
+use Rattle.cross_rules.specs.Way.Filled.{HoldsText}
 use Rattle.cross_rules.specs.declared.Finding.{Finding}
 use Rattle.cross_rules.proofs.KindLaws.{by-kinds, earlier-second, earlier-first, earlier-lower}
 use Rattle.cross_rules.proofs.ListLaws.{list-first}
@@ -26,7 +26,7 @@ module _ (a b : Finding) where
     pub first-above : a .line ≤ b .line → a ≡ earlier a b
     first-above l = sym (earlier-first a b n (λ m. l))
 
-module _ (t table : List ℕ) (filled : Filled t table) (number line : ℕ) (maps : Finding)
+module _ (t table : List ℕ) (filled : HoldsText t table) (number line : ℕ) (maps : Finding)
     (list-is : record { number = number; line = line } ≡ firstIn (listFindings (documentOf t)))
     (maps-are : maps ≡ firstIn (mapFindings (documentOf t) (documentOf t .maps))) where
   abbrev list : Finding

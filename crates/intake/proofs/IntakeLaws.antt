@@ -24,7 +24,7 @@ use Rattle.intake.specs.Filled.{afterReading, filledOf}
 use Rattle.intake.specs.declared.fill.Filled as filling
 use Rattle.intake.specs.declared.fill.Filled.the-variants.{Stored, Refused}
 use Rattle.cross_rules.specs.Rules.{crossRule}
-use Rattle.cross_rules.specs.Way.Filled.{Filled}
+use Rattle.cross_rules.specs.Way.Filled.{HoldsText}
 use Rattle.cross_rules.specs.declared.Finding.{Finding}
 use Rattle.intake.specs.Verdict.{Outcome, acceptedWith, refusedBy, crossed, afterFilling, afterBytes, verdictOf, tableFor}
 
@@ -48,7 +48,7 @@ module _ (t : List ℕ) (words : ℕ) (finding : Finding) (is : finding ≡ cros
   pub crossed-kept : finding .number ≡ 0 → acceptedWith words ≡ crossed words (crossRule (documentOf t))
   crossed-kept e = sym (if-true _ _ (eq-eqb _ _ e)) ∙ ap (crossed words) is
 
-pub table-kept : (t table : List ℕ) → Filled t table → (words : ℕ) → table ≡ tableFor t (length table) (acceptedWith words)
+pub table-kept : (t table : List ℕ) → HoldsText t table → (words : ℕ) → table ≡ tableFor t (length table) (acceptedWith words)
 table-kept t table filled words = filled .words ∙ sym (layout-accepted t (length table) words)
 
 pub table-cleared : (t table after : List ℕ) (number line : ℕ) → after ≡ replicate (length table) 0 → after ≡ tableFor t (length table) (refusedBy number line)
@@ -107,7 +107,7 @@ module _ (t table : List ℕ) (size : ℕ) (answer : filling.Filled) (is : answe
         let n : length table ≡ length (tableOf t) + (size - length (tableOf t)) = ap length laid ∙ length-append (tableOf t) _ ∙ ap (λ (k : ℕ). length (tableOf t) + k) (length-replicate (size - length (tableOf t)) 0) in
         omega arith
 
-    pub stored-holds : Filled t table
+    pub stored-holds : HoldsText t table
     stored-holds = record { counts = reads .counts; reads = reads .reads; words = rw long laid }
 
     pub stored-outcome : (o : Outcome) → o ≡ crossed words (crossRule (documentOf t)) → o ≡ afterFilling t (filledOf t size)

@@ -34,7 +34,7 @@ use Rattle.store_steps.specs.Way.Steps.{lowOf, Aims}
 use Rattle.store_models.specs.Way.Models.{modelsOf}
 use Rattle.read_text.specs.Way.Forward.{Carries}
 use Rattle.intake.specs.Filled.{afterReading, filledOf}
-use Rattle.intake.specs.Way.Filled.{tableFor, Lifted}
+use Rattle.intake.specs.Way.Filled.{tableAfterStoring, Lifted}
 use Rattle.intake.specs.declared.fill.Filled.{Filled}
 use Rattle.intake.specs.declared.fill.Filled.the-variants.{Stored, Refused}
 use Rattle.intake.proofs.FillLaws.{start-long, layout-long, maps-fit, seven-maps, sections-fit, seven-blocks, models-fit, aims, all-filled}
@@ -156,7 +156,7 @@ module _ (t : List ℕ) (c : Counts) (reads : readingOf t ≡ reading.Read c) (t
   words-for = is-words ∙ ap (needed widths) is-many
 
   pub store-refused : length table < words → (zeros : List ℕ) → zeros ≡ replicate (length table) 0 →
-      (Refused 18 0 ≡ filledOf t (length table)) × (zeros ≡ tableFor t (length table) (Refused 18 0))
+      (Refused 18 0 ≡ filledOf t (length table)) × (zeros ≡ tableAfterStoring t (length table) (Refused 18 0))
   store-refused h zeros e = (no-room t c reads (length table) words words-for h, e)
 
   -- the words of the values are among those needed
@@ -203,7 +203,7 @@ module _ (t : List ℕ) (c : Counts) (reads : readingOf t ≡ reading.Read c) (t
       )
 
       pub store-filled : (table' : List ℕ) → table' ≡ tableOf t ++ replicate (length moved - length (tableOf t)) 0 →
-          (Stored words ≡ filledOf t (length table)) × (table' ≡ tableFor t (length table) (Stored words))
+          (Stored words ≡ filledOf t (length table)) × (table' ≡ tableAfterStoring t (length table) (Stored words))
       store-filled table' e = (has-room t c reads (length table) words words-for roomy, rw moved-long at e)
 
 -- what the forward reading answered is what the text comes to
@@ -220,8 +220,8 @@ module _ (t : List ℕ) (answer : Reading) (told : answer ≡ readingOf t) where
 
 -- and the table is as long as before
 module _ (size before : ℕ) (same : size ≡ before) where
-  pub told-before : (t table : List ℕ) (r : Filled) → (r ≡ filledOf t size) × (table ≡ tableFor t size r) →
-      (r ≡ filledOf t before) × (table ≡ tableFor t before r)
+  pub told-before : (t table : List ℕ) (r : Filled) → (r ≡ filledOf t size) × (table ≡ tableAfterStoring t size r) →
+      (r ≡ filledOf t before) × (table ≡ tableAfterStoring t before r)
   told-before t table r e = rw same at e
 
   pub zeros-before : (table : List ℕ) → table ≡ replicate size 0 → table ≡ replicate before 0

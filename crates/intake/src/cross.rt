@@ -2,7 +2,7 @@
 ghost use mathlib.Core.Path.{_≡_};
 ghost use Rattle.doc.specs.Document.{documentOf};
 ghost use Rattle.cross_rules.specs.Rules.{earlier, crossRule};
-ghost use Rattle.cross_rules.specs.Way.Filled.{Filled};
+ghost use Rattle.cross_rules.specs.Way.Filled.{HoldsText};
 use cross_rules::Finding;
 
 // The earlier of two, one that breaks nothing never.
@@ -24,7 +24,7 @@ fn earlier_of(a: Finding, b: Finding) -> Finding
 // What a text that the table holds breaks first. The list stands above all models and sections, so where one of its lines breaks a rule
 // only a map above it can come before; the rules of models need the flags of a list that breaks nothing.
 pub fn cross_finding(text: &[u8], table: &[u64]) -> Finding
-    requires { ⌜ Filled (now text) (now table) ⌝ }
+    requires { ⌜ HoldsText (now text) (now table) ⌝ }
     ensures { λ r. ⌜ r ≡ crossRule (documentOf (now (text .entry))) ⌝ }
 {
     let view = table_layout::view_of(table);

@@ -11,7 +11,7 @@ ghost use Rattle.doc.specs.Way.Holds.{countsOf};
 ghost use Rattle.doc.specs.Records.{tableOf};
 ghost use Rattle.store_base.specs.Way.Notes.{Noted, Before};
 ghost use Rattle.intake.specs.Filled.{filledOf};
-ghost use Rattle.intake.specs.Way.Filled.{tableFor, Lifted};
+ghost use Rattle.intake.specs.Way.Filled.{tableAfterStoring, Lifted};
 use line_keyword::Counts;
 use read_line::Reading;
 
@@ -59,7 +59,7 @@ fn store(text: &[u8], table: &mut [u64], counts: Counts, notes: &[u64]) -> Fille
     requires { ⌜ (readingOf (now text) ≡ Read counts)
         × Noted (now text) (now table) (now notes) 0 0
         × Before (now notes) (counts .values) ⌝ }
-    ensures { λ r. ⌜ (r ≡ filledOf (now (text .entry)) (length (now (table .entry)))) × (now (table .exit) ≡ tableFor (now (text .entry)) (length (now (table .entry))) r) ⌝ }
+    ensures { λ r. ⌜ (r ≡ filledOf (now (text .entry)) (length (now (table .entry)))) × (now (table .exit) ≡ tableAfterStoring (now (text .entry)) (length (now (table .entry))) r) ⌝ }
 {
     let words = table_layout::words_needed(counts_of(counts));
     if table.len() < words {
@@ -81,7 +81,7 @@ fn notes_room() -> [u64; 9216]
 
 // Rules 5 to 18 over a text and a lent table: what the text says is stored, or nothing.
 pub fn fill_table(text: &[u8], table: &mut [u64]) -> Filled
-    ensures { λ r. ⌜ (r ≡ filledOf (now (text .entry)) (length (now (table .entry)))) × (now (table .exit) ≡ tableFor (now (text .entry)) (length (now (table .entry))) r) ⌝ }
+    ensures { λ r. ⌜ (r ≡ filledOf (now (text .entry)) (length (now (table .entry)))) × (now (table .exit) ≡ tableAfterStoring (now (text .entry)) (length (now (table .entry))) r) ⌝ }
 {
     let mut notes = notes_room();
     match read_text::read(text, table, &mut notes) {

@@ -4,7 +4,7 @@ ghost use lib.ListN.{length};
 ghost use Rattle.doc.specs.Document.{documentOf};
 ghost use Rattle.intake.specs.Filled.{filledOf};
 ghost use Rattle.cross_rules.specs.Rules.{crossRule};
-ghost use Rattle.cross_rules.specs.Way.Filled.{Filled};
+ghost use Rattle.cross_rules.specs.Way.Filled.{HoldsText};
 ghost use Rattle.intake.specs.Verdict.{answerWords, crossed, afterFilling, verdictOf, tableFor};
 use lex_line::Checked;
 
@@ -19,7 +19,7 @@ pub enum Answer {
 
 // Rules 19 to 27 over a text that the table holds.
 fn judge(text: &[u8], table: &mut [u64], words: usize) -> Answer
-    requires { ⌜ Filled (now text) (now table) ⌝ }
+    requires { ⌜ HoldsText (now text) (now table) ⌝ }
     ensures { λ r. ⌜ (answerWords r ≡ crossed words (crossRule (documentOf (now (text .entry))))) × (now (table .exit) ≡ tableFor (now (text .entry)) (length (now (table .entry))) (answerWords r)) ⌝ }
 {
     let finding = cross::cross_finding(text, table);
@@ -35,8 +35,8 @@ fn take(text: &[u8], table: &mut [u64]) -> Answer
     ensures { λ r. ⌜ (answerWords r ≡ afterFilling (now (text .entry)) (filledOf (now (text .entry)) (length (now (table .entry))))) × (now (table .exit) ≡ tableFor (now (text .entry)) (length (now (table .entry))) (answerWords r)) ⌝ }
 {
     match fill::fill_table(text, table) {
-        fill::Filled::Stored(words) => judge(text, table, words),
-        fill::Filled::Refused(number, line) => Answer::Refused(number, line),
+        fill::HoldsText::Stored(words) => judge(text, table, words),
+        fill::HoldsText::Refused(number, line) => Answer::Refused(number, line),
     }
 }
 

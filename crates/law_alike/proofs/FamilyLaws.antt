@@ -123,7 +123,7 @@ module _ (l m : Line) (s : SameLine l m) where
       (λ (e : standsIn place.path l ≡ false). if-false _ _ e ∙ sym (if-false _ _ (sym (stands-same l m s place.path) ∙ e)))
 
   -- a line that says something of a path stands in one
-  says-stands : (k : ℕ) → (k ≡ path.nothing → ⊥) → sayingAt l ≡ k → standsIn place.path l ≡ true
+  says-stands : (k : ℕ) → (k ≡ path.saysNothing → ⊥) → sayingAt l ≡ k → standsIn place.path l ≡ true
   unfolding sayingAt
   says-stands k n e =
       by-cases _ (standsIn place.path l) (λ (h : standsIn place.path l ≡ true). h)
@@ -134,13 +134,13 @@ module _ (l m : Line) (s : SameLine l m) where
   saying-is h = if-true _ _ h
 
   -- the second word of an end or a Side
-  second-same : (k : ℕ) → (k ≡ path.nothing → ⊥) → (k ≡ path.section → ⊥) → sayingAt l ≡ k → secondWord (wordsOf l) .text ≡ secondWord (wordsOf m) .text
+  second-same : (k : ℕ) → (k ≡ path.saysNothing → ⊥) → (k ≡ path.section → ⊥) → sayingAt l ≡ k → secondWord (wordsOf l) .text ≡ secondWord (wordsOf m) .text
   second-same k n o e =
       let h : standsIn place.path l ≡ true = says-stands k n e in
       let w : words (l .content) ≡ words (m .content) = path-said h .names (λ (q : sayingOf (firstOf (words (l .content))) ≡ path.section). o (sym e ∙ saying-is h ∙ q)) in
       second-said l ∙ ap secondOf w ∙ sym (second-said m)
 
-deep-silent : (l : Line) → isDeep l ≡ true → sayingAt l ≡ path.nothing
+deep-silent : (l : Line) → isDeep l ≡ true → sayingAt l ≡ path.saysNothing
 unfolding sayingAt
 deep-silent l e = if-false _ _ (deep-stands l e place.path (λ (h : place.path ≡ place.section). omega arith) (λ (h : place.path ≡ place.matrix). omega arith))
 
@@ -152,7 +152,7 @@ side-alike none = refl
 side-alike (line {l = l} {m = m} s a) =
     by-cases _ (eqb (sayingAt l) path.side)
     (λ (e : eqb (sayingAt l) path.side ≡ true).
-    ap (λ (w : Word). w .text) (if-true _ _ e) ∙ second-same l m s path.side (λ (h : path.side ≡ path.nothing). omega arith) (λ (h : path.side ≡ path.section). omega arith) (eqb-true _ _ e)
+    ap (λ (w : Word). w .text) (if-true _ _ e) ∙ second-same l m s path.side (λ (h : path.side ≡ path.saysNothing). omega arith) (λ (h : path.side ≡ path.section). omega arith) (eqb-true _ _ e)
     ∙ ap (λ (w : Word). w .text) (sym (if-true _ _ (ap (λ (k : ℕ). eqb k path.side) (sym (saying-same l m s)) ∙ e))))
     (λ (e : eqb (sayingAt l) path.side ≡ false).
     ap (λ (w : Word). w .text) (if-false _ _ e) ∙ ap (λ (w : Word). w .text) (sym (if-false _ _ (ap (λ (k : ℕ). eqb k path.side) (sym (saying-same l m s)) ∙ e))))
@@ -179,12 +179,12 @@ module _ (l m : Line) (ls ms : List Line) (s : SameLine l m) (a : AlikeLines ls 
       all2-choice (eqb (sayingAt l) path.end) (eqb (sayingAt m) path.end) (says path.end) _ _ _ _
       (λ (e : eqb (sayingAt l) path.end ≡ true).
       all2-more
-      (record { kind = refl; name = second-same l m s path.end (λ (h : path.end ≡ path.nothing). omega arith) (λ (h : path.end ≡ path.section). omega arith) (eqb-true _ _ e); mult = refl; amount = refl; side = side-alike a })
+      (record { kind = refl; name = second-same l m s path.end (λ (h : path.end ≡ path.saysNothing). omega arith) (λ (h : path.end ≡ path.section). omega arith) (eqb-true _ _ e); mult = refl; amount = refl; side = side-alike a })
       all2-none)
       (λ f.
       all2-choice (eqb (sayingAt l) path.section) (eqb (sayingAt m) path.section) (says path.section) _ _ _ _
       (λ (e : eqb (sayingAt l) path.section ≡ true).
-      let h : standsIn place.path l ≡ true = says-stands l m s path.section (λ (q : path.section ≡ path.nothing). omega arith) (eqb-true _ _ e) in
+      let h : standsIn place.path l ≡ true = says-stands l m s path.section (λ (q : path.section ≡ path.saysNothing). omega arith) (eqb-true _ _ e) in
       let r : SameSides (l .content) (m .content) = path-said l m s h .sides in
       all2-more
       (record { kind = refl; name = right-said l ∙ ap secondOf (r .right) ∙ sym (right-said m); mult = mult-same (l .content) (m .content) r; amount = amount-same (l .content) (m .content) r; side = refl })
@@ -199,7 +199,7 @@ module _ (l m : Line) (ls ms : List Line) (s : SameLine l m) (a : AlikeLines ls 
 step-silent : (l : Line) (ls : List Line) → isDeep l ≡ true → stepOf l ls ≡ []
 unfolding stepOf
 step-silent l ls e =
-    let z : sayingAt l ≡ path.nothing = deep-silent l e in
+    let z : sayingAt l ≡ path.saysNothing = deep-silent l e in
     if-false _ _ (ap (λ (k : ℕ). eqb k path.end) z) ∙ if-false _ _ (ap (λ (k : ℕ). eqb k path.section) z) ∙ if-false _ _ (ap (λ (k : ℕ). eqb k path.fork) z) ∙ if-false _ _ (ap (λ (k : ℕ). eqb k path.endfork) z)
 
 steps-alike : {ls ms : List Line} → AlikeLines ls ms → All2 SameStep (stepsIn ls) (stepsIn ms)
@@ -320,11 +320,11 @@ listed-alike a = gather-alike listedAt listed-silent SameNamed listed-same a
 
 pin-same : (l m : Line) (ls ms : List Line) → SameLine l m → AlikeLines ls ms → All2 SameNamed (pinAt l ls) (pinAt m ms)
 unfolding pinAt
-pin-same l m ls ms s a = named-alike place.pins (λ (h : place.pins ≡ place.head). omega arith) (λ (h : place.pins ≡ place.path). omega arith) (λ (h : place.pins ≡ place.mapHead). omega arith) l m s
+pin-same l m ls ms s a = named-alike place.pinList (λ (h : place.pinList ≡ place.head). omega arith) (λ (h : place.pinList ≡ place.path). omega arith) (λ (h : place.pinList ≡ place.mapHead). omega arith) l m s
 
 pin-silent : (l : Line) (ls : List Line) → isDeep l ≡ true → pinAt l ls ≡ []
 unfolding pinAt
-pin-silent l ls e = if-false _ _ (deep-stands l e place.pins (λ (h : place.pins ≡ place.section). omega arith) (λ (h : place.pins ≡ place.matrix). omega arith))
+pin-silent l ls e = if-false _ _ (deep-stands l e place.pinList (λ (h : place.pinList ≡ place.section). omega arith) (λ (h : place.pinList ≡ place.matrix). omega arith))
 
 pins-alike : {ls ms : List Line} → AlikeLines ls ms → All2 SameNamed (gather pinAt ls) (gather pinAt ms)
 pins-alike a = gather-alike pinAt pin-silent SameNamed pin-same a
@@ -333,11 +333,11 @@ pins-alike a = gather-alike pinAt pin-silent SameNamed pin-same a
 
 in-map-same : (l m : Line) → SameLine l m → inMap l ≡ inMap m
 unfolding inMap
-in-map-same l m s = λ i. either (stands-same l m s place.mapHead i) (stands-same l m s place.pins i)
+in-map-same l m s = λ i. either (stands-same l m s place.mapHead i) (stands-same l m s place.pinList i)
 
 map-deep : (l : Line) → isDeep l ≡ true → inMap l ≡ false
 unfolding inMap
-map-deep l e = either-false _ _ (deep-stands l e place.mapHead (λ (q : place.mapHead ≡ place.section). omega arith) (λ (q : place.mapHead ≡ place.matrix). omega arith)) (deep-stands l e place.pins (λ (h : place.pins ≡ place.section). omega arith) (λ (h : place.pins ≡ place.matrix). omega arith))
+map-deep l e = either-false _ _ (deep-stands l e place.mapHead (λ (q : place.mapHead ≡ place.section). omega arith) (λ (q : place.mapHead ≡ place.matrix). omega arith)) (deep-stands l e place.pinList (λ (h : place.pinList ≡ place.section). omega arith) (λ (h : place.pinList ≡ place.matrix). omega arith))
 
 map-opens-same : (l m : Line) → SameLine l m → opensMap l ≡ opensMap m
 unfolding opensMap

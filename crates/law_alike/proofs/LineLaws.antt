@@ -166,7 +166,7 @@ size-same says a b s = rw (s .signs, s .left, s .right)
 unfoldable sizesOf : List ℕ → List ℕ → MapLine
 sizesOf first a =
     if same first (bytes "Num_of_columns") then sizeLine pinMap.columns a else
-    if same first (bytes "Num_of_rows") then sizeLine pinMap.rows a else record { says = pinMap.nothing; right = true; formed = true; bounded = true; value = 0 }
+    if same first (bytes "Num_of_rows") then sizeLine pinMap.rows a else record { says = pinMap.saysNothing; right = true; formed = true; bounded = true; value = 0 }
 
 sizes-same : (a b : List ℕ) → SameSides a b → sizesOf (firstOf (leftOf a)) a ≡ sizesOf (firstOf (leftOf b)) b
 unfolding sizesOf

@@ -16,7 +16,7 @@ use Rattle.base.specs.Bytes.{isBlank, space, tab, isBefore, isFilled}
 use Rattle.base.specs.Runs.{run, same}
 use Rattle.base.proofs.IfLaws.{if-true, if-false, by-cases, either-false, not-via, not-not-via}
 use Rattle.base.proofs.RunLaws.{run-goes, run-stops, run-nil, same-refl, same-equal}
-use Rattle.lex_line.specs.Words.{Word, goesOn, grown, wordsFrom, words, firstOf, toEquals, hasEquals, leftOf, rightOf}
+use Rattle.lex_line.specs.Words.{Word, wordGoesOn, grown, wordsFrom, words, firstOf, toEquals, hasEquals, leftOf, rightOf}
 
 -- ---- words without where they stand
 
@@ -26,7 +26,7 @@ grow b (w ∷ ws) = (b ∷ w) ∷ ws
 
 unfoldable pub bare : List ℕ → List (List ℕ)
 bare [] = []
-bare (b ∷ s) = if isBlank b then bare s else if goesOn s then grow b (bare s) else (b ∷ []) ∷ bare s
+bare (b ∷ s) = if isBlank b then bare s else if wordGoesOn s then grow b (bare s) else (b ∷ []) ∷ bare s
 
 grown-texts : (at b : ℕ) (ws : List Word) → map (λ (w : Word). w .text) (grown at b ws) ≡ grow b (map (λ (w : Word). w .text) ws)
 unfolding grown grow
@@ -43,7 +43,7 @@ unfolding wordsFrom bare
 words-bare at [] = refl
 words-bare at (b ∷ s) =
     map-if (isBlank b) (wordsFrom (suc at) s) _ _ _ (words-bare (suc at) s)
-    (map-if (goesOn s) (grown at b (wordsFrom (suc at) s)) (record { start = at; text = b ∷ [] } ∷ wordsFrom (suc at) s) _ _
+    (map-if (wordGoesOn s) (grown at b (wordsFrom (suc at) s)) (record { start = at; text = b ∷ [] } ∷ wordsFrom (suc at) s) _ _
     (grown-texts at b (wordsFrom (suc at) s) ∙ ap (grow b) (words-bare (suc at) s)) (ap (λ (ws : List (List ℕ)). (b ∷ []) ∷ ws) (words-bare (suc at) s)))
 
 module _ (b : ℕ) (s : List ℕ) where
@@ -51,11 +51,11 @@ module _ (b : ℕ) (s : List ℕ) where
   unfolding bare
   bare-blank e = if-true _ _ e
 
-  bare-last : isBlank b ≡ false → goesOn s ≡ false → bare (b ∷ s) ≡ (b ∷ []) ∷ bare s
+  bare-last : isBlank b ≡ false → wordGoesOn s ≡ false → bare (b ∷ s) ≡ (b ∷ []) ∷ bare s
   unfolding bare
   bare-last e f = if-false _ _ e ∙ if-false _ _ f
 
-  bare-on : isBlank b ≡ false → goesOn s ≡ true → bare (b ∷ s) ≡ grow b (bare s)
+  bare-on : isBlank b ≡ false → wordGoesOn s ≡ true → bare (b ∷ s) ≡ grow b (bare s)
   unfolding bare
   bare-on e f = if-false _ _ e ∙ if-true _ _ f
 
@@ -72,9 +72,9 @@ grow-starts c (w ∷ ws) = record { first = w; others = ws; are = refl }
 
 bare-starts : (c : ℕ) (s : List ℕ) → isBlank c ≡ false → Starts c (bare (c ∷ s))
 bare-starts c s e =
-    by-cases _ (goesOn s)
-    (λ (f : goesOn s ≡ true). rw (bare-on c s e f) (grow-starts c (bare s)))
-    (λ (f : goesOn s ≡ false). rw (bare-last c s e f) record { first = []; others = bare s; are = refl })
+    by-cases _ (wordGoesOn s)
+    (λ (f : wordGoesOn s ≡ true). rw (bare-on c s e f) (grow-starts c (bare s)))
+    (λ (f : wordGoesOn s ≡ false). rw (bare-last c s e f) record { first = []; others = bare s; are = refl })
 
 -- ---- the sign
 
@@ -232,12 +232,12 @@ module _ (b c : ℕ) (w : List ℕ) (ws : List (List ℕ)) (o : isOther b ≡ tr
   left-single oc = left-sign (b ∷ c ∷ w) ws (has-more b (c ∷ w) o ∙ has-here c w oc) ∙ ap (λ (v : List ℕ). filled v []) (before-more b (c ∷ w) o ∙ ap (λ (v : List ℕ). b ∷ v) (before-here c w oc))
 
 -- what stands first before the sign
-goes-before : (b : ℕ) (s : List ℕ) → isOther b ≡ true → goesOn (beforeSign (b ∷ s)) ≡ goesOn (b ∷ s)
-unfolding goesOn
-goes-before b s o = ap goesOn (before-more b s o)
+goes-before : (b : ℕ) (s : List ℕ) → isOther b ≡ true → wordGoesOn (beforeSign (b ∷ s)) ≡ wordGoesOn (b ∷ s)
+unfolding wordGoesOn
+goes-before b s o = ap wordGoesOn (before-more b s o)
 
-none-goes : goesOn [] ≡ false
-unfolding goesOn
+none-goes : wordGoesOn [] ≡ false
+unfolding wordGoesOn
 none-goes = refl
 
 -- the byte that a word goes on with
@@ -247,8 +247,8 @@ record Next (s : List ℕ) : Type 0 where
   are : s ≡ byte ∷ others
   filled-byte : isBlank byte ≡ false
 
-next-of : (s : List ℕ) → goesOn s ≡ true → Next s
-unfolding goesOn isFilled
+next-of : (s : List ℕ) → wordGoesOn s ≡ true → Next s
+unfolding wordGoesOn isFilled
 next-of [] e = absurd (true≢false (sym e))
 next-of (c ∷ s) e = record { byte = c; others = s; are = refl; filled-byte = not-true-of (isBlank c) e }
   where
@@ -261,13 +261,13 @@ unfolding cutLeft
 left-none = refl
 
 -- where a word does not go on, nor does what stands before the sign
-before-ends : (s : List ℕ) → goesOn s ≡ false → goesOn (beforeSign s) ≡ false
-unfolding beforeSign goesOn
+before-ends : (s : List ℕ) → wordGoesOn s ≡ false → wordGoesOn (beforeSign s) ≡ false
+unfolding beforeSign wordGoesOn
 before-ends [] e = refl
 before-ends (c ∷ s) e =
     by-cases _ (isOther c)
-    (λ (o : isOther c ≡ true). ap goesOn (if-true _ _ o) ∙ e)
-    (λ (o : isOther c ≡ false). ap goesOn (if-false _ _ o))
+    (λ (o : isOther c ≡ true). ap wordGoesOn (if-true _ _ o) ∙ e)
+    (λ (o : isOther c ≡ false). ap wordGoesOn (if-false _ _ o))
 
 -- a word of one byte that is no sign
 one-byte : (b : ℕ) → isOther b ≡ true → hasSign (b ∷ []) ≡ false
@@ -277,7 +277,7 @@ bare-nothing : bare [] ≡ []
 unfolding bare
 bare-nothing = refl
 
-module _ (b : ℕ) (s : List ℕ) (o : isOther b ≡ true) (f : isBlank b ≡ false) (g : goesOn s ≡ true) (n : Next s) where
+module _ (b : ℕ) (s : List ℕ) (o : isOther b ≡ true) (f : isBlank b ≡ false) (g : wordGoesOn s ≡ true) (n : Next s) where
   abbrev c : ℕ
   c = n .byte
 
@@ -292,7 +292,7 @@ module _ (b : ℕ) (s : List ℕ) (o : isOther b ≡ true) (f : isBlank b ≡ fa
   left-goes later =
       by-cases _ (isOther c)
       (λ (oc : isOther c ≡ true).
-      let q : goesOn (beforeSign s) ≡ true = ap (λ (x : List ℕ). goesOn (beforeSign x)) (n .are) ∙ goes-before c (n .others) oc ∙ ap goesOn (sym (n .are)) ∙ g in
+      let q : wordGoesOn (beforeSign s) ≡ true = ap (λ (x : List ℕ). wordGoesOn (beforeSign x)) (n .are) ∙ goes-before c (n .others) oc ∙ ap wordGoesOn (sym (n .are)) ∙ g in
       bare-on b (beforeSign s) f q ∙ ap (grow b) (later ∙ ap cutLeft (starts .are)) ∙ sym (left-grown b c (starts .first) (starts .others) o oc) ∙ ap cutLeft (sym grown-words))
       (λ (oc : isOther c ≡ false).
       let q : beforeSign s ≡ [] = ap beforeSign (n .are) ∙ before-here c (n .others) oc in
@@ -309,9 +309,9 @@ left-other b s o later =
     by-cases _ (isBlank b)
     (λ (e : isBlank b ≡ true). bare-blank b (beforeSign s) e ∙ later ∙ ap cutLeft (sym (bare-blank b s e)))
     (λ (e : isBlank b ≡ false).
-    by-cases _ (goesOn s)
-    (λ (g : goesOn s ≡ true). left-goes b s o e g (next-of s g) later)
-    (λ (g : goesOn s ≡ false).
+    by-cases _ (wordGoesOn s)
+    (λ (g : wordGoesOn s ≡ true). left-goes b s o e g (next-of s g) later)
+    (λ (g : wordGoesOn s ≡ false).
     bare-last b (beforeSign s) e (before-ends s g) ∙ ap (λ (ws : List (List ℕ)). (b ∷ []) ∷ ws) later ∙ sym (left-on (b ∷ []) (bare s) (one-byte b o)) ∙ ap cutLeft (sym (bare-last b s e g))))
 
 -- a sign is no blank, and opens a word
@@ -338,7 +338,7 @@ filled-none : (ws : List (List ℕ)) → filled [] ws ≡ ws
 unfolding filled
 filled-none ws = refl
 
-past-next : (b : ℕ) (s : List ℕ) → isOther b ≡ false → goesOn s ≡ true → Next s → cutRight (bare (b ∷ s)) ≡ bare s
+past-next : (b : ℕ) (s : List ℕ) → isOther b ≡ false → wordGoesOn s ≡ true → Next s → cutRight (bare (b ∷ s)) ≡ bare s
 unfolding filled grow
 past-next b s o g n =
     let w : Starts (n .byte) (bare s) = subst (λ (x : List ℕ). Starts (n .byte) (bare x)) (sym (n .are)) (bare-starts (n .byte) (n .others) (n .filled-byte)) in
@@ -347,13 +347,13 @@ past-next b s o g n =
 
 -- past the sign: the rest of its word, and the words after it
 module _ (b : ℕ) (s : List ℕ) (o : isOther b ≡ false) where
-  past-goes : goesOn s ≡ true → cutRight (bare (b ∷ s)) ≡ bare s
+  past-goes : wordGoesOn s ≡ true → cutRight (bare (b ∷ s)) ≡ bare s
   past-goes g = past-next b s o g (next-of s g)
 
   past-sign : cutRight (bare (b ∷ s)) ≡ bare s
   past-sign =
-      by-cases _ (goesOn s) past-goes
-      (λ (g : goesOn s ≡ false).
+      by-cases _ (wordGoesOn s) past-goes
+      (λ (g : wordGoesOn s ≡ false).
       ap cutRight (bare-last b s (sign-filled b s o) g) ∙ right-sign (b ∷ []) (bare s) (has-here b [] o) ∙ ap (λ (v : List ℕ). filled v (bare s)) (behind-here b [] o) ∙ filled-none (bare s))
 
 right-other : (b : ℕ) (s : List ℕ) → isOther b ≡ true → cutRight (bare (b ∷ s)) ≡ cutRight (bare s)
@@ -361,18 +361,18 @@ right-other b s o =
     by-cases _ (isBlank b)
     (λ (e : isBlank b ≡ true). ap cutRight (bare-blank b s e))
     (λ (e : isBlank b ≡ false).
-    by-cases _ (goesOn s)
-    (λ (g : goesOn s ≡ true). right-goes b s o e g (next-of s g))
-    (λ (g : goesOn s ≡ false). ap cutRight (bare-last b s e g) ∙ right-on (b ∷ []) (bare s) (one-byte b o)))
+    by-cases _ (wordGoesOn s)
+    (λ (g : wordGoesOn s ≡ true). right-goes b s o e g (next-of s g))
+    (λ (g : wordGoesOn s ≡ false). ap cutRight (bare-last b s e g) ∙ right-on (b ∷ []) (bare s) (one-byte b o)))
 
 any-other : (b : ℕ) (s : List ℕ) → isOther b ≡ true → anySign (bare (b ∷ s)) ≡ anySign (bare s)
 any-other b s o =
     by-cases _ (isBlank b)
     (λ (e : isBlank b ≡ true). ap anySign (bare-blank b s e))
     (λ (e : isBlank b ≡ false).
-    by-cases _ (goesOn s)
-    (λ (g : goesOn s ≡ true). any-goes b s o e g (next-of s g))
-    (λ (g : goesOn s ≡ false). ap anySign (bare-last b s e g) ∙ any-on (b ∷ []) (bare s) (one-byte b o)))
+    by-cases _ (wordGoesOn s)
+    (λ (g : wordGoesOn s ≡ true). any-goes b s o e g (next-of s g))
+    (λ (g : wordGoesOn s ≡ false). ap anySign (bare-last b s e g) ∙ any-on (b ∷ []) (bare s) (one-byte b o)))
 
 right-is : (s : List ℕ) → bare (behindSign s) ≡ cutRight (bare s)
 unfolding behindSign bare cutRight

@@ -15,7 +15,7 @@ use Rattle.base.specs.Bytes.{bytes, isBlank, lineFeed, isBefore, isFilled, isCo
 use Rattle.base.specs.Runs.{run, all}
 use Rattle.base.proofs.IfLaws.{if-true, if-false, by-cases, both-first, both-second}
 use Rattle.lex_line.specs.Lines.{Raw, pushed, lines, contentOf, isBlankLine}
-use Rattle.lex_line.specs.Words.{goesOn, words, firstOf, toEquals, hasEquals, leftOf, rightOf}
+use Rattle.lex_line.specs.Words.{wordGoesOn, words, firstOf, toEquals, hasEquals, leftOf, rightOf}
 use Rattle.line_place.specs.Place.{before, moved, movedByLine}
 use Rattle.line_place.specs.Place as place
 use Rattle.read_line.specs.Reading.{commentByte}
@@ -265,12 +265,12 @@ front-shorter : (c x : List ℕ) (b : ℕ) (y : List ℕ) → x ≡ b ∷ y → 
 front-shorter c x b y e = let n : length (c ++ x) ≡ length c + suc (length y) = length-append c x ∙ ap (λ (s : List ℕ). length c + length s) e in omega arith
 
 -- whether a word goes on is told by what stands first
-goes-first : (x y z : List ℕ) (b : ℕ) → goesOn (x ++ (b ∷ y)) ≡ goesOn (x ++ (b ∷ z))
-unfolding goesOn
+goes-first : (x y z : List ℕ) (b : ℕ) → wordGoesOn (x ++ (b ∷ y)) ≡ wordGoesOn (x ++ (b ∷ z))
+unfolding wordGoesOn
 goes-first [] y z b = refl
 goes-first (d ∷ x) y z b = refl
 
-bare-choice : (d : ℕ) (s t : List ℕ) → goesOn s ≡ goesOn t → bare s ≡ bare t → bare (d ∷ s) ≡ bare (d ∷ t)
+bare-choice : (d : ℕ) (s t : List ℕ) → wordGoesOn s ≡ wordGoesOn t → bare s ≡ bare t → bare (d ∷ s) ≡ bare (d ∷ t)
 unfolding bare
 bare-choice d s t g e = λ i. if isBlank d then e i else if g i then grow d (e i) else (d ∷ []) ∷ e i
 
@@ -278,8 +278,8 @@ bare-doubled : (x y : List ℕ) (b c : ℕ) → isBlank b ≡ true → isBlank c
 bare-doubled [] y b c e f = bare-blank b (c ∷ y) e ∙ bare-blank c y f ∙ sym (bare-blank b y e)
 bare-doubled (d ∷ x) y b c e f = bare-choice d (x ++ (b ∷ c ∷ y)) (x ++ (b ∷ y)) (goes-first x (c ∷ y) y b) (bare-doubled x y b c e f)
 
-goes-end : (s : List ℕ) (b : ℕ) → isBlank b ≡ true → goesOn (s ++ (b ∷ [])) ≡ goesOn s
-unfolding goesOn isFilled
+goes-end : (s : List ℕ) (b : ℕ) → isBlank b ≡ true → wordGoesOn (s ++ (b ∷ [])) ≡ wordGoesOn s
+unfolding wordGoesOn isFilled
 goes-end [] b e = ap not e
 goes-end (d ∷ s) b e = refl
 

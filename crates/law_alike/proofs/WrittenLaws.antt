@@ -18,7 +18,7 @@ use Rattle.lex_keyword.specs.Names.{row, bandwidth}
 use Rattle.line_place.specs.Place.{opensMatrix, keepsMatrix, done}
 use Rattle.line_place.specs.Place as place
 use Rattle.line_matrix.specs.declared.Matrix as forward
-use Rattle.line_matrix.specs.Matrix.{diagonal, banded, sparse, newMatrix, withRow, withColumn, withBandwidth, conductorsOf}
+use Rattle.line_matrix.specs.Matrix.{diagonal, banded, sparse, newMatrix, withRow, withColumn, withBandwidth, shapeConductors}
 use Rattle.line_keyword.specs.declared.State.{State}
 use Rattle.line_keyword.specs.declared.Counts.{Counts}
 use Rattle.line_keyword.specs.State.{startState}
@@ -493,7 +493,7 @@ module _ (l : Line) (ls : List Line) (s : State) (q : l .place ≡ place.matrix)
   rest-closed : eqb (keyOf l) plain ≡ false → keepsMatrix (keyOf l) ≡ false → Kept l s → Rest s (l ∷ ls)
   rest-closed k shut kept =
       record {
-        conductors = conductorsOf (s .matrix) (s .counts .values);
+        conductors = shapeConductors (s .matrix) (s .counts .values);
         last = s .counts .values;
         body =
             rw (up-out inMatrix l ls (matrix-left l k shut))

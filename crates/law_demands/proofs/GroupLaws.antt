@@ -14,7 +14,7 @@ use Rattle.base.specs.Broken.{Rule, _when_, first, firstBroken}
 use Rattle.base.proofs.IfLaws.{if-true, if-false, by-cases, by-test}
 use Rattle.lex_line.specs.Lines.{Raw, lines, contentOf, isBlankLine}
 use Rattle.lex_line.specs.Words.{words, firstOf}
-use Rattle.lex_line.specs.ByteRules.{lineRule, linesRule, judged}
+use Rattle.lex_line.specs.ByteRules.{rawLineRule, linesRule, refusedOr}
 use Rattle.lex_line.specs.declared.Checked.{Checked}
 use Rattle.lex_line.specs.declared.Checked.the-variants as bytes
 use Rattle.lex_keyword.specs.Names.{beginHeader}
@@ -40,14 +40,14 @@ use Rattle.line_keyword.specs.Keywords.{keywordRule}
 use Rattle.line_keyword.specs.declared.Counts.{Counts}
 use Rattle.line_keyword.specs.declared.State.{State}
 use Rattle.read_line.specs.Reading as reading
-use Rattle.read_line.specs.Reading.{listRule, lineStep, keywordStep, bracketStep, beforeStep, stepOf, goes, breaks, atEnd, onward, run, commentByte, argumentFrom}
+use Rattle.read_line.specs.Reading.{listRule, lineStep, keywordStep, bracketStep, beforeStep, lineResult, goes, breaks, atEnd, onward, readFrom, commentByte, argumentFrom}
 use Rattle.read_line.specs.declared.Step.{Step}
 use Rattle.read_line.specs.declared.Reading.{Reading}
 use Rattle.read_line.specs.declared.Reading.the-variants.{Read, Refused}
 use Rattle.doc.specs.Holds.{Each}
 use Rattle.doc.specs.Holds.Each.{none, more}
 use Rattle.cross_rules.specs.Listed.{Looked}
-use Rattle.law_demands.specs.RuleBook.{sizeRules, characterRules, characterLooked, headRules, openRules, closedRules, pathRules, mapRules, pinRules, dataRules, listRules, lineRules, keywordRules, bracketRules, beforeRules, rulesOn, endRules, forwardLooked, roomRules, forward, rank}
+use Rattle.law_demands.specs.RuleBook.{sizeRules, characterRules, characterLooked, headRules, openRules, closedRules, pathRules, mapRules, pinRules, dataRules, listRules, lineRules, keywordRules, bracketRules, beforeRules, rulesOn, endOfTextRules, forwardLooked, roomRules, forward, rank}
 use Rattle.law_demands.proofs.BookLaws.{Ranked, Given, givenBy, given-later, given-here, Before, InOrder, last, followed, AllRanked}
 
 -- ---- the rules of a line are those of the reading
@@ -76,7 +76,7 @@ line-given content s =
     chosen (isText (s .place)) [] _ _ _ refl
     (chosen (eqb (s .place) place.matrix) (dataRules (dataLineOf (s .matrix .form) content) (s .matrix) (s .counts .values)) _ _ _ refl
     (chosen (eqb (s .place) place.path) (pathRules (pathLineOf content) (s .path) (s .counts .steps)) _ _ _ (path-given (pathLineOf content) (s .path) (s .counts .steps))
-    (chosen (eqb (s .place) place.pins) (pinRules content (s .map) (s .counts .pins)) _ _ _ refl
+    (chosen (eqb (s .place) place.pinList) (pinRules content (s .map) (s .counts .pins)) _ _ _ refl
     (chosen (eqb (s .place) place.mapHead) (mapRules (mapLineOf content) (s .map)) _ _ _ refl
     (chosen (eqb (s .place) place.head) (headRules (headLineOf content) (s .head)) _ _ _ refl
     (chosen (eqb (s .place) place.list) (listRules content) (12 when true ∷ []) _ _ (list-given content) refl))))))
@@ -136,8 +136,8 @@ before-number Unknown content s = goes-none s
 before-number Later content s = goes-none s
 before-number (Keyword k start) content s = step-chosen (eqb k beginHeader) _ _ _ _ (keyword-number k (argumentFrom content start) s) (goes-none s)
 
-pub step-number : (content : List ℕ) (s : State) → stepOf content s .number ≡ firstBroken (rulesOn content s)
-unfolding stepOf rulesOn
+pub step-number : (content : List ℕ) (s : State) → lineResult content s .number ≡ firstBroken (rulesOn content s)
+unfolding lineResult rulesOn
 step-number content s =
     step-chosen (isBlankLine content) _ _ _ _ (goes-none s)
     (step-chosen (eqb (s .place) done) _ _ _ _ (goes-none s)
@@ -203,7 +203,7 @@ keyword-ranked k argument s =
       ascends = (omega arith, (omega arith, (omega arith, (omega arith, (omega arith, (omega arith, (omega arith, tt)))))));
     }
 
-end-ranked : (s : State) → Ranked forward (endRules s)
+end-ranked : (s : State) → Ranked forward (endOfTextRules s)
 unfolding rank if_then_else_ both
 end-ranked s = record { numbered = (omega arith, (omega arith, tt)); ascends = (omega arith, (omega arith, tt)) }
 
@@ -221,7 +221,7 @@ line-ranked content s =
     either-ranked (isText (s .place)) _ _ (none-ranked forward)
     (either-ranked (eqb (s .place) place.matrix) _ _ (data-ranked (dataLineOf (s .matrix .form) content) (s .matrix) (s .counts .values))
     (either-ranked (eqb (s .place) place.path) _ _ (path-ranked (pathLineOf content) (s .path) (s .counts .steps))
-    (either-ranked (eqb (s .place) place.pins) _ _ (pin-ranked content (s .map) (s .counts .pins))
+    (either-ranked (eqb (s .place) place.pinList) _ _ (pin-ranked content (s .map) (s .counts .pins))
     (either-ranked (eqb (s .place) place.mapHead) _ _ (map-ranked (mapLineOf content) (s .map))
     (either-ranked (eqb (s .place) place.head) _ _ (head-ranked (headLineOf content) (s .head))
     (either-ranked (eqb (s .place) place.list) _ _ (eleven-ranked (isReserved (firstOf (words content)))) (twelve-ranked true)))))))
@@ -259,7 +259,7 @@ lookAt : ℕ → Raw → Looked
 lookAt n l = record { line = n; rules = characterRules l }
 
 pub characters-given : (n : ℕ) (ls : List Raw) → linesRule n ls ≡ checkedBy (givenBy (characterLooked n ls))
-unfolding linesRule judged lineRule characterLooked givenBy
+unfolding linesRule refusedOr rawLineRule characterLooked givenBy
 characters-given n [] = sym (if-true _ _ (eq-eqb 0 0 refl))
 characters-given n (l ∷ ls) =
     by-cases _ (eqb (firstBroken (characterRules l)) 0)
@@ -294,13 +294,13 @@ pub data Told : Reading → Given → Type 0 where
 -- what the end of the text breaks
 module _ (s : State) where
   abbrev endLook : Looked
-  endLook = record { line = 0; rules = endRules s }
+  endLook = record { line = 0; rules = endOfTextRules s }
 
-  alone : givenBy (endLook ∷ []) ≡ (if eqb (firstBroken (endRules s)) 0 then record { number = 0; line = 0 } else record { number = firstBroken (endRules s); line = 0 })
+  alone : givenBy (endLook ∷ []) ≡ (if eqb (firstBroken (endOfTextRules s)) 0 then record { number = 0; line = 0 } else record { number = firstBroken (endOfTextRules s); line = 0 })
   unfolding givenBy
   alone = refl
 
-  end-first : firstBroken (endRules s) ≡ (if eqb (s .place) before then 5 else if eqb (s .place) done then 0 else 10)
+  end-first : firstBroken (endOfTextRules s) ≡ (if eqb (s .place) before then 5 else if eqb (s .place) done then 0 else 10)
   unfolding first if_then_else_
   end-first = by-bools (eqb (s .place) before) (eqb (s .place) done)
     where
@@ -315,16 +315,16 @@ module _ (s : State) where
       by-cases _ (eqb (s .place) done)
       (λ (d : eqb (s .place) done ≡ true).
       let b : eqb (s .place) before ≡ false = ne-eqb _ _ (λ (e : s .place ≡ before). let p : s .place ≡ done = eqb-true _ _ d in omega arith) in
-      let z : firstBroken (endRules s) ≡ 0 = end-first ∙ if-false _ _ b ∙ if-true _ _ d in
+      let z : firstBroken (endOfTextRules s) ≡ 0 = end-first ∙ if-false _ _ b ∙ if-true _ _ d in
       rw (if-true {A = Reading} (Read (s .counts)) (if eqb (s .place) before then Refused 5 0 else Refused 10 0) d) (read-on (s .counts) (ap (λ (g : Given). g .number) (alone ∙ if-true _ _ (eq-eqb _ _ z)))))
       (λ (d : eqb (s .place) done ≡ false).
       by-cases _ (eqb (s .place) before)
       (λ (b : eqb (s .place) before ≡ true). told 5 (λ (e : 5 ≡ 0). omega arith) (if-false _ _ d ∙ if-true _ _ b) (end-first ∙ if-true _ _ b))
       (λ (b : eqb (s .place) before ≡ false). told 10 (λ (e : 10 ≡ 0). omega arith) (if-false _ _ d ∙ if-false _ _ b) (end-first ∙ if-false _ _ b ∙ if-false _ _ d)))
     where
-      told : (k : ℕ) → (k ≡ 0 → ⊥) → (if eqb (s .place) done then Read (s .counts) else (if eqb (s .place) before then Refused 5 0 else Refused 10 0)) ≡ Refused k 0 → firstBroken (endRules s) ≡ k → Told (if eqb (s .place) done then Read (s .counts) else (if eqb (s .place) before then Refused 5 0 else Refused 10 0)) (givenBy (endLook ∷ []))
+      told : (k : ℕ) → (k ≡ 0 → ⊥) → (if eqb (s .place) done then Read (s .counts) else (if eqb (s .place) before then Refused 5 0 else Refused 10 0)) ≡ Refused k 0 → firstBroken (endOfTextRules s) ≡ k → Told (if eqb (s .place) done then Read (s .counts) else (if eqb (s .place) before then Refused 5 0 else Refused 10 0)) (givenBy (endLook ∷ []))
       told k n e f =
-          let g : givenBy (endLook ∷ []) ≡ record { number = k; line = 0 } = alone ∙ if-false _ _ (ne-eqb _ _ (λ (z : firstBroken (endRules s) ≡ 0). n (sym f ∙ z))) ∙ ap (λ (m : ℕ). record { number = m; line = 0 }) f in
+          let g : givenBy (endLook ∷ []) ≡ record { number = k; line = 0 } = alone ∙ if-false _ _ (ne-eqb _ _ (λ (z : firstBroken (endOfTextRules s) ≡ 0). n (sym f ∙ z))) ∙ ap (λ (m : ℕ). record { number = m; line = 0 }) f in
           rw (e, g) (refused-at k 0 n)
 
 module _ (step : Step) (n : ℕ) (more-lines : State → Reading) where
@@ -336,24 +336,24 @@ module _ (step : Step) (n : ℕ) (more-lines : State → Reading) where
   unfolding onward
   on-broken e = if-false _ _ e
 
-pub forward-told : (n : ℕ) (ls : List Raw) (s : State) → Told (run n ls s) (givenBy (forwardLooked n ls s))
-unfolding run forwardLooked
+pub forward-told : (n : ℕ) (ls : List Raw) (s : State) → Told (readFrom n ls s) (givenBy (forwardLooked n ls s))
+unfolding readFrom forwardLooked
 forward-told n [] s = end-told s
 forward-told n (l ∷ ls) s =
     by-cases _ (eqb (firstBroken (rulesOn (contentOf commentByte (l .bytes)) s)) 0)
     (λ (e : eqb (firstBroken (rulesOn (contentOf commentByte (l .bytes)) s)) 0 ≡ true).
-    let kept : eqb (stepOf (contentOf commentByte (l .bytes)) s .number) 0 ≡ true = ap (λ (m : ℕ). eqb m 0) (step-number (contentOf commentByte (l .bytes)) s) ∙ e in
-    rw (on-kept (stepOf (contentOf commentByte (l .bytes)) s) n (run (n + 1) ls) kept, if-true {A = List Looked} (forwardLooked (n + 1) ls (stepOf (contentOf commentByte (l .bytes)) s .state)) [] e, given-later (record { line = n; rules = rulesOn (contentOf commentByte (l .bytes)) s }) (forwardLooked (n + 1) ls (stepOf (contentOf commentByte (l .bytes)) s .state)) (eqb-true _ _ e)) (forward-told (n + 1) ls (stepOf (contentOf commentByte (l .bytes)) s .state)))
+    let kept : eqb (lineResult (contentOf commentByte (l .bytes)) s .number) 0 ≡ true = ap (λ (m : ℕ). eqb m 0) (step-number (contentOf commentByte (l .bytes)) s) ∙ e in
+    rw (on-kept (lineResult (contentOf commentByte (l .bytes)) s) n (readFrom (n + 1) ls) kept, if-true {A = List Looked} (forwardLooked (n + 1) ls (lineResult (contentOf commentByte (l .bytes)) s .state)) [] e, given-later (record { line = n; rules = rulesOn (contentOf commentByte (l .bytes)) s }) (forwardLooked (n + 1) ls (lineResult (contentOf commentByte (l .bytes)) s .state)) (eqb-true _ _ e)) (forward-told (n + 1) ls (lineResult (contentOf commentByte (l .bytes)) s .state)))
     (λ (e : eqb (firstBroken (rulesOn (contentOf commentByte (l .bytes)) s)) 0 ≡ false).
-    let broken : eqb (stepOf (contentOf commentByte (l .bytes)) s .number) 0 ≡ false = ap (λ (m : ℕ). eqb m 0) (step-number (contentOf commentByte (l .bytes)) s) ∙ e in
-    rw (on-broken (stepOf (contentOf commentByte (l .bytes)) s) n (run (n + 1) ls) broken, given-here (record { line = n; rules = rulesOn (contentOf commentByte (l .bytes)) s }) (if eqb (firstBroken (rulesOn (contentOf commentByte (l .bytes)) s)) 0 then forwardLooked (n + 1) ls (stepOf (contentOf commentByte (l .bytes)) s .state) else []) (eqb-false _ _ e), sym (step-number (contentOf commentByte (l .bytes)) s)) (refused-at (stepOf (contentOf commentByte (l .bytes)) s .number) n (eqb-false _ _ broken)))
+    let broken : eqb (lineResult (contentOf commentByte (l .bytes)) s .number) 0 ≡ false = ap (λ (m : ℕ). eqb m 0) (step-number (contentOf commentByte (l .bytes)) s) ∙ e in
+    rw (on-broken (lineResult (contentOf commentByte (l .bytes)) s) n (readFrom (n + 1) ls) broken, given-here (record { line = n; rules = rulesOn (contentOf commentByte (l .bytes)) s }) (if eqb (firstBroken (rulesOn (contentOf commentByte (l .bytes)) s)) 0 then forwardLooked (n + 1) ls (lineResult (contentOf commentByte (l .bytes)) s .state) else []) (eqb-false _ _ e), sym (step-number (contentOf commentByte (l .bytes)) s)) (refused-at (lineResult (contentOf commentByte (l .bytes)) s .number) n (eqb-false _ _ broken)))
 
 pub forward-ranked : (n : ℕ) (ls : List Raw) (s : State) → AllRanked forward (forwardLooked n ls s)
 unfolding forwardLooked
 forward-ranked n [] s = more (end-ranked s) none
 forward-ranked n (l ∷ ls) s =
     more (rules-ranked _ s)
-    (by-test (AllRanked forward) (eqb (firstBroken (rulesOn (contentOf commentByte (l .bytes)) s)) 0) _ _ (λ e. forward-ranked (n + 1) ls (stepOf (contentOf commentByte (l .bytes)) s .state)) (λ e. none))
+    (by-test (AllRanked forward) (eqb (firstBroken (rulesOn (contentOf commentByte (l .bytes)) s)) 0) _ _ (λ e. forward-ranked (n + 1) ls (lineResult (contentOf commentByte (l .bytes)) s .state)) (λ e. none))
 
 -- the end of the text stands last
 before-end : (n : ℕ) (rules : List Rule) (s : State) → 0 < n → Before (record { line = n; rules = rules }) (endLook s)
@@ -364,12 +364,12 @@ unfolding forwardLooked
 forward-behind m rules n [] s p l = more (before-end m rules s p) none
 forward-behind m rules n (r ∷ ls) s p l =
     more (before-at m rules _ p l)
-    (by-test (Each (Before (record { line = m; rules = rules }))) (eqb (firstBroken (rulesOn (contentOf commentByte (r .bytes)) s)) 0) _ _ (λ e. forward-behind m rules (n + 1) ls (stepOf (contentOf commentByte (r .bytes)) s .state) p (omega arith)) (λ e. none))
+    (by-test (Each (Before (record { line = m; rules = rules }))) (eqb (firstBroken (rulesOn (contentOf commentByte (r .bytes)) s)) 0) _ _ (λ e. forward-behind m rules (n + 1) ls (lineResult (contentOf commentByte (r .bytes)) s .state) p (omega arith)) (λ e. none))
 
 pub forward-ordered : (n : ℕ) (ls : List Raw) (s : State) → 0 < n → InOrder (forwardLooked n ls s)
 unfolding forwardLooked
 forward-ordered n [] s p = followed none last
 forward-ordered n (l ∷ ls) s p =
     followed
-    (by-test (Each (Before _)) (eqb (firstBroken (rulesOn (contentOf commentByte (l .bytes)) s)) 0) _ _ (λ e. forward-behind n _ (n + 1) ls (stepOf (contentOf commentByte (l .bytes)) s .state) p (omega arith)) (λ e. none))
-    (by-test InOrder (eqb (firstBroken (rulesOn (contentOf commentByte (l .bytes)) s)) 0) _ _ (λ e. forward-ordered (n + 1) ls (stepOf (contentOf commentByte (l .bytes)) s .state) (omega arith)) (λ e. last))
+    (by-test (Each (Before _)) (eqb (firstBroken (rulesOn (contentOf commentByte (l .bytes)) s)) 0) _ _ (λ e. forward-behind n _ (n + 1) ls (lineResult (contentOf commentByte (l .bytes)) s .state) p (omega arith)) (λ e. none))
+    (by-test InOrder (eqb (firstBroken (rulesOn (contentOf commentByte (l .bytes)) s)) 0) _ _ (λ e. forward-ordered (n + 1) ls (lineResult (contentOf commentByte (l .bytes)) s .state) (omega arith)) (λ e. last))

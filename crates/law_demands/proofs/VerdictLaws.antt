@@ -19,7 +19,7 @@ use Rattle.lex_line.specs.declared.Checked.{Checked}
 use Rattle.lex_line.specs.declared.Checked.the-variants as bytes
 use Rattle.line_keyword.specs.State.{startState}
 use Rattle.line_keyword.specs.declared.Counts.{Counts}
-use Rattle.read_line.specs.Reading.{run, readingOf}
+use Rattle.read_line.specs.Reading.{readFrom, readingOf}
 use Rattle.read_line.specs.declared.Reading.{Reading}
 use Rattle.read_line.specs.declared.Reading.the-variants as reading
 use Rattle.doc.specs.Document.{Document, documentOf}
@@ -79,7 +79,7 @@ among-some : {x : Looked} {xs : List Looked} → Among x xs → NotEmpty xs
 among-some front = tt
 among-some (further m) = tt
 
-read-run : (t : List ℕ) {answer : Reading} → readingOf t ≡ answer → run 1 (lines t) startState ≡ answer
+read-run : (t : List ℕ) {answer : Reading} → readingOf t ≡ answer → readFrom 1 (lines t) startState ≡ answer
 unfolding readingOf
 read-run t e = e
 

@@ -25,7 +25,7 @@ use Rattle.line_head.specs.Head.{headLineOf}
 use Rattle.line_head.specs.Head as head
 use Rattle.line_head.specs.declared.HeadLine.{HeadLine}
 use Rattle.line_head.specs.declared.Head.{Head}
-use Rattle.line_path.specs.Path.{pathLineOf, isBadFork, isStep, mostSteps, closed, side}
+use Rattle.line_path.specs.Path.{pathLineOf, isBadFork, isStepLine, mostSteps, closed, side}
 use Rattle.line_path.specs.Path as path
 use Rattle.line_path.specs.declared.PathLine.{PathLine}
 use Rattle.line_path.specs.declared.Path.{Path}
@@ -40,7 +40,7 @@ use Rattle.line_matrix.specs.declared.Matrix.{Matrix}
 use Rattle.line_keyword.specs.Keywords.{isForkOpen, isMisplaced, isShapeBroken, isPastBound}
 use Rattle.line_keyword.specs.State.{startState}
 use Rattle.line_keyword.specs.declared.State.{State}
-use Rattle.read_line.specs.Reading.{commentByte, argumentFrom, stepOf}
+use Rattle.read_line.specs.Reading.{commentByte, argumentFrom, lineResult}
 use Rattle.doc.specs.Document.{documentOf}
 use Rattle.doc.specs.Records.{tableOf}
 use Rattle.cross_rules.specs.Listed.{Looked, looked, Among}
@@ -65,16 +65,16 @@ characterLooked n (l ∷ ls) = record { line = n; rules = characterRules l } ∷
 -- a line of a model's head, of a path that is open or closed, of a map's head, a pin, numbers of a matrix, a name of the list
 abbrev pub headRules : HeadLine → Head → List Rule
 headRules l h =
-    11 when not (l .right) ∷ 12 when head.isOutOfOrder l h ∷ 13 when not (l .formed) ∷ 14 when not (l .bounded) ∷ []
+    11 when not (l .right) ∷ 12 when head.isHeadOutOfOrder l h ∷ 13 when not (l .formed) ∷ 14 when not (l .bounded) ∷ []
 
 abbrev pub openRules : PathLine → Path → ℕ → List Rule
 openRules l p steps =
     15 when isBadFork l p
     ∷ 11 when not (l .right)
-    ∷ 12 when path.isOutOfOrder l p
+    ∷ 12 when path.isPathOutOfOrder l p
     ∷ 13 when not (l .formed)
     ∷ 14 when not (l .bounded)
-    ∷ 17 when both (isStep l) (leb mostSteps steps)
+    ∷ 17 when both (isStepLine l) (leb mostSteps steps)
     ∷ []
 
 abbrev pub closedRules : PathLine → Path → List Rule
@@ -85,7 +85,7 @@ pathRules l p steps = if eqb (p .stage) closed then closedRules l p else openRul
 
 abbrev pub mapRules : MapLine → Map → List Rule
 mapRules l m =
-    11 when not (l .right) ∷ 12 when pinMap.isOutOfOrder l m ∷ 13 when not (l .formed) ∷ 14 when not (l .bounded) ∷ []
+    11 when not (l .right) ∷ 12 when pinMap.isMapOutOfOrder l m ∷ 13 when not (l .formed) ∷ 14 when not (l .bounded) ∷ []
 
 abbrev pub pinRules : List ℕ → Map → ℕ → List Rule
 pinRules content m total =
@@ -93,7 +93,7 @@ pinRules content m total =
 
 abbrev pub dataRules : DataLine → Matrix → ℕ → List Rule
 dataRules l m values =
-    12 when matrix.isOutOfOrder l m
+    12 when matrix.isDataOutOfOrder l m
     ∷ 13 when not (l .formed)
     ∷ 14 when not (l .bounded)
     ∷ 17 when areTooMany values (l .numbers)
@@ -108,7 +108,7 @@ lineRules content s =
     if isText (s .place) then [] else
     if eqb (s .place) place.matrix then dataRules (dataLineOf (s .matrix .form) content) (s .matrix) (s .counts .values) else
     if eqb (s .place) place.path then pathRules (pathLineOf content) (s .path) (s .counts .steps) else
-    if eqb (s .place) place.pins then pinRules content (s .map) (s .counts .pins) else
+    if eqb (s .place) place.pinList then pinRules content (s .map) (s .counts .pins) else
     if eqb (s .place) place.mapHead then mapRules (mapLineOf content) (s .map) else
     if eqb (s .place) place.head then headRules (headLineOf content) (s .head) else
     if eqb (s .place) place.list then listRules content else 12 when true ∷ []
@@ -150,16 +150,16 @@ rulesOn content s =
     if eqb (s .place) before then beforeRules (bracketOf content) content s else bracketRules (bracketOf content) content s
 
 -- "5 HEADER: no [Begin Header] line (line 0)", "10 END: text stops before [End] (line 0)"
-abbrev pub endRules : State → List Rule
-endRules s = 5 when eqb (s .place) before ∷ 10 when not (eqb (s .place) done) ∷ []
+abbrev pub endOfTextRules : State → List Rule
+endOfTextRules s = 5 when eqb (s .place) before ∷ 10 when not (eqb (s .place) done) ∷ []
 
 -- forward as long as no line breaks a rule; line 0 last
 unfoldable pub forwardLooked : ℕ → List Raw → State → List Looked
-forwardLooked n [] s = record { line = 0; rules = endRules s } ∷ []
+forwardLooked n [] s = record { line = 0; rules = endOfTextRules s } ∷ []
 forwardLooked n (l ∷ ls) s =
     record { line = n; rules = rulesOn (contentOf commentByte (l .bytes)) s }
     ∷ (if eqb (firstBroken (rulesOn (contentOf commentByte (l .bytes)) s)) 0
-    then forwardLooked (n + 1) ls (stepOf (contentOf commentByte (l .bytes)) s .state)
+    then forwardLooked (n + 1) ls (lineResult (contentOf commentByte (l .bytes)) s .state)
     else [])
 
 -- ---- 18, for a table of so many words

@@ -7,7 +7,7 @@ use lib.ListN.{length, replicate, length-replicate}
 use Rattle.intake.specs.Verdict.{acceptedWith, verdictOf, tableFor}
 use Rattle.intake.specs.declared.Answer.the-variants.{Accepted}
 use Rattle.law_demands.specs.Demands.{Conforms}
-use Rattle.law_third.specs.Third.{Taken, SameAnswers, Third}
+use Rattle.law_third.specs.Third.{AcceptedTable, SameAnswers, Third}
 use Rattle.law_third.proofs.ThirdLaws.{third}
 use Rattle.law_examples.proofs.ExampleLaws.{example, first, second, example-accepted, first-accepted, second-accepted, first-second}
 
@@ -18,7 +18,7 @@ lent = replicate 8_192 0
 abbrev left : List ℕ → ℕ → List ℕ
 left t words = tableFor t (length lent) (acceptedWith words)
 
-taken-of : (t : List ℕ) (words : ℕ) → verdictOf t 8_192 ≡ acceptedWith words → Taken t (left t words)
+taken-of : (t : List ℕ) (words : ℕ) → verdictOf t 8_192 ≡ acceptedWith words → AcceptedTable t (left t words)
 taken-of t words e =
     record {
       before = lent;

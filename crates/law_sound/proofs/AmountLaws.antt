@@ -20,7 +20,7 @@ use Rattle.lex_number.specs.declared.Number.{Number}
 use Rattle.lex_number.specs.declared.Number.the-variants as number
 use Rattle.lex_number.proofs.NumberLaws.{number-word}
 use Rattle.line_place.specs.Place as place
-use Rattle.line_path.specs.Path.{plainLine, isMult, isSectionLine, amountFormed, amountBounded, sectionLine, lineSaying, pathLineOf, closed, mostSteps, isBadFork, isOutOfOrder, isStep, openRule, pathRule}
+use Rattle.line_path.specs.Path.{plainLine, isMult, isSectionLine, amountFormed, amountBounded, sectionLine, lineSaying, pathLineOf, closed, mostSteps, isBadFork, isPathOutOfOrder, isStepLine, openRule, pathRule}
 use Rattle.line_path.specs.Path as path
 use Rattle.line_path.specs.declared.Path.{Path}
 use Rattle.line_path.specs.declared.PathLine.{PathLine}
@@ -37,18 +37,18 @@ use Rattle.doc.proofs.Goes.{Goes, Moves, idle-outside, text-ends}
 use Rattle.doc.proofs.Goes.Moves.{idle, plainly, keyed}
 use Rattle.doc.proofs.StepLaws.{says-said, saying-there, saying-elsewhere, saying-keyed, path-ruled}
 use Rattle.doc.proofs.StandsLaws.{each-gather, each-if, each-up}
-use Rattle.ask_sound.specs.Tests.{isLength}
+use Rattle.ask_sound.specs.Tests.{isLengthWord}
 use Rattle.law_sound.proofs.Bounds.{RightStep}
 
 -- ---- the amount of a line that breaks no rule
 
 pub record Amount (content : List ℕ) : Type 0 where
   pub mult : isMult content ≡ true → within 1 65_535 (amountOf content) ≡ true
-  pub long : isMult content ≡ false → isLength (amountOf content) ≡ true
+  pub long : isMult content ≡ false → isLengthWord (amountOf content) ≡ true
 
 -- a number above zero is written by a value word above zero
-length-word : (w : List ℕ) (x : Number) → numberOf w ≡ x → isFormed x ≡ true → path.isLength x ≡ true → isLength (wordIn x) ≡ true
-unfolding isLength
+length-word : (w : List ℕ) (x : Number) → numberOf w ≡ x → isFormed x ≡ true → path.isLength x ≡ true → isLengthWord (wordIn x) ≡ true
+unfolding isLengthWord
 length-word w (number.Value v) e f b = both-true _ _ (number-word w v e) b
 length-word w number.Malformed e f b = absurd (true≢false (sym f))
 length-word w number.Range e f b = absurd (true≢false (sym b))
@@ -62,7 +62,7 @@ amount-told content f b =
       mult = λ (m : isMult content ≡ true). ap (within 1 65_535) (if-true _ _ m) ∙ sym (if-true _ _ m) ∙ b;
       long =
           λ (m : isMult content ≡ false).
-          ap isLength (if-false _ _ m)
+          ap isLengthWord (if-false _ _ m)
           ∙ length-word (firstOf (rightOf content)) (numberOf (firstOf (rightOf content))) refl (sym (if-false _ _ m) ∙ f) (sym (if-false _ _ m) ∙ b);
     }
 
@@ -94,10 +94,10 @@ module _ (l : PathLine) (p : Path) (steps : ℕ) (kept : pathRule l p steps ≡ 
   tests =
       15 when isBadFork l p
       ∷ 11 when not (l .right)
-      ∷ 12 when isOutOfOrder l p
+      ∷ 12 when isPathOutOfOrder l p
       ∷ 13 when not (l .formed)
       ∷ 14 when not (l .bounded)
-      ∷ 17 when both (isStep l) (leb mostSteps steps)
+      ∷ 17 when both (isStepLine l) (leb mostSteps steps)
       ∷ []
 
   test-kept : (i : ℕ) → getD tests i sound .broken ≡ false
@@ -125,8 +125,8 @@ line-amount content p steps kept says =
 abbrev Amounts : Line → Type 0
 Amounts l = sayingAt l ≡ path.section → Amount (l .content)
 
-silent : (l : Line) → sayingAt l ≡ path.nothing → Amounts l
-silent l e h = let z : path.nothing ≡ path.section = sym e ∙ h in absurd (omega arith)
+silent : (l : Line) → sayingAt l ≡ path.saysNothing → Amounts l
+silent l e h = let z : path.saysNothing ≡ path.section = sym e ∙ h in absurd (omega arith)
 
 moves-amount : (l : Line) (s s' : State) → l .place ≡ s .place → Moves l s s' → Amounts l
 moves-amount l s s' e (idle i) =

@@ -16,7 +16,7 @@ use Rattle.doc.proofs.NamedLaws.{ModelNamed, AllNamed, all-named}
 use Rattle.doc.proofs.DepthLaws.{read-deep}
 use Rattle.doc.proofs.SectionLaws.{RightSection, text-sections}
 use Rattle.cross_rules.specs.Rules.{crossRule}
-use Rattle.cross_rules.specs.Way.Filled.{Filled}
+use Rattle.cross_rules.specs.Way.Filled.{HoldsText}
 use Rattle.cross_rules.proofs.TableLaws.{view-fits}
 use Rattle.ask_sound.specs.Sound.{areSound, isSound}
 use Rattle.law_sound.proofs.EndLaws.{filled-zeros, filled-records}
@@ -55,7 +55,7 @@ records-sound t d names bounds deep sections kept =
     (both-true _ _ (matrices-sound (matrices-right sections)) (values-sound (matrices-right sections)))))))
 
 pub bounded-sound :
-    (t table : List ℕ) → byteRules t ≡ Fine → Filled t table → Bounded (documentOf t) → crossRule (documentOf t) .number ≡ 0 →
+    (t table : List ℕ) → byteRules t ≡ Fine → HoldsText t table → Bounded (documentOf t) → crossRule (documentOf t) .number ≡ 0 →
     isSound t table ≡ true
 unfolding isSound
 bounded-sound t table fine filled bounds kept =

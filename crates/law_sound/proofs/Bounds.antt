@@ -9,13 +9,13 @@ use Rattle.base.specs.Bytes.{within}
 use Rattle.doc.specs.Lines.{noWord}
 use Rattle.doc.specs.Document.{Step, Model, Map, Document, endKind, sectionKind}
 use Rattle.doc.specs.Holds.{Each}
-use Rattle.ask_sound.specs.Tests.{isLength, isGrid}
+use Rattle.ask_sound.specs.Tests.{isLengthWord, isGrid}
 
 -- "amount: Mult, the Len value word, or 0; side start and length or 0 0"
 pub record RightStep (s : Step) : Type 0 where
   pub kind : s .kind < 4
   pub mult : s .kind ≡ sectionKind → s .mult ≡ true → within 1 65_535 (s .amount) ≡ true
-  pub long : s .kind ≡ sectionKind → s .mult ≡ false → isLength (s .amount) ≡ true
+  pub long : s .kind ≡ sectionKind → s .mult ≡ false → isLengthWord (s .amount) ≡ true
   pub amountless : (s .kind ≡ sectionKind → ⊥) → s .amount ≡ 0
   pub sideless : (s .kind ≡ endKind → ⊥) → s .side ≡ noWord
 

@@ -17,7 +17,7 @@ use Rattle.table_layout.specs.declared.View.{View}
 use Rattle.doc.specs.Document.{documentOf}
 use Rattle.doc.specs.Records.{flatten, tableOf, recordsOf}
 use Rattle.doc.proofs.RecordLaws.{records-wide, records-back}
-use Rattle.cross_rules.specs.Way.Filled.{Filled}
+use Rattle.cross_rules.specs.Way.Filled.{HoldsText}
 use Rattle.cross_rules.proofs.TableLaws.{view-fits}
 use Rattle.ask_sound.specs.Sound.{every, areZeros}
 
@@ -75,7 +75,7 @@ unfolding areZeros every
 zeros-are zero = refl
 zeros-are (suc n) = both-true _ _ refl (zeros-are n)
 
-module _ (t table : List ℕ) (filled : Filled t table) where
+module _ (t table : List ℕ) (filled : HoldsText t table) where
   abbrev zeros : ℕ
   zeros = length table - length (tableOf t)
 

@@ -34,14 +34,14 @@ use Rattle.line_map.specs.PinMap.{
   rows,
   pinList,
   orderOf,
-  wrongLine,
+  wrongMapLine,
   orderLine,
   listLine,
   sizeLine,
   mapLineOf,
   newMap,
   isOrdered,
-  isOutOfOrder,
+  isMapOutOfOrder,
   mapRule,
   mapNext,
 }
@@ -60,8 +60,8 @@ record Told (l : MapLine) : Type 0 where
 nothing-told : (l : MapLine) → l .value ≡ 0 → Told l
 nothing-told l e = record { order = λ (s : l .says ≡ order). omega arith; size = λ (b : l .bounded ≡ true). omega arith }
 
-wrong-told : (says : ℕ) → Told (wrongLine says)
-unfolding wrongLine
+wrong-told : (says : ℕ) → Told (wrongMapLine says)
+unfolding wrongMapLine
 wrong-told says = nothing-told _ refl
 
 order-most : (w : List ℕ) → orderOf w ≤ 3
@@ -106,7 +106,7 @@ line-told content =
 
 -- the line that leads to the pins says Pin_list
 list-says : (ws : List (List ℕ)) → listLine ws .says ≡ pinList
-unfolding listLine wrongLine
+unfolding listLine wrongMapLine
 list-says ws = by-test (λ (l : MapLine). l .says ≡ pinList) _ _ _ (λ e. refl) (λ e. refl)
 
 names-apart : same (bytes "Pin_list") (bytes "Pin_order") ≡ false
@@ -180,13 +180,13 @@ module _ (l : MapLine) (m : Map) where
 
   module _ (kept : mapRule l m ≡ 0) where
     abbrev tests : List Rule
-    tests = 11 when not (l .right) ∷ 12 when isOutOfOrder l m ∷ 13 when not (l .formed) ∷ 14 when not (l .bounded) ∷ []
+    tests = 11 when not (l .right) ∷ 12 when isMapOutOfOrder l m ∷ 13 when not (l .formed) ∷ 14 when not (l .bounded) ∷ []
 
     test-kept : (i : ℕ) → getD tests i sound .broken ≡ false
     unfolding mapRule
     test-kept i = all-kept tests (omega arith, (omega arith, (omega arith, (omega arith, tt)))) kept i
 
-    in-order : isOutOfOrder l m ≡ false
+    in-order : isMapOutOfOrder l m ≡ false
     in-order = test-kept 1
 
     bounded : l .bounded ≡ true
@@ -194,25 +194,25 @@ module _ (l : MapLine) (m : Map) where
 
     -- "repeated or out of order 12"
     order-first : l .says ≡ order → m .order ≡ 0
-    unfolding isOutOfOrder if_then_else_
+    unfolding isMapOutOfOrder if_then_else_
     order-first e =
         let z : not (eqb (m .order) 0) ≡ false = rw e at in-order in
         eqb-true _ _ (not-false _ z)
 
     rows-ordered : l .says ≡ rows → isOrdered m ≡ true
-    unfolding isOutOfOrder if_then_else_
+    unfolding isMapOutOfOrder if_then_else_
     rows-ordered e =
         let z : either (not (isOrdered m)) (not (eqb (m .rows) 0)) ≡ false = rw e at in-order in
         not-false _ (either-none-first _ _ z)
 
     columns-ordered : l .says ≡ columns → isOrdered m ≡ true
-    unfolding isOutOfOrder if_then_else_
+    unfolding isMapOutOfOrder if_then_else_
     columns-ordered e =
         let z : either (not (isOrdered m)) (not (eqb (m .columns) 0)) ≡ false = rw e at in-order in
         not-false _ (either-none-first _ _ z)
 
     list-ready : l .says ≡ pinList → either (eqb (m .order) 0) (both (isOrdered m) (either (eqb (m .rows) 0) (eqb (m .columns) 0))) ≡ false
-    unfolding isOutOfOrder if_then_else_
+    unfolding isMapOutOfOrder if_then_else_
     list-ready e = rw e at in-order
 
     module _ (told : Told l) (g : Growing m) where

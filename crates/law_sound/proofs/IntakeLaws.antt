@@ -8,7 +8,7 @@ use Prim.Native.Nat.{ℕ, _+_, _-_, _≤_}
 use native.Mathlib.Omega.{arith}
 use lib.ListN.{length, replicate, length-append, length-replicate}
 use Rattle.doc.specs.Records.{tableOf}
-use Rattle.cross_rules.specs.Way.Filled.{Filled}
+use Rattle.cross_rules.specs.Way.Filled.{HoldsText}
 use Rattle.ask_sound.specs.Sound.{isSound}
 use Rattle.intake.specs.Verdict.{Outcome, answerWords}
 use Rattle.intake.specs.declared.Answer.{Answer}
@@ -28,7 +28,7 @@ module _ (t table : List ℕ) (size : ℕ) (taken : Taken t size) (holds : table
       ∙ ap (λ (k : ℕ). length (tableOf t) + k) (length-replicate (size - length (tableOf t)) 0) in
       omega arith
 
-  taken-filled : Filled t table
+  taken-filled : HoldsText t table
   taken-filled = record { counts = taken .counts; reads = taken .reads; words = rw table-size holds }
 
   taken-sound : isSound t table ≡ true

@@ -54,11 +54,11 @@ module _ (m : pin_map.Map) (l : Line) (ls : List Line) where
   grid-skip e = ap (λ (x : pin_map.Map). gridIn x ls) (if-false _ _ e)
 
 module _ (l : Line) (ls : List Line) where
-  pin-here : standsIn place.pins l ≡ true → length (gather pinAt (l ∷ ls)) ≡ suc (length (gather pinAt ls))
+  pin-here : standsIn place.pinList l ≡ true → length (gather pinAt (l ∷ ls)) ≡ suc (length (gather pinAt ls))
   unfolding pinAt
   pin-here e = ap length (gather-more pinAt l ls ∙ ap (λ (ps : List Named). ps ++ gather pinAt ls) (if-true _ _ e))
 
-  pin-skip : standsIn place.pins l ≡ false → length (gather pinAt (l ∷ ls)) ≡ length (gather pinAt ls)
+  pin-skip : standsIn place.pinList l ≡ false → length (gather pinAt (l ∷ ls)) ≡ length (gather pinAt ls)
   unfolding pinAt
   pin-skip e = ap length (gather-more pinAt l ls ∙ ap (λ (ps : List Named). ps ++ gather pinAt ls) (if-false _ _ e))
 
@@ -77,21 +77,21 @@ module _ (l : Line) where
   unfolding inMap standsIn
   keyed-outside k = either-false _ _ (both-not-right _ _ k) (both-not-right _ _ k)
 
-  pins-inside : l .place ≡ place.pins → keyOf l ≡ plain → inMap l ≡ true
+  pins-inside : l .place ≡ place.pinList → keyOf l ≡ plain → inMap l ≡ true
   unfolding inMap
-  pins-inside e k = either-right _ _ (stands-there place.pins e k)
+  pins-inside e k = either-right _ _ (stands-there place.pinList e k)
 
   head-inside : l .place ≡ place.mapHead → keyOf l ≡ plain → inMap l ≡ true
   unfolding inMap
   head-inside e k = either-left _ _ (stands-there place.mapHead e k)
 
 module _ (content : List ℕ) (s : State) where
-  module _ (p : s .place ≡ place.pins) where
+  module _ (p : s .place ≡ place.pinList) where
     pins-rule : lineRule content s ≡ pinRule content (s .map) (s .counts .pins)
     unfolding lineRule isText either if_then_else_
     pins-rule = rw p
 
-    pins-stay : lineNext content s .place ≡ place.pins
+    pins-stay : lineNext content s .place ≡ place.pinList
     unfolding lineNext movedByLine if_then_else_
     pins-stay = rw p
 
@@ -112,7 +112,7 @@ module _ (content : List ℕ) (s : State) where
     unfolding lineNext movedByLine if_then_else_
     head-stays e = rw (p, e)
 
-    head-leads : same (firstOf (words content)) (bytes "Pin_list") ≡ true → lineNext content s .place ≡ place.pins
+    head-leads : same (firstOf (words content)) (bytes "Pin_list") ≡ true → lineNext content s .place ≡ place.pinList
     unfolding lineNext movedByLine if_then_else_
     head-leads e = rw (p, e)
 
@@ -130,7 +130,7 @@ module _ (k : ℕ) (argument : List ℕ) (s : State) (kept : keywordRule k argum
       true≢false z
 
   -- below it the map is closed with pins that fit
-  pins-fit : s .place ≡ place.pins → Fits (s .map)
+  pins-fit : s .place ≡ place.pinList → Fits (s .map)
   unfolding isUnclosed isShapeBroken both if_then_else_
   pins-fit p =
       let lack : pinsLack (s .map) ≡ false = rw p at closes-whole in
@@ -163,14 +163,14 @@ one-more : (m : pin_map.Map) → m .pins < 256 → withPin m .pins ≤ 256
 unfolding withPin
 one-more m f = omega arith
 
-module _ (l : Line) (ls : List Line) (s : State) (q : l .place ≡ place.pins) (p : s .place ≡ place.pins) where
+module _ (l : Line) (ls : List Line) (s : State) (q : l .place ≡ place.pinList) (p : s .place ≡ place.pinList) where
   pins-plain : keyOf l ≡ plain → Pins (withPin (s .map)) ls → Pins (s .map) (l ∷ ls)
   unfolding withPin isOrdered
   pins-plain k r =
       let up : upTo inMap (l ∷ ls) ≡ l ∷ upTo inMap ls = up-to-in inMap l ls (pins-inside l q k) in
       let above : standsIn place.mapHead l ≡ false = stands-elsewhere l place.mapHead (λ (z : l .place ≡ place.mapHead). omega arith) in
       let n : length (gather pinAt (upTo inMap (l ∷ ls))) ≡ suc (length (gather pinAt (upTo inMap ls))) =
-      ap (λ (xs : List Line). length (gather pinAt xs)) up ∙ pin-here l (upTo inMap ls) (stands-there l place.pins q k) in
+      ap (λ (xs : List Line). length (gather pinAt xs)) up ∙ pin-here l (upTo inMap ls) (stands-there l place.pinList q k) in
       let f : s .map .pins + 1 + length (gather pinAt (upTo inMap ls)) ≤ 256 = r .few in
       record {
         grid = λ (g : pin_map.Map). ap (gridIn g) up ∙ grid-skip g l (upTo inMap ls) above ∙ r .grid g;
@@ -182,7 +182,7 @@ module _ (l : Line) (ls : List Line) (s : State) (q : l .place ≡ place.pins) (
       }
 
   pins-step :
-      (s' : State) → Moves l s s' → s .map .pins ≤ 256 → (s' .place ≡ place.pins → s' .map .pins ≤ 256 → Pins (s' .map) ls) →
+      (s' : State) → Moves l s s' → s .map .pins ≤ 256 → (s' .place ≡ place.pinList → s' .map .pins ≤ 256 → Pins (s' .map) ls) →
       Pins (s .map) (l ∷ ls)
   pins-step s' (idle (ended x)) h ih = absurd (omega arith)
   pins-step s' (idle (waits x k)) h ih = absurd (omega arith)
@@ -194,10 +194,10 @@ module _ (l : Line) (ls : List Line) (s : State) (q : l .place ≡ place.pins) (
   pins-step s' (keyed k kept) h ih =
       no-pins (s .map) (l ∷ ls) h (pins-fit (keyOf l) (argumentOf l .text) s kept p) (up-to-out inMap l ls (keyed-outside l k))
 
-pins-rest : {s e : State} {ls : List Line} → Goes s ls e → e .place ≡ done → s .place ≡ place.pins → s .map .pins ≤ 256 → Pins (s .map) ls
+pins-rest : {s e : State} {ls : List Line} → Goes s ls e → e .place ≡ done → s .place ≡ place.pinList → s .map .pins ≤ 256 → Pins (s .map) ls
 pins-rest Goes.none d p h = absurd (omega arith)
 pins-rest (Goes.more {s = s} {s' = s'} {l = l} {ls = ls} q blank mv g) d p h =
-    pins-step l ls s (q ∙ p) p s' mv h (λ (x : s' .place ≡ place.pins) (f : s' .map .pins ≤ 256). pins-rest g d x f)
+    pins-step l ls s (q ∙ p) p s' mv h (λ (x : s' .place ≡ place.pinList) (f : s' .map .pins ≤ 256). pins-rest g d x f)
 
 -- ---- above Pin_list
 
@@ -221,7 +221,7 @@ module _ (l : Line) (ls : List Line) (s : State) (q : l .place ≡ place.mapHead
     pins-on : length (gather pinAt (upTo inMap (l ∷ ls))) ≡ length (gather pinAt (upTo inMap ls))
     pins-on =
         ap (λ (xs : List Line). length (gather pinAt xs)) up-here
-        ∙ pin-skip l (upTo inMap ls) (stands-elsewhere l place.pins (λ (z : l .place ≡ place.pins). omega arith))
+        ∙ pin-skip l (upTo inMap ls) (stands-elsewhere l place.pinList (λ (z : l .place ≡ place.pinList). omega arith))
 
     -- a line that leaves the map above its Pin_list
     head-on : Left (mapNext (mapLineOf (l .content)) (s .map)) ls → Left (s .map) (l ∷ ls)
@@ -290,7 +290,7 @@ record Led : Type 0 where
   familyText : moved place.familyText icmPinMap ≡ place.mapHead
   list : moved place.list icmPinMap ≡ place.mapHead
   mapHead : moved place.mapHead icmPinMap ≡ place.mapHead
-  pins : moved place.pins icmPinMap ≡ place.mapHead
+  pins : moved place.pinList icmPinMap ≡ place.mapHead
 
 led : Led
 unfolding moved inFamily isInModel isInFamily either if_then_else_
@@ -308,7 +308,7 @@ family-leads p h =
     (λ (c : eqb p place.list ≡ false).
     by-cases Leads (eqb p place.mapHead) (λ (e : eqb p place.mapHead ≡ true). leads place.mapHead (eqb-true _ _ e) (led .mapHead))
     (λ (d : eqb p place.mapHead ≡ false).
-    leads place.pins
+    leads place.pinList
     (eqb-true _ _ (sym (either-rest _ _ a ∙ either-rest _ _ b ∙ either-rest _ _ c ∙ either-rest _ _ d) ∙ h)) (led .pins)))))
   where
     Leads : Type 0

@@ -14,8 +14,8 @@ use Rattle.base.proofs.IfLaws.{by-test, both-true, both-first, both-second}
 use Rattle.line_matrix.specs.Matrix.{banded}
 use Rattle.lex_line.specs.Words.{Word}
 use Rattle.doc.specs.Document.{Named, Step, Model, Map, Value, Matrix, Section, conductorsOf}
-use Rattle.doc.specs.Records.{StepRecord, stepRecord, stepRecords, modelRecord, modelRecords, pinRecord, pinRecords, mapRecord, mapRecords, placeOf, sectionRecord, sectionRecords, matricesOf, matrixRecord, matrixRecords, valuesOf}
-use Rattle.doc.specs.Holds.{Each, isInside, rises}
+use Rattle.doc.specs.Records.{StepRecord, stepRecord, stepRecords, modelRecord, modelRecords, pinRecord, pinRecords, mapRecord, mapRecords, indexOfKind, sectionRecord, sectionRecords, matricesOf, matrixRecord, matrixRecords, valuesOf}
+use Rattle.doc.specs.Holds.{Each, isInUpperHalf, rises}
 use Rattle.doc.specs.Way.Holds.{IsName}
 use Rattle.doc.specs.Holds as holds
 use Rattle.doc.specs.Holds.Each.{none, more}
@@ -36,7 +36,7 @@ use Rattle.ask_sound.specs.Sound.{
   isSection,
   isMatrix,
   isValue,
-  kindsOf,
+  recordKinds,
 }
 use Rattle.ask_sound.proofs.DepthLaws.{depth-same}
 use Rattle.law_sound.proofs.EveryLaws.{every-none, every-more, every-append, every-map, each-every, range-middle}
@@ -68,13 +68,13 @@ module _ (maps : List Map) (sections : List Section) where
   kinds-same [] = refl
   kinds-same (s ∷ ss) = ap (λ (ns : List ℕ). s .kind ∷ ns) (kinds-same ss)
 
-  pub kinds-none : kindsOf (stepRecords maps sections []) ≡ []
-  unfolding kindsOf stepRecords
+  pub kinds-none : recordKinds (stepRecords maps sections []) ≡ []
+  unfolding recordKinds stepRecords
   kinds-none = refl
 
   pub kinds-more : (m : Model) (ms : List Model) →
-      kindsOf (stepRecords maps sections (m ∷ ms)) ≡ kinds (m .steps) ++ kindsOf (stepRecords maps sections ms)
-  unfolding kindsOf stepRecords
+      recordKinds (stepRecords maps sections (m ∷ ms)) ≡ kinds (m .steps) ++ recordKinds (stepRecords maps sections ms)
+  unfolding recordKinds stepRecords
   kinds-more m ms =
       map-append (λ (s : StepRecord). s .kind) (map (stepRecord maps sections) (m .steps)) (stepRecords maps sections ms)
       ∙ ap (λ (ns : List ℕ). ns ++ map (λ (s : StepRecord). s .kind) (stepRecords maps sections ms)) (kinds-same (m .steps))
@@ -106,12 +106,12 @@ module _ (t : List ℕ) (maps : List Map) (sections : List Section) where
 
   models-are :
       {ms : List Model} (before all : List ℕ) (first : ℕ) → Each (SoundModel t) ms → length before ≡ first →
-      all ≡ before ++ kindsOf (stepRecords maps sections ms) →
+      all ≡ before ++ recordKinds (stepRecords maps sections ms) →
       every (isModel (length t) all) (modelRecords first ms) ≡ true
   unfolding modelRecords
   models-are before all first none e f = every-none _
   models-are before all first (more {x = m} {xs = ms} h hs) e f =
-      let rest : List ℕ = kindsOf (stepRecords maps sections ms) in
+      let rest : List ℕ = recordKinds (stepRecords maps sections ms) in
       let g : all ≡ before ++ (kinds (m .steps) ++ rest) = f ∙ ap (λ (ns : List ℕ). before ++ ns) (kinds-more maps sections m ms) in
       let k : length (kinds (m .steps)) ≡ length (m .steps) = length-map (m .steps) (λ (x : Step). x .kind) in
       let n : length (before ++ kinds (m .steps)) ≡ length before + length (kinds (m .steps)) = length-append before (kinds (m .steps)) in
@@ -124,7 +124,7 @@ module _ (t : List ℕ) (maps : List Map) (sections : List Section) where
 
   pub models-sound :
       {ms : List Model} → Each (SoundModel t) ms →
-      every (isModel (length t) (kindsOf (stepRecords maps sections ms))) (modelRecords 0 ms) ≡ true
+      every (isModel (length t) (recordKinds (stepRecords maps sections ms))) (modelRecords 0 ms) ≡ true
   models-sound hs = models-are [] _ 0 hs refl refl
 
 -- ---- maps and pins
@@ -175,8 +175,8 @@ module _ (t : List ℕ) where
 
 -- ---- sections
 
-place-is : (kind first all : ℕ) (ms : List Matrix) → first + length ms ≤ all → placeOf kind first ms ≤ all
-unfolding placeOf
+place-is : (kind first all : ℕ) (ms : List Matrix) → first + length ms ≤ all → indexOfKind kind first ms ≤ all
+unfolding indexOfKind
 place-is kind first all [] h = omega arith
 place-is kind first all (m ∷ ms) h =
     by-test (λ (n : ℕ). n ≤ all) (eqb (m .kind) kind) _ _ (λ (e : eqb (m .kind) kind ≡ true). omega arith)
@@ -248,8 +248,8 @@ matrices-right (more {x = s} r rs) =
     (r .matrices))
     (matrices-right rs)
 
-inside-wider : (n : ℕ) (v : Value) → n ≤ 256 → isInside n v ≡ true → isInside 256 v ≡ true
-unfolding isInside
+inside-wider : (n : ℕ) (v : Value) → n ≤ 256 → isInUpperHalf n v ≡ true → isInUpperHalf 256 v ≡ true
+unfolding isInUpperHalf
 inside-wider n v h e =
     let k : v .column ≤ n = leb-true _ _ (both-second _ _ (both-second _ _ e)) in
     both-true _ _ (both-first _ _ e)

@@ -9,7 +9,7 @@ use Rattle.base.specs.If.{if_then_else_}
 use Rattle.base.proofs.IfLaws.{by-test}
 use Rattle.lex_line.specs.Words.{words, secondOf}
 use Rattle.line_place.specs.Place as place
-use Rattle.line_head.specs.Head.{kindOf, wrongLine, typeLine, sgrLine, impedanceLine, headLineOf, headNext, newHead}
+use Rattle.line_head.specs.Head.{modelTypeOf, wrongHeadLine, typeLine, sgrLine, impedanceLine, headLineOf, headNext, newHead}
 use Rattle.line_head.specs.declared.Head.{Head}
 use Rattle.line_head.specs.declared.HeadLine.{HeadLine}
 use Rattle.doc.specs.Lines.{Line, significant, standsIn, upTo}
@@ -17,8 +17,8 @@ use Rattle.doc.specs.Document.{Model, headIn, opensModel, inModel, modelOf, mod
 use Rattle.doc.specs.Holds.{Each}
 use Rattle.doc.proofs.StandsLaws.{each-gather, each-if}
 
-kind-most : (w : List ℕ) → kindOf w ≤ 3
-unfolding kindOf
+kind-most : (w : List ℕ) → modelTypeOf w ≤ 3
+unfolding modelTypeOf
 kind-most w =
     by-test (λ (n : ℕ). n ≤ 3) _ _ _ (λ e. omega arith)
     (λ e. by-test (λ (n : ℕ). n ≤ 3) _ _ _ (λ f. omega arith) (λ f. by-test (λ (n : ℕ). n ≤ 3) _ _ _ (λ g. omega arith) (λ g. omega arith)))
@@ -27,8 +27,8 @@ kind-most w =
 abbrev Few : HeadLine → Type 0
 Few l = l .kind ≤ 3
 
-wrong-few : (says : ℕ) → Few (wrongLine says)
-unfolding wrongLine
+wrong-few : (says : ℕ) → Few (wrongHeadLine says)
+unfolding wrongHeadLine
 wrong-few says = omega arith
 
 type-few : (ws : List (List ℕ)) → Few (typeLine ws)

@@ -23,13 +23,13 @@ use Rattle.law_demands.proofs.AcceptedLaws.{accepted-taken}
 use Rattle.law_demands.proofs.AcceptedLaws as accepted
 use Rattle.law_demands.proofs.DemandLaws.{demanded}
 use Rattle.law_sound.proofs.IntakeLaws.{intake-sound}
-use Rattle.ask_entry.specs.Entry.{EntryWords, foundWith, refusedWith, noSection, matrixOf, entryOf, isInRange, answerOf}
+use Rattle.ask_entry.specs.Entry.{EntryWords, foundWith, entryRefused, noSection, matrixIndex, entryOf, isInRange, entryAnswer}
 use Rattle.ask_entry.proofs.EntryLaws.{exchange}
 use Rattle.law_alike.specs.Written.{writtenAt}
 use Rattle.law_alike.specs.Way.Found.{foundAt}
 use Rattle.law_alike.specs.Alike.{formAt}
 use Rattle.law_alike.proofs.WrittenLaws.{Found, EachOpening, text-openings, FoundMatrix, text-found}
-use Rattle.law_third.specs.Third.{Taken, WrittenBy, Entered}
+use Rattle.law_third.specs.Third.{AcceptedTable, WrittenBy, Entered}
 use Rattle.law_third.proofs.EntryRecordLaws.{givenAt, given-past, given-not, section-given, section-range}
 use Rattle.law_third.proofs.EntryOnceLaws.{Once, once-above, text-once}
 
@@ -38,10 +38,10 @@ use Rattle.law_third.proofs.EntryOnceLaws.{Once, once-above, text-once}
 -- what is answered over records that are sound
 unfoldable pub answerOver : Records → ℕ → ℕ → ℕ → ℕ → EntryWords
 answerOver r section kind row column =
-    if not (isInRange r section kind row column) then refusedWith 31 else
-    foundWith (entryOf r (matrixOf (getD (r .sections) section noSection) kind) row column)
+    if not (isInRange r section kind row column) then entryRefused 31 else
+    foundWith (entryOf r (matrixIndex (getD (r .sections) section noSection) kind) row column)
 
-module _ (t table : List ℕ) (taken : Taken t table) where
+module _ (t table : List ℕ) (taken : AcceptedTable t table) where
   pub taken-kept : accepted.Taken t (length (taken .before))
   taken-kept =
       accepted-taken t (length (taken .before)) (ap (λ (o : Outcome). o .accepted) (sym (taken .conforms .answers)))
@@ -58,19 +58,19 @@ module _ (t table : List ℕ) (taken : Taken t table) where
 
   -- 30 is never the answer
   pub answer-over :
-      (section kind row column : ℕ) → answerOf t table section kind row column ≡ answerOver (flatten (documentOf t)) section kind row column
-  unfolding answerOf answerOver
+      (section kind row column : ℕ) → entryAnswer t table section kind row column ≡ answerOver (flatten (documentOf t)) section kind row column
+  unfolding entryAnswer answerOver
   answer-over section kind row column =
       if-false _ _ (not-not-via taken-sound) ∙ ap (λ (r : Records). answerOver r section kind row column) taken-records
 
 module _ (r : Records) (section kind row column : ℕ) where
   pub over-inside :
       isInRange r section kind row column ≡ true →
-      answerOver r section kind row column ≡ foundWith (entryOf r (matrixOf (getD (r .sections) section noSection) kind) row column)
+      answerOver r section kind row column ≡ foundWith (entryOf r (matrixIndex (getD (r .sections) section noSection) kind) row column)
   unfolding answerOver
   over-inside h = if-false _ _ (not-not-via h)
 
-  pub over-outside : isInRange r section kind row column ≡ false → answerOver r section kind row column ≡ refusedWith 31
+  pub over-outside : isInRange r section kind row column ≡ false → answerOver r section kind row column ≡ entryRefused 31
   unfolding answerOver
   over-outside h = if-true _ _ (not-via h)
 
@@ -113,7 +113,7 @@ module _ (row column n : ℕ) (low : 1 ≤ row) (high : row ≤ n) (left : 1 ≤
 
 module _
     (t table : List ℕ)
-    (taken : Taken t table)
+    (taken : AcceptedTable t table)
     (before behind : List Section)
     (x : Section)
     (here : documentOf t .sections ≡ before ++ (x ∷ behind)) where
@@ -121,7 +121,7 @@ module _
   given :
       (kind : ℕ) → kind < 4 → (row column : ℕ) → 1 ≤ row → row ≤ conductorsOf (x .matrices) → 1 ≤ column →
       column ≤ conductorsOf (x .matrices) →
-      answerOf t table (length before) kind row column ≡ foundWith (givenAt kind (min row column) (max row column) (x .matrices))
+      entryAnswer t table (length before) kind row column ≡ foundWith (givenAt kind (min row column) (max row column) (x .matrices))
   given kind few row column low high left right =
       answer-over t table taken (length before) kind row column
       ∙ over-inside (flatten (documentOf t)) (length before) kind row column
@@ -138,7 +138,7 @@ module _
       (above-line below-line : List Line) (line : Line) → significant t ≡ above-line ++ (line ∷ below-line) → opensMatrixAt line ≡ true →
       (above below : List Matrix) → x .matrices ≡ above ++ (document.matrixOf line (formAt line) (upTo inMatrix below-line) ∷ below) →
       (row column : ℕ) → 1 ≤ row → row ≤ conductorsOf (x .matrices) → 1 ≤ column → column ≤ conductorsOf (x .matrices) →
-      answerOf t table (length before) (kindOf (keyOf line)) row column
+      entryAnswer t table (length before) (kindOf (keyOf line)) row column
       ≡ foundWith (writtenAt (formAt line) (upTo inMatrix below-line) (min row column) (max row column))
   written above-line below-line line stands opens above below split row column low high left right =
       let k : accepted.Taken t (length (taken .before)) = taken-kept t table taken in
@@ -182,6 +182,6 @@ module _
 
 -- every section of an accepted text
 pub entries-shown :
-    (t table : List ℕ) → Taken t table → (before behind : List Section) (x : Section) → documentOf t .sections ≡ before ++ (x ∷ behind) →
+    (t table : List ℕ) → AcceptedTable t table → (before behind : List Section) (x : Section) → documentOf t .sections ≡ before ++ (x ∷ behind) →
     Entered t table (length before) x
 entries-shown t table taken before behind x here = entered t table taken before behind x here

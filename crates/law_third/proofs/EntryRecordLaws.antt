@@ -14,12 +14,12 @@ use Rattle.base.specs.Bytes.{within}
 use Rattle.base.proofs.IfLaws.{if-true, if-false, by-cases, both-true}
 use Rattle.lex_number.specs.ValueWord.{zeroWord}
 use Rattle.doc.specs.Document.{Value, Matrix, Section, Document, conductorsOf}
-use Rattle.doc.specs.Records.{SectionRecord, MatrixRecord, placeOf, sectionRecord, sectionRecords, matricesOf, matrixRecord, matrixRecords, flatten}
+use Rattle.doc.specs.Records.{SectionRecord, MatrixRecord, indexOfKind, sectionRecord, sectionRecords, matricesOf, matrixRecord, matrixRecords, flatten}
 use Rattle.doc.specs.Records as records
 use Rattle.doc.specs.Holds.{Each}
 use Rattle.ask_sound.specs.Sound.{range}
 use Rattle.law_sound.proofs.EveryLaws.{range-middle}
-use Rattle.ask_entry.specs.Entry.{noSection, noMatrix, matrixOf, wordAt, entryOf, isInRange}
+use Rattle.ask_entry.specs.Entry.{noSection, noMatrix, matrixIndex, wordAt, entryOf, isInRange}
 use Rattle.ask_entry.specs.Entry as entry
 use Rattle.law_alike.specs.Way.Found.{foundAt}
 
@@ -126,8 +126,8 @@ module _ (d : Document) where
   -- a matrix finds its own values
   own-values :
       (above below : List Matrix) (m : Matrix) → matricesOf (d .sections) ≡ above ++ (m ∷ below) →
-      entry.valuesOf (flatten d) (getD (flatten d .matrices) (length above) noMatrix) ≡ m .values
-  unfolding entry.valuesOf matrixRecord
+      entry.matrixValues (flatten d) (getD (flatten d .matrices) (length above) noMatrix) ≡ m .values
+  unfolding entry.matrixValues matrixRecord
   own-values above below m e =
       let r : getD (flatten d .matrices) (length above) noMatrix ≡ matrixRecord (0 + length (records.valuesOf above)) m =
       ap (λ (xs : List MatrixRecord). getD xs (length above) noMatrix) (flat-matrices ∙ ap (matrixRecords 0) e) ∙ matrix-here 0 above below m in
@@ -150,34 +150,34 @@ module _ (d : Document) where
   entry-here above below m e index at row column =
       let n : index - 1 ≡ length above = omega arith in
       if-false _ _ (ne-eqb index 0 (λ (z : index ≡ 0). omega arith))
-      ∙ word-found (min row column) (max row column) (entry.valuesOf (flatten d) (getD (flatten d .matrices) (index - 1) noMatrix))
-      ∙ ap (λ (k : ℕ). foundAt (min row column) (max row column) (entry.valuesOf (flatten d) (getD (flatten d .matrices) k noMatrix))) n
+      ∙ word-found (min row column) (max row column) (entry.matrixValues (flatten d) (getD (flatten d .matrices) (index - 1) noMatrix))
+      ∙ ap (λ (k : ℕ). foundAt (min row column) (max row column) (entry.matrixValues (flatten d) (getD (flatten d .matrices) k noMatrix))) n
       ∙ ap (foundAt (min row column) (max row column)) (own-values above below m e)
 
-  place-none : (kind first : ℕ) → placeOf kind first [] ≡ 0
-  unfolding placeOf
+  place-none : (kind first : ℕ) → indexOfKind kind first [] ≡ 0
+  unfolding indexOfKind
   place-none kind first = refl
 
   module _ (kind first : ℕ) (m : Matrix) (ms : List Matrix) where
-    place-here : m .kind ≡ kind → placeOf kind first (m ∷ ms) ≡ first + 1
-    unfolding placeOf
+    place-here : m .kind ≡ kind → indexOfKind kind first (m ∷ ms) ≡ first + 1
+    unfolding indexOfKind
     place-here e = if-true _ _ (eq-eqb _ _ e)
 
-    place-later : (m .kind ≡ kind → ⊥) → placeOf kind first (m ∷ ms) ≡ placeOf kind (first + 1) ms
-    unfolding placeOf
+    place-later : (m .kind ≡ kind → ⊥) → indexOfKind kind first (m ∷ ms) ≡ indexOfKind kind (first + 1) ms
+    unfolding indexOfKind
     place-later h = if-false _ _ (ne-eqb _ _ h)
 
   -- the index of a kind leads to what the matrices give
   pub given-place :
       (kind row column : ℕ) (above ms below : List Matrix) (first : ℕ) → length above ≡ first →
       matricesOf (d .sections) ≡ above ++ (ms ++ below) →
-      entryOf (flatten d) (placeOf kind first ms) row column ≡ givenAt kind (min row column) (max row column) ms
+      entryOf (flatten d) (indexOfKind kind first ms) row column ≡ givenAt kind (min row column) (max row column) ms
   given-place kind row column above [] below first at e =
       ap (λ (n : ℕ). entryOf (flatten d) n row column) (place-none kind first) ∙ entry-none row column
       ∙ sym (given-none kind (min row column) (max row column))
   given-place kind row column above (m ∷ ms) below first at e =
       by-cases
-      (entryOf (flatten d) (placeOf kind first (m ∷ ms)) row column ≡ givenAt kind (min row column) (max row column) (m ∷ ms))
+      (entryOf (flatten d) (indexOfKind kind first (m ∷ ms)) row column ≡ givenAt kind (min row column) (max row column) (m ∷ ms))
       (eqb (m .kind) kind)
       (λ (h : eqb (m .kind) kind ≡ true).
       let n : first + 1 ≡ length above + 1 = omega arith in
@@ -192,8 +192,8 @@ module _ (d : Document) where
       ∙ sym (given-later kind (min row column) (max row column) m ms (eqb-false _ _ h)))
 
 -- "R L G C each matrix index plus 1 or 0"
-kind-place : (first : ℕ) (x : Section) (kind : ℕ) → kind < 4 → matrixOf (sectionRecord first x) kind ≡ placeOf kind first (x .matrices)
-unfolding matrixOf sectionRecord
+kind-place : (first : ℕ) (x : Section) (kind : ℕ) → kind < 4 → matrixIndex (sectionRecord first x) kind ≡ indexOfKind kind first (x .matrices)
+unfolding matrixIndex sectionRecord
 kind-place first x kind few =
     by-cases _ (eqb kind 0)
     (λ (a : eqb kind 0 ≡ true). if-true _ _ a ∙ at 0 (sym (eqb-true _ _ a)))
@@ -210,8 +210,8 @@ kind-place first x kind few =
     let e : 3 ≡ kind = omega arith in
     if-false _ _ a ∙ if-false _ _ b ∙ if-false _ _ c ∙ at 3 e)))
   where
-    at : (k : ℕ) → k ≡ kind → placeOf k first (x .matrices) ≡ placeOf kind first (x .matrices)
-    at k e = ap (λ (n : ℕ). placeOf n first (x .matrices)) e
+    at : (k : ℕ) → k ≡ kind → indexOfKind k first (x .matrices) ≡ indexOfKind kind first (x .matrices)
+    at k e = ap (λ (n : ℕ). indexOfKind n first (x .matrices)) e
 
 -- ---- one section of a document
 
@@ -228,11 +228,11 @@ module _ (d : Document) (before behind : List Section) (x : Section) (here : d .
 
   pub section-given :
       (kind row column : ℕ) → kind < 4 →
-      entryOf (flatten d) (matrixOf (getD (flatten d .sections) (length before) noSection) kind) row column
+      entryOf (flatten d) (matrixIndex (getD (flatten d .sections) (length before) noSection) kind) row column
       ≡ givenAt kind (min row column) (max row column) (x .matrices)
   section-given kind row column few =
       let z : length (matricesOf before) ≡ 0 + length (matricesOf before) = omega arith in
-      ap (λ (r : SectionRecord). entryOf (flatten d) (matrixOf r kind) row column) record-here
+      ap (λ (r : SectionRecord). entryOf (flatten d) (matrixIndex r kind) row column) record-here
       ∙ ap (λ (n : ℕ). entryOf (flatten d) n row column) (kind-place (0 + length (matricesOf before)) x kind few)
       ∙ given-place d kind row column (matricesOf before) (x .matrices) (matricesOf behind) (0 + length (matricesOf before)) z
       (ap matricesOf here ∙ matrices-split before behind x)

@@ -19,9 +19,9 @@ use Rattle.doc.proofs.MatrixLaws.{RightMatrix}
 use Rattle.doc.proofs.SectionLaws.{RightSection, text-sections}
 use Rattle.cross_rules.proofs.RisingLaws.{each-at}
 use Rattle.law_demands.proofs.AcceptedLaws as accepted
-use Rattle.ask_entry.specs.Entry.{foundWith, noSection, matrixOf, entryOf, isInRange, answerOf}
+use Rattle.ask_entry.specs.Entry.{foundWith, noSection, matrixIndex, entryOf, isInRange, entryAnswer}
 use Rattle.law_alike.specs.Way.Same.{All2, SameMatrix, SameSection, SameDocument}
-use Rattle.law_third.specs.Third.{Taken}
+use Rattle.law_third.specs.Third.{AcceptedTable}
 use Rattle.law_third.proofs.EntryRecordLaws.{givenAt, given-here, given-later, flat-sections, sections-long, section-given, section-conductors}
 use Rattle.law_third.proofs.EntryLaws.{answerOver, taken-kept, answer-over, over-inside, over-outside, least, ordered, greatest}
 
@@ -173,17 +173,17 @@ module _ (d e : Document) (same : All2 SameSection (d .sections) (e .sections)) 
       j = max row column
 
       one-given :
-          entryOf (flatten d) (matrixOf (getD (flatten d .sections) section noSection) kind) row column
+          entryOf (flatten d) (matrixIndex (getD (flatten d .sections) section noSection) kind) row column
           ≡ givenAt kind i j (p .one .matrices)
       one-given =
-          ap (λ (n : ℕ). entryOf (flatten d) (matrixOf (getD (flatten d .sections) n noSection) kind) row column) (sym (p .left-at))
+          ap (λ (n : ℕ). entryOf (flatten d) (matrixIndex (getD (flatten d .sections) n noSection) kind) row column) (sym (p .left-at))
           ∙ section-given d (p .before) (p .behind) (p .one) (p .left) kind row column kind-few
 
       other-given :
-          entryOf (flatten e) (matrixOf (getD (flatten e .sections) section noSection) kind) row column
+          entryOf (flatten e) (matrixIndex (getD (flatten e .sections) section noSection) kind) row column
           ≡ givenAt kind i j (p .other .matrices)
       other-given =
-          ap (λ (n : ℕ). entryOf (flatten e) (matrixOf (getD (flatten e .sections) n noSection) kind) row column) (sym (p .right-at))
+          ap (λ (n : ℕ). entryOf (flatten e) (matrixIndex (getD (flatten e .sections) n noSection) kind) row column) (sym (p .right-at))
           ∙ section-given e (p .above) (p .below) (p .other) (p .right) kind row column kind-few
 
       one-wide : wide ≡ conductorsOf (p .one .matrices)
@@ -225,8 +225,8 @@ module _ (d e : Document) (same : All2 SameSection (d .sections) (e .sections)) 
 -- ---- two accepted texts
 
 pub entries-same :
-    (t table u other : List ℕ) → Taken t table → Taken u other → SameDocument (documentOf t) (documentOf u) →
-    (section kind row column : ℕ) → answerOf t table section kind row column ≡ answerOf u other section kind row column
+    (t table u other : List ℕ) → AcceptedTable t table → AcceptedTable u other → SameDocument (documentOf t) (documentOf u) →
+    (section kind row column : ℕ) → entryAnswer t table section kind row column ≡ entryAnswer u other section kind row column
 entries-same t table u other one two same section kind row column =
     let k : accepted.Taken t (length (one .before)) = taken-kept t table one in
     answer-over t table one section kind row column

@@ -28,13 +28,13 @@ use Rattle.ask_walk.specs.Walk.{
   doneAt,
   noModel,
   noRecord,
-  modelOf,
-  stepOf,
+  modelAtPlace,
+  stepAtPlace,
   countKind,
   isDepth,
   kindsBefore,
   isPlace,
-  wordsOf,
+  stepWords,
   nextOf,
   walkOver,
   walkOn,
@@ -44,7 +44,7 @@ use Rattle.ask_walk.specs.declared.Place.{Place}
 use Rattle.ask_walk.proofs.KindLaws.{Moves, moves}
 use Rattle.ask_walk.proofs.ReadyLaws.{right-model}
 use Rattle.ask_walk.proofs.WalkLaws.{first-place, next-place}
-use Rattle.law_third.specs.Third.{Taken, placeAfter, nameThrough, sideOf, Shown, kindsOf, Walked}
+use Rattle.law_third.specs.Third.{AcceptedTable, walkedTo, nameThrough, sideOf, Shown, stepKinds, Walked}
 use Rattle.law_third.proofs.WalkTakenLaws.{taken-kept, taken-sound, taken-records}
 use Rattle.law_third.proofs.WalkRecordLaws.{its-model, its-place, its-step, its-kinds}
 use Rattle.law_third.proofs.WalkNameLaws.{all-nameless, name-shown, section-passed}
@@ -53,15 +53,15 @@ use Rattle.law_third.proofs.WalkNameLaws.{all-nameless, name-shown, sec
 
 module _ (t table : List ℕ) (is-sound : isSound t table ≡ true) (p : Place) (inside : isPlace (recordsOf table) p ≡ true) where
   pub answer-on :
-      p .step < modelOf (recordsOf table) p .steps →
-      walk.answerOf t table p ≡ stepped (wordsOf (stepOf (recordsOf table) p)) (nextOf p (stepOf (recordsOf table) p .kind))
-  unfolding walk.answerOf walkFrom walkOn walkOver
+      p .step < modelAtPlace (recordsOf table) p .steps →
+      walk.walkAnswer t table p ≡ stepped (stepWords (stepAtPlace (recordsOf table) p)) (nextOf p (stepAtPlace (recordsOf table) p .kind))
+  unfolding walk.walkAnswer walkFrom walkOn walkOver
   answer-on h =
-      let n : p .step ≡ modelOf (recordsOf table) p .steps → ⊥ = λ (e : p .step ≡ modelOf (recordsOf table) p .steps). omega arith in
+      let n : p .step ≡ modelAtPlace (recordsOf table) p .steps → ⊥ = λ (e : p .step ≡ modelAtPlace (recordsOf table) p .steps). omega arith in
       if-false _ _ (not-not-via is-sound) ∙ if-false _ _ (not-not-via inside) ∙ if-false _ _ (ne-eqb _ _ n)
 
-  pub answer-done : p .step ≡ modelOf (recordsOf table) p .steps → walk.answerOf t table p ≡ doneAt p
-  unfolding walk.answerOf walkFrom walkOn
+  pub answer-done : p .step ≡ modelAtPlace (recordsOf table) p .steps → walk.walkAnswer t table p ≡ doneAt p
+  unfolding walk.walkAnswer walkFrom walkOn
   answer-done e = if-false _ _ (not-not-via is-sound) ∙ if-false _ _ (not-not-via inside) ∙ if-true _ _ (eq-eqb _ _ e)
 
 -- ---- as many forks as endforks
@@ -88,7 +88,7 @@ record Comes (table : List ℕ) (i k : ℕ) (p : Place) : Type 0 where
   is : p ≡ record { model = i; step = k; depth = depth }
   inside : isPlace (recordsOf table) (record { model = i; step = k; depth = depth }) ≡ true
 
-module _ (t table : List ℕ) (taken : Taken t table) (before behind : List Model) (m : Model) (stands : documentOf t .models ≡ before ++ (m ∷ behind)) where
+module _ (t table : List ℕ) (taken : AcceptedTable t table) (before behind : List Model) (m : Model) (stands : documentOf t .models ≡ before ++ (m ∷ behind)) where
   abbrev i : ℕ
   i = length before
 
@@ -110,91 +110,91 @@ module _ (t table : List ℕ) (taken : Taken t table) (before behind : List Mode
   from = ap (λ (r : ModelRecord). r .first) model-there
 
   kinds-there :
-      range (getD (recordsOf table .models) i noModel .first) (getD (recordsOf table .models) i noModel .steps) (sound.kindsOf (recordsOf table .steps))
-      ≡ kindsOf (m .steps)
+      range (getD (recordsOf table .models) i noModel .first) (getD (recordsOf table .models) i noModel .steps) (sound.recordKinds (recordsOf table .steps))
+      ≡ stepKinds (m .steps)
   kinds-there =
-      (λ j. range (from j) (many j) (sound.kindsOf (taken-records t table taken j .steps))) ∙ its-kinds d before behind m stands
+      (λ j. range (from j) (many j) (sound.recordKinds (taken-records t table taken j .steps))) ∙ its-kinds d before behind m stands
 
   there : i < length (recordsOf table .models)
   there = rw (taken-records t table taken) (its-place d before behind m stands)
 
   -- ---- where it comes
 
-  come-on : (k : ℕ) (p : Place) → k < length (m .steps) → Comes table i k p → Comes table i (suc k) (walk.answerOf t table p .next)
+  come-on : (k : ℕ) (p : Place) → k < length (m .steps) → Comes table i k p → Comes table i (suc k) (walk.walkAnswer t table p .next)
   unfolding nextOf
   come-on k p h c =
       let q : Place = record { model = i; step = k; depth = c .depth } in
       let l : k < getD (recordsOf table .models) i noModel .steps = rw many h in
-      let goes : walk.answerOf t table p ≡ stepped (wordsOf (stepOf (recordsOf table) q)) (nextOf q (stepOf (recordsOf table) q .kind)) =
-      ap (walk.answerOf t table) (c .is) ∙ answer-on t table (taken-sound t table taken) q (c .inside) l in
+      let goes : walk.walkAnswer t table p ≡ stepped (stepWords (stepAtPlace (recordsOf table) q)) (nextOf q (stepAtPlace (recordsOf table) q .kind)) =
+      ap (walk.walkAnswer t table) (c .is) ∙ answer-on t table (taken-sound t table taken) q (c .inside) l in
       record {
-        depth = depthAfter (c .depth) (stepOf (recordsOf table) q .kind);
+        depth = depthAfter (c .depth) (stepAtPlace (recordsOf table) q .kind);
         is =
             ap (λ (w : WalkWords). w .next) goes
-            ∙ ap (λ (n : ℕ). record { model = i; step = n; depth = depthAfter (c .depth) (stepOf (recordsOf table) q .kind) }) (add-one k);
+            ∙ ap (λ (n : ℕ). record { model = i; step = n; depth = depthAfter (c .depth) (stepAtPlace (recordsOf table) q .kind) }) (add-one k);
         inside = rw (add-one k) at (next-place t table (taken-sound t table taken) q (c .inside) l);
       }
 
-  comes : (k : ℕ) → k ≤ length (m .steps) → Comes table i k (placeAfter t table i k)
-  unfolding placeAfter
+  comes : (k : ℕ) → k ≤ length (m .steps) → Comes table i k (walkedTo t table i k)
+  unfolding walkedTo
   comes zero h = record { depth = 0; is = refl; inside = first-place (recordsOf table) i there }
-  comes (suc k) h = come-on k (placeAfter t table i k) h (comes k (omega arith))
+  comes (suc k) h = come-on k (walkedTo t table i k) h (comes k (omega arith))
 
   -- ---- its depth
 
   counted :
-      (k : ℕ) (p : Place) (c : Comes table i k p) (above : List Step) → take k (kindsOf (m .steps)) ≡ kindsOf above →
-      p .depth + countKind endforkKind (kindsOf above) ≡ countKind forkKind (kindsOf above)
+      (k : ℕ) (p : Place) (c : Comes table i k p) (above : List Step) → take k (stepKinds (m .steps)) ≡ stepKinds above →
+      p .depth + countKind endforkKind (stepKinds above) ≡ countKind forkKind (stepKinds above)
   unfolding isPlace isDepth kindsBefore
   counted k p c above e =
-      let ks : List ℕ = take k (range (getD (recordsOf table .models) i noModel .first) (getD (recordsOf table .models) i noModel .steps) (sound.kindsOf (recordsOf table .steps))) in
+      let ks : List ℕ = take k (range (getD (recordsOf table .models) i noModel .first) (getD (recordsOf table .models) i noModel .steps) (sound.recordKinds (recordsOf table .steps))) in
       let f : c .depth + countKind endforkKind ks ≡ countKind forkKind ks =
       eqb-true (c .depth + countKind endforkKind ks) (countKind forkKind ks) (both-second _ _ (both-second _ _ (c .inside))) in
-      let g : ks ≡ kindsOf above = ap (take k) kinds-there ∙ e in
+      let g : ks ≡ stepKinds above = ap (take k) kinds-there ∙ e in
       rw (ap (λ (x : Place). x .depth) (c .is)) (rw g at f)
 
   its-deep :
       (above below : List Step) → m .steps ≡ above ++ below →
-      placeAfter t table i (length above) .depth + countKind endforkKind (kindsOf above) ≡ countKind forkKind (kindsOf above)
+      walkedTo t table i (length above) .depth + countKind endforkKind (stepKinds above) ≡ countKind forkKind (stepKinds above)
   its-deep above below e =
       let l : length (m .steps) ≡ length above + length below = ap length e ∙ length-append above below in
       let h : length above ≤ length (m .steps) = omega arith in
-      counted (length above) (placeAfter t table i (length above)) (comes (length above) h) above
-      (ap (λ (ss : List Step). take (length above) (kindsOf ss)) e
+      counted (length above) (walkedTo t table i (length above)) (comes (length above) h) above
+      (ap (λ (ss : List Step). take (length above) (stepKinds ss)) e
       ∙ ap (take (length above)) (map-append (λ (s : Step). s .kind) above below)
-      ∙ take-at (kindsOf above) (kindsOf below) (length above) (length-map above (λ (s : Step). s .kind)))
+      ∙ take-at (stepKinds above) (stepKinds below) (length above) (length-map above (λ (s : Step). s .kind)))
 
   -- ---- its end
 
-  its-balance : countKind forkKind (kindsOf (m .steps)) ≡ countKind endforkKind (kindsOf (m .steps))
+  its-balance : countKind forkKind (stepKinds (m .steps)) ≡ countKind endforkKind (stepKinds (m .steps))
   its-balance =
-      let h : depthHolds 0 (kindsOf (m .steps)) ≡ true = rw kinds-there at (right-model t table (taken-sound t table taken) i there .depth) in
-      let b : 0 + countKind forkKind (kindsOf (m .steps)) ≡ countKind endforkKind (kindsOf (m .steps)) = balanced 0 (kindsOf (m .steps)) h in
+      let h : depthHolds 0 (stepKinds (m .steps)) ≡ true = rw kinds-there at (right-model t table (taken-sound t table taken) i there .depth) in
+      let b : 0 + countKind forkKind (stepKinds (m .steps)) ≡ countKind endforkKind (stepKinds (m .steps)) = balanced 0 (stepKinds (m .steps)) h in
       omega arith
 
   ends-at :
-      (p : Place) → Comes table i (length (m .steps)) p → p .depth + countKind endforkKind (kindsOf (m .steps)) ≡ countKind forkKind (kindsOf (m .steps)) →
-      walk.answerOf t table p ≡ doneAt (record { model = i; step = length (m .steps); depth = 0 })
+      (p : Place) → Comes table i (length (m .steps)) p → p .depth + countKind endforkKind (stepKinds (m .steps)) ≡ countKind forkKind (stepKinds (m .steps)) →
+      walk.walkAnswer t table p ≡ doneAt (record { model = i; step = length (m .steps); depth = 0 })
   ends-at p c e =
-      let b : countKind forkKind (kindsOf (m .steps)) ≡ countKind endforkKind (kindsOf (m .steps)) = its-balance in
+      let b : countKind forkKind (stepKinds (m .steps)) ≡ countKind endforkKind (stepKinds (m .steps)) = its-balance in
       let f : p .depth ≡ c .depth = ap (λ (x : Place). x .depth) (c .is) in
       let z : c .depth ≡ 0 = omega arith in
       let q : Place = record { model = i; step = length (m .steps); depth = c .depth } in
-      ap (walk.answerOf t table) (c .is) ∙ answer-done t table (taken-sound t table taken) q (c .inside) (sym many)
+      ap (walk.walkAnswer t table) (c .is) ∙ answer-done t table (taken-sound t table taken) q (c .inside) (sym many)
       ∙ ap (λ (n : ℕ). doneAt (record { model = i; step = length (m .steps); depth = n })) z
 
-  its-end : walk.answerOf t table (placeAfter t table i (length (m .steps))) ≡ doneAt (record { model = i; step = length (m .steps); depth = 0 })
+  its-end : walk.walkAnswer t table (walkedTo t table i (length (m .steps))) ≡ doneAt (record { model = i; step = length (m .steps); depth = 0 })
   its-end =
-      let c : Comes table i (length (m .steps)) (placeAfter t table i (length (m .steps))) = comes (length (m .steps)) (omega arith) in
-      ends-at (placeAfter t table i (length (m .steps))) c
-      (counted (length (m .steps)) (placeAfter t table i (length (m .steps))) c (m .steps)
-      (sym (ap (λ (n : ℕ). take n (kindsOf (m .steps))) (length-map (m .steps) (λ (s : Step). s .kind))) ∙ take-all (length (kindsOf (m .steps))) (kindsOf (m .steps)) (omega arith)))
+      let c : Comes table i (length (m .steps)) (walkedTo t table i (length (m .steps))) = comes (length (m .steps)) (omega arith) in
+      ends-at (walkedTo t table i (length (m .steps))) c
+      (counted (length (m .steps)) (walkedTo t table i (length (m .steps))) c (m .steps)
+      (sym (ap (λ (n : ℕ). take n (stepKinds (m .steps))) (length-map (m .steps) (λ (s : Step). s .kind))) ∙ take-all (length (stepKinds (m .steps))) (stepKinds (m .steps)) (omega arith)))
 
   -- ---- its steps
 
   module _ (above below : List Step) (s : Step) (e : m .steps ≡ above ++ (s ∷ below)) where
-    step-there : (n : ℕ) → stepOf (recordsOf table) (record { model = i; step = length above; depth = n }) ≡ stepRecord (d .maps) (d .sections) s
-    unfolding stepOf
+    step-there : (n : ℕ) → stepAtPlace (recordsOf table) (record { model = i; step = length above; depth = n }) ≡ stepRecord (d .maps) (d .sections) s
+    unfolding stepAtPlace
     step-there n =
         (λ j. getD (taken-records t table taken j .steps) (from j + length above) noRecord) ∙ its-step d before behind m stands above below s e
 
@@ -206,19 +206,19 @@ module _ (t table : List ℕ) (taken : Taken t table) (before behind : List Mode
     kept : stepRule d m s ≡ 0
     kept = each-of (m .steps) above below s e (each-of (d .models) before behind m stands (all-steps-kept d (taken-kept t table taken)))
 
-    name-there : nameThrough t (recordsOf table) (wordsOf (stepRecord (d .maps) (d .sections) s)) ≡ s .name .text
+    name-there : nameThrough t (recordsOf table) (stepWords (stepRecord (d .maps) (d .sections) s)) ≡ s .name .text
     name-there =
         rw (taken-records t table taken)
         (name-shown t m s kept (each-of (m .steps) above below s e (each-of (d .models) before behind m stands (all-nameless t))))
 
-    side-there : sideOf t (wordsOf (stepRecord (d .maps) (d .sections) s)) ≡ s .side .text
+    side-there : sideOf t (stepWords (stepRecord (d .maps) (d .sections) s)) ≡ s .side .text
     unfolding sideOf stepRecord nameAt
     side-there =
         let m-stands : ModelStands t m = each-of (d .models) before behind m stands (all-stand t .models) in
         let s-stands : StepStands t s = each-of (m .steps) above below s e (m-stands .steps) in
         s-stands .side .bytes
 
-    shown-by : (next : Place) → Shown t table s (stepped (wordsOf (stepRecord (d .maps) (d .sections) s)) next)
+    shown-by : (next : Place) → Shown t table s (stepped (stepWords (stepRecord (d .maps) (d .sections) s)) next)
     unfolding stepRecord
     shown-by next =
         record {
@@ -232,15 +232,15 @@ module _ (t table : List ℕ) (taken : Taken t table) (before behind : List Mode
           line = refl;
         }
 
-    its-shown : Shown t table s (walk.answerOf t table (placeAfter t table i (length above)))
+    its-shown : Shown t table s (walk.walkAnswer t table (walkedTo t table i (length above)))
     its-shown =
         let l : length above < getD (recordsOf table .models) i noModel .steps = rw many below-end in
-        let c : Comes table i (length above) (placeAfter t table i (length above)) = comes (length above) (omega (arith, below-end)) in
+        let c : Comes table i (length above) (walkedTo t table i (length above)) = comes (length above) (omega (arith, below-end)) in
         let q : Place = record { model = i; step = length above; depth = c .depth } in
-        let goes : walk.answerOf t table (placeAfter t table i (length above)) ≡ stepped (wordsOf (stepRecord (d .maps) (d .sections) s)) (nextOf q (stepOf (recordsOf table) q .kind)) =
-        ap (walk.answerOf t table) (c .is) ∙ answer-on t table (taken-sound t table taken) q (c .inside) l
-        ∙ ap (λ (x : StepRecord). stepped (wordsOf x) (nextOf q (stepOf (recordsOf table) q .kind))) (step-there (c .depth)) in
-        rw goes (shown-by (nextOf q (stepOf (recordsOf table) q .kind)))
+        let goes : walk.walkAnswer t table (walkedTo t table i (length above)) ≡ stepped (stepWords (stepRecord (d .maps) (d .sections) s)) (nextOf q (stepAtPlace (recordsOf table) q .kind)) =
+        ap (walk.walkAnswer t table) (c .is) ∙ answer-on t table (taken-sound t table taken) q (c .inside) l
+        ∙ ap (λ (x : StepRecord). stepped (stepWords x) (nextOf q (stepAtPlace (recordsOf table) q .kind))) (step-there (c .depth)) in
+        rw goes (shown-by (nextOf q (stepAtPlace (recordsOf table) q .kind)))
 
   -- the walk from the start of the model, as the demand has it
   pub walk-shown : Walked t table (length before) m
@@ -248,6 +248,6 @@ module _ (t table : List ℕ) (taken : Taken t table) (before behind : List Mode
 
 -- of every model of an accepted text
 pub walks-shown :
-    (t table : List ℕ) → Taken t table → (before behind : List Model) (m : Model) → documentOf t .models ≡ before ++ (m ∷ behind) →
+    (t table : List ℕ) → AcceptedTable t table → (before behind : List Model) (m : Model) → documentOf t .models ≡ before ++ (m ∷ behind) →
     Walked t table (length before) m
 walks-shown t table taken before behind m stands = walk-shown t table taken before behind m stands

@@ -14,7 +14,7 @@ use Rattle.ask_sound.specs.Sound as sound
 use Rattle.ask_walk.specs.Walk.{noModel, noRecord}
 use Rattle.law_sound.proofs.EveryLaws.{range-middle}
 use Rattle.law_sound.proofs.PartLaws.{kinds-more}
-use Rattle.law_third.specs.Third.{kindsOf}
+use Rattle.law_third.specs.Third.{stepKinds}
 
 pub models-long : (first : ℕ) (ms : List Model) → length (modelRecords first ms) ≡ length ms
 unfolding modelRecords
@@ -102,19 +102,19 @@ module _ (d : Document) (before behind : List Model) (m : Model) (stands : d .mo
           ∙ append-assoc (own above) (own (s ∷ below)) recordsBehind
 
   -- the kinds of its steps
-  kinds-split : sound.kindsOf (flatten d .steps) ≡ sound.kindsOf recordsBefore ++ sound.kindsOf (stepRecords (d .maps) (d .sections) (m ∷ behind))
-  unfolding sound.kindsOf flatten
+  kinds-split : sound.recordKinds (flatten d .steps) ≡ sound.recordKinds recordsBefore ++ sound.recordKinds (stepRecords (d .maps) (d .sections) (m ∷ behind))
+  unfolding sound.recordKinds flatten
   kinds-split =
       ap (map (λ (s : StepRecord). s .kind)) (ap (stepRecords (d .maps) (d .sections)) stands ∙ steps-append (d .maps) (d .sections) before (m ∷ behind))
       ∙ map-append (λ (s : StepRecord). s .kind) recordsBefore (stepRecords (d .maps) (d .sections) (m ∷ behind))
 
-  kinds-long : length (sound.kindsOf recordsBefore) ≡ length recordsBefore
-  unfolding sound.kindsOf
+  kinds-long : length (sound.recordKinds recordsBefore) ≡ length recordsBefore
+  unfolding sound.recordKinds
   kinds-long = length-map recordsBefore (λ (s : StepRecord). s .kind)
 
-  pub its-kinds : range (length recordsBefore) (length (m .steps)) (sound.kindsOf (flatten d .steps)) ≡ kindsOf (m .steps)
+  pub its-kinds : range (length recordsBefore) (length (m .steps)) (sound.recordKinds (flatten d .steps)) ≡ stepKinds (m .steps)
   its-kinds =
       ap (range (length recordsBefore) (length (m .steps)))
-      (kinds-split ∙ ap (λ (ks : List ℕ). sound.kindsOf recordsBefore ++ ks) (kinds-more (d .maps) (d .sections) m behind))
-      ∙ range-middle (sound.kindsOf recordsBefore) (kindsOf (m .steps)) (sound.kindsOf recordsBehind) (length recordsBefore) (length (m .steps)) kinds-long
+      (kinds-split ∙ ap (λ (ks : List ℕ). sound.recordKinds recordsBefore ++ ks) (kinds-more (d .maps) (d .sections) m behind))
+      ∙ range-middle (sound.recordKinds recordsBefore) (stepKinds (m .steps)) (sound.recordKinds recordsBehind) (length recordsBefore) (length (m .steps)) kinds-long
       (length-map (m .steps) (λ (s : Step). s .kind))

@@ -24,7 +24,7 @@ use Rattle.cross_rules.specs.Rules.{
   sameWord,
   isTwice,
   mapName,
-  mapRule,
+  mapNameRule,
   stepRule,
   mapIndex,
   sectionIndex,
@@ -48,15 +48,15 @@ use Rattle.ask_walk.specs.Walk.{
   noStep,
   stepped,
   doneAt,
-  refusedWith,
+  walkRefused,
   noModel,
   noRecord,
-  modelOf,
-  stepOf,
+  modelAtPlace,
+  stepAtPlace,
   isDepth,
   kindsBefore,
   isPlace,
-  wordsOf,
+  stepWords,
   nextOf,
   walkOver,
   walkOn,
@@ -67,7 +67,7 @@ use Rattle.ask_walk.specs.declared.StepWords.{StepWords}
 use Rattle.ask_entry.specs.Entry as entry
 use Rattle.law_alike.specs.Way.Same.{All2, SameStep, SameModel, SameMap, SameSection, SameDocument}
 use Rattle.law_alike.proofs.GatherLaws.{all2-append}
-use Rattle.law_third.specs.Third.{Taken, noMap, nameThrough, sideOf, SameAnswer}
+use Rattle.law_third.specs.Third.{AcceptedTable, noMap, nameThrough, sideOf, SameAnswer}
 use Rattle.law_third.proofs.WalkTakenLaws.{taken-kept, taken-sound, taken-records}
 use Rattle.law_third.proofs.WalkNameLaws.{index-here, index-later, map-name, section-name}
 
@@ -178,12 +178,12 @@ module _ {A : Type 0} {P : A → Type 0} where
   each-behind (x ∷ xs) ys (more h hs) = each-behind xs ys hs
 
 module _ (d : Document) where
-  maps-kept : (ms : List Map) → Each (λ (f : Finding). f .number ≡ 0) (mapFindings d ms) → Each (λ (m : Map). mapRule d m ≡ 0) ms
+  maps-kept : (ms : List Map) → Each (λ (f : Finding). f .number ≡ 0) (mapFindings d ms) → Each (λ (m : Map). mapNameRule d m ≡ 0) ms
   unfolding mapFindings
   maps-kept [] h = none
   maps-kept (m ∷ ms) (more h hs) = more h (maps-kept ms (each-behind (pinFindings m) (mapFindings d ms) hs))
 
-  all-maps-kept : crossRule d .number ≡ 0 → Each (λ (m : Map). mapRule d m ≡ 0) (d .maps)
+  all-maps-kept : crossRule d .number ≡ 0 → Each (λ (m : Map). mapNameRule d m ≡ 0) (d .maps)
   unfolding findings
   all-maps-kept e =
       maps-kept (d .maps)
@@ -191,7 +191,7 @@ module _ (d : Document) where
       (each-behind (modelFindings d (d .models)) _ (each-behind (listFindings d) _ (all-kept d e))))
 
   maps-fresh : crossRule d .number ≡ 0 → Fresh (d .maps)
-  maps-fresh e = fresh (d .maps) (each-by (λ (m : Map) (h : mapRule d m ≡ 0). map-judged d m .kept h 0) (all-maps-kept e))
+  maps-fresh e = fresh (d .maps) (each-by (λ (m : Map) (h : mapNameRule d m ≡ 0). map-judged d m .kept h 0) (all-maps-kept e))
 
 -- ---- records that are the same but for lines and offsets
 
@@ -308,12 +308,12 @@ module _ (t u : List ℕ) (kept : crossRule (documentOf t) .number ≡ 0) (also 
 
   -- ---- places
 
-  kinds-alike : sound.kindsOf (flatten d .steps) ≡ sound.kindsOf (flatten e .steps)
-  unfolding sound.kindsOf
+  kinds-alike : sound.recordKinds (flatten d .steps) ≡ sound.recordKinds (flatten e .steps)
+  unfolding sound.recordKinds
   kinds-alike = all2-map (λ (s : StepRecord). s .kind) (λ (s : StepRecord). s .kind) (λ (x y : StepRecord) (h : SameStepRecord t u x y). h .kind) steps-alike
 
   module _ (p : Place) where
-    model-alike : SameModelRecord (modelOf (flatten d) p) (modelOf (flatten e) p)
+    model-alike : SameModelRecord (modelAtPlace (flatten d) p) (modelAtPlace (flatten e) p)
     model-alike = all2-at models-alike noModel noModel (record { first = refl; steps = refl }) (p .model)
 
     place-alike : isPlace (flatten d) p ≡ isPlace (flatten e) p
@@ -327,11 +327,11 @@ module _ (t u : List ℕ) (kept : crossRule (documentOf t) .number ≡ 0) (also 
     unfolding nameAt
     no-sides = refl
 
-    step-alike : SameStepRecord t u (stepOf (flatten d) p) (stepOf (flatten e) p)
-    unfolding stepOf
+    step-alike : SameStepRecord t u (stepAtPlace (flatten d) p) (stepAtPlace (flatten e) p)
+    unfolding stepAtPlace
     step-alike =
         rw (model-alike .first)
-        (all2-at steps-alike noRecord noRecord (record { kind = refl; target = refl; amount = refl; side = no-sides }) (modelOf (flatten e) p .first + p .step))
+        (all2-at steps-alike noRecord noRecord (record { kind = refl; target = refl; amount = refl; side = no-sides }) (modelAtPlace (flatten e) p .first + p .step))
 
 -- ---- the answers
 
@@ -346,11 +346,11 @@ module _ {t table u other : List ℕ} where
       (λ (f : b ≡ false). rw (if-false v v' f, if-false w w' (sym e ∙ f)) k)
 
 -- 30 is not met
-asked : (t table : List ℕ) → Taken t table → (p : Place) → walk.answerOf t table p ≡ walkFrom (flatten (documentOf t)) p
-unfolding walk.answerOf
+asked : (t table : List ℕ) → AcceptedTable t table → (p : Place) → walk.walkAnswer t table p ≡ walkFrom (flatten (documentOf t)) p
+unfolding walk.walkAnswer
 asked t table taken p = if-false _ _ (not-not-via (taken-sound t table taken)) ∙ ap (λ (r : Records). walkFrom r p) (taken-records t table taken)
 
-module _ (t table u other : List ℕ) (taken : Taken t table) (also : Taken u other) (alike : SameDocument (documentOf t) (documentOf u)) where
+module _ (t table u other : List ℕ) (taken : AcceptedTable t table) (also : AcceptedTable u other) (alike : SameDocument (documentOf t) (documentOf u)) where
   abbrev r : Records
   r = flatten (documentOf t)
 
@@ -385,15 +385,15 @@ module _ (t table u other : List ℕ) (taken : Taken t table) (also : Taken u ot
       }
 
   module _ (p : Place) where
-    steps-here : SameStepRecord t u (stepOf r p) (stepOf q p)
+    steps-here : SameStepRecord t u (stepAtPlace r p) (stepAtPlace q p)
     steps-here = step-alike t u (taken-kept t table taken) (taken-kept u other also) alike p
 
-    sides-here : sideOf t (wordsOf (stepOf r p)) ≡ sideOf u (wordsOf (stepOf q p))
+    sides-here : sideOf t (stepWords (stepAtPlace r p)) ≡ sideOf u (stepWords (stepAtPlace q p))
     unfolding sideOf
     sides-here = steps-here .side
 
     -- with one
-    with-step : SameAnswer t table u other (stepped (wordsOf (stepOf r p)) (nextOf p (stepOf r p .kind))) (stepped (wordsOf (stepOf q p)) (nextOf p (stepOf q p .kind)))
+    with-step : SameAnswer t table u other (stepped (stepWords (stepAtPlace r p)) (nextOf p (stepAtPlace r p .kind))) (stepped (stepWords (stepAtPlace q p)) (nextOf p (stepAtPlace q p .kind)))
     with-step =
         record {
           answered = refl;
@@ -402,19 +402,19 @@ module _ (t table u other : List ℕ) (taken : Taken t table) (also : Taken u ot
           kind = steps-here .kind;
           target = steps-here .target;
           amount = steps-here .amount;
-          name = name-too (wordsOf (stepOf r p)) (wordsOf (stepOf q p)) (steps-here .kind) (steps-here .target);
+          name = name-too (stepWords (stepAtPlace r p)) (stepWords (stepAtPlace q p)) (steps-here .kind) (steps-here .target);
           side = sides-here;
           next = ap (nextOf p) (steps-here .kind);
         }
 
-    over-same : SameAnswer t table u other (walkOver (stepOf r p) p) (walkOver (stepOf q p) p)
+    over-same : SameAnswer t table u other (walkOver (stepAtPlace r p) p) (walkOver (stepAtPlace q p) p)
     unfolding walkOver
     over-same = with-step
 
     on-same : SameAnswer t table u other (walkOn r p) (walkOn q p)
     unfolding walkOn
     on-same =
-        by-two (eqb (p .step) (modelOf r p .steps)) (eqb (p .step) (modelOf q p .steps))
+        by-two (eqb (p .step) (modelAtPlace r p .steps)) (eqb (p .step) (modelAtPlace q p .steps))
         (ap (eqb (p .step)) (model-alike t u (taken-kept t table taken) (taken-kept u other also) alike p .steps)) (doneAt p) _ (doneAt p) _
         (stepless true true 0 0 p) over-same
 
@@ -422,13 +422,13 @@ module _ (t table u other : List ℕ) (taken : Taken t table) (also : Taken u ot
     unfolding walkFrom
     from-same =
         by-two (not (isPlace r p)) (not (isPlace q p)) (ap not (place-alike t u (taken-kept t table taken) (taken-kept u other also) alike p))
-        (refusedWith walk.noSuch) _ (refusedWith walk.noSuch) _ (stepless false false walk.noSuch 0 (record { model = 0; step = 0; depth = 0 })) on-same
+        (walkRefused walk.noSuch) _ (walkRefused walk.noSuch) _ (stepless false false walk.noSuch 0 (record { model = 0; step = 0; depth = 0 })) on-same
 
-    pub walk-same : SameAnswer t table u other (walk.answerOf t table p) (walk.answerOf u other p)
+    pub walk-same : SameAnswer t table u other (walk.walkAnswer t table p) (walk.walkAnswer u other p)
     walk-same = rw (asked t table taken p, asked u other also p) from-same
 
 -- from every place, also from one that is not in range
 pub walks-same :
-    (t table u other : List ℕ) → Taken t table → Taken u other → SameDocument (documentOf t) (documentOf u) → (p : Place) →
-    SameAnswer t table u other (walk.answerOf t table p) (walk.answerOf u other p)
+    (t table u other : List ℕ) → AcceptedTable t table → AcceptedTable u other → SameDocument (documentOf t) (documentOf u) → (p : Place) →
+    SameAnswer t table u other (walk.walkAnswer t table p) (walk.walkAnswer u other p)
 walks-same t table u other taken also alike p = walk-same t table u other taken also alike p

@@ -13,12 +13,12 @@ use Rattle.cross_rules.specs.Rules.{crossRule}
 use Rattle.ask_sound.specs.Sound.{isSound}
 use Rattle.intake.specs.Verdict.{Outcome}
 use Rattle.intake.specs.declared.Answer.the-variants.{Accepted}
-use Rattle.law_demands.proofs.AcceptedLaws.{accepted-taken, Taken as Passed}
+use Rattle.law_demands.proofs.AcceptedLaws.{accepted-taken, AcceptedTable as Passed}
 use Rattle.law_demands.proofs.DemandLaws.{demanded}
 use Rattle.law_sound.proofs.IntakeLaws.{intake-sound}
-use Rattle.law_third.specs.Third.{Taken}
+use Rattle.law_third.specs.Third.{AcceptedTable}
 
-module _ (t table : List ℕ) (taken : Taken t table) where
+module _ (t table : List ℕ) (taken : AcceptedTable t table) where
   pub taken-passed : Passed t (length (taken .before))
   taken-passed = accepted-taken t (length (taken .before)) (ap (λ (o : Outcome). o .accepted) (sym (taken .conforms .answers)))
 

@@ -28,7 +28,7 @@ use Rattle.law_alike.specs.Written.{writtenAt}
 use Rattle.law_alike.specs.Alike.{formAt, Alike}
 
 -- a text that intake accepts, and the table that it leaves
-pub record Taken (t table : List ℕ) : Type 0 where
+pub record AcceptedTable (t table : List ℕ) : Type 0 where
   pub before : List ℕ
   pub words : ℕ
   pub conforms : Conforms t before (Accepted words) table
@@ -36,9 +36,9 @@ pub record Taken (t table : List ℕ) : Type 0 where
 -- ---- (a) the walk
 
 -- where a walk from the start of a model has come after so many steps
-unfoldable pub placeAfter : List ℕ → List ℕ → ℕ → ℕ → Place
-placeAfter t table model zero = record { model = model; step = 0; depth = 0 }
-placeAfter t table model (suc k) = walk.answerOf t table (placeAfter t table model k) .next
+unfoldable pub walkedTo : List ℕ → List ℕ → ℕ → ℕ → Place
+walkedTo t table model zero = record { model = model; step = 0; depth = 0 }
+walkedTo t table model (suc k) = walk.walkAnswer t table (walkedTo t table model k) .next
 
 abbrev pub noMap : MapRecord
 noMap = record { start = 0; size = 0; order = 0; rows = 0; columns = 0; first = 0; pins = 0 }
@@ -54,7 +54,7 @@ unfoldable pub sideOf : List ℕ → StepWords → List ℕ
 sideOf t w = nameAt t (w .side) (w .«side_size»)
 
 -- a step over a section passes the section of the document that has its name: the target is where that section stands
-pub record Passed (t : List ℕ) (s : Step) (target : ℕ) : Type 0 where
+pub record PassesSection (t : List ℕ) (s : Step) (target : ℕ) : Type 0 where
   pub before : List Section
   pub behind : List Section
   pub section : Section
@@ -68,23 +68,23 @@ pub record Shown (t table : List ℕ) (s : Step) (w : WalkWords) : Type 0 where
   pub goes-on : w .done ≡ false
   pub kind : w .step .kind ≡ s .kind
   pub name : nameThrough t (recordsOf table) (w .step) ≡ s .name .text
-  pub passes : s .kind ≡ sectionKind → Passed t s (w .step .target)
+  pub passes : s .kind ≡ sectionKind → PassesSection t s (w .step .target)
   pub amount : w .step .amount ≡ s .amount
   pub side : sideOf t (w .step) ≡ s .side .text
   pub line : w .step .line ≡ s .line
 
-abbrev pub kindsOf : List Step → List ℕ
-kindsOf steps = map (λ (s : Step). s .kind) steps
+abbrev pub stepKinds : List Step → List ℕ
+stepKinds steps = map (λ (s : Step). s .kind) steps
 
 -- of the model m, which stands at i: each path line in turn; the depth is opens less closes; done after the last, every fork closed
 pub record Walked (t table : List ℕ) (i : ℕ) (m : Model) : Type 0 where
   pub shows :
       (above below : List Step) (s : Step) → m .steps ≡ above ++ (s ∷ below) →
-      Shown t table s (walk.answerOf t table (placeAfter t table i (length above)))
+      Shown t table s (walk.walkAnswer t table (walkedTo t table i (length above)))
   pub deep :
       (above below : List Step) → m .steps ≡ above ++ below →
-      placeAfter t table i (length above) .depth + countKind endforkKind (kindsOf above) ≡ countKind forkKind (kindsOf above)
-  pub ends : walk.answerOf t table (placeAfter t table i (length (m .steps))) ≡ walk.doneAt (record { model = i; step = length (m .steps); depth = 0 })
+      walkedTo t table i (length above) .depth + countKind endforkKind (stepKinds above) ≡ countKind forkKind (stepKinds above)
+  pub ends : walk.walkAnswer t table (walkedTo t table i (length (m .steps))) ≡ walk.doneAt (record { model = i; step = length (m .steps); depth = 0 })
 
 -- ---- (b) the entries
 
@@ -102,19 +102,19 @@ pub record WrittenBy (t : List ℕ) (m : Matrix) : Type 0 where
 pub record Entered (t table : List ℕ) (i : ℕ) (x : Section) : Type 0 where
   pub answers :
       (kind row column : ℕ) → kind < 4 → 1 ≤ row → row ≤ conductorsOf (x .matrices) → 1 ≤ column →
-      column ≤ conductorsOf (x .matrices) → entry.answerOf t table i kind row column .found ≡ true
+      column ≤ conductorsOf (x .matrices) → entry.entryAnswer t table i kind row column .found ≡ true
   pub by-lines : (above below : List Matrix) (m : Matrix) → x .matrices ≡ above ++ (m ∷ below) → WrittenBy t m
   pub written :
       (before after : List Line) (line : Line) → significant t ≡ before ++ (line ∷ after) → opensMatrixAt line ≡ true →
       (above below : List Matrix) → x .matrices ≡ above ++ (matrixOf line (formAt line) (upTo inMatrix after) ∷ below) →
       (row column : ℕ) → 1 ≤ row → row ≤ conductorsOf (x .matrices) → 1 ≤ column → column ≤ conductorsOf (x .matrices) →
-      entry.answerOf t table i (kindOf (keyOf line)) row column
+      entry.entryAnswer t table i (kindOf (keyOf line)) row column
       ≡ foundWith (writtenAt (formAt line) (upTo inMatrix after) (min row column) (max row column))
   pub not-given :
       (kind : ℕ) → kind < 4 → Each (λ (m : Matrix). m .kind ≡ kind → ⊥) (x .matrices) → (row column : ℕ) → 1 ≤ row →
       row ≤ conductorsOf (x .matrices) → 1 ≤ column → column ≤ conductorsOf (x .matrices) →
-      entry.answerOf t table i kind row column ≡ foundWith zeroWord
-  pub exchanged : (kind row column : ℕ) → entry.answerOf t table i kind row column ≡ entry.answerOf t table i kind column row
+      entry.entryAnswer t table i kind row column ≡ foundWith zeroWord
+  pub exchanged : (kind row column : ℕ) → entry.entryAnswer t table i kind row column ≡ entry.entryAnswer t table i kind column row
 
 -- ---- (c) alike texts
 
@@ -131,12 +131,12 @@ pub record SameAnswer (t table u other : List ℕ) (v w : WalkWords) : Type 0 wh
   pub next : v .next ≡ w .next
 
 pub record SameAnswers (t table u other : List ℕ) : Type 0 where
-  pub walks : (p : Place) → SameAnswer t table u other (walk.answerOf t table p) (walk.answerOf u other p)
-  pub entries : (section kind row column : ℕ) → entry.answerOf t table section kind row column ≡ entry.answerOf u other section kind row column
+  pub walks : (p : Place) → SameAnswer t table u other (walk.walkAnswer t table p) (walk.walkAnswer u other p)
+  pub entries : (section kind row column : ℕ) → entry.entryAnswer t table section kind row column ≡ entry.entryAnswer u other section kind row column
 
 -- ---- the whole
 
 pub record Third (t table : List ℕ) : Type 0 where
   pub walks : (before behind : List Model) (m : Model) → documentOf t .models ≡ before ++ (m ∷ behind) → Walked t table (length before) m
   pub entries : (before behind : List Section) (x : Section) → documentOf t .sections ≡ before ++ (x ∷ behind) → Entered t table (length before) x
-  pub others : (u other : List ℕ) → Taken u other → Alike t u → SameAnswers t table u other
+  pub others : (u other : List ℕ) → AcceptedTable u other → Alike t u → SameAnswers t table u other

@@ -13,20 +13,20 @@ use Rattle.base.specs.Bytes.{isBlank, small, isCapital, within}
 use Rattle.base.specs.Runs.{run, same}
 use Rattle.base.proofs.IfLaws.{if-true, by-test, both-first, not-via}
 use Rattle.base.proofs.RunLaws.{run-le}
-use Rattle.lex_keyword.specs.Names.{folded, sameName, names, placeOf, keyOf, isLater, unknown}
+use Rattle.lex_keyword.specs.Names.{folded, sameName, names, nameIndex, keywordOf, isLater, unknown}
 use Rattle.lex_keyword.specs.Bracket.{nameLength, nameOf, isClosed, isGoodBracket, argumentAt, namedAs, bracketOf}
 use Rattle.lex_keyword.specs.Way.Reading.{opensLine}
 use Rattle.lex_keyword.specs.declared.Bracket.{Bracket}
 use Rattle.lex_keyword.specs.declared.Bracket.the-variants.{Plain, Indented, Bad, Unknown, Later, Keyword}
 
-place-le : (a : List ℕ) (ns : List (List ℕ)) → placeOf a ns ≤ length ns
-unfolding placeOf
+place-le : (a : List ℕ) (ns : List (List ℕ)) → nameIndex a ns ≤ length ns
+unfolding nameIndex
 place-le a [] = zero-le
 place-le a (n ∷ ns) = by-test (λ (k : ℕ). k ≤ suc (length ns)) (sameName a n) _ _ (λ (e : sameName a n ≡ true). zero-le) (λ (e : sameName a n ≡ false). suc-le-suc (place-le a ns))
 
 -- a number is a keyword's or that of none
-pub key-most : (name : List ℕ) → keyOf name ≤ unknown
-unfolding keyOf
+pub key-most : (name : List ℕ) → keywordOf name ≤ unknown
+unfolding keywordOf
 key-most name = place-le name names
 
 -- in a good bracket the argument starts past both brackets and inside the content
@@ -52,7 +52,7 @@ pub record Known (content : List ℕ) (key argument : ℕ) : Type 0 where
   pub now-read : isLater key ≡ false
   pub past : 2 ≤ argument
   pub inside : argument ≤ length content
-  pub named : key ≡ keyOf (nameOf content)
+  pub named : key ≡ keywordOf (nameOf content)
   pub placed : argument ≡ argumentAt content
   pub good : isGoodBracket content ≡ true
   pub opened : opensLine content ≡ true
@@ -94,10 +94,10 @@ module _ (key argument : ℕ) where
       (λ (f : isLater k ≡ false) (h : Keyword k a ≡ Keyword key argument). (e, f, (cc), (cc))))
 
   module _ (content : List ℕ) where
-    answer-known : not (opensLine content) ≡ false → ltb 0 (run isBlank content) ≡ false → not (isGoodBracket content) ≡ false → namedAs (keyOf (nameOf content)) (argumentAt content) ≡ Keyword key argument → Known content key argument
+    answer-known : not (opensLine content) ≡ false → ltb 0 (run isBlank content) ≡ false → not (isGoodBracket content) ≡ false → namedAs (keywordOf (nameOf content)) (argumentAt content) ≡ Keyword key argument → Known content key argument
     answer-known opens column good h =
-        let parts : (eqb (keyOf (nameOf content)) unknown ≡ false) × (isLater (keyOf (nameOf content)) ≡ false) × (key ≡ keyOf (nameOf content)) × (argument ≡ argumentAt content) = named-known (keyOf (nameOf content)) (argumentAt content) h in
-        let other-key : keyOf (nameOf content) ≡ unknown → ⊥ = eqb-false (keyOf (nameOf content)) unknown (parts .0) in
+        let parts : (eqb (keywordOf (nameOf content)) unknown ≡ false) × (isLater (keywordOf (nameOf content)) ≡ false) × (key ≡ keywordOf (nameOf content)) × (argument ≡ argumentAt content) = named-known (keywordOf (nameOf content)) (argumentAt content) h in
+        let other-key : keywordOf (nameOf content) ≡ unknown → ⊥ = eqb-false (keywordOf (nameOf content)) unknown (parts .0) in
         let blanks : run isBlank content ≤ 0 = ltb-false 0 (run isBlank content) column in
         let most : argumentAt content ≤ length content = argument-inside content (not-false (isGoodBracket content) good) in
         record {
@@ -156,9 +156,9 @@ module _ (content : List ℕ) where
       (λ (column : ltb 0 (run isBlank content) ≡ false).
       by-test (λ (r : Bracket). r ≡ Plain → opensLine content ≡ false) (not (isGoodBracket content)) _ _
       (λ (e : not (isGoodBracket content) ≡ true). not-plain Bad refl)
-      (λ (good : not (isGoodBracket content) ≡ false). named-not-plain (keyOf (nameOf content)) (argumentAt content))))
+      (λ (good : not (isGoodBracket content) ≡ false). named-not-plain (keywordOf (nameOf content)) (argumentAt content))))
 
 -- each of the forty names has its place for a number: no two of them are the same
-pub each-name : map keyOf names ≡ 0 ∷ 1 ∷ 2 ∷ 3 ∷ 4 ∷ 5 ∷ 6 ∷ 7 ∷ 8 ∷ 9 ∷ 10 ∷ 11 ∷ 12 ∷ 13 ∷ 14 ∷ 15 ∷ 16 ∷ 17 ∷ 18 ∷ 19 ∷ 20 ∷ 21 ∷ 22 ∷ 23 ∷ 24 ∷ 25 ∷ 26 ∷ 27 ∷ 28 ∷ 29 ∷ 30 ∷ 31 ∷ 32 ∷ 33 ∷ 34 ∷ 35 ∷ 36 ∷ 37 ∷ 38 ∷ 39 ∷ []
-unfolding keyOf placeOf sameName same folded if_then_else_ both small isCapital within
+pub each-name : map keywordOf names ≡ 0 ∷ 1 ∷ 2 ∷ 3 ∷ 4 ∷ 5 ∷ 6 ∷ 7 ∷ 8 ∷ 9 ∷ 10 ∷ 11 ∷ 12 ∷ 13 ∷ 14 ∷ 15 ∷ 16 ∷ 17 ∷ 18 ∷ 19 ∷ 20 ∷ 21 ∷ 22 ∷ 23 ∷ 24 ∷ 25 ∷ 26 ∷ 27 ∷ 28 ∷ 29 ∷ 30 ∷ 31 ∷ 32 ∷ 33 ∷ 34 ∷ 35 ∷ 36 ∷ 37 ∷ 38 ∷ 39 ∷ []
+unfolding keywordOf nameIndex sameName same folded if_then_else_ both small isCapital within
 each-name = refl

@@ -14,8 +14,8 @@ use Rattle.base.specs.Bytes.{isBlank, isLetter, isBefore}
 use Rattle.base.specs.Way.Class.{runEnd}
 use Rattle.base.specs.Runs.{run}
 use Rattle.base.proofs.IfLaws.{if-true, if-false, both-rest, both-not-left, both-first, not-via, not-not-via}
-use Rattle.lex_keyword.specs.Names.{keyOf, isLater}
-use Rattle.lex_keyword.specs.Bracket.{isOpen, isInside, isGoodName, parted, areGoodWords, nameLength, nameOf, isClosed, isGoodBracket, argumentAt, namedAs, bracketOf}
+use Rattle.lex_keyword.specs.Names.{keywordOf, isLater}
+use Rattle.lex_keyword.specs.Bracket.{isOpen, isNotClosing, isGoodName, parted, areGoodWords, nameLength, nameOf, isClosed, isGoodBracket, argumentAt, namedAs, bracketOf}
 use Rattle.lex_keyword.specs.Way.Reading.{closesAt, saysName}
 use Rattle.lex_keyword.specs.declared.Bracket.{Bracket}
 use Rattle.lex_keyword.specs.declared.Bracket.the-variants.{Plain, Indented, Bad, Unknown, Later, Keyword}
@@ -50,7 +50,7 @@ module _ (name : List ℕ) (argument : ℕ) (t : Bool) (told : t ≡ isGoodName 
   unfolding saysName
   says-bad e = sym (if-true _ _ (ap not (sym told) ∙ e))
 
-  pub says-key : (key : ℕ) (r : Bracket) → not t ≡ false → key ≡ keyOf name → r ≡ namedAs key argument → r ≡ saysName name argument
+  pub says-key : (key : ℕ) (r : Bracket) → not t ≡ false → key ≡ keywordOf name → r ≡ namedAs key argument → r ≡ saysName name argument
   unfolding saysName
   says-key key r e k h = h ∙ ap (λ (n : ℕ). namedAs n argument) k ∙ sym (if-false _ _ (ap not (sym told) ∙ e))
 
@@ -92,12 +92,12 @@ module _ (content : List ℕ) (front first : ℕ) (told : front ≡ runEnd isBla
 
     -- and where the first `]` after it stands
     module _ (column : front ≤ 0) (end : ℕ) (t : Bool) (ends : end ≡ runEnd (isBefore 93) content 1) (closed : t ≡ closesAt content end) where
-      reads-column : bracketOf content ≡ (if not (isGoodBracket content) then Bad else namedAs (keyOf (nameOf content)) (argumentAt content))
+      reads-column : bracketOf content ≡ (if not (isGoodBracket content) then Bad else namedAs (keywordOf (nameOf content)) (argumentAt content))
       unfolding bracketOf
       reads-column = if-false _ _ open-true ∙ if-false _ _ (le-ltb 0 (run isBlank content) (rw front-run at column))
 
       end-is : end ≡ 1 + nameLength content
-      unfolding nameLength isInside isBefore
+      unfolding nameLength isNotClosing isBefore
       end-is = ends
 
       closed-is : isClosed content ≡ t

@@ -16,7 +16,7 @@ use Rattle.base.specs.If.{if_then_else_, both}
 use Rattle.base.specs.Runs.{same}
 use Rattle.base.proofs.IfLaws.{if-true, if-false, by-cases, both-first, both-second}
 use Rattle.base.proofs.RunLaws.{same-equal}
-use Rattle.lex_keyword.specs.Names.{folded, sameName, names, placeOf, keyOf}
+use Rattle.lex_keyword.specs.Names.{folded, sameName, names, nameIndex, keywordOf}
 use Rattle.lex_keyword.specs.Way.Lookup.{shorter, firstOf}
 
 pub same-long : (a n : List ℕ) → sameName a n ≡ true → length a ≡ length n
@@ -26,16 +26,16 @@ same-long a n e = sym (length-map a folded) ∙ ap length (same-equal (map folde
 pub not-same : (a n : List ℕ) → (length a ≡ length n → ⊥) → sameName a n ≡ false
 not-same a n h = by-cases _ (sameName a n) (λ (e : sameName a n ≡ true). absurd (h (same-long a n e))) (λ (e : sameName a n ≡ false). e)
 
-place-nil : (a : List ℕ) → placeOf a [] ≡ zero
-unfolding placeOf
+place-nil : (a : List ℕ) → nameIndex a [] ≡ zero
+unfolding nameIndex
 place-nil a = refl
 
-place-here : (a n : List ℕ) (ns : List (List ℕ)) → sameName a n ≡ true → placeOf a (n ∷ ns) ≡ zero
-unfolding placeOf
+place-here : (a n : List ℕ) (ns : List (List ℕ)) → sameName a n ≡ true → nameIndex a (n ∷ ns) ≡ zero
+unfolding nameIndex
 place-here a n ns e = if-true _ _ e
 
-place-later : (a n : List ℕ) (ns : List (List ℕ)) → sameName a n ≡ false → placeOf a (n ∷ ns) ≡ suc (placeOf a ns)
-unfolding placeOf
+place-later : (a n : List ℕ) (ns : List (List ℕ)) → sameName a n ≡ false → nameIndex a (n ∷ ns) ≡ suc (nameIndex a ns)
+unfolding nameIndex
 place-later a n ns e = if-false _ _ e
 
 -- no name is shorter than the one before it
@@ -119,58 +119,58 @@ shorter-more size more (n ∷ ns) h =
 
 module _ (a : List ℕ) where
   -- shorter names are passed over
-  place-skips : (size : ℕ) (ns : List (List ℕ)) → size ≤ length a → shorter size ns + placeOf a (drop (shorter size ns) ns) ≡ placeOf a ns
+  place-skips : (size : ℕ) (ns : List (List ℕ)) → size ≤ length a → shorter size ns + nameIndex a (drop (shorter size ns) ns) ≡ nameIndex a ns
   place-skips size [] h = rw (shorter-nil, zero-add)
   place-skips size (n ∷ ns) h =
       by-cases _ (ltb (length n) size)
       (λ (e : ltb (length n) size ≡ true). inside (place-skips size ns h) e)
       (λ (e : ltb (length n) size ≡ false). rw (shorter-stop size n ns e) (zero-add _))
     where
-      inside : shorter size ns + placeOf a (drop (shorter size ns) ns) ≡ placeOf a ns → ltb (length n) size ≡ true → shorter size (n ∷ ns) + placeOf a (drop (shorter size (n ∷ ns)) (n ∷ ns)) ≡ placeOf a (n ∷ ns)
+      inside : shorter size ns + nameIndex a (drop (shorter size ns) ns) ≡ nameIndex a ns → ltb (length n) size ≡ true → shorter size (n ∷ ns) + nameIndex a (drop (shorter size (n ∷ ns)) (n ∷ ns)) ≡ nameIndex a (n ∷ ns)
       inside later e =
           let k : length n < size = ltb-true (length n) size e in
           rw (shorter-on size n ns e, place-later a n ns (not-same a n (λ (z : length a ≡ length n). omega arith)), suc-add) (ap suc later)
 
   -- among longer names there is none
-  place-none : (least : ℕ) (ns : List (List ℕ)) → rising least ns ≡ true → length a < least → placeOf a ns ≡ length ns
+  place-none : (least : ℕ) (ns : List (List ℕ)) → rising least ns ≡ true → length a < least → nameIndex a ns ≡ length ns
   place-none least [] up h = place-nil a
   place-none least (n ∷ ns) up h =
       let k : least ≤ length n = rising-first least n ns up in
       rw (place-later a n ns (not-same a n (λ (z : length a ≡ length n). omega arith))) (ap suc (place-none (length n) ns (rising-rest least n ns up) (le-trans h k)))
 
-  place-ends : (size least : ℕ) (ns : List (List ℕ)) → rising least ns ≡ true → length a < size → shorter size ns + placeOf a (drop (shorter size ns) ns) ≡ length ns
+  place-ends : (size least : ℕ) (ns : List (List ℕ)) → rising least ns ≡ true → length a < size → shorter size ns + nameIndex a (drop (shorter size ns) ns) ≡ length ns
   place-ends size least [] up h = rw (shorter-nil, zero-add, place-nil)
   place-ends size least (n ∷ ns) up h =
       by-cases _ (ltb (length n) size)
       (λ (e : ltb (length n) size ≡ true). rw (shorter-on size n ns e, suc-add) (ap suc (place-ends size (length n) ns (rising-rest least n ns up) h)))
       (λ (e : ltb (length n) size ≡ false). rw (shorter-stop size n ns e, zero-add) (longer e))
     where
-      longer : ltb (length n) size ≡ false → placeOf a (n ∷ ns) ≡ length (n ∷ ns)
+      longer : ltb (length n) size ≡ false → nameIndex a (n ∷ ns) ≡ length (n ∷ ns)
       longer e =
           let k : size ≤ length n = ltb-false (length n) size e in
           rw (place-later a n ns (not-same a n (λ (z : length a ≡ length n). omega arith))) (ap suc (place-none (length n) ns (rising-rest least n ns up) (le-trans h k)))
 
-  place-step : (ns : List (List ℕ)) (k : ℕ) → k < length ns → sameName a (getD ns k []) ≡ false → k + placeOf a (drop k ns) ≡ k + 1 + placeOf a (drop (k + 1) ns)
+  place-step : (ns : List (List ℕ)) (k : ℕ) → k < length ns → sameName a (getD ns k []) ≡ false → k + nameIndex a (drop k ns) ≡ k + 1 + nameIndex a (drop (k + 1) ns)
   place-step ns k h e =
-      let one : placeOf a (drop k ns) ≡ suc (placeOf a (drop (suc k) ns)) = rw (drop-cons ns k [] h) (place-later a (getD ns k []) (drop (suc k) ns) e) in
+      let one : nameIndex a (drop k ns) ≡ suc (nameIndex a (drop (suc k) ns)) = rw (drop-cons ns k [] h) (place-later a (getD ns k []) (drop (suc k) ns) e) in
       rw (one, add-one, suc-add, add-suc)
 
-  place-found : (ns : List (List ℕ)) (k : ℕ) → k < length ns → sameName a (getD ns k []) ≡ true → placeOf a (drop k ns) ≡ 0
+  place-found : (ns : List (List ℕ)) (k : ℕ) → k < length ns → sameName a (getD ns k []) ≡ true → nameIndex a (drop k ns) ≡ 0
   place-found ns k h e = rw (drop-cons ns k [] h) (place-here a (getD ns k []) (drop (suc k) ns) e)
 
 -- no name is longer than 22 bytes
-pub too-long : (name : List ℕ) → 22 < length name → 40 ≡ keyOf name
-unfolding keyOf shorter if_then_else_ placeOf
+pub too-long : (name : List ℕ) → 22 < length name → 40 ≡ keywordOf name
+unfolding keywordOf shorter if_then_else_ nameIndex
 too-long name h = place-skips name 23 names h
 
 -- where the search has come to: what is left gives the whole
 pub record Searching (name : List ℕ) (key : ℕ) : Type 0 where
   pub from : firstOf (length name) ≤ key
   pub upTo : key ≤ firstOf (length name + 1)
-  pub rest : key + placeOf name (drop key names) ≡ keyOf name
+  pub rest : key + nameIndex name (drop key names) ≡ keywordOf name
 
 pub key-first : (name : List ℕ) (key : ℕ) → key ≡ firstOf (length name) → Searching name key
-unfolding firstOf keyOf
+unfolding firstOf keywordOf
 key-first name key e =
     let more : shorter (length name) names ≤ shorter (length name + 1) names = shorter-more (length name) (length name + 1) names (omega arith) in
     record { from = omega arith; upTo = omega arith; rest = rw e (place-skips name (length name) names (omega arith)) }
@@ -192,15 +192,15 @@ module _ (name : List ℕ) (key end : ℕ) (at : Searching name key) (told : end
         omega arith
 
     module _ (t : Bool) (same : t ≡ sameName name (getD names key [])) where
-      pub key-found : t ≡ true → key ≡ keyOf name
+      pub key-found : t ≡ true → key ≡ keywordOf name
       key-found e =
-          let z : placeOf name (drop key names) ≡ 0 = place-found name names key key-known (sym same ∙ e) in
+          let z : nameIndex name (drop key names) ≡ 0 = place-found name names key key-known (sym same ∙ e) in
           omega (arith, at .rest)
 
       pub key-next : t ≡ false → Searching name (key + 1)
       key-next e = record { from = omega arith; upTo = omega arith; rest = sym (place-step name names key key-known (sym same ∙ e)) ∙ at .rest }
 
-  pub key-none : end ≤ key → 40 ≡ keyOf name
+  pub key-none : end ≤ key → 40 ≡ keywordOf name
   unfolding firstOf
   key-none h =
       let z : key ≡ shorter (length name + 1) names = omega arith in

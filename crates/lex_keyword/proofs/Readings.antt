@@ -7,8 +7,8 @@ use Prim.Native.Nat.{ℕ}
 use Rattle.base.specs.If.{if_then_else_, both, either}
 use Rattle.base.specs.Bytes.{bytes, tab, small, isCapital, isSmall, isLetter, isDigit, isBlank, within}
 use Rattle.base.specs.Runs.{run, all, same}
-use Rattle.lex_keyword.specs.Names.{folded, sameName, placeOf, keyOf, isLater, theEnd, row, icmVer, beginHeader, endHeader, manufacturer}
-use Rattle.lex_keyword.specs.Bracket.{isOpen, isInside, isSeparator, isPlainByte, push, parted, isHyphenWord, isGoodWord, areGoodWords, isGoodName, nameLength, nameOf, isClosed, isGoodBracket, argumentAt, namedAs, bracketOf}
+use Rattle.lex_keyword.specs.Names.{folded, sameName, nameIndex, keywordOf, isLater, theEnd, row, icmVer, beginHeader, endHeader, manufacturer}
+use Rattle.lex_keyword.specs.Bracket.{isOpen, isNotClosing, isSeparator, isPlainByte, push, parted, isHyphenWord, isGoodWord, areGoodWords, isGoodName, nameLength, nameOf, isClosed, isGoodBracket, argumentAt, namedAs, bracketOf}
 use Rattle.lex_keyword.specs.declared.Bracket.{Bracket}
 use Rattle.lex_keyword.specs.declared.Bracket.the-variants.{Plain, Indented, Bad, Unknown, Later, Keyword}
 
@@ -82,5 +82,5 @@ readings =
 
 pub each-reading : map (λ (r : Reading). bracketOf (r .content)) readings ≡ map (λ (r : Reading). r .says) readings
 unfolding
-    if_then_else_ both either small isCapital isSmall isLetter isDigit isBlank within run all same folded sameName placeOf keyOf isLater isOpen isInside isSeparator isPlainByte push parted isHyphenWord isGoodWord areGoodWords isGoodName nameLength nameOf isClosed isGoodBracket argumentAt namedAs bracketOf
+    if_then_else_ both either small isCapital isSmall isLetter isDigit isBlank within run all same folded sameName nameIndex keywordOf isLater isOpen isNotClosing isSeparator isPlainByte push parted isHyphenWord isGoodWord areGoodWords isGoodName nameLength nameOf isClosed isGoodBracket argumentAt namedAs bracketOf
 each-reading = refl

@@ -14,7 +14,7 @@ use Rattle.base.specs.Bytes.{isBlank, isLetter, isCapital, isSmall, isDigit, wi
 use Rattle.base.specs.Way.Class.{runEnd}
 use Rattle.base.specs.Runs.{run, all, same}
 use Rattle.base.proofs.IfLaws.{both-not-left, both-not-right, both-first, both-second}
-use Rattle.lex_keyword.specs.Names.{folded, sameName, placeOf, keyOf, isLater, row}
+use Rattle.lex_keyword.specs.Names.{folded, sameName, nameIndex, keywordOf, isLater, row}
 use Rattle.lex_keyword.specs.Bracket.{isSeparator, isPlainByte, push, parted, isHyphenWord, isGoodWord, areGoodWords, isGoodName, namedAs, bracketOf}
 use Rattle.lex_keyword.specs.Way.Reading.{closesAt, saysName, isRow}
 use Rattle.lex_keyword.specs.declared.Bracket.the-variants.{Keyword}
@@ -23,7 +23,7 @@ use Rattle.lex_keyword.proofs.BracketLaws.{closes-before, reads-name}
 -- the name `Row`, whatever its argument
 row-says : (argument : ℕ) → Keyword row argument ≡ saysName (82 ∷ 111 ∷ 119 ∷ []) argument
 unfolding
-    if_then_else_ both either small isCapital isSmall isLetter isDigit within all same folded sameName placeOf keyOf isLater isSeparator isPlainByte push parted isHyphenWord isGoodWord areGoodWords isGoodName namedAs saysName
+    if_then_else_ both either small isCapital isSmall isLetter isDigit within all same folded sameName nameIndex keywordOf isLater isSeparator isPlainByte push parted isHyphenWord isGoodWord areGoodWords isGoodName namedAs saysName
 row-says argument = refl
 
 -- its first `]` is the fourth byte

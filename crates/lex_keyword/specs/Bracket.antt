@@ -10,7 +10,7 @@ use lib.Dec.{leb, ltb, eqb}
 use Rattle.base.specs.If.{if_then_else_, both, either}
 use Rattle.base.specs.Bytes.{bytes, isBlank, isDigit, isLetter}
 use Rattle.base.specs.Runs.{run, all}
-use Rattle.lex_keyword.specs.Names.{sameName, keyOf, isLater, unknown}
+use Rattle.lex_keyword.specs.Names.{sameName, keywordOf, isLater, unknown}
 use Rattle.lex_keyword.specs.declared.Bracket.{Bracket}
 use Rattle.lex_keyword.specs.declared.Bracket.the-variants.{Plain, Indented, Bad, Unknown, Later, Keyword}
 
@@ -18,8 +18,8 @@ unfoldable pub isOpen : ℕ → Bool
 isOpen b = eqb b (code "[")
 
 -- not the closing bracket
-unfoldable pub isInside : ℕ → Bool
-isInside b = not (eqb b (code "]"))
+unfoldable pub isNotClosing : ℕ → Bool
+isNotClosing b = not (eqb b (code "]"))
 
 -- "parted by exactly one space or underscore"
 unfoldable pub isSeparator : ℕ → Bool
@@ -56,7 +56,7 @@ isGoodName name = both (isLetter (getD name 0 0)) (areGoodWords (parted name))
 
 -- "A keyword opens in column 1, runs to `]`": how many bytes stand between the brackets
 unfoldable pub nameLength : List ℕ → ℕ
-nameLength content = run isInside (drop 1 content)
+nameLength content = run isNotClosing (drop 1 content)
 
 unfoldable pub nameOf : List ℕ → List ℕ
 nameOf content = take (nameLength content) (drop 1 content)
@@ -84,4 +84,4 @@ bracketOf content =
     if not (isOpen (getD content (run isBlank content) 0)) then Plain else
     if ltb 0 (run isBlank content) then Indented else
     if not (isGoodBracket content) then Bad else
-    namedAs (keyOf (nameOf content)) (argumentAt content)
+    namedAs (keywordOf (nameOf content)) (argumentAt content)

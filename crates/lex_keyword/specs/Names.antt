@@ -61,13 +61,13 @@ names =
     []
 
 -- the place of the first name that is the same, or how many there are where none is
-unfoldable pub placeOf : List ℕ → List (List ℕ) → ℕ
-placeOf a [] = zero
-placeOf a (n ∷ ns) = if sameName a n then zero else suc (placeOf a ns)
+unfoldable pub nameIndex : List ℕ → List (List ℕ) → ℕ
+nameIndex a [] = zero
+nameIndex a (n ∷ ns) = if sameName a n then zero else suc (nameIndex a ns)
 
 -- the number of a keyword; `unknown` for "keyword not of 000"
-unfoldable pub keyOf : List ℕ → ℕ
-keyOf a = placeOf a names
+unfoldable pub keywordOf : List ℕ → ℕ
+keywordOf a = nameIndex a names
 
 abbrev pub unknown : ℕ
 unknown = 40

@@ -7,7 +7,7 @@ ghost use lib.ListN.{length, getD};
 ghost use Rattle.base.specs.Bytes.{isBlank};
 ghost use Rattle.base.specs.Way.Class.{runEnd};
 ghost use Rattle.base.specs.Runs.{all};
-ghost use Rattle.lex_keyword.specs.Names.{folded, names, sameName, keyOf, isLater};
+ghost use Rattle.lex_keyword.specs.Names.{folded, names, sameName, keywordOf, isLater};
 ghost use Rattle.lex_keyword.specs.Way.Lookup.{letters, startOf, firstOf, standsAt};
 ghost use Rattle.lex_keyword.specs.Way.Reading.{isWordByte, closesAt, saysName, isRow};
 ghost use Rattle.lex_keyword.specs.Bracket.{isPlainByte, parted, isHyphenWord, isGoodWord, areGoodWords, isGoodName, namedAs, bracketOf};
@@ -308,7 +308,7 @@ fn is_name_of(table: &[u8], name: &[u8], key: usize) -> bool
 
 // The number of the keyword of this name.
 fn key_of(name: &[u8]) -> u64
-    ensures { λ r. ⌜ r ≡ keyOf (now (name .entry)) ⌝ }
+    ensures { λ r. ⌜ r ≡ keywordOf (now (name .entry)) ⌝ }
 {
     let size = name.len();
     if LONGEST < size {

@@ -24,7 +24,7 @@ use Rattle.lex_line.specs.Lines.{Raw, lines}
 use Rattle.lex_line.specs.Way.LineEnds.{lineAt, terminatorAt}
 use Rattle.lex_line.specs.declared.Checked.{Checked}
 use Rattle.lex_line.specs.declared.Checked.the-variants.{Fine, Refused}
-use Rattle.lex_line.specs.ByteRules.{mostBytes, mostCharacters, withoutReturn, characters, lineRule, judged, linesRule, byteRules}
+use Rattle.lex_line.specs.ByteRules.{mostBytes, mostCharacters, withoutReturn, characters, rawLineRule, refusedOr, linesRule, byteRules}
 use Rattle.lex_line.specs.Way.Judges.{Judges}
 use Rattle.lex_line.proofs.LineLaws.{firstOf, lines-at, next-on, next-within, next-ended}
 
@@ -265,41 +265,41 @@ module _ (u : List ℕ) (h : stopOf u < length u) (e : getD u (stopOf u) 0 ≡ l
 
 -- ---- what code that has looked at a line says of it
 
-judged-number : (k n : ℕ) (x y : Checked) → (k ≡ 0 → x ≡ y) → judged k n x ≡ judged k n y
-unfolding judged
+judged-number : (k n : ℕ) (x y : Checked) → (k ≡ 0 → x ≡ y) → refusedOr k n x ≡ refusedOr k n y
+unfolding refusedOr
 judged-number k n x y h =
     by-cases _ (eqb k 0) (λ (e : eqb k 0 ≡ true). ap (λ (z : Checked). if eqb k 0 then z else Refused k n) (h (eqb-true _ _ e)))
     (λ (e : eqb k 0 ≡ false). if-false _ _ e ∙ sym (if-false _ _ e))
 
-rules-cons : (n : ℕ) (l : Raw) (ls : List Raw) → linesRule n (l ∷ ls) ≡ judged (lineRule l) n (linesRule (n + 1) ls)
+rules-cons : (n : ℕ) (l : Raw) (ls : List Raw) → linesRule n (l ∷ ls) ≡ refusedOr (rawLineRule l) n (linesRule (n + 1) ls)
 unfolding linesRule
 rules-cons n l ls = refl
 
 module _ (t : List ℕ) (at : ℕ) (h : at < length t) where
-  judges : (k next : ℕ) → lineRule (firstOf (drop at t)) ≡ k → (k ≡ 0 → lineAt lineFeed t at .next ≡ next) → next ≤ length t → Judges t at k next
+  judges : (k next : ℕ) → rawLineRule (firstOf (drop at t)) ≡ k → (k ≡ 0 → lineAt lineFeed t at .next ≡ next) → next ≤ length t → Judges t at k next
   judges k next e f w =
       record {
-        same = λ (n : ℕ). ap (linesRule n) (lines-at lineFeed t at h) ∙ rules-cons n _ _ ∙ ap (λ (j : ℕ). judged j n (linesRule (n + 1) (lines (drop (lineAt lineFeed t at .next) t)))) e ∙ judged-number k n _ _ (λ (z : k ≡ 0). ap (λ (j : ℕ). linesRule (n + 1) (lines (drop j t))) (f z));
+        same = λ (n : ℕ). ap (linesRule n) (lines-at lineFeed t at h) ∙ rules-cons n _ _ ∙ ap (λ (j : ℕ). refusedOr j n (linesRule (n + 1) (lines (drop (lineAt lineFeed t at .next) t)))) e ∙ judged-number k n _ _ (λ (z : k ≡ 0). ap (λ (j : ℕ). linesRule (n + 1) (lines (drop j t))) (f z));
         on = λ (z : k ≡ 0). subst (λ (j : ℕ). at < j) (f z) (next-on lineFeed t at h);
         within = w;
       }
 
 module _ (l : Raw) where
-  rule-bad : all isPrinted (characters l) ≡ false → lineRule l ≡ 2
-  unfolding lineRule
+  rule-bad : all isPrinted (characters l) ≡ false → rawLineRule l ≡ 2
+  unfolding rawLineRule
   rule-bad e = first-broken _ _ _ (not-via e)
 
   module _ (good : all isPrinted (characters l) ≡ true) where
-    rule-long : mostCharacters < length (characters l) → lineRule l ≡ 3
-    unfolding lineRule
+    rule-long : mostCharacters < length (characters l) → rawLineRule l ≡ 3
+    unfolding rawLineRule
     rule-long h = first-kept _ _ _ _ (not-not-via good) (first-broken _ _ _ (lt-ltb _ _ h))
 
-    rule-unended : length (characters l) ≤ mostCharacters → l .ended ≡ false → lineRule l ≡ 4
-    unfolding lineRule
+    rule-unended : length (characters l) ≤ mostCharacters → l .ended ≡ false → rawLineRule l ≡ 4
+    unfolding rawLineRule
     rule-unended h e = first-kept _ _ _ _ (not-not-via good) (first-kept _ _ _ _ (le-ltb _ _ h) (first-broken _ _ _ (not-via e)))
 
-    rule-none : length (characters l) ≤ mostCharacters → l .ended ≡ true → lineRule l ≡ 0
-    unfolding lineRule
+    rule-none : length (characters l) ≤ mostCharacters → l .ended ≡ true → rawLineRule l ≡ 0
+    unfolding rawLineRule
     rule-none h e = first-kept _ _ _ _ (not-not-via good) (first-kept _ _ _ _ (le-ltb _ _ h) (first-kept _ _ _ _ (not-not-via e) refl))
 
 -- the byte at a place of the line, as a byte of the text
@@ -423,11 +423,11 @@ module _ (t : List ℕ) (at n : ℕ) (answer : Checked) (inv : linesRule n (line
 
   module _ (k next : ℕ) (j : Judges t at k next) where
     pub check-stop : (k ≡ 0 → ⊥) → Refused k n ≡ answer
-    unfolding judged
+    unfolding refusedOr
     check-stop e = sym (if-false _ _ (ne-eqb _ _ e)) ∙ sym (j .same n) ∙ inv
 
     pub check-on : k ≡ 0 → linesRule (n + 1) (lines (drop next t)) ≡ answer
-    unfolding judged
+    unfolding refusedOr
     check-on e = sym (if-true _ _ (eq-eqb _ _ e)) ∙ sym (j .same n) ∙ inv
 
 pub size-refused : (t : List ℕ) → mostBytes < length t → Refused 1 0 ≡ byteRules t

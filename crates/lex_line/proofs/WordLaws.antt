@@ -17,7 +17,7 @@ use Rattle.base.specs.Runs.{run}
 use Rattle.base.specs.Way.Class.{runEnd}
 use Rattle.base.proofs.IfLaws.{if-true, if-false, by-cases, not-via, not-not-via}
 use Rattle.base.proofs.RunLaws.{run-nil, run-goes, run-stops, run-le, run-on, run-end-at}
-use Rattle.lex_line.specs.Words.{Word, goesOn, grown, wordsFrom, backRun, words, firstOf, secondOf}
+use Rattle.lex_line.specs.Words.{Word, wordGoesOn, grown, wordsFrom, backRun, words, firstOf, secondOf}
 use Rattle.lex_line.specs.Way.Spans.{wordAt, fewOf, markedBy}
 use Rattle.lex_line.specs.declared.Span.{Span}
 use Rattle.lex_line.specs.declared.Few.{Few}
@@ -30,7 +30,7 @@ blank-not : (b : ℕ) → isBlank b ≡ false → isFilled b ≡ true
 unfolding isFilled
 blank-not b e = not-via e
 
-words-cons : (a b : ℕ) (s : List ℕ) → wordsFrom a (b ∷ s) ≡ (if isBlank b then wordsFrom (suc a) s else if goesOn s then grown a b (wordsFrom (suc a) s) else record { start = a; text = b ∷ [] } ∷ wordsFrom (suc a) s)
+words-cons : (a b : ℕ) (s : List ℕ) → wordsFrom a (b ∷ s) ≡ (if isBlank b then wordsFrom (suc a) s else if wordGoesOn s then grown a b (wordsFrom (suc a) s) else record { start = a; text = b ∷ [] } ∷ wordsFrom (suc a) s)
 unfolding wordsFrom
 words-cons a b s = refl
 
@@ -50,19 +50,19 @@ words-blanks a (b ∷ s) =
 abbrev wordOf : ℕ → List ℕ → List Word
 wordOf a s = record { start = a; text = take (run isFilled s) s } ∷ wordsFrom (a + run isFilled s) (drop (run isFilled s) s)
 
-word-goes : (a b : ℕ) (s : List ℕ) → isBlank b ≡ false → goesOn s ≡ true → wordsFrom (suc a) s ≡ wordOf (suc a) s → wordsFrom a (b ∷ s) ≡ wordOf a (b ∷ s)
+word-goes : (a b : ℕ) (s : List ℕ) → isBlank b ≡ false → wordGoesOn s ≡ true → wordsFrom (suc a) s ≡ wordOf (suc a) s → wordsFrom a (b ∷ s) ≡ wordOf a (b ∷ s)
 unfolding grown
 word-goes a b s e g k =
     rw (run-goes isFilled b s (blank-not b e), add-suc, ← suc-add) (words-cons a b s ∙ if-false _ _ e ∙ if-true _ _ g ∙ ap (grown a b) k)
 
-word-stops : (a b : ℕ) (s : List ℕ) → isBlank b ≡ false → goesOn s ≡ false → run isFilled s ≡ 0 → wordsFrom a (b ∷ s) ≡ wordOf a (b ∷ s)
+word-stops : (a b : ℕ) (s : List ℕ) → isBlank b ≡ false → wordGoesOn s ≡ false → run isFilled s ≡ 0 → wordsFrom a (b ∷ s) ≡ wordOf a (b ∷ s)
 word-stops a b s e g z =
     let r : run isFilled (b ∷ s) ≡ 1 = run-goes isFilled b s (blank-not b e) ∙ ap suc z in
     let o : a + 1 ≡ suc a = omega arith in
     rw (r, o) (words-cons a b s ∙ if-false _ _ e ∙ if-false _ _ g)
 
 words-word : (a b : ℕ) (s : List ℕ) → isBlank b ≡ false → wordsFrom a (b ∷ s) ≡ wordOf a (b ∷ s)
-unfolding goesOn
+unfolding wordGoesOn
 words-word a b [] e = word-stops a b [] e refl (run-nil isFilled)
 words-word a b (c ∷ s) e =
     by-cases (wordsFrom a (b ∷ c ∷ s) ≡ wordOf a (b ∷ c ∷ s)) (isBlank c)

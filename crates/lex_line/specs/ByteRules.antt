@@ -32,19 +32,19 @@ unfoldable pub characters : Raw → List ℕ
 characters l = if l .ended then withoutReturn (l .bytes) else l .bytes
 
 -- 2 for a byte that no line may hold, 3 for a long line, 4 for the last line without LF
-unfoldable pub lineRule : Raw → ℕ
-lineRule l =
+unfoldable pub rawLineRule : Raw → ℕ
+rawLineRule l =
     firstBroken
     (2 when not (all isPrinted (characters l)) ∷ 3 when ltb mostCharacters (length (characters l)) ∷ 4 when not (l .ended) ∷ [])
 
 -- the number and the line, or what comes after where the line breaks nothing
-unfoldable pub judged : ℕ → ℕ → Checked → Checked
-judged k n later = if eqb k 0 then later else Refused k n
+unfoldable pub refusedOr : ℕ → ℕ → Checked → Checked
+refusedOr k n later = if eqb k 0 then later else Refused k n
 
 -- "2 to 4 over all lines .. the earliest line counts; on one line the lowest number"
 unfoldable pub linesRule : ℕ → List Raw → Checked
 linesRule n [] = Fine
-linesRule n (l ∷ ls) = judged (lineRule l) n (linesRule (n + 1) ls)
+linesRule n (l ∷ ls) = refusedOr (rawLineRule l) n (linesRule (n + 1) ls)
 
 -- rules 1 to 4: 1 first, at line 0
 unfoldable pub byteRules : List ℕ → Checked

@@ -16,9 +16,9 @@ pub record Word : Type 0 where
   pub text : List ℕ
 
 -- a word goes on with what is left: its next byte is there and is not blank
-unfoldable pub goesOn : List ℕ → Bool
-goesOn [] = false
-goesOn (b ∷ s) = isFilled b
+unfoldable pub wordGoesOn : List ℕ → Bool
+wordGoesOn [] = false
+wordGoesOn (b ∷ s) = isFilled b
 
 -- a byte in front of the word that follows it
 unfoldable pub grown : ℕ → ℕ → List Word → List Word
@@ -30,7 +30,7 @@ unfoldable pub wordsFrom : ℕ → List ℕ → List Word
 wordsFrom at [] = []
 wordsFrom at (b ∷ s) =
     if isBlank b then wordsFrom (suc at) s else
-    if goesOn s then grown at b (wordsFrom (suc at) s) else record { start = at; text = b ∷ [] } ∷ wordsFrom (suc at) s
+    if wordGoesOn s then grown at b (wordsFrom (suc at) s) else record { start = at; text = b ∷ [] } ∷ wordsFrom (suc at) s
 
 -- how many bytes before a place, the nearest first, pass the test
 unfoldable pub backRun : (ℕ → Bool) → List ℕ → ℕ → ℕ

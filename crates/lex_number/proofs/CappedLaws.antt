@@ -10,7 +10,7 @@ use lib.Dec.{eqb}
 use Rattle.base.specs.If.{if_then_else_}
 use Rattle.base.proofs.IfLaws.{if-true, if-false, by-cases}
 use Rattle.lex_number.specs.declared.Digits.{Digits}
-use Rattle.lex_number.specs.Number.{isPoint, goesOn, withPoint, withDigit, withByte, scan}
+use Rattle.lex_number.specs.Number.{isPoint, digitsGoOn, withPoint, withDigit, withByte, scan}
 use Rattle.lex_number.specs.Way.Capped.{sizeCap, cappedDigits, Kept}
 
 -- one digit more: a number cut before the step gives the same as one cut after it
@@ -48,15 +48,15 @@ byte-cut d b =
     (λ e. rw (if-true (withPoint (cappedDigits d)) (withDigit (cappedDigits d) (b - 48)) e, if-true (withPoint d) (withDigit d (b - 48)) e) (point-cut d))
     (λ e. rw (if-false (withPoint (cappedDigits d)) (withDigit (cappedDigits d) (b - 48)) e, if-false (withPoint d) (withDigit d (b - 48)) e) (digit-cut d (b - 48)))
 
-goes-cut : (d : Digits) (b : ℕ) → goesOn (cappedDigits d) b ≡ goesOn d b
-unfolding goesOn cappedDigits
+goes-cut : (d : Digits) (b : ℕ) → digitsGoOn (cappedDigits d) b ≡ digitsGoOn d b
+unfolding digitsGoOn cappedDigits
 goes-cut d b = refl
 
-pub scan-goes : (b : ℕ) (s : List ℕ) (d : Digits) → goesOn d b ≡ true → scan (b ∷ s) d ≡ scan s (withByte d b)
+pub scan-goes : (b : ℕ) (s : List ℕ) (d : Digits) → digitsGoOn d b ≡ true → scan (b ∷ s) d ≡ scan s (withByte d b)
 unfolding scan
 scan-goes b s d e = if-true _ _ e
 
-pub scan-stops : (b : ℕ) (s : List ℕ) (d : Digits) → goesOn d b ≡ false → scan (b ∷ s) d ≡ d
+pub scan-stops : (b : ℕ) (s : List ℕ) (d : Digits) → digitsGoOn d b ≡ false → scan (b ∷ s) d ≡ d
 unfolding scan
 scan-stops b s d e = if-false _ _ e
 
@@ -68,7 +68,7 @@ scan-ends d = refl
 pub scan-cut : (s : List ℕ) (d : Digits) → cappedDigits (scan s (cappedDigits d)) ≡ cappedDigits (scan s d)
 scan-cut [] d = rw (scan-ends (cappedDigits d), scan-ends d) (digits-twice d)
 scan-cut (b ∷ s) d =
-    by-cases _ (goesOn d b)
+    by-cases _ (digitsGoOn d b)
     (λ e.
     rw (scan-goes b s (cappedDigits d) (goes-cut d b ∙ e), scan-goes b s d e)
     (sym (scan-cut s (withByte (cappedDigits d) b)) ∙ ap (λ (x : Digits). cappedDigits (scan s x)) (byte-cut d b) ∙ scan-cut s (withByte d b)))

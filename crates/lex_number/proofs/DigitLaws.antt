@@ -14,21 +14,21 @@ use Rattle.base.specs.If.{if_then_else_}
 use Rattle.base.specs.Bytes.{isDigit, within}
 use Rattle.base.proofs.IfLaws.{if-true, if-false, by-test, either-left, either-rest, both-rest, both-not-left, both-first, both-second, either-false, either-comes}
 use Rattle.lex_number.specs.declared.Digits.{Digits}
-use Rattle.lex_number.specs.Number.{isPoint, noDigits, goesOn, withPoint, withDigit, withByte, scan}
+use Rattle.lex_number.specs.Number.{isPoint, noDigits, digitsGoOn, withPoint, withDigit, withByte, scan}
 use Rattle.lex_number.specs.Way.Capped.{sizeCap, cappedDigits, Kept}
 use Rattle.lex_number.proofs.CappedLaws.{scan-goes, scan-stops, scan-ends, scan-cut, kept-cut}
 
 module _ (d : Digits) (b : ℕ) (t : Bool) (told : t ≡ isDigit b) where
-  pub goes-digit : t ≡ true → true ≡ goesOn d b
-  unfolding goesOn
+  pub goes-digit : t ≡ true → true ≡ digitsGoOn d b
+  unfolding digitsGoOn
   goes-digit e = sym (either-left _ _ (sym told ∙ e))
 
-  pub goes-not : t ≡ false → (b ≡ 46 → ⊥) → false ≡ goesOn d b
-  unfolding goesOn isPoint
+  pub goes-not : t ≡ false → (b ≡ 46 → ⊥) → false ≡ digitsGoOn d b
+  unfolding digitsGoOn isPoint
   goes-not e n = sym (either-false _ _ (sym told ∙ e) (both-not-left _ _ (ne-eqb b 46 n)))
 
-  pub goes-point : t ≡ false → b ≡ 46 → not (d .point) ≡ goesOn d b
-  unfolding goesOn isPoint
+  pub goes-point : t ≡ false → b ≡ 46 → not (d .point) ≡ digitsGoOn d b
+  unfolding digitsGoOn isPoint
   goes-point e p = sym (either-rest _ _ (sym told ∙ e) ∙ both-rest _ _ (eq-eqb b 46 p))
 
 -- digits that are cut stay so past a point
@@ -59,9 +59,9 @@ unfolding isDigit within
 digit-to b e = leb-true b 57 (both-second _ _ e)
 
 -- the byte with which digits go on, which is not the point: its value as a digit, and the digits with it
-module _ (d : Digits) (b w : ℕ) (goes : goesOn d b ≡ true) (other : b ≡ 46 → ⊥) (told : w ≡ b) where
+module _ (d : Digits) (b w : ℕ) (goes : digitsGoOn d b ≡ true) (other : b ≡ 46 → ⊥) (told : w ≡ b) where
   goes-as-digit : isDigit b ≡ true
-  unfolding goesOn isPoint
+  unfolding digitsGoOn isPoint
   goes-as-digit = sym (either-comes _ _ (both-not-left _ _ (ne-eqb b 46 other))) ∙ goes
 
   pub value-from : 48 ≤ w
@@ -128,15 +128,15 @@ module _ (s : List ℕ) (i : ℕ) (d whole : Digits) (inv : cappedDigits (scan (
       let e : scan (drop i s) d ≡ d = rw (drop-of-length-le s h) (scan-ends d) in
       sym (kept-cut d k) ∙ ap cappedDigits (sym e) ∙ inv
 
-  pub digits-stop : (t : Bool) → Kept d → i < length s → t ≡ goesOn d (getD s i 0) → not t ≡ true → d ≡ whole
+  pub digits-stop : (t : Bool) → Kept d → i < length s → t ≡ digitsGoOn d (getD s i 0) → not t ≡ true → d ≡ whole
   digits-stop t k h told stop =
       let e : scan (drop i s) d ≡ d = rw (drop-cons s i 0 h) (scan-stops (getD s i 0) (drop (suc i) s) d (sym told ∙ not-true t stop)) in
       sym (kept-cut d k) ∙ ap cappedDigits (sym e) ∙ inv
 
-  pub digits-on : (t : Bool) (next : Digits) → i < length s → t ≡ goesOn d (getD s i 0) → not t ≡ false → next ≡ cappedDigits (withByte d (getD s i 0)) → cappedDigits (scan (drop (i + 1) s) next) ≡ whole
+  pub digits-on : (t : Bool) (next : Digits) → i < length s → t ≡ digitsGoOn d (getD s i 0) → not t ≡ false → next ≡ cappedDigits (withByte d (getD s i 0)) → cappedDigits (scan (drop (i + 1) s) next) ≡ whole
   digits-on t next h told on e =
       let f : scan (drop i s) d ≡ scan (drop (suc i) s) (withByte d (getD s i 0)) = rw (drop-cons s i 0 h) (scan-goes (getD s i 0) (drop (suc i) s) d (sym told ∙ not-false t on)) in
       rw (add-one i, e) (scan-cut (drop (suc i) s) (withByte d (getD s i 0)) ∙ ap cappedDigits (sym f) ∙ inv)
 
-pub goes-told : (t : Bool) (d : Digits) (b : ℕ) → t ≡ goesOn d b → not t ≡ false → goesOn d b ≡ true
+pub goes-told : (t : Bool) (d : Digits) (b : ℕ) → t ≡ digitsGoOn d b → not t ≡ false → digitsGoOn d b ≡ true
 goes-told t d b e on = sym e ∙ not-false t on

@@ -25,7 +25,7 @@ use Rattle.lex_number.specs.declared.Number.{Number}
 use Rattle.lex_number.specs.declared.Plain.{Plain}
 use Rattle.lex_number.specs.declared.Reading.{Reading}
 use Rattle.lex_number.specs.declared.Parts.{Parts}
-use Rattle.lex_number.specs.Number.{isSign, isMinus, isPoint, isE, pastSign, noDigits, goesOn, withByte, scan, exponentAt, exponentOf, powerIn, scaleBy, scaleOf, raised, lowered, valueAs, wellFormed, numberFrom, digitsOf, exponentFrom, numberOf}
+use Rattle.lex_number.specs.Number.{isSign, isMinus, isPoint, isE, pastSign, noDigits, digitsGoOn, withByte, scan, exponentAt, exponentOf, powerIn, scaleBy, scaleOf, raised, lowered, valueAs, wellFormed, numberFrom, digitsOf, exponentFrom, numberOf}
 use Rattle.lex_number.specs.Way.In.{isSpelling}
 use Rattle.lex_number.specs.Way.At.{plainAt, readingAt, partsOf, DigitsRead, ExponentRead, PartsRead, Says}
 use Rattle.lex_number.proofs.CappedLaws.{scan-goes, scan-stops, scan-ends}
@@ -70,8 +70,8 @@ module _ (b : ℕ) (none : isSpelling b ≡ false) where
   unfolding isE isLetter isCapital isSmall within both either
   none-e = either-false _ _ (no-letter 101 refl) (no-letter 69 refl)
 
-  none-goes : (d : Digits) → goesOn d b ≡ false
-  unfolding goesOn
+  none-goes : (d : Digits) → digitsGoOn d b ≡ false
+  unfolding digitsGoOn
   none-goes d = either-false _ _ none-digit (both-not-left _ _ none-point)
 
   none-scaled : scaleOf b ≡ record { up = 0; down = 0 }
@@ -167,7 +167,7 @@ module _ (class : ℕ → Bool) (out : (b : ℕ) → class b ≡ false → isSpe
   unfolding isLetter isCapital isSmall within both either
   letter-in b t = in-by isLetter blind-letter refl b t
 
-  goes-in : (d : Digits) (b : ℕ) → goesOn d b ≡ true → class b ≡ true
+  goes-in : (d : Digits) (b : ℕ) → digitsGoOn d b ≡ true → class b ≡ true
   goes-in d b t =
       by-cases _ (class b)
       (λ (e : class b ≡ true). e)
@@ -219,12 +219,12 @@ module _ (class : ℕ → Bool) (out : (b : ℕ) → class b ≡ false → isSpe
 
   scan-word : (x : List ℕ) (d : Digits) → scan (word class x) d ≡ scan x d
   scan-word [] d = rw (word-nil)
-  scan-word (b ∷ x) d = by-cases _ (goesOn d b) (λ (e : goesOn d b ≡ true). goes e (scan-word x (withByte d b))) (λ (e : goesOn d b ≡ false). stops e)
+  scan-word (b ∷ x) d = by-cases _ (digitsGoOn d b) (λ (e : digitsGoOn d b ≡ true). goes e (scan-word x (withByte d b))) (λ (e : digitsGoOn d b ≡ false). stops e)
     where
-      goes : goesOn d b ≡ true → scan (word class x) (withByte d b) ≡ scan x (withByte d b) → scan (word class (b ∷ x)) d ≡ scan (b ∷ x) d
+      goes : digitsGoOn d b ≡ true → scan (word class x) (withByte d b) ≡ scan x (withByte d b) → scan (word class (b ∷ x)) d ≡ scan (b ∷ x) d
       goes e k = rw (word-goes b x (goes-in d b e)) (scan-goes b (word class x) d e ∙ k ∙ sym (scan-goes b x d e))
 
-      stops : goesOn d b ≡ false → scan (word class (b ∷ x)) d ≡ scan (b ∷ x) d
+      stops : digitsGoOn d b ≡ false → scan (word class (b ∷ x)) d ≡ scan (b ∷ x) d
       stops e =
           by-cases _ (class b)
           (λ (f : class b ≡ true). rw (word-goes b x f) (scan-stops b (word class x) d e ∙ sym (scan-stops b x d e)))

@@ -12,11 +12,11 @@ use Rattle.base.specs.Way.Class.{runEnd}
 use Rattle.base.specs.Bytes.{isFilled}
 use Rattle.lex_number.specs.declared.Number.{Number}
 use Rattle.lex_number.specs.declared.Number.the-variants.{Malformed}
-use Rattle.lex_number.specs.Number.{isSign, isMinus, isPoint, isE, pastSign, noDigits, goesOn, scan, noExponent, exponentOf, wellFormed, numberFrom, digitsOf, exponentFrom, numberOf}
+use Rattle.lex_number.specs.Number.{isSign, isMinus, isPoint, isE, pastSign, noDigits, digitsGoOn, scan, noExponent, exponentOf, wellFormed, numberFrom, digitsOf, exponentFrom, numberOf}
 use Rattle.lex_number.specs.Way.At.{wordFrom, numberAt}
 
 pub number-nothing : Malformed ≡ numberOf []
-unfolding if_then_else_ both either isSign isMinus isPoint isE pastSign noDigits goesOn scan noExponent exponentOf wellFormed numberFrom digitsOf exponentFrom numberOf
+unfolding if_then_else_ both either isSign isMinus isPoint isE pastSign noDigits digitsGoOn scan noExponent exponentOf wellFormed numberFrom digitsOf exponentFrom numberOf
 number-nothing = refl
 
 pub at-past : (s : List ℕ) (from : ℕ) → length s ≤ from → record { number = Malformed; end = from } ≡ numberAt s from

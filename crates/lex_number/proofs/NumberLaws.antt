@@ -17,7 +17,7 @@ use Rattle.lex_number.specs.declared.Digits.{Digits}
 use Rattle.lex_number.specs.declared.Scale.{Scale}
 use Rattle.lex_number.specs.declared.Number.the-variants.{Value, Malformed, Range}
 use Rattle.lex_number.specs.ValueWord.{zeroWord, valueWord, decimalOf, isValueWord}
-use Rattle.lex_number.specs.Number.{isMinus, isPoint, pastSign, noDigits, goesOn, withPoint, withDigit, withByte, scan, digitsOf, exponentFrom, scaleOf, raised, lowered, inRange, valueAs, wellFormed, numberFrom, numberOf}
+use Rattle.lex_number.specs.Number.{isMinus, isPoint, pastSign, noDigits, digitsGoOn, withPoint, withDigit, withByte, scan, digitsOf, exponentFrom, scaleOf, raised, lowered, inRange, valueAs, wellFormed, numberFrom, numberOf}
 use Rattle.lex_number.specs.Way.Capped.{raising}
 use Rattle.lex_number.proofs.CappedLaws.{scan-goes, scan-stops, scan-ends}
 use Rattle.lex_number.proofs.DigitLaws.{digit-to}
@@ -59,8 +59,8 @@ shaped-digit d v h n =
       trimmed = rw (if-false (d .size) (10 * (d .all) + v) t) (inr (λ (z : (10 * (d .all) + v) % 10 ≡ 0). omega arith));
     }
 
-shaped-next : (d : Digits) (b : ℕ) → goesOn d b ≡ true → Shaped d → Shaped (withByte d b)
-unfolding withByte goesOn
+shaped-next : (d : Digits) (b : ℕ) → digitsGoOn d b ≡ true → Shaped d → Shaped (withByte d b)
+unfolding withByte digitsGoOn
 shaped-next d b goes k = by-test Shaped (isPoint b) _ _ (λ (e : isPoint b ≡ true). shaped-point d k) other
   where
     other : isPoint b ≡ false → Shaped (withDigit d (b - 48))
@@ -74,9 +74,9 @@ shaped-next d b goes k = by-test Shaped (isPoint b) _ _ (λ (e : isPoint b ≡ t
 scan-shaped : (s : List ℕ) (d : Digits) → Shaped d → Shaped (scan s d)
 scan-shaped [] d k = rw (scan-ends d) k
 scan-shaped (b ∷ s) d k =
-    by-cases _ (goesOn d b)
-    (λ (e : goesOn d b ≡ true). rw (scan-goes b s d e) (scan-shaped s (withByte d b) (shaped-next d b e k)))
-    (λ (e : goesOn d b ≡ false). rw (scan-stops b s d e) k)
+    by-cases _ (digitsGoOn d b)
+    (λ (e : digitsGoOn d b ≡ true). rw (scan-goes b s d e) (scan-shaped s (withByte d b) (shaped-next d b e k)))
+    (λ (e : digitsGoOn d b ≡ false). rw (scan-stops b s d e) k)
 
 shaped-none : (from : ℕ) → Shaped (noDigits from)
 unfolding noDigits

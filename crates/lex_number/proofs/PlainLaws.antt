@@ -24,7 +24,7 @@ use Rattle.lex_number.specs.declared.Exponent.{Exponent}
 use Rattle.lex_number.specs.declared.Plain.{Plain}
 use Rattle.lex_number.specs.declared.Run.{Run}
 use Rattle.lex_number.specs.declared.Reading.{Reading}
-use Rattle.lex_number.specs.Number.{isE, isSign, isMinus, isPoint, pastSign, noDigits, goesOn, withPoint, withDigit, withByte, scan, noExponent, exponentAt, exponentOf}
+use Rattle.lex_number.specs.Number.{isE, isSign, isMinus, isPoint, pastSign, noDigits, digitsGoOn, withPoint, withDigit, withByte, scan, noExponent, exponentAt, exponentOf}
 use Rattle.lex_number.specs.Way.At.{runFrom, plainAt, noReading, readingAt, weight, RunRead, DigitsRead, ExponentRead}
 use Rattle.lex_number.specs.Way.Capped.{exponentCap}
 use Rattle.lex_number.proofs.CappedLaws.{scan-goes, scan-stops, scan-ends}
@@ -251,8 +251,8 @@ digit-no-point b e =
     let h : 48 ≤ b = digit-from b e in
     ne-eqb b 46 (λ (k : b ≡ 46). omega arith)
 
-digit-goes : (d : Digits) (b : ℕ) → isDigit b ≡ true → goesOn d b ≡ true
-unfolding goesOn
+digit-goes : (d : Digits) (b : ℕ) → isDigit b ≡ true → digitsGoOn d b ≡ true
+unfolding digitsGoOn
 digit-goes d b e = either-left _ _ e
 
 digit-with : (d : Digits) (b : ℕ) → isDigit b ≡ true → withByte d b ≡ withDigit d (b - 48)
@@ -324,7 +324,7 @@ run-ran (b ∷ s) d =
 
 -- digits stop at a byte that is neither a digit nor a point that they may have
 halts : (s : List ℕ) (i : ℕ) (d : Digits) → (i < length s → isDigit (getD s i 0) ≡ false) → both (isPoint (getD s i 0)) (not (d .point)) ≡ false → scan (drop i s) d ≡ d
-unfolding goesOn
+unfolding digitsGoOn
 halts s i d n p =
     by-cases _ (leb (length s) i)
     (λ (t : leb (length s) i ≡ true). rw (drop-of-length-le s (leb-true (length s) i t)) (scan-ends d))
@@ -334,7 +334,7 @@ halts s i d n p =
 
 -- and pass over a point that they may have
 point-passed : (s : List ℕ) (i : ℕ) (d : Digits) → d .point ≡ false → isPoint (getD s i 0) ≡ true → scan (drop i s) d ≡ scan (drop (suc i) s) (withPoint d)
-unfolding goesOn withByte isPoint
+unfolding digitsGoOn withByte isPoint
 point-passed s i d n p =
     let h : i < length s = inside isPoint s i none p in
     let g : both (isPoint (getD s i 0)) (not (d .point)) ≡ true = both-rest _ _ p ∙ ap not n in

@@ -19,7 +19,7 @@ use Rattle.lex_number.specs.declared.Exponent.{Exponent}
 use Rattle.lex_number.specs.declared.Scale.{Scale}
 use Rattle.lex_number.specs.declared.Number.{Number}
 use Rattle.lex_number.specs.declared.Number.the-variants.{Malformed}
-use Rattle.lex_number.specs.Number.{isSign, isE, isMinus, pastSign, noDigits, goesOn, withByte, scan, digitsOf, noExponent, exponentAt, exponentOf, exponentFrom, scaleOf, raised, lowered, valueAs, wellFormed, numberFrom, numberOf}
+use Rattle.lex_number.specs.Number.{isSign, isE, isMinus, pastSign, noDigits, digitsGoOn, withByte, scan, digitsOf, noExponent, exponentAt, exponentOf, exponentFrom, scaleOf, raised, lowered, valueAs, wellFormed, numberFrom, numberOf}
 use Rattle.lex_number.specs.Way.Capped.{sizeCap, exponentCap, countCap, cappedDigits, cappedExponent, raising, lowering, Kept, Bounded}
 use Rattle.lex_number.proofs.CappedLaws.{scan-goes, scan-stops, scan-ends, byte-cut, kept-cut}
 use Rattle.lex_number.proofs.DigitLaws.{kept-none, kept-next, ends-next}
@@ -34,20 +34,20 @@ end-same d = refl
 pub scan-end : (s : List ℕ) (d : Digits) → scan s d .end ≤ d .end + length s
 scan-end [] d = rw (scan-ends d) (omega arith)
 scan-end (b ∷ s) d =
-    by-cases _ (goesOn d b)
-    (λ (e : goesOn d b ≡ true).
+    by-cases _ (digitsGoOn d b)
+    (λ (e : digitsGoOn d b ≡ true).
     let h : scan s (withByte d b) .end ≤ withByte d b .end + length s = scan-end s (withByte d b) in
     let k : withByte d b .end ≡ d .end + 1 = sym (end-same (withByte d b)) ∙ ends-next d b in
     rw (scan-goes b s d e) (omega arith))
-    (λ (e : goesOn d b ≡ false). rw (scan-stops b s d e) (omega arith))
+    (λ (e : digitsGoOn d b ≡ false). rw (scan-stops b s d e) (omega arith))
 
 -- counts stay within the place that the digits end at
 scan-kept : (s : List ℕ) (d : Digits) → Kept (cappedDigits d) → Kept (cappedDigits (scan s d))
 scan-kept [] d k = rw (scan-ends d) k
 scan-kept (b ∷ s) d k =
-    by-cases _ (goesOn d b)
-    (λ (e : goesOn d b ≡ true). rw (scan-goes b s d e) (scan-kept s (withByte d b) (kept-next (cappedDigits d) (cappedDigits (withByte d b)) b k (sym (byte-cut d b)))))
-    (λ (e : goesOn d b ≡ false). rw (scan-stops b s d e) k)
+    by-cases _ (digitsGoOn d b)
+    (λ (e : digitsGoOn d b ≡ true). rw (scan-goes b s d e) (scan-kept s (withByte d b) (kept-next (cappedDigits d) (cappedDigits (withByte d b)) b k (sym (byte-cut d b)))))
+    (λ (e : digitsGoOn d b ≡ false). rw (scan-stops b s d e) k)
 
 kept-cut-none : (from : ℕ) → Kept (cappedDigits (noDigits from))
 kept-cut-none from = rw (kept-cut (noDigits from) (kept-none from)) (kept-none from)

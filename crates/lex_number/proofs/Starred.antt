@@ -12,7 +12,7 @@ use Rattle.lex_number.specs.declared.Number.{Number}
 use Rattle.lex_number.specs.declared.Number.the-variants.{Value, Range}
 use Rattle.lex_number.specs.Integer.{valueOf}
 use Rattle.lex_number.specs.ValueWord.{zeroWord, valueWord}
-use Rattle.lex_number.specs.Number.{isSign, isMinus, isPoint, isE, pastSign, noDigits, goesOn, withPoint, withDigit, withByte, scan, noExponent, exponentAt, exponentOf, powerIn, scaleBy, scaleOf, raised, lowered, inRange, valueAs, wellFormed, numberFrom, digitsOf, exponentFrom, numberOf}
+use Rattle.lex_number.specs.Number.{isSign, isMinus, isPoint, isE, pastSign, noDigits, digitsGoOn, withPoint, withDigit, withByte, scan, noExponent, exponentAt, exponentOf, powerIn, scaleBy, scaleOf, raised, lowered, inRange, valueAs, wellFormed, numberFrom, digitsOf, exponentFrom, numberOf}
 
 -- m and a k that is not below zero; m and a k that is not above
 infix 80 _raisedBy_
@@ -47,5 +47,5 @@ starred =
     ∷ []
 
 pub starred-hold : map (λ (r : Reading). numberOf (r .word)) starred ≡ map (λ (r : Reading). r .answer) starred
-unfolding if_then_else_ both either within isDigit isCapital isSmall isLetter run all valueOf valueWord isSign isMinus isPoint isE pastSign noDigits goesOn withPoint withDigit withByte scan noExponent exponentAt exponentOf powerIn scaleBy scaleOf raised lowered inRange valueAs wellFormed numberFrom digitsOf exponentFrom numberOf
+unfolding if_then_else_ both either within isDigit isCapital isSmall isLetter run all valueOf valueWord isSign isMinus isPoint isE pastSign noDigits digitsGoOn withPoint withDigit withByte scan noExponent exponentAt exponentOf powerIn scaleBy scaleOf raised lowered inRange valueAs wellFormed numberFrom digitsOf exponentFrom numberOf
 starred-hold = refl

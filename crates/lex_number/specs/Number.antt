@@ -42,8 +42,8 @@ unfoldable pub noDigits : ℕ → Digits
 noDigits from = record { all = 0; size = 0; zeros = 0; fraction = 0; some = false; point = false; end = from }
 
 -- "digits with at most one point": the digits go on with this byte
-unfoldable pub goesOn : Digits → ℕ → Bool
-goesOn d b = either (isDigit b) (both (isPoint b) (not (d .point)))
+unfoldable pub digitsGoOn : Digits → ℕ → Bool
+digitsGoOn d b = either (isDigit b) (both (isPoint b) (not (d .point)))
 
 -- the point passed over
 unfoldable pub withPoint : Digits → Digits
@@ -70,7 +70,7 @@ withByte d b = if isPoint b then withPoint d else withDigit d (b - 48)
 -- the digits that stand at the front of s, read on from d
 unfoldable pub scan : List ℕ → Digits → Digits
 scan [] d = d
-scan (b ∷ s) d = if goesOn d b then scan s (withByte d b) else d
+scan (b ∷ s) d = if digitsGoOn d b then scan s (withByte d b) else d
 
 -- no exponent: the letters start at `from`
 unfoldable pub noExponent : ℕ → Exponent

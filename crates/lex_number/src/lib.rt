@@ -9,7 +9,7 @@ ghost use Rattle.base.specs.Bytes.{within, isDigit, isLetter};
 ghost use Rattle.base.specs.Runs.{all};
 ghost use Rattle.base.specs.Way.Class.{runEnd};
 ghost use lib.Dec.{ltb};
-ghost use Rattle.lex_number.specs.Number.{isSign, isMinus, isE, pastSign, goesOn, noDigits, withPoint, withDigit, withByte, scan, noExponent, exponentOf, scalings, powerIn, aboveZero, scaleOf, raised, lowered, valueAs, wellFormed, numberOf, isFormed, isBounded};
+ghost use Rattle.lex_number.specs.Number.{isSign, isMinus, isE, pastSign, digitsGoOn, noDigits, withPoint, withDigit, withByte, scan, noExponent, exponentOf, scalings, powerIn, aboveZero, scaleOf, raised, lowered, valueAs, wellFormed, numberOf, isFormed, isBounded};
 ghost use Rattle.lex_number.specs.Integer.{valueOf, wholeOf};
 ghost use Rattle.lex_number.specs.ValueWord.{valueWord, decimalOf, isDecimal, isValueWord};
 ghost use Rattle.lex_number.specs.Way.Capped.{exponentCap, countCap, cappedDigits, cappedExponent, sizeAt, raising, lowering, Kept, Bounded};
@@ -187,7 +187,7 @@ fn no_digits(from: usize) -> Digits
 
 // "digits with at most one point": whether the digits go on with this byte.
 fn goes_on(d: Digits, b: u8) -> bool
-    ensures { λ r. ⌜ r ≡ goesOn d b ⌝ }
+    ensures { λ r. ⌜ r ≡ digitsGoOn d b ⌝ }
 {
     if base::is_digit(b) {
         return true;
@@ -246,7 +246,7 @@ fn with_digit(d: Digits, digit: u64) -> Digits
 
 // The digits with one byte more, with which they go on.
 fn with_byte(d: Digits, b: u8) -> Digits
-    requires { ⌜ Kept d ⌝ ∗ ⌜ d .end < countCap ⌝ ∗ ⌜ goesOn d b ≡ true ⌝ }
+    requires { ⌜ Kept d ⌝ ∗ ⌜ d .end < countCap ⌝ ∗ ⌜ digitsGoOn d b ≡ true ⌝ }
     ensures { λ r. ⌜ r ≡ cappedDigits (withByte d b) ⌝ }
 {
     if b == b'.' {

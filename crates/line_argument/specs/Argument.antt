@@ -85,8 +85,8 @@ takesNothing k =
     (either (eqb k endIcmModel) (either (eqb k endIcmFamily) (either (eqb k endIcmSection) (eqb k theEnd)))))))
 
 -- "Other arguments are non-empty text"
-unfoldable pub takesText : ℕ → Bool
-takesText k = either (eqb k fileRev) (either (eqb k redistribution) (either (eqb k beginIcmFamily) (eqb k manufacturer)))
+unfoldable pub takesFreeText : ℕ → Bool
+takesFreeText k = either (eqb k fileRev) (either (eqb k redistribution) (either (eqb k beginIcmFamily) (eqb k manufacturer)))
 
 unfoldable pub takesName : ℕ → Bool
 takesName k = either (eqb k beginIcmModel) (either (eqb k icmPinMap) (eqb k beginIcmSection))
@@ -106,7 +106,7 @@ isBadArgument k s =
     if opensMatrix k then eqb (formOf s) 4 else
     if takesNothing k then ltb 0 (length s) else
     if takesName k then not (isName s) else
-    if takesText k then eqb (length s) 0 else isBadForm k s
+    if takesFreeText k then eqb (length s) 0 else isBadForm k s
 
 -- 13 of a keyword line: [Row] and [Bandwidth] take an integer
 unfoldable pub isBadInteger : ℕ → List ℕ → Bool

@@ -15,7 +15,7 @@ ghost use Rattle.line_argument.specs.Argument.{
   formOf,
   methodOf,
   takesNothing,
-  takesText,
+  takesFreeText,
   takesName,
   isBadForm,
   isBadArgument,
@@ -189,7 +189,7 @@ fn takes_nothing(key: u64) -> bool
 
 // "Other arguments are non-empty text".
 fn takes_text(key: u64) -> bool
-    ensures { λ r. ⌜ r ≡ takesText key ⌝ }
+    ensures { λ r. ⌜ r ≡ takesFreeText key ⌝ }
 {
     if key == lex_keyword::FILE_REV {
         return true;

@@ -18,8 +18,8 @@ use Rattle.line_head.specs.declared.Head.{Head}
 use Rattle.line_head.specs.declared.HeadLine.{HeadLine}
 
 -- what a line of the head says: none of the three, or which
-abbrev pub nothing : ℕ
-nothing = 0
+abbrev pub saysNothing : ℕ
+saysNothing = 0
 
 abbrev pub modelType : ℕ
 modelType = 1
@@ -31,22 +31,22 @@ abbrev pub impedance : ℕ
 impedance = 3
 
 -- "SLM_general, SLM_quiescent, MLM", one above the table's count; 0 for none
-unfoldable pub kindOf : List ℕ → ℕ
-kindOf w =
+unfoldable pub modelTypeOf : List ℕ → ℕ
+modelTypeOf w =
     if same w (bytes "SLM_general") then 1 else
     if same w (bytes "SLM_quiescent") then 2 else
     if same w (bytes "MLM") then 3 else 0
 
 -- a line known by its first word whose rest is wrong
-unfoldable pub wrongLine : ℕ → HeadLine
-wrongLine says = record { says = says; right = false; formed = true; bounded = true; kind = 0 }
+unfoldable pub wrongHeadLine : ℕ → HeadLine
+wrongHeadLine says = record { says = says; right = false; formed = true; bounded = true; kind = 0 }
 
 -- "ICM_model_type (SLM_general, SLM_quiescent, MLM)"
 unfoldable pub typeLine : List (List ℕ) → HeadLine
 typeLine ws =
-    if both (eqb (length ws) 2) (not (eqb (kindOf (secondOf ws)) 0))
-    then record { says = modelType; right = true; formed = true; bounded = true; kind = kindOf (secondOf ws) }
-    else wrongLine modelType
+    if both (eqb (length ws) 2) (not (eqb (modelTypeOf (secondOf ws)) 0))
+    then record { says = modelType; right = true; formed = true; bounded = true; kind = modelTypeOf (secondOf ws) }
+    else wrongHeadLine modelType
 
 -- what stands before the first colon of a word
 abbrev pub toColon : List ℕ → ℕ
@@ -60,14 +60,14 @@ unfoldable pub sgrLine : List (List ℕ) → HeadLine
 sgrLine ws =
     if both (eqb (length ws) 2) (same (drop (toColon (secondOf ws)) (secondOf ws)) (bytes ":1"))
     then record { says = sgr; right = true; formed = ratioOf (secondOf ws) .formed; bounded = within 1 65_535 (ratioOf (secondOf ws) .value); kind = 0 }
-    else wrongLine sgr
+    else wrongHeadLine sgr
 
 -- "`Ref_impedance=` a number"
 unfoldable pub impedanceLine : List ℕ → HeadLine
 impedanceLine content =
     if both (hasEquals content) (both (eqb (length (leftOf content)) 1) (eqb (length (rightOf content)) 1))
     then record { says = impedance; right = true; formed = isFormed (numberOf (firstOf (rightOf content))); bounded = isBounded (numberOf (firstOf (rightOf content))); kind = 0 }
-    else wrongLine impedance
+    else wrongHeadLine impedance
 
 -- a line of the head is known by its first word, which `=` ends where the form has one
 unfoldable pub headLineOf : List ℕ → HeadLine
@@ -75,11 +75,11 @@ headLineOf content =
     if same (firstOf (words content)) (bytes "ICM_model_type") then typeLine (words content) else
     if same (firstOf (words content)) (bytes "SGR") then sgrLine (words content) else
     if same (firstOf (leftOf content)) (bytes "Ref_impedance") then impedanceLine content else
-    record { says = nothing; right = true; formed = true; bounded = true; kind = 0 }
+    record { says = saysNothing; right = true; formed = true; bounded = true; kind = 0 }
 
 -- each of the three at most once
-unfoldable pub isOutOfOrder : HeadLine → Head → Bool
-isOutOfOrder l h =
+unfoldable pub isHeadOutOfOrder : HeadLine → Head → Bool
+isHeadOutOfOrder l h =
     if eqb (l .says) modelType then not (eqb (h .kind) 0) else
     if eqb (l .says) sgr then h .sgr else
     if eqb (l .says) impedance then h .impedance else true
@@ -88,7 +88,7 @@ isOutOfOrder l h =
 unfoldable pub headRule : HeadLine → Head → ℕ
 headRule l h =
     firstBroken
-    (11 when not (l .right) ∷ 12 when isOutOfOrder l h ∷ 13 when not (l .formed) ∷ 14 when not (l .bounded) ∷ [])
+    (11 when not (l .right) ∷ 12 when isHeadOutOfOrder l h ∷ 13 when not (l .formed) ∷ 14 when not (l .bounded) ∷ [])
 
 unfoldable pub headNext : HeadLine → Head → Head
 headNext l h =

@@ -4,7 +4,7 @@ ghost use Rattle.base.specs.Bytes.{bytes};
 ghost use Rattle.base.specs.Runs.{same};
 ghost use Rattle.lex_line.specs.Words.{words, firstOf, leftOf};
 ghost use Rattle.lex_line.specs.Way.Spans.{fewOf};
-ghost use Rattle.line_head.specs.Head.{kindOf, wrongLine, typeLine, sgrLine, impedanceLine, headLineOf, isOutOfOrder, headRule, headNext, newHead, headLacks};
+ghost use Rattle.line_head.specs.Head.{modelTypeOf, wrongHeadLine, typeLine, sgrLine, impedanceLine, headLineOf, isHeadOutOfOrder, headRule, headNext, newHead, headLacks};
 use base::Class;
 use lex_line::Few;
 
@@ -42,7 +42,7 @@ pub struct HeadLine {
 
 // SLM_general, SLM_quiescent, MLM: the other types of document 000 are none here.
 fn kind_of(word: &[u8]) -> u64
-    ensures { λ r. ⌜ r ≡ kindOf (now (word .entry)) ⌝ }
+    ensures { λ r. ⌜ r ≡ modelTypeOf (now (word .entry)) ⌝ }
 {
     if lex_line::same_bytes(word, b"SLM_general") {
         return SLM_GENERAL;
@@ -58,7 +58,7 @@ fn kind_of(word: &[u8]) -> u64
 
 // A line known by its first word whose rest is wrong.
 fn wrong_line(says: u64) -> HeadLine
-    ensures { λ r. ⌜ r ≡ wrongLine says ⌝ }
+    ensures { λ r. ⌜ r ≡ wrongHeadLine says ⌝ }
 {
     HeadLine {
         says: says,
@@ -181,7 +181,7 @@ pub fn head_line(content: &[u8]) -> HeadLine
 
 // Each of the three at most once; no other line stands in the head.
 fn is_out_of_order(l: HeadLine, h: Head) -> bool
-    ensures { λ r. ⌜ r ≡ isOutOfOrder l h ⌝ }
+    ensures { λ r. ⌜ r ≡ isHeadOutOfOrder l h ⌝ }
 {
     if l.says == MODEL_TYPE {
         return h.kind != 0;

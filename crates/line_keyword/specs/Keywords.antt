@@ -46,7 +46,7 @@ use Rattle.line_matrix.specs.Matrix.{
   isTooWide,
   withRow,
   withBandwidth,
-  conductorsOf,
+  shapeConductors,
 }
 use Rattle.line_head.specs.declared.Head.{Head}
 use Rattle.line_path.specs.declared.Path.{Path}
@@ -109,7 +109,7 @@ isUnclosed s =
     if eqb (s .place) place.head then headLacks (s .head) else
     if eqb (s .place) place.path then pathLacks (s .path) else
     if eqb (s .place) place.mapHead then true else
-    if eqb (s .place) place.pins then pinsLack (s .map) else false
+    if eqb (s .place) place.pinList then pinsLack (s .map) else false
 
 -- a keyword that has been read where it may stand once
 unfoldable pub isRepeated : ℕ → State → Bool
@@ -140,7 +140,7 @@ isMatrixBroken k argument s =
 unfoldable pub isShapeBroken : ℕ → List ℕ → State → Bool
 isShapeBroken k argument s =
     if eqb (s .place) place.matrix then isMatrixBroken k argument s else
-    both (eqb (s .place) place.pins) (isWrongGrid (s .map))
+    both (eqb (s .place) place.pinList) (isWrongGrid (s .map))
 
 -- "64 models", "64 maps", "256 sections"
 abbrev pub mostModels : ℕ
@@ -205,7 +205,7 @@ mapAfter k m = if eqb k icmPinMap then newMap else m
 unfoldable pub conductorsAfter : ℕ → State → ℕ
 conductorsAfter k s =
     if not (eqb (s .place) place.matrix) then s .section .conductors else
-    if keepsMatrix k then s .section .conductors else conductorsOf (s .matrix) (s .counts .values)
+    if keepsMatrix k then s .section .conductors else shapeConductors (s .matrix) (s .counts .values)
 
 unfoldable pub sectionAfter : ℕ → List ℕ → State → Section
 sectionAfter k argument s =

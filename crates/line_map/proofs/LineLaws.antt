@@ -20,7 +20,7 @@ use Rattle.lex_line.proofs.WordLaws.{first-marked, second-marked}
 use Rattle.lex_number.specs.declared.Whole.{Whole}
 use Rattle.lex_number.specs.Integer.{wholeOf}
 use Rattle.line_map.specs.declared.MapLine.{MapLine}
-use Rattle.line_map.specs.PinMap.{nothing, order, columns, rows, pinList, orderOf, wrongLine, orderLine, listLine, sizeLine, mapLineOf, isPinLine}
+use Rattle.line_map.specs.PinMap.{saysNothing, order, columns, rows, pinList, orderOf, wrongMapLine, orderLine, listLine, sizeLine, mapLineOf, isPinLine}
 
 -- what the first words of a line, with a count that stops at 3, say of all its words
 module _ (s : List ℕ) (few : Few) (told : few ≡ fewOf s) where
@@ -37,7 +37,7 @@ module _ (s : List ℕ) (few : Few) (told : few ≡ fewOf s) where
   pub first-told : (word : List ℕ) → word ≡ markedBy s (few .first) → word ≡ firstOf (words s)
   first-told word e = e ∙ first-marked s few told
 
-  pub list-other : (line : MapLine) → (few .count ≡ 1 → ⊥) → line ≡ wrongLine pinList → line ≡ listLine (words s)
+  pub list-other : (line : MapLine) → (few .count ≡ 1 → ⊥) → line ≡ wrongMapLine pinList → line ≡ listLine (words s)
   unfolding listLine
   list-other line h e = e ∙ sym (if-false _ _ (not-one-word h))
 
@@ -45,7 +45,7 @@ module _ (s : List ℕ) (few : Few) (told : few ≡ fewOf s) where
   unfolding listLine
   list-alone h = sym (if-true _ _ (one-word h))
 
-  pub order-other : (line : MapLine) → (few .count ≡ 2 → ⊥) → line ≡ wrongLine order → line ≡ orderLine (words s)
+  pub order-other : (line : MapLine) → (few .count ≡ 2 → ⊥) → line ≡ wrongMapLine order → line ≡ orderLine (words s)
   unfolding orderLine
   order-other line h e = e ∙ sym (if-false _ _ (both-not-left _ _ (ne-eqb (length (words s)) 2 (λ (k : length (words s) ≡ 2). h (omega (arith, counted))))))
 
@@ -57,7 +57,7 @@ module _ (s : List ℕ) (few : Few) (told : few ≡ fewOf s) where
     found-is : orderOf (secondOf (words s)) ≡ found
     found-is = ap orderOf (sym (second-marked s few told) ∙ sym second) ∙ sym named
 
-    pub order-none : (line : MapLine) → found ≡ 0 → line ≡ wrongLine order → line ≡ orderLine (words s)
+    pub order-none : (line : MapLine) → found ≡ 0 → line ≡ wrongMapLine order → line ≡ orderLine (words s)
     unfolding orderLine
     order-none line h e = e ∙ sym (if-false _ _ (both-rest _ _ two-words ∙ not-not-via (eq-eqb (orderOf (secondOf (words s))) 0 (found-is ∙ h))))
 
@@ -97,7 +97,7 @@ module _ (content : List ℕ) (sign : ℕ) (told : sign ≡ toEquals content) wh
   left-told name e = e ∙ ap firstOf left-is
 
   module _ (says : ℕ) where
-    pub size-unsigned : (line : MapLine) → length content ≤ sign → line ≡ wrongLine says → line ≡ sizeLine says content
+    pub size-unsigned : (line : MapLine) → length content ≤ sign → line ≡ wrongMapLine says → line ≡ sizeLine says content
     unfolding sizeLine hasEquals
     size-unsigned line h e = e ∙ sym (if-false _ _ (both-not-left _ _ (le-ltb (toEquals content) (length content) (omega arith))))
 
@@ -106,7 +106,7 @@ module _ (content : List ℕ) (sign : ℕ) (told : sign ≡ toEquals content) wh
       unfolding hasEquals
       has-sign = lt-ltb (toEquals content) (length content) (omega arith)
 
-      pub size-other : (line : MapLine) → (left .count ≡ 1 → ⊥) → line ≡ wrongLine says → line ≡ sizeLine says content
+      pub size-other : (line : MapLine) → (left .count ≡ 1 → ⊥) → line ≡ wrongMapLine says → line ≡ sizeLine says content
       unfolding sizeLine
       size-other line h e =
           let n : eqb (length (leftOf content)) 1 ≡ false = ap (λ (ws : List (List ℕ)). eqb (length ws) 1) (sym left-is) ∙ not-one-word (take sign content) left told-left h in
@@ -123,7 +123,7 @@ module _ (content : List ℕ) (sign : ℕ) (told : sign ≡ toEquals content) wh
             let w : take (length content - (sign + 1)) (drop (sign + 1) content) ≡ drop (sign + 1) content = take-all (length content - (sign + 1)) (drop (sign + 1) content) (omega arith) in
             ap words (w ∙ ap (λ (n : ℕ). drop (n + 1) content) told)
 
-        pub size-surplus : (line : MapLine) → (right .count ≡ 1 → ⊥) → line ≡ wrongLine says → line ≡ sizeLine says content
+        pub size-surplus : (line : MapLine) → (right .count ≡ 1 → ⊥) → line ≡ wrongMapLine says → line ≡ sizeLine says content
         unfolding sizeLine
         size-surplus line h e =
             let n : eqb (length (rightOf content)) 1 ≡ false = ap (λ (ws : List (List ℕ)). eqb (length ws) 1) (sym right-is) ∙ not-one-word _ right told-right h in
@@ -174,7 +174,7 @@ module _ (content first : List ℕ) (t : Bool) (line : MapLine) (told : first �
         says-rows h e =
             e ∙ sym (if-false _ _ (order-is ∙ other) ∙ if-false _ _ (list-is ∙ neither) ∙ if-false _ _ (columns-is ∙ no-columns) ∙ if-true _ _ (rows-is ∙ h))
 
-        pub says-nothing : w ≡ false → line ≡ record { says = nothing; right = true; formed = true; bounded = true; value = 0 } → line ≡ mapLineOf content
+        pub says-nothing : w ≡ false → line ≡ record { says = saysNothing; right = true; formed = true; bounded = true; value = 0 } → line ≡ mapLineOf content
         unfolding mapLineOf
         says-nothing h e =
             e ∙ sym (if-false _ _ (order-is ∙ other) ∙ if-false _ _ (list-is ∙ neither) ∙ if-false _ _ (columns-is ∙ no-columns) ∙ if-false _ _ (rows-is ∙ h))

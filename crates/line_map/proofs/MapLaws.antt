@@ -18,7 +18,7 @@ use Rattle.lex_line.specs.Words.{words, firstOf, secondOf, rightOf}
 use Rattle.lex_number.specs.Integer.{wholeOf}
 use Rattle.line_map.specs.declared.Map.{Map}
 use Rattle.line_map.specs.declared.MapLine.{MapLine}
-use Rattle.line_map.specs.PinMap.{order, columns, rows, orderOf, wrongLine, orderLine, listLine, sizeLine, mapLineOf, newMap, isOrdered, isOutOfOrder, mapRule, mapNext, mostPins, mostMapPins, isPinLine, pinRule, withPin}
+use Rattle.line_map.specs.PinMap.{order, columns, rows, orderOf, wrongMapLine, orderLine, listLine, sizeLine, mapLineOf, newMap, isOrdered, isMapOutOfOrder, mapRule, mapNext, mostPins, mostMapPins, isPinLine, pinRule, withPin}
 use Rattle.line_map.specs.Way.Bounded.{Bounded}
 
 -- t says whether the map is ordered
@@ -30,11 +30,11 @@ module _ (m : Map) (given : ℕ) (t : Bool) (told : t ≡ isOrdered m) where
   size-early h = sym (either-left _ _ (not-via (sym told ∙ h)))
 
 -- t says whether the line stands out of order
-module _ (l : MapLine) (m : Map) (t : Bool) (told : t ≡ isOutOfOrder l m) where
-  pub out-of-order : t ≡ true → isOutOfOrder l m ≡ true
+module _ (l : MapLine) (m : Map) (t : Bool) (told : t ≡ isMapOutOfOrder l m) where
+  pub out-of-order : t ≡ true → isMapOutOfOrder l m ≡ true
   out-of-order h = sym told ∙ h
 
-  pub in-order : t ≡ false → isOutOfOrder l m ≡ false
+  pub in-order : t ≡ false → isMapOutOfOrder l m ≡ false
   in-order h = sym told ∙ h
 
 pub next-map : (l : MapLine) (m : Map) (o r k : ℕ) → o ≡ (if eqb (l .says) order then l .value else m .order) → r ≡ (if eqb (l .says) rows then l .value else m .rows) → k ≡ (if eqb (l .says) columns then l .value else m .columns) → record { order = o; rows = r; columns = k; pins = m .pins } ≡ mapNext l m
@@ -58,8 +58,8 @@ order-most w =
     (λ e. by-test (λ (n : ℕ). n ≤ 256) (same w (bytes "Column_ordered")) _ _ (λ f. omega arith)
     (λ f. by-test (λ (n : ℕ). n ≤ 256) (same w (bytes "Un_ordered")) _ _ (λ g. omega arith) (λ g. omega arith)))
 
-wrong-small : (says : ℕ) → Small (wrongLine says)
-unfolding wrongLine
+wrong-small : (says : ℕ) → Small (wrongMapLine says)
+unfolding wrongMapLine
 wrong-small says b = omega arith
 
 order-small : (ws : List (List ℕ)) → Small (orderLine ws)
@@ -85,7 +85,7 @@ line-small content =
 -- a line that breaks no rule is in bounds
 kept-bounded : (l : MapLine) (m : Map) → mapRule l m ≡ 0 → l .bounded ≡ true
 unfolding mapRule
-kept-bounded l m e = not-false (l .bounded) (all-kept (11 when not (l .right) ∷ 12 when isOutOfOrder l m ∷ 13 when not (l .formed) ∷ 14 when not (l .bounded) ∷ []) (omega arith, (omega arith, (omega arith, (omega arith, tt)))) e 3)
+kept-bounded l m e = not-false (l .bounded) (all-kept (11 when not (l .right) ∷ 12 when isMapOutOfOrder l m ∷ 13 when not (l .formed) ∷ 14 when not (l .bounded) ∷ []) (omega arith, (omega arith, (omega arith, (omega arith, tt)))) e 3)
 
 pub new-bounded : Bounded newMap
 unfolding newMap

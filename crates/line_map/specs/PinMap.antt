@@ -15,8 +15,8 @@ use Rattle.line_map.specs.declared.Map.{Map}
 use Rattle.line_map.specs.declared.MapLine.{MapLine}
 
 -- what a line above Pin_list says
-abbrev pub nothing : ℕ
-nothing = 0
+abbrev pub saysNothing : ℕ
+saysNothing = 0
 
 abbrev pub order : ℕ
 order = 1
@@ -37,18 +37,18 @@ orderOf w =
     if same w (bytes "Column_ordered") then 2 else
     if same w (bytes "Un_ordered") then 3 else 0
 
-unfoldable pub wrongLine : ℕ → MapLine
-wrongLine says = record { says = says; right = false; formed = true; bounded = true; value = 0 }
+unfoldable pub wrongMapLine : ℕ → MapLine
+wrongMapLine says = record { says = says; right = false; formed = true; bounded = true; value = 0 }
 
 unfoldable pub orderLine : List (List ℕ) → MapLine
 orderLine ws =
     if both (eqb (length ws) 2) (not (eqb (orderOf (secondOf ws)) 0))
     then record { says = order; right = true; formed = true; bounded = true; value = orderOf (secondOf ws) }
-    else wrongLine order
+    else wrongMapLine order
 
 unfoldable pub listLine : List (List ℕ) → MapLine
 listLine ws =
-    if eqb (length ws) 1 then record { says = pinList; right = true; formed = true; bounded = true; value = 0 } else wrongLine pinList
+    if eqb (length ws) 1 then record { says = pinList; right = true; formed = true; bounded = true; value = 0 } else wrongMapLine pinList
 
 -- "`Num_of_columns = c` and `Num_of_rows = r`", "Num_of_rows, Num_of_columns .. 1 to 256"
 unfoldable pub sizeLine : ℕ → List ℕ → MapLine
@@ -62,7 +62,7 @@ sizeLine says content =
       bounded = within 1 256 (wholeOf (firstOf (rightOf content)) .value);
       value = wholeOf (firstOf (rightOf content)) .value;
     }
-    else wrongLine says
+    else wrongMapLine says
 
 unfoldable pub mapLineOf : List ℕ → MapLine
 mapLineOf content =
@@ -70,7 +70,7 @@ mapLineOf content =
     if same (firstOf (words content)) (bytes "Pin_list") then listLine (words content) else
     if same (firstOf (leftOf content)) (bytes "Num_of_columns") then sizeLine columns content else
     if same (firstOf (leftOf content)) (bytes "Num_of_rows") then sizeLine rows content else
-    record { says = nothing; right = true; formed = true; bounded = true; value = 0 }
+    record { says = saysNothing; right = true; formed = true; bounded = true; value = 0 }
 
 unfoldable pub newMap : Map
 newMap = record { order = 0; rows = 0; columns = 0; pins = 0 }
@@ -80,8 +80,8 @@ unfoldable pub isOrdered : Map → Bool
 isOrdered m = within 1 2 (m .order)
 
 -- "`Pin_order` ..; for the ordered two `Num_of_columns = c` and `Num_of_rows = r`, either first; then `Pin_list`"
-unfoldable pub isOutOfOrder : MapLine → Map → Bool
-isOutOfOrder l m =
+unfoldable pub isMapOutOfOrder : MapLine → Map → Bool
+isMapOutOfOrder l m =
     if eqb (l .says) order then not (eqb (m .order) 0) else
     if eqb (l .says) columns then either (not (isOrdered m)) (not (eqb (m .columns) 0)) else
     if eqb (l .says) rows then either (not (isOrdered m)) (not (eqb (m .rows) 0)) else
@@ -90,7 +90,7 @@ isOutOfOrder l m =
 unfoldable pub mapRule : MapLine → Map → ℕ
 mapRule l m =
     firstBroken
-    (11 when not (l .right) ∷ 12 when isOutOfOrder l m ∷ 13 when not (l .formed) ∷ 14 when not (l .bounded) ∷ [])
+    (11 when not (l .right) ∷ 12 when isMapOutOfOrder l m ∷ 13 when not (l .formed) ∷ 14 when not (l .bounded) ∷ [])
 
 unfoldable pub mapNext : MapLine → Map → Map
 mapNext l m =

@@ -8,14 +8,14 @@ ghost use Rattle.base.specs.If.{if_then_else_, both, either};
 ghost use Rattle.lex_line.specs.Words.{words};
 ghost use Rattle.line_map.specs.PinMap.{
   orderOf,
-  wrongLine,
+  wrongMapLine,
   orderLine,
   listLine,
   sizeLine,
   mapLineOf,
   newMap,
   isOrdered,
-  isOutOfOrder,
+  isMapOutOfOrder,
   mapRule,
   mapNext,
   pinRule,
@@ -76,7 +76,7 @@ fn order_of(word: &[u8]) -> u64
 
 // "A line its place takes with a wrong rest is 11".
 fn wrong_line(says: u64) -> MapLine
-    ensures { λ r. ⌜ r ≡ wrongLine says ⌝ }
+    ensures { λ r. ⌜ r ≡ wrongMapLine says ⌝ }
 {
     MapLine {
         says,
@@ -231,7 +231,7 @@ fn takes_no_list(m: Map) -> bool
 
 // "repeated or out of order 12", and so is a line that no map takes.
 fn is_out_of_order(l: MapLine, m: Map) -> bool
-    ensures { λ r. ⌜ r ≡ isOutOfOrder l m ⌝ }
+    ensures { λ r. ⌜ r ≡ isMapOutOfOrder l m ⌝ }
 {
     if l.says == ORDER {
         return m.order != 0;

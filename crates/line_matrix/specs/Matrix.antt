@@ -135,8 +135,8 @@ unfoldable pub dataLineOf : ℕ → List ℕ → DataLine
 dataLineOf form content = if eqb form sparse then sparseLine (words content) else numbersLine (words content)
 
 -- "a data line above the first [Row] of a form with rows, or a sparse line not of two words, is 12"
-unfoldable pub isOutOfOrder : DataLine → Matrix → Bool
-isOutOfOrder l m = either (not (l .right)) (both (not (eqb (m .form) diagonal)) (eqb (m .rows .row) 0))
+unfoldable pub isDataOutOfOrder : DataLine → Matrix → Bool
+isDataOutOfOrder l m = either (not (l .right)) (both (not (eqb (m .form) diagonal)) (eqb (m .rows .row) 0))
 
 -- so many numbers more pass the bound
 unfoldable pub areTooMany : ℕ → ℕ → Bool
@@ -145,7 +145,7 @@ areTooMany values numbers = ltb mostValues (values + numbers)
 unfoldable pub dataRule : DataLine → Matrix → ℕ → ℕ
 dataRule l m values =
     firstBroken
-    (12 when isOutOfOrder l m
+    (12 when isDataOutOfOrder l m
     ∷ 13 when not (l .formed)
     ∷ 14 when not (l .bounded)
     ∷ 17 when areTooMany values (l .numbers)
@@ -175,8 +175,8 @@ dataNext l m = if eqb (m .form) sparse then withColumn (l .column) m else m
 -- ---- the shape, at the keyword that closes the matrix
 
 -- "N is the conductor count"; of a Sparse_matrix "the greatest row or column named"
-unfoldable pub conductorsOf : Matrix → ℕ → ℕ
-conductorsOf m values =
+unfoldable pub shapeConductors : Matrix → ℕ → ℕ
+shapeConductors m values =
     if eqb (m .form) diagonal then values - m .first else
     if eqb (m .form) sparse then m .rows .greatest else m .rows .row
 
@@ -192,8 +192,8 @@ isShaped m values =
 unfoldable pub isWrongShape : Matrix → ℕ → ℕ → Bool
 isWrongShape m known values =
     either (leb values (m .first))
-    (either (not (isShaped m values)) (both (not (eqb known 0)) (not (eqb known (conductorsOf m values)))))
+    (either (not (isShaped m values)) (both (not (eqb known 0)) (not (eqb known (shapeConductors m values)))))
 
 -- "a diagonal over 256 (17)"
 unfoldable pub isTooWide : Matrix → ℕ → Bool
-isTooWide m values = both (eqb (m .form) diagonal) (ltb mostConductors (conductorsOf m values))
+isTooWide m values = both (eqb (m .form) diagonal) (ltb mostConductors (shapeConductors m values))

@@ -4,7 +4,7 @@ ghost use Prim.Native.Nat.{_-_, _<_, _≤_, min, max};
 ghost use mathlib.Core.Bool.{true, false};
 ghost use Rattle.lex_number.specs.Number.{isFormed, isBounded};
 ghost use Rattle.lex_line.specs.Words.{words};
-ghost use Rattle.line_matrix.specs.Matrix.{newMatrix, isWrongBandwidth, isWrongRow, withBandwidth, inRow, standsAbove, stillFits, withRow, numbersLine, pairLine, sparseLine, dataLineOf, isOutOfOrder, areTooMany, dataRule, withColumn, dataNext, conductorsOf, isShaped, isWrongShape, isTooWide};
+ghost use Rattle.line_matrix.specs.Matrix.{newMatrix, isWrongBandwidth, isWrongRow, withBandwidth, inRow, standsAbove, stillFits, withRow, numbersLine, pairLine, sparseLine, dataLineOf, isDataOutOfOrder, areTooMany, dataRule, withColumn, dataNext, shapeConductors, isShaped, isWrongShape, isTooWide};
 use lex_number::Number;
 use lex_number::Whole;
 
@@ -306,7 +306,7 @@ pub fn data_line(form: u64, content: &[u8]) -> DataLine
 
 // A line above the first [Row] of a form with rows, or of other words than its form takes.
 fn is_out_of_order(l: DataLine, m: Matrix) -> bool
-    ensures { λ r. ⌜ r ≡ isOutOfOrder l m ⌝ }
+    ensures { λ r. ⌜ r ≡ isDataOutOfOrder l m ⌝ }
 {
     let rows = m.rows;
     if !l.right {
@@ -380,7 +380,7 @@ pub fn data_next(l: DataLine, m: Matrix) -> Matrix
 
 // N, by the form: the numbers of a Diagonal_matrix, the greatest row or column of a Sparse_matrix, else the rows.
 pub fn conductors_of(m: Matrix, values: u64) -> u64
-    ensures { λ r. ⌜ r ≡ conductorsOf m values ⌝ }
+    ensures { λ r. ⌜ r ≡ shapeConductors m values ⌝ }
 {
     let rows = m.rows;
     if m.form == DIAGONAL {

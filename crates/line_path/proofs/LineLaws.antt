@@ -15,7 +15,7 @@ use Rattle.lex_line.specs.declared.Few.{Few}
 use Rattle.lex_line.proofs.WordLaws.{first-marked, second-marked}
 use Rattle.lex_line.proofs.FormLaws.{counted, counted-not, count-tells}
 use Rattle.line_argument.specs.Argument.{isReserved}
-use Rattle.line_path.specs.Path.{nothing, end, side, section, fork, endfork, sayingOf, plainLine, namesOne, lineSaying, pathLineOf}
+use Rattle.line_path.specs.Path.{saysNothing, end, side, section, fork, endfork, sayingOf, plainLine, namesOne, lineSaying, pathLineOf}
 use Rattle.line_path.specs.declared.PathLine.{PathLine}
 
 module _ (content : List ℕ) (few : Few) (told : few ≡ fewOf content) where
@@ -44,7 +44,7 @@ module _ (content : List ℕ) (few : Few) (told : few ≡ fewOf content) where
       says-name right r e k h =
           h ∙ ap (plainLine says) k ∙ sym (if-false _ _ (ne-eqb says section n) ∙ if-false _ _ (sym alone ∙ other) ∙ if-true _ _ (sym named ∙ e))
 
-      pub says-nothing : (r : PathLine) → b ≡ false → r ≡ plainLine nothing true → r ≡ lineSaying says content
+      pub says-nothing : (r : PathLine) → b ≡ false → r ≡ plainLine saysNothing true → r ≡ lineSaying says content
       unfolding lineSaying
       says-nothing r e h = h ∙ sym (if-false _ _ (ne-eqb says section n) ∙ if-false _ _ (sym alone ∙ other) ∙ if-false _ _ (sym named ∙ e))
 

@@ -10,7 +10,7 @@ use Rattle.base.specs.If.{if_then_else_, both, either}
 use Rattle.base.specs.Broken.{first}
 use Rattle.base.proofs.IfLaws.{if-true, if-false, both-true, both-rest, both-not-left, both-not-right, either-left, either-rest, either-comes, either-false, not-via, not-not-via}
 use Rattle.base.proofs.BrokenLaws.{gives-first, gives-later}
-use Rattle.line_path.specs.Path.{end, side, section, fork, endfork, items, deepest, mostSteps, isBadFork, isStep, closedRule, pathNext}
+use Rattle.line_path.specs.Path.{end, side, section, fork, endfork, items, deepest, mostSteps, isBadFork, isStepLine, closedRule, pathNext}
 use Rattle.line_path.specs.declared.Path.{Path}
 use Rattle.line_path.specs.declared.PathLine.{PathLine}
 
@@ -48,14 +48,14 @@ no-endfork false = refl
 
 -- ---- 17, of which t says whether the line is a step
 
-module _ (l : PathLine) (steps : ℕ) (t : Bool) (told : t ≡ isStep l) where
-  pub side-free : not t ≡ true → 0 ≡ first (both (isStep l) (leb mostSteps steps)) 17 0
+module _ (l : PathLine) (steps : ℕ) (t : Bool) (told : t ≡ isStepLine l) where
+  pub side-free : not t ≡ true → 0 ≡ first (both (isStepLine l) (leb mostSteps steps)) 17 0
   side-free e = gives-later _ _ _ 0 (both-not-left _ _ (sym told ∙ not-true t e)) refl
 
-  pub step-over : not t ≡ false → mostSteps ≤ steps → 17 ≡ first (both (isStep l) (leb mostSteps steps)) 17 0
+  pub step-over : not t ≡ false → mostSteps ≤ steps → 17 ≡ first (both (isStepLine l) (leb mostSteps steps)) 17 0
   step-over e h = gives-first _ _ _ (both-true _ _ (sym told ∙ not-false t e) (le-leb mostSteps steps h))
 
-  pub step-free : steps < mostSteps → 0 ≡ first (both (isStep l) (leb mostSteps steps)) 17 0
+  pub step-free : steps < mostSteps → 0 ≡ first (both (isStepLine l) (leb mostSteps steps)) 17 0
   step-free h = gives-later _ _ _ 0 (both-not-right _ _ (lt-leb mostSteps steps h)) refl
 
 -- ---- a closed path

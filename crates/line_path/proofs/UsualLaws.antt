@@ -19,7 +19,7 @@ use Rattle.base.specs.Way.Joined.{joined, isByte, Joins}
 use Rattle.base.proofs.IfLaws.{if-true, if-false, both-true, not-via, not-not-via}
 use Rattle.base.proofs.RunLaws.{run-nil, run-goes, run-stops, run-le, run-on, run-end-at, run-all, run-is}
 use Rattle.base.proofs.JoinedLaws.{joined-same}
-use Rattle.lex_line.specs.Words.{wordsFrom, goesOn, grown, words, firstOf, secondOf, leftOf, rightOf, hasEquals, toEquals}
+use Rattle.lex_line.specs.Words.{wordsFrom, wordGoesOn, grown, words, firstOf, secondOf, leftOf, rightOf, hasEquals, toEquals}
 use Rattle.lex_line.specs.Way.Spans.{wordAt, markedBy}
 use Rattle.lex_line.proofs.WordLaws.{after-at, after-none, after-past, wordsAfter}
 use Rattle.lex_line.specs.declared.Span.{Span}
@@ -130,11 +130,11 @@ module _ (s : List ℕ) (r : ℕ) (p : Paired s r) where
 -- ---- a line that opens with `Section Mult=`
 
 front-says : (rest : List ℕ) → sayingOf (firstOf (words (multFront ++ rest))) ≡ section
-unfolding sayingOf same wordsFrom isBlank goesOn isFilled grown both either if_then_else_
+unfolding sayingOf same wordsFrom isBlank wordGoesOn isFilled grown both either if_then_else_
 front-says rest = refl
 
 front-left : (rest : List ℕ) → leftOf (multFront ++ rest) ≡ bytes "Section" ∷ bytes "Mult" ∷ []
-unfolding leftOf run isBefore wordsFrom isBlank goesOn isFilled grown both either if_then_else_
+unfolding leftOf run isBefore wordsFrom isBlank wordGoesOn isFilled grown both either if_then_else_
 front-left rest = refl
 
 front-right : (rest : List ℕ) → rightOf (multFront ++ rest) ≡ words rest
@@ -265,12 +265,12 @@ endfork-told c a b long one e two g =
     (known _ _ b (four-long c 3 (omega arith)) small-bytes two (g ∙ sym small-joined))) ends
 
 pub fork-says : (c : List ℕ) (says : ℕ) → UsualFork c says → says ≡ sayingOf (firstOf (words c))
-unfolding sayingOf same wordsFrom isBlank goesOn isFilled grown both either if_then_else_
+unfolding sayingOf same wordsFrom isBlank wordGoesOn isFilled grown both either if_then_else_
 fork-says c says forks = refl
 fork-says c says ends = refl
 
 pub fork-line : (c : List ℕ) (says : ℕ) (r : PathLine) → UsualFork c says → r ≡ plainLine says true → r ≡ pathLineOf c
-unfolding pathLineOf lineSaying sayingOf same wordsFrom isBlank goesOn isFilled grown both either if_then_else_
+unfolding pathLineOf lineSaying sayingOf same wordsFrom isBlank wordGoesOn isFilled grown both either if_then_else_
 fork-line c says r forks h = h
 fork-line c says r ends h = h
 

@@ -20,8 +20,8 @@ use Rattle.line_path.specs.declared.Path.{Path}
 use Rattle.line_path.specs.declared.PathLine.{PathLine}
 
 -- what a line of a path says
-abbrev pub nothing : ℕ
-nothing = 0
+abbrev pub saysNothing : ℕ
+saysNothing = 0
 
 -- Model_pinmap
 abbrev pub end : ℕ
@@ -45,7 +45,7 @@ sayingOf w =
     if same w (bytes "Fork") then fork else
     if same w (bytes "Endfork") then endfork else
     if same w (bytes "Model_pinmap") then end else
-    if same w (bytes "Side") then side else nothing
+    if same w (bytes "Side") then side else saysNothing
 
 unfoldable pub plainLine : ℕ → Bool → PathLine
 plainLine says right = record { says = says; right = right; formed = true; bounded = true }
@@ -86,7 +86,7 @@ unfoldable pub lineSaying : ℕ → List ℕ → PathLine
 lineSaying says content =
     if eqb says section then sectionLine content else
     if either (eqb says fork) (eqb says endfork) then plainLine says (eqb (length (words content)) 1) else
-    if either (eqb says end) (eqb says side) then plainLine says (namesOne (words content)) else plainLine nothing true
+    if either (eqb says end) (eqb says side) then plainLine says (namesOne (words content)) else plainLine saysNothing true
 
 unfoldable pub pathLineOf : List ℕ → PathLine
 pathLineOf content = lineSaying (sayingOf (firstOf (words content))) content
@@ -121,8 +121,8 @@ isBadFork l p =
     either (both (eqb (l .says) fork) (leb deepest (p .depth))) (both (eqb (l .says) endfork) (eqb (p .depth) 0))
 
 -- "perhaps with `Side name` as the next line read"; "The first item is a Section"; "perhaps one end as last"
-unfoldable pub isOutOfOrder : PathLine → Path → Bool
-isOutOfOrder l p =
+unfoldable pub isPathOutOfOrder : PathLine → Path → Bool
+isPathOutOfOrder l p =
     if eqb (l .says) side then not (p .side) else
     if eqb (l .says) section then either (eqb (p .stage) starting) (p .ended) else
     if eqb (l .says) fork then either (ltb (p .stage) items) (p .ended) else
@@ -130,8 +130,8 @@ isOutOfOrder l p =
     if eqb (l .says) endfork then false else true
 
 -- the lines that are steps: all but Side
-unfoldable pub isStep : PathLine → Bool
-isStep l = not (eqb (l .says) side)
+unfoldable pub isStepLine : PathLine → Bool
+isStepLine l = not (eqb (l .says) side)
 
 -- "15 .. goes before 9, 11 and 12"
 unfoldable pub openRule : PathLine → Path → ℕ → ℕ
@@ -139,10 +139,10 @@ openRule l p steps =
     firstBroken
     (15 when isBadFork l p
     ∷ 11 when not (l .right)
-    ∷ 12 when isOutOfOrder l p
+    ∷ 12 when isPathOutOfOrder l p
     ∷ 13 when not (l .formed)
     ∷ 14 when not (l .bounded)
-    ∷ 17 when both (isStep l) (leb mostSteps steps)
+    ∷ 17 when both (isStepLine l) (leb mostSteps steps)
     ∷ [])
 
 -- "The end at depth 0 closes the path": only its Side may follow

@@ -7,7 +7,7 @@ ghost use Rattle.base.specs.If.{either};
 ghost use Rattle.lex_line.specs.Words.{words};
 ghost use Rattle.lex_line.specs.Way.Spans.{fewOf};
 ghost use Rattle.lex_number.specs.declared.Number.the-variants.{Value};
-ghost use Rattle.line_path.specs.Path.{fork, endfork, end, side, deepest, sayingOf, plainLine, namesOne, isLength, sectionLine, lineSaying, pathLineOf, newPath, isBadFork, isOutOfOrder, isStep, openRule, closedRule, pathRule, withEnd, pathNext, pathOpen, pathLacks};
+ghost use Rattle.line_path.specs.Path.{fork, endfork, end, side, deepest, sayingOf, plainLine, namesOne, isLength, sectionLine, lineSaying, pathLineOf, newPath, isBadFork, isPathOutOfOrder, isStepLine, openRule, closedRule, pathRule, withEnd, pathNext, pathOpen, pathLacks};
 ghost use Rattle.line_path.specs.Way.Section.{amountLine, unitLine, partsLine};
 ghost use Rattle.line_path.specs.Way.Usual.{OpensMult, Paired, UsualSection, UsualFork};
 use lex_line::Few;
@@ -382,7 +382,7 @@ fn is_bad_fork(l: PathLine, p: Path) -> bool
 // "perhaps with `Side name` as the next line read"; "The first item is a Section"; "perhaps one end as last". An Endfork with a
 // block open stands nowhere out of order.
 fn is_out_of_order(l: PathLine, p: Path) -> bool
-    ensures { λ r. ⌜ r ≡ isOutOfOrder l p ⌝ }
+    ensures { λ r. ⌜ r ≡ isPathOutOfOrder l p ⌝ }
 {
     if l.says == SIDE {
         return !p.side;
@@ -410,7 +410,7 @@ fn is_out_of_order(l: PathLine, p: Path) -> bool
 
 // The lines that are steps: all but Side.
 pub fn is_step(l: PathLine) -> bool
-    ensures { λ r. ⌜ r ≡ isStep l ⌝ }
+    ensures { λ r. ⌜ r ≡ isStepLine l ⌝ }
 {
     l.says != SIDE
 }

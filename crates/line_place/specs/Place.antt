@@ -93,8 +93,8 @@ abbrev pub mapHead : ℕ
 mapHead = 11
 
 -- in a pin map, below its Pin_list
-abbrev pub pins : ℕ
-pins = 12
+abbrev pub pinList : ℕ
+pinList = 12
 
 -- after [End ICM Family], outside sections
 abbrev pub after : ℕ
@@ -179,7 +179,7 @@ isInHeader p = either (eqb p header) (eqb p headerText)
 
 unfoldable pub isInFamily : ℕ → Bool
 isInFamily p =
-    either (eqb p family) (either (eqb p familyText) (either (eqb p list) (either (eqb p mapHead) (eqb p pins))))
+    either (eqb p family) (either (eqb p familyText) (either (eqb p list) (either (eqb p mapHead) (eqb p pinList))))
 
 unfoldable pub isInModel : ℕ → Bool
 isInModel p = either (eqb p head) (either (eqb p path) (eqb p modelText))
@@ -204,4 +204,4 @@ isText p = either (eqb p headerText) (either (eqb p familyText) (eqb p modelText
 
 -- where a line without a keyword leads, by its first word: Pin_list opens the pins
 unfoldable pub movedByLine : ℕ → List ℕ → ℕ
-movedByLine p first = if eqb p mapHead then (if same first (bytes "Pin_list") then pins else mapHead) else p
+movedByLine p first = if eqb p mapHead then (if same first (bytes "Pin_list") then pinList else mapHead) else p

@@ -16,7 +16,7 @@ use Rattle.table_layout.specs.Layout.{widths, values}
 use Rattle.table_layout.specs.View.{bounds, areWithin, countsAt, noView, viewOf}
 use Rattle.table_layout.specs.declared.View.{View}
 use Rattle.table_layout.proofs.PartLaws.{viewed}
-use Rattle.out_listing.specs.Fields.{countOf, fieldOf}
+use Rattle.out_listing.specs.Fields.{partCount, fieldOf}
 
 zeros-at : (n p : ℕ) → getD {A = ℕ} (replicate n 0) p 0 ≡ 0
 zeros-at zero p = refl
@@ -35,8 +35,8 @@ has-fits table part i =
     (λ e (h : i < getD (replicate 7 0) part 0). let z : getD (replicate 7 0) part 0 ≡ 0 = zeros-at 7 part in absurd (omega arith))
 
 -- "65,536 values"
-pub values-few : (table : List ℕ) → countOf table values ≤ 65_536
-unfolding countOf
+pub values-few : (table : List ℕ) → partCount table values ≤ 65_536
+unfolding partCount
 values-few table =
     by-cases _ (ltb 0 (getD (viewOf table .counts) 6 0))
     (λ (e : ltb 0 (getD (viewOf table .counts) 6 0) ≡ true).
@@ -46,12 +46,12 @@ values-few table =
     omega arith)
 
 module _ (table : List ℕ) (view : View) (is-view : view ≡ viewOf table) (part : ℕ) where
-  pub count-told : getD (view .counts) part 0 ≡ countOf table part
-  unfolding countOf
+  pub count-told : getD (view .counts) part 0 ≡ partCount table part
+  unfolding partCount
   count-told = ap (λ (v : View). getD (v .counts) part 0) is-view
 
-  pub count-beyond : 7 ≤ part → 0 ≡ countOf table part
-  unfolding countOf
+  pub count-beyond : 7 ≤ part → 0 ≡ partCount table part
+  unfolding partCount
   count-beyond h =
       let l : length (viewOf table .counts) ≡ 7 = counts-long table in
       let k : length (viewOf table .counts) ≤ part = omega arith in
@@ -61,16 +61,16 @@ module _ (table : List ℕ) (view : View) (is-view : view ≡ viewOf table) (par
     pub field-none : getD (view .counts) part 0 ≤ i → 0 ≡ fieldOf table part i field
     unfolding fieldOf
     field-none h =
-        let e : getD (view .counts) part 0 ≡ countOf table part = count-told in
-        let k : countOf table part ≤ i = omega arith in
-        sym (if-false _ _ (le-ltb i (countOf table part) k))
+        let e : getD (view .counts) part 0 ≡ partCount table part = count-told in
+        let k : partCount table part ≤ i = omega arith in
+        sym (if-false _ _ (le-ltb i (partCount table part) k))
 
     pub field-beyond : 7 ≤ part → 0 ≡ fieldOf table part i field
     unfolding fieldOf
     field-beyond h =
-        let e : 0 ≡ countOf table part = count-beyond h in
-        let k : countOf table part ≤ i = omega arith in
-        sym (if-false _ _ (le-ltb i (countOf table part) k))
+        let e : 0 ≡ partCount table part = count-beyond h in
+        let k : partCount table part ≤ i = omega arith in
+        sym (if-false _ _ (le-ltb i (partCount table part) k))
 
     module _ (few : part < 7) (has : i < getD (view .counts) part 0) where
       pub record-inside : getD (view .bases) part 0 + getD widths part 0 * i ≤ length table
@@ -92,8 +92,8 @@ module _ (table : List ℕ) (view : View) (is-view : view ≡ viewOf table) (par
       field-there : fieldOf table part i field ≡ getD table (getD (view .bases) part 0 + getD widths part 0 * i + field) 0
       unfolding fieldOf
       field-there =
-          let k : i < countOf table part = rw count-told at has in
-          if-true _ _ (lt-ltb i (countOf table part) k) ∙ ap (λ (v : View). getD table (getD (v .bases) part 0 + getD widths part 0 * i + field) 0) (sym is-view)
+          let k : i < partCount table part = rw count-told at has in
+          if-true _ _ (lt-ltb i (partCount table part) k) ∙ ap (λ (v : View). getD table (getD (v .bases) part 0 + getD widths part 0 * i + field) 0) (sym is-view)
 
       pub field-past : length table - (getD (view .bases) part 0 + getD widths part 0 * i) ≤ field → 0 ≡ fieldOf table part i field
       field-past h =

@@ -10,28 +10,28 @@ use lib.ListN.{length}
 use Rattle.table_layout.specs.Layout.{matrices, values}
 use Rattle.out_text.specs.Written.{Written}
 use Rattle.out_text.proofs.WrittenLaws.{Rest, rest-starts, rest-on, rest-done}
-use Rattle.out_listing.specs.Fields.{countOf, fieldOf, kindIn, ownerOf, valuesIn}
-use Rattle.out_listing.specs.Listing.{linesFrom, valueLine, matrixText}
+use Rattle.out_listing.specs.Fields.{partCount, fieldOf, kindIn, ownerOf, valuesIn}
+use Rattle.out_listing.specs.Listing.{listedFrom, valueLine, matrixText}
 use Rattle.out_listing.proofs.FieldLaws.{values-few}
 
-lines-cons : (line : ℕ → List ℕ) (left i : ℕ) → 0 < left → linesFrom line left i ≡ line i ++ linesFrom line (left - 1) (i + 1)
-unfolding linesFrom
+lines-cons : (line : ℕ → List ℕ) (left i : ℕ) → 0 < left → listedFrom line left i ≡ line i ++ listedFrom line (left - 1) (i + 1)
+unfolding listedFrom
 lines-cons line left i h =
     let e : left ≡ suc (left - 1) = omega arith in
-    ap (λ (n : ℕ). linesFrom line n i) e
+    ap (λ (n : ℕ). listedFrom line n i) e
 
-lines-nil : (line : ℕ → List ℕ) (left i : ℕ) → left ≤ 0 → linesFrom line left i ≡ []
-unfolding linesFrom
+lines-nil : (line : ℕ → List ℕ) (left i : ℕ) → left ≤ 0 → listedFrom line left i ≡ []
+unfolding listedFrom
 lines-nil line left i h =
     let e : left ≡ 0 = omega arith in
-    ap (λ (n : ℕ). linesFrom line n i) e
+    ap (λ (n : ℕ). listedFrom line n i) e
 
-module _ (line : ℕ → List ℕ) (out₀ : List ℕ) (at : ℕ) (whole out : List ℕ) (next left i : ℕ) (rest : Rest out₀ at whole out next (linesFrom line left i)) where
+module _ (line : ℕ → List ℕ) (out₀ : List ℕ) (at : ℕ) (whole out : List ℕ) (next left i : ℕ) (rest : Rest out₀ at whole out next (listedFrom line left i)) where
   pub lines-on : 0 < left → (out' : List ℕ) (next' : ℕ) → Written out out' next next' (line i) →
-      Rest out₀ at whole out' next' (linesFrom line (left - 1) (i + 1))
+      Rest out₀ at whole out' next' (listedFrom line (left - 1) (i + 1))
   lines-on h out' next' w =
-      let r : Rest out₀ at whole out next (line i ++ linesFrom line (left - 1) (i + 1)) = rw (lines-cons line left i h) at rest in
-      rest-on out₀ at whole out next (line i) (linesFrom line (left - 1) (i + 1)) r out' next' w
+      let r : Rest out₀ at whole out next (line i ++ listedFrom line (left - 1) (i + 1)) = rw (lines-cons line left i h) at rest in
+      rest-on out₀ at whole out next (line i) (listedFrom line (left - 1) (i + 1)) r out' next' w
 
   pub lines-done : left ≤ 0 → Written out₀ out at next whole
   lines-done h =
@@ -42,8 +42,8 @@ module _ (line : ℕ → List ℕ) (out₀ : List ℕ) (at : ℕ) (whole out : L
 
 -- those that are left lie in the table
 pub record ValuesLeft (t table out₀ : List ℕ) (at matrix : ℕ) (out : List ℕ) (next section kind value left : ℕ) : Type 0 where
-  pub room : left ≤ countOf table values - value
-  pub rest : Rest out₀ at (matrixText t table matrix) out next (linesFrom (valueLine t table section kind) left value)
+  pub room : left ≤ partCount table values - value
+  pub rest : Rest out₀ at (matrixText t table matrix) out next (listedFrom (valueLine t table section kind) left value)
 
 pub values-start : (t table out : List ℕ) (at matrix next section kind value left : ℕ) → next ≡ min at (length out) → section ≡ ownerOf table matrix →
     kind ≡ kindIn table matrix section → value ≡ fieldOf table matrices matrix 2 → left ≡ valuesIn table matrix →
@@ -51,8 +51,8 @@ pub values-start : (t table out : List ℕ) (at matrix next section kind value l
 unfolding matrixText valuesIn
 values-start t table out at matrix next section kind value left e is-section is-kind is-value is-left =
     let k : kind ≡ kindIn table matrix (ownerOf table matrix) = is-kind ∙ ap (kindIn table matrix) is-section in
-    let whole : linesFrom (valueLine t table section kind) left value ≡ matrixText t table matrix =
-    λ j. linesFrom (valueLine t table (is-section j) (k j)) (is-left j) (is-value j) in
+    let whole : listedFrom (valueLine t table section kind) left value ≡ matrixText t table matrix =
+    λ j. listedFrom (valueLine t table (is-section j) (k j)) (is-left j) (is-value j) in
     record {
       room = omega arith;
       rest = rw whole (rest-starts out at (matrixText t table matrix) next e);
@@ -65,14 +65,14 @@ module _ (t table out₀ : List ℕ) (at matrix : ℕ) (out : List ℕ) (next se
 
   pub value-fits : 0 < left → Fits w64 (value + 1)
   value-fits h =
-      let r : left ≤ countOf table values - value = s .room in
-      let f : countOf table values ≤ 65_536 = values-few table in
+      let r : left ≤ partCount table values - value = s .room in
+      let f : partCount table values ≤ 65_536 = values-few table in
       omega arith
 
   pub values-on : 0 < left → (out' : List ℕ) (next' : ℕ) → Written out out' next next' (valueLine t table section kind value) →
       ValuesLeft t table out₀ at matrix out' next' section kind (value + 1) (left - 1)
   values-on h out' next' w =
-      let r : left ≤ countOf table values - value = s .room in
+      let r : left ≤ partCount table values - value = s .room in
       record {
         room = omega arith;
         rest = lines-on (valueLine t table section kind) out₀ at (matrixText t table matrix) out next left value (s .rest) h out' next' w;

@@ -10,7 +10,7 @@ use lib.Dec.{eqb}
 use borrow.Author.Tests.{eq-eqb, ne-eqb, eqb-true, eqb-false, lt-ltb, le-ltb}
 use Rattle.base.proofs.IfLaws.{if-true, if-false, by-cases}
 use Rattle.table_layout.specs.Layout.{sections}
-use Rattle.out_listing.specs.Fields.{countOf, kindIn, ownerFrom, ownerOf}
+use Rattle.out_listing.specs.Fields.{partCount, kindIn, ownerFrom, ownerOf}
 
 -- a word that is the index of a matrix plus 1
 module _ (word field matrix : ℕ) (told : word ≡ field) where
@@ -30,7 +30,7 @@ module _ (word field matrix : ℕ) (told : word ≡ field) where
       back k = omega arith
 
 module _ (table : List ℕ) (matrix count i : ℕ) where
-  pub owner-starts : count ≡ countOf table sections → ownerFrom table matrix (count - 0) 0 ≡ ownerOf table matrix
+  pub owner-starts : count ≡ partCount table sections → ownerFrom table matrix (count - 0) 0 ≡ ownerOf table matrix
   unfolding ownerOf
   owner-starts e = ap (λ (n : ℕ). ownerFrom table matrix n 0) (sub-zero count ∙ e)
 

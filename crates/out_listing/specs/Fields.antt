@@ -10,13 +10,13 @@ use Rattle.table_layout.specs.View.{viewOf}
 
 module _ (table : List ℕ) where
   -- how many records a part has
-  unfoldable pub countOf : ℕ → ℕ
-  countOf part = getD (viewOf table .counts) part 0
+  unfoldable pub partCount : ℕ → ℕ
+  partCount part = getD (viewOf table .counts) part 0
 
   -- the word numbered `field` of the record numbered `i` of a part; 0 where the part has no such record
   unfoldable pub fieldOf : ℕ → ℕ → ℕ → ℕ
   fieldOf part i field =
-      if ltb i (countOf part) then getD table (getD (viewOf table .bases) part 0 + getD widths part 0 * i + field) 0 else 0
+      if ltb i (partCount part) then getD table (getD (viewOf table .bases) part 0 + getD widths part 0 * i + field) 0 else 0
 
   -- which kind of the section numbered i the matrix numbered j is; 4 where it is none of them. "R L G C each matrix index plus 1 or 0"
   unfoldable pub kindIn : ℕ → ℕ → ℕ
@@ -32,8 +32,8 @@ module _ (table : List ℕ) where
   ownerFrom j (suc many) i = if ltb (kindIn j i) 4 then i else ownerFrom j many (i + 1)
 
   unfoldable pub ownerOf : ℕ → ℕ
-  ownerOf j = ownerFrom j (countOf sections) 0
+  ownerOf j = ownerFrom j (partCount sections) 0
 
   -- how many values the matrix numbered j has, as far as the table goes
   unfoldable pub valuesIn : ℕ → ℕ
-  valuesIn j = min (fieldOf matrices j 3) (countOf values - fieldOf matrices j 2)
+  valuesIn j = min (fieldOf matrices j 3) (partCount values - fieldOf matrices j 2)

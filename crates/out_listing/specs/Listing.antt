@@ -10,7 +10,7 @@ use Rattle.table_layout.specs.Layout.{models, steps, maps, sections, matrices, 
 use Rattle.doc.specs.Document.{endKind, sectionKind, forkKind}
 use Rattle.table_name.specs.Name.{nameAt}
 use Rattle.out_text.specs.Printing.{lineOf, decimal, valueText}
-use Rattle.out_listing.specs.Fields.{countOf, fieldOf, kindIn, ownerOf, valuesIn}
+use Rattle.out_listing.specs.Fields.{partCount, fieldOf, kindIn, ownerOf, valuesIn}
 
 -- ---- words of the paper for the numbers in the table
 
@@ -31,9 +31,9 @@ kindText kind =
     if eqb kind 3 then bytes "C" else []
 
 -- the lines of so many records from i on
-unfoldable pub linesFrom : (ℕ → List ℕ) → ℕ → ℕ → List ℕ
-linesFrom line zero i = []
-linesFrom line (suc many) i = line i ++ linesFrom line many (i + 1)
+unfoldable pub listedFrom : (ℕ → List ℕ) → ℕ → ℕ → List ℕ
+listedFrom line zero i = []
+listedFrom line (suc many) i = line i ++ listedFrom line many (i + 1)
 
 -- a Mult prints as an integer, a Len as a value (G3 of docs/DECISIONS.md): a Lumped section has the one, a Distributed one the other
 unfoldable pub amountText : List ℕ → ℕ → List ℕ
@@ -44,27 +44,27 @@ amountText table i =
 
 module _ (t table : List ℕ) where
   -- the name that a record opens with
-  unfoldable pub nameOf : ℕ → ℕ → List ℕ
-  nameOf part i = nameAt t (fieldOf table part i 0) (fieldOf table part i 1)
+  unfoldable pub nameIn : ℕ → ℕ → List ℕ
+  nameIn part i = nameAt t (fieldOf table part i 0) (fieldOf table part i 1)
 
   -- ---- a line for each record: fields by their order in the record
 
   unfoldable pub modelLine : ℕ → List ℕ
-  modelLine i = lineOf (nameOf models i ∷ typeText (fieldOf table models i 2) ∷ decimal (fieldOf table models i 4) ∷ [])
+  modelLine i = lineOf (nameIn models i ∷ typeText (fieldOf table models i 2) ∷ decimal (fieldOf table models i 4) ∷ [])
 
-  unfoldable pub sideOf : ℕ → List ℕ
-  sideOf i = nameAt t (fieldOf table steps i 3) (fieldOf table steps i 4)
+  unfoldable pub sideIn : ℕ → List ℕ
+  sideIn i = nameAt t (fieldOf table steps i 3) (fieldOf table steps i 4)
 
   -- "then amount .. or Side": the last field, if there is one (G3 of docs/DECISIONS.md)
   unfoldable pub endLine : ℕ → List ℕ
   endLine i =
       if eqb (fieldOf table steps i 4) 0
-      then lineOf (bytes "end" ∷ decimal (fieldOf table steps i 5) ∷ nameOf maps (fieldOf table steps i 1) ∷ [])
-      else lineOf (bytes "end" ∷ decimal (fieldOf table steps i 5) ∷ nameOf maps (fieldOf table steps i 1) ∷ sideOf i ∷ [])
+      then lineOf (bytes "end" ∷ decimal (fieldOf table steps i 5) ∷ nameIn maps (fieldOf table steps i 1) ∷ [])
+      else lineOf (bytes "end" ∷ decimal (fieldOf table steps i 5) ∷ nameIn maps (fieldOf table steps i 1) ∷ sideIn i ∷ [])
 
   unfoldable pub sectionStepLine : ℕ → List ℕ
   sectionStepLine i =
-      lineOf (bytes "section" ∷ decimal (fieldOf table steps i 5) ∷ nameOf sections (fieldOf table steps i 1) ∷ amountText table i ∷ [])
+      lineOf (bytes "section" ∷ decimal (fieldOf table steps i 5) ∷ nameIn sections (fieldOf table steps i 1) ∷ amountText table i ∷ [])
 
   unfoldable pub stepLine : ℕ → List ℕ
   stepLine i =
@@ -74,17 +74,17 @@ module _ (t table : List ℕ) where
       lineOf (bytes "endfork" ∷ decimal (fieldOf table steps i 5) ∷ [])
 
   unfoldable pub mapLine : ℕ → List ℕ
-  mapLine i = lineOf (nameOf maps i ∷ decimal (fieldOf table maps i 6) ∷ [])
+  mapLine i = lineOf (nameIn maps i ∷ decimal (fieldOf table maps i 6) ∷ [])
 
   unfoldable pub sectionLine : ℕ → List ℕ
   sectionLine i =
-      lineOf (nameOf sections i ∷ methodText (fieldOf table sections i 2) ∷ decimal (fieldOf table sections i 3) ∷ [])
+      lineOf (nameIn sections i ∷ methodText (fieldOf table sections i 2) ∷ decimal (fieldOf table sections i 3) ∷ [])
 
   -- the value numbered v, of a kind of the section numbered i
   unfoldable pub valueLine : ℕ → ℕ → ℕ → List ℕ
   valueLine i kind v =
       lineOf
-      (nameOf sections i
+      (nameIn sections i
       ∷ kindText kind
       ∷ decimal (fieldOf table values v 0)
       ∷ decimal (fieldOf table values v 1)
@@ -102,24 +102,24 @@ module _ (t table : List ℕ) where
   -- a part: its name and count, then its lines
   unfoldable pub partText : List ℕ → ℕ → List ℕ
   partText name part =
-      lineOf (name ∷ decimal (countOf table part) ∷ []) ++ linesFrom (recordLine part) (countOf table part) 0
+      lineOf (name ∷ decimal (partCount table part) ∷ []) ++ listedFrom (recordLine part) (partCount table part) 0
 
   -- the values of the matrix numbered j
   unfoldable pub matrixText : ℕ → List ℕ
   matrixText j =
-      linesFrom (valueLine (ownerOf table j) (kindIn table j (ownerOf table j))) (valuesIn table j) (fieldOf table matrices j 2)
+      listedFrom (valueLine (ownerOf table j) (kindIn table j (ownerOf table j))) (valuesIn table j) (fieldOf table matrices j 2)
 
   unfoldable pub valuesText : List ℕ
   valuesText =
-      lineOf (bytes "values" ∷ decimal (countOf table values) ∷ []) ++ linesFrom matrixText (countOf table matrices) 0
+      lineOf (bytes "values" ∷ decimal (partCount table values) ∷ []) ++ listedFrom matrixText (partCount table matrices) 0
 
-  unfoldable pub partsText : List ℕ
-  partsText =
+  unfoldable pub allPartsText : List ℕ
+  allPartsText =
       partText (bytes "models") models
       ++ (partText (bytes "steps") steps ++ (partText (bytes "maps") maps ++ partText (bytes "sections") sections))
 
   unfoldable pub listing : ℕ → List ℕ
-  listing words = lineOf (bytes "accepted" ∷ decimal words ∷ []) ++ (partsText ++ valuesText)
+  listing words = lineOf (bytes "accepted" ∷ decimal words ∷ []) ++ (allPartsText ++ valuesText)
 
 -- "On refusal it prints `refused NO LINE`"
 unfoldable pub refusalText : ℕ → ℕ → List ℕ

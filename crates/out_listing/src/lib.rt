@@ -8,8 +8,8 @@ ghost use Rattle.table_layout.specs.View.{viewOf};
 ghost use Rattle.out_text.specs.Printing.{lineOf, decimal, valueText};
 ghost use Rattle.out_text.specs.Written.{Written};
 ghost use Rattle.table_layout.specs.Layout.{sections};
-ghost use Rattle.out_listing.specs.Fields.{countOf, fieldOf, kindIn, ownerOf, valuesIn};
-ghost use Rattle.out_listing.specs.Listing.{typeText, methodText, kindText, linesFrom, nameOf, modelLine, sideOf, endLine, amountText, sectionStepLine, stepLine, mapLine, sectionLine, valueLine, recordLine, partText, matrixText, valuesText, partsText, listing, refusalText};
+ghost use Rattle.out_listing.specs.Fields.{partCount, fieldOf, kindIn, ownerOf, valuesIn};
+ghost use Rattle.out_listing.specs.Listing.{typeText, methodText, kindText, listedFrom, nameIn, modelLine, sideIn, endLine, amountText, sectionStepLine, stepLine, mapLine, sectionLine, valueLine, recordLine, partText, matrixText, valuesText, allPartsText, listing, refusalText};
 use table_layout::View;
 
 // The kinds of steps.
@@ -22,7 +22,7 @@ const FORK: u64 = 2;
 // How many records a part has. The table is asked for only so that the promise can say whose view it is.
 pub fn count_of(table: &[u64], view: View, part: usize) -> u64
     requires { ⌜ view ≡ viewOf (now table) ⌝ }
-    ensures { λ r. ⌜ r ≡ countOf (now (table .entry)) part ⌝ }
+    ensures { λ r. ⌜ r ≡ partCount (now (table .entry)) part ⌝ }
 {
     if table_layout::PARTS <= part {
         return 0;
@@ -99,7 +99,7 @@ fn put_name(
     after: u8,
 ) -> usize
     requires { ⌜ view ≡ viewOf (now table) ⌝ }
-    ensures { λ r. ⌜ Written (now (out .entry)) (now (out .exit)) at r (nameOf (now (text .entry)) (now (table .entry)) part index ++ (after ∷ [])) ⌝ }
+    ensures { λ r. ⌜ Written (now (out .entry)) (now (out .exit)) at r (nameIn (now (text .entry)) (now (table .entry)) part index ++ (after ∷ [])) ⌝ }
 {
     let start = field_of(table, view, part, index, 0);
     let size = field_of(table, view, part, index, 1);
@@ -256,7 +256,7 @@ pub fn section_line(
 // The Side of an end.
 fn put_side(out: &mut [u8], at: usize, text: &[u8], table: &[u64], view: View, index: u64) -> usize
     requires { ⌜ view ≡ viewOf (now table) ⌝ }
-    ensures { λ r. ⌜ Written (now (out .entry)) (now (out .exit)) at r (sideOf (now (text .entry)) (now (table .entry)) index ++ (10 ∷ [])) ⌝ }
+    ensures { λ r. ⌜ Written (now (out .entry)) (now (out .exit)) at r (sideIn (now (text .entry)) (now (table .entry)) index ++ (10 ∷ [])) ⌝ }
 {
     let start = field_of(table, view, table_layout::STEPS, index, 3);
     let size = field_of(table, view, table_layout::STEPS, index, 4);
@@ -405,7 +405,7 @@ fn part_lines(
     count: u64,
 ) -> usize
     requires { ⌜ view ≡ viewOf (now table) ⌝ }
-    ensures { λ r. ⌜ Written (now (out .entry)) (now (out .exit)) at r (linesFrom (recordLine (now (text .entry)) (now (table .entry)) part) count 0) ⌝ }
+    ensures { λ r. ⌜ Written (now (out .entry)) (now (out .exit)) at r (listedFrom (recordLine (now (text .entry)) (now (table .entry)) part) count 0) ⌝ }
 {
     let mut next = out_text::lesser(at, out.len());
     let mut i = 0;
@@ -439,7 +439,7 @@ fn put_part(
 // Models, steps, maps and sections.
 fn put_parts(out: &mut [u8], at: usize, text: &[u8], table: &[u64], view: View) -> usize
     requires { ⌜ view ≡ viewOf (now table) ⌝ }
-    ensures { λ r. ⌜ Written (now (out .entry)) (now (out .exit)) at r (partsText (now (text .entry)) (now (table .entry))) ⌝ }
+    ensures { λ r. ⌜ Written (now (out .entry)) (now (out .exit)) at r (allPartsText (now (text .entry)) (now (table .entry))) ⌝ }
 {
     let steps = put_part(out, at, text, table, view, b"models", table_layout::MODELS);
     let maps = put_part(out, steps, text, table, view, b"steps", table_layout::STEPS);
@@ -610,7 +610,7 @@ fn all_matrix_lines(
     count: u64,
 ) -> usize
     requires { ⌜ view ≡ viewOf (now table) ⌝ }
-    ensures { λ r. ⌜ Written (now (out .entry)) (now (out .exit)) at r (linesFrom (matrixText (now (text .entry)) (now (table .entry))) count 0) ⌝ }
+    ensures { λ r. ⌜ Written (now (out .entry)) (now (out .exit)) at r (listedFrom (matrixText (now (text .entry)) (now (table .entry))) count 0) ⌝ }
 {
     let mut next = out_text::lesser(at, out.len());
     let mut i = 0;

@@ -10,7 +10,7 @@ use borrow.Author.Tests.{lt-ltb, le-ltb}
 use Rattle.base.proofs.IfLaws.{if-true, if-false}
 use Rattle.lex_number.specs.ValueWord.{decimalOf}
 use Rattle.lex_number.specs.declared.Decimal.{Decimal}
-use Rattle.out_text.specs.Printing.{decimal, signText, exponentText, partsText, valueText}
+use Rattle.out_text.specs.Printing.{decimal, signText, exponentText, decimalText, valueText}
 use Rattle.out_text.specs.Written.{Written}
 use Rattle.out_text.proofs.WrittenLaws.{written-is, written-none, written-more}
 
@@ -35,8 +35,8 @@ module _ (a b : List ℕ) (at m shifted after : ℕ) where
   exponent-above h w = written-is (ap (λ (xs : List ℕ). xs ++ (after ∷ [])) (sym (if-false _ _ (le-ltb shifted 64 h)))) w
 
 parts-join : (d : Decimal) (after : ℕ) →
-    signText (d .negative) ++ ((decimal (d .size) ++ (code "e" ∷ [])) ++ (exponentText (d .shifted) ++ (after ∷ []))) ≡ partsText d ++ (after ∷ [])
-unfolding partsText
+    signText (d .negative) ++ ((decimal (d .size) ++ (code "e" ∷ [])) ++ (exponentText (d .shifted) ++ (after ∷ []))) ≡ decimalText d ++ (after ∷ [])
+unfolding decimalText
 parts-join d after = simp append-assoc
 
 pub value-written : (word after : ℕ) (d : Decimal) → d ≡ decimalOf word → (a b : List ℕ) (at m : ℕ) → Written a b at m (signText (d .negative)) →
@@ -44,5 +44,5 @@ pub value-written : (word after : ℕ) (d : Decimal) → d ≡ decimalOf word �
     (e : List ℕ) (r : ℕ) → Written c e n r (exponentText (d .shifted) ++ (after ∷ [])) → Written a e at r (valueText word ++ (after ∷ []))
 unfolding valueText
 value-written word after d told a b at m sign c n size e r power =
-    written-is (parts-join d after ∙ ap (λ (x : Decimal). partsText x ++ (after ∷ [])) told)
+    written-is (parts-join d after ∙ ap (λ (x : Decimal). decimalText x ++ (after ∷ [])) told)
     (written-more a b at m _ sign e r _ (written-more b c m n _ size e r _ power))

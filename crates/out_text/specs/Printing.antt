@@ -37,9 +37,9 @@ signText negative = if negative then code "-" ∷ [] else []
 unfoldable pub exponentText : ℕ → List ℕ
 exponentText shifted = if ltb shifted 64 then code "-" ∷ decimal (64 - shifted) else decimal (shifted - 64)
 
-unfoldable pub partsText : Decimal → List ℕ
-partsText d = signText (d .negative) ++ (decimal (d .size) ++ (code "e" ∷ exponentText (d .shifted)))
+unfoldable pub decimalText : Decimal → List ℕ
+decimalText d = signText (d .negative) ++ (decimal (d .size) ++ (code "e" ∷ exponentText (d .shifted)))
 
 -- m, `e`, k, with `-` in front if negative (G4 of docs/DECISIONS.md); "Zero prints 0e0"
 unfoldable pub valueText : ℕ → List ℕ
-valueText word = partsText (decimalOf word)
+valueText word = decimalText (decimalOf word)

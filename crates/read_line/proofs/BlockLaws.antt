@@ -13,7 +13,7 @@ use Rattle.line_place.specs.Place as place
 use Rattle.line_path.specs.declared.Path.{Path}
 use Rattle.line_keyword.specs.Way.Kept.{Kept}
 use Rattle.line_keyword.specs.declared.State.{State}
-use Rattle.read_line.specs.Reading.{run}
+use Rattle.read_line.specs.Reading.{readFrom}
 use Rattle.read_line.specs.Way.Walk.{resume, Rises, Crossed, Holds, Stepping, Stays, withPath, Blocked}
 use Rattle.read_line.specs.declared.PathWalk.{PathWalk}
 
@@ -25,7 +25,7 @@ module _ (t : List ℕ) (at line : ℕ) (p : Path) (n : ℕ) (w : PathWalk) (fir
       omega arith
 
   come : (s : State) → Holds place.path (withPath p n) s →
-      run (w .line) (lines (drop (w .at) t)) (withPath (w .part .path) (w .part .steps) s) ≡ run line (lines (drop at t)) s
+      readFrom (w .line) (lines (drop (w .at) t)) (withPath (w .part .path) (w .part .steps) s) ≡ readFrom line (lines (drop at t)) s
   unfolding resume
   come s f = sym (if-true _ _ (eq-eqb _ _ whole)) ∙ first .crossed .same s f
 

@@ -73,7 +73,7 @@ use Rattle.line_keyword.specs.declared.Counts.{Counts}
 use Rattle.line_keyword.specs.declared.State.{State}
 use Rattle.line_keyword.proofs.InsideLaws.{opens-closes}
 use Rattle.line_keyword.proofs.KeptLaws.{start-kept, kept-more}
-use Rattle.read_line.specs.Reading.{stepOf, lineRule, countsAfterLine, lineNext, readingOf}
+use Rattle.read_line.specs.Reading.{lineResult, lineRule, countsAfterLine, lineNext, readingOf}
 use Rattle.read_line.specs.Way.Trace.{stateAfter}
 use Rattle.read_line.specs.declared.Reading.the-variants.{Read}
 use Rattle.read_line.proofs.WalkLaws.{step-kept}
@@ -420,16 +420,16 @@ record Nowhere (p : ℕ) : Type 0 where
 nowhere-past : (p : ℕ) → Nowhere p → (p ≡ done → ⊥) → Past p
 unfolding isInModel isInFamily isInHeader
 nowhere-past p n on =
-    let familyText : either (eqb p place.familyText) (either (eqb p place.list) (either (eqb p place.mapHead) (eqb p place.pins))) ≡ false = either-none-second _ _ (n .family) in
-    let list : either (eqb p place.list) (either (eqb p place.mapHead) (eqb p place.pins)) ≡ false = either-none-second _ _ familyText in
-    let map : either (eqb p place.mapHead) (eqb p place.pins) ≡ false = either-none-second _ _ list in
+    let familyText : either (eqb p place.familyText) (either (eqb p place.list) (either (eqb p place.mapHead) (eqb p place.pinList))) ≡ false = either-none-second _ _ (n .family) in
+    let list : either (eqb p place.list) (either (eqb p place.mapHead) (eqb p place.pinList)) ≡ false = either-none-second _ _ familyText in
+    let map : either (eqb p place.mapHead) (eqb p place.pinList) ≡ false = either-none-second _ _ list in
     let model : either (eqb p place.path) (eqb p place.modelText) ≡ false = either-none-second _ _ (n .model) in
     up place.done p
     (up place.matrix p
     (up place.section p
     (up place.sectionHead p
     (up place.after p
-    (up place.pins p
+    (up place.pinList p
     (up place.mapHead p
     (up place.modelText p
     (up place.path p
@@ -498,7 +498,7 @@ stays-past p k h =
       far place.familyText (omega arith),
       far place.list (omega arith),
       far place.mapHead (omega arith),
-      far place.pins (omega arith),
+      far place.pinList (omega arith),
       far place.header (omega arith),
       far place.headerText (omega arith),
       far place.section (omega arith),
@@ -554,7 +554,7 @@ line-inside p first =
     by-test (λ (n : ℕ). after < n → n ≡ p) (eqb p mapHead) _ _
     (λ (e : eqb p mapHead ≡ true).
     by-test (λ (n : ℕ). after < n → n ≡ p) (same first (bytes "Pin_list")) _ _
-    (λ (f : same first (bytes "Pin_list") ≡ true) (h : after < place.pins). absurd (omega arith))
+    (λ (f : same first (bytes "Pin_list") ≡ true) (h : after < place.pinList). absurd (omega arith))
     (λ (f : same first (bytes "Pin_list") ≡ false) (h : after < mapHead). absurd (omega arith)))
     (λ (e : eqb p mapHead ≡ false) (h : after < p). refl)
 
@@ -655,7 +655,7 @@ module _ (k : ℕ) (argument : List ℕ) (s : State) (met : Met k s) (t : Tally 
   unfolding keywordNext
   keyword-tally = record { long = long-next; all = all-next; inside = inside-next }
 
-step-tally : (content : List ℕ) (s : State) → Tally s → stepOf content s .number ≡ 0 → Tally (stepOf content s .state)
+step-tally : (content : List ℕ) (s : State) → Tally s → lineResult content s .number ≡ 0 → Tally (lineResult content s .state)
 step-tally content s t z = step-holds Tally line-tally keyword-tally content s t z
 
 -- over all sections there are at most four matrices each

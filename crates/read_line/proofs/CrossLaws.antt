@@ -15,7 +15,7 @@ use Rattle.lex_line.specs.declared.Line.{Line}
 use Rattle.lex_line.proofs.LineLaws.{next-on, next-within}
 use Rattle.line_keyword.specs.Way.Kept.{Kept}
 use Rattle.line_keyword.specs.declared.State.{State}
-use Rattle.read_line.specs.Reading.{commentByte, breaks, stepOf, onward, run}
+use Rattle.read_line.specs.Reading.{commentByte, breaks, lineResult, onward, readFrom}
 use Rattle.read_line.specs.Way.Walk.{resume, Onward, Rises, Reached, Crossed, Opens, contentAt, StandsElsewhere, Stays}
 use Rattle.read_line.specs.declared.Step.{Step}
 use Rattle.read_line.specs.declared.Reading.{Reading}
@@ -35,7 +35,7 @@ module _ (t : List ℕ) (at line : ℕ) (fits : State → Type 0) where
   unfolding resume
   crossed-none put h same =
       record {
-        same = λ (s : State) (f : fits s). if-true _ _ (eq-eqb 0 0 refl) ∙ ap (run line (lines (drop at t))) (sym (same s f));
+        same = λ (s : State) (f : fits s). if-true _ _ (eq-eqb 0 0 refl) ∙ ap (readFrom line (lines (drop at t))) (sym (same s f));
         kept = λ (z : _≡_ {A = ℕ} 0 0) (s : State) (f : fits s) (k : Kept line s). rw (sym (same s f)) k;
         rises = λ (z : _≡_ {A = ℕ} 0 0) (s : State) (f : fits s). subst (Rises s) (same s f) (le-refl (s .counts .values));
         onward = le-refl at;
@@ -46,8 +46,8 @@ module _ (t : List ℕ) (at line : ℕ) (fits : State → Type 0) where
 
   module _ (put : State → State) (broken here number : ℕ) (whole : broken ≡ 0) (crossed : Crossed t at line fits put broken here number) where
     -- one line more: what the part decides of it
-    module _ (h : here < length t) (found : Line) (told : found ≡ lineAt commentByte t here) (next : State → State) (k : ℕ) (decided : (s : State) → fits s → stepOf (take (found .content - here) (drop here t)) (put s) ≡ breaks k (next s)) where
-      over : (s : State) → fits s → onward (breaks k (next s)) number (run (number + 1) (lines (drop (found .next) t))) ≡ run line (lines (drop at t)) s
+    module _ (h : here < length t) (found : Line) (told : found ≡ lineAt commentByte t here) (next : State → State) (k : ℕ) (decided : (s : State) → fits s → lineResult (take (found .content - here) (drop here t)) (put s) ≡ breaks k (next s)) where
+      over : (s : State) → fits s → onward (breaks k (next s)) number (readFrom (number + 1) (lines (drop (found .next) t))) ≡ readFrom line (lines (drop at t)) s
       unfolding resume
       over s f =
           sym (line-run t here number (put s) h found told (breaks k (next s)) (sym (decided s f)))
@@ -73,10 +73,10 @@ module _ (t : List ℕ) (at line : ℕ) (fits : State → Type 0) where
           (subst (λ (x : Step). x .number ≡ 0 → Rises (put s) (x .state)) (decided s f)
           (step-raises (take (found .content - here) (drop here t)) (put s)) z)
 
-      on-same : k ≡ 0 → (s : State) → fits s → run (number + 1) (lines (drop (found .next) t)) (next s) ≡ run line (lines (drop at t)) s
+      on-same : k ≡ 0 → (s : State) → fits s → readFrom (number + 1) (lines (drop (found .next) t)) (next s) ≡ readFrom line (lines (drop at t)) s
       on-same z s f =
-          sym (onward-goes (next s) number (run (number + 1) (lines (drop (found .next) t))))
-          ∙ ap (λ (n : ℕ). onward (breaks n (next s)) number (run (number + 1) (lines (drop (found .next) t)))) (sym z)
+          sym (onward-goes (next s) number (readFrom (number + 1) (lines (drop (found .next) t))))
+          ∙ ap (λ (n : ℕ). onward (breaks n (next s)) number (readFrom (number + 1) (lines (drop (found .next) t)))) (sym z)
           ∙ over s f
 
       pub crossed-on : k ≡ 0 → Crossed t at line fits next k (found .next) (number + 1)

@@ -18,7 +18,7 @@ use Rattle.lex_number.specs.declared.Whole.{Whole}
 use Rattle.lex_number.proofs.IntegerLaws.{integer-below}
 use Rattle.line_place.specs.Place.{isText}
 use Rattle.line_place.specs.Place as place
-use Rattle.line_path.specs.Path.{side, closed, deepest, mostSteps, pathLineOf, isBadFork, isOutOfOrder, isStep, openRule, pathRule}
+use Rattle.line_path.specs.Path.{side, closed, deepest, mostSteps, pathLineOf, isBadFork, isPathOutOfOrder, isStepLine, openRule, pathRule}
 use Rattle.line_path.specs.declared.Path.{Path}
 use Rattle.line_path.specs.declared.PathLine.{PathLine}
 use Rattle.line_path.proofs.RuleLaws.{closed-other}
@@ -47,7 +47,7 @@ module _ (content : List ℕ) (s : State) where
   unfolding lineRule isText either if_then_else_
   path-rule e = rw e
 
-  pins-rule : s .place ≡ place.pins → lineRule content s ≡ pinRule content (s .map) (s .counts .pins)
+  pins-rule : s .place ≡ place.pinList → lineRule content s ≡ pinRule content (s .map) (s .counts .pins)
   unfolding lineRule isText either if_then_else_
   pins-rule e = rw e
 
@@ -63,7 +63,7 @@ unfolding dataRule areTooMany
 data-fits l m values kept =
     ltb-false mostValues (values + l .numbers)
     (all-kept
-    (12 when matrix.isOutOfOrder l m ∷ 13 when not (l .formed) ∷ 14 when not (l .bounded) ∷ 17 when areTooMany values (l .numbers) ∷ [])
+    (12 when matrix.isDataOutOfOrder l m ∷ 13 when not (l .formed) ∷ 14 when not (l .bounded) ∷ 17 when areTooMany values (l .numbers) ∷ [])
     (omega arith, (omega arith, (omega arith, (omega arith, tt)))) kept 3)
 
 -- a pin that breaks nothing is at most the last that a file may have
@@ -76,28 +76,28 @@ pin-total content m total kept =
     (omega arith, (omega arith, tt)) kept 1))
 
 module _ (l : PathLine) (p : Path) (steps : ℕ) where
-  no-over : openRule l p steps ≡ 0 → both (isStep l) (leb mostSteps steps) ≡ false
+  no-over : openRule l p steps ≡ 0 → both (isStepLine l) (leb mostSteps steps) ≡ false
   unfolding openRule
   no-over kept =
       all-kept
       (15 when isBadFork l p
       ∷ 11 when not (l .right)
-      ∷ 12 when isOutOfOrder l p
+      ∷ 12 when isPathOutOfOrder l p
       ∷ 13 when not (l .formed)
       ∷ 14 when not (l .bounded)
-      ∷ 17 when both (isStep l) (leb mostSteps steps)
+      ∷ 17 when both (isStepLine l) (leb mostSteps steps)
       ∷ [])
       (omega arith, (omega arith, (omega arith, (omega arith, (omega arith, (omega arith, tt)))))) kept 5
 
-  open-room : openRule l p steps ≡ 0 → isStep l ≡ true → steps < mostSteps
+  open-room : openRule l p steps ≡ 0 → isStepLine l ≡ true → steps < mostSteps
   open-room kept step = leb-false mostSteps steps (sym (both-rest _ _ step) ∙ no-over kept)
 
-  step-other : isStep l ≡ true → (l .says ≡ side → ⊥)
-  unfolding isStep
+  step-other : isStepLine l ≡ true → (l .says ≡ side → ⊥)
+  unfolding isStepLine
   step-other step = eqb-false (l .says) side (not-true _ step)
 
   -- a step that breaks nothing; a closed path takes none
-  pub step-room : pathRule l p steps ≡ 0 → isStep l ≡ true → steps < mostSteps
+  pub step-room : pathRule l p steps ≡ 0 → isStepLine l ≡ true → steps < mostSteps
   unfolding pathRule
   step-room kept step =
       by-cases _ (eqb (p .stage) closed)
@@ -112,10 +112,10 @@ pub grid-bounded : (n : ℕ) (s : State) → Kept n s → Bounded (s .map)
 grid-bounded n s h = h .grid
 
 module _ (content : List ℕ) (s : State) where
-  pins-room : s .place ≡ place.pins → lineRule content s ≡ 0 → s .counts .pins < mostPins
+  pins-room : s .place ≡ place.pinList → lineRule content s ≡ 0 → s .counts .pins < mostPins
   pins-room e kept = pin-total content (s .map) (s .counts .pins) (sym (pins-rule content s e) ∙ kept)
 
-  steps-room : s .place ≡ place.path → lineRule content s ≡ 0 → isStep (pathLineOf content) ≡ true → s .counts .steps < mostSteps
+  steps-room : s .place ≡ place.path → lineRule content s ≡ 0 → isStepLine (pathLineOf content) ≡ true → s .counts .steps < mostSteps
   steps-room e kept step = step-room (pathLineOf content) (s .path) (s .counts .steps) (sym (path-rule content s e) ∙ kept) step
 
   values-fit : s .place ≡ place.matrix → lineRule content s ≡ 0 → s .counts .values + dataLineOf (s .matrix .form) content .numbers ≤ 65_536
@@ -157,14 +157,14 @@ module _ (n : ℕ) (content : List ℕ) (s : State) (h : Kept n s) (kept : lineR
   unfolding countsAfterLine
   steps-kept =
       more-within _ _ mostSteps
-      (λ (b : both (eqb (s .place) place.path) (isStep (pathLineOf content)) ≡ true).
+      (λ (b : both (eqb (s .place) place.path) (isStepLine (pathLineOf content)) ≡ true).
       steps-room content s (eqb-true (s .place) place.path (both-first _ _ b)) kept (both-second _ _ b)) (h .steps)
 
   pins-kept : countsAfterLine content s .pins ≤ mostPins
   unfolding countsAfterLine
   pins-kept =
       more-within _ _ mostPins
-      (λ (b : eqb (s .place) place.pins ≡ true). pins-room content s (eqb-true (s .place) place.pins b) kept) (h .pins)
+      (λ (b : eqb (s .place) place.pinList ≡ true). pins-room content s (eqb-true (s .place) place.pinList b) kept) (h .pins)
 
   values-kept : countsAfterLine content s .values ≤ mostValues
   unfolding countsAfterLine
@@ -188,9 +188,9 @@ module _ (n : ℕ) (content : List ℕ) (s : State) (h : Kept n s) (kept : lineR
       (λ (b : eqb (s .place) place.mapHead ≡ true).
       next-bounded content (mapLineOf content) (s .map) refl (sym (head-rule content s (eqb-true (s .place) place.mapHead b)) ∙ kept) (h .grid))
       (λ (b : eqb (s .place) place.mapHead ≡ false).
-      by-test (λ (m : Map). Bounded m) (eqb (s .place) place.pins) _ _
-      (λ (c : eqb (s .place) place.pins ≡ true). pin-bounded (s .map) (h .grid))
-      (λ (c : eqb (s .place) place.pins ≡ false). h .grid))
+      by-test (λ (m : Map). Bounded m) (eqb (s .place) place.pinList) _ _
+      (λ (c : eqb (s .place) place.pinList ≡ true). pin-bounded (s .map) (h .grid))
+      (λ (c : eqb (s .place) place.pinList ≡ false). h .grid))
 
   pub line-kept : Kept (n + 1) (lineNext content s)
   unfolding lineNext countsAfterLine

@@ -14,7 +14,7 @@ use Rattle.base.specs.Runs.{run, same}
 use Rattle.base.specs.Way.Class.{runEnd}
 use Rattle.base.proofs.IfLaws.{if-false, by-test, both-first, both-second, both-not-left, either-false}
 use Rattle.base.proofs.RunLaws.{run-stops}
-use Rattle.lex_line.specs.Words.{Word, goesOn, grown, wordsFrom, words, firstOf}
+use Rattle.lex_line.specs.Words.{Word, wordGoesOn, grown, wordsFrom, words, firstOf}
 use Rattle.lex_keyword.specs.Bracket.{bracketOf}
 use Rattle.lex_keyword.specs.declared.Bracket.the-variants.{Plain}
 use Rattle.lex_keyword.proofs.BracketLaws.{reads-plain}
@@ -68,7 +68,7 @@ first-free : (b : ℕ) (s : List ℕ) → Unlike b → isTaken (wordsFrom 0 (b �
 unfolding wordsFrom
 first-free b s u =
     ap isTaken (if-false _ _ (not-blank b (u .high)))
-    ∙ by-test (λ (ws : List Word). isTaken ws ≡ false) (goesOn s) _ _ (λ e. grown-free b (wordsFrom 1 s) u) (λ e. not-reserved b [] u)
+    ∙ by-test (λ (ws : List Word). isTaken ws ≡ false) (wordGoesOn s) _ _ (λ e. grown-free b (wordsFrom 1 s) u) (λ e. not-reserved b [] u)
 
 starts-plain : (b : ℕ) (s : List ℕ) → Unlike b → bracketOf (b ∷ s) ≡ Plain
 starts-plain b s u =

@@ -17,7 +17,7 @@ use Rattle.base.specs.Way.Class.{runEnd}
 use Rattle.base.proofs.IfLaws.{if-true, if-false, by-test, by-cases}
 use Rattle.lex_line.specs.Lines.{isBlankLine}
 use Rattle.lex_line.specs.Words.{words, firstOf}
-use Rattle.lex_keyword.specs.Names.{unknown, isLater, keyOf}
+use Rattle.lex_keyword.specs.Names.{unknown, isLater, keywordOf}
 use Rattle.lex_keyword.specs.Bracket.{isOpen, isGoodBracket, nameOf, argumentAt, namedAs, bracketOf}
 use Rattle.lex_keyword.specs.declared.Bracket.{Bracket}
 use Rattle.lex_keyword.specs.declared.Bracket.the-variants.{Plain, Indented, Bad, Unknown, Later, Keyword}
@@ -25,7 +25,7 @@ use Rattle.lex_keyword.proofs.BracketLaws.{reads-plain}
 use Rattle.line_place.specs.Place as place
 use Rattle.line_argument.specs.Argument.{isReserved}
 use Rattle.line_keyword.specs.declared.State.{State}
-use Rattle.read_line.specs.Reading.{goes, breaks, lineStep, bracketStep, stepOf}
+use Rattle.read_line.specs.Reading.{goes, breaks, lineStep, bracketStep, lineResult}
 use Rattle.read_line.specs.Way.Walk.{Opens, Decides, Fronted}
 use Rattle.read_line.specs.declared.Front.{Front}
 use Rattle.read_line.specs.declared.Front.the-variants.{Blanks, Words, Opening}
@@ -33,12 +33,12 @@ use Rattle.read_line.proofs.StepLaws.{list-goes, blank-told}
 
 -- ---- blank lines, and those without a bracket
 
-pub quiet-blank : (content : List ℕ) (b : Bool) → b ≡ isBlankLine content → b ≡ true → (s : State) → stepOf content s ≡ goes s
-unfolding stepOf
+pub quiet-blank : (content : List ℕ) (b : Bool) → b ≡ isBlankLine content → b ≡ true → (s : State) → lineResult content s ≡ goes s
+unfolding lineResult
 quiet-blank content b told e s = if-true _ _ (sym told ∙ e)
 
-plain-step : (content : List ℕ) → isBlankLine content ≡ false → bracketOf content ≡ Plain → (s : State) → (s .place ≡ place.done → ⊥) → (s .place ≡ place.before → ⊥) → stepOf content s ≡ lineStep content s
-unfolding stepOf
+plain-step : (content : List ℕ) → isBlankLine content ≡ false → bracketOf content ≡ Plain → (s : State) → (s .place ≡ place.done → ⊥) → (s .place ≡ place.before → ⊥) → lineResult content s ≡ lineStep content s
+unfolding lineResult
 plain-step content filled plain s d b =
     if-false _ _ filled ∙ if-false _ _ (ne-eqb _ _ d) ∙ if-false _ _ (ne-eqb _ _ b) ∙ ap (λ (x : Bracket). bracketStep x content s) plain
 
@@ -64,11 +64,11 @@ opened-other : (content : List ℕ) → isOpen (getD content (run isBlank conten
 unfolding bracketOf
 opened-other content opens plain = true≢false (sym (ap isPlain plain) ∙ ap isPlain (if-false _ _ (ap not opens)) ∙ other)
   where
-    other : isPlain (if ltb 0 (run isBlank content) then Indented else if not (isGoodBracket content) then Bad else namedAs (keyOf (nameOf content)) (argumentAt content)) ≡ false
+    other : isPlain (if ltb 0 (run isBlank content) then Indented else if not (isGoodBracket content) then Bad else namedAs (keywordOf (nameOf content)) (argumentAt content)) ≡ false
     other =
         by-test (λ (b : Bracket). isPlain b ≡ false) (ltb 0 (run isBlank content)) _ _
         (λ e. refl)
-        (λ e. by-test (λ (b : Bracket). isPlain b ≡ false) (not (isGoodBracket content)) _ _ (λ f. refl) (λ f. named-other (keyOf (nameOf content)) (argumentAt content)))
+        (λ e. by-test (λ (b : Bracket). isPlain b ≡ false) (not (isGoodBracket content)) _ _ (λ f. refl) (λ f. named-other (keywordOf (nameOf content)) (argumentAt content)))
 
 -- ---- what stands at the front
 
@@ -102,7 +102,7 @@ module _ (content : List ℕ) (front : Front) (told : Fronted content front) whe
 
 -- ---- lines that change nothing
 
-pub quiet-listed : (content : List ℕ) (here : ℕ) → here ≡ place.list → bracketOf content ≡ Plain → isReserved (firstOf (words content)) ≡ false → (s : State) → s .place ≡ here → stepOf content s ≡ goes s
+pub quiet-listed : (content : List ℕ) (here : ℕ) → here ≡ place.list → bracketOf content ≡ Plain → isReserved (firstOf (words content)) ≡ false → (s : State) → s .place ≡ here → lineResult content s ≡ goes s
 quiet-listed content here is plain free s at =
     by-cases _ (isBlankLine content)
     (λ (e : isBlankLine content ≡ true). quiet-blank content true (sym e) refl s)
@@ -122,15 +122,15 @@ goes-breaks : (s : State) → goes s ≡ breaks 0 s
 unfolding goes breaks
 goes-breaks s = refl
 
-pub quiet-decides : (content : List ℕ) (here : ℕ) → ((s : State) → s .place ≡ here → stepOf content s ≡ goes s) → Decides here (λ (s : State). s) (stepOf content) 0 (λ (s : State). s)
+pub quiet-decides : (content : List ℕ) (here : ℕ) → ((s : State) → s .place ≡ here → lineResult content s ≡ goes s) → Decides here (λ (s : State). s) (lineResult content) 0 (λ (s : State). s)
 quiet-decides content here quiet s at = quiet s at ∙ goes-breaks s
 
 module _ (content : List ℕ) (front : Front) (told : Fronted content front) (here : ℕ) (put : State → State) where
-  pub blanks-decide : front ≡ Blanks → Decides here put (stepOf content) 0 put
+  pub blanks-decide : front ≡ Blanks → Decides here put (lineResult content) 0 put
   blanks-decide e s at = quiet-blank content true (sym (blanks-front content front told e)) refl (put s) ∙ goes-breaks (put s)
 
   pub words-decide : front ≡ Words → ((s : State) → put s .place ≡ s .place) → (here ≡ place.done → ⊥) → (here ≡ place.before → ⊥) → (k : ℕ) (next : State → State) → Decides here put (lineStep content) k next →
-      Decides here put (stepOf content) k next
+      Decides here put (lineResult content) k next
   words-decide e same d b k next decides s at =
       plain-step content (words-front content front told e .0) (words-front content front told e .1) (put s)
       (λ (z : put s .place ≡ place.done). d (sym (same s ∙ at) ∙ z)) (λ (z : put s .place ≡ place.before). b (sym (same s ∙ at) ∙ z))

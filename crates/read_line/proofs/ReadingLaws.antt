@@ -18,7 +18,7 @@ use Rattle.line_keyword.specs.declared.Counts.{Counts}
 use Rattle.line_keyword.specs.declared.State.{State}
 use Rattle.line_keyword.proofs.KeptLaws.{start-kept}
 use Rattle.line_place.specs.Place.{before, done}
-use Rattle.read_line.specs.Reading.{commentByte, stepOf, onward, run, atEnd, readingOf}
+use Rattle.read_line.specs.Reading.{commentByte, lineResult, onward, readFrom, atEnd, readingOf}
 use Rattle.read_line.specs.Way.Trace.{Meeting, brokenAt, afterwards, meetingOf, meetings, stateAfter, AllGo, none, more, FirstBroken, here, later}
 use Rattle.read_line.specs.declared.Reading.{Reading}
 use Rattle.read_line.specs.declared.Reading.the-variants.{Read, Refused}
@@ -27,12 +27,12 @@ use Rattle.read_line.proofs.WalkLaws.{step-kept}
 -- ---- the run, line by line
 
 module _ (n : ℕ) (l : Raw) (ls : List Raw) (s : State) where
-  run-goes : brokenAt (meetingOf n l s) ≡ 0 → run n (l ∷ ls) s ≡ run (n + 1) ls (afterwards (meetingOf n l s))
-  unfolding run onward
+  run-goes : brokenAt (meetingOf n l s) ≡ 0 → readFrom n (l ∷ ls) s ≡ readFrom (n + 1) ls (afterwards (meetingOf n l s))
+  unfolding readFrom onward
   run-goes e = if-true _ _ (eq-eqb _ _ e)
 
-  run-stops : (brokenAt (meetingOf n l s) ≡ 0 → ⊥) → run n (l ∷ ls) s ≡ Refused (brokenAt (meetingOf n l s)) n
-  unfolding run onward
+  run-stops : (brokenAt (meetingOf n l s) ≡ 0 → ⊥) → readFrom n (l ∷ ls) s ≡ Refused (brokenAt (meetingOf n l s)) n
+  unfolding readFrom onward
   run-stops e = if-false _ _ (ne-eqb _ _ e)
 
   pub meet-goes : brokenAt (meetingOf n l s) ≡ 0 → meetings n (l ∷ ls) s ≡ meetingOf n l s ∷ meetings (n + 1) ls (afterwards (meetingOf n l s))
@@ -107,11 +107,11 @@ first-here m k n z (later e f) = absurd (z e)
 
 -- ---- nothing broken: the text comes to what its last state says
 
-pub all-read : (n : ℕ) (ls : List Raw) (s : State) → AllGo (meetings n ls s) → run n ls s ≡ atEnd (stateAfter n ls s)
-unfolding stateAfter run
+pub all-read : (n : ℕ) (ls : List Raw) (s : State) → AllGo (meetings n ls s) → readFrom n ls s ≡ atEnd (stateAfter n ls s)
+unfolding stateAfter readFrom
 all-read n [] s a = refl
 all-read n (l ∷ ls) s a =
-    by-broken (run n (l ∷ ls) s ≡ atEnd (stateAfter n (l ∷ ls) s)) (meetingOf n l s)
+    by-broken (readFrom n (l ∷ ls) s ≡ atEnd (stateAfter n (l ∷ ls) s)) (meetingOf n l s)
     (λ (e : brokenAt (meetingOf n l s) ≡ 0).
     let b : AllGo (meetingOf n l s ∷ meetings (n + 1) ls (afterwards (meetingOf n l s))) = rw (meet-goes n l ls s e) at a in
     run-goes n l ls s e ∙ all-read (n + 1) ls (afterwards (meetingOf n l s)) (tail-goes _ _ b))
@@ -121,7 +121,7 @@ all-read n (l ∷ ls) s a =
 
 -- ---- read to its end: nothing was broken
 
-pub read-goes : (n : ℕ) (ls : List Raw) (s : State) (c : Counts) → run n ls s ≡ Read c → AllGo (meetings n ls s)
+pub read-goes : (n : ℕ) (ls : List Raw) (s : State) (c : Counts) → readFrom n ls s ≡ Read c → AllGo (meetings n ls s)
 unfolding meetings
 read-goes n [] s c e = none
 read-goes n (l ∷ ls) s c e =
@@ -131,8 +131,8 @@ read-goes n (l ∷ ls) s c e =
 
 -- ---- refused: the first line that breaks a rule
 
-pub refused-first : (n : ℕ) (ls : List Raw) (s : State) (k m : ℕ) → 0 < m → run n ls s ≡ Refused k m → FirstBroken k m (meetings n ls s)
-unfolding run
+pub refused-first : (n : ℕ) (ls : List Raw) (s : State) (k m : ℕ) → 0 < m → readFrom n ls s ≡ Refused k m → FirstBroken k m (meetings n ls s)
+unfolding readFrom
 refused-first n [] s k m h e = absurd (end-not-line s k m h e)
 refused-first n (l ∷ ls) s k m h e =
     by-broken (FirstBroken k m (meetings n (l ∷ ls) s)) (meetingOf n l s)
@@ -141,11 +141,11 @@ refused-first n (l ∷ ls) s k m h e =
     let r : Refused (brokenAt (meetingOf n l s)) n ≡ Refused k m = sym (run-stops n l ls s z) ∙ e in
     rw (meet-stops n l ls s z) (refused-here (meetingOf n l s) k m z r))
 
-pub first-refused : (n : ℕ) (ls : List Raw) (s : State) (k m : ℕ) → FirstBroken k m (meetings n ls s) → run n ls s ≡ Refused k m
+pub first-refused : (n : ℕ) (ls : List Raw) (s : State) (k m : ℕ) → FirstBroken k m (meetings n ls s) → readFrom n ls s ≡ Refused k m
 unfolding meetings
 first-refused n [] s k m f = absurd (no-first k m f)
 first-refused n (l ∷ ls) s k m f =
-    by-broken (run n (l ∷ ls) s ≡ Refused k m) (meetingOf n l s)
+    by-broken (readFrom n (l ∷ ls) s ≡ Refused k m) (meetingOf n l s)
     (λ (z : brokenAt (meetingOf n l s) ≡ 0).
     let g : FirstBroken k m (meetingOf n l s ∷ meetings (n + 1) ls (afterwards (meetingOf n l s))) = rw (meet-goes n l ls s z) at f in
     run-goes n l ls s z ∙ first-refused (n + 1) ls (afterwards (meetingOf n l s)) k m (first-later _ _ k m z g))

@@ -17,7 +17,7 @@ use Rattle.line_argument.specs.Argument.{isReserved, isOutOfBounds}
 use Rattle.line_head.specs.Head.{headLineOf, headRule, headNext}
 use Rattle.line_head.specs.declared.Head.{Head}
 use Rattle.line_head.specs.declared.HeadLine.{HeadLine}
-use Rattle.line_path.specs.Path.{mostSteps, pathLineOf, pathRule, pathNext, isStep}
+use Rattle.line_path.specs.Path.{mostSteps, pathLineOf, pathRule, pathNext, isStepLine}
 use Rattle.line_path.proofs.DepthLaws.{depth-within}
 use Rattle.line_path.specs.declared.Path.{Path}
 use Rattle.line_path.specs.declared.PathLine.{PathLine}
@@ -78,7 +78,7 @@ module _ (content : List ℕ) (s : State) where
   unfolding lineRule isText either if_then_else_
   rule-path e = rw e
 
-  rule-pins : s .place ≡ place.pins → lineRule content s ≡ pinRule content (s .map) (s .counts .pins)
+  rule-pins : s .place ≡ place.pinList → lineRule content s ≡ pinRule content (s .map) (s .counts .pins)
   unfolding lineRule isText either if_then_else_
   rule-pins e = rw e
 
@@ -110,7 +110,7 @@ module _ (content : List ℕ) (s : State) where
   unfolding lineNext countsAfterLine movedByLine oneMoreIf both if_then_else_
   next-head e = rw e
 
-  next-path : s .place ≡ place.path → withPath (pathNext (pathLineOf content) (s .path)) (oneMoreIf (isStep (pathLineOf content)) (s .counts .steps)) s ≡ lineNext content s
+  next-path : s .place ≡ place.path → withPath (pathNext (pathLineOf content) (s .path)) (oneMoreIf (isStepLine (pathLineOf content)) (s .counts .steps)) s ≡ lineNext content s
   unfolding lineNext countsAfterLine movedByLine oneMoreIf both if_then_else_
   next-path e = rw e
 
@@ -118,7 +118,7 @@ module _ (content : List ℕ) (s : State) where
   unfolding lineNext countsAfterLine oneMoreIf both if_then_else_
   next-map e = rw e
 
-  next-pin : s .place ≡ place.pins → withPinned (withPin (s .map)) (s .counts .pins + 1) s ≡ lineNext content s
+  next-pin : s .place ≡ place.pinList → withPinned (withPin (s .map)) (s .counts .pins + 1) s ≡ lineNext content s
   unfolding lineNext countsAfterLine movedByLine oneMoreIf both if_then_else_
   next-pin e = rw e
 
@@ -216,7 +216,7 @@ text-path : isText place.path ≡ false
 unfolding isText either if_then_else_
 text-path = refl
 
-text-pins : isText place.pins ≡ false
+text-pins : isText place.pinList ≡ false
 unfolding isText either if_then_else_
 text-pins = refl
 
@@ -225,7 +225,7 @@ text-elsewhere p b told e =
     record {
       matrix = λ (h : p ≡ place.matrix). true≢false (sym e ∙ told ∙ ap isText h ∙ text-matrix);
       path = λ (h : p ≡ place.path). true≢false (sym e ∙ told ∙ ap isText h ∙ text-path);
-      pins = λ (h : p ≡ place.pins). true≢false (sym e ∙ told ∙ ap isText h ∙ text-pins);
+      pins = λ (h : p ≡ place.pinList). true≢false (sym e ∙ told ∙ ap isText h ∙ text-pins);
     }
 
 -- ---- the same where a part of the state decides
@@ -245,24 +245,24 @@ module _ (content : List ℕ) (p : Path) (steps : ℕ) (l : PathLine) (read : l 
   pub path-stops : (k ≡ 0 → ⊥) → Decides place.path (withPath p steps) (lineStep content) k (withPath p steps)
   path-stops = part-stops place.path (withPath p steps) content k path-rule
 
-  pub path-goes : k ≡ 0 → (b : Bool) → b ≡ isStep l → (more : ℕ) → more ≡ oneMoreIf b steps → (next : Path) → next ≡ pathNext l p → Decides place.path (withPath p steps) (lineStep content) 0 (withPath next more)
+  pub path-goes : k ≡ 0 → (b : Bool) → b ≡ isStepLine l → (more : ℕ) → more ≡ oneMoreIf b steps → (next : Path) → next ≡ pathNext l p → Decides place.path (withPath p steps) (lineStep content) 0 (withPath next more)
   path-goes h b step more count next told =
-      let c : more ≡ oneMoreIf (isStep (pathLineOf content)) steps = count ∙ ap (λ (x : Bool). oneMoreIf x steps) (step ∙ ap isStep read) in
+      let c : more ≡ oneMoreIf (isStepLine (pathLineOf content)) steps = count ∙ ap (λ (x : Bool). oneMoreIf x steps) (step ∙ ap isStepLine read) in
       let q : next ≡ pathNext (pathLineOf content) p = told ∙ ap (λ (x : PathLine). pathNext x p) read in
       part-goes place.path (withPath p steps) content k path-rule h (withPath next more)
       (λ (s : State) (here : s .place ≡ place.path). (λ i. withPath (q i) (c i) s) ∙ next-path content (withPath p steps s) here)
 
 module _ (content : List ℕ) (m : Map) (pins : ℕ) (k : ℕ) (rule : k ≡ pinRule content m pins) where
-  pin-rule : (s : State) → s .place ≡ place.pins → k ≡ lineRule content (withPinned m pins s)
+  pin-rule : (s : State) → s .place ≡ place.pinList → k ≡ lineRule content (withPinned m pins s)
   pin-rule s here = rule ∙ sym (rule-pins content (withPinned m pins s) here)
 
-  pub pin-stops : (k ≡ 0 → ⊥) → Decides place.pins (withPinned m pins) (lineStep content) k (withPinned m pins)
-  pin-stops = part-stops place.pins (withPinned m pins) content k pin-rule
+  pub pin-stops : (k ≡ 0 → ⊥) → Decides place.pinList (withPinned m pins) (lineStep content) k (withPinned m pins)
+  pin-stops = part-stops place.pinList (withPinned m pins) content k pin-rule
 
-  pub pin-goes : k ≡ 0 → (next : Map) → next ≡ withPin m → Decides place.pins (withPinned m pins) (lineStep content) 0 (withPinned next (pins + 1))
+  pub pin-goes : k ≡ 0 → (next : Map) → next ≡ withPin m → Decides place.pinList (withPinned m pins) (lineStep content) 0 (withPinned next (pins + 1))
   pin-goes h next told =
-      part-goes place.pins (withPinned m pins) content k pin-rule h (withPinned next (pins + 1))
-      (λ (s : State) (here : s .place ≡ place.pins). (λ i. withPinned (told i) (pins + 1) s) ∙ next-pin content (withPinned m pins s) here)
+      part-goes place.pinList (withPinned m pins) content k pin-rule h (withPinned next (pins + 1))
+      (λ (s : State) (here : s .place ≡ place.pinList). (λ i. withPinned (told i) (pins + 1) s) ∙ next-pin content (withPinned m pins s) here)
 
 module _ (content : List ℕ) (m : Matrix) (values : ℕ) (l : DataLine) (read : l ≡ dataLineOf (m .form) content) (k : ℕ) (rule : k ≡ dataRule l m values) where
   data-rule : (s : State) → s .place ≡ place.matrix → k ≡ lineRule content (withMatrix m values s)
@@ -295,7 +295,7 @@ steps-small p n h =
 pub stepping-kept : (n : ℕ) (s : State) → Kept n s → Stepping (s .path) (s .counts .steps)
 stepping-kept n s kept = record { depth = kept .depth; steps = kept .steps }
 
-pub stepping-on : (l : PathLine) (p : Path) (n k : ℕ) → k ≡ pathRule l p n → k ≡ 0 → Stepping p n → (b : Bool) → b ≡ isStep l → (more : ℕ) → more ≡ oneMoreIf b n → (next : Path) → next ≡ pathNext l p → Stepping next more
+pub stepping-on : (l : PathLine) (p : Path) (n k : ℕ) → k ≡ pathRule l p n → k ≡ 0 → Stepping p n → (b : Bool) → b ≡ isStepLine l → (more : ℕ) → more ≡ oneMoreIf b n → (next : Path) → next ≡ pathNext l p → Stepping next more
 stepping-on l p n k rule e h b step more count next told =
     record {
       depth = rw told (depth-within l p n (sym rule ∙ e) (h .depth));

@@ -9,7 +9,7 @@ use native.Mathlib.Omega.{arith}
 use lib.ListN.{length, take, drop, length-drop, drop-of-length-le}
 use lib.Dec.{eqb}
 use borrow.Author.Tests.{eq-eqb, ne-eqb, eqb-true, eqb-false}
-use Rattle.base.specs.Runs.{run as run′}
+use Rattle.base.specs.Runs.{readFrom as readFrom′}
 use Rattle.base.specs.If.{if_then_else_}
 use Rattle.base.specs.Bytes.{isContent}
 use Rattle.base.proofs.IfLaws.{if-true, if-false, by-cases}
@@ -43,9 +43,9 @@ use Rattle.read_line.specs.Reading.{
   argumentFrom,
   bracketStep,
   beforeStep,
-  stepOf,
+  lineResult,
   onward,
-  run,
+  readFrom,
   atEnd,
   readingOf,
 }
@@ -107,8 +107,8 @@ keeps-before n Unknown content s k = keeps-goes n s k
 keeps-before n Later content s k = keeps-goes n s k
 keeps-before n (Keyword key start) content s k = keeps-if n (eqb key beginHeader) _ _ (keeps-keyword n key (argumentFrom content start) s k) (keeps-goes n s k)
 
-pub step-kept : (n : ℕ) (content : List ℕ) (s : State) → Kept n s → Keeps n (stepOf content s)
-unfolding stepOf
+pub step-kept : (n : ℕ) (content : List ℕ) (s : State) → Kept n s → Keeps n (lineResult content s)
+unfolding lineResult
 step-kept n content s k =
     keeps-if n (isBlankLine content) _ _ (keeps-goes n s k)
     (keeps-if n (eqb (s .place) done) _ _ (keeps-goes n s k)
@@ -171,8 +171,8 @@ raises-before Unknown content s = raises-goes s
 raises-before Later content s = raises-goes s
 raises-before (Keyword key start) content s = raises-if s (eqb key beginHeader) _ _ (raises-keyword key (argumentFrom content start) s) (raises-goes s)
 
-pub step-raises : (content : List ℕ) (s : State) → Raises s (stepOf content s)
-unfolding stepOf
+pub step-raises : (content : List ℕ) (s : State) → Raises s (lineResult content s)
+unfolding lineResult
 step-raises content s =
     raises-if s (isBlankLine content) _ _ (raises-goes s)
     (raises-if s (eqb (s .place) done) _ _ (raises-goes s)
@@ -180,8 +180,8 @@ step-raises content s =
 
 -- ---- one line
 
-run-cons : (n : ℕ) (l : Raw) (ls : List Raw) (s : State) → run n (l ∷ ls) s ≡ onward (stepOf (contentOf commentByte (l .bytes)) s) n (run (n + 1) ls)
-unfolding run
+run-cons : (n : ℕ) (l : Raw) (ls : List Raw) (s : State) → readFrom n (l ∷ ls) s ≡ onward (lineResult (contentOf commentByte (l .bytes)) s) n (readFrom (n + 1) ls)
+unfolding readFrom
 run-cons n l ls s = refl
 
 module _ (t : List ℕ) (at line : ℕ) (s : State) (h : at < length t) (here : Line) (found : here ≡ lineAt commentByte t at) where
@@ -189,18 +189,18 @@ module _ (t : List ℕ) (at line : ℕ) (s : State) (h : at < length t) (here : 
   content-told : take (here .content - at) (drop at t) ≡ contentOf commentByte (firstOf (drop at t) .bytes)
   content-told = ap (λ (l : Line). take (l .content - at) (drop at t)) found ∙ sym (content-at commentByte t at)
 
-  module _ (step : Step) (taken : step ≡ stepOf (take (here .content - at) (drop at t)) s) where
-    step-told : step ≡ stepOf (contentOf commentByte (firstOf (drop at t) .bytes)) s
-    step-told = taken ∙ ap (λ (c : List ℕ). stepOf c s) content-told
+  module _ (step : Step) (taken : step ≡ lineResult (take (here .content - at) (drop at t)) s) where
+    step-told : step ≡ lineResult (contentOf commentByte (firstOf (drop at t) .bytes)) s
+    step-told = taken ∙ ap (λ (c : List ℕ). lineResult c s) content-told
 
-    pub line-run : run line (lines (drop at t)) s ≡ onward step line (run (line + 1) (lines (drop (here .next) t)))
+    pub line-run : readFrom line (lines (drop at t)) s ≡ onward step line (readFrom (line + 1) (lines (drop (here .next) t)))
     line-run =
-        ap (λ (ls : List Raw). run line ls s) (lines-at commentByte t at h)
+        ap (λ (ls : List Raw). readFrom line ls s) (lines-at commentByte t at h)
         ∙ run-cons line (firstOf (drop at t)) (lines (drop (lineAt commentByte t at .next) t)) s
-        ∙ (λ i. onward (sym step-told i) line (run (line + 1) (lines (drop (sym found i .next) t))))
+        ∙ (λ i. onward (sym step-told i) line (readFrom (line + 1) (lines (drop (sym found i .next) t))))
 
 module _ (t : List ℕ) (at line : ℕ) (s : State) (h : at < length t) (on : Onward t at line s) (here : Line) (found : here ≡ lineAt commentByte t at) where
-  module _ (step : Step) (taken : step ≡ stepOf (take (here .content - at) (drop at t)) s) where
+  module _ (step : Step) (taken : step ≡ lineResult (take (here .content - at) (drop at t)) s) where
     line-broken : (step .number ≡ 0 → ⊥) → Reached t at line s (record { number = step .number; at = here .next; line = line; state = step .state })
     unfolding resume onward
     line-broken z =
@@ -249,7 +249,7 @@ module _ (t : List ℕ) (at : ℕ) (here : Line) (found : here ≡ lineAt commen
   unfolding lineAt
   content-within h =
       let l : length (drop at t) ≡ length t - at = length-drop at t in
-      let r : run′ (isContent commentByte) (drop at t) ≤ length (drop at t) = run-le (isContent commentByte) (drop at t) in
+      let r : readFrom′ (isContent commentByte) (drop at t) ≤ length (drop at t) = run-le (isContent commentByte) (drop at t) in
       rw found (omega arith)
 
 -- ---- the whole text
@@ -257,13 +257,13 @@ module _ (t : List ℕ) (at : ℕ) (here : Line) (found : here ≡ lineAt commen
 pub reading-starts : (t : List ℕ) (s : State) → s ≡ startState → Onward t 0 1 s
 reading-starts t s e = record { within = zero-le; counted = omega arith; kept = rw e (kept-more 0 1 startState start-kept (omega arith)) }
 
-pub reading-whole : (t : List ℕ) (s : State) → s ≡ startState → run 1 (lines (drop 0 t)) s ≡ readingOf t
+pub reading-whole : (t : List ℕ) (s : State) → s ≡ startState → readFrom 1 (lines (drop 0 t)) s ≡ readingOf t
 unfolding readingOf
-reading-whole t s e = ap (run 1 (lines t)) e
+reading-whole t s e = ap (readFrom 1 (lines t)) e
 
-module _ (t : List ℕ) (at line : ℕ) (s : State) (answer : Reading) (rest : run line (lines (drop at t)) s ≡ answer) where
+module _ (t : List ℕ) (at line : ℕ) (s : State) (answer : Reading) (rest : readFrom line (lines (drop at t)) s ≡ answer) where
   pub reading-ends : length t ≤ at → (r : Reading) → r ≡ atEnd s → r ≡ answer
-  unfolding run lines
+  unfolding readFrom lines
   reading-ends h r e = e ∙ rw (drop-of-length-le t h) at rest
 
   module _ (w : Walk) (reached : Reached t at line s w) where
@@ -272,7 +272,7 @@ module _ (t : List ℕ) (at line : ℕ) (s : State) (answer : Reading) (rest : r
     reading-stops z = sym (if-false _ _ (ne-eqb _ _ z)) ∙ reached .same ∙ rest
 
     module _ (z : w .number ≡ 0) where
-      pub reading-on : run (w .line) (lines (drop (w .at) t)) (w .state) ≡ answer
+      pub reading-on : readFrom (w .line) (lines (drop (w .at) t)) (w .state) ≡ answer
       unfolding resume
       reading-on = sym (if-true _ _ (eq-eqb _ _ z)) ∙ reached .same ∙ rest
 

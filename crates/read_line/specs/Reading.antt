@@ -17,7 +17,7 @@ use Rattle.line_place.specs.Place.{movedByLine, isText, before, done}
 use Rattle.line_place.specs.Place as place
 use Rattle.line_argument.specs.Argument.{isReserved, isBadArgument}
 use Rattle.line_head.specs.Head.{headLineOf, headRule, headNext}
-use Rattle.line_path.specs.Path.{pathLineOf, pathRule, pathNext, isStep}
+use Rattle.line_path.specs.Path.{pathLineOf, pathRule, pathNext, isStepLine}
 use Rattle.line_map.specs.PinMap.{mapLineOf, mapRule, mapNext, pinRule, withPin}
 use Rattle.line_matrix.specs.Matrix.{dataLineOf, dataRule, dataNext}
 use Rattle.line_keyword.specs.Keywords.{keywordRule, keywordNext, oneMoreIf}
@@ -40,7 +40,7 @@ lineRule content s =
     if isText (s .place) then 0 else
     if eqb (s .place) place.matrix then dataRule (dataLineOf (s .matrix .form) content) (s .matrix) (s .counts .values) else
     if eqb (s .place) place.path then pathRule (pathLineOf content) (s .path) (s .counts .steps) else
-    if eqb (s .place) place.pins then pinRule content (s .map) (s .counts .pins) else
+    if eqb (s .place) place.pinList then pinRule content (s .map) (s .counts .pins) else
     if eqb (s .place) place.mapHead then mapRule (mapLineOf content) (s .map) else
     if eqb (s .place) place.head then headRule (headLineOf content) (s .head) else
     if eqb (s .place) place.list then listRule content else 12
@@ -49,9 +49,9 @@ unfoldable pub countsAfterLine : List ℕ → State → Counts
 countsAfterLine content s =
     record {
       models = s .counts .models;
-      steps = oneMoreIf (both (eqb (s .place) place.path) (isStep (pathLineOf content))) (s .counts .steps);
+      steps = oneMoreIf (both (eqb (s .place) place.path) (isStepLine (pathLineOf content))) (s .counts .steps);
       maps = s .counts .maps;
-      pins = oneMoreIf (eqb (s .place) place.pins) (s .counts .pins);
+      pins = oneMoreIf (eqb (s .place) place.pinList) (s .counts .pins);
       sections = s .counts .sections;
       matrices = s .counts .matrices;
       values = if eqb (s .place) place.matrix then s .counts .values + dataLineOf (s .matrix .form) content .numbers else s .counts .values;
@@ -66,7 +66,7 @@ lineNext content s =
       path = if eqb (s .place) place.path then pathNext (pathLineOf content) (s .path) else s .path;
       map =
           if eqb (s .place) place.mapHead then mapNext (mapLineOf content) (s .map) else
-          if eqb (s .place) place.pins then withPin (s .map) else s .map;
+          if eqb (s .place) place.pinList then withPin (s .map) else s .map;
       section = s .section;
       matrix = if eqb (s .place) place.matrix then dataNext (dataLineOf (s .matrix .form) content) (s .matrix) else s .matrix;
       counts = countsAfterLine content s;
@@ -114,8 +114,8 @@ beforeStep Later content s = goes s
 beforeStep (Keyword k start) content s = if eqb k beginHeader then keywordStep k (argumentFrom content start) s else goes s
 
 -- "lines left blank are skipped"; nor is a line after [End] looked at
-unfoldable pub stepOf : List ℕ → State → Step
-stepOf content s =
+unfoldable pub lineResult : List ℕ → State → Step
+lineResult content s =
     if isBlankLine content then goes s else
     if eqb (s .place) done then goes s else
     if eqb (s .place) before then beforeStep (bracketOf content) content s else bracketStep (bracketOf content) content s
@@ -136,10 +136,10 @@ atEnd s =
 unfoldable pub onward : Step → ℕ → (State → Reading) → Reading
 onward step n more = if eqb (step .number) 0 then more (step .state) else Refused (step .number) n
 
-unfoldable pub run : ℕ → List Raw → State → Reading
-run n [] s = atEnd s
-run n (l ∷ ls) s = onward (stepOf (contentOf commentByte (l .bytes)) s) n (run (n + 1) ls)
+unfoldable pub readFrom : ℕ → List Raw → State → Reading
+readFrom n [] s = atEnd s
+readFrom n (l ∷ ls) s = onward (lineResult (contentOf commentByte (l .bytes)) s) n (readFrom (n + 1) ls)
 
 -- what a text that breaks none of the rules 1 to 4 comes to in the group 5 to 17
 unfoldable pub readingOf : List ℕ → Reading
-readingOf t = run 1 (lines t) startState
+readingOf t = readFrom 1 (lines t) startState

@@ -5,7 +5,7 @@ ghost use Prim.Native.Nat.{_+_, _≤_, _<_};
 ghost use lib.ListN.{length};
 ghost use Rattle.line_place.specs.Place as place;
 ghost use Rattle.line_keyword.specs.Way.Kept.{Kept, mostLines};
-ghost use Rattle.read_line.specs.Reading.{goes, breaks, lineStep, keywordStep, argumentFrom, bracketStep, beforeStep, stepOf, atEnd};
+ghost use Rattle.read_line.specs.Reading.{goes, breaks, lineStep, keywordStep, argumentFrom, bracketStep, beforeStep, lineResult, atEnd};
 ghost use Rattle.read_line.specs.Way.Listed.{isFree};
 ghost use Rattle.lex_line.specs.Lines.{isBlankLine};
 ghost use Rattle.lex_line.specs.Words.{words, firstOf};
@@ -223,7 +223,7 @@ pub fn is_blank_line(content: &[u8]) -> bool
 // One line, given by its content.
 fn take_line(content: &[u8], s: State) -> Step
     requires { ⌜ Kept mostLines s × StandsElsewhere (now content) (s .place) ⌝ }
-    ensures { λ r. ⌜ r ≡ stepOf (now (content .entry)) s ⌝ }
+    ensures { λ r. ⌜ r ≡ lineResult (now (content .entry)) s ⌝ }
 {
     if is_blank_line(content) {
         return goes_on(s);
@@ -289,7 +289,7 @@ fn is_listed(content: &[u8]) -> bool
 }
 
 fn is_quiet(content: &[u8], place: u64) -> bool
-    ensures { λ r. ⌜ (r ≡ true → (s : State) → s .place ≡ place → stepOf (now (content .entry)) s ≡ goes s) ⌝ }
+    ensures { λ r. ⌜ (r ≡ true → (s : State) → s .place ≡ place → lineResult (now (content .entry)) s ≡ goes s) ⌝ }
 {
     if is_blank_line(content) {
         return true;
@@ -379,7 +379,7 @@ struct Pinned {
 
 fn pin_line(content: &[u8], map: Map, pins: u64) -> Pinned
     ensures { λ r. ⌜ (r .taken ≡ true)
-        × Decides place.pins (withPinned map pins) (lineStep (now (content .entry))) (r .number) (withPinned (r .map) (r .pins)) ⌝ }
+        × Decides place.pinList (withPinned map pins) (lineStep (now (content .entry))) (r .number) (withPinned (r .map) (r .pins)) ⌝ }
 {
     let number = line_map::pin_rule(content, map, pins);
     if number != 0 {
@@ -400,7 +400,7 @@ fn pin_line(content: &[u8], map: Map, pins: u64) -> Pinned
 
 // A line of a pin list.
 fn take_pin(content: &[u8], map: Map, pins: u64) -> Pinned
-    ensures { λ r. ⌜ (r .taken ≡ true → Decides place.pins (withPinned map pins) (stepOf (now (content .entry))) (r .number) (withPinned (r .map) (r .pins)))
+    ensures { λ r. ⌜ (r .taken ≡ true → Decides place.pinList (withPinned map pins) (lineResult (now (content .entry))) (r .number) (withPinned (r .map) (r .pins)))
         × (r .taken ≡ false → Opens (now (content .entry))) ⌝ }
 {
     match front_of(content) {
@@ -430,7 +430,7 @@ struct PinWalk {
 // Goes over the lines of a pin list.
 fn pass_pins(text: &[u8], at: usize, line: u64, map: Map, pins: u64) -> PinWalk
     requires { ⌜ (at ≤ length (now text)) × (line ≤ at + 1) ⌝ }
-    ensures { λ r. ⌜ Crossed (now (text .entry)) at line (Holds place.pins (withPinned map pins)) (withPinned (r .part .map) (r .part .pins)) (r .part .number) (r .at) (r .line)
+    ensures { λ r. ⌜ Crossed (now (text .entry)) at line (Holds place.pinList (withPinned map pins)) (withPinned (r .part .map) (r .part .pins)) (r .part .number) (r .at) (r .line)
         × Stays (now (text .entry)) at (r .at) ⌝ }
 {
     let mut here = at;
@@ -505,7 +505,7 @@ fn path_line(content: &[u8], path: Path, steps: u64) -> Stepped
 // A line of a path.
 fn take_step(content: &[u8], path: Path, steps: u64) -> Stepped
     requires { ⌜ Stepping path steps ⌝ }
-    ensures { λ r. ⌜ (r .taken ≡ true → Decides place.path (withPath path steps) (stepOf (now (content .entry))) (r .number) (withPath (r .path) (r .steps)))
+    ensures { λ r. ⌜ (r .taken ≡ true → Decides place.path (withPath path steps) (lineResult (now (content .entry))) (r .number) (withPath (r .path) (r .steps)))
         × Stepping (r .path) (r .steps) × (r .taken ≡ false → Opens (now (content .entry))) ⌝ }
 {
     match front_of(content) {
@@ -638,7 +638,7 @@ pub fn read_one(text: &[u8], at: usize, line: u64, s: State) -> Walk
 
 // The lines up to the keyword behind a pin list, or that keyword's line.
 pub fn read_pins(text: &[u8], at: usize, line: u64, s: State) -> Walk
-    requires { ⌜ (at < length (now text)) × Onward (now text) at line s × (s .place ≡ place.pins) ⌝ }
+    requires { ⌜ (at < length (now text)) × Onward (now text) at line s × (s .place ≡ place.pinList) ⌝ }
     ensures { λ r. ⌜ Reached (now (text .entry)) at line s r ⌝ }
 {
     let map = s.map;

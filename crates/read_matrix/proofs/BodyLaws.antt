@@ -18,7 +18,7 @@ use Rattle.line_place.specs.Place as place
 use Rattle.table_layout.specs.Layout.{joined}
 use Rattle.line_matrix.specs.declared.Matrix.{Matrix}
 use Rattle.line_keyword.specs.declared.State.{State}
-use Rattle.read_line.specs.Reading.{commentByte, breaks, stepOf}
+use Rattle.read_line.specs.Reading.{commentByte, breaks, lineResult}
 use Rattle.read_line.specs.Way.Walk.{Holds, withMatrix}
 use Rattle.read_line.proofs.CrossLaws.{crossed-none, crossed-on, crossed-stops, stays-opens, stays-moved, stays-ended}
 use Rattle.doc.specs.Lines.{Line, keyOf, placeAfter, linesAt, upTo}
@@ -224,7 +224,7 @@ module _ (t : List ℕ) (at line : ℕ) (m : Matrix) (values : ℕ) (table₀ : 
       behind-next : Behind values table₀ table'
       behind-next = behind-on values (part .values) table₀ table table' (gone .rises) (gone .behind) (takes .behind)
 
-      decided : (s : State) → Holds place.matrix (withMatrix m values) s → stepOf content (withMatrix (part .matrix) (part .values) s) ≡ breaks (next .number) (withMatrix (next .matrix) (next .values) s)
+      decided : (s : State) → Holds place.matrix (withMatrix m values) s → lineResult content (withMatrix (part .matrix) (part .values) s) ≡ breaks (next .number) (withMatrix (next .matrix) (next .values) s)
       decided s f = takes .decides taken s (f .0)
 
       pub gone-stops : (next .number ≡ 0 → ⊥) → Goes t at line m values table₀ (record { at = found .next; line = number; part = next; noted = false }) table'

@@ -27,7 +27,7 @@ use Rattle.line_keyword.specs.Keywords.{keywordRule}
 use Rattle.line_keyword.specs.Way.Row.{keptRule, keptNext}
 use Rattle.line_keyword.specs.declared.State.{State}
 use Rattle.line_keyword.proofs.InsideLaws.{kept-rule-is, kept-next-is}
-use Rattle.read_line.specs.Reading.{argumentFrom, goes, breaks, bracketStep, keywordStep, stepOf}
+use Rattle.read_line.specs.Reading.{argumentFrom, goes, breaks, bracketStep, keywordStep, lineResult}
 use Rattle.read_line.specs.Way.Walk.{Decides, Opens, withMatrix}
 use Rattle.read_line.specs.declared.Front.the-variants.{Words}
 use Rattle.read_line.proofs.StepLaws.{data-stops, data-goes, keyword-stops, keyword-goes}
@@ -72,13 +72,13 @@ module _ (content : List ℕ) (filled : isBlankLine content ≡ false) (plainly 
     (read : line ≡ dataLineOf (m .form) content) (k : ℕ) (rule : k ≡ dataRule line m values) where
   -- what the line does to a state
   steps-on : k ≡ 0 → (next : Matrix) → next ≡ dataNext line m →
-      Decides place.matrix (withMatrix m values) (stepOf content) 0 (withMatrix next (values + line .numbers))
+      Decides place.matrix (withMatrix m values) (lineResult content) 0 (withMatrix next (values + line .numbers))
   steps-on z next next-is =
       words-decide content Words (filled, plainly) place.matrix (withMatrix m values) refl (λ (s : State). refl)
       (λ (z : place.matrix ≡ place.done). omega arith) (λ (z : place.matrix ≡ place.before). omega arith) 0
       (withMatrix next (values + line .numbers)) (data-goes content m values line read k rule z next next-is)
 
-  steps-not : (k ≡ 0 → ⊥) → Decides place.matrix (withMatrix m values) (stepOf content) k (withMatrix m values)
+  steps-not : (k ≡ 0 → ⊥) → Decides place.matrix (withMatrix m values) (lineResult content) k (withMatrix m values)
   steps-not h =
       words-decide content Words (filled, plainly) place.matrix (withMatrix m values) refl (λ (s : State). refl)
       (λ (z : place.matrix ≡ place.done). omega arith) (λ (z : place.matrix ≡ place.before). omega arith) k
@@ -320,8 +320,8 @@ kept-whole k value a w =
     (λ (e : eqb k row ≡ false). sym (ap (λ (x : Note). x .whole) (if-false {A = Note} _ _ e)) ∙ w)
 
 module _ (content : List ℕ) (filled : isBlankLine content ≡ false) (k start : ℕ) (is : bracketOf content ≡ Keyword k start) (m : Matrix) (values : ℕ) (a : Note) where
-  step-keyed : (s : State) → (s .place ≡ place.done → ⊥) → (s .place ≡ place.before → ⊥) → stepOf content s ≡ keywordStep k (argumentFrom content start) s
-  unfolding stepOf
+  step-keyed : (s : State) → (s .place ≡ place.done → ⊥) → (s .place ≡ place.before → ⊥) → lineResult content s ≡ keywordStep k (argumentFrom content start) s
+  unfolding lineResult
   step-keyed s d b =
       if-false _ _ filled ∙ if-false _ _ (ne-eqb _ _ d) ∙ if-false _ _ (ne-eqb _ _ b) ∙ ap (λ (x : Bracket). bracketStep x content s) is
 

@@ -24,7 +24,7 @@ use Rattle.lex_line.proofs.LineLaws.{next-on, content-before-feed}
 use Rattle.lex_keyword.specs.Bracket.{bracketOf}
 use Rattle.lex_keyword.specs.declared.Bracket.the-variants.{Plain}
 use Rattle.line_place.specs.Place as place
-use Rattle.line_matrix.specs.Matrix.{sparse, mostValues, dataLineOf, isOutOfOrder, areTooMany, dataRule, withColumn, dataNext}
+use Rattle.line_matrix.specs.Matrix.{sparse, mostValues, dataLineOf, isDataOutOfOrder, areTooMany, dataRule, withColumn, dataNext}
 use Rattle.line_matrix.specs.declared.Matrix.{Matrix}
 use Rattle.line_matrix.specs.declared.DataLine.{DataLine}
 use Rattle.read_line.specs.Reading.{commentByte}
@@ -56,9 +56,9 @@ module _ (m : Matrix) where
 
 rule-kept : (l : DataLine) (m : Matrix) (values : ℕ) → l .right ≡ true → Ordered m → l .formed ≡ true → l .bounded ≡ true →
     values + l .numbers ≤ mostValues → 0 ≡ dataRule l m values
-unfolding dataRule isOutOfOrder areTooMany
+unfolding dataRule isDataOutOfOrder areTooMany
 rule-kept l m values right ordered formed bounded few =
-    let out : isOutOfOrder l m ≡ false = either-false _ _ (not-not-via right) ordered in
+    let out : isDataOutOfOrder l m ≡ false = either-false _ _ (not-not-via right) ordered in
     let many : areTooMany values (l .numbers) ≡ false = le-ltb _ _ few in
     gives-later _ _ _ 0 out
     (gives-later _ _ _ 0 (not-not-via formed) (gives-later _ _ _ 0 (not-not-via bounded) (gives-later _ _ _ 0 many refl)))

@@ -17,7 +17,7 @@ use Rattle.base.specs.Way.Class.{runEnd}
 use Rattle.base.proofs.IfLaws.{if-true, if-false, by-cases, both-true, both-first, both-second, both-not-left, both-not-right, both-rest, either-rest, not-via}
 use Rattle.base.proofs.RunLaws.{run-nil, run-goes, run-stops, run-le, run-all, run-end, run-wider, run-take, run-on}
 use Rattle.lex_line.specs.Way.LineEnds.{lineAt}
-use Rattle.lex_line.specs.Words.{Word, goesOn, grown, wordsFrom, words}
+use Rattle.lex_line.specs.Words.{Word, wordGoesOn, grown, wordsFrom, words}
 use Rattle.lex_line.specs.Way.Spans.{wordAt, markedBy}
 use Rattle.lex_line.proofs.WordLaws.{wordsAfter, after-at, after-none}
 use Rattle.lex_number.specs.Way.In.{isWord}
@@ -109,7 +109,7 @@ words-anywhere a c [] = refl
 words-anywhere a c (b ∷ s) =
     let rest : texts (wordsFrom (suc a) s) ≡ texts (wordsFrom (suc c) s) = words-anywhere (suc a) (suc c) s in
     texts-if (isBlank b) (wordsFrom (suc a) s) _ (wordsFrom (suc c) s) _ rest
-    (texts-if (goesOn s) (grown a b (wordsFrom (suc a) s)) (record { start = a; text = b ∷ [] } ∷ wordsFrom (suc a) s)
+    (texts-if (wordGoesOn s) (grown a b (wordsFrom (suc a) s)) (record { start = a; text = b ∷ [] } ∷ wordsFrom (suc a) s)
     (grown c b (wordsFrom (suc c) s))
     (record { start = c; text = b ∷ [] } ∷ wordsFrom (suc c) s) (texts-grown a c b (wordsFrom (suc a) s) (wordsFrom (suc c) s) rest)
     (ap (λ (ws : List (List ℕ)). (b ∷ []) ∷ ws) rest))

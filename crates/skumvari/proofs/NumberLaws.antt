@@ -27,7 +27,7 @@ use Rattle.line_matrix.specs.Matrix.{dataRule}
 use Rattle.line_keyword.specs.Keywords.{keywordRule}
 use Rattle.line_keyword.specs.State.{startState}
 use Rattle.line_keyword.specs.declared.State.{State}
-use Rattle.read_line.specs.Reading.{listRule, lineRule, goes, breaks, judged, lineStep, keywordStep, bracketStep, beforeStep, stepOf, commentByte, argumentFrom, atEnd, onward, run, readingOf}
+use Rattle.read_line.specs.Reading.{listRule, lineRule, goes, breaks, judged, lineStep, keywordStep, bracketStep, beforeStep, lineResult, commentByte, argumentFrom, atEnd, onward, readFrom, readingOf}
 use Rattle.read_line.specs.declared.Step.{Step}
 use Rattle.read_line.specs.declared.Reading.{Reading}
 use Rattle.read_line.specs.declared.Reading.the-variants.{Read, Refused}
@@ -36,7 +36,7 @@ use Rattle.doc.specs.Holds.{Each}
 use Rattle.doc.specs.Holds.Each.{none, more}
 use Rattle.doc.proofs.StandsLaws.{each-append}
 use Rattle.cross_rules.specs.Rules as rules
-use Rattle.cross_rules.specs.Rules.{listFindings, stepFindings, modelFindings, pinFindings, mapFindings, sectionFindings, findings, nothing, earliest, crossRule}
+use Rattle.cross_rules.specs.Rules.{listFindings, stepFindings, modelFindings, pinFindings, mapFindings, sectionFindings, findings, noFinding, earliest, crossRule}
 use Rattle.cross_rules.specs.declared.Finding.{Finding}
 use Rattle.cross_rules.proofs.KindLaws.{earlier-one}
 
@@ -68,14 +68,14 @@ abbrev pub OtherBytes : Checked → Type 0
 OtherBytes bytes.Fine = Unit {0}
 OtherBytes (bytes.Refused number line) = Other number
 
-characters-other : (l : Raw) → Other (text.lineRule l)
-unfolding text.lineRule
+characters-other : (l : Raw) → Other (text.rawLineRule l)
+unfolding text.rawLineRule
 characters-other l = rule 2 refl _ _ (rule 3 refl _ _ (rule 4 refl _ _ kept))
 
 lines-other : (n : ℕ) (ls : List Raw) → OtherBytes (linesRule n ls)
-unfolding linesRule text.judged
+unfolding linesRule text.refusedOr
 lines-other n [] = tt
-lines-other n (l ∷ ls) = by-test OtherBytes (eqb (text.lineRule l) 0) _ _ (λ e. lines-other (n + 1) ls) (λ e. characters-other l)
+lines-other n (l ∷ ls) = by-test OtherBytes (eqb (text.rawLineRule l) 0) _ _ (λ e. lines-other (n + 1) ls) (λ e. characters-other l)
 
 pub bytes-other : (t : List ℕ) → OtherBytes (byteRules t)
 unfolding byteRules
@@ -137,8 +137,8 @@ before-step Unknown content s = goes-other s
 before-step Later content s = goes-other s
 before-step (Keyword k start) content s = by-test OtherStep (eqb k beginHeader) _ _ (λ e. keyword-step k (argumentFrom content start) s) (λ e. goes-other s)
 
-step-other : (content : List ℕ) (s : State) → OtherStep (stepOf content s)
-unfolding stepOf
+step-other : (content : List ℕ) (s : State) → OtherStep (lineResult content s)
+unfolding lineResult
 step-other content s =
     by-test OtherStep (isBlankLine content) _ _ (λ e. goes-other s)
     (λ e. by-test OtherStep (eqb (s .place) done) _ _ (λ f. goes-other s)
@@ -148,14 +148,14 @@ abbrev pub OtherReading : Reading → Type 0
 OtherReading (Read counts) = Unit {0}
 OtherReading (Refused number line) = Other number
 
-run-other : (n : ℕ) (ls : List Raw) (s : State) → OtherReading (run n ls s)
-unfolding run onward atEnd
+run-other : (n : ℕ) (ls : List Raw) (s : State) → OtherReading (readFrom n ls s)
+unfolding readFrom onward atEnd
 run-other n [] s =
     by-test OtherReading (eqb (s .place) done) _ _ (λ e. tt)
     (λ e. by-test OtherReading (eqb (s .place) before) _ _ (λ f. other 5 refl) (λ f. other 10 refl))
 run-other n (l ∷ ls) s =
-    by-test OtherReading (eqb (stepOf (contentOf commentByte (l .bytes)) s .number) 0) _ _
-    (λ e. run-other (n + 1) ls (stepOf (contentOf commentByte (l .bytes)) s .state)) (λ e. step-other (contentOf commentByte (l .bytes)) s)
+    by-test OtherReading (eqb (lineResult (contentOf commentByte (l .bytes)) s .number) 0) _ _
+    (λ e. run-other (n + 1) ls (lineResult (contentOf commentByte (l .bytes)) s .state)) (λ e. step-other (contentOf commentByte (l .bytes)) s)
 
 pub reading-other : (t : List ℕ) → OtherReading (readingOf t)
 unfolding readingOf
@@ -171,13 +171,13 @@ each-map f h [] = none
 each-map f h (x ∷ xs) = more (h x) (each-map f h xs)
 
 earliest-other : {fs : List Finding} → Each OtherFinding fs → OtherFinding (earliest fs)
-unfolding earliest nothing
+unfolding earliest noFinding
 earliest-other none = kept
 earliest-other (more {x = f} {xs = fs} h hs) = earlier-one OtherFinding f (earliest fs) h (earliest-other hs)
 
 module _ (d : Document) where
   list-others : Each OtherFinding (listFindings d)
-  unfolding listFindings rules.listRule
+  unfolding listFindings rules.listNameRule
   list-others = each-map _ (λ (n : Named). rule 19 refl _ _ (rule 20 refl _ _ kept)) (d .listed)
 
   step-others : (m : Model) → Each OtherFinding (stepFindings d m)
@@ -194,11 +194,11 @@ module _ (d : Document) where
   model-others (m ∷ ms) = more (rule 19 refl _ _ (rule 20 refl _ _ kept)) (each-append (step-others m) (model-others ms))
 
   pin-others : (m : Map) → Each OtherFinding (pinFindings m)
-  unfolding pinFindings rules.pinRule
+  unfolding pinFindings rules.pinNameRule
   pin-others m = each-map _ (λ (p : Named). rule 19 refl _ _ kept) (m .pins)
 
   map-others : (ms : List Map) → Each OtherFinding (mapFindings d ms)
-  unfolding mapFindings rules.mapRule
+  unfolding mapFindings rules.mapNameRule
   map-others [] = none
   map-others (m ∷ ms) = more (rule 19 refl _ _ kept) (each-append (pin-others m) (map-others ms))
 

@@ -7,7 +7,7 @@ ghost use Rattle.ask_sound.specs.Sound.{isSound};
 ghost use Rattle.intake.specs.Verdict.{verdictOf, tableFor};
 ghost use Rattle.ask_entry.specs.Entry as entries;
 ghost use Rattle.ask_walk.specs.Walk as walks;
-ghost use Rattle.ask_entry.specs.WholeMatrix.{wholeOf, roomAfter};
+ghost use Rattle.ask_entry.specs.WholeMatrix.{matrixAnswer, roomAfter};
 ghost use Rattle.out_double.specs.Double.{drawnOf, paired};
 ghost use Rattle.skumvari.specs.Words.{intakeLayout, entryLayout, walkLayout, matrixLayout, doubleLayout, pairLayout, stepLayout, isRoom, answered, tableAfter, valuesAfter};
 ghost use Rattle.skumvari.specs.Room.{mostWords};
@@ -145,7 +145,7 @@ pub extern "C" fn skumvari_entry(
     answer: &mut [u64],
 ) -> bool
     ensures { λ r. ⌜ r ≡ isRoom 4 (now (answer .entry)) ⌝ }
-    ensures { λ _. ⌜ now (answer .exit) ≡ answered (entryLayout (entries.answerOf (now (text .entry)) (now (table .entry)) section kind row column)) (now (answer .entry)) ⌝ }
+    ensures { λ _. ⌜ now (answer .exit) ≡ answered (entryLayout (entries.entryAnswer (now (text .entry)) (now (table .entry)) section kind row column)) (now (answer .entry)) ⌝ }
 {
     match ask_entry::entry(text, table, section, kind, row, column) {
         Answer::Found(word) => put_answer(answer, 1, 0, 0, word),
@@ -164,7 +164,7 @@ pub extern "C" fn skumvari_walk(
     answer: &mut [u64],
 ) -> bool
     ensures { λ r. ⌜ r ≡ isRoom 13 (now (answer .entry)) ⌝ }
-    ensures { λ _. ⌜ now (answer .exit) ≡ answered (walkLayout (walks.answerOf (now (text .entry)) (now (table .entry)) (record { model = model; step = step; depth = depth }))) (now (answer .entry)) ⌝ }
+    ensures { λ _. ⌜ now (answer .exit) ≡ answered (walkLayout (walks.walkAnswer (now (text .entry)) (now (table .entry)) (record { model = model; step = step; depth = depth }))) (now (answer .entry)) ⌝ }
 {
     let place = Place { model, step, depth };
     match place.step(text, table) {
@@ -192,8 +192,8 @@ pub extern "C" fn skumvari_matrix(
     answer: &mut [u64],
 ) -> bool
     ensures { λ r. ⌜ r ≡ isRoom 4 (now (answer .entry)) ⌝ }
-    ensures { λ _. ⌜ now (answer .exit) ≡ answered (matrixLayout (wholeOf (now (text .entry)) (now (table .entry)) section kind (length (now (values .entry))))) (now (answer .entry)) ⌝ }
-    ensures { λ _. ⌜ now (values .exit) ≡ valuesAfter (now (answer .entry)) (roomAfter (now (table .entry)) section kind (wholeOf (now (text .entry)) (now (table .entry)) section kind (length (now (values .entry)))) (now (values .entry))) (now (values .entry)) ⌝ }
+    ensures { λ _. ⌜ now (answer .exit) ≡ answered (matrixLayout (matrixAnswer (now (text .entry)) (now (table .entry)) section kind (length (now (values .entry))))) (now (answer .entry)) ⌝ }
+    ensures { λ _. ⌜ now (values .exit) ≡ valuesAfter (now (answer .entry)) (roomAfter (now (table .entry)) section kind (matrixAnswer (now (text .entry)) (now (table .entry)) section kind (length (now (values .entry)))) (now (values .entry))) (now (values .entry)) ⌝ }
 {
     if answer.len() < ANSWER_WORDS {
         return false;

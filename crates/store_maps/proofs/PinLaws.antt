@@ -81,13 +81,13 @@ module _ (l : Line) (inside : inMap l ≡ true) where
   map-plain =
       by-cases (eqb (keyOf l) plain ≡ true) (standsIn place.mapHead l)
       (λ (e : standsIn place.mapHead l ≡ true). stands-plain place.mapHead l e)
-      (λ (e : standsIn place.mapHead l ≡ false). stands-plain place.pins l (sym (either-rest _ _ e) ∙ inside))
+      (λ (e : standsIn place.mapHead l ≡ false). stands-plain place.pinList l (sym (either-rest _ _ e) ∙ inside))
 
   -- it stands below Pin_list, or above it
-  module _ (here : l .place ≡ place.pins) where
+  module _ (here : l .place ≡ place.pinList) where
     pub line-pin : pinWrites (l ∷ []) ≡ pinWrite (record { name = firstWord (wordsOf l); line = l .number }) ∷ []
     unfolding gather pinAt
-    line-pin = ap (λ (x : List Named). map pinWrite (x ++ [])) (if-true _ _ (stands-is place.pins l here map-plain))
+    line-pin = ap (λ (x : List Named). map pinWrite (x ++ [])) (if-true _ _ (stands-is place.pinList l here map-plain))
 
     not-head : standsIn place.mapHead l ≡ false
     not-head = stands-not place.mapHead l (λ (h : l .place ≡ place.mapHead). let z : _≡_ {A = ℕ} 12 11 = sym here ∙ h in omega arith)
@@ -96,34 +96,34 @@ module _ (l : Line) (inside : inMap l ≡ true) where
     unfolding gridIn
     pin-grid m = sym (if-false _ _ not-head)
 
-  module _ (there : l .place ≡ place.pins → ⊥) where
+  module _ (there : l .place ≡ place.pinList → ⊥) where
     is-head : standsIn place.mapHead l ≡ true
     unfolding inMap
     is-head =
         by-cases (standsIn place.mapHead l ≡ true) (standsIn place.mapHead l)
         (λ (e : standsIn place.mapHead l ≡ true). e)
-        (λ (e : standsIn place.mapHead l ≡ false). absurd (there (stands-place place.pins l (sym (either-rest _ _ e) ∙ inside))))
+        (λ (e : standsIn place.mapHead l ≡ false). absurd (there (stands-place place.pinList l (sym (either-rest _ _ e) ∙ inside))))
 
     pub line-no-pin : pinWrites (l ∷ []) ≡ []
     unfolding gather pinAt
-    line-no-pin = ap (λ (x : List Named). map pinWrite (x ++ [])) (if-false _ _ (stands-not place.pins l there))
+    line-no-pin = ap (λ (x : List Named). map pinWrite (x ++ [])) (if-false _ _ (stands-not place.pinList l there))
 
     pub head-grid : (m : pin_map.Map) → mapNext (mapLineOf (l .content)) m ≡ gridIn m (l ∷ [])
     unfolding gridIn
     head-grid m = sym (if-true _ _ is-head)
 
 -- below Pin_list every line is a pin
-pub pins-stay : (content : List ℕ) → eqb (keyAt content) plain ≡ true → placeAfter place.pins content ≡ place.pins
+pub pins-stay : (content : List ℕ) → eqb (keyAt content) plain ≡ true → placeAfter place.pinList content ≡ place.pinList
 unfolding placeAfter movedByLine if_then_else_
 pins-stay content e = rw e
 
 -- what the code has to show for one line
 module _ (t : List ℕ) (line : Found) (table : List ℕ) (w : MapWalk) (takes : TakesMap t line table w) where
-  pub pin-room : w .place ≡ place.pins → Fits (length table) (w .filling) (pinWrite (namedBy t line) ∷ [])
+  pub pin-room : w .place ≡ place.pinList → Fits (length table) (w .filling) (pinWrite (namedBy t line) ∷ [])
   unfolding wordsOf
   pin-room h = rw (line-pin (mapLine t line w) (takes .inside) h) at (takes .fits)
 
-  pub taken-pin : w .place ≡ place.pins → (f : Filling) (table' : List ℕ) → Stores (w .filling) table (pinWrite (namedBy t line) ∷ []) f table' → TakenMap t line table w (record { at = line .next; number = line .number + 1; place = 12; map = w .map; filling = f }) table'
+  pub taken-pin : w .place ≡ place.pinList → (f : Filling) (table' : List ℕ) → Stores (w .filling) table (pinWrite (namedBy t line) ∷ []) f table' → TakenMap t line table w (record { at = line .next; number = line .number + 1; place = 12; map = w .map; filling = f }) table'
   unfolding wordsOf keyOf
   taken-pin h f table' s =
       record {
@@ -135,7 +135,7 @@ module _ (t : List ℕ) (line : Found) (table : List ℕ) (w : MapWalk) (takes :
       }
 
   pub taken-head :
-      (w .place ≡ place.pins → ⊥) → (said : MapLine) → said ≡ mapLineOf (contentIn t line) → (m : pin_map.Map) → m ≡ mapNext said (w .map) → (p : ℕ) → p ≡ placeAfter (w .place) (contentIn t line) →
+      (w .place ≡ place.pinList → ⊥) → (said : MapLine) → said ≡ mapLineOf (contentIn t line) → (m : pin_map.Map) → m ≡ mapNext said (w .map) → (p : ℕ) → p ≡ placeAfter (w .place) (contentIn t line) →
       TakenMap t line table w (record { at = line .next; number = line .number + 1; place = p; map = m; filling = w .filling }) table
   taken-head h said is-said m is-map p is-place =
       record {
@@ -155,7 +155,7 @@ pub record MapLeft (t : List ℕ) (n₀ at₀ : ℕ) (f₀ : Filling) (table₀ 
   pub skipped : Skipped inMap (linesAt t n₀ at₀ place.mapHead) (linesAt t (w .number) (w .at) (w .place))
   pub placed : Placed t (w .number) (w .at)
   pub onward : at₀ ≤ w .at
-  pub opened : either (eqb (w .place) place.mapHead) (eqb (w .place) place.pins) ≡ true
+  pub opened : either (eqb (w .place) place.mapHead) (eqb (w .place) place.pinList) ≡ true
 
 pub map-starts : (t : List ℕ) (n at : ℕ) (f : Filling) (table : List ℕ) → Placed t n at × Fits (length table) f (pinWrites (mapLines t n at place.mapHead)) → (m : pin_map.Map) → m ≡ newMap → MapLeft t n at f table (record { at = at; number = n; place = 11; map = m; filling = f }) table
 map-starts t n at f table (placed, fits) m e =
@@ -172,7 +172,7 @@ map-starts t n at f table (placed, fits) m e =
     map-open = either-left _ _ (eq-eqb 11 11 refl)
 
 -- where a line stands in an open map and has no keyword
-inside-map : (l : Line) → either (eqb (l .place) place.mapHead) (eqb (l .place) place.pins) ≡ true → eqb (keyOf l) plain ≡ true → inMap l ≡ true
+inside-map : (l : Line) → either (eqb (l .place) place.mapHead) (eqb (l .place) place.pinList) ≡ true → eqb (keyOf l) plain ≡ true → inMap l ≡ true
 unfolding inMap standsIn
 inside-map l o k =
     by-cases (inMap l ≡ true) (eqb (l .place) place.mapHead)
@@ -184,28 +184,28 @@ unfolding inMap standsIn
 outside-map l h = either-false _ _ (both-not-right _ _ (ne-eqb _ _ h)) (both-not-right _ _ (ne-eqb _ _ h))
 
 -- a map's line stands in one of the two places
-map-place : (l : Line) → inMap l ≡ true → either (eqb (l .place) place.mapHead) (eqb (l .place) place.pins) ≡ true
+map-place : (l : Line) → inMap l ≡ true → either (eqb (l .place) place.mapHead) (eqb (l .place) place.pinList) ≡ true
 unfolding inMap standsIn
 map-place l h =
     by-cases _ (standsIn place.mapHead l)
     (λ (e : standsIn place.mapHead l ≡ true). either-left _ _ (both-first _ _ e))
     (λ (e : standsIn place.mapHead l ≡ false). either-right _ _ (both-first _ _ (sym (either-rest _ _ e) ∙ h)))
 
-stays-head : (content : List ℕ) → eqb (keyAt content) plain ≡ true → either (eqb (placeAfter place.mapHead content) place.mapHead) (eqb (placeAfter place.mapHead content) place.pins) ≡ true
+stays-head : (content : List ℕ) → eqb (keyAt content) plain ≡ true → either (eqb (placeAfter place.mapHead content) place.mapHead) (eqb (placeAfter place.mapHead content) place.pinList) ≡ true
 unfolding placeAfter movedByLine if_then_else_ either
 stays-head content k =
     by-cases _ (same (firstOf (words content)) (bytes "Pin_list"))
     (λ (e : same (firstOf (words content)) (bytes "Pin_list") ≡ true). rw (k, e))
     (λ (e : same (firstOf (words content)) (bytes "Pin_list") ≡ false). rw (k, e))
 
-stays-pins : (content : List ℕ) → eqb (keyAt content) plain ≡ true → either (eqb (placeAfter place.pins content) place.mapHead) (eqb (placeAfter place.pins content) place.pins) ≡ true
+stays-pins : (content : List ℕ) → eqb (keyAt content) plain ≡ true → either (eqb (placeAfter place.pinList content) place.mapHead) (eqb (placeAfter place.pinList content) place.pinList) ≡ true
 stays-pins content k = either-right _ _ (eq-eqb _ _ (pins-stay content k))
 
-stays-at : (p : ℕ) (content : List ℕ) → eqb (keyAt content) plain ≡ true → either (eqb p place.mapHead) (eqb p place.pins) ≡ true → either (eqb (placeAfter p content) place.mapHead) (eqb (placeAfter p content) place.pins) ≡ true
+stays-at : (p : ℕ) (content : List ℕ) → eqb (keyAt content) plain ≡ true → either (eqb p place.mapHead) (eqb p place.pinList) ≡ true → either (eqb (placeAfter p content) place.mapHead) (eqb (placeAfter p content) place.pinList) ≡ true
 stays-at p content k o =
     by-cases _ (eqb p place.mapHead)
     (λ (e : eqb p place.mapHead ≡ true). rw (eqb-true p place.mapHead e) (stays-head content k))
-    (λ (e : eqb p place.mapHead ≡ false). rw (eqb-true p place.pins (sym (either-rest _ _ e) ∙ o)) (stays-pins content k))
+    (λ (e : eqb p place.mapHead ≡ false). rw (eqb-true p place.pinList (sym (either-rest _ _ e) ∙ o)) (stays-pins content k))
 
 -- the records and the grid of a map's lines, one line at a time
 pins-split : (l : Line) (ls : List Line) → pinWrites (l ∷ ls) ≡ pinWrites (l ∷ []) ++ pinWrites ls
@@ -217,7 +217,7 @@ unfolding gridIn
 grid-next v m l ls e = ap (λ (x : pin_map.Map). gridIn x ls) e
 
 -- the place stays in the map
-map-stays : (l : Line) → inMap l ≡ true → either (eqb (placeAfter (l .place) (l .content)) place.mapHead) (eqb (placeAfter (l .place) (l .content)) place.pins) ≡ true
+map-stays : (l : Line) → inMap l ≡ true → either (eqb (placeAfter (l .place) (l .content)) place.mapHead) (eqb (placeAfter (l .place) (l .content)) place.pinList) ≡ true
 unfolding keyOf
 map-stays l h = stays-at (l .place) (l .content) (map-plain l h) (map-place l h)
 

@@ -39,7 +39,7 @@ use Rattle.store_models.specs.declared.ModelWalk.{ModelWalk}
 
 module _ (l : Line) where
   -- a line in no path says nothing
-  silent : standsIn place.path l ≡ false → sayingAt l ≡ path.nothing
+  silent : standsIn place.path l ≡ false → sayingAt l ≡ path.saysNothing
   unfolding sayingAt
   silent e = if-false _ _ e
 

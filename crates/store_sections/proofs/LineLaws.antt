@@ -20,7 +20,7 @@ use Rattle.read_line.specs.Reading.{argumentFrom}
 use Rattle.table_layout.specs.declared.Filling.{Filling}
 use Rattle.doc.specs.Lines.{Line, plain, keyAt, keyOf, argumentOf, placeAfter, linesAt, upTo}
 use Rattle.doc.specs.Document.{Matrix, conductorsOf, kindOf, inMatrix, opensMatrixAt, matrixOf, matrixAt, methodIn}
-use Rattle.doc.specs.Records.{placeOf}
+use Rattle.doc.specs.Records.{indexOfKind}
 use Rattle.doc.specs.Way.Found.{contentIn, lineIn, linesBehind, Located}
 use Rattle.doc.specs.declared.Found.{Found}
 use Rattle.store_base.specs.Way.Writes.{matrixWrites, matricesWrites}
@@ -101,20 +101,20 @@ module _ (kinds : List ℕ) (kind index : ℕ) where
 -- one matrix more: the kinds that are kept, and what the matrices behind it give
 kinds-more :
     (kinds : List ℕ) (m : Matrix) (ms : List Matrix) (first : ℕ) → m .kind < length kinds → (k : ℕ) →
-    keptOr (getD (kindsWith kinds (m .kind) (first + 1)) k 0) (placeOf k (first + 1) ms)
-    ≡ keptOr (getD kinds k 0) (placeOf k first (m ∷ ms))
-unfolding placeOf
+    keptOr (getD (kindsWith kinds (m .kind) (first + 1)) k 0) (indexOfKind k (first + 1) ms)
+    ≡ keptOr (getD kinds k 0) (indexOfKind k first (m ∷ ms))
+unfolding indexOfKind
 kinds-more kinds m ms first h k =
     by-cases _ (eqb (m .kind) k)
     (λ (e : eqb (m .kind) k ≡ true).
     let s : m .kind ≡ k = eqb-true _ _ e in
-    ap (λ (n : ℕ). keptOr (getD (kindsWith kinds (m .kind) (first + 1)) n 0) (placeOf k (first + 1) ms)) (sym s)
-    ∙ same-kind kinds (m .kind) (first + 1) h (omega arith) (placeOf k (first + 1) ms)
+    ap (λ (n : ℕ). keptOr (getD (kindsWith kinds (m .kind) (first + 1)) n 0) (indexOfKind k (first + 1) ms)) (sym s)
+    ∙ same-kind kinds (m .kind) (first + 1) h (omega arith) (indexOfKind k (first + 1) ms)
     ∙ ap (λ (n : ℕ). keptOr (getD kinds n 0) (first + 1)) s
-    ∙ ap (keptOr (getD kinds k 0)) (sym (if-true (first + 1) (placeOf k (first + 1) ms) e)))
+    ∙ ap (keptOr (getD kinds k 0)) (sym (if-true (first + 1) (indexOfKind k (first + 1) ms) e)))
     (λ (e : eqb (m .kind) k ≡ false).
-    ap (λ (n : ℕ). keptOr n (placeOf k (first + 1) ms)) (other-kind kinds (m .kind) (first + 1) k (eqb-false _ _ e))
-    ∙ ap (keptOr (getD kinds k 0)) (sym (if-false (first + 1) (placeOf k (first + 1) ms) e)))
+    ap (λ (n : ℕ). keptOr n (indexOfKind k (first + 1) ms)) (other-kind kinds (m .kind) (first + 1) k (eqb-false _ _ e))
+    ∙ ap (keptOr (getD kinds k 0)) (sym (if-false (first + 1) (indexOfKind k (first + 1) ms) e)))
 
 -- ---- the method
 
@@ -245,8 +245,8 @@ module _ (t : List ℕ) (line : Found) (table : List ℕ) (w : SectionWalk) (tak
 
       kept-more :
           (k : ℕ) → k < 4 → (ms : List Matrix) →
-          keptOr (getD kinds k 0) (placeOf k (getD (s .filling .counts) 5 0) ms)
-          ≡ keptOr (getD (w .kinds) k 0) (placeOf k (getD (w .filling .counts) 5 0) (matrixHere t line w ++ ms))
+          keptOr (getD kinds k 0) (indexOfKind k (getD (s .filling .counts) 5 0) ms)
+          ≡ keptOr (getD (w .kinds) k 0) (indexOfKind k (getD (w .filling .counts) 5 0) (matrixHere t line w ++ ms))
       kept-more k h ms =
           rw (kinds-are, matrices-counted, matrix-here t line w (takes .opens))
           (kinds-more (w .kinds) (matrixBelow t line) ms (getD (w .filling .counts) 5 0) kind-inside k)
@@ -326,7 +326,7 @@ module _ (t : List ℕ) (line : Found) (table : List ℕ) (w : SectionWalk) (tak
               λ (ms : List Matrix). ap (λ (ns : List Matrix). toldOr (w .conductors) (conductorsOf (ns ++ ms))) (sym none-here);
           kinds-on =
               λ (k : ℕ) (h : k < 4) (ms : List Matrix).
-              ap (λ (ns : List Matrix). keptOr (getD (w .kinds) k 0) (placeOf k (getD (w .filling .counts) 5 0) (ns ++ ms)))
+              ap (λ (ns : List Matrix). keptOr (getD (w .kinds) k 0) (indexOfKind k (getD (w .filling .counts) 5 0) (ns ++ ms)))
               (sym none-here);
           seven = takes .seven;
           four = takes .four;

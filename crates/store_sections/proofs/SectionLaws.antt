@@ -21,7 +21,7 @@ use Rattle.table_layout.specs.declared.Filling.{Filling}
 use Rattle.table_layout.proofs.FillingLaws.{fits-first, fits-rest, length-after}
 use Rattle.doc.specs.Lines.{Line, plain, keyOf, argumentOf, linesAt, gather, upTo}
 use Rattle.doc.specs.Document.{Matrix, Section, conductorsOf, inMatrix, opensMatrixAt, matrixAt, inSection, methodIn, sectionOf}
-use Rattle.doc.specs.Records.{placeOf, sectionRecord}
+use Rattle.doc.specs.Records.{indexOfKind, sectionRecord}
 use Rattle.doc.specs.Way.Found.{markOf, lineIn, linesBehind, Located, Finds}
 use Rattle.doc.specs.declared.Found.{Found}
 use Rattle.doc.specs.declared.Mark.{Mark}
@@ -160,8 +160,8 @@ pub record LinesLeft (t : List ℕ) (n₀ at₀ : ℕ) (table₀ : List ℕ) (f�
   pub kinds :
       (k : ℕ) → k < 4 →
       keptOr (getD (w .kinds) k 0)
-      (placeOf k (getD (w .filling .counts) 5 0) (matricesIn (sectionLines t (w .number) (w .at) (w .place))))
-      ≡ placeOf k (getD (f₀ .counts) 5 0) (matricesIn (sectionLines t n₀ at₀ place.sectionHead))
+      (indexOfKind k (getD (w .filling .counts) 5 0) (matricesIn (sectionLines t (w .number) (w .at) (w .place))))
+      ≡ indexOfKind k (getD (f₀ .counts) 5 0) (matricesIn (sectionLines t n₀ at₀ place.sectionHead))
   pub seven : length (w .filling .counts) ≡ 7
   pub four : length (w .kinds) ≡ 4
   pub skipped : Skipped inSection (linesAt t n₀ at₀ place.sectionHead) (linesAt t (w .number) (w .at) (w .place))
@@ -211,7 +211,7 @@ lines-start t n at table f puts =
 module _ (t : List ℕ) (n₀ at₀ : ℕ) (table₀ : List ℕ) (f₀ : Filling) (w : SectionWalk) (table : List ℕ)
     (left : LinesLeft t n₀ at₀ table₀ f₀ w table) (line : Found) (finds : Finds t (w .number) (w .at) line) where
   lines-done : sectionLines t (w .number) (w .at) (w .place) ≡ [] → FillsLines t n₀ at₀ table₀ f₀ w table
-  unfolding gather matricesWrites methodIn placeOf
+  unfolding gather matricesWrites methodIn indexOfKind
   lines-done e =
       record {
         stores = pending-done (length table₀) f₀ table₀ _ (w .filling) table (rw e at (left .pending));
@@ -309,7 +309,7 @@ module _ (t : List ℕ) (n₀ at₀ : ℕ) (table₀ : List ℕ) (f₀ : Filling
                   ∙ ap (λ (ms : List Matrix). toldOr (w .conductors) (conductorsOf ms)) (sym matrices-next) ∙ left .conductors;
               kinds =
                   λ (k : ℕ) (h : k < 4). taken .kinds-on k h (matricesIn (upTo inSection rest))
-                  ∙ ap (λ (ms : List Matrix). keptOr (getD (w .kinds) k 0) (placeOf k (getD (w .filling .counts) 5 0) ms))
+                  ∙ ap (λ (ms : List Matrix). keptOr (getD (w .kinds) k 0) (indexOfKind k (getD (w .filling .counts) 5 0) ms))
                   (sym matrices-next) ∙ left .kinds k h;
               seven = taken .seven;
               four = taken .four;

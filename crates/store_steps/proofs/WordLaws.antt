@@ -125,7 +125,7 @@ module _ (t : List ℕ) (line : Found) (located : Located t line) where
   unfolding sayingAt standsIn keyOf
   path-says k = if-true _ _ (both-true _ _ (eq-eqb 9 9 refl) (eq-eqb _ _ (sym (located .key-is) ∙ k)))
 
-  keyed-says : (line .key ≡ plain → ⊥) → sayingAt (pathLine t line) ≡ path.nothing
+  keyed-says : (line .key ≡ plain → ⊥) → sayingAt (pathLine t line) ≡ path.saysNothing
   unfolding sayingAt standsIn keyOf
   keyed-says k = if-false _ _ (both-not-right _ _ (ne-eqb _ _ (λ (e : _≡_ {A = ℕ} _ plain). k (located .key-is ∙ e))))
 

@@ -1,7 +1,7 @@
 -- `ask_sound::is_inside` meets its contract: each `return` by the tests that led there.
 -- Assumes nothing.
 use Rattle.base.proofs.IfLaws.{chain}
-use Rattle.doc.specs.Holds.{isInside}
+use Rattle.doc.specs.Holds.{isInUpperHalf}
 use borrow.Author.Needs.{needs}
 use Rattle.ask_sound.proofs.is_inside.Statement.{statement}
 use Rattle.ask_sound.proofs.is_inside.Tie as tie
@@ -22,15 +22,15 @@ shared-slice-read-column : tie.Need-shared-slice-read-column
 shared-slice-read-column c = search needs
 
 returns : tie.Need-returns
-unfolding isInside
+unfolding isInUpperHalf
 returns c = search chain
 
 returns-2 : tie.Need-returns-2
-unfolding isInside
+unfolding isInUpperHalf
 returns-2 c = search chain
 
 returns-3 : tie.Need-returns-3
-unfolding isInside
+unfolding isInUpperHalf
 returns-3 c = search chain
 
 pub is-inside-spec : {M : Type 1} → statement M

@@ -11,7 +11,7 @@ use Rattle.table_layout.specs.Layout.{widths, models, steps, maps, pins, sectio
 use Rattle.table_layout.specs.declared.View.{View}
 use Rattle.doc.specs.Document.{Value}
 use Rattle.doc.specs.Records.{ModelRecord, StepRecord, MapRecord, PinRecord, SectionRecord, MatrixRecord, Records}
-use Rattle.doc.specs.Holds.{isInside, comesBefore}
+use Rattle.doc.specs.Holds.{isInUpperHalf, comesBefore}
 use Rattle.ask_sound.specs.Sound.{every, isModel, isStep, isMap, isPin, isSection, isMatrix, isValue}
 
 -- the places of so many records of a width, the first of which stands at `from`
@@ -128,14 +128,14 @@ recordsAt table v =
 -- the first of a list of values is inside, and comes before the next
 unfoldable pub goesOn : ℕ → List Value → Bool
 goesOn n [] = true
-goesOn n (v ∷ []) = isInside n v
-goesOn n (v ∷ w ∷ vs) = both (isInside n v) (comesBefore v w)
+goesOn n (v ∷ []) = isInUpperHalf n v
+goesOn n (v ∷ w ∷ vs) = both (isInUpperHalf n v) (comesBefore v w)
 
 -- how many values from the front on rise
 unfoldable pub reach : ℕ → List Value → ℕ
 reach n [] = 0
-reach n (v ∷ []) = if isInside n v then 1 else 0
-reach n (v ∷ w ∷ vs) = if isInside n v then if comesBefore v w then suc (reach n (w ∷ vs)) else 1 else 0
+reach n (v ∷ []) = if isInUpperHalf n v then 1 else 0
+reach n (v ∷ w ∷ vs) = if isInUpperHalf n v then if comesBefore v w then suc (reach n (w ∷ vs)) else 1 else 0
 
 -- of so many values, the first of which stands at `from`: how many rise from the one numbered i on
 unfoldable pub reachAt : List ℕ → ℕ → ℕ → ℕ → ℕ

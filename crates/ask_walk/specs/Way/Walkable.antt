@@ -13,7 +13,7 @@ use Rattle.doc.specs.Records.{recordsOf}
 use Rattle.ask_sound.specs.Sound.{depthHolds}
 use Rattle.ask_sound.specs.Way.Standing.{baseOf, countOf, modelAt, stepAt, kindsFrom, recordsAt}
 use Rattle.ask_walk.specs.declared.Place.{Place}
-use Rattle.ask_walk.specs.Walk.{modelOf, stepOf}
+use Rattle.ask_walk.specs.Walk.{modelAtPlace, stepAtPlace}
 
 -- where a model stands by its index, its first step, and how many it has
 abbrev pub modelPlace : View → ℕ → ℕ
@@ -40,6 +40,6 @@ pub record Stands (table : List ℕ) (v : View) (p : Place) : Type 0 where
   pub few-steps : firstOf table v (p .model) + manyOf table v (p .model) ≤ 4_096
   pub step-inside : p .step ≤ manyOf table v (p .model)
   pub shallow : p .depth ≤ deepest
-  pub model-is : modelOf (recordsOf table) p ≡ modelAt table (modelPlace v (p .model))
+  pub model-is : modelAtPlace (recordsOf table) p ≡ modelAt table (modelPlace v (p .model))
   pub step-is :
-      p .step < manyOf table v (p .model) → stepOf (recordsOf table) p ≡ stepAt table (baseOf v steps + 6 * (firstOf table v (p .model) + p .step))
+      p .step < manyOf table v (p .model) → stepAtPlace (recordsOf table) p ≡ stepAt table (baseOf v steps + 6 * (firstOf table v (p .model) + p .step))

@@ -10,7 +10,7 @@ use Rattle.read_line.specs.declared.Reading.the-variants.{Read}
 use Rattle.doc.specs.Records.{tableOf}
 
 -- the text reads to its end, and the table is its layout and then zeros
-pub record Filled (t table : List ℕ) : Type 0 where
+pub record HoldsText (t table : List ℕ) : Type 0 where
   pub counts : Counts
   pub reads : readingOf t ≡ Read counts
   pub words : table ≡ tableOf t ++ replicate (length table - length (tableOf t)) 0

@@ -17,7 +17,7 @@ writesAt part p key =
     if eqb part models then both (isInFamily p) (eqb key beginIcmModel) else
     if eqb part maps then both (isInFamily p) (eqb key icmPinMap) else
     if eqb part sections then both (eqb p place.after) (eqb key beginIcmSection) else
-    both (eqb p place.pins) (eqb key plain)
+    both (eqb p place.pinList) (eqb key plain)
 
 unfoldable pub writesPart : ℕ → Line → Bool
 writesPart part l = writesAt part (l .place) (keyOf l)

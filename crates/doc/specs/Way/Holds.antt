@@ -16,11 +16,11 @@ use Rattle.doc.specs.Document.{Step, forkKind, endforkKind}
 unfoldable pub countsOf : Counts → List ℕ
 countsOf c = c .models ∷ c .steps ∷ c .maps ∷ c .pins ∷ c .sections ∷ c .matrices ∷ c .values ∷ []
 
-unfoldable pub depthHolds : ℕ → List Step → Bool
-depthHolds d [] = eqb d 0
-depthHolds d (s ∷ ss) =
-    if eqb (s .kind) forkKind then both (ltb d deepest) (depthHolds (d + 1) ss) else
-    if eqb (s .kind) endforkKind then both (ltb 0 d) (depthHolds (d - 1) ss) else depthHolds d ss
+unfoldable pub depthOfSteps : ℕ → List Step → Bool
+depthOfSteps d [] = eqb d 0
+depthOfSteps d (s ∷ ss) =
+    if eqb (s .kind) forkKind then both (ltb d deepest) (depthOfSteps (d + 1) ss) else
+    if eqb (s .kind) endforkKind then both (ltb 0 d) (depthOfSteps (d - 1) ss) else depthOfSteps d ss
 
 -- the bytes of a word are those of the text where it stands
 pub record Stands (t : List ℕ) (w : Word) : Type 0 where

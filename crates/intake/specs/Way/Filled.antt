@@ -13,9 +13,9 @@ use Rattle.intake.specs.declared.fill.Filled.{Filled}
 use Rattle.intake.specs.declared.fill.Filled.the-variants.{Stored, Refused}
 
 -- "A refused intake zeroes the table, an accepted one the words past those used"
-abbrev pub tableFor : List ℕ → ℕ → Filled → List ℕ
-tableFor t size (Stored words) = tableOf t ++ replicate (size - length (tableOf t)) 0
-tableFor t size (Refused number line) = replicate size 0
+abbrev pub tableAfterStoring : List ℕ → ℕ → Filled → List ℕ
+tableAfterStoring t size (Stored words) = tableOf t ++ replicate (size - length (tableOf t)) 0
+tableAfterStoring t size (Refused number line) = replicate size 0
 
 -- a table of zeros, but for words where the values of so many records of each part belong
 pub record Lifted (counts table : List ℕ) : Type 0 where

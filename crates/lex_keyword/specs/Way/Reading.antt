@@ -9,7 +9,7 @@ use lib.Dec.{leb, ltb, eqb}
 use Rattle.base.specs.If.{if_then_else_, both, either}
 use Rattle.base.specs.Bytes.{isBlank}
 use Rattle.base.specs.Runs.{run}
-use Rattle.lex_keyword.specs.Names.{keyOf}
+use Rattle.lex_keyword.specs.Names.{keywordOf}
 use Rattle.lex_keyword.specs.Bracket.{isOpen, isSeparator, isGoodName, namedAs}
 use Rattle.lex_keyword.specs.declared.Bracket.{Bracket}
 use Rattle.lex_keyword.specs.declared.Bracket.the-variants.{Bad}
@@ -28,7 +28,7 @@ closesAt content end = both (ltb end (length content)) (either (leb (length cont
 
 -- what a closed bracket of this name says
 unfoldable pub saysName : List ℕ → ℕ → Bracket
-saysName name argument = if not (isGoodName name) then Bad else namedAs (keyOf name) argument
+saysName name argument = if not (isGoodName name) then Bad else namedAs (keywordOf name) argument
 
 -- `Row]` stands after the first byte, and what follows it is right
 unfoldable pub isRow : List ℕ → Bool

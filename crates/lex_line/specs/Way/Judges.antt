@@ -5,10 +5,10 @@ use mathlib.Core.Path.{_≡_}
 use mathlib.Core.List.{List}
 use lib.ListN.{length, drop}
 use Rattle.lex_line.specs.Lines.{lines}
-use Rattle.lex_line.specs.ByteRules.{judged, linesRule}
+use Rattle.lex_line.specs.ByteRules.{refusedOr, linesRule}
 
 -- a number and a place at which the lines from `at` on come to the same as that number at this line, and the lines from `next` on
 pub record Judges (t : List ℕ) (at number next : ℕ) : Type 0 where
-  pub same : (n : ℕ) → linesRule n (lines (drop at t)) ≡ judged number n (linesRule (n + 1) (lines (drop next t)))
+  pub same : (n : ℕ) → linesRule n (lines (drop at t)) ≡ refusedOr number n (linesRule (n + 1) (lines (drop next t)))
   pub on : number ≡ 0 → at < next
   pub within : next ≤ length t

@@ -1,7 +1,7 @@
 -- `line_matrix::conductors_of` meets its contract: by the form.
 -- Assumes nothing.
 use Rattle.base.proofs.IfLaws.{chain}
-use Rattle.line_matrix.specs.Matrix.{conductorsOf}
+use Rattle.line_matrix.specs.Matrix.{shapeConductors}
 use borrow.Author.Needs.{needs}
 use Rattle.line_matrix.proofs.conductors_of.Statement.{statement}
 use Rattle.line_matrix.proofs.conductors_of.Tie as tie
@@ -10,15 +10,15 @@ less-requires : tie.Need-less-requires
 less-requires c κs = search needs
 
 returns : tie.Need-returns
-unfolding conductorsOf
+unfolding shapeConductors
 returns c = search chain depth 12
 
 returns-2 : tie.Need-returns-2
-unfolding conductorsOf
+unfolding shapeConductors
 returns-2 c = search chain depth 12
 
 returns-3 : tie.Need-returns-3
-unfolding conductorsOf
+unfolding shapeConductors
 returns-3 c = search chain depth 12
 
 pub conductors-of-spec : {M : Type 1} → statement M

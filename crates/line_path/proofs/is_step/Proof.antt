@@ -1,12 +1,12 @@
 -- `line_path::is_step` meets its contract.
 -- Assumes nothing.
 use borrow.Author.Needs.{needs}
-use Rattle.line_path.specs.Path.{isStep}
+use Rattle.line_path.specs.Path.{isStepLine}
 use Rattle.line_path.proofs.is_step.Statement.{statement}
 use Rattle.line_path.proofs.is_step.Tie as tie
 
 returns : tie.Need-returns
-unfolding isStep
+unfolding isStepLine
 returns c = search needs
 
 pub is-step-spec : {M : Type 1} → statement M

@@ -14,7 +14,7 @@ use Rattle.read_line.proofs.pass_pins.Tie as tie
 
 abbrev Inv-loop : tie.InvT-loop
 Inv-loop text at line pins here₀ number₀ part₀ here number part =
-    (part .number ≡ 0) × (line ≤ at + 1) × Crossed text at line (Holds place.pins (withPinned (part₀ .map) (part₀ .pins))) (withPinned (part .map) (part .pins)) (part .number) here number
+    (part .number ≡ 0) × (line ≤ at + 1) × Crossed text at line (Holds place.pinList (withPinned (part₀ .map) (part₀ .pins))) (withPinned (part .map) (part .pins)) (part .number) here number
 
 abbrev μ-loop : tie.MeasureT-loop
 μ-loop text at line pins here₀ number₀ part₀ here number part = length text - here

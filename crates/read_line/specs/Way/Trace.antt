@@ -8,7 +8,7 @@ use lib.Dec.{eqb}
 use Rattle.base.specs.If.{if_then_else_}
 use Rattle.lex_line.specs.Lines.{Raw, contentOf}
 use Rattle.line_keyword.specs.declared.State.{State}
-use Rattle.read_line.specs.Reading.{commentByte, stepOf}
+use Rattle.read_line.specs.Reading.{commentByte, lineResult}
 
 -- a line met: its number, its content, and what is remembered of the lines above it
 pub record Meeting : Type 0 where
@@ -18,11 +18,11 @@ pub record Meeting : Type 0 where
 
 -- the number of the rule that the line breaks where it is met, 0 for none
 abbrev pub brokenAt : Meeting → ℕ
-brokenAt m = stepOf (m .content) (m .state) .number
+brokenAt m = lineResult (m .content) (m .state) .number
 
 -- what is remembered after it
 abbrev pub afterwards : Meeting → State
-afterwards m = stepOf (m .content) (m .state) .state
+afterwards m = lineResult (m .content) (m .state) .state
 
 abbrev pub meetingOf : ℕ → Raw → State → Meeting
 meetingOf n l s = record { line = n; content = contentOf commentByte (l .bytes); state = s }

@@ -20,7 +20,7 @@ use Rattle.line_matrix.specs.declared.Matrix.{Matrix}
 use Rattle.line_keyword.specs.Way.Kept.{Kept}
 use Rattle.line_keyword.specs.declared.Counts.{Counts}
 use Rattle.line_keyword.specs.declared.State.{State}
-use Rattle.read_line.specs.Reading.{commentByte, breaks, run}
+use Rattle.read_line.specs.Reading.{commentByte, breaks, readFrom}
 use Rattle.read_line.specs.declared.Step.{Step}
 use Rattle.read_line.specs.declared.Front.{Front}
 use Rattle.read_line.specs.declared.Front.the-variants.{Blanks, Words, Opening}
@@ -31,7 +31,7 @@ use Rattle.read_line.specs.declared.Reading.the-variants.{Refused}
 
 -- what the text comes to from where a walk has come
 unfoldable pub resume : List ℕ → Walk → Reading
-resume t w = if eqb (w .number) 0 then run (w .line) (lines (drop (w .at) t)) (w .state) else Refused (w .number) (w .line)
+resume t w = if eqb (w .number) 0 then readFrom (w .line) (lines (drop (w .at) t)) (w .state) else Refused (w .number) (w .line)
 
 -- where a walk that broke no rule has come lies within the text, and what it remembers is kept
 pub record Onward (t : List ℕ) (at line : ℕ) (s : State) : Type 0 where
@@ -44,7 +44,7 @@ abbrev pub Rises : State → State → Type 0
 Rises s r = s .counts .values ≤ r .counts .values
 
 pub record Reached (t : List ℕ) (at line : ℕ) (s : State) (w : Walk) : Type 0 where
-  pub same : resume t w ≡ run line (lines (drop at t)) s
+  pub same : resume t w ≡ readFrom line (lines (drop at t)) s
   pub further : w .number ≡ 0 → at < w .at
   pub onward : w .number ≡ 0 → Onward t (w .at) (w .line) (w .state)
   pub rises : w .number ≡ 0 → Rises s (w .state)
@@ -54,7 +54,7 @@ pub record Reached (t : List ℕ) (at line : ℕ) (s : State) (w : Walk) : Type 
 -- `fits` says which states the lines are met in, `put` what each of them has become behind them: from there the text comes to the same.
 -- A line that breaks a rule is the last.
 pub record Crossed (t : List ℕ) (at line : ℕ) (fits : State → Type 0) (put : State → State) (number further last : ℕ) : Type 0 where
-  pub same : (s : State) → fits s → resume t (record { number = number; at = further; line = last; state = put s }) ≡ run line (lines (drop at t)) s
+  pub same : (s : State) → fits s → resume t (record { number = number; at = further; line = last; state = put s }) ≡ readFrom line (lines (drop at t)) s
   pub kept : number ≡ 0 → (s : State) → fits s → Kept line s → Kept last (put s)
   pub rises : number ≡ 0 → (s : State) → fits s → Rises s (put s)
   pub onward : at ≤ further
@@ -86,7 +86,7 @@ contentAt t at = take (lineAt commentByte t at .content - at) (drop at t)
 pub record Elsewhere (p : ℕ) : Type 0 where
   pub matrix : p ≡ place.matrix → ⊥
   pub path : p ≡ place.path → ⊥
-  pub pins : p ≡ place.pins → ⊥
+  pub pins : p ≡ place.pinList → ⊥
 
 -- so for a line without a bracket that is not blank
 abbrev pub StandsElsewhere : List ℕ → ℕ → Type 0

@@ -13,7 +13,7 @@ use Rattle.lex_number.specs.Integer.{wholeOf}
 use Rattle.lex_keyword.specs.Names.{row}
 use Rattle.line_place.specs.Place as place
 use Rattle.line_matrix.specs.declared.Matrix.{Matrix}
-use Rattle.read_line.specs.Reading.{keywordStep, stepOf}
+use Rattle.read_line.specs.Reading.{keywordStep, lineResult}
 use Rattle.read_line.specs.Way.Walk.{Crossed, Holds, Decides, Opens, Stays, withMatrix}
 use Rattle.doc.specs.Lines.{Line}
 use Rattle.doc.specs.Document.{inMatrix}
@@ -62,7 +62,7 @@ pub record Ends (content : List ℕ) : Type 0 where
 
 -- one line, by its content
 pub record Takes (content : List ℕ) (m : Matrix) (values : ℕ) (a : noting.Note) (table : List ℕ) (r : Data) (table' : List ℕ) : Type 0 where
-  pub decides : r .taken ≡ true → Decides place.matrix (withMatrix m values) (stepOf content) (r .number) (withMatrix (r .matrix) (r .values))
+  pub decides : r .taken ≡ true → Decides place.matrix (withMatrix m values) (lineResult content) (r .number) (withMatrix (r .matrix) (r .values))
   pub opens : r .taken ≡ false → Opens content
   pub ends : r .taken ≡ false → r .ends ≡ true → Ends content
   pub kept : r .taken ≡ false → table' ≡ table

@@ -6,7 +6,7 @@ use Prim.Native.Nat.{_-_, _<_}
 use native.Mathlib.Omega.{arith}
 use lib.ListN.{length, drop}
 use Rattle.lex_line.specs.Lines.{lines}
-use Rattle.read_line.specs.Reading.{run, readingOf}
+use Rattle.read_line.specs.Reading.{readFrom, readingOf}
 use Rattle.read_line.specs.Way.Walk.{Onward}
 use Rattle.read_line.proofs.WalkLaws.{reading-starts, reading-whole, reading-ends, reading-stops, reading-on, reading-onward, reading-further}
 use Rattle.read_text.specs.Way.Forward.{Carries}
@@ -18,7 +18,7 @@ use Rattle.read_text.proofs.read.Tie as tie
 abbrev Inv-loop : tie.InvT-loop
 Inv-loop text table₀ notes₀ at₀ line₀ s₀ table notes at line s =
     Onward text at line s
-    × (run line (lines (drop at text)) s ≡ readingOf text)
+    × (readFrom line (lines (drop at text)) s ≡ readingOf text)
     × Carries text table notes (s .counts .values)
     × (length table ≡ length table₀)
     × (length notes ≡ length notes₀)

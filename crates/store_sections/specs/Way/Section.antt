@@ -15,7 +15,7 @@ use Rattle.table_layout.specs.Way.Filling.{Write, Fits}
 use Rattle.table_layout.specs.declared.Filling.{Filling}
 use Rattle.doc.specs.Lines.{Line, argumentOf, linesAt, gather, upTo}
 use Rattle.doc.specs.Document.{Matrix, Section, conductorsOf, inMatrix, opensMatrixAt, matrixAt, inSection, methodIn, sectionOf}
-use Rattle.doc.specs.Records.{placeOf}
+use Rattle.doc.specs.Records.{indexOfKind}
 use Rattle.doc.specs.Way.Found.{Located, lineIn, linesBehind}
 use Rattle.doc.specs.declared.Found.{Found}
 use Rattle.store_base.specs.Way.Writes.{matricesWrites, sectionWrites}
@@ -79,8 +79,8 @@ pub record TakenLine (t : List ℕ) (line : Found) (table : List ℕ) (w v : Sec
       toldOr (v .conductors) (conductorsOf ms) ≡ toldOr (w .conductors) (conductorsOf (matrixHere t line w ++ ms))
   pub kinds-on :
       (k : ℕ) → k < 4 → (ms : List Matrix) →
-      keptOr (getD (v .kinds) k 0) (placeOf k (getD (v .filling .counts) matrices 0) ms)
-      ≡ keptOr (getD (w .kinds) k 0) (placeOf k (getD (w .filling .counts) matrices 0) (matrixHere t line w ++ ms))
+      keptOr (getD (v .kinds) k 0) (indexOfKind k (getD (v .filling .counts) matrices 0) ms)
+      ≡ keptOr (getD (w .kinds) k 0) (indexOfKind k (getD (w .filling .counts) matrices 0) (matrixHere t line w ++ ms))
   pub seven : length (v .filling .counts) ≡ 7
   pub four : length (v .kinds) ≡ 4
   pub placed : Placed t (v .number) (v .at)
@@ -106,7 +106,7 @@ pub record FillsLines (t : List ℕ) (n at : ℕ) (table : List ℕ) (f : Fillin
   pub method : toldOr (w .method) 0 ≡ methodIn (sectionLines t n at place.sectionHead)
   pub conductors : toldOr (w .conductors) 0 ≡ conductorsOf (matricesIn (sectionLines t n at place.sectionHead))
   pub kinds : (k : ℕ) → k < 4 →
-      getD (w .kinds) k 0 ≡ placeOf k (getD (f .counts) matrices 0) (matricesIn (sectionLines t n at place.sectionHead))
+      getD (w .kinds) k 0 ≡ indexOfKind k (getD (f .counts) matrices 0) (matricesIn (sectionLines t n at place.sectionHead))
   pub four : length (w .kinds) ≡ 4
   pub rest : linesAt t n at place.sectionHead ≡ sectionLines t n at place.sectionHead ++ linesAt t (w .number) (w .at) (w .place)
   pub placed : Placed t (w .number) (w .at)
