@@ -256,12 +256,12 @@ module _ (t : List ℕ) where
   step-said : (l : Line) (ls : List Line) → Found' l → Each Found' ls → Each (MultSaid t) (stepOf l ls)
   unfolding stepOf
   step-said l ls h hs =
-      by-test (Each (MultSaid t)) (eqb (sayingAt l) path.end) _ _ (λ e. more (λ (k : _≡_ {A = ℕ} 0 1). absurd (omega arith)) none)
+      by-test (Each (MultSaid t)) (eqb (sayingAt l) path.saysEnd) _ _ (λ e. more (λ (k : _≡_ {A = ℕ} 0 1). absurd (omega arith)) none)
       (λ e.
-      by-test (Each (MultSaid t)) (eqb (sayingAt l) path.section) _ _ (λ f. more (λ (k : _≡_ {A = ℕ} 1 1). ap isMult h) none)
+      by-test (Each (MultSaid t)) (eqb (sayingAt l) path.saysSection) _ _ (λ f. more (λ (k : _≡_ {A = ℕ} 1 1). ap isMult h) none)
       (λ f.
-      by-test (Each (MultSaid t)) (eqb (sayingAt l) path.fork) _ _ (λ g. more (λ (k : _≡_ {A = ℕ} 2 1). absurd (omega arith)) none)
-      (λ g. each-if (eqb (sayingAt l) path.endfork) _ (λ i. λ (k : _≡_ {A = ℕ} 3 1). absurd (omega arith)))))
+      by-test (Each (MultSaid t)) (eqb (sayingAt l) path.saysFork) _ _ (λ g. more (λ (k : _≡_ {A = ℕ} 2 1). absurd (omega arith)) none)
+      (λ g. each-if (eqb (sayingAt l) path.saysEndfork) _ (λ i. λ (k : _≡_ {A = ℕ} 3 1). absurd (omega arith)))))
 
   model-said : (l : Line) (ls : List Line) → Found' l → Each Found' ls → Each (λ (m : Model). Each (MultSaid t) (m .steps)) (modelAt l ls)
   unfolding modelAt modelOf stepsIn

@@ -109,12 +109,12 @@ module _ (l : Line) (after : List Line) where
   pub step-own : Gives (l .number) [] (stepLines (stepOf l after))
   unfolding stepOf
   step-own =
-      by-test Own (eqb (sayingAt l) path.end) _ _ (λ e. itself)
+      by-test Own (eqb (sayingAt l) path.saysEnd) _ _ (λ e. itself)
       (λ e.
-      by-test Own (eqb (sayingAt l) path.section) _ _ (λ e. itself)
+      by-test Own (eqb (sayingAt l) path.saysSection) _ _ (λ e. itself)
       (λ e.
-      by-test Own (eqb (sayingAt l) path.fork) _ _ (λ e. itself)
-      (λ e. by-test Own (eqb (sayingAt l) path.endfork) _ _ (λ e. itself) (λ e. nothing))))
+      by-test Own (eqb (sayingAt l) path.saysFork) _ _ (λ e. itself)
+      (λ e. by-test Own (eqb (sayingAt l) path.saysEndfork) _ _ (λ e. itself) (λ e. nothing))))
     where
       Own : List Step → Type 0
       Own ss = Gives (l .number) [] (stepLines ss)

@@ -257,7 +257,7 @@ module _ (l : Line) (s : State) (e : l .place ≡ s .place) (k : keyOf l ≡ pla
   steps-in-path there =
       let says : sayingAt l ≡ pathLineOf (l .content) .says = saying-there l (e ∙ there) k in
       ap (λ (b : Bool). oneMoreIf b (s .counts .steps)) (both-rest _ _ (eq-eqb (s .place) place.path there))
-      ∙ ap (λ (v : ℕ). oneMoreIf (not (eqb v path.side)) (s .counts .steps)) (sym says)
+      ∙ ap (λ (v : ℕ). oneMoreIf (not (eqb v path.saysSide)) (s .counts .steps)) (sym says)
       ∙ said-steps (s .counts .steps) l after
       (rw says (path-says (pathLineOf (l .content)) (s .path) (s .counts .steps) (path-ruled (l .content) s there h)))
 

@@ -59,43 +59,43 @@ use Rattle.doc.proofs.StepLaws.{saying-there, saying-elsewhere, saying-
 -- the steps of a line whose path has the depth d before it and d' after it, the steps behind it being fine from there
 module _ (l : Line) (after : List Line) (d d' : ℕ) (rest : List Step) where
   said-deep :
-      (sayingAt l ≡ path.fork → (d < deepest) × (d' ≡ d + 1)) → (sayingAt l ≡ path.endfork → d' + 1 ≡ d) →
-      ((sayingAt l ≡ path.fork → ⊥) → (sayingAt l ≡ path.endfork → ⊥) → d' ≡ d) → depthOfSteps d' rest ≡ true →
+      (sayingAt l ≡ path.saysFork → (d < deepest) × (d' ≡ d + 1)) → (sayingAt l ≡ path.saysEndfork → d' + 1 ≡ d) →
+      ((sayingAt l ≡ path.saysFork → ⊥) → (sayingAt l ≡ path.saysEndfork → ⊥) → d' ≡ d) → depthOfSteps d' rest ≡ true →
       depthOfSteps d (stepOf l after ++ rest) ≡ true
   unfolding stepOf depthOfSteps if_then_else_
   said-deep forks endforks others h =
-      by-test (λ (xs : List Step). depthOfSteps d (xs ++ rest) ≡ true) (eqb (sayingAt l) path.end) _ _
-      (λ (a : eqb (sayingAt l) path.end ≡ true).
-      stays path.end (eqb-true _ _ a) (λ (z : path.end ≡ path.fork). omega arith) (λ (z : path.end ≡ path.endfork). omega arith))
-      (λ (a : eqb (sayingAt l) path.end ≡ false).
-      by-test (λ (xs : List Step). depthOfSteps d (xs ++ rest) ≡ true) (eqb (sayingAt l) path.section) _ _
-      (λ (b : eqb (sayingAt l) path.section ≡ true).
-      stays path.section (eqb-true _ _ b) (λ (z : path.section ≡ path.fork). omega arith) (λ (z : path.section ≡ path.endfork). omega arith))
-      (λ (b : eqb (sayingAt l) path.section ≡ false).
-      by-test (λ (xs : List Step). depthOfSteps d (xs ++ rest) ≡ true) (eqb (sayingAt l) path.fork) _ _
-      (λ (c : eqb (sayingAt l) path.fork ≡ true).
+      by-test (λ (xs : List Step). depthOfSteps d (xs ++ rest) ≡ true) (eqb (sayingAt l) path.saysEnd) _ _
+      (λ (a : eqb (sayingAt l) path.saysEnd ≡ true).
+      stays path.saysEnd (eqb-true _ _ a) (λ (z : path.saysEnd ≡ path.saysFork). omega arith) (λ (z : path.saysEnd ≡ path.saysEndfork). omega arith))
+      (λ (a : eqb (sayingAt l) path.saysEnd ≡ false).
+      by-test (λ (xs : List Step). depthOfSteps d (xs ++ rest) ≡ true) (eqb (sayingAt l) path.saysSection) _ _
+      (λ (b : eqb (sayingAt l) path.saysSection ≡ true).
+      stays path.saysSection (eqb-true _ _ b) (λ (z : path.saysSection ≡ path.saysFork). omega arith) (λ (z : path.saysSection ≡ path.saysEndfork). omega arith))
+      (λ (b : eqb (sayingAt l) path.saysSection ≡ false).
+      by-test (λ (xs : List Step). depthOfSteps d (xs ++ rest) ≡ true) (eqb (sayingAt l) path.saysFork) _ _
+      (λ (c : eqb (sayingAt l) path.saysFork ≡ true).
       let f : (d < deepest) × (d' ≡ d + 1) = forks (eqb-true _ _ c) in
       both-true _ _ (lt-ltb d deepest (f .0)) (rw (f .1) at h))
-      (λ (c : eqb (sayingAt l) path.fork ≡ false).
-      by-test (λ (xs : List Step). depthOfSteps d (xs ++ rest) ≡ true) (eqb (sayingAt l) path.endfork) _ _
-      (λ (f : eqb (sayingAt l) path.endfork ≡ true).
+      (λ (c : eqb (sayingAt l) path.saysFork ≡ false).
+      by-test (λ (xs : List Step). depthOfSteps d (xs ++ rest) ≡ true) (eqb (sayingAt l) path.saysEndfork) _ _
+      (λ (f : eqb (sayingAt l) path.saysEndfork ≡ true).
       let g : d' + 1 ≡ d = endforks (eqb-true _ _ f) in
       let k : d' ≡ d - 1 = omega arith in
       both-true _ _ (lt-ltb 0 d (omega arith)) (rw k at h))
-      (λ (f : eqb (sayingAt l) path.endfork ≡ false). rw (others (eqb-false _ _ c) (eqb-false _ _ f)) at h))))
+      (λ (f : eqb (sayingAt l) path.saysEndfork ≡ false). rw (others (eqb-false _ _ c) (eqb-false _ _ f)) at h))))
     where
-      stays : (v : ℕ) → sayingAt l ≡ v → (v ≡ path.fork → ⊥) → (v ≡ path.endfork → ⊥) → depthOfSteps d rest ≡ true
+      stays : (v : ℕ) → sayingAt l ≡ v → (v ≡ path.saysFork → ⊥) → (v ≡ path.saysEndfork → ⊥) → depthOfSteps d rest ≡ true
       stays v e n m =
-          rw (others (λ (z : sayingAt l ≡ path.fork). n (sym e ∙ z)) (λ (z : sayingAt l ≡ path.endfork). m (sym e ∙ z))) at h
+          rw (others (λ (z : sayingAt l ≡ path.saysFork). n (sym e ∙ z)) (λ (z : sayingAt l ≡ path.saysEndfork). m (sym e ∙ z))) at h
 
 -- a line that gives no step, where the depth stays
 silent-deep :
     (l : Line) (after : List Line) (d d' : ℕ) (rest : List Step) → sayingAt l ≡ path.saysNothing → d' ≡ d → depthOfSteps d' rest ≡ true →
     depthOfSteps d (stepOf l after ++ rest) ≡ true
 silent-deep l after d d' rest e k h =
-    said-deep l after d d' rest (λ (z : sayingAt l ≡ path.fork). let f : path.saysNothing ≡ path.fork = sym e ∙ z in absurd (omega arith))
-    (λ (z : sayingAt l ≡ path.endfork). let f : path.saysNothing ≡ path.endfork = sym e ∙ z in absurd (omega arith))
-    (λ (n : sayingAt l ≡ path.fork → ⊥) (m : sayingAt l ≡ path.endfork → ⊥). k) h
+    said-deep l after d d' rest (λ (z : sayingAt l ≡ path.saysFork). let f : path.saysNothing ≡ path.saysFork = sym e ∙ z in absurd (omega arith))
+    (λ (z : sayingAt l ≡ path.saysEndfork). let f : path.saysNothing ≡ path.saysEndfork = sym e ∙ z in absurd (omega arith))
+    (λ (n : sayingAt l ≡ path.saysFork → ⊥) (m : sayingAt l ≡ path.saysEndfork → ⊥). k) h
 
 -- ---- one line of a text
 
@@ -119,14 +119,14 @@ module _ (l : Line) (after : List Line) (s : State) (e : l .place ≡ s .place) 
       ap (λ (p : Path). p .depth) (path-next (l .content) s t) in
       let kept : pathRule (pathLineOf (l .content)) (s .path) (s .counts .steps) ≡ 0 = path-ruled (l .content) s there h in
       said-deep l after (s .path .depth) (pathNext (pathLineOf (l .content)) (s .path) .depth) rest
-      (λ (z : sayingAt l ≡ path.fork). (
+      (λ (z : sayingAt l ≡ path.saysFork). (
         fork-below (pathLineOf (l .content)) (s .path) (s .counts .steps) kept (sym says ∙ z),
         fork-raises (pathLineOf (l .content)) (s .path) (sym says ∙ z),
       ))
-      (λ (z : sayingAt l ≡ path.endfork). endfork-lowers (pathLineOf (l .content)) (s .path) (s .counts .steps) kept (sym says ∙ z))
-      (λ (n : sayingAt l ≡ path.fork → ⊥) (m : sayingAt l ≡ path.endfork → ⊥).
-      other-keeps (pathLineOf (l .content)) (s .path) (λ (z : pathLineOf (l .content) .says ≡ path.fork). n (says ∙ z))
-      (λ (z : pathLineOf (l .content) .says ≡ path.endfork). m (says ∙ z)))
+      (λ (z : sayingAt l ≡ path.saysEndfork). endfork-lowers (pathLineOf (l .content)) (s .path) (s .counts .steps) kept (sym says ∙ z))
+      (λ (n : sayingAt l ≡ path.saysFork → ⊥) (m : sayingAt l ≡ path.saysEndfork → ⊥).
+      other-keeps (pathLineOf (l .content)) (s .path) (λ (z : pathLineOf (l .content) .says ≡ path.saysFork). n (says ∙ z))
+      (λ (z : pathLineOf (l .content) .says ≡ path.saysEndfork). m (says ∙ z)))
       (rw next at deep)
 
   line-deep :

@@ -320,10 +320,10 @@ module _ (l : PathLine) (p : Path) (steps : ℕ) where
   closed-right : closedRule l p ≡ 0 → l .right ≡ true
   unfolding closedRule
   closed-right kept =
-      by-cases (l .right ≡ true) (both (eqb (l .says) path.side) (p .side))
-      (λ (e : both (eqb (l .says) path.side) (p .side) ≡ true).
+      by-cases (l .right ≡ true) (both (eqb (l .says) path.saysSide) (p .side))
+      (λ (e : both (eqb (l .says) path.saysSide) (p .side) ≡ true).
       not-false (l .right) (all-kept (11 when not (l .right) ∷ []) (omega arith, tt) (sym (if-true _ _ e) ∙ kept) 0))
-      (λ (e : both (eqb (l .says) path.side) (p .side) ≡ false).
+      (λ (e : both (eqb (l .says) path.saysSide) (p .side) ≡ false).
       let z : _≡_ {A = ℕ} 12 0 = sym (if-false _ _ e) ∙ kept in
       absurd (omega arith))
 
@@ -476,13 +476,13 @@ module _ (t : List ℕ) (l : Line) (h : Written t l) where
   unfolding namesOne
   names-two e = eqb-true _ _ (both-first _ _ e)
 
-  end-named : eqb (sayingAt l) path.end ≡ true → IsName t (secondWord (wordsOf l))
+  end-named : eqb (sayingAt l) path.saysEnd ≡ true → IsName t (secondWord (wordsOf l))
   unfolding lineSaying plainLine if_then_else_ either
-  end-named e = second-named t l h (names-two (said-right path.end (says-in l path.end (omega arith) e)))
+  end-named e = second-named t l h (names-two (said-right path.saysEnd (says-in l path.saysEnd (omega arith) e)))
 
-  side-named : eqb (sayingAt l) path.side ≡ true → IsName t (secondWord (wordsOf l))
+  side-named : eqb (sayingAt l) path.saysSide ≡ true → IsName t (secondWord (wordsOf l))
   unfolding lineSaying plainLine if_then_else_ either
-  side-named e = second-named t l h (names-two (said-right path.side (says-in l path.side (omega arith) e)))
+  side-named e = second-named t l h (names-two (said-right path.saysSide (says-in l path.saysSide (omega arith) e)))
 
   section-right : sectionLine (l .content) .right ≡ true → length (rightOf (l .content)) ≡ 2
   unfolding sectionLine plainLine isSectionLine
@@ -493,9 +493,9 @@ module _ (t : List ℕ) (l : Line) (h : Written t l) where
       let z : false ≡ true = sym (ap (λ (x : PathLine). x .right) (if-false _ _ b)) ∙ e in
       absurd (true≢false (sym z)))
 
-  section-named : eqb (sayingAt l) path.section ≡ true → IsName t (secondWord (rightWordsOf l))
+  section-named : eqb (sayingAt l) path.saysSection ≡ true → IsName t (secondWord (rightWordsOf l))
   unfolding lineSaying if_then_else_
-  section-named e = right-named t l h (section-right (said-right path.section (says-in l path.section (omega arith) e)))
+  section-named e = right-named t l h (section-right (said-right path.saysSection (says-in l path.saysSection (omega arith) e)))
 
 -- ---- the names of the document
 
@@ -541,8 +541,8 @@ module _ (t : List ℕ) where
   side-given : {ls : List Line} → Each (Written t) ls → (sideIn ls ≡ noWord) ⊎ IsName t (sideIn ls)
   side-given none = inl refl
   side-given (more {x = l} h hs) =
-      by-test (λ (w : Word). (w ≡ noWord) ⊎ IsName t w) (eqb (sayingAt l) path.side) _ _
-      (λ (e : eqb (sayingAt l) path.side ≡ true). inr (side-named t l h e)) (λ (e : eqb (sayingAt l) path.side ≡ false). inl refl)
+      by-test (λ (w : Word). (w ≡ noWord) ⊎ IsName t w) (eqb (sayingAt l) path.saysSide) _ _
+      (λ (e : eqb (sayingAt l) path.saysSide ≡ true). inr (side-named t l h e)) (λ (e : eqb (sayingAt l) path.saysSide ≡ false). inl refl)
 
   -- a fork, or the end of one
   fork-named : (kind line : ℕ) → 2 ≤ kind → StepNamed t (record { kind = kind; name = noWord; mult = false; amount = 0; side = noWord; line = line })
@@ -557,8 +557,8 @@ module _ (t : List ℕ) where
   step-named : (l : Line) (ls : List Line) → Written t l → Each (Written t) ls → Each (StepNamed t) (stepOf l ls)
   unfolding stepOf
   step-named l ls h hs =
-      by-test (Each (StepNamed t)) (eqb (sayingAt l) path.end) _ _
-      (λ (e : eqb (sayingAt l) path.end ≡ true).
+      by-test (Each (StepNamed t)) (eqb (sayingAt l) path.saysEnd) _ _
+      (λ (e : eqb (sayingAt l) path.saysEnd ≡ true).
       more (record {
         end =
             λ (k : endKind ≡ endKind). end-named t l h e;
@@ -566,9 +566,9 @@ module _ (t : List ℕ) where
         side =
             side-given hs;
       }) none)
-      (λ (e : eqb (sayingAt l) path.end ≡ false).
-      by-test (Each (StepNamed t)) (eqb (sayingAt l) path.section) _ _
-      (λ (e : eqb (sayingAt l) path.section ≡ true).
+      (λ (e : eqb (sayingAt l) path.saysEnd ≡ false).
+      by-test (Each (StepNamed t)) (eqb (sayingAt l) path.saysSection) _ _
+      (λ (e : eqb (sayingAt l) path.saysSection ≡ true).
       more (record {
         end =
             λ (k : sectionKind ≡ endKind). absurd (omega arith);
@@ -576,12 +576,12 @@ module _ (t : List ℕ) where
             λ (k : sectionKind ≡ sectionKind). section-named t l h e;
         side = inl refl;
       }) none)
-      (λ (e : eqb (sayingAt l) path.section ≡ false).
-      by-test (Each (StepNamed t)) (eqb (sayingAt l) path.fork) _ _
-      (λ (e : eqb (sayingAt l) path.fork ≡ true). more (fork-named forkKind (l .number) (omega arith)) none)
-      (λ (e : eqb (sayingAt l) path.fork ≡ false).
-      each-if (eqb (sayingAt l) path.endfork) _
-      (λ (e : eqb (sayingAt l) path.endfork ≡ true). fork-named endforkKind (l .number) (omega arith)))))
+      (λ (e : eqb (sayingAt l) path.saysSection ≡ false).
+      by-test (Each (StepNamed t)) (eqb (sayingAt l) path.saysFork) _ _
+      (λ (e : eqb (sayingAt l) path.saysFork ≡ true). more (fork-named forkKind (l .number) (omega arith)) none)
+      (λ (e : eqb (sayingAt l) path.saysFork ≡ false).
+      each-if (eqb (sayingAt l) path.saysEndfork) _
+      (λ (e : eqb (sayingAt l) path.saysEndfork ≡ true). fork-named endforkKind (l .number) (omega arith)))))
 
   -- by the keyword that opens a block of the family
   family-named : (l : Line) (k : ℕ) → Written t l → takesName k ≡ true → both (isInFamily (l .place)) (eqb (keyOf l) k) ≡ true →

@@ -88,7 +88,7 @@ side-cut (l ∷ ls) =
     (λ (e : inModel l ≡ true). ap sideIn (up-to-in inModel l ls e))
     (λ (e : inModel l ≡ false). ap sideIn (up-to-out inModel l ls e) ∙ sym (if-false _ _ (quiet e)))
   where
-    quiet : inModel l ≡ false → eqb (sayingAt l) path.side ≡ false
+    quiet : inModel l ≡ false → eqb (sayingAt l) path.saysSide ≡ false
     quiet e = rw (silent l e)
 
 step-cut : (l : Line) (after : List Line) → stepOf l (upTo inModel after) ≡ stepOf l after

@@ -309,23 +309,23 @@ module _ (t : List ℕ) where
   side-stands : {ls : List Line} → Each (LineStands t) ls → Stands t (sideIn ls)
   side-stands none = no-word-stands t
   side-stands (more {x = l} h hs) =
-      by-test (Stands t) (eqb (sayingAt l) path.side) _ _ (λ (e : eqb (sayingAt l) path.side ≡ true). second-word-stands t l h)
-      (λ (e : eqb (sayingAt l) path.side ≡ false). no-word-stands t)
+      by-test (Stands t) (eqb (sayingAt l) path.saysSide) _ _ (λ (e : eqb (sayingAt l) path.saysSide ≡ true). second-word-stands t l h)
+      (λ (e : eqb (sayingAt l) path.saysSide ≡ false). no-word-stands t)
 
   step-stands : (l : Line) (ls : List Line) → LineStands t l → Each (LineStands t) ls → Each (StepStands t) (stepOf l ls)
   unfolding stepOf
   step-stands l ls h hs =
-      by-test (Each (StepStands t)) (eqb (sayingAt l) path.end) _ _
-      (λ (e : eqb (sayingAt l) path.end ≡ true). more (record { name = second-word-stands t l h; side = side-stands hs }) none)
-      (λ (e : eqb (sayingAt l) path.end ≡ false).
-      by-test (Each (StepStands t)) (eqb (sayingAt l) path.section) _ _
-      (λ (e : eqb (sayingAt l) path.section ≡ true). more (record { name = right-word-stands t l h; side = no-word-stands t }) none)
-      (λ (e : eqb (sayingAt l) path.section ≡ false).
-      by-test (Each (StepStands t)) (eqb (sayingAt l) path.fork) _ _
-      (λ (e : eqb (sayingAt l) path.fork ≡ true). more (record { name = no-word-stands t; side = no-word-stands t }) none)
-      (λ (e : eqb (sayingAt l) path.fork ≡ false).
-      each-if (eqb (sayingAt l) path.endfork) _
-      (λ (e : eqb (sayingAt l) path.endfork ≡ true). record { name = no-word-stands t; side = no-word-stands t }))))
+      by-test (Each (StepStands t)) (eqb (sayingAt l) path.saysEnd) _ _
+      (λ (e : eqb (sayingAt l) path.saysEnd ≡ true). more (record { name = second-word-stands t l h; side = side-stands hs }) none)
+      (λ (e : eqb (sayingAt l) path.saysEnd ≡ false).
+      by-test (Each (StepStands t)) (eqb (sayingAt l) path.saysSection) _ _
+      (λ (e : eqb (sayingAt l) path.saysSection ≡ true). more (record { name = right-word-stands t l h; side = no-word-stands t }) none)
+      (λ (e : eqb (sayingAt l) path.saysSection ≡ false).
+      by-test (Each (StepStands t)) (eqb (sayingAt l) path.saysFork) _ _
+      (λ (e : eqb (sayingAt l) path.saysFork ≡ true). more (record { name = no-word-stands t; side = no-word-stands t }) none)
+      (λ (e : eqb (sayingAt l) path.saysFork ≡ false).
+      each-if (eqb (sayingAt l) path.saysEndfork) _
+      (λ (e : eqb (sayingAt l) path.saysEndfork ≡ true). record { name = no-word-stands t; side = no-word-stands t }))))
 
   model-stands : (l : Line) (ls : List Line) → LineStands t l → Each (LineStands t) ls → Each (ModelStands t) (modelAt l ls)
   unfolding modelAt modelOf stepsIn

@@ -47,8 +47,8 @@ use Rattle.doc.specs.Document.{Step, sayingAt, stepOf}
 
 -- one of the six
 saying-none :
-    (w : List ℕ) → eqb (sayingOf w) path.section ≡ false → either (eqb (sayingOf w) path.fork) (eqb (sayingOf w) path.endfork) ≡ false →
-    either (eqb (sayingOf w) path.end) (eqb (sayingOf w) path.side) ≡ false → path.saysNothing ≡ sayingOf w
+    (w : List ℕ) → eqb (sayingOf w) path.saysSection ≡ false → either (eqb (sayingOf w) path.saysFork) (eqb (sayingOf w) path.saysEndfork) ≡ false →
+    either (eqb (sayingOf w) path.saysEnd) (eqb (sayingOf w) path.saysSide) ≡ false → path.saysNothing ≡ sayingOf w
 unfolding sayingOf either
 saying-none w =
     by-test Other (same w (bytes "Section")) _ _
@@ -69,30 +69,30 @@ saying-none w =
   where
     Other : ℕ → Type 0
     Other v =
-        eqb v path.section ≡ false → either (eqb v path.fork) (eqb v path.endfork) ≡ false →
-        either (eqb v path.end) (eqb v path.side) ≡ false → path.saysNothing ≡ v
+        eqb v path.saysSection ≡ false → either (eqb v path.saysFork) (eqb v path.saysEndfork) ≡ false →
+        either (eqb v path.saysEnd) (eqb v path.saysSide) ≡ false → path.saysNothing ≡ v
 
-section-says : (content : List ℕ) → sectionLine content .says ≡ path.section
+section-says : (content : List ℕ) → sectionLine content .says ≡ path.saysSection
 unfolding sectionLine plainLine
 section-says content =
-    by-test (λ (l : PathLine). l .says ≡ path.section) (isSectionLine content) _ _ (λ (e : isSectionLine content ≡ true). refl)
+    by-test (λ (l : PathLine). l .says ≡ path.saysSection) (isSectionLine content) _ _ (λ (e : isSectionLine content ≡ true). refl)
     (λ (e : isSectionLine content ≡ false). refl)
 
 -- a line of a path says what its first word says
 pub says-said : (content : List ℕ) → pathLineOf content .says ≡ sayingOf (firstOf (words content))
 unfolding pathLineOf lineSaying plainLine
 says-said content =
-    by-test (λ (l : PathLine). l .says ≡ sayingOf (firstOf (words content))) (eqb (sayingOf (firstOf (words content))) path.section) _ _
-    (λ (e : eqb (sayingOf (firstOf (words content))) path.section ≡ true). section-says content ∙ sym (eqb-true _ _ e))
-    (λ (e : eqb (sayingOf (firstOf (words content))) path.section ≡ false).
+    by-test (λ (l : PathLine). l .says ≡ sayingOf (firstOf (words content))) (eqb (sayingOf (firstOf (words content))) path.saysSection) _ _
+    (λ (e : eqb (sayingOf (firstOf (words content))) path.saysSection ≡ true). section-says content ∙ sym (eqb-true _ _ e))
+    (λ (e : eqb (sayingOf (firstOf (words content))) path.saysSection ≡ false).
     by-test (λ (l : PathLine). l .says ≡ sayingOf (firstOf (words content)))
-    (either (eqb (sayingOf (firstOf (words content))) path.fork) (eqb (sayingOf (firstOf (words content))) path.endfork)) _ _
+    (either (eqb (sayingOf (firstOf (words content))) path.saysFork) (eqb (sayingOf (firstOf (words content))) path.saysEndfork)) _ _
     (λ f. refl)
-    (λ (f : either (eqb (sayingOf (firstOf (words content))) path.fork) (eqb (sayingOf (firstOf (words content))) path.endfork) ≡ false).
+    (λ (f : either (eqb (sayingOf (firstOf (words content))) path.saysFork) (eqb (sayingOf (firstOf (words content))) path.saysEndfork) ≡ false).
     by-test (λ (l : PathLine). l .says ≡ sayingOf (firstOf (words content)))
-    (either (eqb (sayingOf (firstOf (words content))) path.end) (eqb (sayingOf (firstOf (words content))) path.side)) _ _
+    (either (eqb (sayingOf (firstOf (words content))) path.saysEnd) (eqb (sayingOf (firstOf (words content))) path.saysSide)) _ _
     (λ g. refl)
-    (λ (g : either (eqb (sayingOf (firstOf (words content))) path.end) (eqb (sayingOf (firstOf (words content))) path.side) ≡ false).
+    (λ (g : either (eqb (sayingOf (firstOf (words content))) path.saysEnd) (eqb (sayingOf (firstOf (words content))) path.saysSide) ≡ false).
     saying-none (firstOf (words content)) e f g)))
 
 -- what a line in a path says is what its document reads
@@ -136,14 +136,14 @@ module _ (l : PathLine) (p : Path) (steps : ℕ) where
   orderly h = all-kept openRules numbered h 2
 
   nothing-disorderly :
-      eqb (l .says) path.side ≡ false → eqb (l .says) path.section ≡ false → eqb (l .says) path.fork ≡ false →
-      eqb (l .says) path.end ≡ false → eqb (l .says) path.endfork ≡ false → isPathOutOfOrder l p ≡ true
+      eqb (l .says) path.saysSide ≡ false → eqb (l .says) path.saysSection ≡ false → eqb (l .says) path.saysFork ≡ false →
+      eqb (l .says) path.saysEnd ≡ false → eqb (l .says) path.saysEndfork ≡ false → isPathOutOfOrder l p ≡ true
   unfolding isPathOutOfOrder
   nothing-disorderly a b c d e = if-false _ _ a ∙ if-false _ _ b ∙ if-false _ _ c ∙ if-false _ _ d ∙ if-false _ _ e
 
   pub path-says :
-      pathRule l p steps ≡ 0 → eqb (l .says) path.side ≡ false → eqb (l .says) path.section ≡ false → eqb (l .says) path.fork ≡ false →
-      eqb (l .says) path.end ≡ false → eqb (l .says) path.endfork ≡ false → ⊥
+      pathRule l p steps ≡ 0 → eqb (l .says) path.saysSide ≡ false → eqb (l .says) path.saysSection ≡ false → eqb (l .says) path.saysFork ≡ false →
+      eqb (l .says) path.saysEnd ≡ false → eqb (l .says) path.saysEndfork ≡ false → ⊥
   unfolding pathRule
   path-says h a b c d e =
       by-cases ⊥ (eqb (p .stage) closed)
@@ -159,41 +159,41 @@ unfolding stepOf if_then_else_
 silent-step l after e = rw e
 
 module _ (n v : ℕ) where
-  counts-one : (v ≡ path.side → ⊥) → oneMoreIf (not (eqb v path.side)) n ≡ n + 1
+  counts-one : (v ≡ path.saysSide → ⊥) → oneMoreIf (not (eqb v path.saysSide)) n ≡ n + 1
   unfolding oneMoreIf
   counts-one h = if-true _ _ (not-via (ne-eqb _ _ h))
 
-  counts-none : v ≡ path.side → oneMoreIf (not (eqb v path.side)) n ≡ n
+  counts-none : v ≡ path.saysSide → oneMoreIf (not (eqb v path.saysSide)) n ≡ n
   unfolding oneMoreIf
   counts-none h = if-false _ _ (not-not-via (eq-eqb _ _ h))
 
 module _ (n : ℕ) (l : Line) (after : List Line) where
   pub said-steps :
-      (eqb (sayingAt l) path.side ≡ false → eqb (sayingAt l) path.section ≡ false → eqb (sayingAt l) path.fork ≡ false →
-      eqb (sayingAt l) path.end ≡ false → eqb (sayingAt l) path.endfork ≡ false → ⊥) →
-      oneMoreIf (not (eqb (sayingAt l) path.side)) n ≡ n + length (stepOf l after)
+      (eqb (sayingAt l) path.saysSide ≡ false → eqb (sayingAt l) path.saysSection ≡ false → eqb (sayingAt l) path.saysFork ≡ false →
+      eqb (sayingAt l) path.saysEnd ≡ false → eqb (sayingAt l) path.saysEndfork ≡ false → ⊥) →
+      oneMoreIf (not (eqb (sayingAt l) path.saysSide)) n ≡ n + length (stepOf l after)
   unfolding stepOf
   said-steps five =
-      by-test Counts (eqb (sayingAt l) path.end) _ _
-      (λ (a : eqb (sayingAt l) path.end ≡ true). one path.end (eqb-true _ _ a) (λ (z : path.end ≡ path.side). omega arith))
-      (λ (a : eqb (sayingAt l) path.end ≡ false).
-      by-test Counts (eqb (sayingAt l) path.section) _ _
-      (λ (b : eqb (sayingAt l) path.section ≡ true). one path.section (eqb-true _ _ b) (λ (z : path.section ≡ path.side). omega arith))
-      (λ (b : eqb (sayingAt l) path.section ≡ false).
-      by-test Counts (eqb (sayingAt l) path.fork) _ _
-      (λ (c : eqb (sayingAt l) path.fork ≡ true). one path.fork (eqb-true _ _ c) (λ (z : path.fork ≡ path.side). omega arith))
-      (λ (c : eqb (sayingAt l) path.fork ≡ false).
-      by-test Counts (eqb (sayingAt l) path.endfork) _ _
-      (λ (d : eqb (sayingAt l) path.endfork ≡ true). one path.endfork (eqb-true _ _ d) (λ (z : path.endfork ≡ path.side). omega arith))
-      (λ (d : eqb (sayingAt l) path.endfork ≡ false).
-      by-cases (Counts []) (eqb (sayingAt l) path.side)
-      (λ (e : eqb (sayingAt l) path.side ≡ true).
-      let z : oneMoreIf (not (eqb (sayingAt l) path.side)) n ≡ n = counts-none n (sayingAt l) (eqb-true _ _ e) in
+      by-test Counts (eqb (sayingAt l) path.saysEnd) _ _
+      (λ (a : eqb (sayingAt l) path.saysEnd ≡ true). one path.saysEnd (eqb-true _ _ a) (λ (z : path.saysEnd ≡ path.saysSide). omega arith))
+      (λ (a : eqb (sayingAt l) path.saysEnd ≡ false).
+      by-test Counts (eqb (sayingAt l) path.saysSection) _ _
+      (λ (b : eqb (sayingAt l) path.saysSection ≡ true). one path.saysSection (eqb-true _ _ b) (λ (z : path.saysSection ≡ path.saysSide). omega arith))
+      (λ (b : eqb (sayingAt l) path.saysSection ≡ false).
+      by-test Counts (eqb (sayingAt l) path.saysFork) _ _
+      (λ (c : eqb (sayingAt l) path.saysFork ≡ true). one path.saysFork (eqb-true _ _ c) (λ (z : path.saysFork ≡ path.saysSide). omega arith))
+      (λ (c : eqb (sayingAt l) path.saysFork ≡ false).
+      by-test Counts (eqb (sayingAt l) path.saysEndfork) _ _
+      (λ (d : eqb (sayingAt l) path.saysEndfork ≡ true). one path.saysEndfork (eqb-true _ _ d) (λ (z : path.saysEndfork ≡ path.saysSide). omega arith))
+      (λ (d : eqb (sayingAt l) path.saysEndfork ≡ false).
+      by-cases (Counts []) (eqb (sayingAt l) path.saysSide)
+      (λ (e : eqb (sayingAt l) path.saysSide ≡ true).
+      let z : oneMoreIf (not (eqb (sayingAt l) path.saysSide)) n ≡ n = counts-none n (sayingAt l) (eqb-true _ _ e) in
       omega arith)
-      (λ (e : eqb (sayingAt l) path.side ≡ false). absurd (five e b c a d))))))
+      (λ (e : eqb (sayingAt l) path.saysSide ≡ false). absurd (five e b c a d))))))
     where
       Counts : List Step → Type 0
-      Counts steps = oneMoreIf (not (eqb (sayingAt l) path.side)) n ≡ n + length steps
+      Counts steps = oneMoreIf (not (eqb (sayingAt l) path.saysSide)) n ≡ n + length steps
 
-      one : (v : ℕ) → sayingAt l ≡ v → (v ≡ path.side → ⊥) → oneMoreIf (not (eqb (sayingAt l) path.side)) n ≡ n + 1
-      one v e h = counts-one n (sayingAt l) (λ (z : sayingAt l ≡ path.side). h (sym e ∙ z))
+      one : (v : ℕ) → sayingAt l ≡ v → (v ≡ path.saysSide → ⊥) → oneMoreIf (not (eqb (sayingAt l) path.saysSide)) n ≡ n + 1
+      one v e h = counts-one n (sayingAt l) (λ (z : sayingAt l ≡ path.saysSide). h (sym e ∙ z))

@@ -136,17 +136,17 @@ amountOf content =
 -- "perhaps with `Side name` as the next line read"
 abbrev pub sideIn : List Line → Word
 sideIn [] = noWord
-sideIn (l ∷ ls) = if eqb (sayingAt l) path.side then secondWord (wordsOf l) else noWord
+sideIn (l ∷ ls) = if eqb (sayingAt l) path.saysSide then secondWord (wordsOf l) else noWord
 
 unfoldable pub stepOf : Line → List Line → List Step
 stepOf l after =
-    if eqb (sayingAt l) path.end
+    if eqb (sayingAt l) path.saysEnd
     then record { kind = endKind; name = secondWord (wordsOf l); mult = false; amount = 0; side = sideIn after; line = l .number } ∷ [] else
-    if eqb (sayingAt l) path.section
+    if eqb (sayingAt l) path.saysSection
     then record { kind = sectionKind; name = secondWord (rightWordsOf l); mult = isMult (l .content); amount = amountOf (l .content); side = noWord; line = l .number } ∷ [] else
-    if eqb (sayingAt l) path.fork
+    if eqb (sayingAt l) path.saysFork
     then record { kind = forkKind; name = noWord; mult = false; amount = 0; side = noWord; line = l .number } ∷ [] else
-    if eqb (sayingAt l) path.endfork
+    if eqb (sayingAt l) path.saysEndfork
     then record { kind = endforkKind; name = noWord; mult = false; amount = 0; side = noWord; line = l .number } ∷ [] else []
 
 unfoldable pub stepsIn : List Line → List Step

@@ -134,32 +134,32 @@ module _ (l m : Line) (s : SameLine l m) where
   saying-is h = if-true _ _ h
 
   -- the second word of an end or a Side
-  second-same : (k : ℕ) → (k ≡ path.saysNothing → ⊥) → (k ≡ path.section → ⊥) → sayingAt l ≡ k → secondWord (wordsOf l) .text ≡ secondWord (wordsOf m) .text
+  second-same : (k : ℕ) → (k ≡ path.saysNothing → ⊥) → (k ≡ path.saysSection → ⊥) → sayingAt l ≡ k → secondWord (wordsOf l) .text ≡ secondWord (wordsOf m) .text
   second-same k n o e =
       let h : standsIn place.path l ≡ true = says-stands k n e in
-      let w : words (l .content) ≡ words (m .content) = path-said h .names (λ (q : sayingOf (firstOf (words (l .content))) ≡ path.section). o (sym e ∙ saying-is h ∙ q)) in
+      let w : words (l .content) ≡ words (m .content) = path-said h .names (λ (q : sayingOf (firstOf (words (l .content))) ≡ path.saysSection). o (sym e ∙ saying-is h ∙ q)) in
       second-said l ∙ ap secondOf w ∙ sym (second-said m)
 
 deep-silent : (l : Line) → isDeep l ≡ true → sayingAt l ≡ path.saysNothing
 unfolding sayingAt
 deep-silent l e = if-false _ _ (deep-stands l e place.path (λ (h : place.path ≡ place.section). omega arith) (λ (h : place.path ≡ place.matrix). omega arith))
 
-side-in : (l : Line) (ls : List Line) → sideIn (l ∷ ls) ≡ (if eqb (sayingAt l) path.side then secondWord (wordsOf l) else noWord)
+side-in : (l : Line) (ls : List Line) → sideIn (l ∷ ls) ≡ (if eqb (sayingAt l) path.saysSide then secondWord (wordsOf l) else noWord)
 side-in l ls = refl
 
 side-alike : {ls ms : List Line} → AlikeLines ls ms → sideIn ls .text ≡ sideIn ms .text
 side-alike none = refl
 side-alike (line {l = l} {m = m} s a) =
-    by-cases _ (eqb (sayingAt l) path.side)
-    (λ (e : eqb (sayingAt l) path.side ≡ true).
-    ap (λ (w : Word). w .text) (if-true _ _ e) ∙ second-same l m s path.side (λ (h : path.side ≡ path.saysNothing). omega arith) (λ (h : path.side ≡ path.section). omega arith) (eqb-true _ _ e)
-    ∙ ap (λ (w : Word). w .text) (sym (if-true _ _ (ap (λ (k : ℕ). eqb k path.side) (sym (saying-same l m s)) ∙ e))))
-    (λ (e : eqb (sayingAt l) path.side ≡ false).
-    ap (λ (w : Word). w .text) (if-false _ _ e) ∙ ap (λ (w : Word). w .text) (sym (if-false _ _ (ap (λ (k : ℕ). eqb k path.side) (sym (saying-same l m s)) ∙ e))))
+    by-cases _ (eqb (sayingAt l) path.saysSide)
+    (λ (e : eqb (sayingAt l) path.saysSide ≡ true).
+    ap (λ (w : Word). w .text) (if-true _ _ e) ∙ second-same l m s path.saysSide (λ (h : path.saysSide ≡ path.saysNothing). omega arith) (λ (h : path.saysSide ≡ path.saysSection). omega arith) (eqb-true _ _ e)
+    ∙ ap (λ (w : Word). w .text) (sym (if-true _ _ (ap (λ (k : ℕ). eqb k path.saysSide) (sym (saying-same l m s)) ∙ e))))
+    (λ (e : eqb (sayingAt l) path.saysSide ≡ false).
+    ap (λ (w : Word). w .text) (if-false _ _ e) ∙ ap (λ (w : Word). w .text) (sym (if-false _ _ (ap (λ (k : ℕ). eqb k path.saysSide) (sym (saying-same l m s)) ∙ e))))
 side-alike (matrix {l = l} {m = m} bs cs n p q a) = ap (λ (w : Word). w .text) (no-side l (opening-deep l (n .opens)) ∙ sym (no-side m (opening-deep m (other-opens l bs m cs n))))
   where
-    no-side : (x : Line) → isDeep x ≡ true → (if eqb (sayingAt x) path.side then secondWord (wordsOf x) else noWord) ≡ noWord
-    no-side x e = if-false _ _ (ap (λ (k : ℕ). eqb k path.side) (deep-silent x e))
+    no-side : (x : Line) → isDeep x ≡ true → (if eqb (sayingAt x) path.saysSide then secondWord (wordsOf x) else noWord) ≡ noWord
+    no-side x e = if-false _ _ (ap (λ (k : ℕ). eqb k path.saysSide) (deep-silent x e))
 
 -- the same choice on both sides
 pub all2-choice : {A : Type 0} {Rel : A → A → Type 0} (b c : Bool) → b ≡ c → (x y u v : List A) → (b ≡ true → All2 Rel x u) → (b ≡ false → All2 Rel y v) → All2 Rel (if b then x else y) (if c then u else v)
@@ -176,31 +176,31 @@ module _ (l m : Line) (ls ms : List Line) (s : SameLine l m) (a : AlikeLines ls 
   step-same : All2 SameStep (stepOf l ls) (stepOf m ms)
   unfolding stepOf noWord
   step-same =
-      all2-choice (eqb (sayingAt l) path.end) (eqb (sayingAt m) path.end) (says path.end) _ _ _ _
-      (λ (e : eqb (sayingAt l) path.end ≡ true).
+      all2-choice (eqb (sayingAt l) path.saysEnd) (eqb (sayingAt m) path.saysEnd) (says path.saysEnd) _ _ _ _
+      (λ (e : eqb (sayingAt l) path.saysEnd ≡ true).
       all2-more
-      (record { kind = refl; name = second-same l m s path.end (λ (h : path.end ≡ path.saysNothing). omega arith) (λ (h : path.end ≡ path.section). omega arith) (eqb-true _ _ e); mult = refl; amount = refl; side = side-alike a })
+      (record { kind = refl; name = second-same l m s path.saysEnd (λ (h : path.saysEnd ≡ path.saysNothing). omega arith) (λ (h : path.saysEnd ≡ path.saysSection). omega arith) (eqb-true _ _ e); mult = refl; amount = refl; side = side-alike a })
       all2-none)
       (λ f.
-      all2-choice (eqb (sayingAt l) path.section) (eqb (sayingAt m) path.section) (says path.section) _ _ _ _
-      (λ (e : eqb (sayingAt l) path.section ≡ true).
-      let h : standsIn place.path l ≡ true = says-stands l m s path.section (λ (q : path.section ≡ path.saysNothing). omega arith) (eqb-true _ _ e) in
+      all2-choice (eqb (sayingAt l) path.saysSection) (eqb (sayingAt m) path.saysSection) (says path.saysSection) _ _ _ _
+      (λ (e : eqb (sayingAt l) path.saysSection ≡ true).
+      let h : standsIn place.path l ≡ true = says-stands l m s path.saysSection (λ (q : path.saysSection ≡ path.saysNothing). omega arith) (eqb-true _ _ e) in
       let r : SameSides (l .content) (m .content) = path-said l m s h .sides in
       all2-more
       (record { kind = refl; name = right-said l ∙ ap secondOf (r .right) ∙ sym (right-said m); mult = mult-same (l .content) (m .content) r; amount = amount-same (l .content) (m .content) r; side = refl })
       all2-none)
       (λ g.
-      all2-choice (eqb (sayingAt l) path.fork) (eqb (sayingAt m) path.fork) (says path.fork) _ _ _ _
+      all2-choice (eqb (sayingAt l) path.saysFork) (eqb (sayingAt m) path.saysFork) (says path.saysFork) _ _ _ _
       (λ e. all2-more (record { kind = refl; name = refl; mult = refl; amount = refl; side = refl }) all2-none)
       (λ j.
-      all2-choice (eqb (sayingAt l) path.endfork) (eqb (sayingAt m) path.endfork) (says path.endfork) _ _ _ _
+      all2-choice (eqb (sayingAt l) path.saysEndfork) (eqb (sayingAt m) path.saysEndfork) (says path.saysEndfork) _ _ _ _
       (λ e. all2-more (record { kind = refl; name = refl; mult = refl; amount = refl; side = refl }) all2-none) (λ e. all2-none))))
 
 step-silent : (l : Line) (ls : List Line) → isDeep l ≡ true → stepOf l ls ≡ []
 unfolding stepOf
 step-silent l ls e =
     let z : sayingAt l ≡ path.saysNothing = deep-silent l e in
-    if-false _ _ (ap (λ (k : ℕ). eqb k path.end) z) ∙ if-false _ _ (ap (λ (k : ℕ). eqb k path.section) z) ∙ if-false _ _ (ap (λ (k : ℕ). eqb k path.fork) z) ∙ if-false _ _ (ap (λ (k : ℕ). eqb k path.endfork) z)
+    if-false _ _ (ap (λ (k : ℕ). eqb k path.saysEnd) z) ∙ if-false _ _ (ap (λ (k : ℕ). eqb k path.saysSection) z) ∙ if-false _ _ (ap (λ (k : ℕ). eqb k path.saysFork) z) ∙ if-false _ _ (ap (λ (k : ℕ). eqb k path.saysEndfork) z)
 
 steps-alike : {ls ms : List Line} → AlikeLines ls ms → All2 SameStep (stepsIn ls) (stepsIn ms)
 unfolding stepsIn

@@ -165,12 +165,12 @@ size-same says a b s = rw (s .signs, s .left, s .right)
 -- which of the two sizes the words before the sign name
 unfoldable sizesOf : List ℕ → List ℕ → MapLine
 sizesOf first a =
-    if same first (bytes "Num_of_columns") then sizeLine pinMap.columns a else
-    if same first (bytes "Num_of_rows") then sizeLine pinMap.rows a else record { says = pinMap.saysNothing; right = true; formed = true; bounded = true; value = 0 }
+    if same first (bytes "Num_of_columns") then sizeLine pinMap.saysColumns a else
+    if same first (bytes "Num_of_rows") then sizeLine pinMap.saysRows a else record { says = pinMap.saysNothing; right = true; formed = true; bounded = true; value = 0 }
 
 sizes-same : (a b : List ℕ) → SameSides a b → sizesOf (firstOf (leftOf a)) a ≡ sizesOf (firstOf (leftOf b)) b
 unfolding sizesOf
-sizes-same a b s = rw (s .left, size-same pinMap.columns a b s, size-same pinMap.rows a b s)
+sizes-same a b s = rw (s .left, size-same pinMap.saysColumns a b s, size-same pinMap.saysRows a b s)
 
 map-named : (w : List ℕ) → either (same w (bytes "Num_of_columns")) (same w (bytes "Num_of_rows")) ≡ true → (same w (bytes "Pin_order") ≡ false) × (same w (bytes "Pin_list") ≡ false)
 unfolding same both either
@@ -192,7 +192,7 @@ module _ (a : List ℕ) (e : either (same (firstOf (leftOf a)) (bytes "Num_of_co
 
 pub map-same : (p : ℕ) (a b : List ℕ) → SamePlain p a b → p ≡ place.mapHead → mapLineOf a ≡ mapLineOf b
 unfolding mapLineOf
-map-same p a b (by-words w s) q = rw (w, s .left, size-same pinMap.columns a b s, size-same pinMap.rows a b s)
+map-same p a b (by-words w s) q = rw (w, s .left, size-same pinMap.saysColumns a b s, size-same pinMap.saysRows a b s)
 map-same p a b (by-sides x y s) q = map-formed a (in-map p a x q) ∙ sizes-same a b s ∙ sym (map-formed b (in-map p b y q))
 
 -- ---- a path
@@ -200,18 +200,18 @@ map-same p a b (by-sides x y s) q = map-formed a (in-map p a x q) ∙ sizes-same
 -- what a path's line says, and what it says it of
 pub record SamePath (a b : List ℕ) : Type 0 where
   pub saying : sayingOf (firstOf (words a)) ≡ sayingOf (firstOf (words b))
-  pub names : (sayingOf (firstOf (words a)) ≡ path.section → ⊥) → words a ≡ words b
+  pub names : (sayingOf (firstOf (words a)) ≡ path.saysSection → ⊥) → words a ≡ words b
   pub sides : SameSides a b
 
-section-said : (a : List ℕ) → same (firstOf (words a)) (bytes "Section") ≡ true → sayingOf (firstOf (words a)) ≡ path.section
+section-said : (a : List ℕ) → same (firstOf (words a)) (bytes "Section") ≡ true → sayingOf (firstOf (words a)) ≡ path.saysSection
 unfolding sayingOf
 section-said a e = if-true _ _ e
 
 pub path-same : (p : ℕ) (a b : List ℕ) → SamePlain p a b → p ≡ place.path → SamePath a b
 path-same p a b (by-words w s) q = record { saying = ap (λ (ws : List (List ℕ)). sayingOf (firstOf ws)) w; names = λ n. w; sides = s }
 path-same p a b (by-sides x y s) q =
-    let e : sayingOf (firstOf (words a)) ≡ path.section = section-said a (in-path p a x q) in
-    record { saying = e ∙ sym (section-said b (in-path p b y q)); names = λ (n : sayingOf (firstOf (words a)) ≡ path.section → ⊥). absurd (n e); sides = s }
+    let e : sayingOf (firstOf (words a)) ≡ path.saysSection = section-said a (in-path p a x q) in
+    record { saying = e ∙ sym (section-said b (in-path p b y q)); names = λ (n : sayingOf (firstOf (words a)) ≡ path.saysSection → ⊥). absurd (n e); sides = s }
 
 pub mult-same : (a b : List ℕ) → SameSides a b → isMult a ≡ isMult b
 unfolding isMult

@@ -27,7 +27,7 @@ use Rattle.line_argument.specs.Argument.{isReserved}
 use Rattle.line_head.specs.Head.{headLineOf, headRule}
 use Rattle.line_head.specs.declared.HeadLine.{HeadLine}
 use Rattle.line_head.specs.declared.Head.{Head}
-use Rattle.line_path.specs.Path.{pathLineOf, pathRule, openRule, closedRule, closed, side}
+use Rattle.line_path.specs.Path.{pathLineOf, pathRule, openRule, closedRule, closed, saysSide}
 use Rattle.line_path.specs.declared.PathLine.{PathLine}
 use Rattle.line_path.specs.declared.Path.{Path}
 use Rattle.line_map.specs.PinMap.{mapLineOf, mapRule, pinRule}
@@ -60,7 +60,7 @@ chosen false x y m n e f = f
 
 path-given : (l : PathLine) (p : Path) (steps : ℕ) → pathRule l p steps ≡ firstBroken (pathRules l p steps)
 unfolding pathRule closedRule openRule first
-path-given l p steps = chosen (eqb (p .stage) closed) (closedRules l p) (openRules l p steps) _ _ (chosen (both (eqb (l .says) side) (p .side)) _ _ _ _ refl refl) refl
+path-given l p steps = chosen (eqb (p .stage) closed) (closedRules l p) (openRules l p steps) _ _ (chosen (both (eqb (l .says) saysSide) (p .side)) _ _ _ _ refl refl) refl
 
 list-given : (content : List ℕ) → listRule content ≡ firstBroken (listRules content)
 unfolding listRule if_then_else_ first
@@ -213,7 +213,7 @@ either-ranked b x y h k = by-test (Ranked forward) b _ _ (λ e. h) (λ e. k)
 
 path-ranked : (l : PathLine) (p : Path) (steps : ℕ) → Ranked forward (pathRules l p steps)
 path-ranked l p steps =
-    either-ranked (eqb (p .stage) closed) _ _ (either-ranked (both (eqb (l .says) side) (p .side)) _ _ (eleven-ranked _) (twelve-ranked true))
+    either-ranked (eqb (p .stage) closed) _ _ (either-ranked (both (eqb (l .says) saysSide) (p .side)) _ _ (eleven-ranked _) (twelve-ranked true))
     (open-ranked l p steps)
 
 line-ranked : (content : List ℕ) (s : State) → Ranked forward (lineRules content s)

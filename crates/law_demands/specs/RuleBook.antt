@@ -25,7 +25,7 @@ use Rattle.line_head.specs.Head.{headLineOf}
 use Rattle.line_head.specs.Head as head
 use Rattle.line_head.specs.declared.HeadLine.{HeadLine}
 use Rattle.line_head.specs.declared.Head.{Head}
-use Rattle.line_path.specs.Path.{pathLineOf, isBadFork, isStepLine, mostSteps, closed, side}
+use Rattle.line_path.specs.Path.{pathLineOf, isBadFork, isStepLine, mostSteps, closed, saysSide}
 use Rattle.line_path.specs.Path as path
 use Rattle.line_path.specs.declared.PathLine.{PathLine}
 use Rattle.line_path.specs.declared.Path.{Path}
@@ -78,7 +78,7 @@ openRules l p steps =
     ∷ []
 
 abbrev pub closedRules : PathLine → Path → List Rule
-closedRules l p = if both (eqb (l .says) side) (p .side) then 11 when not (l .right) ∷ [] else 12 when true ∷ []
+closedRules l p = if both (eqb (l .says) saysSide) (p .side) then 11 when not (l .right) ∷ [] else 12 when true ∷ []
 
 abbrev pub pathRules : PathLine → Path → ℕ → List Rule
 pathRules l p steps = if eqb (p .stage) closed then closedRules l p else openRules l p steps

@@ -79,14 +79,14 @@ section-told content r f b =
     let z : false ≡ true = sym (ap (λ (x : PathLine). x .right) (if-false _ _ e)) ∙ r in
     absurd (true≢false (sym z)))
 
-module _ (l : PathLine) (p : Path) (steps : ℕ) (kept : pathRule l p steps ≡ 0) (says : l .says ≡ path.section) where
+module _ (l : PathLine) (p : Path) (steps : ℕ) (kept : pathRule l p steps ≡ 0) (says : l .says ≡ path.saysSection) where
   -- a closed path takes no Section
   open-kept : openRule l p steps ≡ 0
   unfolding pathRule
   open-kept =
       by-cases _ (eqb (p .stage) closed)
       (λ (e : eqb (p .stage) closed ≡ true).
-      let z : 12 ≡ 0 = closed-other l p (λ (s : l .says ≡ path.side). omega arith) ∙ sym (if-true _ _ e) ∙ kept in
+      let z : 12 ≡ 0 = closed-other l p (λ (s : l .says ≡ path.saysSide). omega arith) ∙ sym (if-true _ _ e) ∙ kept in
       absurd (omega arith))
       (λ (e : eqb (p .stage) closed ≡ false). sym (if-false _ _ e) ∙ kept)
 
@@ -105,12 +105,12 @@ module _ (l : PathLine) (p : Path) (steps : ℕ) (kept : pathRule l p steps ≡ 
   test-kept i =
       all-kept tests (omega arith, (omega arith, (omega arith, (omega arith, (omega arith, (omega arith, tt)))))) open-kept i
 
-section-is : (content : List ℕ) → pathLineOf content .says ≡ path.section → pathLineOf content ≡ sectionLine content
+section-is : (content : List ℕ) → pathLineOf content .says ≡ path.saysSection → pathLineOf content ≡ sectionLine content
 unfolding pathLineOf lineSaying
 section-is content e = if-true _ _ (eq-eqb _ _ (sym (says-said content) ∙ e))
 
 line-amount :
-    (content : List ℕ) (p : Path) (steps : ℕ) → pathRule (pathLineOf content) p steps ≡ 0 → pathLineOf content .says ≡ path.section →
+    (content : List ℕ) (p : Path) (steps : ℕ) → pathRule (pathLineOf content) p steps ≡ 0 → pathLineOf content .says ≡ path.saysSection →
     Amount content
 line-amount content p steps kept says =
     let e : pathLineOf content ≡ sectionLine content = section-is content says in
@@ -123,10 +123,10 @@ line-amount content p steps kept says =
 
 -- a line that says Section has an amount
 abbrev Amounts : Line → Type 0
-Amounts l = sayingAt l ≡ path.section → Amount (l .content)
+Amounts l = sayingAt l ≡ path.saysSection → Amount (l .content)
 
 silent : (l : Line) → sayingAt l ≡ path.saysNothing → Amounts l
-silent l e h = let z : path.saysNothing ≡ path.section = sym e ∙ h in absurd (omega arith)
+silent l e h = let z : path.saysNothing ≡ path.saysSection = sym e ∙ h in absurd (omega arith)
 
 moves-amount : (l : Line) (s s' : State) → l .place ≡ s .place → Moves l s s' → Amounts l
 moves-amount l s s' e (idle i) =
@@ -134,7 +134,7 @@ moves-amount l s s' e (idle i) =
 moves-amount l s s' e (keyed k kept) = silent l (saying-keyed l k)
 moves-amount l s s' e (plainly k kept) =
     by-cases (Amounts l) (eqb (l .place) place.path)
-    (λ (t : eqb (l .place) place.path ≡ true) (h : sayingAt l ≡ path.section).
+    (λ (t : eqb (l .place) place.path ≡ true) (h : sayingAt l ≡ path.saysSection).
     let there : l .place ≡ place.path = eqb-true _ _ t in
     line-amount (l .content) (s .path) (s .counts .steps) (path-ruled (l .content) s (sym e ∙ there) kept)
     (sym (saying-there l there k) ∙ h))
@@ -182,16 +182,16 @@ fork-right kind line h g =
 step-right : (l : Line) (ls : List Line) → Amounts l → Each Amounts ls → Each RightStep (stepOf l ls)
 unfolding stepOf
 step-right l ls h hs =
-    by-test (Each RightStep) (eqb (sayingAt l) path.end) _ _ (λ (e : eqb (sayingAt l) path.end ≡ true). more (end-right l ls) none)
-    (λ (e : eqb (sayingAt l) path.end ≡ false).
-    by-test (Each RightStep) (eqb (sayingAt l) path.section) _ _
-    (λ (f : eqb (sayingAt l) path.section ≡ true). more (section-right l (h (eqb-true _ _ f))) none)
-    (λ (f : eqb (sayingAt l) path.section ≡ false).
-    by-test (Each RightStep) (eqb (sayingAt l) path.fork) _ _
-    (λ (g : eqb (sayingAt l) path.fork ≡ true). more (fork-right forkKind (l .number) (omega arith) (omega arith)) none)
-    (λ (g : eqb (sayingAt l) path.fork ≡ false).
-    each-if (eqb (sayingAt l) path.endfork) _
-    (λ (k : eqb (sayingAt l) path.endfork ≡ true). fork-right endforkKind (l .number) (omega arith) (omega arith)))))
+    by-test (Each RightStep) (eqb (sayingAt l) path.saysEnd) _ _ (λ (e : eqb (sayingAt l) path.saysEnd ≡ true). more (end-right l ls) none)
+    (λ (e : eqb (sayingAt l) path.saysEnd ≡ false).
+    by-test (Each RightStep) (eqb (sayingAt l) path.saysSection) _ _
+    (λ (f : eqb (sayingAt l) path.saysSection ≡ true). more (section-right l (h (eqb-true _ _ f))) none)
+    (λ (f : eqb (sayingAt l) path.saysSection ≡ false).
+    by-test (Each RightStep) (eqb (sayingAt l) path.saysFork) _ _
+    (λ (g : eqb (sayingAt l) path.saysFork ≡ true). more (fork-right forkKind (l .number) (omega arith) (omega arith)) none)
+    (λ (g : eqb (sayingAt l) path.saysFork ≡ false).
+    each-if (eqb (sayingAt l) path.saysEndfork) _
+    (λ (k : eqb (sayingAt l) path.saysEndfork ≡ true). fork-right endforkKind (l .number) (omega arith) (omega arith)))))
 
 model-steps : (l : Line) (ls : List Line) → Amounts l → Each Amounts ls → Each (λ (m : Model). Each RightStep (m .steps)) (modelAt l ls)
 unfolding modelAt modelOf stepsIn

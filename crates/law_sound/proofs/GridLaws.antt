@@ -29,10 +29,10 @@ use Rattle.base.proofs.RunLaws.{same-equal}
 use Rattle.lex_line.specs.Words.{words, firstOf, secondOf, rightOf}
 use Rattle.lex_number.specs.Integer.{wholeOf}
 use Rattle.line_map.specs.PinMap.{
-  order,
-  columns,
-  rows,
-  pinList,
+  saysOrder,
+  saysColumns,
+  saysRows,
+  saysPinList,
   orderOf,
   wrongMapLine,
   orderLine,
@@ -53,12 +53,12 @@ use Rattle.law_sound.proofs.PartLaws.{within-is}
 -- ---- what a line gives
 
 record Told (l : MapLine) : Type 0 where
-  order : l .says ≡ order → l .value ≤ 3
+  saysOrder : l .says ≡ saysOrder → l .value ≤ 3
   size : l .bounded ≡ true → l .value ≤ 256
 
 -- a line that gives nothing
 nothing-told : (l : MapLine) → l .value ≡ 0 → Told l
-nothing-told l e = record { order = λ (s : l .says ≡ order). omega arith; size = λ (b : l .bounded ≡ true). omega arith }
+nothing-told l e = record { order = λ (s : l .says ≡ saysOrder). omega arith; size = λ (b : l .bounded ≡ true). omega arith }
 
 wrong-told : (says : ℕ) → Told (wrongMapLine says)
 unfolding wrongMapLine
@@ -77,19 +77,19 @@ order-told ws =
     (λ e.
     let h : orderOf (secondOf ws) ≤ 3 = order-most (secondOf ws) in
     record { order = λ s. h; size = λ b. omega arith })
-    (λ e. wrong-told order)
+    (λ e. wrong-told saysOrder)
 
 list-told : (ws : List (List ℕ)) → Told (listLine ws)
 unfolding listLine
-list-told ws = by-test Told _ _ _ (λ e. nothing-told _ refl) (λ e. wrong-told pinList)
+list-told ws = by-test Told _ _ _ (λ e. nothing-told _ refl) (λ e. wrong-told saysPinList)
 
-size-told : (says : ℕ) (content : List ℕ) → (says ≡ order → ⊥) → Told (sizeLine says content)
+size-told : (says : ℕ) (content : List ℕ) → (says ≡ saysOrder → ⊥) → Told (sizeLine says content)
 unfolding sizeLine within
 size-told says content n =
     by-test Told _ _ _
     (λ e.
     record {
-      order = λ (s : says ≡ order). absurd (n s);
+      order = λ (s : says ≡ saysOrder). absurd (n s);
       size = λ (b : both (leb 1 (wholeOf (firstOf (rightOf content)) .value)) (leb (wholeOf (firstOf (rightOf content)) .value) 256) ≡ true). leb-true _ 256 (both-second _ _ b);
     })
     (λ e. wrong-told says)
@@ -101,19 +101,19 @@ line-told content =
     (λ e.
     by-test Told _ _ _ (λ f. list-told (words content))
     (λ f.
-    by-test Told _ _ _ (λ g. size-told columns content (λ (z : columns ≡ order). omega arith))
-    (λ g. by-test Told _ _ _ (λ h. size-told rows content (λ (z : rows ≡ order). omega arith)) (λ h. nothing-told _ refl))))
+    by-test Told _ _ _ (λ g. size-told saysColumns content (λ (z : saysColumns ≡ saysOrder). omega arith))
+    (λ g. by-test Told _ _ _ (λ h. size-told saysRows content (λ (z : saysRows ≡ saysOrder). omega arith)) (λ h. nothing-told _ refl))))
 
 -- the line that leads to the pins says Pin_list
-list-says : (ws : List (List ℕ)) → listLine ws .says ≡ pinList
+list-says : (ws : List (List ℕ)) → listLine ws .says ≡ saysPinList
 unfolding listLine wrongMapLine
-list-says ws = by-test (λ (l : MapLine). l .says ≡ pinList) _ _ _ (λ e. refl) (λ e. refl)
+list-says ws = by-test (λ (l : MapLine). l .says ≡ saysPinList) _ _ _ (λ e. refl) (λ e. refl)
 
 names-apart : same (bytes "Pin_list") (bytes "Pin_order") ≡ false
 unfolding same both
 names-apart = refl
 
-pub pins-said : (content : List ℕ) → same (firstOf (words content)) (bytes "Pin_list") ≡ true → mapLineOf content .says ≡ pinList
+pub pins-said : (content : List ℕ) → same (firstOf (words content)) (bytes "Pin_list") ≡ true → mapLineOf content .says ≡ saysPinList
 unfolding mapLineOf
 pins-said content e =
     let w : firstOf (words content) ≡ bytes "Pin_list" = same-equal _ _ e in
@@ -155,19 +155,19 @@ unfolding isOrdered
 ordered m h k = within-is 1 2 (m .order) h k
 
 module _ (l : MapLine) (m : Map) where
-  order-taken : l .says ≡ order → mapNext l m ≡ record { order = l .value; rows = m .rows; columns = m .columns; pins = m .pins }
+  order-taken : l .says ≡ saysOrder → mapNext l m ≡ record { order = l .value; rows = m .rows; columns = m .columns; pins = m .pins }
   unfolding mapNext if_then_else_
   order-taken e = rw e
 
-  rows-taken : l .says ≡ rows → mapNext l m ≡ record { order = m .order; rows = l .value; columns = m .columns; pins = m .pins }
+  rows-taken : l .says ≡ saysRows → mapNext l m ≡ record { order = m .order; rows = l .value; columns = m .columns; pins = m .pins }
   unfolding mapNext if_then_else_
   rows-taken e = rw e
 
-  columns-taken : l .says ≡ columns → mapNext l m ≡ record { order = m .order; rows = m .rows; columns = l .value; pins = m .pins }
+  columns-taken : l .says ≡ saysColumns → mapNext l m ≡ record { order = m .order; rows = m .rows; columns = l .value; pins = m .pins }
   unfolding mapNext if_then_else_
   columns-taken e = rw e
 
-  none-taken : eqb (l .says) order ≡ false → eqb (l .says) rows ≡ false → eqb (l .says) columns ≡ false → mapNext l m ≡ m
+  none-taken : eqb (l .says) saysOrder ≡ false → eqb (l .says) saysRows ≡ false → eqb (l .says) saysColumns ≡ false → mapNext l m ≡ m
   unfolding mapNext
   none-taken a b c =
       λ i.
@@ -193,30 +193,30 @@ module _ (l : MapLine) (m : Map) where
     bounded = not-false _ (test-kept 3)
 
     -- "repeated or out of order 12"
-    order-first : l .says ≡ order → m .order ≡ 0
+    order-first : l .says ≡ saysOrder → m .order ≡ 0
     unfolding isMapOutOfOrder if_then_else_
     order-first e =
         let z : not (eqb (m .order) 0) ≡ false = rw e at in-order in
         eqb-true _ _ (not-false _ z)
 
-    rows-ordered : l .says ≡ rows → isOrdered m ≡ true
+    rows-ordered : l .says ≡ saysRows → isOrdered m ≡ true
     unfolding isMapOutOfOrder if_then_else_
     rows-ordered e =
         let z : either (not (isOrdered m)) (not (eqb (m .rows) 0)) ≡ false = rw e at in-order in
         not-false _ (either-none-first _ _ z)
 
-    columns-ordered : l .says ≡ columns → isOrdered m ≡ true
+    columns-ordered : l .says ≡ saysColumns → isOrdered m ≡ true
     unfolding isMapOutOfOrder if_then_else_
     columns-ordered e =
         let z : either (not (isOrdered m)) (not (eqb (m .columns) 0)) ≡ false = rw e at in-order in
         not-false _ (either-none-first _ _ z)
 
-    list-ready : l .says ≡ pinList → either (eqb (m .order) 0) (both (isOrdered m) (either (eqb (m .rows) 0) (eqb (m .columns) 0))) ≡ false
+    list-ready : l .says ≡ saysPinList → either (eqb (m .order) 0) (both (isOrdered m) (either (eqb (m .rows) 0) (eqb (m .columns) 0))) ≡ false
     unfolding isMapOutOfOrder if_then_else_
     list-ready e = rw e at in-order
 
     module _ (told : Told l) (g : Growing m) where
-      order-growing : l .says ≡ order → Growing (mapNext l m)
+      order-growing : l .says ≡ saysOrder → Growing (mapNext l m)
       order-growing e =
           let u : isOrdered m ≡ false = unordered m (order-first e) in
           rw (order-taken e)
@@ -229,7 +229,7 @@ module _ (l : MapLine) (m : Map) where
             pins = g .pins;
           })
 
-      rows-growing : l .says ≡ rows → Growing (mapNext l m)
+      rows-growing : l .says ≡ saysRows → Growing (mapNext l m)
       unfolding isOrdered
       rows-growing e =
           rw (rows-taken e)
@@ -242,7 +242,7 @@ module _ (l : MapLine) (m : Map) where
             pins = g .pins;
           })
 
-      columns-growing : l .says ≡ columns → Growing (mapNext l m)
+      columns-growing : l .says ≡ saysColumns → Growing (mapNext l m)
       unfolding isOrdered
       columns-growing e =
           rw (columns-taken e)
@@ -257,12 +257,12 @@ module _ (l : MapLine) (m : Map) where
 
       growing : Growing (mapNext l m)
       growing =
-          by-cases _ (eqb (l .says) order) (λ (a : eqb (l .says) order ≡ true). order-growing (eqb-true _ _ a))
-          (λ (a : eqb (l .says) order ≡ false).
-          by-cases _ (eqb (l .says) rows) (λ (b : eqb (l .says) rows ≡ true). rows-growing (eqb-true _ _ b))
-          (λ (b : eqb (l .says) rows ≡ false).
-          by-cases _ (eqb (l .says) columns) (λ (c : eqb (l .says) columns ≡ true). columns-growing (eqb-true _ _ c))
-          (λ (c : eqb (l .says) columns ≡ false). rw (none-taken a b c) g)))
+          by-cases _ (eqb (l .says) saysOrder) (λ (a : eqb (l .says) saysOrder ≡ true). order-growing (eqb-true _ _ a))
+          (λ (a : eqb (l .says) saysOrder ≡ false).
+          by-cases _ (eqb (l .says) saysRows) (λ (b : eqb (l .says) saysRows ≡ true). rows-growing (eqb-true _ _ b))
+          (λ (b : eqb (l .says) saysRows ≡ false).
+          by-cases _ (eqb (l .says) saysColumns) (λ (c : eqb (l .says) saysColumns ≡ true). columns-growing (eqb-true _ _ c))
+          (λ (c : eqb (l .says) saysColumns ≡ false). rw (none-taken a b c) g)))
 
 -- ---- at Pin_list
 
@@ -325,15 +325,15 @@ module _ (content : List ℕ) (m : Map) (kept : mapRule (mapLineOf content) m �
   next-growing = growing (mapLineOf content) m kept (line-told content) g
 
   module _ (list : same (firstOf (words content)) (bytes "Pin_list") ≡ true) where
-    list-says-so : mapLineOf content .says ≡ pinList
+    list-says-so : mapLineOf content .says ≡ saysPinList
     list-says-so = pins-said content list
 
     -- Pin_list itself changes nothing
     pub list-keeps : mapNext (mapLineOf content) m ≡ m
     list-keeps =
-        let e : mapLineOf content .says ≡ pinList = list-says-so in
-        none-taken (mapLineOf content) m (ne-eqb _ _ (λ (z : mapLineOf content .says ≡ order). omega arith))
-        (ne-eqb _ _ (λ (z : mapLineOf content .says ≡ rows). omega arith)) (ne-eqb _ _ (λ (z : mapLineOf content .says ≡ columns). omega arith))
+        let e : mapLineOf content .says ≡ saysPinList = list-says-so in
+        none-taken (mapLineOf content) m (ne-eqb _ _ (λ (z : mapLineOf content .says ≡ saysOrder). omega arith))
+        (ne-eqb _ _ (λ (z : mapLineOf content .says ≡ saysRows). omega arith)) (ne-eqb _ _ (λ (z : mapLineOf content .says ≡ saysColumns). omega arith))
 
     pub list-grid : Grid m
     list-grid = ready-grid m g (list-ready (mapLineOf content) m kept list-says-so)

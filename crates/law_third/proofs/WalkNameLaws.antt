@@ -91,15 +91,15 @@ no-text = refl
 step-nameless : (l : Line) (after : List Line) → Each Nameless (stepOf l after)
 unfolding stepOf
 step-nameless l after =
-    by-test (Each Nameless) (eqb (sayingAt l) path.end) _ _
-    (λ (a : eqb (sayingAt l) path.end ≡ true). more (λ n m. absurd (n refl)) none)
-    (λ (a : eqb (sayingAt l) path.end ≡ false).
-    by-test (Each Nameless) (eqb (sayingAt l) path.section) _ _
-    (λ (b : eqb (sayingAt l) path.section ≡ true). more (λ n m. absurd (m refl)) none)
-    (λ (b : eqb (sayingAt l) path.section ≡ false).
-    by-test (Each Nameless) (eqb (sayingAt l) path.fork) _ _ (λ (c : eqb (sayingAt l) path.fork ≡ true). more (λ n m. no-text) none)
-    (λ (c : eqb (sayingAt l) path.fork ≡ false).
-    each-if (eqb (sayingAt l) path.endfork) _ (λ (f : eqb (sayingAt l) path.endfork ≡ true) n m. no-text))))
+    by-test (Each Nameless) (eqb (sayingAt l) path.saysEnd) _ _
+    (λ (a : eqb (sayingAt l) path.saysEnd ≡ true). more (λ n m. absurd (n refl)) none)
+    (λ (a : eqb (sayingAt l) path.saysEnd ≡ false).
+    by-test (Each Nameless) (eqb (sayingAt l) path.saysSection) _ _
+    (λ (b : eqb (sayingAt l) path.saysSection ≡ true). more (λ n m. absurd (m refl)) none)
+    (λ (b : eqb (sayingAt l) path.saysSection ≡ false).
+    by-test (Each Nameless) (eqb (sayingAt l) path.saysFork) _ _ (λ (c : eqb (sayingAt l) path.saysFork ≡ true). more (λ n m. no-text) none)
+    (λ (c : eqb (sayingAt l) path.saysFork ≡ false).
+    each-if (eqb (sayingAt l) path.saysEndfork) _ (λ (f : eqb (sayingAt l) path.saysEndfork ≡ true) n m. no-text))))
 
 -- of every line
 abbrev Some : Line → Type 0

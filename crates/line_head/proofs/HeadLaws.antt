@@ -7,42 +7,42 @@ use lib.Dec.{eqb}
 use borrow.Author.Tests.{eq-eqb, ne-eqb}
 use Rattle.base.specs.If.{if_then_else_, either}
 use Rattle.base.proofs.IfLaws.{if-true, if-false, either-left, either-rest}
-use Rattle.line_head.specs.Head.{modelType, sgr, impedance, headNext}
+use Rattle.line_head.specs.Head.{saysModelType, saysRatio, saysImpedance, headNext}
 use Rattle.line_head.specs.declared.Head.{Head}
 use Rattle.line_head.specs.declared.HeadLine.{HeadLine}
 
 module _ (l : HeadLine) (h : Head) where
-  pub next-type : l .says ≡ modelType → record { kind = l .kind; sgr = h .sgr; impedance = h .impedance } ≡ headNext l h
+  pub next-type : l .says ≡ saysModelType → record { kind = l .kind; sgr = h .sgr; impedance = h .impedance } ≡ headNext l h
   unfolding headNext
   next-type e =
-      let k : (if eqb (l .says) modelType then l .kind else h .kind) ≡ l .kind = if-true _ _ (eq-eqb _ _ e) in
-      let s : either (eqb (l .says) sgr) (h .sgr) ≡ h .sgr = either-rest _ _ (ne-eqb (l .says) sgr (λ (f : l .says ≡ sgr). omega arith)) in
-      let m : either (eqb (l .says) impedance) (h .impedance) ≡ h .impedance = either-rest _ _ (ne-eqb (l .says) impedance (λ (f : l .says ≡ impedance). omega arith)) in
+      let k : (if eqb (l .says) saysModelType then l .kind else h .kind) ≡ l .kind = if-true _ _ (eq-eqb _ _ e) in
+      let s : either (eqb (l .says) saysRatio) (h .sgr) ≡ h .sgr = either-rest _ _ (ne-eqb (l .says) saysRatio (λ (f : l .says ≡ saysRatio). omega arith)) in
+      let m : either (eqb (l .says) saysImpedance) (h .impedance) ≡ h .impedance = either-rest _ _ (ne-eqb (l .says) saysImpedance (λ (f : l .says ≡ saysImpedance). omega arith)) in
       λ i. record { kind = sym k i; sgr = sym s i; impedance = sym m i }
 
-  module _ (n : l .says ≡ modelType → ⊥) where
-    same-kind : (if eqb (l .says) modelType then l .kind else h .kind) ≡ h .kind
+  module _ (n : l .says ≡ saysModelType → ⊥) where
+    same-kind : (if eqb (l .says) saysModelType then l .kind else h .kind) ≡ h .kind
     same-kind = if-false _ _ (ne-eqb _ _ n)
 
-    pub next-sgr : l .says ≡ sgr → record { kind = h .kind; sgr = true; impedance = h .impedance } ≡ headNext l h
+    pub next-sgr : l .says ≡ saysRatio → record { kind = h .kind; sgr = true; impedance = h .impedance } ≡ headNext l h
     unfolding headNext
     next-sgr e =
-        let s : either (eqb (l .says) sgr) (h .sgr) ≡ true = either-left _ _ (eq-eqb _ _ e) in
-        let m : either (eqb (l .says) impedance) (h .impedance) ≡ h .impedance = either-rest _ _ (ne-eqb (l .says) impedance (λ (f : l .says ≡ impedance). omega arith)) in
+        let s : either (eqb (l .says) saysRatio) (h .sgr) ≡ true = either-left _ _ (eq-eqb _ _ e) in
+        let m : either (eqb (l .says) saysImpedance) (h .impedance) ≡ h .impedance = either-rest _ _ (ne-eqb (l .says) saysImpedance (λ (f : l .says ≡ saysImpedance). omega arith)) in
         λ i. record { kind = sym same-kind i; sgr = sym s i; impedance = sym m i }
 
-    module _ (o : l .says ≡ sgr → ⊥) where
-      same-sgr : either (eqb (l .says) sgr) (h .sgr) ≡ h .sgr
+    module _ (o : l .says ≡ saysRatio → ⊥) where
+      same-sgr : either (eqb (l .says) saysRatio) (h .sgr) ≡ h .sgr
       same-sgr = either-rest _ _ (ne-eqb _ _ o)
 
-      pub next-impedance : l .says ≡ impedance → record { kind = h .kind; sgr = h .sgr; impedance = true } ≡ headNext l h
+      pub next-impedance : l .says ≡ saysImpedance → record { kind = h .kind; sgr = h .sgr; impedance = true } ≡ headNext l h
       unfolding headNext
       next-impedance e =
-          let m : either (eqb (l .says) impedance) (h .impedance) ≡ true = either-left _ _ (eq-eqb _ _ e) in
+          let m : either (eqb (l .says) saysImpedance) (h .impedance) ≡ true = either-left _ _ (eq-eqb _ _ e) in
           λ i. record { kind = sym same-kind i; sgr = sym same-sgr i; impedance = sym m i }
 
-      pub next-nothing : (l .says ≡ impedance → ⊥) → h ≡ headNext l h
+      pub next-nothing : (l .says ≡ saysImpedance → ⊥) → h ≡ headNext l h
       unfolding headNext
       next-nothing p =
-          let m : either (eqb (l .says) impedance) (h .impedance) ≡ h .impedance = either-rest _ _ (ne-eqb _ _ p) in
+          let m : either (eqb (l .says) saysImpedance) (h .impedance) ≡ h .impedance = either-rest _ _ (ne-eqb _ _ p) in
           λ i. record { kind = sym same-kind i; sgr = sym same-sgr i; impedance = sym m i }

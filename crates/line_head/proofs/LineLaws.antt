@@ -25,26 +25,26 @@ use Rattle.lex_number.specs.Number.{numberOf, isFormed, isBounded}
 use Rattle.lex_number.specs.Integer.{wholeOf}
 use Rattle.lex_number.specs.declared.Number.{Number}
 use Rattle.lex_number.specs.declared.Whole.{Whole}
-use Rattle.line_head.specs.Head.{saysNothing, modelType, sgr, impedance, modelTypeOf, wrongHeadLine, typeLine, toColon, ratioOf, sgrLine, impedanceLine, headLineOf}
+use Rattle.line_head.specs.Head.{saysNothing, saysModelType, saysRatio, saysImpedance, modelTypeOf, wrongHeadLine, typeLine, toColon, ratioOf, sgrLine, impedanceLine, headLineOf}
 use Rattle.line_head.specs.declared.HeadLine.{HeadLine}
 
 -- ---- ICM_model_type
 
-type-surplus : (ws : List (List ℕ)) → eqb (length ws) 2 ≡ false → wrongHeadLine modelType ≡ typeLine ws
+type-surplus : (ws : List (List ℕ)) → eqb (length ws) 2 ≡ false → wrongHeadLine saysModelType ≡ typeLine ws
 unfolding typeLine
 type-surplus ws e = sym (if-false _ _ (both-not-left _ _ e))
 
-type-unknown : (ws : List (List ℕ)) → modelTypeOf (secondOf ws) ≡ 0 → wrongHeadLine modelType ≡ typeLine ws
+type-unknown : (ws : List (List ℕ)) → modelTypeOf (secondOf ws) ≡ 0 → wrongHeadLine saysModelType ≡ typeLine ws
 unfolding typeLine
 type-unknown ws e = sym (if-false _ _ (both-not-right _ _ (not-not-via (eq-eqb _ _ e))))
 
-type-known : (ws : List (List ℕ)) (kind : ℕ) → eqb (length ws) 2 ≡ true → kind ≡ modelTypeOf (secondOf ws) → (kind ≡ 0 → ⊥) → record { says = modelType; right = true; formed = true; bounded = true; kind = kind } ≡ typeLine ws
+type-known : (ws : List (List ℕ)) (kind : ℕ) → eqb (length ws) 2 ≡ true → kind ≡ modelTypeOf (secondOf ws) → (kind ≡ 0 → ⊥) → record { says = saysModelType; right = true; formed = true; bounded = true; kind = kind } ≡ typeLine ws
 unfolding typeLine
 type-known ws kind e k n = rw k (sym (if-true _ _ (both-true _ _ e (not-via (ne-eqb _ _ (λ (z : modelTypeOf (secondOf ws) ≡ 0). n (k ∙ z)))))))
 
 -- ---- SGR
 
-sgr-surplus : (ws : List (List ℕ)) → eqb (length ws) 2 ≡ false → wrongHeadLine sgr ≡ sgrLine ws
+sgr-surplus : (ws : List (List ℕ)) → eqb (length ws) 2 ≡ false → wrongHeadLine saysRatio ≡ sgrLine ws
 unfolding sgrLine
 sgr-surplus ws e = sym (if-false _ _ (both-not-left _ _ e))
 
@@ -68,10 +68,10 @@ module _ (w : List ℕ) (colon : ℕ) (at : colon ≡ runEnd (isBefore (code ":"
 
 -- what a reader knows of a line: its first two words and how many there are
 module _ (content : List ℕ) (few : Few) (told : few ≡ fewOf content) where
-  pub type-count : (r : HeadLine) → (few .count ≡ 2 → ⊥) → r ≡ wrongHeadLine modelType → r ≡ typeLine (words content)
+  pub type-count : (r : HeadLine) → (few .count ≡ 2 → ⊥) → r ≡ wrongHeadLine saysModelType → r ≡ typeLine (words content)
   type-count r n h = h ∙ type-surplus (words content) (counted-not content few told 2 (omega arith) n)
 
-  pub sgr-count : (r : HeadLine) → (few .count ≡ 2 → ⊥) → r ≡ wrongHeadLine sgr → r ≡ sgrLine (words content)
+  pub sgr-count : (r : HeadLine) → (few .count ≡ 2 → ⊥) → r ≡ wrongHeadLine saysRatio → r ≡ sgrLine (words content)
   sgr-count r n h = h ∙ sgr-surplus (words content) (counted-not content few told 2 (omega arith) n)
 
   module _ (two : few .count ≡ 2) (w : List ℕ) (there : w ≡ markedBy content (few .second)) where
@@ -81,21 +81,21 @@ module _ (content : List ℕ) (few : Few) (told : few ≡ fewOf content) where
     two-words : eqb (length (words content)) 2 ≡ true
     two-words = counted content few told 2 (omega arith) two
 
-    pub type-wrong : (r : HeadLine) (kind : ℕ) → kind ≡ modelTypeOf w → kind ≡ 0 → r ≡ wrongHeadLine modelType → r ≡ typeLine (words content)
+    pub type-wrong : (r : HeadLine) (kind : ℕ) → kind ≡ modelTypeOf w → kind ≡ 0 → r ≡ wrongHeadLine saysModelType → r ≡ typeLine (words content)
     type-wrong r kind k z h = h ∙ type-unknown (words content) (ap modelTypeOf (sym word-is) ∙ sym k ∙ z)
 
-    pub type-right : (kind : ℕ) → kind ≡ modelTypeOf w → (kind ≡ 0 → ⊥) → record { says = modelType; right = true; formed = true; bounded = true; kind = kind } ≡ typeLine (words content)
+    pub type-right : (kind : ℕ) → kind ≡ modelTypeOf w → (kind ≡ 0 → ⊥) → record { says = saysModelType; right = true; formed = true; bounded = true; kind = kind } ≡ typeLine (words content)
     type-right kind k n = type-known (words content) kind two-words (k ∙ ap modelTypeOf word-is) n
 
     module _ (colon : ℕ) (at : colon ≡ runEnd (isBefore (code ":")) w 0) (t : Bool) (tested : t ≡ same (take (length w - colon) (drop colon w)) (bytes ":1")) where
       rest-is : t ≡ same (drop (toColon (secondOf (words content))) (secondOf (words content))) (bytes ":1")
       rest-is = tested ∙ ap (λ (s : List ℕ). same s (bytes ":1")) (colon-rest w colon at) ∙ ap (λ (s : List ℕ). same (drop (toColon s) s) (bytes ":1")) word-is
 
-      pub sgr-wrong : (r : HeadLine) → not t ≡ true → r ≡ wrongHeadLine sgr → r ≡ sgrLine (words content)
+      pub sgr-wrong : (r : HeadLine) → not t ≡ true → r ≡ wrongHeadLine saysRatio → r ≡ sgrLine (words content)
       unfolding sgrLine
       sgr-wrong r e h = h ∙ sym (if-false _ _ (both-not-right _ _ (sym rest-is ∙ not-true t e)))
 
-      pub sgr-right : (ratio : Whole) (inside : Bool) → not t ≡ false → ratio ≡ wholeOf (take colon w) → inside ≡ within 1 65_535 (ratio .value) → record { says = sgr; right = true; formed = ratio .formed; bounded = inside; kind = 0 } ≡ sgrLine (words content)
+      pub sgr-right : (ratio : Whole) (inside : Bool) → not t ≡ false → ratio ≡ wholeOf (take colon w) → inside ≡ within 1 65_535 (ratio .value) → record { says = saysRatio; right = true; formed = ratio .formed; bounded = inside; kind = 0 } ≡ sgrLine (words content)
       unfolding sgrLine
       sgr-right ratio inside e k h =
           let f : ratio ≡ ratioOf (secondOf (words content)) = colon-ratio w colon at ratio k ∙ ap ratioOf word-is in
@@ -105,7 +105,7 @@ module _ (content : List ℕ) (few : Few) (told : few ≡ fewOf content) where
 
 -- what a reader knows of a line: where its `=` stands, and the words before and after it
 module _ (content : List ℕ) (sign : ℕ) (at : sign ≡ toEquals content) where
-  pub impedance-none : (r : HeadLine) → length content ≤ sign → r ≡ wrongHeadLine impedance → r ≡ impedanceLine content
+  pub impedance-none : (r : HeadLine) → length content ≤ sign → r ≡ wrongHeadLine saysImpedance → r ≡ impedanceLine content
   unfolding impedanceLine
   impedance-none r h e = e ∙ sym (if-false _ _ (both-not-left _ _ (sign-none content sign at h)))
 
@@ -113,20 +113,20 @@ module _ (content : List ℕ) (sign : ℕ) (at : sign ≡ toEquals content) wher
     pub impedance-named : (w : List ℕ) (t : Bool) → w ≡ markedBy (take sign content) (left .first) → t ≡ same w (bytes "Ref_impedance") → t ≡ same (firstOf (leftOf content)) (bytes "Ref_impedance")
     impedance-named w t there h = h ∙ ap (λ (s : List ℕ). same s (bytes "Ref_impedance")) (there ∙ first-marked (take sign content) left before ∙ ap firstOf (left-words content sign at))
 
-    pub impedance-surplus-before : (r : HeadLine) → (left .count ≡ 1 → ⊥) → r ≡ wrongHeadLine impedance → r ≡ impedanceLine content
+    pub impedance-surplus-before : (r : HeadLine) → (left .count ≡ 1 → ⊥) → r ≡ wrongHeadLine saysImpedance → r ≡ impedanceLine content
     unfolding impedanceLine
     impedance-surplus-before r n e =
         let k : eqb (length (leftOf content)) 1 ≡ false = ap (λ (ws : List (List ℕ)). eqb (length ws) 1) (sym (left-words content sign at)) ∙ counted-not (take sign content) left before 1 (omega arith) n in
         e ∙ sym (if-false _ _ (both-not-right _ _ (both-not-left _ _ k)))
 
     module _ (right : Few) (after : right ≡ fewOf (take (length content - (sign + 1)) (drop (sign + 1) content))) where
-      pub impedance-surplus-after : (r : HeadLine) → (right .count ≡ 1 → ⊥) → r ≡ wrongHeadLine impedance → r ≡ impedanceLine content
+      pub impedance-surplus-after : (r : HeadLine) → (right .count ≡ 1 → ⊥) → r ≡ wrongHeadLine saysImpedance → r ≡ impedanceLine content
       unfolding impedanceLine
       impedance-surplus-after r n e =
           let k : eqb (length (rightOf content)) 1 ≡ false = ap (λ (ws : List (List ℕ)). eqb (length ws) 1) (sym (right-words content sign at)) ∙ counted-not _ right after 1 (omega arith) n in
           e ∙ sym (if-false _ _ (both-not-right _ _ (both-not-right _ _ k)))
 
-      pub impedance-told : (w : List ℕ) (n : Number) (formed bounded : Bool) → sign < length content → left .count ≡ 1 → right .count ≡ 1 → w ≡ markedBy (take (length content - (sign + 1)) (drop (sign + 1) content)) (right .first) → n ≡ numberOf w → formed ≡ isFormed n → bounded ≡ isBounded n → record { says = impedance; right = true; formed = formed; bounded = bounded; kind = 0 } ≡ impedanceLine content
+      pub impedance-told : (w : List ℕ) (n : Number) (formed bounded : Bool) → sign < length content → left .count ≡ 1 → right .count ≡ 1 → w ≡ markedBy (take (length content - (sign + 1)) (drop (sign + 1) content)) (right .first) → n ≡ numberOf w → formed ≡ isFormed n → bounded ≡ isBounded n → record { says = saysImpedance; right = true; formed = formed; bounded = bounded; kind = 0 } ≡ impedanceLine content
       unfolding impedanceLine
       impedance-told w n formed bounded h one two there k f b =
           let l : eqb (length (leftOf content)) 1 ≡ true = ap (λ (ws : List (List ℕ)). eqb (length ws) 1) (sym (left-words content sign at)) ∙ counted (take sign content) left before 1 (omega arith) one in

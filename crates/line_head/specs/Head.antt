@@ -21,14 +21,14 @@ use Rattle.line_head.specs.declared.HeadLine.{HeadLine}
 abbrev pub saysNothing : ℕ
 saysNothing = 0
 
-abbrev pub modelType : ℕ
-modelType = 1
+abbrev pub saysModelType : ℕ
+saysModelType = 1
 
-abbrev pub sgr : ℕ
-sgr = 2
+abbrev pub saysRatio : ℕ
+saysRatio = 2
 
-abbrev pub impedance : ℕ
-impedance = 3
+abbrev pub saysImpedance : ℕ
+saysImpedance = 3
 
 -- "SLM_general, SLM_quiescent, MLM", one above the table's count; 0 for none
 unfoldable pub modelTypeOf : List ℕ → ℕ
@@ -45,8 +45,8 @@ wrongHeadLine says = record { says = says; right = false; formed = true; bounded
 unfoldable pub typeLine : List (List ℕ) → HeadLine
 typeLine ws =
     if both (eqb (length ws) 2) (not (eqb (modelTypeOf (secondOf ws)) 0))
-    then record { says = modelType; right = true; formed = true; bounded = true; kind = modelTypeOf (secondOf ws) }
-    else wrongHeadLine modelType
+    then record { says = saysModelType; right = true; formed = true; bounded = true; kind = modelTypeOf (secondOf ws) }
+    else wrongHeadLine saysModelType
 
 -- what stands before the first colon of a word
 abbrev pub toColon : List ℕ → ℕ
@@ -59,15 +59,15 @@ ratioOf w = wholeOf (take (toColon w) w)
 unfoldable pub sgrLine : List (List ℕ) → HeadLine
 sgrLine ws =
     if both (eqb (length ws) 2) (same (drop (toColon (secondOf ws)) (secondOf ws)) (bytes ":1"))
-    then record { says = sgr; right = true; formed = ratioOf (secondOf ws) .formed; bounded = within 1 65_535 (ratioOf (secondOf ws) .value); kind = 0 }
-    else wrongHeadLine sgr
+    then record { says = saysRatio; right = true; formed = ratioOf (secondOf ws) .formed; bounded = within 1 65_535 (ratioOf (secondOf ws) .value); kind = 0 }
+    else wrongHeadLine saysRatio
 
 -- "`Ref_impedance=` a number"
 unfoldable pub impedanceLine : List ℕ → HeadLine
 impedanceLine content =
     if both (hasEquals content) (both (eqb (length (leftOf content)) 1) (eqb (length (rightOf content)) 1))
-    then record { says = impedance; right = true; formed = isFormed (numberOf (firstOf (rightOf content))); bounded = isBounded (numberOf (firstOf (rightOf content))); kind = 0 }
-    else wrongHeadLine impedance
+    then record { says = saysImpedance; right = true; formed = isFormed (numberOf (firstOf (rightOf content))); bounded = isBounded (numberOf (firstOf (rightOf content))); kind = 0 }
+    else wrongHeadLine saysImpedance
 
 -- a line of the head is known by its first word, which `=` ends where the form has one
 unfoldable pub headLineOf : List ℕ → HeadLine
@@ -80,9 +80,9 @@ headLineOf content =
 -- each of the three at most once
 unfoldable pub isHeadOutOfOrder : HeadLine → Head → Bool
 isHeadOutOfOrder l h =
-    if eqb (l .says) modelType then not (eqb (h .kind) 0) else
-    if eqb (l .says) sgr then h .sgr else
-    if eqb (l .says) impedance then h .impedance else true
+    if eqb (l .says) saysModelType then not (eqb (h .kind) 0) else
+    if eqb (l .says) saysRatio then h .sgr else
+    if eqb (l .says) saysImpedance then h .impedance else true
 
 -- "A line its place takes with a wrong rest is 11, repeated or out of order 12"; any other line is 12
 unfoldable pub headRule : HeadLine → Head → ℕ
@@ -93,9 +93,9 @@ headRule l h =
 unfoldable pub headNext : HeadLine → Head → Head
 headNext l h =
     record {
-      kind = if eqb (l .says) modelType then l .kind else h .kind;
-      sgr = either (eqb (l .says) sgr) (h .sgr);
-      impedance = either (eqb (l .says) impedance) (h .impedance);
+      kind = if eqb (l .says) saysModelType then l .kind else h .kind;
+      sgr = either (eqb (l .says) saysRatio) (h .sgr);
+      impedance = either (eqb (l .says) saysImpedance) (h .impedance);
     }
 
 unfoldable pub newHead : Head

@@ -20,7 +20,7 @@ use Rattle.lex_line.proofs.WordLaws.{first-marked, second-marked}
 use Rattle.lex_number.specs.declared.Whole.{Whole}
 use Rattle.lex_number.specs.Integer.{wholeOf}
 use Rattle.line_map.specs.declared.MapLine.{MapLine}
-use Rattle.line_map.specs.PinMap.{saysNothing, order, columns, rows, pinList, orderOf, wrongMapLine, orderLine, listLine, sizeLine, mapLineOf, isPinLine}
+use Rattle.line_map.specs.PinMap.{saysNothing, saysOrder, saysColumns, saysRows, saysPinList, orderOf, wrongMapLine, orderLine, listLine, sizeLine, mapLineOf, isPinLine}
 
 -- what the first words of a line, with a count that stops at 3, say of all its words
 module _ (s : List ℕ) (few : Few) (told : few ≡ fewOf s) where
@@ -37,15 +37,15 @@ module _ (s : List ℕ) (few : Few) (told : few ≡ fewOf s) where
   pub first-told : (word : List ℕ) → word ≡ markedBy s (few .first) → word ≡ firstOf (words s)
   first-told word e = e ∙ first-marked s few told
 
-  pub list-other : (line : MapLine) → (few .count ≡ 1 → ⊥) → line ≡ wrongMapLine pinList → line ≡ listLine (words s)
+  pub list-other : (line : MapLine) → (few .count ≡ 1 → ⊥) → line ≡ wrongMapLine saysPinList → line ≡ listLine (words s)
   unfolding listLine
   list-other line h e = e ∙ sym (if-false _ _ (not-one-word h))
 
-  pub list-alone : few .count ≡ 1 → record { says = pinList; right = true; formed = true; bounded = true; value = 0 } ≡ listLine (words s)
+  pub list-alone : few .count ≡ 1 → record { says = saysPinList; right = true; formed = true; bounded = true; value = 0 } ≡ listLine (words s)
   unfolding listLine
   list-alone h = sym (if-true _ _ (one-word h))
 
-  pub order-other : (line : MapLine) → (few .count ≡ 2 → ⊥) → line ≡ wrongMapLine order → line ≡ orderLine (words s)
+  pub order-other : (line : MapLine) → (few .count ≡ 2 → ⊥) → line ≡ wrongMapLine saysOrder → line ≡ orderLine (words s)
   unfolding orderLine
   order-other line h e = e ∙ sym (if-false _ _ (both-not-left _ _ (ne-eqb (length (words s)) 2 (λ (k : length (words s) ≡ 2). h (omega (arith, counted))))))
 
@@ -57,15 +57,15 @@ module _ (s : List ℕ) (few : Few) (told : few ≡ fewOf s) where
     found-is : orderOf (secondOf (words s)) ≡ found
     found-is = ap orderOf (sym (second-marked s few told) ∙ sym second) ∙ sym named
 
-    pub order-none : (line : MapLine) → found ≡ 0 → line ≡ wrongMapLine order → line ≡ orderLine (words s)
+    pub order-none : (line : MapLine) → found ≡ 0 → line ≡ wrongMapLine saysOrder → line ≡ orderLine (words s)
     unfolding orderLine
     order-none line h e = e ∙ sym (if-false _ _ (both-rest _ _ two-words ∙ not-not-via (eq-eqb (orderOf (secondOf (words s))) 0 (found-is ∙ h))))
 
-    pub order-some : (found ≡ 0 → ⊥) → record { says = order; right = true; formed = true; bounded = true; value = found } ≡ orderLine (words s)
+    pub order-some : (found ≡ 0 → ⊥) → record { says = saysOrder; right = true; formed = true; bounded = true; value = found } ≡ orderLine (words s)
     unfolding orderLine
     order-some h =
         let n : eqb (orderOf (secondOf (words s))) 0 ≡ false = ne-eqb (orderOf (secondOf (words s))) 0 (λ (k : orderOf (secondOf (words s)) ≡ 0). h (sym found-is ∙ k)) in
-        ap (λ (v : ℕ). record { says = order; right = true; formed = true; bounded = true; value = v }) (sym found-is)
+        ap (λ (v : ℕ). record { says = saysOrder; right = true; formed = true; bounded = true; value = v }) (sym found-is)
         ∙ sym (if-true _ _ (both-true _ _ two-words (not-via n)))
 
   pub pin-short : few .count ≤ 2 → not (isPinLine (words s)) ≡ false
@@ -161,7 +161,7 @@ module _ (content first : List ℕ) (t : Bool) (line : MapLine) (told : first �
       columns-is : same (firstOf (leftOf content)) (bytes "Num_of_columns") ≡ v
       columns-is = ap (λ (n : List ℕ). same n (bytes "Num_of_columns")) (sym (left-told content sign signed name named)) ∙ sym asked-columns
 
-      pub says-columns : v ≡ true → line ≡ sizeLine columns content → line ≡ mapLineOf content
+      pub says-columns : v ≡ true → line ≡ sizeLine saysColumns content → line ≡ mapLineOf content
       unfolding mapLineOf
       says-columns h e = e ∙ sym (if-false _ _ (order-is ∙ other) ∙ if-false _ _ (list-is ∙ neither) ∙ if-true _ _ (columns-is ∙ h))
 
@@ -169,7 +169,7 @@ module _ (content first : List ℕ) (t : Bool) (line : MapLine) (told : first �
         rows-is : same (firstOf (leftOf content)) (bytes "Num_of_rows") ≡ w
         rows-is = ap (λ (n : List ℕ). same n (bytes "Num_of_rows")) (sym (left-told content sign signed name named)) ∙ sym asked-rows
 
-        pub says-rows : w ≡ true → line ≡ sizeLine rows content → line ≡ mapLineOf content
+        pub says-rows : w ≡ true → line ≡ sizeLine saysRows content → line ≡ mapLineOf content
         unfolding mapLineOf
         says-rows h e =
             e ∙ sym (if-false _ _ (order-is ∙ other) ∙ if-false _ _ (list-is ∙ neither) ∙ if-false _ _ (columns-is ∙ no-columns) ∙ if-true _ _ (rows-is ∙ h))

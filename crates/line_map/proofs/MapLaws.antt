@@ -18,7 +18,7 @@ use Rattle.lex_line.specs.Words.{words, firstOf, secondOf, rightOf}
 use Rattle.lex_number.specs.Integer.{wholeOf}
 use Rattle.line_map.specs.declared.Map.{Map}
 use Rattle.line_map.specs.declared.MapLine.{MapLine}
-use Rattle.line_map.specs.PinMap.{order, columns, rows, orderOf, wrongMapLine, orderLine, listLine, sizeLine, mapLineOf, newMap, isOrdered, isMapOutOfOrder, mapRule, mapNext, mostPins, mostMapPins, isPinLine, pinRule, withPin}
+use Rattle.line_map.specs.PinMap.{saysOrder, saysColumns, saysRows, orderOf, wrongMapLine, orderLine, listLine, sizeLine, mapLineOf, newMap, isOrdered, isMapOutOfOrder, mapRule, mapNext, mostPins, mostMapPins, isPinLine, pinRule, withPin}
 use Rattle.line_map.specs.Way.Bounded.{Bounded}
 
 -- t says whether the map is ordered
@@ -37,7 +37,7 @@ module _ (l : MapLine) (m : Map) (t : Bool) (told : t ≡ isMapOutOfOrder l m) w
   pub in-order : t ≡ false → isMapOutOfOrder l m ≡ false
   in-order h = sym told ∙ h
 
-pub next-map : (l : MapLine) (m : Map) (o r k : ℕ) → o ≡ (if eqb (l .says) order then l .value else m .order) → r ≡ (if eqb (l .says) rows then l .value else m .rows) → k ≡ (if eqb (l .says) columns then l .value else m .columns) → record { order = o; rows = r; columns = k; pins = m .pins } ≡ mapNext l m
+pub next-map : (l : MapLine) (m : Map) (o r k : ℕ) → o ≡ (if eqb (l .says) saysOrder then l .value else m .order) → r ≡ (if eqb (l .says) saysRows then l .value else m .rows) → k ≡ (if eqb (l .says) saysColumns then l .value else m .columns) → record { order = o; rows = r; columns = k; pins = m .pins } ≡ mapNext l m
 unfolding mapNext
 next-map l m o r k e f g = λ i. record { order = e i; rows = f i; columns = g i; pins = m .pins }
 
@@ -64,7 +64,7 @@ wrong-small says b = omega arith
 
 order-small : (ws : List (List ℕ)) → Small (orderLine ws)
 unfolding orderLine
-order-small ws = by-test Small (both _ _) _ _ (λ e b. order-most (secondOf ws)) (λ e. wrong-small order)
+order-small ws = by-test Small (both _ _) _ _ (λ e b. order-most (secondOf ws)) (λ e. wrong-small saysOrder)
 
 list-small : (ws : List (List ℕ)) → Small (listLine ws)
 unfolding listLine
@@ -79,8 +79,8 @@ unfolding mapLineOf
 line-small content =
     by-test Small _ _ _ (λ e. order-small (words content))
     (λ e. by-test Small _ _ _ (λ f. list-small (words content))
-    (λ f. by-test Small _ _ _ (λ g. size-small columns content)
-    (λ g. by-test Small _ _ _ (λ h. size-small rows content) (λ h b. omega arith))))
+    (λ f. by-test Small _ _ _ (λ g. size-small saysColumns content)
+    (λ g. by-test Small _ _ _ (λ h. size-small saysRows content) (λ h b. omega arith))))
 
 -- a line that breaks no rule is in bounds
 kept-bounded : (l : MapLine) (m : Map) → mapRule l m ≡ 0 → l .bounded ≡ true
@@ -102,8 +102,8 @@ next-bounded content l m told e b =
     let k : mapLineOf content .bounded ≡ true = rw told at (kept-bounded l m e) in
     let h : l .value ≤ 256 = rw told (line-small content k) in
     record {
-      few-rows = by-test (λ (n : ℕ). n ≤ 256) (eqb (l .says) rows) _ _ (λ f. h) (λ f. b .few-rows);
-      few-columns = by-test (λ (n : ℕ). n ≤ 256) (eqb (l .says) columns) _ _ (λ f. h) (λ f. b .few-columns);
+      few-rows = by-test (λ (n : ℕ). n ≤ 256) (eqb (l .says) saysRows) _ _ (λ f. h) (λ f. b .few-rows);
+      few-columns = by-test (λ (n : ℕ). n ≤ 256) (eqb (l .says) saysColumns) _ _ (λ f. h) (λ f. b .few-columns);
     }
 
 -- a pin that breaks no rule is at most the 256th

@@ -18,17 +18,17 @@ use Rattle.line_map.specs.declared.MapLine.{MapLine}
 abbrev pub saysNothing : ℕ
 saysNothing = 0
 
-abbrev pub order : ℕ
-order = 1
+abbrev pub saysOrder : ℕ
+saysOrder = 1
 
-abbrev pub columns : ℕ
-columns = 2
+abbrev pub saysColumns : ℕ
+saysColumns = 2
 
-abbrev pub rows : ℕ
-rows = 3
+abbrev pub saysRows : ℕ
+saysRows = 3
 
-abbrev pub pinList : ℕ
-pinList = 4
+abbrev pub saysPinList : ℕ
+saysPinList = 4
 
 -- "Row_ordered, Column_ordered or Un_ordered", one above the table's count; 0 for none
 unfoldable pub orderOf : List ℕ → ℕ
@@ -43,12 +43,12 @@ wrongMapLine says = record { says = says; right = false; formed = true; bounded 
 unfoldable pub orderLine : List (List ℕ) → MapLine
 orderLine ws =
     if both (eqb (length ws) 2) (not (eqb (orderOf (secondOf ws)) 0))
-    then record { says = order; right = true; formed = true; bounded = true; value = orderOf (secondOf ws) }
-    else wrongMapLine order
+    then record { says = saysOrder; right = true; formed = true; bounded = true; value = orderOf (secondOf ws) }
+    else wrongMapLine saysOrder
 
 unfoldable pub listLine : List (List ℕ) → MapLine
 listLine ws =
-    if eqb (length ws) 1 then record { says = pinList; right = true; formed = true; bounded = true; value = 0 } else wrongMapLine pinList
+    if eqb (length ws) 1 then record { says = saysPinList; right = true; formed = true; bounded = true; value = 0 } else wrongMapLine saysPinList
 
 -- "`Num_of_columns = c` and `Num_of_rows = r`", "Num_of_rows, Num_of_columns .. 1 to 256"
 unfoldable pub sizeLine : ℕ → List ℕ → MapLine
@@ -68,8 +68,8 @@ unfoldable pub mapLineOf : List ℕ → MapLine
 mapLineOf content =
     if same (firstOf (words content)) (bytes "Pin_order") then orderLine (words content) else
     if same (firstOf (words content)) (bytes "Pin_list") then listLine (words content) else
-    if same (firstOf (leftOf content)) (bytes "Num_of_columns") then sizeLine columns content else
-    if same (firstOf (leftOf content)) (bytes "Num_of_rows") then sizeLine rows content else
+    if same (firstOf (leftOf content)) (bytes "Num_of_columns") then sizeLine saysColumns content else
+    if same (firstOf (leftOf content)) (bytes "Num_of_rows") then sizeLine saysRows content else
     record { says = saysNothing; right = true; formed = true; bounded = true; value = 0 }
 
 unfoldable pub newMap : Map
@@ -82,10 +82,10 @@ isOrdered m = within 1 2 (m .order)
 -- "`Pin_order` ..; for the ordered two `Num_of_columns = c` and `Num_of_rows = r`, either first; then `Pin_list`"
 unfoldable pub isMapOutOfOrder : MapLine → Map → Bool
 isMapOutOfOrder l m =
-    if eqb (l .says) order then not (eqb (m .order) 0) else
-    if eqb (l .says) columns then either (not (isOrdered m)) (not (eqb (m .columns) 0)) else
-    if eqb (l .says) rows then either (not (isOrdered m)) (not (eqb (m .rows) 0)) else
-    if eqb (l .says) pinList then either (eqb (m .order) 0) (both (isOrdered m) (either (eqb (m .rows) 0) (eqb (m .columns) 0))) else true
+    if eqb (l .says) saysOrder then not (eqb (m .order) 0) else
+    if eqb (l .says) saysColumns then either (not (isOrdered m)) (not (eqb (m .columns) 0)) else
+    if eqb (l .says) saysRows then either (not (isOrdered m)) (not (eqb (m .rows) 0)) else
+    if eqb (l .says) saysPinList then either (eqb (m .order) 0) (both (isOrdered m) (either (eqb (m .rows) 0) (eqb (m .columns) 0))) else true
 
 unfoldable pub mapRule : MapLine → Map → ℕ
 mapRule l m =
@@ -95,9 +95,9 @@ mapRule l m =
 unfoldable pub mapNext : MapLine → Map → Map
 mapNext l m =
     record {
-      order = if eqb (l .says) order then l .value else m .order;
-      rows = if eqb (l .says) rows then l .value else m .rows;
-      columns = if eqb (l .says) columns then l .value else m .columns;
+      order = if eqb (l .says) saysOrder then l .value else m .order;
+      rows = if eqb (l .says) saysRows then l .value else m .rows;
+      columns = if eqb (l .says) saysColumns then l .value else m .columns;
       pins = m .pins;
     }
 

@@ -15,7 +15,7 @@ use Rattle.lex_line.specs.declared.Few.{Few}
 use Rattle.lex_line.proofs.WordLaws.{first-marked, second-marked}
 use Rattle.lex_line.proofs.FormLaws.{counted, counted-not, count-tells}
 use Rattle.line_argument.specs.Argument.{isReserved}
-use Rattle.line_path.specs.Path.{saysNothing, end, side, section, fork, endfork, sayingOf, plainLine, namesOne, lineSaying, pathLineOf}
+use Rattle.line_path.specs.Path.{saysNothing, saysEnd, saysSide, saysSection, saysFork, saysEndfork, sayingOf, plainLine, namesOne, lineSaying, pathLineOf}
 use Rattle.line_path.specs.declared.PathLine.{PathLine}
 
 module _ (content : List ℕ) (few : Few) (told : few ≡ fewOf content) where
@@ -32,21 +32,21 @@ module _ (content : List ℕ) (few : Few) (told : few ≡ fewOf content) where
 
   -- ---- a line by what it says
 
-  module _ (says : ℕ) (n : says ≡ section → ⊥) (a : Bool) (alone : a ≡ either (eqb says fork) (eqb says endfork)) where
+  module _ (says : ℕ) (n : says ≡ saysSection → ⊥) (a : Bool) (alone : a ≡ either (eqb says saysFork) (eqb says saysEndfork)) where
     pub says-alone : (r : PathLine) → a ≡ true → r ≡ plainLine says (eqb (few .count) 1) → r ≡ lineSaying says content
     unfolding lineSaying
     says-alone r e h =
-        h ∙ ap (plainLine says) (count-tells content few told 1 (omega arith)) ∙ sym (if-false _ _ (ne-eqb says section n) ∙ if-true _ _ (sym alone ∙ e))
+        h ∙ ap (plainLine says) (count-tells content few told 1 (omega arith)) ∙ sym (if-false _ _ (ne-eqb says saysSection n) ∙ if-true _ _ (sym alone ∙ e))
 
-    module _ (other : a ≡ false) (b : Bool) (named : b ≡ either (eqb says end) (eqb says side)) where
+    module _ (other : a ≡ false) (b : Bool) (named : b ≡ either (eqb says saysEnd) (eqb says saysSide)) where
       pub says-name : (right : Bool) (r : PathLine) → b ≡ true → right ≡ namesOne (words content) → r ≡ plainLine says right → r ≡ lineSaying says content
       unfolding lineSaying
       says-name right r e k h =
-          h ∙ ap (plainLine says) k ∙ sym (if-false _ _ (ne-eqb says section n) ∙ if-false _ _ (sym alone ∙ other) ∙ if-true _ _ (sym named ∙ e))
+          h ∙ ap (plainLine says) k ∙ sym (if-false _ _ (ne-eqb says saysSection n) ∙ if-false _ _ (sym alone ∙ other) ∙ if-true _ _ (sym named ∙ e))
 
       pub says-nothing : (r : PathLine) → b ≡ false → r ≡ plainLine saysNothing true → r ≡ lineSaying says content
       unfolding lineSaying
-      says-nothing r e h = h ∙ sym (if-false _ _ (ne-eqb says section n) ∙ if-false _ _ (sym alone ∙ other) ∙ if-false _ _ (sym named ∙ e))
+      says-nothing r e h = h ∙ sym (if-false _ _ (ne-eqb says saysSection n) ∙ if-false _ _ (sym alone ∙ other) ∙ if-false _ _ (sym named ∙ e))
 
   pub line-told : (w : List ℕ) (says : ℕ) (r : PathLine) → w ≡ markedBy content (few .first) → says ≡ sayingOf w → r ≡ lineSaying says content → r ≡ pathLineOf content
   unfolding pathLineOf

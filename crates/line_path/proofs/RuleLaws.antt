@@ -10,24 +10,24 @@ use Rattle.base.specs.If.{if_then_else_, both, either}
 use Rattle.base.specs.Broken.{first}
 use Rattle.base.proofs.IfLaws.{if-true, if-false, both-true, both-rest, both-not-left, both-not-right, either-left, either-rest, either-comes, either-false, not-via, not-not-via}
 use Rattle.base.proofs.BrokenLaws.{gives-first, gives-later}
-use Rattle.line_path.specs.Path.{end, side, section, fork, endfork, items, deepest, mostSteps, isBadFork, isStepLine, closedRule, pathNext}
+use Rattle.line_path.specs.Path.{saysEnd, saysSide, saysSection, saysFork, saysEndfork, items, deepest, mostSteps, isBadFork, isStepLine, closedRule, pathNext}
 use Rattle.line_path.specs.declared.Path.{Path}
 use Rattle.line_path.specs.declared.PathLine.{PathLine}
 
 -- ---- 15
 
 module _ (l : PathLine) (p : Path) where
-  pub bad-fork : l .says ≡ fork → leb deepest (p .depth) ≡ isBadFork l p
+  pub bad-fork : l .says ≡ saysFork → leb deepest (p .depth) ≡ isBadFork l p
   unfolding isBadFork
   bad-fork e =
-      sym (either-comes _ _ (both-not-left _ _ (ne-eqb (l .says) endfork (λ (f : l .says ≡ endfork). omega arith))) ∙ both-rest _ _ (eq-eqb _ _ e))
+      sym (either-comes _ _ (both-not-left _ _ (ne-eqb (l .says) saysEndfork (λ (f : l .says ≡ saysEndfork). omega arith))) ∙ both-rest _ _ (eq-eqb _ _ e))
 
-  module _ (n : l .says ≡ fork → ⊥) where
-    pub bad-endfork : l .says ≡ endfork → eqb (p .depth) 0 ≡ isBadFork l p
+  module _ (n : l .says ≡ saysFork → ⊥) where
+    pub bad-endfork : l .says ≡ saysEndfork → eqb (p .depth) 0 ≡ isBadFork l p
     unfolding isBadFork
     bad-endfork e = sym (either-rest _ _ (both-not-left _ _ (ne-eqb _ _ n)) ∙ both-rest _ _ (eq-eqb _ _ e))
 
-    pub bad-neither : (l .says ≡ endfork → ⊥) → false ≡ isBadFork l p
+    pub bad-neither : (l .says ≡ saysEndfork → ⊥) → false ≡ isBadFork l p
     unfolding isBadFork
     bad-neither m = sym (either-false _ _ (both-not-left _ _ (ne-eqb _ _ n)) (both-not-left _ _ (ne-eqb _ _ m)))
 
@@ -61,7 +61,7 @@ module _ (l : PathLine) (steps : ℕ) (t : Bool) (told : t ≡ isStepLine l) whe
 -- ---- a closed path
 
 module _ (l : PathLine) (p : Path) where
-  pub closed-other : (l .says ≡ side → ⊥) → 12 ≡ closedRule l p
+  pub closed-other : (l .says ≡ saysSide → ⊥) → 12 ≡ closedRule l p
   unfolding closedRule
   closed-other n = sym (if-false _ _ (both-not-left _ _ (ne-eqb _ _ n)))
 
@@ -69,8 +69,8 @@ module _ (l : PathLine) (p : Path) where
   unfolding closedRule
   closed-late e = sym (if-false _ _ (both-not-right _ _ (not-true _ e)))
 
-  module _ (says : l .says ≡ side) (next : not (p .side) ≡ false) where
-    closed-side : both (eqb (l .says) side) (p .side) ≡ true
+  module _ (says : l .says ≡ saysSide) (next : not (p .side) ≡ false) where
+    closed-side : both (eqb (l .says) saysSide) (p .side) ≡ true
     closed-side = both-true _ _ (eq-eqb _ _ says) (not-false _ next)
 
     pub closed-right : l .right ≡ true → 0 ≡ closedRule l p
@@ -83,7 +83,7 @@ module _ (l : PathLine) (p : Path) where
 
 -- ---- a block less
 
-pub next-endfork : (l : PathLine) (p : Path) (depth : ℕ) → (l .says ≡ end → ⊥) → (l .says ≡ section → ⊥) → (l .says ≡ fork → ⊥) → l .says ≡ endfork → depth ≡ p .depth - 1 → record { stage = items; depth = depth; ended = false; side = false } ≡ pathNext l p
+pub next-endfork : (l : PathLine) (p : Path) (depth : ℕ) → (l .says ≡ saysEnd → ⊥) → (l .says ≡ saysSection → ⊥) → (l .says ≡ saysFork → ⊥) → l .says ≡ saysEndfork → depth ≡ p .depth - 1 → record { stage = items; depth = depth; ended = false; side = false } ≡ pathNext l p
 unfolding pathNext
 next-endfork l p depth n m o e h =
     ap (λ (d : ℕ). record { stage = items; depth = d; ended = false; side = false }) h

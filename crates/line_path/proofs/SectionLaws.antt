@@ -21,35 +21,35 @@ use Rattle.lex_number.specs.Integer.{wholeOf}
 use Rattle.lex_number.specs.declared.Number.{Number}
 use Rattle.lex_number.specs.declared.Whole.{Whole}
 use Rattle.line_argument.specs.Argument.{isReserved}
-use Rattle.line_path.specs.Path.{section, plainLine, isLength, isMult, isSectionLine, amountFormed, amountBounded, sectionLine}
+use Rattle.line_path.specs.Path.{saysSection, plainLine, isLength, isMult, isSectionLine, amountFormed, amountBounded, sectionLine}
 use Rattle.line_path.specs.Way.Section.{amountLine, unitLine, isParted, partsLine}
 use Rattle.line_path.specs.declared.PathLine.{PathLine}
 
 -- ---- the amount
 
-pub amount-mult : (mult : Bool) (amount : List ℕ) (times : Whole) (inside : Bool) → mult ≡ true → times ≡ wholeOf amount → inside ≡ within 1 65_535 (times .value) → record { says = section; right = true; formed = times .formed; bounded = inside } ≡ amountLine mult amount
+pub amount-mult : (mult : Bool) (amount : List ℕ) (times : Whole) (inside : Bool) → mult ≡ true → times ≡ wholeOf amount → inside ≡ within 1 65_535 (times .value) → record { says = saysSection; right = true; formed = times .formed; bounded = inside } ≡ amountLine mult amount
 unfolding amountLine amountFormed amountBounded
 amount-mult mult amount times inside e k h =
     let f : times .formed ≡ (if mult then wholeOf amount .formed else isFormed (numberOf amount)) = ap (λ (w : Whole). w .formed) k ∙ sym (if-true _ _ e) in
     let b : inside ≡ (if mult then within 1 65_535 (wholeOf amount .value) else isLength (numberOf amount)) = h ∙ ap (λ (w : Whole). within 1 65_535 (w .value)) k ∙ sym (if-true _ _ e) in
-    λ i. record { says = section; right = true; formed = f i; bounded = b i }
+    λ i. record { says = saysSection; right = true; formed = f i; bounded = b i }
 
-pub amount-length : (mult : Bool) (amount : List ℕ) (n : Number) (formed bounded : Bool) → mult ≡ false → n ≡ numberOf amount → formed ≡ isFormed n → bounded ≡ isLength n → record { says = section; right = true; formed = formed; bounded = bounded } ≡ amountLine mult amount
+pub amount-length : (mult : Bool) (amount : List ℕ) (n : Number) (formed bounded : Bool) → mult ≡ false → n ≡ numberOf amount → formed ≡ isFormed n → bounded ≡ isLength n → record { says = saysSection; right = true; formed = formed; bounded = bounded } ≡ amountLine mult amount
 unfolding amountLine amountFormed amountBounded
 amount-length mult amount n formed bounded e k f b =
     let g : formed ≡ (if mult then wholeOf amount .formed else isFormed (numberOf amount)) = f ∙ ap isFormed k ∙ sym (if-false _ _ e) in
     let h : bounded ≡ (if mult then within 1 65_535 (wholeOf amount .value) else isLength (numberOf amount)) = b ∙ ap isLength k ∙ sym (if-false _ _ e) in
-    λ i. record { says = section; right = true; formed = g i; bounded = h i }
+    λ i. record { says = saysSection; right = true; formed = g i; bounded = h i }
 
 -- ---- the words before the sign and after it
 
 module _ (left : List ℕ) (before : Few) (one : before ≡ fewOf left) (right : List ℕ) where
-  pub parts-before : (r : PathLine) → (before .count ≡ 2 → ⊥) → r ≡ plainLine section false → r ≡ partsLine (words left) (words right)
+  pub parts-before : (r : PathLine) → (before .count ≡ 2 → ⊥) → r ≡ plainLine saysSection false → r ≡ partsLine (words left) (words right)
   unfolding partsLine isParted
   parts-before r n h = h ∙ sym (if-false _ _ (both-not-left _ _ (counted-not left before one 2 (omega arith) n)))
 
   module _ (after : Few) (two : after ≡ fewOf right) where
-    pub parts-after : (r : PathLine) → (after .count ≡ 2 → ⊥) → r ≡ plainLine section false → r ≡ partsLine (words left) (words right)
+    pub parts-after : (r : PathLine) → (after .count ≡ 2 → ⊥) → r ≡ plainLine saysSection false → r ≡ partsLine (words left) (words right)
     unfolding partsLine isParted
     parts-after r n h = h ∙ sym (if-false _ _ (both-not-right _ _ (both-not-left _ _ (counted-not right after two 2 (omega arith) n))))
 
@@ -57,7 +57,7 @@ module _ (left : List ℕ) (before : Few) (one : before ≡ fewOf left) (right :
       reserved-is : isReserved (secondOf (words right)) ≡ t
       reserved-is = sym (tested ∙ ap isReserved (named ∙ second-marked right after two))
 
-      pub parts-reserved : (r : PathLine) → t ≡ true → r ≡ plainLine section false → r ≡ partsLine (words left) (words right)
+      pub parts-reserved : (r : PathLine) → t ≡ true → r ≡ plainLine saysSection false → r ≡ partsLine (words left) (words right)
       unfolding partsLine isParted
       parts-reserved r e h = h ∙ sym (if-false _ _ (both-not-right _ _ (both-not-right _ _ (not-not-via (reserved-is ∙ e)))))
 
@@ -101,7 +101,7 @@ module _ (content : List ℕ) where
   section-told s p u =
       both-true _ _ s (both-true _ _ (both-true _ _ (both-first _ _ p) (both-first _ _ (both-second _ _ p))) (both-true _ _ u (both-second _ _ (both-second _ _ p))))
 
-  section-wrong : isSectionLine content ≡ false → plainLine section false ≡ sectionLine content
+  section-wrong : isSectionLine content ≡ false → plainLine saysSection false ≡ sectionLine content
   unfolding sectionLine
   section-wrong e = sym (if-false _ _ e)
 
@@ -130,7 +130,7 @@ module _ (content : List ℕ) where
 
   -- a line parted at its first `=`
   module _ (sign : ℕ) (at : sign ≡ toEquals content) where
-    pub section-none : (r : PathLine) → length content ≤ sign → r ≡ plainLine section false → r ≡ sectionLine content
+    pub section-none : (r : PathLine) → length content ≤ sign → r ≡ plainLine saysSection false → r ≡ sectionLine content
     section-none r h e = e ∙ section-wrong (fails _ _ section-sign (sign-none content sign at h))
 
     pub section-parts : (r : PathLine) → sign < length content → r ≡ partsLine (words (take sign content)) (words (take (length content - (sign + 1)) (drop (sign + 1) content))) → r ≡ sectionLine content

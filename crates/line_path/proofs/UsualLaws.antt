@@ -25,7 +25,7 @@ use Rattle.lex_line.proofs.WordLaws.{after-at, after-none, after-past, wordsAft
 use Rattle.lex_line.specs.declared.Span.{Span}
 use Rattle.lex_line.proofs.FormLaws.{part-from}
 use Rattle.line_argument.specs.Argument.{isReserved}
-use Rattle.line_path.specs.Path.{section, fork, endfork, sayingOf, plainLine, isMult, sectionLine, lineSaying, pathLineOf}
+use Rattle.line_path.specs.Path.{saysSection, saysFork, saysEndfork, sayingOf, plainLine, isMult, sectionLine, lineSaying, pathLineOf}
 use Rattle.line_path.specs.Way.Section.{amountLine, unitLine, isParted, partsLine}
 use Rattle.line_path.specs.Way.Usual.{multFront, OpensMult, Paired, UsualSection, UsualFork, forks, ends}
 use Rattle.line_path.specs.declared.PathLine.{PathLine}
@@ -129,7 +129,7 @@ module _ (s : List ℕ) (r : ℕ) (p : Paired s r) where
 
 -- ---- a line that opens with `Section Mult=`
 
-front-says : (rest : List ℕ) → sayingOf (firstOf (words (multFront ++ rest))) ≡ section
+front-says : (rest : List ℕ) → sayingOf (firstOf (words (multFront ++ rest))) ≡ saysSection
 unfolding sayingOf same wordsFrom isBlank wordGoesOn isFilled grown both either if_then_else_
 front-says rest = refl
 
@@ -150,7 +150,7 @@ unfolding isMult same both if_then_else_
 unit-mult c e = ap (λ (ws : List (List ℕ)). same (secondOf ws) (bytes "Mult")) e
 
 module _ (c : List ℕ) (o : OpensMult c) where
-  pub opens-says : section ≡ sayingOf (firstOf (words c))
+  pub opens-says : saysSection ≡ sayingOf (firstOf (words c))
   opens-says = sym (ap (λ (s : List ℕ). sayingOf (firstOf (words s))) (o .front) ∙ front-says (drop 13 c))
 
   opens-left : leftOf c ≡ bytes "Section" ∷ bytes "Mult" ∷ []
@@ -174,13 +174,13 @@ module _ (c : List ℕ) (o : OpensMult c) where
 
 -- ---- a Section line
 
-parts-reserved : (a n : List ℕ) → isReserved n ≡ true → partsLine (bytes "Section" ∷ bytes "Mult" ∷ []) (a ∷ n ∷ []) ≡ plainLine section false
+parts-reserved : (a n : List ℕ) → isReserved n ≡ true → partsLine (bytes "Section" ∷ bytes "Mult" ∷ []) (a ∷ n ∷ []) ≡ plainLine saysSection false
 unfolding partsLine isParted both if_then_else_
-parts-reserved a n e = ap (λ (b : Bool). if not b then unitLine (bytes "Mult") a else plainLine section false) e
+parts-reserved a n e = ap (λ (b : Bool). if not b then unitLine (bytes "Mult") a else plainLine saysSection false) e
 
 parts-kept : (a n : List ℕ) → isReserved n ≡ false → partsLine (bytes "Section" ∷ bytes "Mult" ∷ []) (a ∷ n ∷ []) ≡ amountLine true a
 unfolding partsLine isParted unitLine same both if_then_else_
-parts-kept a n e = ap (λ (b : Bool). if not b then unitLine (bytes "Mult") a else plainLine section false) e
+parts-kept a n e = ap (λ (b : Bool). if not b then unitLine (bytes "Mult") a else plainLine saysSection false) e
 
 module _ (c : List ℕ) (end : ℕ) (u : UsualSection c end) where
   -- its amount and its name, where they stand in the line
@@ -204,7 +204,7 @@ module _ (c : List ℕ) (end : ℕ) (u : UsualSection c end) where
       ∙ ap (partsLine (leftOf c)) (sym usual-right) ∙ parts-are c (opens-has c (u .opens)) ∙ ap (λ (n : ℕ). lineSaying n c) (opens-says c (u .opens))
 
   module _ (t : Bool) (tested : t ≡ isReserved (take (length c - (end + 1)) (drop (end + 1) c))) (r : PathLine) where
-    pub usual-reserved : t ≡ true → r ≡ plainLine section false → r ≡ pathLineOf c
+    pub usual-reserved : t ≡ true → r ≡ plainLine saysSection false → r ≡ pathLineOf c
     usual-reserved e h = h ∙ sym (parts-reserved _ _ (sym tested ∙ e)) ∙ line-parts
 
     pub usual-kept : t ≡ false → r ≡ amountLine true (take (end - 13) (drop 13 c)) → r ≡ pathLineOf c
@@ -235,30 +235,30 @@ endf-joined : joined (bytes "Endf") ≡ 1_717_857_861
 unfolding joined
 endf-joined = refl
 
-small-bytes : all isByte (bytes "fork") ≡ true
+small-bytes : all isByte (bytes "saysFork") ≡ true
 unfolding all isByte both if_then_else_
 small-bytes = refl
 
-small-joined : joined (bytes "fork") ≡ 1_802_661_734
+small-joined : joined (bytes "saysFork") ≡ 1_802_661_734
 unfolding joined
 small-joined = refl
 
-pub fork-told : (c : List ℕ) (a : ℕ) → length c ≡ 4 → Joins (take 4 (drop 0 c)) a → a ≡ 1_802_661_702 → UsualFork c fork
+pub fork-told : (c : List ℕ) (a : ℕ) → length c ≡ 4 → Joins (take 4 (drop 0 c)) a → a ≡ 1_802_661_702 → UsualFork c saysFork
 fork-told c a long one e =
     let front : take 4 (drop 0 c) ≡ bytes "Fork" = known _ _ a (four-long c 0 (omega arith)) fork-bytes one (e ∙ sym fork-joined) in
     let whole : c ≡ bytes "Fork" = sym (take-all 4 c (omega arith)) ∙ front in
     rw whole forks
 
-endfork-whole : (c : List ℕ) → length c ≡ 7 → take 4 (drop 0 c) ≡ bytes "Endf" → take 4 (drop 3 c) ≡ bytes "fork" → c ≡ bytes "Endfork"
+endfork-whole : (c : List ℕ) → length c ≡ 7 → take 4 (drop 0 c) ≡ bytes "Endf" → take 4 (drop 3 c) ≡ bytes "saysFork" → c ≡ bytes "Endfork"
 endfork-whole c long one two =
     let whole : c ≡ bytes "Endf" ++ drop 4 c = sym (take-append-drop 4 c) ∙ ap (λ (x : List ℕ). x ++ drop 4 c) one in
     let short : length (drop 3 c) ≡ length c - 3 = length-drop 3 c in
-    let from : drop 3 c ≡ bytes "fork" = sym (take-all 4 (drop 3 c) (omega arith)) ∙ two in
+    let from : drop 3 c ≡ bytes "saysFork" = sym (take-all 4 (drop 3 c) (omega arith)) ∙ two in
     let rest : drop 4 c ≡ bytes "ork" = ap (drop 1) (sym (ap (drop 3) whole) ∙ from) in
     whole ∙ ap (λ (x : List ℕ). bytes "Endf" ++ x) rest
 
 pub endfork-told : (c : List ℕ) (a b : ℕ) → length c ≡ 7 → Joins (take 4 (drop 0 c)) a → a ≡ 1_717_857_861 → Joins (take 4 (drop 3 c)) b → b ≡ 1_802_661_734 →
-    UsualFork c endfork
+    UsualFork c saysEndfork
 endfork-told c a b long one e two g =
     rw
     (endfork-whole c long (known _ _ a (four-long c 0 (omega arith)) endf-bytes one (e ∙ sym endf-joined))

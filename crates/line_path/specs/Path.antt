@@ -24,28 +24,28 @@ abbrev pub saysNothing : ℕ
 saysNothing = 0
 
 -- Model_pinmap
-abbrev pub end : ℕ
-end = 1
+abbrev pub saysEnd : ℕ
+saysEnd = 1
 
-abbrev pub side : ℕ
-side = 2
+abbrev pub saysSide : ℕ
+saysSide = 2
 
-abbrev pub section : ℕ
-section = 3
+abbrev pub saysSection : ℕ
+saysSection = 3
 
-abbrev pub fork : ℕ
-fork = 4
+abbrev pub saysFork : ℕ
+saysFork = 4
 
-abbrev pub endfork : ℕ
-endfork = 5
+abbrev pub saysEndfork : ℕ
+saysEndfork = 5
 
 unfoldable pub sayingOf : List ℕ → ℕ
 sayingOf w =
-    if same w (bytes "Section") then section else
-    if same w (bytes "Fork") then fork else
-    if same w (bytes "Endfork") then endfork else
-    if same w (bytes "Model_pinmap") then end else
-    if same w (bytes "Side") then side else saysNothing
+    if same w (bytes "Section") then saysSection else
+    if same w (bytes "Fork") then saysFork else
+    if same w (bytes "Endfork") then saysEndfork else
+    if same w (bytes "Model_pinmap") then saysEnd else
+    if same w (bytes "Side") then saysSide else saysNothing
 
 unfoldable pub plainLine : ℕ → Bool → PathLine
 plainLine says right = record { says = says; right = right; formed = true; bounded = true }
@@ -79,14 +79,14 @@ amountBounded mult amount = if mult then within 1 65_535 (wholeOf amount .value)
 unfoldable pub sectionLine : List ℕ → PathLine
 sectionLine content =
     if isSectionLine content
-    then record { says = section; right = true; formed = amountFormed (isMult content) (firstOf (rightOf content)); bounded = amountBounded (isMult content) (firstOf (rightOf content)) }
-    else plainLine section false
+    then record { says = saysSection; right = true; formed = amountFormed (isMult content) (firstOf (rightOf content)); bounded = amountBounded (isMult content) (firstOf (rightOf content)) }
+    else plainLine saysSection false
 
 unfoldable pub lineSaying : ℕ → List ℕ → PathLine
 lineSaying says content =
-    if eqb says section then sectionLine content else
-    if either (eqb says fork) (eqb says endfork) then plainLine says (eqb (length (words content)) 1) else
-    if either (eqb says end) (eqb says side) then plainLine says (namesOne (words content)) else plainLine saysNothing true
+    if eqb says saysSection then sectionLine content else
+    if either (eqb says saysFork) (eqb says saysEndfork) then plainLine says (eqb (length (words content)) 1) else
+    if either (eqb says saysEnd) (eqb says saysSide) then plainLine says (namesOne (words content)) else plainLine saysNothing true
 
 unfoldable pub pathLineOf : List ℕ → PathLine
 pathLineOf content = lineSaying (sayingOf (firstOf (words content))) content
@@ -118,20 +118,20 @@ mostSteps = 4_096
 -- "15 FORK: nesting over 8, Endfork with none open"
 unfoldable pub isBadFork : PathLine → Path → Bool
 isBadFork l p =
-    either (both (eqb (l .says) fork) (leb deepest (p .depth))) (both (eqb (l .says) endfork) (eqb (p .depth) 0))
+    either (both (eqb (l .says) saysFork) (leb deepest (p .depth))) (both (eqb (l .says) saysEndfork) (eqb (p .depth) 0))
 
 -- "perhaps with `Side name` as the next line read"; "The first item is a Section"; "perhaps one end as last"
 unfoldable pub isPathOutOfOrder : PathLine → Path → Bool
 isPathOutOfOrder l p =
-    if eqb (l .says) side then not (p .side) else
-    if eqb (l .says) section then either (eqb (p .stage) starting) (p .ended) else
-    if eqb (l .says) fork then either (ltb (p .stage) items) (p .ended) else
-    if eqb (l .says) end then either (eqb (p .stage) started) (p .ended) else
-    if eqb (l .says) endfork then false else true
+    if eqb (l .says) saysSide then not (p .side) else
+    if eqb (l .says) saysSection then either (eqb (p .stage) starting) (p .ended) else
+    if eqb (l .says) saysFork then either (ltb (p .stage) items) (p .ended) else
+    if eqb (l .says) saysEnd then either (eqb (p .stage) started) (p .ended) else
+    if eqb (l .says) saysEndfork then false else true
 
 -- the lines that are steps: all but Side
 unfoldable pub isStepLine : PathLine → Bool
-isStepLine l = not (eqb (l .says) side)
+isStepLine l = not (eqb (l .says) saysSide)
 
 -- "15 .. goes before 9, 11 and 12"
 unfoldable pub openRule : PathLine → Path → ℕ → ℕ
@@ -148,7 +148,7 @@ openRule l p steps =
 -- "The end at depth 0 closes the path": only its Side may follow
 unfoldable pub closedRule : PathLine → Path → ℕ
 closedRule l p =
-    if both (eqb (l .says) side) (p .side) then firstBroken (11 when not (l .right) ∷ []) else 12
+    if both (eqb (l .says) saysSide) (p .side) then firstBroken (11 when not (l .right) ∷ []) else 12
 
 unfoldable pub pathRule : PathLine → Path → ℕ → ℕ
 pathRule l p steps = if eqb (p .stage) closed then closedRule l p else openRule l p steps
@@ -162,10 +162,10 @@ withEnd p =
 
 unfoldable pub pathNext : PathLine → Path → Path
 pathNext l p =
-    if eqb (l .says) end then withEnd p else
-    if eqb (l .says) section then record { stage = items; depth = p .depth; ended = false; side = false } else
-    if eqb (l .says) fork then record { stage = items; depth = p .depth + 1; ended = false; side = false } else
-    if eqb (l .says) endfork then record { stage = items; depth = p .depth - 1; ended = false; side = false } else
+    if eqb (l .says) saysEnd then withEnd p else
+    if eqb (l .says) saysSection then record { stage = items; depth = p .depth; ended = false; side = false } else
+    if eqb (l .says) saysFork then record { stage = items; depth = p .depth + 1; ended = false; side = false } else
+    if eqb (l .says) saysEndfork then record { stage = items; depth = p .depth - 1; ended = false; side = false } else
     record { stage = p .stage; depth = p .depth; ended = p .ended; side = false }
 
 -- "closing with one open" is 15

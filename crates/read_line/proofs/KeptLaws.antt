@@ -18,7 +18,7 @@ use Rattle.lex_number.specs.declared.Whole.{Whole}
 use Rattle.lex_number.proofs.IntegerLaws.{integer-below}
 use Rattle.line_place.specs.Place.{isText}
 use Rattle.line_place.specs.Place as place
-use Rattle.line_path.specs.Path.{side, closed, deepest, mostSteps, pathLineOf, isBadFork, isPathOutOfOrder, isStepLine, openRule, pathRule}
+use Rattle.line_path.specs.Path.{saysSide, closed, deepest, mostSteps, pathLineOf, isBadFork, isPathOutOfOrder, isStepLine, openRule, pathRule}
 use Rattle.line_path.specs.declared.Path.{Path}
 use Rattle.line_path.specs.declared.PathLine.{PathLine}
 use Rattle.line_path.proofs.RuleLaws.{closed-other}
@@ -92,9 +92,9 @@ module _ (l : PathLine) (p : Path) (steps : ℕ) where
   open-room : openRule l p steps ≡ 0 → isStepLine l ≡ true → steps < mostSteps
   open-room kept step = leb-false mostSteps steps (sym (both-rest _ _ step) ∙ no-over kept)
 
-  step-other : isStepLine l ≡ true → (l .says ≡ side → ⊥)
+  step-other : isStepLine l ≡ true → (l .says ≡ saysSide → ⊥)
   unfolding isStepLine
-  step-other step = eqb-false (l .says) side (not-true _ step)
+  step-other step = eqb-false (l .says) saysSide (not-true _ step)
 
   -- a step that breaks nothing; a closed path takes none
   pub step-room : pathRule l p steps ≡ 0 → isStepLine l ≡ true → steps < mostSteps

@@ -129,9 +129,9 @@ module _ (t : List ℕ) (line : Found) (located : Located t line) where
   unfolding sayingAt standsIn keyOf
   keyed-says k = if-false _ _ (both-not-right _ _ (ne-eqb _ _ (λ (e : _≡_ {A = ℕ} _ plain). k (located .key-is ∙ e))))
 
-  no-side : (n : ℕ) → sayingAt (pathLine t line) ≡ n → (n ≡ path.side → ⊥) →
+  no-side : (n : ℕ) → sayingAt (pathLine t line) ≡ n → (n ≡ path.saysSide → ⊥) →
       record { start = 0; size = 0 } ≡ markOf (sideIn (pathLine t line ∷ []))
-  no-side n e h = no-mark ∙ ap markOf (sym (if-false _ _ (ne-eqb _ _ (λ (k : sayingAt (pathLine t line) ≡ path.side). h (sym e ∙ k)))))
+  no-side n e h = no-mark ∙ ap markOf (sym (if-false _ _ (ne-eqb _ _ (λ (k : sayingAt (pathLine t line) ≡ path.saysSide). h (sym e ∙ k)))))
 
   pub side-keyed : (line .key ≡ 41 → ⊥) → record { start = 0; size = 0 } ≡ markOf (sideIn (pathLine t line ∷ []))
   side-keyed k = no-side 0 (keyed-says k) (λ (e : _≡_ {A = ℕ} 0 2). omega arith)

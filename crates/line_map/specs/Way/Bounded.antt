@@ -2,7 +2,7 @@
 -- Assumes nothing.
 use Prim.Native.Nat.{_≤_}
 use Rattle.line_map.specs.declared.Map.{Map}
-use Rattle.line_map.specs.PinMap.{columns, rows}
+use Rattle.line_map.specs.PinMap.{saysColumns, saysRows}
 
 -- the sizes that a map has while no rule is broken: a line gives none above 256
 pub record Bounded (m : Map) : Type 0 where

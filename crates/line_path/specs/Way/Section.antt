@@ -11,18 +11,18 @@ use Rattle.base.specs.Bytes.{bytes}
 use Rattle.base.specs.Runs.{same}
 use Rattle.lex_line.specs.Words.{firstOf, secondOf}
 use Rattle.line_argument.specs.Argument.{isReserved}
-use Rattle.line_path.specs.Path.{section, plainLine, amountFormed, amountBounded}
+use Rattle.line_path.specs.Path.{saysSection, plainLine, amountFormed, amountBounded}
 use Rattle.line_path.specs.declared.PathLine.{PathLine}
 
 -- an amount of a right line, a Mult or a Len
 unfoldable pub amountLine : Bool → List ℕ → PathLine
 amountLine mult amount =
-    record { says = section; right = true; formed = amountFormed mult amount; bounded = amountBounded mult amount }
+    record { says = saysSection; right = true; formed = amountFormed mult amount; bounded = amountBounded mult amount }
 
 unfoldable pub unitLine : List ℕ → List ℕ → PathLine
 unitLine unit amount =
     if same unit (bytes "Mult") then amountLine true amount else
-    if same unit (bytes "Len") then amountLine false amount else plainLine section false
+    if same unit (bytes "Len") then amountLine false amount else plainLine saysSection false
 
 -- two words before the sign, and a number and a name after it
 unfoldable pub isParted : List (List ℕ) → List (List ℕ) → Bool
@@ -31,4 +31,4 @@ isParted left right =
 
 unfoldable pub partsLine : List (List ℕ) → List (List ℕ) → PathLine
 partsLine left right =
-    if isParted left right then unitLine (secondOf left) (firstOf right) else plainLine section false
+    if isParted left right then unitLine (secondOf left) (firstOf right) else plainLine saysSection false

@@ -6,7 +6,7 @@ use mathlib.Core.List.{List, _++_}
 use lib.ListN.{length, drop}
 use Rattle.base.specs.Bytes.{bytes}
 use Rattle.lex_line.specs.Way.Spans.{wordAt}
-use Rattle.line_path.specs.Path.{fork, endfork}
+use Rattle.line_path.specs.Path.{saysFork, saysEndfork}
 
 -- what stands before the amount
 abbrev pub multFront : List ℕ
@@ -31,5 +31,5 @@ pub record UsualSection (content : List ℕ) (end : ℕ) : Type 0 where
 
 -- a line of one word
 pub data UsualFork : List ℕ → ℕ → Type 0 where
-  forks : UsualFork (bytes "Fork") fork
-  ends : UsualFork (bytes "Endfork") endfork
+  forks : UsualFork (bytes "Fork") saysFork
+  ends : UsualFork (bytes "Endfork") saysEndfork
