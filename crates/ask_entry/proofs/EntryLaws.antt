@@ -59,7 +59,7 @@ pub one-answer : (a b : Answer) → entryWords a ≡ entryWords b → a ≡ b
 one-answer (Found x) (Found y) e = ap (λ (w : EntryWords). Found (w .word)) e
 one-answer (Found x) (Refused y) e = absurd (true≢false (ap (λ (w : EntryWords). w .found) e))
 one-answer (Refused x) (Found y) e = absurd (true≢false (sym (ap (λ (w : EntryWords). w .found) e)))
-one-answer (Refused x) (Refused y) e = ap (λ (w : EntryWords). Refused (w .number)) e
+one-answer (Refused x) (Refused y) e = ap (λ (w : EntryWords). Refused (w .rule)) e
 
 -- any two answers that keep the promise are the same
 pub unique : (t table : List ℕ) (section kind row column : ℕ) (a b : Answer) →

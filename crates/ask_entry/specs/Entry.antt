@@ -18,20 +18,20 @@ use Rattle.ask_entry.specs.declared.Answer.the-variants.{Found, Refused}
 -- the words of the answer: "refused, they return the number and line 0, every other word 0"; `found` tells an answer from a refusal
 pub record EntryWords : Type 0 where
   pub found : Bool
-  pub number : ℕ
+  pub rule : ℕ
   pub line : ℕ
   pub word : ℕ
 
 abbrev pub foundWith : ℕ → EntryWords
-foundWith word = record { found = true; number = 0; line = 0; word = word }
+foundWith word = record { found = true; rule = 0; line = 0; word = word }
 
 abbrev pub entryRefused : ℕ → EntryWords
-entryRefused number = record { found = false; number = number; line = 0; word = 0 }
+entryRefused rule = record { found = false; rule = rule; line = 0; word = 0 }
 
 -- the paper's number and words for each case
 abbrev pub entryWords : Answer → EntryWords
 entryWords (Found word) = foundWith word
-entryWords (Refused number) = entryRefused number
+entryWords (Refused rule) = entryRefused rule
 
 -- ---- records by their index; what stands past the last is never asked for
 

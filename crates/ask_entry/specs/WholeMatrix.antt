@@ -20,24 +20,24 @@ use Rattle.ask_entry.specs.declared.Whole.the-variants.{Found, Short, Re
 -- that the room lent is shorter than N times N words
 pub record MatrixWords : Type 0 where
   pub found : Bool
-  pub number : ℕ
+  pub rule : ℕ
   pub line : ℕ
   pub conductors : ℕ
 
 abbrev pub foundOf : ℕ → MatrixWords
-foundOf conductors = record { found = true; number = 0; line = 0; conductors = conductors }
+foundOf conductors = record { found = true; rule = 0; line = 0; conductors = conductors }
 
 abbrev pub shortOf : ℕ → MatrixWords
-shortOf conductors = record { found = false; number = 0; line = 0; conductors = conductors }
+shortOf conductors = record { found = false; rule = 0; line = 0; conductors = conductors }
 
 abbrev pub matrixRefused : ℕ → MatrixWords
-matrixRefused number = record { found = false; number = number; line = 0; conductors = 0 }
+matrixRefused rule = record { found = false; rule = rule; line = 0; conductors = 0 }
 
 -- the paper's number and words for each case
 abbrev pub wholeWords : Whole → MatrixWords
 wholeWords (Found conductors) = foundOf conductors
 wholeWords (Short conductors) = shortOf conductors
-wholeWords (Refused number) = matrixRefused number
+wholeWords (Refused rule) = matrixRefused rule
 
 -- ---- the entries, of a matrix by its index plus 1
 

@@ -8,7 +8,7 @@ use lib.Dec.{ltb, eqb}
 use Rattle.base.specs.If.{if_then_else_, both}
 use Rattle.line_path.specs.Path.{deepest}
 use Rattle.doc.specs.Document.{Step, forkKind, endforkKind}
-use Rattle.doc.specs.Holds as holds
+use Rattle.doc.specs.Way.Holds as holds
 use Rattle.ask_sound.specs.Sound.{depthStays, depthAfter, depthHolds}
 
 -- a test with what follows on each of three ways, and the test and what follows told apart
@@ -21,8 +21,8 @@ told-apart true endfork a b opened closed kept rest = refl
 told-apart false true a b opened closed kept rest = refl
 told-apart false false a b opened closed kept rest = refl
 
-pub depth-same : (d : ℕ) (ss : List Step) → holds.depthHolds d ss ≡ depthHolds d (map (λ (s : Step). s .kind) ss)
-unfolding holds.depthHolds depthHolds depthStays depthAfter
+pub depth-same : (d : ℕ) (ss : List Step) → holds.depthOfSteps d ss ≡ depthHolds d (map (λ (s : Step). s .kind) ss)
+unfolding holds.depthOfSteps depthHolds depthStays depthAfter
 depth-same d [] = refl
 depth-same d (s ∷ ss) =
     (λ i.

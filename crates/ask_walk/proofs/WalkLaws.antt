@@ -45,7 +45,7 @@ use Rattle.ask_walk.proofs.DepthLaws.{pathKinds, has-model, its-depth, 
 abbrev cased : Bool → Bool → WalkWords → Walked
 cased true true w = Done (w .next)
 cased true false w = Step (w .step) (w .next)
-cased false done w = Refused (w .number)
+cased false done w = Refused (w .rule)
 
 walked : WalkWords → Walked
 walked w = cased (w .answered) (w .done) w
@@ -98,15 +98,15 @@ first-place r i h = both-true _ _ (lt-ltb _ _ h) (both-true _ _ (le-leb 0 (getD 
 -- ---- refusals
 
 -- a place in range of a sound table is answered
-on-answers : (r : Records) (p : Place) → (walkOn r p .answered ≡ true) × (walkOn r p .number ≡ 0)
+on-answers : (r : Records) (p : Place) → (walkOn r p .answered ≡ true) × (walkOn r p .rule ≡ 0)
 unfolding walkOn walkOver
 on-answers r p =
-    by-test (λ (w : WalkWords). (w .answered ≡ true) × (w .number ≡ 0)) (eqb (p .step) (modelAtPlace r p .steps)) _ _ (λ e. (refl, refl)) (λ e. (refl, refl))
+    by-test (λ (w : WalkWords). (w .answered ≡ true) × (w .rule ≡ 0)) (eqb (p .step) (modelAtPlace r p .steps)) _ _ (λ e. (refl, refl)) (λ e. (refl, refl))
 
-module _ (on : WalkWords) (answers : (on .answered ≡ true) × (on .number ≡ 0)) where
+module _ (on : WalkWords) (answers : (on .answered ≡ true) × (on .rule ≡ 0)) where
   two-numbers :
       (sound place : Bool) →
-      (if not sound then walkRefused unsound else if not place then walkRefused noSuch else on) .number
+      (if not sound then walkRefused unsound else if not place then walkRefused noSuch else on) .rule
       ≡ (if not sound then unsound else if not place then noSuch else 0)
   unfolding if_then_else_
   two-numbers true true = answers .1
@@ -122,7 +122,7 @@ module _ (on : WalkWords) (answers : (on .answered ≡ true) × (on .number ≡ 
 
 module _ (t table : List ℕ) (p : Place) where
   -- "Questions: 30, 31"
-  pub refused-by : walkAnswer t table p .number ≡ (if not (isSound t table) then unsound else if not (isPlace (recordsOf table) p) then noSuch else 0)
+  pub refused-by : walkAnswer t table p .rule ≡ (if not (isSound t table) then unsound else if not (isPlace (recordsOf table) p) then noSuch else 0)
   unfolding walkAnswer walkFrom
   refused-by = two-numbers (walkOn (recordsOf table) p) (on-answers (recordsOf table) p) (isSound t table) (isPlace (recordsOf table) p)
 

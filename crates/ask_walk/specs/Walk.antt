@@ -27,7 +27,7 @@ noSuch = 31
 -- the words of the answer; `answered` and `done` tell its three cases apart
 pub record WalkWords : Type 0 where
   pub answered : Bool
-  pub number : ℕ
+  pub rule : ℕ
   pub line : ℕ
   pub done : Bool
   pub step : StepWords
@@ -37,22 +37,22 @@ abbrev pub noStep : StepWords
 noStep = record { kind = 0; target = 0; amount = 0; side = 0; «side_size» = 0; line = 0 }
 
 abbrev pub stepped : StepWords → Place → WalkWords
-stepped words next = record { answered = true; number = 0; line = 0; done = false; step = words; next = next }
+stepped words next = record { answered = true; rule = 0; line = 0; done = false; step = words; next = next }
 
 -- "it says done, step words 0, and hands the same place back"
 abbrev pub doneAt : Place → WalkWords
-doneAt place = record { answered = true; number = 0; line = 0; done = true; step = noStep; next = place }
+doneAt place = record { answered = true; rule = 0; line = 0; done = true; step = noStep; next = place }
 
 -- "refused, they return the number and line 0, every other word 0"
 abbrev pub walkRefused : ℕ → WalkWords
-walkRefused number =
-    record { answered = false; number = number; line = 0; done = false; step = noStep; next = record { model = 0; step = 0; depth = 0 } }
+walkRefused rule =
+    record { answered = false; rule = rule; line = 0; done = false; step = noStep; next = record { model = 0; step = 0; depth = 0 } }
 
 -- the paper's number and words for each case
 abbrev pub walkWords : Walked → WalkWords
 walkWords (Step words next) = stepped words next
 walkWords (Done place) = doneAt place
-walkWords (Refused number) = walkRefused number
+walkWords (Refused rule) = walkRefused rule
 
 -- ---- models and steps by their index; what stands past the last is never asked for
 

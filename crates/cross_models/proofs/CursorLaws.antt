@@ -78,11 +78,11 @@ unfolding linesAt
 place-free t m n at p q = places-free m n at p q (lines (drop at t))
 
 module _ (m : ℕ) (l : Line) (ls : List Line) where
-  content-here : m ≤ l .number → contentAt m (l ∷ ls) ≡ l .content
+  content-here : m ≤ l .line → contentAt m (l ∷ ls) ≡ l .content
   unfolding contentAt
   content-here h = if-false _ _ (le-ltb _ _ h)
 
-  content-later : l .number < m → contentAt m (l ∷ ls) ≡ contentAt m ls
+  content-later : l .line < m → contentAt m (l ∷ ls) ≡ contentAt m ls
   unfolding contentAt
   content-later h = if-true _ _ (lt-ltb _ _ h)
 
@@ -96,11 +96,11 @@ pub cursor-starts : (t : List ℕ) → Cursor t 0 1
 unfolding significant
 cursor-starts t = record { within = zero-le; counted = omega arith; valid = λ (m : ℕ) (h : 1 ≤ m). refl }
 
-first-low : {t : List ℕ} {n at : ℕ} {l : Line} {ls : List Line} → Laid t n at (l ∷ ls) → n ≤ l .number
+first-low : {t : List ℕ} {n at : ℕ} {l : Line} {ls : List Line} → Laid t n at (l ∷ ls) → n ≤ l .line
 first-low (onward end h k lies rest) = h
 
 module _ (t : List ℕ) (wanted at n : ℕ) (seeks : Seeks t wanted at n) (line : Found) (finds : Finds t n at line) where
-  pub seek-ends : not (line .there) ≡ true → Tells t wanted (record { mult = false; at = at; number = n })
+  pub seek-ends : not (line .there) ≡ true → Tells t wanted (record { mult = false; at = at; line = n })
   seek-ends h =
       let e : contentAt wanted (significant t) ≡ [] =
       sym (seeks .cursor .valid wanted (seeks .low)) ∙ ap (contentAt wanted) (finds .same-none (not-true (line .there) h) place.before) ∙ content-none wanted in
@@ -113,45 +113,45 @@ module _ (t : List ℕ) (wanted at n : ℕ) (seeks : Seeks t wanted at n) (line 
     here : linesAt t n at place.before ≡ lineIn t line place.before ∷ linesBehind t line place.before
     here = finds .same-there (not-false (line .there) there) place.before
 
-    number-low : n ≤ line .number
+    number-low : n ≤ line .line
     number-low = first-low (rw here at (laid t n at place.before))
 
-    pub number-small : line .number ≤ length t
+    pub number-small : line .line ≤ length t
     number-small = omega (arith, located .counted, located .further, located .next-within)
 
     pub seek-less : length t - line .next < length t - at
     seek-less = omega (arith, finds .behind (not-false (line .there) there), located .further, located .next-within)
 
-    content-found : wanted ≤ line .number → contentIn t line ≡ contentAt wanted (significant t)
+    content-found : wanted ≤ line .line → contentIn t line ≡ contentAt wanted (significant t)
     content-found h =
         sym (content-here wanted (lineIn t line place.before) _ h) ∙ ap (contentAt wanted) (sym here) ∙ seeks .cursor .valid wanted (seeks .low)
 
-    cursor-behind : Cursor t (line .next) (line .number + 1)
+    cursor-behind : Cursor t (line .next) (line .line + 1)
     cursor-behind =
-        let b : line .number ≤ line .at + 1 = located .counted in
+        let b : line .line ≤ line .at + 1 = located .counted in
         let f : line .at < line .next = located .further in
-        let k : n ≤ line .number = number-low in
+        let k : n ≤ line .line = number-low in
         record {
           within = located .next-within;
           counted = omega arith;
           valid =
-              λ (m : ℕ) (g : line .number + 1 ≤ m).
-              place-free t m (line .number + 1) (line .next) place.before (placeAfter place.before (contentIn t line))
+              λ (m : ℕ) (g : line .line + 1 ≤ m).
+              place-free t m (line .line + 1) (line .next) place.before (placeAfter place.before (contentIn t line))
               ∙ sym (content-later m (lineIn t line place.before) (linesBehind t line place.before) (omega arith))
               ∙ ap (contentAt m) (sym here)
               ∙ seeks .cursor .valid m (omega arith);
         }
 
-    pub seek-missed : wanted < line .number → (mult : Bool) → mult ≡ isMult (contentIn t line) → Tells t wanted (record { mult = mult; at = at; number = n })
+    pub seek-missed : wanted < line .line → (mult : Bool) → mult ≡ isMult (contentIn t line) → Tells t wanted (record { mult = mult; at = at; line = n })
     seek-missed h mult told =
         record { mult = told ∙ ap isMult (content-found (omega arith)); cursor = seeks .cursor; low = omega (arith, seeks .low) }
 
     pub seek-found :
-        wanted ≡ line .number → (mult : Bool) → mult ≡ isMult (contentIn t line) →
-        Tells t wanted (record { mult = mult; at = line .next; number = line .number + 1 })
+        wanted ≡ line .line → (mult : Bool) → mult ≡ isMult (contentIn t line) →
+        Tells t wanted (record { mult = mult; at = line .next; line = line .line + 1 })
     seek-found h mult told = record { mult = told ∙ ap isMult (content-found (omega arith)); cursor = cursor-behind; low = omega arith }
 
-    pub seek-on : line .number ≤ wanted → (wanted ≡ line .number → ⊥) → Seeks t wanted (line .next) (line .number + 1)
+    pub seek-on : line .line ≤ wanted → (wanted ≡ line .line → ⊥) → Seeks t wanted (line .next) (line .line + 1)
     seek-on h other = record { cursor = cursor-behind; low = omega arith }
 
 -- ---- lines passed over by their number alone
@@ -167,7 +167,7 @@ module _ (t : List ℕ) (at n : ℕ) (h : at < length t) (found : text.Line) (to
       (λ (b : isBlankLine content ≡ true). ap (contentAt m) (pass-over t at h n found told b place.before))
       (λ (b : isBlankLine content ≡ false).
       ap (contentAt m) (stop-here t at h n found told b place.before)
-      ∙ content-later m (record { number = n; at = at; place = place.before; content = content }) _ g
+      ∙ content-later m (record { line = n; at = at; place = place.before; content = content }) _ g
       ∙ place-free t m (n + 1) (found .next) (placeAfter place.before content) place.before)
 
   next-cursor : Cursor t at n → Cursor t (found .next) (n + 1)
@@ -211,7 +211,7 @@ unfolding isBlankLine all isBlank both either if_then_else_
 front-filled rest = refl
 
 pub mult-found : (t : List ℕ) (wanted at n : ℕ) → Seeks t wanted at n → n ≡ wanted → (r : ℕ) → PastMult t at r → (r ≡ 0 → ⊥) →
-    Tells t wanted (record { mult = true; at = r; number = wanted + 1 })
+    Tells t wanted (record { mult = true; at = r; line = wanted + 1 })
 mult-found t wanted at n seeks e r past some =
     let line : OpensLine t at r = past some in
     let c : List ℕ = take (lineAt 124 t at .content - at) (drop at t) in
@@ -219,7 +219,7 @@ mult-found t wanted at n seeks e r past some =
     ap isBlankLine (line .opens .front) ∙ front-filled _ in
     let here : contentAt wanted (linesAt t n at place.before) ≡ take (lineAt 124 t at .content - at) (drop at t) =
     ap (contentAt wanted) (stop-here t at (line .inside) n (lineAt 124 t at) refl filled place.before)
-    ∙ content-here wanted (record { number = n; at = at; place = place.before; content = take (lineAt 124 t at .content - at) (drop at t) }) _ (omega arith) in
+    ∙ content-here wanted (record { line = n; at = at; place = place.before; content = take (lineAt 124 t at .content - at) (drop at t) }) _ (omega arith) in
     let said : take (lineAt 124 t at .content - at) (drop at t) ≡ contentAt wanted (significant t) =
     sym here ∙ seeks .cursor .valid wanted (seeks .low) in
     record {
@@ -232,18 +232,18 @@ mult-found t wanted at n seeks e r past some =
 
 pub step-unasked :
     (t table : List ℕ) (own at n : ℕ) → Cursor t at n → n ≤ getD table (own + 5) 0 →
-    (getD table own 0 ≡ sectionKind → ⊥) → TellsStep t table own (record { mult = false; at = at; number = n })
+    (getD table own 0 ≡ sectionKind → ⊥) → TellsStep t table own (record { mult = false; at = at; line = n })
 step-unasked t table own at n cursor low h = record { mult = λ (e : getD table own 0 ≡ sectionKind). absurd (h e); cursor = cursor; low = omega arith }
 
 -- lines whose numbers rise are found by their numbers
-found-all : {least : ℕ} (ls : List Line) → Rising least (numbers ls) → Each (λ (l : Line). contentAt (l .number) ls ≡ l .content) ls
+found-all : {least : ℕ} (ls : List Line) → Rising least (numbers ls) → Each (λ (l : Line). contentAt (l .line) ls ≡ l .content) ls
 found-all [] h = none
 found-all (l ∷ ls) (rise h rest) =
-    more (content-here (l .number) l ls (le-refl (l .number)))
+    more (content-here (l .line) l ls (le-refl (l .line)))
     (each-join
-    (λ (x : Line) (e : contentAt (x .number) ls ≡ x .content) (k : l .number + 1 ≤ x .number).
-    content-later (x .number) l ls (omega arith) ∙ e)
-    (found-all ls rest) (all-least (λ (x : Line). x .number) ls rest))
+    (λ (x : Line) (e : contentAt (x .line) ls ≡ x .content) (k : l .line + 1 ≤ x .line).
+    content-later (x .line) l ls (omega arith) ∙ e)
+    (found-all ls rest) (all-least (λ (x : Line). x .line) ls rest))
 
 -- a step over a section is one of a Mult where its line says so
 abbrev pub MultSaid : List ℕ → Step → Type 0
@@ -251,7 +251,7 @@ MultSaid t s = s .kind ≡ sectionKind → isMult (contentAt (s .line) (signific
 
 module _ (t : List ℕ) where
   abbrev Found' : Line → Type 0
-  Found' l = contentAt (l .number) (significant t) ≡ l .content
+  Found' l = contentAt (l .line) (significant t) ≡ l .content
 
   step-said : (l : Line) (ls : List Line) → Found' l → Each Found' ls → Each (MultSaid t) (stepOf l ls)
   unfolding stepOf

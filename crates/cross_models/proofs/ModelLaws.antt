@@ -36,7 +36,7 @@ use Rattle.doc.specs.Holds.Each.{none, more}
 use Rattle.doc.proofs.StandsLaws.{ModelStands, all-stand}
 use Rattle.table_name.specs.Name.{nameAt}
 use Rattle.cross_rules.specs.Rules.{any, sameWord, isTwice, isThere, modelName, modelRule}
-use Rattle.cross_rules.specs.Way.Filled.{HoldsText}
+use Rattle.cross_rules.specs.Way.HoldsText.{HoldsText}
 use Rattle.cross_rules.proofs.RisingLaws.{each-at}
 use Rattle.cross_rules.proofs.OrderLaws.{in-order}
 use Rattle.cross_rules.proofs.TwiceLaws.{model-twice}

@@ -20,7 +20,7 @@ use Rattle.doc.specs.Holds.Each.{none, more}
 use Rattle.doc.proofs.StandsLaws.{ModelStands, StepStands, all-stand}
 use Rattle.cross_rules.specs.Rules.{modelRule, stepRule, stepFindings, modelFindings}
 use Rattle.cross_rules.specs.Way.First.{firstIn}
-use Rattle.cross_rules.specs.Way.Filled.{HoldsText}
+use Rattle.cross_rules.specs.Way.HoldsText.{HoldsText}
 use Rattle.cross_rules.specs.declared.Finding.{Finding}
 use Rattle.cross_rules.proofs.RisingLaws.{Rising, rising-wider, rising-behind, all-least, each-at}
 use Rattle.cross_rules.proofs.RisingLaws.Rising.{flat, rise}
@@ -94,7 +94,7 @@ front-of (x ∷ xs) h = record { one = x; others = xs; all = refl }
 -- ---- what is left
 
 abbrev stepFinding : Document → Model → Step → Finding
-stepFinding d m s = record { number = stepRule d m s; line = s .line }
+stepFinding d m s = record { rule = stepRule d m s; line = s .line }
 
 -- steps of a model, and the models behind it
 abbrev rest : Document → Model → List Step → List Model → List Finding
@@ -104,7 +104,7 @@ findings-append : (d : Document) (xs ys : List Model) → modelFindings d (xs ++
 unfolding modelFindings
 findings-append d [] ys = refl
 findings-append d (x ∷ xs) ys =
-    ap (λ (fs : List Finding). record { number = modelRule d x; line = x .line } ∷ fs)
+    ap (λ (fs : List Finding). record { rule = modelRule d x; line = x .line } ∷ fs)
     (ap (λ (fs : List Finding). stepFindings d x ++ fs) (findings-append d xs ys)
     ∙ sym (append-assoc (stepFindings d x) (modelFindings d xs) (modelFindings d ys)))
 
@@ -236,7 +236,7 @@ module _ (t table : List ℕ) (filled : HoldsText t table) (v : View) (is-view :
         let p : i ≡ length (left .above) = left .place in
         empty-list (left .below) (omega arith)
 
-    pub steps-end : count ≤ i → StepsTold t index (record { number = 0; line = 0; at = here; next = next })
+    pub steps-end : count ≤ i → StepsTold t index (record { rule = 0; line = 0; at = here; next = next })
     steps-end h =
         let e : left .below ≡ [] = none-left h in
         let p : drop (index + 1) (documentOf t .models) ≡ behind = drop-past (documentOf t .models) index (left .split) in
@@ -314,10 +314,10 @@ module _ (t table : List ℕ) (filled : HoldsText t table) (v : View) (is-view :
 
         pub step-breaks :
             (rule ≡ 0 → ⊥) →
-            StepsTold t index (record { number = rule; line = getD table (own + 5) 0; at = told .at; next = told .number })
+            StepsTold t index (record { rule = rule; line = getD table (own + 5) 0; at = told .at; next = told .line })
         step-breaks n =
-            let f : record { number = rule; line = getD table (own + 5) 0 } ≡ stepFinding (documentOf t) m s =
-            λ j. record { number = rule-is j; line = line-is j } in
+            let f : record { rule = rule; line = getD table (own + 5) 0 } ≡ stepFinding (documentOf t) m s =
+            λ j. record { rule = rule-is j; line = line-is j } in
             record {
               broken = λ (k : rule ≡ 0 → ⊥). f ∙ sym (first-here _ _ (λ (z : stepRule (documentOf t) m s ≡ 0). n (rule-is ∙ z))) ∙ same-here;
               kept = λ (z : rule ≡ 0). absurd (n z);
@@ -325,9 +325,9 @@ module _ (t table : List ℕ) (filled : HoldsText t table) (v : View) (is-view :
               low = λ (z : rule ≡ 0). absurd (n z);
             }
 
-        pub steps-on : rule ≡ 0 → StepsLeft t table v after index o count (own + 6) (told .at) (told .number) (i + 1)
+        pub steps-on : rule ≡ 0 → StepsLeft t table v after index o count (own + 6) (told .at) (told .line) (i + 1)
         steps-on z =
-            let low : told .number ≤ s .line + 1 = rw line-is at (is-told .low) in
+            let low : told .line ≤ s .line + 1 = rw line-is at (is-told .low) in
             let l : length (left .above ++ (s ∷ [])) ≡ length (left .above) + 1 = length-append (left .above) (s ∷ []) in
             let p : i ≡ length (left .above) = left .place in
             let q : own ≡ o .from + 6 * i = left .own-is in

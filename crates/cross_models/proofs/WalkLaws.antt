@@ -15,7 +15,7 @@ use Rattle.doc.specs.Holds.{Each}
 use Rattle.doc.specs.Holds.Each.{none, more}
 use Rattle.cross_rules.specs.Rules.{modelRule, modelFindings, noFinding}
 use Rattle.cross_rules.specs.Way.First.{firstIn}
-use Rattle.cross_rules.specs.Way.Filled.{HoldsText}
+use Rattle.cross_rules.specs.Way.HoldsText.{HoldsText}
 use Rattle.cross_rules.specs.Way.Nth.{nthLine}
 use Rattle.cross_rules.specs.declared.Finding.{Finding}
 use Rattle.cross_rules.proofs.RisingLaws.{all-least}
@@ -58,7 +58,7 @@ module _ (t table : List ℕ) (filled : HoldsText t table) (v : View) (is-view :
   abbrev d : Document
   d = documentOf t
 
-  pub models-end : getD (v .counts) models 0 ≤ i → record { number = 0; line = 0 } ≡ firstIn (modelFindings d (d .models))
+  pub models-end : getD (v .counts) models 0 ≤ i → record { rule = 0; line = 0 } ≡ firstIn (modelFindings d (d .models))
   unfolding firstIn noFinding modelFindings
   models-end h =
       let k : length (d .models) ≤ i = rw (models-many t table filled v is-view) at h in
@@ -76,7 +76,7 @@ module _ (t table : List ℕ) (filled : HoldsText t table) (v : View) (is-view :
     m = here .one
 
     abbrev own : Finding
-    own = record { number = modelRule d m; line = m .line }
+    own = record { rule = modelRule d m; line = m .line }
 
     findings-here : modelFindings d (drop i (d .models)) ≡ own ∷ belowFirst d (drop i (d .models))
     unfolding modelFindings belowFirst
@@ -94,11 +94,11 @@ module _ (t table : List ℕ) (filled : HoldsText t table) (v : View) (is-view :
       rule-is : rule ≡ modelRule d m
       rule-is = is-rule ∙ rule-there t table filled v is-view i there listed names
 
-      pub model-breaks : (rule ≡ 0 → ⊥) → (line : ℕ) → line ≡ nthLine models i (significant t) → record { number = rule; line = line } ≡ firstIn (modelFindings d (d .models))
+      pub model-breaks : (rule ≡ 0 → ⊥) → (line : ℕ) → line ≡ nthLine models i (significant t) → record { rule = rule; line = line } ≡ firstIn (modelFindings d (d .models))
       model-breaks n line is-line =
           let l : line ≡ m .line =
           is-line ∙ model-line t i ∙ (λ j. getD (map (λ (x : Model). x .line) (here .all j)) (here .place j) 0) ∙ line-at (here .before) m (here .behind) in
-          (λ j. record { number = rule-is j; line = l j }) ∙ sym (first-here own _ (λ (z : modelRule d m ≡ 0). n (rule-is ∙ z))) ∙ same-here
+          (λ j. record { rule = rule-is j; line = l j }) ∙ sym (first-here own _ (λ (z : modelRule d m ≡ 0). n (rule-is ∙ z))) ∙ same-here
 
       module _ (kept : rule ≡ 0) where
         below-same : firstIn (belowFirst d (drop i (d .models))) ≡ firstIn (modelFindings d (d .models))
@@ -111,8 +111,8 @@ module _ (t table : List ℕ) (filled : HoldsText t table) (v : View) (is-view :
         asks-steps = (filled, is-view, awaits-here, left .whole)
 
         module _ (found : StepsFinding) (told : StepsTold t i found) where
-          pub steps-break : (found .number ≡ 0 → ⊥) → record { number = found .number; line = found .line } ≡ firstIn (modelFindings d (d .models))
+          pub steps-break : (found .rule ≡ 0 → ⊥) → record { rule = found .rule; line = found .line } ≡ firstIn (modelFindings d (d .models))
           steps-break n = told .broken n ∙ below-same
 
-          pub models-on : found .number ≡ 0 → (after : List ℕ) → (found .number ≡ 0 → length after ≡ marksMany) → ModelsLeft t (found .at) (found .next) after (i + 1)
+          pub models-on : found .rule ≡ 0 → (after : List ℕ) → (found .rule ≡ 0 → length after ≡ marksMany) → ModelsLeft t (found .at) (found .next) after (i + 1)
           models-on z after whole = record { same = told .kept z ∙ below-same; cursor = told .cursor; low = told .low z; whole = whole z }

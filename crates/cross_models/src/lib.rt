@@ -9,7 +9,7 @@ ghost use Rattle.doc.specs.Document.{documentOf};
 ghost use Rattle.doc.specs.Way.Found.{Located, contentIn};
 ghost use Rattle.cross_rules.specs.Rules.{modelFindings};
 ghost use Rattle.cross_rules.specs.Way.First.{firstIn};
-ghost use Rattle.cross_rules.specs.Way.Filled.{HoldsText};
+ghost use Rattle.cross_rules.specs.Way.HoldsText.{HoldsText};
 ghost use Rattle.cross_names.specs.Way.Listed.{Listed};
 ghost use Rattle.table_name.specs.Way.Marks.{marksMany};
 ghost use Rattle.cross_models.specs.Way.Cursor.{Cursor, Seeks, PastMult, Tells, TellsStep};
@@ -43,12 +43,12 @@ const STEP_WORDS: usize = 6;
 pub struct Told {
     pub mult: bool,
     pub at: usize,
-    pub number: u64,
+    pub line: u64,
 }
 
 // What the steps of a model break first, and where the search for the lines of the next model's steps goes on.
 pub struct StepsFinding {
-    pub number: u64,
+    pub rule: u64,
     pub line: u64,
     pub at: usize,
     pub next: u64,
@@ -77,17 +77,17 @@ fn says_mult(text: &[u8], line: Found) -> bool
 }
 
 // Past the lines numbered below the one that is wanted: what they say is not looked at.
-fn past_lines(text: &[u8], at: usize, number: u64, wanted: u64) -> Passed
-    requires { ⌜ Cursor (now text) at number × (number ≤ wanted) ⌝ }
-    ensures { λ r. ⌜ Seeks (now (text .entry)) wanted (r .at) (r .number) ⌝ }
+fn past_lines(text: &[u8], at: usize, line_here: u64, wanted: u64) -> Passed
+    requires { ⌜ Cursor (now text) at line_here × (line_here ≤ wanted) ⌝ }
+    ensures { λ r. ⌜ Seeks (now (text .entry)) wanted (r .at) (r .line) ⌝ }
 {
     let mut here = at;
-    let mut next = number;
+    let mut next = line_here;
     while next < wanted {
         if text.len() <= here {
             return Passed {
                 at: here,
-                number: next,
+                line: next,
             };
         }
         let line = lex_line::line_at(text, here, COMMENT);
@@ -96,42 +96,42 @@ fn past_lines(text: &[u8], at: usize, number: u64, wanted: u64) -> Passed
     }
     Passed {
         at: here,
-        number: next,
+        line: next,
     }
 }
 
 // Whether the line of a number is one of a Mult, looked for among the lines from here on that say something.
-fn seek_mult(text: &[u8], at: usize, number: u64, wanted: u64) -> Told
-    requires { ⌜ Seeks (now text) wanted at number ⌝ }
+fn seek_mult(text: &[u8], at: usize, line_here: u64, wanted: u64) -> Told
+    requires { ⌜ Seeks (now text) wanted at line_here ⌝ }
     ensures { λ r. ⌜ Tells (now (text .entry)) wanted r ⌝ }
 {
     let mut here = at;
-    let mut next = number;
+    let mut next = line_here;
     loop {
         let line = doc::next_line(text, here, next);
         if !line.there {
             return Told {
                 mult: false,
                 at: here,
-                number: next,
+                line: next,
             };
         }
-        if wanted < line.number {
+        if wanted < line.line {
             return Told {
                 mult: says_mult(text, line),
                 at: here,
-                number: next,
+                line: next,
             };
         }
-        if wanted == line.number {
+        if wanted == line.line {
             return Told {
                 mult: says_mult(text, line),
                 at: line.next,
-                number: line.number + 1,
+                line: line.line + 1,
             };
         }
         here = line.next;
-        next = line.number + 1;
+        next = line.line + 1;
     }
 }
 
@@ -151,42 +151,42 @@ fn past_mult(text: &[u8], at: usize) -> usize
 }
 
 // Whether the line of a number is one of a Mult. The next search goes on behind that line, so that all of them together go over the text once.
-fn tell_mult(text: &[u8], at: usize, number: u64, wanted: u64) -> Told
-    requires { ⌜ Cursor (now text) at number × (number ≤ wanted) ⌝ }
+fn tell_mult(text: &[u8], at: usize, line: u64, wanted: u64) -> Told
+    requires { ⌜ Cursor (now text) at line × (line ≤ wanted) ⌝ }
     ensures { λ r. ⌜ Tells (now (text .entry)) wanted r ⌝ }
 {
-    let passed = past_lines(text, at, number, wanted);
-    if passed.number == wanted {
+    let passed = past_lines(text, at, line, wanted);
+    if passed.line == wanted {
         let behind = past_mult(text, passed.at);
         if behind != 0 {
             return Told {
                 mult: true,
                 at: behind,
-                number: wanted + 1,
+                line: wanted + 1,
             };
         }
     }
-    seek_mult(text, passed.at, passed.number, wanted)
+    seek_mult(text, passed.at, passed.line, wanted)
 }
 
 // The same for a step. Of one that is not over a section it is not asked, and the search stays where it is.
-fn tell_step(text: &[u8], table: &[u64], own: usize, at: usize, number: u64) -> Told
-    requires { ⌜ (own + 6 ≤ length (now table)) × Cursor (now text) at number × (number ≤ getD (now table) (own + 5) 0) ⌝ }
+fn tell_step(text: &[u8], table: &[u64], own: usize, at: usize, line: u64) -> Told
+    requires { ⌜ (own + 6 ≤ length (now table)) × Cursor (now text) at line × (line ≤ getD (now table) (own + 5) 0) ⌝ }
     ensures { λ r. ⌜ TellsStep (now (text .entry)) (now (table .entry)) own r ⌝ }
 {
     if table[own] != SECTION {
         return Told {
             mult: false,
             at,
-            number,
+            line,
         };
     }
-    tell_mult(text, at, number, table[own + 5])
+    tell_mult(text, at, line, table[own + 5])
 }
 
 // ---- one model
 
-// A model by its number: 20 is asked of the first model of a name alone, whose flag the list raises.
+// A model by its line: 20 is asked of the first model of a name alone, whose flag the list raises.
 fn model_rule(text: &[u8], table: &[u64], view: View, listed: [bool; 65], index: u64) -> u64
     requires { ⌜ ModelRoom (now table) view index ⌝ }
     ensures { λ r. ⌜ r ≡ modelRuleAt (now (text .entry)) (now (table .entry)) view listed index ⌝ }
@@ -229,16 +229,16 @@ fn steps_finding(
     marks: &mut [u8; table_name::MARKS],
     index: u64,
     at: usize,
-    number: u64,
+    line_here: u64,
 ) -> StepsFinding
-    requires { ⌜ HoldsText (now text) (now table) × (view ≡ viewOf (now table)) × Awaits (now text) index at number × (length (now marks) ≡ marksMany) ⌝ }
-    ensures { λ r. ⌜ StepsTold (now (text .entry)) index r × (r .number ≡ 0 → length (now (marks .exit)) ≡ marksMany) ⌝ }
+    requires { ⌜ HoldsText (now text) (now table) × (view ≡ viewOf (now table)) × Awaits (now text) index at line_here × (length (now marks) ≡ marksMany) ⌝ }
+    ensures { λ r. ⌜ StepsTold (now (text .entry)) index r × (r .rule ≡ 0 → length (now (marks .exit)) ≡ marksMany) ⌝ }
 {
     let owner = owner_of(table, view, index);
     let count = owner.many;
     let mut own = owner.from;
     let mut here = at;
-    let mut next = number;
+    let mut next = line_here;
     let mut i = 0;
     while i < count {
         let line = table[own + 5];
@@ -246,19 +246,19 @@ fn steps_finding(
         let rule = cross_steps::step_rule(text, table, view, marks, owner, own, i, told.mult);
         if rule != 0 {
             return StepsFinding {
-                number: rule,
+                rule,
                 line,
                 at: told.at,
-                next: told.number,
+                next: told.line,
             };
         }
         here = told.at;
-        next = told.number;
+        next = told.line;
         own += STEP_WORDS;
         i += 1;
     }
     StepsFinding {
-        number: 0,
+        rule: 0,
         line: 0,
         at: here,
         next,
@@ -275,27 +275,27 @@ pub fn model_finding(text: &[u8], table: &[u64], view: View, listed: [bool; 65])
     let counts = view.counts;
     let count = counts[table_layout::MODELS];
     let mut at = 0;
-    let mut number = 1;
+    let mut line = 1;
     let mut marks = [UNMARKED; table_name::MARKS];
     let mut i = 0;
     while i < count {
         let rule = model_rule(text, table, view, listed, i);
         if rule != 0 {
             return Finding {
-                number: rule,
+                rule,
                 line: cross_rules::nth_line(text, table_layout::MODELS, i),
             };
         }
-        let found = steps_finding(text, table, view, &mut marks, i, at, number);
-        if found.number != 0 {
+        let found = steps_finding(text, table, view, &mut marks, i, at, line);
+        if found.rule != 0 {
             return Finding {
-                number: found.number,
+                rule: found.rule,
                 line: found.line,
             };
         }
         at = found.at;
-        number = found.next;
+        line = found.next;
         i += 1;
     }
-    Finding { number: 0, line: 0 }
+    Finding { rule: 0, line: 0 }
 }

@@ -32,7 +32,7 @@ use Rattle.doc.proofs.BlockLaws.{gather-none, gather-more}
 use Rattle.doc.proofs.PlainLaws.{plainly-quiet, meets-found}
 use Rattle.cross_rules.specs.Rules.{any, isTwice, isThere, modelName, listNameRule, listFindings, noFinding}
 use Rattle.cross_rules.specs.Way.First.{firstIn}
-use Rattle.cross_rules.specs.Way.Filled.{HoldsText}
+use Rattle.cross_rules.specs.Way.HoldsText.{HoldsText}
 use Rattle.cross_rules.specs.declared.Finding.{Finding}
 use Rattle.cross_rules.specs.Listed.{Among}
 use Rattle.cross_rules.specs.Listed.Among.{front, further}
@@ -49,7 +49,7 @@ use Rattle.cross_names.proofs.NamedLaws.{above-found, above-none, there
 
 -- what a line of the list breaks
 abbrev finding : Document → Named → Finding
-finding d n = record { number = listNameRule d n; line = n .line }
+finding d n = record { rule = listNameRule d n; line = n .line }
 
 -- a line above names the model numbered i
 abbrev raised : Document → List Named → ℕ → Bool
@@ -60,15 +60,15 @@ raised d above i = any (λ (a : Named). eqb (namedBy d a) i) above
 -- a line that names a model, by what it is in the document
 pub record Names (l : Line) (ls : List Line) (n : Named) : Type 0 where
   pub one : listedAt l ls ≡ n ∷ []
-  pub line : n .line ≡ l .number
+  pub line : n .line ≡ l .line
 
 -- what a line turns out to be
 pub data Outcome (d : Document) (l : Line) (ls : List Line) : Judged → Type 0 where
-  silent : listedAt l ls ≡ [] → Outcome d l ls (record { number = 0; slot = noModel })
+  silent : listedAt l ls ≡ [] → Outcome d l ls (record { rule = 0; slot = noModel })
   broken : (n : Named) → Names l ls n → (number slot : ℕ) → listNameRule d n ≡ number → (number ≡ 0 → ⊥) → slot ≤ 64 →
-      Outcome d l ls (record { number = number; slot = slot })
+      Outcome d l ls (record { rule = number; slot = slot })
   fresh : (n : Named) → Names l ls n → (slot : ℕ) → listNameRule d n ≡ 0 → slot ≡ namedBy d n → slot < length (d .models) →
-      Outcome d l ls (record { number = 0; slot = slot })
+      Outcome d l ls (record { rule = 0; slot = slot })
 
 -- the lines above the name n break nothing, and raise the flags
 module _ (t : List ℕ) (listed : List Bool) (above below : List Named) (n : Named) (split : documentOf t .listed ≡ above ++ (n ∷ below)) where
@@ -189,27 +189,27 @@ module _ (t : List ℕ) (before : List Line) (l : Line) (ls : List Line) (all : 
       let e : modelAt l ls ≡ model ∷ [] = if-true _ _ opens in
       rw all (among-gather modelAt before (l ∷ ls) (rw (gather-more modelAt l ls, e) front))
 
-  model-line : model .line ≡ l .number
+  model-line : model .line ≡ l .line
   unfolding modelOf
   model-line = refl
 
-  lines-from : Each (λ (x : Line). l .number ≤ x .number) (l ∷ ls)
+  lines-from : Each (λ (x : Line). l .line ≤ x .line) (l ∷ ls)
   lines-from =
       let h : Rising 1 (numbers before ++ numbers (l ∷ ls)) = rw (all, map-append) at (lines-rise t) in
-      all-least (λ (x : Line). x .number) (l ∷ ls) (from-first (rising-behind (numbers before) (numbers (l ∷ ls)) h))
+      all-least (λ (x : Line). x .line) (l ∷ ls) (from-first (rising-behind (numbers before) (numbers (l ∷ ls)) h))
 
-  name-from : (x : Line) (xs : List Line) → l .number ≤ x .number → Each (λ (y : Line). l .number ≤ y .number) xs → Each (λ (a : Named). l .number ≤ a .line) (listedAt x xs)
+  name-from : (x : Line) (xs : List Line) → l .line ≤ x .line → Each (λ (y : Line). l .line ≤ y .line) xs → Each (λ (a : Named). l .line ≤ a .line) (listedAt x xs)
   unfolding listedAt
   name-from x xs h hs = each-if (standsIn place.list x) _ (λ (e : standsIn place.list x ≡ true). h)
 
   none-between : Each (λ (a : Named). Each (λ (m : Model). a .line < m .line) (documentOf t .models)) (gather listedAt (l ∷ ls)) → gather listedAt (l ∷ ls) ≡ []
   none-between below =
       none-such
-      (λ (a : Named) (h : l .number ≤ a .line) (hs : Each (λ (m : Model). a .line < m .line) (documentOf t .models)).
+      (λ (a : Named) (h : l .line ≤ a .line) (hs : Each (λ (m : Model). a .line < m .line) (documentOf t .models)).
       let k : a .line < model .line = each-one hs model-there in
-      let e : model .line ≡ l .number = model-line in
+      let e : model .line ≡ l .line = model-line in
       omega arith)
-      (each-gather (λ (x : Line). l .number ≤ x .number) listedAt name-from lines-from) below
+      (each-gather (λ (x : Line). l .line ≤ x .line) listedAt name-from lines-from) below
 
 -- ---- a line that breaks nothing, and one that does
 
@@ -228,11 +228,11 @@ slot-small few (fresh n names slot e is h) = omega arith
 
 breaks-by :
     {d : Document} {l : Line} {ls : List Line} {judged : Judged} {whole : Finding} (later : List Named) → Outcome d l ls judged →
-    firstIn (map (finding d) (listedAt l ls ++ later)) ≡ whole → (judged .number ≡ 0 → ⊥) →
-    record { number = judged .number; line = l .number } ≡ whole
+    firstIn (map (finding d) (listedAt l ls ++ later)) ≡ whole → (judged .rule ≡ 0 → ⊥) →
+    record { rule = judged .rule; line = l .line } ≡ whole
 breaks-by later (silent e) same n = absurd (n refl)
 breaks-by {d} {l} {ls} later (broken m names number slot e ne low) same n =
-    let f : finding d m ≡ record { number = number; line = l .number } = λ i. record { number = e i; line = names .line i } in
+    let f : finding d m ≡ record { rule = number; line = l .line } = λ i. record { rule = e i; line = names .line i } in
     let g : firstIn (map (finding d) (listedAt l ls ++ later)) ≡ finding d m =
     ap (λ (ns : List Named). firstIn (map (finding d) (ns ++ later))) (names .one)
     ∙ first-here (finding d m) (map (finding d) later) (λ (z : listNameRule d m ≡ 0). ne (sym e ∙ z)) in
@@ -257,7 +257,7 @@ any-one-more test (y ∷ xs) x = ap (either (test y)) (any-one-more test xs x) �
 
 kept-by :
     {t : List ℕ} {listed : List Bool} {l : Line} {ls : List Line} {judged : Judged} {above : List Named} →
-    length (documentOf t .models) ≤ 64 → Outcome (documentOf t) l ls judged → judged .number ≡ 0 →
+    length (documentOf t .models) ≤ 64 → Outcome (documentOf t) l ls judged → judged .rule ≡ 0 →
     documentOf t .listed ≡ above ++ (listedAt l ls ++ gather listedAt ls) →
     firstIn (map (finding (documentOf t)) (listedAt l ls ++ gather listedAt ls)) ≡ firstIn (listFindings (documentOf t)) →
     Each (λ (a : Named). namedBy (documentOf t) a < length (documentOf t .models)) above →
@@ -292,7 +292,7 @@ kept-by {t} {listed} {l} {ls} {above = above} few (fresh m names slot e is h) z 
 -- what the whole list gives, which is broken nowhere or in this line
 abbrev pub Gives : List ℕ → ℕ → ℕ → List Bool → Type 0
 Gives t number line listed =
-    (record { number = number; line = line } ≡ firstIn (listFindings (documentOf t))) × (number ≡ 0 → Listed (documentOf t) listed)
+    (record { rule = number; line = line } ≡ firstIn (listFindings (documentOf t))) × (number ≡ 0 → Listed (documentOf t) listed)
 
 module _ (t : List ℕ) (listed : List Bool) (at n p : ℕ) (left : ListLeft t listed at n p) where
   -- nothing is left
@@ -316,7 +316,7 @@ module _ (t : List ℕ) (listed : List Bool) (at n p : ℕ) (left : ListLeft t l
       pub found : Located t line
       found = nears .meets .located (not-false (line .there) there)
 
-      pub number-small : line .number ≤ length t
+      pub number-small : line .line ≤ length t
       number-small = omega (arith, found .counted, found .further, found .next-within)
 
       pub list-less : length t - line .next < length t - at
@@ -352,7 +352,7 @@ module _ (t : List ℕ) (listed : List Bool) (at n p : ℕ) (left : ListLeft t l
       same-here = ap (λ (ns : List Named). firstIn (map (finding (documentOf t)) ns)) (sym names-here) ∙ left .same
 
       abbrev name : Named
-      name = record { name = firstWord (wordsOf l); line = l .number }
+      name = record { name = firstWord (wordsOf l); line = l .line }
 
       listed-is : listedAt l ls ≡ (if both (eqb p place.list) (eqb (line .key) plain) then name ∷ [] else [])
       unfolding listedAt standsIn keyOf
@@ -383,17 +383,17 @@ module _ (t : List ℕ) (listed : List Bool) (at n p : ℕ) (left : ListLeft t l
             rest-here ∙ ap (λ (ns : List Named). left .above ++ (ns ++ gather listedAt ls)) (names .one) in
             by-cases _ (leb (length (documentOf t .models)) (namedBy (documentOf t) name))
             (λ (e : leb (length (documentOf t .models)) (namedBy (documentOf t) name) ≡ true).
-            rw (if-true {A = Judged} (record { number = 20; slot = noModel }) _ e)
+            rw (if-true {A = Judged} (record { rule = 20; slot = noModel }) _ e)
             (broken name names 20 noModel (rule-none t listed (left .above) _ name split (left .have) (leb-true _ _ e)) (λ (z : _≡_ {A = ℕ} 20 0). omega arith) (omega arith)))
             (λ (e : leb (length (documentOf t .models)) (namedBy (documentOf t) name) ≡ false).
             let h : namedBy (documentOf t) name < length (documentOf t .models) = leb-false _ _ e in
-            rw (if-false {A = Judged} (record { number = 20; slot = noModel }) _ e)
+            rw (if-false {A = Judged} (record { rule = 20; slot = noModel }) _ e)
             (by-cases _ (getD listed (namedBy (documentOf t) name) false)
             (λ (f : getD listed (namedBy (documentOf t) name) false ≡ true).
-            rw (if-true {A = Judged} (record { number = 19; slot = namedBy (documentOf t) name }) _ f)
+            rw (if-true {A = Judged} (record { rule = 19; slot = namedBy (documentOf t) name }) _ f)
             (broken name names 19 (namedBy (documentOf t) name) (rule-twice t listed (left .above) _ name split few (left .told) h f) (λ (z : _≡_ {A = ℕ} 19 0). omega arith) (small h few)))
             (λ (f : getD listed (namedBy (documentOf t) name) false ≡ false).
-            rw (if-false {A = Judged} (record { number = 19; slot = namedBy (documentOf t) name }) _ f)
+            rw (if-false {A = Judged} (record { rule = 19; slot = namedBy (documentOf t) name }) _ f)
             (fresh name names (namedBy (documentOf t) name) (rule-fresh t listed (left .above) _ name split few (left .told) h f) refl h))))
 
         judged-outcome : Outcome (documentOf t) l ls (lineJudged t table v p line listed)
@@ -402,10 +402,10 @@ module _ (t : List ℕ) (listed : List Bool) (at n p : ℕ) (left : ListLeft t l
             by-cases _ (both (eqb p place.list) (eqb (line .key) plain))
             (λ (e : both (eqb p place.list) (eqb (line .key) plain) ≡ true).
             let names : Names l ls name = record { one = listed-is ∙ if-true _ _ e; line = refl } in
-            rw (if-true {A = Judged} (judgedBy count (modelFound t table v line) listed) (record { number = 0; slot = noModel }) e, many, index-is)
+            rw (if-true {A = Judged} (judgedBy count (modelFound t table v line) listed) (record { rule = 0; slot = noModel }) e, many, index-is)
             (name-outcome names))
             (λ (e : both (eqb p place.list) (eqb (line .key) plain) ≡ false).
-            rw (if-false {A = Judged} (judgedBy count (modelFound t table v line) listed) (record { number = 0; slot = noModel }) e)
+            rw (if-false {A = Judged} (judgedBy count (modelFound t table v line) listed) (record { rule = 0; slot = noModel }) e)
             (silent (listed-is ∙ if-false _ _ e)))
 
         -- the line opens a model: the list stands above all models
@@ -429,12 +429,12 @@ module _ (t : List ℕ) (listed : List Bool) (at n p : ℕ) (left : ListLeft t l
           pub slot-in : judged .slot < 65
           slot-in = slot-small few outcome
 
-          pub list-breaks : (judged .number ≡ 0 → ⊥) → Gives t (judged .number) (line .number) listed
-          list-breaks n = (breaks-by (gather listedAt ls) outcome same-here n, λ (z : judged .number ≡ 0). absurd (n z))
+          pub list-breaks : (judged .rule ≡ 0 → ⊥) → Gives t (judged .rule) (line .line) listed
+          list-breaks n = (breaks-by (gather listedAt ls) outcome same-here n, λ (z : judged .rule ≡ 0). absurd (n z))
 
-          pub list-on : judged .number ≡ 0 → (q : ℕ) → q ≡ placeAfter p (contentIn t line) → ListLeft t (set listed (judged .slot) true) (line .next) (line .number + 1) q
+          pub list-on : judged .rule ≡ 0 → (q : ℕ) → q ≡ placeAfter p (contentIn t line) → ListLeft t (set listed (judged .slot) true) (line .next) (line .line + 1) q
           list-on z q is-place =
-              let k : line .number ≤ line .at + 1 = found .counted in
+              let k : line .line ≤ line .at + 1 = found .counted in
               let f : line .at < line .next = found .further in
               let g : Kept t listed l ls judged = kept-by few outcome z rest-here same-here (left .have) (left .long) (left .told) in
               rw is-place

@@ -19,7 +19,7 @@ use Rattle.doc.specs.Lines.{significant}
 use Rattle.doc.specs.Document.{Map, Document, documentOf}
 use Rattle.cross_rules.specs.Rules.{mapNameRule, pinFindings, mapFindings, noFinding}
 use Rattle.cross_rules.specs.Way.First.{firstIn}
-use Rattle.cross_rules.specs.Way.Filled.{HoldsText}
+use Rattle.cross_rules.specs.Way.HoldsText.{HoldsText}
 use Rattle.cross_rules.specs.Way.Nth.{nthLine}
 use Rattle.cross_rules.specs.declared.Finding.{Finding}
 use Rattle.cross_rules.proofs.KindLaws.{first-here, first-later}
@@ -33,24 +33,24 @@ unfolding firstIn noFinding
 none-first = refl
 
 abbrev numberOf : Finding → ℕ
-numberOf f = f .number
+numberOf f = f .rule
 
-first-front : (fs gs : List Finding) → (firstIn fs .number ≡ 0 → ⊥) → firstIn (fs ++ gs) ≡ firstIn fs
+first-front : (fs gs : List Finding) → (firstIn fs .rule ≡ 0 → ⊥) → firstIn (fs ++ gs) ≡ firstIn fs
 first-front [] gs n = absurd (n none-first)
 first-front (f ∷ fs) gs n =
-    by-cases _ (eqb (f .number) 0)
-    (λ (e : eqb (f .number) 0 ≡ true).
+    by-cases _ (eqb (f .rule) 0)
+    (λ (e : eqb (f .rule) 0 ≡ true).
     let s : firstIn (f ∷ fs) ≡ firstIn fs = first-later f fs (eqb-true _ _ e) in
-    first-later f (fs ++ gs) (eqb-true _ _ e) ∙ first-front fs gs (λ (z : firstIn fs .number ≡ 0). n (ap numberOf s ∙ z)) ∙ sym s)
-    (λ (e : eqb (f .number) 0 ≡ false). first-here f (fs ++ gs) (eqb-false _ _ e) ∙ sym (first-here f fs (eqb-false _ _ e)))
+    first-later f (fs ++ gs) (eqb-true _ _ e) ∙ first-front fs gs (λ (z : firstIn fs .rule ≡ 0). n (ap numberOf s ∙ z)) ∙ sym s)
+    (λ (e : eqb (f .rule) 0 ≡ false). first-here f (fs ++ gs) (eqb-false _ _ e) ∙ sym (first-here f fs (eqb-false _ _ e)))
 
-first-behind : (fs gs : List Finding) → firstIn fs .number ≡ 0 → firstIn (fs ++ gs) ≡ firstIn gs
+first-behind : (fs gs : List Finding) → firstIn fs .rule ≡ 0 → firstIn (fs ++ gs) ≡ firstIn gs
 first-behind [] gs z = refl
 first-behind (f ∷ fs) gs z =
-    by-cases _ (eqb (f .number) 0)
-    (λ (e : eqb (f .number) 0 ≡ true).
+    by-cases _ (eqb (f .rule) 0)
+    (λ (e : eqb (f .rule) 0 ≡ true).
     first-later f (fs ++ gs) (eqb-true _ _ e) ∙ first-behind fs gs (ap numberOf (sym (first-later f fs (eqb-true _ _ e))) ∙ z))
-    (λ (e : eqb (f .number) 0 ≡ false). absurd (eqb-false _ _ e (ap numberOf (sym (first-here f fs (eqb-false _ _ e))) ∙ z)))
+    (λ (e : eqb (f .rule) 0 ≡ false). absurd (eqb-false _ _ e (ap numberOf (sym (first-here f fs (eqb-false _ _ e))) ∙ z)))
 
 -- ---- what is left
 
@@ -78,9 +78,9 @@ no-more [] h = refl
 no-more (m ∷ ms) h = absurd (not-suc-le-zero h)
 
 abbrev ownLine : Document → Map → Finding
-ownLine d m = record { number = mapNameRule d m; line = m .line }
+ownLine d m = record { rule = mapNameRule d m; line = m .line }
 
-none-found : (d : Document) → firstIn (mapFindings d []) ≡ record { number = 0; line = 0 }
+none-found : (d : Document) → firstIn (mapFindings d []) ≡ record { rule = 0; line = 0 }
 unfolding mapFindings firstIn noFinding
 none-found d = refl
 
@@ -103,7 +103,7 @@ module _ (t table : List ℕ) (v : View) (holds : HoldsText t table × (v ≡ vi
       maps-many t table v holds ∙ ap length (left .all) ∙ length-append (left .above) (left .below)
       ∙ ap (λ (k : ℕ). k + length (left .below)) (left .place)
 
-  pub maps-end : getD (v .counts) maps 0 ≤ i → record { number = 0; line = 0 } ≡ firstIn (mapFindings d (d .maps))
+  pub maps-end : getD (v .counts) maps 0 ≤ i → record { rule = 0; line = 0 } ≡ firstIn (mapFindings d (d .maps))
   maps-end h =
       let n : getD (v .counts) maps 0 ≡ i + length (left .below) = left-many in
       let z : left .below ≡ [] = no-more (left .below) (omega arith) in
@@ -140,12 +140,12 @@ module _ (t table : List ℕ) (v : View) (holds : HoldsText t table × (v ≡ vi
           ap (λ (b : Bool). firstBroken (19 when b ∷ [])) (is-twice ∙ ap (twiceAt t table mapBase 7) (sym (left .place)))
           ∙ rule-here t table v holds (left .above) behind m split
 
-      pub map-breaks : twice ≡ true → (line : ℕ) → line ≡ nthLine maps i (significant t) → record { number = 19; line = line } ≡ firstIn (mapFindings d (d .maps))
+      pub map-breaks : twice ≡ true → (line : ℕ) → line ≡ nthLine maps i (significant t) → record { rule = 19; line = line } ≡ firstIn (mapFindings d (d .maps))
       map-breaks e line is-line =
           let n : 19 ≡ mapNameRule d m = sym (first-broken twice 19 0 e) ∙ rule-is in
           let l : line ≡ m .line =
           is-line ∙ ap (λ (k : ℕ). nthLine maps k (significant t)) (sym (left .place)) ∙ line-here t table v holds (left .above) behind m split in
-          let f : record { number = 19; line = line } ≡ ownLine d m = λ j. record { number = n j; line = l j } in
+          let f : record { rule = 19; line = line } ≡ ownLine d m = λ j. record { rule = n j; line = l j } in
           f ∙ sym (first-here (ownLine d m) _ (λ (z : mapNameRule d m ≡ 0). omega arith)) ∙ same-here
 
       module _ (kept : twice ≡ false) where
@@ -158,12 +158,12 @@ module _ (t table : List ℕ) (v : View) (holds : HoldsText t table × (v ≡ vi
               is-found ∙ ap (λ (k : ℕ). firstIn (pinsOfMap t table mapBase pinBase k)) (sym (left .place))
               ∙ ap firstIn (own-here t table v holds (left .above) behind m split)
 
-          pub pins-break : (found .number ≡ 0 → ⊥) → found ≡ firstIn (mapFindings d (d .maps))
+          pub pins-break : (found .rule ≡ 0 → ⊥) → found ≡ firstIn (mapFindings d (d .maps))
           pins-break n =
-              found-is ∙ sym (first-front (pinFindings m) (mapFindings d behind) (λ (z : firstIn (pinFindings m) .number ≡ 0). n (ap numberOf found-is ∙ z)))
+              found-is ∙ sym (first-front (pinFindings m) (mapFindings d behind) (λ (z : firstIn (pinFindings m) .rule ≡ 0). n (ap numberOf found-is ∙ z)))
               ∙ below-same
 
-          pub maps-on : found .number ≡ 0 → MapsLeft t (i + 1)
+          pub maps-on : found .rule ≡ 0 → MapsLeft t (i + 1)
           maps-on z =
               record {
                 above = left .above ++ (m ∷ []);

@@ -33,7 +33,7 @@ use Rattle.doc.proofs.CountLaws.{models-long}
 use Rattle.table_name.specs.Name.{nameAt}
 use Rattle.table_name.specs.Way.Search.{isNamed, findIn}
 use Rattle.cross_rules.specs.Rules.{any, sameWord, isThere, modelName}
-use Rattle.cross_rules.specs.Way.Filled.{HoldsText}
+use Rattle.cross_rules.specs.Way.HoldsText.{HoldsText}
 use Rattle.cross_rules.proofs.TableLaws.{view-holds, part-stands, part-many}
 use Rattle.cross_names.specs.Way.Listed.{namedBy}
 use Rattle.cross_names.specs.declared.list.Judged.{Judged}
@@ -193,15 +193,15 @@ module _ (t : List ℕ) (line : Found) (located : Located t line) where
 -- ---- what it breaks
 
 module _ (t table : List ℕ) (v : View) (line : Found) (listed : List Bool) (index : ℕ) (is : index ≡ modelFound t table v line) where
-  pub name-none : getD (v .counts) models 0 ≤ index → record { number = 20; slot = noModel } ≡ nameJudged t table v line listed
+  pub name-none : getD (v .counts) models 0 ≤ index → record { rule = 20; slot = noModel } ≡ nameJudged t table v line listed
   unfolding nameJudged judgedBy
   name-none h = rw (← is) (sym (if-true _ _ (le-leb _ _ h)))
 
   module _ (h : index < getD (v .counts) models 0) where
-    pub name-twice : getD listed index false ≡ true → record { number = 19; slot = index } ≡ nameJudged t table v line listed
+    pub name-twice : getD listed index false ≡ true → record { rule = 19; slot = index } ≡ nameJudged t table v line listed
     unfolding nameJudged judgedBy
     name-twice e = rw (← is) (sym (if-false _ _ (lt-leb _ _ h) ∙ if-true _ _ e))
 
-    pub name-first : getD listed index false ≡ false → record { number = 0; slot = index } ≡ nameJudged t table v line listed
+    pub name-first : getD listed index false ≡ false → record { rule = 0; slot = index } ≡ nameJudged t table v line listed
     unfolding nameJudged judgedBy
     name-first e = rw (← is) (sym (if-false _ _ (lt-leb _ _ h) ∙ if-false _ _ e))

@@ -21,7 +21,7 @@ pub record PinsLeft (t table : List ℕ) (base first count i : ℕ) : Type 0 whe
   pub same : firstIn (pinsFrom t table base first i (count - i)) ≡ firstIn (pinsFrom t table base first 0 count)
 
 module _ (t table : List ℕ) (base first : ℕ) where
-  none-left : (i : ℕ) → firstIn (pinsFrom t table base first i zero) ≡ record { number = 0; line = 0 }
+  none-left : (i : ℕ) → firstIn (pinsFrom t table base first i zero) ≡ record { rule = 0; line = 0 }
   unfolding pinsFrom firstIn noFinding
   none-left i = refl
 
@@ -29,13 +29,13 @@ module _ (t table : List ℕ) (base first : ℕ) where
   unfolding pinsFrom
   one-left i n = refl
 
-  found-here : (i line : ℕ) → twiceAt t table base 2 i ≡ true → line ≡ nthLine pins (first + i) (significant t) → record { number = 19; line = line } ≡ pinAt t table base first i
+  found-here : (i line : ℕ) → twiceAt t table base 2 i ≡ true → line ≡ nthLine pins (first + i) (significant t) → record { rule = 19; line = line } ≡ pinAt t table base first i
   unfolding pinAt
   found-here i line b l =
       let n : 19 ≡ firstBroken (19 when twiceAt t table base 2 i ∷ []) = sym (first-broken (twiceAt t table base 2 i) 19 0 b) in
-      λ j. record { number = n j; line = l j }
+      λ j. record { rule = n j; line = l j }
 
-  kept-here : (i : ℕ) → twiceAt t table base 2 i ≡ false → pinAt t table base first i .number ≡ 0
+  kept-here : (i : ℕ) → twiceAt t table base 2 i ≡ false → pinAt t table base first i .rule ≡ 0
   unfolding pinAt
   kept-here i b = first-kept (twiceAt t table base 2 i) 19 0 0 b refl
 
@@ -47,7 +47,7 @@ module _ (t table : List ℕ) (base first count : ℕ) where
   pins-start = record { same = ap (λ (n : ℕ). firstIn (pinsFrom t table base first 0 n)) (sub-zero count) }
 
   module _ (i : ℕ) (left : PinsLeft t table base first count i) where
-    pub pins-end : count ≤ i → record { number = 0; line = 0 } ≡ whole
+    pub pins-end : count ≤ i → record { rule = 0; line = 0 } ≡ whole
     pins-end h =
         let z : count - i ≡ 0 = omega arith in
         sym (none-left t table base first i) ∙ ap (λ (n : ℕ). firstIn (pinsFrom t table base first i n)) (sym z) ∙ left .same
@@ -60,11 +60,11 @@ module _ (t table : List ℕ) (base first count : ℕ) where
           ∙ ap (λ (n : ℕ). firstIn (pinsFrom t table base first i n)) (sym c)
           ∙ left .same
 
-      pub pin-breaks : twice ≡ true → (line : ℕ) → line ≡ nthLine pins (first + i) (significant t) → record { number = 19; line = line } ≡ whole
+      pub pin-breaks : twice ≡ true → (line : ℕ) → line ≡ nthLine pins (first + i) (significant t) → record { rule = 19; line = line } ≡ whole
       pin-breaks e line l =
-          let f : record { number = 19; line = line } ≡ pinAt t table base first i = found-here t table base first i line (sym is-twice ∙ e) l in
-          let n : 19 ≡ pinAt t table base first i .number = ap (λ (x : Finding). x .number) f in
-          f ∙ sym (first-here (pinAt t table base first i) _ (λ (z : pinAt t table base first i .number ≡ 0). omega arith)) ∙ same-here
+          let f : record { rule = 19; line = line } ≡ pinAt t table base first i = found-here t table base first i line (sym is-twice ∙ e) l in
+          let n : 19 ≡ pinAt t table base first i .rule = ap (λ (x : Finding). x .rule) f in
+          f ∙ sym (first-here (pinAt t table base first i) _ (λ (z : pinAt t table base first i .rule ≡ 0). omega arith)) ∙ same-here
 
       pub pins-on : twice ≡ false → PinsLeft t table base first count (i + 1)
       pins-on e =

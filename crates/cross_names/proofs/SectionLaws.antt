@@ -25,7 +25,7 @@ use Rattle.table_layout.specs.View.{bounds, viewOf}
 use Rattle.table_layout.specs.declared.View.{View}
 use Rattle.cross_rules.specs.Rules.{any, isThere, isTwice, sectionName, uses, isUsed, sectionRule, sectionFindings, noFinding}
 use Rattle.cross_rules.specs.Way.First.{firstIn}
-use Rattle.cross_rules.specs.Way.Filled.{HoldsText}
+use Rattle.cross_rules.specs.Way.HoldsText.{HoldsText}
 use Rattle.cross_rules.specs.declared.Finding.{Finding}
 use Rattle.cross_rules.specs.Way.Nth.{nthLine}
 use Rattle.cross_rules.proofs.TableLaws.{view-holds, part-stands, part-many}
@@ -183,7 +183,7 @@ no-findings : (d : Document) (i : ℕ) → firstIn (sectionFindings d i []) ≡ 
 unfolding sectionFindings firstIn
 no-findings d i = refl
 
-finding-on : (d : Document) (i : ℕ) (x : Section) (xs : List Section) → sectionFindings d i (x ∷ xs) ≡ record { number = sectionRule d i x; line = x .line } ∷ sectionFindings d (i + 1) xs
+finding-on : (d : Document) (i : ℕ) (x : Section) (xs : List Section) → sectionFindings d i (x ∷ xs) ≡ record { rule = sectionRule d i x; line = x .line } ∷ sectionFindings d (i + 1) xs
 unfolding sectionFindings
 finding-on d i x xs = refl
 
@@ -210,13 +210,13 @@ module _ (t table : List ℕ) (filled : HoldsText t table) (used : List Bool) (f
       let l : length above < length (documentOf t .sections) = here t table filled above below x e in
       absurd (omega arith)
 
-  done-with : (i : ℕ) (above below : List Section) → documentOf t .sections ≡ above ++ below → length above ≡ i → firstIn (sectionFindings (documentOf t) i below) ≡ whole → getD (viewOf table .counts) sections 0 ≤ i → record { number = 0; line = 0 } ≡ whole
+  done-with : (i : ℕ) (above below : List Section) → documentOf t .sections ≡ above ++ below → length above ≡ i → firstIn (sectionFindings (documentOf t) i below) ≡ whole → getD (viewOf table .counts) sections 0 ≤ i → record { rule = 0; line = 0 } ≡ whole
   unfolding noFinding
   done-with i above below e n s h =
       let z : below ≡ [] = none-behind above below e (rw n h) in
       sym (no-findings (documentOf t) i) ∙ ap (λ (xs : List Section). firstIn (sectionFindings (documentOf t) i xs)) (sym z) ∙ s
 
-  found-with : (i number : ℕ) (above below : List Section) → documentOf t .sections ≡ above ++ below → length above ≡ i → firstIn (sectionFindings (documentOf t) i below) ≡ whole → i < getD (viewOf table .counts) sections 0 → number ≡ ruleAt i → (number ≡ 0 → ⊥) → (line : ℕ) → line ≡ nthLine sections i (significant t) → record { number = number; line = line } ≡ whole
+  found-with : (i number : ℕ) (above below : List Section) → documentOf t .sections ≡ above ++ below → length above ≡ i → firstIn (sectionFindings (documentOf t) i below) ≡ whole → i < getD (viewOf table .counts) sections 0 → number ≡ ruleAt i → (number ≡ 0 → ⊥) → (line : ℕ) → line ≡ nthLine sections i (significant t) → record { rule = number; line = line } ≡ whole
   found-with i number above [] e n s h r z line l =
       let m : getD (viewOf table .counts) sections 0 ≡ length (documentOf t .sections) = many t table filled in
       let k : length (documentOf t .sections) ≡ length above = ap length e ∙ ap length (append-nil above) in
@@ -224,8 +224,8 @@ module _ (t table : List ℕ) (filled : HoldsText t table) (used : List Bool) (f
   found-with i number above (x ∷ below) e n s h r z line l =
       let a : number ≡ sectionRule (documentOf t) i x = r ∙ rw n at (rule-here t table filled above below x e used flags) in
       let b : line ≡ x .line = l ∙ section-line t i ∙ ap (λ (xs : List Section). getD (map (λ (y : Section). y .line) xs) i 0) e ∙ rw n at (line-here above below x) in
-      (λ k. record { number = a k; line = b k })
-      ∙ sym (first-here (record { number = sectionRule (documentOf t) i x; line = x .line }) (sectionFindings (documentOf t) (i + 1) below) (λ (q : sectionRule (documentOf t) i x ≡ 0). z (a ∙ q)))
+      (λ k. record { rule = a k; line = b k })
+      ∙ sym (first-here (record { rule = sectionRule (documentOf t) i x; line = x .line }) (sectionFindings (documentOf t) (i + 1) below) (λ (q : sectionRule (documentOf t) i x ≡ 0). z (a ∙ q)))
       ∙ ap firstIn (sym (finding-on (documentOf t) i x below)) ∙ s
 
   on-with : (i number : ℕ) (above below : List Section) → documentOf t .sections ≡ above ++ below → length above ≡ i → firstIn (sectionFindings (documentOf t) i below) ≡ whole → i < getD (viewOf table .counts) sections 0 → number ≡ ruleAt i → number ≡ 0 → SectionsLeft t table (i + 1)
@@ -240,16 +240,16 @@ module _ (t table : List ℕ) (filled : HoldsText t table) (used : List Bool) (f
         below = below;
         all = e ∙ sym (append-assoc above (x ∷ []) below);
         many-above = length-append above (x ∷ []) ∙ ap (λ (k : ℕ). k + 1) n;
-        same = sym (first-later (record { number = sectionRule (documentOf t) i x; line = x .line }) (sectionFindings (documentOf t) (i + 1) below) (sym a ∙ z)) ∙ ap firstIn (sym (finding-on (documentOf t) i x below)) ∙ s;
+        same = sym (first-later (record { rule = sectionRule (documentOf t) i x; line = x .line }) (sectionFindings (documentOf t) (i + 1) below) (sym a ∙ z)) ∙ ap firstIn (sym (finding-on (documentOf t) i x below)) ∙ s;
       }
 
   -- for the code, whose view is the table's
   module _ (i : ℕ) (left : SectionsLeft t table i) where
-    sections-done : getD (viewOf table .counts) sections 0 ≤ i → record { number = 0; line = 0 } ≡ whole
+    sections-done : getD (viewOf table .counts) sections 0 ≤ i → record { rule = 0; line = 0 } ≡ whole
     sections-done h = done-with i (left .above) (left .below) (left .all) (left .many-above) (left .same) h
 
     module _ (h : i < getD (viewOf table .counts) sections 0) (number : ℕ) (r : number ≡ ruleAt i) where
-      sections-found : (number ≡ 0 → ⊥) → (line : ℕ) → line ≡ nthLine sections i (significant t) → record { number = number; line = line } ≡ whole
+      sections-found : (number ≡ 0 → ⊥) → (line : ℕ) → line ≡ nthLine sections i (significant t) → record { rule = number; line = line } ≡ whole
       sections-found z line l = found-with i number (left .above) (left .below) (left .all) (left .many-above) (left .same) h r z line l
 
       sections-on : number ≡ 0 → SectionsLeft t table (i + 1)
@@ -278,11 +278,11 @@ module _ (t table : List ℕ) (v : View) (holds : HoldsText t table × (v ≡ vi
     rule-asked h = rw (holds .1) (section-asked t table (holds .0) used flags-are i (rw (holds .1) at h))
 
     module _ (left : SectionsLeft t table i) where
-      pub finding-none : getD (v .counts) sections 0 ≤ i → record { number = 0; line = 0 } ≡ firstIn (sectionFindings (documentOf t) 0 (documentOf t .sections))
+      pub finding-none : getD (v .counts) sections 0 ≤ i → record { rule = 0; line = 0 } ≡ firstIn (sectionFindings (documentOf t) 0 (documentOf t .sections))
       finding-none h = sections-done t table (holds .0) used flags-are i left (rw (holds .1) at h)
 
       module _ (h : i < getD (v .counts) sections 0) (number : ℕ) (r : number ≡ ruleOf (hasAbove t (nameAt t (getD table (getD (v .bases) sections 0 + 8 * i) 0) (getD table (getD (v .bases) sections 0 + 8 * i + 1) 0)) (chopped 8 i (drop (getD (v .bases) sections 0) table))) (getD used i false)) where
-        pub finding-here : (number ≡ 0 → ⊥) → (line : ℕ) → line ≡ nthLine sections i (significant t) → record { number = number; line = line } ≡ firstIn (sectionFindings (documentOf t) 0 (documentOf t .sections))
+        pub finding-here : (number ≡ 0 → ⊥) → (line : ℕ) → line ≡ nthLine sections i (significant t) → record { rule = number; line = line } ≡ firstIn (sectionFindings (documentOf t) 0 (documentOf t .sections))
         finding-here z line l = sections-found t table (holds .0) used flags-are i left (rw (holds .1) at h) number (rw (holds .1) at r) z line l
 
         pub finding-later : number ≡ 0 → SectionsLeft t table (i + 1)

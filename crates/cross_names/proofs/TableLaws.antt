@@ -20,7 +20,7 @@ use Rattle.doc.proofs.StandsLaws.{MapStands, all-stand}
 use Rattle.table_name.specs.Name.{nameAt}
 use Rattle.base.specs.Broken.{_when_, firstBroken}
 use Rattle.cross_rules.specs.Rules.{isTwice, isThere, mapName, mapNameRule, pinNameRule, pinFindings}
-use Rattle.cross_rules.specs.Way.Filled.{HoldsText}
+use Rattle.cross_rules.specs.Way.HoldsText.{HoldsText}
 use Rattle.cross_rules.specs.Way.Nth.{nthLine}
 use Rattle.cross_rules.specs.declared.Finding.{Finding}
 use Rattle.cross_rules.proofs.RisingLaws.{each-at}
@@ -297,18 +297,18 @@ module _ (t table : List ℕ) (v : View) (holds : HoldsText t table × (v ≡ vi
           (sym (pins-of-text t) ∙ pins-split ∙ ap (λ (ps : List Named). pinsOf above ++ (ps ++ pinsOf below)) own)
           ∙ mapped-middle (λ (q : Named). q .line) (pinsOf above) front behind (pinsOf below) p 0
 
-      pin-here : pinAt t table ownBase first (length front) ≡ record { number = pinNameRule m p; line = p .line }
+      pin-here : pinAt t table ownBase first (length front) ≡ record { rule = pinNameRule m p; line = p .line }
       unfolding pinAt pinNameRule
-      pin-here = λ k. record { number = firstBroken (19 when pin-twice-here k ∷ []); line = pin-line-here k }
+      pin-here = λ k. record { rule = firstBroken (19 when pin-twice-here k ∷ []); line = pin-line-here k }
 
     pins-here :
         (front behind : List Named) → m .pins ≡ front ++ behind →
-        pinsFrom t table ownBase first (length front) (length behind) ≡ map (λ (p : Named). record { number = pinNameRule m p; line = p .line }) behind
+        pinsFrom t table ownBase first (length front) (length behind) ≡ map (λ (p : Named). record { rule = pinNameRule m p; line = p .line }) behind
     unfolding pinsFrom
     pins-here front [] own = refl
     pins-here front (p ∷ behind) own =
         let l : length (front ++ (p ∷ [])) ≡ length front + 1 = length-append front (p ∷ []) in
-        let later : pinsFrom t table ownBase first (length front + 1) (length behind) ≡ map (λ (q : Named). record { number = pinNameRule m q; line = q .line }) behind =
+        let later : pinsFrom t table ownBase first (length front + 1) (length behind) ≡ map (λ (q : Named). record { rule = pinNameRule m q; line = q .line }) behind =
         ap (λ (k : ℕ). pinsFrom t table ownBase first k (length behind)) (sym l)
         ∙ pins-here (front ++ (p ∷ [])) behind (own ∙ sym (append-assoc front (p ∷ []) behind)) in
         λ k. pin-here front behind p own k ∷ later k

@@ -11,7 +11,7 @@ ghost use Rattle.doc.specs.Document.{documentOf};
 ghost use Rattle.doc.specs.Way.Found.{Located};
 ghost use Rattle.cross_rules.specs.Rules.{listFindings};
 ghost use Rattle.cross_rules.specs.Way.First.{firstIn};
-ghost use Rattle.cross_rules.specs.Way.Filled.{HoldsText};
+ghost use Rattle.cross_rules.specs.Way.HoldsText.{HoldsText};
 ghost use Rattle.table_layout.specs.View.{viewOf};
 ghost use Rattle.cross_names.specs.Way.Listed.{Listed};
 ghost use Rattle.cross_names.specs.Way.Judged.{ModelsIn, modelFound, nameJudged, lineJudged, Nears};
@@ -31,14 +31,14 @@ const NO_MODEL: usize = 64;
 
 // What the list breaks, and, where it breaks nothing, which models it names: a flag for each, and one behind them.
 pub struct ListFinding {
-    pub number: u64,
+    pub rule: u64,
     pub line: u64,
     pub listed: [bool; 65],
 }
 
 // What one line breaks, 0 for nothing, and the flag that it raises.
 pub struct Judged {
-    pub number: u64,
+    pub rule: u64,
     pub slot: usize,
 }
 
@@ -63,14 +63,14 @@ fn opens_model(place: u64, key: u64) -> bool
 }
 
 // The next line that may say something of the list: in the list any line, elsewhere one with a keyword.
-fn next_told(text: &[u8], at: usize, number: u64, place: u64) -> Found
-    requires { ⌜ (at ≤ length (now text)) × (number ≤ at + 1) ⌝ }
-    ensures { λ r. ⌜ Nears (now (text .entry)) number at place r ⌝ }
+fn next_told(text: &[u8], at: usize, line: u64, place: u64) -> Found
+    requires { ⌜ (at ≤ length (now text)) × (line ≤ at + 1) ⌝ }
+    ensures { λ r. ⌜ Nears (now (text .entry)) line at place r ⌝ }
 {
     if place == line_place::LIST {
-        return doc::next_line(text, at, number);
+        return doc::next_line(text, at, line);
     }
-    doc::next_keyed(text, at, number, place)
+    doc::next_keyed(text, at, line, place)
 }
 
 // The first model of the name that a line opens with; as many as there are where none has it.
@@ -104,18 +104,15 @@ fn judge_name(text: &[u8], table: &[u64], view: View, line: Found, listed: [bool
     let index = model_found(text, table, view, line);
     if counts[table_layout::MODELS] <= index {
         return Judged {
-            number: LIST,
+            rule: LIST,
             slot: NO_MODEL,
         };
     }
     let slot = index as usize;
     if listed[slot] {
-        return Judged {
-            number: TWICE,
-            slot,
-        };
+        return Judged { rule: TWICE, slot };
     }
-    Judged { number: 0, slot }
+    Judged { rule: 0, slot }
 }
 
 fn judge_line(
@@ -131,7 +128,7 @@ fn judge_line(
 {
     if !stands_in_list(place, line.key) {
         return Judged {
-            number: 0,
+            rule: 0,
             slot: NO_MODEL,
         };
     }
@@ -141,33 +138,33 @@ fn judge_line(
 // The lines of the list, up to the first that breaks a rule. At most 64 models exist, so the search ends after at most 65 lines.
 pub fn list_finding(text: &[u8], table: &[u64], view: View) -> ListFinding
     requires { ⌜ HoldsText (now text) (now table) × (view ≡ viewOf (now table)) ⌝ }
-    ensures { λ r. ⌜ (record { number = r .number; line = r .line } ≡ firstIn (listFindings (documentOf (now (text .entry))))) × (r .number ≡ 0 → Listed (documentOf (now (text .entry))) (r .listed)) ⌝ }
+    ensures { λ r. ⌜ (record { rule = r .rule; line = r .line } ≡ firstIn (listFindings (documentOf (now (text .entry))))) × (r .rule ≡ 0 → Listed (documentOf (now (text .entry))) (r .listed)) ⌝ }
 {
     let mut listed = [false; 65];
     let mut at = 0;
-    let mut number = 1;
+    let mut line_here = 1;
     let mut place = line_place::BEFORE;
     loop {
-        let line = next_told(text, at, number, place);
+        let line = next_told(text, at, line_here, place);
         if !line.there {
             return ListFinding {
-                number: 0,
+                rule: 0,
                 line: 0,
                 listed,
             };
         }
         if opens_model(place, line.key) {
             return ListFinding {
-                number: 0,
+                rule: 0,
                 line: 0,
                 listed,
             };
         }
         let judged = judge_line(text, table, view, place, line, listed);
-        if judged.number != 0 {
+        if judged.rule != 0 {
             return ListFinding {
-                number: judged.number,
-                line: line.number,
+                rule: judged.rule,
+                line: line.line,
                 listed,
             };
         }
@@ -175,6 +172,6 @@ pub fn list_finding(text: &[u8], table: &[u64], view: View) -> ListFinding
         listed[slot] = true;
         place = doc::place_after(place, text, line);
         at = line.next;
-        number = line.number + 1;
+        line_here = line.line + 1;
     }
 }

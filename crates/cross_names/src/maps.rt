@@ -7,7 +7,7 @@ ghost use Rattle.table_name.specs.Way.Marks.{marksMany};
 ghost use Rattle.table_layout.specs.View.{viewOf};
 ghost use Rattle.cross_rules.specs.Rules.{mapFindings};
 ghost use Rattle.cross_rules.specs.Way.First.{firstIn};
-ghost use Rattle.cross_rules.specs.Way.Filled.{HoldsText};
+ghost use Rattle.cross_rules.specs.Way.HoldsText.{HoldsText};
 ghost use Rattle.cross_names.specs.Way.Pins.{pinsFrom, MapRoom, pinsOfMap};
 use cross_rules::Finding;
 use table_layout::View;
@@ -40,13 +40,13 @@ fn pin_finding(
     while i < count {
         if cross_rules::is_again(text, table, marks, stamp, base, PIN_WORDS, i) {
             return Finding {
-                number: TWICE,
+                rule: TWICE,
                 line: cross_rules::nth_line(text, table_layout::PINS, first + i),
             };
         }
         i += 1;
     }
-    Finding { number: 0, line: 0 }
+    Finding { rule: 0, line: 0 }
 }
 
 // The same of the map numbered `index`: `maps` and `pins` say where the records of each begin.
@@ -90,15 +90,15 @@ pub fn map_finding(text: &[u8], table: &[u64], view: View) -> Finding
     while i < count {
         if cross_rules::is_twice(text, table, maps, MAP_WORDS, i) {
             return Finding {
-                number: TWICE,
+                rule: TWICE,
                 line: cross_rules::nth_line(text, table_layout::MAPS, i),
             };
         }
         let found = own_finding(text, table, &mut marks, maps, pins, i);
-        if found.number != 0 {
+        if found.rule != 0 {
             return found;
         }
         i += 1;
     }
-    Finding { number: 0, line: 0 }
+    Finding { rule: 0, line: 0 }
 }

@@ -9,7 +9,7 @@ ghost use Rattle.table_name.specs.Name.{nameAt};
 ghost use Rattle.table_layout.specs.View.{viewOf};
 ghost use Rattle.cross_rules.specs.Rules.{sectionFindings};
 ghost use Rattle.cross_rules.specs.Way.First.{firstIn};
-ghost use Rattle.cross_rules.specs.Way.Filled.{HoldsText};
+ghost use Rattle.cross_rules.specs.Way.HoldsText.{HoldsText};
 ghost use Rattle.cross_rules.specs.Way.Twice.{hasAbove};
 ghost use Rattle.cross_names.specs.Way.Used.{Flags, slotOf, ruleOf};
 use cross_rules::Finding;
@@ -81,14 +81,14 @@ pub fn section_finding(text: &[u8], table: &[u64], view: View) -> Finding
     let count = counts[table_layout::SECTIONS];
     let mut i = 0;
     while i < count {
-        let number = section_rule(text, table, base, i, used);
-        if number != 0 {
+        let rule = section_rule(text, table, base, i, used);
+        if rule != 0 {
             return Finding {
-                number,
+                rule,
                 line: cross_rules::nth_line(text, table_layout::SECTIONS, i),
             };
         }
         i += 1;
     }
-    Finding { number: 0, line: 0 }
+    Finding { rule: 0, line: 0 }
 }

@@ -89,7 +89,7 @@ module _ (l : Line) where
 record Comes (ls : List Line) (part : Part) (n : ℕ) : Type 0 where
   line : Line
   among : Among line ls
-  number : line .number ≡ n
+  number : line .line ≡ n
   in-part : partOf line ≡ part
 
 -- ---- every one of a list
@@ -121,15 +121,15 @@ module _ (ls : List Line) where
   abbrev In : Line → Type 0
   In l = Among l ls
 
-  comes : (l : Line) (part : Part) → In l → partOf l ≡ part → Comes ls part (l .number)
-  comes l part m e = record { line = l; among = m; number = refl; in-part = e }
+  comes : (l : Line) (part : Part) → In l → partOf l ≡ part → Comes ls part (l .line)
+  comes l part m e = record { line = l; among = m; rule = refl; in-part = e }
 
   -- its lines, and those after it
   module _ (l : Line) (after : List Line) (m : In l) (ms : Each In after) where
-    plain-comes : (p : ℕ) → standsIn p l ≡ true → Comes ls (plainPart p) (l .number)
+    plain-comes : (p : ℕ) → standsIn p l ≡ true → Comes ls (plainPart p) (l .line)
     plain-comes p e = comes l (plainPart p) m (plain-part l p e)
 
-    keyed-comes : (k : ℕ) → eqb k plain ≡ false → keyOf l ≡ k → Comes ls (keyedPart k) (l .number)
+    keyed-comes : (k : ℕ) → eqb k plain ≡ false → keyOf l ≡ k → Comes ls (keyedPart k) (l .line)
     keyed-comes k n e = comes l (keyedPart k) m (keyed-part l k n e)
 
     listed-comes : Each (λ (n : Named). Comes ls list (n .line)) (listedAt l after)
@@ -146,7 +146,7 @@ module _ (ls : List Line) where
         each-if (opensSection l) _
         (λ (e : opensSection l ≡ true). keyed-comes beginIcmSection refl (eqb-true _ _ (both-second _ _ e)))
 
-    path-comes : standsIn place.path l ≡ true → Comes ls models (l .number)
+    path-comes : standsIn place.path l ≡ true → Comes ls models (l .line)
     unfolding plainPart if_then_else_
     path-comes e = plain-comes place.path e
 
@@ -262,6 +262,6 @@ module _ (t : List ℕ) where
       let a : Comes (significant t) (p .part) (f .line) = part-comes (p .lies) in
       let b : Comes (significant t) (q .part) (g .line) = part-comes (q .lies) in
       let l : a .line ≡ b .line =
-      same-line (λ (k : Line). k .number) (significant t) (lines-rise t) (a .among) (b .among) (a .number ∙ e ∙ sym (b .number)) in
+      same-line (λ (k : Line). k .line) (significant t) (lines-rise t) (a .among) (b .among) (a .rule ∙ e ∙ sym (b .rule)) in
       let r : p .part ≡ q .part = sym (a .in-part) ∙ ap partOf l ∙ b .in-part in
       same-part (in-order t) (rw r at (p .lies)) (q .lies) e

@@ -172,57 +172,57 @@ pin-judged m p = judged (pinNameRules m p) (pin-ranked m p)
 
 -- ---- the earliest of many
 
-none-earliest : {fs : List Finding} → Each (λ (f : Finding). f .number ≡ 0) fs → earliest fs .number ≡ 0
+none-earliest : {fs : List Finding} → Each (λ (f : Finding). f .rule ≡ 0) fs → earliest fs .rule ≡ 0
 unfolding earliest noFinding
 none-earliest none = refl
-none-earliest (more {x = f} {xs = fs} h hs) = ap (λ (g : Finding). g .number) (earlier-second f (earliest fs) h) ∙ none-earliest hs
+none-earliest (more {x = f} {xs = fs} h hs) = ap (λ (g : Finding). g .rule) (earlier-second f (earliest fs) h) ∙ none-earliest hs
 
-kept-earliest : (fs : List Finding) → earliest fs .number ≡ 0 → Each (λ (f : Finding). f .number ≡ 0) fs
+kept-earliest : (fs : List Finding) → earliest fs .rule ≡ 0 → Each (λ (f : Finding). f .rule ≡ 0) fs
 unfolding earliest
 kept-earliest [] e = none
 kept-earliest (f ∷ fs) e =
-    by-cases _ (eqb (f .number) 0)
-    (λ (h : eqb (f .number) 0 ≡ true).
+    by-cases _ (eqb (f .rule) 0)
+    (λ (h : eqb (f .rule) 0 ≡ true).
     more (eqb-true _ _ h) (kept-earliest fs (rw (earlier-second f (earliest fs) (eqb-true _ _ h)) at e)))
-    (λ (h : eqb (f .number) 0 ≡ false). absurd (earlier-breaks f (earliest fs) (eqb-false _ _ h) e))
+    (λ (h : eqb (f .rule) 0 ≡ false). absurd (earlier-breaks f (earliest fs) (eqb-false _ _ h) e))
 
-found-earliest : (fs : List Finding) → (earliest fs .number ≡ 0 → ⊥) → Among (earliest fs) fs
+found-earliest : (fs : List Finding) → (earliest fs .rule ≡ 0 → ⊥) → Among (earliest fs) fs
 unfolding earliest noFinding
 found-earliest [] n = absurd (n refl)
 found-earliest (f ∷ fs) n =
-    earlier-one (λ (g : Finding). (g .number ≡ 0 → ⊥) → Among g (f ∷ fs)) f (earliest fs) (λ m. front)
+    earlier-one (λ (g : Finding). (g .rule ≡ 0 → ⊥) → Among g (f ∷ fs)) f (earliest fs) (λ m. front)
     (λ m. further (found-earliest fs m)) n
 
-low-earliest : {g : Finding} {fs : List Finding} → Among g fs → (g .number ≡ 0 → ⊥) → earliest fs .line ≤ g .line
+low-earliest : {g : Finding} {fs : List Finding} → Among g fs → (g .rule ≡ 0 → ⊥) → earliest fs .line ≤ g .line
 unfolding earliest
 low-earliest {g} (front {xs = fs}) n = earlier-line g (earliest fs) n
 low-earliest (further {y = f} {xs = fs} m) n =
-    le-trans (earlier-other f (earliest fs) (λ (e : earliest fs .number ≡ 0). n (each-one (kept-earliest fs e) m))) (low-earliest m n)
+    le-trans (earlier-other f (earliest fs) (λ (e : earliest fs .rule ≡ 0). n (each-one (kept-earliest fs e) m))) (low-earliest m n)
 
 -- ---- the whole document, by its findings
 
 -- "In each group the earliest line counts"
 pub record First (d : Document) : Type 0 where
   pub found : Among (crossRule d) (findings d)
-  pub lowest : (f : Finding) → Among f (findings d) → (f .number ≡ 0 → ⊥) → crossRule d .line ≤ f .line
+  pub lowest : (f : Finding) → Among f (findings d) → (f .rule ≡ 0 → ⊥) → crossRule d .line ≤ f .line
 
 module _ (d : Document) where
-  pub none-broken : Each (λ (f : Finding). f .number ≡ 0) (findings d) → crossRule d .number ≡ 0
+  pub none-broken : Each (λ (f : Finding). f .rule ≡ 0) (findings d) → crossRule d .rule ≡ 0
   unfolding crossRule
   none-broken h = none-earliest h
 
-  pub all-kept : crossRule d .number ≡ 0 → Each (λ (f : Finding). f .number ≡ 0) (findings d)
+  pub all-kept : crossRule d .rule ≡ 0 → Each (λ (f : Finding). f .rule ≡ 0) (findings d)
   unfolding crossRule
   all-kept e = kept-earliest (findings d) e
 
-  pub first-found : (crossRule d .number ≡ 0 → ⊥) → First d
+  pub first-found : (crossRule d .rule ≡ 0 → ⊥) → First d
   unfolding crossRule
   first-found n = record { found = found-earliest (findings d) n; lowest = λ f m k. low-earliest m k }
 
 -- ---- the whole document, by its lines and their rules
 
 abbrev findingOf : Looked → Finding
-findingOf x = record { number = firstBroken (x .rules); line = x .line }
+findingOf x = record { rule = firstBroken (x .rules); line = x .line }
 
 -- one look for each finding
 mapped-found :
@@ -238,7 +238,7 @@ module _ (d : Document) where
 
   step-looked : (m : Model) → stepFindings d m ≡ map findingOf (stepLooked d m)
   unfolding stepFindings stepLooked
-  step-looked m = mapped-found _ _ (λ (s : Step). ap (λ (n : ℕ). record { number = n; line = s .line }) (step-given d m s)) (m .steps)
+  step-looked m = mapped-found _ _ (λ (s : Step). ap (λ (n : ℕ). record { rule = n; line = s .line }) (step-given d m s)) (m .steps)
 
   pin-looked : (m : Map) → pinFindings m ≡ map findingOf (pinLooked d m)
   unfolding pinFindings pinLooked pinNameRule
@@ -248,21 +248,21 @@ module _ (d : Document) where
   unfolding modelFindings modelLooked modelRule
   model-looked [] = refl
   model-looked (m ∷ ms) =
-      ap (λ (fs : List Finding). record { number = modelRule d m; line = m .line } ∷ fs)
+      ap (λ (fs : List Finding). record { rule = modelRule d m; line = m .line } ∷ fs)
       ((λ i. step-looked m i ++ model-looked ms i) ∙ sym (map-append findingOf (stepLooked d m) (modelLooked d ms)))
 
   map-looked : (ms : List Map) → mapFindings d ms ≡ map findingOf (mapLooked d ms)
   unfolding mapFindings mapLooked mapNameRule
   map-looked [] = refl
   map-looked (m ∷ ms) =
-      ap (λ (fs : List Finding). record { number = mapNameRule d m; line = m .line } ∷ fs)
+      ap (λ (fs : List Finding). record { rule = mapNameRule d m; line = m .line } ∷ fs)
       ((λ i. pin-looked m i ++ map-looked ms i) ∙ sym (map-append findingOf (pinLooked d m) (mapLooked d ms)))
 
   section-looked : (n : ℕ) (ss : List Section) → sectionFindings d n ss ≡ map findingOf (sectionLooked d n ss)
   unfolding sectionFindings sectionLooked sectionRule
   section-looked n [] = refl
   section-looked n (s ∷ ss) =
-      ap (λ (fs : List Finding). record { number = sectionRule d n s; line = s .line } ∷ fs) (section-looked (n + 1) ss)
+      ap (λ (fs : List Finding). record { rule = sectionRule d n s; line = s .line } ∷ fs) (section-looked (n + 1) ss)
 
   findings-looked : findings d ≡ map findingOf (looked d)
   unfolding findings looked
@@ -343,7 +343,7 @@ module _ (d : Document) where
   breaks-found : {line number : ℕ} (b : Breaks d line number) → firstBroken (b .look .rules) ≡ 0 → ⊥
   breaks-found b e = true≢false (sym (b .broken) ∙ look-judged (b .among) .kept e (b .place))
 
-  pub none-breaks : crossRule d .number ≡ 0 → (line number : ℕ) → Breaks d line number → ⊥
+  pub none-breaks : crossRule d .rule ≡ 0 → (line number : ℕ) → Breaks d line number → ⊥
   none-breaks e line number b = breaks-found b (each-one (all-kept d e) (look-found (b .among)))
 
   look-breaks : (x : Looked) → Among x (looked d) → (firstBroken (x .rules) ≡ 0 → ⊥) → Breaks d (x .line) (firstBroken (x .rules))
@@ -352,35 +352,35 @@ module _ (d : Document) where
       by-place : FoundIn (firstBroken (x .rules)) (x .rules) → Breaks d (x .line) (firstBroken (x .rules))
       by-place f = record { look = x; among = m; place = f .0; within = f .1; broken = f .2; on-line = refl; numbered = f .3 }
 
-  source-breaks : {f : Finding} → Source findingOf (looked d) f → (f .number ≡ 0 → ⊥) → Breaks d (f .line) (f .number)
+  source-breaks : {f : Finding} → Source findingOf (looked d) f → (f .rule ≡ 0 → ⊥) → Breaks d (f .line) (f .rule)
   source-breaks s n =
-      subst (λ (g : Finding). Breaks d (g .line) (g .number)) (s .gives)
+      subst (λ (g : Finding). Breaks d (g .line) (g .rule)) (s .gives)
       (look-breaks (s .source) (s .among)
-      (λ (e : firstBroken (s .source .rules) ≡ 0). n (ap (λ (g : Finding). g .number) (sym (s .gives)) ∙ e)))
+      (λ (e : firstBroken (s .source .rules) ≡ 0). n (ap (λ (g : Finding). g .rule) (sym (s .gives)) ∙ e)))
 
   -- the rule that is given is broken on the line that is given
-  pub given-breaks : (crossRule d .number ≡ 0 → ⊥) → Breaks d (crossRule d .line) (crossRule d .number)
+  pub given-breaks : (crossRule d .rule ≡ 0 → ⊥) → Breaks d (crossRule d .line) (crossRule d .rule)
   given-breaks n = source-breaks (source-of findingOf (looked d) (rw (findings-looked d) at (first-found d n .found))) n
 
-  pub unbroken : ((line number : ℕ) → Breaks d line number → ⊥) → crossRule d .number ≡ 0
+  pub unbroken : ((line number : ℕ) → Breaks d line number → ⊥) → crossRule d .rule ≡ 0
   unbroken h =
-      by-cases (crossRule d .number ≡ 0) (eqb (crossRule d .number) 0) (λ (e : eqb (crossRule d .number) 0 ≡ true). eqb-true _ _ e)
-      (λ (e : eqb (crossRule d .number) 0 ≡ false). absurd (h _ _ (given-breaks (eqb-false _ _ e))))
+      by-cases (crossRule d .rule ≡ 0) (eqb (crossRule d .rule) 0) (λ (e : eqb (crossRule d .rule) 0 ≡ true). eqb-true _ _ e)
+      (λ (e : eqb (crossRule d .rule) 0 ≡ false). absurd (h _ _ (given-breaks (eqb-false _ _ e))))
 
   pub lowest-line : (line number : ℕ) → Breaks d line number → crossRule d .line ≤ line
   lowest-line line number b =
-      let n : crossRule d .number ≡ 0 → ⊥ = λ (e : crossRule d .number ≡ 0). none-breaks e line number b in
+      let n : crossRule d .rule ≡ 0 → ⊥ = λ (e : crossRule d .rule ≡ 0). none-breaks e line number b in
       rw (b .on-line) at (first-found d n .lowest (findingOf (b .look)) (look-found (b .among)) (breaks-found b))
 
 -- "on one line the lowest number": of every text, also of one that is refused
 pub lowest-number :
-    (t : List ℕ) (number : ℕ) → Breaks (documentOf t) (crossRule (documentOf t) .line) number → crossRule (documentOf t) .number ≤ number
+    (t : List ℕ) (number : ℕ) → Breaks (documentOf t) (crossRule (documentOf t) .line) number → crossRule (documentOf t) .rule ≤ number
 lowest-number t number b =
     let d : Document = documentOf t in
-    let n : crossRule d .number ≡ 0 → ⊥ = λ (e : crossRule d .number ≡ 0). none-breaks d e (crossRule d .line) number b in
+    let n : crossRule d .rule ≡ 0 → ⊥ = λ (e : crossRule d .rule ≡ 0). none-breaks d e (crossRule d .line) number b in
     let same : findingOf (b .look) ≡ crossRule d =
     one-finding t (findingOf (b .look)) (crossRule d) (look-found d (b .among)) (first-found d n .found) (b .on-line) in
-    let e : firstBroken (b .look .rules) ≡ crossRule d .number = ap (λ (f : Finding). f .number) same in
+    let e : firstBroken (b .look .rules) ≡ crossRule d .rule = ap (λ (f : Finding). f .rule) same in
     let l : firstBroken (b .look .rules) ≤ getD (b .look .rules) (b .place) sound .number =
     look-judged d (b .among) .least (b .place) (b .within) (b .broken) in
     let m : getD (b .look .rules) (b .place) sound .number ≡ number = b .numbered in

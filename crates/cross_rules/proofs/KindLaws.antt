@@ -31,62 +31,62 @@ use Rattle.cross_rules.proofs.OrderLaws.{findingLines, Ordered, in-orde
 -- ---- the earlier of two
 
 module _ (a b : Finding) where
-  pub earlier-second : a .number ≡ 0 → earlier a b ≡ b
+  pub earlier-second : a .rule ≡ 0 → earlier a b ≡ b
   unfolding earlier
   earlier-second e = if-true _ _ (eq-eqb _ _ e)
 
   -- one that breaks something stands, unless the other breaks something on a lower line
-  pub earlier-first : (a .number ≡ 0 → ⊥) → ((b .number ≡ 0 → ⊥) → a .line ≤ b .line) → earlier a b ≡ a
+  pub earlier-first : (a .rule ≡ 0 → ⊥) → ((b .rule ≡ 0 → ⊥) → a .line ≤ b .line) → earlier a b ≡ a
   unfolding earlier
   earlier-first n h =
       if-false _ _ (ne-eqb _ _ n)
-      ∙ by-cases _ (eqb (b .number) 0) (λ (e : eqb (b .number) 0 ≡ true). if-true _ _ e)
-      (λ (e : eqb (b .number) 0 ≡ false). if-false _ _ e ∙ if-false _ _ (le-ltb (b .line) (a .line) (h (eqb-false _ _ e))))
+      ∙ by-cases _ (eqb (b .rule) 0) (λ (e : eqb (b .rule) 0 ≡ true). if-true _ _ e)
+      (λ (e : eqb (b .rule) 0 ≡ false). if-false _ _ e ∙ if-false _ _ (le-ltb (b .line) (a .line) (h (eqb-false _ _ e))))
 
-  pub earlier-lower : (a .number ≡ 0 → ⊥) → (b .number ≡ 0 → ⊥) → b .line < a .line → earlier a b ≡ b
+  pub earlier-lower : (a .rule ≡ 0 → ⊥) → (b .rule ≡ 0 → ⊥) → b .line < a .line → earlier a b ≡ b
   unfolding earlier
   earlier-lower n m h = if-false _ _ (ne-eqb _ _ n) ∙ if-false _ _ (ne-eqb _ _ m) ∙ if-true _ _ (lt-ltb _ _ h)
 
 -- which of the two it is
 data Which (a b : Finding) : Finding → Type 0 where
-  silent : a .number ≡ 0 → Which a b b
-  stands : (a .number ≡ 0 → ⊥) → ((b .number ≡ 0 → ⊥) → a .line ≤ b .line) → Which a b a
-  passed : (a .number ≡ 0 → ⊥) → (b .number ≡ 0 → ⊥) → b .line < a .line → Which a b b
+  silent : a .rule ≡ 0 → Which a b b
+  stands : (a .rule ≡ 0 → ⊥) → ((b .rule ≡ 0 → ⊥) → a .line ≤ b .line) → Which a b a
+  passed : (a .rule ≡ 0 → ⊥) → (b .rule ≡ 0 → ⊥) → b .line < a .line → Which a b b
 
 which : (a b : Finding) → Which a b (earlier a b)
 which a b =
-    by-cases _ (eqb (a .number) 0) (λ (e : eqb (a .number) 0 ≡ true). rw (earlier-second a b (eqb-true _ _ e)) (silent (eqb-true _ _ e)))
-    (λ (e : eqb (a .number) 0 ≡ false).
-    by-cases _ (eqb (b .number) 0)
-    (λ (f : eqb (b .number) 0 ≡ true).
-    let h : (b .number ≡ 0 → ⊥) → a .line ≤ b .line = λ n. absurd (n (eqb-true _ _ f)) in
+    by-cases _ (eqb (a .rule) 0) (λ (e : eqb (a .rule) 0 ≡ true). rw (earlier-second a b (eqb-true _ _ e)) (silent (eqb-true _ _ e)))
+    (λ (e : eqb (a .rule) 0 ≡ false).
+    by-cases _ (eqb (b .rule) 0)
+    (λ (f : eqb (b .rule) 0 ≡ true).
+    let h : (b .rule ≡ 0 → ⊥) → a .line ≤ b .line = λ n. absurd (n (eqb-true _ _ f)) in
     rw (earlier-first a b (eqb-false _ _ e) h) (stands (eqb-false _ _ e) h))
-    (λ (f : eqb (b .number) 0 ≡ false).
+    (λ (f : eqb (b .rule) 0 ≡ false).
     by-cases _ (ltb (b .line) (a .line))
     (λ (l : ltb (b .line) (a .line) ≡ true).
     rw (earlier-lower a b (eqb-false _ _ e) (eqb-false _ _ f) (ltb-true _ _ l))
     (passed (eqb-false _ _ e) (eqb-false _ _ f) (ltb-true _ _ l)))
     (λ (l : ltb (b .line) (a .line) ≡ false).
-    let h : (b .number ≡ 0 → ⊥) → a .line ≤ b .line = λ n. ltb-false _ _ l in
+    let h : (b .rule ≡ 0 → ⊥) → a .line ≤ b .line = λ n. ltb-false _ _ l in
     rw (earlier-first a b (eqb-false _ _ e) h) (stands (eqb-false _ _ e) h))))
 
 -- beside one that breaks something the earlier one breaks something too, on its line or above it
-breaks-by : {a b c : Finding} → Which a b c → (a .number ≡ 0 → ⊥) → c .number ≡ 0 → ⊥
+breaks-by : {a b c : Finding} → Which a b c → (a .rule ≡ 0 → ⊥) → c .rule ≡ 0 → ⊥
 breaks-by (silent e) n = absurd (n e)
 breaks-by (stands m h) n = n
 breaks-by (passed m o l) n = o
 
-line-by : {a b c : Finding} → Which a b c → (a .number ≡ 0 → ⊥) → c .line ≤ a .line
+line-by : {a b c : Finding} → Which a b c → (a .rule ≡ 0 → ⊥) → c .line ≤ a .line
 line-by (silent e) n = absurd (n e)
 line-by {a} (stands m h) n = le-refl (a .line)
 line-by (passed m o l) n = le-of-lt l
 
-other-by : {a b c : Finding} → Which a b c → (b .number ≡ 0 → ⊥) → c .line ≤ b .line
+other-by : {a b c : Finding} → Which a b c → (b .rule ≡ 0 → ⊥) → c .line ≤ b .line
 other-by {b = b} (silent e) n = le-refl (b .line)
 other-by (stands m h) n = h n
 other-by {b = b} (passed m o l) n = le-refl (b .line)
 
-pub earlier-other : (a b : Finding) → (b .number ≡ 0 → ⊥) → earlier a b .line ≤ b .line
+pub earlier-other : (a b : Finding) → (b .rule ≡ 0 → ⊥) → earlier a b .line ≤ b .line
 earlier-other a b n = other-by (which a b) n
 
 one-by : (P : Finding → Type 0) {a b c : Finding} → Which a b c → P a → P b → P c
@@ -98,8 +98,8 @@ one-by P (passed m o l) p q = q
 pub earlier-one : (P : Finding → Type 0) (a b : Finding) → P a → P b → P (earlier a b)
 earlier-one P a b p q = one-by P (which a b) p q
 
-module _ (a b : Finding) (n : a .number ≡ 0 → ⊥) where
-  pub earlier-breaks : earlier a b .number ≡ 0 → ⊥
+module _ (a b : Finding) (n : a .rule ≡ 0 → ⊥) where
+  pub earlier-breaks : earlier a b .rule ≡ 0 → ⊥
   earlier-breaks = breaks-by (which a b) n
 
   pub earlier-line : earlier a b .line ≤ a .line
@@ -128,38 +128,38 @@ earliest-append (x ∷ xs) ys = ap (earlier x) (earliest-append xs ys) ∙ sym (
 -- ---- the first of many whose lines rise
 
 module _ (f : Finding) (fs : List Finding) where
-  pub first-here : (f .number ≡ 0 → ⊥) → firstIn (f ∷ fs) ≡ f
+  pub first-here : (f .rule ≡ 0 → ⊥) → firstIn (f ∷ fs) ≡ f
   unfolding firstIn
   first-here n = if-false _ _ (ne-eqb _ _ n)
 
-  pub first-later : f .number ≡ 0 → firstIn (f ∷ fs) ≡ firstIn fs
+  pub first-later : f .rule ≡ 0 → firstIn (f ∷ fs) ≡ firstIn fs
   unfolding firstIn
   first-later e = if-true _ _ (eq-eqb _ _ e)
 
-pub first-low : {least : ℕ} (fs : List Finding) → Rising least (findingLines fs) → (firstIn fs .number ≡ 0 → ⊥) → least ≤ firstIn fs .line
+pub first-low : {least : ℕ} (fs : List Finding) → Rising least (findingLines fs) → (firstIn fs .rule ≡ 0 → ⊥) → least ≤ firstIn fs .line
 unfolding firstIn noFinding
 first-low [] h n = absurd (n refl)
 first-low (f ∷ fs) (rise h rest) n =
-    by-cases _ (eqb (f .number) 0)
-    (λ (e : eqb (f .number) 0 ≡ true).
+    by-cases _ (eqb (f .rule) 0)
+    (λ (e : eqb (f .rule) 0 ≡ true).
     let l : firstIn (f ∷ fs) ≡ firstIn fs = first-later f fs (eqb-true _ _ e) in
     let k : f .line + 1 ≤ firstIn fs .line = first-low fs rest (rw l at n) in
     rw l (omega arith))
-    (λ (e : eqb (f .number) 0 ≡ false). rw (first-here f fs (eqb-false _ _ e)) h)
+    (λ (e : eqb (f .rule) 0 ≡ false). rw (first-here f fs (eqb-false _ _ e)) h)
 
 pub first-earliest : {least : ℕ} (fs : List Finding) → Rising least (findingLines fs) → firstIn fs ≡ earliest fs
 unfolding earliest firstIn
 first-earliest [] h = refl
 first-earliest (f ∷ fs) (rise h rest) =
-    by-cases _ (eqb (f .number) 0)
-    (λ (e : eqb (f .number) 0 ≡ true).
+    by-cases _ (eqb (f .rule) 0)
+    (λ (e : eqb (f .rule) 0 ≡ true).
     first-later f fs (eqb-true _ _ e) ∙ first-earliest fs rest ∙ sym (earlier-second f (earliest fs) (eqb-true _ _ e)))
-    (λ (e : eqb (f .number) 0 ≡ false).
+    (λ (e : eqb (f .rule) 0 ≡ false).
     first-here f fs (eqb-false _ _ e)
     ∙ sym (earlier-first f (firstIn fs) (eqb-false _ _ e) (λ n. below n (first-low fs rest)))
     ∙ ap (earlier f) (first-earliest fs rest))
   where
-    below : (firstIn fs .number ≡ 0 → ⊥) → ((firstIn fs .number ≡ 0 → ⊥) → f .line + 1 ≤ firstIn fs .line) → f .line ≤ firstIn fs .line
+    below : (firstIn fs .rule ≡ 0 → ⊥) → ((firstIn fs .rule ≡ 0 → ⊥) → f .line + 1 ≤ firstIn fs .line) → f .line ≤ firstIn fs .line
     below n k =
         let l : f .line + 1 ≤ firstIn fs .line = k n in
         omega arith

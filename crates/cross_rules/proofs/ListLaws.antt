@@ -395,16 +395,16 @@ follow-parted (next {l = l} {ls = ls} e follow) =
     (λ (o : opensSection l ≡ false). silent (if-false _ _ o) (follow-parted follow))
 
 module _ {A : Type 0} (line : A → ℕ) (here : Line → List Line → List A)
-    (own : (l : Line) (after : List Line) → Gives (l .number) [] (map line (here l after))) where
+    (own : (l : Line) (after : List Line) → Gives (l .line) [] (map line (here l after))) where
   abbrev Below : List A → Named → Type 0
   Below xs n = Each (λ (a : A). n .line < line a) xs
 
-  name-above : (l : Line) (ls : List Line) → Rising (l .number + 1) (numbers ls) → Each (Below (gather here ls)) (listedAt l ls)
+  name-above : (l : Line) (ls : List Line) → Rising (l .line + 1) (numbers ls) → Each (Below (gather here ls)) (listedAt l ls)
   unfolding listedAt
   name-above l ls rest =
       each-if (standsIn place.list l) _
       (λ (e : standsIn place.list l ≡ true).
-      each-by (λ (a : A) (k : l .number + 1 ≤ line a). omega arith)
+      each-by (λ (a : A) (k : l .line + 1 ≤ line a). omega arith)
       (all-least line (gather here ls) (gather-rising line here own ls rest)))
 
   below-list :
@@ -434,45 +434,45 @@ sections-below t =
 -- what holds of the line of each holds of the line of the first that breaks something
 first-holds :
     {A : Type 0} (finding : A → Finding) (P : ℕ → Type 0) {xs : List A} → Each (λ (x : A). P (finding x .line)) xs →
-    (firstIn (map finding xs) .number ≡ 0 → ⊥) → P (firstIn (map finding xs) .line)
+    (firstIn (map finding xs) .rule ≡ 0 → ⊥) → P (firstIn (map finding xs) .line)
 unfolding firstIn noFinding
 first-holds finding P each-none n = absurd (n refl)
 first-holds finding P (each-more {x = x} {xs = xs} h hs) n =
-    by-cases _ (eqb (finding x .number) 0)
-    (λ (e : eqb (finding x .number) 0 ≡ true).
+    by-cases _ (eqb (finding x .rule) 0)
+    (λ (e : eqb (finding x .rule) 0 ≡ true).
     let l : firstIn (map finding (x ∷ xs)) ≡ firstIn (map finding xs) = first-later (finding x) (map finding xs) (eqb-true _ _ e) in
     rw l (first-holds finding P hs (rw l at n)))
-    (λ (e : eqb (finding x .number) 0 ≡ false). rw (first-here (finding x) (map finding xs) (eqb-false _ _ e)) h)
+    (λ (e : eqb (finding x .rule) 0 ≡ false). rw (first-here (finding x) (map finding xs) (eqb-false _ _ e)) h)
 
 -- none of a list whose lines rise is above its first
 above-low :
-    {least : ℕ} (f : Finding) (fs : List Finding) → Rising least (findingLines (f ∷ fs)) → (firstIn (f ∷ fs) .number ≡ 0 → ⊥) →
+    {least : ℕ} (f : Finding) (fs : List Finding) → Rising least (findingLines (f ∷ fs)) → (firstIn (f ∷ fs) .rule ≡ 0 → ⊥) →
     f .line ≤ firstIn (f ∷ fs) .line
 above-low f fs (rise h rest) n = first-low (f ∷ fs) (rise (le-refl (f .line)) rest) n
 
 module _ (d : Document) where
   models-low :
       (line : ℕ) {least : ℕ} {ms : List Model} → Each (λ (m : Model). line < m .line) ms →
-      Rising least (findingLines (modelFindings d ms)) → (firstIn (modelFindings d ms) .number ≡ 0 → ⊥) →
+      Rising least (findingLines (modelFindings d ms)) → (firstIn (modelFindings d ms) .rule ≡ 0 → ⊥) →
       line < firstIn (modelFindings d ms) .line
   unfolding modelFindings firstIn noFinding
   models-low line each-none r n = absurd (n refl)
   models-low line (each-more {x = m} {xs = ms} h hs) r n =
-      le-trans h (above-low (record { number = modelRule d m; line = m .line }) (stepFindings d m ++ modelFindings d ms) r n)
+      le-trans h (above-low (record { rule = modelRule d m; line = m .line }) (stepFindings d m ++ modelFindings d ms) r n)
 
   sections-low :
       (line i : ℕ) {least : ℕ} {ss : List Section} → Each (λ (s : Section). line < s .line) ss →
-      Rising least (findingLines (sectionFindings d i ss)) → (firstIn (sectionFindings d i ss) .number ≡ 0 → ⊥) →
+      Rising least (findingLines (sectionFindings d i ss)) → (firstIn (sectionFindings d i ss) .rule ≡ 0 → ⊥) →
       line < firstIn (sectionFindings d i ss) .line
   unfolding sectionFindings firstIn noFinding
   sections-low line i each-none r n = absurd (n refl)
   sections-low line i (each-more {x = s} {xs = ss} h hs) r n =
-      le-trans h (above-low (record { number = sectionRule d i s; line = s .line }) (sectionFindings d (i + 1) ss) r n)
+      le-trans h (above-low (record { rule = sectionRule d i s; line = s .line }) (sectionFindings d (i + 1) ss) r n)
 
 -- what stands below one that breaks something is passed by
-module _ (first second third fourth : Finding) (n : first .number ≡ 0 → ⊥) where
+module _ (first second third fourth : Finding) (n : first .rule ≡ 0 → ⊥) where
   passed-by :
-      ((second .number ≡ 0 → ⊥) → first .line < second .line) → ((fourth .number ≡ 0 → ⊥) → first .line < fourth .line) →
+      ((second .rule ≡ 0 → ⊥) → first .line < second .line) → ((fourth .rule ≡ 0 → ⊥) → first .line < fourth .line) →
       earlier first (earlier second (earlier third fourth)) ≡ earlier first third
   passed-by h k =
       sym (earlier-assoc first second (earlier third fourth))
@@ -481,7 +481,7 @@ module _ (first second third fourth : Finding) (n : first .number ≡ 0 → ⊥)
       ∙ earlier-first (earlier first third) fourth (earlier-breaks first third n)
       (λ m. le-trans (earlier-line first third n) (le-of-lt (k m)))
 
-module _ (d : Document) (o : Ordered d) (n : firstIn (listFindings d) .number ≡ 0 → ⊥) where
+module _ (d : Document) (o : Ordered d) (n : firstIn (listFindings d) .rule ≡ 0 → ⊥) where
   first-below : {A : Type 0} (line : A → ℕ) (xs : List A) → Each (λ (m : Named). Each (λ (x : A). m .line < line x) xs) (d .listed) →
       Each (λ (x : A). firstIn (listFindings d) .line < line x) xs
   unfolding listFindings
@@ -499,6 +499,6 @@ module _ (d : Document) (o : Ordered d) (n : firstIn (listFindings d) .number �
       (sections-low d (firstIn (listFindings d) .line) 0 (first-below (λ (s : Section). s .line) (d .sections) k) (o .in-sections))
 
 pub list-first :
-    (t : List ℕ) (c : Counts) → readingOf t ≡ Read c → (firstIn (listFindings (documentOf t)) .number ≡ 0 → ⊥) →
+    (t : List ℕ) (c : Counts) → readingOf t ≡ Read c → (firstIn (listFindings (documentOf t)) .rule ≡ 0 → ⊥) →
     crossRule (documentOf t) ≡ earlier (firstIn (listFindings (documentOf t))) (firstIn (mapFindings (documentOf t) (documentOf t .maps)))
 list-first t c h n = first-of-list (documentOf t) (in-order t) n (models-below t c h) (sections-below t)

@@ -33,7 +33,7 @@ unfolding significant
 count-starts t part index = record { same = refl; within = zero-le; counted = omega arith }
 
 module _ (part i : ℕ) (l : Line) (ls : List Line) where
-  nth-found : both (writesPart part l) (eqb i 0) ≡ true → nthLine part i (l ∷ ls) ≡ l .number
+  nth-found : both (writesPart part l) (eqb i 0) ≡ true → nthLine part i (l ∷ ls) ≡ l .line
   unfolding nthLine
   nth-found h = if-true _ _ (both-first _ _ h) ∙ if-true _ _ (both-second _ _ h)
 
@@ -64,26 +64,26 @@ module _ (t : List ℕ) (part index left at n p : ℕ) (inv : CountLeft t part i
       unfolding writesPart keyOf
       writes-here = ap (writesAt part p) (sym (found .key-is)) ∙ sym is-writes
 
-      pub count-found : last ≡ true → line .number ≡ nthLine part index (significant t)
+      pub count-found : last ≡ true → line .line ≡ nthLine part index (significant t)
       count-found h =
           let b : both (writesPart part (lineIn t line p)) (eqb left 0) ≡ true = ap (λ (w : Bool). both w (eqb left 0)) writes-here ∙ sym is-last ∙ h in
           sym (nth-found part left (lineIn t line p) (linesBehind t line p) b) ∙ ap (nthLine part left) (sym here) ∙ inv .same
 
-      pub count-on : last ≡ false → (less : ℕ) → less ≡ (if writes then left - 1 else left) → (q : ℕ) → q ≡ placeAfter p (contentIn t line) → CountLeft t part index less (line .next) (line .number + 1) q
+      pub count-on : last ≡ false → (less : ℕ) → less ≡ (if writes then left - 1 else left) → (q : ℕ) → q ≡ placeAfter p (contentIn t line) → CountLeft t part index less (line .next) (line .line + 1) q
       count-on h less is-less q is-place =
           let b : both (writesPart part (lineIn t line p)) (eqb left 0) ≡ false = ap (λ (w : Bool). both w (eqb left 0)) writes-here ∙ sym is-last ∙ h in
           let m : less ≡ (if writesPart part (lineIn t line p) then left - 1 else left) = is-less ∙ ap (λ (w : Bool). if w then left - 1 else left) (sym writes-here) in
-          let k : line .number ≤ line .at + 1 = found .counted in
+          let k : line .line ≤ line .at + 1 = found .counted in
           let f : line .at < line .next = found .further in
           record {
-            same = (λ i. nthLine part (m i) (linesAt t (line .number + 1) (line .next) (is-place i))) ∙ sym (nth-on part left (lineIn t line p) (linesBehind t line p) b) ∙ ap (nthLine part left) (sym here) ∙ inv .same;
+            same = (λ i. nthLine part (m i) (linesAt t (line .line + 1) (line .next) (is-place i))) ∙ sym (nth-on part left (lineIn t line p) (linesBehind t line p) b) ∙ ap (nthLine part left) (sym here) ∙ inv .same;
             within = found .next-within;
             counted = omega arith;
           }
 
-    pub number-small : line .number ≤ length t
+    pub number-small : line .line ≤ length t
     number-small =
-        let b : line .number ≤ line .at + 1 = found .counted in
+        let b : line .line ≤ line .at + 1 = found .counted in
         let c : line .at < line .next = found .further in
         let d : line .next ≤ length t = found .next-within in
         omega arith
@@ -100,15 +100,15 @@ module _ (t : List ℕ) (part index left at n p : ℕ) (inv : CountLeft t part i
 getD-none : (i : ℕ) → getD {A = ℕ} [] i 0 ≡ 0
 getD-none i = refl
 
-number-of : (l : Line) (ls : List ℕ) (i : ℕ) (later : ℕ → ℕ) → ((j : ℕ) → later j ≡ getD ls j 0) → (if eqb i 0 then l .number else later (i - 1)) ≡ getD (l .number ∷ ls) i 0
+number-of : (l : Line) (ls : List ℕ) (i : ℕ) (later : ℕ → ℕ) → ((j : ℕ) → later j ≡ getD ls j 0) → (if eqb i 0 then l .line else later (i - 1)) ≡ getD (l .line ∷ ls) i 0
 number-of l ls zero later e = if-true _ _ (eq-eqb 0 0 refl)
 number-of l ls (suc i) later e =
     let k : suc i - 1 ≡ i = omega arith in
     if-false _ _ (ne-eqb (suc i) 0 (λ (h : suc i ≡ 0). omega arith)) ∙ ap later k ∙ e i
 
 -- where each line gives at most one thing, which stands on that line
-module _ {A : Type 0} (part : ℕ) (here : Line → List Line → List A) (lineOf : A → ℕ) (one : (l : Line) (ls : List Line) → map lineOf (here l ls) ≡ (if writesPart part l then l .number ∷ [] else [])) where
-  lines-here : (l : Line) (ls : List Line) → map lineOf (gather here (l ∷ ls)) ≡ (if writesPart part l then l .number ∷ [] else []) ++ map lineOf (gather here ls)
+module _ {A : Type 0} (part : ℕ) (here : Line → List Line → List A) (lineOf : A → ℕ) (one : (l : Line) (ls : List Line) → map lineOf (here l ls) ≡ (if writesPart part l then l .line ∷ [] else [])) where
+  lines-here : (l : Line) (ls : List Line) → map lineOf (gather here (l ∷ ls)) ≡ (if writesPart part l then l .line ∷ [] else []) ++ map lineOf (gather here ls)
   unfolding gather
   lines-here l ls = map-append lineOf (here l ls) (gather here ls) ∙ ap (λ (ns : List ℕ). ns ++ map lineOf (gather here ls)) (one l ls)
 
@@ -118,7 +118,7 @@ module _ {A : Type 0} (part : ℕ) (here : Line → List Line → List A) (lineO
   nth-is (l ∷ ls) i =
       by-cases _ (writesPart part l)
       (λ (w : writesPart part l ≡ true).
-      let e : map lineOf (gather here (l ∷ ls)) ≡ l .number ∷ map lineOf (gather here ls) = lines-here l ls ∙ ap (λ (ns : List ℕ). ns ++ map lineOf (gather here ls)) (if-true _ _ w) in
+      let e : map lineOf (gather here (l ∷ ls)) ≡ l .line ∷ map lineOf (gather here ls) = lines-here l ls ∙ ap (λ (ns : List ℕ). ns ++ map lineOf (gather here ls)) (if-true _ _ w) in
       if-true _ _ w ∙ number-of l (map lineOf (gather here ls)) i (λ (j : ℕ). nthLine part j ls) (nth-is ls) ∙ ap (λ (ns : List ℕ). getD ns i 0) (sym e))
       (λ (w : writesPart part l ≡ false).
       let e : map lineOf (gather here (l ∷ ls)) ≡ map lineOf (gather here ls) = lines-here l ls ∙ ap (λ (ns : List ℕ). ns ++ map lineOf (gather here ls)) (if-false _ _ w) in
@@ -130,21 +130,21 @@ unfolding if_then_else_
 one-or-none lineOf n true x e = ap (λ (k : ℕ). k ∷ []) e
 one-or-none lineOf n false x e = refl
 
-model-one : (l : Line) (ls : List Line) → map (λ (m : Model). m .line) (modelAt l ls) ≡ (if writesPart models l then l .number ∷ [] else [])
+model-one : (l : Line) (ls : List Line) → map (λ (m : Model). m .line) (modelAt l ls) ≡ (if writesPart models l then l .line ∷ [] else [])
 unfolding modelAt modelOf opensModel writesPart writesAt if_then_else_
-model-one l ls = one-or-none (λ (m : Model). m .line) (l .number) (opensModel l) (modelOf l (upTo inModel ls)) refl
+model-one l ls = one-or-none (λ (m : Model). m .line) (l .line) (opensModel l) (modelOf l (upTo inModel ls)) refl
 
-map-one : (l : Line) (ls : List Line) → map (λ (m : Map). m .line) (mapAt l ls) ≡ (if writesPart maps l then l .number ∷ [] else [])
+map-one : (l : Line) (ls : List Line) → map (λ (m : Map). m .line) (mapAt l ls) ≡ (if writesPart maps l then l .line ∷ [] else [])
 unfolding mapAt mapOf opensMap writesPart writesAt if_then_else_
-map-one l ls = one-or-none (λ (m : Map). m .line) (l .number) (opensMap l) (mapOf l (upTo inMap ls)) refl
+map-one l ls = one-or-none (λ (m : Map). m .line) (l .line) (opensMap l) (mapOf l (upTo inMap ls)) refl
 
-section-one : (l : Line) (ls : List Line) → map (λ (s : Section). s .line) (sectionAt l ls) ≡ (if writesPart sections l then l .number ∷ [] else [])
+section-one : (l : Line) (ls : List Line) → map (λ (s : Section). s .line) (sectionAt l ls) ≡ (if writesPart sections l then l .line ∷ [] else [])
 unfolding sectionAt sectionOf opensSection writesPart writesAt if_then_else_
-section-one l ls = one-or-none (λ (s : Section). s .line) (l .number) (opensSection l) (sectionOf l (upTo inSection ls)) refl
+section-one l ls = one-or-none (λ (s : Section). s .line) (l .line) (opensSection l) (sectionOf l (upTo inSection ls)) refl
 
-pin-one : (l : Line) (ls : List Line) → map (λ (p : Named). p .line) (pinAt l ls) ≡ (if writesPart pins l then l .number ∷ [] else [])
+pin-one : (l : Line) (ls : List Line) → map (λ (p : Named). p .line) (pinAt l ls) ≡ (if writesPart pins l then l .line ∷ [] else [])
 unfolding pinAt standsIn writesPart writesAt if_then_else_
-pin-one l ls = one-or-none (λ (p : Named). p .line) (l .number) (standsIn place.pinList l) (record { name = firstWord (wordsOf l); line = l .number }) refl
+pin-one l ls = one-or-none (λ (p : Named). p .line) (l .line) (standsIn place.pinList l) (record { name = firstWord (wordsOf l); line = l .line }) refl
 
 module _ (t : List ℕ) (i : ℕ) where
   pub model-line : nthLine models i (significant t) ≡ getD (map (λ (m : Model). m .line) (documentOf t .models)) i 0

@@ -80,33 +80,33 @@ mapLines m = m .line ∷ nameLines (m .pins)
 
 module _ (l : Line) (after : List Line) where
   one-or-none :
-      {A : Type 0} (line : A → ℕ) (b : Bool) (x : A) → line x ≡ l .number →
-      Gives (l .number) [] (map line (if b then x ∷ [] else []))
+      {A : Type 0} (line : A → ℕ) (b : Bool) (x : A) → line x ≡ l .line →
+      Gives (l .line) [] (map line (if b then x ∷ [] else []))
   one-or-none line b x e =
-      by-test (λ (xs : List _). Gives (l .number) [] (map line xs)) b (x ∷ []) [] (λ (h : b ≡ true). rw e itself)
+      by-test (λ (xs : List _). Gives (l .line) [] (map line xs)) b (x ∷ []) [] (λ (h : b ≡ true). rw e itself)
       (λ (h : b ≡ false). nothing)
 
-  listed-own : Gives (l .number) [] (nameLines (listedAt l after))
+  listed-own : Gives (l .line) [] (nameLines (listedAt l after))
   unfolding listedAt
   listed-own = one-or-none (λ (n : Named). n .line) (standsIn place.list l) _ refl
 
-  pin-own : Gives (l .number) [] (nameLines (pinAt l after))
+  pin-own : Gives (l .line) [] (nameLines (pinAt l after))
   unfolding pinAt
   pin-own = one-or-none (λ (n : Named). n .line) (standsIn place.pinList l) _ refl
 
-  pub model-own : Gives (l .number) [] (openings (modelAt l after))
+  pub model-own : Gives (l .line) [] (openings (modelAt l after))
   unfolding modelAt modelOf
   model-own = one-or-none (λ (m : Model). m .line) (opensModel l) _ refl
 
-  map-own : Gives (l .number) [] (mapOpenings (mapAt l after))
+  map-own : Gives (l .line) [] (mapOpenings (mapAt l after))
   unfolding mapAt mapOf
   map-own = one-or-none (λ (m : Map). m .line) (opensMap l) _ refl
 
-  pub section-own : Gives (l .number) [] (sectionOpenings (sectionAt l after))
+  pub section-own : Gives (l .line) [] (sectionOpenings (sectionAt l after))
   unfolding sectionAt sectionOf
   section-own = one-or-none (λ (s : Section). s .line) (opensSection l) _ refl
 
-  pub step-own : Gives (l .number) [] (stepLines (stepOf l after))
+  pub step-own : Gives (l .line) [] (stepLines (stepOf l after))
   unfolding stepOf
   step-own =
       by-test Own (eqb (sayingAt l) path.saysEnd) _ _ (λ e. itself)
@@ -117,22 +117,22 @@ module _ (l : Line) (after : List Line) where
       (λ e. by-test Own (eqb (sayingAt l) path.saysEndfork) _ _ (λ e. itself) (λ e. nothing))))
     where
       Own : List Step → Type 0
-      Own ss = Gives (l .number) [] (stepLines ss)
+      Own ss = Gives (l .line) [] (stepLines ss)
 
   -- a line that opens a block gives it whole
   block-whole :
-      {B : Type 0} (lines : B → List ℕ) (rest : List ℕ) (b : Bool) (x : B) → lines x ≡ l .number ∷ rest →
-      Gives (l .number) rest (joined lines (if b then x ∷ [] else []))
+      {B : Type 0} (lines : B → List ℕ) (rest : List ℕ) (b : Bool) (x : B) → lines x ≡ l .line ∷ rest →
+      Gives (l .line) rest (joined lines (if b then x ∷ [] else []))
   unfolding joined
   block-whole lines rest b x e =
-      by-test (λ (xs : List _). Gives (l .number) rest (joined lines xs)) b (x ∷ []) []
+      by-test (λ (xs : List _). Gives (l .line) rest (joined lines xs)) b (x ∷ []) []
       (λ (h : b ≡ true). rw (append-nil (lines x), e) itself) (λ (h : b ≡ false). nothing)
 
-  model-whole : Gives (l .number) (stepLines (gather stepOf (upTo inModel after))) (joined modelLines (modelAt l after))
+  model-whole : Gives (l .line) (stepLines (gather stepOf (upTo inModel after))) (joined modelLines (modelAt l after))
   unfolding modelAt modelOf stepsIn
   model-whole = block-whole modelLines _ (opensModel l) _ refl
 
-  map-whole : Gives (l .number) (nameLines (gather pinAt (upTo inMap after))) (joined mapLines (mapAt l after))
+  map-whole : Gives (l .line) (nameLines (gather pinAt (upTo inMap after))) (joined mapLines (mapAt l after))
   unfolding mapAt mapOf
   map-whole = block-whole mapLines _ (opensMap l) _ refl
 

@@ -108,10 +108,10 @@ gives-rising rest later itself h k = rise h k
 
 -- the numbers of lines
 abbrev pub numbers : List Line → List ℕ
-numbers ls = map (λ (l : Line). l .number) ls
+numbers ls = map (λ (l : Line). l .line) ls
 
 module _ {A : Type 0} (line : A → ℕ) (here : Line → List Line → List A)
-    (own : (l : Line) (after : List Line) → Gives (l .number) [] (map line (here l after))) where
+    (own : (l : Line) (after : List Line) → Gives (l .line) [] (map line (here l after))) where
   -- where each line gives at most one, with its own number
   pub gather-rising : {least : ℕ} (ls : List Line) → Rising least (numbers ls) → Rising least (map line (gather here ls))
   gather-rising [] flat = rw (gather-none here) flat
@@ -124,10 +124,10 @@ module _ {A : Type 0} (line : A → ℕ) (here : Line → List Line → List A)
   module _ {B : Type 0} (lines : B → List ℕ) (blockAt : Line → List Line → List B) (inside : Line → Bool)
       (shut : (l : Line) (after : List Line) → inside l ≡ true → blockAt l after ≡ [])
       (opened : (l : Line) (after : List Line) →
-      Gives (l .number) (map line (gather here (upTo inside after))) (joined lines (blockAt l after))) where
+      Gives (l .line) (map line (gather here (upTo inside after))) (joined lines (blockAt l after))) where
     inside-rising :
-        {least : ℕ} (l : Line) (ls : List Line) → inside l ≡ true → least ≤ l .number →
-        Rising (l .number + 1) (map line (gather here (upTo inside ls)) ++ joined lines (gather blockAt ls)) →
+        {least : ℕ} (l : Line) (ls : List Line) → inside l ≡ true → least ≤ l .line →
+        Rising (l .line + 1) (map line (gather here (upTo inside ls)) ++ joined lines (gather blockAt ls)) →
         Rising least (map line (gather here (upTo inside (l ∷ ls))) ++ joined lines (gather blockAt (l ∷ ls)))
     inside-rising l ls e h k =
         rw (
@@ -141,8 +141,8 @@ module _ {A : Type 0} (line : A → ℕ) (here : Line → List Line → List A)
         (gives-rising [] _ (own l (upTo inside ls)) h k)
 
     outside-rising :
-        {least : ℕ} (l : Line) (ls : List Line) → inside l ≡ false → least ≤ l .number →
-        Rising (l .number + 1) (map line (gather here (upTo inside ls)) ++ joined lines (gather blockAt ls)) →
+        {least : ℕ} (l : Line) (ls : List Line) → inside l ≡ false → least ≤ l .line →
+        Rising (l .line + 1) (map line (gather here (upTo inside ls)) ++ joined lines (gather blockAt ls)) →
         Rising least (map line (gather here (upTo inside (l ∷ ls))) ++ joined lines (gather blockAt (l ∷ ls)))
     outside-rising l ls e h k =
         rw (up-to-out inside l ls e, gather-none here, gather-more blockAt l ls, joined-append lines (blockAt l ls) (gather blockAt ls))

@@ -19,7 +19,7 @@ use Rattle.table_layout.specs.View.{bounds, viewOf}
 use Rattle.table_layout.specs.declared.View.{View}
 use Rattle.table_layout.proofs.PartLaws.{Viewed, viewed}
 use Rattle.table_layout.proofs.LaidLaws.{AllFew, laid-view}
-use Rattle.cross_rules.specs.Way.Filled.{HoldsText}
+use Rattle.cross_rules.specs.Way.HoldsText.{HoldsText}
 
 getD-lengths : (parts : List (List (List ℕ))) (p : ℕ) → getD (map length parts) p 0 ≡ length (getD parts p [])
 getD-lengths [] p = refl

@@ -185,35 +185,35 @@ stepRule d m s =
 -- what a line breaks, 0 for nothing, is a `Finding`
 
 unfoldable pub listFindings : Document → List Finding
-listFindings d = map (λ (n : Named). record { number = listNameRule d n; line = n .line }) (d .listed)
+listFindings d = map (λ (n : Named). record { rule = listNameRule d n; line = n .line }) (d .listed)
 
 unfoldable pub stepFindings : Document → Model → List Finding
-stepFindings d m = map (λ (s : Step). record { number = stepRule d m s; line = s .line }) (m .steps)
+stepFindings d m = map (λ (s : Step). record { rule = stepRule d m s; line = s .line }) (m .steps)
 
 unfoldable pub modelFindings : Document → List Model → List Finding
 modelFindings d [] = []
-modelFindings d (m ∷ ms) = record { number = modelRule d m; line = m .line } ∷ (stepFindings d m ++ modelFindings d ms)
+modelFindings d (m ∷ ms) = record { rule = modelRule d m; line = m .line } ∷ (stepFindings d m ++ modelFindings d ms)
 
 unfoldable pub pinFindings : Map → List Finding
-pinFindings m = map (λ (p : Named). record { number = pinNameRule m p; line = p .line }) (m .pins)
+pinFindings m = map (λ (p : Named). record { rule = pinNameRule m p; line = p .line }) (m .pins)
 
 unfoldable pub mapFindings : Document → List Map → List Finding
 mapFindings d [] = []
-mapFindings d (m ∷ ms) = record { number = mapNameRule d m; line = m .line } ∷ (pinFindings m ++ mapFindings d ms)
+mapFindings d (m ∷ ms) = record { rule = mapNameRule d m; line = m .line } ∷ (pinFindings m ++ mapFindings d ms)
 
 unfoldable pub sectionFindings : Document → ℕ → List Section → List Finding
 sectionFindings d i [] = []
-sectionFindings d i (s ∷ ss) = record { number = sectionRule d i s; line = s .line } ∷ sectionFindings d (i + 1) ss
+sectionFindings d i (s ∷ ss) = record { rule = sectionRule d i s; line = s .line } ∷ sectionFindings d (i + 1) ss
 
 unfoldable pub findings : Document → List Finding
 findings d = listFindings d ++ (modelFindings d (d .models) ++ (mapFindings d (d .maps) ++ sectionFindings d 0 (d .sections)))
 
 -- "In each group the earliest line counts": the earlier of two, one that breaks nothing never
 unfoldable pub earlier : Finding → Finding → Finding
-earlier a b = if eqb (a .number) 0 then b else if eqb (b .number) 0 then a else if ltb (b .line) (a .line) then b else a
+earlier a b = if eqb (a .rule) 0 then b else if eqb (b .rule) 0 then a else if ltb (b .line) (a .line) then b else a
 
 unfoldable pub noFinding : Finding
-noFinding = record { number = 0; line = 0 }
+noFinding = record { rule = 0; line = 0 }
 
 unfoldable pub earliest : List Finding → Finding
 earliest [] = noFinding

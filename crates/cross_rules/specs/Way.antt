@@ -1,4 +1,4 @@
-pub mod Filled
+pub mod HoldsText
 pub mod Nth
 pub mod Twice
 pub mod First

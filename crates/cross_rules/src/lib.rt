@@ -12,7 +12,7 @@ ghost use Rattle.cross_rules.specs.Way.Twice.{hasAbove, Marked};
 
 // What a line breaks of the rules 19 to 27, 0 for nothing.
 pub struct Finding {
-    pub number: u64,
+    pub rule: u64,
     pub line: u64,
 }
 
@@ -73,21 +73,21 @@ pub fn nth_line(text: &[u8], part: usize, index: u64) -> u64
 {
     let mut left = index;
     let mut at = 0;
-    let mut number = 1;
+    let mut line_here = 1;
     let mut place = line_place::BEFORE;
     loop {
-        let line = doc::next_line(text, at, number);
+        let line = doc::next_line(text, at, line_here);
         if !line.there {
             return 0;
         }
         let writes = writes_at(part, place, line.key);
         if is_last(writes, left) {
-            return line.number;
+            return line.line;
         }
         left = less_if(writes, left);
         place = doc::place_after(place, text, line);
         at = line.next;
-        number = line.number + 1;
+        line_here = line.line + 1;
     }
 }
 

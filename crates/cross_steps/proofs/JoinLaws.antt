@@ -59,7 +59,7 @@ use Rattle.cross_rules.specs.Rules.{
   sectionStepRule,
   stepRule,
 }
-use Rattle.cross_rules.specs.Way.Filled.{HoldsText}
+use Rattle.cross_rules.specs.Way.HoldsText.{HoldsText}
 use Rattle.cross_rules.proofs.RisingLaws.{each-at}
 use Rattle.cross_rules.proofs.OrderLaws.{Ordered}
 use Rattle.cross_rules.proofs.TwiceLaws.{meets, clashing-above}

@@ -61,13 +61,13 @@ module _ (t : List ℕ) (at : ℕ) (h : at < length t) where
 
     -- a line that says something is the first of the lines from there
     pub stop-here : isBlankLine (take (ends .content - at) (drop at t)) ≡ false → (p : ℕ) →
-        linesAt t n at p ≡ record { number = n; at = at; place = p; content = take (ends .content - at) (drop at t) } ∷ linesAt t (n + 1) (ends .next) (placeAfter p (take (ends .content - at) (drop at t)))
+        linesAt t n at p ≡ record { line = n; at = at; place = p; content = take (ends .content - at) (drop at t) } ∷ linesAt t (n + 1) (ends .next) (placeAfter p (take (ends .content - at) (drop at t)))
     unfolding linesAt
     stop-here b p =
         ap (linesFrom n at p) (lines-at commentByte t at h)
         ∙ lines-said n at p (firstOf (drop at t)) (lines (drop (lineAt commentByte t at .next) t)) (ap isBlankLine (sym cut-content) ∙ b)
-        ∙ ap (λ (ls : List Line). record { number = n; at = at; place = p; content = contentOf commentByte (firstOf (drop at t) .bytes) } ∷ ls) (rest-same (n + 1) (placeAfter p (contentOf commentByte (firstOf (drop at t) .bytes))))
-        ∙ (λ i. record { number = n; at = at; place = p; content = sym cut-content i } ∷ linesAt t (n + 1) (sym told i .next) (placeAfter p (sym cut-content i)))
+        ∙ ap (λ (ls : List Line). record { line = n; at = at; place = p; content = contentOf commentByte (firstOf (drop at t) .bytes) } ∷ ls) (rest-same (n + 1) (placeAfter p (contentOf commentByte (firstOf (drop at t) .bytes))))
+        ∙ (λ i. record { line = n; at = at; place = p; content = sym cut-content i } ∷ linesAt t (n + 1) (sym told i .next) (placeAfter p (sym cut-content i)))
 
     pub next-further : at < ends .next
     next-further = rw told (next-on commentByte t at h)
@@ -107,7 +107,7 @@ pub search-starts : (t : List ℕ) (n at : ℕ) → at ≤ length t → n ≤ at
 search-starts t n at h k = record { within = h; counted = k; behind = omega arith; same = λ (p : ℕ). refl }
 
 module _ (t : List ℕ) (n₀ at₀ n at : ℕ) (on : Onward t n₀ at₀ n at) where
-  pub search-ends : length t ≤ at → Finds t n₀ at₀ (record { there = false; number = n; at = at; end = at; next = at; key = 41; argument = 0 })
+  pub search-ends : length t ≤ at → Finds t n₀ at₀ (record { there = false; line = n; at = at; end = at; next = at; key = 41; argument = 0 })
   search-ends h =
       record {
         located = λ (e : false ≡ true). absurd (true≢false (sym e));
@@ -131,7 +131,7 @@ module _ (t : List ℕ) (n₀ at₀ n at : ℕ) (on : Onward t n₀ at₀ n at) 
 
     pub search-finds :
         not blank ≡ true → (bracket : Bracket) → bracket ≡ bracketOf (take (ends .content - at) (drop at t)) → (key : ℕ) → key ≡ keyIn bracket → (argument : ℕ) → argument ≡ argumentIn bracket →
-        Finds t n₀ at₀ (record { there = true; number = n; at = at; end = ends .content; next = ends .next; key = key; argument = argument })
+        Finds t n₀ at₀ (record { there = true; line = n; at = at; end = ends .content; next = ends .next; key = key; argument = argument })
     unfolding keyAt
     search-finds b bracket is-bracket key is-key argument is-argument =
         record {

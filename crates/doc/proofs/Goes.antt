@@ -71,12 +71,12 @@ pub record Moved (l : Line) (s : State) : Type 0 where
   pub met : MetBy moves
   pub is-next : lineResult (l .content) s .state ≡ next
 
-judged-zero : (k : ℕ) (next s : State) → judged k next s .number ≡ 0 → k ≡ 0
+judged-zero : (k : ℕ) (next s : State) → judged k next s .rule ≡ 0 → k ≡ 0
 unfolding judged breaks
 judged-zero k next s =
-    by-cases (judged k next s .number ≡ 0 → k ≡ 0) (eqb k 0)
-    (λ (e : eqb k 0 ≡ true) (h : judged k next s .number ≡ 0). eqb-true _ _ e)
-    (λ (e : eqb k 0 ≡ false) (h : judged k next s .number ≡ 0). ap (λ (x : Step). x .number) (sym (if-false (goes next) (breaks k s) e)) ∙ h)
+    by-cases (judged k next s .rule ≡ 0 → k ≡ 0) (eqb k 0)
+    (λ (e : eqb k 0 ≡ true) (h : judged k next s .rule ≡ 0). eqb-true _ _ e)
+    (λ (e : eqb k 0 ≡ false) (h : judged k next s .rule ≡ 0). ap (λ (x : Step). x .rule) (sym (if-false (goes next) (breaks k s) e)) ∙ h)
 
 judged-next : (k : ℕ) (next s : State) → k ≡ 0 → judged k next s .state ≡ next
 unfolding judged goes
@@ -97,7 +97,7 @@ module _ (l : Line) (s : State) where
         let h : k < 40 = keyword-known k start (l .content) b .known in
         ne-eqb _ _ (λ (e : keyOf l ≡ plain). let z : k ≡ 41 = sym key-is ∙ e in omega arith)
 
-    by-keyword : Met k s → keywordStep k (argumentFrom (l .content) start) s .number ≡ 0 → lineResult (l .content) s ≡ keywordStep k (argumentFrom (l .content) start) s → Moved l s
+    by-keyword : Met k s → keywordStep k (argumentFrom (l .content) start) s .rule ≡ 0 → lineResult (l .content) s ≡ keywordStep k (argumentFrom (l .content) start) s → Moved l s
     unfolding keywordStep
     by-keyword met h e =
         let z : keywordRule k (argumentFrom (l .content) start) s ≡ 0 = judged-zero _ _ _ h in
@@ -109,20 +109,20 @@ module _ (l : Line) (s : State) where
           is-next = ap (λ (x : Step). x .state) e ∙ judged-next _ _ _ z ∙ (λ i. keywordNext (sym key-is i) (sym argument-is i) s);
         }
 
-  by-line : keyOf l ≡ plain → lineStep (l .content) s .number ≡ 0 → lineResult (l .content) s ≡ lineStep (l .content) s → Moved l s
+  by-line : keyOf l ≡ plain → lineStep (l .content) s .rule ≡ 0 → lineResult (l .content) s ≡ lineStep (l .content) s → Moved l s
   unfolding lineStep
   by-line k h e =
       let z : lineRule (l .content) s ≡ 0 = judged-zero _ _ _ h in
       record { next = lineNext (l .content) s; moves = plainly k z; met = tt; is-next = ap (λ (x : Step). x .state) e ∙ judged-next _ _ _ z }
 
   -- by what its bracket says, in a place that reads lines
-  read-moved : ((k : ℕ) → Met k s) → (b : Bracket) → bracketOf (l .content) ≡ b → lineResult (l .content) s ≡ bracketStep b (l .content) s → bracketStep b (l .content) s .number ≡ 0 → Moved l s
+  read-moved : ((k : ℕ) → Met k s) → (b : Bracket) → bracketOf (l .content) ≡ b → lineResult (l .content) s ≡ bracketStep b (l .content) s → bracketStep b (l .content) s .rule ≡ 0 → Moved l s
   unfolding breaks keyOf keyAt
   read-moved met Plain b e h = by-line (ap keyIn b) h e
   read-moved met Indented b e h =
       by-cases (Moved l s) (isText (s .place))
-      (λ (t : isText (s .place) ≡ true). let x : bracketStep Indented (l .content) s ≡ lineStep (l .content) s = if-true _ _ t in by-line (ap keyIn b) (ap (λ (y : Step). y .number) (sym x) ∙ h) (e ∙ x))
-      (λ (t : isText (s .place) ≡ false). let x : bracketStep Indented (l .content) s ≡ breaks 6 s = if-false _ _ t in let z : _≡_ {A = ℕ} 6 0 = ap (λ (y : Step). y .number) (sym x) ∙ h in absurd (omega arith))
+      (λ (t : isText (s .place) ≡ true). let x : bracketStep Indented (l .content) s ≡ lineStep (l .content) s = if-true _ _ t in by-line (ap keyIn b) (ap (λ (y : Step). y .rule) (sym x) ∙ h) (e ∙ x))
+      (λ (t : isText (s .place) ≡ false). let x : bracketStep Indented (l .content) s ≡ breaks 6 s = if-false _ _ t in let z : _≡_ {A = ℕ} 6 0 = ap (λ (y : Step). y .rule) (sym x) ∙ h in absurd (omega arith))
   read-moved met Bad b e h = absurd (omega (arith, h))
   read-moved met Unknown b e h = absurd (omega (arith, h))
   read-moved met Later b e h = absurd (omega (arith, h))
@@ -139,7 +139,7 @@ module _ (l : Line) (s : State) where
   not-header : (k : ℕ) → keyOf l ≡ k → (k ≡ beginHeader → ⊥) → eqb (keyOf l) beginHeader ≡ false
   not-header k e h = ne-eqb _ _ (λ (x : keyOf l ≡ beginHeader). h (sym e ∙ x))
 
-  early-moved : (b : Bracket) → bracketOf (l .content) ≡ b → s .place ≡ before → lineResult (l .content) s ≡ beforeStep b (l .content) s → beforeStep b (l .content) s .number ≡ 0 → Moved l s
+  early-moved : (b : Bracket) → bracketOf (l .content) ≡ b → s .place ≡ before → lineResult (l .content) s ≡ beforeStep b (l .content) s → beforeStep b (l .content) s .rule ≡ 0 → Moved l s
   unfolding keyOf keyAt
   early-moved Plain b p e h = passed-over p (not-header 41 (ap keyIn b) (λ (x : 41 ≡ 15). omega arith)) e
   early-moved Indented b p e h = passed-over p (not-header 41 (ap keyIn b) (λ (x : 41 ≡ 15). omega arith)) e
@@ -148,10 +148,10 @@ module _ (l : Line) (s : State) where
   early-moved Later b p e h = passed-over p (not-header 40 (ap keyIn b) (λ (x : 40 ≡ 15). omega arith)) e
   early-moved (Keyword k start) b p e h =
       by-cases (Moved l s) (eqb k beginHeader)
-      (λ (t : eqb k beginHeader ≡ true). let x : beforeStep (Keyword k start) (l .content) s ≡ keywordStep k (argumentFrom (l .content) start) s = if-true _ _ t in by-keyword k start b (early-met k (eqb-true _ _ t) p) (ap (λ (y : Step). y .number) (sym x) ∙ h) (e ∙ x))
+      (λ (t : eqb k beginHeader ≡ true). let x : beforeStep (Keyword k start) (l .content) s ≡ keywordStep k (argumentFrom (l .content) start) s = if-true _ _ t in by-keyword k start b (early-met k (eqb-true _ _ t) p) (ap (λ (y : Step). y .rule) (sym x) ∙ h) (e ∙ x))
       (λ (t : eqb k beginHeader ≡ false). let x : beforeStep (Keyword k start) (l .content) s ≡ goes s = if-false _ _ t in passed-over p (not-header k (ap keyIn b) (eqb-false _ _ t)) (e ∙ x))
 
-  pub line-moves : isBlankLine (l .content) ≡ false → lineResult (l .content) s .number ≡ 0 → Moved l s
+  pub line-moves : isBlankLine (l .content) ≡ false → lineResult (l .content) s .rule ≡ 0 → Moved l s
   unfolding lineResult goes
   line-moves blank h =
       by-cases (Moved l s) (eqb (s .place) done)
@@ -160,10 +160,10 @@ module _ (l : Line) (s : State) where
       by-cases (Moved l s) (eqb (s .place) before)
       (λ (p : eqb (s .place) before ≡ true).
       let x : lineResult (l .content) s ≡ beforeStep (bracketOf (l .content)) (l .content) s = if-false _ _ blank ∙ if-false _ _ d ∙ if-true _ _ p in
-      early-moved (bracketOf (l .content)) refl (eqb-true _ _ p) x (ap (λ (y : Step). y .number) (sym x) ∙ h))
+      early-moved (bracketOf (l .content)) refl (eqb-true _ _ p) x (ap (λ (y : Step). y .rule) (sym x) ∙ h))
       (λ (p : eqb (s .place) before ≡ false).
       let x : lineResult (l .content) s ≡ bracketStep (bracketOf (l .content)) (l .content) s = if-false _ _ blank ∙ if-false _ _ d ∙ if-false _ _ p in
-      read-moved (λ (k : ℕ). record { on = eqb-false _ _ d; first = λ (f : s .place ≡ before). absurd (eqb-false _ _ p f) }) (bracketOf (l .content)) refl x (ap (λ (y : Step). y .number) (sym x) ∙ h)))
+      read-moved (λ (k : ℕ). record { on = eqb-false _ _ d; first = λ (f : s .place ≡ before). absurd (eqb-false _ _ p f) }) (bracketOf (l .content)) refl x (ap (λ (y : Step). y .rule) (sym x) ∙ h)))
 
 -- ---- places
 
@@ -207,15 +207,15 @@ refused-not-read k n c e =
     omega arith
 
 pub record Onward (n : ℕ) (r : Raw) (rs : List Raw) (s : State) (c : Counts) : Type 0 where
-  pub kept : lineResult (contentOf commentByte (r .bytes)) s .number ≡ 0
+  pub kept : lineResult (contentOf commentByte (r .bytes)) s .rule ≡ 0
   pub rest : readFrom (n + 1) rs (lineResult (contentOf commentByte (r .bytes)) s .state) ≡ Read c
 
 run-on : (n : ℕ) (r : Raw) (rs : List Raw) (s : State) (c : Counts) → readFrom n (r ∷ rs) s ≡ Read c → Onward n r rs s c
 unfolding readFrom onward
 run-on n r rs s c h =
-    by-cases (Onward n r rs s c) (eqb (lineResult (contentOf commentByte (r .bytes)) s .number) 0)
-    (λ (e : eqb (lineResult (contentOf commentByte (r .bytes)) s .number) 0 ≡ true). record { kept = eqb-true _ _ e; rest = sym (if-true _ _ e) ∙ h })
-    (λ (e : eqb (lineResult (contentOf commentByte (r .bytes)) s .number) 0 ≡ false). absurd (refused-not-read _ _ c (sym (if-false _ _ e) ∙ h)))
+    by-cases (Onward n r rs s c) (eqb (lineResult (contentOf commentByte (r .bytes)) s .rule) 0)
+    (λ (e : eqb (lineResult (contentOf commentByte (r .bytes)) s .rule) 0 ≡ true). record { kept = eqb-true _ _ e; rest = sym (if-true _ _ e) ∙ h })
+    (λ (e : eqb (lineResult (contentOf commentByte (r .bytes)) s .rule) 0 ≡ false). absurd (refused-not-read _ _ c (sym (if-false _ _ e) ∙ h)))
 
 end-done : (s : State) (c : Counts) → atEnd s ≡ Read c → (s .place ≡ done) × (s .counts ≡ c)
 unfolding atEnd
@@ -240,7 +240,7 @@ grown l s m ls c p b e = record { end = e .end; goes = more p b (m .moves) (e .g
 
 -- the lines from one line on
 abbrev lineOf : ℕ → ℕ → ℕ → Raw → Line
-lineOf n at p r = record { number = n; at = at; place = p; content = contentOf commentByte (r .bytes) }
+lineOf n at p r = record { line = n; at = at; place = p; content = contentOf commentByte (r .bytes) }
 
 module _ (n at p : ℕ) (r : Raw) (rs : List Raw) where
   pub lines-blank : isBlankLine (contentOf commentByte (r .bytes)) ≡ true → linesFrom n at p (r ∷ rs) ≡ linesFrom (n + 1) (at + length (r .bytes) + 1) p rs

@@ -578,10 +578,10 @@ module _ (t : List ℕ) where
       }) none)
       (λ (e : eqb (sayingAt l) path.saysSection ≡ false).
       by-test (Each (StepNamed t)) (eqb (sayingAt l) path.saysFork) _ _
-      (λ (e : eqb (sayingAt l) path.saysFork ≡ true). more (fork-named forkKind (l .number) (omega arith)) none)
+      (λ (e : eqb (sayingAt l) path.saysFork ≡ true). more (fork-named forkKind (l .line) (omega arith)) none)
       (λ (e : eqb (sayingAt l) path.saysFork ≡ false).
       each-if (eqb (sayingAt l) path.saysEndfork) _
-      (λ (e : eqb (sayingAt l) path.saysEndfork ≡ true). fork-named endforkKind (l .number) (omega arith)))))
+      (λ (e : eqb (sayingAt l) path.saysEndfork ≡ true). fork-named endforkKind (l .line) (omega arith)))))
 
   -- by the keyword that opens a block of the family
   family-named : (l : Line) (k : ℕ) → Written t l → takesName k ≡ true → both (isInFamily (l .place)) (eqb (keyOf l) k) ≡ true →

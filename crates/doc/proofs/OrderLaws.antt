@@ -28,13 +28,13 @@ use Rattle.doc.proofs.StandsLaws.Laid.{ended, onward}
 
 -- a line has a lower number than n, starts before `at`, and ends there or before it
 pub record Before (n at : ℕ) (l : Line) : Type 0 where
-  pub lower : l .number < n
+  pub lower : l .line < n
   pub starts : l .at < at
   pub ends : l .at + length (l .content) ≤ at
 
 -- a line has the number n or a higher one, and starts at `at` or behind it
 pub record Behind (n at : ℕ) (l : Line) : Type 0 where
-  pub higher : n ≤ l .number
+  pub higher : n ≤ l .line
   pub starts : at ≤ l .at
 
 laid-behind : {t : List ℕ} {n at : ℕ} {ls : List Line} (m a : ℕ) → m ≤ n → a ≤ at → Laid t n at ls → Each (Behind m a) ls
@@ -46,28 +46,28 @@ laid-behind m a h k (onward {l = l} end u v lies rest) =
 laid-one : {t : List ℕ} {n at : ℕ} (before after : List Line) (l : Line) → Laid t n at (before ++ (l ∷ after)) → Behind n at l
 laid-one [] after l (onward end u v lies rest) = record { higher = u; starts = v }
 laid-one (k ∷ before) after l (onward end u v lies rest) =
-    let b : Behind (k .number + 1) end l = laid-one before after l rest in
+    let b : Behind (k .line + 1) end l = laid-one before after l rest in
     let e : k .at < end = lies .further in
     record { higher = omega arith; starts = omega arith }
 
 laid-before : {t : List ℕ} {n at : ℕ} (before after : List Line) (l : Line) → Laid t n at (before ++ (l ∷ after)) →
-    Each (Before (l .number) (l .at)) before
+    Each (Before (l .line) (l .at)) before
 laid-before [] after l h = none
 laid-before (k ∷ before) after l (onward end u v lies rest) =
-    let b : Behind (k .number + 1) end l = laid-one before after l rest in
+    let b : Behind (k .line + 1) end l = laid-one before after l rest in
     let e : k .at + length (k .content) ≤ end = lies .ends in
     let f : k .at < end = lies .further in
     more {x = k} (record { lower = omega arith; starts = omega arith; ends = omega arith }) (laid-before before after l rest)
 
 laid-after : {t : List ℕ} {n at : ℕ} (before after : List Line) (l : Line) → Laid t n at (before ++ (l ∷ after)) →
-    Each (Behind (l .number + 1) (l .at + length (l .content))) after
-laid-after [] after l (onward end u v lies rest) = laid-behind (l .number + 1) (l .at + length (l .content)) (le-refl _) (lies .ends) rest
+    Each (Behind (l .line + 1) (l .at + length (l .content))) after
+laid-after [] after l (onward end u v lies rest) = laid-behind (l .line + 1) (l .at + length (l .content)) (le-refl _) (lies .ends) rest
 laid-after (k ∷ before) after l (onward end u v lies rest) = laid-after before after l rest
 
 -- a line of a text among the others: those with a lower number end before it, those with a higher one start behind its end
 pub record Sorted (before : List Line) (l : Line) (after : List Line) : Type 0 where
-  pub earlier : Each (Before (l .number) (l .at)) before
-  pub later : Each (Behind (l .number + 1) (l .at + length (l .content))) after
+  pub earlier : Each (Before (l .line) (l .at)) before
+  pub later : Each (Behind (l .line + 1) (l .at + length (l .content))) after
 
 pub lines-sorted : (t : List ℕ) (before after : List Line) (l : Line) → significant t ≡ before ++ (l ∷ after) → Sorted before l after
 unfolding significant
@@ -79,7 +79,7 @@ lines-sorted t before after l e =
 
 -- a map that this line opens is below the number n exactly where its name stands at `next` or behind it
 abbrev Tells : ℕ → ℕ → Line → Type 0
-Tells n next k = keyOf k ≡ icmPinMap → leb next (argumentOf k .start) ≡ ltb n (k .number)
+Tells n next k = keyOf k ≡ icmPinMap → leb next (argumentOf k .start) ≡ ltb n (k .line)
 
 each-tells : {P : Line → Type 0} (n next : ℕ) → ((k : Line) → P k → Tells n next k) → {ls : List Line} → Each P ls → Each (Tells n next) ls
 each-tells n next gives none = none
@@ -90,16 +90,16 @@ module _ (n at next : ℕ) (k : Line) where
   unfolding argumentOf
   before-tells h b e =
       let i : argumentIn (bracketOf (k .content)) ≤ length (k .content) = argument-in-line (k .content) _ refl in
-      let l : k .number < n = b .lower in
+      let l : k .line < n = b .lower in
       let m : k .at + length (k .content) ≤ at = b .ends in
-      lt-leb next (k .at + argumentIn (bracketOf (k .content))) (omega arith) ∙ sym (le-ltb n (k .number) (omega arith))
+      lt-leb next (k .at + argumentIn (bracketOf (k .content))) (omega arith) ∙ sym (le-ltb n (k .line) (omega arith))
 
   behind-tells : Behind (n + 1) next k → Tells n next k
   unfolding argumentOf
   behind-tells b e =
-      let l : n + 1 ≤ k .number = b .higher in
+      let l : n + 1 ≤ k .line = b .higher in
       let m : next ≤ k .at = b .starts in
-      le-leb next (k .at + argumentIn (bracketOf (k .content))) (omega arith) ∙ sym (lt-ltb n (k .number) (omega arith))
+      le-leb next (k .at + argumentIn (bracketOf (k .content))) (omega arith) ∙ sym (lt-ltb n (k .line) (omega arith))
 
 map-told : (n next : ℕ) (k : Line) (ls : List Line) → Tells n next k → Each (Tells n next) ls →
     Each (λ (m : Map). leb next (m .name .start) ≡ ltb n (m .line)) (mapAt k ls)
@@ -109,19 +109,19 @@ map-told n next k ls h hs = each-if (opensMap k) _ (λ (e : opensMap k ≡ true)
 -- of a line that was found, and has no keyword
 module _ (t : List ℕ) (before : List Line) (n at p : ℕ) (line : Found) (finds : Finds t n at line) (there : line .there ≡ true) where
   pub maps-behind : significant t ≡ before ++ linesAt t n at p → line .key ≡ plain →
-      Each (λ (m : Map). leb (line .next) (m .name .start) ≡ ltb (line .number) (m .line)) (documentOf t .maps)
+      Each (λ (m : Map). leb (line .next) (m .name .start) ≡ ltb (line .line) (m .line)) (documentOf t .maps)
   unfolding documentOf documentIn keyOf linesAt
   maps-behind e key =
       let located : Located t line = finds .located there in
       let split : significant t ≡ before ++ (lineIn t line p ∷ linesBehind t line p) =
       e ∙ ap (λ (ls : List Line). before ++ ls) (finds .same-there there p) in
-      let earlier : Each (Tells (line .number) (line .next)) before =
-      each-tells (line .number) (line .next) (λ (k : Line). before-tells (line .number) (line .at) (line .next) k (located .further))
+      let earlier : Each (Tells (line .line) (line .next)) before =
+      each-tells (line .line) (line .next) (λ (k : Line). before-tells (line .line) (line .at) (line .next) k (located .further))
       (lines-sorted t before (linesBehind t line p) (lineIn t line p) split .earlier) in
-      let own : Tells (line .number) (line .next) (lineIn t line p) =
+      let own : Tells (line .line) (line .next) (lineIn t line p) =
       λ (k : keyOf (lineIn t line p) ≡ icmPinMap). let z : _≡_ {A = ℕ} 41 14 = sym key ∙ located .key-is ∙ k in absurd (omega arith) in
-      let later : Each (Tells (line .number) (line .next)) (linesBehind t line p) =
-      each-tells (line .number) (line .next) (behind-tells (line .number) (line .at) (line .next))
-      (laid-behind (line .number + 1) (line .next) (le-refl _) (le-refl _) (laid t (line .number + 1) (line .next) _)) in
-      let all : Each (Tells (line .number) (line .next)) (significant t) = rw split (each-append earlier (more own later)) in
-      each-gather (Tells (line .number) (line .next)) mapAt (map-told (line .number) (line .next)) all
+      let later : Each (Tells (line .line) (line .next)) (linesBehind t line p) =
+      each-tells (line .line) (line .next) (behind-tells (line .line) (line .at) (line .next))
+      (laid-behind (line .line + 1) (line .next) (le-refl _) (le-refl _) (laid t (line .line + 1) (line .next) _)) in
+      let all : Each (Tells (line .line) (line .next)) (significant t) = rw split (each-append earlier (more own later)) in
+      each-gather (Tells (line .line) (line .next)) mapAt (map-told (line .line) (line .next)) all

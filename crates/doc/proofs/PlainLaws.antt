@@ -150,7 +150,7 @@ module _ {A : Type 0} (p : ℕ) (here : Line → List Line → List A) (silent :
 
 -- ---- lines gone past
 
-pub passes-none : (t : List ℕ) (n at : ℕ) → (at ≤ length t) × (n ≤ at + 1) → PassesPlain t n at (record { at = at; number = n })
+pub passes-none : (t : List ℕ) (n at : ℕ) → (at ≤ length t) × (n ≤ at + 1) → PassesPlain t n at (record { at = at; line = n })
 passes-none t n at (h, k) =
     record { onward = le-refl at; within = h; counted = k; lines = λ (p : ℕ) (e : p ≡ mapHead → ⊥). plainly-none p _ }
 
@@ -179,7 +179,7 @@ module _ (t : List ℕ) (at : ℕ) (h : at < length t) (other : getD t at 0 ≡ 
       (plainly-same p _ _ _ (plainly-one p _ _ (record { place-is = refl; key-is = line-plain }))
       (ap (linesAt t (n + 1) (ends .next)) (plain-stays p content line-plain head))))
 
-module _ (t : List ℕ) (n₀ at₀ n at : ℕ) (passes : PassesPlain t n₀ at₀ (record { at = at; number = n })) (h : at < length t) (next : ℕ)
+module _ (t : List ℕ) (n₀ at₀ n at : ℕ) (passes : PassesPlain t n₀ at₀ (record { at = at; line = n })) (h : at < length t) (next : ℕ)
     (told : next ≡ pastFeed t (runEnd (isBefore 10) t at)) where
   next-is : lineAt commentByte t at .next ≡ next
   unfolding lineAt
@@ -188,7 +188,7 @@ module _ (t : List ℕ) (n₀ at₀ n at : ℕ) (passes : PassesPlain t n₀ at�
   further : at < next
   further = rw (sym next-is) (next-further t at h n (lineAt commentByte t at) refl)
 
-  passes-on : (getD t at 0 ≡ 91 → ⊥) → PassesPlain t n₀ at₀ (record { at = next; number = n + 1 })
+  passes-on : (getD t at 0 ≡ 91 → ⊥) → PassesPlain t n₀ at₀ (record { at = next; line = n + 1 })
   passes-on other =
       let f : at < next = further in
       let a : at₀ ≤ at = passes .onward in
@@ -208,7 +208,7 @@ one-back : (t : List ℕ) (at : ℕ) → getD t (at + 1 - 1) 0 ≡ getD t at 0
 one-back t at = let e : at + 1 - 1 ≡ at = omega arith in ap (λ (k : ℕ). getD t k 0) e
 
 -- a byte of the line that starts at s
-module _ (t : List ℕ) (n₀ at₀ n s at : ℕ) (passes : PassesPlain t n₀ at₀ (record { at = s; number = n })) (h : at < length t) (within : s ≤ at)
+module _ (t : List ℕ) (n₀ at₀ n s at : ℕ) (passes : PassesPlain t n₀ at₀ (record { at = s; line = n })) (h : at < length t) (within : s ≤ at)
     (inv : runEnd (isBefore 10) t at ≡ runEnd (isBefore 10) t s) (other : getD t s 0 ≡ 91 → ⊥) where
   byte-ends : getD t at 0 ≡ 10 → Amid t n₀ at₀ (n + feedOf (getD t at 0)) (at + 1)
   byte-ends e =
@@ -255,13 +255,13 @@ amid-over t n₀ at₀ (suc k) n at h a m =
 
 -- ---- block by block
 
-pub bytes-none : (t : List ℕ) (n at : ℕ) → (at ≤ length t) × (n ≤ at + 1) → PassesBytes t n at (record { at = at; number = n })
+pub bytes-none : (t : List ℕ) (n at : ℕ) → (at ≤ length t) × (n ≤ at + 1) → PassesBytes t n at (record { at = at; line = n })
 bytes-none t n at (h, k) =
     record { onward = le-refl at; within = h; counted = k; over = λ (n₀ at₀ : ℕ) (m : Amid t n₀ at₀ n at). m }
 
-pub bytes-on : (t : List ℕ) (n at count here : ℕ) → PassesBytes t n at (record { at = here; number = count }) → 16 ≤ length t - here →
+pub bytes-on : (t : List ℕ) (n at count here : ℕ) → PassesBytes t n at (record { at = here; line = count }) → 16 ≤ length t - here →
     (closed : Bool) → closed ≡ all (isBefore 91) (take 16 (drop here t)) → not closed ≡ false → (f : ℕ) → f ≡ feeds (take 16 (drop here t)) →
-    PassesBytes t n at (record { at = here + 16; number = count + f })
+    PassesBytes t n at (record { at = here + 16; line = count + f })
 bytes-on t n at count here passes room closed told h f counted =
     let l : here + 16 ≤ length t = omega arith in
     let a : at ≤ here = passes .onward in
@@ -283,30 +283,30 @@ unfolding pastFeed
 feed-further t end = by-test (λ (n : ℕ). end ≤ n) (ltb end (length t)) _ _ (λ e. omega arith) (λ e. omega arith)
 
 module _ (t : List ℕ) (n at : ℕ) where
-  rest-past : getD t (at - 1) 0 ≡ 10 → (n₀ at₀ : ℕ) → Amid t n₀ at₀ n at → PassesPlain t n₀ at₀ (record { at = at; number = n })
+  rest-past : getD t (at - 1) 0 ≡ 10 → (n₀ at₀ : ℕ) → Amid t n₀ at₀ n at → PassesPlain t n₀ at₀ (record { at = at; line = n })
   rest-past h n₀ at₀ (ended passes e) = passes
   rest-past h n₀ at₀ (amid s passes f l inv first e) = absurd (e h)
 
-  pub rest-none : getD t (at - 1) 0 ≡ 10 → EndsLine t n at (record { at = at; number = n })
+  pub rest-none : getD t (at - 1) 0 ≡ 10 → EndsLine t n at (record { at = at; line = n })
   rest-none h = record { onward = le-refl at; past = rest-past h }
 
   module _ (h : getD t (at - 1) 0 ≡ 10 → ⊥) (next : ℕ) (told : next ≡ pastFeed t (runEnd (isBefore 10) t at)) where
-    line-ends : (n₀ at₀ : ℕ) → Amid t n₀ at₀ n at → PassesPlain t n₀ at₀ (record { at = next; number = n + 1 })
+    line-ends : (n₀ at₀ : ℕ) → Amid t n₀ at₀ n at → PassesPlain t n₀ at₀ (record { at = next; line = n + 1 })
     line-ends n₀ at₀ (ended passes e) = absurd (h e)
     line-ends n₀ at₀ (amid s passes f l inv first e) =
         let g : s < length t = omega arith in
         passes-on t n₀ at₀ n s passes g next (told ∙ ap (pastFeed t) inv) first
 
-    pub rest-line : EndsLine t n at (record { at = next; number = n + 1 })
+    pub rest-line : EndsLine t n at (record { at = next; line = n + 1 })
     rest-line = record { onward = omega (arith, told, feed-further t (runEnd (isBefore 10) t at)); past = line-ends }
 
 -- ---- line by line, and many at once
 
-module _ (t : List ℕ) (n₀ at₀ n at : ℕ) (passes : PassesPlain t n₀ at₀ (record { at = at; number = n })) (h : at < length t) (f : ℕ)
+module _ (t : List ℕ) (n₀ at₀ n at : ℕ) (passes : PassesPlain t n₀ at₀ (record { at = at; line = n })) (h : at < length t) (f : ℕ)
     (is : f ≡ feedOf (getD t at 0)) where
   module _ (mid : Passed) (bytes : PassesBytes t (n + f) (at + 1) mid) where
-    module _ (r : Passed) (ends : EndsLine t (mid .number) (mid .at) r) where
-      pub plain-on : (getD t at 0 ≡ 91 → ⊥) → PassesPlain t n₀ at₀ (record { at = r .at; number = r .number })
+    module _ (r : Passed) (ends : EndsLine t (mid .line) (mid .at) r) where
+      pub plain-on : (getD t at 0 ≡ 91 → ⊥) → PassesPlain t n₀ at₀ (record { at = r .at; line = r .line })
       plain-on other =
           let m : Amid t n₀ at₀ (n + f) (at + 1) = rw is (byte-past t n₀ at₀ n at at passes h (le-refl at) refl other) in
           ends .past n₀ at₀ (bytes .over n₀ at₀ m)
@@ -326,7 +326,7 @@ module _ (t : List ℕ) (n at p : ℕ) (f : Found) where
         same-none = λ (e : f .there ≡ false). plainly-same p _ _ _ (plainly-none p _) (finds .same-none e p);
       }
 
-  pub meets-past : (p ≡ mapHead → ⊥) → (r : Passed) → PassesPlain t n at r → Finds t (r .number) (r .at) f → Meets t n at p f
+  pub meets-past : (p ≡ mapHead → ⊥) → (r : Passed) → PassesPlain t n at r → Finds t (r .line) (r .at) f → Meets t n at p f
   meets-past head r passes finds =
       record {
         located = finds .located;

@@ -204,7 +204,7 @@ pub record Lies (t : List ℕ) (l : Line) (next : ℕ) : Type 0 where
 -- lines from the number n and the byte `at` on
 pub data Laid (t : List ℕ) : ℕ → ℕ → List Line → Type 0 where
   ended : {n at : ℕ} → Laid t n at []
-  onward : {n at : ℕ} {l : Line} {ls : List Line} (end : ℕ) → n ≤ l .number → at ≤ l .at → Lies t l end → Laid t (l .number + 1) end ls →
+  onward : {n at : ℕ} {l : Line} {ls : List Line} (end : ℕ) → n ≤ l .line → at ≤ l .at → Lies t l end → Laid t (l .line + 1) end ls →
       Laid t n at (l ∷ ls)
 
 pub laid-wider : {t : List ℕ} {ls : List Line} (m n a b : ℕ) → m ≤ n → a ≤ b → Laid t n b ls → Laid t m a ls
@@ -228,7 +228,7 @@ module _ (t : List ℕ) (n at p : ℕ) (h : at < length t) where
   abbrev content : List ℕ
   content = take (ends .content - at) (drop at t)
 
-  line-lies : Lies t (record { number = n; at = at; place = p; content = content }) (ends .next)
+  line-lies : Lies t (record { line = n; at = at; place = p; content = content }) (ends .next)
   line-lies =
       let o : at ≤ ends .content = content-ordered t at h n ends refl in
       let i : ends .content ≤ length t = content-inside t at h n ends refl in

@@ -141,13 +141,13 @@ sideIn (l ∷ ls) = if eqb (sayingAt l) path.saysSide then secondWord (wordsOf l
 unfoldable pub stepOf : Line → List Line → List Step
 stepOf l after =
     if eqb (sayingAt l) path.saysEnd
-    then record { kind = endKind; name = secondWord (wordsOf l); mult = false; amount = 0; side = sideIn after; line = l .number } ∷ [] else
+    then record { kind = endKind; name = secondWord (wordsOf l); mult = false; amount = 0; side = sideIn after; line = l .line } ∷ [] else
     if eqb (sayingAt l) path.saysSection
-    then record { kind = sectionKind; name = secondWord (rightWordsOf l); mult = isMult (l .content); amount = amountOf (l .content); side = noWord; line = l .number } ∷ [] else
+    then record { kind = sectionKind; name = secondWord (rightWordsOf l); mult = isMult (l .content); amount = amountOf (l .content); side = noWord; line = l .line } ∷ [] else
     if eqb (sayingAt l) path.saysFork
-    then record { kind = forkKind; name = noWord; mult = false; amount = 0; side = noWord; line = l .number } ∷ [] else
+    then record { kind = forkKind; name = noWord; mult = false; amount = 0; side = noWord; line = l .line } ∷ [] else
     if eqb (sayingAt l) path.saysEndfork
-    then record { kind = endforkKind; name = noWord; mult = false; amount = 0; side = noWord; line = l .number } ∷ [] else []
+    then record { kind = endforkKind; name = noWord; mult = false; amount = 0; side = noWord; line = l .line } ∷ [] else []
 
 unfoldable pub stepsIn : List Line → List Step
 stepsIn body = gather stepOf body
@@ -167,7 +167,7 @@ unfoldable pub inModel : Line → Bool
 inModel l = isInModel (l .place)
 
 unfoldable pub modelOf : Line → List Line → Model
-modelOf l body = record { name = argumentOf l; line = l .number; type = headIn newHead body .kind - 1; steps = stepsIn body }
+modelOf l body = record { name = argumentOf l; line = l .line; type = headIn newHead body .kind - 1; steps = stepsIn body }
 
 unfoldable pub modelAt : Line → List Line → List Model
 modelAt l after = if opensModel l then modelOf l (upTo inModel after) ∷ [] else []
@@ -176,7 +176,7 @@ modelAt l after = if opensModel l then modelOf l (upTo inModel after) ∷ [] els
 
 -- "one model per line, first word the name"
 unfoldable pub listedAt : Line → List Line → List Named
-listedAt l after = if standsIn place.list l then record { name = firstWord (wordsOf l); line = l .number } ∷ [] else []
+listedAt l after = if standsIn place.list l then record { name = firstWord (wordsOf l); line = l .line } ∷ [] else []
 
 -- ---- pin maps
 
@@ -194,13 +194,13 @@ gridIn m (l ∷ ls) = gridIn (if standsIn place.mapHead l then mapNext (mapLineO
 
 -- "one a line"
 unfoldable pub pinAt : Line → List Line → List Named
-pinAt l after = if standsIn place.pinList l then record { name = firstWord (wordsOf l); line = l .number } ∷ [] else []
+pinAt l after = if standsIn place.pinList l then record { name = firstWord (wordsOf l); line = l .line } ∷ [] else []
 
 unfoldable pub mapOf : Line → List Line → Map
 mapOf l body =
     record {
       name = argumentOf l;
-      line = l .number;
+      line = l .line;
       order = gridIn newMap body .order - 1;
       rows = gridIn newMap body .rows;
       columns = gridIn newMap body .columns;
@@ -279,7 +279,7 @@ matrixOf l form body =
       bandwidth = bandwidthIn body;
       conductors = conductorsIn form body;
       values = valuesFrom form 1 1 body;
-      line = l .number;
+      line = l .line;
     }
 
 unfoldable pub matrixAt : Line → List Line → List Matrix
@@ -298,7 +298,7 @@ methodIn [] = 0
 methodIn (l ∷ ls) = if eqb (keyOf l) derivationMethod then methodOf (argumentOf l .text) else methodIn ls
 
 unfoldable pub sectionOf : Line → List Line → Section
-sectionOf l body = record { name = argumentOf l; line = l .number; method = methodIn body; matrices = gather matrixAt body }
+sectionOf l body = record { name = argumentOf l; line = l .line; method = methodIn body; matrices = gather matrixAt body }
 
 unfoldable pub sectionAt : Line → List Line → List Section
 sectionAt l after = if opensSection l then sectionOf l (upTo inSection after) ∷ [] else []

@@ -17,7 +17,7 @@ use Rattle.line_place.specs.Place.{moved, movedByLine, before}
 use Rattle.read_line.specs.Reading.{argumentFrom, commentByte}
 
 pub record Line : Type 0 where
-  pub number : ℕ
+  pub line : ℕ
   pub at : ℕ
   pub place : ℕ
   pub content : List ℕ
@@ -59,7 +59,7 @@ linesFrom n at p (r ∷ rs) =
     if isBlankLine (contentOf commentByte (r .bytes))
     then linesFrom (n + 1) (at + length (r .bytes) + 1) p rs
     else
-    record { number = n; at = at; place = p; content = contentOf commentByte (r .bytes) }
+    record { line = n; at = at; place = p; content = contentOf commentByte (r .bytes) }
     ∷ linesFrom (n + 1) (at + length (r .bytes) + 1) (placeAfter p (contentOf commentByte (r .bytes))) rs
 
 -- those of a text from a byte of it on

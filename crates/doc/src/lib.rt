@@ -31,7 +31,7 @@ pub const PLAIN: u64 = 41;
 // A line that says something: its number, where it and its content end, and what its bracket says.
 pub struct Found {
     pub there: bool,
-    pub number: u64,
+    pub line: u64,
     pub at: usize,
     pub end: usize,
     pub next: usize,
@@ -42,7 +42,7 @@ pub struct Found {
 // Where lines have been gone past: where the next one starts, and its number.
 pub struct Passed {
     pub at: usize,
-    pub number: u64,
+    pub line: u64,
 }
 
 // A word of the text: where it starts, and how many bytes it has.
@@ -80,12 +80,12 @@ fn argument_in(bracket: Bracket) -> usize
 }
 
 // The first line from a byte on that says something: blank lines and comments are passed over.
-pub fn next_line(text: &[u8], at: usize, number: u64) -> Found
-    requires { ⌜ (at ≤ length (now text)) × (number ≤ at + 1) ⌝ }
-    ensures { λ r. ⌜ Finds (now (text .entry)) number at r ⌝ }
+pub fn next_line(text: &[u8], at: usize, line: u64) -> Found
+    requires { ⌜ (at ≤ length (now text)) × (line ≤ at + 1) ⌝ }
+    ensures { λ r. ⌜ Finds (now (text .entry)) line at r ⌝ }
 {
     let mut here = at;
-    let mut line = number;
+    let mut line_here = line;
     while here < text.len() {
         let ends = lex_line::line_at(text, here, COMMENT);
         let end = ends.content;
@@ -93,7 +93,7 @@ pub fn next_line(text: &[u8], at: usize, number: u64) -> Found
             let bracket = lex_keyword::read_bracket(&text[here..end]);
             return Found {
                 there: true,
-                number: line,
+                line: line_here,
                 at: here,
                 end,
                 next: ends.next,
@@ -102,11 +102,11 @@ pub fn next_line(text: &[u8], at: usize, number: u64) -> Found
             };
         }
         here = ends.next;
-        line += 1;
+        line_here += 1;
     }
     Found {
         there: false,
-        number: line,
+        line: line_here,
         at: here,
         end: here,
         next: here,
@@ -115,7 +115,7 @@ pub fn next_line(text: &[u8], at: usize, number: u64) -> Found
     }
 }
 
-// Where the line behind the one at a byte starts. What the line says is not looked at.
+// Where the line_here behind the one at a byte starts. What the line_here says is not looked at.
 fn past_line(text: &[u8], at: usize) -> usize
     ensures { λ r. ⌜ r ≡ pastFeed (now (text .entry)) (runEnd (isBefore 10) (now (text .entry)) at) ⌝ }
 {
@@ -145,17 +145,17 @@ fn is_closed(text: &[u8], from: usize) -> bool
 }
 
 // Past all blocks from a byte on that have no `[`: no line starts with one there. The last of these lines may go on behind them.
-fn past_blocks(text: &[u8], at: usize, number: u64) -> Passed
-    requires { ⌜ (at ≤ length (now text)) × (number ≤ at + 1) ⌝ }
-    ensures { λ r. ⌜ PassesBytes (now (text .entry)) number at r ⌝ }
+fn past_blocks(text: &[u8], at: usize, line: u64) -> Passed
+    requires { ⌜ (at ≤ length (now text)) × (line ≤ at + 1) ⌝ }
+    ensures { λ r. ⌜ PassesBytes (now (text .entry)) line at r ⌝ }
 {
     let mut here = at;
-    let mut count = number;
+    let mut count = line;
     while BLOCK <= text.len() - here {
         if !is_closed(text, here) {
             return Passed {
                 at: here,
-                number: count,
+                line: count,
             };
         }
         count += lex_line::feeds_in(text, here) as u64;
@@ -163,60 +163,60 @@ fn past_blocks(text: &[u8], at: usize, number: u64) -> Passed
     }
     Passed {
         at: here,
-        number: count,
+        line: count,
     }
 }
 
 // What is left of the line before a byte: nothing where that one is an LF.
-fn past_rest(text: &[u8], at: usize, number: u64) -> Passed
-    requires { ⌜ (1 ≤ at) × (at ≤ length (now text)) × (number ≤ at + 1) ⌝ }
-    ensures { λ r. ⌜ EndsLine (now (text .entry)) number at r ⌝ }
+fn past_rest(text: &[u8], at: usize, line: u64) -> Passed
+    requires { ⌜ (1 ≤ at) × (at ≤ length (now text)) × (line ≤ at + 1) ⌝ }
+    ensures { λ r. ⌜ EndsLine (now (text .entry)) line at r ⌝ }
 {
     if text[at - 1] == LINE_FEED {
-        return Passed { at, number };
+        return Passed { at, line };
     }
     Passed {
         at: past_line(text, at),
-        number: number + 1,
+        line: line + 1,
     }
 }
 
 // Past the lines from a byte on that do not start with `[`: none of them has a keyword. A bracket behind blanks is none either.
-pub fn past_plain(text: &[u8], at: usize, number: u64) -> Passed
-    requires { ⌜ (at ≤ length (now text)) × (number ≤ at + 1) ⌝ }
-    ensures { λ r. ⌜ PassesPlain (now (text .entry)) number at r ⌝ }
+pub fn past_plain(text: &[u8], at: usize, line: u64) -> Passed
+    requires { ⌜ (at ≤ length (now text)) × (line ≤ at + 1) ⌝ }
+    ensures { λ r. ⌜ PassesPlain (now (text .entry)) line at r ⌝ }
 {
     let mut here = at;
-    let mut count = number;
+    let mut count = line;
     while here < text.len() {
         let first = text[here];
         if first == OPEN {
             return Passed {
                 at: here,
-                number: count,
+                line: count,
             };
         }
         let mid = past_blocks(text, here + 1, count + (lex_line::feed_of(first) as u64));
-        let passed = past_rest(text, mid.at, mid.number);
+        let passed = past_rest(text, mid.at, mid.line);
         here = passed.at;
-        count = passed.number;
+        count = passed.line;
     }
     Passed {
         at: here,
-        number: count,
+        line: count,
     }
 }
 
 // The next line where keywords alone are looked for. In the head of a map a line without one leads on too, so none is gone past there.
-pub fn next_keyed(text: &[u8], at: usize, number: u64, place: u64) -> Found
-    requires { ⌜ (at ≤ length (now text)) × (number ≤ at + 1) ⌝ }
-    ensures { λ r. ⌜ Meets (now (text .entry)) number at place r ⌝ }
+pub fn next_keyed(text: &[u8], at: usize, line: u64, place: u64) -> Found
+    requires { ⌜ (at ≤ length (now text)) × (line ≤ at + 1) ⌝ }
+    ensures { λ r. ⌜ Meets (now (text .entry)) line at place r ⌝ }
 {
     if place == line_place::MAP_HEAD {
-        return next_line(text, at, number);
+        return next_line(text, at, line);
     }
-    let passed = past_plain(text, at, number);
-    next_line(text, passed.at, passed.number)
+    let passed = past_plain(text, at, line);
+    next_line(text, passed.at, passed.line)
 }
 
 // Where a line leads from a place. Without a keyword it leads on only in the head of a map: elsewhere its words are not looked at.

@@ -37,9 +37,9 @@ fn print_room(room: &[u8], length: usize) {
     io::write_all(1, &room[..length]);
 }
 
-fn print_refusal(number: u64, line: u64) {
+fn print_refusal(rule: u64, line: u64) {
     let mut room = [0u8; 64];
-    let length = out_listing::write_refusal(number, line, &mut room);
+    let length = out_listing::write_refusal(rule, line, &mut room);
     print_room(&room, length);
 }
 
@@ -59,7 +59,7 @@ fn print_line(what: &[u8], word: &[u8]) {
 fn print_entry(answer: ask_entry::Answer) {
     match answer {
         ask_entry::Answer::Found(word) => print_value(word),
-        ask_entry::Answer::Refused(number) => print_refusal(number, 0),
+        ask_entry::Answer::Refused(rule) => print_refusal(rule, 0),
     }
 }
 
@@ -191,7 +191,7 @@ fn take_in(text: &[u8]) {
     let mut table = table_room();
     match intake::intake(text, &mut table) {
         Answer::Accepted(words) => answer(text, &table),
-        Answer::Refused(number, line) => print_refusal(number, line),
+        Answer::Refused(rule, line) => print_refusal(rule, line),
     }
 }
 

@@ -34,9 +34,9 @@ fn print_listing(text: &[u8], table: &[u64], words: usize) {
     print_room(&room, length);
 }
 
-fn print_refusal(number: u64, line: u64) {
+fn print_refusal(rule: u64, line: u64) {
     let mut room = [0u8; 64];
-    let length = out_listing::write_refusal(number, line, &mut room);
+    let length = out_listing::write_refusal(rule, line, &mut room);
     print_room(&room, length);
 }
 
@@ -44,7 +44,7 @@ fn list(text: &[u8]) {
     let mut table = table_room();
     match intake::intake(text, &mut table) {
         Answer::Accepted(words) => print_listing(text, &table, words),
-        Answer::Refused(number, line) => print_refusal(number, line),
+        Answer::Refused(rule, line) => print_refusal(rule, line),
     }
 }
 

@@ -45,9 +45,9 @@ fn print_room(room: &[u8], length: usize) {
     io::write_all(1, &room[..length]);
 }
 
-fn print_refusal(number: u64, line: u64) {
+fn print_refusal(rule: u64, line: u64) {
     let mut room = [0u8; 64];
-    let length = out_listing::write_refusal(number, line, &mut room);
+    let length = out_listing::write_refusal(rule, line, &mut room);
     print_room(&room, length);
 }
 
@@ -102,8 +102,8 @@ fn step_from(text: &[u8], table: &[u64], first: u64, here: Place) -> Reached {
             goes_on: false,
             place,
         },
-        Walked::Refused(number) => {
-            print_refusal(number, 0);
+        Walked::Refused(rule) => {
+            print_refusal(rule, 0);
             Reached {
                 goes_on: false,
                 place: here,
@@ -171,7 +171,7 @@ fn take_in(text: &[u8]) {
     let mut table = table_room();
     match intake::intake(text, &mut table) {
         Answer::Accepted(words) => answer(text, &table),
-        Answer::Refused(number, line) => print_refusal(number, line),
+        Answer::Refused(rule, line) => print_refusal(rule, line),
     }
 }
 

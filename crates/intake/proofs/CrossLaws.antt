@@ -7,38 +7,38 @@ use native.Mathlib.Nat.{le-of-lt}
 use Rattle.doc.specs.Document.{documentOf}
 use Rattle.cross_rules.specs.Rules.{listFindings, modelFindings, mapFindings, sectionFindings, earlier, crossRule}
 use Rattle.cross_rules.specs.Way.First.{firstIn}
-use Rattle.cross_rules.specs.Way.Filled.{HoldsText}
+use Rattle.cross_rules.specs.Way.HoldsText.{HoldsText}
 use Rattle.cross_rules.specs.declared.Finding.{Finding}
 use Rattle.cross_rules.proofs.KindLaws.{by-kinds, earlier-second, earlier-first, earlier-lower}
 use Rattle.cross_rules.proofs.ListLaws.{list-first}
 
 module _ (a b : Finding) where
-  pub second-stays : a .number ≡ 0 → b ≡ earlier a b
+  pub second-stays : a .rule ≡ 0 → b ≡ earlier a b
   second-stays e = sym (earlier-second a b e)
 
-  module _ (n : a .number ≡ 0 → ⊥) where
-    pub first-alone : b .number ≡ 0 → a ≡ earlier a b
+  module _ (n : a .rule ≡ 0 → ⊥) where
+    pub first-alone : b .rule ≡ 0 → a ≡ earlier a b
     first-alone e = sym (earlier-first a b n (λ m. absurd (m e)))
 
-    pub second-above : (b .number ≡ 0 → ⊥) → b .line < a .line → b ≡ earlier a b
+    pub second-above : (b .rule ≡ 0 → ⊥) → b .line < a .line → b ≡ earlier a b
     second-above m l = sym (earlier-lower a b n m l)
 
     pub first-above : a .line ≤ b .line → a ≡ earlier a b
     first-above l = sym (earlier-first a b n (λ m. l))
 
 module _ (t table : List ℕ) (filled : HoldsText t table) (number line : ℕ) (maps : Finding)
-    (list-is : record { number = number; line = line } ≡ firstIn (listFindings (documentOf t)))
+    (list-is : record { rule = number; line = line } ≡ firstIn (listFindings (documentOf t)))
     (maps-are : maps ≡ firstIn (mapFindings (documentOf t) (documentOf t .maps))) where
   abbrev list : Finding
-  list = record { number = number; line = line }
+  list = record { rule = number; line = line }
 
-  number-is : number ≡ firstIn (listFindings (documentOf t)) .number
-  number-is = ap (λ (f : Finding). f .number) list-is
+  number-is : number ≡ firstIn (listFindings (documentOf t)) .rule
+  number-is = ap (λ (f : Finding). f .rule) list-is
 
   pub with-the-list : (number ≡ 0 → ⊥) → (r : Finding) → r ≡ earlier list maps → r ≡ crossRule (documentOf t)
   with-the-list n r e =
       e ∙ (λ i. earlier (list-is i) (maps-are i))
-      ∙ sym (list-first t (filled .counts) (filled .reads) (λ (z : firstIn (listFindings (documentOf t)) .number ≡ 0). n (number-is ∙ z)))
+      ∙ sym (list-first t (filled .counts) (filled .reads) (λ (z : firstIn (listFindings (documentOf t)) .rule ≡ 0). n (number-is ∙ z)))
 
   pub without-the-list :
       number ≡ 0 → (models sections below r : Finding) →

@@ -19,14 +19,14 @@ use Rattle.read_line.specs.declared.Reading.{Reading}
 use Rattle.read_line.specs.declared.Reading.the-variants as reading
 use Rattle.doc.specs.Document.{documentOf}
 use Rattle.doc.specs.Records.{tableOf}
-use Rattle.intake.specs.Filled as filled
-use Rattle.intake.specs.Filled.{afterReading, filledOf}
-use Rattle.intake.specs.declared.fill.Filled as filling
-use Rattle.intake.specs.declared.fill.Filled.the-variants.{Stored, Refused}
+use Rattle.intake.specs.Stored as filled
+use Rattle.intake.specs.Stored.{afterReading, storeAnswer}
+use Rattle.intake.specs.declared.store.StoreAnswer as filling
+use Rattle.intake.specs.declared.store.StoreAnswer.the-variants.{Stored, Refused}
 use Rattle.cross_rules.specs.Rules.{crossRule}
-use Rattle.cross_rules.specs.Way.Filled.{HoldsText}
+use Rattle.cross_rules.specs.Way.HoldsText.{HoldsText}
 use Rattle.cross_rules.specs.declared.Finding.{Finding}
-use Rattle.intake.specs.Verdict.{Outcome, acceptedWith, refusedBy, crossed, afterFilling, afterBytes, verdictOf, tableFor}
+use Rattle.intake.specs.Verdict.{Outcome, acceptedWith, refusedBy, crossed, afterStoring, afterBytes, verdictOf, tableFor}
 
 -- ---- the table
 
@@ -42,10 +42,10 @@ module _ (t : List ℕ) (size : ℕ) where
 -- ---- 19 to 27
 
 module _ (t : List ℕ) (words : ℕ) (finding : Finding) (is : finding ≡ crossRule (documentOf t)) where
-  pub crossed-broken : (finding .number ≡ 0 → ⊥) → refusedBy (finding .number) (finding .line) ≡ crossed words (crossRule (documentOf t))
+  pub crossed-broken : (finding .rule ≡ 0 → ⊥) → refusedBy (finding .rule) (finding .line) ≡ crossed words (crossRule (documentOf t))
   crossed-broken n = sym (if-false _ _ (ne-eqb _ _ n)) ∙ ap (crossed words) is
 
-  pub crossed-kept : finding .number ≡ 0 → acceptedWith words ≡ crossed words (crossRule (documentOf t))
+  pub crossed-kept : finding .rule ≡ 0 → acceptedWith words ≡ crossed words (crossRule (documentOf t))
   crossed-kept e = sym (if-true _ _ (eq-eqb _ _ e)) ∙ ap (crossed words) is
 
 pub table-kept : (t table : List ℕ) → HoldsText t table → (words : ℕ) → table ≡ tableFor t (length table) (acceptedWith words)
@@ -89,11 +89,11 @@ module _ (t : List ℕ) (size words : ℕ) where
   stored-by (reading.Read counts) r e = reads-by counts r e
   stored-by (reading.Refused number line) r e = absurd (not-stored number line words e)
 
-  pub stored-reads : filledOf t size ≡ Stored words → Reads t size words
-  unfolding filledOf
+  pub stored-reads : storeAnswer t size ≡ Stored words → Reads t size words
+  unfolding storeAnswer
   stored-reads e = stored-by (readingOf t) refl e
 
-module _ (t table : List ℕ) (size : ℕ) (answer : filling.Filled) (is : answer ≡ filledOf t size) (holds : table ≡ filled.tableFor t size answer) where
+module _ (t table : List ℕ) (size : ℕ) (answer : filling.Filled) (is : answer ≡ storeAnswer t size) (holds : table ≡ filled.tableFor t size answer) where
   module _ (words : ℕ) (e : answer ≡ Stored words) where
     reads : Reads t size words
     reads = stored-reads t size words (sym is ∙ e)
@@ -110,15 +110,15 @@ module _ (t table : List ℕ) (size : ℕ) (answer : filling.Filled) (is : answe
     pub stored-holds : HoldsText t table
     stored-holds = record { counts = reads .counts; reads = reads .reads; words = rw long laid }
 
-    pub stored-outcome : (o : Outcome) → o ≡ crossed words (crossRule (documentOf t)) → o ≡ afterFilling t (filledOf t size)
-    stored-outcome o h = h ∙ ap (afterFilling t) (sym e ∙ is)
+    pub stored-outcome : (o : Outcome) → o ≡ crossed words (crossRule (documentOf t)) → o ≡ afterStoring t (storeAnswer t size)
+    stored-outcome o h = h ∙ ap (afterStoring t) (sym e ∙ is)
 
     pub stored-table : (after : List ℕ) (o : Outcome) → after ≡ tableFor t (length table) o → after ≡ tableFor t size o
     stored-table after o h = h ∙ ap (λ (n : ℕ). tableFor t n o) long
 
   module _ (number line : ℕ) (e : answer ≡ Refused number line) where
-    pub refused-outcome : refusedBy number line ≡ afterFilling t (filledOf t size)
-    refused-outcome = ap (afterFilling t) (sym e ∙ is)
+    pub refused-outcome : refusedBy number line ≡ afterStoring t (storeAnswer t size)
+    refused-outcome = ap (afterStoring t) (sym e ∙ is)
 
     pub refused-table : table ≡ tableFor t size (refusedBy number line)
     refused-table = holds ∙ ap (filled.tableFor t size) e ∙ sym (zeros-refused t size number line)
@@ -126,7 +126,7 @@ module _ (t table : List ℕ) (size : ℕ) (answer : filling.Filled) (is : answe
 -- ---- 1 to 4
 
 module _ (t : List ℕ) (size : ℕ) (checked : text.Checked) (is : checked ≡ byteRules t) where
-  pub fine-outcome : checked ≡ bytes.Fine → (o : Outcome) → o ≡ afterFilling t (filledOf t size) → o ≡ verdictOf t size
+  pub fine-outcome : checked ≡ bytes.Fine → (o : Outcome) → o ≡ afterStoring t (storeAnswer t size) → o ≡ verdictOf t size
   unfolding verdictOf
   fine-outcome e o h = h ∙ ap (afterBytes t size) (sym e ∙ is)
 

@@ -33,10 +33,10 @@ use Rattle.store_sections.specs.Way.Sections.{sectionsOf, sectionsLeft}
 use Rattle.store_steps.specs.Way.Steps.{lowOf, Aims}
 use Rattle.store_models.specs.Way.Models.{modelsOf}
 use Rattle.read_text.specs.Way.Forward.{Carries}
-use Rattle.intake.specs.Filled.{afterReading, filledOf}
-use Rattle.intake.specs.Way.Filled.{tableAfterStoring, Lifted}
-use Rattle.intake.specs.declared.fill.Filled.{Filled}
-use Rattle.intake.specs.declared.fill.Filled.the-variants.{Stored, Refused}
+use Rattle.intake.specs.Stored.{afterReading, storeAnswer}
+use Rattle.intake.specs.Way.Stored.{tableAfterStoring, Lifted}
+use Rattle.intake.specs.declared.store.StoreAnswer.{StoreAnswer}
+use Rattle.intake.specs.declared.store.StoreAnswer.the-variants.{Stored, Refused}
 use Rattle.intake.proofs.FillLaws.{start-long, layout-long, maps-fit, seven-maps, sections-fit, seven-blocks, models-fit, aims, all-filled}
 use Rattle.intake.proofs.NoteLaws.{noted-opened, noted-moved}
 
@@ -106,7 +106,7 @@ module _ (t : List ℕ) (c : Counts) (reads : readingOf t ≡ reading.Read c) wh
           (rw (is-f, is-table) (noted-opened c t before notes room noted))
 
       pub sections-ready : (notes : List ℕ) → Noted t before notes (needed widths (countsOf c) - 3 * c .values) 0 →
-          Placed t (w .number) (w .at)
+          Placed t (w .line) (w .at)
           × (length (w .filling .counts) ≡ 7)
           × filling.Fits (length t₁) (w .filling) (sectionsOf (w .filling) (sectionsLeft t w))
           × Noted t t₁ notes (getD (w .filling .bases) 6 0) (getD (w .filling .counts) 6 0)
@@ -140,12 +140,12 @@ module _ (t : List ℕ) (c : Counts) (reads : readingOf t ≡ reading.Read c) wh
     words-are : words ≡ length (tableOf t)
     words-are = is-words ∙ needed-is
 
-    pub no-room : size < words → Refused 18 0 ≡ filledOf t size
-    unfolding filledOf
+    pub no-room : size < words → Refused 18 0 ≡ storeAnswer t size
+    unfolding storeAnswer
     no-room h = sym (ap (afterReading t size) reads ∙ if-true _ _ (lt-ltb _ _ (rw words-are at h)))
 
-    pub has-room : words ≤ size → Stored words ≡ filledOf t size
-    unfolding filledOf
+    pub has-room : words ≤ size → Stored words ≡ storeAnswer t size
+    unfolding storeAnswer
     has-room h = ap Stored words-are ∙ sym (ap (afterReading t size) reads ∙ if-false _ _ (le-ltb _ _ (rw words-are at h)))
 
 -- ---- what the code that stores has to show
@@ -156,7 +156,7 @@ module _ (t : List ℕ) (c : Counts) (reads : readingOf t ≡ reading.Read c) (t
   words-for = is-words ∙ ap (needed widths) is-many
 
   pub store-refused : length table < words → (zeros : List ℕ) → zeros ≡ replicate (length table) 0 →
-      (Refused 18 0 ≡ filledOf t (length table)) × (zeros ≡ tableAfterStoring t (length table) (Refused 18 0))
+      (Refused 18 0 ≡ storeAnswer t (length table)) × (zeros ≡ tableAfterStoring t (length table) (Refused 18 0))
   store-refused h zeros e = (no-room t c reads (length table) words words-for h, e)
 
   -- the words of the values are among those needed
@@ -203,7 +203,7 @@ module _ (t : List ℕ) (c : Counts) (reads : readingOf t ≡ reading.Read c) (t
       )
 
       pub store-filled : (table' : List ℕ) → table' ≡ tableOf t ++ replicate (length moved - length (tableOf t)) 0 →
-          (Stored words ≡ filledOf t (length table)) × (table' ≡ tableAfterStoring t (length table) (Stored words))
+          (Stored words ≡ storeAnswer t (length table)) × (table' ≡ tableAfterStoring t (length table) (Stored words))
       store-filled table' e = (has-room t c reads (length table) words words-for roomy, rw moved-long at e)
 
 -- what the forward reading answered is what the text comes to
@@ -214,14 +214,14 @@ module _ (t : List ℕ) (answer : Reading) (told : answer ≡ readingOf t) where
       (readingOf t ≡ reading.Read c) × Noted t table notes 0 0 × Before notes (c .values)
   store-ready table notes carries c e = (sym told ∙ e, carries c e .noted, carries c e .before)
 
-  pub not-read : (size number line : ℕ) → answer ≡ reading.Refused number line → Refused number line ≡ filledOf t size
-  unfolding filledOf
+  pub not-read : (size number line : ℕ) → answer ≡ reading.Refused number line → Refused number line ≡ storeAnswer t size
+  unfolding storeAnswer
   not-read size number line e = ap (afterReading t size) (sym e ∙ told)
 
 -- and the table is as long as before
 module _ (size before : ℕ) (same : size ≡ before) where
-  pub told-before : (t table : List ℕ) (r : Filled) → (r ≡ filledOf t size) × (table ≡ tableAfterStoring t size r) →
-      (r ≡ filledOf t before) × (table ≡ tableAfterStoring t before r)
+  pub told-before : (t table : List ℕ) (r : StoreAnswer) → (r ≡ storeAnswer t size) × (table ≡ tableAfterStoring t size r) →
+      (r ≡ storeAnswer t before) × (table ≡ tableAfterStoring t before r)
   told-before t table r e = rw same at e
 
   pub zeros-before : (table : List ℕ) → table ≡ replicate size 0 → table ≡ replicate before 0

@@ -1,3 +1,3 @@
 pub mod Verdict
-pub mod Filled
+pub mod Stored
 pub mod Way

@@ -12,9 +12,9 @@ use Rattle.lex_line.specs.declared.Checked.{Checked}
 use Rattle.lex_line.specs.declared.Checked.the-variants as bytes
 use Rattle.doc.specs.Document.{documentOf}
 use Rattle.doc.specs.Records.{tableOf}
-use Rattle.intake.specs.Filled.{filledOf}
-use Rattle.intake.specs.declared.fill.Filled.{Filled}
-use Rattle.intake.specs.declared.fill.Filled.the-variants as filling
+use Rattle.intake.specs.Stored.{storeAnswer}
+use Rattle.intake.specs.declared.store.StoreAnswer.{StoreAnswer}
+use Rattle.intake.specs.declared.store.StoreAnswer.the-variants as filling
 use Rattle.cross_rules.specs.Rules.{crossRule}
 use Rattle.cross_rules.specs.declared.Finding.{Finding}
 use Rattle.intake.specs.declared.Answer.{Answer}
@@ -23,34 +23,34 @@ use Rattle.intake.specs.declared.Answer.the-variants.{Accepted, Refused}
 -- "accepted with words used, or number and line"
 pub record Outcome : Type 0 where
   pub accepted : Bool
-  pub number : ℕ
+  pub rule : ℕ
   pub line : ℕ
   pub used : ℕ
 
 abbrev pub acceptedWith : ℕ → Outcome
-acceptedWith words = record { accepted = true; number = 0; line = 0; used = words }
+acceptedWith words = record { accepted = true; rule = 0; line = 0; used = words }
 
 abbrev pub refusedBy : ℕ → ℕ → Outcome
-refusedBy number line = record { accepted = false; number = number; line = line; used = 0 }
+refusedBy rule line = record { accepted = false; rule = rule; line = line; used = 0 }
 
 -- the paper's number, line and words used for each case of the answer
 abbrev pub answerWords : Answer → Outcome
 answerWords (Accepted words) = acceptedWith words
-answerWords (Refused number line) = refusedBy number line
+answerWords (Refused rule line) = refusedBy rule line
 
 -- 19 to 27: a text that is stored in so many words, and what it breaks first of them
 abbrev pub crossed : ℕ → Finding → Outcome
-crossed words finding = if eqb (finding .number) 0 then acceptedWith words else refusedBy (finding .number) (finding .line)
+crossed words finding = if eqb (finding .rule) 0 then acceptedWith words else refusedBy (finding .rule) (finding .line)
 
 -- 5 to 18 have come to this
-abbrev pub afterFilling : List ℕ → Filled → Outcome
-afterFilling t (filling.Stored words) = crossed words (crossRule (documentOf t))
-afterFilling t (filling.Refused number line) = refusedBy number line
+abbrev pub afterStoring : List ℕ → StoreAnswer → Outcome
+afterStoring t (filling.Stored words) = crossed words (crossRule (documentOf t))
+afterStoring t (filling.Refused rule line) = refusedBy rule line
 
 -- 1 to 4 have come to this
 abbrev pub afterBytes : List ℕ → ℕ → Checked → Outcome
-afterBytes t size bytes.Fine = afterFilling t (filledOf t size)
-afterBytes t size (bytes.Refused number line) = refusedBy number line
+afterBytes t size bytes.Fine = afterStoring t (storeAnswer t size)
+afterBytes t size (bytes.Refused rule line) = refusedBy rule line
 
 -- for a table of so many words
 unfoldable pub verdictOf : List ℕ → ℕ → Outcome

@@ -2,17 +2,17 @@
 ghost use mathlib.Core.Path.{_≡_};
 ghost use Rattle.doc.specs.Document.{documentOf};
 ghost use Rattle.cross_rules.specs.Rules.{earlier, crossRule};
-ghost use Rattle.cross_rules.specs.Way.Filled.{HoldsText};
+ghost use Rattle.cross_rules.specs.Way.HoldsText.{HoldsText};
 use cross_rules::Finding;
 
 // The earlier of two, one that breaks nothing never.
 fn earlier_of(a: Finding, b: Finding) -> Finding
     ensures { λ r. ⌜ r ≡ earlier a b ⌝ }
 {
-    if a.number == 0 {
+    if a.rule == 0 {
         return b;
     }
-    if b.number == 0 {
+    if b.rule == 0 {
         return a;
     }
     if b.line < a.line {
@@ -30,9 +30,9 @@ pub fn cross_finding(text: &[u8], table: &[u64]) -> Finding
     let view = table_layout::view_of(table);
     let list = cross_names::list::list_finding(text, table, view);
     let maps = cross_names::maps::map_finding(text, table, view);
-    if list.number != 0 {
+    if list.rule != 0 {
         let first = Finding {
-            number: list.number,
+            rule: list.rule,
             line: list.line,
         };
         return earlier_of(first, maps);

@@ -2,14 +2,14 @@
 ghost use mathlib.Core.Path.{_≡_};
 ghost use lib.ListN.{length};
 ghost use Rattle.doc.specs.Document.{documentOf};
-ghost use Rattle.intake.specs.Filled.{filledOf};
+ghost use Rattle.intake.specs.Stored.{storeAnswer};
 ghost use Rattle.cross_rules.specs.Rules.{crossRule};
-ghost use Rattle.cross_rules.specs.Way.Filled.{HoldsText};
-ghost use Rattle.intake.specs.Verdict.{answerWords, crossed, afterFilling, verdictOf, tableFor};
+ghost use Rattle.cross_rules.specs.Way.HoldsText.{HoldsText};
+ghost use Rattle.intake.specs.Verdict.{answerWords, crossed, afterStoring, verdictOf, tableFor};
 use lex_line::Checked;
 
 pub mod cross;
-pub mod fill;
+pub mod store;
 
 // Accepted with the words used, or refused by a rule at a line.
 pub enum Answer {
@@ -23,20 +23,20 @@ fn judge(text: &[u8], table: &mut [u64], words: usize) -> Answer
     ensures { λ r. ⌜ (answerWords r ≡ crossed words (crossRule (documentOf (now (text .entry))))) × (now (table .exit) ≡ tableFor (now (text .entry)) (length (now (table .entry))) (answerWords r)) ⌝ }
 {
     let finding = cross::cross_finding(text, table);
-    if finding.number != 0 {
+    if finding.rule != 0 {
         base::zero_all(table);
-        return Answer::Refused(finding.number, finding.line);
+        return Answer::Refused(finding.rule, finding.line);
     }
     Answer::Accepted(words)
 }
 
 // Rules 5 to 27 over a text whose bytes and lines are right.
 fn take(text: &[u8], table: &mut [u64]) -> Answer
-    ensures { λ r. ⌜ (answerWords r ≡ afterFilling (now (text .entry)) (filledOf (now (text .entry)) (length (now (table .entry))))) × (now (table .exit) ≡ tableFor (now (text .entry)) (length (now (table .entry))) (answerWords r)) ⌝ }
+    ensures { λ r. ⌜ (answerWords r ≡ afterStoring (now (text .entry)) (storeAnswer (now (text .entry)) (length (now (table .entry))))) × (now (table .exit) ≡ tableFor (now (text .entry)) (length (now (table .entry))) (answerWords r)) ⌝ }
 {
-    match fill::fill_table(text, table) {
-        fill::HoldsText::Stored(words) => judge(text, table, words),
-        fill::HoldsText::Refused(number, line) => Answer::Refused(number, line),
+    match store::store_text(text, table) {
+        store::StoreAnswer::Stored(words) => judge(text, table, words),
+        store::StoreAnswer::Refused(rule, line) => Answer::Refused(rule, line),
     }
 }
 
@@ -46,9 +46,9 @@ pub fn intake(text: &[u8], table: &mut [u64]) -> Answer
 {
     match lex_line::check_bytes(text) {
         Checked::Fine => take(text, table),
-        Checked::Refused(number, line) => {
+        Checked::Refused(rule, line) => {
             base::zero_all(table);
-            Answer::Refused(number, line)
+            Answer::Refused(rule, line)
         }
     }
 }

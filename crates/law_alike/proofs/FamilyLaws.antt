@@ -304,7 +304,7 @@ module _ (p : ℕ) (head : p ≡ place.head → ⊥) (path-not : p ≡ place.pat
       let q : l .place ≡ p = stands-place p l e in
       first-said l ∙ ap firstOf (words-same (l .place) (l .content) (m .content) (same-plain l m s p e) (λ (h : l .place ≡ place.head). head (sym q ∙ h)) (λ (h : l .place ≡ place.path). path-not (sym q ∙ h)) (λ (h : l .place ≡ place.mapHead). map-not (sym q ∙ h))) ∙ sym (first-said m)
 
-  named-alike : All2 SameNamed (if standsIn p l then record { name = firstWord (wordsOf l); line = l .number } ∷ [] else []) (if standsIn p m then record { name = firstWord (wordsOf m); line = m .number } ∷ [] else [])
+  named-alike : All2 SameNamed (if standsIn p l then record { name = firstWord (wordsOf l); line = l .line } ∷ [] else []) (if standsIn p m then record { name = firstWord (wordsOf m); line = m .line } ∷ [] else [])
   named-alike = all2-choice (standsIn p l) (standsIn p m) (stands-same l m s p) _ _ _ _ (λ (e : standsIn p l ≡ true). all2-more (record { name = name-same e }) all2-none) (λ e. all2-none)
 
 listed-same : (l m : Line) (ls ms : List Line) → SameLine l m → AlikeLines ls ms → All2 SameNamed (listedAt l ls) (listedAt m ms)

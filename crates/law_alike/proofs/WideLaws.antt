@@ -72,7 +72,7 @@ placeBehind p [] = p
 placeBehind p (r ∷ rs) = placeBehind (if isBlankLine (contentIn r) then p else placeAfter p (contentIn r)) rs
 
 abbrev pub lineAs : ℕ → ℕ → ℕ → Raw → Line
-lineAs n at p r = record { number = n; at = at; place = p; content = contentIn r }
+lineAs n at p r = record { line = n; at = at; place = p; content = contentIn r }
 
 -- so many lines of a text are those of a matrix, read from a place, and the next one is not
 pub record Ends (p : ℕ) (bs rs : List Raw) : Type 0 where

@@ -18,11 +18,11 @@ use Rattle.read_line.specs.declared.Reading.{Reading}
 use Rattle.read_line.specs.declared.Reading.the-variants as reading
 use Rattle.doc.specs.Document.{documentOf}
 use Rattle.doc.specs.Records.{tableOf}
-use Rattle.intake.specs.Filled.{filledOf, afterReading}
-use Rattle.intake.specs.declared.fill.Filled.{Filled}
-use Rattle.intake.specs.declared.fill.Filled.the-variants.{Stored, Refused}
+use Rattle.intake.specs.Stored.{storeAnswer, afterReading}
+use Rattle.intake.specs.declared.store.StoreAnswer.{StoreAnswer}
+use Rattle.intake.specs.declared.store.StoreAnswer.the-variants.{Stored, Refused}
 use Rattle.cross_rules.specs.Rules.{crossRule}
-use Rattle.intake.specs.Verdict.{Outcome, acceptedWith, refusedBy, crossed, afterFilling, afterBytes, verdictOf}
+use Rattle.intake.specs.Verdict.{Outcome, acceptedWith, refusedBy, crossed, afterStoring, afterBytes, verdictOf}
 
 -- the bytes are right, the text reads to its end, the table has room, and no rule of 19 to 27 is broken
 pub record Taken (t : List ℕ) (size : ℕ) : Type 0 where
@@ -30,27 +30,27 @@ pub record Taken (t : List ℕ) (size : ℕ) : Type 0 where
   pub fine : byteRules t ≡ bytes.Fine
   pub reads : readingOf t ≡ reading.Read counts
   pub room : length (tableOf t) ≤ size
-  pub kept : crossRule (documentOf t) .number ≡ 0
+  pub kept : crossRule (documentOf t) .rule ≡ 0
 
 module _ (t : List ℕ) (size : ℕ) (fine : byteRules t ≡ bytes.Fine) where
   taken-crossed : (c : Counts) → readingOf t ≡ reading.Read c → length (tableOf t) ≤ size → crossed (length (tableOf t)) (crossRule (documentOf t)) .accepted ≡ true → Taken t size
   taken-crossed c r l a =
-      by-cases _ (eqb (crossRule (documentOf t) .number) 0)
-      (λ (e : eqb (crossRule (documentOf t) .number) 0 ≡ true). record { counts = c; fine = fine; reads = r; room = l; kept = eqb-true _ _ e })
-      (λ (e : eqb (crossRule (documentOf t) .number) 0 ≡ false). absurd (true≢false (sym a ∙ ap (λ (o : Outcome). o .accepted) (if-false _ _ e))))
+      by-cases _ (eqb (crossRule (documentOf t) .rule) 0)
+      (λ (e : eqb (crossRule (documentOf t) .rule) 0 ≡ true). record { counts = c; fine = fine; reads = r; room = l; kept = eqb-true _ _ e })
+      (λ (e : eqb (crossRule (documentOf t) .rule) 0 ≡ false). absurd (true≢false (sym a ∙ ap (λ (o : Outcome). o .accepted) (if-false _ _ e))))
 
-  taken-room : (c : Counts) → readingOf t ≡ reading.Read c → afterFilling t (if ltb size (length (tableOf t)) then Refused 18 0 else Stored (length (tableOf t))) .accepted ≡ true → Taken t size
+  taken-room : (c : Counts) → readingOf t ≡ reading.Read c → afterStoring t (if ltb size (length (tableOf t)) then Refused 18 0 else Stored (length (tableOf t))) .accepted ≡ true → Taken t size
   taken-room c r a =
       by-cases _ (ltb size (length (tableOf t)))
-      (λ (e : ltb size (length (tableOf t)) ≡ true). absurd (true≢false (sym a ∙ ap (λ (f : Filled). afterFilling t f .accepted) (if-true _ _ e))))
-      (λ (e : ltb size (length (tableOf t)) ≡ false). taken-crossed c r (ltb-false _ _ e) (ap (λ (f : Filled). afterFilling t f .accepted) (sym (if-false _ _ e)) ∙ a))
+      (λ (e : ltb size (length (tableOf t)) ≡ true). absurd (true≢false (sym a ∙ ap (λ (f : StoreAnswer). afterStoring t f .accepted) (if-true _ _ e))))
+      (λ (e : ltb size (length (tableOf t)) ≡ false). taken-crossed c r (ltb-false _ _ e) (ap (λ (f : StoreAnswer). afterStoring t f .accepted) (sym (if-false _ _ e)) ∙ a))
 
-  taken-reading : (answer : Reading) → readingOf t ≡ answer → afterFilling t (afterReading t size answer) .accepted ≡ true → Taken t size
+  taken-reading : (answer : Reading) → readingOf t ≡ answer → afterStoring t (afterReading t size answer) .accepted ≡ true → Taken t size
   taken-reading (reading.Read c) r a = taken-room c r a
   taken-reading (reading.Refused number line) r a = absurd (true≢false (sym a))
 
-  taken-filled : afterFilling t (filledOf t size) .accepted ≡ true → Taken t size
-  unfolding filledOf
+  taken-filled : afterStoring t (storeAnswer t size) .accepted ≡ true → Taken t size
+  unfolding storeAnswer
   taken-filled a = taken-reading (readingOf t) refl a
 
 taken-bytes : (t : List ℕ) (size : ℕ) (answer : Checked) → byteRules t ≡ answer → afterBytes t size answer .accepted ≡ true → Taken t size

@@ -55,19 +55,19 @@ first-lowest g (r ∷ rs) least h i l b =
 -- ---- the first look that finds something
 
 pub record Given : Type 0 where
-  pub number : ℕ
+  pub rule : ℕ
   pub line : ℕ
 
 unfoldable pub givenBy : List Looked → Given
-givenBy [] = record { number = 0; line = 0 }
-givenBy (x ∷ xs) = if eqb (firstBroken (x .rules)) 0 then givenBy xs else record { number = firstBroken (x .rules); line = x .line }
+givenBy [] = record { rule = 0; line = 0 }
+givenBy (x ∷ xs) = if eqb (firstBroken (x .rules)) 0 then givenBy xs else record { rule = firstBroken (x .rules); line = x .line }
 
 module _ (x : Looked) (xs : List Looked) where
   pub given-later : firstBroken (x .rules) ≡ 0 → givenBy (x ∷ xs) ≡ givenBy xs
   unfolding givenBy
   given-later e = if-true _ _ (eq-eqb _ _ e)
 
-  pub given-here : (firstBroken (x .rules) ≡ 0 → ⊥) → givenBy (x ∷ xs) ≡ record { number = firstBroken (x .rules); line = x .line }
+  pub given-here : (firstBroken (x .rules) ≡ 0 → ⊥) → givenBy (x ∷ xs) ≡ record { rule = firstBroken (x .rules); line = x .line }
   unfolding givenBy
   given-here n = if-false _ _ (ne-eqb _ _ n)
 
@@ -110,14 +110,14 @@ module _ (g : ℕ) where
   kept-look : (x : Looked) → Ranked g (x .rules) → firstBroken (x .rules) ≡ 0 → (i : ℕ) → getD (x .rules) i sound .broken ≡ true → ⊥
   kept-look x r e i b = true≢false (sym b ∙ all-kept (x .rules) (r .numbered) e i)
 
-  pub given-none : (xs : List Looked) → AllRanked g xs → givenBy xs .number ≡ 0 → (number line : ℕ) → BrokenIn xs number line → ⊥
+  pub given-none : (xs : List Looked) → AllRanked g xs → givenBy xs .rule ≡ 0 → (number line : ℕ) → BrokenIn xs number line → ⊥
   given-none xs ranked e number line b = none-look xs ranked e (b .look) (b .among) (b .place) (b .broken)
     where
-      none-look : (ys : List Looked) → AllRanked g ys → givenBy ys .number ≡ 0 → (y : Looked) → Among y ys → (i : ℕ) → getD (y .rules) i sound .broken ≡ true → ⊥
+      none-look : (ys : List Looked) → AllRanked g ys → givenBy ys .rule ≡ 0 → (y : Looked) → Among y ys → (i : ℕ) → getD (y .rules) i sound .broken ≡ true → ⊥
       none-look (x ∷ ys) (more r rs) e y m i b =
           by-look ⊥ x
-          (λ (z : firstBroken (x .rules) ≡ 0). there x ys r (λ m′. none-look ys rs (ap (λ (h : Given). h .number) (sym (given-later x ys z)) ∙ e) y m′ i b) z (where-is m))
-          (λ n. n (ap (λ (h : Given). h .number) (sym (given-here x ys n)) ∙ e))
+          (λ (z : firstBroken (x .rules) ≡ 0). there x ys r (λ m′. none-look ys rs (ap (λ (h : Given). h .rule) (sym (given-later x ys z)) ∙ e) y m′ i b) z (where-is m))
+          (λ n. n (ap (λ (h : Given). h .rule) (sym (given-here x ys n)) ∙ e))
         where
           there : (x : Looked) (ys : List Looked) → Ranked g (x .rules) → (Among y ys → ⊥) → firstBroken (x .rules) ≡ 0 → Where x ys y → ⊥
           there x ys r later z (at-front q) = kept-look x r z i (ap (λ (w : Looked). getD (w .rules) i sound .broken) (sym q) ∙ b)
@@ -175,18 +175,18 @@ module _ (g : ℕ) where
           there (at-front q) = absurd (kept-look x r z (b .place) (rw q at (b .broken)))
           there (behind m) = record { look = b .look; among = m; place = b .place; within = b .within; broken = b .broken; on-line = b .on-line; numbered = b .numbered }
 
-  pub given-first : (xs : List Looked) → AllRanked g xs → InOrder xs → (givenBy xs .number ≡ 0 → ⊥) → Found xs (givenBy xs .number) (givenBy xs .line)
+  pub given-first : (xs : List Looked) → AllRanked g xs → InOrder xs → (givenBy xs .rule ≡ 0 → ⊥) → Found xs (givenBy xs .rule) (givenBy xs .line)
   given-first [] none last n = absurd (n empty-gives)
   given-first (x ∷ xs) (more r rs) (followed h o) n =
       by-look _ x
       (λ (z : firstBroken (x .rules) ≡ 0).
       let e : givenBy (x ∷ xs) ≡ givenBy xs = given-later x xs z in
-      rw e (found-behind x xs (givenBy xs .number) (givenBy xs .line) r z (given-first xs rs o (rw e at n))))
+      rw e (found-behind x xs (givenBy xs .rule) (givenBy xs .line) r z (given-first xs rs o (rw e at n))))
       (λ m. rw (given-here x xs m) record { found = found-front x xs m; earliest = earliest-front x xs h; lowest = lowest-front x xs r h })
 
-  pub given-some : (xs : List Looked) → AllRanked g xs → ((number line : ℕ) → BrokenIn xs number line → ⊥) → givenBy xs .number ≡ 0
+  pub given-some : (xs : List Looked) → AllRanked g xs → ((number line : ℕ) → BrokenIn xs number line → ⊥) → givenBy xs .rule ≡ 0
   given-some [] none h = empty-gives
   given-some (x ∷ xs) (more r rs) h =
       by-look _ x
-      (λ (z : firstBroken (x .rules) ≡ 0). ap (λ (k : Given). k .number) (given-later x xs z) ∙ given-some xs rs (λ number line b. h number line (broken-further x b)))
+      (λ (z : firstBroken (x .rules) ≡ 0). ap (λ (k : Given). k .rule) (given-later x xs z) ∙ given-some xs rs (λ number line b. h number line (broken-further x b)))
       (λ n. absurd (h _ _ (found-front x xs n)))

@@ -22,7 +22,7 @@ use Rattle.law_demands.proofs.VerdictLaws.{Decided, accepts, refuses, d
 -- an answer by its words
 abbrev answerOf : Bool → Outcome → Answer
 answerOf true o = Accepted (o .used)
-answerOf false o = Refused (o .number) (o .line)
+answerOf false o = Refused (o .rule) (o .line)
 
 answer-back : (a : Answer) → answerOf (answerWords a .accepted) (answerWords a) ≡ a
 answer-back (Accepted words) = refl
@@ -40,7 +40,7 @@ module _ (t : List ℕ) (size : ℕ) where
 
   decided-refused : (o : Outcome) → Decided t size o → (number line : ℕ) → refusedBy number line ≡ o → (g : ℕ) × First t size g number line
   decided-refused _ (accepts kept) number line e = absurd (true≢false (sym (ap (λ (o : Outcome). o .accepted) e)))
-  decided-refused _ (refuses g k m f) number line e = (g, rw (ap (λ (o : Outcome). o .number) e, ap (λ (o : Outcome). o .line) e) f)
+  decided-refused _ (refuses g k m f) number line e = (g, rw (ap (λ (o : Outcome). o .rule) e, ap (λ (o : Outcome). o .line) e) f)
 
   decided-kept : (o : Outcome) → Decided t size o → ((g number line : ℕ) → Broken t size g number line → ⊥) → o ≡ acceptedWith (length (tableOf t))
   decided-kept _ (accepts kept) h = refl

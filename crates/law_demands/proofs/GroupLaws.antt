@@ -87,40 +87,40 @@ keyword-given k argument s = refl
 
 -- the number of a step
 module _ (k : ℕ) (next s : State) where
-  judged-number : reading.judged k next s .number ≡ k
+  judged-number : reading.judged k next s .rule ≡ k
   unfolding reading.judged goes breaks
   judged-number =
       by-cases _ (eqb k 0)
-      (λ (e : eqb k 0 ≡ true). ap (λ (x : Step). x .number) (if-true _ _ e) ∙ sym (eqb-true _ _ e))
-      (λ (e : eqb k 0 ≡ false). ap (λ (x : Step). x .number) (if-false _ _ e))
+      (λ (e : eqb k 0 ≡ true). ap (λ (x : Step). x .rule) (if-true _ _ e) ∙ sym (eqb-true _ _ e))
+      (λ (e : eqb k 0 ≡ false). ap (λ (x : Step). x .rule) (if-false _ _ e))
 
-goes-none : (s : State) → goes s .number ≡ 0
+goes-none : (s : State) → goes s .rule ≡ 0
 unfolding goes
 goes-none s = refl
 
-breaks-number : (k : ℕ) (s : State) → breaks k s .number ≡ k
+breaks-number : (k : ℕ) (s : State) → breaks k s .rule ≡ k
 unfolding breaks
 breaks-number k s = refl
 
-line-number : (content : List ℕ) (s : State) → lineStep content s .number ≡ firstBroken (lineRules content s)
+line-number : (content : List ℕ) (s : State) → lineStep content s .rule ≡ firstBroken (lineRules content s)
 unfolding lineStep
 line-number content s = judged-number (reading.lineRule content s) _ s ∙ line-given content s
 
-keyword-number : (k : ℕ) (argument : List ℕ) (s : State) → keywordStep k argument s .number ≡ firstBroken (keywordRules k argument s)
+keyword-number : (k : ℕ) (argument : List ℕ) (s : State) → keywordStep k argument s .rule ≡ firstBroken (keywordRules k argument s)
 unfolding keywordStep
 keyword-number k argument s = judged-number (keywordRule k argument s) _ s ∙ keyword-given k argument s
 
 -- a choice between steps is a choice between what their lists give
-step-chosen : (b : Bool) (x y : List Rule) (p q : Step) → p .number ≡ firstBroken x → q .number ≡ firstBroken y → (if b then p else q) .number ≡ firstBroken (if b then x else y)
+step-chosen : (b : Bool) (x y : List Rule) (p q : Step) → p .rule ≡ firstBroken x → q .rule ≡ firstBroken y → (if b then p else q) .rule ≡ firstBroken (if b then x else y)
 unfolding if_then_else_
 step-chosen true x y p q e f = e
 step-chosen false x y p q e f = f
 
-broken-at : (k : ℕ) (s : State) → breaks k s .number ≡ firstBroken (k when true ∷ [])
+broken-at : (k : ℕ) (s : State) → breaks k s .rule ≡ firstBroken (k when true ∷ [])
 unfolding breaks first
 broken-at k s = refl
 
-bracket-number : (b : Bracket) (content : List ℕ) (s : State) → bracketStep b content s .number ≡ firstBroken (bracketRules b content s)
+bracket-number : (b : Bracket) (content : List ℕ) (s : State) → bracketStep b content s .rule ≡ firstBroken (bracketRules b content s)
 bracket-number Plain content s = line-number content s
 bracket-number Indented content s = step-chosen (isText (s .place)) _ _ _ _ (line-number content s) (broken-at 6 s)
 bracket-number Bad content s = broken-at 6 s
@@ -128,7 +128,7 @@ bracket-number Unknown content s = broken-at 7 s
 bracket-number Later content s = broken-at 8 s
 bracket-number (Keyword k start) content s = keyword-number k (argumentFrom content start) s
 
-before-number : (b : Bracket) (content : List ℕ) (s : State) → beforeStep b content s .number ≡ firstBroken (beforeRules b content s)
+before-number : (b : Bracket) (content : List ℕ) (s : State) → beforeStep b content s .rule ≡ firstBroken (beforeRules b content s)
 before-number Plain content s = goes-none s
 before-number Indented content s = goes-none s
 before-number Bad content s = goes-none s
@@ -136,7 +136,7 @@ before-number Unknown content s = goes-none s
 before-number Later content s = goes-none s
 before-number (Keyword k start) content s = step-chosen (eqb k beginHeader) _ _ _ _ (keyword-number k (argumentFrom content start) s) (goes-none s)
 
-pub step-number : (content : List ℕ) (s : State) → lineResult content s .number ≡ firstBroken (rulesOn content s)
+pub step-number : (content : List ℕ) (s : State) → lineResult content s .rule ≡ firstBroken (rulesOn content s)
 unfolding lineResult rulesOn
 step-number content s =
     step-chosen (isBlankLine content) _ _ _ _ (goes-none s)
@@ -253,7 +253,7 @@ rules-ranked content s =
 
 -- what the byte rules come to by what the looks give
 abbrev pub checkedBy : Given → Checked
-checkedBy given = if eqb (given .number) 0 then bytes.Fine else bytes.Refused (given .number) (given .line)
+checkedBy given = if eqb (given .rule) 0 then bytes.Fine else bytes.Refused (given .rule) (given .line)
 
 lookAt : ℕ → Raw → Looked
 lookAt n l = record { line = n; rules = characterRules l }
@@ -288,15 +288,15 @@ characters-ordered n (l ∷ ls) p = followed (characters-behind n (characterRule
 -- ---- 5 to 17
 
 pub data Told : Reading → Given → Type 0 where
-  read-on : (c : Counts) {given : Given} → given .number ≡ 0 → Told (Read c) given
-  refused-at : (number line : ℕ) → (number ≡ 0 → ⊥) → Told (Refused number line) (record { number = number; line = line })
+  read-on : (c : Counts) {given : Given} → given .rule ≡ 0 → Told (Read c) given
+  refused-at : (number line : ℕ) → (number ≡ 0 → ⊥) → Told (Refused number line) (record { rule = number; line = line })
 
 -- what the end of the text breaks
 module _ (s : State) where
   abbrev endLook : Looked
   endLook = record { line = 0; rules = endOfTextRules s }
 
-  alone : givenBy (endLook ∷ []) ≡ (if eqb (firstBroken (endOfTextRules s)) 0 then record { number = 0; line = 0 } else record { number = firstBroken (endOfTextRules s); line = 0 })
+  alone : givenBy (endLook ∷ []) ≡ (if eqb (firstBroken (endOfTextRules s)) 0 then record { rule = 0; line = 0 } else record { rule = firstBroken (endOfTextRules s); line = 0 })
   unfolding givenBy
   alone = refl
 
@@ -316,7 +316,7 @@ module _ (s : State) where
       (λ (d : eqb (s .place) done ≡ true).
       let b : eqb (s .place) before ≡ false = ne-eqb _ _ (λ (e : s .place ≡ before). let p : s .place ≡ done = eqb-true _ _ d in omega arith) in
       let z : firstBroken (endOfTextRules s) ≡ 0 = end-first ∙ if-false _ _ b ∙ if-true _ _ d in
-      rw (if-true {A = Reading} (Read (s .counts)) (if eqb (s .place) before then Refused 5 0 else Refused 10 0) d) (read-on (s .counts) (ap (λ (g : Given). g .number) (alone ∙ if-true _ _ (eq-eqb _ _ z)))))
+      rw (if-true {A = Reading} (Read (s .counts)) (if eqb (s .place) before then Refused 5 0 else Refused 10 0) d) (read-on (s .counts) (ap (λ (g : Given). g .rule) (alone ∙ if-true _ _ (eq-eqb _ _ z)))))
       (λ (d : eqb (s .place) done ≡ false).
       by-cases _ (eqb (s .place) before)
       (λ (b : eqb (s .place) before ≡ true). told 5 (λ (e : 5 ≡ 0). omega arith) (if-false _ _ d ∙ if-true _ _ b) (end-first ∙ if-true _ _ b))
@@ -324,15 +324,15 @@ module _ (s : State) where
     where
       told : (k : ℕ) → (k ≡ 0 → ⊥) → (if eqb (s .place) done then Read (s .counts) else (if eqb (s .place) before then Refused 5 0 else Refused 10 0)) ≡ Refused k 0 → firstBroken (endOfTextRules s) ≡ k → Told (if eqb (s .place) done then Read (s .counts) else (if eqb (s .place) before then Refused 5 0 else Refused 10 0)) (givenBy (endLook ∷ []))
       told k n e f =
-          let g : givenBy (endLook ∷ []) ≡ record { number = k; line = 0 } = alone ∙ if-false _ _ (ne-eqb _ _ (λ (z : firstBroken (endOfTextRules s) ≡ 0). n (sym f ∙ z))) ∙ ap (λ (m : ℕ). record { number = m; line = 0 }) f in
+          let g : givenBy (endLook ∷ []) ≡ record { rule = k; line = 0 } = alone ∙ if-false _ _ (ne-eqb _ _ (λ (z : firstBroken (endOfTextRules s) ≡ 0). n (sym f ∙ z))) ∙ ap (λ (m : ℕ). record { rule = m; line = 0 }) f in
           rw (e, g) (refused-at k 0 n)
 
 module _ (step : Step) (n : ℕ) (more-lines : State → Reading) where
-  on-kept : eqb (step .number) 0 ≡ true → onward step n more-lines ≡ more-lines (step .state)
+  on-kept : eqb (step .rule) 0 ≡ true → onward step n more-lines ≡ more-lines (step .state)
   unfolding onward
   on-kept e = if-true _ _ e
 
-  on-broken : eqb (step .number) 0 ≡ false → onward step n more-lines ≡ Refused (step .number) n
+  on-broken : eqb (step .rule) 0 ≡ false → onward step n more-lines ≡ Refused (step .rule) n
   unfolding onward
   on-broken e = if-false _ _ e
 
@@ -342,11 +342,11 @@ forward-told n [] s = end-told s
 forward-told n (l ∷ ls) s =
     by-cases _ (eqb (firstBroken (rulesOn (contentOf commentByte (l .bytes)) s)) 0)
     (λ (e : eqb (firstBroken (rulesOn (contentOf commentByte (l .bytes)) s)) 0 ≡ true).
-    let kept : eqb (lineResult (contentOf commentByte (l .bytes)) s .number) 0 ≡ true = ap (λ (m : ℕ). eqb m 0) (step-number (contentOf commentByte (l .bytes)) s) ∙ e in
+    let kept : eqb (lineResult (contentOf commentByte (l .bytes)) s .rule) 0 ≡ true = ap (λ (m : ℕ). eqb m 0) (step-number (contentOf commentByte (l .bytes)) s) ∙ e in
     rw (on-kept (lineResult (contentOf commentByte (l .bytes)) s) n (readFrom (n + 1) ls) kept, if-true {A = List Looked} (forwardLooked (n + 1) ls (lineResult (contentOf commentByte (l .bytes)) s .state)) [] e, given-later (record { line = n; rules = rulesOn (contentOf commentByte (l .bytes)) s }) (forwardLooked (n + 1) ls (lineResult (contentOf commentByte (l .bytes)) s .state)) (eqb-true _ _ e)) (forward-told (n + 1) ls (lineResult (contentOf commentByte (l .bytes)) s .state)))
     (λ (e : eqb (firstBroken (rulesOn (contentOf commentByte (l .bytes)) s)) 0 ≡ false).
-    let broken : eqb (lineResult (contentOf commentByte (l .bytes)) s .number) 0 ≡ false = ap (λ (m : ℕ). eqb m 0) (step-number (contentOf commentByte (l .bytes)) s) ∙ e in
-    rw (on-broken (lineResult (contentOf commentByte (l .bytes)) s) n (readFrom (n + 1) ls) broken, given-here (record { line = n; rules = rulesOn (contentOf commentByte (l .bytes)) s }) (if eqb (firstBroken (rulesOn (contentOf commentByte (l .bytes)) s)) 0 then forwardLooked (n + 1) ls (lineResult (contentOf commentByte (l .bytes)) s .state) else []) (eqb-false _ _ e), sym (step-number (contentOf commentByte (l .bytes)) s)) (refused-at (lineResult (contentOf commentByte (l .bytes)) s .number) n (eqb-false _ _ broken)))
+    let broken : eqb (lineResult (contentOf commentByte (l .bytes)) s .rule) 0 ≡ false = ap (λ (m : ℕ). eqb m 0) (step-number (contentOf commentByte (l .bytes)) s) ∙ e in
+    rw (on-broken (lineResult (contentOf commentByte (l .bytes)) s) n (readFrom (n + 1) ls) broken, given-here (record { line = n; rules = rulesOn (contentOf commentByte (l .bytes)) s }) (if eqb (firstBroken (rulesOn (contentOf commentByte (l .bytes)) s)) 0 then forwardLooked (n + 1) ls (lineResult (contentOf commentByte (l .bytes)) s .state) else []) (eqb-false _ _ e), sym (step-number (contentOf commentByte (l .bytes)) s)) (refused-at (lineResult (contentOf commentByte (l .bytes)) s .rule) n (eqb-false _ _ broken)))
 
 pub forward-ranked : (n : ℕ) (ls : List Raw) (s : State) → AllRanked forward (forwardLooked n ls s)
 unfolding forwardLooked

@@ -27,9 +27,9 @@ use Rattle.doc.specs.Records.{tableOf}
 use Rattle.doc.specs.Holds.{Each}
 use Rattle.doc.specs.Holds.Each.{none, more}
 use Rattle.doc.proofs.StandsLaws.{each-append}
-use Rattle.intake.specs.Filled.{filledOf, afterReading}
-use Rattle.intake.specs.declared.fill.Filled.{Filled}
-use Rattle.intake.specs.declared.fill.Filled.the-variants as filled
+use Rattle.intake.specs.Stored.{storeAnswer, afterReading}
+use Rattle.intake.specs.declared.store.StoreAnswer.{StoreAnswer}
+use Rattle.intake.specs.declared.store.StoreAnswer.the-variants as filled
 use Rattle.cross_rules.specs.Rules.{findings, listFindings, modelFindings, mapFindings, sectionFindings, crossRule}
 use Rattle.cross_rules.specs.declared.Finding.{Finding}
 use Rattle.cross_rules.proofs.OrderLaws.{in-order}
@@ -37,7 +37,7 @@ use Rattle.cross_rules.specs.Listed.{Looked, looked, Among}
 use Rattle.cross_rules.specs.Listed.Among.{front, further}
 use Rattle.cross_rules.proofs.RisingLaws.{all-least, each-one}
 use Rattle.cross_rules.proofs.FirstLaws.{Breaks, none-breaks, given-breaks, unbroken, lowest-line, lowest-number, first-found}
-use Rattle.intake.specs.Verdict.{Outcome, acceptedWith, refusedBy, crossed, afterFilling, afterBytes, verdictOf}
+use Rattle.intake.specs.Verdict.{Outcome, acceptedWith, refusedBy, crossed, afterStoring, afterBytes, verdictOf}
 use Rattle.law_demands.specs.RuleBook.{BrokenIn, Broken, First, group, rank, sizeRules, roomRules, characterLooked, forwardLooked, forward}
 use Rattle.law_demands.proofs.BookLaws.{Given, givenBy, Found, InOrder, last, followed, AllRanked, empty-gives, given-later, given-here, given-none, given-first}
 use Rattle.law_demands.proofs.GroupLaws.{checkedBy, characters-given, characters-ranked, characters-ordered, Told, read-on, refused-at, forward-told, forward-ranked, forward-ordered, size-ranked, room-ranked}
@@ -59,12 +59,12 @@ isFine (bytes.Refused number line) = 0
 fine-refused : (number line : ℕ) → bytes.Fine ≡ bytes.Refused number line → ⊥
 fine-refused number line e = let z : _≡_ {A = ℕ} 1 0 = ap isFine e in omega arith
 
-told-read : (c : Counts) (given : Given) → Told (reading.Read c) given → given .number ≡ 0
+told-read : (c : Counts) (given : Given) → Told (reading.Read c) given → given .rule ≡ 0
 told-read c given (read-on _ e) = e
 
 record Refuses (number line : ℕ) (given : Given) : Type 0 where
   nonzero : number ≡ 0 → ⊥
-  is : given ≡ record { number = number; line = line }
+  is : given ≡ record { rule = number; line = line }
 
 told-refused : (number line : ℕ) (given : Given) → Told (reading.Refused number line) given → Refuses number line given
 told-refused number line _ (refused-at _ _ n) = record { nonzero = n; is = refl }
@@ -137,11 +137,11 @@ module _ (t : List ℕ) (size : ℕ) where
   past-kept g h number line b = nothing-there (rw (past-group g h) at b)
 
   -- where the looks of a group give nothing, and where they give something
-  group-kept : (g : ℕ) (xs : List Looked) → group t size g ≡ xs → AllRanked g xs → givenBy xs .number ≡ 0 → Kept g
+  group-kept : (g : ℕ) (xs : List Looked) → group t size g ≡ xs → AllRanked g xs → givenBy xs .rule ≡ 0 → Kept g
   group-kept g xs e r z number line b = given-none g xs r z number line (rw e at b)
 
-  group-found : (g : ℕ) (xs : List Looked) → group t size g ≡ xs → AllRanked g xs → InOrder xs → (number line : ℕ) → (number ≡ 0 → ⊥) → givenBy xs ≡ record { number = number; line = line } → Found g (group t size g) number line
-  group-found g xs e r o number line n given = rw (e, sym (ap (λ (h : Given). h .number) given), sym (ap (λ (h : Given). h .line) given)) (given-first g xs r o (λ (z : givenBy xs .number ≡ 0). n (ap (λ (h : Given). h .number) (sym given) ∙ z)))
+  group-found : (g : ℕ) (xs : List Looked) → group t size g ≡ xs → AllRanked g xs → InOrder xs → (number line : ℕ) → (number ≡ 0 → ⊥) → givenBy xs ≡ record { rule = number; line = line } → Found g (group t size g) number line
+  group-found g xs e r o number line n given = rw (e, sym (ap (λ (h : Given). h .rule) given), sym (ap (λ (h : Given). h .line) given)) (given-first g xs r o (λ (z : givenBy xs .rule ≡ 0). n (ap (λ (h : Given). h .rule) (sym given) ∙ z)))
 
   -- ---- 1
 
@@ -149,13 +149,13 @@ module _ (t : List ℕ) (size : ℕ) where
     abbrev oneLook : Looked
     oneLook = record { line = line; rules = number when b ∷ [] }
 
-    one-kept : b ≡ false → givenBy (oneLook ∷ []) .number ≡ 0
-    one-kept e = ap (λ (g : Given). g .number) (given-later oneLook [] (first-kept b number 0 0 e refl)) ∙ empty-gives
+    one-kept : b ≡ false → givenBy (oneLook ∷ []) .rule ≡ 0
+    one-kept e = ap (λ (g : Given). g .rule) (given-later oneLook [] (first-kept b number 0 0 e refl)) ∙ empty-gives
 
-    one-given : (number ≡ 0 → ⊥) → b ≡ true → givenBy (oneLook ∷ []) ≡ record { number = number; line = line }
+    one-given : (number ≡ 0 → ⊥) → b ≡ true → givenBy (oneLook ∷ []) ≡ record { rule = number; line = line }
     one-given n e =
         let f : firstBroken (number when b ∷ []) ≡ number = first-broken b number 0 e in
-        given-here oneLook [] (λ (z : firstBroken (number when b ∷ []) ≡ 0). n (sym f ∙ z)) ∙ ap (λ (k : ℕ). record { number = k; line = line }) f
+        given-here oneLook [] (λ (z : firstBroken (number when b ∷ []) ≡ 0). n (sym f ∙ z)) ∙ ap (λ (k : ℕ). record { rule = k; line = line }) f
 
   size-kept : ltb mostBytes (length t) ≡ false → Kept 1
   size-kept e = group-kept 1 (sizeLook ∷ []) size-group (more (size-ranked t) none) (one-kept 1 0 (ltb mostBytes (length t)) e)
@@ -179,18 +179,18 @@ module _ (t : List ℕ) (size : ℕ) where
   characters-kept : linesRule 1 (lines t) ≡ bytes.Fine → Kept 2
   characters-kept e =
       group-kept 2 (characterLooked 1 (lines t)) character-group (characters-ranked 1 (lines t))
-      (by-cases _ (eqb (given2 .number) 0)
-      (λ (z : eqb (given2 .number) 0 ≡ true). eqb-true _ _ z)
-      (λ (z : eqb (given2 .number) 0 ≡ false). absurd (fine-refused _ _ (sym e ∙ characters-given 1 (lines t) ∙ if-false _ _ z))))
+      (by-cases _ (eqb (given2 .rule) 0)
+      (λ (z : eqb (given2 .rule) 0 ≡ true). eqb-true _ _ z)
+      (λ (z : eqb (given2 .rule) 0 ≡ false). absurd (fine-refused _ _ (sym e ∙ characters-given 1 (lines t) ∙ if-false _ _ z))))
 
   characters-found : (number line : ℕ) → linesRule 1 (lines t) ≡ bytes.Refused number line → Found 2 (group t size 2) number line
   characters-found number line e =
-      by-cases _ (eqb (given2 .number) 0)
-      (λ (z : eqb (given2 .number) 0 ≡ true). absurd (fine-refused number line (sym (if-true _ _ z) ∙ sym (characters-given 1 (lines t)) ∙ e)))
-      (λ (z : eqb (given2 .number) 0 ≡ false).
-      let r : bytes.Refused (given2 .number) (given2 .line) ≡ bytes.Refused number line = sym (if-false _ _ z) ∙ sym (characters-given 1 (lines t)) ∙ e in
+      by-cases _ (eqb (given2 .rule) 0)
+      (λ (z : eqb (given2 .rule) 0 ≡ true). absurd (fine-refused number line (sym (if-true _ _ z) ∙ sym (characters-given 1 (lines t)) ∙ e)))
+      (λ (z : eqb (given2 .rule) 0 ≡ false).
+      let r : bytes.Refused (given2 .rule) (given2 .line) ≡ bytes.Refused number line = sym (if-false _ _ z) ∙ sym (characters-given 1 (lines t)) ∙ e in
       group-found 2 (characterLooked 1 (lines t)) character-group (characters-ranked 1 (lines t)) (characters-ordered 1 (lines t) (omega arith)) number line
-      (λ (q : number ≡ 0). eqb-false _ _ z (ap checkedNumber r ∙ q)) (λ i. record { number = checkedNumber (r i); line = checkedLine (r i) }))
+      (λ (q : number ≡ 0). eqb-false _ _ z (ap checkedNumber r ∙ q)) (λ i. record { rule = checkedNumber (r i); line = checkedLine (r i) }))
 
   -- ---- 5 to 17
 
@@ -219,7 +219,7 @@ module _ (t : List ℕ) (size : ℕ) where
   broken-of : {number line : ℕ} → Breaks d line number → Broken t size 5 number line
   broken-of c = rw cross-group record { look = c .look; among = c .among; place = c .place; within = c .within; broken = c .broken; on-line = c .on-line; numbered = c .numbered }
 
-  cross-kept : crossRule d .number ≡ 0 → Kept 5
+  cross-kept : crossRule d .rule ≡ 0 → Kept 5
   cross-kept e number line b = none-breaks d e line number (breaks-of b)
 
   findings-low : Each (λ (f : Finding). 1 ≤ f .line) (findings d)
@@ -231,14 +231,14 @@ module _ (t : List ℕ) (size : ℕ) where
 
   rank-plain : (number : ℕ) → rank 5 number ≡ 2 * number
   unfolding rank both
-  rank-plain number = if-false _ _ refl
+  rank-plain rule = if-false _ _ refl
 
-  cross-found : (crossRule d .number ≡ 0 → ⊥) → Found 5 (group t size 5) (crossRule d .number) (crossRule d .line)
+  cross-found : (crossRule d .rule ≡ 0 → ⊥) → Found 5 (group t size 5) (crossRule d .rule) (crossRule d .line)
   cross-found n =
       record {
         found = broken-of (given-breaks d n);
         earliest = λ other place b p. (each-one findings-low (first-found d n .found), lowest-line d place other (breaks-of b));
-        lowest = λ other b. let l : crossRule d .number ≤ other = lowest-number t other (breaks-of b) in rw (rank-plain (crossRule d .number), rank-plain other) (omega arith);
+        lowest = λ other b. let l : crossRule d .rule ≤ other = lowest-number t other (breaks-of b) in rw (rank-plain (crossRule d .rule), rank-plain other) (omega arith);
       }
 
   -- ---- one stage after another
@@ -269,22 +269,22 @@ module _ (t : List ℕ) (size : ℕ) where
 
   decide-crossed : ((h : ℕ) → h < 5 → Kept h) → Decided (crossed (length (tableOf t)) (crossRule d))
   decide-crossed kept =
-      by-cases _ (eqb (crossRule d .number) 0)
-      (λ (e : eqb (crossRule d .number) 0 ≡ true). rw (if-true {A = Outcome} (acceptedWith (length (tableOf t))) (refusedBy (crossRule d .number) (crossRule d .line)) e) (accepts (all-groups (below-more 5 kept (cross-kept (eqb-true _ _ e))))))
-      (λ (e : eqb (crossRule d .number) 0 ≡ false). rw (if-false {A = Outcome} (acceptedWith (length (tableOf t))) (refusedBy (crossRule d .number) (crossRule d .line)) e) (refuses 5 _ _ (first-of 5 _ _ kept (cross-found (eqb-false _ _ e)))))
+      by-cases _ (eqb (crossRule d .rule) 0)
+      (λ (e : eqb (crossRule d .rule) 0 ≡ true). rw (if-true {A = Outcome} (acceptedWith (length (tableOf t))) (refusedBy (crossRule d .rule) (crossRule d .line)) e) (accepts (all-groups (below-more 5 kept (cross-kept (eqb-true _ _ e))))))
+      (λ (e : eqb (crossRule d .rule) 0 ≡ false). rw (if-false {A = Outcome} (acceptedWith (length (tableOf t))) (refusedBy (crossRule d .rule) (crossRule d .line)) e) (refuses 5 _ _ (first-of 5 _ _ kept (cross-found (eqb-false _ _ e)))))
 
-  decide-room : ((h : ℕ) → h < 4 → Kept h) → Decided (afterFilling t (if ltb size (length (tableOf t)) then filled.Refused 18 0 else filled.Stored (length (tableOf t))))
+  decide-room : ((h : ℕ) → h < 4 → Kept h) → Decided (afterStoring t (if ltb size (length (tableOf t)) then filled.Refused 18 0 else filled.Stored (length (tableOf t))))
   decide-room kept =
       by-cases _ (ltb size (length (tableOf t)))
-      (λ (e : ltb size (length (tableOf t)) ≡ true). rw (if-true {A = Filled} (filled.Refused 18 0) (filled.Stored (length (tableOf t))) e) (refuses 4 18 0 (first-of 4 18 0 kept (room-found e))))
-      (λ (e : ltb size (length (tableOf t)) ≡ false). rw (if-false {A = Filled} (filled.Refused 18 0) (filled.Stored (length (tableOf t))) e) (decide-crossed (below-more 4 kept (room-kept e))))
+      (λ (e : ltb size (length (tableOf t)) ≡ true). rw (if-true {A = StoreAnswer} (filled.Refused 18 0) (filled.Stored (length (tableOf t))) e) (refuses 4 18 0 (first-of 4 18 0 kept (room-found e))))
+      (λ (e : ltb size (length (tableOf t)) ≡ false). rw (if-false {A = StoreAnswer} (filled.Refused 18 0) (filled.Stored (length (tableOf t))) e) (decide-crossed (below-more 4 kept (room-kept e))))
 
-  decide-reading : ((h : ℕ) → h < 3 → Kept h) → (answer : Reading) → readingOf t ≡ answer → Decided (afterFilling t (afterReading t size answer))
+  decide-reading : ((h : ℕ) → h < 3 → Kept h) → (answer : Reading) → readingOf t ≡ answer → Decided (afterStoring t (afterReading t size answer))
   decide-reading kept (reading.Read c) e = decide-room (below-more 3 kept (forward-kept c e))
   decide-reading kept (reading.Refused number line) e = refuses 3 number line (first-of 3 number line kept (forward-found number line e))
 
-  decide-filling : ((h : ℕ) → h < 3 → Kept h) → Decided (afterFilling t (filledOf t size))
-  unfolding filledOf
+  decide-filling : ((h : ℕ) → h < 3 → Kept h) → Decided (afterStoring t (storeAnswer t size))
+  unfolding storeAnswer
   decide-filling kept = decide-reading kept (readingOf t) refl
 
   decide-lines : ((h : ℕ) → h < 2 → Kept h) → (answer : Checked) → linesRule 1 (lines t) ≡ answer → Decided (afterBytes t size answer)

@@ -19,9 +19,9 @@ pub record Conforms (t before : List ℕ) (answer : Answer) (after : List ℕ) :
 -- "A file is accepted exactly when no listed rule is broken; the table then holds what the text says .. otherwise the answer is the rule and
 -- line that the stated order puts first", and "a refused intake leaves the lent table all zeros"
 pub record Demanded (t before : List ℕ) (answer : Answer) (after : List ℕ) : Type 0 where
-  pub accepted-unbroken : (words : ℕ) → answer ≡ Accepted words → (g number line : ℕ) → Broken t (length before) g number line → ⊥
-  pub unbroken-accepted : ((g number line : ℕ) → Broken t (length before) g number line → ⊥) → answer ≡ Accepted (length (tableOf t))
-  pub refused-first : (number line : ℕ) → answer ≡ Refused number line → (g : ℕ) × First t (length before) g number line
-  pub refused-zeros : (number line : ℕ) → answer ≡ Refused number line → after ≡ replicate (length before) 0
+  pub accepted-unbroken : (words : ℕ) → answer ≡ Accepted words → (g rule line : ℕ) → Broken t (length before) g rule line → ⊥
+  pub unbroken-accepted : ((g rule line : ℕ) → Broken t (length before) g rule line → ⊥) → answer ≡ Accepted (length (tableOf t))
+  pub refused-first : (rule line : ℕ) → answer ≡ Refused rule line → (g : ℕ) × First t (length before) g rule line
+  pub refused-zeros : (rule line : ℕ) → answer ≡ Refused rule line → after ≡ replicate (length before) 0
   pub accepted-holds : (words : ℕ) → answer ≡ Accepted words → after ≡ tableOf t ++ replicate (length before - length (tableOf t)) 0
   pub words-used : (words : ℕ) → answer ≡ Accepted words → words ≡ length (tableOf t)

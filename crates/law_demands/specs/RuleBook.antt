@@ -185,29 +185,29 @@ abbrev neverBroken : Rule
 neverBroken = 0 when false
 
 -- one of these looks finds a rule of this number broken on this line
-pub record BrokenIn (looks : List Looked) (number line : ℕ) : Type 0 where
+pub record BrokenIn (looks : List Looked) (rule line : ℕ) : Type 0 where
   pub look : Looked
   pub among : Among look looks
   pub place : ℕ
   pub within : place < length (look .rules)
   pub broken : getD (look .rules) place neverBroken .broken ≡ true
   pub on-line : look .line ≡ line
-  pub numbered : getD (look .rules) place neverBroken .number ≡ number
+  pub numbered : getD (look .rules) place neverBroken .number ≡ rule
 
 -- a listed rule of group g is broken on a line
 abbrev pub Broken : List ℕ → ℕ → ℕ → ℕ → ℕ → Type 0
-Broken t size g number line = BrokenIn (group t size g) number line
+Broken t size g rule line = BrokenIn (group t size g) rule line
 
 -- ---- the stated order
 
 -- "15 FORK .. goes before 9, 11 and 12": where a number of group g stands among those of one line
 unfoldable pub rank : ℕ → ℕ → ℕ
-rank g number = if both (eqb g forward) (eqb number 15) then 17 else 2 * number
+rank g rule = if both (eqb g forward) (eqb rule 15) then 17 else 2 * rule
 
 -- what is given is broken; no group before it has anything broken; "In each group the earliest line counts, line 0 last; on one line the
 -- lowest number"
-pub record First (t : List ℕ) (size g number line : ℕ) : Type 0 where
-  pub found : Broken t size g number line
+pub record First (t : List ℕ) (size g rule line : ℕ) : Type 0 where
+  pub found : Broken t size g rule line
   pub earlier-groups : (h other place : ℕ) → Broken t size h other place → g ≤ h
   pub earliest-line : (other place : ℕ) → Broken t size g other place → 0 < place → (0 < line) × (line ≤ place)
-  pub lowest-number : (other : ℕ) → Broken t size g other line → rank g number ≤ rank g other
+  pub lowest-number : (other : ℕ) → Broken t size g other line → rank g rule ≤ rank g other

@@ -147,7 +147,7 @@ goes-amounts (Goes.more {s = s} {s' = s'} {l = l} p b m rest) = more (moves-amou
 -- ---- the steps
 
 end-right : (l : Line) (after : List Line) →
-    RightStep (record { kind = endKind; name = secondWord (wordsOf l); mult = false; amount = 0; side = sideIn after; line = l .number })
+    RightStep (record { kind = endKind; name = secondWord (wordsOf l); mult = false; amount = 0; side = sideIn after; line = l .line })
 end-right l after =
     record {
       kind = omega arith;
@@ -158,7 +158,7 @@ end-right l after =
     }
 
 section-right : (l : Line) → Amount (l .content) →
-    RightStep (record { kind = sectionKind; name = secondWord (rightWordsOf l); mult = isMult (l .content); amount = amountOf (l .content); side = noWord; line = l .number })
+    RightStep (record { kind = sectionKind; name = secondWord (rightWordsOf l); mult = isMult (l .content); amount = amountOf (l .content); side = noWord; line = l .line })
 section-right l a =
     record {
       kind = omega arith;
@@ -188,10 +188,10 @@ step-right l ls h hs =
     (λ (f : eqb (sayingAt l) path.saysSection ≡ true). more (section-right l (h (eqb-true _ _ f))) none)
     (λ (f : eqb (sayingAt l) path.saysSection ≡ false).
     by-test (Each RightStep) (eqb (sayingAt l) path.saysFork) _ _
-    (λ (g : eqb (sayingAt l) path.saysFork ≡ true). more (fork-right forkKind (l .number) (omega arith) (omega arith)) none)
+    (λ (g : eqb (sayingAt l) path.saysFork ≡ true). more (fork-right forkKind (l .line) (omega arith) (omega arith)) none)
     (λ (g : eqb (sayingAt l) path.saysFork ≡ false).
     each-if (eqb (sayingAt l) path.saysEndfork) _
-    (λ (k : eqb (sayingAt l) path.saysEndfork ≡ true). fork-right endforkKind (l .number) (omega arith) (omega arith)))))
+    (λ (k : eqb (sayingAt l) path.saysEndfork ≡ true). fork-right endforkKind (l .line) (omega arith) (omega arith)))))
 
 model-steps : (l : Line) (ls : List Line) → Amounts l → Each Amounts ls → Each (λ (m : Model). Each RightStep (m .steps)) (modelAt l ls)
 unfolding modelAt modelOf stepsIn

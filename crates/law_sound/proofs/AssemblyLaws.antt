@@ -11,12 +11,12 @@ use Rattle.lex_line.specs.declared.Checked.the-variants.{Fine}
 use Rattle.doc.specs.Document.{Model, Document, documentOf}
 use Rattle.doc.specs.Records.{flatten}
 use Rattle.doc.specs.Holds.{Each}
-use Rattle.doc.specs.Holds as holds
+use Rattle.doc.specs.Way.Holds as holds
 use Rattle.doc.proofs.NamedLaws.{ModelNamed, AllNamed, all-named}
 use Rattle.doc.proofs.DepthLaws.{read-deep}
 use Rattle.doc.proofs.SectionLaws.{RightSection, text-sections}
 use Rattle.cross_rules.specs.Rules.{crossRule}
-use Rattle.cross_rules.specs.Way.Filled.{HoldsText}
+use Rattle.cross_rules.specs.Way.HoldsText.{HoldsText}
 use Rattle.cross_rules.proofs.TableLaws.{view-fits}
 use Rattle.ask_sound.specs.Sound.{areSound, isSound}
 use Rattle.law_sound.proofs.EndLaws.{filled-zeros, filled-records}
@@ -36,15 +36,15 @@ use Rattle.law_sound.proofs.StepLaws.{steps-sound}
 
 models-asked :
     (t : List ℕ) {ms : List Model} → Each (ModelNamed t) ms → Each (λ (m : Model). m .type < 3) ms →
-    Each (λ (m : Model). holds.depthHolds 0 (m .steps) ≡ true) ms → Each (SoundModel t) ms
+    Each (λ (m : Model). holds.depthOfSteps 0 (m .steps) ≡ true) ms → Each (SoundModel t) ms
 models-asked t Each.none Each.none Each.none = Each.none
 models-asked t (Each.more n ns) (Each.more h hs) (Each.more k ks) =
     Each.more (record { name = n .name; type = h; deep = k }) (models-asked t ns hs ks)
 
 -- the records of the document, over a text with these names
 records-sound :
-    (t : List ℕ) (d : Document) → AllNamed t d → Bounded d → Each (λ (m : Model). holds.depthHolds 0 (m .steps) ≡ true) (d .models) →
-    Each RightSection (d .sections) → crossRule d .number ≡ 0 → areSound (length t) (flatten d) ≡ true
+    (t : List ℕ) (d : Document) → AllNamed t d → Bounded d → Each (λ (m : Model). holds.depthOfSteps 0 (m .steps) ≡ true) (d .models) →
+    Each RightSection (d .sections) → crossRule d .rule ≡ 0 → areSound (length t) (flatten d) ≡ true
 unfolding areSound flatten
 records-sound t d names bounds deep sections kept =
     both-true _ _ (models-sound t (d .maps) (d .sections) (models-asked t (names .models) (bounds .types) deep))
@@ -55,7 +55,7 @@ records-sound t d names bounds deep sections kept =
     (both-true _ _ (matrices-sound (matrices-right sections)) (values-sound (matrices-right sections)))))))
 
 pub bounded-sound :
-    (t table : List ℕ) → byteRules t ≡ Fine → HoldsText t table → Bounded (documentOf t) → crossRule (documentOf t) .number ≡ 0 →
+    (t table : List ℕ) → byteRules t ≡ Fine → HoldsText t table → Bounded (documentOf t) → crossRule (documentOf t) .rule ≡ 0 →
     isSound t table ≡ true
 unfolding isSound
 bounded-sound t table fine filled bounds kept =

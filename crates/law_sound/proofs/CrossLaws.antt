@@ -54,14 +54,14 @@ module _ (d : Document) where
   abbrev Kept : Model → Type 0
   Kept m = Each (λ (s : Step). stepRule d m s ≡ 0) (m .steps)
 
-  steps-kept : (ms : List Model) → Each (λ (f : Finding). f .number ≡ 0) (modelFindings d ms) → Each Kept ms
+  steps-kept : (ms : List Model) → Each (λ (f : Finding). f .rule ≡ 0) (modelFindings d ms) → Each Kept ms
   unfolding modelFindings stepFindings
   steps-kept [] h = none
   steps-kept (m ∷ ms) (more h hs) =
-      more (each-source (λ (s : Step). record { number = stepRule d m s; line = s .line }) (m .steps) (each-front (stepFindings d m) (modelFindings d ms) hs))
+      more (each-source (λ (s : Step). record { rule = stepRule d m s; line = s .line }) (m .steps) (each-front (stepFindings d m) (modelFindings d ms) hs))
       (steps-kept ms (each-behind (stepFindings d m) (modelFindings d ms) hs))
 
-  pub all-steps-kept : crossRule d .number ≡ 0 → Each (λ (m : Model). Each (λ (s : Step). stepRule d m s ≡ 0) (m .steps)) (d .models)
+  pub all-steps-kept : crossRule d .rule ≡ 0 → Each (λ (m : Model). Each (λ (s : Step). stepRule d m s ≡ 0) (m .steps)) (d .models)
   unfolding findings
   all-steps-kept e =
       steps-kept (d .models)

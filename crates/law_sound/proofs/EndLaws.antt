@@ -17,7 +17,7 @@ use Rattle.table_layout.specs.declared.View.{View}
 use Rattle.doc.specs.Document.{documentOf}
 use Rattle.doc.specs.Records.{flatten, tableOf, recordsOf}
 use Rattle.doc.proofs.RecordLaws.{records-wide, records-back}
-use Rattle.cross_rules.specs.Way.Filled.{HoldsText}
+use Rattle.cross_rules.specs.Way.HoldsText.{HoldsText}
 use Rattle.cross_rules.proofs.TableLaws.{view-fits}
 use Rattle.ask_sound.specs.Sound.{every, areZeros}
 

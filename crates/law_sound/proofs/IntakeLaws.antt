@@ -8,7 +8,7 @@ use Prim.Native.Nat.{ℕ, _+_, _-_, _≤_}
 use native.Mathlib.Omega.{arith}
 use lib.ListN.{length, replicate, length-append, length-replicate}
 use Rattle.doc.specs.Records.{tableOf}
-use Rattle.cross_rules.specs.Way.Filled.{HoldsText}
+use Rattle.cross_rules.specs.Way.HoldsText.{HoldsText}
 use Rattle.ask_sound.specs.Sound.{isSound}
 use Rattle.intake.specs.Verdict.{Outcome, answerWords}
 use Rattle.intake.specs.declared.Answer.{Answer}

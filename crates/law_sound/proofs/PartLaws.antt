@@ -17,7 +17,7 @@ use Rattle.doc.specs.Document.{Named, Step, Model, Map, Value, Matrix, Section,
 use Rattle.doc.specs.Records.{StepRecord, stepRecord, stepRecords, modelRecord, modelRecords, pinRecord, pinRecords, mapRecord, mapRecords, indexOfKind, sectionRecord, sectionRecords, matricesOf, matrixRecord, matrixRecords, valuesOf}
 use Rattle.doc.specs.Holds.{Each, isInUpperHalf, rises}
 use Rattle.doc.specs.Way.Holds.{IsName}
-use Rattle.doc.specs.Holds as holds
+use Rattle.doc.specs.Way.Holds as holds
 use Rattle.doc.specs.Holds.Each.{none, more}
 use Rattle.doc.proofs.StandsLaws.{each-append}
 use Rattle.doc.proofs.NamedLaws.{MapNamed}
@@ -83,7 +83,7 @@ module _ (maps : List Map) (sections : List Section) where
 pub record SoundModel (t : List ℕ) (m : Model) : Type 0 where
   pub name : IsName t (m .name)
   pub type : m .type < 3
-  pub deep : holds.depthHolds 0 (m .steps) ≡ true
+  pub deep : holds.depthOfSteps 0 (m .steps) ≡ true
 
 module _ (t : List ℕ) (maps : List Map) (sections : List Section) where
   model-is :

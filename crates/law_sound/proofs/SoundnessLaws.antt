@@ -22,7 +22,7 @@ use Rattle.doc.specs.Document.{documentOf}
 use Rattle.doc.specs.Records.{flatten, partsOf, tableOf}
 use Rattle.doc.proofs.RecordLaws.{table-long}
 use Rattle.cross_rules.specs.Rules.{crossRule}
-use Rattle.cross_rules.specs.Way.Filled.{HoldsText}
+use Rattle.cross_rules.specs.Way.HoldsText.{HoldsText}
 use Rattle.ask_sound.specs.Sound.{isSound}
 use Rattle.law_sound.proofs.EndLaws.{filled-end}
 use Rattle.law_sound.proofs.Bounds.{Bounded}
@@ -37,13 +37,13 @@ read-bounded t c read = record { types = text-types t; steps = text-steps t c re
 
 -- the bytes are right, the text reads to its end, no rule of 19 to 27 is broken: the table that holds it is sound
 pub accepted-sound :
-    (t table : List ℕ) → byteRules t ≡ Fine → HoldsText t table → crossRule (documentOf t) .number ≡ 0 → isSound t table ≡ true
+    (t table : List ℕ) → byteRules t ≡ Fine → HoldsText t table → crossRule (documentOf t) .rule ≡ 0 → isSound t table ≡ true
 accepted-sound t table fine filled kept =
     bounded-sound t table fine filled (read-bounded t (filled .counts) (filled .reads)) kept
 
 -- 30 comes before all else that a question may break, and is never broken over it
 pub accepted-asked :
-    (t table : List ℕ) → byteRules t ≡ Fine → HoldsText t table → crossRule (documentOf t) .number ≡ 0 →
+    (t table : List ℕ) → byteRules t ≡ Fine → HoldsText t table → crossRule (documentOf t) .rule ≡ 0 →
     (rules : List Rule) → firstBroken (30 when not (isSound t table) ∷ rules) ≡ firstBroken rules
 accepted-asked t table fine filled kept rules =
     first-kept _ _ _ _ (not-not-via (accepted-sound t table fine filled kept)) refl

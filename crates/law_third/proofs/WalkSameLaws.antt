@@ -178,19 +178,19 @@ module _ {A : Type 0} {P : A → Type 0} where
   each-behind (x ∷ xs) ys (more h hs) = each-behind xs ys hs
 
 module _ (d : Document) where
-  maps-kept : (ms : List Map) → Each (λ (f : Finding). f .number ≡ 0) (mapFindings d ms) → Each (λ (m : Map). mapNameRule d m ≡ 0) ms
+  maps-kept : (ms : List Map) → Each (λ (f : Finding). f .rule ≡ 0) (mapFindings d ms) → Each (λ (m : Map). mapNameRule d m ≡ 0) ms
   unfolding mapFindings
   maps-kept [] h = none
   maps-kept (m ∷ ms) (more h hs) = more h (maps-kept ms (each-behind (pinFindings m) (mapFindings d ms) hs))
 
-  all-maps-kept : crossRule d .number ≡ 0 → Each (λ (m : Map). mapNameRule d m ≡ 0) (d .maps)
+  all-maps-kept : crossRule d .rule ≡ 0 → Each (λ (m : Map). mapNameRule d m ≡ 0) (d .maps)
   unfolding findings
   all-maps-kept e =
       maps-kept (d .maps)
       (each-front (mapFindings d (d .maps)) (sectionFindings d 0 (d .sections))
       (each-behind (modelFindings d (d .models)) _ (each-behind (listFindings d) _ (all-kept d e))))
 
-  maps-fresh : crossRule d .number ≡ 0 → Fresh (d .maps)
+  maps-fresh : crossRule d .rule ≡ 0 → Fresh (d .maps)
   maps-fresh e = fresh (d .maps) (each-by (λ (m : Map) (h : mapNameRule d m ≡ 0). map-judged d m .kept h 0) (all-maps-kept e))
 
 -- ---- records that are the same but for lines and offsets
@@ -213,7 +213,7 @@ same-models first other e (All2.more {x} {y} h hs) =
     let f : first + length (x .steps) ≡ other + length (y .steps) = omega arith in
     All2.more (record { first = e; steps = l }) (same-models (first + length (x .steps)) (other + length (y .steps)) f hs)
 
-module _ (t u : List ℕ) (kept : crossRule (documentOf t) .number ≡ 0) (also : crossRule (documentOf u) .number ≡ 0) (alike : SameDocument (documentOf t) (documentOf u)) where
+module _ (t u : List ℕ) (kept : crossRule (documentOf t) .rule ≡ 0) (also : crossRule (documentOf u) .rule ≡ 0) (alike : SameDocument (documentOf t) (documentOf u)) where
   abbrev d : Document
   d = documentOf t
 
@@ -369,12 +369,12 @@ module _ (t table u other : List ℕ) (taken : AcceptedTable t table) (also : Ac
   -- without a step
   stepless :
       (answered done : Bool) (number line : ℕ) (next : Place) →
-      SameAnswer t table u other (record { answered = answered; number = number; line = line; done = done; step = noStep; next = next })
-      (record { answered = answered; number = number; line = line; done = done; step = noStep; next = next })
+      SameAnswer t table u other (record { answered = answered; rule = number; line = line; done = done; step = noStep; next = next })
+      (record { answered = answered; rule = number; line = line; done = done; step = noStep; next = next })
   stepless answered done number line next =
       record {
         answered = refl;
-        number = refl;
+        rule = refl;
         done = refl;
         kind = refl;
         target = refl;
@@ -397,7 +397,7 @@ module _ (t table u other : List ℕ) (taken : AcceptedTable t table) (also : Ac
     with-step =
         record {
           answered = refl;
-          number = refl;
+          rule = refl;
           done = refl;
           kind = steps-here .kind;
           target = steps-here .target;

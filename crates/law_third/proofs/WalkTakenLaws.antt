@@ -22,7 +22,7 @@ module _ (t table : List ℕ) (taken : AcceptedTable t table) where
   pub taken-passed : Passed t (length (taken .before))
   taken-passed = accepted-taken t (length (taken .before)) (ap (λ (o : Outcome). o .accepted) (sym (taken .conforms .answers)))
 
-  pub taken-kept : crossRule (documentOf t) .number ≡ 0
+  pub taken-kept : crossRule (documentOf t) .rule ≡ 0
   taken-kept = taken-passed .kept
 
   pub taken-sound : isSound t table ≡ true

@@ -121,7 +121,7 @@ pub record Entered (t table : List ℕ) (i : ℕ) (x : Section) : Type 0 where
 -- two answers of a walk that are the same but for lines and offsets
 pub record SameAnswer (t table u other : List ℕ) (v w : WalkWords) : Type 0 where
   pub answered : v .answered ≡ w .answered
-  pub number : v .number ≡ w .number
+  pub rule : v .rule ≡ w .rule
   pub done : v .done ≡ w .done
   pub kind : v .step .kind ≡ w .step .kind
   pub target : v .step .target ≡ w .step .target

@@ -296,7 +296,7 @@ fn terminator_at(text: &[u8], i: usize) -> usize
 
 // What rules 2 to 4 say of one line, 0 for nothing, and where the next one starts.
 struct LineCheck {
-    number: u64,
+    rule: u64,
     next: usize,
 }
 
@@ -304,11 +304,11 @@ struct LineCheck {
 // is the lowest: nothing after it needs to be looked at. Nor is anything in an empty line.
 fn line_check(text: &[u8], at: usize) -> LineCheck
     requires { ⌜ at < length (now text) ⌝ }
-    ensures { λ r. ⌜ Judges (now (text .entry)) at (r .number) (r .next) ⌝ }
+    ensures { λ r. ⌜ Judges (now (text .entry)) at (r .rule) (r .next) ⌝ }
 {
     if text[at] == LINE_FEED {
         return LineCheck {
-            number: 0,
+            rule: 0,
             next: at + 1,
         };
     }
@@ -318,17 +318,17 @@ fn line_check(text: &[u8], at: usize) -> LineCheck
     let characters = stop - at;
     if terminator == 0 {
         if stop < text.len() {
-            return LineCheck { number: 2, next };
+            return LineCheck { rule: 2, next };
         }
         if MOST_CHARACTERS < characters {
-            return LineCheck { number: 3, next };
+            return LineCheck { rule: 3, next };
         }
-        return LineCheck { number: 4, next };
+        return LineCheck { rule: 4, next };
     }
     if MOST_CHARACTERS < characters {
-        return LineCheck { number: 3, next };
+        return LineCheck { rule: 3, next };
     }
-    LineCheck { number: 0, next }
+    LineCheck { rule: 0, next }
 }
 
 // ---- rules 2 to 4 over many short lines at once
@@ -471,8 +471,8 @@ pub fn check_bytes(text: &[u8]) -> Checked
     let mut line = 1;
     while at < text.len() {
         let check = line_check(text, at);
-        if check.number != 0 {
-            return Checked::Refused(check.number, line);
+        if check.rule != 0 {
+            return Checked::Refused(check.rule, line);
         }
         let past = past_more(text, check.next, line + 1, check.next - at);
         at = past.at;

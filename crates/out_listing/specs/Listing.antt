@@ -123,4 +123,4 @@ module _ (t table : List ℕ) where
 
 -- "On refusal it prints `refused NO LINE`"
 unfoldable pub refusalText : ℕ → ℕ → List ℕ
-refusalText number line = lineOf (bytes "refused" ∷ decimal number ∷ decimal line ∷ [])
+refusalText rule line = lineOf (bytes "refused" ∷ decimal rule ∷ decimal line ∷ [])

@@ -645,10 +645,10 @@ pub fn write_listing(text: &[u8], table: &[u64], words: usize, out: &mut [u8]) -
 }
 
 // What icm-list prints of a refused file.
-pub fn write_refusal(number: u64, line: u64, out: &mut [u8]) -> usize
-    ensures { λ r. ⌜ Written (now (out .entry)) (now (out .exit)) 0 r (refusalText number line) ⌝ }
+pub fn write_refusal(rule: u64, line: u64, out: &mut [u8]) -> usize
+    ensures { λ r. ⌜ Written (now (out .entry)) (now (out .exit)) 0 r (refusalText rule line) ⌝ }
 {
     let second = out_text::put_field(out, 0, b"refused", b' ');
-    let third = out_text::put_decimal(out, second, number, b' ');
+    let third = out_text::put_decimal(out, second, rule, b' ');
     out_text::put_decimal(out, third, line, b'\n')
 }

@@ -17,7 +17,7 @@ use Rattle.read_line.specs.Reading.{readFrom}
 use Rattle.read_line.specs.Way.Walk.{resume, Rises, Crossed, Holds, Stepping, Stays, withPath, Blocked}
 use Rattle.read_line.specs.declared.PathWalk.{PathWalk}
 
-module _ (t : List ℕ) (at line : ℕ) (p : Path) (n : ℕ) (w : PathWalk) (first : Blocked t at line p n w) (whole : w .part .number ≡ 0) where
+module _ (t : List ℕ) (at line : ℕ) (p : Path) (n : ℕ) (w : PathWalk) (first : Blocked t at line p n w) (whole : w .part .rule ≡ 0) where
   -- where the walk has come the next one may start
   pub block-counted : line ≤ at + 1 → w .line ≤ w .at + 1
   block-counted h =
@@ -43,10 +43,10 @@ module _ (t : List ℕ) (at line : ℕ) (p : Path) (n : ℕ) (w : PathWalk) (fir
               record {
                 same = λ (s : State) (f : Holds place.path (withPath p n) s). second .crossed .same (withPath (w .part .path) (w .part .steps) s) (f .0, refl) ∙ come s f;
                 kept =
-                    λ (z : v .part .number ≡ 0) (s : State) (f : Holds place.path (withPath p n) s) (k : Kept line s).
+                    λ (z : v .part .rule ≡ 0) (s : State) (f : Holds place.path (withPath p n) s) (k : Kept line s).
                     second .crossed .kept z (withPath (w .part .path) (w .part .steps) s) (f .0, refl) (first .crossed .kept whole s f k);
                 rises =
-                    λ (z : v .part .number ≡ 0) (s : State) (f : Holds place.path (withPath p n) s).
+                    λ (z : v .part .rule ≡ 0) (s : State) (f : Holds place.path (withPath p n) s).
                     le-trans (first .crossed .rises whole s f) (second .crossed .rises z (withPath (w .part .path) (w .part .steps) s) (f .0, refl));
                 onward = omega arith;
                 within = second .crossed .within;
@@ -58,13 +58,13 @@ module _ (t : List ℕ) (at line : ℕ) (p : Path) (n : ℕ) (w : PathWalk) (fir
         }
 
 -- an inner block, and the lines behind it
-pub block-rest : (t : List ℕ) (at line : ℕ) (p : Path) (n : ℕ) (w : PathWalk) → Blocked t at line p n w → w .part .number ≡ 0 → (v : PathWalk) →
-    Blocked t (w .at) (w .line) (w .part .path) (w .part .steps) v → v .part .number ≡ 0 → (u : PathWalk) →
+pub block-rest : (t : List ℕ) (at line : ℕ) (p : Path) (n : ℕ) (w : PathWalk) → Blocked t at line p n w → w .part .rule ≡ 0 → (v : PathWalk) →
+    Blocked t (w .at) (w .line) (w .part .path) (w .part .steps) v → v .part .rule ≡ 0 → (u : PathWalk) →
     Blocked t (v .at) (v .line) (v .part .path) (v .part .steps) u → Blocked t at line p n u
 block-rest t at line p n w first whole v second closed u third =
     block-joins t at line p n v (block-joins t at line p n w first whole v second) closed u third
 
-pub inner-counted : (t : List ℕ) (at line : ℕ) (p : Path) (n : ℕ) (w : PathWalk) → Blocked t at line p n w → w .part .number ≡ 0 → (v : PathWalk) →
+pub inner-counted : (t : List ℕ) (at line : ℕ) (p : Path) (n : ℕ) (w : PathWalk) → Blocked t at line p n w → w .part .rule ≡ 0 → (v : PathWalk) →
     Blocked t (w .at) (w .line) (w .part .path) (w .part .steps) v → line ≤ at + 1 → v .line ≤ v .at + 1
 inner-counted t at line p n w first whole v second h =
     let c : w .line + at ≤ line + w .at = first .crossed .counted in

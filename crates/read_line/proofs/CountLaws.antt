@@ -655,7 +655,7 @@ module _ (k : ℕ) (argument : List ℕ) (s : State) (met : Met k s) (t : Tally 
   unfolding keywordNext
   keyword-tally = record { long = long-next; all = all-next; inside = inside-next }
 
-step-tally : (content : List ℕ) (s : State) → Tally s → lineResult content s .number ≡ 0 → Tally (lineResult content s .state)
+step-tally : (content : List ℕ) (s : State) → Tally s → lineResult content s .rule ≡ 0 → Tally (lineResult content s .state)
 step-tally content s t z = step-holds Tally line-tally keyword-tally content s t z
 
 -- over all sections there are at most four matrices each

@@ -63,14 +63,14 @@ module _ (t : List ℕ) (at line : ℕ) (fits : State → Type 0) where
       on-kept : k ≡ 0 → (s : State) → fits s → Kept line s → Kept (number + 1) (next s)
       unfolding breaks
       on-kept z s f kept =
-          subst (λ (x : Step). x .number ≡ 0 → Kept (number + 1) (x .state)) (decided s f)
+          subst (λ (x : Step). x .rule ≡ 0 → Kept (number + 1) (x .state)) (decided s f)
           (step-kept number (take (found .content - here) (drop here t)) (put s) (crossed .kept whole s f kept)) z
 
       on-rises : k ≡ 0 → (s : State) → fits s → Rises s (next s)
       unfolding breaks
       on-rises z s f =
           le-trans (crossed .rises whole s f)
-          (subst (λ (x : Step). x .number ≡ 0 → Rises (put s) (x .state)) (decided s f)
+          (subst (λ (x : Step). x .rule ≡ 0 → Rises (put s) (x .state)) (decided s f)
           (step-raises (take (found .content - here) (drop here t)) (put s)) z)
 
       on-same : k ≡ 0 → (s : State) → fits s → readFrom (number + 1) (lines (drop (found .next) t)) (next s) ≡ readFrom line (lines (drop at t)) s
@@ -119,7 +119,7 @@ crossed-less t here found h told =
     omega arith
 
 pub crossed-reached : (t : List ℕ) (at line : ℕ) (fits : State → Type 0) (put : State → State) (number further last : ℕ) → Crossed t at line fits put number further last →
-    (s : State) → fits s → Onward t at line s → at < further → Reached t at line s (record { number = number; at = further; line = last; state = put s })
+    (s : State) → fits s → Onward t at line s → at < further → Reached t at line s (record { rule = number; at = further; line = last; state = put s })
 crossed-reached t at line fits put number further last crossed s f on h =
     let c : line ≤ at + 1 = on .counted in
     let k : last + at ≤ line + further = crossed .counted in

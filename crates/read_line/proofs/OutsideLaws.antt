@@ -55,7 +55,7 @@ pub record Met (k : ℕ) (s : State) : Type 0 where
 module _ (P : State → Type 0) where
   -- a step that breaks nothing leads to a state of which it holds
   abbrev Holds : Step → Type 0
-  Holds step = step .number ≡ 0 → P (step .state)
+  Holds step = step .rule ≡ 0 → P (step .state)
 
   holds-goes : (s : State) → P s → Holds (goes s)
   unfolding goes
@@ -107,7 +107,7 @@ module _ (P : State → Type 0) where
         holds-keyword key (argumentFrom content start) s (record { on = on; first = λ (b : s .place ≡ before). eqb-true key beginHeader e }) h)
         (λ (e : eqb key beginHeader ≡ false). holds-goes s h)
 
-    pub step-holds : (content : List ℕ) (s : State) → P s → lineResult content s .number ≡ 0 → P (lineResult content s .state)
+    pub step-holds : (content : List ℕ) (s : State) → P s → lineResult content s .rule ≡ 0 → P (lineResult content s .state)
     unfolding lineResult
     step-holds content s h =
         holds-if (isBlankLine content) _ _ (holds-goes s h)
@@ -123,7 +123,7 @@ module _ (P : State → Type 0) where
 -- ---- what each line keeps holds after all of them
 
 -- n is the number of the first line, m how many lines stand above it
-pub along-counted : (P : ℕ → State → Type 0) → ((m : ℕ) (content : List ℕ) (s : State) → P m s → lineResult content s .number ≡ 0 → P (m + 1) (lineResult content s .state)) → (m n : ℕ) (ls : List Raw) (s : State) → P m s → AllGo (meetings n ls s) → P (m + length ls) (stateAfter n ls s)
+pub along-counted : (P : ℕ → State → Type 0) → ((m : ℕ) (content : List ℕ) (s : State) → P m s → lineResult content s .rule ≡ 0 → P (m + 1) (lineResult content s .state)) → (m n : ℕ) (ls : List Raw) (s : State) → P m s → AllGo (meetings n ls s) → P (m + length ls) (stateAfter n ls s)
 unfolding stateAfter
 along-counted P step m n [] s h a =
     let e : m ≡ m + 0 = omega arith in
@@ -139,7 +139,7 @@ along-counted P step m n (l ∷ ls) s h a =
     let b : AllGo (meetingOf n l s ∷ []) = rw (meet-stops n l ls s z) at a in
     absurd (z (head-goes _ _ b)))
 
-pub along : (P : State → Type 0) → ((content : List ℕ) (s : State) → P s → lineResult content s .number ≡ 0 → P (lineResult content s .state)) → (n : ℕ) (ls : List Raw) (s : State) → P s → AllGo (meetings n ls s) → P (stateAfter n ls s)
+pub along : (P : State → Type 0) → ((content : List ℕ) (s : State) → P s → lineResult content s .rule ≡ 0 → P (lineResult content s .state)) → (n : ℕ) (ls : List Raw) (s : State) → P s → AllGo (meetings n ls s) → P (stateAfter n ls s)
 along P step n ls s h a = along-counted (λ (m : ℕ) (r : State). P r) (λ (m : ℕ). step) 0 n ls s h a
 
 -- ---- the first two rules of a keyword that breaks none
@@ -222,9 +222,9 @@ line-outside content s h kept =
           (λ (e : eqb (s .place) place.path ≡ false). h .flat (eqb-false _ _ e));
     }
 
-pub step-outside : (content : List ℕ) (s : State) → Outside s → lineResult content s .number ≡ 0 → Outside (lineResult content s .state)
+pub step-outside : (content : List ℕ) (s : State) → Outside s → lineResult content s .rule ≡ 0 → Outside (lineResult content s .state)
 step-outside content s h z = step-holds Outside line-outside keyword-outside content s h z
 
 -- where a model has ended, and in every other place outside its path
-pub models-end-flat : (content : List ℕ) (s : State) → Outside s → lineResult content s .number ≡ 0 → (lineResult content s .state .place ≡ place.path → ⊥) → lineResult content s .state .path .depth ≡ 0
+pub models-end-flat : (content : List ℕ) (s : State) → Outside s → lineResult content s .rule ≡ 0 → (lineResult content s .state .place ≡ place.path → ⊥) → lineResult content s .state .path .depth ≡ 0
 models-end-flat content s h z away = step-outside content s h z .flat away

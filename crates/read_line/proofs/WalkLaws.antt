@@ -60,7 +60,7 @@ use Rattle.read_line.proofs.KeptLaws.{line-kept}
 
 -- a step keeps what the reading keeps
 abbrev Keeps : ℕ → Step → Type 0
-Keeps n step = step .number ≡ 0 → Kept (n + 1) (step .state)
+Keeps n step = step .rule ≡ 0 → Kept (n + 1) (step .state)
 
 keeps-goes : (n : ℕ) (s : State) → Kept n s → Keeps n (goes s)
 unfolding goes
@@ -117,7 +117,7 @@ step-kept n content s k =
 -- ---- values only rise
 
 abbrev Raises : State → Step → Type 0
-Raises s step = step .number ≡ 0 → Rises s (step .state)
+Raises s step = step .rule ≡ 0 → Rises s (step .state)
 
 raises-goes : (s : State) → Raises s (goes s)
 unfolding goes
@@ -201,17 +201,17 @@ module _ (t : List ℕ) (at line : ℕ) (s : State) (h : at < length t) (here : 
 
 module _ (t : List ℕ) (at line : ℕ) (s : State) (h : at < length t) (on : Onward t at line s) (here : Line) (found : here ≡ lineAt commentByte t at) where
   module _ (step : Step) (taken : step ≡ lineResult (take (here .content - at) (drop at t)) s) where
-    line-broken : (step .number ≡ 0 → ⊥) → Reached t at line s (record { number = step .number; at = here .next; line = line; state = step .state })
+    line-broken : (step .rule ≡ 0 → ⊥) → Reached t at line s (record { rule = step .rule; at = here .next; line = line; state = step .state })
     unfolding resume onward
     line-broken z =
         record {
           same = if-false _ _ (ne-eqb _ _ z) ∙ sym (line-run t at line s h here found step taken ∙ if-false _ _ (ne-eqb _ _ z));
-          further = λ (e : step .number ≡ 0). absurd (z e);
-          onward = λ (e : step .number ≡ 0). absurd (z e);
-          rises = λ (e : step .number ≡ 0). absurd (z e);
+          further = λ (e : step .rule ≡ 0). absurd (z e);
+          onward = λ (e : step .rule ≡ 0). absurd (z e);
+          rises = λ (e : step .rule ≡ 0). absurd (z e);
         }
 
-    line-taken : step .number ≡ 0 → Reached t at line s (record { number = step .number; at = here .next; line = line + 1; state = step .state })
+    line-taken : step .rule ≡ 0 → Reached t at line s (record { rule = step .rule; at = here .next; line = line + 1; state = step .state })
     unfolding resume onward
     line-taken z =
         let f : at < here .next = rw found (next-on commentByte t at h) in
@@ -219,24 +219,24 @@ module _ (t : List ℕ) (at line : ℕ) (s : State) (h : at < length t) (on : On
         let c : line ≤ at + 1 = on .counted in
         record {
           same = if-true _ _ (eq-eqb _ _ z) ∙ sym (line-run t at line s h here found step taken ∙ if-true _ _ (eq-eqb _ _ z));
-          further = λ (e : step .number ≡ 0). f;
-          onward = λ (e : step .number ≡ 0). record { within = w; counted = omega arith; kept = kept-next z };
-          rises = λ (e : step .number ≡ 0). raised-next e;
+          further = λ (e : step .rule ≡ 0). f;
+          onward = λ (e : step .rule ≡ 0). record { within = w; counted = omega arith; kept = kept-next z };
+          rises = λ (e : step .rule ≡ 0). raised-next e;
         }
       where
-        raised-next : step .number ≡ 0 → Rises s (step .state)
+        raised-next : step .rule ≡ 0 → Rises s (step .state)
         raised-next z = rw taken (step-raises (take (here .content - at) (drop at t)) s (rw taken at z))
 
-        kept-next : step .number ≡ 0 → Kept (line + 1) (step .state)
+        kept-next : step .rule ≡ 0 → Kept (line + 1) (step .state)
         kept-next z = rw taken (step-kept line (take (here .content - at) (drop at t)) s (on .kept) (rw taken at z))
 
     -- the next line is the one after it, unless it breaks a rule
-    pub line-reached : (after : ℕ) → after ≡ oneMoreIf (eqb (step .number) 0) line → Reached t at line s (record { number = step .number; at = here .next; line = after; state = step .state })
+    pub line-reached : (after : ℕ) → after ≡ oneMoreIf (eqb (step .rule) 0) line → Reached t at line s (record { rule = step .rule; at = here .next; line = after; state = step .state })
     unfolding oneMoreIf
     line-reached after count =
-        by-cases _ (eqb (step .number) 0)
-        (λ (e : eqb (step .number) 0 ≡ true). rw (count ∙ if-true _ _ e) (line-taken (eqb-true _ _ e)))
-        (λ (e : eqb (step .number) 0 ≡ false). rw (count ∙ if-false _ _ e) (line-broken (eqb-false _ _ e)))
+        by-cases _ (eqb (step .rule) 0)
+        (λ (e : eqb (step .rule) 0 ≡ true). rw (count ∙ if-true _ _ e) (line-taken (eqb-true _ _ e)))
+        (λ (e : eqb (step .rule) 0 ≡ false). rw (count ∙ if-false _ _ e) (line-broken (eqb-false _ _ e)))
 
 -- ---- the part of the text that a line's content is
 
@@ -267,11 +267,11 @@ module _ (t : List ℕ) (at line : ℕ) (s : State) (answer : Reading) (rest : r
   reading-ends h r e = e ∙ rw (drop-of-length-le t h) at rest
 
   module _ (w : Walk) (reached : Reached t at line s w) where
-    pub reading-stops : (w .number ≡ 0 → ⊥) → Refused (w .number) (w .line) ≡ answer
+    pub reading-stops : (w .rule ≡ 0 → ⊥) → Refused (w .rule) (w .line) ≡ answer
     unfolding resume
     reading-stops z = sym (if-false _ _ (ne-eqb _ _ z)) ∙ reached .same ∙ rest
 
-    module _ (z : w .number ≡ 0) where
+    module _ (z : w .rule ≡ 0) where
       pub reading-on : readFrom (w .line) (lines (drop (w .at) t)) (w .state) ≡ answer
       unfolding resume
       reading-on = sym (if-true _ _ (eq-eqb _ _ z)) ∙ reached .same ∙ rest

@@ -80,11 +80,11 @@ argumentFrom content start = take (lastEnd content - start) (drop start content)
 
 -- the line breaks nothing, and leads on
 unfoldable pub goes : State → Step
-goes s = record { number = 0; state = s }
+goes s = record { rule = 0; state = s }
 
 -- the line breaks a rule
 unfoldable pub breaks : ℕ → State → Step
-breaks k s = record { number = k; state = s }
+breaks k s = record { rule = k; state = s }
 
 unfoldable pub judged : ℕ → State → State → Step
 judged k next s = if eqb k 0 then goes next else breaks k s
@@ -134,7 +134,7 @@ atEnd s =
 
 -- "5 to 17 reading forward .. the earliest line counts"
 unfoldable pub onward : Step → ℕ → (State → Reading) → Reading
-onward step n more = if eqb (step .number) 0 then more (step .state) else Refused (step .number) n
+onward step n more = if eqb (step .rule) 0 then more (step .state) else Refused (step .rule) n
 
 unfoldable pub readFrom : ℕ → List Raw → State → Reading
 readFrom n [] s = atEnd s

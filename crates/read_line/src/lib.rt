@@ -34,7 +34,7 @@ const CARRIAGE_RETURN: u8 = 13;
 
 // What one line comes to: the number of the rule that it breaks, 0 for none, and what is remembered after it.
 pub struct Step {
-    pub number: u64,
+    pub rule: u64,
     pub state: State,
 }
 
@@ -46,7 +46,7 @@ pub enum Reading {
 
 // How far a walk over the lines has come: where it goes on, at which line and in which state; or the rule broken, and its line.
 pub struct Walk {
-    pub number: u64,
+    pub rule: u64,
     pub at: usize,
     pub line: u64,
     pub state: State,
@@ -55,16 +55,13 @@ pub struct Walk {
 fn goes_on(s: State) -> Step
     ensures { λ r. ⌜ r ≡ goes s ⌝ }
 {
-    Step {
-        number: 0,
-        state: s,
-    }
+    Step { rule: 0, state: s }
 }
 
-fn stops(number: u64, s: State) -> Step
-    ensures { λ r. ⌜ r ≡ breaks number s ⌝ }
+fn stops(rule: u64, s: State) -> Step
+    ensures { λ r. ⌜ r ≡ breaks rule s ⌝ }
 {
-    Step { number, state: s }
+    Step { rule, state: s }
 }
 
 // ---- lines without a keyword, place by place
@@ -86,9 +83,9 @@ fn head_step(content: &[u8], s: State) -> Step
 {
     let line = line_head::head_line(content);
     let head = s.head;
-    let number = line_head::head_rule(line, head);
-    if number != 0 {
-        return stops(number, s);
+    let rule = line_head::head_rule(line, head);
+    if rule != 0 {
+        return stops(rule, s);
     }
     let mut next = s;
     next.head = line_head::head_next(line, head);
@@ -101,9 +98,9 @@ fn map_step(content: &[u8], s: State) -> Step
 {
     let line = line_map::map_line(content);
     let map = s.map;
-    let number = line_map::map_rule(line, map);
-    if number != 0 {
-        return stops(number, s);
+    let rule = line_map::map_rule(line, map);
+    if rule != 0 {
+        return stops(rule, s);
     }
     let mut next = s;
     next.place = line_place::moved_by_line(s.place, lex_line::first_word(content));
@@ -139,9 +136,9 @@ fn keyword_step(key: u64, argument: &[u8], s: State) -> Step
     requires { ⌜ Kept mostLines s ⌝ }
     ensures { λ r. ⌜ r ≡ keywordStep key (now (argument .entry)) s ⌝ }
 {
-    let number = line_keyword::keyword_rule(key, argument, s);
-    if number != 0 {
-        return stops(number, s);
+    let rule = line_keyword::keyword_rule(key, argument, s);
+    if rule != 0 {
+        return stops(rule, s);
     }
     goes_on(line_keyword::keyword_next(key, argument, s))
 }
@@ -321,12 +318,12 @@ pub fn pass_quiet(text: &[u8], at: usize, line: u64, place: u64) -> Passing
     ensures { λ r. ⌜ Passed (now (text .entry)) at line place (r .at) (r .line) ⌝ }
 {
     let mut here = at;
-    let mut number = line;
+    let mut line_here = line;
     while here < text.len() {
         if !may_be_quiet(text, here, place) {
             return Passing {
                 at: here,
-                line: number,
+                line: line_here,
             };
         }
         let found = lex_line::line_at(text, here, COMMENT);
@@ -334,15 +331,15 @@ pub fn pass_quiet(text: &[u8], at: usize, line: u64, place: u64) -> Passing
         if !is_quiet(&text[here..content], place) {
             return Passing {
                 at: here,
-                line: number,
+                line: line_here,
             };
         }
         here = found.next;
-        number += 1;
+        line_here += 1;
     }
     Passing {
         at: here,
-        line: number,
+        line: line_here,
     }
 }
 
@@ -372,27 +369,27 @@ pub fn front_of(content: &[u8]) -> Front
 // of pins behind it.
 struct Pinned {
     taken: bool,
-    number: u64,
+    rule: u64,
     map: Map,
     pins: u64,
 }
 
 fn pin_line(content: &[u8], map: Map, pins: u64) -> Pinned
     ensures { λ r. ⌜ (r .taken ≡ true)
-        × Decides place.pinList (withPinned map pins) (lineStep (now (content .entry))) (r .number) (withPinned (r .map) (r .pins)) ⌝ }
+        × Decides place.pinList (withPinned map pins) (lineStep (now (content .entry))) (r .rule) (withPinned (r .map) (r .pins)) ⌝ }
 {
-    let number = line_map::pin_rule(content, map, pins);
-    if number != 0 {
+    let rule = line_map::pin_rule(content, map, pins);
+    if rule != 0 {
         return Pinned {
             taken: true,
-            number,
+            rule,
             map,
             pins,
         };
     }
     Pinned {
         taken: true,
-        number: 0,
+        rule: 0,
         map: line_map::with_pin(map),
         pins: pins + 1,
     }
@@ -400,20 +397,20 @@ fn pin_line(content: &[u8], map: Map, pins: u64) -> Pinned
 
 // A line of a pin list.
 fn take_pin(content: &[u8], map: Map, pins: u64) -> Pinned
-    ensures { λ r. ⌜ (r .taken ≡ true → Decides place.pinList (withPinned map pins) (lineResult (now (content .entry))) (r .number) (withPinned (r .map) (r .pins)))
+    ensures { λ r. ⌜ (r .taken ≡ true → Decides place.pinList (withPinned map pins) (lineResult (now (content .entry))) (r .rule) (withPinned (r .map) (r .pins)))
         × (r .taken ≡ false → Opens (now (content .entry))) ⌝ }
 {
     match front_of(content) {
         Front::Blanks => Pinned {
             taken: true,
-            number: 0,
+            rule: 0,
             map,
             pins,
         },
         Front::Words => pin_line(content, map, pins),
         Front::Opening => Pinned {
             taken: false,
-            number: 0,
+            rule: 0,
             map,
             pins,
         },
@@ -430,14 +427,14 @@ struct PinWalk {
 // Goes over the lines of a pin list.
 fn pass_pins(text: &[u8], at: usize, line: u64, map: Map, pins: u64) -> PinWalk
     requires { ⌜ (at ≤ length (now text)) × (line ≤ at + 1) ⌝ }
-    ensures { λ r. ⌜ Crossed (now (text .entry)) at line (Holds place.pinList (withPinned map pins)) (withPinned (r .part .map) (r .part .pins)) (r .part .number) (r .at) (r .line)
+    ensures { λ r. ⌜ Crossed (now (text .entry)) at line (Holds place.pinList (withPinned map pins)) (withPinned (r .part .map) (r .part .pins)) (r .part .rule) (r .at) (r .line)
         × Stays (now (text .entry)) at (r .at) ⌝ }
 {
     let mut here = at;
-    let mut number = line;
+    let mut line_here = line;
     let mut part = Pinned {
         taken: true,
-        number: 0,
+        rule: 0,
         map,
         pins,
     };
@@ -448,24 +445,24 @@ fn pass_pins(text: &[u8], at: usize, line: u64, map: Map, pins: u64) -> PinWalk
         if !next.taken {
             return PinWalk {
                 at: here,
-                line: number,
+                line: line_here,
                 part,
             };
         }
         here = found.next;
         part = next;
-        if part.number != 0 {
+        if part.rule != 0 {
             return PinWalk {
                 at: here,
-                line: number,
+                line: line_here,
                 part,
             };
         }
-        number += 1;
+        line_here += 1;
     }
     PinWalk {
         at: here,
-        line: number,
+        line: line_here,
         part,
     }
 }
@@ -474,7 +471,7 @@ fn pass_pins(text: &[u8], at: usize, line: u64, map: Map, pins: u64) -> PinWalk
 // count of steps behind it.
 pub struct Stepped {
     pub taken: bool,
-    pub number: u64,
+    pub rule: u64,
     pub path: Path,
     pub steps: u64,
 }
@@ -482,21 +479,21 @@ pub struct Stepped {
 fn path_line(content: &[u8], path: Path, steps: u64) -> Stepped
     requires { ⌜ Stepping path steps ⌝ }
     ensures { λ r. ⌜ (r .taken ≡ true)
-        × Decides place.path (withPath path steps) (lineStep (now (content .entry))) (r .number) (withPath (r .path) (r .steps)) × Stepping (r .path) (r .steps) ⌝ }
+        × Decides place.path (withPath path steps) (lineStep (now (content .entry))) (r .rule) (withPath (r .path) (r .steps)) × Stepping (r .path) (r .steps) ⌝ }
 {
     let line = line_path::path_line(content);
-    let number = line_path::path_rule(line, path, steps);
-    if number != 0 {
+    let rule = line_path::path_rule(line, path, steps);
+    if rule != 0 {
         return Stepped {
             taken: true,
-            number,
+            rule,
             path,
             steps,
         };
     }
     Stepped {
         taken: true,
-        number: 0,
+        rule: 0,
         path: line_path::path_next(line, path),
         steps: line_keyword::one_more_if(line_path::is_step(line), steps),
     }
@@ -505,20 +502,20 @@ fn path_line(content: &[u8], path: Path, steps: u64) -> Stepped
 // A line of a path.
 fn take_step(content: &[u8], path: Path, steps: u64) -> Stepped
     requires { ⌜ Stepping path steps ⌝ }
-    ensures { λ r. ⌜ (r .taken ≡ true → Decides place.path (withPath path steps) (lineResult (now (content .entry))) (r .number) (withPath (r .path) (r .steps)))
+    ensures { λ r. ⌜ (r .taken ≡ true → Decides place.path (withPath path steps) (lineResult (now (content .entry))) (r .rule) (withPath (r .path) (r .steps)))
         × Stepping (r .path) (r .steps) × (r .taken ≡ false → Opens (now (content .entry))) ⌝ }
 {
     match front_of(content) {
         Front::Blanks => Stepped {
             taken: true,
-            number: 0,
+            rule: 0,
             path,
             steps,
         },
         Front::Words => path_line(content, path, steps),
         Front::Opening => Stepped {
             taken: false,
-            number: 0,
+            rule: 0,
             path,
             steps,
         },
@@ -539,10 +536,10 @@ fn pass_path(text: &[u8], at: usize, line: u64, path: Path, steps: u64) -> PathW
 {
     let depth = path.depth;
     let mut here = at;
-    let mut number = line;
+    let mut line_here = line;
     let mut part = Stepped {
         taken: true,
-        number: 0,
+        rule: 0,
         path,
         steps,
     };
@@ -553,32 +550,32 @@ fn pass_path(text: &[u8], at: usize, line: u64, path: Path, steps: u64) -> PathW
         if !next.taken {
             return PathWalk {
                 at: here,
-                line: number,
+                line: line_here,
                 part,
             };
         }
         here = found.next;
         part = next;
-        if part.number != 0 {
+        if part.rule != 0 {
             return PathWalk {
                 at: here,
-                line: number,
+                line: line_here,
                 part,
             };
         }
-        number += 1;
+        line_here += 1;
         let reached = part.path;
         if reached.depth != depth {
             return PathWalk {
                 at: here,
-                line: number,
+                line: line_here,
                 part,
             };
         }
     }
     PathWalk {
         at: here,
-        line: number,
+        line: line_here,
         part,
     }
 }
@@ -593,7 +590,7 @@ fn pass_block(text: &[u8], at: usize, line: u64, path: Path, steps: u64, left: u
     loop {
         let part = walk.part;
         let reached = part.path;
-        if part.number != 0 {
+        if part.rule != 0 {
             return walk;
         }
         if reached.depth <= path.depth {
@@ -606,7 +603,7 @@ fn pass_block(text: &[u8], at: usize, line: u64, path: Path, steps: u64, left: u
         let inner = pass_block(text, here, walk.line, reached, part.steps, left - 1);
         let inside = inner.part;
         let closed = inside.path;
-        if inside.number != 0 {
+        if inside.rule != 0 {
             return inner;
         }
         let rest = pass_path(text, inner.at, inner.line, closed, inside.steps);
@@ -629,9 +626,9 @@ pub fn read_one(text: &[u8], at: usize, line: u64, s: State) -> Walk
     let taken = take_line(&text[at..content], s);
     let state = taken.state;
     Walk {
-        number: taken.number,
+        rule: taken.rule,
         at: here.next,
-        line: line_keyword::one_more_if(taken.number == 0, line),
+        line: line_keyword::one_more_if(taken.rule == 0, line),
         state,
     }
 }
@@ -652,7 +649,7 @@ pub fn read_pins(text: &[u8], at: usize, line: u64, s: State) -> Walk
         state.map = reached;
         state.counts = counts;
         return Walk {
-            number: part.number,
+            rule: part.rule,
             at: walk.at,
             line: walk.line,
             state,
@@ -677,7 +674,7 @@ pub fn read_path(text: &[u8], at: usize, line: u64, s: State) -> Walk
         state.path = reached;
         state.counts = counts;
         return Walk {
-            number: part.number,
+            rule: part.rule,
             at: walk.at,
             line: walk.line,
             state,

@@ -69,7 +69,7 @@ module _ (t : List ℕ) (n₀ at₀ form : ℕ) (table₀ : List ℕ) (values₀
         }
 
 -- a line inside a matrix leads to one that is read in the matrix
-inside-stays : (content : List ℕ) (n at : ℕ) → inMatrix (record { number = n; at = at; place = place.matrix; content = content }) ≡ true → placeAfter place.matrix content ≡ place.matrix
+inside-stays : (content : List ℕ) (n at : ℕ) → inMatrix (record { line = n; at = at; place = place.matrix; content = content }) ≡ true → placeAfter place.matrix content ≡ place.matrix
 unfolding inMatrix keyOf
 inside-stays content n at e = matrix-stays content (both-second _ _ e)
 
@@ -118,7 +118,7 @@ module _ (t : List ℕ) (n₀ at₀ form : ℕ) (table₀ : List ℕ) (values₀
       (λ i. take (k i) (drop (z i) (table-told i))) ∙ stored-words table₀ (3 * values₀) (valuesWords all) room
 
   left-told : Placed t n at → at₀ ≤ at →
-      Tells t (record { at = at₀; number = n₀; form = form; first = values₀; further = at; next = n; bandwidth = toldOr (a .bandwidth) 0; greatest = a .greatest; count = values - values₀ })
+      Tells t (record { at = at₀; line = n₀; form = form; first = values₀; further = at; next = n; bandwidth = toldOr (a .bandwidth) 0; greatest = a .greatest; count = values - values₀ })
       (take (3 * (values - values₀)) (drop (0 + 3 * values₀) table))
   unfolding bandwidthIn greatestIn
   left-told placed onward =
@@ -137,7 +137,7 @@ module _ (t : List ℕ) (n₀ at₀ form : ℕ) (table₀ : List ℕ) (values₀
 -- ---- lines gone over
 
 pub gone-start : (t : List ℕ) (at line : ℕ) (m : Matrix) (values : ℕ) (table : List ℕ) (b : Bool) → at ≤ length t → (b ≡ true → 3 * values ≤ length table) → (n : noting.Note) → n ≡ noNote b →
-    Gone t at line m values table at line (record { taken = true; ends = false; number = 0; matrix = m; values = values; note = n }) table
+    Gone t at line m values table at line (record { taken = true; ends = false; rule = 0; matrix = m; values = values; note = n }) table
 gone-start t at line m values table b h room n told =
     rw told
     (record {
@@ -191,7 +191,7 @@ module _ (t : List ℕ) (at line : ℕ) (m : Matrix) (values : ℕ) (table₀ : 
         stays = stays-ended t at here h;
         behind = gone .behind;
         rises = gone .rises;
-        tells = λ (z : part .number ≡ 0) (w : part .note .whole ≡ true) (l : line ≤ at + 1). told w (nothing-more h) l (part .note .whole);
+        tells = λ (z : part .rule ≡ 0) (w : part .note .whole ≡ true) (l : line ≤ at + 1). told w (nothing-more h) l (part .note .whole);
       }
 
   module _ (h : here < length t) (found : text.Line) (is-found : found ≡ lineAt commentByte t here) (next : Data) (table' : List ℕ)
@@ -200,7 +200,7 @@ module _ (t : List ℕ) (at line : ℕ) (m : Matrix) (values : ℕ) (table₀ : 
     content = take (found .content - here) (drop here t)
 
     abbrev l : Line
-    l = record { number = number; at = here; place = place.matrix; content = take (found .content - here) (drop here t) }
+    l = record { line = number; at = here; place = place.matrix; content = take (found .content - here) (drop here t) }
 
     stops-here : Ends content → bodyLines t number here ≡ []
     stops-here ends = ap (upTo inMatrix) (stop-here t here h number found is-found (ends .filled) place.matrix) ∙ up-stops inMatrix l _ (ends .outside l refl)
@@ -214,7 +214,7 @@ module _ (t : List ℕ) (at line : ℕ) (m : Matrix) (values : ℕ) (table₀ : 
           stays = stays-opens t at here found is-found (takes .opens left);
           behind = gone .behind;
           rises = gone .rises;
-          tells = λ (z : part .number ≡ 0) (w : noted ≡ true) (k : line ≤ at + 1).
+          tells = λ (z : part .rule ≡ 0) (w : noted ≡ true) (k : line ≤ at + 1).
               told (both-second _ _ (sym is-noted ∙ w)) (stops-here (takes .ends left (both-first _ _ (sym is-noted ∙ w)))) k noted;
         })
 
@@ -224,22 +224,22 @@ module _ (t : List ℕ) (at line : ℕ) (m : Matrix) (values : ℕ) (table₀ : 
       behind-next : Behind values table₀ table'
       behind-next = behind-on values (part .values) table₀ table table' (gone .rises) (gone .behind) (takes .behind)
 
-      decided : (s : State) → Holds place.matrix (withMatrix m values) s → lineResult content (withMatrix (part .matrix) (part .values) s) ≡ breaks (next .number) (withMatrix (next .matrix) (next .values) s)
+      decided : (s : State) → Holds place.matrix (withMatrix m values) s → lineResult content (withMatrix (part .matrix) (part .values) s) ≡ breaks (next .rule) (withMatrix (next .matrix) (next .values) s)
       decided s f = takes .decides taken s (f .0)
 
-      pub gone-stops : (next .number ≡ 0 → ⊥) → Goes t at line m values table₀ (record { at = found .next; line = number; part = next; noted = false }) table'
+      pub gone-stops : (next .rule ≡ 0 → ⊥) → Goes t at line m values table₀ (record { at = found .next; line = number; part = next; noted = false }) table'
       gone-stops broken =
           record {
             crossed =
-                crossed-stops t at line (Holds place.matrix (withMatrix m values)) (withMatrix (part .matrix) (part .values)) (part .number) here number (gone .whole) (gone .crossed) h found is-found
-                (withMatrix (next .matrix) (next .values)) (next .number) decided broken;
+                crossed-stops t at line (Holds place.matrix (withMatrix m values)) (withMatrix (part .matrix) (part .values)) (part .rule) here number (gone .whole) (gone .crossed) h found is-found
+                (withMatrix (next .matrix) (next .values)) (next .rule) decided broken;
             stays = stays-moved t at here found is-found h (gone .crossed .onward);
             behind = behind-next;
             rises = le-trans (gone .rises) (takes .rises);
-            tells = λ (z : next .number ≡ 0) (w : false ≡ true). absurd (true≢false (sym w));
+            tells = λ (z : next .rule ≡ 0) (w : false ≡ true). absurd (true≢false (sym w));
           }
 
-      module _ (z : next .number ≡ 0) where
+      module _ (z : next .rule ≡ 0) where
         on-blank : next .note .whole ≡ true → isBlankLine content ≡ true → Left t line at (m .form) table₀ values (number + 1) (found .next) table' (next .values) (next .note)
         on-blank w blank =
             let e : (table' ≡ table) × (next .values ≡ part .values) × (next .note ≡ part .note) = takes .extends taken z w .blank blank in
@@ -264,8 +264,8 @@ module _ (t : List ℕ) (at line : ℕ) (m : Matrix) (values : ℕ) (table₀ : 
             record {
               whole = z;
               crossed =
-                  crossed-on t at line (Holds place.matrix (withMatrix m values)) (withMatrix (part .matrix) (part .values)) (part .number) here number (gone .whole) (gone .crossed) h found is-found
-                  (withMatrix (next .matrix) (next .values)) (next .number) decided z;
+                  crossed-on t at line (Holds place.matrix (withMatrix m values)) (withMatrix (part .matrix) (part .values)) (part .rule) here number (gone .whole) (gone .crossed) h found is-found
+                  (withMatrix (next .matrix) (next .values)) (next .rule) decided z;
               form = takes .form ∙ gone .form;
               behind = behind-next;
               rises = le-trans (gone .rises) (takes .rises);

@@ -93,7 +93,7 @@ module _ (content : List ℕ) (filled : isBlankLine content ≡ false) (plainly 
     untold-here w = true≢false (sym w ∙ ap (λ (x : Note). x .whole) none)
 
     pub judged-stops : (k ≡ 0 → ⊥) →
-        Takes content m values a table (record { taken = true; ends = false; number = k; matrix = m; values = values; note = n }) table
+        Takes content m values a table (record { taken = true; ends = false; rule = k; matrix = m; values = values; note = n }) table
     judged-stops h =
         record {
           decides = λ (e : true ≡ true). steps-not h;
@@ -109,7 +109,7 @@ module _ (content : List ℕ) (filled : isBlankLine content ≡ false) (plainly 
 
     pub judged-goes : k ≡ 0 → (next : Matrix) → next ≡ dataNext line m →
         Takes content m values a table
-        (record { taken = true; ends = false; number = 0; matrix = next; values = values + line .numbers; note = n }) table
+        (record { taken = true; ends = false; rule = 0; matrix = next; values = values + line .numbers; note = n }) table
     judged-goes z next next-is =
         record {
           decides = λ (e : true ≡ true). steps-on z next next-is;
@@ -128,7 +128,7 @@ module _ (content : List ℕ) (filled : isBlankLine content ≡ false) (plainly 
       (adds : (l : Line) → l .content ≡ content → keyOf l ≡ plain → Adds (m .form) l table values a table' (values + line .numbers) b) where
     -- some line of these words, wherever it stands
     abbrev here : Line
-    here = record { number = 0; at = 0; place = place.matrix; content = content }
+    here = record { line = 0; at = 0; place = place.matrix; content = content }
 
     extended : Extends content (m .form) table values a table' (values + line .numbers) b
     extended =
@@ -140,7 +140,7 @@ module _ (content : List ℕ) (filled : isBlankLine content ≡ false) (plainly 
 
     pub noted-goes : k ≡ 0 → (next : Matrix) → next ≡ dataNext line m →
         Takes content m values a table
-        (record { taken = true; ends = false; number = 0; matrix = next; values = values + line .numbers; note = b }) table'
+        (record { taken = true; ends = false; rule = 0; matrix = next; values = values + line .numbers; note = b }) table'
     noted-goes z next next-is =
         record {
           decides = λ (e : true ≡ true). steps-on z next next-is;
@@ -157,7 +157,7 @@ module _ (content : List ℕ) (filled : isBlankLine content ≡ false) (plainly 
 -- ---- a blank line
 
 pub blank-takes : (content : List ℕ) (m : Matrix) (values : ℕ) (a : Note) (table : List ℕ) → isBlankLine content ≡ true → Bounded a values →
-    Takes content m values a table (record { taken = true; ends = false; number = 0; matrix = m; values = values; note = a }) table
+    Takes content m values a table (record { taken = true; ends = false; rule = 0; matrix = m; values = values; note = a }) table
 unfolding breaks goes
 blank-takes content m values a table blank bound =
     record {
@@ -179,7 +179,7 @@ blank-takes content m values a table blank bound =
 -- ---- a line that is not taken
 
 pub left-takes : (content : List ℕ) (m : Matrix) (values : ℕ) (a : Note) (table : List ℕ) (b : Bool) → Opens content → (b ≡ true → Ends content) → Bounded a values → (r : Data) →
-    r ≡ record { taken = false; ends = b; number = 0; matrix = m; values = values; note = a } → Takes content m values a table r table
+    r ≡ record { taken = false; ends = b; rule = 0; matrix = m; values = values; note = a } → Takes content m values a table r table
 left-takes content m values a table b opens ends bound r told =
     rw told
     (record {
@@ -241,7 +241,7 @@ module _ (k : ℕ) (argument : List ℕ) (m : Matrix) (values : ℕ) (a : Note) 
   rule-here : (s : State) → s .place ≡ place.matrix → n ≡ keywordRule k argument (withMatrix m values s)
   rule-here s p = rule ∙ sym (kept-rule-is argument (withMatrix m values s) p k keeps)
 
-  pub keeps-stop : (n ≡ 0 → ⊥) → Keeps k argument m values a (record { taken = true; ends = false; number = n; matrix = m; values = values; note = a })
+  pub keeps-stop : (n ≡ 0 → ⊥) → Keeps k argument m values a (record { taken = true; ends = false; rule = n; matrix = m; values = values; note = a })
   keeps-stop h =
       record {
         taken = refl;
@@ -253,7 +253,7 @@ module _ (k : ℕ) (argument : List ℕ) (m : Matrix) (values : ℕ) (a : Note) 
       }
 
   pub keeps-go : n ≡ 0 → (whole : Whole) → whole ≡ wholeOf argument → (next : Matrix) → next ≡ keptNext k argument m values → (b : Note) → b ≡ keptNote k (whole .value) a →
-      Keeps k argument m values a (record { taken = true; ends = false; number = 0; matrix = next; values = values; note = b })
+      Keeps k argument m values a (record { taken = true; ends = false; rule = 0; matrix = next; values = values; note = b })
   unfolding goes breaks
   keeps-go z whole whole-is next next-is b b-is =
       let v : whole .value ≡ wholeOf argument .value = ap (λ (x : Whole). x .value) whole-is in
@@ -344,7 +344,7 @@ module _ (content : List ℕ) (filled : isBlankLine content ≡ false) (k start 
         behind = behind-same values table;
         rises = let s : r .values ≡ values = kept .same in omega arith;
         bounded = rw (kept .same) (kept .bounded);
-        extends = λ (e : r .taken ≡ true) (z : r .number ≡ 0) (w : r .note .whole ≡ true).
+        extends = λ (e : r .taken ≡ true) (z : r .rule ≡ 0) (w : r .note .whole ≡ true).
             record {
               blank = λ (b : isBlankLine content ≡ true). absurd (true≢false (sym b ∙ filled));
               filled = λ (b : isBlankLine content ≡ false) (l : Line) (p : l .place ≡ place.matrix) (c : l .content ≡ content). (keyed-inside keeps l p c, added z w l c);
@@ -354,7 +354,7 @@ module _ (content : List ℕ) (filled : isBlankLine content ≡ false) (k start 
       apart : (other : ℕ) → (place.matrix ≡ other → ⊥) → (s : State) → s .place ≡ place.matrix → s .place ≡ other → ⊥
       apart other h s p z = h (sym p ∙ z)
 
-      added : r .number ≡ 0 → r .note .whole ≡ true → (l : Line) → l .content ≡ content → Adds (m .form) l table values a table (r .values) (r .note)
+      added : r .rule ≡ 0 → r .note .whole ≡ true → (l : Line) → l .content ≡ content → Adds (m .form) l table values a table (r .values) (r .note)
       added z w l c =
           let g : wholeOf argument .value ≡ givenBy l = ap (λ (x : List ℕ). wholeOf x .value) argument-is ∙ sym (given content k start is l c) in
           let n : r .note ≡ keptNote k (givenBy l) a = kept .note z ∙ ap (λ (x : ℕ). keptNote k x a) g in
@@ -370,7 +370,7 @@ module _ (content : List ℕ) (filled : isBlankLine content ≡ false) (k start 
       both-not-right _ _ (either-false _ _ (ap (λ (x : ℕ). eqb x plain) key ∙ other) (ap keepsMatrix key ∙ leaves))
 
   pub leaves-takes : (b : Bool) → b ≡ keepsMatrix k → b ≡ false → Bounded a values → (r : Data) →
-      r ≡ record { taken = false; ends = not (eqb k plain); number = 0; matrix = m; values = values; note = a } → (table : List ℕ) → Takes content m values a table r table
+      r ≡ record { taken = false; ends = not (eqb k plain); rule = 0; matrix = m; values = values; note = a } → (table : List ℕ) → Takes content m values a table r table
   leaves-takes b keeps leaves bound r told table =
       left-takes content m values a table (not (eqb k plain)) (keyed-opens content k start is)
       (λ (e : not (eqb k plain) ≡ true). record { filled = filled; outside = outside (sym keeps ∙ leaves) (not-true _ e) }) bound r told

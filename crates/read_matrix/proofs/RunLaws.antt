@@ -125,7 +125,7 @@ module _ (t : List ℕ) (here form values row column : ℕ) (table : List ℕ) w
             (record {
               taken = true;
               ends = false;
-              number = 0;
+              rule = 0;
               matrix = m;
               values = values + numbers .count;
               note = movedTo (numbers .row) (numbers .column) a;
@@ -207,7 +207,7 @@ module _ (t : List ℕ) (here values row : ℕ) (table : List ℕ) where
             (record {
               taken = true;
               ends = false;
-              number = 0;
+              rule = 0;
               matrix = withColumn (pair .column) m;
               values = values + 1;
               note = namedTo (pair .column) a;
@@ -254,7 +254,7 @@ runs-now t at line part within counted bounded whole few b ordered tested =
     }
 
 -- what is reached is told again by its fields
-module _ (t : List ℕ) (at line : ℕ) (part : Data) (table : List ℕ) (runs : Runs t at line part) (reached : Data) (broken : reached .number ≡ 0)
+module _ (t : List ℕ) (at line : ℕ) (part : Data) (table : List ℕ) (runs : Runs t at line part) (reached : Data) (broken : reached .rule ≡ 0)
     (matrix : reached .matrix ≡ part .matrix) (values : reached .values ≡ part .values) (note : reached .note ≡ part .note) where
   again : (at₀ line₀ : ℕ) (m : Matrix) (values₀ : ℕ) (table₀ : List ℕ) → Gone t at₀ line₀ m values₀ table₀ at line part table →
       Gone t at₀ line₀ m values₀ table₀ at line reached table
@@ -284,7 +284,7 @@ module _ (t : List ℕ) (at line : ℕ) (part : Data) (table₀ : List ℕ) (her
   -- one line more
   module _ (h : here < length t) (found : text.Line) (is-found : found ≡ lineAt commentByte t here) (next : Data) (table' : List ℕ)
       (takes : Takes (take (found .content - here) (drop here t)) (reached .matrix) (reached .values) (reached .note) table next table')
-      (taken : next .taken ≡ true) (kept : next .number ≡ 0) (few : next .values ≤ mostValues) (whole : next .note .whole ≡ true) where
+      (taken : next .taken ≡ true) (kept : next .rule ≡ 0) (few : next .values ≤ mostValues) (whole : next .note .whole ≡ true) where
     on-next : On t at line part table₀ (found .next) (number + 1) next table'
     on-next =
         let f : here < found .next = rw is-found (next-on commentByte t here h) in
@@ -307,7 +307,7 @@ module _ (t : List ℕ) (at line : ℕ) (part : Data) (table₀ : List ℕ) (her
         }
 
   -- a line that is no part of the run: what it has changed, it has changed behind the values, and then not all is told
-  module _ (table' : List ℕ) (behind : Behind (reached .values) table table') (left : Data) (broken : left .number ≡ 0)
+  module _ (table' : List ℕ) (behind : Behind (reached .values) table table') (left : Data) (broken : left .rule ≡ 0)
       (matrix : left .matrix ≡ reached .matrix) (values : left .values ≡ reached .values)
       (bounded : Bounded (left .note) (reached .values))
       (told : left .note .whole ≡ true → (table' ≡ table) × (left .note ≡ reached .note)) where
@@ -521,13 +521,13 @@ module _ (t : List ℕ) (at line : ℕ) (m : Matrix) (values : ℕ) (table₀ : 
             (not-true (next .taken) left) noted is-noted
 
         module _ (taken : not (next .taken) ≡ false) where
-          pub run-stops : (next .number ≡ 0 → ⊥) →
+          pub run-stops : (next .rule ≡ 0 → ⊥) →
               Goes t at line m values table₀ (record { at = found .next; line = r .line; part = next; noted = false }) table₁
           run-stops broken =
               gone-stops t at line m values table₀ (r .at) (r .line) (r .part) table₁ run-gone h found is-found next table₁ (takes table₁)
               (not-false (next .taken) taken) broken
 
-          pub run-on : next .number ≡ 0 → Gone t at line m values table₀ (found .next) (r .line + 1) next table₁
+          pub run-on : next .rule ≡ 0 → Gone t at line m values table₀ (found .next) (r .line + 1) next table₁
           run-on kept =
               gone-on t at line m values table₀ (r .at) (r .line) (r .part) table₁ run-gone h found is-found next table₁ (takes table₁)
               (not-false (next .taken) taken) kept

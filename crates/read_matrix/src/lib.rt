@@ -36,7 +36,7 @@ const MOST_VALUES: u64 = 65536;
 pub struct Data {
     pub taken: bool,
     pub ends: bool,
-    pub number: u64,
+    pub rule: u64,
     pub matrix: Matrix,
     pub values: u64,
     pub note: Note,
@@ -65,12 +65,12 @@ fn data_line(content: &[u8], matrix: Matrix, values: u64) -> Data
     ensures { λ r. ⌜ ((note : noting.Note) → TakesAlone (now (content .entry)) matrix values note r) ⌝ }
 {
     let line = line_matrix::data_line(matrix.form, content);
-    let number = line_matrix::data_rule(line, matrix, values);
-    if number != 0 {
+    let rule = line_matrix::data_rule(line, matrix, values);
+    if rule != 0 {
         return Data {
             taken: true,
             ends: false,
-            number,
+            rule,
             matrix,
             values,
             note: new_note(false),
@@ -79,7 +79,7 @@ fn data_line(content: &[u8], matrix: Matrix, values: u64) -> Data
     Data {
         taken: true,
         ends: false,
-        number: 0,
+        rule: 0,
         matrix: line_matrix::data_next(line, matrix),
         values: values + line.numbers,
         note: new_note(false),
@@ -120,12 +120,12 @@ fn kept_line(key: u64, argument: &[u8], matrix: Matrix, values: u64, note: Note)
     requires { ⌜ (keepsMatrix key ≡ true) × Bounded note values ⌝ }
     ensures { λ r. ⌜ Keeps key (now (argument .entry)) matrix values note r ⌝ }
 {
-    let number = line_keyword::kept_rule(key, argument, matrix);
-    if number != 0 {
+    let rule = line_keyword::kept_rule(key, argument, matrix);
+    if rule != 0 {
         return Data {
             taken: true,
             ends: false,
-            number,
+            rule,
             matrix,
             values,
             note,
@@ -135,7 +135,7 @@ fn kept_line(key: u64, argument: &[u8], matrix: Matrix, values: u64, note: Note)
     Data {
         taken: true,
         ends: false,
-        number: 0,
+        rule: 0,
         matrix: line_keyword::kept_next(key, argument, matrix, values),
         values,
         note: kept_note(key, whole.value, note),
@@ -144,12 +144,12 @@ fn kept_line(key: u64, argument: &[u8], matrix: Matrix, values: u64, note: Note)
 
 // A line that is not taken here.
 fn left_line(ends: bool, matrix: Matrix, values: u64, note: Note) -> Data
-    ensures { λ r. ⌜ r ≡ record { taken = false; ends = ends; number = 0; matrix = matrix; values = values; note = note } ⌝ }
+    ensures { λ r. ⌜ r ≡ record { taken = false; ends = ends; rule = 0; matrix = matrix; values = values; note = note } ⌝ }
 {
     Data {
         taken: false,
         ends,
-        number: 0,
+        rule: 0,
         matrix,
         values,
         note,
@@ -204,7 +204,7 @@ fn take_data(content: &[u8], matrix: Matrix, values: u64, note: Note) -> Data
         Front::Blanks => Data {
             taken: true,
             ends: false,
-            number: 0,
+            rule: 0,
             matrix,
             values,
             note,
@@ -362,7 +362,7 @@ fn numbers_passed(
     let reached = Data {
         taken: true,
         ends: false,
-        number: 0,
+        rule: 0,
         matrix,
         values,
         note,
@@ -383,22 +383,22 @@ fn pass_numbers(text: &[u8], at: usize, line: u64, part: Data, table: &mut [u64]
     let form = matrix.form;
     let note = part.note;
     let mut here = at;
-    let mut number = line;
+    let mut line_here = line;
     let mut values = part.values;
     let mut row = note.row;
     let mut column = note.column;
     while here < text.len() {
         let next = take_numbers(text, here, form, values, table, row, column);
         if !next.taken {
-            return numbers_passed(here, number, part, next.whole, values, row, column);
+            return numbers_passed(here, line_here, part, next.whole, values, row, column);
         }
         here = next.next;
-        number += 1;
+        line_here += 1;
         values = next.values;
         row = next.row;
         column = next.column;
     }
-    numbers_passed(here, number, part, true, values, row, column)
+    numbers_passed(here, line_here, part, true, values, row, column)
 }
 
 // A line of a Sparse_matrix: whether it is taken, whether what is noted still tells all, its column, and where the next line starts.
@@ -496,7 +496,7 @@ fn pairs_passed(
     let reached = Data {
         taken: true,
         ends: false,
-        number: 0,
+        rule: 0,
         matrix,
         values,
         note,
@@ -518,7 +518,7 @@ fn pass_pairs(text: &[u8], at: usize, line: u64, part: Data, table: &mut [u64]) 
     let note = part.note;
     let row = note.row;
     let mut here = at;
-    let mut number = line;
+    let mut line_here = line;
     let mut values = part.values;
     let mut least = rows.least;
     let mut greatest = rows.greatest;
@@ -528,10 +528,10 @@ fn pass_pairs(text: &[u8], at: usize, line: u64, part: Data, table: &mut [u64]) 
         let next = take_pair(text, here, values, table, row);
         if !next.taken {
             let reached = pairs_matrix(matrix, least, greatest, fits);
-            return pairs_passed(here, number, part, next.whole, values, reached, named);
+            return pairs_passed(here, line_here, part, next.whole, values, reached, named);
         }
         here = next.next;
-        number += 1;
+        line_here += 1;
         values += 1;
         fits = base::and(fits, least <= next.column);
         least = next.column + 1;
@@ -539,7 +539,7 @@ fn pass_pairs(text: &[u8], at: usize, line: u64, part: Data, table: &mut [u64]) 
         named = greater(named, next.column);
     }
     let reached = pairs_matrix(matrix, least, greatest, fits);
-    pairs_passed(here, number, part, true, values, reached, named)
+    pairs_passed(here, line_here, part, true, values, reached, named)
 }
 
 // A form with rows has one.
@@ -588,25 +588,25 @@ pub fn pass_data(
     ensures { λ r. ⌜ Goes (now (text .entry)) at line matrix values (now (table .entry)) r (now (table .exit)) ⌝ }
 {
     let mut here = at;
-    let mut number = line;
+    let mut line_here = line;
     let mut part = Data {
         taken: true,
         ends: false,
-        number: 0,
+        rule: 0,
         matrix,
         values,
         note: new_note(has_room(values, table.len())),
     };
     while here < text.len() {
-        let run = pass_run(text, here, number, part, table);
+        let run = pass_run(text, here, line_here, part, table);
         here = run.at;
-        number = run.line;
+        line_here = run.line;
         part = run.part;
         if text.len() <= here {
             let note = part.note;
             return BodyWalk {
                 at: here,
-                line: number,
+                line: line_here,
                 part,
                 noted: note.whole,
             };
@@ -618,27 +618,27 @@ pub fn pass_data(
             let note = part.note;
             return BodyWalk {
                 at: here,
-                line: number,
+                line: line_here,
                 part,
                 noted: base::and(next.ends, note.whole),
             };
         }
         here = found.next;
         part = next;
-        if part.number != 0 {
+        if part.rule != 0 {
             return BodyWalk {
                 at: here,
-                line: number,
+                line: line_here,
                 part,
                 noted: false,
             };
         }
-        number += 1;
+        line_here += 1;
     }
     let note = part.note;
     BodyWalk {
         at: here,
-        line: number,
+        line: line_here,
         part,
         noted: note.whole,
     }

@@ -62,7 +62,7 @@ carries-more t table notes v v' c h =
     }
 
 pub carries-on : (t table notes : List ℕ) (at line : ℕ) (s : State) (r : Walk) → Carries t table notes (s .counts .values) →
-    Reached t at line s r → r .number ≡ 0 → Carries t table notes (r .state .counts .values)
+    Reached t at line s r → r .rule ≡ 0 → Carries t table notes (r .state .counts .values)
 carries-on t table notes at line s r c reached z = carries-more t table notes (s .counts .values) (r .state .counts .values) c (reached .rises z)
 
 -- words from a place on, cut out of the first words
@@ -207,16 +207,16 @@ carries-noted t table notes v matrices n c tells h =
 -- the lines of a matrix
 pub carries-body : (t table table' notes notes' : List ℕ) (at line : ℕ) (m : Matrix) (values matrices : ℕ) (w : BodyWalk) → line ≤ at + 1 →
     Goes t at line m values table w table' → Carries t table notes values → notes' ≡ notesBehind at line m values matrices w notes →
-    w .part .number ≡ 0 → Carries t table' notes' (w .part .values)
+    w .part .rule ≡ 0 → Carries t table' notes' (w .part .values)
 unfolding notesBehind
 carries-body t table table' notes notes' at line m values matrices w counted goes c stored z =
     subst (λ (u : List ℕ). Carries t table' u (w .part .values)) (sym stored)
     (by-test (λ (u : List ℕ). Carries t table' u (w .part .values)) (w .noted) _ _
     (λ (e : w .noted ≡ true).
-    by-test (λ (u : List ℕ). Carries t table' u (w .part .values)) (eqb (w .part .number) 0) _ _
-    (λ (f : eqb (w .part .number) 0 ≡ true).
+    by-test (λ (u : List ℕ). Carries t table' u (w .part .values)) (eqb (w .part .rule) 0) _ _
+    (λ (f : eqb (w .part .rule) 0 ≡ true).
     carries-noted t table' notes (w .part .values) matrices (noteOf at line m values w) kept (goes .tells z e counted) within)
-    (λ (f : eqb (w .part .number) 0 ≡ false). kept))
+    (λ (f : eqb (w .part .rule) 0 ≡ false). kept))
     (λ (e : w .noted ≡ false). kept))
   where
     kept : Carries t table' notes (w .part .values)
@@ -253,11 +253,11 @@ module _ (at line : ℕ) (m : Matrix) (values matrices : ℕ) (w : BodyWalk) (no
   behind-unnoted e = sym (if-false _ _ e)
 
   module _ (noted : w .noted ≡ true) where
-    pub behind-broken : (w .part .number ≡ 0 → ⊥) → notes ≡ notesBehind at line m values matrices w notes
+    pub behind-broken : (w .part .rule ≡ 0 → ⊥) → notes ≡ notesBehind at line m values matrices w notes
     unfolding notesBehind
     behind-broken h = sym (if-true _ _ noted ∙ if-false _ _ (ne-eqb _ _ h))
 
-    pub behind-noted : w .part .number ≡ 0 → (notes' : List ℕ) (told : ℕ) → told ≡ toldOr (w .part .note .bandwidth) 0 →
+    pub behind-noted : w .part .rule ≡ 0 → (notes' : List ℕ) (told : ℕ) → told ≡ toldOr (w .part .note .bandwidth) 0 →
         notes' ≡ notesAfter matrices
         (at ∷ line ∷ m .form ∷ values ∷ w .at ∷ w .line ∷ told ∷ w .part .note .greatest ∷ (w .part .values - values) ∷ []) notes →
         notes' ≡ notesBehind at line m values matrices w notes

@@ -56,7 +56,7 @@ fn note_matrix(
         return;
     }
     let part = walk.part;
-    if part.number != 0 {
+    if part.rule != 0 {
         return;
     }
     let note = part.note;
@@ -87,7 +87,7 @@ fn read_data(
     requires { ⌜ (at < length (now text)) × Onward (now text) at line s × (s .place ≡ place.matrix)
         × Carries (now text) (now table) (now notes) (s .counts .values) ⌝ }
     ensures { λ r. ⌜ Reached (now (text .entry)) at line s r
-        × (r .number ≡ 0 → Carries (now (text .entry)) (now (table .exit)) (now (notes .exit)) (r .state .counts .values)) ⌝ }
+        × (r .rule ≡ 0 → Carries (now (text .entry)) (now (table .exit)) (now (notes .exit)) (r .state .counts .values)) ⌝ }
 {
     let matrix = s.matrix;
     let mut counts = s.counts;
@@ -109,7 +109,7 @@ fn read_data(
         state.matrix = reached;
         state.counts = counts;
         return Walk {
-            number: part.number,
+            rule: part.rule,
             at: walk.at,
             line: walk.line,
             state,
@@ -129,7 +129,7 @@ fn read_line(
 ) -> Walk
     requires { ⌜ (at < length (now text)) × Onward (now text) at line s × Carries (now text) (now table) (now notes) (s .counts .values) ⌝ }
     ensures { λ r. ⌜ Reached (now (text .entry)) at line s r
-        × (r .number ≡ 0 → Carries (now (text .entry)) (now (table .exit)) (now (notes .exit)) (r .state .counts .values)) ⌝ }
+        × (r .rule ≡ 0 → Carries (now (text .entry)) (now (table .exit)) (now (notes .exit)) (r .state .counts .values)) ⌝ }
 {
     if s.place == line_place::MATRIX {
         return read_data(text, at, line, s, table, notes);
@@ -143,7 +143,7 @@ fn read_line(
     let passing = read_line::pass_quiet(text, at, line, s.place);
     if at < passing.at {
         return Walk {
-            number: 0,
+            rule: 0,
             at: passing.at,
             line: passing.line,
             state: s,
@@ -164,8 +164,8 @@ pub fn read(text: &[u8], table: &mut [u64], notes: &mut [u64]) -> Reading
     let mut s = line_keyword::start_state();
     while at < text.len() {
         let walk = read_line(text, at, line, s, table, notes);
-        if walk.number != 0 {
-            return Reading::Refused(walk.number, walk.line);
+        if walk.rule != 0 {
+            return Reading::Refused(walk.rule, walk.line);
         }
         at = walk.at;
         line = walk.line;

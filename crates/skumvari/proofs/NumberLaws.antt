@@ -99,7 +99,7 @@ unfolding keywordRule
 keyword-other k argument s = rule 15 refl _ _ (rule 9 refl _ _ (rule 11 refl _ _ (rule 13 refl _ _ (rule 14 refl _ _ (rule 16 refl _ _ (rule 17 refl _ _ kept))))))
 
 abbrev OtherStep : Step → Type 0
-OtherStep step = Other (step .number)
+OtherStep step = Other (step .rule)
 
 goes-other : (s : State) → OtherStep (goes s)
 unfolding goes
@@ -154,7 +154,7 @@ run-other n [] s =
     by-test OtherReading (eqb (s .place) done) _ _ (λ e. tt)
     (λ e. by-test OtherReading (eqb (s .place) before) _ _ (λ f. other 5 refl) (λ f. other 10 refl))
 run-other n (l ∷ ls) s =
-    by-test OtherReading (eqb (lineResult (contentOf commentByte (l .bytes)) s .number) 0) _ _
+    by-test OtherReading (eqb (lineResult (contentOf commentByte (l .bytes)) s .rule) 0) _ _
     (λ e. run-other (n + 1) ls (lineResult (contentOf commentByte (l .bytes)) s .state)) (λ e. step-other (contentOf commentByte (l .bytes)) s)
 
 pub reading-other : (t : List ℕ) → OtherReading (readingOf t)
@@ -164,7 +164,7 @@ reading-other t = run-other 1 (lines t) startState
 -- ---- 19 to 27
 
 abbrev OtherFinding : Finding → Type 0
-OtherFinding finding = Other (finding .number)
+OtherFinding finding = Other (finding .rule)
 
 each-map : {A : Type 0} (f : A → Finding) → ((x : A) → OtherFinding (f x)) → (xs : List A) → Each OtherFinding (map f xs)
 each-map f h [] = none
@@ -207,7 +207,7 @@ module _ (d : Document) where
   section-others i [] = none
   section-others i (s ∷ ss) = more (rule 19 refl _ _ (rule 27 refl _ _ kept)) (section-others (i + 1) ss)
 
-  pub cross-other : Other (crossRule d .number)
+  pub cross-other : Other (crossRule d .rule)
   unfolding crossRule findings
   cross-other =
       earliest-other

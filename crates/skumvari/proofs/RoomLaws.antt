@@ -23,11 +23,11 @@ use Rattle.read_line.proofs.CountLaws.{Within, read-within, read-matrices}
 use Rattle.doc.specs.Document.{documentOf}
 use Rattle.doc.specs.Records.{tableOf}
 use Rattle.doc.specs.Way.Holds.{countsOf}
-use Rattle.intake.specs.Filled.{afterReading, filledOf}
-use Rattle.intake.specs.declared.fill.Filled.the-variants.{Stored, Refused}
+use Rattle.intake.specs.Stored.{afterReading, storeAnswer}
+use Rattle.intake.specs.declared.store.StoreAnswer.the-variants.{Stored, Refused}
 use Rattle.intake.proofs.ReadyLaws.{needed-is}
 use Rattle.cross_rules.specs.Rules.{crossRule}
-use Rattle.intake.specs.Verdict.{Outcome, crossed, afterFilling, afterBytes, verdictOf}
+use Rattle.intake.specs.Verdict.{Outcome, crossed, afterStoring, afterBytes, verdictOf}
 use Rattle.skumvari.specs.Room.{mostWords}
 use Rattle.skumvari.proofs.NumberLaws.{Other, other, OtherBytes, bytes-other, OtherReading, reading-other, cross-other}
 
@@ -57,31 +57,31 @@ module _ (t : List ℕ) where
   filled-alike (reading.Read c) e size enough = read-stored size enough c e ∙ sym (read-stored mostWords (le-refl _) c e)
   filled-alike (reading.Refused number line) e size enough = refl
 
-  filled-same : (size : ℕ) → mostWords ≤ size → filledOf t size ≡ filledOf t mostWords
-  unfolding filledOf
+  filled-same : (size : ℕ) → mostWords ≤ size → storeAnswer t size ≡ storeAnswer t mostWords
+  unfolding storeAnswer
   filled-same size enough = filled-alike (readingOf t) refl size enough
 
   bytes-alike : (checked : Checked) (size : ℕ) → mostWords ≤ size → afterBytes t size checked ≡ afterBytes t mostWords checked
-  bytes-alike bytes.Fine size enough = ap (afterFilling t) (filled-same size enough)
+  bytes-alike bytes.Fine size enough = ap (afterStoring t) (filled-same size enough)
   bytes-alike (bytes.Refused number line) size enough = refl
 
   -- ---- no room is short
 
-  crossed-other : (words : ℕ) → Other (crossed words (crossRule (documentOf t)) .number)
+  crossed-other : (words : ℕ) → Other (crossed words (crossRule (documentOf t)) .rule)
   crossed-other words =
-      by-test (λ (o : Outcome). Other (o .number)) (eqb (crossRule (documentOf t) .number) 0) _ _ (λ e. other 0 refl) (λ e. cross-other (documentOf t))
+      by-test (λ (o : Outcome). Other (o .rule)) (eqb (crossRule (documentOf t) .rule) 0) _ _ (λ e. other 0 refl) (λ e. cross-other (documentOf t))
 
   module _ (size : ℕ) (enough : mostWords ≤ size) where
-    reading-number : (answer : Reading) → readingOf t ≡ answer → OtherReading answer → Other (afterFilling t (afterReading t size answer) .number)
+    reading-number : (answer : Reading) → readingOf t ≡ answer → OtherReading answer → Other (afterStoring t (afterReading t size answer) .rule)
     reading-number (reading.Read c) e h =
         rw (read-stored size enough c e) (crossed-other (length (tableOf t)))
     reading-number (reading.Refused number line) e h = h
 
-    filling-number : Other (afterFilling t (filledOf t size) .number)
-    unfolding filledOf
+    filling-number : Other (afterStoring t (storeAnswer t size) .rule)
+    unfolding storeAnswer
     filling-number = reading-number (readingOf t) refl (reading-other t)
 
-    bytes-number : (checked : Checked) → OtherBytes checked → Other (afterBytes t size checked .number)
+    bytes-number : (checked : Checked) → OtherBytes checked → Other (afterBytes t size checked .rule)
     bytes-number bytes.Fine h = filling-number
     bytes-number (bytes.Refused number line) h = h
 
@@ -91,6 +91,6 @@ unfolding verdictOf
 suffices t size enough = bytes-alike t (byteRules t) size enough
 
 -- and "18 ROOM: table shorter than the words needed" is not given
-pub never-short : (t : List ℕ) (size : ℕ) → mostWords ≤ size → verdictOf t size .number ≡ 18 → ⊥
+pub never-short : (t : List ℕ) (size : ℕ) → mostWords ≤ size → verdictOf t size .rule ≡ 18 → ⊥
 unfolding verdictOf
 never-short t size enough = bytes-number t size enough (byteRules t) (bytes-other t) .apart

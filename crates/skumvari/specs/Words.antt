@@ -25,11 +25,11 @@ flag truth = if truth then 1 else 0
 
 -- intake: accepted, number, line, words used
 unfoldable pub intakeLayout : Outcome → List ℕ
-intakeLayout o = flag (o .accepted) ∷ o .number ∷ o .line ∷ o .used ∷ []
+intakeLayout o = flag (o .accepted) ∷ o .rule ∷ o .line ∷ o .used ∷ []
 
 -- entry: found, number, line, value word
 unfoldable pub entryLayout : EntryWords → List ℕ
-entryLayout e = flag (e .found) ∷ e .number ∷ e .line ∷ e .word ∷ []
+entryLayout e = flag (e .found) ∷ e .rule ∷ e .line ∷ e .word ∷ []
 
 -- a step and the next place: kind, target, amount, side start, side length, line; model, step, depth
 unfoldable pub stepLayout : StepWords → Place → List ℕ
@@ -38,11 +38,11 @@ stepLayout s p =
 
 -- walk: answered, number, line, done, and those
 unfoldable pub walkLayout : WalkWords → List ℕ
-walkLayout w = flag (w .answered) ∷ w .number ∷ w .line ∷ flag (w .done) ∷ stepLayout (w .step) (w .next)
+walkLayout w = flag (w .answered) ∷ w .rule ∷ w .line ∷ flag (w .done) ∷ stepLayout (w .step) (w .next)
 
 -- whole matrix: found, number, line, N
 unfoldable pub matrixLayout : MatrixWords → List ℕ
-matrixLayout m = flag (m .found) ∷ m .number ∷ m .line ∷ m .conductors ∷ []
+matrixLayout m = flag (m .found) ∷ m .rule ∷ m .line ∷ m .conductors ∷ []
 
 -- double: drawn, no number, no line, the double's bits; all 0 where the word is outside
 unfoldable pub doubleLayout : Drawn → List ℕ

@@ -30,13 +30,13 @@ const WALK_WORDS: usize = 13;
 
 // ---- answers
 
-fn put_answer(answer: &mut [u64], given: u64, number: u64, line: u64, word: u64) -> bool
-    ensures { λ r. ⌜ (r ≡ isRoom 4 (now (answer .entry))) × (now (answer .exit) ≡ answered (given ∷ number ∷ line ∷ word ∷ []) (now (answer .entry))) ⌝ }
+fn put_answer(answer: &mut [u64], given: u64, rule: u64, line: u64, word: u64) -> bool
+    ensures { λ r. ⌜ (r ≡ isRoom 4 (now (answer .entry))) × (now (answer .exit) ≡ answered (given ∷ rule ∷ line ∷ word ∷ []) (now (answer .entry))) ⌝ }
 {
     if answer.len() < ANSWER_WORDS {
         return false;
     }
-    base::put_words(answer, 0, &[given, number, line, word]);
+    base::put_words(answer, 0, &[given, rule, line, word]);
     true
 }
 
@@ -53,12 +53,12 @@ fn put_pair(answer: &mut [u64], given: u64, frequency: u64, value: u64) -> bool
 fn put_walk(
     answer: &mut [u64],
     given: u64,
-    number: u64,
+    rule: u64,
     done: u64,
     step: StepWords,
     next: Place,
 ) -> bool
-    ensures { λ r. ⌜ (r ≡ isRoom 13 (now (answer .entry))) × (now (answer .exit) ≡ answered (given ∷ number ∷ 0 ∷ done ∷ stepLayout step next) (now (answer .entry))) ⌝ }
+    ensures { λ r. ⌜ (r ≡ isRoom 13 (now (answer .entry))) × (now (answer .exit) ≡ answered (given ∷ rule ∷ 0 ∷ done ∷ stepLayout step next) (now (answer .entry))) ⌝ }
 {
     if answer.len() < WALK_WORDS {
         return false;
@@ -68,7 +68,7 @@ fn put_walk(
         0,
         &[
             given,
-            number,
+            rule,
             0,
             done,
             step.kind,
@@ -121,7 +121,7 @@ pub extern "C" fn skumvari_intake(text: &[u8], table: &mut [u64], answer: &mut [
     }
     match intake::intake(text, table) {
         intake::Answer::Accepted(used) => put_answer(answer, 1, 0, 0, used as u64),
-        intake::Answer::Refused(number, line) => put_answer(answer, 0, number, line, 0),
+        intake::Answer::Refused(rule, line) => put_answer(answer, 0, rule, line, 0),
     }
 }
 
@@ -149,7 +149,7 @@ pub extern "C" fn skumvari_entry(
 {
     match ask_entry::entry(text, table, section, kind, row, column) {
         Answer::Found(word) => put_answer(answer, 1, 0, 0, word),
-        Answer::Refused(number) => put_answer(answer, 0, number, 0, 0),
+        Answer::Refused(rule) => put_answer(answer, 0, rule, 0, 0),
     }
 }
 
@@ -170,13 +170,13 @@ pub extern "C" fn skumvari_walk(
     match place.step(text, table) {
         Walked::Step(words, next) => put_walk(answer, 1, 0, 0, words, next),
         Walked::Done(here) => put_walk(answer, 1, 0, 1, no_step(), here),
-        Walked::Refused(number) => {
+        Walked::Refused(rule) => {
             let nowhere = Place {
                 model: 0,
                 step: 0,
                 depth: 0,
             };
-            put_walk(answer, 0, number, 0, no_step(), nowhere)
+            put_walk(answer, 0, rule, 0, no_step(), nowhere)
         }
     }
 }
@@ -201,7 +201,7 @@ pub extern "C" fn skumvari_matrix(
     match ask_entry::whole_matrix(text, table, section, kind, values) {
         Whole::Found(conductors) => put_answer(answer, 1, 0, 0, conductors),
         Whole::Short(conductors) => put_answer(answer, 0, 0, 0, conductors),
-        Whole::Refused(number) => put_answer(answer, 0, number, 0, 0),
+        Whole::Refused(rule) => put_answer(answer, 0, rule, 0, 0),
     }
 }
 

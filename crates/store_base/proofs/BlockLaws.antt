@@ -29,11 +29,11 @@ module _ {B : Type 0} (block : Line → List Line → List B) (writes : Filling 
 
   -- the blocks that are left, from where the walk has come
   pub record BlocksLeft (size : ℕ) (t : List ℕ) (f₀ : Filling) (table₀ : List ℕ) (bs : List B) (w : Walk) (table : List ℕ) : Type 0 where
-    pub pending : Pending size f₀ table₀ (writes f₀ bs) (w .filling) table (writes (w .filling) (gather block (linesAt t (w .number) (w .at) (w .place))))
+    pub pending : Pending size f₀ table₀ (writes f₀ bs) (w .filling) table (writes (w .filling) (gather block (linesAt t (w .line) (w .at) (w .place))))
     pub seven : length (w .filling .counts) ≡ 7
-    pub placed : Placed t (w .number) (w .at)
+    pub placed : Placed t (w .line) (w .at)
 
-  pub blocks-start : (size : ℕ) (t : List ℕ) (f : Filling) (table : List ℕ) (bs : List B) (at n p : ℕ) → length (f .counts) ≡ 7 → Fits size f (writes f bs) → bs ≡ gather block (linesAt t n at p) → Placed t n at → BlocksLeft size t f table bs (record { at = at; number = n; place = p; filling = f }) table
+  pub blocks-start : (size : ℕ) (t : List ℕ) (f : Filling) (table : List ℕ) (bs : List B) (at n p : ℕ) → length (f .counts) ≡ 7 → Fits size f (writes f bs) → bs ≡ gather block (linesAt t n at p) → Placed t n at → BlocksLeft size t f table bs (record { at = at; line = n; place = p; filling = f }) table
   blocks-start size t f table bs at n p seven fits e placed =
       record {
         pending = pending-same size f table (writes f bs) f table (writes f bs) _ (ap (writes f) e) (pending-start size f table (writes f bs) fits);
@@ -47,12 +47,12 @@ module _ {B : Type 0} (block : Line → List Line → List B) (writes : Filling 
     over = plainly-quiet (w .place) block (λ (l : Line) (ls : List Line) (h : IsPlain (w .place) l). storable .quiet l ls (h .key-is))
 
     -- where no block is left, all are stored
-    pub blocks-done : gather block (linesAt t (w .number) (w .at) (w .place)) ≡ [] → Stores f₀ table₀ (writes f₀ bs) (w .filling) table
+    pub blocks-done : gather block (linesAt t (w .line) (w .at) (w .place)) ≡ [] → Stores f₀ table₀ (writes f₀ bs) (w .filling) table
     blocks-done e =
         pending-done size f₀ table₀ (writes f₀ bs) (w .filling) table
         (pending-same size f₀ table₀ (writes f₀ bs) (w .filling) table _ [] (ap (writes (w .filling)) e ∙ storable .none (w .filling)) (left .pending))
 
-    module _ (line : Found) (meets : Meets t (w .number) (w .at) (w .place) line) where
+    module _ (line : Found) (meets : Meets t (w .line) (w .at) (w .place) line) where
       pub blocks-end : not (line .there) ≡ true → Stores f₀ table₀ (writes f₀ bs) (w .filling) table
       blocks-end h = blocks-done (over _ [] (meets .same-none (not-true (line .there) h)) ∙ gather-none block)
 
@@ -63,7 +63,7 @@ module _ {B : Type 0} (block : Line → List Line → List B) (writes : Filling 
         abbrev here : List B
         here = block (lineIn t line (w .place)) (linesBehind t line (w .place))
 
-        split-here : writes (w .filling) (gather block (linesAt t (w .number) (w .at) (w .place))) ≡ writes (w .filling) here ++ writes (fillingAfter (writes (w .filling) here) (w .filling)) (gather block (linesBehind t line (w .place)))
+        split-here : writes (w .filling) (gather block (linesAt t (w .line) (w .at) (w .place))) ≡ writes (w .filling) here ++ writes (fillingAfter (writes (w .filling) here) (w .filling)) (gather block (linesBehind t line (w .place)))
         split-here =
             ap (writes (w .filling)) (over _ _ (meets .same-there (not-false (line .there) there)))
             ∙ ap (writes (w .filling)) (gather-on block (lineIn t line (w .place)) (linesBehind t line (w .place)))

@@ -6,7 +6,7 @@ use table_layout::Filling;
 // How far the lines have been gone over: where to go on, and in which place; and where the next records go.
 pub struct Walk {
     pub at: usize,
-    pub number: u64,
+    pub line: u64,
     pub place: u64,
     pub filling: Filling,
 }

@@ -43,17 +43,17 @@ pins-then : (ps : List Named) (pin : ℕ) (m : Map) → length (partOf 3 (map pi
 pins-then ps pin m = let a : length (partOf 3 (map pinWrite ps)) ≡ length ps = pins-part ps in let b : length (partOf 3 (mapWrite pin m ∷ [])) ≡ 0 = own-none pin m in omega arith
 
 module _ (t : List ℕ) (line : Found) (f : Filling) (seven : length (f .counts) ≡ 7) where
-  pub map-fits-pins : (size : ℕ) → Fits size f (mapWrites (getD (f .counts) 3 0) (mapBelow t line)) → Fits size f (pinWrites (mapLines t (line .number + 1) (line .next) place.mapHead))
+  pub map-fits-pins : (size : ℕ) → Fits size f (mapWrites (getD (f .counts) 3 0) (mapBelow t line)) → Fits size f (pinWrites (mapLines t (line .line + 1) (line .next) place.mapHead))
   unfolding mapWrites mapOf
   map-fits-pins size h = fits-first size f _ _ h
 
-  module _ (w : MapWalk) (table table' : List ℕ) (reads : ReadsMap t (line .number + 1) (line .next) f table w table') where
+  module _ (w : MapWalk) (table table' : List ℕ) (reads : ReadsMap t (line .line + 1) (line .next) f table w table') where
     pub pins-counted : getD (w .filling .counts) 3 0 ≡ getD (f .counts) 3 0 + length (mapBelow t line .pins)
     unfolding mapOf
     pins-counted =
         let h : 3 < length (f .counts) = omega arith in
-        ap (λ (x : Filling). getD (x .counts) 3 0) (reads .pins .filled) ∙ count-after 3 (pinWrites (mapLines t (line .number + 1) (line .next) place.mapHead)) f h
-        ∙ ap (λ (n : ℕ). getD (f .counts) 3 0 + n) (pins-part (gather pinAt (mapLines t (line .number + 1) (line .next) place.mapHead)))
+        ap (λ (x : Filling). getD (x .counts) 3 0) (reads .pins .filled) ∙ count-after 3 (pinWrites (mapLines t (line .line + 1) (line .next) place.mapHead)) f h
+        ∙ ap (λ (n : ℕ). getD (f .counts) 3 0 + n) (pins-part (gather pinAt (mapLines t (line .line + 1) (line .next) place.mapHead)))
 
     pub map-asked : Fits (length table) f (mapWrites (getD (f .counts) 3 0) (mapBelow t line)) → (2 < length widths) × (_≡_ {A = ℕ} 7 (widthOf 2)) × (position (w .filling) 2 + widthOf 2 ≤ length table')
     unfolding mapWrites mapWrite mapOf
@@ -68,14 +68,14 @@ module _ (t : List ℕ) (line : Found) (f : Filling) (seven : length (f .counts)
       map-words =
           let c : getD (w .filling .counts) 3 0 ≡ getD (f .counts) 3 0 + length (mapBelow t line .pins) = pins-counted in
           let n : getD (w .filling .counts) 3 0 - getD (f .counts) 3 0 ≡ length (mapBelow t line .pins) = omega arith in
-          let g : w .map ≡ gridIn newMap (mapLines t (line .number + 1) (line .next) place.mapHead) = reads .grid in
-          let o : order ≡ gridIn newMap (mapLines t (line .number + 1) (line .next) place.mapHead) .order - 1 = is-order ∙ ap (λ (m : pin_map.Map). m .order - 1) g in
+          let g : w .map ≡ gridIn newMap (mapLines t (line .line + 1) (line .next) place.mapHead) = reads .grid in
+          let o : order ≡ gridIn newMap (mapLines t (line .line + 1) (line .next) place.mapHead) .order - 1 = is-order ∙ ap (λ (m : pin_map.Map). m .order - 1) g in
           λ i. is-mark i .start ∷ is-mark i .size ∷ o i ∷ g i .rows ∷ g i .columns ∷ getD (f .counts) 3 0 ∷ n i ∷ []
 
       pub map-filled :
           (r : Filling) (table'' : List ℕ) → r ≡ counted (w .filling) 2 →
           table'' ≡ sets table' (position (w .filling) 2) (mark .start ∷ mark .size ∷ order ∷ w .map .rows ∷ w .map .columns ∷ getD (f .counts) 3 0 ∷ (getD (w .filling .counts) 3 0 - getD (f .counts) 3 0) ∷ []) →
-          FillsMap t line f table (record { at = w .at; number = w .number; place = w .place; map = w .map; filling = r }) table''
+          FillsMap t line f table (record { at = w .at; line = w .line; place = w .place; map = w .map; filling = r }) table''
       unfolding mapWrites mapWrite mapOf
       map-filled r table'' k h =
           record {

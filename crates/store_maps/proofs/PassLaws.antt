@@ -89,11 +89,11 @@ module _ (t : List ℕ) (line : Found) (w : Walk) (table : List ℕ) (ready : Re
       unfolding mapAt
       none-here = if-false _ _ (opens-here ∙ h)
 
-      pub pass-line : (p : ℕ) → p ≡ placeAfter (w .place) (contentIn t line) → PassesMap t line w table (record { at = line .next; number = line .number + 1; place = p; filling = w .filling }) table
+      pub pass-line : (p : ℕ) → p ≡ placeAfter (w .place) (contentIn t line) → PassesMap t line w table (record { at = line .next; line = line .line + 1; place = p; filling = w .filling }) table
       pass-line p e =
-          let n : line .number ≤ line .at + 1 = ready .0 .located .counted in
+          let n : line .line ≤ line .at + 1 = ready .0 .located .counted in
           let f : line .at < line .next = ready .0 .located .further in
-          let next : behind ≡ linesAt t (line .number + 1) (line .next) p = ap (linesAt t (line .number + 1) (line .next)) (sym e) in
+          let next : behind ≡ linesAt t (line .line + 1) (line .next) p = ap (linesAt t (line .line + 1) (line .next)) (sym e) in
           record {
             passes =
                 record {
@@ -116,8 +116,8 @@ module _ (t : List ℕ) (line : Found) (w : Walk) (table : List ℕ) (ready : Re
           if-false _ _ (ne-eqb _ _ (λ (x : keyAt (contentIn t line) ≡ plain). let z : _≡_ {A = ℕ} 14 41 = sym a ∙ x in omega arith))
           ∙ ap (moved (w .place)) a ∙ leads-in (w .place) (both-first _ _ b)
 
-      behind-is : behind ≡ linesAt t (line .number + 1) (line .next) place.mapHead
-      behind-is = ap (linesAt t (line .number + 1) (line .next)) place-here
+      behind-is : behind ≡ linesAt t (line .line + 1) (line .next) place.mapHead
+      behind-is = ap (linesAt t (line .line + 1) (line .next)) place-here
 
       one-here : mapAt opening behind ≡ mapBelow t line ∷ []
       unfolding mapAt mapOf argumentOf
@@ -131,20 +131,20 @@ module _ (t : List ℕ) (line : Found) (w : Walk) (table : List ℕ) (ready : Re
       map-ready = (ready .0 .located, ready .0 .seven, rw writes-here at (ready .0 .fits))
 
       module _ (m : MapWalk) (table' : List ℕ) (fills : FillsMap t line (w .filling) table m table') where
-        rest-is : behind ≡ mapLines t (line .number + 1) (line .next) place.mapHead ++ linesAt t (m .number) (m .at) (m .place)
+        rest-is : behind ≡ mapLines t (line .line + 1) (line .next) place.mapHead ++ linesAt t (m .line) (m .at) (m .place)
         rest-is = behind-is ∙ fills .rest
 
-        pub pass-opening : PassesMap t line w table (record { at = m .at; number = m .number; place = m .place; filling = m .filling }) table'
+        pub pass-opening : PassesMap t line w table (record { at = m .at; line = m .line; place = m .place; filling = m .filling }) table'
         pass-opening =
             record {
               passes =
                   record {
                     stores = rw writes-here (fills .map);
-                    rest = ap (gather mapAt) rest-is ∙ quiet mapAt inMap map-quiet (linesAt t (line .number + 1) (line .next) place.mapHead) (linesAt t (m .number) (m .at) (m .place));
+                    rest = ap (gather mapAt) rest-is ∙ quiet mapAt inMap map-quiet (linesAt t (line .line + 1) (line .next) place.mapHead) (linesAt t (m .line) (m .at) (m .place));
                     placed = fills .placed;
                     onward = fills .onward;
                   };
-              sections = sections-behind ∙ ap (gather sectionAt) rest-is ∙ quiet sectionAt inMap section-quiet (linesAt t (line .number + 1) (line .next) place.mapHead) (linesAt t (m .number) (m .at) (m .place));
+              sections = sections-behind ∙ ap (gather sectionAt) rest-is ∙ quiet sectionAt inMap section-quiet (linesAt t (line .line + 1) (line .next) place.mapHead) (linesAt t (m .line) (m .at) (m .place));
             }
 
 -- ---- all lines of the family
@@ -152,9 +152,9 @@ module _ (t : List ℕ) (line : Found) (w : Walk) (table : List ℕ) (ready : Re
 -- the maps that are left, and the sections behind them
 pub record FamilyLeft (t : List ℕ) (f₀ : Filling) (table₀ : List ℕ) (w : Walk) (table : List ℕ) : Type 0 where
   pub left : BlocksLeft mapAt mapsOf (length table₀) t f₀ table₀ (documentOf t .maps) w table
-  pub sections : documentOf t .sections ≡ gather sectionAt (linesAt t (w .number) (w .at) (w .place))
+  pub sections : documentOf t .sections ≡ gather sectionAt (linesAt t (w .line) (w .at) (w .place))
 
-pub family-starts : (t : List ℕ) (f : Filling) (table : List ℕ) → (length (f .counts) ≡ 7) × Fits (length table) f (mapsOf f (documentOf t .maps)) → FamilyLeft t f table (record { at = 0; number = 1; place = 0; filling = f }) table
+pub family-starts : (t : List ℕ) (f : Filling) (table : List ℕ) → (length (f .counts) ≡ 7) × Fits (length table) f (mapsOf f (documentOf t .maps)) → FamilyLeft t f table (record { at = 0; line = 1; place = 0; filling = f }) table
 unfolding documentOf documentIn significant
 family-starts t f table (seven, fits) =
     record {
@@ -166,7 +166,7 @@ module _ (t : List ℕ) (f₀ : Filling) (table₀ : List ℕ) (w : Walk) (table
   pub family-after : w .place ≡ place.after → FillsMaps t f₀ table₀ w table
   family-after h =
       record {
-        maps = blocks-done mapAt mapsOf maps-storable (length table₀) t f₀ table₀ (documentOf t .maps) w table (family .left) (late-quiet mapAt late-map t (w .number) (w .at) (w .place) (omega (arith, h)));
+        maps = blocks-done mapAt mapsOf maps-storable (length table₀) t f₀ table₀ (documentOf t .maps) w table (family .left) (late-quiet mapAt late-map t (w .line) (w .at) (w .place) (omega (arith, h)));
         sections = family .sections;
         placed = family .left .placed;
       }
@@ -178,7 +178,7 @@ module _ (t : List ℕ) (f₀ : Filling) (table₀ : List ℕ) (w : Walk) (table
   pub family-long : length table ≡ length table₀
   family-long = family .left .pending .long
 
-  module _ (line : Found) (meets : Meets t (w .number) (w .at) (w .place) line) where
+  module _ (line : Found) (meets : Meets t (w .line) (w .at) (w .place) line) where
     pub family-ends : not (line .there) ≡ true → FillsMaps t f₀ table₀ w table
     family-ends h =
         record {

@@ -38,7 +38,7 @@ use Rattle.store_base.proofs.StoreLaws.{put-asked, put-stored, stores-none, Pen
 use Rattle.store_base.proofs.LineLaws.{up-on, up-stops, up-none, Skipped, skipped-start, skipped-on, skipped-done, gather-none, gather-on}
 
 abbrev namedBy : List ℕ → Found → Named
-namedBy t line = record { name = firstWord (wordsOf (lineIn t line 0)); line = line .number }
+namedBy t line = record { name = firstWord (wordsOf (lineIn t line 0)); line = line .line }
 
 module _ (t : List ℕ) (line : Found) (mark : Mark) (is-mark : mark ≡ markOf (firstWord (wordsFrom (line .at) (contentIn t line)))) where
   pin-words : _≡_ {A = List ℕ} (mark .start ∷ mark .size ∷ []) (pinWrite (namedBy t line) .words)
@@ -85,7 +85,7 @@ module _ (l : Line) (inside : inMap l ≡ true) where
 
   -- it stands below Pin_list, or above it
   module _ (here : l .place ≡ place.pinList) where
-    pub line-pin : pinWrites (l ∷ []) ≡ pinWrite (record { name = firstWord (wordsOf l); line = l .number }) ∷ []
+    pub line-pin : pinWrites (l ∷ []) ≡ pinWrite (record { name = firstWord (wordsOf l); line = l .line }) ∷ []
     unfolding gather pinAt
     line-pin = ap (λ (x : List Named). map pinWrite (x ++ [])) (if-true _ _ (stands-is place.pinList l here map-plain))
 
@@ -123,7 +123,7 @@ module _ (t : List ℕ) (line : Found) (table : List ℕ) (w : MapWalk) (takes :
   unfolding wordsOf
   pin-room h = rw (line-pin (mapLine t line w) (takes .inside) h) at (takes .fits)
 
-  pub taken-pin : w .place ≡ place.pinList → (f : Filling) (table' : List ℕ) → Stores (w .filling) table (pinWrite (namedBy t line) ∷ []) f table' → TakenMap t line table w (record { at = line .next; number = line .number + 1; place = 12; map = w .map; filling = f }) table'
+  pub taken-pin : w .place ≡ place.pinList → (f : Filling) (table' : List ℕ) → Stores (w .filling) table (pinWrite (namedBy t line) ∷ []) f table' → TakenMap t line table w (record { at = line .next; line = line .line + 1; place = 12; map = w .map; filling = f }) table'
   unfolding wordsOf keyOf
   taken-pin h f table' s =
       record {
@@ -136,7 +136,7 @@ module _ (t : List ℕ) (line : Found) (table : List ℕ) (w : MapWalk) (takes :
 
   pub taken-head :
       (w .place ≡ place.pinList → ⊥) → (said : MapLine) → said ≡ mapLineOf (contentIn t line) → (m : pin_map.Map) → m ≡ mapNext said (w .map) → (p : ℕ) → p ≡ placeAfter (w .place) (contentIn t line) →
-      TakenMap t line table w (record { at = line .next; number = line .number + 1; place = p; map = m; filling = w .filling }) table
+      TakenMap t line table w (record { at = line .next; line = line .line + 1; place = p; map = m; filling = w .filling }) table
   taken-head h said is-said m is-map p is-place =
       record {
         pins = rw (line-no-pin (mapLine t line w) (takes .inside) h) (stores-none (w .filling) table);
@@ -150,14 +150,14 @@ module _ (t : List ℕ) (line : Found) (table : List ℕ) (w : MapWalk) (takes :
 
 -- what is left of a map's lines gives what all of them give
 pub record MapLeft (t : List ℕ) (n₀ at₀ : ℕ) (f₀ : Filling) (table₀ : List ℕ) (w : MapWalk) (table : List ℕ) : Type 0 where
-  pub pending : Pending (length table₀) f₀ table₀ (pinWrites (mapLines t n₀ at₀ place.mapHead)) (w .filling) table (pinWrites (mapLines t (w .number) (w .at) (w .place)))
-  pub grid : gridIn (w .map) (mapLines t (w .number) (w .at) (w .place)) ≡ gridIn newMap (mapLines t n₀ at₀ place.mapHead)
-  pub skipped : Skipped inMap (linesAt t n₀ at₀ place.mapHead) (linesAt t (w .number) (w .at) (w .place))
-  pub placed : Placed t (w .number) (w .at)
+  pub pending : Pending (length table₀) f₀ table₀ (pinWrites (mapLines t n₀ at₀ place.mapHead)) (w .filling) table (pinWrites (mapLines t (w .line) (w .at) (w .place)))
+  pub grid : gridIn (w .map) (mapLines t (w .line) (w .at) (w .place)) ≡ gridIn newMap (mapLines t n₀ at₀ place.mapHead)
+  pub skipped : Skipped inMap (linesAt t n₀ at₀ place.mapHead) (linesAt t (w .line) (w .at) (w .place))
+  pub placed : Placed t (w .line) (w .at)
   pub onward : at₀ ≤ w .at
   pub opened : either (eqb (w .place) place.mapHead) (eqb (w .place) place.pinList) ≡ true
 
-pub map-starts : (t : List ℕ) (n at : ℕ) (f : Filling) (table : List ℕ) → Placed t n at × Fits (length table) f (pinWrites (mapLines t n at place.mapHead)) → (m : pin_map.Map) → m ≡ newMap → MapLeft t n at f table (record { at = at; number = n; place = 11; map = m; filling = f }) table
+pub map-starts : (t : List ℕ) (n at : ℕ) (f : Filling) (table : List ℕ) → Placed t n at × Fits (length table) f (pinWrites (mapLines t n at place.mapHead)) → (m : pin_map.Map) → m ≡ newMap → MapLeft t n at f table (record { at = at; line = n; place = 11; map = m; filling = f }) table
 map-starts t n at f table (placed, fits) m e =
     record {
       pending = pending-start (length table) f table (pinWrites (mapLines t n at place.mapHead)) fits;
@@ -221,8 +221,8 @@ map-stays : (l : Line) → inMap l ≡ true → either (eqb (placeAfter (l .plac
 unfolding keyOf
 map-stays l h = stays-at (l .place) (l .content) (map-plain l h) (map-place l h)
 
-module _ (t : List ℕ) (n₀ at₀ : ℕ) (f₀ : Filling) (table₀ : List ℕ) (w : MapWalk) (table : List ℕ) (left : MapLeft t n₀ at₀ f₀ table₀ w table) (line : Found) (finds : Finds t (w .number) (w .at) line) where
-  ends-map : upTo inMap (linesAt t (w .number) (w .at) (w .place)) ≡ [] → ReadsMap t n₀ at₀ f₀ table₀ w table
+module _ (t : List ℕ) (n₀ at₀ : ℕ) (f₀ : Filling) (table₀ : List ℕ) (w : MapWalk) (table : List ℕ) (left : MapLeft t n₀ at₀ f₀ table₀ w table) (line : Found) (finds : Finds t (w .line) (w .at) line) where
+  ends-map : upTo inMap (linesAt t (w .line) (w .at) (w .place)) ≡ [] → ReadsMap t n₀ at₀ f₀ table₀ w table
   unfolding gridIn gather
   ends-map e =
       record {
@@ -240,7 +240,7 @@ module _ (t : List ℕ) (n₀ at₀ : ℕ) (f₀ : Filling) (table₀ : List ℕ
     found : Located t line
     found = finds .located (not-false (line .there) there)
 
-    here : linesAt t (w .number) (w .at) (w .place) ≡ mapLine t line w ∷ linesBehind t line (w .place)
+    here : linesAt t (w .line) (w .at) (w .place) ≡ mapLine t line w ∷ linesBehind t line (w .place)
     here = finds .same-there (not-false (line .there) there) (w .place)
 
     key-here : keyOf (mapLine t line w) ≡ line .key
@@ -260,10 +260,10 @@ module _ (t : List ℕ) (n₀ at₀ : ℕ) (f₀ : Filling) (table₀ : List ℕ
       inside : inMap (mapLine t line w) ≡ true
       inside = inside-map (mapLine t line w) (left .opened) plain-here
 
-      body-on : mapLines t (w .number) (w .at) (w .place) ≡ mapLine t line w ∷ upTo inMap (linesBehind t line (w .place))
+      body-on : mapLines t (w .line) (w .at) (w .place) ≡ mapLine t line w ∷ upTo inMap (linesBehind t line (w .place))
       body-on = ap (upTo inMap) here ∙ up-on inMap _ _ inside
 
-      writes-on : pinWrites (mapLines t (w .number) (w .at) (w .place)) ≡ pinWrites (mapLine t line w ∷ []) ++ pinWrites (upTo inMap (linesBehind t line (w .place)))
+      writes-on : pinWrites (mapLines t (w .line) (w .at) (w .place)) ≡ pinWrites (mapLine t line w ∷ []) ++ pinWrites (upTo inMap (linesBehind t line (w .place)))
       writes-on = ap pinWrites body-on ∙ pins-split (mapLine t line w) (upTo inMap (linesBehind t line (w .place)))
 
       pending-on : Pending (length table₀) f₀ table₀ (pinWrites (mapLines t n₀ at₀ place.mapHead)) (w .filling) table (pinWrites (mapLine t line w ∷ []) ++ pinWrites (upTo inMap (linesBehind t line (w .place))))
@@ -278,8 +278,8 @@ module _ (t : List ℕ) (n₀ at₀ : ℕ) (f₀ : Filling) (table₀ : List ℕ
           }
 
       module _ (v : MapWalk) (table' : List ℕ) (taken : TakenMap t line table w v table') where
-        lines-next : linesBehind t line (w .place) ≡ linesAt t (v .number) (v .at) (v .place)
-        lines-next = λ i. linesAt t (sym (taken .number-is) i) (sym (taken .at-is) i) (sym (taken .place-is) i)
+        lines-next : linesBehind t line (w .place) ≡ linesAt t (v .line) (v .at) (v .place)
+        lines-next = λ i. linesAt t (sym (taken .line-is) i) (sym (taken .at-is) i) (sym (taken .place-is) i)
 
         pub map-less : length t - v .at < length t - w .at
         map-less =
@@ -292,12 +292,12 @@ module _ (t : List ℕ) (n₀ at₀ : ℕ) (f₀ : Filling) (table₀ : List ℕ
         pub map-on : MapLeft t n₀ at₀ f₀ table₀ v table'
         map-on =
             let a : v .at ≡ line .next = taken .at-is in
-            let m : v .number ≡ line .number + 1 = taken .number-is in
+            let m : v .line ≡ line .line + 1 = taken .line-is in
             let b : w .at ≤ line .at = finds .behind (not-false (line .there) there) in
             let c : line .at < line .next = found .further in
             let d : line .next ≤ length t = found .next-within in
             let o : at₀ ≤ w .at = left .onward in
-            let q : line .number ≤ line .at + 1 = found .counted in
+            let q : line .line ≤ line .at + 1 = found .counted in
             record {
               pending = rw lines-next at (pending-step (length table₀) f₀ table₀ _ (w .filling) table (pinWrites (mapLine t line w ∷ [])) _ (v .filling) table' pending-on (taken .pins));
               grid = rw lines-next at (grid-next (v .map) (w .map) (mapLine t line w) (upTo inMap (linesBehind t line (w .place))) (taken .grid) ∙ ap (gridIn (w .map)) (sym body-on) ∙ left .grid);

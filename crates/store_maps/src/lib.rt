@@ -24,7 +24,7 @@ use table_layout::Filling;
 // How far the lines of a map have been read: where to go on, and what its lines have said.
 pub struct MapWalk {
     pub at: usize,
-    pub number: u64,
+    pub line: u64,
     pub place: u64,
     pub map: Map,
     pub filling: Filling,
@@ -32,8 +32,8 @@ pub struct MapWalk {
 
 // A pin: its name is the first word of its line.
 fn put_pin(text: &[u8], line: Found, table: &mut [u64], filling: Filling) -> Filling
-    requires { ⌜ Located (now text) line × Fits (length (now table)) filling (pinWrite (record { name = firstWord (wordsOf (lineIn (now text) line 0)); line = line .number }) ∷ []) ⌝ }
-    ensures { λ r. ⌜ Stores filling (now (table .entry)) (pinWrite (record { name = firstWord (wordsOf (lineIn (now (text .entry)) line 0)); line = line .number }) ∷ []) r (now (table .exit)) ⌝ }
+    requires { ⌜ Located (now text) line × Fits (length (now table)) filling (pinWrite (record { name = firstWord (wordsOf (lineIn (now text) line 0)); line = line .line }) ∷ []) ⌝ }
+    ensures { λ r. ⌜ Stores filling (now (table .entry)) (pinWrite (record { name = firstWord (wordsOf (lineIn (now (text .entry)) line 0)); line = line .line }) ∷ []) r (now (table .exit)) ⌝ }
 {
     let at = line.at;
     let end = line.end;
@@ -55,7 +55,7 @@ fn take_map_line(text: &[u8], line: Found, table: &mut [u64], walk: MapWalk) -> 
         let next = put_pin(text, line, table, filling);
         return MapWalk {
             at: line.next,
-            number: line.number + 1,
+            line: line.line + 1,
             place: line_place::PINS,
             map,
             filling: next,
@@ -64,7 +64,7 @@ fn take_map_line(text: &[u8], line: Found, table: &mut [u64], walk: MapWalk) -> 
     let said = line_map::map_line(&text[at..end]);
     MapWalk {
         at: line.next,
-        number: line.number + 1,
+        line: line.line + 1,
         place: doc::place_after(walk.place, text, line),
         map: line_map::map_next(said, map),
         filling,
@@ -72,19 +72,19 @@ fn take_map_line(text: &[u8], line: Found, table: &mut [u64], walk: MapWalk) -> 
 }
 
 // The lines of a map, from below its keyword up to the next one.
-fn fill_pins(text: &[u8], at: usize, number: u64, table: &mut [u64], filling: Filling) -> MapWalk
-    requires { ⌜ Placed (now text) number at × Fits (length (now table)) filling (pinWrites (mapLines (now text) number at place.mapHead)) ⌝ }
-    ensures { λ r. ⌜ ReadsMap (now (text .entry)) number at filling (now (table .entry)) r (now (table .exit)) ⌝ }
+fn fill_pins(text: &[u8], at: usize, line_here: u64, table: &mut [u64], filling: Filling) -> MapWalk
+    requires { ⌜ Placed (now text) line_here at × Fits (length (now table)) filling (pinWrites (mapLines (now text) line_here at place.mapHead)) ⌝ }
+    ensures { λ r. ⌜ ReadsMap (now (text .entry)) line_here at filling (now (table .entry)) r (now (table .exit)) ⌝ }
 {
     let mut walk = MapWalk {
         at,
-        number,
+        line: line_here,
         place: line_place::MAP_HEAD,
         map: line_map::new_map(),
         filling,
     };
     loop {
-        let line = doc::next_line(text, walk.at, walk.number);
+        let line = doc::next_line(text, walk.at, walk.line);
         if !line.there {
             return walk;
         }
@@ -102,7 +102,7 @@ fn fill_map(text: &[u8], line: Found, table: &mut [u64], filling: Filling) -> Ma
 {
     let before = filling.counts;
     let first = before[table_layout::PINS];
-    let walk = fill_pins(text, line.next, line.number + 1, table, filling);
+    let walk = fill_pins(text, line.next, line.line + 1, table, filling);
     let map = walk.map;
     let filled = walk.filling;
     let after = filled.counts;
@@ -118,7 +118,7 @@ fn fill_map(text: &[u8], line: Found, table: &mut [u64], filling: Filling) -> Ma
     ];
     MapWalk {
         at: walk.at,
-        number: walk.number,
+        line: walk.line,
         place: walk.place,
         map,
         filling: table_layout::put_record(table, filled, table_layout::MAPS, &words),
@@ -146,14 +146,14 @@ fn pass_map(text: &[u8], line: Found, table: &mut [u64], walk: Walk) -> Walk
         let filled = map.filling;
         return Walk {
             at: map.at,
-            number: map.number,
+            line: map.line,
             place: map.place,
             filling: filled,
         };
     }
     Walk {
         at: line.next,
-        number: line.number + 1,
+        line: line.line + 1,
         place: doc::place_after(walk.place, text, line),
         filling,
     }
@@ -166,7 +166,7 @@ pub fn fill_maps(text: &[u8], table: &mut [u64], filling: Filling) -> Walk
 {
     let mut walk = Walk {
         at: 0,
-        number: 1,
+        line: 1,
         place: line_place::BEFORE,
         filling,
     };
@@ -174,7 +174,7 @@ pub fn fill_maps(text: &[u8], table: &mut [u64], filling: Filling) -> Walk
         if walk.place == line_place::AFTER {
             return walk;
         }
-        let line = doc::next_keyed(text, walk.at, walk.number, walk.place);
+        let line = doc::next_keyed(text, walk.at, walk.line, walk.place);
         if !line.there {
             return walk;
         }

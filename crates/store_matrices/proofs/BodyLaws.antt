@@ -82,7 +82,7 @@ module _ (t : List ℕ) (line : Found) (located : Located t line) where
         (g : ℕ) → g ≡ max (w .greatest) n →
         record {
           at = line .next;
-          number = line .number + 1;
+          line = line .line + 1;
           bandwidth = w .bandwidth;
           greatest = g;
           spot = record { row = n; column = n; filling = w .spot .filling };
@@ -91,7 +91,7 @@ module _ (t : List ℕ) (line : Found) (located : Located t line) where
 
     pub bandwidth-with :
         (b : First) → b ≡ firstTold (w .bandwidth) n →
-        record { at = line .next; number = line .number + 1; bandwidth = b; greatest = w .greatest; spot = w .spot }
+        record { at = line .next; line = line .line + 1; bandwidth = b; greatest = w .greatest; spot = w .spot }
         ≡ withBandwidth (givenBy (lineIn t line 0)) line w
     bandwidth-with b e = rw (e, is-given)
 
@@ -354,7 +354,7 @@ module _ (t : List ℕ) (line : Found) (form : ℕ) (table : List ℕ) (w : Matr
         TakenLine t line form table w
         (record {
           at = line .next;
-          number = line .number + 1;
+          line = line .line + 1;
           bandwidth = w .bandwidth;
           greatest = g;
           spot = record { row = w .spot .row; column = w .spot .column; filling = p .filling };
@@ -399,7 +399,7 @@ module _ (t : List ℕ) (line : Found) (form : ℕ) (table : List ℕ) (w : Matr
     pub numbers-taken :
         (v : Spot) (table' : List ℕ) → FillsNumbers form (contentIn t line) table (w .spot) v table' →
         TakenLine t line form table w
-        (record { at = line .next; number = line .number + 1; bandwidth = w .bandwidth; greatest = w .greatest; spot = v }) table'
+        (record { at = line .next; line = line .line + 1; bandwidth = w .bandwidth; greatest = w .greatest; spot = v }) table'
     numbers-taken v table' fills =
         record {
           stores = rw (writes-here form (matrixLine t line) (w .spot) v numbersHere (numbers-on v (fills .row-is) (fills .column-is)))

@@ -76,12 +76,12 @@ module _ (content : List ℕ) where
 -- what is left of a matrix' lines gives what all of them give
 pub record ValuesLeft (t : List ℕ) (n₀ at₀ form : ℕ) (table₀ : List ℕ) (f₀ : Filling) (w : MatrixWalk) (table : List ℕ) : Type 0 where
   pub pending : Pending (length table₀) f₀ table₀ (valuesWrites form (matrixLines t n₀ at₀)) (w .spot .filling) table
-      (bodyWrites form (w .spot) (matrixLines t (w .number) (w .at)))
-  pub bandwidth : toldOr (w .bandwidth) (bandwidthIn (matrixLines t (w .number) (w .at))) ≡ bandwidthIn (matrixLines t n₀ at₀)
-  pub greatest : max (w .greatest) (greatestIn form (matrixLines t (w .number) (w .at))) ≡ greatestIn form (matrixLines t n₀ at₀)
+      (bodyWrites form (w .spot) (matrixLines t (w .line) (w .at)))
+  pub bandwidth : toldOr (w .bandwidth) (bandwidthIn (matrixLines t (w .line) (w .at))) ≡ bandwidthIn (matrixLines t n₀ at₀)
+  pub greatest : max (w .greatest) (greatestIn form (matrixLines t (w .line) (w .at))) ≡ greatestIn form (matrixLines t n₀ at₀)
   pub counted : Counted (w .spot)
-  pub skipped : Skipped inMatrix (linesAt t n₀ at₀ place.matrix) (linesAt t (w .number) (w .at) place.matrix)
-  pub placed : Placed t (w .number) (w .at)
+  pub skipped : Skipped inMatrix (linesAt t n₀ at₀ place.matrix) (linesAt t (w .line) (w .at) place.matrix)
+  pub placed : Placed t (w .line) (w .at)
   pub onward : at₀ ≤ w .at
 
 pub values-start :
@@ -89,7 +89,7 @@ pub values-start :
     ValuesLeft t n at form table f
     (record {
       at = at;
-      number = n;
+      line = n;
       bandwidth = record { told = false; value = 0 };
       greatest = 0;
       spot = record { row = 1; column = 1; filling = f };
@@ -106,8 +106,8 @@ values-start t n at form table f puts =
     }
 
 module _ (t : List ℕ) (n₀ at₀ form : ℕ) (table₀ : List ℕ) (f₀ : Filling) (w : MatrixWalk) (table : List ℕ)
-    (left : ValuesLeft t n₀ at₀ form table₀ f₀ w table) (line : Found) (finds : Finds t (w .number) (w .at) line) where
-  values-done : matrixLines t (w .number) (w .at) ≡ [] → FillsValues t n₀ at₀ form table₀ f₀ w table
+    (left : ValuesLeft t n₀ at₀ form table₀ f₀ w table) (line : Found) (finds : Finds t (w .line) (w .at) line) where
+  values-done : matrixLines t (w .line) (w .at) ≡ [] → FillsValues t n₀ at₀ form table₀ f₀ w table
   unfolding valuesFrom bandwidthIn greatestIn
   values-done e =
       let g : max (w .greatest) 0 ≡ greatestIn form (matrixLines t n₀ at₀) = rw e at (left .greatest) in
@@ -128,7 +128,7 @@ module _ (t : List ℕ) (n₀ at₀ form : ℕ) (table₀ : List ℕ) (f₀ : Fi
     found : Located t line
     found = finds .located (not-false (line .there) there)
 
-    here : linesAt t (w .number) (w .at) place.matrix ≡ matrixLine t line ∷ linesBehind t line place.matrix
+    here : linesAt t (w .line) (w .at) place.matrix ≡ matrixLine t line ∷ linesBehind t line place.matrix
     here = finds .same-there (not-false (line .there) there) place.matrix
 
     stays-here : either (eqb (keyAt (contentIn t line)) plain) (keepsMatrix (keyAt (contentIn t line))) ≡ stays
@@ -143,10 +143,10 @@ module _ (t : List ℕ) (n₀ at₀ form : ℕ) (table₀ : List ℕ) (f₀ : Fi
       unfolding inMatrix keyOf
       inside = both-true _ _ (eq-eqb place.matrix place.matrix refl) (stays-here ∙ not-false stays k)
 
-      lines-behind : linesBehind t line place.matrix ≡ linesAt t (line .number + 1) (line .next) place.matrix
-      lines-behind = ap (linesAt t (line .number + 1) (line .next)) (matrix-stays (contentIn t line) (stays-here ∙ not-false stays k))
+      lines-behind : linesBehind t line place.matrix ≡ linesAt t (line .line + 1) (line .next) place.matrix
+      lines-behind = ap (linesAt t (line .line + 1) (line .next)) (matrix-stays (contentIn t line) (stays-here ∙ not-false stays k))
 
-      body-on : matrixLines t (w .number) (w .at) ≡ matrixLine t line ∷ matrixLines t (line .number + 1) (line .next)
+      body-on : matrixLines t (w .line) (w .at) ≡ matrixLine t line ∷ matrixLines t (line .line + 1) (line .next)
       body-on =
           ap (upTo inMatrix) here ∙ up-on inMatrix _ _ inside ∙ ap (λ (ls : List Line). matrixLine t line ∷ upTo inMatrix ls) lines-behind
 
@@ -161,10 +161,10 @@ module _ (t : List ℕ) (n₀ at₀ form : ℕ) (table₀ : List ℕ) (f₀ : Fi
           }
 
       module _ (v : MatrixWalk) (table' : List ℕ) (taken : TakenLine t line form table w v table') where
-        lines-next : linesAt t (line .number + 1) (line .next) place.matrix ≡ linesAt t (v .number) (v .at) place.matrix
-        lines-next = λ i. linesAt t (sym (taken .number-is) i) (sym (taken .at-is) i) place.matrix
+        lines-next : linesAt t (line .line + 1) (line .next) place.matrix ≡ linesAt t (v .line) (v .at) place.matrix
+        lines-next = λ i. linesAt t (sym (taken .line-is) i) (sym (taken .at-is) i) place.matrix
 
-        body-next : matrixLines t (w .number) (w .at) ≡ matrixLine t line ∷ matrixLines t (v .number) (v .at)
+        body-next : matrixLines t (w .line) (w .at) ≡ matrixLine t line ∷ matrixLines t (v .line) (v .at)
         body-next = body-on ∙ ap (λ (ls : List Line). matrixLine t line ∷ upTo inMatrix ls) lines-next
 
         pub values-less : length t - v .at < length t - w .at
@@ -178,24 +178,24 @@ module _ (t : List ℕ) (n₀ at₀ form : ℕ) (table₀ : List ℕ) (f₀ : Fi
         pub values-on : ValuesLeft t n₀ at₀ form table₀ f₀ v table'
         values-on =
             let a : v .at ≡ line .next = taken .at-is in
-            let m : v .number ≡ line .number + 1 = taken .number-is in
+            let m : v .line ≡ line .line + 1 = taken .line-is in
             let b : w .at ≤ line .at = finds .behind (not-false (line .there) there) in
             let c : line .at < line .next = found .further in
             let d : line .next ≤ length t = found .next-within in
             let o : at₀ ≤ w .at = left .onward in
-            let q : line .number ≤ line .at + 1 = found .counted in
+            let q : line .line ≤ line .at + 1 = found .counted in
             record {
               pending =
                   pending-step (length table₀) f₀ table₀ _ (w .spot .filling) table
                   (bodyWrites form (w .spot) (matrixLine t line ∷ [])) _ (v .spot .filling) table'
                   (pending-same (length table₀) f₀ table₀ _ (w .spot .filling) table _ _
-                  (ap (bodyWrites form (w .spot)) body-next ∙ taken .values-on (matrixLines t (v .number) (v .at))) (left .pending))
+                  (ap (bodyWrites form (w .spot)) body-next ∙ taken .values-on (matrixLines t (v .line) (v .at))) (left .pending))
                   (taken .stores);
               bandwidth =
-                  taken .bandwidth-on (matrixLines t (v .number) (v .at))
+                  taken .bandwidth-on (matrixLines t (v .line) (v .at))
                   ∙ ap (λ (ls : List Line). toldOr (w .bandwidth) (bandwidthIn ls)) (sym body-next) ∙ left .bandwidth;
               greatest =
-                  taken .greatest-on (matrixLines t (v .number) (v .at))
+                  taken .greatest-on (matrixLines t (v .line) (v .at))
                   ∙ ap (λ (ls : List Line). max (w .greatest) (greatestIn form ls)) (sym body-next) ∙ left .greatest;
               counted = taken .counted;
               skipped =
@@ -222,10 +222,10 @@ module _ (t : List ℕ) (line : Found) (table : List ℕ) (f : Filling) (puts : 
   abbrev first : ℕ
   first = getD (f .counts) 6 0
 
-  pub values-puts : PutsValues t (line .number + 1) (line .next) form table f
+  pub values-puts : PutsValues t (line .line + 1) (line .next) form table f
   unfolding matrixWrites matrixOf
   values-puts =
-      let a : line .number ≤ line .at + 1 = puts .located .counted in
+      let a : line .line ≤ line .at + 1 = puts .located .counted in
       let b : line .at < line .next = puts .located .further in
       record {
         placed = record { within = puts .located .next-within; counted = omega arith };
@@ -233,8 +233,8 @@ module _ (t : List ℕ) (line : Found) (table : List ℕ) (f : Filling) (puts : 
         fits = rw is-form (fits-first (length table) f _ _ (puts .fits));
       }
 
-  module _ (w : MatrixWalk) (table' : List ℕ) (fills : FillsValues t (line .number + 1) (line .next) form table f w table') where
-    filled : FillsValues t (line .number + 1) (line .next) (formBelow t line) table f w table'
+  module _ (w : MatrixWalk) (table' : List ℕ) (fills : FillsValues t (line .line + 1) (line .next) form table f w table') where
+    filled : FillsValues t (line .line + 1) (line .next) (formBelow t line) table f w table'
     filled = rw is-form at fills
 
     pub values-counted : getD (w .spot .filling .counts) 6 0 ≡ getD (f .counts) 6 0 + length (matrixBelow t line .values)
@@ -258,11 +258,11 @@ module _ (t : List ℕ) (line : Found) (table : List ℕ) (f : Filling) (puts : 
           let c : getD (w .spot .filling .counts) 6 0 ≡ first + length (below .values) = values-counted in
           omega arith
 
-      matrix-words : _≡_ {A = List ℕ} (form ∷ b ∷ first ∷ values ∷ line .number ∷ []) (matrixWrite first below .words)
+      matrix-words : _≡_ {A = List ℕ} (form ∷ b ∷ first ∷ values ∷ line .line ∷ []) (matrixWrite first below .words)
       unfolding matrixWrite matrixRecord matrixOf
       matrix-words =
           let e : b ≡ bandwidthIn (linesBelow t line) = is-b ∙ filled .bandwidth in
-          λ i. is-form i ∷ e i ∷ first ∷ values-many i ∷ line .number ∷ []
+          λ i. is-form i ∷ e i ∷ first ∷ values-many i ∷ line .line ∷ []
 
       conductors-told : (n : ℕ) → n ≡ (if eqb form diagonal then values else w .greatest) → n ≡ below .conductors
       unfolding matrixOf conductorsIn
@@ -271,8 +271,8 @@ module _ (t : List ℕ) (line : Found) (table : List ℕ) (f : Filling) (puts : 
       pub matrix-filled :
           (n : ℕ) → n ≡ (if eqb form diagonal then values else w .greatest) → (r : Filling) (table'' : List ℕ) →
           r ≡ counted (w .spot .filling) 5 →
-          table'' ≡ sets table' (position (w .spot .filling) 5) (form ∷ b ∷ getD (f .counts) 6 0 ∷ values ∷ line .number ∷ []) →
-          FillsMatrix t line table f (record { at = w .at; number = w .number; conductors = n; filling = r }) table''
+          table'' ≡ sets table' (position (w .spot .filling) 5) (form ∷ b ∷ getD (f .counts) 6 0 ∷ values ∷ line .line ∷ []) →
+          FillsMatrix t line table f (record { at = w .at; line = w .line; conductors = n; filling = r }) table''
       unfolding matrixWrites matrixWrite matrixOf
       matrix-filled n e r table'' k h =
           record {

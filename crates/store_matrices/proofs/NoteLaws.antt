@@ -154,7 +154,7 @@ module _ (t table : List ℕ) (f : Filling) (seven : length (f .counts) ≡ 7) (
             ∙ sym (filling-over told f seven);
       }
 
-  note-fills : FillsValues t (n .number) (n .at) (n .form) table f (notedWalk (noteIn n) (getD (f .counts) 6 0) f) table
+  note-fills : FillsValues t (n .line) (n .at) (n .form) table f (notedWalk (noteIn n) (getD (f .counts) 6 0) f) table
   unfolding notedWalk noteIn toldOr
   note-fills =
       record {
@@ -166,7 +166,7 @@ module _ (t table : List ℕ) (f : Filling) (seven : length (f .counts) ≡ 7) (
         onward = tells .onward;
       }
 
-  note-taken : (number at form : ℕ) → n .number ≡ number → n .at ≡ at → n .form ≡ form →
+  note-taken : (number at form : ℕ) → n .line ≡ number → n .at ≡ at → n .form ≡ form →
       FillsValues t number at form table f (notedWalk (noteIn n) (getD (f .counts) 6 0) f) table
   note-taken number at form a b c = rw (sym a, sym b, sym c) note-fills
 
@@ -174,7 +174,7 @@ module _ (t table : List ℕ) (f : Filling) (seven : length (f .counts) ≡ 7) (
 record Right (n : Note) (at number form first : ℕ) : Type 0 where
   made : 0 < n .further
   at-is : n .at ≡ at
-  number-is : n .number ≡ number
+  number-is : n .line ≡ number
   form-is : n .form ≡ form
   first-is : n .first ≡ first
 
@@ -182,8 +182,8 @@ right : (n : Note) (at number form first : ℕ) → isOf (noteIn n) at number fo
 unfolding isOf noteIn
 right n at number form first e =
     let made : n .further ≡ 0 → ⊥ = eqb-false (n .further) 0 (not-true _ (both-first _ _ e)) in
-    let a : both (eqb (n .at) at) (both (eqb (n .number) number) (both (eqb (n .form) form) (eqb (n .first) first))) ≡ true = both-second _ _ e in
-    let b : both (eqb (n .number) number) (both (eqb (n .form) form) (eqb (n .first) first)) ≡ true = both-second _ _ a in
+    let a : both (eqb (n .at) at) (both (eqb (n .line) number) (both (eqb (n .form) form) (eqb (n .first) first))) ≡ true = both-second _ _ e in
+    let b : both (eqb (n .line) number) (both (eqb (n .form) form) (eqb (n .first) first)) ≡ true = both-second _ _ a in
     let c : both (eqb (n .form) form) (eqb (n .first) first) ≡ true = both-second _ _ b in
     record {
       made = omega arith;
@@ -211,7 +211,7 @@ module _ (t : List ℕ) (n at form : ℕ) (table : List ℕ) (f : Filling) (note
       let c : note .count ≡ noteAt notes i .count = ap (λ (x : NoteWords). x .count) is-note ∙ count-in (noteAt notes i) in
       let d : note .count ≡ length (valuesFrom form 1 1 (matrixLines t n at)) =
       c ∙ tells-here .count-is
-      ∙ (λ j. length (valuesFrom (found .form-is j) 1 1 (matrixLines t (found .number-is j) (found .at-is j)))) in
+      ∙ (λ j. length (valuesFrom (found .form-is j) 1 1 (matrixLines t (found .line-is j) (found .at-is j)))) in
       rw d (values-few (length table) (valuesFrom form 1 1 (matrixLines t n at)) f (puts .seven) (puts .fits) long (rw d at some))
 
   pub noted-fills : (w : MatrixWalk) → w ≡ notedWalk note (getD (f .counts) 6 0) f → FillsValues t n at form table f w table
@@ -219,7 +219,7 @@ module _ (t : List ℕ) (n at form : ℕ) (table : List ℕ) (f : Filling) (note
       let e : w ≡ notedWalk (noteIn (noteAt notes i)) (getD (f .counts) 6 0) f =
       is-w ∙ ap (λ (x : NoteWords). notedWalk x (getD (f .counts) 6 0) f) is-note in
       let g : FillsValues t n at form table f (notedWalk (noteIn (noteAt notes i)) (getD (f .counts) 6 0) f) table =
-      note-taken t table f (puts .seven) (noteAt notes i) (found .first-is) tells-here n at form (found .number-is) (found .at-is)
+      note-taken t table f (puts .seven) (noteAt notes i) (found .first-is) tells-here n at form (found .line-is) (found .at-is)
       (found .form-is) in
       rw e g
 

@@ -55,7 +55,7 @@ pub struct Placing {
 // columns the greatest that is named.
 pub struct MatrixWalk {
     pub at: usize,
-    pub number: u64,
+    pub line: u64,
     pub bandwidth: First,
     pub greatest: u64,
     pub spot: Spot,
@@ -65,7 +65,7 @@ pub struct MatrixWalk {
 // how many values stand before theirs, where they end and the number of the line there, and what they say.
 pub struct NoteWords {
     pub at: u64,
-    pub number: u64,
+    pub line: u64,
     pub form: u64,
     pub first: u64,
     pub further: u64,
@@ -78,7 +78,7 @@ pub struct NoteWords {
 // A matrix that is stored: where the lines go on behind it, and its conductors.
 pub struct Stored {
     pub at: usize,
-    pub number: u64,
+    pub line: u64,
     pub conductors: u64,
     pub filling: Filling,
 }
@@ -258,7 +258,7 @@ fn take_row(text: &[u8], line: Found, walk: MatrixWalk) -> MatrixWalk
     };
     MatrixWalk {
         at: line.next,
-        number: line.number + 1,
+        line: line.line + 1,
         bandwidth,
         greatest: greater(walk.greatest, row),
         spot: next,
@@ -275,7 +275,7 @@ fn take_bandwidth(text: &[u8], line: Found, walk: MatrixWalk) -> MatrixWalk
     let bandwidth = first_told(before, given_by(text, line));
     MatrixWalk {
         at: line.next,
-        number: line.number + 1,
+        line: line.line + 1,
         bandwidth,
         greatest: walk.greatest,
         spot,
@@ -302,7 +302,7 @@ fn take_data(text: &[u8], line: Found, form: u64, table: &mut [u64], walk: Matri
         };
         return MatrixWalk {
             at: line.next,
-            number: line.number + 1,
+            line: line.line + 1,
             bandwidth,
             greatest: greater(walk.greatest, placing.column),
             spot: next,
@@ -311,7 +311,7 @@ fn take_data(text: &[u8], line: Found, form: u64, table: &mut [u64], walk: Matri
     let next = fill_numbers(&text[at..end], form, table, spot);
     MatrixWalk {
         at: line.next,
-        number: line.number + 1,
+        line: line.line + 1,
         bandwidth,
         greatest: walk.greatest,
         spot: next,
@@ -346,13 +346,13 @@ fn stays_in_matrix(key: u64) -> bool
 fn fill_values(
     text: &[u8],
     at: usize,
-    number: u64,
+    line_here: u64,
     form: u64,
     table: &mut [u64],
     filling: Filling,
 ) -> MatrixWalk
-    requires { ⌜ PutsValues (now text) number at form (now table) filling ⌝ }
-    ensures { λ r. ⌜ FillsValues (now (text .entry)) number at form (now (table .entry)) filling r (now (table .exit)) ⌝ }
+    requires { ⌜ PutsValues (now text) line_here at form (now table) filling ⌝ }
+    ensures { λ r. ⌜ FillsValues (now (text .entry)) line_here at form (now (table .entry)) filling r (now (table .exit)) ⌝ }
 {
     let bandwidth = First {
         told: false,
@@ -365,13 +365,13 @@ fn fill_values(
     };
     let mut walk = MatrixWalk {
         at,
-        number,
+        line: line_here,
         bandwidth,
         greatest: 0,
         spot,
     };
     loop {
-        let line = doc::next_line(text, walk.at, walk.number);
+        let line = doc::next_line(text, walk.at, walk.line);
         if !line.there {
             return walk;
         }
@@ -390,7 +390,7 @@ pub fn note_at(notes: &[u64], i: usize) -> NoteWords
     let from = 9 * i;
     NoteWords {
         at: notes[from],
-        number: notes[from + 1],
+        line: notes[from + 1],
         form: notes[from + 2],
         first: notes[from + 3],
         further: notes[from + 4],
@@ -402,8 +402,8 @@ pub fn note_at(notes: &[u64], i: usize) -> NoteWords
 }
 
 // Whether a note is made, and of the lines at hand: read in this form, so many values standing before theirs.
-fn is_of(note: NoteWords, at: u64, number: u64, form: u64, first: u64) -> bool
-    ensures { λ r. ⌜ r ≡ isOf note at number form first ⌝ }
+fn is_of(note: NoteWords, at: u64, line: u64, form: u64, first: u64) -> bool
+    ensures { λ r. ⌜ r ≡ isOf note at line form first ⌝ }
 {
     if note.further == 0 {
         return false;
@@ -411,7 +411,7 @@ fn is_of(note: NoteWords, at: u64, number: u64, form: u64, first: u64) -> bool
     if note.at != at {
         return false;
     }
-    if note.number != number {
+    if note.line != line {
         return false;
     }
     if note.form != form {
@@ -440,7 +440,7 @@ fn noted_walk(note: NoteWords, first: u64, filling: Filling) -> MatrixWalk
     };
     MatrixWalk {
         at: note.further as usize,
-        number: note.next,
+        line: note.next,
         bandwidth,
         greatest: note.greatest,
         spot,
@@ -451,27 +451,27 @@ fn noted_walk(note: NoteWords, first: u64, filling: Filling) -> MatrixWalk
 fn noted_values(
     text: &[u8],
     at: usize,
-    number: u64,
+    line: u64,
     form: u64,
     table: &mut [u64],
     filling: Filling,
     notes: &[u64],
 ) -> MatrixWalk
-    requires { ⌜ PutsValues (now text) number at form (now table) filling
+    requires { ⌜ PutsValues (now text) line at form (now table) filling
         × Noted (now text) (now table) (now notes) (getD (filling .bases) 6 0) (getD (filling .counts) 6 0) ⌝ }
-    ensures { λ r. ⌜ FillsValues (now (text .entry)) number at form (now (table .entry)) filling r (now (table .exit)) ⌝ }
+    ensures { λ r. ⌜ FillsValues (now (text .entry)) line at form (now (table .entry)) filling r (now (table .exit)) ⌝ }
 {
     let counts = filling.counts;
     let first = counts[table_layout::VALUES];
     let index = counts[table_layout::MATRICES] as usize;
     if notes.len() / 9 <= index {
-        return fill_values(text, at, number, form, table, filling);
+        return fill_values(text, at, line, form, table, filling);
     }
     let note = note_at(notes, index);
-    if is_of(note, at as u64, number, form, first) {
+    if is_of(note, at as u64, line, form, first) {
         return noted_walk(note, first, filling);
     }
-    fill_values(text, at, number, form, table, filling)
+    fill_values(text, at, line, form, table, filling)
 }
 
 // The form of a matrix, after its keyword.
@@ -509,24 +509,16 @@ pub fn fill_matrix(
     let before = filling.counts;
     let first = before[table_layout::VALUES];
     let form = form_at(text, line);
-    let walk = noted_values(
-        text,
-        line.next,
-        line.number + 1,
-        form,
-        table,
-        filling,
-        notes,
-    );
+    let walk = noted_values(text, line.next, line.line + 1, form, table, filling, notes);
     let spot = walk.spot;
     let bandwidth = walk.bandwidth;
     let filled = spot.filling;
     let after = filled.counts;
     let values = after[table_layout::VALUES] - first;
-    let words = [form, told_in(bandwidth), first, values, line.number];
+    let words = [form, told_in(bandwidth), first, values, line.line];
     Stored {
         at: walk.at,
-        number: walk.number,
+        line: walk.line,
         conductors: conductors_in(form, values, walk.greatest),
         filling: table_layout::put_record(table, filled, table_layout::MATRICES, &words),
     }

@@ -119,7 +119,7 @@ module _ (t : List ℕ) (line : Found) (table : List ℕ) (w : ModelWalk) (on : 
   no-head = both-not-left _ _ (ne-eqb _ _ (λ (e : w .place ≡ 8). let z : _≡_ {A = ℕ} 9 8 = sym (on .place-is) ∙ e in omega arith))
 
   pub step-taken : (f : Filling) (table' : List ℕ) → Stores (w .filling) table (stepWrites t (stepsAt t line)) f table' →
-      Taken t line w table (record { at = line .next; number = line .number + 1; place = 9; head = w .head; filling = f }) table'
+      Taken t line w table (record { at = line .next; line = line .line + 1; place = 9; head = w .head; filling = f }) table'
   unfolding headIn
   step-taken f table' s =
       record {
@@ -143,7 +143,7 @@ module _ (t : List ℕ) (line : Found) (w : ModelWalk) (table : List ℕ) (next 
 
   -- behind the line, no step stored
   abbrev passed : ℕ → Head → ModelWalk
-  passed p head = record { at = line .next; number = line .number + 1; place = p; head = head; filling = w .filling }
+  passed p head = record { at = line .next; line = line .line + 1; place = p; head = head; filling = w .filling }
 
   pub next-located : Located t line
   next-located = next .finds .located (next .there)
@@ -178,7 +178,7 @@ module _ (t : List ℕ) (line : Found) (w : ModelWalk) (table : List ℕ) (next 
                     record {
                       located = next-located;
                       order =
-                          maps-behind t (next .opened .last .before) (w .number) (w .at) (w .place) line (next .finds) (next .there)
+                          maps-behind t (next .opened .last .before) (w .line) (w .at) (w .place) line (next .finds) (next .there)
                           (next .opened .last .all) k;
                       aims = next .opened .aims;
                     };
@@ -202,18 +202,18 @@ module _ (t : List ℕ) (line : Found) (w : ModelWalk) (table : List ℕ) (next 
   -- where the walk stands behind the line
   module _ (v : ModelWalk) (table' : List ℕ) (taken : Taken t line w table v table') where
     lines-next : behind ≡ linesLeft t v
-    lines-next = λ i. linesAt t (sym (taken .number-is) i) (sym (taken .at-is) i) (sym (taken .place-is) i)
+    lines-next = λ i. linesAt t (sym (taken .line-is) i) (sym (taken .at-is) i) (sym (taken .place-is) i)
 
     low-next : lowOf (v .filling) ≡ lowOf (w .filling)
     low-next = low-same (w .filling) (v .filling) (ap (λ (f : Filling). f .bases) (taken .steps .filled) ∙ bases-kept _ (w .filling))
 
-    open-next : Open t (v .number) (v .at) (v .place) (v .filling) table'
+    open-next : Open t (v .line) (v .at) (v .place) (v .filling) table'
     open-next =
         let a : v .at ≡ line .next = taken .at-is in
-        let m : v .number ≡ line .number + 1 = taken .number-is in
+        let m : v .line ≡ line .line + 1 = taken .line-is in
         let c : line .at < line .next = next-located .further in
         let d : line .next ≤ length t = next-located .next-within in
-        let q : line .number ≤ line .at + 1 = next-located .counted in
+        let q : line .line ≤ line .at + 1 = next-located .counted in
         let fits : Fits (lowOf (w .filling)) (fillingAfter (stepWrites t (stepOf here behind)) (w .filling)) (modelSteps t behind) =
         fits-rest (lowOf (w .filling)) (w .filling) _ _ fits-here in
         record {

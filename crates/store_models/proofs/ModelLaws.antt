@@ -35,14 +35,14 @@ abbrev own : List ℕ → Found → Filling → Write
 own t line f = modelWrite (getD (f .counts) 1 0) (modelBelow t line)
 
 module _ (t : List ℕ) (line : Found) (f : Filling) (table : List ℕ) (fits : FitsModel t line f table) where
-  fits-all : Fits (lowOf f) f (modelSteps t (linesAt t (line .number + 1) (line .next) place.head) ++ (own t line f ∷ []))
+  fits-all : Fits (lowOf f) f (modelSteps t (linesAt t (line .line + 1) (line .next) place.head) ++ (own t line f ∷ []))
   unfolding modelWrites modelOf
   fits-all = fits .fits
 
-  pub model-open : Open t (line .number + 1) (line .next) place.head f table
+  pub model-open : Open t (line .line + 1) (line .next) place.head f table
   model-open =
       let c : line .at < line .next = fits .located .further in
-      let q : line .number ≤ line .at + 1 = fits .located .counted in
+      let q : line .line ≤ line .at + 1 = fits .located .counted in
       record {
         placed = record { within = fits .located .next-within; counted = omega arith };
         last = fits .last;
@@ -50,13 +50,13 @@ module _ (t : List ℕ) (line : Found) (f : Filling) (table : List ℕ) (fits : 
         fits = fits-first (lowOf f) f _ _ fits-all;
       }
 
-  module _ (w : ModelWalk) (table' : List ℕ) (reads : ReadsModel t (line .number + 1) (line .next) f table w table') where
+  module _ (w : ModelWalk) (table' : List ℕ) (reads : ReadsModel t (line .line + 1) (line .next) f table w table') where
     pub model-counted : getD (w .filling .counts) 1 0 ≡ getD (f .counts) 1 0 + length (modelBelow t line .steps)
     unfolding modelOf
     model-counted =
         ap (λ (x : Filling). getD (x .counts) 1 0) (reads .steps .filled)
         ∙ steps-stored f (fits .seven) (documentOf t .maps) (documentOf t .sections)
-        (stepsIn (modelLines (linesAt t (line .number + 1) (line .next) place.head)))
+        (stepsIn (modelLines (linesAt t (line .line + 1) (line .next) place.head)))
 
     pub model-asked : (0 < length widths) × (_≡_ {A = ℕ} 5 (widthOf 0)) × (position (w .filling) 0 + widthOf 0 ≤ length table')
     unfolding modelWrite lowOf
@@ -75,7 +75,7 @@ module _ (t : List ℕ) (line : Found) (f : Filling) (table : List ℕ) (fits : 
       model-words =
           let c : getD (w .filling .counts) 1 0 ≡ getD (f .counts) 1 0 + length (modelBelow t line .steps) = model-counted in
           let n : getD (w .filling .counts) 1 0 - getD (f .counts) 1 0 ≡ length (modelBelow t line .steps) = omega arith in
-          let k : type ≡ headIn newHead (modelLines (linesAt t (line .number + 1) (line .next) place.head)) .kind - 1 =
+          let k : type ≡ headIn newHead (modelLines (linesAt t (line .line + 1) (line .next) place.head)) .kind - 1 =
           is-type ∙ ap (λ (h : Head). h .kind - 1) (reads .head) in
           λ i. is-mark i .start ∷ is-mark i .size ∷ k i ∷ getD (f .counts) 1 0 ∷ n i ∷ []
 
@@ -84,7 +84,7 @@ module _ (t : List ℕ) (line : Found) (f : Filling) (table : List ℕ) (fits : 
           table'' ≡ sets table' (position (w .filling) 0)
           (mark .start ∷ mark .size ∷ type ∷ getD (f .counts) 1 0 ∷ (getD (w .filling .counts) 1 0 - getD (f .counts) 1 0) ∷ []) →
           FillsModel t line f table
-          (record { at = w .at; number = w .number; place = w .place; head = w .head; filling = r }) table''
+          (record { at = w .at; line = w .line; place = w .place; head = w .head; filling = r }) table''
       unfolding modelWrites modelWrite modelOf
       model-filled r table'' k h =
           record {

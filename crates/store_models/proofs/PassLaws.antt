@@ -113,11 +113,11 @@ module _ (t : List ℕ) (line : Found) (w : Walk) (table : List ℕ) (ready : Re
       none-here = if-false _ _ (opens-here ∙ h)
 
       pub pass-line : (p : ℕ) → p ≡ placeAfter (w .place) (contentIn t line) →
-          PassesModel t line w table (record { at = line .next; number = line .number + 1; place = p; filling = w .filling }) table
+          PassesModel t line w table (record { at = line .next; line = line .line + 1; place = p; filling = w .filling }) table
       pass-line p e =
-          let n : line .number ≤ line .at + 1 = ready .located .counted in
+          let n : line .line ≤ line .at + 1 = ready .located .counted in
           let f : line .at < line .next = ready .located .further in
-          let next : behind ≡ linesAt t (line .number + 1) (line .next) p = ap (linesAt t (line .number + 1) (line .next)) (sym e) in
+          let next : behind ≡ linesAt t (line .line + 1) (line .next) p = ap (linesAt t (line .line + 1) (line .next)) (sym e) in
           record {
             passes =
                 record {
@@ -140,8 +140,8 @@ module _ (t : List ℕ) (line : Found) (w : Walk) (table : List ℕ) (ready : Re
           if-false _ _ (ne-eqb _ _ (λ (x : keyAt (contentIn t line) ≡ plain). let z : _≡_ {A = ℕ} 23 41 = sym a ∙ x in omega arith))
           ∙ ap (moved (w .place)) a ∙ leads-in (w .place) (both-first _ _ b)
 
-      behind-is : behind ≡ linesAt t (line .number + 1) (line .next) place.head
-      behind-is = ap (linesAt t (line .number + 1) (line .next)) place-here
+      behind-is : behind ≡ linesAt t (line .line + 1) (line .next) place.head
+      behind-is = ap (linesAt t (line .line + 1) (line .next)) place-here
 
       one-here : modelAt opening behind ≡ modelBelow t line ∷ []
       unfolding modelAt modelOf argumentOf
@@ -162,11 +162,11 @@ module _ (t : List ℕ) (line : Found) (w : Walk) (table : List ℕ) (ready : Re
           }
 
       module _ (m : ModelWalk) (table' : List ℕ) (fills : FillsModel t line (w .filling) table m table') where
-        rest-is : behind ≡ modelLines (linesAt t (line .number + 1) (line .next) place.head) ++ linesLeft t m
+        rest-is : behind ≡ modelLines (linesAt t (line .line + 1) (line .next) place.head) ++ linesLeft t m
         rest-is = behind-is ∙ fills .rest
 
         pub pass-opening :
-            PassesModel t line w table (record { at = m .at; number = m .number; place = m .place; filling = m .filling }) table'
+            PassesModel t line w table (record { at = m .at; line = m .line; place = m .place; filling = m .filling }) table'
         pass-opening =
             record {
               passes =
@@ -174,16 +174,16 @@ module _ (t : List ℕ) (line : Found) (w : Walk) (table : List ℕ) (ready : Re
                     stores = rw writes-here (fills .model);
                     rest =
                         ap (gather modelAt) rest-is
-                        ∙ quiet modelAt inModel model-quiet (linesAt t (line .number + 1) (line .next) place.head) (linesLeft t m);
+                        ∙ quiet modelAt inModel model-quiet (linesAt t (line .line + 1) (line .next) place.head) (linesLeft t m);
                     placed = fills .placed;
                     onward = fills .onward;
                   };
               last =
                   record {
-                    before = ready .last .before ++ modelLines (linesAt t (line .number + 1) (line .next) place.head);
+                    before = ready .last .before ++ modelLines (linesAt t (line .line + 1) (line .next) place.head);
                     all =
                         ready .last .all ∙ ap (λ (ls : List Line). ready .last .before ++ ls) rest-is
-                        ∙ sym (append-assoc (ready .last .before) (modelLines (linesAt t (line .number + 1) (line .next) place.head))
+                        ∙ sym (append-assoc (ready .last .before) (modelLines (linesAt t (line .line + 1) (line .next) place.head))
                         (linesLeft t m));
                   };
             }
@@ -193,13 +193,13 @@ module _ (t : List ℕ) (line : Found) (w : Walk) (table : List ℕ) (ready : Re
 -- the models that are left
 pub record ModelsLeft (t : List ℕ) (f₀ : Filling) (table₀ : List ℕ) (w : Walk) (table : List ℕ) : Type 0 where
   pub left : BlocksLeft modelAt (modelsOf t) (lowOf f₀) t f₀ table₀ (documentOf t .models) w table
-  pub last : Last t (linesAt t (w .number) (w .at) (w .place))
+  pub last : Last t (linesAt t (w .line) (w .at) (w .place))
   pub aims : Aims t (w .filling) table
 
 pub models-start :
     (t : List ℕ) (f : Filling) (table : List ℕ) →
     (length (f .counts) ≡ 7) × Aims t f table × Fits (lowOf f) f (modelsOf t f (documentOf t .models)) →
-    ModelsLeft t f table (record { at = 0; number = 1; place = 0; filling = f }) table
+    ModelsLeft t f table (record { at = 0; line = 1; place = 0; filling = f }) table
 unfolding documentOf documentIn significant
 models-start t f table (seven, aims, fits) =
     record {
@@ -214,7 +214,7 @@ module _ (t : List ℕ) (f₀ : Filling) (table₀ : List ℕ) (w : Walk) (table
   pub models-after : w .place ≡ place.after → Stores f₀ table₀ (modelsOf t f₀ (documentOf t .models)) (w .filling) table
   models-after h =
       blocks-done modelAt (modelsOf t) (models-storable t) (lowOf f₀) t f₀ table₀ (documentOf t .models) w table (models .left)
-      (late-quiet modelAt late-model t (w .number) (w .at) (w .place) (omega (arith, h)))
+      (late-quiet modelAt late-model t (w .line) (w .at) (w .place) (omega (arith, h)))
 
   pub models-long : length table ≡ length table₀
   models-long = models .left .pending .long
@@ -224,7 +224,7 @@ module _ (t : List ℕ) (f₀ : Filling) (table₀ : List ℕ) (w : Walk) (table
       low-same f₀ (w .filling)
       (sym (bases-kept _ (w .filling)) ∙ ap (λ (f : Filling). f .bases) (models .left .pending .counts) ∙ bases-kept _ f₀)
 
-  module _ (line : Found) (meets : Meets t (w .number) (w .at) (w .place) line) where
+  module _ (line : Found) (meets : Meets t (w .line) (w .at) (w .place) line) where
     pub models-end : not (line .there) ≡ true → Stores f₀ table₀ (modelsOf t f₀ (documentOf t .models)) (w .filling) table
     models-end h =
         blocks-end modelAt (modelsOf t) (models-storable t) (lowOf f₀) t f₀ table₀ (documentOf t .models) w table
@@ -235,10 +235,10 @@ module _ (t : List ℕ) (f₀ : Filling) (table₀ : List ℕ) (w : Walk) (table
       first = lineIn t line (w .place)
 
       -- the lines without a keyword before it
-      over : Plainly (w .place) (linesAt t (w .number) (w .at) (w .place)) (first ∷ linesBehind t line (w .place))
+      over : Plainly (w .place) (linesAt t (w .line) (w .at) (w .place)) (first ∷ linesBehind t line (w .place))
       over = meets .same-there (not-false (line .there) there)
 
-      lines-left : linesAt t (w .number) (w .at) (w .place) ≡ (over .before ++ (first ∷ [])) ++ linesBehind t line (w .place)
+      lines-left : linesAt t (w .line) (w .at) (w .place) ≡ (over .before ++ (first ∷ [])) ++ linesBehind t line (w .place)
       lines-left = over .all ∙ sym (append-assoc (over .before) (first ∷ []) (linesBehind t line (w .place)))
 
       pub models-ready : ReadyModel t line w table

@@ -68,7 +68,7 @@ usual-plain c (pair end u) = ap bracketOf (u .opens .front) ∙ front-plain (dro
 -- ---- it is found where it stands
 
 abbrev foundAt : ℕ → ℕ → text.Line → Found
-foundAt at n found = record { there = true; number = n; at = at; end = found .content; next = found .next; key = 41; argument = 0 }
+foundAt at n found = record { there = true; line = n; at = at; end = found .content; next = found .next; key = 41; argument = 0 }
 
 module _ (t : List ℕ) (start : ModelWalk) (table₀ : List ℕ) (is-path : start .place ≡ place.path) (at n : ℕ) (counts table : List ℕ)
     (on : Continued t start table₀ (movedTo start at n counts) table) (h : at < length t) (found : text.Line)
@@ -111,7 +111,7 @@ module _ (t : List ℕ) (start : ModelWalk) (table₀ : List ℕ) (is-path : sta
     usual-taken : Taken t line walk table (movedTo start (found .next) (n + 1) (set counts 1 (getD counts 1 0 + 1))) table'
     unfolding counted
     usual-taken =
-        let taken : Taken t line walk table (record { at = found .next; number = n + 1; place = 9; head = start .head; filling = counted (record { bases = start .filling .bases; counts = counts }) 1 }) table' =
+        let taken : Taken t line walk table (record { at = found .next; line = n + 1; place = 9; head = start .head; filling = counted (record { bases = start .filling .bases; counts = counts }) 1 }) table' =
         step-taken t line table walk (usual-on (put .usual)) (firstOf (words (contentIn t line))) refl _ refl
         (counted (record { bases = start .filling .bases; counts = counts }) 1) table' (put .stores) in
         record {

@@ -26,7 +26,7 @@ use Rattle.store_models.specs.Way.Models.{modelLines, modelSteps, linesL
 use Rattle.store_models.specs.declared.ModelWalk.{ModelWalk}
 
 module _ (t : List ℕ) where
-  pub continued-start : (w : ModelWalk) (table : List ℕ) → Open t (w .number) (w .at) (w .place) (w .filling) table →
+  pub continued-start : (w : ModelWalk) (table : List ℕ) → Open t (w .line) (w .at) (w .place) (w .filling) table →
       Continued t w table w table
   continued-start w table o =
       record {
@@ -84,7 +84,7 @@ module _ (t : List ℕ) where
     pub walk-joins : (u : ModelWalk) (table'' : List ℕ) → Reached t v table' u table'' → Continued t w table u table''
     walk-joins u table'' r = continued-join w table v table' u table'' c (r .continued)
 
-    pub walk-next : (line : Found) → Finds t (v .number) (v .at) line → not (line .there) ≡ false → (is : Bool) → is ≡ isInModel (v .place) →
+    pub walk-next : (line : Found) → Finds t (v .line) (v .at) line → not (line .there) ≡ false → (is : Bool) → is ≡ isInModel (v .place) →
         not is ≡ false → Next t line v table'
     walk-next line finds there is told h =
         record {
@@ -109,7 +109,7 @@ module _ (t : List ℕ) where
 
 module _ (t : List ℕ) (n at : ℕ) (f : Filling) (table : List ℕ) (head : Head) (new : head ≡ newHead) where
   abbrev start : ModelWalk
-  start = record { at = at; number = n; place = 8; head = head; filling = f }
+  start = record { at = at; line = n; place = 8; head = head; filling = f }
 
   pub model-starts : Open t n at place.head f table → Continued t start table start table
   model-starts o = continued-start t start table o
@@ -134,7 +134,7 @@ module _ (t : List ℕ) (n at : ℕ) (f : Filling) (table : List ℕ) (head : He
           onward = c .onward;
         }
 
-    module _ (line : Found) (finds : Finds t (w .number) (w .at) line) where
+    module _ (line : Found) (finds : Finds t (w .line) (w .at) line) where
       pub model-text-ends : not (line .there) ≡ true → ReadsModel t n at f table w table'
       model-text-ends h = ends (ap modelLines (finds .same-none (not-true (line .there) h) (w .place)) ∙ up-none inModel)
 

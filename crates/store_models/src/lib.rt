@@ -25,7 +25,7 @@ const COMMENT: u8 = b'|';
 // How far the lines of a model have been gone over: where to go on, and what the head has said.
 pub struct ModelWalk {
     pub at: usize,
-    pub number: u64,
+    pub line: u64,
     pub place: u64,
     pub head: Head,
     pub filling: Filling,
@@ -69,7 +69,7 @@ fn take_step(text: &[u8], line: Found, table: &mut [u64], walk: ModelWalk) -> Mo
     let says = line_path::saying_of(lex_line::first_word(&text[at..end]));
     ModelWalk {
         at: line.next,
-        number: line.number + 1,
+        line: line.line + 1,
         place: line_place::PATH,
         head,
         filling: store_steps::put_step(text, line, says, table, filling),
@@ -87,7 +87,7 @@ fn take_line(text: &[u8], line: Found, table: &mut [u64], walk: ModelWalk) -> Mo
     let filling = walk.filling;
     ModelWalk {
         at: line.next,
-        number: line.number + 1,
+        line: line.line + 1,
         place: doc::place_after(walk.place, text, line),
         head: head_after(text, line, walk.place, head),
         filling,
@@ -97,15 +97,15 @@ fn take_line(text: &[u8], line: Found, table: &mut [u64], walk: ModelWalk) -> Mo
 // ---- all lines of a model
 
 // The walk come to a line, with so many records stored.
-fn walk_at(walk: ModelWalk, at: usize, number: u64, counts: [u64; 7]) -> ModelWalk
-    ensures { λ r. ⌜ r ≡ movedTo walk at number counts ⌝ }
+fn walk_at(walk: ModelWalk, at: usize, line: u64, counts: [u64; 7]) -> ModelWalk
+    ensures { λ r. ⌜ r ≡ movedTo walk at line counts ⌝ }
 {
     let head = walk.head;
     let filling = walk.filling;
     let bases = filling.bases;
     ModelWalk {
         at,
-        number,
+        line,
         place: walk.place,
         head,
         filling: Filling { bases, counts },
@@ -115,19 +115,19 @@ fn walk_at(walk: ModelWalk, at: usize, number: u64, counts: [u64; 7]) -> ModelWa
 // The lines of a path that follow one another in their usual form. The walk is taken apart, so that no more is carried from line to line
 // than changes there.
 fn pass_usual(text: &[u8], table: &mut [u64], walk: ModelWalk) -> ModelWalk
-    requires { ⌜ (walk .place ≡ place.path) × Open (now text) (walk .number) (walk .at) (walk .place) (walk .filling) (now table) ⌝ }
+    requires { ⌜ (walk .place ≡ place.path) × Open (now text) (walk .line) (walk .at) (walk .place) (walk .filling) (now table) ⌝ }
     ensures { λ r. ⌜ Continued (now (text .entry)) walk (now (table .entry)) r (now (table .exit)) ⌝ }
 {
     let filling = walk.filling;
     let bases = filling.bases;
     let mut counts = filling.counts;
     let mut here = walk.at;
-    let mut number = walk.number;
+    let mut line_here = walk.line;
     while here < text.len() {
         let ends = lex_line::line_at(text, here, COMMENT);
         let line = Found {
             there: true,
-            number,
+            line: line_here,
             at: here,
             end: ends.content,
             next: ends.next,
@@ -136,13 +136,13 @@ fn pass_usual(text: &[u8], table: &mut [u64], walk: ModelWalk) -> ModelWalk
         };
         let next = store_steps::put_usual(text, line, table, Filling { bases, counts });
         if next == 0 {
-            return walk_at(walk, here, number, counts);
+            return walk_at(walk, here, line_here, counts);
         }
         here = ends.next;
-        number += 1;
+        line_here += 1;
         counts[table_layout::STEPS] = next;
     }
-    walk_at(walk, here, number, counts)
+    walk_at(walk, here, line_here, counts)
 }
 
 // A line of a model, and the lines of its path that follow in their usual form.
@@ -158,19 +158,25 @@ fn fill_lines(text: &[u8], line: Found, table: &mut [u64], start: ModelWalk) -> 
 }
 
 // The lines of a model, from below its keyword up to its end.
-fn fill_steps(text: &[u8], at: usize, number: u64, table: &mut [u64], filling: Filling) -> ModelWalk
-    requires { ⌜ Open (now text) number at place.head filling (now table) ⌝ }
-    ensures { λ r. ⌜ ReadsModel (now (text .entry)) number at filling (now (table .entry)) r (now (table .exit)) ⌝ }
+fn fill_steps(
+    text: &[u8],
+    at: usize,
+    line_here: u64,
+    table: &mut [u64],
+    filling: Filling,
+) -> ModelWalk
+    requires { ⌜ Open (now text) line_here at place.head filling (now table) ⌝ }
+    ensures { λ r. ⌜ ReadsModel (now (text .entry)) line_here at filling (now (table .entry)) r (now (table .exit)) ⌝ }
 {
     let mut walk = ModelWalk {
         at,
-        number,
+        line: line_here,
         place: line_place::HEAD,
         head: line_head::new_head(),
         filling,
     };
     loop {
-        let line = doc::next_line(text, walk.at, walk.number);
+        let line = doc::next_line(text, walk.at, walk.line);
         if !line.there {
             return walk;
         }
@@ -190,7 +196,7 @@ fn fill_model(text: &[u8], line: Found, table: &mut [u64], filling: Filling) -> 
 {
     let before = filling.counts;
     let first = before[table_layout::STEPS];
-    let walk = fill_steps(text, line.next, line.number + 1, table, filling);
+    let walk = fill_steps(text, line.next, line.line + 1, table, filling);
     let head = walk.head;
     let filled = walk.filling;
     let after = filled.counts;
@@ -204,7 +210,7 @@ fn fill_model(text: &[u8], line: Found, table: &mut [u64], filling: Filling) -> 
     ];
     ModelWalk {
         at: walk.at,
-        number: walk.number,
+        line: walk.line,
         place: walk.place,
         head,
         filling: table_layout::put_record(table, filled, table_layout::MODELS, &words),
@@ -232,14 +238,14 @@ fn pass_model(text: &[u8], line: Found, table: &mut [u64], walk: Walk) -> Walk
         let filled = model.filling;
         return Walk {
             at: model.at,
-            number: model.number,
+            line: model.line,
             place: model.place,
             filling: filled,
         };
     }
     Walk {
         at: line.next,
-        number: line.number + 1,
+        line: line.line + 1,
         place: doc::place_after(walk.place, text, line),
         filling,
     }
@@ -252,7 +258,7 @@ pub fn fill_models(text: &[u8], table: &mut [u64], filling: Filling) -> Filling
 {
     let mut walk = Walk {
         at: 0,
-        number: 1,
+        line: 1,
         place: line_place::BEFORE,
         filling,
     };
@@ -261,7 +267,7 @@ pub fn fill_models(text: &[u8], table: &mut [u64], filling: Filling) -> Filling
         if walk.place == line_place::AFTER {
             return filled;
         }
-        let line = doc::next_keyed(text, walk.at, walk.number, walk.place);
+        let line = doc::next_keyed(text, walk.at, walk.line, walk.place);
         if !line.there {
             return filled;
         }

@@ -188,8 +188,8 @@ module _ (t : List ℕ) (line : Found) (w : SectionWalk) (opens : opensMatrixAt 
   unfolding opensMatrixAt keyOf
   opens-key = both-second _ _ opens
 
-  behind-opening : linesBehind t line (w .place) ≡ linesAt t (line .number + 1) (line .next) place.matrix
-  behind-opening = ap (linesAt t (line .number + 1) (line .next)) (opening-leads (w .place) (contentIn t line) opens-place opens-key)
+  behind-opening : linesBehind t line (w .place) ≡ linesAt t (line .line + 1) (line .next) place.matrix
+  behind-opening = ap (linesAt t (line .line + 1) (line .next)) (opening-leads (w .place) (contentIn t line) opens-place opens-key)
 
   matrix-here : matrixHere t line w ≡ matrixBelow t line ∷ []
   unfolding matrixAt matrixOf keyOf argumentOf
@@ -254,7 +254,7 @@ module _ (t : List ℕ) (line : Found) (table : List ℕ) (w : SectionWalk) (tak
       pub matrix-taken : TakenLine t line table w
           (record {
             at = s .at;
-            number = s .number;
+            line = s .line;
             place = 16;
             method = w .method;
             conductors = c;
@@ -265,7 +265,7 @@ module _ (t : List ℕ) (line : Found) (table : List ℕ) (w : SectionWalk) (tak
           record {
             stores = rw (writes-here t line w (takes .opens) (w .filling)) (fills .stores);
             passed = record {
-              from = linesAt t (line .number + 1) (line .next) place.matrix;
+              from = linesAt t (line .line + 1) (line .next) place.matrix;
               all = behind-opening t line w (takes .opens) ∙ fills .rest;
             };
             method-on = λ (ls : List Line). ap (toldOr (w .method)) (method-none ls);
@@ -304,7 +304,7 @@ module _ (t : List ℕ) (line : Found) (table : List ℕ) (w : SectionWalk) (tak
         TakenLine t line table w
         (record {
           at = line .next;
-          number = line .number + 1;
+          line = line .line + 1;
           place = p;
           method = m;
           conductors = w .conductors;
@@ -312,14 +312,14 @@ module _ (t : List ℕ) (line : Found) (table : List ℕ) (w : SectionWalk) (tak
           filling = w .filling;
         }) table
     line-taken m is-m p is-p =
-        let a : line .number ≤ line .at + 1 = takes .located .counted in
+        let a : line .line ≤ line .at + 1 = takes .located .counted in
         let b : line .at < line .next = takes .located .further in
         record {
           stores = rw no-writes (stores-none (w .filling) table);
           passed = record {
             from = [];
-            all = ap (linesAt t (line .number + 1) (line .next)) (sym is-p)
-                ∙ ap (λ (ls : List Line). ls ++ linesAt t (line .number + 1) (line .next) p) (sym (up-none inMatrix));
+            all = ap (linesAt t (line .line + 1) (line .next)) (sym is-p)
+                ∙ ap (λ (ls : List Line). ls ++ linesAt t (line .line + 1) (line .next) p) (sym (up-none inMatrix));
           };
           method-on = λ (ls : List Line). ap (λ (x : First). toldOr x (methodIn ls)) is-m ∙ method-first t line (takes .located) w ls;
           conductors-on =

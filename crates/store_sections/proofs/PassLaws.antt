@@ -79,7 +79,7 @@ sections-storable = record { quiet = plain-section; none = sections-none; split 
 pub section-ready :
     (t : List ℕ) (f₀ : Filling) (table₀ : List ℕ) (ss : List Section) (w : Walk) (table : List ℕ) →
     BlocksLeft sectionAt sectionsOf (length table₀) t f₀ table₀ ss w table →
-    (line : Found) → Meets t (w .number) (w .at) (w .place) line → not (line .there) ≡ false → Ready sectionAt sectionsOf t line w table
+    (line : Found) → Meets t (w .line) (w .at) (w .place) line → not (line .there) ≡ false → Ready sectionAt sectionsOf t line w table
 section-ready t f₀ table₀ ss w table left line meets there =
     record {
       located = meets .located (not-false (line .there) there);
@@ -92,7 +92,7 @@ section-ready t f₀ table₀ ss w table left line meets there =
 pub section-noted :
     (t : List ℕ) (f₀ : Filling) (table₀ : List ℕ) (ss : List Section) (w : Walk) (table : List ℕ) →
     BlocksLeft sectionAt sectionsOf (length table₀) t f₀ table₀ ss w table →
-    (line : Found) → Meets t (w .number) (w .at) (w .place) line → not (line .there) ≡ false → (v : Walk) (table' : List ℕ) →
+    (line : Found) → Meets t (w .line) (w .at) (w .place) line → not (line .there) ≡ false → (v : Walk) (table' : List ℕ) →
     Passes sectionAt sectionsOf t line w table v table' → (notes : List ℕ) → NotedOf t table notes (w .filling) →
     NotedOf t table' notes (v .filling)
 section-noted t f₀ table₀ ss w table left line meets there v table' passes notes noted =
@@ -117,9 +117,9 @@ module _ (t : List ℕ) (line : Found) (table : List ℕ) (w : Walk) (ready : Re
     key-begins : keyAt (contentIn t line) ≡ beginIcmSection
     key-begins = sym (ready .located .key-is) ∙ eqb-true _ _ (both-second _ _ (sym is-opens ∙ yes-opens))
 
-    behind-opening : linesBehind t line (w .place) ≡ linesAt t (line .number + 1) (line .next) place.sectionHead
+    behind-opening : linesBehind t line (w .place) ≡ linesAt t (line .line + 1) (line .next) place.sectionHead
     behind-opening =
-        ap (linesAt t (line .number + 1) (line .next))
+        ap (linesAt t (line .line + 1) (line .next))
         (ap (λ (p : ℕ). placeAfter p (contentIn t line)) here-after ∙ opening-leads (contentIn t line) key-begins)
 
     section-here : sectionAt (lineIn t line (w .place)) (linesBehind t line (w .place)) ≡ sectionBelow t line ∷ []
@@ -152,7 +152,7 @@ module _ (t : List ℕ) (line : Found) (table : List ℕ) (w : Walk) (ready : Re
         record {
           stores = rw writes-here (fills .stores);
           rest = ap (gather sectionAt) (behind-opening ∙ fills .rest)
-              ∙ quiet sectionAt inSection silent _ (linesAt t (v .number) (v .at) (v .place));
+              ∙ quiet sectionAt inSection silent _ (linesAt t (v .line) (v .at) (v .place));
           placed = fills .placed;
           onward = fills .onward;
         }
@@ -165,13 +165,13 @@ module _ (t : List ℕ) (line : Found) (table : List ℕ) (w : Walk) (ready : Re
     pub line-passed :
         (p : ℕ) → p ≡ placeAfter (w .place) (contentIn t line) →
         Passes sectionAt sectionsOf t line w table
-        (record { at = line .next; number = line .number + 1; place = p; filling = w .filling }) table
+        (record { at = line .next; line = line .line + 1; place = p; filling = w .filling }) table
     line-passed p is-p =
-        let a : line .number ≤ line .at + 1 = ready .located .counted in
+        let a : line .line ≤ line .at + 1 = ready .located .counted in
         let b : line .at < line .next = ready .located .further in
         record {
           stores = rw (ap (sectionsOf (w .filling)) none-here ∙ sections-none (w .filling)) (stores-none (w .filling) table);
-          rest = ap (λ (q : ℕ). gather sectionAt (linesAt t (line .number + 1) (line .next) q)) (sym is-p);
+          rest = ap (λ (q : ℕ). gather sectionAt (linesAt t (line .line + 1) (line .next) q)) (sym is-p);
           placed = record { within = ready .located .next-within; counted = omega arith };
           onward = le-refl (line .next);
         }

@@ -152,20 +152,20 @@ matrices-split f g ms ns seven e =
 -- what is left of a section's lines gives what all of them give
 pub record LinesLeft (t : List ℕ) (n₀ at₀ : ℕ) (table₀ : List ℕ) (f₀ : Filling) (w : SectionWalk) (table : List ℕ) : Type 0 where
   pub pending : Pending (length table₀) f₀ table₀ (matricesFrom f₀ (matricesIn (sectionLines t n₀ at₀ place.sectionHead)))
-      (w .filling) table (matricesFrom (w .filling) (matricesIn (sectionLines t (w .number) (w .at) (w .place))))
-  pub method : toldOr (w .method) (methodIn (sectionLines t (w .number) (w .at) (w .place)))
+      (w .filling) table (matricesFrom (w .filling) (matricesIn (sectionLines t (w .line) (w .at) (w .place))))
+  pub method : toldOr (w .method) (methodIn (sectionLines t (w .line) (w .at) (w .place)))
       ≡ methodIn (sectionLines t n₀ at₀ place.sectionHead)
-  pub conductors : toldOr (w .conductors) (conductorsOf (matricesIn (sectionLines t (w .number) (w .at) (w .place))))
+  pub conductors : toldOr (w .conductors) (conductorsOf (matricesIn (sectionLines t (w .line) (w .at) (w .place))))
       ≡ conductorsOf (matricesIn (sectionLines t n₀ at₀ place.sectionHead))
   pub kinds :
       (k : ℕ) → k < 4 →
       keptOr (getD (w .kinds) k 0)
-      (indexOfKind k (getD (w .filling .counts) 5 0) (matricesIn (sectionLines t (w .number) (w .at) (w .place))))
+      (indexOfKind k (getD (w .filling .counts) 5 0) (matricesIn (sectionLines t (w .line) (w .at) (w .place))))
       ≡ indexOfKind k (getD (f₀ .counts) 5 0) (matricesIn (sectionLines t n₀ at₀ place.sectionHead))
   pub seven : length (w .filling .counts) ≡ 7
   pub four : length (w .kinds) ≡ 4
-  pub skipped : Skipped inSection (linesAt t n₀ at₀ place.sectionHead) (linesAt t (w .number) (w .at) (w .place))
-  pub placed : Placed t (w .number) (w .at)
+  pub skipped : Skipped inSection (linesAt t n₀ at₀ place.sectionHead) (linesAt t (w .line) (w .at) (w .place))
+  pub placed : Placed t (w .line) (w .at)
   pub onward : at₀ ≤ w .at
 
 none-told : (n : ℕ) → toldOr (record { told = false; value = 0 }) n ≡ n
@@ -188,7 +188,7 @@ pub lines-start :
     LinesLeft t n at table f
     (record {
       at = at;
-      number = n;
+      line = n;
       place = 14;
       method = record { told = false; value = 0 };
       conductors = record { told = false; value = 0 };
@@ -209,8 +209,8 @@ lines-start t n at table f puts =
     }
 
 module _ (t : List ℕ) (n₀ at₀ : ℕ) (table₀ : List ℕ) (f₀ : Filling) (w : SectionWalk) (table : List ℕ)
-    (left : LinesLeft t n₀ at₀ table₀ f₀ w table) (line : Found) (finds : Finds t (w .number) (w .at) line) where
-  lines-done : sectionLines t (w .number) (w .at) (w .place) ≡ [] → FillsLines t n₀ at₀ table₀ f₀ w table
+    (left : LinesLeft t n₀ at₀ table₀ f₀ w table) (line : Found) (finds : Finds t (w .line) (w .at) line) where
+  lines-done : sectionLines t (w .line) (w .at) (w .place) ≡ [] → FillsLines t n₀ at₀ table₀ f₀ w table
   unfolding gather matricesWrites methodIn indexOfKind
   lines-done e =
       record {
@@ -233,7 +233,7 @@ module _ (t : List ℕ) (n₀ at₀ : ℕ) (table₀ : List ℕ) (f₀ : Filling
     found : Located t line
     found = finds .located (not-false (line .there) there)
 
-    here : linesAt t (w .number) (w .at) (w .place) ≡ sectionLine t line w ∷ linesBehind t line (w .place)
+    here : linesAt t (w .line) (w .at) (w .place) ≡ sectionLine t line w ∷ linesBehind t line (w .place)
     here = finds .same-there (not-false (line .there) there) (w .place)
 
     inside-told : inSection (sectionLine t line w) ≡ inside
@@ -244,10 +244,10 @@ module _ (t : List ℕ) (n₀ at₀ : ℕ) (table₀ : List ℕ) (f₀ : Filling
     lines-close h = lines-done (ap (upTo inSection) here ∙ up-stops inSection _ _ (inside-told ∙ not-true inside h))
 
     module _ (k : not inside ≡ false) where
-      body-on : sectionLines t (w .number) (w .at) (w .place) ≡ sectionLine t line w ∷ upTo inSection (linesBehind t line (w .place))
+      body-on : sectionLines t (w .line) (w .at) (w .place) ≡ sectionLine t line w ∷ upTo inSection (linesBehind t line (w .place))
       body-on = ap (upTo inSection) here ∙ up-on inSection _ _ (inside-told ∙ not-false inside k)
 
-      matrices-on : matricesIn (sectionLines t (w .number) (w .at) (w .place))
+      matrices-on : matricesIn (sectionLines t (w .line) (w .at) (w .place))
           ≡ matrixHere t line w ++ matricesIn (upTo inSection (linesBehind t line (w .place)))
       matrices-on =
           ap matricesIn body-on ∙ gather-on matrixAt _ _
@@ -272,9 +272,9 @@ module _ (t : List ℕ) (n₀ at₀ : ℕ) (table₀ : List ℕ) (f₀ : Filling
         behind = linesBehind t line (w .place)
 
         abbrev rest : List Line
-        rest = linesAt t (v .number) (v .at) (v .place)
+        rest = linesAt t (v .line) (v .at) (v .place)
 
-        matrices-next : matricesIn (sectionLines t (w .number) (w .at) (w .place))
+        matrices-next : matricesIn (sectionLines t (w .line) (w .at) (w .place))
             ≡ matrixHere t line w ++ matricesIn (upTo inSection rest)
         matrices-next = matrices-on ∙ ap (λ (ms : List Matrix). matrixHere t line w ++ ms) (matrices-passed behind rest (taken .passed))
 
@@ -338,10 +338,10 @@ module _ (t : List ℕ) (line : Found) (table : List ℕ) (f : Filling) (puts : 
   abbrev own : Write
   own = sectionWrite (getD (f .counts) 5 0) below
 
-  pub lines-puts : PutsLines t (line .number + 1) (line .next) table f
+  pub lines-puts : PutsLines t (line .line + 1) (line .next) table f
   unfolding sectionWrites sectionOf
   lines-puts =
-      let a : line .number ≤ line .at + 1 = puts .located .counted in
+      let a : line .line ≤ line .at + 1 = puts .located .counted in
       let b : line .at < line .next = puts .located .further in
       record {
         placed = record { within = puts .located .next-within; counted = omega arith };
@@ -349,7 +349,7 @@ module _ (t : List ℕ) (line : Found) (table : List ℕ) (f : Filling) (puts : 
         fits = fits-first (length table) f _ _ (puts .fits);
       }
 
-  module _ (w : SectionWalk) (table' : List ℕ) (fills : FillsLines t (line .number + 1) (line .next) table f w table') where
+  module _ (w : SectionWalk) (table' : List ℕ) (fills : FillsLines t (line .line + 1) (line .next) table f w table') where
     pub section-asked : (4 < length widths) × (_≡_ {A = ℕ} 8 (widthOf 4)) × (position (w .filling) 4 + widthOf 4 ≤ length table')
     unfolding sectionWrites sectionWrite sectionOf
     section-asked =
@@ -371,7 +371,7 @@ module _ (t : List ℕ) (line : Found) (table : List ℕ) (f : Filling) (puts : 
           (r : Filling) (table'' : List ℕ) → r ≡ counted (w .filling) 4 →
           table'' ≡ sets table' (position (w .filling) 4)
           (recordWords mark method n (w .kinds)) →
-          FillsSection t line table f (record { at = w .at; number = w .number; place = w .place; filling = r }) table''
+          FillsSection t line table f (record { at = w .at; line = w .line; place = w .place; filling = r }) table''
       unfolding sectionWrites sectionWrite sectionOf
       section-filled r table'' k h =
           record {

@@ -23,7 +23,7 @@ use table_layout::Filling;
 // matrix, and of each kind the first matrix is kept, as its index plus 1, or 0.
 pub struct SectionWalk {
     pub at: usize,
-    pub number: u64,
+    pub line: u64,
     pub place: u64,
     pub method: First,
     pub conductors: First,
@@ -134,7 +134,7 @@ fn take_matrix(
     let kinds = with_kind(kept, kind_of(line.key), counts[table_layout::MATRICES]);
     SectionWalk {
         at: stored.at,
-        number: stored.number,
+        line: stored.line,
         place: line_place::MATRIX,
         method,
         conductors,
@@ -165,7 +165,7 @@ fn take_line(
     let method = method_after(text, line, before);
     SectionWalk {
         at: line.next,
-        number: line.number + 1,
+        line: line.line + 1,
         place: doc::place_after(walk.place, text, line),
         method,
         conductors,
@@ -178,14 +178,14 @@ fn take_line(
 fn fill_lines(
     text: &[u8],
     at: usize,
-    number: u64,
+    line_here: u64,
     table: &mut [u64],
     filling: Filling,
     notes: &[u64],
 ) -> SectionWalk
-    requires { ⌜ PutsLines (now text) number at (now table) filling
+    requires { ⌜ PutsLines (now text) line_here at (now table) filling
         × Noted (now text) (now table) (now notes) (getD (filling .bases) 6 0) (getD (filling .counts) 6 0) ⌝ }
-    ensures { λ r. ⌜ FillsLines (now (text .entry)) number at (now (table .entry)) filling r (now (table .exit)) ⌝ }
+    ensures { λ r. ⌜ FillsLines (now (text .entry)) line_here at (now (table .entry)) filling r (now (table .exit)) ⌝ }
 {
     let untold = First {
         told: false,
@@ -193,7 +193,7 @@ fn fill_lines(
     };
     let mut walk = SectionWalk {
         at,
-        number,
+        line: line_here,
         place: line_place::SECTION_HEAD,
         method: untold,
         conductors: untold,
@@ -201,7 +201,7 @@ fn fill_lines(
         filling,
     };
     loop {
-        let line = doc::next_line(text, walk.at, walk.number);
+        let line = doc::next_line(text, walk.at, walk.line);
         if !line.there {
             return walk;
         }
@@ -224,7 +224,7 @@ fn fill_section(
         × Noted (now text) (now table) (now notes) (getD (filling .bases) 6 0) (getD (filling .counts) 6 0) ⌝ }
     ensures { λ r. ⌜ FillsSection (now (text .entry)) line (now (table .entry)) filling r (now (table .exit)) ⌝ }
 {
-    let walk = fill_lines(text, line.next, line.number + 1, table, filling, notes);
+    let walk = fill_lines(text, line.next, line.line + 1, table, filling, notes);
     let filled = walk.filling;
     let method = walk.method;
     let conductors = walk.conductors;
@@ -242,7 +242,7 @@ fn fill_section(
     ];
     Walk {
         at: walk.at,
-        number: walk.number,
+        line: walk.line,
         place: walk.place,
         filling: table_layout::put_record(table, filled, table_layout::SECTIONS, &words),
     }
@@ -270,7 +270,7 @@ fn pass_section(text: &[u8], line: Found, table: &mut [u64], walk: Walk, notes: 
     }
     Walk {
         at: line.next,
-        number: line.number + 1,
+        line: line.line + 1,
         place: doc::place_after(walk.place, text, line),
         filling,
     }
@@ -278,7 +278,7 @@ fn pass_section(text: &[u8], line: Found, table: &mut [u64], walk: Walk, notes: 
 
 // All sections, from where the walk has come. Where something was noted of a matrix, its lines are not read again.
 pub fn fill_sections(text: &[u8], table: &mut [u64], walk: Walk, notes: &[u64]) -> Filling
-    requires { ⌜ Placed (now text) (walk .number) (walk .at)
+    requires { ⌜ Placed (now text) (walk .line) (walk .at)
         × (length (walk .filling .counts) ≡ 7)
         × Fits (length (now table)) (walk .filling) (sectionsOf (walk .filling) (sectionsLeft (now text) walk))
         × Noted (now text) (now table) (now notes) (getD (walk .filling .bases) 6 0) (getD (walk .filling .counts) 6 0) ⌝ }
@@ -286,7 +286,7 @@ pub fn fill_sections(text: &[u8], table: &mut [u64], walk: Walk, notes: &[u64]) 
 {
     let mut next = walk;
     loop {
-        let line = doc::next_keyed(text, next.at, next.number, next.place);
+        let line = doc::next_keyed(text, next.at, next.line, next.place);
         if !line.there {
             return next.filling;
         }

@@ -78,7 +78,7 @@ module _ (t : List ℕ) (line : Found) (f : Filling) (table : List ℕ) (aimed :
   maps-ordered : Each (Ordered t (endStep t line) (line .next)) (documentOf t .maps)
   maps-ordered =
       each-both
-      (λ (m : Map) (h : MapStands t m) (k : leb (line .next) (m .name .start) ≡ ltb (line .number) (m .line)).
+      (λ (m : Map) (h : MapStands t m) (k : leb (line .next) (m .name .start) ≡ ltb (line .line) (m .line)).
       record { stands = h .name; behind = k })
       (all-stand t .maps) (aimed .order)
 
@@ -133,27 +133,27 @@ module _ (t : List ℕ) (line : Found) (f : Filling) (table : List ℕ) (s : Ste
 
 module _ (t : List ℕ) (line : Found) (f : Filling) (table : List ℕ) (r : Filling) (table' : List ℕ) (k : r ≡ counted f 1) where
   pub end-stored : (target : ℕ) → target ≡ targetIn t (endStep t line) → (side : Mark) → side ≡ markOf (sideIn (pathBehind t line)) →
-      table' ≡ sets table (position f 1) (0 ∷ target ∷ 0 ∷ side .start ∷ side .size ∷ line .number ∷ []) →
+      table' ≡ sets table (position f 1) (0 ∷ target ∷ 0 ∷ side .start ∷ side .size ∷ line .line ∷ []) →
       Stores f table (stepWrites t (endStep t line ∷ [])) r table'
   unfolding markOf
   end-stored target is-target side is-side h =
       step-stored t line f table (endStep t line) _
-      (λ i. 0 ∷ is-target i ∷ 0 ∷ is-side i .start ∷ is-side i .size ∷ line .number ∷ []) r table' k h
+      (λ i. 0 ∷ is-target i ∷ 0 ∷ is-side i .start ∷ is-side i .size ∷ line .line ∷ []) r table' k h
 
   pub section-stored : (target : ℕ) → target ≡ targetIn t (sectionStep t line) → (amount : ℕ) → amount ≡ amountOf (contentIn t line) →
-      table' ≡ sets table (position f 1) (1 ∷ target ∷ amount ∷ 0 ∷ 0 ∷ line .number ∷ []) →
+      table' ≡ sets table (position f 1) (1 ∷ target ∷ amount ∷ 0 ∷ 0 ∷ line .line ∷ []) →
       Stores f table (stepWrites t (sectionStep t line ∷ [])) r table'
   unfolding noWord
   section-stored target is-target amount is-amount h =
-      step-stored t line f table (sectionStep t line) _ (λ i. 1 ∷ is-target i ∷ is-amount i ∷ 0 ∷ 0 ∷ line .number ∷ []) r table' k h
+      step-stored t line f table (sectionStep t line) _ (λ i. 1 ∷ is-target i ∷ is-amount i ∷ 0 ∷ 0 ∷ line .line ∷ []) r table' k h
 
   pub fork-stored : (kind : ℕ) → (1 < kind) × Says t line f table (forkStep kind line ∷ []) →
-      table' ≡ sets table (position f 1) (kind ∷ 0 ∷ 0 ∷ 0 ∷ 0 ∷ line .number ∷ []) →
+      table' ≡ sets table (position f 1) (kind ∷ 0 ∷ 0 ∷ 0 ∷ 0 ∷ line .line ∷ []) →
       Stores f table (stepWrites t (forkStep kind line ∷ [])) r table'
   unfolding noWord
   fork-stored kind (above, says) h =
       step-stored t line f table (forkStep kind line) _
-      (λ i. kind ∷ fork-told t kind line above i ∷ 0 ∷ 0 ∷ 0 ∷ line .number ∷ []) r table' k h
+      (λ i. kind ∷ fork-told t kind line above i ∷ 0 ∷ 0 ∷ 0 ∷ line .line ∷ []) r table' k h
 
 -- ---- the step that a line says
 
@@ -165,7 +165,7 @@ path-stays content e = if-true _ _ e ∙ if-false _ _ (ne-eqb 9 11 (λ (h : _≡
 module _ (t : List ℕ) (line : Found) (says : ℕ) (f : Filling) (table : List ℕ) (told : Told t line says f table) where
   behind-path : linesBehind t line place.path ≡ pathBehind t line
   behind-path =
-      ap (linesAt t (line .number + 1) (line .next))
+      ap (linesAt t (line .line + 1) (line .next))
       (path-stays (contentIn t line) (eq-eqb _ _ (sym (told .ready .aimed .located .key-is) ∙ told .key)))
 
   says-here : sayingAt (pathLine t line) ≡ says
@@ -191,7 +191,7 @@ module _ (t : List ℕ) (line : Found) (says : ℕ) (f : Filling) (table : List 
     unfolding stepOf
     end-here =
         if-true _ _ (said 1 is)
-        ∙ ap (λ (w : Word). record { kind = 0; name = endStep t line .name; mult = false; amount = 0; side = w; line = line .number } ∷ [])
+        ∙ ap (λ (w : Word). record { kind = 0; name = endStep t line .name; mult = false; amount = 0; side = w; line = line .line } ∷ [])
         (ap sideIn behind-path)
 
     pub says-end : Says t line f table (endStep t line ∷ [])

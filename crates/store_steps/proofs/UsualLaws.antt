@@ -111,7 +111,7 @@ module _ (t : List ℕ) (line : Found) (says : ℕ) (f : Filling) (table : List 
   pub fork-room : (_≡_ {A = ℕ} 6 6) × (position f 1 + widthOf 1 ≤ length table)
   fork-room = (refl, fork-position)
 
-  pub fork-puts : (n : ℕ) → n ≡ getD (f .counts) 1 0 + 1 → (table' : List ℕ) → table' ≡ sets table (position f 1) ((says - 2) ∷ 0 ∷ 0 ∷ 0 ∷ 0 ∷ line .number ∷ []) → Put t line f table n table'
+  pub fork-puts : (n : ℕ) → n ≡ getD (f .counts) 1 0 + 1 → (table' : List ℕ) → table' ≡ sets table (position f 1) ((says - 2) ∷ 0 ∷ 0 ∷ 0 ∷ 0 ∷ line .line ∷ []) → Put t line f table n table'
   fork-puts n is-n table' h =
       let above : 4 ≤ says = fork-above in
       record {
@@ -149,7 +149,7 @@ module _ (t : List ℕ) (line : Found) (end : ℕ) (f : Filling) (table : List �
   pub section-puts : (n : ℕ) → n ≡ getD (f .counts) 1 0 + 1 → (target : ℕ) →
       target ≡ findIn t table (getD (f .bases) 4 0) 8 (getD (f .counts) 4 0) (take (length (contentIn t line) - (end + 1)) (drop (end + 1) (contentIn t line))) 0 →
       (times : Whole) → times ≡ wholeOf (take (end - 13) (drop 13 (contentIn t line))) → (table' : List ℕ) →
-      table' ≡ sets table (position f 1) (1 ∷ target ∷ times .value ∷ 0 ∷ 0 ∷ line .number ∷ []) → Put t line f table n table'
+      table' ≡ sets table (position f 1) (1 ∷ target ∷ times .value ∷ 0 ∷ 0 ∷ line .line ∷ []) → Put t line f table n table'
   section-puts n is-n target is-target times is-times table' h =
       record {
         usual = pair end (asked .form);

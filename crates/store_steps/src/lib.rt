@@ -119,11 +119,11 @@ fn side_in(text: &[u8], line: Found) -> Mark
 }
 
 // "perhaps with `Side name` as the next line read".
-fn side_after(text: &[u8], at: usize, number: u64) -> Mark
-    requires { ⌜ Placed (now text) number at ⌝ }
-    ensures { λ r. ⌜ r ≡ markOf (sideIn (linesAt (now (text .entry)) number at place.path)) ⌝ }
+fn side_after(text: &[u8], at: usize, line_here: u64) -> Mark
+    requires { ⌜ Placed (now text) line_here at ⌝ }
+    ensures { λ r. ⌜ r ≡ markOf (sideIn (linesAt (now (text .entry)) line_here at place.path)) ⌝ }
 {
-    let line = doc::next_line(text, at, number);
+    let line = doc::next_line(text, at, line_here);
     if !line.there {
         return Mark { start: 0, size: 0 };
     }
@@ -194,14 +194,14 @@ fn put_end(text: &[u8], line: Found, table: &mut [u64], filling: Filling) -> Fil
     ensures { λ r. ⌜ Stores filling (now (table .entry)) (stepWrites (now (text .entry)) (endStep (now (text .entry)) line ∷ [])) r (now (table .exit)) ⌝ }
 {
     let target = end_target(text, line, table, filling);
-    let side = side_after(text, line.next, line.number + 1);
+    let side = side_after(text, line.next, line.line + 1);
     let words = [
         END,
         target,
         0,
         side.start as u64,
         side.size as u64,
-        line.number,
+        line.line,
     ];
     table_layout::put_record(table, filling, table_layout::STEPS, &words)
 }
@@ -214,7 +214,7 @@ fn put_section(text: &[u8], line: Found, table: &mut [u64], filling: Filling) ->
     let end = line.end;
     let target = section_target(text, line, table, filling);
     let amount = amount_of(&text[at..end]);
-    let words = [SECTION, target, amount, 0, 0, line.number];
+    let words = [SECTION, target, amount, 0, 0, line.line];
     table_layout::put_record(table, filling, table_layout::STEPS, &words)
 }
 
@@ -223,7 +223,7 @@ fn put_fork(text: &[u8], line: Found, kind: u64, table: &mut [u64], filling: Fil
     requires { ⌜ (1 < kind) × Says (now text) line filling (now table) (forkStep kind line ∷ []) ⌝ }
     ensures { λ r. ⌜ Stores filling (now (table .entry)) (stepWrites (now (text .entry)) (forkStep kind line ∷ [])) r (now (table .exit)) ⌝ }
 {
-    let words = [kind, 0, 0, 0, 0, line.number];
+    let words = [kind, 0, 0, 0, 0, line.line];
     table_layout::put_record(table, filling, table_layout::STEPS, &words)
 }
 
@@ -271,7 +271,7 @@ fn store_fork(text: &[u8], line: Found, says: u64, table: &mut [u64], filling: F
     requires { ⌜ Forking (now text) line says filling (now table) ⌝ }
     ensures { λ r. ⌜ Put (now (text .entry)) line filling (now (table .entry)) r (now (table .exit)) ⌝ }
 {
-    let words = [says - 2, 0, 0, 0, 0, line.number];
+    let words = [says - 2, 0, 0, 0, 0, line.line];
     store_step(table, filling, &words)
 }
 
@@ -296,7 +296,7 @@ fn store_section(text: &[u8], line: Found, end: usize, table: &mut [u64], fillin
         0,
     );
     let times = lex_number::read_integer(&content[line_path::AMOUNT_AT..end]);
-    let words = [SECTION, target, times.value, 0, 0, line.number];
+    let words = [SECTION, target, times.value, 0, 0, line.line];
     store_step(table, filling, &words)
 }
 

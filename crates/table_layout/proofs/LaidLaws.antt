@@ -14,7 +14,7 @@ use Rattle.base.specs.If.{both}
 use Rattle.base.proofs.IfLaws.{both-true, if-true}
 use Rattle.table_layout.specs.Layout.{widths, joined, layout}
 use Rattle.table_layout.specs.Way.Parts.{AllLong, Wide}
-use Rattle.table_layout.specs.Layout as layout
+use Rattle.table_layout.specs.Way.Parts as parts
 use Rattle.table_layout.proofs.LayoutLaws.{length-joined}
 use Rattle.table_layout.specs.View.{bounds, areWithin, viewOf}
 use Rattle.table_layout.specs.declared.View.{View}
@@ -47,8 +47,8 @@ room-behind w at records back t long e h =
 
 laid-within : {ws bs : List ℕ} {parts : List (List (List ℕ))} (rest t : List ℕ) (at : ℕ) → Wide ws parts → AllFew bs parts → at ≤ length t → drop at t ≡ layout parts ++ rest → areWithin ws bs t at ≡ true
 unfolding areWithin layout
-laid-within rest t at layout.Wide.none AllFew.none h e = le-leb _ _ h
-laid-within rest t at (layout.Wide.more {w} {ws} {records} {parts} long wide) (AllFew.more {b} few fews) h e =
+laid-within rest t at parts.Wide.none AllFew.none h e = le-leb _ _ h
+laid-within rest t at (parts.Wide.more {w} {ws} {records} {parts} long wide) (AllFew.more {b} few fews) h e =
     let f : drop at t ≡ (length records ∷ joined records) ++ (layout parts ++ rest) = e ∙ append-assoc (length records ∷ joined records) (layout parts) rest in
     let c : getD t at 0 ≡ length records = count-here at (length records) (joined records ++ (layout parts ++ rest)) t f in
     let d : drop (at + 1 + w * length records) t ≡ layout parts ++ rest = part-behind w at records (layout parts ++ rest) t long f in

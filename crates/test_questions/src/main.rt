@@ -194,9 +194,9 @@ fn print_entry(answer: ask_entry::Answer) {
             io::write_all(1, b"entry");
             print_number(word);
         }
-        ask_entry::Answer::Refused(number) => {
+        ask_entry::Answer::Refused(rule) => {
             io::write_all(1, b"entry refused");
-            print_number(number);
+            print_number(rule);
         }
     }
     io::write_all(1, b"\n");
@@ -223,9 +223,9 @@ fn print_walked(walked: Walked) {
             io::write_all(1, b"walk done");
             print_place(place);
         }
-        Walked::Refused(number) => {
+        Walked::Refused(rule) => {
             io::write_all(1, b"walk refused");
-            print_number(number);
+            print_number(rule);
             io::write_all(1, b"\n");
         }
     }
@@ -330,9 +330,9 @@ fn print_intake(answer: Answer) {
             io::write_all(1, b"intake accepted");
             print_number(words as u64);
         }
-        Answer::Refused(number, line) => {
+        Answer::Refused(rule, line) => {
             io::write_all(1, b"intake refused");
-            print_number(number);
+            print_number(rule);
             print_number(line);
         }
     }

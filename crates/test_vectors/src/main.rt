@@ -20,9 +20,9 @@ const ROOM: usize = 250000;
 // Where FNV-1a begins.
 const BASIS: u64 = 14695981039346656037;
 
-fn print_refusal(number: u64, line: u64) {
+fn print_refusal(rule: u64, line: u64) {
     io::write_all(1, b" refused ");
-    io::print_decimal(1, number);
+    io::print_decimal(1, rule);
     io::write_all(1, b" ");
     io::print_decimal(1, line);
 }
@@ -47,8 +47,8 @@ fn print_answer(text: &[u8], table: &mut [u64]) {
             io::print_decimal(1, words as u64);
             print_end(table, words);
         }
-        Answer::Refused(number, line) => {
-            print_refusal(number, line);
+        Answer::Refused(rule, line) => {
+            print_refusal(rule, line);
             print_end(table, 0);
         }
     }
@@ -94,8 +94,8 @@ fn print_hash(text: &[u8], table: &mut [u64]) {
             io::print_hex(1, hash_table(table), 16);
             print_end(table, words);
         }
-        Answer::Refused(number, line) => {
-            print_refusal(number, line);
+        Answer::Refused(rule, line) => {
+            print_refusal(rule, line);
             print_end(table, 0);
         }
     }
@@ -116,8 +116,8 @@ fn print_listing(text: &[u8], table: &mut [u64], room: &mut [u8]) {
             let length = out_listing::write_listing(text, table, words, room);
             print_room(room, length);
         }
-        Answer::Refused(number, line) => {
-            let length = out_listing::write_refusal(number, line, room);
+        Answer::Refused(rule, line) => {
+            let length = out_listing::write_refusal(rule, line, room);
             print_room(room, length);
         }
     }

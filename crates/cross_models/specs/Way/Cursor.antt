@@ -19,25 +19,25 @@ use Rattle.cross_models.specs.declared.Told.{Told}
 -- what the line of a number says; that of the next line where there is none
 unfoldable pub contentAt : ℕ → List Line → List ℕ
 contentAt m [] = []
-contentAt m (l ∷ ls) = if ltb (l .number) m then contentAt m ls else l .content
+contentAt m (l ∷ ls) = if ltb (l .line) m then contentAt m ls else l .content
 
 -- from here the lines numbered so or higher are found as from the start of the text
-pub record Cursor (t : List ℕ) (at number : ℕ) : Type 0 where
+pub record Cursor (t : List ℕ) (at line : ℕ) : Type 0 where
   pub within : at ≤ length t
-  pub counted : number ≤ at + 1
-  pub valid : (m : ℕ) → number ≤ m → contentAt m (linesAt t number at place.before) ≡ contentAt m (significant t)
+  pub counted : line ≤ at + 1
+  pub valid : (m : ℕ) → line ≤ m → contentAt m (linesAt t line at place.before) ≡ contentAt m (significant t)
 
 -- the line of a number says it, and the search may go on from where it ended
 pub record Tells (t : List ℕ) (wanted : ℕ) (r : Told) : Type 0 where
   pub mult : r .mult ≡ isMult (contentAt wanted (significant t))
-  pub cursor : Cursor t (r .at) (r .number)
-  pub low : r .number ≤ wanted + 1
+  pub cursor : Cursor t (r .at) (r .line)
+  pub low : r .line ≤ wanted + 1
 
 -- the same of the step whose record stands at `own`, where it is one over a section
 pub record TellsStep (t table : List ℕ) (own : ℕ) (r : Told) : Type 0 where
   pub mult : getD table own 0 ≡ sectionKind → r .mult ≡ isMult (contentAt (getD table (own + 5) 0) (significant t))
-  pub cursor : Cursor t (r .at) (r .number)
-  pub low : r .number ≤ getD table (own + 5) 0 + 1
+  pub cursor : Cursor t (r .at) (r .line)
+  pub low : r .line ≤ getD table (own + 5) 0 + 1
 
 -- lines below the one that is wanted are passed over
 pub record Seeks (t : List ℕ) (wanted at n : ℕ) : Type 0 where

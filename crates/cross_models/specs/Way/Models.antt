@@ -60,20 +60,20 @@ belowFirst d [] = []
 belowFirst d (m ∷ ms) = stepFindings d m ++ modelFindings d ms
 
 -- the steps of the model numbered so are looked at next: the lines of all that is left are still to come
-pub record Awaits (t : List ℕ) (index at number : ℕ) : Type 0 where
+pub record Awaits (t : List ℕ) (index at line : ℕ) : Type 0 where
   pub there : index < length (documentOf t .models)
-  pub cursor : Cursor t at number
-  pub low : Each (λ (f : Finding). number ≤ f .line) (belowFirst (documentOf t) (drop index (documentOf t .models)))
+  pub cursor : Cursor t at line
+  pub low : Each (λ (f : Finding). line ≤ f .line) (belowFirst (documentOf t) (drop index (documentOf t .models)))
 
 -- what they break is what all that is left breaks first; where they break nothing, the models behind give it
 pub record StepsTold (t : List ℕ) (index : ℕ) (r : StepsFinding) : Type 0 where
   pub broken :
-      (r .number ≡ 0 → ⊥) →
-      record { number = r .number; line = r .line } ≡ firstIn (belowFirst (documentOf t) (drop index (documentOf t .models)))
+      (r .rule ≡ 0 → ⊥) →
+      record { rule = r .rule; line = r .line } ≡ firstIn (belowFirst (documentOf t) (drop index (documentOf t .models)))
   pub kept :
-      r .number ≡ 0 →
+      r .rule ≡ 0 →
       firstIn (modelFindings (documentOf t) (drop (index + 1) (documentOf t .models)))
       ≡ firstIn (belowFirst (documentOf t) (drop index (documentOf t .models)))
   pub cursor : Cursor t (r .at) (r .next)
   pub low :
-      r .number ≡ 0 → Each (λ (f : Finding). r .next ≤ f .line) (modelFindings (documentOf t) (drop (index + 1) (documentOf t .models)))
+      r .rule ≡ 0 → Each (λ (f : Finding). r .next ≤ f .line) (modelFindings (documentOf t) (drop (index + 1) (documentOf t .models)))

@@ -34,8 +34,8 @@ noModel = 64
 -- of so many models a name finds the one numbered `index`
 unfoldable pub judgedBy : ℕ → ℕ → List Bool → Judged
 judgedBy count index listed =
-    if leb count index then record { number = 20; slot = noModel } else
-    if getD listed index false then record { number = 19; slot = index } else record { number = 0; slot = index }
+    if leb count index then record { rule = 20; slot = noModel } else
+    if getD listed index false then record { rule = 19; slot = index } else record { rule = 0; slot = index }
 
 unfoldable pub nameJudged : List ℕ → List ℕ → View → Found → List Bool → Judged
 nameJudged t table v line listed = judgedBy (getD (v .counts) models 0) (modelFound t table v line) listed
@@ -43,7 +43,7 @@ nameJudged t table v line listed = judgedBy (getD (v .counts) models 0) (modelFo
 -- a line of another block breaks nothing, and names no model
 unfoldable pub lineJudged : List ℕ → List ℕ → View → ℕ → Found → List Bool → Judged
 lineJudged t table v p line listed =
-    if both (eqb p place.list) (eqb (line .key) plain) then nameJudged t table v line listed else record { number = 0; slot = noModel }
+    if both (eqb p place.list) (eqb (line .key) plain) then nameJudged t table v line listed else record { rule = 0; slot = noModel }
 
 -- a line from a byte on, read in the place p: those before it name no model of the list
 pub record Nears (t : List ℕ) (n at p : ℕ) (f : Found) : Type 0 where

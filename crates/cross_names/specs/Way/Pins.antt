@@ -20,7 +20,7 @@ twiceAt t table base width i =
 -- the i-th pin of the map whose first pin stands at `base` and is numbered `first`
 unfoldable pub pinAt : List ℕ → List ℕ → ℕ → ℕ → ℕ → Finding
 pinAt t table base first i =
-    record { number = firstBroken (19 when twiceAt t table base 2 i ∷ []); line = nthLine pins (first + i) (significant t) }
+    record { rule = firstBroken (19 when twiceAt t table base 2 i ∷ []); line = nthLine pins (first + i) (significant t) }
 
 -- so many pins of that map, from the i-th on
 unfoldable pub pinsFrom : List ℕ → List ℕ → ℕ → ℕ → ℕ → ℕ → List Finding

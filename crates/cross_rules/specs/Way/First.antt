@@ -9,4 +9,4 @@ use Rattle.cross_rules.specs.Rules.{noFinding}
 -- the first that breaks something, where the lines stand in the order of the text
 unfoldable pub firstIn : List Finding → Finding
 firstIn [] = noFinding
-firstIn (f ∷ fs) = if eqb (f .number) 0 then firstIn fs else f
+firstIn (f ∷ fs) = if eqb (f .rule) 0 then firstIn fs else f

@@ -26,4 +26,4 @@ writesPart part l = writesAt part (l .place) (keyOf l)
 unfoldable pub nthLine : ℕ → ℕ → List Line → ℕ
 nthLine part i [] = 0
 nthLine part i (l ∷ ls) =
-    if writesPart part l then (if eqb i 0 then l .number else nthLine part (i - 1) ls) else nthLine part i ls
+    if writesPart part l then (if eqb i 0 then l .line else nthLine part (i - 1) ls) else nthLine part i ls

@@ -52,8 +52,8 @@ argument-in-requires c κs = search needs
 returns : tie.Need-returns Inv-loop μ-loop
 returns c = search search-finds
 
-add-line : tie.Need-add-line Inv-loop μ-loop
-add-line c = search needs
+add-line-here : tie.Need-add-line-here Inv-loop μ-loop
+add-line-here c = search needs
 
 loop-less : tie.Need-loop-less Inv-loop μ-loop
 loop-less c = search search-less
@@ -83,7 +83,7 @@ next-line-spec =
     key-in-requires
     argument-in-requires
     returns
-    add-line
+    add-line-here
     loop-less
     loop-again
     returns-2)

@@ -9,7 +9,7 @@ use Rattle.doc.proofs.past_blocks.Statement.{statement}
 use Rattle.doc.proofs.past_blocks.Tie as tie
 
 abbrev Inv-loop : tie.InvT-loop
-Inv-loop text at number here₀ count₀ here count = PassesBytes text number at (record { at = here; number = count })
+Inv-loop text at number here₀ count₀ here count = PassesBytes text number at (record { at = here; line = count })
 
 abbrev μ-loop : tie.MeasureT-loop
 μ-loop text at number here₀ count₀ here count = length text - here

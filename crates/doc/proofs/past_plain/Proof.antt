@@ -11,7 +11,7 @@ use Rattle.doc.proofs.past_plain.Statement.{statement}
 use Rattle.doc.proofs.past_plain.Tie as tie
 
 abbrev Inv-loop : tie.InvT-loop
-Inv-loop text at number here₀ count₀ here count = PassesPlain text number at (record { at = here; number = count })
+Inv-loop text at number here₀ count₀ here count = PassesPlain text number at (record { at = here; line = count })
 
 abbrev μ-loop : tie.MeasureT-loop
 μ-loop text at number here₀ count₀ here count = length text - here

@@ -36,11 +36,11 @@ abbrev pub contentIn : List ℕ → Found → List ℕ
 contentIn t f = take (f .end - f .at) (drop (f .at) t)
 
 abbrev pub lineIn : List ℕ → Found → ℕ → Line
-lineIn t f p = record { number = f .number; at = f .at; place = p; content = contentIn t f }
+lineIn t f p = record { line = f .line; at = f .at; place = p; content = contentIn t f }
 
 -- the lines after it
 abbrev pub linesBehind : List ℕ → Found → ℕ → List Line
-linesBehind t f p = linesAt t (f .number + 1) (f .next) (placeAfter p (contentIn t f))
+linesBehind t f p = linesAt t (f .line + 1) (f .next) (placeAfter p (contentIn t f))
 
 -- a line found lies within the text, and lines are no more than bytes
 pub record Located (t : List ℕ) (f : Found) : Type 0 where
@@ -48,7 +48,7 @@ pub record Located (t : List ℕ) (f : Found) : Type 0 where
   pub within : f .end ≤ length t
   pub further : f .at < f .next
   pub next-within : f .next ≤ length t
-  pub counted : f .number ≤ f .at + 1
+  pub counted : f .line ≤ f .at + 1
   pub key-is : f .key ≡ keyAt (contentIn t f)
   pub argument-is : f .argument ≡ argumentIn (bracketOf (contentIn t f))
 
@@ -76,8 +76,8 @@ pub record Plainly (p : ℕ) (ls rest : List Line) : Type 0 where
 pub record PassesPlain (t : List ℕ) (n at : ℕ) (r : Passed) : Type 0 where
   pub onward : at ≤ r .at
   pub within : r .at ≤ length t
-  pub counted : r .number ≤ r .at + 1
-  pub lines : (p : ℕ) → (p ≡ mapHead → ⊥) → Plainly p (linesAt t n at p) (linesAt t (r .number) (r .at) p)
+  pub counted : r .line ≤ r .at + 1
+  pub lines : (p : ℕ) → (p ≡ mapHead → ⊥) → Plainly p (linesAt t n at p) (linesAt t (r .line) (r .at) p)
 
 -- a line from a byte on, read in the place p: those before it have no keyword
 pub record Meets (t : List ℕ) (n at p : ℕ) (f : Found) : Type 0 where
@@ -90,8 +90,8 @@ pub record Meets (t : List ℕ) (n at p : ℕ) (f : Found) : Type 0 where
 
 -- gone past lines from at₀ on to a byte behind an LF, or to one in the line that starts at s, which does not start with `[`
 pub data Amid (t : List ℕ) (n₀ at₀ : ℕ) : ℕ → ℕ → Type 0 where
-  ended : {n at : ℕ} → PassesPlain t n₀ at₀ (record { at = at; number = n }) → getD t (at - 1) 0 ≡ lineFeed → Amid t n₀ at₀ n at
-  amid : {n at : ℕ} (s : ℕ) → PassesPlain t n₀ at₀ (record { at = s; number = n }) → s < at → at ≤ length t →
+  ended : {n at : ℕ} → PassesPlain t n₀ at₀ (record { at = at; line = n }) → getD t (at - 1) 0 ≡ lineFeed → Amid t n₀ at₀ n at
+  amid : {n at : ℕ} (s : ℕ) → PassesPlain t n₀ at₀ (record { at = s; line = n }) → s < at → at ≤ length t →
       runEnd (isBefore lineFeed) t at ≡ runEnd (isBefore lineFeed) t s → (getD t s 0 ≡ code "[" → ⊥) → (getD t (at - 1) 0 ≡ lineFeed → ⊥) →
       Amid t n₀ at₀ n at
 
@@ -99,8 +99,8 @@ pub data Amid (t : List ℕ) (n₀ at₀ : ℕ) : ℕ → ℕ → Type 0 where
 pub record PassesBytes (t : List ℕ) (n at : ℕ) (r : Passed) : Type 0 where
   pub onward : at ≤ r .at
   pub within : r .at ≤ length t
-  pub counted : r .number ≤ r .at + 1
-  pub over : (n₀ at₀ : ℕ) → Amid t n₀ at₀ n at → Amid t n₀ at₀ (r .number) (r .at)
+  pub counted : r .line ≤ r .at + 1
+  pub over : (n₀ at₀ : ℕ) → Amid t n₀ at₀ n at → Amid t n₀ at₀ (r .line) (r .at)
 
 -- and what is left of their last line
 pub record EndsLine (t : List ℕ) (n at : ℕ) (r : Passed) : Type 0 where

@@ -5,8 +5,8 @@ use borrow.Author.Needs.{needs}
 use Rattle.intake.proofs.take.Statement.{statement}
 use Rattle.intake.proofs.take.Tie as tie
 
-fill-table-requires : tie.Need-fill-table-requires
-fill-table-requires c κs = search needs
+store-text-requires : tie.Need-store-text-requires
+store-text-requires c κs = search needs
 
 enum-known-words : tie.Need-enum-known-words
 enum-known-words c = search needs
@@ -33,7 +33,7 @@ pub take-spec : {M : Type 1} → statement M
 take-spec =
     tie.close
     (tie.spec
-    fill-table-requires
+    store-text-requires
     enum-known-words
     judge-requires
     enum-known-number

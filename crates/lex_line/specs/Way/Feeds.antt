@@ -24,8 +24,8 @@ unfoldable pub isUsual : ℕ → Bool
 isUsual b = either (eqb b lineFeed) (isPrinted b)
 
 -- the lines from `at` on come to what those from `next` on come to: the lines between break nothing
-pub record PassesLines (t : List ℕ) (at line next number : ℕ) : Type 0 where
-  pub same : linesRule number (lines (drop next t)) ≡ linesRule line (lines (drop at t))
+pub record PassesLines (t : List ℕ) (at line next lineThere : ℕ) : Type 0 where
+  pub same : linesRule lineThere (lines (drop next t)) ≡ linesRule line (lines (drop at t))
   pub onward : at ≤ next
   pub within : next ≤ length t
-  pub counted : number + at ≤ line + next
+  pub counted : lineThere + at ≤ line + next

@@ -14,7 +14,7 @@ use Rattle.read_line.proofs.pass_path.Tie as tie
 
 abbrev Inv-loop : tie.InvT-loop
 Inv-loop text at line steps depth here₀ number₀ part₀ here number part =
-    (part .number ≡ 0) × (line ≤ at + 1) × Stepping (part .path) (part .steps) × Crossed text at line (Holds place.path (withPath (part₀ .path) (part₀ .steps))) (withPath (part .path) (part .steps)) (part .number) here number
+    (part .rule ≡ 0) × (line ≤ at + 1) × Stepping (part .path) (part .steps) × Crossed text at line (Holds place.path (withPath (part₀ .path) (part₀ .steps))) (withPath (part .path) (part .steps)) (part .rule) here number
 
 abbrev μ-loop : tie.MeasureT-loop
 μ-loop text at line steps depth here₀ number₀ part₀ here number part = length text - here
@@ -43,8 +43,8 @@ returns c = record { crossed = c .before .before .before .before .before .before
 returns-2 : tie.Need-returns-2 Inv-loop μ-loop
 returns-2 c = record { crossed = crossed-stops _ _ _ _ _ _ _ _ (c .before .before .before .before .before .before .before .before .loop .inv .0) (c .before .before .before .before .before .before .before .before .loop .inv .3) (c .before .before .before .before .before .before .before .loop-test .taken) _ (c .before .before .before .before .before .before .line-at .ensures) _ _ (λ s f. c .before .before .before .before .take-step .ensures .0 (not-false _ (c .before .before .if1 .left)) s (f .0)) (c .if2 .taken); stays = stays-moved _ _ _ _ (c .before .before .before .before .before .before .line-at .ensures) (c .before .before .before .before .before .before .before .loop-test .taken) (c .before .before .before .before .before .before .before .before .loop .inv .3 .onward); stepping = c .before .before .before .before .take-step .ensures .1 }
 
-add-number : tie.Need-add-number Inv-loop μ-loop
-add-number c = search needs
+add-line-here : tie.Need-add-line-here Inv-loop μ-loop
+add-line-here c = search needs
 
 returns-3 : tie.Need-returns-3 Inv-loop μ-loop
 returns-3 c = record { crossed = crossed-on _ _ _ _ _ _ _ _ (c .before .before .before .before .before .before .before .before .before .before .before .loop .inv .0) (c .before .before .before .before .before .before .before .before .before .before .before .loop .inv .3) (c .before .before .before .before .before .before .before .before .before .before .loop-test .taken) _ (c .before .before .before .before .before .before .before .before .before .line-at .ensures) _ _ (λ s f. c .before .before .before .before .before .before .before .take-step .ensures .0 (not-false _ (c .before .before .before .before .before .if1 .left)) s (f .0)) (c .before .before .before .if2 .left); stays = stays-moved _ _ _ _ (c .before .before .before .before .before .before .before .before .before .line-at .ensures) (c .before .before .before .before .before .before .before .before .before .before .loop-test .taken) (c .before .before .before .before .before .before .before .before .before .before .before .loop .inv .3 .onward); stepping = c .before .before .before .before .before .before .before .take-step .ensures .1 }
@@ -72,7 +72,7 @@ pass-path-spec =
     take-step-requires
     returns
     returns-2
-    add-number
+    add-line-here
     returns-3
     loop-less
     loop-again

@@ -14,7 +14,7 @@ use Rattle.read_line.proofs.pass_pins.Tie as tie
 
 abbrev Inv-loop : tie.InvT-loop
 Inv-loop text at line pins here₀ number₀ part₀ here number part =
-    (part .number ≡ 0) × (line ≤ at + 1) × Crossed text at line (Holds place.pinList (withPinned (part₀ .map) (part₀ .pins))) (withPinned (part .map) (part .pins)) (part .number) here number
+    (part .rule ≡ 0) × (line ≤ at + 1) × Crossed text at line (Holds place.pinList (withPinned (part₀ .map) (part₀ .pins))) (withPinned (part .map) (part .pins)) (part .rule) here number
 
 abbrev μ-loop : tie.MeasureT-loop
 μ-loop text at line pins here₀ number₀ part₀ here number part = length text - here
@@ -43,8 +43,8 @@ returns c = (c .before .before .before .before .before .before .loop .inv .2, st
 returns-2 : tie.Need-returns-2 Inv-loop μ-loop
 returns-2 c = (crossed-stops _ _ _ _ _ _ _ _ (c .before .before .before .before .before .before .before .before .loop .inv .0) (c .before .before .before .before .before .before .before .before .loop .inv .2) (c .before .before .before .before .before .before .before .loop-test .taken) _ (c .before .before .before .before .before .before .line-at .ensures) _ _ (λ s f. c .before .before .before .before .take-pin .ensures .0 (not-false _ (c .before .before .if1 .left)) s (f .0)) (c .if2 .taken), stays-moved _ _ _ _ (c .before .before .before .before .before .before .line-at .ensures) (c .before .before .before .before .before .before .before .loop-test .taken) (c .before .before .before .before .before .before .before .before .loop .inv .2 .onward))
 
-add-number : tie.Need-add-number Inv-loop μ-loop
-add-number c = search needs
+add-line-here : tie.Need-add-line-here Inv-loop μ-loop
+add-line-here c = search needs
 
 loop-less : tie.Need-loop-less Inv-loop μ-loop
 loop-less c = search crossed-less
@@ -69,7 +69,7 @@ pass-pins-spec =
     take-pin-requires
     returns
     returns-2
-    add-number
+    add-line-here
     loop-less
     loop-again
     returns-3)

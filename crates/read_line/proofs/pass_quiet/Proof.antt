@@ -45,8 +45,8 @@ is-quiet-requires c κs = search needs
 returns-2 : tie.Need-returns-2 Inv-loop μ-loop
 returns-2 c = search needs
 
-add-number : tie.Need-add-number Inv-loop μ-loop
-add-number c = search needs
+add-line-here : tie.Need-add-line-here Inv-loop μ-loop
+add-line-here c = search needs
 
 loop-less : tie.Need-loop-less Inv-loop μ-loop
 loop-less c = search crossed-less
@@ -72,7 +72,7 @@ pass-quiet-spec =
     part-is-quiet-end
     is-quiet-requires
     returns-2
-    add-number
+    add-line-here
     loop-less
     loop-again
     returns-3)

@@ -18,7 +18,7 @@ pub record Meeting : Type 0 where
 
 -- the number of the rule that the line breaks where it is met, 0 for none
 abbrev pub brokenAt : Meeting → ℕ
-brokenAt m = lineResult (m .content) (m .state) .number
+brokenAt m = lineResult (m .content) (m .state) .rule
 
 -- what is remembered after it
 abbrev pub afterwards : Meeting → State

@@ -31,7 +31,7 @@ use Rattle.read_line.specs.declared.Reading.the-variants.{Refused}
 
 -- what the text comes to from where a walk has come
 unfoldable pub resume : List ℕ → Walk → Reading
-resume t w = if eqb (w .number) 0 then readFrom (w .line) (lines (drop (w .at) t)) (w .state) else Refused (w .number) (w .line)
+resume t w = if eqb (w .rule) 0 then readFrom (w .line) (lines (drop (w .at) t)) (w .state) else Refused (w .rule) (w .line)
 
 -- where a walk that broke no rule has come lies within the text, and what it remembers is kept
 pub record Onward (t : List ℕ) (at line : ℕ) (s : State) : Type 0 where
@@ -45,18 +45,18 @@ Rises s r = s .counts .values ≤ r .counts .values
 
 pub record Reached (t : List ℕ) (at line : ℕ) (s : State) (w : Walk) : Type 0 where
   pub same : resume t w ≡ readFrom line (lines (drop at t)) s
-  pub further : w .number ≡ 0 → at < w .at
-  pub onward : w .number ≡ 0 → Onward t (w .at) (w .line) (w .state)
-  pub rises : w .number ≡ 0 → Rises s (w .state)
+  pub further : w .rule ≡ 0 → at < w .at
+  pub onward : w .rule ≡ 0 → Onward t (w .at) (w .line) (w .state)
+  pub rises : w .rule ≡ 0 → Rises s (w .state)
 
 -- ---- lines gone over with a part of the state alone
 
 -- `fits` says which states the lines are met in, `put` what each of them has become behind them: from there the text comes to the same.
 -- A line that breaks a rule is the last.
-pub record Crossed (t : List ℕ) (at line : ℕ) (fits : State → Type 0) (put : State → State) (number further last : ℕ) : Type 0 where
-  pub same : (s : State) → fits s → resume t (record { number = number; at = further; line = last; state = put s }) ≡ readFrom line (lines (drop at t)) s
-  pub kept : number ≡ 0 → (s : State) → fits s → Kept line s → Kept last (put s)
-  pub rises : number ≡ 0 → (s : State) → fits s → Rises s (put s)
+pub record Crossed (t : List ℕ) (at line : ℕ) (fits : State → Type 0) (put : State → State) (rule further last : ℕ) : Type 0 where
+  pub same : (s : State) → fits s → resume t (record { rule = rule; at = further; line = last; state = put s }) ≡ readFrom line (lines (drop at t)) s
+  pub kept : rule ≡ 0 → (s : State) → fits s → Kept line s → Kept last (put s)
+  pub rises : rule ≡ 0 → (s : State) → fits s → Rises s (put s)
   pub onward : at ≤ further
   pub within : further ≤ length t
   pub raised : line ≤ last
@@ -72,7 +72,7 @@ Holds here put s = (s .place ≡ here) × (s ≡ put s)
 
 -- in a place the part that was put decides what a line breaks, and what is put after it
 abbrev pub Decides : ℕ → (State → State) → (State → Step) → ℕ → (State → State) → Type 0
-Decides here put step number next = (s : State) → s .place ≡ here → step (put s) ≡ breaks number (next s)
+Decides here put step rule next = (s : State) → s .place ≡ here → step (put s) ≡ breaks rule (next s)
 
 -- a bracket stands at the front of the line
 abbrev pub Opens : List ℕ → Type 0
@@ -129,7 +129,7 @@ pub record Stepping (p : Path) (n : ℕ) : Type 0 where
 
 -- lines of a path are gone over, from one that the path stood so at and so many steps were read before
 pub record Blocked (t : List ℕ) (at line : ℕ) (p : Path) (n : ℕ) (w : PathWalk) : Type 0 where
-  pub crossed : Crossed t at line (Holds place.path (withPath p n)) (withPath (w .part .path) (w .part .steps)) (w .part .number) (w .at) (w .line)
+  pub crossed : Crossed t at line (Holds place.path (withPath p n)) (withPath (w .part .path) (w .part .steps)) (w .part .rule) (w .at) (w .line)
   pub stays : Stays t at (w .at)
   pub stepping : Stepping (w .part .path) (w .part .steps)
 

@@ -91,8 +91,8 @@ returns-3 c = run-stops _ _ _ _ _ _ _ _ _ _ (c .before .before .before .before .
     (c .before .before .before .before .take-data .ensures)
     (c .before .before .if2 .left) (c .if3 .taken)
 
-add-number : tie.Need-add-number Inv-loop μ-loop
-add-number c = let text = c .before .before .before .before .before .before .before .before .before .before .before .before .before .before .before
+add-line-here : tie.Need-add-line-here Inv-loop μ-loop
+add-line-here c = let text = c .before .before .before .before .before .before .before .before .before .before .before .before .before .before .before
     .before .before .before .before .args .text .now in
     let reached = c .before .before .before .before .before .before .before .before .before .before .before .pass-run .result in
     let k : reached .line ≤ reached .at + 1 =
@@ -149,7 +149,7 @@ pass-data-spec =
     returns-2
     same-length-3
     returns-3
-    add-number
+    add-line-here
     loop-less
     loop-again
     same-length-4

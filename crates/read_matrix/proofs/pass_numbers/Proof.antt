@@ -32,8 +32,8 @@ same-length c = search needs
 returns : tie.Need-returns Inv-loop μ-loop
 returns c = search numbers-leave
 
-add-number : tie.Need-add-number Inv-loop μ-loop
-add-number c = search needs
+add-line-here : tie.Need-add-line-here Inv-loop μ-loop
+add-line-here c = search needs
 
 loop-less : tie.Need-loop-less Inv-loop μ-loop
 loop-less c = search numbers-less
@@ -61,7 +61,7 @@ pass-numbers-spec =
     numbers-passed-requires
     same-length
     returns
-    add-number
+    add-line-here
     loop-less
     loop-again
     numbers-passed-requires-2

@@ -35,8 +35,8 @@ same-length c = search pairs-long
 returns : tie.Need-returns Inv-loop μ-loop
 returns c = search pairs-leave
 
-add-number : tie.Need-add-number Inv-loop μ-loop
-add-number c = search needs
+add-line-here : tie.Need-add-line-here Inv-loop μ-loop
+add-line-here c = search needs
 
 add-values : tie.Need-add-values Inv-loop μ-loop
 add-values c = search pairs-values
@@ -83,7 +83,7 @@ pass-pairs-spec =
     pairs-passed-requires
     same-length
     returns
-    add-number
+    add-line-here
     add-values
     and-requires
     add-least

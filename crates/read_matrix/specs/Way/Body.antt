@@ -38,10 +38,10 @@ keptNote key value a =
 -- [Row] or [Bandwidth], by its argument
 pub record Keeps (key : ℕ) (argument : List ℕ) (m : Matrix) (values : ℕ) (a : noting.Note) (r : Data) : Type 0 where
   pub taken : r .taken ≡ true
-  pub decides : Decides place.matrix (withMatrix m values) (keywordStep key argument) (r .number) (withMatrix (r .matrix) (r .values))
+  pub decides : Decides place.matrix (withMatrix m values) (keywordStep key argument) (r .rule) (withMatrix (r .matrix) (r .values))
   pub form : r .matrix .form ≡ m .form
   pub same : r .values ≡ values
-  pub note : r .number ≡ 0 → r .note ≡ keptNote key (wholeOf argument .value) a
+  pub note : r .rule ≡ 0 → r .note ≡ keptNote key (wholeOf argument .value) a
   pub bounded : Bounded (r .note) values
 
 -- a table is changed only behind so many values
@@ -62,7 +62,7 @@ pub record Ends (content : List ℕ) : Type 0 where
 
 -- one line, by its content
 pub record Takes (content : List ℕ) (m : Matrix) (values : ℕ) (a : noting.Note) (table : List ℕ) (r : Data) (table' : List ℕ) : Type 0 where
-  pub decides : r .taken ≡ true → Decides place.matrix (withMatrix m values) (lineResult content) (r .number) (withMatrix (r .matrix) (r .values))
+  pub decides : r .taken ≡ true → Decides place.matrix (withMatrix m values) (lineResult content) (r .rule) (withMatrix (r .matrix) (r .values))
   pub opens : r .taken ≡ false → Opens content
   pub ends : r .taken ≡ false → r .ends ≡ true → Ends content
   pub kept : r .taken ≡ false → table' ≡ table
@@ -70,7 +70,7 @@ pub record Takes (content : List ℕ) (m : Matrix) (values : ℕ) (a : noting.No
   pub behind : Behind values table table'
   pub rises : values ≤ r .values
   pub bounded : Bounded (r .note) (r .values)
-  pub extends : r .taken ≡ true → r .number ≡ 0 → r .note .whole ≡ true → Extends content (m .form) table values a table' (r .values) (r .note)
+  pub extends : r .taken ≡ true → r .rule ≡ 0 → r .note .whole ≡ true → Extends content (m .form) table values a table' (r .values) (r .note)
 
 -- a line that adds no number, whatever the table
 abbrev pub TakesAlone : List ℕ → Matrix → ℕ → noting.Note → Data → Type 0
@@ -81,7 +81,7 @@ abbrev pub noteOf : ℕ → ℕ → Matrix → ℕ → BodyWalk → Note
 noteOf at line m values w =
     record {
       at = at;
-      number = line;
+      line = line;
       form = m .form;
       first = values;
       further = w .at;
@@ -93,8 +93,8 @@ noteOf at line m values w =
 
 -- the lines of a matrix up to the keyword that ends it, or as far as they are taken here
 pub record Goes (t : List ℕ) (at line : ℕ) (m : Matrix) (values : ℕ) (table : List ℕ) (w : BodyWalk) (table' : List ℕ) : Type 0 where
-  pub crossed : Crossed t at line (Holds place.matrix (withMatrix m values)) (withMatrix (w .part .matrix) (w .part .values)) (w .part .number) (w .at) (w .line)
+  pub crossed : Crossed t at line (Holds place.matrix (withMatrix m values)) (withMatrix (w .part .matrix) (w .part .values)) (w .part .rule) (w .at) (w .line)
   pub stays : Stays t at (w .at)
   pub behind : Behind values table table'
   pub rises : values ≤ w .part .values
-  pub tells : w .part .number ≡ 0 → w .noted ≡ true → line ≤ at + 1 → Tells t (noteOf at line m values w) (wordsOf table' 0 (noteOf at line m values w))
+  pub tells : w .part .rule ≡ 0 → w .noted ≡ true → line ≤ at + 1 → Tells t (noteOf at line m values w) (wordsOf table' 0 (noteOf at line m values w))

@@ -40,14 +40,14 @@ pub record Left (t : List ℕ) (n₀ at₀ form : ℕ) (table₀ : List ℕ) (va
   pub room : 3 * values ≤ length table
 
 -- how far the lines of a matrix have been gone over, no rule being broken
-pub record Gone (t : List ℕ) (at line : ℕ) (m : Matrix) (values : ℕ) (table₀ : List ℕ) (here number : ℕ) (part : Data) (table : List ℕ) : Type 0 where
-  pub whole : part .number ≡ 0
-  pub crossed : Crossed t at line (Holds place.matrix (withMatrix m values)) (withMatrix (part .matrix) (part .values)) (part .number) here number
+pub record Gone (t : List ℕ) (at line : ℕ) (m : Matrix) (values : ℕ) (table₀ : List ℕ) (here lineHere : ℕ) (part : Data) (table : List ℕ) : Type 0 where
+  pub whole : part .rule ≡ 0
+  pub crossed : Crossed t at line (Holds place.matrix (withMatrix m values)) (withMatrix (part .matrix) (part .values)) (part .rule) here lineHere
   pub form : part .matrix .form ≡ m .form
   pub behind : Behind values table₀ table
   pub rises : values ≤ part .values
   pub bounded : Bounded (part .note) (part .values)
-  pub left : part .note .whole ≡ true → Left t line at (m .form) table₀ values number here table (part .values) (part .note)
+  pub left : part .note .whole ≡ true → Left t line at (m .form) table₀ values lineHere here table (part .values) (part .note)
 
 -- a run of lines: what had been gone over up to it has been gone over up to its end
 pub record Leads (t : List ℕ) (at line : ℕ) (part : Data) (table : List ℕ) (r : Run) (table' : List ℕ) : Type 0 where
@@ -77,7 +77,7 @@ numbersPart part whole values row column =
     record {
       taken = true;
       ends = false;
-      number = 0;
+      rule = 0;
       matrix = part .matrix;
       values = values;
       note = record { whole = whole; row = row; column = column; bandwidth = part .note .bandwidth; greatest = part .note .greatest };
@@ -92,7 +92,7 @@ pub record TakesNumbers (t : List ℕ) (here form values row column : ℕ) (tabl
   pub onward : r .taken ≡ true → r .next ≡ lineAt commentByte t here .next
   pub takes : r .taken ≡ true → (m : Matrix) → m .form ≡ form → Ordered m → (a : Note) → a .whole ≡ true → a .row ≡ row → a .column ≡ column →
       Takes (contentAt t here) m values a table
-      (record { taken = true; ends = false; number = 0; matrix = m; values = r .values; note = movedTo (r .row) (r .column) a }) table'
+      (record { taken = true; ends = false; rule = 0; matrix = m; values = r .values; note = movedTo (r .row) (r .column) a }) table'
 
 -- ---- lines of a column and a value
 
@@ -119,7 +119,7 @@ pairsPart part whole values matrix named =
     record {
       taken = true;
       ends = false;
-      number = 0;
+      rule = 0;
       matrix = matrix;
       values = values;
       note =
@@ -140,4 +140,4 @@ pub record TakesPair (t : List ℕ) (here values row : ℕ) (table : List ℕ) (
   pub onward : r .taken ≡ true → r .next ≡ lineAt commentByte t here .next
   pub takes : r .taken ≡ true → (m : Matrix) → m .form ≡ sparse → Ordered m → (a : Note) → a .whole ≡ true → Bounded a values → a .row ≡ row →
       Takes (contentAt t here) m values a table
-      (record { taken = true; ends = false; number = 0; matrix = withColumn (r .column) m; values = values + 1; note = namedTo (r .column) a }) table'
+      (record { taken = true; ends = false; rule = 0; matrix = withColumn (r .column) m; values = values + 1; note = namedTo (r .column) a }) table'

@@ -24,7 +24,7 @@ mostMatrices = 1024
 
 -- the words of a note
 abbrev pub noteWords : Note → List ℕ
-noteWords n = n .at ∷ n .number ∷ n .form ∷ n .first ∷ n .further ∷ n .next ∷ n .bandwidth ∷ n .greatest ∷ n .count ∷ []
+noteWords n = n .at ∷ n .line ∷ n .form ∷ n .first ∷ n .further ∷ n .next ∷ n .bandwidth ∷ n .greatest ∷ n .count ∷ []
 
 -- the notes behind one of the last of so many matrices: it stands at that matrix's place, if there is one
 unfoldable pub notesAfter : ℕ → List ℕ → List ℕ → List ℕ
@@ -38,5 +38,5 @@ notesAfter matrices words notes =
 unfoldable pub notesBehind : ℕ → ℕ → Matrix → ℕ → ℕ → BodyWalk → List ℕ → List ℕ
 notesBehind at line m values matrices w notes =
     if w .noted
-    then (if eqb (w .part .number) 0 then notesAfter matrices (noteWords (noteOf at line m values w)) notes else notes)
+    then (if eqb (w .part .rule) 0 then notesAfter matrices (noteWords (noteOf at line m values w)) notes else notes)
     else notes

@@ -25,7 +25,7 @@ valuesWords vs = joined (map valueWords vs)
 -- lines end and the number of the line there, and what they say
 pub record Note : Type 0 where
   pub at : ℕ
-  pub number : ℕ
+  pub line : ℕ
   pub form : ℕ
   pub first : ℕ
   pub further : ℕ
@@ -43,7 +43,7 @@ unfoldable pub noteAt : List ℕ → ℕ → Note
 noteAt notes i =
     record {
       at = getD notes (noteSize * i) 0;
-      number = getD notes (noteSize * i + 1) 0;
+      line = getD notes (noteSize * i + 1) 0;
       form = getD notes (noteSize * i + 2) 0;
       first = getD notes (noteSize * i + 3) 0;
       further = getD notes (noteSize * i + 4) 0;
@@ -55,15 +55,15 @@ noteAt notes i =
 
 -- the values of the lines that a note is of
 abbrev pub noteValues : List ℕ → Note → List Value
-noteValues t n = valuesFrom (n .form) 1 1 (bodyLines t (n .number) (n .at))
+noteValues t n = valuesFrom (n .form) 1 1 (bodyLines t (n .line) (n .at))
 
 -- a note tells the truth, these being the words that it stands for
 pub record Tells (t : List ℕ) (n : Note) (words : List ℕ) : Type 0 where
   pub words-are : words ≡ valuesWords (noteValues t n)
   pub count-is : n .count ≡ length (noteValues t n)
-  pub bandwidth-is : n .bandwidth ≡ bandwidthIn (bodyLines t (n .number) (n .at))
-  pub greatest-is : n .greatest ≡ greatestIn (n .form) (bodyLines t (n .number) (n .at))
-  pub rest : linesAt t (n .number) (n .at) place.matrix ≡ bodyLines t (n .number) (n .at) ++ linesAt t (n .next) (n .further) place.matrix
+  pub bandwidth-is : n .bandwidth ≡ bandwidthIn (bodyLines t (n .line) (n .at))
+  pub greatest-is : n .greatest ≡ greatestIn (n .form) (bodyLines t (n .line) (n .at))
+  pub rest : linesAt t (n .line) (n .at) place.matrix ≡ bodyLines t (n .line) (n .at) ++ linesAt t (n .next) (n .further) place.matrix
   pub placed : Placed t (n .next) (n .further)
   pub onward : n .at ≤ n .further
 

@@ -27,8 +27,8 @@ pub record Placed (t : List ℕ) (n at : ℕ) : Type 0 where
 -- where the walk has come hold the blocks that are left
 pub record Passes {B : Type 0} (block : Line → List Line → List B) (writes : Filling → List B → List Write) (t : List ℕ) (line : Found) (w : Walk) (table : List ℕ) (v : Walk) (table' : List ℕ) : Type 0 where
   pub stores : Stores (w .filling) table (writes (w .filling) (block (lineIn t line (w .place)) (linesBehind t line (w .place)))) (v .filling) table'
-  pub rest : gather block (linesBehind t line (w .place)) ≡ gather block (linesAt t (v .number) (v .at) (v .place))
-  pub placed : Placed t (v .number) (v .at)
+  pub rest : gather block (linesBehind t line (w .place)) ≡ gather block (linesAt t (v .line) (v .at) (v .place))
+  pub placed : Placed t (v .line) (v .at)
   pub onward : line .next ≤ v .at
 
 -- what has to hold before: the block fits

@@ -41,25 +41,25 @@ pub record TakenMap (t : List ℕ) (line : Found) (table : List ℕ) (w v : MapW
   pub grid : v .map ≡ gridIn (w .map) (mapLine t line w ∷ [])
   pub place-is : v .place ≡ placeAfter (w .place) (contentIn t line)
   pub at-is : v .at ≡ line .next
-  pub number-is : v .number ≡ line .number + 1
+  pub number-is : v .line ≡ line .line + 1
 
 -- the lines of a map, read from below its keyword up to the next one
 pub record ReadsMap (t : List ℕ) (n at : ℕ) (f : Filling) (table : List ℕ) (w : MapWalk) (table' : List ℕ) : Type 0 where
   pub pins : Stores f table (pinWrites (mapLines t n at place.mapHead)) (w .filling) table'
   pub grid : w .map ≡ gridIn newMap (mapLines t n at place.mapHead)
-  pub rest : linesAt t n at place.mapHead ≡ mapLines t n at place.mapHead ++ linesAt t (w .number) (w .at) (w .place)
-  pub placed : Placed t (w .number) (w .at)
+  pub rest : linesAt t n at place.mapHead ≡ mapLines t n at place.mapHead ++ linesAt t (w .line) (w .at) (w .place)
+  pub placed : Placed t (w .line) (w .at)
   pub onward : at ≤ w .at
 
 -- the map whose keyword was found
 abbrev pub mapBelow : List ℕ → Found → Map
-mapBelow t line = mapOf (lineIn t line 0) (mapLines t (line .number + 1) (line .next) place.mapHead)
+mapBelow t line = mapOf (lineIn t line 0) (mapLines t (line .line + 1) (line .next) place.mapHead)
 
 -- it is stored, and the lines go on behind its own
 pub record FillsMap (t : List ℕ) (line : Found) (f : Filling) (table : List ℕ) (w : MapWalk) (table' : List ℕ) : Type 0 where
   pub map : Stores f table (mapWrites (getD (f .counts) pins 0) (mapBelow t line)) (w .filling) table'
-  pub rest : linesAt t (line .number + 1) (line .next) place.mapHead ≡ mapLines t (line .number + 1) (line .next) place.mapHead ++ linesAt t (w .number) (w .at) (w .place)
-  pub placed : Placed t (w .number) (w .at)
+  pub rest : linesAt t (line .line + 1) (line .next) place.mapHead ≡ mapLines t (line .line + 1) (line .next) place.mapHead ++ linesAt t (w .line) (w .at) (w .place)
+  pub placed : Placed t (w .line) (w .at)
   pub onward : line .next ≤ w .at
 
 -- ---- maps one after another
@@ -71,10 +71,10 @@ mapsOf f ms = mapsWrites (getD (f .counts) pins 0) ms
 -- a line of the family: sections come after it
 pub record PassesMap (t : List ℕ) (line : Found) (w : Walk) (table : List ℕ) (v : Walk) (table' : List ℕ) : Type 0 where
   pub passes : Passes mapAt mapsOf t line w table v table'
-  pub sections : gather sectionAt (lineIn t line (w .place) ∷ linesBehind t line (w .place)) ≡ gather sectionAt (linesAt t (v .number) (v .at) (v .place))
+  pub sections : gather sectionAt (lineIn t line (w .place) ∷ linesBehind t line (w .place)) ≡ gather sectionAt (linesAt t (v .line) (v .at) (v .place))
 
 -- all maps are stored, and the sections come behind where the walk has come
 pub record FillsMaps (t : List ℕ) (f : Filling) (table : List ℕ) (w : Walk) (table' : List ℕ) : Type 0 where
   pub maps : Stores f table (mapsOf f (documentOf t .maps)) (w .filling) table'
-  pub sections : documentOf t .sections ≡ gather sectionAt (linesAt t (w .number) (w .at) (w .place))
-  pub placed : Placed t (w .number) (w .at)
+  pub sections : documentOf t .sections ≡ gather sectionAt (linesAt t (w .line) (w .at) (w .place))
+  pub placed : Placed t (w .line) (w .at)

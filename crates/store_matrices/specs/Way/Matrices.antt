@@ -41,7 +41,7 @@ abbrev pub withRow : ℕ → Found → MatrixWalk → MatrixWalk
 withRow row line w =
     record {
       at = line .next;
-      number = line .number + 1;
+      line = line .line + 1;
       bandwidth = w .bandwidth;
       greatest = max (w .greatest) row;
       spot = record { row = row; column = row; filling = w .spot .filling };
@@ -51,7 +51,7 @@ abbrev pub withBandwidth : ℕ → Found → MatrixWalk → MatrixWalk
 withBandwidth b line w =
     record {
       at = line .next;
-      number = line .number + 1;
+      line = line .line + 1;
       bandwidth = firstTold (w .bandwidth) b;
       greatest = w .greatest;
       spot = w .spot;
@@ -81,7 +81,7 @@ pub record TakenLine (t : List ℕ) (line : Found) (form : ℕ) (table : List �
       max (v .greatest) (greatestIn form ls) ≡ max (w .greatest) (greatestIn form (matrixLine t line ∷ ls))
   pub counted : Counted (v .spot)
   pub at-is : v .at ≡ line .next
-  pub number-is : v .number ≡ line .number + 1
+  pub number-is : v .line ≡ line .line + 1
 
 -- ---- the lines of a matrix
 
@@ -98,15 +98,15 @@ pub record FillsValues (t : List ℕ) (n at form : ℕ) (table : List ℕ) (f : 
   pub stores : Stores f table (valuesWrites form (matrixLines t n at)) (w .spot .filling) table'
   pub bandwidth : toldOr (w .bandwidth) 0 ≡ bandwidthIn (matrixLines t n at)
   pub greatest : w .greatest ≡ greatestIn form (matrixLines t n at)
-  pub rest : linesAt t n at place.matrix ≡ matrixLines t n at ++ linesAt t (w .number) (w .at) place.matrix
-  pub placed : Placed t (w .number) (w .at)
+  pub rest : linesAt t n at place.matrix ≡ matrixLines t n at ++ linesAt t (w .line) (w .at) place.matrix
+  pub placed : Placed t (w .line) (w .at)
   pub onward : at ≤ w .at
 
 -- ---- a matrix
 
 -- the lines below a keyword that was found, and the matrix that it opens
 abbrev pub linesBelow : List ℕ → Found → List Line
-linesBelow t line = matrixLines t (line .number + 1) (line .next)
+linesBelow t line = matrixLines t (line .line + 1) (line .next)
 
 abbrev pub formBelow : List ℕ → Found → ℕ
 formBelow t line = formOf (argumentOf (lineIn t line 0) .text)
@@ -123,6 +123,6 @@ pub record PutsMatrix (t : List ℕ) (line : Found) (table : List ℕ) (f : Fill
 pub record FillsMatrix (t : List ℕ) (line : Found) (table : List ℕ) (f : Filling) (r : Stored) (table' : List ℕ) : Type 0 where
   pub stores : Stores f table (matrixWrites (getD (f .counts) values 0) (matrixBelow t line)) (r .filling) table'
   pub conductors : r .conductors ≡ matrixBelow t line .conductors
-  pub rest : linesAt t (line .number + 1) (line .next) place.matrix ≡ linesBelow t line ++ linesAt t (r .number) (r .at) place.matrix
-  pub placed : Placed t (r .number) (r .at)
+  pub rest : linesAt t (line .line + 1) (line .next) place.matrix ≡ linesBelow t line ++ linesAt t (r .line) (r .at) place.matrix
+  pub placed : Placed t (r .line) (r .at)
   pub onward : line .next ≤ r .at

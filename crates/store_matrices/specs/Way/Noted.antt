@@ -15,7 +15,7 @@ unfoldable pub noteIn : Note → NoteWords
 noteIn n =
     record {
       at = n .at;
-      number = n .number;
+      line = n .line;
       form = n .form;
       first = n .first;
       further = n .further;
@@ -27,16 +27,16 @@ noteIn n =
 
 -- it is made, and of the lines that start there, read in this form, so many values standing before theirs
 unfoldable pub isOf : NoteWords → ℕ → ℕ → ℕ → ℕ → Bool
-isOf n at number form first =
+isOf n at line form first =
     both (not (eqb (n .further) 0))
-    (both (eqb (n .at) at) (both (eqb (n .number) number) (both (eqb (n .form) form) (eqb (n .first) first))))
+    (both (eqb (n .at) at) (both (eqb (n .line) line) (both (eqb (n .form) form) (eqb (n .first) first))))
 
 -- where the lines end, and what they say; their values are counted as stored behind the first ones
 unfoldable pub notedWalk : NoteWords → ℕ → Filling → MatrixWalk
 notedWalk n first f =
     record {
       at = n .further;
-      number = n .next;
+      line = n .next;
       bandwidth = record { told = true; value = n .bandwidth };
       greatest = n .greatest;
       spot = record {

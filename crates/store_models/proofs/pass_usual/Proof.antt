@@ -33,8 +33,8 @@ same-length c = search usual-long
 returns : tie.Need-returns Inv-loop μ-loop
 returns c = search usual-stops
 
-add-number : tie.Need-add-number Inv-loop μ-loop
-add-number c = search needs
+add-line-here : tie.Need-add-line-here Inv-loop μ-loop
+add-line-here c = search needs
 
 array-write-counts : tie.Need-array-write-counts Inv-loop μ-loop
 array-write-counts c = search needs
@@ -66,7 +66,7 @@ pass-usual-spec =
     walk-at-requires
     same-length
     returns
-    add-number
+    add-line-here
     array-write-counts
     loop-less
     loop-again

@@ -42,14 +42,14 @@ modelSteps t ls = stepWrites t (stepsIn (modelLines ls))
 
 -- the lines from where a walk has come
 abbrev pub linesLeft : List ℕ → ModelWalk → List Line
-linesLeft t w = linesAt t (w .number) (w .at) (w .place)
+linesLeft t w = linesAt t (w .line) (w .at) (w .place)
 
 -- a walk come to a line, with so many records stored
 abbrev pub movedTo : ModelWalk → ℕ → ℕ → List ℕ → ModelWalk
 movedTo w at n counts =
     record {
       at = at;
-      number = n;
+      line = n;
       place = w .place;
       head = w .head;
       filling = record { bases = w .filling .bases; counts = counts };
@@ -64,8 +64,8 @@ pub record Open (t : List ℕ) (n at p : ℕ) (f : Filling) (table : List ℕ) :
 
 -- the line found next is one of the model's
 pub record Next (t : List ℕ) (line : Found) (w : ModelWalk) (table : List ℕ) : Type 0 where
-  pub opened : Open t (w .number) (w .at) (w .place) (w .filling) table
-  pub finds : Finds t (w .number) (w .at) line
+  pub opened : Open t (w .line) (w .at) (w .place) (w .filling) table
+  pub finds : Finds t (w .line) (w .at) line
   pub there : line .there ≡ true
   pub inside : isInModel (w .place) ≡ true
 
@@ -82,7 +82,7 @@ pub record Taken (t : List ℕ) (line : Found) (w : ModelWalk) (table : List ℕ
   pub head : v .head ≡ headIn (w .head) (lineIn t line (w .place) ∷ [])
   pub place-is : v .place ≡ placeAfter (w .place) (contentIn t line)
   pub at-is : v .at ≡ line .next
-  pub number-is : v .number ≡ line .number + 1
+  pub number-is : v .line ≡ line .line + 1
 
 -- lines of the model are gone over, from where w has come to where v has: their steps are stored. Which lines, it does not say: a fork
 -- block or one line
@@ -95,7 +95,7 @@ pub record Continued (t : List ℕ) (w : ModelWalk) (table : List ℕ) (v : Mode
   pub stores : Stores (w .filling) table written (v .filling) table'
   pub head : headIn (v .head) (modelLines (linesLeft t v)) ≡ headIn (w .head) (modelLines (linesLeft t w))
   pub onward : w .at ≤ v .at
-  pub opened : Open t (v .number) (v .at) (v .place) (v .filling) table'
+  pub opened : Open t (v .line) (v .at) (v .place) (v .filling) table'
 
 -- one line of them at least
 pub record Reached (t : List ℕ) (w : ModelWalk) (table : List ℕ) (v : ModelWalk) (table' : List ℕ) : Type 0 where
@@ -107,14 +107,14 @@ pub record ReadsModel (t : List ℕ) (n at : ℕ) (f : Filling) (table : List �
   pub steps : Stores f table (modelSteps t (linesAt t n at place.head)) (w .filling) table'
   pub head : w .head ≡ headIn newHead (modelLines (linesAt t n at place.head))
   pub rest : linesAt t n at place.head ≡ modelLines (linesAt t n at place.head) ++ linesLeft t w
-  pub placed : Placed t (w .number) (w .at)
+  pub placed : Placed t (w .line) (w .at)
   pub onward : at ≤ w .at
 
 -- ---- models
 
 -- the model whose keyword was found, and what is stored of it
 abbrev pub modelBelow : List ℕ → Found → Model
-modelBelow t line = modelOf (lineIn t line 0) (modelLines (linesAt t (line .number + 1) (line .next) place.head))
+modelBelow t line = modelOf (lineIn t line 0) (modelLines (linesAt t (line .line + 1) (line .next) place.head))
 
 abbrev pub modelIn : List ℕ → Filling → Model → List Write
 modelIn t f m = modelWrites (documentOf t .maps) (documentOf t .sections) (getD (f .counts) steps 0) m
@@ -122,16 +122,16 @@ modelIn t f m = modelWrites (documentOf t .maps) (documentOf t .sections) (getD 
 pub record FitsModel (t : List ℕ) (line : Found) (f : Filling) (table : List ℕ) : Type 0 where
   pub located : Located t line
   pub seven : length (f .counts) ≡ 7
-  pub last : Last t (linesAt t (line .number + 1) (line .next) place.head)
+  pub last : Last t (linesAt t (line .line + 1) (line .next) place.head)
   pub aims : Aims t f table
   pub fits : Fits (lowOf f) f (modelIn t f (modelBelow t line))
 
 -- it is stored, and the lines go on behind its own
 pub record FillsModel (t : List ℕ) (line : Found) (f : Filling) (table : List ℕ) (w : ModelWalk) (table' : List ℕ) : Type 0 where
   pub model : Stores f table (modelIn t f (modelBelow t line)) (w .filling) table'
-  pub rest : linesAt t (line .number + 1) (line .next) place.head
-      ≡ modelLines (linesAt t (line .number + 1) (line .next) place.head) ++ linesLeft t w
-  pub placed : Placed t (w .number) (w .at)
+  pub rest : linesAt t (line .line + 1) (line .next) place.head
+      ≡ modelLines (linesAt t (line .line + 1) (line .next) place.head) ++ linesLeft t w
+  pub placed : Placed t (w .line) (w .at)
   pub onward : line .next ≤ w .at
 
 -- a line of the text, and room for the model that it opens if it opens one
@@ -146,4 +146,4 @@ pub record ReadyModel (t : List ℕ) (line : Found) (w : Walk) (table : List ℕ
 -- the line is gone over, with its model
 pub record PassesModel (t : List ℕ) (line : Found) (w : Walk) (table : List ℕ) (v : Walk) (table' : List ℕ) : Type 0 where
   pub passes : Passes modelAt (modelsOf t) t line w table v table'
-  pub last : Last t (linesAt t (v .number) (v .at) (v .place))
+  pub last : Last t (linesAt t (v .line) (v .at) (v .place))

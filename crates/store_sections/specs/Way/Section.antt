@@ -73,7 +73,7 @@ pub record Passed (lines rest : List Line) : Type 0 where
 -- the matrix is stored, and what the lines behind it add to the section is as if they were read with it
 pub record TakenLine (t : List ℕ) (line : Found) (table : List ℕ) (w v : SectionWalk) (table' : List ℕ) : Type 0 where
   pub stores : Stores (w .filling) table (matricesFrom (w .filling) (matrixHere t line w)) (v .filling) table'
-  pub passed : Passed (linesBehind t line (w .place)) (linesAt t (v .number) (v .at) (v .place))
+  pub passed : Passed (linesBehind t line (w .place)) (linesAt t (v .line) (v .at) (v .place))
   pub method-on : (ls : List Line) → toldOr (v .method) (methodIn ls) ≡ toldOr (w .method) (methodIn (sectionLine t line w ∷ ls))
   pub conductors-on : (ms : List Matrix) →
       toldOr (v .conductors) (conductorsOf ms) ≡ toldOr (w .conductors) (conductorsOf (matrixHere t line w ++ ms))
@@ -83,7 +83,7 @@ pub record TakenLine (t : List ℕ) (line : Found) (table : List ℕ) (w v : Sec
       ≡ keptOr (getD (w .kinds) k 0) (indexOfKind k (getD (w .filling .counts) matrices 0) (matrixHere t line w ++ ms))
   pub seven : length (v .filling .counts) ≡ 7
   pub four : length (v .kinds) ≡ 4
-  pub placed : Placed t (v .number) (v .at)
+  pub placed : Placed t (v .line) (v .at)
   pub onward : line .next ≤ v .at
 
 -- ---- the lines of a section
@@ -108,15 +108,15 @@ pub record FillsLines (t : List ℕ) (n at : ℕ) (table : List ℕ) (f : Fillin
   pub kinds : (k : ℕ) → k < 4 →
       getD (w .kinds) k 0 ≡ indexOfKind k (getD (f .counts) matrices 0) (matricesIn (sectionLines t n at place.sectionHead))
   pub four : length (w .kinds) ≡ 4
-  pub rest : linesAt t n at place.sectionHead ≡ sectionLines t n at place.sectionHead ++ linesAt t (w .number) (w .at) (w .place)
-  pub placed : Placed t (w .number) (w .at)
+  pub rest : linesAt t n at place.sectionHead ≡ sectionLines t n at place.sectionHead ++ linesAt t (w .line) (w .at) (w .place)
+  pub placed : Placed t (w .line) (w .at)
   pub onward : at ≤ w .at
 
 -- ---- a section
 
 -- the lines below a keyword that was found, and the section that it opens
 abbrev pub linesBelow : List ℕ → Found → List Line
-linesBelow t line = sectionLines t (line .number + 1) (line .next) place.sectionHead
+linesBelow t line = sectionLines t (line .line + 1) (line .next) place.sectionHead
 
 abbrev pub sectionBelow : List ℕ → Found → Section
 sectionBelow t line = sectionOf (lineIn t line 0) (linesBelow t line)
@@ -130,6 +130,6 @@ pub record PutsSection (t : List ℕ) (line : Found) (table : List ℕ) (f : Fil
 pub record FillsSection (t : List ℕ) (line : Found) (table : List ℕ) (f : Filling) (w : Walk) (table' : List ℕ) : Type 0 where
   pub stores : Stores f table (sectionWrites (getD (f .counts) matrices 0) (getD (f .counts) values 0) (sectionBelow t line))
       (w .filling) table'
-  pub rest : linesAt t (line .number + 1) (line .next) place.sectionHead ≡ linesBelow t line ++ linesAt t (w .number) (w .at) (w .place)
-  pub placed : Placed t (w .number) (w .at)
+  pub rest : linesAt t (line .line + 1) (line .next) place.sectionHead ≡ linesBelow t line ++ linesAt t (w .line) (w .at) (w .place)
+  pub placed : Placed t (w .line) (w .at)
   pub onward : line .next ≤ w .at

@@ -17,4 +17,4 @@ sectionsOf f ss = sectionsWrites (getD (f .counts) matrices 0) (getD (f .counts)
 
 -- the sections that stand behind where a walk has come
 abbrev pub sectionsLeft : List ℕ → Walk → List Section
-sectionsLeft t w = gather sectionAt (linesAt t (w .number) (w .at) (w .place))
+sectionsLeft t w = gather sectionAt (linesAt t (w .line) (w .at) (w .place))

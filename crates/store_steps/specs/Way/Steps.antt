@@ -28,7 +28,7 @@ abbrev pub pathLine : List ℕ → Found → Line
 pathLine t line = lineIn t line place.path
 
 abbrev pub pathBehind : List ℕ → Found → List Line
-pathBehind t line = linesAt t (line .number + 1) (line .next) place.path
+pathBehind t line = linesAt t (line .line + 1) (line .next) place.path
 
 abbrev pub endStep : List ℕ → Found → Step
 endStep t line =
@@ -38,7 +38,7 @@ endStep t line =
       mult = false;
       amount = 0;
       side = sideIn (pathBehind t line);
-      line = line .number;
+      line = line .line;
     }
 
 abbrev pub sectionStep : List ℕ → Found → Step
@@ -49,12 +49,12 @@ sectionStep t line =
       mult = isMult (contentIn t line);
       amount = amountOf (contentIn t line);
       side = noWord;
-      line = line .number;
+      line = line .line;
     }
 
 -- a fork or an endfork
 abbrev pub forkStep : ℕ → Found → Step
-forkStep kind line = record { kind = kind; name = noWord; mult = false; amount = 0; side = noWord; line = line .number }
+forkStep kind line = record { kind = kind; name = noWord; mult = false; amount = 0; side = noWord; line = line .line }
 
 -- ---- what is stored of them
 
@@ -84,7 +84,7 @@ pub record Aims (t : List ℕ) (f : Filling) (table : List ℕ) : Type 0 where
 -- a line at which a step is looked for: the maps below it are those whose names stand behind it
 pub record Aimed (t : List ℕ) (line : Found) (f : Filling) (table : List ℕ) : Type 0 where
   pub located : Located t line
-  pub order : Each (λ (m : Map). leb (line .next) (m .name .start) ≡ ltb (line .number) (m .line)) (documentOf t .maps)
+  pub order : Each (λ (m : Map). leb (line .next) (m .name .start) ≡ ltb (line .line) (m .line)) (documentOf t .maps)
   pub aims : Aims t f table
 
 -- a line that says these steps, with room for them

@@ -46,8 +46,8 @@ array-write-listed c = search slot-in
 place-after-requires : tie.Need-place-after-requires Inv-loop μ-loop
 place-after-requires c κs = search found
 
-add-number : tie.Need-add-number Inv-loop μ-loop
-add-number c = omega (arith, number-small _ _ _ _ _ (c .before .before .before .before .before .before .before .before .before .before .loop .inv) _ (c .before .before .before .before .before .before .before .before .before .next-told .ensures) (c .before .before .before .before .before .before .before .if1 .left))
+add-line-here : tie.Need-add-line-here Inv-loop μ-loop
+add-line-here c = omega (arith, number-small _ _ _ _ _ (c .before .before .before .before .before .before .before .before .before .before .loop .inv) _ (c .before .before .before .before .before .before .before .before .before .next-told .ensures) (c .before .before .before .before .before .before .before .if1 .left))
 
 loop-less : tie.Need-loop-less Inv-loop μ-loop
 loop-less c = search list-less
@@ -70,6 +70,6 @@ list-finding-spec =
     returns-3
     array-write-listed
     place-after-requires
-    add-number
+    add-line-here
     loop-less
     loop-again)

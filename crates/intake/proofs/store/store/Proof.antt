@@ -1,10 +1,10 @@
--- `intake::fill::store` meets its contract: no room, or the text's table.
+-- `intake::store::store` meets its contract: no room, or the text's table.
 -- Assumes nothing.
 use denote.Ref.{now}
 use Rattle.intake.proofs.ReadyLaws.{many-few, store-refused, lift-fits, lift-within, lift-ready, fill-ready, store-filled}
 use borrow.Author.Needs.{needs}
-use Rattle.intake.proofs.fill.store.Statement.{statement}
-use Rattle.intake.proofs.fill.store.Tie as tie
+use Rattle.intake.proofs.store.store.Statement.{statement}
+use Rattle.intake.proofs.store.store.Tie as tie
 
 counts-of-requires : tie.Need-counts-of-requires
 counts-of-requires c κs = search needs

@@ -1,10 +1,10 @@
--- `intake::fill::fill_table` meets its contract: what the forward reading refuses leaves zeros, and what it reads to the end is stored.
+-- `intake::store::store_text` meets its contract: what the forward reading refuses leaves zeros, and what it reads to the end is stored.
 -- Assumes nothing.
 use Rattle.intake.proofs.ReadyLaws.{store-ready, not-read, told-before, zeros-before}
 use Rattle.intake.proofs.NoteLaws.{room-zeros}
 use borrow.Author.Needs.{needs}
-use Rattle.intake.proofs.fill.fill.fill_table.Statement.{statement}
-use Rattle.intake.proofs.fill.fill.fill_table.Tie as tie
+use Rattle.intake.proofs.store.store_text.Statement.{statement}
+use Rattle.intake.proofs.store.store_text.Tie as tie
 
 notes-room-requires : tie.Need-notes-room-requires
 notes-room-requires c κs = search needs
@@ -42,8 +42,8 @@ same-length-2 c = search needs
 returns-2 : tie.Need-returns-2
 returns-2 c = (search not-read, zeros-before _ _ (c .before .before .before .before .before .before .before .before .before .before .read .kept .1 .0) _ (c .before .before .zero-all .ensures))
 
-pub fill-table-spec : {M : Type 1} → statement M
-fill-table-spec =
+pub store-text-spec : {M : Type 1} → statement M
+store-text-spec =
     tie.close
     (tie.spec
     notes-room-requires

@@ -10,8 +10,8 @@ ghost use Rattle.read_line.specs.declared.Reading.the-variants.{Read};
 ghost use Rattle.doc.specs.Way.Holds.{countsOf};
 ghost use Rattle.doc.specs.Records.{tableOf};
 ghost use Rattle.store_base.specs.Way.Notes.{Noted, Before};
-ghost use Rattle.intake.specs.Filled.{filledOf};
-ghost use Rattle.intake.specs.Way.Filled.{tableAfterStoring, Lifted};
+ghost use Rattle.intake.specs.Stored.{storeAnswer};
+ghost use Rattle.intake.specs.Way.Stored.{tableAfterStoring, Lifted};
 use line_keyword::Counts;
 use read_line::Reading;
 
@@ -19,7 +19,7 @@ use read_line::Reading;
 const WORDS: usize = 3;
 
 // A text stored, with the words used, or the rule that it breaks and its line.
-pub enum Filled {
+pub enum StoreAnswer {
     Stored(usize),
     Refused(u64, u64),
 }
@@ -55,21 +55,21 @@ fn fill(text: &[u8], table: &mut [u64], counts: Counts, notes: &[u64])
 }
 
 // A text that reads to its end: its records, if the table has room for them. The words of what was noted stand at the front of the table.
-fn store(text: &[u8], table: &mut [u64], counts: Counts, notes: &[u64]) -> Filled
+fn store(text: &[u8], table: &mut [u64], counts: Counts, notes: &[u64]) -> StoreAnswer
     requires { ⌜ (readingOf (now text) ≡ Read counts)
         × Noted (now text) (now table) (now notes) 0 0
         × Before (now notes) (counts .values) ⌝ }
-    ensures { λ r. ⌜ (r ≡ filledOf (now (text .entry)) (length (now (table .entry)))) × (now (table .exit) ≡ tableAfterStoring (now (text .entry)) (length (now (table .entry))) r) ⌝ }
+    ensures { λ r. ⌜ (r ≡ storeAnswer (now (text .entry)) (length (now (table .entry)))) × (now (table .exit) ≡ tableAfterStoring (now (text .entry)) (length (now (table .entry))) r) ⌝ }
 {
     let words = table_layout::words_needed(counts_of(counts));
     if table.len() < words {
         base::zero_all(table);
-        return Filled::Refused(18, 0);
+        return StoreAnswer::Refused(18, 0);
     }
     let lifted = WORDS * (counts.values as usize);
     table_layout::lift(table, lifted, words - lifted);
     fill(text, table, counts, notes);
-    Filled::Stored(words)
+    StoreAnswer::Stored(words)
 }
 
 // Room for notes: nine words for each of at most 1,024 matrices. They come from a function so that no proof has to look at all of them.
@@ -80,15 +80,15 @@ fn notes_room() -> [u64; 9216]
 }
 
 // Rules 5 to 18 over a text and a lent table: what the text says is stored, or nothing.
-pub fn fill_table(text: &[u8], table: &mut [u64]) -> Filled
-    ensures { λ r. ⌜ (r ≡ filledOf (now (text .entry)) (length (now (table .entry)))) × (now (table .exit) ≡ tableAfterStoring (now (text .entry)) (length (now (table .entry))) r) ⌝ }
+pub fn store_text(text: &[u8], table: &mut [u64]) -> StoreAnswer
+    ensures { λ r. ⌜ (r ≡ storeAnswer (now (text .entry)) (length (now (table .entry)))) × (now (table .exit) ≡ tableAfterStoring (now (text .entry)) (length (now (table .entry))) r) ⌝ }
 {
     let mut notes = notes_room();
     match read_text::read(text, table, &mut notes) {
         Reading::Read(counts) => store(text, table, counts, &notes),
-        Reading::Refused(number, line) => {
+        Reading::Refused(rule, line) => {
             base::zero_all(table);
-            Filled::Refused(number, line)
+            StoreAnswer::Refused(rule, line)
         }
     }
 }

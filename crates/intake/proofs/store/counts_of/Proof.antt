@@ -1,9 +1,9 @@
--- `intake::fill::counts_of` meets its contract.
+-- `intake::store::counts_of` meets its contract.
 -- Assumes nothing.
 use mathlib.Core.Path.{refl}
 use Rattle.doc.specs.Way.Holds.{countsOf}
-use Rattle.intake.proofs.fill.fill.counts_of.Statement.{statement}
-use Rattle.intake.proofs.fill.fill.counts_of.Tie as tie
+use Rattle.intake.proofs.store.counts_of.Statement.{statement}
+use Rattle.intake.proofs.store.counts_of.Tie as tie
 
 returns : tie.Need-returns
 unfolding countsOf

@@ -10,14 +10,14 @@ use Rattle.read_line.specs.Reading.{readingOf}
 use Rattle.read_line.specs.declared.Reading.{Reading}
 use Rattle.read_line.specs.declared.Reading.the-variants as reading
 use Rattle.doc.specs.Records.{tableOf}
-use Rattle.intake.specs.declared.fill.Filled.{Filled}
-use Rattle.intake.specs.declared.fill.Filled.the-variants.{Stored, Refused}
+use Rattle.intake.specs.declared.store.StoreAnswer.{StoreAnswer}
+use Rattle.intake.specs.declared.store.StoreAnswer.the-variants.{Stored, Refused}
 
 -- the words needed are the length of the layout
-abbrev pub afterReading : List ℕ → ℕ → Reading → Filled
+abbrev pub afterReading : List ℕ → ℕ → Reading → StoreAnswer
 afterReading t size (reading.Read c) = if ltb size (length (tableOf t)) then Refused 18 0 else Stored (length (tableOf t))
-afterReading t size (reading.Refused number line) = Refused number line
+afterReading t size (reading.Refused rule line) = Refused rule line
 
 -- for a table of so many words
-unfoldable pub filledOf : List ℕ → ℕ → Filled
-filledOf t size = afterReading t size (readingOf t)
+unfoldable pub storeAnswer : List ℕ → ℕ → StoreAnswer
+storeAnswer t size = afterReading t size (readingOf t)

@@ -9,13 +9,13 @@ use Rattle.table_layout.specs.Layout.{widths, values}
 use Rattle.table_layout.specs.Way.Parts.{needed}
 use Rattle.read_line.specs.declared.Reading.the-variants as reading
 use Rattle.doc.specs.Records.{tableOf}
-use Rattle.intake.specs.declared.fill.Filled.{Filled}
-use Rattle.intake.specs.declared.fill.Filled.the-variants.{Stored, Refused}
+use Rattle.intake.specs.declared.store.StoreAnswer.{StoreAnswer}
+use Rattle.intake.specs.declared.store.StoreAnswer.the-variants.{Stored, Refused}
 
 -- "A refused intake zeroes the table, an accepted one the words past those used"
-abbrev pub tableAfterStoring : List ℕ → ℕ → Filled → List ℕ
+abbrev pub tableAfterStoring : List ℕ → ℕ → StoreAnswer → List ℕ
 tableAfterStoring t size (Stored words) = tableOf t ++ replicate (size - length (tableOf t)) 0
-tableAfterStoring t size (Refused number line) = replicate size 0
+tableAfterStoring t size (Refused rule line) = replicate size 0
 
 -- a table of zeros, but for words where the values of so many records of each part belong
 pub record Lifted (counts table : List ℕ) : Type 0 where

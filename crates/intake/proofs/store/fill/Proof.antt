@@ -1,9 +1,9 @@
--- `intake::fill::fill` meets its contract: each call finds what it asks for, and the table is the text's at the end.
+-- `intake::store::fill` meets its contract: each call finds what it asks for, and the table is the text's at the end.
 -- Assumes nothing.
 use Rattle.intake.proofs.ReadyLaws.{open-ready, opened-filling, opened-table, maps-ready, sections-ready, models-ready, table-filled}
 use borrow.Author.Needs.{needs}
-use Rattle.intake.proofs.fill.fill.Statement.{statement}
-use Rattle.intake.proofs.fill.fill.Tie as tie
+use Rattle.intake.proofs.store.fill.Statement.{statement}
+use Rattle.intake.proofs.store.fill.Tie as tie
 
 counts-of-requires : tie.Need-counts-of-requires
 counts-of-requires c κs = search needs
