@@ -235,11 +235,11 @@ endf-joined : joined (bytes "Endf") ≡ 1_717_857_861
 unfolding joined
 endf-joined = refl
 
-small-bytes : all isByte (bytes "saysFork") ≡ true
+small-bytes : all isByte (bytes "fork") ≡ true
 unfolding all isByte both if_then_else_
 small-bytes = refl
 
-small-joined : joined (bytes "saysFork") ≡ 1_802_661_734
+small-joined : joined (bytes "fork") ≡ 1_802_661_734
 unfolding joined
 small-joined = refl
 
@@ -249,11 +249,11 @@ fork-told c a long one e =
     let whole : c ≡ bytes "Fork" = sym (take-all 4 c (omega arith)) ∙ front in
     rw whole forks
 
-endfork-whole : (c : List ℕ) → length c ≡ 7 → take 4 (drop 0 c) ≡ bytes "Endf" → take 4 (drop 3 c) ≡ bytes "saysFork" → c ≡ bytes "Endfork"
+endfork-whole : (c : List ℕ) → length c ≡ 7 → take 4 (drop 0 c) ≡ bytes "Endf" → take 4 (drop 3 c) ≡ bytes "fork" → c ≡ bytes "Endfork"
 endfork-whole c long one two =
     let whole : c ≡ bytes "Endf" ++ drop 4 c = sym (take-append-drop 4 c) ∙ ap (λ (x : List ℕ). x ++ drop 4 c) one in
     let short : length (drop 3 c) ≡ length c - 3 = length-drop 3 c in
-    let from : drop 3 c ≡ bytes "saysFork" = sym (take-all 4 (drop 3 c) (omega arith)) ∙ two in
+    let from : drop 3 c ≡ bytes "fork" = sym (take-all 4 (drop 3 c) (omega arith)) ∙ two in
     let rest : drop 4 c ≡ bytes "ork" = ap (drop 1) (sym (ap (drop 3) whole) ∙ from) in
     whole ∙ ap (λ (x : List ℕ). bytes "Endf" ++ x) rest
 

@@ -48,7 +48,7 @@ pub struct Path {
     pub stage: u64,
     pub depth: u64,
     pub ended: bool,
-    pub saysSide: bool,
+    pub side: bool,
 }
 
 // What one line says: which line it is, whether its rest is right, its number formed and within its bounds.
@@ -59,7 +59,7 @@ pub struct PathLine {
     pub bounded: bool,
 }
 
-// `Section `, `on Mult=`, `Fork`, `Endf` and `saysFork`, each as one number.
+// `Section `, `on Mult=`, `Fork`, `Endf` and `fork`, each as one number.
 const SECTION_BYTES: u64 = 2_336_927_755_366_786_387;
 
 const MULT_BYTES: u64 = 4_428_283_584_672_984_687;
@@ -92,11 +92,11 @@ pub fn opens_mult(content: &[u8]) -> bool
 fn pair_end(s: &[u8]) -> usize
     ensures { λ r. ⌜ ((r ≡ 0 → ⊥) → Paired (now (s .entry)) r) ⌝ }
 {
-    let saysEnd = base::past_word(s, 0);
-    if s.len() <= saysEnd {
+    let end = base::past_word(s, 0);
+    if s.len() <= end {
         return 0;
     }
-    let name = saysEnd + 1;
+    let name = end + 1;
     let stop = base::past_word(s, name);
     if stop == name {
         return 0;
@@ -104,7 +104,7 @@ fn pair_end(s: &[u8]) -> usize
     if stop != s.len() {
         return 0;
     }
-    saysEnd
+    end
 }
 
 // Where the amount ends of a Section line as it is mostly written, `Section Mult=n name`; 0 where the form is another.
@@ -114,11 +114,11 @@ pub fn usual_amount(content: &[u8]) -> usize
     if !opens_mult(content) {
         return 0;
     }
-    let saysEnd = pair_end(&content[AMOUNT_AT..]);
-    if saysEnd == 0 {
+    let end = pair_end(&content[AMOUNT_AT..]);
+    if end == 0 {
         return 0;
     }
-    AMOUNT_AT + saysEnd
+    AMOUNT_AT + end
 }
 
 // `Fork` or `Endfork` alone; NOTHING where the form is another.
@@ -318,11 +318,11 @@ fn line_saying(says: u64, content: &[u8], few: Few) -> PathLine
 }
 
 // A Section line as it is mostly written.
-fn usual_line(content: &[u8], saysEnd: usize) -> PathLine
-    requires { ⌜ UsualSection (now content) saysEnd ⌝ }
+fn usual_line(content: &[u8], end: usize) -> PathLine
+    requires { ⌜ UsualSection (now content) end ⌝ }
     ensures { λ r. ⌜ r ≡ pathLineOf (now (content .entry)) ⌝ }
 {
-    let name = saysEnd + 1;
+    let name = end + 1;
     if line_argument::is_reserved(&content[name..]) {
         return plain_line(SECTION, false);
     }
@@ -343,13 +343,13 @@ fn told_line(content: &[u8]) -> PathLine
 pub fn path_line(content: &[u8]) -> PathLine
     ensures { λ r. ⌜ r ≡ pathLineOf (now (content .entry)) ⌝ }
 {
-    let saysEnd = usual_amount(content);
-    if saysEnd != 0 {
-        return usual_line(content, saysEnd);
+    let end = usual_amount(content);
+    if end != 0 {
+        return usual_line(content, end);
     }
-    let saysFork = usual_fork(content);
-    if saysFork != NOTHING {
-        return plain_line(saysFork, true);
+    let fork = usual_fork(content);
+    if fork != NOTHING {
+        return plain_line(fork, true);
     }
     told_line(content)
 }
@@ -362,7 +362,7 @@ pub fn new_path() -> Path
         stage: STARTING,
         depth: 0,
         ended: false,
-        saysSide: false,
+        side: false,
     }
 }
 
@@ -478,7 +478,7 @@ fn with_end(p: Path) -> Path
             stage: STARTED,
             depth: p.depth,
             ended: false,
-            saysSide: true,
+            side: true,
         };
     }
     if p.depth == 0 {
@@ -486,14 +486,14 @@ fn with_end(p: Path) -> Path
             stage: CLOSED,
             depth: 0,
             ended: false,
-            saysSide: true,
+            side: true,
         };
     }
     Path {
         stage: ITEMS,
         depth: p.depth,
         ended: true,
-        saysSide: true,
+        side: true,
     }
 }
 
@@ -520,7 +520,7 @@ pub fn path_next(l: PathLine, p: Path) -> Path
             stage: ITEMS,
             depth: p.depth,
             ended: false,
-            saysSide: false,
+            side: false,
         };
     }
     if l.says == FORK {
@@ -528,7 +528,7 @@ pub fn path_next(l: PathLine, p: Path) -> Path
             stage: ITEMS,
             depth: p.depth + 1,
             ended: false,
-            saysSide: false,
+            side: false,
         };
     }
     if l.says == ENDFORK {
@@ -536,14 +536,14 @@ pub fn path_next(l: PathLine, p: Path) -> Path
             stage: ITEMS,
             depth: less(p.depth),
             ended: false,
-            saysSide: false,
+            side: false,
         };
     }
     Path {
         stage: p.stage,
         depth: p.depth,
         ended: p.ended,
-        saysSide: false,
+        side: false,
     }
 }
 
