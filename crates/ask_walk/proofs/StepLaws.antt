@@ -23,7 +23,7 @@ use Rattle.ask_walk.specs.Walk.{
   noSuch,
   modelAtPlace,
   isPlace,
-  stepWords,
+  shownWords,
   nextOf,
   walkOver,
   walkOn,
@@ -40,9 +40,9 @@ next-told p kind depth e = ap (λ (d : ℕ). record { model = p .model; step = p
 
 pub over-steps :
     (table : List ℕ) (at : ℕ) (p next : Place) → next ≡ nextOf p (getD table at 0) →
-    stepped (stepWords (stepAt table at)) next ≡ walkOver (stepAt table at) p
+    stepped (shownWords (stepAt table at)) next ≡ walkOver (stepAt table at) p
 unfolding walkOver
-over-steps table at p next e = ap (stepped (stepWords (stepAt table at))) e
+over-steps table at p next e = ap (stepped (shownWords (stepAt table at))) e
 
 -- ---- from a place that is in range
 

@@ -92,8 +92,8 @@ isPlace r p =
 
 -- ---- one step
 
-abbrev pub stepWords : StepRecord → StepWords
-stepWords s =
+abbrev pub shownWords : StepRecord → StepWords
+shownWords s =
     record { kind = s .kind; target = s .target; amount = s .amount; side = s .side; «side_size» = s .sideSize; line = s .line }
 
 -- the place behind a step of this kind
@@ -102,7 +102,7 @@ nextOf p kind = record { model = p .model; step = p .step + 1; depth = depthAfte
 
 -- over this step
 unfoldable pub walkOver : StepRecord → Place → WalkWords
-walkOver s p = stepped (stepWords s) (nextOf p (s .kind))
+walkOver s p = stepped (shownWords s) (nextOf p (s .kind))
 
 -- ---- the whole
 

@@ -53,14 +53,14 @@ use Rattle.lex_keyword.specs.Names.{
 use Rattle.line_place.specs.Place.{
   opensHeaderText,
   standsInHeader,
-  inHeader,
-  inFamily,
-  inModel,
+  leadsInHeader,
+  leadsInFamily,
+  leadsInModel,
   opensMatrix,
-  inSection,
+  leadsInSection,
   keepsMatrix,
-  inMatrix,
-  afterFamily,
+  leadsInMatrix,
+  leadsAfterFamily,
   isInHeader,
   isInFamily,
   isInModel,
@@ -133,22 +133,22 @@ module _ (k : ℕ) (other : k ≡ icmModelList → ⊥) where
   choose : (b : Bool) (x y : ℕ) → Off x → Off y → Off (if b then x else y)
   choose b x y h e = by-test Off b x y (λ (t : b ≡ true). h) (λ (t : b ≡ false). e)
 
-  section-off : Off (inSection k)
-  unfolding inSection
+  section-off : Off (leadsInSection k)
+  unfolding leadsInSection
   section-off = choose (opensMatrix k) _ _ refl (choose (eqb k endIcmSection) _ _ refl refl)
 
-  matrix-off : Off (inMatrix k)
-  unfolding inMatrix
+  matrix-off : Off (leadsInMatrix k)
+  unfolding leadsInMatrix
   matrix-off = choose (keepsMatrix k) _ _ refl section-off
 
-  model-off : Off (inModel k)
-  unfolding inModel
+  model-off : Off (leadsInModel k)
+  unfolding leadsInModel
   model-off =
       choose (eqb k treePathDescription) _ _ refl
       (choose (eqb k icmModelDescription) _ _ refl (choose (eqb k endIcmModel) _ _ refl refl))
 
-  family-off : Off (inFamily k)
-  unfolding inFamily
+  family-off : Off (leadsInFamily k)
+  unfolding leadsInFamily
   family-off =
       choose (eqb k icmPinMap) _ _ refl
       (choose (eqb k beginIcmModel) _ _ refl
@@ -157,13 +157,13 @@ module _ (k : ℕ) (other : k ≡ icmModelList → ⊥) where
       (by-test Off (eqb k icmModelList) _ _ (λ (e : eqb k icmModelList ≡ true). absurd (other (eqb-true _ _ e)))
       (λ (e : eqb k icmModelList ≡ false). choose (eqb k icmFamilyDescription) _ _ refl refl)))))
 
-  header-off : Off (inHeader k)
-  unfolding inHeader
+  header-off : Off (leadsInHeader k)
+  unfolding leadsInHeader
   header-off =
       choose (standsInHeader k) _ _ refl (choose (opensHeaderText k) _ _ refl (choose (eqb k endHeader) _ _ refl refl))
 
-  after-off : Off (afterFamily k)
-  unfolding afterFamily
+  after-off : Off (leadsAfterFamily k)
+  unfolding leadsAfterFamily
   after-off = choose (eqb k beginIcmSection) _ _ refl (choose (eqb k theEnd) _ _ refl refl)
 
   moved-off : (p : ℕ) → Off (moved p k)
@@ -325,16 +325,16 @@ one-of : (b : Bool) (x y : ℕ) → Late x → Late y → Late (if b then x else
 one-of b x y h k = by-test Late b x y (λ (e : b ≡ true). h) (λ (e : b ≡ false). k)
 
 module _ (k : ℕ) where
-  late-section : Late (inSection k)
-  unfolding inSection
+  late-section : Late (leadsInSection k)
+  unfolding leadsInSection
   late-section = one-of (opensMatrix k) _ _ matrix (one-of (eqb k endIcmSection) _ _ after dead)
 
-  late-matrix : Late (inMatrix k)
-  unfolding inMatrix
+  late-matrix : Late (leadsInMatrix k)
+  unfolding leadsInMatrix
   late-matrix = one-of (keepsMatrix k) _ _ matrix late-section
 
-  late-family : Late (afterFamily k)
-  unfolding afterFamily
+  late-family : Late (leadsAfterFamily k)
+  unfolding leadsAfterFamily
   late-family = one-of (eqb k beginIcmSection) _ _ head (one-of (eqb k theEnd) _ _ done dead)
 
   late-head : Late (if eqb k derivationMethod then place.section else place.dead)

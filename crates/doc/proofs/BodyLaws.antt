@@ -35,8 +35,8 @@ use Rattle.line_place.specs.Place.{
   moved,
   movedByLine,
   isText,
-  inSection,
-  inMatrix,
+  leadsInSection,
+  leadsInMatrix,
   isInModel,
   isInFamily,
   isInHeader,
@@ -221,14 +221,14 @@ pub row-onward :
     (argument : List ℕ) (s : State) → s .place ≡ place.matrix →
     Onward (keywordNext row argument s) (s .section .conductors) (withRow (wholeOf argument .value) (s .matrix) (s .counts .values))
     (s .counts .values)
-unfolding keywordNext moved inMatrix sectionAfter conductorsAfter matrixAfter countsAfter keepsMatrix opensMatrix either if_then_else_
+unfolding keywordNext moved leadsInMatrix sectionAfter conductorsAfter matrixAfter countsAfter keepsMatrix opensMatrix either if_then_else_
 row-onward argument s p = record { place = rw p; conductors = rw p; matrix = refl; values = refl }
 
 pub width-onward :
     (argument : List ℕ) (s : State) → s .place ≡ place.matrix →
     Onward (keywordNext bandwidth argument s) (s .section .conductors) (withBandwidth (wholeOf argument .value) (s .matrix))
     (s .counts .values)
-unfolding keywordNext moved inMatrix sectionAfter conductorsAfter matrixAfter countsAfter keepsMatrix opensMatrix either if_then_else_
+unfolding keywordNext moved leadsInMatrix sectionAfter conductorsAfter matrixAfter countsAfter keepsMatrix opensMatrix either if_then_else_
 width-onward argument s p = record { place = rw p; conductors = rw p; matrix = refl; values = refl }
 
 -- a keyword that opens a matrix is none of the others
@@ -244,8 +244,8 @@ module _ (k : ℕ) (opens : opensMatrix k ≡ true) where
   unfolding opensMatrix either
   opens-method = kind-other k opens derivationMethod refl
 
-  open-leads : inSection k ≡ place.matrix
-  unfolding inSection
+  open-leads : leadsInSection k ≡ place.matrix
+  unfolding leadsInSection
   open-leads = if-true _ _ opens
 
   module _ (argument : List ℕ) (s : State) where
@@ -263,7 +263,7 @@ module _ (k : ℕ) (opens : opensMatrix k ≡ true) where
 
     module _ (p : s .place ≡ place.matrix) where
       next-place : keywordNext k argument s .place ≡ place.matrix
-      unfolding keywordNext moved inMatrix
+      unfolding keywordNext moved leadsInMatrix
       next-place = if-true _ _ (eq-eqb _ _ p) ∙ if-false _ _ (opens-closes k opens) ∙ open-leads
 
       next-conductors : conductorsAfter k s ≡ shapeConductors (s .matrix) (s .counts .values)
@@ -322,8 +322,8 @@ pub data SectionKey (k : ℕ) : Type 0 where
   opens : opensMatrix k ≡ true → SectionKey k
   leaves : k ≡ endIcmSection → SectionKey k
 
-pub section-key : (k : ℕ) → (inSection k ≡ dead → ⊥) → SectionKey k
-unfolding inSection
+pub section-key : (k : ℕ) → (leadsInSection k ≡ dead → ⊥) → SectionKey k
+unfolding leadsInSection
 section-key k h =
     by-cases (SectionKey k) (opensMatrix k) (λ (e : opensMatrix k ≡ true). SectionKey.opens e)
     (λ (e : opensMatrix k ≡ false).
@@ -334,26 +334,26 @@ matrix-else : (k : ℕ) → SectionKey k → MatrixKey k
 matrix-else k (SectionKey.opens h) = MatrixKey.opens h
 matrix-else k (SectionKey.leaves h) = MatrixKey.leaves h
 
-pub matrix-key : (k : ℕ) → (inMatrix k ≡ dead → ⊥) → MatrixKey k
-unfolding inMatrix keepsMatrix
+pub matrix-key : (k : ℕ) → (leadsInMatrix k ≡ dead → ⊥) → MatrixKey k
+unfolding leadsInMatrix keepsMatrix
 matrix-key k h =
     by-cases (MatrixKey k) (eqb k row) (λ (e : eqb k row ≡ true). isRow (eqb-true _ _ e))
     (λ (e : eqb k row ≡ false).
     by-cases (MatrixKey k) (eqb k bandwidth) (λ (f : eqb k bandwidth ≡ true). isWidth (eqb-true _ _ f))
     (λ (f : eqb k bandwidth ≡ false).
-    matrix-else k (section-key k (λ (g : inSection k ≡ dead). h (if-false _ _ (either-false _ _ e f) ∙ g)))))
+    matrix-else k (section-key k (λ (g : leadsInSection k ≡ dead). h (if-false _ _ (either-false _ _ e f) ∙ g)))))
 
 pub matrix-leads :
-    (k : ℕ) (argument : List ℕ) (s : State) → keywordRule k argument s ≡ 0 → s .place ≡ place.matrix → inMatrix k ≡ dead → ⊥
+    (k : ℕ) (argument : List ℕ) (s : State) → keywordRule k argument s ≡ 0 → s .place ≡ place.matrix → leadsInMatrix k ≡ dead → ⊥
 unfolding moved
 matrix-leads k argument s kept p e = keyword-leads k argument s kept (if-true _ _ (eq-eqb _ _ p) ∙ e)
 
 pub section-leads :
-    (k : ℕ) (argument : List ℕ) (s : State) → keywordRule k argument s ≡ 0 → s .place ≡ place.section → inSection k ≡ dead → ⊥
+    (k : ℕ) (argument : List ℕ) (s : State) → keywordRule k argument s ≡ 0 → s .place ≡ place.section → leadsInSection k ≡ dead → ⊥
 unfolding moved isInModel isInFamily isInHeader either if_then_else_
 section-leads k argument s kept p e = keyword-leads k argument s kept (rw p e)
 
 -- [End ICM Section] leads out of the section
 pub end-leads : (argument : List ℕ) (s : State) → s .place ≡ place.matrix → keywordNext endIcmSection argument s .place ≡ place.after
-unfolding keywordNext moved inMatrix inSection keepsMatrix opensMatrix either if_then_else_
+unfolding keywordNext moved leadsInMatrix leadsInSection keepsMatrix opensMatrix either if_then_else_
 end-leads argument s p = rw p

@@ -48,14 +48,14 @@ use Rattle.lex_keyword.specs.Names.{
 use Rattle.line_place.specs.Place.{
   opensHeaderText,
   standsInHeader,
-  inHeader,
-  inFamily,
-  inModel,
+  leadsInHeader,
+  leadsInFamily,
+  leadsInModel,
   opensMatrix,
-  inSection,
+  leadsInSection,
   keepsMatrix,
-  inMatrix,
-  afterFamily,
+  leadsInMatrix,
+  leadsAfterFamily,
   isInHeader,
   isInFamily,
   isInModel,
@@ -83,12 +83,12 @@ pub record Elsewhere (p : ℕ) : Type 0 where
 module _ (P : ℕ → Type 0) (p k : ℕ) where
   -- what holds by each place that a keyword is looked up in holds where it leads
   pub record ByPlace : Type 0 where
-    pub matrix : p ≡ place.matrix → P (inMatrix k)
-    pub model : isInModel p ≡ true → P (inModel k)
-    pub family : isInFamily p ≡ true → P (inFamily k)
-    pub header : isInHeader p ≡ true → P (inHeader k)
-    pub section : p ≡ place.section → P (inSection k)
-    pub after : p ≡ place.after → P (afterFamily k)
+    pub matrix : p ≡ place.matrix → P (leadsInMatrix k)
+    pub model : isInModel p ≡ true → P (leadsInModel k)
+    pub family : isInFamily p ≡ true → P (leadsInFamily k)
+    pub header : isInHeader p ≡ true → P (leadsInHeader k)
+    pub section : p ≡ place.section → P (leadsInSection k)
+    pub after : p ≡ place.after → P (leadsAfterFamily k)
     pub opened : p ≡ place.opened → P (if eqb k icmVer then place.header else place.dead)
     pub between : p ≡ place.between → P (if eqb k beginIcmFamily then place.family else place.dead)
     pub sectionHead : p ≡ place.sectionHead → P (if eqb k derivationMethod then place.section else place.dead)
@@ -163,26 +163,26 @@ module _ (P : ℕ → Type 0) (p k : ℕ) where
     pub elsewhere : Elsewhere p → P p
 
   module _ (w : Ways) where
-    section-way : either (eqb p place.section) (eqb p place.matrix) ≡ true → P (inSection k)
-    unfolding inSection
+    section-way : either (eqb p place.section) (eqb p place.matrix) ≡ true → P (leadsInSection k)
+    unfolding leadsInSection
     section-way e =
         by-test P (opensMatrix k) _ _ (w .matrix e)
         (λ (n : opensMatrix k ≡ false). either-way P (eqb k endIcmSection) _ _ (w .after) (w .dead))
 
-    matrix-way : p ≡ place.matrix → P (inMatrix k)
-    unfolding inMatrix
+    matrix-way : p ≡ place.matrix → P (leadsInMatrix k)
+    unfolding leadsInMatrix
     matrix-way e =
         by-test P (keepsMatrix k) _ _ (w .keeps e)
         (λ (n : keepsMatrix k ≡ false). section-way (either-right _ _ (eq-eqb p place.matrix e)))
 
-    model-way : isInModel p ≡ true → P (inModel k)
-    unfolding inModel
+    model-way : isInModel p ≡ true → P (leadsInModel k)
+    unfolding leadsInModel
     model-way e =
         either-way P (eqb k treePathDescription) _ _ (w .path e)
         (either-way P (eqb k icmModelDescription) _ _ (w .modelText e) (either-way P (eqb k endIcmModel) _ _ (w .family) (w .dead)))
 
-    family-way : isInFamily p ≡ true → P (inFamily k)
-    unfolding inFamily
+    family-way : isInFamily p ≡ true → P (leadsInFamily k)
+    unfolding leadsInFamily
     family-way e =
         by-test P (eqb k icmPinMap) _ _ (λ (t : eqb k icmPinMap ≡ true). w .mapHead e (eqb-true _ _ t))
         (λ (n : eqb k icmPinMap ≡ false).
@@ -192,14 +192,14 @@ module _ (P : ℕ → Type 0) (p k : ℕ) where
         (either-way P (eqb k manufacturer) _ _ (w .family)
         (either-way P (eqb k icmModelList) _ _ (w .list) (either-way P (eqb k icmFamilyDescription) _ _ (w .familyText) (w .dead))))))
 
-    header-way : P (inHeader k)
-    unfolding inHeader
+    header-way : P (leadsInHeader k)
+    unfolding leadsInHeader
     header-way =
         either-way P (standsInHeader k) _ _ (w .header)
         (either-way P (opensHeaderText k) _ _ (w .headerText) (either-way P (eqb k endHeader) _ _ (w .between) (w .dead)))
 
-    after-way : p ≡ place.after → P (afterFamily k)
-    unfolding afterFamily
+    after-way : p ≡ place.after → P (leadsAfterFamily k)
+    unfolding leadsAfterFamily
     after-way e =
         by-test P (eqb k beginIcmSection) _ _ (λ (t : eqb k beginIcmSection ≡ true). w .sectionHead e (eqb-true _ _ t))
         (λ (n : eqb k beginIcmSection ≡ false). either-way P (eqb k theEnd) _ _ (w .done) (w .dead))
@@ -474,16 +474,16 @@ foreign n = absurd (n refl)
 
 -- a keyword that leads nowhere but from a section
 record Strange (k : ℕ) : Type 0 where
-  model : inModel k ≡ place.dead
-  family : inFamily k ≡ place.dead
-  header : inHeader k ≡ place.dead
-  after : afterFamily k ≡ place.dead
+  model : leadsInModel k ≡ place.dead
+  family : leadsInFamily k ≡ place.dead
+  header : leadsInHeader k ≡ place.dead
+  after : leadsAfterFamily k ≡ place.dead
   opened : (if eqb k icmVer then place.header else place.dead) ≡ place.dead
   between : (if eqb k beginIcmFamily then place.family else place.dead) ≡ place.dead
   sectionHead : (if eqb k derivationMethod then place.section else place.dead) ≡ place.dead
 
 strange : (k : ℕ) → opensMatrix k ≡ true → Strange k
-unfolding opensMatrix inModel inFamily inHeader afterFamily standsInHeader opensHeaderText either if_then_else_
+unfolding opensMatrix leadsInModel leadsInFamily leadsInHeader leadsAfterFamily standsInHeader opensHeaderText either if_then_else_
 strange k h =
     by-cases (Strange k) (eqb k resistanceMatrix)
     (λ (e : eqb k resistanceMatrix ≡ true).
@@ -506,7 +506,7 @@ strange k h =
 
 module _ (p : ℕ) (looked : Looked p) where
   pub model-stands : (moved p beginIcmModel ≡ place.dead → ⊥) → isInFamily p ≡ true
-  unfolding inMatrix inSection inModel inFamily inHeader afterFamily keepsMatrix opensMatrix standsInHeader opensHeaderText either if_then_else_
+  unfolding leadsInMatrix leadsInSection leadsInModel leadsInFamily leadsInHeader leadsAfterFamily keepsMatrix opensMatrix standsInHeader opensHeaderText either if_then_else_
   model-stands =
       by-place (λ (q : ℕ). (q ≡ place.dead → ⊥) → isInFamily p ≡ true) p beginIcmModel
       (record {
@@ -524,7 +524,7 @@ module _ (p : ℕ) (looked : Looked p) where
       })
 
   pub map-stands : (moved p icmPinMap ≡ place.dead → ⊥) → isInFamily p ≡ true
-  unfolding inMatrix inSection inModel inFamily inHeader afterFamily keepsMatrix opensMatrix standsInHeader opensHeaderText either if_then_else_
+  unfolding leadsInMatrix leadsInSection leadsInModel leadsInFamily leadsInHeader leadsAfterFamily keepsMatrix opensMatrix standsInHeader opensHeaderText either if_then_else_
   map-stands =
       by-place (λ (q : ℕ). (q ≡ place.dead → ⊥) → isInFamily p ≡ true) p icmPinMap
       (record {
@@ -542,7 +542,7 @@ module _ (p : ℕ) (looked : Looked p) where
       })
 
   pub section-stands : (moved p beginIcmSection ≡ place.dead → ⊥) → p ≡ place.after
-  unfolding inMatrix inSection inModel inFamily inHeader afterFamily keepsMatrix opensMatrix standsInHeader opensHeaderText either if_then_else_
+  unfolding leadsInMatrix leadsInSection leadsInModel leadsInFamily leadsInHeader leadsAfterFamily keepsMatrix opensMatrix standsInHeader opensHeaderText either if_then_else_
   section-stands =
       by-place (λ (q : ℕ). (q ≡ place.dead → ⊥) → p ≡ place.after) p beginIcmSection
       (record {

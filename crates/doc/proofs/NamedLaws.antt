@@ -30,7 +30,7 @@ use Rattle.base.proofs.RunLaws.{run-nil, run-cons, run-stops, run-le, all-nil, 
 use Rattle.base.proofs.BrokenLaws.{all-kept}
 use Rattle.lex_line.specs.Lines.{Raw, lines, contentOf, isBlankLine}
 use Rattle.lex_line.specs.Words.{Word, wordGoesOn, grown, wordsFrom, words, firstOf, lastEnd, toEquals, rightOf}
-use Rattle.lex_line.specs.ByteRules.{mostBytes, mostCharacters, withoutReturn, characters, refusedOr, linesRule, byteRules, lineRule as rawRule}
+use Rattle.lex_line.specs.ByteRules.{mostBytes, mostCharacters, withoutReturn, characters, refusedOr, linesRule, byteRules, rawLineRule as rawRule}
 use Rattle.lex_line.specs.declared.Checked.{Checked}
 use Rattle.lex_line.specs.declared.Checked.the-variants.{Fine, Refused}
 use Rattle.lex_keyword.specs.Names.{icmPinMap, beginIcmModel, beginIcmSection}

@@ -35,7 +35,7 @@ use Rattle.lex_keyword.specs.Names.{
   conductanceMatrix,
   capacitanceMatrix,
 }
-use Rattle.line_place.specs.Place.{opensMatrix, keepsMatrix, done, moved, afterFamily, isText, isInModel, isInFamily, isInHeader}
+use Rattle.line_place.specs.Place.{opensMatrix, keepsMatrix, done, moved, leadsAfterFamily, isText, isInModel, isInFamily, isInHeader}
 use Rattle.line_place.specs.Place as place
 use Rattle.line_argument.specs.Argument.{formOf, methodOf, takesNothing, takesFreeText, takesName, isBadForm, isBadArgument}
 use Rattle.line_matrix.specs.Matrix.{newMatrix}
@@ -375,7 +375,7 @@ module _ (argument : List ℕ) (s : State) where
   begin-kinds = kinds-forgotten (s .seen)
 
   begin-leads : s .place ≡ place.after → keywordNext beginIcmSection argument s .place ≡ place.sectionHead
-  unfolding keywordNext moved afterFamily isInModel isInFamily isInHeader either if_then_else_
+  unfolding keywordNext moved leadsAfterFamily isInModel isInFamily isInHeader either if_then_else_
   begin-leads p = rw p
 
   method-kinds : NoKind (s .seen) → NoKind (keywordNext derivationMethod argument s .seen)

@@ -15,7 +15,7 @@ use Rattle.base.specs.Runs.{same}
 use Rattle.base.proofs.IfLaws.{if-true, if-false, by-cases, both-true, both-first, both-second, both-not-left, both-not-right, either-left, either-right, either-false, either-rest, either-none-first, either-none-second}
 use Rattle.lex_line.specs.Words.{words, firstOf}
 use Rattle.lex_keyword.specs.Names.{icmPinMap}
-use Rattle.line_place.specs.Place.{moved, movedByLine, inFamily, isText, isInModel, isInFamily, done}
+use Rattle.line_place.specs.Place.{moved, movedByLine, leadsInFamily, isText, isInModel, isInFamily, done}
 use Rattle.line_place.specs.Place as place
 use Rattle.line_map.specs.PinMap.{mapLineOf, mapRule, mapNext, newMap, isOrdered, pinRule, withPin, pinsLack, isWrongGrid}
 use Rattle.line_map.specs.declared.Map as pin_map
@@ -293,7 +293,7 @@ record Led : Type 0 where
   pins : moved place.pinList icmPinMap ≡ place.mapHead
 
 led : Led
-unfolding moved inFamily isInModel isInFamily either if_then_else_
+unfolding moved leadsInFamily isInModel isInFamily either if_then_else_
 led = record { family = refl; familyText = refl; list = refl; mapHead = refl; pins = refl }
 
 -- "pin maps anywhere outside models"

@@ -222,7 +222,7 @@ isInside p = either (eqb p place.sectionHead) (either (eqb p place.section) (eqb
 
 -- no model and no section begins there
 none-begins : (p : ℕ) → isInside p ≡ true → (moved p beginIcmModel ≡ dead) × (moved p beginIcmSection ≡ dead)
-unfolding moved isInModel isInFamily isInHeader place.inMatrix place.inSection opensMatrix keepsMatrix either if_then_else_
+unfolding moved isInModel isInFamily isInHeader place.leadsInMatrix place.leadsInSection opensMatrix keepsMatrix either if_then_else_
 none-begins p h =
     by-cases ((moved p beginIcmModel ≡ dead) × (moved p beginIcmSection ≡ dead)) (eqb p place.sectionHead)
     (λ (a : eqb p place.sectionHead ≡ true). at place.sectionHead (eqb-true _ _ a) (refl, refl))

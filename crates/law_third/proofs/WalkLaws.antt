@@ -34,7 +34,7 @@ use Rattle.ask_walk.specs.Walk.{
   isDepth,
   kindsBefore,
   isPlace,
-  stepWords,
+  shownWords,
   nextOf,
   walkOver,
   walkOn,
@@ -54,7 +54,7 @@ use Rattle.law_third.proofs.WalkNameLaws.{all-nameless, name-shown, sec
 module _ (t table : List ℕ) (is-sound : isSound t table ≡ true) (p : Place) (inside : isPlace (recordsOf table) p ≡ true) where
   pub answer-on :
       p .step < modelAtPlace (recordsOf table) p .steps →
-      walk.walkAnswer t table p ≡ stepped (stepWords (stepAtPlace (recordsOf table) p)) (nextOf p (stepAtPlace (recordsOf table) p .kind))
+      walk.walkAnswer t table p ≡ stepped (shownWords (stepAtPlace (recordsOf table) p)) (nextOf p (stepAtPlace (recordsOf table) p .kind))
   unfolding walk.walkAnswer walkFrom walkOn walkOver
   answer-on h =
       let n : p .step ≡ modelAtPlace (recordsOf table) p .steps → ⊥ = λ (e : p .step ≡ modelAtPlace (recordsOf table) p .steps). omega arith in
@@ -125,7 +125,7 @@ module _ (t table : List ℕ) (taken : AcceptedTable t table) (before behind : L
   come-on k p h c =
       let q : Place = record { model = i; step = k; depth = c .depth } in
       let l : k < getD (recordsOf table .models) i noModel .steps = rw many h in
-      let goes : walk.walkAnswer t table p ≡ stepped (stepWords (stepAtPlace (recordsOf table) q)) (nextOf q (stepAtPlace (recordsOf table) q .kind)) =
+      let goes : walk.walkAnswer t table p ≡ stepped (shownWords (stepAtPlace (recordsOf table) q)) (nextOf q (stepAtPlace (recordsOf table) q .kind)) =
       ap (walk.walkAnswer t table) (c .is) ∙ answer-on t table (taken-sound t table taken) q (c .inside) l in
       record {
         depth = depthAfter (c .depth) (stepAtPlace (recordsOf table) q .kind);
@@ -206,19 +206,19 @@ module _ (t table : List ℕ) (taken : AcceptedTable t table) (before behind : L
     kept : stepRule d m s ≡ 0
     kept = each-of (m .steps) above below s e (each-of (d .models) before behind m stands (all-steps-kept d (taken-kept t table taken)))
 
-    name-there : nameThrough t (recordsOf table) (stepWords (stepRecord (d .maps) (d .sections) s)) ≡ s .name .text
+    name-there : nameThrough t (recordsOf table) (shownWords (stepRecord (d .maps) (d .sections) s)) ≡ s .name .text
     name-there =
         rw (taken-records t table taken)
         (name-shown t m s kept (each-of (m .steps) above below s e (each-of (d .models) before behind m stands (all-nameless t))))
 
-    side-there : sideOf t (stepWords (stepRecord (d .maps) (d .sections) s)) ≡ s .side .text
+    side-there : sideOf t (shownWords (stepRecord (d .maps) (d .sections) s)) ≡ s .side .text
     unfolding sideOf stepRecord nameAt
     side-there =
         let m-stands : ModelStands t m = each-of (d .models) before behind m stands (all-stand t .models) in
         let s-stands : StepStands t s = each-of (m .steps) above below s e (m-stands .steps) in
         s-stands .side .bytes
 
-    shown-by : (next : Place) → Shown t table s (stepped (stepWords (stepRecord (d .maps) (d .sections) s)) next)
+    shown-by : (next : Place) → Shown t table s (stepped (shownWords (stepRecord (d .maps) (d .sections) s)) next)
     unfolding stepRecord
     shown-by next =
         record {
@@ -237,9 +237,9 @@ module _ (t table : List ℕ) (taken : AcceptedTable t table) (before behind : L
         let l : length above < getD (recordsOf table .models) i noModel .steps = rw many below-end in
         let c : Comes table i (length above) (walkedTo t table i (length above)) = comes (length above) (omega (arith, below-end)) in
         let q : Place = record { model = i; step = length above; depth = c .depth } in
-        let goes : walk.walkAnswer t table (walkedTo t table i (length above)) ≡ stepped (stepWords (stepRecord (d .maps) (d .sections) s)) (nextOf q (stepAtPlace (recordsOf table) q .kind)) =
+        let goes : walk.walkAnswer t table (walkedTo t table i (length above)) ≡ stepped (shownWords (stepRecord (d .maps) (d .sections) s)) (nextOf q (stepAtPlace (recordsOf table) q .kind)) =
         ap (walk.walkAnswer t table) (c .is) ∙ answer-on t table (taken-sound t table taken) q (c .inside) l
-        ∙ ap (λ (x : StepRecord). stepped (stepWords x) (nextOf q (stepAtPlace (recordsOf table) q .kind))) (step-there (c .depth)) in
+        ∙ ap (λ (x : StepRecord). stepped (shownWords x) (nextOf q (stepAtPlace (recordsOf table) q .kind))) (step-there (c .depth)) in
         rw goes (shown-by (nextOf q (stepAtPlace (recordsOf table) q .kind)))
 
   -- the walk from the start of the model, as the demand has it

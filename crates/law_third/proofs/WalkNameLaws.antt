@@ -23,7 +23,7 @@ use Rattle.doc.proofs.StandsLaws.{MapStands, all-stand, each-gather, each-if}
 use Rattle.table_name.specs.Name.{nameAt}
 use Rattle.cross_rules.specs.Rules.{mapIndex, sectionIndex, stepRule}
 use Rattle.law_sound.proofs.CrossLaws.{end-found, section-found}
-use Rattle.ask_walk.specs.Walk.{stepWords}
+use Rattle.ask_walk.specs.Walk.{shownWords}
 use Rattle.ask_entry.specs.Entry as entry
 use Rattle.law_third.specs.Third.{noMap, nameThrough, PassesSection}
 
@@ -176,7 +176,7 @@ module _ (t : List ℕ) (m : Model) (s : Step) (kept : stepRule (documentOf t) m
       section-name t (all-stand t .sections) 0 (sectionIndex d s)
       ∙ found-text (isSectionOf s) (λ (x : Section). x .name .text) (s .name .text) (section-named s) (d .sections) (section-found d m s kept k)
 
-  pub name-shown : nameThrough t (flatten d) (stepWords (stepRecord (d .maps) (d .sections) s)) ≡ s .name .text
+  pub name-shown : nameThrough t (flatten d) (shownWords (stepRecord (d .maps) (d .sections) s)) ≡ s .name .text
   unfolding nameThrough stepRecord targetOf flatten
   name-shown =
       by-test (λ (n : List ℕ). n ≡ s .name .text) (eqb (s .kind) endKind) _ _

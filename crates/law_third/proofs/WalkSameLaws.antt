@@ -56,7 +56,7 @@ use Rattle.ask_walk.specs.Walk.{
   isDepth,
   kindsBefore,
   isPlace,
-  stepWords,
+  shownWords,
   nextOf,
   walkOver,
   walkOn,
@@ -388,12 +388,12 @@ module _ (t table u other : List ℕ) (taken : AcceptedTable t table) (also : Ac
     steps-here : SameStepRecord t u (stepAtPlace r p) (stepAtPlace q p)
     steps-here = step-alike t u (taken-kept t table taken) (taken-kept u other also) alike p
 
-    sides-here : sideOf t (stepWords (stepAtPlace r p)) ≡ sideOf u (stepWords (stepAtPlace q p))
+    sides-here : sideOf t (shownWords (stepAtPlace r p)) ≡ sideOf u (shownWords (stepAtPlace q p))
     unfolding sideOf
     sides-here = steps-here .side
 
     -- with one
-    with-step : SameAnswer t table u other (stepped (stepWords (stepAtPlace r p)) (nextOf p (stepAtPlace r p .kind))) (stepped (stepWords (stepAtPlace q p)) (nextOf p (stepAtPlace q p .kind)))
+    with-step : SameAnswer t table u other (stepped (shownWords (stepAtPlace r p)) (nextOf p (stepAtPlace r p .kind))) (stepped (shownWords (stepAtPlace q p)) (nextOf p (stepAtPlace q p .kind)))
     with-step =
         record {
           answered = refl;
@@ -402,7 +402,7 @@ module _ (t table u other : List ℕ) (taken : AcceptedTable t table) (also : Ac
           kind = steps-here .kind;
           target = steps-here .target;
           amount = steps-here .amount;
-          name = name-too (stepWords (stepAtPlace r p)) (stepWords (stepAtPlace q p)) (steps-here .kind) (steps-here .target);
+          name = name-too (shownWords (stepAtPlace r p)) (shownWords (stepAtPlace q p)) (steps-here .kind) (steps-here .target);
           side = sides-here;
           next = ap (nextOf p) (steps-here .kind);
         }

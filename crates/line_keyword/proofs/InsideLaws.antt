@@ -11,7 +11,7 @@ use Rattle.base.specs.If.{if_then_else_, both, either}
 use Rattle.base.specs.Broken.{first}
 use Rattle.base.proofs.IfLaws.{by-cases, either-rest, either-false}
 use Rattle.lex_keyword.specs.Names.{row, bandwidth}
-use Rattle.line_place.specs.Place.{moved, inMatrix, opensMatrix, keepsMatrix, standsInHeader, opensHeaderText}
+use Rattle.line_place.specs.Place.{moved, leadsInMatrix, opensMatrix, keepsMatrix, standsInHeader, opensHeaderText}
 use Rattle.line_place.specs.Place as place
 use Rattle.line_keyword.specs.declared.State.{State}
 use Rattle.line_keyword.specs.Keywords.{
@@ -72,19 +72,19 @@ goesOn k argument s =
 
 module _ (argument : List ℕ) (s : State) (inside : s .place ≡ place.matrix) where
   row-rule : keywordRule row argument s ≡ keptRule row argument (s .matrix)
-  unfolding keywordRule keptRule first isForkOpen isMisplaced moved inMatrix keepsMatrix isUnclosed isRepeated isOnce standsInHeader opensHeaderText opensMatrix isLacking isShapeBroken isMatrixBroken isPastBound closesTooWide isFull if_then_else_ both either
+  unfolding keywordRule keptRule first isForkOpen isMisplaced moved leadsInMatrix keepsMatrix isUnclosed isRepeated isOnce standsInHeader opensHeaderText opensMatrix isLacking isShapeBroken isMatrixBroken isPastBound closesTooWide isFull if_then_else_ both either
   row-rule = rw inside
 
   bandwidth-rule : keywordRule bandwidth argument s ≡ keptRule bandwidth argument (s .matrix)
-  unfolding keywordRule keptRule first isForkOpen isMisplaced moved inMatrix keepsMatrix isUnclosed isRepeated isOnce standsInHeader opensHeaderText opensMatrix isLacking isShapeBroken isMatrixBroken isPastBound closesTooWide isFull if_then_else_ both either
+  unfolding keywordRule keptRule first isForkOpen isMisplaced moved leadsInMatrix keepsMatrix isUnclosed isRepeated isOnce standsInHeader opensHeaderText opensMatrix isLacking isShapeBroken isMatrixBroken isPastBound closesTooWide isFull if_then_else_ both either
   bandwidth-rule = rw inside
 
   row-next : keywordNext row argument s ≡ goesOn row argument s
-  unfolding keywordNext keptNext moved inMatrix keepsMatrix opensMatrix seenAfter headAfter pathAfter mapAfter sectionAfter conductorsAfter matrixAfter countsAfter oneMoreIf if_then_else_ either
+  unfolding keywordNext keptNext moved leadsInMatrix keepsMatrix opensMatrix seenAfter headAfter pathAfter mapAfter sectionAfter conductorsAfter matrixAfter countsAfter oneMoreIf if_then_else_ either
   row-next = rw inside
 
   bandwidth-next : keywordNext bandwidth argument s ≡ goesOn bandwidth argument s
-  unfolding keywordNext keptNext moved inMatrix keepsMatrix opensMatrix seenAfter headAfter pathAfter mapAfter sectionAfter conductorsAfter matrixAfter countsAfter oneMoreIf if_then_else_ either
+  unfolding keywordNext keptNext moved leadsInMatrix keepsMatrix opensMatrix seenAfter headAfter pathAfter mapAfter sectionAfter conductorsAfter matrixAfter countsAfter oneMoreIf if_then_else_ either
   bandwidth-next = rw inside
 
   module _ (k : ℕ) (keeps : keepsMatrix k ≡ true) where

@@ -131,15 +131,15 @@ opensHeaderText k =
 unfoldable pub standsInHeader : ℕ → Bool
 standsInHeader k = either (eqb k fileName) (either (eqb k fileRev) (either (eqb k date) (eqb k redistribution)))
 
-unfoldable pub inHeader : ℕ → ℕ
-inHeader k =
+unfoldable pub leadsInHeader : ℕ → ℕ
+leadsInHeader k =
     if standsInHeader k then header else
     if opensHeaderText k then headerText else
     if eqb k endHeader then between else dead
 
 -- "Family: [Manufacturer] and [ICM Model List] .. pin maps anywhere outside models"
-unfoldable pub inFamily : ℕ → ℕ
-inFamily k =
+unfoldable pub leadsInFamily : ℕ → ℕ
+leadsInFamily k =
     if eqb k icmPinMap then mapHead else
     if eqb k beginIcmModel then head else
     if eqb k endIcmFamily then after else
@@ -148,8 +148,8 @@ inFamily k =
     if eqb k icmFamilyDescription then familyText else dead
 
 -- "Model: .. Then [Tree Path Description] once, [ICM Model Description] at most once"
-unfoldable pub inModel : ℕ → ℕ
-inModel k =
+unfoldable pub leadsInModel : ℕ → ℕ
+leadsInModel k =
     if eqb k treePathDescription then path else
     if eqb k icmModelDescription then modelText else
     if eqb k endIcmModel then family else dead
@@ -160,18 +160,18 @@ opensMatrix k =
     either (eqb k resistanceMatrix)
     (either (eqb k inductanceMatrix) (either (eqb k conductanceMatrix) (eqb k capacitanceMatrix)))
 
-unfoldable pub inSection : ℕ → ℕ
-inSection k = if opensMatrix k then matrix else if eqb k endIcmSection then after else dead
+unfoldable pub leadsInSection : ℕ → ℕ
+leadsInSection k = if opensMatrix k then matrix else if eqb k endIcmSection then after else dead
 
 -- the keywords that end no matrix
 unfoldable pub keepsMatrix : ℕ → Bool
 keepsMatrix k = either (eqb k row) (eqb k bandwidth)
 
-unfoldable pub inMatrix : ℕ → ℕ
-inMatrix k = if keepsMatrix k then matrix else inSection k
+unfoldable pub leadsInMatrix : ℕ → ℕ
+leadsInMatrix k = if keepsMatrix k then matrix else leadsInSection k
 
-unfoldable pub afterFamily : ℕ → ℕ
-afterFamily k = if eqb k beginIcmSection then sectionHead else if eqb k theEnd then done else dead
+unfoldable pub leadsAfterFamily : ℕ → ℕ
+leadsAfterFamily k = if eqb k beginIcmSection then sectionHead else if eqb k theEnd then done else dead
 
 -- "A path, map or list closes at the next keyword", and so does a text block: all that may stand in the block around it may follow
 unfoldable pub isInHeader : ℕ → Bool
@@ -187,12 +187,12 @@ isInModel p = either (eqb p head) (either (eqb p path) (eqb p modelText))
 -- where the keyword k leads from the place p
 unfoldable pub moved : ℕ → ℕ → ℕ
 moved p k =
-    if eqb p matrix then inMatrix k else
-    if isInModel p then inModel k else
-    if isInFamily p then inFamily k else
-    if isInHeader p then inHeader k else
-    if eqb p section then inSection k else
-    if eqb p after then afterFamily k else
+    if eqb p matrix then leadsInMatrix k else
+    if isInModel p then leadsInModel k else
+    if isInFamily p then leadsInFamily k else
+    if isInHeader p then leadsInHeader k else
+    if eqb p section then leadsInSection k else
+    if eqb p after then leadsAfterFamily k else
     if eqb p opened then (if eqb k icmVer then header else dead) else
     if eqb p between then (if eqb k beginIcmFamily then family else dead) else
     if eqb p sectionHead then (if eqb k derivationMethod then section else dead) else

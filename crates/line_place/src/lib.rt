@@ -4,14 +4,14 @@ ghost use mathlib.Core.Path.{_≡_};
 ghost use Rattle.line_place.specs.Place.{
   opensHeaderText,
   standsInHeader,
-  inHeader,
-  inFamily,
-  inModel,
+  leadsInHeader,
+  leadsInFamily,
+  leadsInModel,
   opensMatrix,
-  inSection,
+  leadsInSection,
   keepsMatrix,
-  inMatrix,
-  afterFamily,
+  leadsInMatrix,
+  leadsAfterFamily,
   isInHeader,
   isInFamily,
   isInModel,
@@ -116,8 +116,8 @@ pub fn stands_in_header(key: u64) -> bool
 }
 
 // Of a keyword in the header, past [ICM Ver].
-fn in_header(key: u64) -> u64
-    ensures { λ r. ⌜ r ≡ inHeader key ⌝ }
+fn leads_in_header(key: u64) -> u64
+    ensures { λ r. ⌜ r ≡ leadsInHeader key ⌝ }
 {
     if stands_in_header(key) {
         return HEADER;
@@ -132,8 +132,8 @@ fn in_header(key: u64) -> u64
 }
 
 // Of a keyword in the family, outside models: "pin maps anywhere outside models".
-fn in_family(key: u64) -> u64
-    ensures { λ r. ⌜ r ≡ inFamily key ⌝ }
+fn leads_in_family(key: u64) -> u64
+    ensures { λ r. ⌜ r ≡ leadsInFamily key ⌝ }
 {
     if key == lex_keyword::ICM_PIN_MAP {
         return MAP_HEAD;
@@ -157,8 +157,8 @@ fn in_family(key: u64) -> u64
 }
 
 // Of a keyword in a model: "Then [Tree Path Description] once, [ICM Model Description] at most once".
-fn in_model(key: u64) -> u64
-    ensures { λ r. ⌜ r ≡ inModel key ⌝ }
+fn leads_in_model(key: u64) -> u64
+    ensures { λ r. ⌜ r ≡ leadsInModel key ⌝ }
 {
     if key == lex_keyword::TREE_PATH_DESCRIPTION {
         return PATH;
@@ -189,8 +189,8 @@ pub fn opens_matrix(key: u64) -> bool
 }
 
 // Of a keyword in a section, past [Derivation Method].
-fn in_section(key: u64) -> u64
-    ensures { λ r. ⌜ r ≡ inSection key ⌝ }
+fn leads_in_section(key: u64) -> u64
+    ensures { λ r. ⌜ r ≡ leadsInSection key ⌝ }
 {
     if opens_matrix(key) {
         return MATRIX;
@@ -211,18 +211,18 @@ pub fn keeps_matrix(key: u64) -> bool
     key == lex_keyword::BANDWIDTH
 }
 
-fn in_matrix(key: u64) -> u64
-    ensures { λ r. ⌜ r ≡ inMatrix key ⌝ }
+fn leads_in_matrix(key: u64) -> u64
+    ensures { λ r. ⌜ r ≡ leadsInMatrix key ⌝ }
 {
     if keeps_matrix(key) {
         return MATRIX;
     }
-    in_section(key)
+    leads_in_section(key)
 }
 
 // Of a keyword after [End ICM Family], outside sections.
-fn after_family(key: u64) -> u64
-    ensures { λ r. ⌜ r ≡ afterFamily key ⌝ }
+fn leads_after_family(key: u64) -> u64
+    ensures { λ r. ⌜ r ≡ leadsAfterFamily key ⌝ }
 {
     if key == lex_keyword::BEGIN_ICM_SECTION {
         return SECTION_HEAD;
@@ -278,22 +278,22 @@ pub fn moved(place: u64, key: u64) -> u64
     ensures { λ r. ⌜ r ≡ moved place key ⌝ }
 {
     if place == MATRIX {
-        return in_matrix(key);
+        return leads_in_matrix(key);
     }
     if is_in_model(place) {
-        return in_model(key);
+        return leads_in_model(key);
     }
     if is_in_family(place) {
-        return in_family(key);
+        return leads_in_family(key);
     }
     if is_in_header(place) {
-        return in_header(key);
+        return leads_in_header(key);
     }
     if place == SECTION {
-        return in_section(key);
+        return leads_in_section(key);
     }
     if place == AFTER {
-        return after_family(key);
+        return leads_after_family(key);
     }
     if place == OPENED {
         if key == lex_keyword::ICM_VER {

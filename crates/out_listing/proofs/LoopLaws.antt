@@ -11,7 +11,7 @@ use Rattle.table_layout.specs.Layout.{matrices, values}
 use Rattle.out_text.specs.Written.{Written}
 use Rattle.out_text.proofs.WrittenLaws.{Rest, rest-starts, rest-on, rest-done}
 use Rattle.out_listing.specs.Fields.{partCount, fieldOf, kindIn, ownerOf, valuesIn}
-use Rattle.out_listing.specs.Listing.{listedFrom, valueLine, matrixText}
+use Rattle.out_listing.specs.Listing.{listedFrom, listedValue, matrixText}
 use Rattle.out_listing.proofs.FieldLaws.{values-few}
 
 lines-cons : (line : ℕ → List ℕ) (left i : ℕ) → 0 < left → listedFrom line left i ≡ line i ++ listedFrom line (left - 1) (i + 1)
@@ -43,7 +43,7 @@ module _ (line : ℕ → List ℕ) (out₀ : List ℕ) (at : ℕ) (whole out : L
 -- those that are left lie in the table
 pub record ValuesLeft (t table out₀ : List ℕ) (at matrix : ℕ) (out : List ℕ) (next section kind value left : ℕ) : Type 0 where
   pub room : left ≤ partCount table values - value
-  pub rest : Rest out₀ at (matrixText t table matrix) out next (listedFrom (valueLine t table section kind) left value)
+  pub rest : Rest out₀ at (matrixText t table matrix) out next (listedFrom (listedValue t table section kind) left value)
 
 pub values-start : (t table out : List ℕ) (at matrix next section kind value left : ℕ) → next ≡ min at (length out) → section ≡ ownerOf table matrix →
     kind ≡ kindIn table matrix section → value ≡ fieldOf table matrices matrix 2 → left ≡ valuesIn table matrix →
@@ -51,8 +51,8 @@ pub values-start : (t table out : List ℕ) (at matrix next section kind value l
 unfolding matrixText valuesIn
 values-start t table out at matrix next section kind value left e is-section is-kind is-value is-left =
     let k : kind ≡ kindIn table matrix (ownerOf table matrix) = is-kind ∙ ap (kindIn table matrix) is-section in
-    let whole : listedFrom (valueLine t table section kind) left value ≡ matrixText t table matrix =
-    λ j. listedFrom (valueLine t table (is-section j) (k j)) (is-left j) (is-value j) in
+    let whole : listedFrom (listedValue t table section kind) left value ≡ matrixText t table matrix =
+    λ j. listedFrom (listedValue t table (is-section j) (k j)) (is-left j) (is-value j) in
     record {
       room = omega arith;
       rest = rw whole (rest-starts out at (matrixText t table matrix) next e);
@@ -61,7 +61,7 @@ values-start t table out at matrix next section kind value left e is-section is-
 module _ (t table out₀ : List ℕ) (at matrix : ℕ) (out : List ℕ) (next section kind value left : ℕ)
     (s : ValuesLeft t table out₀ at matrix out next section kind value left) where
   pub values-done : left ≤ 0 → Written out₀ out at next (matrixText t table matrix)
-  values-done h = lines-done (valueLine t table section kind) out₀ at (matrixText t table matrix) out next left value (s .rest) h
+  values-done h = lines-done (listedValue t table section kind) out₀ at (matrixText t table matrix) out next left value (s .rest) h
 
   pub value-fits : 0 < left → Fits w64 (value + 1)
   value-fits h =
@@ -69,11 +69,11 @@ module _ (t table out₀ : List ℕ) (at matrix : ℕ) (out : List ℕ) (next se
       let f : partCount table values ≤ 65_536 = values-few table in
       omega arith
 
-  pub values-on : 0 < left → (out' : List ℕ) (next' : ℕ) → Written out out' next next' (valueLine t table section kind value) →
+  pub values-on : 0 < left → (out' : List ℕ) (next' : ℕ) → Written out out' next next' (listedValue t table section kind value) →
       ValuesLeft t table out₀ at matrix out' next' section kind (value + 1) (left - 1)
   values-on h out' next' w =
       let r : left ≤ partCount table values - value = s .room in
       record {
         room = omega arith;
-        rest = lines-on (valueLine t table section kind) out₀ at (matrixText t table matrix) out next left value (s .rest) h out' next' w;
+        rest = lines-on (listedValue t table section kind) out₀ at (matrixText t table matrix) out next left value (s .rest) h out' next' w;
       }

@@ -19,14 +19,14 @@ use Rattle.out_listing.specs.Listing.{
   typeText,
   methodText,
   listedFrom,
-  nameIn,
-  modelLine,
-  sideIn,
-  endLine,
+  listedName,
+  listedModel,
+  listedSide,
+  listedEnd,
   amountText,
-  sectionStepLine,
-  sectionLine,
-  recordLine,
+  listedSectionStep,
+  listedSection,
+  listedRecord,
   partText,
   matrixText,
   valuesText,
@@ -68,55 +68,55 @@ module _ (t table a b : List ℕ) (at next i after start size : ℕ) (name : Lis
   named from long e f = written-is (ap (λ (l : List ℕ). l ++ (after ∷ [])) (told ∙ (λ k. nameAt t (e k) (f k)))) w
 
   pub name-written : (part : ℕ) → start ≡ fieldOf table part i 0 → size ≡ fieldOf table part i 1 →
-      Written a b at next (nameIn t table part i ++ (after ∷ []))
-  unfolding nameIn
+      Written a b at next (listedName t table part i ++ (after ∷ []))
+  unfolding listedName
   name-written part e f = named (fieldOf table part i 0) (fieldOf table part i 1) e f
 
-  pub side-written : start ≡ fieldOf table steps i 3 → size ≡ fieldOf table steps i 4 → Written a b at next (sideIn t table i ++ (after ∷ []))
-  unfolding sideIn
+  pub side-written : start ≡ fieldOf table steps i 3 → size ≡ fieldOf table steps i 4 → Written a b at next (listedSide t table i ++ (after ∷ []))
+  unfolding listedSide
   side-written e f = named (fieldOf table steps i 3) (fieldOf table steps i 4) e f
 
 -- ---- lines
 
 module _ (t table : List ℕ) (i : ℕ) (a b c d : List ℕ) (at m n o : ℕ) where
-  pub model-written : (type : ℕ) → Written a b at m (nameIn t table models i ++ (space ∷ [])) → Written b c m n (typeText type ++ (space ∷ [])) →
+  pub model-written : (type : ℕ) → Written a b at m (listedName t table models i ++ (space ∷ [])) → Written b c m n (typeText type ++ (space ∷ [])) →
       Written c d n o (decimal (fieldOf table models i 4) ++ (lineFeed ∷ [])) → type ≡ fieldOf table models i 2 →
-      Written a d at o (modelLine t table i)
-  unfolding modelLine
+      Written a d at o (listedModel t table i)
+  unfolding listedModel
   model-written type first second third told =
       line-three a b c d at m n o _ _ _ first (written-is (ap (λ (k : ℕ). typeText k ++ (space ∷ [])) told) second) third
 
-  pub section-written : (method : ℕ) → Written a b at m (nameIn t table sections i ++ (space ∷ [])) →
+  pub section-written : (method : ℕ) → Written a b at m (listedName t table sections i ++ (space ∷ [])) →
       Written b c m n (methodText method ++ (space ∷ [])) → Written c d n o (decimal (fieldOf table sections i 3) ++ (lineFeed ∷ [])) →
-      method ≡ fieldOf table sections i 2 → Written a d at o (sectionLine t table i)
-  unfolding sectionLine
+      method ≡ fieldOf table sections i 2 → Written a d at o (listedSection t table i)
+  unfolding listedSection
   section-written method first second third told =
       line-three a b c d at m n o _ _ _ first (written-is (ap (λ (k : ℕ). methodText k ++ (space ∷ [])) told) second) third
 
   module _ (map size : ℕ) (is-map : map ≡ fieldOf table steps i 1) (is-size : size ≡ fieldOf table steps i 4)
       (first : Written a b at m (bytes "end" ++ (space ∷ []))) (second : Written b c m n (decimal (fieldOf table steps i 5) ++ (space ∷ []))) where
-    pub end-written : size ≡ 0 → Written c d n o (nameIn t table maps map ++ (lineFeed ∷ [])) → Written a d at o (endLine t table i)
-    unfolding endLine
+    pub end-written : size ≡ 0 → Written c d n o (listedName t table maps map ++ (lineFeed ∷ [])) → Written a d at o (listedEnd t table i)
+    unfolding listedEnd
     end-written e third =
         written-is (sym (if-true _ _ (eq-eqb (fieldOf table steps i 4) 0 (sym is-size ∙ e))))
-        (line-three a b c d at m n o (bytes "end") _ _ first second (written-is (ap (λ (k : ℕ). nameIn t table maps k ++ (lineFeed ∷ [])) is-map) third))
+        (line-three a b c d at m n o (bytes "end") _ _ first second (written-is (ap (λ (k : ℕ). listedName t table maps k ++ (lineFeed ∷ [])) is-map) third))
 
-    pub end-with-side : (size ≡ 0 → ⊥) → Written c d n o (nameIn t table maps map ++ (space ∷ [])) → (e : List ℕ) (p : ℕ) →
-        Written d e o p (sideIn t table i ++ (lineFeed ∷ [])) → Written a e at p (endLine t table i)
-    unfolding endLine
+    pub end-with-side : (size ≡ 0 → ⊥) → Written c d n o (listedName t table maps map ++ (space ∷ [])) → (e : List ℕ) (p : ℕ) →
+        Written d e o p (listedSide t table i ++ (lineFeed ∷ [])) → Written a e at p (listedEnd t table i)
+    unfolding listedEnd
     end-with-side f third e p fourth =
         written-is (sym (if-false _ _ (ne-eqb (fieldOf table steps i 4) 0 (λ (k : fieldOf table steps i 4 ≡ 0). f (is-size ∙ k)))))
         (line-four a b c d e at m n o p (bytes "end") _ _ _ first second
-        (written-is (ap (λ (k : ℕ). nameIn t table maps k ++ (space ∷ [])) is-map) third) fourth)
+        (written-is (ap (λ (k : ℕ). listedName t table maps k ++ (space ∷ [])) is-map) third) fourth)
 
   pub section-step-written : (section : ℕ) → Written a b at m (bytes "section" ++ (space ∷ [])) →
-      Written b c m n (decimal (fieldOf table steps i 5) ++ (space ∷ [])) → Written c d n o (nameIn t table sections section ++ (space ∷ [])) →
+      Written b c m n (decimal (fieldOf table steps i 5) ++ (space ∷ [])) → Written c d n o (listedName t table sections section ++ (space ∷ [])) →
       (e : List ℕ) (p : ℕ) → Written d e o p (amountText table i ++ (lineFeed ∷ [])) → section ≡ fieldOf table steps i 1 →
-      Written a e at p (sectionStepLine t table i)
-  unfolding sectionStepLine
+      Written a e at p (listedSectionStep t table i)
+  unfolding listedSectionStep
   section-step-written section first second third e p fourth told =
       line-four a b c d e at m n o p (bytes "section") _ _ _ first second
-      (written-is (ap (λ (k : ℕ). nameIn t table sections k ++ (space ∷ [])) told) third) fourth
+      (written-is (ap (λ (k : ℕ). listedName t table sections k ++ (space ∷ [])) told) third) fourth
 
 module _ (table a b : List ℕ) (at next i section method after : ℕ) (is-section : section ≡ fieldOf table steps i 1)
     (is-method : method ≡ fieldOf table sections section 2) where
@@ -138,10 +138,10 @@ module _ (table a b : List ℕ) (at next i section method after : ℕ) (is-secti
 
 module _ (t table a b c : List ℕ) (at m n count : ℕ) where
   pub part-written : (name : List ℕ) (part : ℕ) → Written a b at m (lineOf (name ∷ decimal count ∷ [])) →
-      Written b c m n (listedFrom (recordLine t table part) count 0) → count ≡ partCount table part → Written a c at n (partText t table name part)
+      Written b c m n (listedFrom (listedRecord t table part) count 0) → count ≡ partCount table part → Written a c at n (partText t table name part)
   unfolding partText
   part-written name part head lines told =
-      written-is (ap (λ (k : ℕ). lineOf (name ∷ decimal k ∷ []) ++ listedFrom (recordLine t table part) k 0) told)
+      written-is (ap (λ (k : ℕ). lineOf (name ∷ decimal k ∷ []) ++ listedFrom (listedRecord t table part) k 0) told)
       (written-more a b at m _ head c n _ lines)
 
   pub values-written : (matrices : ℕ) → Written a b at m (lineOf (bytes "values" ∷ decimal count ∷ [])) →

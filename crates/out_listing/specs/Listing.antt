@@ -44,47 +44,47 @@ amountText table i =
 
 module _ (t table : List ℕ) where
   -- the name that a record opens with
-  unfoldable pub nameIn : ℕ → ℕ → List ℕ
-  nameIn part i = nameAt t (fieldOf table part i 0) (fieldOf table part i 1)
+  unfoldable pub listedName : ℕ → ℕ → List ℕ
+  listedName part i = nameAt t (fieldOf table part i 0) (fieldOf table part i 1)
 
   -- ---- a line for each record: fields by their order in the record
 
-  unfoldable pub modelLine : ℕ → List ℕ
-  modelLine i = lineOf (nameIn models i ∷ typeText (fieldOf table models i 2) ∷ decimal (fieldOf table models i 4) ∷ [])
+  unfoldable pub listedModel : ℕ → List ℕ
+  listedModel i = lineOf (listedName models i ∷ typeText (fieldOf table models i 2) ∷ decimal (fieldOf table models i 4) ∷ [])
 
-  unfoldable pub sideIn : ℕ → List ℕ
-  sideIn i = nameAt t (fieldOf table steps i 3) (fieldOf table steps i 4)
+  unfoldable pub listedSide : ℕ → List ℕ
+  listedSide i = nameAt t (fieldOf table steps i 3) (fieldOf table steps i 4)
 
   -- "then amount .. or Side": the last field, if there is one (G3 of docs/DECISIONS.md)
-  unfoldable pub endLine : ℕ → List ℕ
-  endLine i =
+  unfoldable pub listedEnd : ℕ → List ℕ
+  listedEnd i =
       if eqb (fieldOf table steps i 4) 0
-      then lineOf (bytes "end" ∷ decimal (fieldOf table steps i 5) ∷ nameIn maps (fieldOf table steps i 1) ∷ [])
-      else lineOf (bytes "end" ∷ decimal (fieldOf table steps i 5) ∷ nameIn maps (fieldOf table steps i 1) ∷ sideIn i ∷ [])
+      then lineOf (bytes "end" ∷ decimal (fieldOf table steps i 5) ∷ listedName maps (fieldOf table steps i 1) ∷ [])
+      else lineOf (bytes "end" ∷ decimal (fieldOf table steps i 5) ∷ listedName maps (fieldOf table steps i 1) ∷ listedSide i ∷ [])
 
-  unfoldable pub sectionStepLine : ℕ → List ℕ
-  sectionStepLine i =
-      lineOf (bytes "section" ∷ decimal (fieldOf table steps i 5) ∷ nameIn sections (fieldOf table steps i 1) ∷ amountText table i ∷ [])
+  unfoldable pub listedSectionStep : ℕ → List ℕ
+  listedSectionStep i =
+      lineOf (bytes "section" ∷ decimal (fieldOf table steps i 5) ∷ listedName sections (fieldOf table steps i 1) ∷ amountText table i ∷ [])
 
-  unfoldable pub stepLine : ℕ → List ℕ
-  stepLine i =
-      if eqb (fieldOf table steps i 0) endKind then endLine i else
-      if eqb (fieldOf table steps i 0) sectionKind then sectionStepLine i else
+  unfoldable pub listedStep : ℕ → List ℕ
+  listedStep i =
+      if eqb (fieldOf table steps i 0) endKind then listedEnd i else
+      if eqb (fieldOf table steps i 0) sectionKind then listedSectionStep i else
       if eqb (fieldOf table steps i 0) forkKind then lineOf (bytes "fork" ∷ decimal (fieldOf table steps i 5) ∷ []) else
       lineOf (bytes "endfork" ∷ decimal (fieldOf table steps i 5) ∷ [])
 
-  unfoldable pub mapLine : ℕ → List ℕ
-  mapLine i = lineOf (nameIn maps i ∷ decimal (fieldOf table maps i 6) ∷ [])
+  unfoldable pub listedMap : ℕ → List ℕ
+  listedMap i = lineOf (listedName maps i ∷ decimal (fieldOf table maps i 6) ∷ [])
 
-  unfoldable pub sectionLine : ℕ → List ℕ
-  sectionLine i =
-      lineOf (nameIn sections i ∷ methodText (fieldOf table sections i 2) ∷ decimal (fieldOf table sections i 3) ∷ [])
+  unfoldable pub listedSection : ℕ → List ℕ
+  listedSection i =
+      lineOf (listedName sections i ∷ methodText (fieldOf table sections i 2) ∷ decimal (fieldOf table sections i 3) ∷ [])
 
   -- the value numbered v, of a kind of the section numbered i
-  unfoldable pub valueLine : ℕ → ℕ → ℕ → List ℕ
-  valueLine i kind v =
+  unfoldable pub listedValue : ℕ → ℕ → ℕ → List ℕ
+  listedValue i kind v =
       lineOf
-      (nameIn sections i
+      (listedName sections i
       ∷ kindText kind
       ∷ decimal (fieldOf table values v 0)
       ∷ decimal (fieldOf table values v 1)
@@ -93,21 +93,21 @@ module _ (t table : List ℕ) where
 
   -- ---- all of them
 
-  unfoldable pub recordLine : ℕ → ℕ → List ℕ
-  recordLine part i =
-      if eqb part models then modelLine i else
-      if eqb part steps then stepLine i else
-      if eqb part maps then mapLine i else sectionLine i
+  unfoldable pub listedRecord : ℕ → ℕ → List ℕ
+  listedRecord part i =
+      if eqb part models then listedModel i else
+      if eqb part steps then listedStep i else
+      if eqb part maps then listedMap i else listedSection i
 
   -- a part: its name and count, then its lines
   unfoldable pub partText : List ℕ → ℕ → List ℕ
   partText name part =
-      lineOf (name ∷ decimal (partCount table part) ∷ []) ++ listedFrom (recordLine part) (partCount table part) 0
+      lineOf (name ∷ decimal (partCount table part) ∷ []) ++ listedFrom (listedRecord part) (partCount table part) 0
 
   -- the values of the matrix numbered j
   unfoldable pub matrixText : ℕ → List ℕ
   matrixText j =
-      listedFrom (valueLine (ownerOf table j) (kindIn table j (ownerOf table j))) (valuesIn table j) (fieldOf table matrices j 2)
+      listedFrom (listedValue (ownerOf table j) (kindIn table j (ownerOf table j))) (valuesIn table j) (fieldOf table matrices j 2)
 
   unfoldable pub valuesText : List ℕ
   valuesText =

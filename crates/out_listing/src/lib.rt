@@ -9,7 +9,7 @@ ghost use Rattle.out_text.specs.Printing.{lineOf, decimal, valueText};
 ghost use Rattle.out_text.specs.Written.{Written};
 ghost use Rattle.table_layout.specs.Layout.{sections};
 ghost use Rattle.out_listing.specs.Fields.{partCount, fieldOf, kindIn, ownerOf, valuesIn};
-ghost use Rattle.out_listing.specs.Listing.{typeText, methodText, kindText, listedFrom, nameIn, modelLine, sideIn, endLine, amountText, sectionStepLine, stepLine, mapLine, sectionLine, valueLine, recordLine, partText, matrixText, valuesText, allPartsText, listing, refusalText};
+ghost use Rattle.out_listing.specs.Listing.{typeText, methodText, kindText, listedFrom, listedName, listedModel, listedSide, listedEnd, amountText, listedSectionStep, listedStep, listedMap, listedSection, listedValue, listedRecord, partText, matrixText, valuesText, allPartsText, listing, refusalText};
 use table_layout::View;
 
 // The kinds of steps.
@@ -99,7 +99,7 @@ fn put_name(
     after: u8,
 ) -> usize
     requires { ⌜ view ≡ viewOf (now table) ⌝ }
-    ensures { λ r. ⌜ Written (now (out .entry)) (now (out .exit)) at r (nameIn (now (text .entry)) (now (table .entry)) part index ++ (after ∷ [])) ⌝ }
+    ensures { λ r. ⌜ Written (now (out .entry)) (now (out .exit)) at r (listedName (now (text .entry)) (now (table .entry)) part index ++ (after ∷ [])) ⌝ }
 {
     let start = field_of(table, view, part, index, 0);
     let size = field_of(table, view, part, index, 1);
@@ -168,7 +168,7 @@ pub fn model_line(
     index: u64,
 ) -> usize
     requires { ⌜ view ≡ viewOf (now table) ⌝ }
-    ensures { λ r. ⌜ Written (now (out .entry)) (now (out .exit)) at r (modelLine (now (text .entry)) (now (table .entry)) index) ⌝ }
+    ensures { λ r. ⌜ Written (now (out .entry)) (now (out .exit)) at r (listedModel (now (text .entry)) (now (table .entry)) index) ⌝ }
 {
     let model_type = field_of(table, view, table_layout::MODELS, index, 2);
     let second = put_name(
@@ -203,7 +203,7 @@ pub fn map_line(
     index: u64,
 ) -> usize
     requires { ⌜ view ≡ viewOf (now table) ⌝ }
-    ensures { λ r. ⌜ Written (now (out .entry)) (now (out .exit)) at r (mapLine (now (text .entry)) (now (table .entry)) index) ⌝ }
+    ensures { λ r. ⌜ Written (now (out .entry)) (now (out .exit)) at r (listedMap (now (text .entry)) (now (table .entry)) index) ⌝ }
 {
     let second = put_name(out, at, text, table, view, table_layout::MAPS, index, b' ');
     put_number(
@@ -227,7 +227,7 @@ pub fn section_line(
     index: u64,
 ) -> usize
     requires { ⌜ view ≡ viewOf (now table) ⌝ }
-    ensures { λ r. ⌜ Written (now (out .entry)) (now (out .exit)) at r (sectionLine (now (text .entry)) (now (table .entry)) index) ⌝ }
+    ensures { λ r. ⌜ Written (now (out .entry)) (now (out .exit)) at r (listedSection (now (text .entry)) (now (table .entry)) index) ⌝ }
 {
     let method = field_of(table, view, table_layout::SECTIONS, index, 2);
     let second = put_name(
@@ -256,7 +256,7 @@ pub fn section_line(
 // The Side of an end.
 fn put_side(out: &mut [u8], at: usize, text: &[u8], table: &[u64], view: View, index: u64) -> usize
     requires { ⌜ view ≡ viewOf (now table) ⌝ }
-    ensures { λ r. ⌜ Written (now (out .entry)) (now (out .exit)) at r (sideIn (now (text .entry)) (now (table .entry)) index ++ (10 ∷ [])) ⌝ }
+    ensures { λ r. ⌜ Written (now (out .entry)) (now (out .exit)) at r (listedSide (now (text .entry)) (now (table .entry)) index ++ (10 ∷ [])) ⌝ }
 {
     let start = field_of(table, view, table_layout::STEPS, index, 3);
     let size = field_of(table, view, table_layout::STEPS, index, 4);
@@ -265,7 +265,7 @@ fn put_side(out: &mut [u8], at: usize, text: &[u8], table: &[u64], view: View, i
 
 fn end_line(out: &mut [u8], at: usize, text: &[u8], table: &[u64], view: View, index: u64) -> usize
     requires { ⌜ view ≡ viewOf (now table) ⌝ }
-    ensures { λ r. ⌜ Written (now (out .entry)) (now (out .exit)) at r (endLine (now (text .entry)) (now (table .entry)) index) ⌝ }
+    ensures { λ r. ⌜ Written (now (out .entry)) (now (out .exit)) at r (listedEnd (now (text .entry)) (now (table .entry)) index) ⌝ }
 {
     let map = field_of(table, view, table_layout::STEPS, index, 1);
     let size = field_of(table, view, table_layout::STEPS, index, 4);
@@ -318,7 +318,7 @@ fn section_step_line(
     index: u64,
 ) -> usize
     requires { ⌜ view ≡ viewOf (now table) ⌝ }
-    ensures { λ r. ⌜ Written (now (out .entry)) (now (out .exit)) at r (sectionStepLine (now (text .entry)) (now (table .entry)) index) ⌝ }
+    ensures { λ r. ⌜ Written (now (out .entry)) (now (out .exit)) at r (listedSectionStep (now (text .entry)) (now (table .entry)) index) ⌝ }
 {
     let section = field_of(table, view, table_layout::STEPS, index, 1);
     let second = out_text::put_field(out, at, b"section", b' ');
@@ -354,7 +354,7 @@ pub fn step_line(
     index: u64,
 ) -> usize
     requires { ⌜ view ≡ viewOf (now table) ⌝ }
-    ensures { λ r. ⌜ Written (now (out .entry)) (now (out .exit)) at r (stepLine (now (text .entry)) (now (table .entry)) index) ⌝ }
+    ensures { λ r. ⌜ Written (now (out .entry)) (now (out .exit)) at r (listedStep (now (text .entry)) (now (table .entry)) index) ⌝ }
 {
     let kind = field_of(table, view, table_layout::STEPS, index, 0);
     if kind == END {
@@ -381,7 +381,7 @@ fn record_line(
     index: u64,
 ) -> usize
     requires { ⌜ view ≡ viewOf (now table) ⌝ }
-    ensures { λ r. ⌜ Written (now (out .entry)) (now (out .exit)) at r (recordLine (now (text .entry)) (now (table .entry)) part index) ⌝ }
+    ensures { λ r. ⌜ Written (now (out .entry)) (now (out .exit)) at r (listedRecord (now (text .entry)) (now (table .entry)) part index) ⌝ }
 {
     if part == table_layout::MODELS {
         return model_line(out, at, text, table, view, index);
@@ -405,7 +405,7 @@ fn part_lines(
     count: u64,
 ) -> usize
     requires { ⌜ view ≡ viewOf (now table) ⌝ }
-    ensures { λ r. ⌜ Written (now (out .entry)) (now (out .exit)) at r (listedFrom (recordLine (now (text .entry)) (now (table .entry)) part) count 0) ⌝ }
+    ensures { λ r. ⌜ Written (now (out .entry)) (now (out .exit)) at r (listedFrom (listedRecord (now (text .entry)) (now (table .entry)) part) count 0) ⌝ }
 {
     let mut next = out_text::lesser(at, out.len());
     let mut i = 0;
@@ -532,7 +532,7 @@ fn value_line(
     value: u64,
 ) -> usize
     requires { ⌜ view ≡ viewOf (now table) ⌝ }
-    ensures { λ r. ⌜ Written (now (out .entry)) (now (out .exit)) at r (valueLine (now (text .entry)) (now (table .entry)) section kind value) ⌝ }
+    ensures { λ r. ⌜ Written (now (out .entry)) (now (out .exit)) at r (listedValue (now (text .entry)) (now (table .entry)) section kind value) ⌝ }
 {
     let second = put_name(
         out,

@@ -53,12 +53,12 @@ use Rattle.line_place.specs.Place.{
   dead,
   opensHeaderText,
   standsInHeader,
-  inHeader,
-  inFamily,
-  inModel,
+  leadsInHeader,
+  leadsInFamily,
+  leadsInModel,
   opensMatrix,
   keepsMatrix,
-  afterFamily,
+  leadsAfterFamily,
   isInHeader,
   isInFamily,
   isInModel,
@@ -323,14 +323,14 @@ unfolding if_then_else_
 away-if true x y h k = h
 away-if false x y h k = k
 
-away-model : (k : ℕ) → Away (inModel k)
-unfolding inModel
+away-model : (k : ℕ) → Away (leadsInModel k)
+unfolding leadsInModel
 away-model k =
     away-if _ _ _ (away-low _ (omega arith))
     (away-if _ _ _ (away-low _ (omega arith)) (away-if _ _ _ (away-low _ (omega arith)) (away-high _ (omega arith))))
 
-away-family : (k : ℕ) → Away (inFamily k)
-unfolding inFamily
+away-family : (k : ℕ) → Away (leadsInFamily k)
+unfolding leadsInFamily
 away-family k =
     away-if _ _ _ (away-low _ (omega arith))
     (away-if _ _ _ (away-low _ (omega arith))
@@ -338,14 +338,14 @@ away-family k =
     (away-if _ _ _ (away-low _ (omega arith))
     (away-if _ _ _ (away-low _ (omega arith)) (away-if _ _ _ (away-low _ (omega arith)) (away-high _ (omega arith)))))))
 
-away-header : (k : ℕ) → Away (inHeader k)
-unfolding inHeader
+away-header : (k : ℕ) → Away (leadsInHeader k)
+unfolding leadsInHeader
 away-header k =
     away-if _ _ _ (away-low _ (omega arith))
     (away-if _ _ _ (away-low _ (omega arith)) (away-if _ _ _ (away-low _ (omega arith)) (away-high _ (omega arith))))
 
-away-after : (k : ℕ) → eqb k beginIcmSection ≡ false → Away (afterFamily k)
-unfolding afterFamily
+away-after : (k : ℕ) → eqb k beginIcmSection ≡ false → Away (leadsAfterFamily k)
+unfolding leadsAfterFamily
 away-after k e =
     by-test Away (eqb k beginIcmSection) _ _
     (λ (f : eqb k beginIcmSection ≡ true). absurd (eqb-false k beginIcmSection e (eqb-true k beginIcmSection f)))
@@ -373,10 +373,10 @@ away-moved p k out e =
 
 -- a keyword that opens a matrix may stand nowhere else
 record Strange (k : ℕ) : Type 0 where
-  model : inModel k ≡ dead
-  family : inFamily k ≡ dead
-  header : inHeader k ≡ dead
-  after : afterFamily k ≡ dead
+  model : leadsInModel k ≡ dead
+  family : leadsInFamily k ≡ dead
+  header : leadsInHeader k ≡ dead
+  after : leadsAfterFamily k ≡ dead
   opened : eqb k icmVer ≡ false
   between : eqb k beginIcmFamily ≡ false
   other : k ≡ beginHeader → ⊥
@@ -384,7 +384,7 @@ record Strange (k : ℕ) : Type 0 where
   section-other : eqb k beginIcmSection ≡ false
 
 strange : (k : ℕ) → opensMatrix k ≡ true → Strange k
-unfolding inModel inFamily inHeader afterFamily standsInHeader opensHeaderText either if_then_else_
+unfolding leadsInModel leadsInFamily leadsInHeader leadsAfterFamily standsInHeader opensHeaderText either if_then_else_
 strange =
     by-kind Strange
     (record { model = refl; family = refl; header = refl; after = refl; opened = refl; between = refl; other = λ (e : resistanceMatrix ≡ beginHeader). omega arith; model-other = refl; section-other = refl })

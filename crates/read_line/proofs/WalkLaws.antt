@@ -9,7 +9,7 @@ use native.Mathlib.Omega.{arith}
 use lib.ListN.{length, take, drop, length-drop, drop-of-length-le}
 use lib.Dec.{eqb}
 use borrow.Author.Tests.{eq-eqb, ne-eqb, eqb-true, eqb-false}
-use Rattle.base.specs.Runs.{readFrom as readFrom′}
+use Rattle.base.specs.Runs.{run as run′}
 use Rattle.base.specs.If.{if_then_else_}
 use Rattle.base.specs.Bytes.{isContent}
 use Rattle.base.proofs.IfLaws.{if-true, if-false, by-cases}
@@ -249,7 +249,7 @@ module _ (t : List ℕ) (at : ℕ) (here : Line) (found : here ≡ lineAt commen
   unfolding lineAt
   content-within h =
       let l : length (drop at t) ≡ length t - at = length-drop at t in
-      let r : readFrom′ (isContent commentByte) (drop at t) ≤ length (drop at t) = run-le (isContent commentByte) (drop at t) in
+      let r : run′ (isContent commentByte) (drop at t) ≤ length (drop at t) = run-le (isContent commentByte) (drop at t) in
       rw found (omega arith)
 
 -- ---- the whole text

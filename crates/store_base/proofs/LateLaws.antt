@@ -12,7 +12,7 @@ use Rattle.base.specs.If.{if_then_else_, both, either}
 use Rattle.base.proofs.IfLaws.{if-true, if-false, by-test, by-cases, both-not-left, either-false}
 use Rattle.lex_line.specs.Lines.{Raw, lines, contentOf, isBlankLine}
 use Rattle.lex_line.specs.Words.{words, firstOf}
-use Rattle.line_place.specs.Place.{moved, movedByLine, inMatrix, inSection, afterFamily, isInModel, isInFamily, isInHeader}
+use Rattle.line_place.specs.Place.{moved, movedByLine, leadsInMatrix, leadsInSection, leadsAfterFamily, isInModel, isInFamily, isInHeader}
 use Rattle.line_place.specs.Place as place
 use Rattle.read_line.specs.Reading.{commentByte}
 use Rattle.doc.specs.Lines.{Line, plain, keyAt, placeAfter, linesFrom, linesAt, gather}
@@ -43,23 +43,23 @@ unfolding if_then_else_
 late-if true x y h k = h
 late-if false x y h k = k
 
-late-section : (k : ℕ) → 13 ≤ inSection k
-unfolding inSection
+late-section : (k : ℕ) → 13 ≤ leadsInSection k
+unfolding leadsInSection
 late-section k = late-if _ _ _ (omega arith) (late-if _ _ _ (omega arith) (omega arith))
 
-late-matrix : (k : ℕ) → 13 ≤ inMatrix k
-unfolding inMatrix
+late-matrix : (k : ℕ) → 13 ≤ leadsInMatrix k
+unfolding leadsInMatrix
 late-matrix k = late-if _ _ _ (omega arith) (late-section k)
 
-late-after : (k : ℕ) → 13 ≤ afterFamily k
-unfolding afterFamily
+late-after : (k : ℕ) → 13 ≤ leadsAfterFamily k
+unfolding leadsAfterFamily
 late-after k = late-if _ _ _ (omega arith) (late-if _ _ _ (omega arith) (omega arith))
 
 late-moved : (p k : ℕ) → 13 ≤ p → 13 ≤ moved p k
 unfolding moved
 late-moved p k h =
     late-if _ _ _ (late-matrix k)
-    (rw (if-false {A = ℕ} (place.inModel k) _ (not-model p h), if-false {A = ℕ} (place.inFamily k) _ (not-family p h), if-false {A = ℕ} (place.inHeader k) _ (not-header p h))
+    (rw (if-false {A = ℕ} (place.leadsInModel k) _ (not-model p h), if-false {A = ℕ} (place.leadsInFamily k) _ (not-family p h), if-false {A = ℕ} (place.leadsInHeader k) _ (not-header p h))
     (late-if _ _ _ (late-section k) (late-if _ _ _ (late-after k)
     (rw (if-false {A = ℕ} (if eqb k 6 then 2 else 18) _ (no-place p h 1 (omega arith)), if-false {A = ℕ} (if eqb k 26 then 5 else 18) _ (no-place p h 4 (omega arith)))
     (late-if _ _ _ (late-if _ _ _ (omega arith) (omega arith))

@@ -12,7 +12,7 @@ use borrow.Author.Tests.{eq-eqb, ne-eqb, eqb-true, not-false}
 use Rattle.base.specs.If.{if_then_else_, both, either}
 use Rattle.base.proofs.IfLaws.{if-true, if-false, by-cases, both-first, both-second, both-not-left, both-not-right, either-rest}
 use Rattle.lex_keyword.specs.Names.{icmPinMap, beginIcmSection}
-use Rattle.line_place.specs.Place.{isInFamily, isInModel, moved, inFamily}
+use Rattle.line_place.specs.Place.{isInFamily, isInModel, moved, leadsInFamily}
 use Rattle.line_place.specs.Place as place
 use Rattle.table_layout.specs.Way.Filling.{Write, Fits}
 use Rattle.table_layout.specs.declared.Filling.{Filling}
@@ -38,7 +38,7 @@ leads-from : (p q : ℕ) → eqb p q ≡ true → moved q icmPinMap ≡ place.ma
 leads-from p q e h = ap (λ (x : ℕ). moved x icmPinMap) (eqb-true p q e) ∙ h
 
 leads-family : (moved 5 icmPinMap ≡ place.mapHead) × (moved 6 icmPinMap ≡ place.mapHead) × (moved 7 icmPinMap ≡ place.mapHead) × (moved 11 icmPinMap ≡ place.mapHead) × (moved 12 icmPinMap ≡ place.mapHead)
-unfolding moved inFamily isInFamily isInModel if_then_else_ either
+unfolding moved leadsInFamily isInFamily isInModel if_then_else_ either
 leads-family = (refl, refl, refl, refl, refl)
 
 leads-in : (p : ℕ) → isInFamily p ≡ true → moved p icmPinMap ≡ place.mapHead

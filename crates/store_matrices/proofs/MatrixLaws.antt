@@ -64,7 +64,7 @@ module _ (content : List ℕ) where
   plain-stays e = if-true _ _ e ∙ if-false _ _ refl
 
   key-stays : eqb (keyAt content) plain ≡ false → keepsMatrix (keyAt content) ≡ true → placeAfter place.matrix content ≡ place.matrix
-  unfolding placeAfter moved place.inMatrix
+  unfolding placeAfter moved place.leadsInMatrix
   key-stays e k = if-false _ _ e ∙ if-true _ _ refl ∙ if-true _ _ k
 
   pub matrix-stays : either (eqb (keyAt content) plain) (keepsMatrix (keyAt content)) ≡ true → placeAfter place.matrix content ≡ place.matrix

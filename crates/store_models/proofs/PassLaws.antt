@@ -12,7 +12,7 @@ use borrow.Author.Tests.{ne-eqb, eqb-true, not-false}
 use Rattle.base.specs.If.{if_then_else_, both, either}
 use Rattle.base.proofs.IfLaws.{if-true, if-false, by-cases, both-first, both-second, both-not-left, either-rest}
 use Rattle.lex_keyword.specs.Names.{beginIcmModel}
-use Rattle.line_place.specs.Place.{isInFamily, isInModel, moved, inFamily}
+use Rattle.line_place.specs.Place.{isInFamily, isInModel, moved, leadsInFamily}
 use Rattle.line_place.specs.Place as place
 use Rattle.table_layout.specs.Way.Filling.{widthOf, Fits}
 use Rattle.table_layout.specs.declared.Filling.{Filling}
@@ -47,15 +47,15 @@ use Rattle.store_models.specs.declared.ModelWalk.{ModelWalk}
 use Rattle.store_models.proofs.ModelLaws.{models-none, models-storable}
 
 -- from every place of the family a keyword leads where the family says
-family-from : (k p q : ℕ) → eqb p q ≡ true → moved q k ≡ inFamily k → moved p k ≡ inFamily k
+family-from : (k p q : ℕ) → eqb p q ≡ true → moved q k ≡ leadsInFamily k → moved p k ≡ leadsInFamily k
 family-from k p q e h = ap (λ (x : ℕ). moved x k) (eqb-true p q e) ∙ h
 
 family-places : (k : ℕ) →
-    (moved 5 k ≡ inFamily k) × (moved 6 k ≡ inFamily k) × (moved 7 k ≡ inFamily k) × (moved 11 k ≡ inFamily k) × (moved 12 k ≡ inFamily k)
+    (moved 5 k ≡ leadsInFamily k) × (moved 6 k ≡ leadsInFamily k) × (moved 7 k ≡ leadsInFamily k) × (moved 11 k ≡ leadsInFamily k) × (moved 12 k ≡ leadsInFamily k)
 unfolding moved isInFamily isInModel if_then_else_ either
 family-places k = (refl, refl, refl, refl, refl)
 
-family-leads : (k p : ℕ) → isInFamily p ≡ true → moved p k ≡ inFamily k
+family-leads : (k p : ℕ) → isInFamily p ≡ true → moved p k ≡ leadsInFamily k
 unfolding isInFamily
 family-leads k p h =
     by-cases _ (eqb p 5) (λ (a : eqb p 5 ≡ true). family-from k p 5 a (family-places k .0)) (λ (a : eqb p 5 ≡ false).
@@ -66,7 +66,7 @@ family-leads k p h =
 
 -- [Begin ICM Model] into a model
 leads-in : (p : ℕ) → isInFamily p ≡ true → moved p beginIcmModel ≡ place.head
-unfolding inFamily if_then_else_
+unfolding leadsInFamily if_then_else_
 leads-in p h = family-leads beginIcmModel p h
 
 -- the places of a model are none of the family's

@@ -159,11 +159,11 @@ module _ (key : ℕ) (opens : opensMatrix key ≡ true) where
   opening-not-method = not-opening derivationMethod refl
 
   section-leads : moved place.section key ≡ place.matrix
-  unfolding moved place.isInModel place.isInFamily place.isInHeader place.inSection either if_then_else_
+  unfolding moved place.isInModel place.isInFamily place.isInHeader place.leadsInSection either if_then_else_
   section-leads = rw opens
 
   matrix-leads : moved place.matrix key ≡ place.matrix
-  unfolding moved place.inMatrix place.inSection
+  unfolding moved place.leadsInMatrix place.leadsInSection
   matrix-leads =
       if-true _ _ refl ∙ by-test (λ (p : ℕ). p ≡ place.matrix) (keepsMatrix key) _ _ (λ (e : keepsMatrix key ≡ true). refl)
       (λ (e : keepsMatrix key ≡ false). if-true _ _ opens)

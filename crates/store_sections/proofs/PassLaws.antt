@@ -12,7 +12,7 @@ use borrow.Author.Tests.{eqb-true, not-false}
 use Rattle.base.specs.If.{if_then_else_, both, either}
 use Rattle.base.proofs.IfLaws.{if-true, if-false, both-first, both-second}
 use Rattle.lex_keyword.specs.Names.{beginIcmSection}
-use Rattle.line_place.specs.Place.{moved, afterFamily}
+use Rattle.line_place.specs.Place.{moved, leadsAfterFamily}
 use Rattle.line_place.specs.Place as place
 use Rattle.table_layout.specs.Way.Filling.{Write, fillingAfter}
 use Rattle.table_layout.specs.declared.Filling.{Filling}
@@ -101,7 +101,7 @@ section-noted t f₀ table₀ ss w table left line meets there v table' passes n
 
 -- a line that opens a section leads to the section's head
 opening-leads : (content : List ℕ) → keyAt content ≡ beginIcmSection → placeAfter place.after content ≡ place.sectionHead
-unfolding placeAfter moved afterFamily place.isInModel place.isInFamily place.isInHeader either if_then_else_
+unfolding placeAfter moved leadsAfterFamily place.isInModel place.isInFamily place.isInHeader either if_then_else_
 opening-leads content e = rw e
 
 module _ (t : List ℕ) (line : Found) (table : List ℕ) (w : Walk) (ready : Ready sectionAt sectionsOf t line w table) (opens : Bool)

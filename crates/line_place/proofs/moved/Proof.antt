@@ -6,8 +6,8 @@ use borrow.Author.Needs.{needs}
 use Rattle.line_place.proofs.moved.Statement.{statement}
 use Rattle.line_place.proofs.moved.Tie as tie
 
-in-matrix-requires : tie.Need-in-matrix-requires
-in-matrix-requires c κs = search needs
+leads-in-matrix-requires : tie.Need-leads-in-matrix-requires
+leads-in-matrix-requires c κs = search needs
 
 returns : tie.Need-returns
 unfolding moved
@@ -16,8 +16,8 @@ returns c = search chain depth 12
 is-in-model-requires : tie.Need-is-in-model-requires
 is-in-model-requires c κs = search needs
 
-in-model-requires : tie.Need-in-model-requires
-in-model-requires c κs = search needs
+leads-in-model-requires : tie.Need-leads-in-model-requires
+leads-in-model-requires c κs = search needs
 
 returns-2 : tie.Need-returns-2
 unfolding moved
@@ -26,8 +26,8 @@ returns-2 c = search chain depth 12
 is-in-family-requires : tie.Need-is-in-family-requires
 is-in-family-requires c κs = search needs
 
-in-family-requires : tie.Need-in-family-requires
-in-family-requires c κs = search needs
+leads-in-family-requires : tie.Need-leads-in-family-requires
+leads-in-family-requires c κs = search needs
 
 returns-3 : tie.Need-returns-3
 unfolding moved
@@ -36,22 +36,22 @@ returns-3 c = search chain depth 12
 is-in-header-requires : tie.Need-is-in-header-requires
 is-in-header-requires c κs = search needs
 
-in-header-requires : tie.Need-in-header-requires
-in-header-requires c κs = search needs
+leads-in-header-requires : tie.Need-leads-in-header-requires
+leads-in-header-requires c κs = search needs
 
 returns-4 : tie.Need-returns-4
 unfolding moved
 returns-4 c = search chain depth 12
 
-in-section-requires : tie.Need-in-section-requires
-in-section-requires c κs = search needs
+leads-in-section-requires : tie.Need-leads-in-section-requires
+leads-in-section-requires c κs = search needs
 
 returns-5 : tie.Need-returns-5
 unfolding moved
 returns-5 c = search chain depth 12
 
-after-family-requires : tie.Need-after-family-requires
-after-family-requires c κs = search needs
+leads-after-family-requires : tie.Need-leads-after-family-requires
+leads-after-family-requires c κs = search needs
 
 returns-6 : tie.Need-returns-6
 unfolding moved
@@ -97,20 +97,20 @@ pub moved-spec : {M : Type 1} → statement M
 moved-spec =
     tie.close
     (tie.spec
-    in-matrix-requires
+    leads-in-matrix-requires
     returns
     is-in-model-requires
-    in-model-requires
+    leads-in-model-requires
     returns-2
     is-in-family-requires
-    in-family-requires
+    leads-in-family-requires
     returns-3
     is-in-header-requires
-    in-header-requires
+    leads-in-header-requires
     returns-4
-    in-section-requires
+    leads-in-section-requires
     returns-5
-    after-family-requires
+    leads-after-family-requires
     returns-6
     returns-7
     returns-8

@@ -1,7 +1,7 @@
 -- `out_listing::map_line` meets its contract.
 -- Assumes nothing.
 use Rattle.out_text.proofs.LineLaws.{line-two}
-use Rattle.out_listing.specs.Listing.{mapLine}
+use Rattle.out_listing.specs.Listing.{listedMap}
 use borrow.Author.Needs.{needs}
 use Rattle.out_listing.proofs.map_line.Statement.{statement}
 use Rattle.out_listing.proofs.map_line.Tie as tie
@@ -16,7 +16,7 @@ same-length : tie.Need-same-length
 same-length c = search needs
 
 returns : tie.Need-returns
-unfolding mapLine
+unfolding listedMap
 returns c = search line-two
 
 pub map-line-spec : {M : Type 1} → statement M

@@ -1,7 +1,7 @@
 -- `out_listing::step_line` meets its contract: each `return` by the kinds told apart so far.
 -- Assumes nothing.
 use Rattle.base.proofs.IfLaws.{tests}
-use Rattle.out_listing.specs.Listing.{stepLine}
+use Rattle.out_listing.specs.Listing.{listedStep}
 use Rattle.out_listing.proofs.TextLaws.{line-yes, line-no, head-told}
 use borrow.Author.Needs.{needs}
 use Rattle.out_listing.proofs.step_line.Statement.{statement}
@@ -17,7 +17,7 @@ same-length : tie.Need-same-length
 same-length c = search needs
 
 returns : tie.Need-returns
-unfolding stepLine
+unfolding listedStep
 returns c = search (line-yes, line-no, tests) depth 12
 
 section-step-line-requires : tie.Need-section-step-line-requires
@@ -27,7 +27,7 @@ same-length-2 : tie.Need-same-length-2
 same-length-2 c = search needs
 
 returns-2 : tie.Need-returns-2
-unfolding stepLine
+unfolding listedStep
 returns-2 c = search (line-yes, line-no, tests) depth 12
 
 field-of-requires-2 : tie.Need-field-of-requires-2
@@ -43,7 +43,7 @@ same-length-3 : tie.Need-same-length-3
 same-length-3 c = search needs
 
 returns-3 : tie.Need-returns-3
-unfolding stepLine
+unfolding listedStep
 returns-3 c = search (line-yes, line-no, head-told, tests) depth 12
 
 slice-aggregate-head-line-2 : tie.Need-slice-aggregate-head-line-2
@@ -56,7 +56,7 @@ same-length-4 : tie.Need-same-length-4
 same-length-4 c = search needs
 
 returns-4 : tie.Need-returns-4
-unfolding stepLine
+unfolding listedStep
 returns-4 c = search (line-yes, line-no, head-told, tests) depth 12
 
 pub step-line-spec : {M : Type 1} → statement M

@@ -1,7 +1,7 @@
 -- `out_listing::value_line` meets its contract: its five fields, one after the other.
 -- Assumes nothing.
 use Rattle.out_text.proofs.LineLaws.{line-five}
-use Rattle.out_listing.specs.Listing.{valueLine}
+use Rattle.out_listing.specs.Listing.{listedValue}
 use borrow.Author.Needs.{needs}
 use Rattle.out_listing.proofs.value_line.Statement.{statement}
 use Rattle.out_listing.proofs.value_line.Tie as tie
@@ -25,7 +25,7 @@ same-length : tie.Need-same-length
 same-length c = search needs
 
 returns : tie.Need-returns
-unfolding valueLine
+unfolding listedValue
 returns c = line-five _ _ _ _ _ _ _ _ _ _ _ _ _ _ _ _ _ (c .before .before .before .before .before .before .before .before .before .before .before .before .before .before .before .before .before .before .put-name .ensures) (c .before .before .before .before .before .before .before .before .before .before .before .before .before .before .put-kind .ensures) (c .before .before .before .before .before .before .before .before .before .before .put-number .ensures) (c .before .before .before .before .before .before .put-number2 .ensures) (c .before .before .put-word .ensures)
 
 pub value-line-spec : {M : Type 1} → statement M
