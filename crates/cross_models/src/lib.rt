@@ -77,12 +77,12 @@ fn says_mult(text: &[u8], line: Found) -> bool
 }
 
 // Past the lines numbered below the one that is wanted: what they say is not looked at.
-fn past_lines(text: &[u8], at: usize, line_here: u64, wanted: u64) -> Passed
-    requires { ⌜ Cursor (now text) at line_here × (line_here ≤ wanted) ⌝ }
+fn past_lines(text: &[u8], at: usize, first_line: u64, wanted: u64) -> Passed
+    requires { ⌜ Cursor (now text) at «first_line» × («first_line» ≤ wanted) ⌝ }
     ensures { λ r. ⌜ Seeks (now (text .entry)) wanted (r .at) (r .line) ⌝ }
 {
     let mut here = at;
-    let mut next = line_here;
+    let mut next = first_line;
     while next < wanted {
         if text.len() <= here {
             return Passed {
@@ -101,12 +101,12 @@ fn past_lines(text: &[u8], at: usize, line_here: u64, wanted: u64) -> Passed
 }
 
 // Whether the line of a number is one of a Mult, looked for among the lines from here on that say something.
-fn seek_mult(text: &[u8], at: usize, line_here: u64, wanted: u64) -> Told
-    requires { ⌜ Seeks (now text) wanted at line_here ⌝ }
+fn seek_mult(text: &[u8], at: usize, first_line: u64, wanted: u64) -> Told
+    requires { ⌜ Seeks (now text) wanted at «first_line» ⌝ }
     ensures { λ r. ⌜ Tells (now (text .entry)) wanted r ⌝ }
 {
     let mut here = at;
-    let mut next = line_here;
+    let mut next = first_line;
     loop {
         let line = doc::next_line(text, here, next);
         if !line.there {
@@ -229,16 +229,16 @@ fn steps_finding(
     marks: &mut [u8; table_name::MARKS],
     index: u64,
     at: usize,
-    line_here: u64,
+    first_line: u64,
 ) -> StepsFinding
-    requires { ⌜ HoldsText (now text) (now table) × (view ≡ viewOf (now table)) × Awaits (now text) index at line_here × (length (now marks) ≡ marksMany) ⌝ }
+    requires { ⌜ HoldsText (now text) (now table) × (view ≡ viewOf (now table)) × Awaits (now text) index at «first_line» × (length (now marks) ≡ marksMany) ⌝ }
     ensures { λ r. ⌜ StepsTold (now (text .entry)) index r × (r .rule ≡ 0 → length (now (marks .exit)) ≡ marksMany) ⌝ }
 {
     let owner = owner_of(table, view, index);
     let count = owner.many;
     let mut own = owner.from;
     let mut here = at;
-    let mut next = line_here;
+    let mut next = first_line;
     let mut i = 0;
     while i < count {
         let line = table[own + 5];

@@ -28,7 +28,7 @@ use Rattle.cross_names.proofs.TableLaws.{maps-many, rule-here, line-her
 
 -- ---- the first of two lists
 
-none-first : firstIn [] .number ≡ 0
+none-first : firstIn [] .rule ≡ 0
 unfolding firstIn noFinding
 none-first = refl
 

@@ -89,7 +89,7 @@ module _ (l : Line) where
 record Comes (ls : List Line) (part : Part) (n : ℕ) : Type 0 where
   line : Line
   among : Among line ls
-  number : line .line ≡ n
+  numbered : line .line ≡ n
   in-part : partOf line ≡ part
 
 -- ---- every one of a list
@@ -122,7 +122,7 @@ module _ (ls : List Line) where
   In l = Among l ls
 
   comes : (l : Line) (part : Part) → In l → partOf l ≡ part → Comes ls part (l .line)
-  comes l part m e = record { line = l; among = m; rule = refl; in-part = e }
+  comes l part m e = record { line = l; among = m; numbered = refl; in-part = e }
 
   -- its lines, and those after it
   module _ (l : Line) (after : List Line) (m : In l) (ms : Each In after) where
@@ -262,6 +262,6 @@ module _ (t : List ℕ) where
       let a : Comes (significant t) (p .part) (f .line) = part-comes (p .lies) in
       let b : Comes (significant t) (q .part) (g .line) = part-comes (q .lies) in
       let l : a .line ≡ b .line =
-      same-line (λ (k : Line). k .line) (significant t) (lines-rise t) (a .among) (b .among) (a .rule ∙ e ∙ sym (b .rule)) in
+      same-line (λ (k : Line). k .line) (significant t) (lines-rise t) (a .among) (b .among) (a .numbered ∙ e ∙ sym (b .numbered)) in
       let r : p .part ≡ q .part = sym (a .in-part) ∙ ap partOf l ∙ b .in-part in
       same-part (in-order t) (rw r at (p .lies)) (q .lies) e

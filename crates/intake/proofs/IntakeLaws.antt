@@ -19,9 +19,9 @@ use Rattle.read_line.specs.declared.Reading.{Reading}
 use Rattle.read_line.specs.declared.Reading.the-variants as reading
 use Rattle.doc.specs.Document.{documentOf}
 use Rattle.doc.specs.Records.{tableOf}
-use Rattle.intake.specs.Stored as filled
+use Rattle.intake.specs.Way.Stored.{tableAfterStoring}
 use Rattle.intake.specs.Stored.{afterReading, storeAnswer}
-use Rattle.intake.specs.declared.store.StoreAnswer as filling
+use Rattle.intake.specs.declared.store.StoreAnswer as storing
 use Rattle.intake.specs.declared.store.StoreAnswer.the-variants.{Stored, Refused}
 use Rattle.cross_rules.specs.Rules.{crossRule}
 use Rattle.cross_rules.specs.Way.HoldsText.{HoldsText}
@@ -63,11 +63,11 @@ pub record Reads (t : List ℕ) (size words : ℕ) : Type 0 where
   pub long : words ≡ length (tableOf t)
 
 -- which case, and the words of one that is stored
-abbrev isStored : filling.Filled → ℕ
+abbrev isStored : storing.StoreAnswer → ℕ
 isStored (Stored words) = 1
 isStored (Refused number line) = 0
 
-abbrev wordsOf : filling.Filled → ℕ
+abbrev wordsOf : storing.StoreAnswer → ℕ
 wordsOf (Stored words) = words
 wordsOf (Refused number line) = 0
 
@@ -75,7 +75,7 @@ not-stored : (number line words : ℕ) → Refused number line ≡ Stored words 
 not-stored number line words e = let z : _≡_ {A = ℕ} 0 1 = ap isStored e in omega arith
 
 module _ (t : List ℕ) (size words : ℕ) where
-  abbrev roomed : filling.Filled
+  abbrev roomed : storing.StoreAnswer
   roomed = if ltb size (length (tableOf t)) then Refused 18 0 else Stored (length (tableOf t))
 
   reads-by : (counts : Counts) → readingOf t ≡ reading.Read counts → roomed ≡ Stored words → Reads t size words
@@ -93,13 +93,13 @@ module _ (t : List ℕ) (size words : ℕ) where
   unfolding storeAnswer
   stored-reads e = stored-by (readingOf t) refl e
 
-module _ (t table : List ℕ) (size : ℕ) (answer : filling.Filled) (is : answer ≡ storeAnswer t size) (holds : table ≡ filled.tableFor t size answer) where
+module _ (t table : List ℕ) (size : ℕ) (answer : storing.StoreAnswer) (is : answer ≡ storeAnswer t size) (holds : table ≡ tableAfterStoring t size answer) where
   module _ (words : ℕ) (e : answer ≡ Stored words) where
     reads : Reads t size words
     reads = stored-reads t size words (sym is ∙ e)
 
     laid : table ≡ tableOf t ++ replicate (size - length (tableOf t)) 0
-    laid = holds ∙ ap (filled.tableFor t size) e
+    laid = holds ∙ ap (tableAfterStoring t size) e
 
     pub long : length table ≡ size
     long =
@@ -121,7 +121,7 @@ module _ (t table : List ℕ) (size : ℕ) (answer : filling.Filled) (is : answe
     refused-outcome = ap (afterStoring t) (sym e ∙ is)
 
     pub refused-table : table ≡ tableFor t size (refusedBy number line)
-    refused-table = holds ∙ ap (filled.tableFor t size) e ∙ sym (zeros-refused t size number line)
+    refused-table = holds ∙ ap (tableAfterStoring t size) e ∙ sym (zeros-refused t size number line)
 
 -- ---- 1 to 4
 

@@ -14,7 +14,7 @@ use Rattle.doc.specs.Document.{documentOf}
 use Rattle.doc.specs.Records.{tableOf}
 use Rattle.intake.specs.Stored.{storeAnswer}
 use Rattle.intake.specs.declared.store.StoreAnswer.{StoreAnswer}
-use Rattle.intake.specs.declared.store.StoreAnswer.the-variants as filling
+use Rattle.intake.specs.declared.store.StoreAnswer.the-variants as storing
 use Rattle.cross_rules.specs.Rules.{crossRule}
 use Rattle.cross_rules.specs.declared.Finding.{Finding}
 use Rattle.intake.specs.declared.Answer.{Answer}
@@ -44,8 +44,8 @@ crossed words finding = if eqb (finding .rule) 0 then acceptedWith words else re
 
 -- 5 to 18 have come to this
 abbrev pub afterStoring : List ℕ → StoreAnswer → Outcome
-afterStoring t (filling.Stored words) = crossed words (crossRule (documentOf t))
-afterStoring t (filling.Refused rule line) = refusedBy rule line
+afterStoring t (storing.Stored words) = crossed words (crossRule (documentOf t))
+afterStoring t (storing.Refused rule line) = refusedBy rule line
 
 -- 1 to 4 have come to this
 abbrev pub afterBytes : List ℕ → ℕ → Checked → Outcome

@@ -71,7 +71,7 @@ module _ (x : Looked) (xs : List Looked) where
   unfolding givenBy
   given-here n = if-false _ _ (ne-eqb _ _ n)
 
-pub empty-gives : givenBy [] .number ≡ 0
+pub empty-gives : givenBy [] .rule ≡ 0
 unfolding givenBy
 empty-gives = refl
 

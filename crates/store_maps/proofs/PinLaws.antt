@@ -131,7 +131,7 @@ module _ (t : List ℕ) (line : Found) (table : List ℕ) (w : MapWalk) (takes :
         grid = pin-grid (mapLine t line w) (takes .inside) h (w .map);
         place-is = sym (rw h (pins-stay (contentIn t line) (map-plain (mapLine t line w) (takes .inside))));
         at-is = refl;
-        number-is = refl;
+        line-is = refl;
       }
 
   pub taken-head :
@@ -143,7 +143,7 @@ module _ (t : List ℕ) (line : Found) (table : List ℕ) (w : MapWalk) (takes :
         grid = is-map ∙ ap (λ (x : MapLine). mapNext x (w .map)) is-said ∙ head-grid (mapLine t line w) (takes .inside) h (w .map);
         place-is = is-place;
         at-is = refl;
-        number-is = refl;
+        line-is = refl;
       }
 
 -- ---- all lines of a map

@@ -72,13 +72,19 @@ fn take_map_line(text: &[u8], line: Found, table: &mut [u64], walk: MapWalk) -> 
 }
 
 // The lines of a map, from below its keyword up to the next one.
-fn fill_pins(text: &[u8], at: usize, line_here: u64, table: &mut [u64], filling: Filling) -> MapWalk
-    requires { ⌜ Placed (now text) line_here at × Fits (length (now table)) filling (pinWrites (mapLines (now text) line_here at place.mapHead)) ⌝ }
-    ensures { λ r. ⌜ ReadsMap (now (text .entry)) line_here at filling (now (table .entry)) r (now (table .exit)) ⌝ }
+fn fill_pins(
+    text: &[u8],
+    at: usize,
+    first_line: u64,
+    table: &mut [u64],
+    filling: Filling,
+) -> MapWalk
+    requires { ⌜ Placed (now text) «first_line» at × Fits (length (now table)) filling (pinWrites (mapLines (now text) «first_line» at place.mapHead)) ⌝ }
+    ensures { λ r. ⌜ ReadsMap (now (text .entry)) «first_line» at filling (now (table .entry)) r (now (table .exit)) ⌝ }
 {
     let mut walk = MapWalk {
         at,
-        line: line_here,
+        line: first_line,
         place: line_place::MAP_HEAD,
         map: line_map::new_map(),
         filling,

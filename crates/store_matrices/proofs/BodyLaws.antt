@@ -279,7 +279,7 @@ module _ (t : List ℕ) (line : Found) (form : ℕ) (table : List ℕ) (w : Matr
                   ∙ ap (λ (n : ℕ). max n (greatestIn form ls)) (sym (given-same t line (takes .located)))) refl;
               counted = record { seven = takes .counted .seven; row = small; column = small };
               at-is = refl;
-              number-is = refl;
+              line-is = refl;
             }
 
   module _ (is-bandwidth : line .key ≡ 10) where
@@ -309,7 +309,7 @@ module _ (t : List ℕ) (line : Found) (form : ℕ) (table : List ℕ) (w : Matr
                   (bandwidth-greatest form (matrixLine t line) ls key-bandwidth) (omega arith);
               counted = takes .counted;
               at-is = refl;
-              number-is = refl;
+              line-is = refl;
             }
 
   -- a line of a matrix that is neither
@@ -373,7 +373,7 @@ module _ (t : List ℕ) (line : Found) (form : ℕ) (table : List ℕ) (w : Matr
               counted-on (w .spot) v (sparseAt (w .spot .row) (words (contentIn t line))) table table' (plainly .takes .counted)
               (fills .stores) (omega arith) (omega arith);
           at-is = refl;
-          number-is = refl;
+          line-is = refl;
         }
 
   module _ (not-sparse : form ≡ 2 → ⊥) where
@@ -411,5 +411,5 @@ module _ (t : List ℕ) (line : Found) (form : ℕ) (table : List ℕ) (w : Matr
               (numbers-greatest form (matrixLine t line) ls key-data not-sparse) (omega arith);
           counted = fills .counted;
           at-is = refl;
-          number-is = refl;
+          line-is = refl;
         }

@@ -174,7 +174,7 @@ module _ (t table : List ℕ) (f : Filling) (seven : length (f .counts) ≡ 7) (
 record Right (n : Note) (at number form first : ℕ) : Type 0 where
   made : 0 < n .further
   at-is : n .at ≡ at
-  number-is : n .line ≡ number
+  line-is : n .line ≡ number
   form-is : n .form ≡ form
   first-is : n .first ≡ first
 
@@ -188,7 +188,7 @@ right n at number form first e =
     record {
       made = omega arith;
       at-is = eqb-true _ _ (both-first _ _ a);
-      number-is = eqb-true _ _ (both-first _ _ b);
+      line-is = eqb-true _ _ (both-first _ _ b);
       form-is = eqb-true _ _ (both-first _ _ c);
       first-is = eqb-true _ _ (both-second _ _ c);
     }

@@ -346,13 +346,13 @@ fn stays_in_matrix(key: u64) -> bool
 fn fill_values(
     text: &[u8],
     at: usize,
-    line_here: u64,
+    first_line: u64,
     form: u64,
     table: &mut [u64],
     filling: Filling,
 ) -> MatrixWalk
-    requires { ⌜ PutsValues (now text) line_here at form (now table) filling ⌝ }
-    ensures { λ r. ⌜ FillsValues (now (text .entry)) line_here at form (now (table .entry)) filling r (now (table .exit)) ⌝ }
+    requires { ⌜ PutsValues (now text) «first_line» at form (now table) filling ⌝ }
+    ensures { λ r. ⌜ FillsValues (now (text .entry)) «first_line» at form (now (table .entry)) filling r (now (table .exit)) ⌝ }
 {
     let bandwidth = First {
         told: false,
@@ -365,7 +365,7 @@ fn fill_values(
     };
     let mut walk = MatrixWalk {
         at,
-        line: line_here,
+        line: first_line,
         bandwidth,
         greatest: 0,
         spot,

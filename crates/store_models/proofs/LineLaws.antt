@@ -129,7 +129,7 @@ module _ (t : List ℕ) (line : Found) (table : List ℕ) (w : ModelWalk) (on : 
             sym (ap (λ (p : ℕ). placeAfter p (contentIn t line)) (on .place-is)
             ∙ path-stays (contentIn t line) (eq-eqb _ _ (sym (on .says .aimed .located .key-is) ∙ on .key)));
         at-is = refl;
-        number-is = refl;
+        line-is = refl;
       }
 
 -- ---- any line
@@ -196,7 +196,7 @@ module _ (t : List ℕ) (line : Found) (w : ModelWalk) (table : List ℕ) (next 
           head = is-head;
           place-is = is-place;
           at-is = refl;
-          number-is = refl;
+          line-is = refl;
         }
 
   -- where the walk stands behind the line

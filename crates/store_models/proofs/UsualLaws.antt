@@ -119,7 +119,7 @@ module _ (t : List ℕ) (start : ModelWalk) (table₀ : List ℕ) (is-path : sta
           head = taken .head;
           place-is = is-path ∙ taken .place-is;
           at-is = refl;
-          number-is = refl;
+          line-is = refl;
         }
 
     pub usual-joins : Continued t start table₀ (movedTo start (found .next) (n + 1) (set counts 1 next)) table'

@@ -161,16 +161,16 @@ fn fill_lines(text: &[u8], line: Found, table: &mut [u64], start: ModelWalk) -> 
 fn fill_steps(
     text: &[u8],
     at: usize,
-    line_here: u64,
+    first_line: u64,
     table: &mut [u64],
     filling: Filling,
 ) -> ModelWalk
-    requires { ⌜ Open (now text) line_here at place.head filling (now table) ⌝ }
-    ensures { λ r. ⌜ ReadsModel (now (text .entry)) line_here at filling (now (table .entry)) r (now (table .exit)) ⌝ }
+    requires { ⌜ Open (now text) «first_line» at place.head filling (now table) ⌝ }
+    ensures { λ r. ⌜ ReadsModel (now (text .entry)) «first_line» at filling (now (table .entry)) r (now (table .exit)) ⌝ }
 {
     let mut walk = ModelWalk {
         at,
-        line: line_here,
+        line: first_line,
         place: line_place::HEAD,
         head: line_head::new_head(),
         filling,

@@ -178,14 +178,14 @@ fn take_line(
 fn fill_lines(
     text: &[u8],
     at: usize,
-    line_here: u64,
+    first_line: u64,
     table: &mut [u64],
     filling: Filling,
     notes: &[u64],
 ) -> SectionWalk
-    requires { ⌜ PutsLines (now text) line_here at (now table) filling
+    requires { ⌜ PutsLines (now text) «first_line» at (now table) filling
         × Noted (now text) (now table) (now notes) (getD (filling .bases) 6 0) (getD (filling .counts) 6 0) ⌝ }
-    ensures { λ r. ⌜ FillsLines (now (text .entry)) line_here at (now (table .entry)) filling r (now (table .exit)) ⌝ }
+    ensures { λ r. ⌜ FillsLines (now (text .entry)) «first_line» at (now (table .entry)) filling r (now (table .exit)) ⌝ }
 {
     let untold = First {
         told: false,
@@ -193,7 +193,7 @@ fn fill_lines(
     };
     let mut walk = SectionWalk {
         at,
-        line: line_here,
+        line: first_line,
         place: line_place::SECTION_HEAD,
         method: untold,
         conductors: untold,

@@ -119,11 +119,11 @@ fn side_in(text: &[u8], line: Found) -> Mark
 }
 
 // "perhaps with `Side name` as the next line read".
-fn side_after(text: &[u8], at: usize, line_here: u64) -> Mark
-    requires { ⌜ Placed (now text) line_here at ⌝ }
-    ensures { λ r. ⌜ r ≡ markOf (sideIn (linesAt (now (text .entry)) line_here at place.path)) ⌝ }
+fn side_after(text: &[u8], at: usize, first_line: u64) -> Mark
+    requires { ⌜ Placed (now text) «first_line» at ⌝ }
+    ensures { λ r. ⌜ r ≡ markOf (sideIn (linesAt (now (text .entry)) «first_line» at place.path)) ⌝ }
 {
-    let line = doc::next_line(text, at, line_here);
+    let line = doc::next_line(text, at, first_line);
     if !line.there {
         return Mark { start: 0, size: 0 };
     }

@@ -14,8 +14,8 @@ enum-told c = search needs
 take-requires : tie.Need-take-requires
 take-requires c κs = search needs
 
-enum-known-number : tie.Need-enum-known-number
-enum-known-number c = search needs
+enum-known-rule : tie.Need-enum-known-rule
+enum-known-rule c = search needs
 
 zero-all-requires : tie.Need-zero-all-requires
 zero-all-requires c κs = search needs
@@ -39,7 +39,7 @@ intake-spec =
     check-bytes-requires
     enum-told
     take-requires
-    enum-known-number
+    enum-known-rule
     zero-all-requires
     same-length
     returns

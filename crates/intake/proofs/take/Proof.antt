@@ -14,8 +14,8 @@ enum-known-words c = search needs
 judge-requires : tie.Need-judge-requires
 judge-requires c κs = search stored-holds
 
-enum-known-number : tie.Need-enum-known-number
-enum-known-number c = search needs
+enum-known-rule : tie.Need-enum-known-rule
+enum-known-rule c = search needs
 
 same-length : tie.Need-same-length
 same-length c = search needs
@@ -36,7 +36,7 @@ take-spec =
     store-text-requires
     enum-known-words
     judge-requires
-    enum-known-number
+    enum-known-rule
     same-length
     returns
     same-length-2

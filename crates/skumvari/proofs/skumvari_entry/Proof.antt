@@ -14,8 +14,8 @@ enum-known-word c = search needs
 put-answer-requires : tie.Need-put-answer-requires
 put-answer-requires c κs = search needs
 
-enum-known-number : tie.Need-enum-known-number
-enum-known-number c = search needs
+enum-known-rule : tie.Need-enum-known-rule
+enum-known-rule c = search needs
 
 put-answer-requires-2 : tie.Need-put-answer-requires-2
 put-answer-requires-2 c κs = search needs
@@ -39,7 +39,7 @@ skumvari-entry-spec =
     entry-requires
     enum-known-word
     put-answer-requires
-    enum-known-number
+    enum-known-rule
     put-answer-requires-2
     same-length
     returns

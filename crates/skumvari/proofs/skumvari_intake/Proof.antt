@@ -23,8 +23,8 @@ enum-known-used c = search needs
 put-answer-requires : tie.Need-put-answer-requires
 put-answer-requires c κs = search needs
 
-enum-known-number : tie.Need-enum-known-number
-enum-known-number c = search needs
+enum-known-rule : tie.Need-enum-known-rule
+enum-known-rule c = search needs
 
 put-answer-requires-2 : tie.Need-put-answer-requires-2
 put-answer-requires-2 c κs = search needs
@@ -57,7 +57,7 @@ skumvari-intake-spec =
     intake-requires
     enum-known-used
     put-answer-requires
-    enum-known-number
+    enum-known-rule
     put-answer-requires-2
     same-length-2
     same-length-3

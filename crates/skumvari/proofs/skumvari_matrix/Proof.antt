@@ -23,8 +23,8 @@ enum-known-conductors-2 c = search needs
 put-answer-requires-2 : tie.Need-put-answer-requires-2
 put-answer-requires-2 c κs = search needs
 
-enum-known-number : tie.Need-enum-known-number
-enum-known-number c = search needs
+enum-known-rule : tie.Need-enum-known-rule
+enum-known-rule c = search needs
 
 put-answer-requires-3 : tie.Need-put-answer-requires-3
 put-answer-requires-3 c κs = search needs
@@ -66,7 +66,7 @@ skumvari-matrix-spec =
     put-answer-requires
     enum-known-conductors-2
     put-answer-requires-2
-    enum-known-number
+    enum-known-rule
     put-answer-requires-3
     same-length
     same-length-2

@@ -23,8 +23,8 @@ no-step-requires c κs = search needs
 put-walk-requires-2 : tie.Need-put-walk-requires-2
 put-walk-requires-2 c κs = search needs
 
-enum-known-number : tie.Need-enum-known-number
-enum-known-number c = search needs
+enum-known-rule : tie.Need-enum-known-rule
+enum-known-rule c = search needs
 
 no-step-requires-2 : tie.Need-no-step-requires-2
 no-step-requires-2 c κs = search needs
@@ -60,7 +60,7 @@ skumvari-walk-spec =
     enum-known-here
     no-step-requires
     put-walk-requires-2
-    enum-known-number
+    enum-known-rule
     no-step-requires-2
     put-walk-requires-3
     same-length

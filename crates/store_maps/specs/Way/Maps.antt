@@ -41,7 +41,7 @@ pub record TakenMap (t : List ℕ) (line : Found) (table : List ℕ) (w v : MapW
   pub grid : v .map ≡ gridIn (w .map) (mapLine t line w ∷ [])
   pub place-is : v .place ≡ placeAfter (w .place) (contentIn t line)
   pub at-is : v .at ≡ line .next
-  pub number-is : v .line ≡ line .line + 1
+  pub line-is : v .line ≡ line .line + 1
 
 -- the lines of a map, read from below its keyword up to the next one
 pub record ReadsMap (t : List ℕ) (n at : ℕ) (f : Filling) (table : List ℕ) (w : MapWalk) (table' : List ℕ) : Type 0 where

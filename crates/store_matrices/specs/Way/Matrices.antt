@@ -81,7 +81,7 @@ pub record TakenLine (t : List ℕ) (line : Found) (form : ℕ) (table : List �
       max (v .greatest) (greatestIn form ls) ≡ max (w .greatest) (greatestIn form (matrixLine t line ∷ ls))
   pub counted : Counted (v .spot)
   pub at-is : v .at ≡ line .next
-  pub number-is : v .line ≡ line .line + 1
+  pub line-is : v .line ≡ line .line + 1
 
 -- ---- the lines of a matrix
 

@@ -82,7 +82,7 @@ pub record Taken (t : List ℕ) (line : Found) (w : ModelWalk) (table : List ℕ
   pub head : v .head ≡ headIn (w .head) (lineIn t line (w .place) ∷ [])
   pub place-is : v .place ≡ placeAfter (w .place) (contentIn t line)
   pub at-is : v .at ≡ line .next
-  pub number-is : v .line ≡ line .line + 1
+  pub line-is : v .line ≡ line .line + 1
 
 -- lines of the model are gone over, from where w has come to where v has: their steps are stored. Which lines, it does not say: a fork
 -- block or one line

@@ -24,8 +24,8 @@ slice-aggregate-store c = search needs
 store-requires : tie.Need-store-requires
 store-requires c κs = store-ready _ _ (c .before .before .before .before .before .before .before .before .read .ensures .0) _ _ (c .before .before .before .before .before .before .before .before .read .ensures .1) _ (search needs)
 
-enum-known-number : tie.Need-enum-known-number
-enum-known-number c = search needs
+enum-known-rule : tie.Need-enum-known-rule
+enum-known-rule c = search needs
 
 zero-all-requires : tie.Need-zero-all-requires
 zero-all-requires c κs = search needs
@@ -52,7 +52,7 @@ store-text-spec =
     enum-known-counts
     slice-aggregate-store
     store-requires
-    enum-known-number
+    enum-known-rule
     zero-all-requires
     same-length
     returns
