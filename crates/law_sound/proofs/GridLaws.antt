@@ -53,7 +53,7 @@ use Rattle.law_sound.proofs.PartLaws.{within-is}
 -- ---- what a line gives
 
 record Told (l : MapLine) : Type 0 where
-  saysOrder : l .says ≡ saysOrder → l .value ≤ 3
+  order : l .says ≡ saysOrder → l .value ≤ 3
   size : l .bounded ≡ true → l .value ≤ 256
 
 -- a line that gives nothing

@@ -13,7 +13,7 @@ use Rattle.cross_rules.specs.Rules.{crossRule}
 use Rattle.ask_sound.specs.Sound.{isSound}
 use Rattle.intake.specs.Verdict.{Outcome}
 use Rattle.intake.specs.declared.Answer.the-variants.{Accepted}
-use Rattle.law_demands.proofs.AcceptedLaws.{accepted-taken, AcceptedTable as Passed}
+use Rattle.law_demands.proofs.AcceptedLaws.{accepted-taken, Taken as Passed}
 use Rattle.law_demands.proofs.DemandLaws.{demanded}
 use Rattle.law_sound.proofs.IntakeLaws.{intake-sound}
 use Rattle.law_third.specs.Third.{AcceptedTable}
