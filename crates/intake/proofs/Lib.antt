@@ -1,5 +1,5 @@
 pub mod IntakeLaws
 pub mod FillLaws
 pub mod ReadyLaws
-pub mod NoteLaws
+pub mod StageLaws
 pub mod CrossLaws

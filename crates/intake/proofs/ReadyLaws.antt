@@ -25,9 +25,9 @@ use Rattle.doc.specs.Document.{documentOf}
 use Rattle.doc.specs.Records.{tableOf}
 use Rattle.doc.specs.Way.Holds.{countsOf}
 use Rattle.store_base.specs.Way.Stores.{Stores, Placed}
-use Rattle.store_base.specs.Way.Notes.{Noted, Before}
+use Rattle.store_base.specs.Way.Stage.{Staged, Before}
 use Rattle.store_base.specs.declared.Walk.{Walk}
-use Rattle.store_base.proofs.NoteLaws.{noted-kept}
+use Rattle.store_base.proofs.StageLaws.{stage-kept}
 use Rattle.store_maps.specs.Way.Maps.{mapsOf, FillsMaps}
 use Rattle.store_sections.specs.Way.Sections.{sectionsOf, sectionsLeft}
 use Rattle.store_steps.specs.Way.Steps.{lowOf, Aims}
@@ -38,7 +38,7 @@ use Rattle.intake.specs.Way.Stored.{tableAfterStoring, Lifted}
 use Rattle.intake.specs.declared.store.StoreAnswer.{StoreAnswer}
 use Rattle.intake.specs.declared.store.StoreAnswer.the-variants.{Stored, Refused}
 use Rattle.intake.proofs.FillLaws.{start-long, layout-long, maps-fit, seven-maps, sections-fit, seven-blocks, models-fit, aims, all-filled}
-use Rattle.intake.proofs.NoteLaws.{noted-opened, noted-moved}
+use Rattle.intake.proofs.StageLaws.{stage-opened, stage-moved}
 
 module _ (t : List ℕ) (c : Counts) (reads : readingOf t ≡ reading.Read c) where
   -- no count is above the bound of values
@@ -99,22 +99,22 @@ module _ (t : List ℕ) (c : Counts) (reads : readingOf t ≡ reading.Read c) wh
       maps-are : Stores (startFilling (countsOf c)) start (mapsOf (startFilling (countsOf c)) (documentOf t .maps)) (w .filling) t₁
       maps-are = rw (is-f, table-is) at (fills .maps)
 
-      sections-noted : (notes : List ℕ) → Noted t before notes (needed widths (countsOf c) - 3 * c .values) 0 →
-          Noted t t₁ notes (getD (w .filling .bases) 6 0) (getD (w .filling .counts) 6 0)
-      sections-noted notes noted =
-          noted-kept t table notes t₁ f (w .filling) (mapsOf f (documentOf t .maps)) (fills .maps) (maps-ready .1) (maps-ready .0)
-          (rw (is-f, is-table) (noted-opened c t before notes room noted))
+      sections-staged : (stage : List ℕ) → Staged t before stage (needed widths (countsOf c) - 3 * c .values) 0 →
+          Staged t t₁ stage (getD (w .filling .bases) 6 0) (getD (w .filling .counts) 6 0)
+      sections-staged stage staged =
+          stage-kept t table stage t₁ f (w .filling) (mapsOf f (documentOf t .maps)) (fills .maps) (maps-ready .1) (maps-ready .0)
+          (rw (is-f, is-table) (stage-opened c t before stage room staged))
 
-      pub sections-ready : (notes : List ℕ) → Noted t before notes (needed widths (countsOf c) - 3 * c .values) 0 →
+      pub sections-ready : (stage : List ℕ) → Staged t before stage (needed widths (countsOf c) - 3 * c .values) 0 →
           Placed t (w .line) (w .at)
           × (length (w .filling .counts) ≡ 7)
           × filling.Fits (length t₁) (w .filling) (sectionsOf (w .filling) (sectionsLeft t w))
-          × Noted t t₁ notes (getD (w .filling .bases) 6 0) (getD (w .filling .counts) 6 0)
-      sections-ready notes noted = (
+          × Staged t t₁ stage (getD (w .filling .bases) 6 0) (getD (w .filling .counts) 6 0)
+      sections-ready stage staged = (
         fills .placed,
         seven-maps t c reads size room (lifted .words) (lifted .long) (w .filling) t₁ maps-are,
         rw (sym (fills .sections)) (sections-fit t c reads size room (lifted .words) (lifted .long) (w .filling) t₁ maps-are),
-        sections-noted notes noted,
+        sections-staged stage staged,
       )
 
       module _ (f₂ : Filling) (t₂ : List ℕ) (stores : Stores (w .filling) t₁ (sectionsOf (w .filling) (sectionsLeft t w)) f₂ t₂) where
@@ -190,16 +190,16 @@ module _ (t : List ℕ) (c : Counts) (reads : readingOf t ≡ reading.Read c) (t
             image = is-moved ∙ (λ i. sets (replicate (n i) 0) (words-for i - m i) (take (3 * c .values) table));
           }
 
-      pub fill-ready : (notes : List ℕ) → Noted t table notes 0 0 → Before notes (c .values) →
+      pub fill-ready : (stage : List ℕ) → Staged t table stage 0 0 → Before stage (c .values) →
           (readingOf t ≡ reading.Read c)
           × (needed widths (countsOf c) ≤ length moved)
           × Lifted (countsOf c) moved
-          × Noted t moved notes (needed widths (countsOf c) - 3 * c .values) 0
-      fill-ready notes noted before = (
+          × Staged t moved stage (needed widths (countsOf c) - 3 * c .values) 0
+      fill-ready stage staged before = (
         reads,
         rw moved-long (rw words-for at roomy),
         moved-lifted,
-        noted-moved c t table notes words words-for lift-ready noted before moved is-moved,
+        stage-moved c t table stage words words-for lift-ready staged before moved is-moved,
       )
 
       pub store-filled : (table' : List ℕ) → table' ≡ tableOf t ++ replicate (length moved - length (tableOf t)) 0 →
@@ -209,10 +209,10 @@ module _ (t : List ℕ) (c : Counts) (reads : readingOf t ≡ reading.Read c) (t
 -- what the forward reading answered is what the text comes to
 module _ (t : List ℕ) (answer : Reading) (told : answer ≡ readingOf t) where
   -- and what it noted is true where it read to the end
-  pub store-ready : (table notes : List ℕ) → ((c : Counts) → answer ≡ reading.Read c → Carries t table notes (c .values)) →
+  pub store-ready : (table stage : List ℕ) → ((c : Counts) → answer ≡ reading.Read c → Carries t table stage (c .values)) →
       (c : Counts) → answer ≡ reading.Read c →
-      (readingOf t ≡ reading.Read c) × Noted t table notes 0 0 × Before notes (c .values)
-  store-ready table notes carries c e = (sym told ∙ e, carries c e .noted, carries c e .before)
+      (readingOf t ≡ reading.Read c) × Staged t table stage 0 0 × Before stage (c .values)
+  store-ready table stage carries c e = (sym told ∙ e, carries c e .staged, carries c e .before)
 
   pub not-read : (size number line : ℕ) → answer ≡ reading.Refused number line → Refused number line ≡ storeAnswer t size
   unfolding storeAnswer

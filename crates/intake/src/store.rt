@@ -9,7 +9,7 @@ ghost use Rattle.read_line.specs.Reading.{readingOf};
 ghost use Rattle.read_line.specs.declared.Reading.the-variants.{Read};
 ghost use Rattle.doc.specs.Way.Holds.{countsOf};
 ghost use Rattle.doc.specs.Records.{tableOf};
-ghost use Rattle.store_base.specs.Way.Notes.{Noted, Before};
+ghost use Rattle.store_base.specs.Way.Stage.{Staged, Before};
 ghost use Rattle.intake.specs.Stored.{storeAnswer};
 ghost use Rattle.intake.specs.Way.Stored.{tableAfterStoring, Lifted};
 use line_keyword::Counts;
@@ -41,24 +41,24 @@ fn counts_of(counts: Counts) -> [u64; 7]
 
 // The records of all parts, in a table that is long enough and holds zeros, but for words where the values belong. Where these are the words
 // of a matrix that was noted, its lines are not read again. Models come last, since their steps point at maps and sections.
-fn fill(text: &[u8], table: &mut [u64], counts: Counts, notes: &[u64])
+fn fill(text: &[u8], table: &mut [u64], counts: Counts, stage: &[u64])
     requires { ⌜ (readingOf (now text) ≡ Read counts)
         × (needed widths (countsOf counts) ≤ length (now table))
         × Lifted (countsOf counts) (now table)
-        × Noted (now text) (now table) (now notes) (needed widths (countsOf counts) - 3 * counts .values) 0 ⌝ }
+        × Staged (now text) (now table) (now stage) (needed widths (countsOf counts) - 3 * counts .values) 0 ⌝ }
     ensures { λ _. ⌜ now (table .exit) ≡ tableOf (now (text .entry)) ++ replicate (length (now (table .entry)) - length (tableOf (now (text .entry)))) 0 ⌝ }
 {
     let filling = table_layout::open_parts(table, counts_of(counts));
     let walk = store_maps::fill_maps(text, table, filling);
-    let filled = store_sections::fill_sections(text, table, walk, notes);
+    let filled = store_sections::fill_sections(text, table, walk, stage);
     store_models::fill_models(text, table, filled);
 }
 
 // A text that reads to its end: its records, if the table has room for them. The words of what was noted stand at the front of the table.
-fn store(text: &[u8], table: &mut [u64], counts: Counts, notes: &[u64]) -> StoreAnswer
+fn store(text: &[u8], table: &mut [u64], counts: Counts, stage: &[u64]) -> StoreAnswer
     requires { ⌜ (readingOf (now text) ≡ Read counts)
-        × Noted (now text) (now table) (now notes) 0 0
-        × Before (now notes) (counts .values) ⌝ }
+        × Staged (now text) (now table) (now stage) 0 0
+        × Before (now stage) (counts .values) ⌝ }
     ensures { λ r. ⌜ (r ≡ storeAnswer (now (text .entry)) (length (now (table .entry)))) × (now (table .exit) ≡ tableAfterStoring (now (text .entry)) (length (now (table .entry))) r) ⌝ }
 {
     let words = table_layout::words_needed(counts_of(counts));
@@ -68,12 +68,12 @@ fn store(text: &[u8], table: &mut [u64], counts: Counts, notes: &[u64]) -> Store
     }
     let lifted = WORDS * (counts.values as usize);
     table_layout::lift(table, lifted, words - lifted);
-    fill(text, table, counts, notes);
+    fill(text, table, counts, stage);
     StoreAnswer::Stored(words)
 }
 
 // Room for notes: nine words for each of at most 1,024 matrices. They come from a function so that no proof has to look at all of them.
-fn notes_room() -> [u64; 9216]
+fn stage_room() -> [u64; 9216]
     ensures { λ r. ⌜ r ≡ replicate 9216 0 ⌝ }
 {
     [0; 9216]
@@ -83,9 +83,9 @@ fn notes_room() -> [u64; 9216]
 pub fn store_text(text: &[u8], table: &mut [u64]) -> StoreAnswer
     ensures { λ r. ⌜ (r ≡ storeAnswer (now (text .entry)) (length (now (table .entry)))) × (now (table .exit) ≡ tableAfterStoring (now (text .entry)) (length (now (table .entry))) r) ⌝ }
 {
-    let mut notes = notes_room();
-    match read_text::read(text, table, &mut notes) {
-        Reading::Read(counts) => store(text, table, counts, &notes),
+    let mut stage = stage_room();
+    match read_text::read(text, table, &mut stage) {
+        Reading::Read(counts) => store(text, table, counts, &stage),
         Reading::Refused(rule, line) => {
             base::zero_all(table);
             StoreAnswer::Refused(rule, line)

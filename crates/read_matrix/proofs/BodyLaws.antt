@@ -26,19 +26,19 @@ use Rattle.doc.specs.Document.{Value, inMatrix, valuesFrom, bandwidthIn, greate
 use Rattle.doc.specs.Records.{valueWords}
 use Rattle.doc.proofs.FoundLaws.{pass-over, stop-here, nothing-left}
 use Rattle.store_base.specs.Way.Stores.{Placed}
-use Rattle.store_base.specs.Way.Notes.{bodyLines, valuesWords, Note, Tells, wordsOf}
+use Rattle.store_base.specs.Way.Stage.{bodyLines, valuesWords, StagedMatrix, Tells, wordsOf}
 use Rattle.store_base.proofs.LineLaws.{up-on, up-stops, up-none}
 use Rattle.store_matrices.specs.Way.Told.{toldOr}
 use Rattle.store_matrices.proofs.MatrixLaws.{matrix-stays, told-untold}
-use Rattle.read_numbers.specs.declared.Note as noting
-use Rattle.read_numbers.specs.Way.Noting.{Adds}
+use Rattle.read_numbers.specs.declared.Staging as stages
+use Rattle.read_numbers.specs.Way.Staging.{Adds}
 use Rattle.read_matrix.specs.declared.Data.{Data}
-use Rattle.read_matrix.specs.Way.Body.{noNote, Behind, Ends, Takes, Goes, noteOf}
+use Rattle.read_matrix.specs.Way.Body.{newStaging, Behind, Ends, Takes, Goes, stagedOf}
 use Rattle.read_matrix.specs.Way.Run.{Left, Gone}
 use Rattle.read_matrix.proofs.LineLaws.{no-bounded, behind-same}
 
 -- the same lines, told otherwise
-module _ (t : List ℕ) (n₀ at₀ form : ℕ) (table₀ : List ℕ) (values₀ n at n' at' : ℕ) (table : List ℕ) (values : ℕ) (a : noting.Note) where
+module _ (t : List ℕ) (n₀ at₀ form : ℕ) (table₀ : List ℕ) (values₀ n at n' at' : ℕ) (table : List ℕ) (values : ℕ) (a : stages.Staging) where
   left-same : linesAt t n at place.matrix ≡ linesAt t n' at' place.matrix → Left t n₀ at₀ form table₀ values₀ n at table values a → Left t n₀ at₀ form table₀ values₀ n' at' table values a
   left-same lines left =
       let body : bodyLines t n at ≡ bodyLines t n' at' = ap (upTo inMatrix) lines in
@@ -56,7 +56,7 @@ module _ (t : List ℕ) (n₀ at₀ form : ℕ) (table₀ : List ℕ) (values₀
     body-on : bodyLines t n at ≡ l ∷ bodyLines t n' at'
     body-on = ap (upTo inMatrix) lines ∙ up-on inMatrix l (linesAt t n' at' place.matrix) inside
 
-    left-on : (table' : List ℕ) (values' : ℕ) (b : noting.Note) → Adds form l table values a table' values' b → Left t n₀ at₀ form table₀ values₀ n' at' table' values' b
+    left-on : (table' : List ℕ) (values' : ℕ) (b : stages.Staging) → Adds form l table values a table' values' b → Left t n₀ at₀ form table₀ values₀ n' at' table' values' b
     left-on table' values' b adds =
         record {
           image = adds .image (bodyLines t n' at') ∙ rw body-on at (left .image);
@@ -94,7 +94,7 @@ stored-words table p ws h =
     ∙ ap (take (length ws)) d
     ∙ take-append-seam ws rest
 
-module _ (t : List ℕ) (n₀ at₀ form : ℕ) (table₀ : List ℕ) (values₀ n at : ℕ) (table : List ℕ) (values : ℕ) (a : noting.Note)
+module _ (t : List ℕ) (n₀ at₀ form : ℕ) (table₀ : List ℕ) (values₀ n at : ℕ) (table : List ℕ) (values : ℕ) (a : stages.Staging)
     (left : Left t n₀ at₀ form table₀ values₀ n at table values a) (none : bodyLines t n at ≡ []) (long : length table ≡ length table₀) where
   abbrev all : List Value
   all = valuesFrom form 1 1 (bodyLines t n₀ at₀)
@@ -136,8 +136,8 @@ module _ (t : List ℕ) (n₀ at₀ form : ℕ) (table₀ : List ℕ) (values₀
 
 -- ---- lines gone over
 
-pub gone-start : (t : List ℕ) (at line : ℕ) (m : Matrix) (values : ℕ) (table : List ℕ) (b : Bool) → at ≤ length t → (b ≡ true → 3 * values ≤ length table) → (n : noting.Note) → n ≡ noNote b →
-    Gone t at line m values table at line (record { taken = true; ends = false; rule = 0; matrix = m; values = values; note = n }) table
+pub gone-start : (t : List ℕ) (at line : ℕ) (m : Matrix) (values : ℕ) (table : List ℕ) (b : Bool) → at ≤ length t → (b ≡ true → 3 * values ≤ length table) → (n : stages.Staging) → n ≡ newStaging b →
+    Gone t at line m values table at line (record { taken = true; ends = false; rule = 0; matrix = m; values = values; staging = n }) table
 gone-start t at line m values table b h room n told =
     rw told
     (record {
@@ -177,25 +177,25 @@ module _ (t : List ℕ) (at line : ℕ) (m : Matrix) (values : ℕ) (table₀ : 
       record { within = gone .crossed .within; counted = omega arith }
 
   -- what is noted of all lines
-  told : part .note .whole ≡ true → bodyLines t number here ≡ [] → line ≤ at + 1 → (noted : Bool) →
-      Tells t (noteOf at line m values (record { at = here; line = number; part = part; noted = noted }))
-      (wordsOf table 0 (noteOf at line m values (record { at = here; line = number; part = part; noted = noted })))
-  told w e h noted =
-      let left : Left t line at (m .form) table₀ values number here table (part .values) (part .note) = gone .left w in
-      left-told t line at (m .form) table₀ values number here table (part .values) (part .note) left e (gone .behind .long) (placed-here h) (gone .crossed .onward)
+  told : part .staging .whole ≡ true → bodyLines t number here ≡ [] → line ≤ at + 1 → (staged : Bool) →
+      Tells t (stagedOf at line m values (record { at = here; line = number; part = part; staged = staged }))
+      (wordsOf table 0 (stagedOf at line m values (record { at = here; line = number; part = part; staged = staged })))
+  told w e h staged =
+      let left : Left t line at (m .form) table₀ values number here table (part .values) (part .staging) = gone .left w in
+      left-told t line at (m .form) table₀ values number here table (part .values) (part .staging) left e (gone .behind .long) (placed-here h) (gone .crossed .onward)
 
-  pub gone-ends : length t ≤ here → Goes t at line m values table₀ (record { at = here; line = number; part = part; noted = part .note .whole }) table
+  pub gone-ends : length t ≤ here → Goes t at line m values table₀ (record { at = here; line = number; part = part; staged = part .staging .whole }) table
   gone-ends h =
       record {
         crossed = gone .crossed;
         stays = stays-ended t at here h;
         behind = gone .behind;
         rises = gone .rises;
-        tells = λ (z : part .rule ≡ 0) (w : part .note .whole ≡ true) (l : line ≤ at + 1). told w (nothing-more h) l (part .note .whole);
+        tells = λ (z : part .rule ≡ 0) (w : part .staging .whole ≡ true) (l : line ≤ at + 1). told w (nothing-more h) l (part .staging .whole);
       }
 
   module _ (h : here < length t) (found : text.Line) (is-found : found ≡ lineAt commentByte t here) (next : Data) (table' : List ℕ)
-      (takes : Takes (take (found .content - here) (drop here t)) (part .matrix) (part .values) (part .note) table next table') where
+      (takes : Takes (take (found .content - here) (drop here t)) (part .matrix) (part .values) (part .staging) table next table') where
     abbrev content : List ℕ
     content = take (found .content - here) (drop here t)
 
@@ -205,17 +205,17 @@ module _ (t : List ℕ) (at line : ℕ) (m : Matrix) (values : ℕ) (table₀ : 
     stops-here : Ends content → bodyLines t number here ≡ []
     stops-here ends = ap (upTo inMatrix) (stop-here t here h number found is-found (ends .filled) place.matrix) ∙ up-stops inMatrix l _ (ends .outside l refl)
 
-    pub gone-leaves : next .taken ≡ false → (noted : Bool) → noted ≡ both (next .ends) (part .note .whole) →
-        Goes t at line m values table₀ (record { at = here; line = number; part = part; noted = noted }) table'
-    gone-leaves left noted is-noted =
+    pub gone-leaves : next .taken ≡ false → (staged : Bool) → staged ≡ both (next .ends) (part .staging .whole) →
+        Goes t at line m values table₀ (record { at = here; line = number; part = part; staged = staged }) table'
+    gone-leaves left staged is-staged =
         rw (takes .kept left)
         (record {
           crossed = gone .crossed;
           stays = stays-opens t at here found is-found (takes .opens left);
           behind = gone .behind;
           rises = gone .rises;
-          tells = λ (z : part .rule ≡ 0) (w : noted ≡ true) (k : line ≤ at + 1).
-              told (both-second _ _ (sym is-noted ∙ w)) (stops-here (takes .ends left (both-first _ _ (sym is-noted ∙ w)))) k noted;
+          tells = λ (z : part .rule ≡ 0) (w : staged ≡ true) (k : line ≤ at + 1).
+              told (both-second _ _ (sym is-staged ∙ w)) (stops-here (takes .ends left (both-first _ _ (sym is-staged ∙ w)))) k staged;
         })
 
     -- ---- a line that is taken
@@ -227,7 +227,7 @@ module _ (t : List ℕ) (at line : ℕ) (m : Matrix) (values : ℕ) (table₀ : 
       decided : (s : State) → Holds place.matrix (withMatrix m values) s → lineResult content (withMatrix (part .matrix) (part .values) s) ≡ breaks (next .rule) (withMatrix (next .matrix) (next .values) s)
       decided s f = takes .decides taken s (f .0)
 
-      pub gone-stops : (next .rule ≡ 0 → ⊥) → Goes t at line m values table₀ (record { at = found .next; line = number; part = next; noted = false }) table'
+      pub gone-stops : (next .rule ≡ 0 → ⊥) → Goes t at line m values table₀ (record { at = found .next; line = number; part = next; staged = false }) table'
       gone-stops broken =
           record {
             crossed =
@@ -240,23 +240,23 @@ module _ (t : List ℕ) (at line : ℕ) (m : Matrix) (values : ℕ) (table₀ : 
           }
 
       module _ (z : next .rule ≡ 0) where
-        on-blank : next .note .whole ≡ true → isBlankLine content ≡ true → Left t line at (m .form) table₀ values (number + 1) (found .next) table' (next .values) (next .note)
+        on-blank : next .staging .whole ≡ true → isBlankLine content ≡ true → Left t line at (m .form) table₀ values (number + 1) (found .next) table' (next .values) (next .staging)
         on-blank w blank =
-            let e : (table' ≡ table) × (next .values ≡ part .values) × (next .note ≡ part .note) = takes .extends taken z w .blank blank in
+            let e : (table' ≡ table) × (next .values ≡ part .values) × (next .staging ≡ part .staging) = takes .extends taken z w .blank blank in
             let lines : linesAt t number here place.matrix ≡ linesAt t (number + 1) (found .next) place.matrix = pass-over t here h number found is-found blank place.matrix in
-            let v : part .note .whole ≡ true = ap (λ (x : noting.Note). x .whole) (sym (e .2)) ∙ w in
-            let left : Left t line at (m .form) table₀ values number here table (part .values) (part .note) = gone .left v in
-            rw (e .0, e .1, e .2) (left-same t line at (m .form) table₀ values number here (number + 1) (found .next) table (part .values) (part .note) lines left)
+            let v : part .staging .whole ≡ true = ap (λ (x : stages.Staging). x .whole) (sym (e .2)) ∙ w in
+            let left : Left t line at (m .form) table₀ values number here table (part .values) (part .staging) = gone .left v in
+            rw (e .0, e .1, e .2) (left-same t line at (m .form) table₀ values number here (number + 1) (found .next) table (part .values) (part .staging) lines left)
 
-        on-filled : next .note .whole ≡ true → isBlankLine content ≡ false → Left t line at (m .form) table₀ values (number + 1) (found .next) table' (next .values) (next .note)
+        on-filled : next .staging .whole ≡ true → isBlankLine content ≡ false → Left t line at (m .form) table₀ values (number + 1) (found .next) table' (next .values) (next .staging)
         on-filled w filled =
-            let e : (inMatrix l ≡ true) × Adds (part .matrix .form) l table (part .values) (part .note) table' (next .values) (next .note) = takes .extends taken z w .filled filled l refl refl in
-            let adds : Adds (m .form) l table (part .values) (part .note) table' (next .values) (next .note) = rw (gone .form) at (e .1) in
+            let e : (inMatrix l ≡ true) × Adds (part .matrix .form) l table (part .values) (part .staging) table' (next .values) (next .staging) = takes .extends taken z w .filled filled l refl refl in
+            let adds : Adds (m .form) l table (part .values) (part .staging) table' (next .values) (next .staging) = rw (gone .form) at (e .1) in
             let lines : linesAt t number here place.matrix ≡ l ∷ linesAt t (number + 1) (found .next) place.matrix =
             stop-here t here h number found is-found filled place.matrix ∙ ap (λ (p : ℕ). l ∷ linesAt t (number + 1) (found .next) p) (inside-stays content number here (e .0)) in
-            left-on t line at (m .form) table₀ values number here (number + 1) (found .next) table (part .values) (part .note) l lines (e .0) (gone .left (adds .whole)) table' (next .values) (next .note) adds
+            left-on t line at (m .form) table₀ values number here (number + 1) (found .next) table (part .values) (part .staging) l lines (e .0) (gone .left (adds .whole)) table' (next .values) (next .staging) adds
 
-        left-next : next .note .whole ≡ true → Left t line at (m .form) table₀ values (number + 1) (found .next) table' (next .values) (next .note)
+        left-next : next .staging .whole ≡ true → Left t line at (m .form) table₀ values (number + 1) (found .next) table' (next .values) (next .staging)
         left-next w = by-cases _ (isBlankLine content) (on-blank w) (on-filled w)
 
         pub gone-on : Gone t at line m values table₀ (found .next) (number + 1) next table'

@@ -34,18 +34,18 @@ use Rattle.read_line.proofs.StepLaws.{data-stops, data-goes, keyword-stops, key
 use Rattle.read_line.proofs.QuietLaws.{words-decide, quiet-blank}
 use Rattle.doc.specs.Lines.{Line, plain, keyIn, keyAt, keyOf, argumentIn, argumentOf}
 use Rattle.doc.specs.Document.{Value, inMatrix, givenBy, bandwidthIn, greatestIn}
-use Rattle.store_base.specs.Way.Notes.{valuesWords}
+use Rattle.store_base.specs.Way.Stage.{valuesWords}
 use Rattle.store_matrices.specs.Way.Told.{firstTold, toldOr}
 use Rattle.store_matrices.specs.declared.First.{First}
 use Rattle.store_matrices.proofs.BodyLaws.{told-first, whole-below, most-of, row-values, row-bandwidth, row-greatest, bandwidth-values, bandwidth-told, bandwidth-greatest}
-use Rattle.read_numbers.specs.declared.Note.{Note}
-use Rattle.read_numbers.specs.Way.Noting.{Bounded, Adds}
+use Rattle.read_numbers.specs.declared.Staging.{Staging}
+use Rattle.read_numbers.specs.Way.Staging.{Bounded, Adds}
 use Rattle.read_matrix.specs.declared.Data.{Data}
-use Rattle.read_matrix.specs.Way.Body.{noNote, keptNote, Keeps, Behind, Extends, Ends, Takes}
+use Rattle.read_matrix.specs.Way.Body.{newStaging, keptStaging, Keeps, Behind, Extends, Ends, Takes}
 
 -- ---- notes
 
-pub no-bounded : (values : ℕ) (b : Bool) → Bounded (noNote b) values
+pub no-bounded : (values : ℕ) (b : Bool) → Bounded (newStaging b) values
 no-bounded values b = record { row = omega arith; column = omega arith }
 
 pub behind-same : (values : ℕ) (table : List ℕ) → Behind values table table
@@ -88,12 +88,12 @@ module _ (content : List ℕ) (filled : isBlankLine content ≡ false) (plainly 
   form-on next next-is = ap (λ (x : Matrix). x .form) next-is ∙ next-form line m
 
   -- a line that is judged alone
-  module _ (n : Note) (none : n ≡ noNote false) (a : Note) (table : List ℕ) where
+  module _ (n : Staging) (none : n ≡ newStaging false) (a : Staging) (table : List ℕ) where
     untold-here : n .whole ≡ true → ⊥
-    untold-here w = true≢false (sym w ∙ ap (λ (x : Note). x .whole) none)
+    untold-here w = true≢false (sym w ∙ ap (λ (x : Staging). x .whole) none)
 
     pub judged-stops : (k ≡ 0 → ⊥) →
-        Takes content m values a table (record { taken = true; ends = false; rule = k; matrix = m; values = values; note = n }) table
+        Takes content m values a table (record { taken = true; ends = false; rule = k; matrix = m; values = values; staging = n }) table
     judged-stops h =
         record {
           decides = λ (e : true ≡ true). steps-not h;
@@ -109,7 +109,7 @@ module _ (content : List ℕ) (filled : isBlankLine content ≡ false) (plainly 
 
     pub judged-goes : k ≡ 0 → (next : Matrix) → next ≡ dataNext line m →
         Takes content m values a table
-        (record { taken = true; ends = false; rule = 0; matrix = next; values = values + line .numbers; note = n }) table
+        (record { taken = true; ends = false; rule = 0; matrix = next; values = values + line .numbers; staging = n }) table
     judged-goes z next next-is =
         record {
           decides = λ (e : true ≡ true). steps-on z next next-is;
@@ -124,7 +124,7 @@ module _ (content : List ℕ) (filled : isBlankLine content ≡ false) (plainly 
         }
 
   -- a line that is noted
-  module _ (a b : Note) (table table' : List ℕ) (behind : Behind values table table')
+  module _ (a b : Staging) (table table' : List ℕ) (behind : Behind values table table')
       (adds : (l : Line) → l .content ≡ content → keyOf l ≡ plain → Adds (m .form) l table values a table' (values + line .numbers) b) where
     -- some line of these words, wherever it stands
     abbrev here : Line
@@ -138,10 +138,10 @@ module _ (content : List ℕ) (filled : isBlankLine content ≡ false) (plainly 
               (plain-inside l p (plain-key content plainly l c), adds l c (plain-key content plainly l c));
         }
 
-    pub noted-goes : k ≡ 0 → (next : Matrix) → next ≡ dataNext line m →
+    pub stage-goes : k ≡ 0 → (next : Matrix) → next ≡ dataNext line m →
         Takes content m values a table
-        (record { taken = true; ends = false; rule = 0; matrix = next; values = values + line .numbers; note = b }) table'
-    noted-goes z next next-is =
+        (record { taken = true; ends = false; rule = 0; matrix = next; values = values + line .numbers; staging = b }) table'
+    stage-goes z next next-is =
         record {
           decides = λ (e : true ≡ true). steps-on z next next-is;
           opens = λ (e : true ≡ false). absurd (true≢false e);
@@ -156,8 +156,8 @@ module _ (content : List ℕ) (filled : isBlankLine content ≡ false) (plainly 
 
 -- ---- a blank line
 
-pub blank-takes : (content : List ℕ) (m : Matrix) (values : ℕ) (a : Note) (table : List ℕ) → isBlankLine content ≡ true → Bounded a values →
-    Takes content m values a table (record { taken = true; ends = false; rule = 0; matrix = m; values = values; note = a }) table
+pub blank-takes : (content : List ℕ) (m : Matrix) (values : ℕ) (a : Staging) (table : List ℕ) → isBlankLine content ≡ true → Bounded a values →
+    Takes content m values a table (record { taken = true; ends = false; rule = 0; matrix = m; values = values; staging = a }) table
 unfolding breaks goes
 blank-takes content m values a table blank bound =
     record {
@@ -178,8 +178,8 @@ blank-takes content m values a table blank bound =
 
 -- ---- a line that is not taken
 
-pub left-takes : (content : List ℕ) (m : Matrix) (values : ℕ) (a : Note) (table : List ℕ) (b : Bool) → Opens content → (b ≡ true → Ends content) → Bounded a values → (r : Data) →
-    r ≡ record { taken = false; ends = b; rule = 0; matrix = m; values = values; note = a } → Takes content m values a table r table
+pub left-takes : (content : List ℕ) (m : Matrix) (values : ℕ) (a : Staging) (table : List ℕ) (b : Bool) → Opens content → (b ≡ true → Ends content) → Bounded a values → (r : Data) →
+    r ≡ record { taken = false; ends = b; rule = 0; matrix = m; values = values; staging = a } → Takes content m values a table r table
 left-takes content m values a table b opens ends bound r told =
     rw told
     (record {
@@ -230,30 +230,30 @@ kept-form k argument m values =
     (λ (e : eqb k row ≡ false). ap (λ (x : Matrix). x .form) (if-false _ _ e))
 
 -- rows and columns stay within their bounds
-kept-bounded : (k value : ℕ) (a : Note) (values : ℕ) → value < 1_000_000_000 → Bounded a values → Bounded (keptNote k value a) values
-unfolding keptNote
+kept-bounded : (k value : ℕ) (a : Staging) (values : ℕ) → value < 1_000_000_000 → Bounded a values → Bounded (keptStaging k value a) values
+unfolding keptStaging
 kept-bounded k value a values small bound =
     by-cases _ (eqb k row)
-    (λ (e : eqb k row ≡ true). rw (if-true {A = Note} _ _ e) (record { row = omega arith; column = omega arith }))
-    (λ (e : eqb k row ≡ false). rw (if-false {A = Note} _ _ e) (record { row = bound .row; column = bound .column }))
+    (λ (e : eqb k row ≡ true). rw (if-true {A = Staging} _ _ e) (record { row = omega arith; column = omega arith }))
+    (λ (e : eqb k row ≡ false). rw (if-false {A = Staging} _ _ e) (record { row = bound .row; column = bound .column }))
 
-module _ (k : ℕ) (argument : List ℕ) (m : Matrix) (values : ℕ) (a : Note) (keeps : keepsMatrix k ≡ true) (bound : Bounded a values) (n : ℕ) (rule : n ≡ keptRule k argument m) where
+module _ (k : ℕ) (argument : List ℕ) (m : Matrix) (values : ℕ) (a : Staging) (keeps : keepsMatrix k ≡ true) (bound : Bounded a values) (n : ℕ) (rule : n ≡ keptRule k argument m) where
   rule-here : (s : State) → s .place ≡ place.matrix → n ≡ keywordRule k argument (withMatrix m values s)
   rule-here s p = rule ∙ sym (kept-rule-is argument (withMatrix m values s) p k keeps)
 
-  pub keeps-stop : (n ≡ 0 → ⊥) → Keeps k argument m values a (record { taken = true; ends = false; rule = n; matrix = m; values = values; note = a })
+  pub keeps-stop : (n ≡ 0 → ⊥) → Keeps k argument m values a (record { taken = true; ends = false; rule = n; matrix = m; values = values; staging = a })
   keeps-stop h =
       record {
         taken = refl;
         decides = λ (s : State) (p : s .place ≡ place.matrix). sym (keyword-stops k argument (withMatrix m values s) n (rule-here s p) (breaks n (withMatrix m values s)) h refl);
         form = refl;
         same = refl;
-        note = λ (z : n ≡ 0). absurd (h z);
+        staging = λ (z : n ≡ 0). absurd (h z);
         bounded = bound;
       }
 
-  pub keeps-go : n ≡ 0 → (whole : Whole) → whole ≡ wholeOf argument → (next : Matrix) → next ≡ keptNext k argument m values → (b : Note) → b ≡ keptNote k (whole .value) a →
-      Keeps k argument m values a (record { taken = true; ends = false; rule = 0; matrix = next; values = values; note = b })
+  pub keeps-go : n ≡ 0 → (whole : Whole) → whole ≡ wholeOf argument → (next : Matrix) → next ≡ keptNext k argument m values → (b : Staging) → b ≡ keptStaging k (whole .value) a →
+      Keeps k argument m values a (record { taken = true; ends = false; rule = 0; matrix = next; values = values; staging = b })
   unfolding goes breaks
   keeps-go z whole whole-is next next-is b b-is =
       let v : whole .value ≡ wholeOf argument .value = ap (λ (x : Whole). x .value) whole-is in
@@ -265,27 +265,27 @@ module _ (k : ℕ) (argument : List ℕ) (m : Matrix) (values : ℕ) (a : Note) 
             (ap (λ (x : Matrix). withMatrix x values s) next-is ∙ sym (kept-next-is argument (withMatrix m values s) p k keeps)) refl);
         form = ap (λ (x : Matrix). x .form) next-is ∙ kept-form k argument m values;
         same = refl;
-        note = λ (y : _≡_ {A = ℕ} 0 0). b-is ∙ ap (λ (x : ℕ). keptNote k x a) v;
+        staging = λ (y : _≡_ {A = ℕ} 0 0). b-is ∙ ap (λ (x : ℕ). keptStaging k x a) v;
         bounded = rw b-is (kept-bounded k (whole .value) a values small bound);
       }
 
-abbrev rowed : Note → ℕ → Note
+abbrev rowed : Staging → ℕ → Staging
 rowed a n = record { whole = a .whole; row = n; column = n; bandwidth = a .bandwidth; greatest = max (a .greatest) n }
 
-abbrev banded : Note → ℕ → Note
+abbrev banded : Staging → ℕ → Staging
 banded a n = record { whole = a .whole; row = a .row; column = a .column; bandwidth = firstTold (a .bandwidth) n; greatest = a .greatest }
 
 -- what [Row] or [Bandwidth] adds
-kept-adds : (form : ℕ) (k : ℕ) (l : Line) (table : List ℕ) (values : ℕ) (a : Note) → keepsMatrix k ≡ true → keyOf l ≡ k → a .whole ≡ true → Bounded (keptNote k (givenBy l) a) values →
-    Adds form l table values a table values (keptNote k (givenBy l) a)
-unfolding keptNote keepsMatrix
+kept-adds : (form : ℕ) (k : ℕ) (l : Line) (table : List ℕ) (values : ℕ) (a : Staging) → keepsMatrix k ≡ true → keyOf l ≡ k → a .whole ≡ true → Bounded (keptStaging k (givenBy l) a) values →
+    Adds form l table values a table values (keptStaging k (givenBy l) a)
+unfolding keptStaging keepsMatrix
 kept-adds form k l table values a keeps key whole bound =
     by-cases _ (eqb k row) on-row on-bandwidth
   where
-    on-row : eqb k row ≡ true → Adds form l table values a table values (keptNote k (givenBy l) a)
+    on-row : eqb k row ≡ true → Adds form l table values a table values (keptStaging k (givenBy l) a)
     on-row e =
         let is-row : keyOf l ≡ row = key ∙ eqb-true k row e in
-        let f : keptNote k (givenBy l) a ≡ rowed a (givenBy l) = if-true {A = Note} (rowed a (givenBy l)) (banded a (givenBy l)) e in
+        let f : keptStaging k (givenBy l) a ≡ rowed a (givenBy l) = if-true {A = Staging} (rowed a (givenBy l)) (banded a (givenBy l)) e in
         rw f
         (record {
           whole = whole;
@@ -297,10 +297,10 @@ kept-adds form k l table values a keeps key whole bound =
           room = λ (h : 3 * values ≤ length table). h;
         })
 
-    on-bandwidth : eqb k row ≡ false → Adds form l table values a table values (keptNote k (givenBy l) a)
+    on-bandwidth : eqb k row ≡ false → Adds form l table values a table values (keptStaging k (givenBy l) a)
     on-bandwidth e =
         let is : keyOf l ≡ bandwidth = key ∙ eqb-true k bandwidth (sym (either-rest _ _ e) ∙ keeps) in
-        let f : keptNote k (givenBy l) a ≡ banded a (givenBy l) = if-false {A = Note} (rowed a (givenBy l)) (banded a (givenBy l)) e in
+        let f : keptStaging k (givenBy l) a ≡ banded a (givenBy l) = if-false {A = Staging} (rowed a (givenBy l)) (banded a (givenBy l)) e in
         rw f
         (record {
           whole = whole;
@@ -312,14 +312,14 @@ kept-adds form k l table values a keeps key whole bound =
           room = λ (h : 3 * values ≤ length table). h;
         })
 
-kept-whole : (k value : ℕ) (a : Note) → keptNote k value a .whole ≡ true → a .whole ≡ true
-unfolding keptNote
+kept-whole : (k value : ℕ) (a : Staging) → keptStaging k value a .whole ≡ true → a .whole ≡ true
+unfolding keptStaging
 kept-whole k value a w =
     by-cases _ (eqb k row)
-    (λ (e : eqb k row ≡ true). sym (ap (λ (x : Note). x .whole) (if-true {A = Note} _ _ e)) ∙ w)
-    (λ (e : eqb k row ≡ false). sym (ap (λ (x : Note). x .whole) (if-false {A = Note} _ _ e)) ∙ w)
+    (λ (e : eqb k row ≡ true). sym (ap (λ (x : Staging). x .whole) (if-true {A = Staging} _ _ e)) ∙ w)
+    (λ (e : eqb k row ≡ false). sym (ap (λ (x : Staging). x .whole) (if-false {A = Staging} _ _ e)) ∙ w)
 
-module _ (content : List ℕ) (filled : isBlankLine content ≡ false) (k start : ℕ) (is : bracketOf content ≡ Keyword k start) (m : Matrix) (values : ℕ) (a : Note) where
+module _ (content : List ℕ) (filled : isBlankLine content ≡ false) (k start : ℕ) (is : bracketOf content ≡ Keyword k start) (m : Matrix) (values : ℕ) (a : Staging) where
   step-keyed : (s : State) → (s .place ≡ place.done → ⊥) → (s .place ≡ place.before → ⊥) → lineResult content s ≡ keywordStep k (argumentFrom content start) s
   unfolding lineResult
   step-keyed s d b =
@@ -344,7 +344,7 @@ module _ (content : List ℕ) (filled : isBlankLine content ≡ false) (k start 
         behind = behind-same values table;
         rises = let s : r .values ≡ values = kept .same in omega arith;
         bounded = rw (kept .same) (kept .bounded);
-        extends = λ (e : r .taken ≡ true) (z : r .rule ≡ 0) (w : r .note .whole ≡ true).
+        extends = λ (e : r .taken ≡ true) (z : r .rule ≡ 0) (w : r .staging .whole ≡ true).
             record {
               blank = λ (b : isBlankLine content ≡ true). absurd (true≢false (sym b ∙ filled));
               filled = λ (b : isBlankLine content ≡ false) (l : Line) (p : l .place ≡ place.matrix) (c : l .content ≡ content). (keyed-inside keeps l p c, added z w l c);
@@ -354,13 +354,13 @@ module _ (content : List ℕ) (filled : isBlankLine content ≡ false) (k start 
       apart : (other : ℕ) → (place.matrix ≡ other → ⊥) → (s : State) → s .place ≡ place.matrix → s .place ≡ other → ⊥
       apart other h s p z = h (sym p ∙ z)
 
-      added : r .rule ≡ 0 → r .note .whole ≡ true → (l : Line) → l .content ≡ content → Adds (m .form) l table values a table (r .values) (r .note)
+      added : r .rule ≡ 0 → r .staging .whole ≡ true → (l : Line) → l .content ≡ content → Adds (m .form) l table values a table (r .values) (r .staging)
       added z w l c =
           let g : wholeOf argument .value ≡ givenBy l = ap (λ (x : List ℕ). wholeOf x .value) argument-is ∙ sym (given content k start is l c) in
-          let n : r .note ≡ keptNote k (givenBy l) a = kept .note z ∙ ap (λ (x : ℕ). keptNote k x a) g in
-          let b : Bounded (keptNote k (givenBy l) a) values = rw n at (kept .bounded) in
+          let n : r .staging ≡ keptStaging k (givenBy l) a = kept .staging z ∙ ap (λ (x : ℕ). keptStaging k x a) g in
+          let b : Bounded (keptStaging k (givenBy l) a) values = rw n at (kept .bounded) in
           rw (kept .same, n)
-          (kept-adds (m .form) k l table values a keeps (keyed content k start is l c) (kept-whole k (givenBy l) a (ap (λ (x : Note). x .whole) (sym n) ∙ w)) b)
+          (kept-adds (m .form) k l table values a keeps (keyed content k start is l c) (kept-whole k (givenBy l) a (ap (λ (x : Staging). x .whole) (sym n) ∙ w)) b)
 
   -- one that ends it
   outside : keepsMatrix k ≡ false → eqb k plain ≡ false → (l : Line) → l .content ≡ content → inMatrix l ≡ false
@@ -370,20 +370,20 @@ module _ (content : List ℕ) (filled : isBlankLine content ≡ false) (k start 
       both-not-right _ _ (either-false _ _ (ap (λ (x : ℕ). eqb x plain) key ∙ other) (ap keepsMatrix key ∙ leaves))
 
   pub leaves-takes : (b : Bool) → b ≡ keepsMatrix k → b ≡ false → Bounded a values → (r : Data) →
-      r ≡ record { taken = false; ends = not (eqb k plain); rule = 0; matrix = m; values = values; note = a } → (table : List ℕ) → Takes content m values a table r table
+      r ≡ record { taken = false; ends = not (eqb k plain); rule = 0; matrix = m; values = values; staging = a } → (table : List ℕ) → Takes content m values a table r table
   leaves-takes b keeps leaves bound r told table =
       left-takes content m values a table (not (eqb k plain)) (keyed-opens content k start is)
       (λ (e : not (eqb k plain) ≡ true). record { filled = filled; outside = outside (sym keeps ∙ leaves) (not-true _ e) }) bound r told
 
 -- what the code makes of a note at [Row] and at [Bandwidth]
-module _ (k value : ℕ) (a : Note) where
-  pub row-noted : (g : ℕ) → g ≡ max (a .greatest) value → k ≡ 1 → record { whole = a .whole; row = value; column = value; bandwidth = a .bandwidth; greatest = g } ≡ keptNote k value a
-  unfolding keptNote
-  row-noted g told e = ap (λ (x : ℕ). record { whole = a .whole; row = value; column = value; bandwidth = a .bandwidth; greatest = x }) told ∙ sym (if-true {A = Note} _ _ (eq-eqb _ _ e))
+module _ (k value : ℕ) (a : Staging) where
+  pub row-staged : (g : ℕ) → g ≡ max (a .greatest) value → k ≡ 1 → record { whole = a .whole; row = value; column = value; bandwidth = a .bandwidth; greatest = g } ≡ keptStaging k value a
+  unfolding keptStaging
+  row-staged g told e = ap (λ (x : ℕ). record { whole = a .whole; row = value; column = value; bandwidth = a .bandwidth; greatest = x }) told ∙ sym (if-true {A = Staging} _ _ (eq-eqb _ _ e))
 
-  pub bandwidth-noted : (b : First) → b ≡ firstTold (a .bandwidth) value → (k ≡ 1 → ⊥) → record { whole = a .whole; row = a .row; column = a .column; bandwidth = b; greatest = a .greatest } ≡ keptNote k value a
-  unfolding keptNote
-  bandwidth-noted b told h = ap (λ (x : First). record { whole = a .whole; row = a .row; column = a .column; bandwidth = x; greatest = a .greatest }) told ∙ sym (if-false {A = Note} _ _ (ne-eqb _ _ h))
+  pub bandwidth-staged : (b : First) → b ≡ firstTold (a .bandwidth) value → (k ≡ 1 → ⊥) → record { whole = a .whole; row = a .row; column = a .column; bandwidth = b; greatest = a .greatest } ≡ keptStaging k value a
+  unfolding keptStaging
+  bandwidth-staged b told h = ap (λ (x : First). record { whole = a .whole; row = a .row; column = a .column; bandwidth = x; greatest = a .greatest }) told ∙ sym (if-false {A = Staging} _ _ (ne-eqb _ _ h))
 
 -- what was read of a bracket
 pub bracket-told : (content : List ℕ) (b c : Bracket) → b ≡ bracketOf content → b ≡ c → bracketOf content ≡ c

@@ -32,17 +32,17 @@ use Rattle.read_line.specs.Way.Walk.{contentAt}
 use Rattle.read_line.proofs.KeptLaws.{column-small}
 use Rattle.doc.specs.Lines.{Line, plain, keyOf}
 use Rattle.store_matrices.specs.Way.Numbers.{mostGiven}
-use Rattle.read_numbers.specs.declared.Note.{Note}
+use Rattle.read_numbers.specs.declared.Staging.{Staging}
 use Rattle.read_numbers.specs.declared.Numbers.{Numbers}
 use Rattle.read_numbers.specs.declared.Pair.{Pair}
-use Rattle.read_numbers.specs.Way.Noting.{Bounded, Adds, movedTo, namedTo, NotesNumbers, NotesPair}
+use Rattle.read_numbers.specs.Way.Staging.{Bounded, Adds, movedTo, namedTo, StagesNumbers, StagesPair}
 use Rattle.read_matrix.specs.declared.Data.{Data}
 use Rattle.read_matrix.specs.declared.Run.{Run}
 use Rattle.read_matrix.specs.declared.TakenNumbers.{TakenNumbers}
 use Rattle.read_matrix.specs.declared.TakenPair.{TakenPair}
 use Rattle.read_matrix.specs.Way.Body.{Behind, Takes, TakesAlone, Goes}
 use Rattle.read_matrix.specs.Way.Run.{Gone, Leads, Ordered, Runs, numbersPart, TakesNumbers, pairsMatrix, pairsPart, TakesPair}
-use Rattle.read_matrix.proofs.LineLaws.{behind-same, noted-goes}
+use Rattle.read_matrix.proofs.LineLaws.{behind-same, stage-goes}
 use Rattle.read_matrix.proofs.BodyLaws.{behind-on, gone-ends, gone-leaves, gone-stops, gone-on}
 
 -- ---- a line that breaks no rule
@@ -86,7 +86,7 @@ module _ (t : List ℕ) (here form values row column : ℕ) (table : List ℕ) w
         takes = λ (z : false ≡ true). absurd (true≢false (sym z));
       })
 
-  module _ (table' : List ℕ) (numbers : Numbers) (read : NotesNumbers form t here table values row column table' numbers) where
+  module _ (table' : List ℕ) (numbers : Numbers) (read : StagesNumbers form t here table values row column table' numbers) where
     behind-read : Behind values table table'
     behind-read = record { long = read .long; same = read .front }
 
@@ -104,18 +104,18 @@ module _ (t : List ℕ) (here form values row column : ℕ) (table : List ℕ) w
         })
 
     module _ (filled : isBlankLine (contentAt t here) ≡ false) (plainly : bracketOf (contentAt t here) ≡ Plain) (not-sparse : form ≡ sparse → ⊥)
-        (noted : numbers .noted ≡ true) (few : values + numbers .count ≤ mostValues) where
+        (staged : numbers .staged ≡ true) (few : values + numbers .count ≤ mostValues) where
       abbrev line : DataLine
       line = record { numbers = numbers .count; column = 0; right = true; formed = true; bounded = true }
 
-      module _ (m : Matrix) (form-is : m .form ≡ form) (ordered : Ordered m) (a : Note) (whole : a .whole ≡ true) (row-is : a .row ≡ row)
+      module _ (m : Matrix) (form-is : m .form ≡ form) (ordered : Ordered m) (a : Staging) (whole : a .whole ≡ true) (row-is : a .row ≡ row)
           (column-is : a .column ≡ column) where
         line-read : line ≡ dataLineOf (m .form) (contentAt t here)
-        line-read = rw form-is (read .line-is noted)
+        line-read = rw form-is (read .line-is staged)
 
         line-adds : (l : Line) → l .content ≡ contentAt t here → keyOf l ≡ plain →
             Adds (m .form) l table values a table' (values + numbers .count) (movedTo (numbers .row) (numbers .column) a)
-        line-adds l same is-plain = rw form-is (read .adds noted a whole row-is column-is l same is-plain)
+        line-adds l same is-plain = rw form-is (read .adds staged a whole row-is column-is l same is-plain)
 
         matrix-stays : m ≡ dataNext line m
         unfolding dataNext
@@ -128,10 +128,10 @@ module _ (t : List ℕ) (here form values row column : ℕ) (table : List ℕ) w
               rule = 0;
               matrix = m;
               values = values + numbers .count;
-              note = movedTo (numbers .row) (numbers .column) a;
+              staging = movedTo (numbers .row) (numbers .column) a;
             }) table'
         line-taken =
-            noted-goes (contentAt t here) filled plainly m values line line-read 0 (rule-kept line m values refl ordered refl refl few) a
+            stage-goes (contentAt t here) filled plainly m values line line-read 0 (rule-kept line m values refl ordered refl refl few) a
             (movedTo (numbers .row) (numbers .column) a) table table' behind-read line-adds refl m matrix-stays
 
       all-taken : (next : ℕ) → next ≡ lineAt commentByte t (numbers .end) .next →
@@ -142,16 +142,16 @@ module _ (t : List ℕ) (here form values row column : ℕ) (table : List ℕ) w
             behind = behind-read;
             kept = λ (z : true ≡ false). absurd (true≢false z);
             few = λ (z : true ≡ true). few;
-            onward = λ (z : true ≡ true). next-of t here (numbers .end) next (read .ends noted) on;
+            onward = λ (z : true ≡ true). next-of t here (numbers .end) next (read .ends staged) on;
             takes = λ (z : true ≡ true). line-taken;
           }
 
     pub numbers-taken : isBlankLine (contentAt t here) ≡ false → bracketOf (contentAt t here) ≡ Plain → (form ≡ sparse → ⊥) → values ≤ mostValues →
-        not (numbers .noted) ≡ false → numbers .count ≤ mostValues - values → (next : ℕ) → next ≡ lineAt commentByte t (numbers .end) .next →
+        not (numbers .staged) ≡ false → numbers .count ≤ mostValues - values → (next : ℕ) → next ≡ lineAt commentByte t (numbers .end) .next →
         TakesNumbers t here form values row column table
         (record { taken = true; whole = true; values = values + numbers .count; row = numbers .row; column = numbers .column; next = next }) table'
-    numbers-taken filled plainly not-sparse most noted few next on =
-        all-taken filled plainly not-sparse (not-false (numbers .noted) noted) (omega arith) next on
+    numbers-taken filled plainly not-sparse most staged few next on =
+        all-taken filled plainly not-sparse (not-false (numbers .staged) staged) (omega arith) next on
 
 -- ---- one line of a column and a value
 
@@ -168,7 +168,7 @@ module _ (t : List ℕ) (here values row : ℕ) (table : List ℕ) where
         takes = λ (z : false ≡ true). absurd (true≢false (sym z));
       })
 
-  module _ (table' : List ℕ) (pair : Pair) (read : NotesPair t here table values row table' pair) where
+  module _ (table' : List ℕ) (pair : Pair) (read : StagesPair t here table values row table' pair) where
     pair-behind : Behind values table table'
     pair-behind = record { long = read .long; same = read .front }
 
@@ -185,19 +185,19 @@ module _ (t : List ℕ) (here values row : ℕ) (table : List ℕ) where
           takes = λ (z : false ≡ true). absurd (true≢false (sym z));
         })
 
-    module _ (filled : isBlankLine (contentAt t here) ≡ false) (plainly : bracketOf (contentAt t here) ≡ Plain) (noted : pair .noted ≡ true)
+    module _ (filled : isBlankLine (contentAt t here) ≡ false) (plainly : bracketOf (contentAt t here) ≡ Plain) (staged : pair .staged ≡ true)
         (few : values < mostValues) where
       abbrev pairLine : DataLine
       pairLine = record { numbers = 1; column = pair .column; right = true; formed = true; bounded = true }
 
-      module _ (m : Matrix) (form-is : m .form ≡ sparse) (ordered : Ordered m) (a : Note) (whole : a .whole ≡ true) (bound : Bounded a values)
+      module _ (m : Matrix) (form-is : m .form ≡ sparse) (ordered : Ordered m) (a : Staging) (whole : a .whole ≡ true) (bound : Bounded a values)
           (row-is : a .row ≡ row) where
         pair-read : pairLine ≡ dataLineOf (m .form) (contentAt t here)
-        pair-read = rw form-is (read .line-is noted)
+        pair-read = rw form-is (read .line-is staged)
 
         pair-adds : (l : Line) → l .content ≡ contentAt t here → keyOf l ≡ plain →
             Adds (m .form) l table values a table' (values + 1) (namedTo (pair .column) a)
-        pair-adds l same is-plain = rw form-is (read .adds noted a whole bound row-is l same is-plain)
+        pair-adds l same is-plain = rw form-is (read .adds staged a whole bound row-is l same is-plain)
 
         matrix-moves : withColumn (pair .column) m ≡ dataNext pairLine m
         unfolding dataNext
@@ -210,25 +210,25 @@ module _ (t : List ℕ) (here values row : ℕ) (table : List ℕ) where
               rule = 0;
               matrix = withColumn (pair .column) m;
               values = values + 1;
-              note = namedTo (pair .column) a;
+              staging = namedTo (pair .column) a;
             }) table'
         pair-taken-here =
-            noted-goes (contentAt t here) filled plainly m values pairLine pair-read 0
+            stage-goes (contentAt t here) filled plainly m values pairLine pair-read 0
             (rule-kept pairLine m values refl ordered refl refl (omega arith)) a (namedTo (pair .column) a) table table' pair-behind pair-adds refl
             (withColumn (pair .column) m) matrix-moves
 
-    pub pair-taken : isBlankLine (contentAt t here) ≡ false → bracketOf (contentAt t here) ≡ Plain → not (pair .noted) ≡ false →
+    pub pair-taken : isBlankLine (contentAt t here) ≡ false → bracketOf (contentAt t here) ≡ Plain → not (pair .staged) ≡ false →
         values < mostValues → (next : ℕ) → next ≡ lineAt commentByte t (pair .end) .next →
         TakesPair t here values row table (record { taken = true; whole = true; column = pair .column; next = next }) table'
-    pair-taken filled plainly noted few next on =
-        let is-noted : pair .noted ≡ true = not-false (pair .noted) noted in
+    pair-taken filled plainly staged few next on =
+        let is-staged : pair .staged ≡ true = not-false (pair .staged) staged in
         record {
           behind = pair-behind;
           kept = λ (z : true ≡ false). absurd (true≢false z);
           few = λ (z : true ≡ true). few;
-          narrow = λ (z : true ≡ true). column-small sparse (contentAt t here) _ (read .line-is is-noted);
-          onward = λ (z : true ≡ true). next-of t here (pair .end) next (read .ends is-noted) on;
-          takes = λ (z : true ≡ true). pair-taken-here filled plainly is-noted few;
+          narrow = λ (z : true ≡ true). column-small sparse (contentAt t here) _ (read .line-is is-staged);
+          onward = λ (z : true ≡ true). next-of t here (pair .end) next (read .ends is-staged) on;
+          takes = λ (z : true ≡ true). pair-taken-here filled plainly is-staged few;
         }
 
 -- ---- how far a run has come
@@ -236,12 +236,12 @@ module _ (t : List ℕ) (here values row : ℕ) (table : List ℕ) where
 pub record On (t : List ℕ) (at line : ℕ) (part : Data) (table₀ : List ℕ) (here number : ℕ) (reached : Data) (table : List ℕ) : Type 0 where
   pub leads : Leads t at line part table₀ (record { at = here; line = number; part = reached }) table
   pub counted : number ≤ here + 1
-  pub bounded : Bounded (reached .note) (reached .values)
+  pub bounded : Bounded (reached .staging) (reached .values)
   pub few : reached .values ≤ mostValues
-  pub whole : reached .note .whole ≡ true
+  pub whole : reached .staging .whole ≡ true
 
-pub runs-now : (t : List ℕ) (at line : ℕ) (part : Data) → at ≤ length t → line ≤ at + 1 → Bounded (part .note) (part .values) →
-    not (part .note .whole) ≡ false → part .values ≤ mostValues → (b : Bool) → (b ≡ true → Ordered (part .matrix)) → not b ≡ false →
+pub runs-now : (t : List ℕ) (at line : ℕ) (part : Data) → at ≤ length t → line ≤ at + 1 → Bounded (part .staging) (part .values) →
+    not (part .staging .whole) ≡ false → part .values ≤ mostValues → (b : Bool) → (b ≡ true → Ordered (part .matrix)) → not b ≡ false →
     Runs t at line part
 runs-now t at line part within counted bounded whole few b ordered tested =
     record {
@@ -249,13 +249,13 @@ runs-now t at line part within counted bounded whole few b ordered tested =
       counted = counted;
       bounded = bounded;
       few = few;
-      whole = not-false (part .note .whole) whole;
+      whole = not-false (part .staging .whole) whole;
       ordered = ordered (not-false b tested);
     }
 
 -- what is reached is told again by its fields
 module _ (t : List ℕ) (at line : ℕ) (part : Data) (table : List ℕ) (runs : Runs t at line part) (reached : Data) (broken : reached .rule ≡ 0)
-    (matrix : reached .matrix ≡ part .matrix) (values : reached .values ≡ part .values) (note : reached .note ≡ part .note) where
+    (matrix : reached .matrix ≡ part .matrix) (values : reached .values ≡ part .values) (staging : reached .staging ≡ part .staging) where
   again : (at₀ line₀ : ℕ) (m : Matrix) (values₀ : ℕ) (table₀ : List ℕ) → Gone t at₀ line₀ m values₀ table₀ at line part table →
       Gone t at₀ line₀ m values₀ table₀ at line reached table
   again at₀ line₀ m values₀ table₀ g =
@@ -265,8 +265,8 @@ module _ (t : List ℕ) (at line : ℕ) (part : Data) (table : List ℕ) (runs :
         form = rw matrix (g .form);
         behind = g .behind;
         rises = rw values (g .rises);
-        bounded = rw (note, values) (g .bounded);
-        left = λ (w : reached .note .whole ≡ true). rw (note, values) (g .left (runs .whole));
+        bounded = rw (staging, values) (g .bounded);
+        left = λ (w : reached .staging .whole ≡ true). rw (staging, values) (g .left (runs .whole));
       }
 
   on-start : On t at line part table at line reached table
@@ -274,17 +274,17 @@ module _ (t : List ℕ) (at line : ℕ) (part : Data) (table : List ℕ) (runs :
       record {
         leads = record { gone = again; onward = le-refl at; long = refl };
         counted = runs .counted;
-        bounded = rw (note, values) (runs .bounded);
+        bounded = rw (staging, values) (runs .bounded);
         few = rw values (runs .few);
-        whole = ap (λ (a : Note). a .whole) note ∙ runs .whole;
+        whole = ap (λ (a : Staging). a .whole) staging ∙ runs .whole;
       }
 
 module _ (t : List ℕ) (at line : ℕ) (part : Data) (table₀ : List ℕ) (here number : ℕ) (reached : Data) (table : List ℕ)
     (on : On t at line part table₀ here number reached table) where
   -- one line more
   module _ (h : here < length t) (found : text.Line) (is-found : found ≡ lineAt commentByte t here) (next : Data) (table' : List ℕ)
-      (takes : Takes (take (found .content - here) (drop here t)) (reached .matrix) (reached .values) (reached .note) table next table')
-      (taken : next .taken ≡ true) (kept : next .rule ≡ 0) (few : next .values ≤ mostValues) (whole : next .note .whole ≡ true) where
+      (takes : Takes (take (found .content - here) (drop here t)) (reached .matrix) (reached .values) (reached .staging) table next table')
+      (taken : next .taken ≡ true) (kept : next .rule ≡ 0) (few : next .values ≤ mostValues) (whole : next .staging .whole ≡ true) where
     on-next : On t at line part table₀ (found .next) (number + 1) next table'
     on-next =
         let f : here < found .next = rw is-found (next-on commentByte t here h) in
@@ -309,8 +309,8 @@ module _ (t : List ℕ) (at line : ℕ) (part : Data) (table₀ : List ℕ) (her
   -- a line that is no part of the run: what it has changed, it has changed behind the values, and then not all is told
   module _ (table' : List ℕ) (behind : Behind (reached .values) table table') (left : Data) (broken : left .rule ≡ 0)
       (matrix : left .matrix ≡ reached .matrix) (values : left .values ≡ reached .values)
-      (bounded : Bounded (left .note) (reached .values))
-      (told : left .note .whole ≡ true → (table' ≡ table) × (left .note ≡ reached .note)) where
+      (bounded : Bounded (left .staging) (reached .values))
+      (told : left .staging .whole ≡ true → (table' ≡ table) × (left .staging ≡ reached .staging)) where
     gone-left : (at₀ line₀ : ℕ) (m : Matrix) (values₀ : ℕ) (first : List ℕ) → Gone t at₀ line₀ m values₀ first here number reached table →
         Gone t at₀ line₀ m values₀ first here number left table'
     gone-left at₀ line₀ m values₀ first g =
@@ -321,7 +321,7 @@ module _ (t : List ℕ) (at line : ℕ) (part : Data) (table₀ : List ℕ) (her
           behind = behind-on values₀ (reached .values) first table table' (g .rises) (g .behind) behind;
           rises = rw values (g .rises);
           bounded = rw values bounded;
-          left = λ (w : left .note .whole ≡ true). rw (told w .0, told w .1, values) (g .left (on .whole));
+          left = λ (w : left .staging .whole ≡ true). rw (told w .0, told w .1, values) (g .left (on .whole));
         }
 
     left-leads : Leads t at line part table₀ (record { at = here; line = number; part = left }) table'
@@ -337,17 +337,17 @@ module _ (t : List ℕ) (at line : ℕ) (part : Data) (table₀ : List ℕ) (her
 
 module _ (t : List ℕ) (at line : ℕ) (part : Data) (table₀ : List ℕ) where
   pub numbers-start : Runs t at line part →
-      On t at line part table₀ at line (numbersPart part true (part .values) (part .note .row) (part .note .column)) table₀
+      On t at line part table₀ at line (numbersPart part true (part .values) (part .staging .row) (part .staging .column)) table₀
   unfolding numbersPart
   numbers-start runs =
       on-start t at line part table₀ runs _ refl refl refl
       (λ i.
       record {
         whole = sym (runs .whole) i;
-        row = part .note .row;
-        column = part .note .column;
-        bandwidth = part .note .bandwidth;
-        greatest = part .note .greatest;
+        row = part .staging .row;
+        column = part .staging .column;
+        bandwidth = part .staging .bandwidth;
+        greatest = part .staging .greatest;
       })
 
   module _ (here number values row column : ℕ) (table : List ℕ)
@@ -378,10 +378,10 @@ module _ (t : List ℕ) (at line : ℕ) (part : Data) (table₀ : List ℕ) wher
           rw e
           (left-leads t at line part table₀ here number _ table on table' (takes .behind) (numbersPart part (next .whole) values row column) refl refl
           refl (record { row = on .bounded .row; column = on .bounded .column })
-          (λ (w : next .whole ≡ true). (takes .kept (not-true (next .taken) left) w, note-whole w)))
+          (λ (w : next .whole ≡ true). (takes .kept (not-true (next .taken) left) w, staging-whole w)))
         where
-          note-whole : next .whole ≡ true → numbersPart part (next .whole) values row column .note ≡ numbersPart part true values row column .note
-          note-whole w = ap (λ (b : Bool). numbersPart part b values row column .note) w
+          staging-whole : next .whole ≡ true → numbersPart part (next .whole) values row column .staging ≡ numbersPart part true values row column .staging
+          staging-whole w = ap (λ (b : Bool). numbersPart part b values row column .staging) w
 
       pub numbers-less : here < length t → not (next .taken) ≡ false → length t - next .next < length t - here
       numbers-less h left =
@@ -395,7 +395,7 @@ module _ (t : List ℕ) (at line : ℕ) (part : Data) (table₀ : List ℕ) wher
           let taken : next .taken ≡ true = not-false (next .taken) left in
           rw (takes .onward taken)
           (on-next t at line part table₀ here number _ table on h (lineAt commentByte t here) refl _ table'
-          (takes .takes taken (part .matrix) refl ordered (numbersPart part true values row column .note) refl refl refl) refl refl (takes .few
+          (takes .takes taken (part .matrix) refl ordered (numbersPart part true values row column .staging) refl refl refl) refl refl (takes .few
           taken) refl)
 
 -- ---- a run of lines of a Sparse_matrix
@@ -407,7 +407,7 @@ module _ (t : List ℕ) (at line : ℕ) (part : Data) (table₀ : List ℕ) wher
   pub pairs-start : Runs t at line part →
       On t at line part table₀ at line
       (pairsPart part true (part .values)
-      (pairsMatrix (part .matrix) (part .matrix .rows .least) (part .matrix .rows .greatest) (part .matrix .rows .fits)) (part .note .greatest))
+      (pairsMatrix (part .matrix) (part .matrix .rows .least) (part .matrix .rows .greatest) (part .matrix .rows .fits)) (part .staging .greatest))
       table₀
   unfolding pairsPart pairsMatrix
   pairs-start runs =
@@ -415,15 +415,15 @@ module _ (t : List ℕ) (at line : ℕ) (part : Data) (table₀ : List ℕ) wher
       (λ i.
       record {
         whole = sym (runs .whole) i;
-        row = part .note .row;
-        column = part .note .column;
-        bandwidth = part .note .bandwidth;
-        greatest = part .note .greatest;
+        row = part .staging .row;
+        column = part .staging .column;
+        bandwidth = part .staging .bandwidth;
+        greatest = part .staging .greatest;
       })
 
   module _ (here number values least greatest : ℕ) (fits : Bool) (named : ℕ) (table : List ℕ)
       (on : On t at line part table₀ here number (pairsPart part true values (pairsMatrix (part .matrix) least greatest fits) named) table) where
-    pub pairs-row : part .note .row ≤ mostGiven + values
+    pub pairs-row : part .staging .row ≤ mostGiven + values
     unfolding pairsPart
     pairs-row = on .bounded .row
 
@@ -431,7 +431,7 @@ module _ (t : List ℕ) (at line : ℕ) (part : Data) (table₀ : List ℕ) wher
         r ≡ record { at = here; line = number; part = pairsPart part true values m named } → Leads t at line part table₀ r table
     pairs-end m is r e = rw (e, is) (on .leads)
 
-    module _ (next : TakenPair) (table' : List ℕ) (takes : TakesPair t here values (part .note .row) table next table') where
+    module _ (next : TakenPair) (table' : List ℕ) (takes : TakesPair t here values (part .staging .row) table next table') where
       pub pairs-long : length table' ≡ length table₀
       pairs-long = takes .behind .long ∙ on .leads .long
 
@@ -443,12 +443,12 @@ module _ (t : List ℕ) (at line : ℕ) (part : Data) (table₀ : List ℕ) wher
           (left-leads t at line part table₀ here number _ table on table' (takes .behind)
           (pairsPart part (next .whole) values (pairsMatrix (part .matrix) least greatest fits) named) refl refl refl
           (record { row = on .bounded .row; column = on .bounded .column })
-          (λ (w : next .whole ≡ true). (takes .kept (not-true (next .taken) left) w, note-whole w)))
+          (λ (w : next .whole ≡ true). (takes .kept (not-true (next .taken) left) w, staging-whole w)))
         where
-          note-whole : next .whole ≡ true →
-              pairsPart part (next .whole) values (pairsMatrix (part .matrix) least greatest fits) named .note
-              ≡ pairsPart part true values (pairsMatrix (part .matrix) least greatest fits) named .note
-          note-whole w = ap (λ (b : Bool). pairsPart part b values (pairsMatrix (part .matrix) least greatest fits) named .note) w
+          staging-whole : next .whole ≡ true →
+              pairsPart part (next .whole) values (pairsMatrix (part .matrix) least greatest fits) named .staging
+              ≡ pairsPart part true values (pairsMatrix (part .matrix) least greatest fits) named .staging
+          staging-whole w = ap (λ (b : Bool). pairsPart part b values (pairsMatrix (part .matrix) least greatest fits) named .staging) w
 
       module _ (left : not (next .taken) ≡ false) where
         -- no sum wraps behind the line
@@ -476,7 +476,7 @@ module _ (t : List ℕ) (at line : ℕ) (part : Data) (table₀ : List ℕ) wher
             rw (takes .onward taken)
             (on-next t at line part table₀ here number _ table on h (lineAt commentByte t here) refl _ table'
             (takes .takes taken (pairsMatrix (part .matrix) least greatest fits) form-is ordered (reachedPairs values least greatest fits named
-            .note) refl
+            .staging) refl
             (on .bounded) refl) refl refl more refl)
 
         pub pairs-next : part .matrix .form ≡ sparse → Ordered (part .matrix) → here < length t →
@@ -497,11 +497,11 @@ module _ (t : List ℕ) (at line : ℕ) (m : Matrix) (values : ℕ) (table₀ : 
     pub run-gone : Gone t at line m values table₀ (r .at) (r .line) (r .part) table₁
     run-gone = leads .gone at line m values table₀ gone
 
-    pub run-bounded : Bounded (r .part .note) (r .part .values)
+    pub run-bounded : Bounded (r .part .staging) (r .part .values)
     run-bounded = run-gone .bounded
 
     pub run-ends : length t ≤ r .at →
-        Goes t at line m values table₀ (record { at = r .at; line = r .line; part = r .part; noted = r .part .note .whole }) table₁
+        Goes t at line m values table₀ (record { at = r .at; line = r .line; part = r .part; staged = r .part .staging .whole }) table₁
     run-ends h = gone-ends t at line m values table₀ (r .at) (r .line) (r .part) table₁ run-gone h
 
     module _ (h : r .at < length t) (found : text.Line) (is-found : found ≡ lineAt commentByte t (r .at)) where
@@ -513,16 +513,16 @@ module _ (t : List ℕ) (at line : ℕ) (m : Matrix) (values : ℕ) (table₀ : 
 
       -- a line that is no part of a run leaves the table as it is
       module _ (next : Data)
-          (takes : TakesAlone (take (found .content - r .at) (drop (r .at) t)) (r .part .matrix) (r .part .values) (r .part .note) next) where
-        pub run-leaves : not (next .taken) ≡ true → (noted : Bool) → noted ≡ both (next .ends) (r .part .note .whole) →
-            Goes t at line m values table₀ (record { at = r .at; line = r .line; part = r .part; noted = noted }) table₁
-        run-leaves left noted is-noted =
+          (takes : TakesAlone (take (found .content - r .at) (drop (r .at) t)) (r .part .matrix) (r .part .values) (r .part .staging) next) where
+        pub run-leaves : not (next .taken) ≡ true → (staged : Bool) → staged ≡ both (next .ends) (r .part .staging .whole) →
+            Goes t at line m values table₀ (record { at = r .at; line = r .line; part = r .part; staged = staged }) table₁
+        run-leaves left staged is-staged =
             gone-leaves t at line m values table₀ (r .at) (r .line) (r .part) table₁ run-gone h found is-found next table₁ (takes table₁)
-            (not-true (next .taken) left) noted is-noted
+            (not-true (next .taken) left) staged is-staged
 
         module _ (taken : not (next .taken) ≡ false) where
           pub run-stops : (next .rule ≡ 0 → ⊥) →
-              Goes t at line m values table₀ (record { at = found .next; line = r .line; part = next; noted = false }) table₁
+              Goes t at line m values table₀ (record { at = found .next; line = r .line; part = next; staged = false }) table₁
           run-stops broken =
               gone-stops t at line m values table₀ (r .at) (r .line) (r .part) table₁ run-gone h found is-found next table₁ (takes table₁)
               (not-false (next .taken) taken) broken

@@ -13,15 +13,15 @@ ghost use Rattle.read_line.specs.Reading.{commentByte};
 ghost use Rattle.read_line.specs.Way.Walk.{Opens, Fronted, contentAt};
 ghost use Rattle.line_matrix.specs.Matrix.{sparse, mostValues};
 ghost use Rattle.store_matrices.specs.Way.Numbers.{mostGiven};
-ghost use Rattle.read_numbers.specs.declared.Note as noting;
-ghost use Rattle.read_numbers.specs.Way.Noting.{Bounded};
-ghost use Rattle.read_matrix.specs.Way.Body.{noNote, keptNote, Keeps, TakesAlone, Goes};
+ghost use Rattle.read_numbers.specs.declared.Staging as stages;
+ghost use Rattle.read_numbers.specs.Way.Staging.{Bounded};
+ghost use Rattle.read_matrix.specs.Way.Body.{newStaging, keptStaging, Keeps, TakesAlone, Goes};
 ghost use Rattle.read_matrix.specs.Way.Run.{Leads, Ordered, Runs, numbersPart, TakesNumbers, pairsMatrix, pairsPart, TakesPair};
 use lex_keyword::Bracket;
 use line_matrix::Matrix;
 use line_matrix::Rows;
 use read_line::Front;
-use read_numbers::Note;
+use read_numbers::Staging;
 use store_matrices::First;
 
 // "From `|` on, a line is comment".
@@ -39,18 +39,18 @@ pub struct Data {
     pub rule: u64,
     pub matrix: Matrix,
     pub values: u64,
-    pub note: Note,
+    pub staging: Staging,
 }
 
 // A note of nothing: where lines are judged alone, or before the first of them is noted.
-fn new_note(whole: bool) -> Note
-    ensures { λ r. ⌜ r ≡ noNote whole ⌝ }
+fn new_staging(whole: bool) -> Staging
+    ensures { λ r. ⌜ r ≡ newStaging whole ⌝ }
 {
     let bandwidth = First {
         told: false,
         value: 0,
     };
-    Note {
+    Staging {
         whole,
         row: 1,
         column: 1,
@@ -62,7 +62,7 @@ fn new_note(whole: bool) -> Note
 // A line of numbers that is judged alone: where it breaks no rule, not all is noted any more.
 fn data_line(content: &[u8], matrix: Matrix, values: u64) -> Data
     requires { ⌜ (isBlankLine (now content) ≡ false) × (bracketOf (now content) ≡ Plain) ⌝ }
-    ensures { λ r. ⌜ ((note : noting.Note) → TakesAlone (now (content .entry)) matrix values note r) ⌝ }
+    ensures { λ r. ⌜ ((staging : stages.Staging) → TakesAlone (now (content .entry)) matrix values staging r) ⌝ }
 {
     let line = line_matrix::data_line(matrix.form, content);
     let rule = line_matrix::data_rule(line, matrix, values);
@@ -73,7 +73,7 @@ fn data_line(content: &[u8], matrix: Matrix, values: u64) -> Data
             rule,
             matrix,
             values,
-            note: new_note(false),
+            staging: new_staging(false),
         };
     }
     Data {
@@ -82,7 +82,7 @@ fn data_line(content: &[u8], matrix: Matrix, values: u64) -> Data
         rule: 0,
         matrix: line_matrix::data_next(line, matrix),
         values: values + line.numbers,
-        note: new_note(false),
+        staging: new_staging(false),
     }
 }
 
@@ -93,32 +93,32 @@ fn greater(a: u64, b: u64) -> u64
 }
 
 // [Row] i: the next number stands at (i, i). Of [Bandwidth] the first counts.
-fn kept_note(key: u64, value: u64, note: Note) -> Note
-    ensures { λ r. ⌜ r ≡ keptNote key value note ⌝ }
+fn kept_staging(key: u64, value: u64, staging: Staging) -> Staging
+    ensures { λ r. ⌜ r ≡ keptStaging key value staging ⌝ }
 {
-    let before = note.bandwidth;
+    let before = staging.bandwidth;
     if key == lex_keyword::ROW {
-        return Note {
-            whole: note.whole,
+        return Staging {
+            whole: staging.whole,
             row: value,
             column: value,
             bandwidth: before,
-            greatest: greater(note.greatest, value),
+            greatest: greater(staging.greatest, value),
         };
     }
-    Note {
-        whole: note.whole,
-        row: note.row,
-        column: note.column,
+    Staging {
+        whole: staging.whole,
+        row: staging.row,
+        column: staging.column,
         bandwidth: store_matrices::first_told(before, value),
-        greatest: note.greatest,
+        greatest: staging.greatest,
     }
 }
 
 // [Row] or [Bandwidth].
-fn kept_line(key: u64, argument: &[u8], matrix: Matrix, values: u64, note: Note) -> Data
-    requires { ⌜ (keepsMatrix key ≡ true) × Bounded note values ⌝ }
-    ensures { λ r. ⌜ Keeps key (now (argument .entry)) matrix values note r ⌝ }
+fn kept_line(key: u64, argument: &[u8], matrix: Matrix, values: u64, staging: Staging) -> Data
+    requires { ⌜ (keepsMatrix key ≡ true) × Bounded staging values ⌝ }
+    ensures { λ r. ⌜ Keeps key (now (argument .entry)) matrix values staging r ⌝ }
 {
     let rule = line_keyword::kept_rule(key, argument, matrix);
     if rule != 0 {
@@ -128,7 +128,7 @@ fn kept_line(key: u64, argument: &[u8], matrix: Matrix, values: u64, note: Note)
             rule,
             matrix,
             values,
-            note,
+            staging,
         };
     }
     let whole = lex_number::read_integer(argument);
@@ -138,13 +138,13 @@ fn kept_line(key: u64, argument: &[u8], matrix: Matrix, values: u64, note: Note)
         rule: 0,
         matrix: line_keyword::kept_next(key, argument, matrix, values),
         values,
-        note: kept_note(key, whole.value, note),
+        staging: kept_staging(key, whole.value, staging),
     }
 }
 
 // A line that is not taken here.
-fn left_line(ends: bool, matrix: Matrix, values: u64, note: Note) -> Data
-    ensures { λ r. ⌜ r ≡ record { taken = false; ends = ends; rule = 0; matrix = matrix; values = values; note = note } ⌝ }
+fn left_line(ends: bool, matrix: Matrix, values: u64, staging: Staging) -> Data
+    ensures { λ r. ⌜ r ≡ record { taken = false; ends = ends; rule = 0; matrix = matrix; values = values; staging = staging } ⌝ }
 {
     Data {
         taken: false,
@@ -152,7 +152,7 @@ fn left_line(ends: bool, matrix: Matrix, values: u64, note: Note) -> Data
         rule: 0,
         matrix,
         values,
-        note,
+        staging,
     }
 }
 
@@ -163,10 +163,10 @@ fn named_line(
     content: &[u8],
     matrix: Matrix,
     values: u64,
-    note: Note,
+    staging: Staging,
 ) -> Data
-    requires { ⌜ (isBlankLine (now content) ≡ false) × (bracketOf (now content) ≡ Keyword key start) × Bounded note values ⌝ }
-    ensures { λ r. ⌜ TakesAlone (now (content .entry)) matrix values note r ⌝ }
+    requires { ⌜ (isBlankLine (now content) ≡ false) × (bracketOf (now content) ≡ Keyword key start) × Bounded staging values ⌝ }
+    ensures { λ r. ⌜ TakesAlone (now (content .entry)) matrix values staging r ⌝ }
 {
     if line_place::keeps_matrix(key) {
         return kept_line(
@@ -174,31 +174,31 @@ fn named_line(
             read_line::argument_of(content, start),
             matrix,
             values,
-            note,
+            staging,
         );
     }
-    left_line(key != doc::PLAIN, matrix, values, note)
+    left_line(key != doc::PLAIN, matrix, values, staging)
 }
 
 // A line with a bracket at its front.
-fn opened_line(content: &[u8], matrix: Matrix, values: u64, note: Note) -> Data
-    requires { ⌜ (isBlankLine (now content) ≡ false) × Opens (now content) × Bounded note values ⌝ }
-    ensures { λ r. ⌜ TakesAlone (now (content .entry)) matrix values note r ⌝ }
+fn opened_line(content: &[u8], matrix: Matrix, values: u64, staging: Staging) -> Data
+    requires { ⌜ (isBlankLine (now content) ≡ false) × Opens (now content) × Bounded staging values ⌝ }
+    ensures { λ r. ⌜ TakesAlone (now (content .entry)) matrix values staging r ⌝ }
 {
     match lex_keyword::read_bracket(content) {
-        Bracket::Plain => left_line(false, matrix, values, note),
-        Bracket::Indented => left_line(false, matrix, values, note),
-        Bracket::Bad => left_line(false, matrix, values, note),
-        Bracket::Unknown => left_line(false, matrix, values, note),
-        Bracket::Later => left_line(false, matrix, values, note),
-        Bracket::Keyword(key, start) => named_line(key, start, content, matrix, values, note),
+        Bracket::Plain => left_line(false, matrix, values, staging),
+        Bracket::Indented => left_line(false, matrix, values, staging),
+        Bracket::Bad => left_line(false, matrix, values, staging),
+        Bracket::Unknown => left_line(false, matrix, values, staging),
+        Bracket::Later => left_line(false, matrix, values, staging),
+        Bracket::Keyword(key, start) => named_line(key, start, content, matrix, values, staging),
     }
 }
 
 // A line of a matrix that is no part of a run.
-fn take_data(content: &[u8], matrix: Matrix, values: u64, note: Note) -> Data
-    requires { ⌜ Bounded note values ⌝ }
-    ensures { λ r. ⌜ TakesAlone (now (content .entry)) matrix values note r ⌝ }
+fn take_data(content: &[u8], matrix: Matrix, values: u64, staging: Staging) -> Data
+    requires { ⌜ Bounded staging values ⌝ }
+    ensures { λ r. ⌜ TakesAlone (now (content .entry)) matrix values staging r ⌝ }
 {
     match read_line::front_of(content) {
         Front::Blanks => Data {
@@ -207,10 +207,10 @@ fn take_data(content: &[u8], matrix: Matrix, values: u64, note: Note) -> Data
             rule: 0,
             matrix,
             values,
-            note,
+            staging,
         },
         Front::Words => data_line(content, matrix, values),
-        Front::Opening => opened_line(content, matrix, values, note),
+        Front::Opening => opened_line(content, matrix, values, staging),
     }
 }
 
@@ -219,7 +219,7 @@ pub struct BodyWalk {
     pub at: usize,
     pub line: u64,
     pub part: Data,
-    pub noted: bool,
+    pub staged: bool,
 }
 
 // Whether there is room for so many values.
@@ -303,7 +303,7 @@ fn plain_numbers(
     ensures { λ r. ⌜ TakesNumbers (now (text .entry)) here form values row column (now (table .entry)) r (now (table .exit)) ⌝ }
 {
     let numbers = read_numbers::read_numbers(text, here, form, values, table, row, column);
-    if !numbers.noted {
+    if !numbers.staged {
         return left_numbers(false, values, row, column);
     }
     if MOST_VALUES - values < numbers.count {
@@ -350,9 +350,9 @@ fn numbers_passed(
     ensures { λ r. ⌜ r ≡ record { at = at; line = line; part = numbersPart part whole values row column } ⌝ }
 {
     let matrix = part.matrix;
-    let before = part.note;
+    let before = part.staging;
     let bandwidth = before.bandwidth;
-    let note = Note {
+    let staging = Staging {
         whole,
         row,
         column,
@@ -365,7 +365,7 @@ fn numbers_passed(
         rule: 0,
         matrix,
         values,
-        note,
+        staging,
     };
     Run {
         at,
@@ -381,12 +381,12 @@ fn pass_numbers(text: &[u8], at: usize, line: u64, part: Data, table: &mut [u64]
 {
     let matrix = part.matrix;
     let form = matrix.form;
-    let note = part.note;
+    let staging = part.staging;
     let mut here = at;
     let mut line_here = line;
     let mut values = part.values;
-    let mut row = note.row;
-    let mut column = note.column;
+    let mut row = staging.row;
+    let mut column = staging.column;
     while here < text.len() {
         let next = take_numbers(text, here, form, values, table, row, column);
         if !next.taken {
@@ -430,7 +430,7 @@ fn plain_pair(text: &[u8], here: usize, values: u64, table: &mut [u64], row: u64
         return left_pair(true);
     }
     let pair = read_numbers::read_pair(text, here, values, table, row);
-    if !pair.noted {
+    if !pair.staged {
         return left_pair(false);
     }
     TakenPair {
@@ -484,9 +484,9 @@ fn pairs_passed(
 ) -> Run
     ensures { λ r. ⌜ r ≡ record { at = at; line = line; part = pairsPart part whole values matrix named } ⌝ }
 {
-    let before = part.note;
+    let before = part.staging;
     let bandwidth = before.bandwidth;
-    let note = Note {
+    let staging = Staging {
         whole,
         row: before.row,
         column: before.column,
@@ -499,7 +499,7 @@ fn pairs_passed(
         rule: 0,
         matrix,
         values,
-        note,
+        staging,
     };
     Run {
         at,
@@ -515,15 +515,15 @@ fn pass_pairs(text: &[u8], at: usize, line: u64, part: Data, table: &mut [u64]) 
 {
     let matrix = part.matrix;
     let rows = matrix.rows;
-    let note = part.note;
-    let row = note.row;
+    let staging = part.staging;
+    let row = staging.row;
     let mut here = at;
     let mut line_here = line;
     let mut values = part.values;
     let mut least = rows.least;
     let mut greatest = rows.greatest;
     let mut fits = rows.fits;
-    let mut named = note.greatest;
+    let mut named = staging.greatest;
     while here < text.len() {
         let next = take_pair(text, here, values, table, row);
         if !next.taken {
@@ -555,11 +555,11 @@ fn is_ordered(matrix: Matrix) -> bool
 
 // A run of plain lines, which may be none.
 fn pass_run(text: &[u8], at: usize, line: u64, part: Data, table: &mut [u64]) -> Run
-    requires { ⌜ at ≤ length (now text) ⌝ ∗ ⌜ line ≤ at + 1 ⌝ ∗ ⌜ Bounded (part .note) (part .values) ⌝ }
+    requires { ⌜ at ≤ length (now text) ⌝ ∗ ⌜ line ≤ at + 1 ⌝ ∗ ⌜ Bounded (part .staging) (part .values) ⌝ }
     ensures { λ r. ⌜ Leads (now (text .entry)) at line part (now (table .entry)) r (now (table .exit)) ⌝ }
 {
-    let note = part.note;
-    if !note.whole {
+    let staging = part.staging;
+    if !staging.whole {
         return Run { at, line, part };
     }
     if MOST_VALUES < part.values {
@@ -595,7 +595,7 @@ pub fn pass_data(
         rule: 0,
         matrix,
         values,
-        note: new_note(has_room(values, table.len())),
+        staging: new_staging(has_room(values, table.len())),
     };
     while here < text.len() {
         let run = pass_run(text, here, line_here, part, table);
@@ -603,24 +603,24 @@ pub fn pass_data(
         line_here = run.line;
         part = run.part;
         if text.len() <= here {
-            let note = part.note;
+            let staging = part.staging;
             return BodyWalk {
                 at: here,
                 line: line_here,
                 part,
-                noted: note.whole,
+                staged: staging.whole,
             };
         }
         let found = lex_line::line_at(text, here, COMMENT);
         let content = found.content;
-        let next = take_data(&text[here..content], part.matrix, part.values, part.note);
+        let next = take_data(&text[here..content], part.matrix, part.values, part.staging);
         if !next.taken {
-            let note = part.note;
+            let staging = part.staging;
             return BodyWalk {
                 at: here,
                 line: line_here,
                 part,
-                noted: base::and(next.ends, note.whole),
+                staged: base::and(next.ends, staging.whole),
             };
         }
         here = found.next;
@@ -630,16 +630,16 @@ pub fn pass_data(
                 at: here,
                 line: line_here,
                 part,
-                noted: false,
+                staged: false,
             };
         }
         line_here += 1;
     }
-    let note = part.note;
+    let staging = part.staging;
     BodyWalk {
         at: here,
         line: line_here,
         part,
-        noted: note.whole,
+        staged: staging.whole,
     }
 }

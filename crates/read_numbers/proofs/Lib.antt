@@ -1,2 +1,2 @@
 pub mod InTextLaws
-pub mod NotingLaws
+pub mod StagingLaws

@@ -1,2 +1,2 @@
-pub mod Noting
+pub mod Staging
 pub mod Steps

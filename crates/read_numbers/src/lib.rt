@@ -6,7 +6,7 @@ ghost use Prim.Native.Nat.{_+_, _≤_};
 ghost use Rattle.line_matrix.specs.Matrix.{sparse, mostValues};
 ghost use Rattle.read_line.specs.Way.Walk.{contentAt};
 ghost use Rattle.store_matrices.specs.Way.Numbers.{mostGiven};
-ghost use Rattle.read_numbers.specs.Way.Noting.{NotesNumbers, NotesPair};
+ghost use Rattle.read_numbers.specs.Way.Staging.{StagesNumbers, StagesPair};
 ghost use Rattle.read_numbers.specs.Way.Steps.{Stores, numbersOf, pairOf};
 use store_matrices::Cursor;
 use store_matrices::First;
@@ -19,7 +19,7 @@ const WORDS: usize = 3;
 
 // What the lines of a matrix have said so far: whether all their numbers are noted, where the next number stands, the bandwidth, and the
 // greatest row or column that is named.
-pub struct Note {
+pub struct Staging {
     pub whole: bool,
     pub row: u64,
     pub column: u64,
@@ -30,7 +30,7 @@ pub struct Note {
 // What a line of numbers comes to: whether all are numbers within their bounds and noted, and then how many they are, where the next number
 // stands, and where the line's content ends.
 pub struct Numbers {
-    pub noted: bool,
+    pub staged: bool,
     pub count: u64,
     pub row: u64,
     pub column: u64,
@@ -40,7 +40,7 @@ pub struct Numbers {
 // What a line of a Sparse_matrix comes to: whether column and value are within their bounds and noted, and then the column, and where the
 // line's content ends.
 pub struct Pair {
-    pub noted: bool,
+    pub staged: bool,
     pub column: u64,
     pub end: usize,
 }
@@ -55,11 +55,11 @@ fn has_room(place: usize, words: usize) -> bool
     WORDS <= words - place
 }
 
-fn numbers_of(noted: bool, cursor: Cursor, end: usize) -> Numbers
-    ensures { λ r. ⌜ r ≡ numbersOf noted cursor end ⌝ }
+fn numbers_of(staged: bool, cursor: Cursor, end: usize) -> Numbers
+    ensures { λ r. ⌜ r ≡ numbersOf staged cursor end ⌝ }
 {
     Numbers {
-        noted,
+        staged,
         count: cursor.count,
         row: cursor.row,
         column: cursor.column,
@@ -117,17 +117,17 @@ pub fn read_numbers(
     column: u64,
 ) -> Numbers
     requires { ⌜ row ≤ mostGiven + values ⌝ ∗ ⌜ column ≤ mostGiven + values ⌝ ∗ ⌜ values ≤ mostValues ⌝ ∗ ⌜ (form ≡ sparse → ⊥) ⌝ }
-    ensures { λ r. ⌜ NotesNumbers form (now (text .entry)) here (now (table .entry)) values row column (now (table .exit)) r ⌝ }
+    ensures { λ r. ⌜ StagesNumbers form (now (text .entry)) here (now (table .entry)) values row column (now (table .exit)) r ⌝ }
 {
     store_numbers(text, here, form, values, table, row, column)
 }
 
 // A line of a Sparse_matrix that is not noted.
 fn no_pair(end: usize) -> Pair
-    ensures { λ r. ⌜ r ≡ record { noted = false; column = 0; end = end } ⌝ }
+    ensures { λ r. ⌜ r ≡ record { staged = false; column = 0; end = end } ⌝ }
 {
     Pair {
-        noted: false,
+        staged: false,
         column: 0,
         end,
     }
@@ -136,14 +136,14 @@ fn no_pair(end: usize) -> Pair
 fn pair_of(column: u64, numbers: Numbers) -> Pair
     ensures { λ r. ⌜ r ≡ pairOf column numbers ⌝ }
 {
-    if !numbers.noted {
+    if !numbers.staged {
         return no_pair(numbers.end);
     }
     if numbers.count != 1 {
         return no_pair(numbers.end);
     }
     Pair {
-        noted: true,
+        staged: true,
         column,
         end: numbers.end,
     }
@@ -152,7 +152,7 @@ fn pair_of(column: u64, numbers: Numbers) -> Pair
 // A line of a Sparse_matrix, which has a word: a column, and behind it a value.
 pub fn read_pair(text: &[u8], here: usize, values: u64, table: &mut [u64], row: u64) -> Pair
     requires { ⌜ row ≤ mostGiven + values ⌝ ∗ ⌜ values ≤ mostValues ⌝ }
-    ensures { λ r. ⌜ NotesPair (now (text .entry)) here (now (table .entry)) values row (now (table .exit)) r ⌝ }
+    ensures { λ r. ⌜ StagesPair (now (text .entry)) here (now (table .entry)) values row (now (table .exit)) r ⌝ }
 {
     let start = base::past_blanks(text, here);
     if !lex_number::is_word_at(text, start, COMMENT) {

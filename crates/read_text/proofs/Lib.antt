@@ -1,1 +1,1 @@
-pub mod NoteLaws
+pub mod StageLaws

@@ -8,7 +8,7 @@ ghost use Rattle.line_keyword.specs.declared.Counts.{Counts};
 ghost use Rattle.read_line.specs.Reading.{readingOf};
 ghost use Rattle.read_line.specs.declared.Reading.the-variants.{Read};
 ghost use Rattle.read_line.specs.Way.Walk.{Reached, Onward};
-ghost use Rattle.read_text.specs.Way.Forward.{Carries, notesAfter, notesBehind};
+ghost use Rattle.read_text.specs.Way.Forward.{Carries, stageAfter, stageBehind};
 use line_keyword::State;
 use line_matrix::Matrix;
 use read_line::Reading;
@@ -16,15 +16,15 @@ use read_line::Walk;
 use read_matrix::BodyWalk;
 
 // How many words a note has.
-const NOTE: usize = 9;
+const STAGED: usize = 9;
 
 // A text that is accepted has no more matrices.
 const MOST_MATRICES: u64 = 1024;
 
 // The words of a note, at the place of the matrix that was opened last, if there is one.
-fn put_note(notes: &mut [u64], matrices: u64, words: &[u64])
+fn put_staged(stage: &mut [u64], matrices: u64, words: &[u64])
     requires { ⌜ length (now words) ≡ 9 ⌝ }
-    ensures { λ _. ⌜ now (notes .exit) ≡ notesAfter matrices (now (words .entry)) (now (notes .entry)) ⌝ }
+    ensures { λ _. ⌜ now (stage .exit) ≡ stageAfter matrices (now (words .entry)) (now (stage .entry)) ⌝ }
 {
     if matrices < 1 {
         return;
@@ -32,35 +32,35 @@ fn put_note(notes: &mut [u64], matrices: u64, words: &[u64])
     if MOST_MATRICES < matrices {
         return;
     }
-    let at = NOTE * ((matrices - 1) as usize);
-    if notes.len() < at + NOTE {
+    let at = STAGED * ((matrices - 1) as usize);
+    if stage.len() < at + STAGED {
         return;
     }
-    base::put_words(notes, at, words);
+    base::put_words(stage, at, words);
 }
 
 // Notes a matrix whose numbers are all stored: which lines it has, and what they say.
-fn note_matrix(
+fn stage_matrix(
     at: usize,
     line: u64,
     matrix: Matrix,
     values: u64,
     matrices: u64,
     walk: BodyWalk,
-    notes: &mut [u64],
+    stage: &mut [u64],
 )
     requires { ⌜ values ≤ walk .part .values ⌝ }
-    ensures { λ _. ⌜ now (notes .exit) ≡ notesBehind at line matrix values matrices walk (now (notes .entry)) ⌝ }
+    ensures { λ _. ⌜ now (stage .exit) ≡ stageBehind at line matrix values matrices walk (now (stage .entry)) ⌝ }
 {
-    if !walk.noted {
+    if !walk.staged {
         return;
     }
     let part = walk.part;
     if part.rule != 0 {
         return;
     }
-    let note = part.note;
-    let bandwidth = note.bandwidth;
+    let staging = part.staging;
+    let bandwidth = staging.bandwidth;
     let words = [
         at as u64,
         line,
@@ -69,10 +69,10 @@ fn note_matrix(
         walk.at as u64,
         walk.line,
         store_matrices::told_in(bandwidth),
-        note.greatest,
+        staging.greatest,
         part.values - values,
     ];
-    put_note(notes, matrices, &words);
+    put_staged(stage, matrices, &words);
 }
 
 // The lines of a matrix up to the keyword that ends it, or that keyword's line.
@@ -82,25 +82,25 @@ fn read_data(
     line: u64,
     s: State,
     table: &mut [u64],
-    notes: &mut [u64],
+    stage: &mut [u64],
 ) -> Walk
     requires { ⌜ (at < length (now text)) × Onward (now text) at line s × (s .place ≡ place.matrix)
-        × Carries (now text) (now table) (now notes) (s .counts .values) ⌝ }
+        × Carries (now text) (now table) (now stage) (s .counts .values) ⌝ }
     ensures { λ r. ⌜ Reached (now (text .entry)) at line s r
-        × (r .rule ≡ 0 → Carries (now (text .entry)) (now (table .exit)) (now (notes .exit)) (r .state .counts .values)) ⌝ }
+        × (r .rule ≡ 0 → Carries (now (text .entry)) (now (table .exit)) (now (stage .exit)) (r .state .counts .values)) ⌝ }
 {
     let matrix = s.matrix;
     let mut counts = s.counts;
     let walk = read_matrix::pass_data(text, at, line, matrix, counts.values, table);
     if at < walk.at {
-        note_matrix(
+        stage_matrix(
             at,
             line,
             matrix,
             counts.values,
             counts.matrices,
             walk,
-            notes,
+            stage,
         );
         let part = walk.part;
         let reached = part.matrix;
@@ -125,14 +125,14 @@ fn read_line(
     line: u64,
     s: State,
     table: &mut [u64],
-    notes: &mut [u64],
+    stage: &mut [u64],
 ) -> Walk
-    requires { ⌜ (at < length (now text)) × Onward (now text) at line s × Carries (now text) (now table) (now notes) (s .counts .values) ⌝ }
+    requires { ⌜ (at < length (now text)) × Onward (now text) at line s × Carries (now text) (now table) (now stage) (s .counts .values) ⌝ }
     ensures { λ r. ⌜ Reached (now (text .entry)) at line s r
-        × (r .rule ≡ 0 → Carries (now (text .entry)) (now (table .exit)) (now (notes .exit)) (r .state .counts .values)) ⌝ }
+        × (r .rule ≡ 0 → Carries (now (text .entry)) (now (table .exit)) (now (stage .exit)) (r .state .counts .values)) ⌝ }
 {
     if s.place == line_place::MATRIX {
-        return read_data(text, at, line, s, table, notes);
+        return read_data(text, at, line, s, table, stage);
     }
     if s.place == line_place::PATH {
         return read_line::read_path(text, at, line, s);
@@ -154,16 +154,16 @@ fn read_line(
 
 // Rules 5 to 17 over a whole text: the counts of all records, or the rule that is broken first and its line. Where none is broken, every
 // note that is made tells the truth of the words at the front of the table.
-pub fn read(text: &[u8], table: &mut [u64], notes: &mut [u64]) -> Reading
-    requires { ⌜ now notes ≡ replicate (length (now notes)) 0 ⌝ }
+pub fn read(text: &[u8], table: &mut [u64], stage: &mut [u64]) -> Reading
+    requires { ⌜ now stage ≡ replicate (length (now stage)) 0 ⌝ }
     ensures { λ r. ⌜ (r ≡ readingOf (now (text .entry)))
-        × ((c : Counts) → r ≡ Read c → Carries (now (text .entry)) (now (table .exit)) (now (notes .exit)) (c .values)) ⌝ }
+        × ((c : Counts) → r ≡ Read c → Carries (now (text .entry)) (now (table .exit)) (now (stage .exit)) (c .values)) ⌝ }
 {
     let mut at = 0;
     let mut line = 1;
     let mut s = line_keyword::start_state();
     while at < text.len() {
-        let walk = read_line(text, at, line, s, table, notes);
+        let walk = read_line(text, at, line, s, table, stage);
         if walk.rule != 0 {
             return Reading::Refused(walk.rule, walk.line);
         }

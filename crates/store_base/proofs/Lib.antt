@@ -3,4 +3,4 @@ pub mod LineLaws
 pub mod LateLaws
 pub mod BlockLaws
 pub mod WriteLaws
-pub mod NoteLaws
+pub mod StageLaws

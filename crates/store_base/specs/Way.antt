@@ -1,3 +1,3 @@
-pub mod Notes
+pub mod Stage
 pub mod Stores
 pub mod Writes

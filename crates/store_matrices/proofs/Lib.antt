@@ -1,4 +1,4 @@
 pub mod NumberLaws
 pub mod BodyLaws
 pub mod MatrixLaws
-pub mod NoteLaws
+pub mod StageLaws

@@ -1,4 +1,4 @@
 pub mod Matrices
-pub mod Noted
+pub mod Staged
 pub mod Numbers
 pub mod Told

@@ -15,8 +15,8 @@ ghost use Rattle.doc.specs.Way.Found.{Located, lineIn};
 ghost use Rattle.doc.specs.Document.{wordIn, nextRow, givenBy};
 ghost use Rattle.store_base.specs.Way.Writes.{valueWrite};
 ghost use Rattle.store_base.specs.Way.Stores.{Stores};
-ghost use Rattle.store_base.specs.Way.Notes.{noteAt, Noted};
-ghost use Rattle.store_matrices.specs.Way.Noted.{noteIn, isOf, notedWalk};
+ghost use Rattle.store_base.specs.Way.Stage.{stagedAt, Staged};
+ghost use Rattle.store_matrices.specs.Way.Staged.{stagedIn, isOf, stagedWalk};
 ghost use Rattle.store_matrices.specs.Way.Told.{firstTold, toldOr};
 ghost use Rattle.store_matrices.specs.Way.Numbers.{Roomy, cursorOf, spotOf, nextCursor, PutsNumbers, FillsNumbers, PutsSparse, FillsSparse};
 ghost use Rattle.store_matrices.specs.Way.Matrices.{withRow, withBandwidth, TakesLine, TakesData, TakenLine, PutsValues, FillsValues, PutsMatrix, FillsMatrix};
@@ -63,7 +63,7 @@ pub struct MatrixWalk {
 
 // What was noted of a matrix while its lines were judged: where they start and the number of the first, the form that they are read in,
 // how many values stand before theirs, where they end and the number of the line there, and what they say.
-pub struct NoteWords {
+pub struct StagedWords {
     pub at: u64,
     pub line: u64,
     pub form: u64,
@@ -383,55 +383,55 @@ fn fill_values(
 }
 
 // The note numbered i.
-pub fn note_at(notes: &[u64], i: usize) -> NoteWords
-    requires { ⌜ 9 * i + 9 ≤ length (now notes) ⌝ }
-    ensures { λ r. ⌜ r ≡ noteIn (noteAt (now (notes .entry)) i) ⌝ }
+pub fn staged_at(stage: &[u64], i: usize) -> StagedWords
+    requires { ⌜ 9 * i + 9 ≤ length (now stage) ⌝ }
+    ensures { λ r. ⌜ r ≡ stagedIn (stagedAt (now (stage .entry)) i) ⌝ }
 {
     let from = 9 * i;
-    NoteWords {
-        at: notes[from],
-        line: notes[from + 1],
-        form: notes[from + 2],
-        first: notes[from + 3],
-        further: notes[from + 4],
-        next: notes[from + 5],
-        bandwidth: notes[from + 6],
-        greatest: notes[from + 7],
-        count: notes[from + 8],
+    StagedWords {
+        at: stage[from],
+        line: stage[from + 1],
+        form: stage[from + 2],
+        first: stage[from + 3],
+        further: stage[from + 4],
+        next: stage[from + 5],
+        bandwidth: stage[from + 6],
+        greatest: stage[from + 7],
+        count: stage[from + 8],
     }
 }
 
 // Whether a note is made, and of the lines at hand: read in this form, so many values standing before theirs.
-fn is_of(note: NoteWords, at: u64, line: u64, form: u64, first: u64) -> bool
-    ensures { λ r. ⌜ r ≡ isOf note at line form first ⌝ }
+fn is_of(staged: StagedWords, at: u64, line: u64, form: u64, first: u64) -> bool
+    ensures { λ r. ⌜ r ≡ isOf staged at line form first ⌝ }
 {
-    if note.further == 0 {
+    if staged.further == 0 {
         return false;
     }
-    if note.at != at {
+    if staged.at != at {
         return false;
     }
-    if note.line != line {
+    if staged.line != line {
         return false;
     }
-    if note.form != form {
+    if staged.form != form {
         return false;
     }
-    note.first == first
+    staged.first == first
 }
 
 // What a note says of the lines: their values stand in the table already, behind the first ones.
-fn noted_walk(note: NoteWords, first: u64, filling: Filling) -> MatrixWalk
-    requires { ⌜ (0 < note .count → first + note .count < 2 ^ 64) ⌝ }
-    ensures { λ r. ⌜ r ≡ notedWalk note first filling ⌝ }
+fn staged_walk(staged: StagedWords, first: u64, filling: Filling) -> MatrixWalk
+    requires { ⌜ (0 < staged .count → first + staged .count < 2 ^ 64) ⌝ }
+    ensures { λ r. ⌜ r ≡ stagedWalk staged first filling ⌝ }
 {
     let bandwidth = First {
         told: true,
-        value: note.bandwidth,
+        value: staged.bandwidth,
     };
     let bases = filling.bases;
     let mut counts = filling.counts;
-    counts[table_layout::VALUES] = first + note.count;
+    counts[table_layout::VALUES] = first + staged.count;
     let filled = Filling { bases, counts };
     let spot = Spot {
         row: 1,
@@ -439,37 +439,37 @@ fn noted_walk(note: NoteWords, first: u64, filling: Filling) -> MatrixWalk
         filling: filled,
     };
     MatrixWalk {
-        at: note.further as usize,
-        line: note.next,
+        at: staged.further as usize,
+        line: staged.next,
         bandwidth,
-        greatest: note.greatest,
+        greatest: staged.greatest,
         spot,
     }
 }
 
 // The lines of a matrix, by what was noted of them where it was, else as they stand.
-fn noted_values(
+fn staged_values(
     text: &[u8],
     at: usize,
     line: u64,
     form: u64,
     table: &mut [u64],
     filling: Filling,
-    notes: &[u64],
+    stage: &[u64],
 ) -> MatrixWalk
     requires { ⌜ PutsValues (now text) line at form (now table) filling
-        × Noted (now text) (now table) (now notes) (getD (filling .bases) 6 0) (getD (filling .counts) 6 0) ⌝ }
+        × Staged (now text) (now table) (now stage) (getD (filling .bases) 6 0) (getD (filling .counts) 6 0) ⌝ }
     ensures { λ r. ⌜ FillsValues (now (text .entry)) line at form (now (table .entry)) filling r (now (table .exit)) ⌝ }
 {
     let counts = filling.counts;
     let first = counts[table_layout::VALUES];
     let index = counts[table_layout::MATRICES] as usize;
-    if notes.len() / 9 <= index {
+    if stage.len() / 9 <= index {
         return fill_values(text, at, line, form, table, filling);
     }
-    let note = note_at(notes, index);
-    if is_of(note, at as u64, line, form, first) {
-        return noted_walk(note, first, filling);
+    let staged = staged_at(stage, index);
+    if is_of(staged, at as u64, line, form, first) {
+        return staged_walk(staged, first, filling);
     }
     fill_values(text, at, line, form, table, filling)
 }
@@ -500,16 +500,16 @@ pub fn fill_matrix(
     line: Found,
     table: &mut [u64],
     filling: Filling,
-    notes: &[u64],
+    stage: &[u64],
 ) -> Stored
     requires { ⌜ PutsMatrix (now text) line (now table) filling
-        × Noted (now text) (now table) (now notes) (getD (filling .bases) 6 0) (getD (filling .counts) 6 0) ⌝ }
+        × Staged (now text) (now table) (now stage) (getD (filling .bases) 6 0) (getD (filling .counts) 6 0) ⌝ }
     ensures { λ r. ⌜ FillsMatrix (now (text .entry)) line (now (table .entry)) filling r (now (table .exit)) ⌝ }
 {
     let before = filling.counts;
     let first = before[table_layout::VALUES];
     let form = form_at(text, line);
-    let walk = noted_values(text, line.next, line.line + 1, form, table, filling, notes);
+    let walk = staged_values(text, line.next, line.line + 1, form, table, filling, stage);
     let spot = walk.spot;
     let bandwidth = walk.bandwidth;
     let filled = spot.filling;

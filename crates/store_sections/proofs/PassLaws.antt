@@ -28,12 +28,12 @@ use Rattle.store_base.specs.Way.Stores.{Passes, Ready}
 use Rattle.store_base.specs.declared.Walk.{Walk}
 use Rattle.store_base.proofs.StoreLaws.{stores-none, counts-kept}
 use Rattle.store_base.proofs.LineLaws.{quiet}
-use Rattle.store_base.proofs.NoteLaws.{noted-kept}
+use Rattle.store_base.proofs.StageLaws.{stage-kept}
 use Rattle.store_base.proofs.WriteLaws.{section-matrices-counted, section-values-counted}
 use Rattle.store_base.proofs.BlockLaws.{Storable, BlocksLeft, block-fits}
 use Rattle.store_sections.specs.Way.Section.{sectionBelow, PutsSection, FillsSection}
 use Rattle.store_sections.specs.Way.Sections.{sectionsOf}
-use Rattle.store_sections.proofs.SectionLaws.{NotedOf}
+use Rattle.store_sections.proofs.SectionLaws.{StagedOf}
 
 -- ---- what is stored of sections
 
@@ -89,15 +89,15 @@ section-ready t f₀ table₀ ss w table left line meets there =
     }
 
 -- what is noted of the matrices behind it stays
-pub section-noted :
+pub section-staged :
     (t : List ℕ) (f₀ : Filling) (table₀ : List ℕ) (ss : List Section) (w : Walk) (table : List ℕ) →
     BlocksLeft sectionAt sectionsOf (length table₀) t f₀ table₀ ss w table →
     (line : Found) → Meets t (w .line) (w .at) (w .place) line → not (line .there) ≡ false → (v : Walk) (table' : List ℕ) →
-    Passes sectionAt sectionsOf t line w table v table' → (notes : List ℕ) → NotedOf t table notes (w .filling) →
-    NotedOf t table' notes (v .filling)
-section-noted t f₀ table₀ ss w table left line meets there v table' passes notes noted =
+    Passes sectionAt sectionsOf t line w table v table' → (stage : List ℕ) → StagedOf t table stage (w .filling) →
+    StagedOf t table' stage (v .filling)
+section-staged t f₀ table₀ ss w table left line meets there v table' passes stage staged =
     let ready : Ready sectionAt sectionsOf t line w table = section-ready t f₀ table₀ ss w table left line meets there in
-    noted-kept t table notes table' (w .filling) (v .filling) _ (passes .stores) (ready .fits) (ready .seven) noted
+    stage-kept t table stage table' (w .filling) (v .filling) _ (passes .stores) (ready .fits) (ready .seven) staged
 
 -- a line that opens a section leads to the section's head
 opening-leads : (content : List ℕ) → keyAt content ≡ beginIcmSection → placeAfter place.after content ≡ place.sectionHead

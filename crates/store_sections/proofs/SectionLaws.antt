@@ -28,10 +28,10 @@ use Rattle.doc.specs.declared.Mark.{Mark}
 use Rattle.doc.proofs.PassLaws.{section-blocks}
 use Rattle.store_base.specs.Way.Writes.{valuesCount, matrixWrites, matricesWrites, sectionWrite, sectionWrites}
 use Rattle.store_base.specs.Way.Stores.{Placed}
-use Rattle.store_base.specs.Way.Notes.{Noted}
+use Rattle.store_base.specs.Way.Stage.{Staged}
 use Rattle.store_base.proofs.StoreLaws.{put-asked, put-stored, stores-join, Pending, pending-start, pending-step, pending-done, pending-same}
 use Rattle.store_base.proofs.LineLaws.{up-on, up-stops, up-none, Skipped, skipped-start, skipped-on, skipped-done, gather-on, quiet}
-use Rattle.store_base.proofs.NoteLaws.{noted-kept}
+use Rattle.store_base.proofs.StageLaws.{stage-kept}
 use Rattle.store_base.proofs.WriteLaws.{values-counted}
 use Rattle.store_matrices.specs.Way.Told.{toldOr}
 use Rattle.store_sections.specs.declared.SectionWalk.{SectionWalk}
@@ -54,8 +54,8 @@ use Rattle.store_sections.specs.Way.Section.{
 }
 
 -- what was noted of the values from where a filling stands
-abbrev pub NotedOf : List ℕ → List ℕ → List ℕ → Filling → Type 0
-NotedOf t table notes f = Noted t table notes (getD (f .bases) 6 0) (getD (f .counts) 6 0)
+abbrev pub StagedOf : List ℕ → List ℕ → List ℕ → Filling → Type 0
+StagedOf t table stage f = Staged t table stage (getD (f .bases) 6 0) (getD (f .counts) 6 0)
 
 -- ---- the lines of a matrix, within a section
 
@@ -321,9 +321,9 @@ module _ (t : List ℕ) (n₀ at₀ : ℕ) (table₀ : List ℕ) (f₀ : Filling
             }
 
         -- what is noted of the matrices behind it stays
-        pub lines-noted : (notes : List ℕ) → NotedOf t table notes (w .filling) → NotedOf t table' notes (v .filling)
-        lines-noted notes noted =
-            noted-kept t table notes table' (w .filling) (v .filling) _ (taken .stores) (lines-takes .fits) (left .seven) noted
+        pub lines-staged : (stage : List ℕ) → StagedOf t table stage (w .filling) → StagedOf t table' stage (v .filling)
+        lines-staged stage staged =
+            stage-kept t table stage table' (w .filling) (v .filling) _ (taken .stores) (lines-takes .fits) (left .seven) staged
 
 -- ---- a section's own record
 

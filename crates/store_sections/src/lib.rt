@@ -11,7 +11,7 @@ ghost use Rattle.table_layout.specs.Way.Filling.{Fits};
 ghost use Rattle.doc.specs.Document.{kindOf, sectionAt};
 ghost use Rattle.doc.specs.Way.Found.{Located};
 ghost use Rattle.store_base.specs.Way.Stores.{Stores, Placed, Passes, Ready};
-ghost use Rattle.store_base.specs.Way.Notes.{Noted};
+ghost use Rattle.store_base.specs.Way.Stage.{Staged};
 ghost use Rattle.store_sections.specs.Way.Sections.{sectionsOf, sectionsLeft};
 ghost use Rattle.store_sections.specs.Way.Section.{kindsWith, methodAt, methodAfter, TakesLine, TakesMatrix, TakenLine, PutsLines, FillsLines, PutsSection, FillsSection};
 use doc::Found;
@@ -117,17 +117,17 @@ fn take_matrix(
     line: Found,
     table: &mut [u64],
     walk: SectionWalk,
-    notes: &[u64],
+    stage: &[u64],
 ) -> SectionWalk
     requires { ⌜ TakesMatrix (now text) line (now table) walk
-        × Noted (now text) (now table) (now notes) (getD (walk .filling .bases) 6 0) (getD (walk .filling .counts) 6 0) ⌝ }
+        × Staged (now text) (now table) (now stage) (getD (walk .filling .bases) 6 0) (getD (walk .filling .counts) 6 0) ⌝ }
     ensures { λ r. ⌜ TakenLine (now (text .entry)) line (now (table .entry)) walk r (now (table .exit)) ⌝ }
 {
     let filling = walk.filling;
     let method = walk.method;
     let before = walk.conductors;
     let kept = walk.kinds;
-    let stored = store_matrices::fill_matrix(text, line, table, filling, notes);
+    let stored = store_matrices::fill_matrix(text, line, table, filling, stage);
     let filled = stored.filling;
     let counts = filled.counts;
     let conductors = store_matrices::first_told(before, stored.conductors);
@@ -149,14 +149,14 @@ fn take_line(
     line: Found,
     table: &mut [u64],
     walk: SectionWalk,
-    notes: &[u64],
+    stage: &[u64],
 ) -> SectionWalk
     requires { ⌜ TakesLine (now text) line (now table) walk
-        × Noted (now text) (now table) (now notes) (getD (walk .filling .bases) 6 0) (getD (walk .filling .counts) 6 0) ⌝ }
+        × Staged (now text) (now table) (now stage) (getD (walk .filling .bases) 6 0) (getD (walk .filling .counts) 6 0) ⌝ }
     ensures { λ r. ⌜ TakenLine (now (text .entry)) line (now (table .entry)) walk r (now (table .exit)) ⌝ }
 {
     if opens_matrix(walk.place, line.key) {
-        return take_matrix(text, line, table, walk, notes);
+        return take_matrix(text, line, table, walk, stage);
     }
     let before = walk.method;
     let conductors = walk.conductors;
@@ -181,10 +181,10 @@ fn fill_lines(
     first_line: u64,
     table: &mut [u64],
     filling: Filling,
-    notes: &[u64],
+    stage: &[u64],
 ) -> SectionWalk
     requires { ⌜ PutsLines (now text) «first_line» at (now table) filling
-        × Noted (now text) (now table) (now notes) (getD (filling .bases) 6 0) (getD (filling .counts) 6 0) ⌝ }
+        × Staged (now text) (now table) (now stage) (getD (filling .bases) 6 0) (getD (filling .counts) 6 0) ⌝ }
     ensures { λ r. ⌜ FillsLines (now (text .entry)) «first_line» at (now (table .entry)) filling r (now (table .exit)) ⌝ }
 {
     let untold = First {
@@ -208,7 +208,7 @@ fn fill_lines(
         if !is_in_section(walk.place) {
             return walk;
         }
-        walk = take_line(text, line, table, walk, notes);
+        walk = take_line(text, line, table, walk, stage);
     }
 }
 
@@ -218,13 +218,13 @@ fn fill_section(
     line: Found,
     table: &mut [u64],
     filling: Filling,
-    notes: &[u64],
+    stage: &[u64],
 ) -> Walk
     requires { ⌜ PutsSection (now text) line (now table) filling
-        × Noted (now text) (now table) (now notes) (getD (filling .bases) 6 0) (getD (filling .counts) 6 0) ⌝ }
+        × Staged (now text) (now table) (now stage) (getD (filling .bases) 6 0) (getD (filling .counts) 6 0) ⌝ }
     ensures { λ r. ⌜ FillsSection (now (text .entry)) line (now (table .entry)) filling r (now (table .exit)) ⌝ }
 {
-    let walk = fill_lines(text, line.next, line.line + 1, table, filling, notes);
+    let walk = fill_lines(text, line.next, line.line + 1, table, filling, stage);
     let filled = walk.filling;
     let method = walk.method;
     let conductors = walk.conductors;
@@ -259,14 +259,14 @@ fn opens_section(place: u64, key: u64) -> bool
 }
 
 // A line, and the section that it opens if it opens one.
-fn pass_section(text: &[u8], line: Found, table: &mut [u64], walk: Walk, notes: &[u64]) -> Walk
+fn pass_section(text: &[u8], line: Found, table: &mut [u64], walk: Walk, stage: &[u64]) -> Walk
     requires { ⌜ Ready sectionAt sectionsOf (now text) line walk (now table)
-        × Noted (now text) (now table) (now notes) (getD (walk .filling .bases) 6 0) (getD (walk .filling .counts) 6 0) ⌝ }
+        × Staged (now text) (now table) (now stage) (getD (walk .filling .bases) 6 0) (getD (walk .filling .counts) 6 0) ⌝ }
     ensures { λ r. ⌜ Passes sectionAt sectionsOf (now (text .entry)) line walk (now (table .entry)) r (now (table .exit)) ⌝ }
 {
     let filling = walk.filling;
     if opens_section(walk.place, line.key) {
-        return fill_section(text, line, table, filling, notes);
+        return fill_section(text, line, table, filling, stage);
     }
     Walk {
         at: line.next,
@@ -277,11 +277,11 @@ fn pass_section(text: &[u8], line: Found, table: &mut [u64], walk: Walk, notes: 
 }
 
 // All sections, from where the walk has come. Where something was noted of a matrix, its lines are not read again.
-pub fn fill_sections(text: &[u8], table: &mut [u64], walk: Walk, notes: &[u64]) -> Filling
+pub fn fill_sections(text: &[u8], table: &mut [u64], walk: Walk, stage: &[u64]) -> Filling
     requires { ⌜ Placed (now text) (walk .line) (walk .at)
         × (length (walk .filling .counts) ≡ 7)
         × Fits (length (now table)) (walk .filling) (sectionsOf (walk .filling) (sectionsLeft (now text) walk))
-        × Noted (now text) (now table) (now notes) (getD (walk .filling .bases) 6 0) (getD (walk .filling .counts) 6 0) ⌝ }
+        × Staged (now text) (now table) (now stage) (getD (walk .filling .bases) 6 0) (getD (walk .filling .counts) 6 0) ⌝ }
     ensures { λ r. ⌜ Stores (walk .filling) (now (table .entry)) (sectionsOf (walk .filling) (sectionsLeft (now (text .entry)) walk)) r (now (table .exit)) ⌝ }
 {
     let mut next = walk;
@@ -290,6 +290,6 @@ pub fn fill_sections(text: &[u8], table: &mut [u64], walk: Walk, notes: &[u64]) 
         if !line.there {
             return next.filling;
         }
-        next = pass_section(text, line, table, next, notes);
+        next = pass_section(text, line, table, next, stage);
     }
 }

@@ -9,7 +9,7 @@ use Rattle.read_matrix.proofs.LineLaws.{judged-stops, judged-goes}
 use borrow.Author.Needs.{needs}
 use Rattle.read_matrix.proofs.data_line.Statement.{statement}
 use Rattle.read_matrix.proofs.data_line.Tie as tie
-use Rattle.read_matrix.proofs.new_note.Reads as new-note-reads
+use Rattle.read_matrix.proofs.new_staging.Reads as new-staging-reads
 use Rattle.line_matrix.proofs.data_line.Reads as data-line-reads
 use Rattle.line_matrix.proofs.data_next.Reads as data-next-reads
 use Rattle.line_matrix.proofs.data_rule.Reads as data-rule-reads
@@ -20,13 +20,13 @@ data-line-requires c κs = search needs
 data-rule-requires : tie.Need-data-rule-requires
 data-rule-requires c κs = search needs
 
-new-note-requires : tie.Need-new-note-requires
-new-note-requires c κs = search needs
+new-staging-requires : tie.Need-new-staging-requires
+new-staging-requires c κs = search needs
 
 returns : tie.Need-returns
-returns c = λ note table.
+returns c = λ staging table.
     judged-stops _ (c .before .before .before .before .before .pre .0) (c .before .before .before .before .before .pre .1) _ _ _ (c .before .before
-    .before .data-line .ensures) _ (c .before .before .data-rule .ensures) _ (c .new-note .ensures) _ _
+    .before .data-line .ensures) _ (c .before .before .data-rule .ensures) _ (c .new-staging .ensures) _ _
     (c .before .if1 .taken)
 
 data-next-requires : tie.Need-data-next-requires
@@ -38,14 +38,14 @@ add-t9 c = let few : c .before .before .before .before .before .before .args .va
     values-small _ _ _ _ (c .before .before .before .data-rule .ensures) (c .before .before .if1 .left) in
     omega arith
 
-new-note-requires-2 : tie.Need-new-note-requires-2
-new-note-requires-2 c κs = search needs
+new-staging-requires-2 : tie.Need-new-staging-requires-2
+new-staging-requires-2 c κs = search needs
 
 returns-2 : tie.Need-returns-2
-returns-2 c = λ note table.
+returns-2 c = λ staging table.
     judged-goes _ (c .before .before .before .before .before .before .before .pre .0) (c .before .before .before .before .before .before .before
     .pre .1) _ _ _ (c .before .before .before .before .before .data-line .ensures) _ (c .before .before .before .before .data-rule .ensures) _ (c
-    .new-note2 .ensures) _ _
+    .new-staging2 .ensures) _ _
     (c .before .before .before .if1 .left) _ (c .before .before .data-next .ensures)
 
 pub data-line-spec : {M : Type 1} → statement M
@@ -54,9 +54,9 @@ data-line-spec =
     (tie.spec
     data-line-requires
     data-rule-requires
-    new-note-requires
+    new-staging-requires
     returns
     data-next-requires
     add-t9
-    new-note-requires-2
+    new-staging-requires-2
     returns-2)

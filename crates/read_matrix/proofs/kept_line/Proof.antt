@@ -6,7 +6,7 @@ use Rattle.read_matrix.proofs.kept_line.Statement.{statement}
 use Rattle.read_matrix.proofs.kept_line.Tie as tie
 use Rattle.line_keyword.proofs.kept_next.Reads as kept-next-reads
 use Rattle.line_keyword.proofs.kept_rule.Reads as kept-rule-reads
-use Rattle.read_matrix.proofs.kept_note.Reads as kept-note-reads
+use Rattle.read_matrix.proofs.kept_staging.Reads as kept-staging-reads
 use Rattle.lex_number.proofs.read_integer.Reads as read-integer-reads
 
 kept-rule-requires : tie.Need-kept-rule-requires
@@ -21,8 +21,8 @@ read-integer-requires c κs = search needs
 kept-next-requires : tie.Need-kept-next-requires
 kept-next-requires c κs = search needs
 
-kept-note-requires : tie.Need-kept-note-requires
-kept-note-requires c κs = search needs
+kept-staging-requires : tie.Need-kept-staging-requires
+kept-staging-requires c κs = search needs
 
 returns-2 : tie.Need-returns-2
 returns-2 c = search keeps-go
@@ -35,5 +35,5 @@ kept-line-spec =
     returns
     read-integer-requires
     kept-next-requires
-    kept-note-requires
+    kept-staging-requires
     returns-2)

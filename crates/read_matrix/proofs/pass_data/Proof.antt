@@ -13,7 +13,7 @@ use Rattle.read_matrix.proofs.pass_data.Statement.{statement}
 use Rattle.read_matrix.proofs.pass_data.Tie as tie
 use Rattle.base.proofs.and.Reads as and-reads
 use Rattle.read_matrix.proofs.has_room.Reads as has-room-reads
-use Rattle.read_matrix.proofs.new_note.Reads as new-note-reads
+use Rattle.read_matrix.proofs.new_staging.Reads as new-staging-reads
 use Rattle.read_matrix.proofs.pass_run.Reads as pass-run-reads
 use Rattle.read_matrix.proofs.take_data.Reads as take-data-reads
 use Rattle.lex_line.proofs.line_at.Reads as line-at-reads
@@ -28,12 +28,12 @@ abbrev μ-loop : tie.MeasureT-loop
 has-room-requires : tie.Need-has-room-requires Inv-loop μ-loop
 has-room-requires c κs = search needs
 
-new-note-requires : tie.Need-new-note-requires Inv-loop μ-loop
-new-note-requires c κs = search needs
+new-staging-requires : tie.Need-new-staging-requires Inv-loop μ-loop
+new-staging-requires c κs = search needs
 
 loop-holds : tie.Need-loop-holds Inv-loop μ-loop
 loop-holds c = let pre = c .before .before .before .before .pre in
-    (pre .1, gone-start _ _ _ _ _ _ _ (pre .0) (c .before .has-room .ensures) _ (c .new-note .ensures))
+    (pre .1, gone-start _ _ _ _ _ _ _ (pre .0) (c .before .has-room .ensures) _ (c .new-staging .ensures))
 
 pass-run-requires : tie.Need-pass-run-requires Inv-loop μ-loop
 pass-run-requires c κs = let gone = c .before .before .loop .inv .1 in
@@ -134,7 +134,7 @@ pass-data-spec =
     Inv-loop
     μ-loop
     has-room-requires
-    new-note-requires
+    new-staging-requires
     loop-holds
     pass-run-requires
     same-length

@@ -17,32 +17,32 @@ use Rattle.read_line.specs.Reading.{keywordStep, lineResult}
 use Rattle.read_line.specs.Way.Walk.{Crossed, Holds, Decides, Opens, Stays, withMatrix}
 use Rattle.doc.specs.Lines.{Line}
 use Rattle.doc.specs.Document.{inMatrix}
-use Rattle.store_base.specs.Way.Notes.{Note, Tells, wordsOf}
+use Rattle.store_base.specs.Way.Stage.{StagedMatrix, Tells, wordsOf}
 use Rattle.store_matrices.specs.Way.Told.{untold, firstTold, toldOr}
-use Rattle.read_numbers.specs.declared.Note as noting
-use Rattle.read_numbers.specs.Way.Noting.{Bounded, Adds}
+use Rattle.read_numbers.specs.declared.Staging as stages
+use Rattle.read_numbers.specs.Way.Staging.{Bounded, Adds}
 use Rattle.read_matrix.specs.declared.Data.{Data}
 use Rattle.read_matrix.specs.declared.BodyWalk.{BodyWalk}
 
 -- a note of nothing
-abbrev pub noNote : Bool → noting.Note
-noNote whole = record { whole = whole; row = 1; column = 1; bandwidth = untold; greatest = 0 }
+abbrev pub newStaging : Bool → stages.Staging
+newStaging whole = record { whole = whole; row = 1; column = 1; bandwidth = untold; greatest = 0 }
 
 -- [Row] i: the next number stands at (i, i); of [Bandwidth] the first counts
-unfoldable pub keptNote : ℕ → ℕ → noting.Note → noting.Note
-keptNote key value a =
+unfoldable pub keptStaging : ℕ → ℕ → stages.Staging → stages.Staging
+keptStaging key value a =
     if eqb key row
     then record { whole = a .whole; row = value; column = value; bandwidth = a .bandwidth; greatest = max (a .greatest) value }
     else record { whole = a .whole; row = a .row; column = a .column; bandwidth = firstTold (a .bandwidth) value; greatest = a .greatest }
 
 -- [Row] or [Bandwidth], by its argument
-pub record Keeps (key : ℕ) (argument : List ℕ) (m : Matrix) (values : ℕ) (a : noting.Note) (r : Data) : Type 0 where
+pub record Keeps (key : ℕ) (argument : List ℕ) (m : Matrix) (values : ℕ) (a : stages.Staging) (r : Data) : Type 0 where
   pub taken : r .taken ≡ true
   pub decides : Decides place.matrix (withMatrix m values) (keywordStep key argument) (r .rule) (withMatrix (r .matrix) (r .values))
   pub form : r .matrix .form ≡ m .form
   pub same : r .values ≡ values
-  pub note : r .rule ≡ 0 → r .note ≡ keptNote key (wholeOf argument .value) a
-  pub bounded : Bounded (r .note) values
+  pub staging : r .rule ≡ 0 → r .staging ≡ keptStaging key (wholeOf argument .value) a
+  pub bounded : Bounded (r .staging) values
 
 -- a table is changed only behind so many values
 pub record Behind (values : ℕ) (table table' : List ℕ) : Type 0 where
@@ -50,7 +50,7 @@ pub record Behind (values : ℕ) (table table' : List ℕ) : Type 0 where
   pub same : take (3 * values) table' ≡ take (3 * values) table
 
 -- what a line with this content adds to what is noted: nothing where it is blank
-pub record Extends (content : List ℕ) (form : ℕ) (table : List ℕ) (values : ℕ) (a : noting.Note) (table' : List ℕ) (values' : ℕ) (b : noting.Note) : Type 0 where
+pub record Extends (content : List ℕ) (form : ℕ) (table : List ℕ) (values : ℕ) (a : stages.Staging) (table' : List ℕ) (values' : ℕ) (b : stages.Staging) : Type 0 where
   pub blank : isBlankLine content ≡ true → (table' ≡ table) × (values' ≡ values) × (b ≡ a)
   pub filled : isBlankLine content ≡ false → (l : Line) → l .place ≡ place.matrix → l .content ≡ content →
       (inMatrix l ≡ true) × Adds form l table values a table' values' b
@@ -61,7 +61,7 @@ pub record Ends (content : List ℕ) : Type 0 where
   pub outside : (l : Line) → l .content ≡ content → inMatrix l ≡ false
 
 -- one line, by its content
-pub record Takes (content : List ℕ) (m : Matrix) (values : ℕ) (a : noting.Note) (table : List ℕ) (r : Data) (table' : List ℕ) : Type 0 where
+pub record Takes (content : List ℕ) (m : Matrix) (values : ℕ) (a : stages.Staging) (table : List ℕ) (r : Data) (table' : List ℕ) : Type 0 where
   pub decides : r .taken ≡ true → Decides place.matrix (withMatrix m values) (lineResult content) (r .rule) (withMatrix (r .matrix) (r .values))
   pub opens : r .taken ≡ false → Opens content
   pub ends : r .taken ≡ false → r .ends ≡ true → Ends content
@@ -69,16 +69,16 @@ pub record Takes (content : List ℕ) (m : Matrix) (values : ℕ) (a : noting.No
   pub form : r .matrix .form ≡ m .form
   pub behind : Behind values table table'
   pub rises : values ≤ r .values
-  pub bounded : Bounded (r .note) (r .values)
-  pub extends : r .taken ≡ true → r .rule ≡ 0 → r .note .whole ≡ true → Extends content (m .form) table values a table' (r .values) (r .note)
+  pub bounded : Bounded (r .staging) (r .values)
+  pub extends : r .taken ≡ true → r .rule ≡ 0 → r .staging .whole ≡ true → Extends content (m .form) table values a table' (r .values) (r .staging)
 
 -- a line that adds no number, whatever the table
-abbrev pub TakesAlone : List ℕ → Matrix → ℕ → noting.Note → Data → Type 0
+abbrev pub TakesAlone : List ℕ → Matrix → ℕ → stages.Staging → Data → Type 0
 TakesAlone content m values a r = (table : List ℕ) → Takes content m values a table r table
 
 -- the note of a matrix whose lines start at `at`, so many values being read before
-abbrev pub noteOf : ℕ → ℕ → Matrix → ℕ → BodyWalk → Note
-noteOf at line m values w =
+abbrev pub stagedOf : ℕ → ℕ → Matrix → ℕ → BodyWalk → StagedMatrix
+stagedOf at line m values w =
     record {
       at = at;
       line = line;
@@ -86,8 +86,8 @@ noteOf at line m values w =
       first = values;
       further = w .at;
       next = w .line;
-      bandwidth = toldOr (w .part .note .bandwidth) 0;
-      greatest = w .part .note .greatest;
+      bandwidth = toldOr (w .part .staging .bandwidth) 0;
+      greatest = w .part .staging .greatest;
       count = w .part .values - values;
     }
 
@@ -97,4 +97,4 @@ pub record Goes (t : List ℕ) (at line : ℕ) (m : Matrix) (values : ℕ) (tabl
   pub stays : Stays t at (w .at)
   pub behind : Behind values table table'
   pub rises : values ≤ w .part .values
-  pub tells : w .part .rule ≡ 0 → w .noted ≡ true → line ≤ at + 1 → Tells t (noteOf at line m values w) (wordsOf table' 0 (noteOf at line m values w))
+  pub tells : w .part .rule ≡ 0 → w .staged ≡ true → line ≤ at + 1 → Tells t (stagedOf at line m values w) (wordsOf table' 0 (stagedOf at line m values w))

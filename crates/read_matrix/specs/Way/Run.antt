@@ -17,10 +17,10 @@ use Rattle.read_line.specs.Reading.{commentByte}
 use Rattle.read_line.specs.Way.Walk.{Crossed, Holds, withMatrix, contentAt}
 use Rattle.doc.specs.Lines.{Line, linesAt}
 use Rattle.doc.specs.Document.{valuesFrom, bandwidthIn, greatestIn}
-use Rattle.store_base.specs.Way.Notes.{bodyLines, valuesWords}
+use Rattle.store_base.specs.Way.Stage.{bodyLines, valuesWords}
 use Rattle.store_matrices.specs.Way.Told.{toldOr}
-use Rattle.read_numbers.specs.declared.Note.{Note}
-use Rattle.read_numbers.specs.Way.Noting.{Bounded, movedTo, namedTo}
+use Rattle.read_numbers.specs.declared.Staging.{Staging}
+use Rattle.read_numbers.specs.Way.Staging.{Bounded, movedTo, namedTo}
 use Rattle.read_matrix.specs.declared.Data.{Data}
 use Rattle.read_matrix.specs.declared.Run.{Run}
 use Rattle.read_matrix.specs.declared.TakenNumbers.{TakenNumbers}
@@ -28,7 +28,7 @@ use Rattle.read_matrix.specs.declared.TakenPair.{TakenPair}
 use Rattle.read_matrix.specs.Way.Body.{Behind, Takes}
 
 -- what is left of a matrix' lines, noted behind what is noted, gives what all of them give
-pub record Left (t : List ℕ) (n₀ at₀ form : ℕ) (table₀ : List ℕ) (values₀ n at : ℕ) (table : List ℕ) (values : ℕ) (a : Note) : Type 0 where
+pub record Left (t : List ℕ) (n₀ at₀ form : ℕ) (table₀ : List ℕ) (values₀ n at : ℕ) (table : List ℕ) (values : ℕ) (a : Staging) : Type 0 where
   pub image :
       sets table (3 * values) (valuesWords (valuesFrom form (a .row) (a .column) (bodyLines t n at)))
       ≡ sets table₀ (3 * values₀) (valuesWords (valuesFrom form 1 1 (bodyLines t n₀ at₀)))
@@ -46,8 +46,8 @@ pub record Gone (t : List ℕ) (at line : ℕ) (m : Matrix) (values : ℕ) (tabl
   pub form : part .matrix .form ≡ m .form
   pub behind : Behind values table₀ table
   pub rises : values ≤ part .values
-  pub bounded : Bounded (part .note) (part .values)
-  pub left : part .note .whole ≡ true → Left t line at (m .form) table₀ values lineHere here table (part .values) (part .note)
+  pub bounded : Bounded (part .staging) (part .values)
+  pub left : part .staging .whole ≡ true → Left t line at (m .form) table₀ values lineHere here table (part .values) (part .staging)
 
 -- a run of lines: what had been gone over up to it has been gone over up to its end
 pub record Leads (t : List ℕ) (at line : ℕ) (part : Data) (table : List ℕ) (r : Run) (table' : List ℕ) : Type 0 where
@@ -64,9 +64,9 @@ Ordered m = both (not (eqb (m .form) diagonal)) (eqb (m .rows .row) 0) ≡ false
 pub record Runs (t : List ℕ) (at line : ℕ) (part : Data) : Type 0 where
   pub within : at ≤ length t
   pub counted : line ≤ at + 1
-  pub bounded : Bounded (part .note) (part .values)
+  pub bounded : Bounded (part .staging) (part .values)
   pub few : part .values ≤ mostValues
-  pub whole : part .note .whole ≡ true
+  pub whole : part .staging .whole ≡ true
   pub ordered : Ordered (part .matrix)
 
 -- ---- lines of numbers
@@ -80,7 +80,7 @@ numbersPart part whole values row column =
       rule = 0;
       matrix = part .matrix;
       values = values;
-      note = record { whole = whole; row = row; column = column; bandwidth = part .note .bandwidth; greatest = part .note .greatest };
+      staging = record { whole = whole; row = row; column = column; bandwidth = part .staging .bandwidth; greatest = part .staging .greatest };
     }
 
 -- the line at a place as one of a run of numbers, whatever the matrix and the note: it is taken, or not a line of the run. One that breaks a rule may have
@@ -90,9 +90,9 @@ pub record TakesNumbers (t : List ℕ) (here form values row column : ℕ) (tabl
   pub kept : r .taken ≡ false → r .whole ≡ true → table' ≡ table
   pub few : r .taken ≡ true → r .values ≤ mostValues
   pub onward : r .taken ≡ true → r .next ≡ lineAt commentByte t here .next
-  pub takes : r .taken ≡ true → (m : Matrix) → m .form ≡ form → Ordered m → (a : Note) → a .whole ≡ true → a .row ≡ row → a .column ≡ column →
+  pub takes : r .taken ≡ true → (m : Matrix) → m .form ≡ form → Ordered m → (a : Staging) → a .whole ≡ true → a .row ≡ row → a .column ≡ column →
       Takes (contentAt t here) m values a table
-      (record { taken = true; ends = false; rule = 0; matrix = m; values = r .values; note = movedTo (r .row) (r .column) a }) table'
+      (record { taken = true; ends = false; rule = 0; matrix = m; values = r .values; staging = movedTo (r .row) (r .column) a }) table'
 
 -- ---- lines of a column and a value
 
@@ -122,12 +122,12 @@ pairsPart part whole values matrix named =
       rule = 0;
       matrix = matrix;
       values = values;
-      note =
+      staging =
           record {
             whole = whole;
-            row = part .note .row;
-            column = part .note .column;
-            bandwidth = part .note .bandwidth;
+            row = part .staging .row;
+            column = part .staging .column;
+            bandwidth = part .staging .bandwidth;
             greatest = named;
           };
     }
@@ -138,6 +138,6 @@ pub record TakesPair (t : List ℕ) (here values row : ℕ) (table : List ℕ) (
   pub few : r .taken ≡ true → values < mostValues
   pub narrow : r .taken ≡ true → r .column < 4_294_967_296
   pub onward : r .taken ≡ true → r .next ≡ lineAt commentByte t here .next
-  pub takes : r .taken ≡ true → (m : Matrix) → m .form ≡ sparse → Ordered m → (a : Note) → a .whole ≡ true → Bounded a values → a .row ≡ row →
+  pub takes : r .taken ≡ true → (m : Matrix) → m .form ≡ sparse → Ordered m → (a : Staging) → a .whole ≡ true → Bounded a values → a .row ≡ row →
       Takes (contentAt t here) m values a table
-      (record { taken = true; ends = false; rule = 0; matrix = withColumn (r .column) m; values = values + 1; note = namedTo (r .column) a }) table'
+      (record { taken = true; ends = false; rule = 0; matrix = withColumn (r .column) m; values = values + 1; staging = namedTo (r .column) a }) table'

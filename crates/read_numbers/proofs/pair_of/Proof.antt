@@ -1,6 +1,6 @@
 -- `read_numbers::pair_of` meets its contract: noted where there is one number.
 -- Assumes nothing.
-use Rattle.read_numbers.proofs.NotingLaws.{pair-untold, pair-other, pair-told}
+use Rattle.read_numbers.proofs.StagingLaws.{pair-untold, pair-other, pair-told}
 use borrow.Author.Needs.{needs}
 use Rattle.read_numbers.proofs.pair_of.Statement.{statement}
 use Rattle.read_numbers.proofs.pair_of.Tie as tie

@@ -2,7 +2,7 @@
 -- Assumes nothing.
 use Prim.Native.Nat.{_-_}
 use lib.ListN.{length}
-use Rattle.read_numbers.proofs.NotingLaws.{Left, left-start, left-unnoted, left-roomy, left-done, left-less, left-on, pipe-spells-nothing}
+use Rattle.read_numbers.proofs.StagingLaws.{Left, left-start, left-unstaged, left-roomy, left-done, left-less, left-on, pipe-spells-nothing}
 use borrow.Author.Needs.{needs}
 use Rattle.read_numbers.proofs.store_numbers.Statement.{statement}
 use Rattle.read_numbers.proofs.store_numbers.Tie as tie
@@ -44,7 +44,7 @@ same-length-2 : tie.Need-same-length-2 Inv-loop μ-loop
 same-length-2 c = search needs
 
 returns-2 : tie.Need-returns-2 Inv-loop μ-loop
-returns-2 c = search left-unnoted
+returns-2 c = search left-unstaged
 
 number-in-requires : tie.Need-number-in-requires Inv-loop μ-loop
 number-in-requires c κs = pipe-spells-nothing
@@ -59,7 +59,7 @@ same-length-3 : tie.Need-same-length-3 Inv-loop μ-loop
 same-length-3 c = search needs
 
 returns-3 : tie.Need-returns-3 Inv-loop μ-loop
-returns-3 c = search left-unnoted
+returns-3 c = search left-unstaged
 
 put-number-requires : tie.Need-put-number-requires Inv-loop μ-loop
 put-number-requires c κs = search left-roomy

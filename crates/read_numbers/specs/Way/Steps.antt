@@ -14,7 +14,7 @@ use Rattle.line_matrix.specs.Matrix.{areFormed, areBounded}
 use Rattle.read_line.specs.Reading.{commentByte}
 use Rattle.read_line.specs.Way.Walk.{contentAt}
 use Rattle.doc.specs.Document.{numbersAt}
-use Rattle.store_base.specs.Way.Notes.{valuesWords}
+use Rattle.store_base.specs.Way.Stage.{valuesWords}
 use Rattle.store_matrices.specs.declared.Cursor.{Cursor}
 use Rattle.store_matrices.specs.Way.Numbers.{rowAfter}
 use Rattle.read_numbers.specs.declared.Numbers.{Numbers}
@@ -22,7 +22,7 @@ use Rattle.read_numbers.specs.declared.Pair.{Pair}
 
 -- numbers that are gone over: the next number stands where the cursor is
 unfoldable pub numbersOf : Bool → Cursor → ℕ → Numbers
-numbersOf noted c end = record { noted = noted; count = c .count; row = c .row; column = c .column; end = end }
+numbersOf staged c end = record { staged = staged; count = c .count; row = c .row; column = c .column; end = end }
 
 -- words that are all numbers within their bounds, stored behind the values, the first in a row and a column
 pub record Stored (form : ℕ) (ws : List (List ℕ)) (table : List ℕ) (values row column : ℕ) (table' : List ℕ) (r : Numbers) : Type 0 where
@@ -39,12 +39,12 @@ pub record Stored (form : ℕ) (ws : List (List ℕ)) (table : List ℕ) (values
 pub record Stores (form : ℕ) (t : List ℕ) (from : ℕ) (table : List ℕ) (values row column : ℕ) (table' : List ℕ) (r : Numbers) : Type 0 where
   pub long : length table' ≡ length table
   pub front : take (3 * values) table' ≡ take (3 * values) table
-  pub ends : r .noted ≡ true → r .end ≡ lineAt commentByte t from .content
-  pub told : r .noted ≡ true → Stored form (words (contentAt t from)) table values row column table' r
+  pub ends : r .staged ≡ true → r .end ≡ lineAt commentByte t from .content
+  pub told : r .staged ≡ true → Stored form (words (contentAt t from)) table values row column table' r
 
 -- a column and the numbers behind it: noted where that is one
 unfoldable pub pairOf : ℕ → Numbers → Pair
 pairOf column n =
-    if both (n .noted) (eqb (n .count) 1)
-    then record { noted = true; column = column; end = n .end }
-    else record { noted = false; column = 0; end = n .end }
+    if both (n .staged) (eqb (n .count) 1)
+    then record { staged = true; column = column; end = n .end }
+    else record { staged = false; column = 0; end = n .end }

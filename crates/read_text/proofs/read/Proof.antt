@@ -10,21 +10,21 @@ use Rattle.read_line.specs.Reading.{readFrom, readingOf}
 use Rattle.read_line.specs.Way.Walk.{Onward}
 use Rattle.read_line.proofs.WalkLaws.{reading-starts, reading-whole, reading-ends, reading-stops, reading-on, reading-onward, reading-further}
 use Rattle.read_text.specs.Way.Forward.{Carries}
-use Rattle.read_text.proofs.NoteLaws.{carries-start, carries-refused, carries-end}
+use Rattle.read_text.proofs.StageLaws.{carries-start, carries-refused, carries-end}
 use borrow.Author.Needs.{needs}
 use Rattle.read_text.proofs.read.Statement.{statement}
 use Rattle.read_text.proofs.read.Tie as tie
 
 abbrev Inv-loop : tie.InvT-loop
-Inv-loop text table₀ notes₀ at₀ line₀ s₀ table notes at line s =
+Inv-loop text table₀ stage₀ at₀ line₀ s₀ table stage at line s =
     Onward text at line s
     × (readFrom line (lines (drop at text)) s ≡ readingOf text)
-    × Carries text table notes (s .counts .values)
+    × Carries text table stage (s .counts .values)
     × (length table ≡ length table₀)
-    × (length notes ≡ length notes₀)
+    × (length stage ≡ length stage₀)
 
 abbrev μ-loop : tie.MeasureT-loop
-μ-loop text table₀ notes₀ at₀ line₀ s₀ table notes at line s = length text - at
+μ-loop text table₀ stage₀ at₀ line₀ s₀ table stage at line s = length text - at
 
 start-state-requires : tie.Need-start-state-requires Inv-loop μ-loop
 start-state-requires c κs = search needs

@@ -2,7 +2,7 @@
 -- Assumes nothing.
 use mathlib.Core.Path.{refl}
 use Rattle.read_line.proofs.CrossLaws.{crossed-reached, stays-elsewhere}
-use Rattle.read_text.proofs.NoteLaws.{carries-behind, carries-body, carries-on}
+use Rattle.read_text.proofs.StageLaws.{carries-behind, carries-body, carries-on}
 use borrow.Author.Needs.{needs}
 use Rattle.read_text.proofs.read_data.Statement.{statement}
 use Rattle.read_text.proofs.read_data.Tie as tie
@@ -10,8 +10,8 @@ use Rattle.read_text.proofs.read_data.Tie as tie
 pass-data-requires : tie.Need-pass-data-requires
 pass-data-requires c κs = search needs
 
-note-matrix-requires : tie.Need-note-matrix-requires
-note-matrix-requires c κs = search needs
+stage-matrix-requires : tie.Need-stage-matrix-requires
+stage-matrix-requires c κs = search needs
 
 same-length : tie.Need-same-length
 same-length c = search needs
@@ -29,7 +29,7 @@ returns c = (
       (c .before .before .before .before .before .before .before .before .before .before .before .before .before .before .before .before .before .pre .1 .counted)
       (c .before .before .before .before .before .before .before .before .before .before .pass-data .ensures)
       (c .before .before .before .before .before .before .before .before .before .before .before .before .before .before .before .before .before .pre .3)
-      (c .before .before .before .before .note-matrix .ensures),
+      (c .before .before .before .before .stage-matrix .ensures),
 )
 
 read-one-requires : tie.Need-read-one-requires
@@ -56,7 +56,7 @@ read-data-spec =
     tie.close
     (tie.spec
     pass-data-requires
-    note-matrix-requires
+    stage-matrix-requires
     same-length
     same-length-2
     returns

@@ -2,7 +2,7 @@
 -- Assumes nothing.
 use mathlib.Core.Path.{refl}
 use Rattle.read_line.proofs.CrossLaws.{crossed-reached}
-use Rattle.read_text.proofs.NoteLaws.{carries-on}
+use Rattle.read_text.proofs.StageLaws.{carries-on}
 use borrow.Author.Needs.{needs}
 use Rattle.read_text.proofs.read_line.Statement.{statement}
 use Rattle.read_text.proofs.read_line.Tie as tie

@@ -8,35 +8,35 @@ use lib.Dec.{eqb, ltb}
 use lib.Seq.{sets}
 use Rattle.base.specs.If.{if_then_else_}
 use Rattle.line_matrix.specs.declared.Matrix.{Matrix}
-use Rattle.store_base.specs.Way.Notes.{Note, Noted, Before, noteSize}
+use Rattle.store_base.specs.Way.Stage.{StagedMatrix, Staged, Before, stagedSize}
 use Rattle.read_matrix.specs.declared.BodyWalk.{BodyWalk}
-use Rattle.read_matrix.specs.Way.Body.{noteOf}
+use Rattle.read_matrix.specs.Way.Body.{stagedOf}
 
 -- every note that is made tells the truth, the words of the values standing at the front of the table, and none is of a value past those
 -- that have been read
-pub record Carries (t table notes : List ℕ) (values : ℕ) : Type 0 where
-  pub noted : Noted t table notes 0 0
-  pub before : Before notes values
+pub record Carries (t table stage : List ℕ) (values : ℕ) : Type 0 where
+  pub staged : Staged t table stage 0 0
+  pub before : Before stage values
 
 -- a text that is accepted has no more matrices
 abbrev pub mostMatrices : ℕ
 mostMatrices = 1024
 
 -- the words of a note
-abbrev pub noteWords : Note → List ℕ
-noteWords n = n .at ∷ n .line ∷ n .form ∷ n .first ∷ n .further ∷ n .next ∷ n .bandwidth ∷ n .greatest ∷ n .count ∷ []
+abbrev pub stagedWords : StagedMatrix → List ℕ
+stagedWords n = n .at ∷ n .line ∷ n .form ∷ n .first ∷ n .further ∷ n .next ∷ n .bandwidth ∷ n .greatest ∷ n .count ∷ []
 
 -- the notes behind one of the last of so many matrices: it stands at that matrix's place, if there is one
-unfoldable pub notesAfter : ℕ → List ℕ → List ℕ → List ℕ
-notesAfter matrices words notes =
-    if ltb matrices 1 then notes
-    else (if ltb mostMatrices matrices then notes
-    else (if ltb (length notes) (noteSize * (matrices - 1) + noteSize) then notes
-    else sets notes (noteSize * (matrices - 1)) words))
+unfoldable pub stageAfter : ℕ → List ℕ → List ℕ → List ℕ
+stageAfter matrices words stage =
+    if ltb matrices 1 then stage
+    else (if ltb mostMatrices matrices then stage
+    else (if ltb (length stage) (stagedSize * (matrices - 1) + stagedSize) then stage
+    else sets stage (stagedSize * (matrices - 1)) words))
 
 -- the notes behind the lines of a matrix: one more where these break no rule and their numbers are all stored
-unfoldable pub notesBehind : ℕ → ℕ → Matrix → ℕ → ℕ → BodyWalk → List ℕ → List ℕ
-notesBehind at line m values matrices w notes =
-    if w .noted
-    then (if eqb (w .part .rule) 0 then notesAfter matrices (noteWords (noteOf at line m values w)) notes else notes)
-    else notes
+unfoldable pub stageBehind : ℕ → ℕ → Matrix → ℕ → ℕ → BodyWalk → List ℕ → List ℕ
+stageBehind at line m values matrices w stage =
+    if w .staged
+    then (if eqb (w .part .rule) 0 then stageAfter matrices (stagedWords (stagedOf at line m values w)) stage else stage)
+    else stage

@@ -13,11 +13,11 @@ array-read-first c = search needs
 form-at-requires : tie.Need-form-at-requires
 form-at-requires c κs = search needs
 
-add-noted-values : tie.Need-add-noted-values
-add-noted-values c = search needs
+add-staged-values : tie.Need-add-staged-values
+add-staged-values c = search needs
 
-noted-values-requires : tie.Need-noted-values-requires
-noted-values-requires c κs = search (values-puts, needs)
+staged-values-requires : tie.Need-staged-values-requires
+staged-values-requires c κs = search (values-puts, needs)
 
 array-read-values : tie.Need-array-read-values
 array-read-values c = search needs
@@ -29,7 +29,7 @@ sub-values c =
       values-counted _ _ _ _
           (c .before .before .before .before .before .before .before .before .before .before .before .before .before .before .pre .0) _
           (c .before .before .before .before .before .before .before .before .before .form-at .ensures) _ _
-          (c .before .before .before .before .before .before .noted-values .ensures),
+          (c .before .before .before .before .before .before .staged-values .ensures),
     )
 
 told-in-requires : tie.Need-told-in-requires
@@ -46,7 +46,7 @@ put-record-requires c κs =
     matrix-asked _ _ _ _
     (c .before .before .before .before .before .before .before .before .before .before .before .before .before .before .before .before .before .before .pre .0) _
     (c .before .before .before .before .before .before .before .before .before .before .before .before .before .form-at .ensures) _ _
-    (c .before .before .before .before .before .before .before .before .before .before .noted-values .ensures)
+    (c .before .before .before .before .before .before .before .before .before .before .staged-values .ensures)
 
 same-length : tie.Need-same-length
 same-length c = search needs
@@ -56,7 +56,7 @@ returns c =
     matrix-filled _ _ _ _
     (c .before .before .before .before .before .before .before .before .before .before .before .before .before .before .before .before .before .before .before .before .before .pre .0) _
     (c .before .before .before .before .before .before .before .before .before .before .before .before .before .before .before .before .form-at .ensures) _ _
-    (c .before .before .before .before .before .before .before .before .before .before .before .before .before .noted-values .ensures)
+    (c .before .before .before .before .before .before .before .before .before .before .before .before .before .staged-values .ensures)
     _ (c .before .before .before .before .before .before .told-in .ensures) _ refl _
     (c .before .before .before .before .before .conductors-in .ensures) _ _ (c .before .before .put-record .ensures .0)
     (c .before .before .put-record .ensures .1)
@@ -67,8 +67,8 @@ fill-matrix-spec =
     (tie.spec
     array-read-first
     form-at-requires
-    add-noted-values
-    noted-values-requires
+    add-staged-values
+    staged-values-requires
     array-read-values
     sub-values
     told-in-requires

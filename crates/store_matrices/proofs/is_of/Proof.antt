@@ -1,7 +1,7 @@
 -- `store_matrices::is_of` meets its contract: each `return` by the tests that led there.
 -- Assumes nothing.
 use Rattle.base.proofs.IfLaws.{chain}
-use Rattle.store_matrices.specs.Way.Noted.{isOf}
+use Rattle.store_matrices.specs.Way.Staged.{isOf}
 use Rattle.store_matrices.proofs.is_of.Statement.{statement}
 use Rattle.store_matrices.proofs.is_of.Tie as tie
 

@@ -3,16 +3,16 @@
 use borrow.Author.Needs.{needs}
 use Prim.Native.Nat.{_-_}
 use lib.ListN.{length}
-use Rattle.store_sections.proofs.SectionLaws.{NotedOf, LinesLeft, lines-start, lines-text-ends, lines-close, lines-takes, lines-less, lines-on, lines-noted}
+use Rattle.store_sections.proofs.SectionLaws.{StagedOf, LinesLeft, lines-start, lines-text-ends, lines-close, lines-takes, lines-less, lines-on, lines-staged}
 use Rattle.store_sections.proofs.fill_lines.Statement.{statement}
 use Rattle.store_sections.proofs.fill_lines.Tie as tie
 
 abbrev Inv-loop : tie.InvT-loop
-Inv-loop text at number table₀ notes walk₀ table walk =
-    LinesLeft text number at table₀ (walk₀ .filling) walk table × NotedOf text table notes (walk .filling)
+Inv-loop text at number table₀ stage walk₀ table walk =
+    LinesLeft text number at table₀ (walk₀ .filling) walk table × StagedOf text table stage (walk .filling)
 
 abbrev μ-loop : tie.MeasureT-loop
-μ-loop text at number table₀ notes walk₀ table walk = length text - walk .at
+μ-loop text at number table₀ stage walk₀ table walk = length text - walk .at
 
 loop-holds : tie.Need-loop-holds Inv-loop μ-loop
 loop-holds c = search (lines-start, needs)
@@ -50,7 +50,7 @@ loop-less : tie.Need-loop-less Inv-loop μ-loop
 loop-less c = search lines-less
 
 loop-again : tie.Need-loop-again Inv-loop μ-loop
-loop-again c = search (lines-on, lines-noted)
+loop-again c = search (lines-on, lines-staged)
 
 pub fill-lines-spec : {M : Type 1} → statement M
 fill-lines-spec =

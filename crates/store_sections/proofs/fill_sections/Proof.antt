@@ -7,18 +7,18 @@ use lib.ListN.{length}
 use Rattle.doc.specs.Document.{sectionAt}
 use Rattle.store_base.proofs.BlockLaws.{BlocksLeft, blocks-start, blocks-end, blocks-less, blocks-on}
 use Rattle.store_sections.specs.Way.Sections.{sectionsOf, sectionsLeft}
-use Rattle.store_sections.proofs.SectionLaws.{NotedOf}
-use Rattle.store_sections.proofs.PassLaws.{sections-storable, section-ready, section-noted}
+use Rattle.store_sections.proofs.SectionLaws.{StagedOf}
+use Rattle.store_sections.proofs.PassLaws.{sections-storable, section-ready, section-staged}
 use Rattle.store_sections.proofs.fill_sections.Statement.{statement}
 use Rattle.store_sections.proofs.fill_sections.Tie as tie
 
 abbrev Inv-loop : tie.InvT-loop
-Inv-loop text table₀ notes next₀ table next =
+Inv-loop text table₀ stage next₀ table next =
     BlocksLeft sectionAt sectionsOf (length table₀) text (next₀ .filling) table₀ (sectionsLeft text next₀) next table
-    × NotedOf text table notes (next .filling)
+    × StagedOf text table stage (next .filling)
 
 abbrev μ-loop : tie.MeasureT-loop
-μ-loop text table₀ notes next₀ table next = length text - next .at
+μ-loop text table₀ stage next₀ table next = length text - next .at
 
 loop-holds : tie.Need-loop-holds Inv-loop μ-loop
 loop-holds c = (
@@ -54,7 +54,7 @@ loop-again c = (
       (c .before .before .before .before .before .before .before .loop .inv .0) _
       (c .before .before .before .before .before .before .next-keyed .ensures) (c .before .before .before .before .if1 .left)
       _ _ (c .before .before .pass-section .ensures),
-  section-noted _ _ _ _ _ _ (c .before .before .before .before .before .before .before .loop .inv .0) _
+  section-staged _ _ _ _ _ _ (c .before .before .before .before .before .before .before .loop .inv .0) _
       (c .before .before .before .before .before .before .next-keyed .ensures) (c .before .before .before .before .if1 .left)
       _ _ (c .before .before .pass-section .ensures) _ (c .before .before .before .before .before .before .before .loop .inv .1),
 )

@@ -1,13 +1,13 @@
 -- `intake::store::store_text` meets its contract: what the forward reading refuses leaves zeros, and what it reads to the end is stored.
 -- Assumes nothing.
 use Rattle.intake.proofs.ReadyLaws.{store-ready, not-read, told-before, zeros-before}
-use Rattle.intake.proofs.NoteLaws.{room-zeros}
+use Rattle.intake.proofs.StageLaws.{room-zeros}
 use borrow.Author.Needs.{needs}
 use Rattle.intake.proofs.store.store_text.Statement.{statement}
 use Rattle.intake.proofs.store.store_text.Tie as tie
 
-notes-room-requires : tie.Need-notes-room-requires
-notes-room-requires c κs = search needs
+stage-room-requires : tie.Need-stage-room-requires
+stage-room-requires c κs = search needs
 
 slice-aggregate-read : tie.Need-slice-aggregate-read
 slice-aggregate-read c = search needs
@@ -46,7 +46,7 @@ pub store-text-spec : {M : Type 1} → statement M
 store-text-spec =
     tie.close
     (tie.spec
-    notes-room-requires
+    stage-room-requires
     slice-aggregate-read
     read-requires
     enum-known-counts

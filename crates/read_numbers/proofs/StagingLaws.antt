@@ -32,7 +32,7 @@ use Rattle.table_layout.specs.Layout.{joined}
 use Rattle.doc.specs.Lines.{Line, plain, keyOf}
 use Rattle.doc.specs.Document as document
 use Rattle.doc.specs.Document.{wordIn, nextRow, numbersAt, sparseAt, valuesFrom, bandwidthIn, greatestIn}
-use Rattle.store_base.specs.Way.Notes.{valuesWords}
+use Rattle.store_base.specs.Way.Stage.{valuesWords}
 use Rattle.store_matrices.specs.declared.Cursor.{Cursor}
 use Rattle.store_matrices.specs.declared.First.{First}
 use Rattle.store_matrices.specs.Way.Told.{toldOr}
@@ -47,10 +47,10 @@ use Rattle.store_matrices.proofs.BodyLaws.{
   most-of,
   whole-below,
 }
-use Rattle.read_numbers.specs.declared.Note.{Note}
+use Rattle.read_numbers.specs.declared.Staging.{Staging}
 use Rattle.read_numbers.specs.declared.Numbers.{Numbers}
 use Rattle.read_numbers.specs.declared.Pair.{Pair}
-use Rattle.read_numbers.specs.Way.Noting.{Bounded, Adds, movedTo, namedTo, NotesNumbers, NotesPair}
+use Rattle.read_numbers.specs.Way.Staging.{Bounded, Adds, movedTo, namedTo, StagesNumbers, StagesPair}
 use Rattle.read_numbers.specs.Way.Steps.{numbersOf, Stored, Stores, pairOf}
 use Rattle.read_numbers.proofs.InTextLaws.{ends-here, no-words, one-word, same-end, word-on}
 
@@ -111,7 +111,7 @@ module _ (table : List ℕ) (values : ℕ) (table' : List ℕ) (vs : List docume
   front-kept : take (3 * values) table' ≡ take (3 * values) table
   front-kept = ap (take (3 * values)) stored ∙ take-sets (3 * values) table (3 * values) (valuesWords vs) (omega arith)
 
-  module _ (form : ℕ) (a b : Note) (count : ℕ) (many : count ≡ length vs) (told : b .bandwidth ≡ a .bandwidth) (bounded : Bounded b (values + count))
+  module _ (form : ℕ) (a b : Staging) (count : ℕ) (many : count ≡ length vs) (told : b .bandwidth ≡ a .bandwidth) (bounded : Bounded b (values + count))
       (room : 3 * values ≤ length table → 3 * (values + count) ≤ length table) where
     added : (l : Line) → keyOf l ≡ plain → a .whole ≡ true →
         ((ls : List Line) → valuesFrom form (a .row) (a .column) (l ∷ ls) ≡ vs ++ valuesFrom form (b .row) (b .column) ls) →
@@ -236,9 +236,9 @@ left-start form t from table values row column =
 module _ (form : ℕ) (t : List ℕ) (from : ℕ) (table₀ : List ℕ) (values row column at : ℕ) (c : Cursor) (table : List ℕ)
     (left : Left form t from table₀ values row column at c table) where
   -- where they are not noted the front of the table is kept
-  pub left-unnoted : (end : ℕ) (r : Numbers) → r ≡ numbersOf false c end → Stores form t from table₀ values row column table r
+  pub left-unstaged : (end : ℕ) (r : Numbers) → r ≡ numbersOf false c end → Stores form t from table₀ values row column table r
   unfolding numbersOf
-  left-unnoted end r e =
+  left-unstaged end r e =
       rw e
       (record {
         long = left .long;
@@ -287,7 +287,7 @@ module _ (form : ℕ) (t : List ℕ) (from : ℕ) (table₀ : List ℕ) (values 
           sym (ap (sets table (c .place)) z) ∙ left .image
 
       all-told : Stored form (words (contentAt t from)) table₀ values row column table (record {
-        noted = true;
+        staged = true;
         count = c .count;
         row = c .row;
         column = c .column;
@@ -402,12 +402,12 @@ module _ (form : ℕ) (t : List ℕ) (from : ℕ) (table₀ : List ℕ) (values 
 module _ (form : ℕ) (t : List ℕ) (here : ℕ) (table : List ℕ) (values row column : ℕ) (table' : List ℕ) (r : Numbers)
     (stores : Stores form t here table values row column table' r) where
   module _ (row-few : row ≤ mostGiven + values) (column-few : column ≤ mostGiven + values) (not-sparse : form ≡ sparse → ⊥)
-      (noted : r .noted ≡ true) where
+      (staged : r .staged ≡ true) where
     abbrev content : List ℕ
     content = contentAt t here
 
     told : Stored form (words content) table values row column table' r
-    told = stores .told noted
+    told = stores .told staged
 
     line-told : record { numbers = r .count; column = 0; right = true; formed = true; bounded = true } ≡ dataLineOf form content
     unfolding dataLineOf numbersLine
@@ -427,7 +427,7 @@ module _ (form : ℕ) (t : List ℕ) (here : ℕ) (table : List ℕ) (values row
     more-after l same is-plain ls =
         rw (told .row-is, told .column-is, sym same) (numbers-values form l ls is-plain not-sparse row column)
 
-    bounded-after : (a : Note) → Bounded (movedTo (r .row) (r .column) a) (values + r .count)
+    bounded-after : (a : Staging) → Bounded (movedTo (r .row) (r .column) a) (values + r .count)
     bounded-after a =
         let f : r .row ≤ row + r .count = told .row-few in
         let g : r .column ≡ column + length (words content) = told .column-is in
@@ -436,7 +436,7 @@ module _ (form : ℕ) (t : List ℕ) (here : ℕ) (table : List ℕ) (values row
         let q : column ≤ 1_000_000_000 + values = column-few in
         record { row = omega arith; column = omega arith }
 
-    adds-after : (a : Note) → a .whole ≡ true → a .row ≡ row → a .column ≡ column → (l : Line) → l .content ≡ content → keyOf l ≡ plain →
+    adds-after : (a : Staging) → a .whole ≡ true → a .row ≡ row → a .column ≡ column → (l : Line) → l .content ≡ content → keyOf l ≡ plain →
         Adds form l table values a table' (values + r .count) (movedTo (r .row) (r .column) a)
     adds-after a whole row-is column-is l same is-plain =
         let vs : List document.Value = numbersAt form row column (words content) in
@@ -447,9 +447,9 @@ module _ (form : ℕ) (t : List ℕ) (here : ℕ) (table : List ℕ) (values row
         (λ (ls : List Line).
         most-of (a .greatest) 0 (a .greatest) _ (greatestIn form ls) (numbers-greatest form l ls is-plain not-sparse) (omega arith))
 
-  pub numbers-noted : row ≤ mostGiven + values → column ≤ mostGiven + values → (form ≡ sparse → ⊥) →
-      NotesNumbers form t here table values row column table' r
-  numbers-noted row-few column-few not-sparse =
+  pub numbers-staged : row ≤ mostGiven + values → column ≤ mostGiven + values → (form ≡ sparse → ⊥) →
+      StagesNumbers form t here table values row column table' r
+  numbers-staged row-few column-few not-sparse =
       record {
         long = stores .long;
         front = stores .front;
@@ -460,23 +460,23 @@ module _ (form : ℕ) (t : List ℕ) (here : ℕ) (table : List ℕ) (values row
 
 -- ---- a line of a Sparse_matrix
 
-pub pair-untold : (column : ℕ) (n : Numbers) → not (n .noted) ≡ true → (r : Pair) → r ≡ record { noted = false; column = 0; end = n .end } →
+pub pair-untold : (column : ℕ) (n : Numbers) → not (n .staged) ≡ true → (r : Pair) → r ≡ record { staged = false; column = 0; end = n .end } →
     r ≡ pairOf column n
 unfolding pairOf
-pair-untold column n e r is = is ∙ sym (if-false _ _ (both-not-left _ _ (not-true (n .noted) e)))
+pair-untold column n e r is = is ∙ sym (if-false _ _ (both-not-left _ _ (not-true (n .staged) e)))
 
-pub pair-other : (column : ℕ) (n : Numbers) → (n .count ≡ 1 → ⊥) → (r : Pair) → r ≡ record { noted = false; column = 0; end = n .end } →
+pub pair-other : (column : ℕ) (n : Numbers) → (n .count ≡ 1 → ⊥) → (r : Pair) → r ≡ record { staged = false; column = 0; end = n .end } →
     r ≡ pairOf column n
 unfolding pairOf
 pair-other column n e r is = is ∙ sym (if-false _ _ (both-not-right _ _ (ne-eqb _ _ e)))
 
-pub pair-told : (column : ℕ) (n : Numbers) → not (n .noted) ≡ false → n .count ≡ 1 → record { noted = true; column = column; end = n .end } ≡ pairOf column n
+pub pair-told : (column : ℕ) (n : Numbers) → not (n .staged) ≡ false → n .count ≡ 1 → record { staged = true; column = column; end = n .end } ≡ pairOf column n
 unfolding pairOf
-pair-told column n e f = sym (if-true _ _ (both-true _ _ (not-false (n .noted) e) (eq-eqb _ _ f)))
+pair-told column n e f = sym (if-true _ _ (both-true _ _ (not-false (n .staged) e) (eq-eqb _ _ f)))
 
-pub pair-unnoted : (t : List ℕ) (here : ℕ) (table : List ℕ) (values row end : ℕ) (r : Pair) → r ≡ record { noted = false; column = 0; end = end } →
-    NotesPair t here table values row table r
-pair-unnoted t here table values row end r e =
+pub pair-unstaged : (t : List ℕ) (here : ℕ) (table : List ℕ) (values row end : ℕ) (r : Pair) → r ≡ record { staged = false; column = 0; end = end } →
+    StagesPair t here table values row table r
+pair-unstaged t here table values row end r e =
     rw e
     (record {
       long = refl;
@@ -506,9 +506,9 @@ module _ (t : List ℕ) (here start : ℕ) (begins : start ≡ runEnd isBlank t 
 
     module _ (table : List ℕ) (values row : ℕ) (table' : List ℕ) (n : Numbers)
         (stores : Stores sparse t end table values row (column .value) table' n) where
-      module _ (noted : n .noted ≡ true) (one : n .count ≡ 1) where
+      module _ (staged : n .staged ≡ true) (one : n .count ≡ 1) where
         behind : Stored sparse (words (contentAt t end)) table values row (column .value) table' n
-        behind = stores .told noted
+        behind = stores .told staged
 
         single : words (contentAt t end) ≡ firstOf (words (contentAt t end)) ∷ []
         single = alone (words (contentAt t end)) (sym (behind .counted) ∙ one)
@@ -544,7 +544,7 @@ module _ (t : List ℕ) (here start : ℕ) (begins : start ≡ runEnd isBlank t 
         named-here : column .value ≡ wholeOf (firstOf (words (contentAt t here))) .value
         named-here = rw two (ap (λ (w : Whole). w .value) is-column)
 
-        pair-bounded : (a : Note) → Bounded a values → Bounded (namedTo (column .value) a) (values + 1)
+        pair-bounded : (a : Staging) → Bounded a values → Bounded (namedTo (column .value) a) (values + 1)
         pair-bounded a bound =
             let f : a .row ≤ 1_000_000_000 + values = bound .row in
             let g : a .column ≤ 1_000_000_000 + values = bound .column in
@@ -553,7 +553,7 @@ module _ (t : List ℕ) (here start : ℕ) (begins : start ≡ runEnd isBlank t 
         pair-room : 3 * values ≤ length table → 3 * (values + 1) ≤ length table
         pair-room h = rw one at (behind .room h)
 
-        pair-adds : (a : Note) → a .whole ≡ true → Bounded a values → a .row ≡ row → (l : Line) → l .content ≡ contentAt t here → keyOf l ≡ plain →
+        pair-adds : (a : Staging) → a .whole ≡ true → Bounded a values → a .row ≡ row → (l : Line) → l .content ≡ contentAt t here → keyOf l ≡ plain →
             Adds sparse l table values a table' (values + 1) (namedTo (column .value) a)
         pair-adds a whole bound row-is l same is-plain =
             added table values table' (sparseAt row (words (contentAt t here)) ∷ []) pair-stored sparse a (namedTo (column .value) a) 1 refl refl
@@ -581,17 +581,17 @@ module _ (t : List ℕ) (here start : ℕ) (begins : start ≡ runEnd isBlank t 
                 bounded = both-true _ _ bounded value-bounded-here i;
               })))
 
-          pair-noted : NotesPair t here table values row table' (record { noted = true; column = column .value; end = n .end })
-          pair-noted =
+          pair-staged : StagesPair t here table values row table' (record { staged = true; column = column .value; end = n .end })
+          pair-staged =
               record {
                 long = stores .long;
                 front = stores .front;
-                ends = λ (w : true ≡ true). stores .ends noted ∙ same-end t here start begins stands-there end ends;
+                ends = λ (w : true ≡ true). stores .ends staged ∙ same-end t here start begins stands-there end ends;
                 line-is = λ (w : true ≡ true). pair-line;
                 adds = λ (w : true ≡ true). pair-adds;
               }
 
-      pair-lost : NotesPair t here table values row table' (record { noted = false; column = 0; end = n .end })
+      pair-lost : StagesPair t here table values row table' (record { staged = false; column = 0; end = n .end })
       pair-lost =
           record {
             long = stores .long;
@@ -601,12 +601,12 @@ module _ (t : List ℕ) (here start : ℕ) (begins : start ≡ runEnd isBlank t 
             adds = λ (w : false ≡ true). absurd (true≢false (sym w));
           }
 
-      pub pair-notes : not (column .formed) ≡ false → (fits : Bool) → fits ≡ within 1 256 (column .value) → not fits ≡ false → (r : Pair) →
-          r ≡ pairOf (column .value) n → NotesPair t here table values row table' r
+      pub pair-stages : not (column .formed) ≡ false → (fits : Bool) → fits ≡ within 1 256 (column .value) → not fits ≡ false → (r : Pair) →
+          r ≡ pairOf (column .value) n → StagesPair t here table values row table' r
       unfolding pairOf
-      pair-notes formed fits told tested r e =
+      pair-stages formed fits told tested r e =
           rw e
-          (by-test (λ (x : Pair). NotesPair t here table values row table' x) (both (n .noted) (eqb (n .count) 1)) _ _
-          (λ (w : both (n .noted) (eqb (n .count) 1) ≡ true).
-          pair-noted (both-first _ _ w) (eqb-true _ _ (both-second _ _ w)) (not-false (column .formed) formed) (sym told ∙ not-false fits tested))
-          (λ (w : both (n .noted) (eqb (n .count) 1) ≡ false). pair-lost))
+          (by-test (λ (x : Pair). StagesPair t here table values row table' x) (both (n .staged) (eqb (n .count) 1)) _ _
+          (λ (w : both (n .staged) (eqb (n .count) 1) ≡ true).
+          pair-staged (both-first _ _ w) (eqb-true _ _ (both-second _ _ w)) (not-false (column .formed) formed) (sym told ∙ not-false fits tested))
+          (λ (w : both (n .staged) (eqb (n .count) 1) ≡ false). pair-lost))

@@ -1,9 +1,9 @@
 -- `read_text::put_note` meets its contract: the words of a note, where there is room for them.
 -- Assumes nothing.
-use Rattle.read_text.proofs.NoteLaws.{after-none, after-many, after-short, after-stored}
+use Rattle.read_text.proofs.StageLaws.{after-none, after-many, after-short, after-stored}
 use borrow.Author.Needs.{needs}
-use Rattle.read_text.proofs.put_note.Statement.{statement}
-use Rattle.read_text.proofs.put_note.Tie as tie
+use Rattle.read_text.proofs.put_staged.Statement.{statement}
+use Rattle.read_text.proofs.put_staged.Tie as tie
 
 returns : tie.Need-returns
 returns c = search after-none
@@ -29,7 +29,7 @@ same-length c = search needs
 returns-4 : tie.Need-returns-4
 returns-4 c = search after-stored
 
-pub put-note-spec : {M : Type 1} → statement M
-put-note-spec =
+pub put-staged-spec : {M : Type 1} → statement M
+put-staged-spec =
     tie.close
     (tie.spec returns returns-2 mul-at add-if3 returns-3 put-words-requires same-length returns-4)

@@ -1,9 +1,9 @@
 -- `read_matrix::kept_note` meets its contract: by the keyword.
 -- Assumes nothing.
-use Rattle.read_matrix.proofs.LineLaws.{row-noted, bandwidth-noted}
+use Rattle.read_matrix.proofs.LineLaws.{row-staged, bandwidth-staged}
 use borrow.Author.Needs.{needs}
-use Rattle.read_matrix.proofs.kept_note.Statement.{statement}
-use Rattle.read_matrix.proofs.kept_note.Tie as tie
+use Rattle.read_matrix.proofs.kept_staging.Statement.{statement}
+use Rattle.read_matrix.proofs.kept_staging.Tie as tie
 use Rattle.read_matrix.proofs.greater.Reads as greater-reads
 use Rattle.store_matrices.proofs.first_told.Reads as first-told-reads
 
@@ -11,13 +11,13 @@ greater-requires : tie.Need-greater-requires
 greater-requires c κs = search needs
 
 returns : tie.Need-returns
-returns c = search row-noted
+returns c = search row-staged
 
 first-told-requires : tie.Need-first-told-requires
 first-told-requires c κs = search needs
 
 returns-2 : tie.Need-returns-2
-returns-2 c = search bandwidth-noted
+returns-2 c = search bandwidth-staged
 
-pub kept-note-spec : {M : Type 1} → statement M
-kept-note-spec = tie.close (tie.spec greater-requires returns first-told-requires returns-2)
+pub kept-staging-spec : {M : Type 1} → statement M
+kept-staging-spec = tie.close (tie.spec greater-requires returns first-told-requires returns-2)

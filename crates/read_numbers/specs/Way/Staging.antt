@@ -13,20 +13,20 @@ use Rattle.read_line.specs.Reading.{commentByte}
 use Rattle.read_line.specs.Way.Walk.{contentAt}
 use Rattle.doc.specs.Lines.{Line, plain, keyOf}
 use Rattle.doc.specs.Document.{valuesFrom, bandwidthIn, greatestIn}
-use Rattle.store_base.specs.Way.Notes.{valuesWords}
+use Rattle.store_base.specs.Way.Stage.{valuesWords}
 use Rattle.store_matrices.specs.Way.Told.{toldOr}
 use Rattle.store_matrices.specs.Way.Numbers.{mostGiven}
-use Rattle.read_numbers.specs.declared.Note.{Note}
+use Rattle.read_numbers.specs.declared.Staging.{Staging}
 use Rattle.read_numbers.specs.declared.Numbers.{Numbers}
 use Rattle.read_numbers.specs.declared.Pair.{Pair}
 
 -- rows and columns are given by integers, and rise by one only with a value: so few that no sum wraps
-pub record Bounded (n : Note) (values : ℕ) : Type 0 where
+pub record Bounded (n : Staging) (values : ℕ) : Type 0 where
   pub row : n .row ≤ mostGiven + values
   pub column : n .column ≤ mostGiven + values
 
 -- the line l, met with so many values read and noted as `a` says, leaves the table, the count and the note as they are on the right
-pub record Adds (form : ℕ) (l : Line) (table : List ℕ) (values : ℕ) (a : Note) (table' : List ℕ) (values' : ℕ) (b : Note) : Type 0 where
+pub record Adds (form : ℕ) (l : Line) (table : List ℕ) (values : ℕ) (a : Staging) (table' : List ℕ) (values' : ℕ) (b : Staging) : Type 0 where
   pub whole : a .whole ≡ true
   pub image : (ls : List Line) →
       sets table' (3 * values') (valuesWords (valuesFrom form (b .row) (b .column) ls))
@@ -42,29 +42,29 @@ pub record Adds (form : ℕ) (l : Line) (table : List ℕ) (values : ℕ) (a : N
 -- ---- one line, apart from a note
 
 -- the same note with the next number in another row and column
-abbrev pub movedTo : ℕ → ℕ → Note → Note
+abbrev pub movedTo : ℕ → ℕ → Staging → Staging
 movedTo row column a = record { whole = true; row = row; column = column; bandwidth = a .bandwidth; greatest = a .greatest }
 
 -- the line at a place, a line of numbers from a row and a column on, whatever else is noted
-pub record NotesNumbers (form : ℕ) (t : List ℕ) (here : ℕ) (table : List ℕ) (values row column : ℕ) (table' : List ℕ) (r : Numbers) : Type 0 where
+pub record StagesNumbers (form : ℕ) (t : List ℕ) (here : ℕ) (table : List ℕ) (values row column : ℕ) (table' : List ℕ) (r : Numbers) : Type 0 where
   pub long : length table' ≡ length table
   pub front : take (3 * values) table' ≡ take (3 * values) table
-  pub ends : r .noted ≡ true → r .end ≡ lineAt commentByte t here .content
-  pub line-is : r .noted ≡ true →
+  pub ends : r .staged ≡ true → r .end ≡ lineAt commentByte t here .content
+  pub line-is : r .staged ≡ true →
       record { numbers = r .count; column = 0; right = true; formed = true; bounded = true } ≡ dataLineOf form (contentAt t here)
-  pub adds : r .noted ≡ true → (a : Note) → a .whole ≡ true → a .row ≡ row → a .column ≡ column → (l : Line) → l .content ≡ contentAt t here →
+  pub adds : r .staged ≡ true → (a : Staging) → a .whole ≡ true → a .row ≡ row → a .column ≡ column → (l : Line) → l .content ≡ contentAt t here →
       keyOf l ≡ plain → Adds form l table values a table' (values + r .count) (movedTo (r .row) (r .column) a)
 
 -- the same note with a column that is named
-abbrev pub namedTo : ℕ → Note → Note
+abbrev pub namedTo : ℕ → Staging → Staging
 namedTo column a = record { whole = true; row = a .row; column = a .column; bandwidth = a .bandwidth; greatest = max (a .greatest) column }
 
 -- the line at a place, one of a Sparse_matrix in a row, whatever else is noted
-pub record NotesPair (t : List ℕ) (here : ℕ) (table : List ℕ) (values row : ℕ) (table' : List ℕ) (r : Pair) : Type 0 where
+pub record StagesPair (t : List ℕ) (here : ℕ) (table : List ℕ) (values row : ℕ) (table' : List ℕ) (r : Pair) : Type 0 where
   pub long : length table' ≡ length table
   pub front : take (3 * values) table' ≡ take (3 * values) table
-  pub ends : r .noted ≡ true → r .end ≡ lineAt commentByte t here .content
-  pub line-is : r .noted ≡ true →
+  pub ends : r .staged ≡ true → r .end ≡ lineAt commentByte t here .content
+  pub line-is : r .staged ≡ true →
       record { numbers = 1; column = r .column; right = true; formed = true; bounded = true } ≡ dataLineOf sparse (contentAt t here)
-  pub adds : r .noted ≡ true → (a : Note) → a .whole ≡ true → Bounded a values → a .row ≡ row → (l : Line) → l .content ≡ contentAt t here →
+  pub adds : r .staged ≡ true → (a : Staging) → a .whole ≡ true → Bounded a values → a .row ≡ row → (l : Line) → l .content ≡ contentAt t here →
       keyOf l ≡ plain → Adds sparse l table values a table' (values + 1) (namedTo (r .column) a)

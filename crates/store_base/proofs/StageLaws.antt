@@ -14,7 +14,7 @@ use Rattle.table_layout.specs.declared.Filling.{Filling}
 use Rattle.table_layout.proofs.LiftLaws.{sets-zeros}
 use Rattle.table_layout.proofs.BehindLaws.{kept-behind}
 use Rattle.store_base.specs.Way.Stores.{Stores}
-use Rattle.store_base.specs.Way.Notes.{Note, noteAt, Tells, wordsOf, Made, Noted, Before}
+use Rattle.store_base.specs.Way.Stage.{StagedMatrix, stagedAt, Tells, wordsOf, Made, Staged, Before}
 use Rattle.store_base.proofs.StoreLaws.{count-after, bases-kept}
 
 -- ---- moved up
@@ -43,19 +43,19 @@ words-moved table a b m up h room =
     ∙ ap (λ (u : List ℕ). take b (drop a u)) (take-append-drop m table)
 
 -- the words of all notes, moved up from the front of the table
-pub noted-lifted : (t table notes : List ℕ) (v up : ℕ) → Noted t table notes 0 0 → Before notes v → up + 3 * v ≤ length table →
-    Noted t (sets (replicate (length table) 0) up (take (3 * v) table)) notes up 0
-noted-lifted t table notes v up noted before room = record { tells = told }
+pub stage-lifted : (t table stage : List ℕ) (v up : ℕ) → Staged t table stage 0 0 → Before stage v → up + 3 * v ≤ length table →
+    Staged t (sets (replicate (length table) 0) up (take (3 * v) table)) stage up 0
+stage-lifted t table stage v up staged before room = record { tells = told }
   where
-    told : (i : ℕ) → Made (noteAt notes i) → 0 ≤ noteAt notes i .first →
-        Tells t (noteAt notes i) (wordsOf (sets (replicate (length table) 0) up (take (3 * v) table)) up (noteAt notes i))
+    told : (i : ℕ) → Made (stagedAt stage i) → 0 ≤ stagedAt stage i .first →
+        Tells t (stagedAt stage i) (wordsOf (sets (replicate (length table) 0) up (take (3 * v) table)) up (stagedAt stage i))
     told i made from =
-        let n : Note = noteAt notes i in
+        let n : StagedMatrix = stagedAt stage i in
         let b : n .first + n .count ≤ v = before .before i made in
         let h : 3 * n .first + 3 * n .count ≤ 3 * v = omega arith in
         let e : wordsOf (sets (replicate (length table) 0) up (take (3 * v) table)) up n ≡ take (3 * n .count) (drop (3 * n .first) table) =
         words-moved table (3 * n .first) (3 * n .count) (3 * v) up h room in
-        let w : Tells t n (take (3 * n .count) (drop (3 * n .first) table)) = rw (zero-add (3 * n .first)) at (noted .tells i made from) in
+        let w : Tells t n (take (3 * n .count) (drop (3 * n .first) table)) = rw (zero-add (3 * n .first)) at (staged .tells i made from) in
         rw e w
 
 -- ---- while records are stored
@@ -68,16 +68,16 @@ drop-later m n u v h e =
     let b : drop n v ≡ drop (n - m) (drop m v) = ap (λ (i : ℕ). drop i v) k ∙ sym (drop-drop (n - m) m v) in
     a ∙ ap (drop (n - m)) e ∙ sym b
 
-pub noted-kept : (t table notes table' : List ℕ) (f f' : Filling) (ws : List Write) → Stores f table ws f' table' → Fits (length table) f ws →
-    length (f .counts) ≡ 7 → Noted t table notes (getD (f .bases) values 0) (getD (f .counts) values 0) →
-    Noted t table' notes (getD (f' .bases) values 0) (getD (f' .counts) values 0)
+pub stage-kept : (t table stage table' : List ℕ) (f f' : Filling) (ws : List Write) → Stores f table ws f' table' → Fits (length table) f ws →
+    length (f .counts) ≡ 7 → Staged t table stage (getD (f .bases) values 0) (getD (f .counts) values 0) →
+    Staged t table' stage (getD (f' .bases) values 0) (getD (f' .counts) values 0)
 unfolding position widthOf
-noted-kept t table notes table' f f' ws stores fits seven noted = record { tells = told }
+stage-kept t table stage table' f f' ws stores fits seven staged = record { tells = told }
   where
-    told : (i : ℕ) → Made (noteAt notes i) → getD (f' .counts) values 0 ≤ noteAt notes i .first →
-        Tells t (noteAt notes i) (wordsOf table' (getD (f' .bases) values 0) (noteAt notes i))
+    told : (i : ℕ) → Made (stagedAt stage i) → getD (f' .counts) values 0 ≤ stagedAt stage i .first →
+        Tells t (stagedAt stage i) (wordsOf table' (getD (f' .bases) values 0) (stagedAt stage i))
     told i made from =
-        let n : Note = noteAt notes i in
+        let n : StagedMatrix = stagedAt stage i in
         let base : ℕ = getD (f .bases) values 0 in
         let b : getD (f' .bases) values 0 ≡ base =
         ap (λ (g : Filling). getD (g .bases) values 0) (stores .filled) ∙ ap (λ (bs : List ℕ). getD bs values 0) (bases-kept ws f) in
@@ -93,4 +93,4 @@ noted-kept t table notes table' f f' ws stores fits seven noted = record { tells
         drop-later (position (fillingAfter ws f) values) (base + 3 * n .first) table' table h s in
         let e : wordsOf table' (getD (f' .bases) values 0) n ≡ wordsOf table base n =
         ap (λ (x : ℕ). wordsOf table' x n) b ∙ ap (take (3 * n .count)) d in
-        rw e (noted .tells i made (omega arith))
+        rw e (staged .tells i made (omega arith))

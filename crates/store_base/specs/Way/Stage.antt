@@ -23,7 +23,7 @@ valuesWords vs = joined (map valueWords vs)
 
 -- a note: where the lines start and the number of the first, the form that they are read in, how many values stand before theirs, where the
 -- lines end and the number of the line there, and what they say
-pub record Note : Type 0 where
+pub record StagedMatrix : Type 0 where
   pub at : ℕ
   pub line : ℕ
   pub form : ℕ
@@ -35,32 +35,32 @@ pub record Note : Type 0 where
   pub count : ℕ
 
 -- how many words a note has
-abbrev pub noteSize : ℕ
-noteSize = 9
+abbrev pub stagedSize : ℕ
+stagedSize = 9
 
 -- the i-th note of a list of words
-unfoldable pub noteAt : List ℕ → ℕ → Note
-noteAt notes i =
+unfoldable pub stagedAt : List ℕ → ℕ → StagedMatrix
+stagedAt stage i =
     record {
-      at = getD notes (noteSize * i) 0;
-      line = getD notes (noteSize * i + 1) 0;
-      form = getD notes (noteSize * i + 2) 0;
-      first = getD notes (noteSize * i + 3) 0;
-      further = getD notes (noteSize * i + 4) 0;
-      next = getD notes (noteSize * i + 5) 0;
-      bandwidth = getD notes (noteSize * i + 6) 0;
-      greatest = getD notes (noteSize * i + 7) 0;
-      count = getD notes (noteSize * i + 8) 0;
+      at = getD stage (stagedSize * i) 0;
+      line = getD stage (stagedSize * i + 1) 0;
+      form = getD stage (stagedSize * i + 2) 0;
+      first = getD stage (stagedSize * i + 3) 0;
+      further = getD stage (stagedSize * i + 4) 0;
+      next = getD stage (stagedSize * i + 5) 0;
+      bandwidth = getD stage (stagedSize * i + 6) 0;
+      greatest = getD stage (stagedSize * i + 7) 0;
+      count = getD stage (stagedSize * i + 8) 0;
     }
 
 -- the values of the lines that a note is of
-abbrev pub noteValues : List ℕ → Note → List Value
-noteValues t n = valuesFrom (n .form) 1 1 (bodyLines t (n .line) (n .at))
+abbrev pub stagedValues : List ℕ → StagedMatrix → List Value
+stagedValues t n = valuesFrom (n .form) 1 1 (bodyLines t (n .line) (n .at))
 
 -- a note tells the truth, these being the words that it stands for
-pub record Tells (t : List ℕ) (n : Note) (words : List ℕ) : Type 0 where
-  pub words-are : words ≡ valuesWords (noteValues t n)
-  pub count-is : n .count ≡ length (noteValues t n)
+pub record Tells (t : List ℕ) (n : StagedMatrix) (words : List ℕ) : Type 0 where
+  pub words-are : words ≡ valuesWords (stagedValues t n)
+  pub count-is : n .count ≡ length (stagedValues t n)
   pub bandwidth-is : n .bandwidth ≡ bandwidthIn (bodyLines t (n .line) (n .at))
   pub greatest-is : n .greatest ≡ greatestIn (n .form) (bodyLines t (n .line) (n .at))
   pub rest : linesAt t (n .line) (n .at) place.matrix ≡ bodyLines t (n .line) (n .at) ++ linesAt t (n .next) (n .further) place.matrix
@@ -68,17 +68,17 @@ pub record Tells (t : List ℕ) (n : Note) (words : List ℕ) : Type 0 where
   pub onward : n .at ≤ n .further
 
 -- the words that a note stands for, the first value of all standing at `base` of a table
-abbrev pub wordsOf : List ℕ → ℕ → Note → List ℕ
+abbrev pub wordsOf : List ℕ → ℕ → StagedMatrix → List ℕ
 wordsOf table base n = take (3 * n .count) (drop (base + 3 * n .first) table)
 
 -- a note that is made ends behind the text's first byte
-abbrev pub Made : Note → Type 0
+abbrev pub Made : StagedMatrix → Type 0
 Made n = 0 < n .further
 
 -- every note that is made, of values not before the one numbered `from`, tells the truth
-pub record Noted (t table notes : List ℕ) (base from : ℕ) : Type 0 where
-  pub tells : (i : ℕ) → Made (noteAt notes i) → from ≤ noteAt notes i .first → Tells t (noteAt notes i) (wordsOf table base (noteAt notes i))
+pub record Staged (t table stage : List ℕ) (base from : ℕ) : Type 0 where
+  pub tells : (i : ℕ) → Made (stagedAt stage i) → from ≤ stagedAt stage i .first → Tells t (stagedAt stage i) (wordsOf table base (stagedAt stage i))
 
 -- and no note is of a value numbered `past` or later
-pub record Before (notes : List ℕ) (past : ℕ) : Type 0 where
-  pub before : (i : ℕ) → Made (noteAt notes i) → noteAt notes i .first + noteAt notes i .count ≤ past
+pub record Before (stage : List ℕ) (past : ℕ) : Type 0 where
+  pub before : (i : ℕ) → Made (stagedAt stage i) → stagedAt stage i .first + stagedAt stage i .count ≤ past

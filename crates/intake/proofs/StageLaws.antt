@@ -14,8 +14,8 @@ use Rattle.table_layout.specs.Way.Filling.{basesFrom, startFilling, opened}
 use Rattle.table_layout.proofs.OpenLaws.{length-opened, opened-sets, values-last}
 use Rattle.line_keyword.specs.declared.Counts.{Counts}
 use Rattle.doc.specs.Way.Holds.{countsOf}
-use Rattle.store_base.specs.Way.Notes.{noteAt, Tells, wordsOf, Made, Noted, Before}
-use Rattle.store_base.proofs.NoteLaws.{noted-lifted}
+use Rattle.store_base.specs.Way.Stage.{stagedAt, Tells, wordsOf, Made, Staged, Before}
+use Rattle.store_base.proofs.StageLaws.{stage-lifted}
 
 -- ---- the counts are set before the values begin
 
@@ -40,16 +40,16 @@ drop-opened counts t p seven h room =
     ∙ drop-at (take p u) (drop p t) p l
 
 -- notes stand for words behind a base: no word before it matters
-noted-same : (t table table' notes : List ℕ) (base from : ℕ) → drop base table' ≡ drop base table → Noted t table notes base from →
-    Noted t table' notes base from
-noted-same t table table' notes base from same noted = record { tells = told }
+stage-same : (t table table' stage : List ℕ) (base from : ℕ) → drop base table' ≡ drop base table → Staged t table stage base from →
+    Staged t table' stage base from
+stage-same t table table' stage base from same staged = record { tells = told }
   where
-    told : (i : ℕ) → Made (noteAt notes i) → from ≤ noteAt notes i .first → Tells t (noteAt notes i) (wordsOf table' base (noteAt notes i))
+    told : (i : ℕ) → Made (stagedAt stage i) → from ≤ stagedAt stage i .first → Tells t (stagedAt stage i) (wordsOf table' base (stagedAt stage i))
     told i made h =
-        let k : ℕ = 3 * noteAt notes i .first in
+        let k : ℕ = 3 * stagedAt stage i .first in
         let d : drop (base + k) table' ≡ drop (base + k) table = sym (drop-drop k base table') ∙ ap (drop k) same ∙ drop-drop k base table in
-        let e : wordsOf table' base (noteAt notes i) ≡ wordsOf table base (noteAt notes i) = ap (take (3 * noteAt notes i .count)) d in
-        rw e (noted .tells i made h)
+        let e : wordsOf table' base (stagedAt stage i) ≡ wordsOf table base (stagedAt stage i) = ap (take (3 * stagedAt stage i .count)) d in
+        rw e (staged .tells i made h)
 
 module _ (c : Counts) where
   -- where the values begin
@@ -61,32 +61,32 @@ module _ (c : Counts) where
   unfolding countsOf
   seven = refl
 
-  pub noted-opened : (t table notes : List ℕ) → needed widths (countsOf c) ≤ length table →
-      Noted t table notes (needed widths (countsOf c) - 3 * c .values) 0 →
-      Noted t (opened 0 widths (countsOf c) table) notes
+  pub stage-opened : (t table stage : List ℕ) → needed widths (countsOf c) ≤ length table →
+      Staged t table stage (needed widths (countsOf c) - 3 * c .values) 0 →
+      Staged t (opened 0 widths (countsOf c) table) stage
       (getD (startFilling (countsOf c) .bases) values 0)
       (getD (startFilling (countsOf c) .counts) values 0)
   unfolding startFilling
-  noted-opened t table notes room noted =
+  stage-opened t table stage room staged =
       let base : ℕ = getD (basesFrom 0 widths (countsOf c)) values 0 in
       let h : base ≤ length table = omega (arith, values-begin) in
-      noted-same t table (opened 0 widths (countsOf c) table) notes base 0
+      stage-same t table (opened 0 widths (countsOf c) table) stage base 0
       (drop-opened (countsOf c) table base seven (le-refl base) h)
-      (rw values-begin noted)
+      (rw values-begin staged)
 
   -- ---- what is noted at the front of the table, moved to where the values begin
 
-  pub noted-moved : (t table notes : List ℕ) (words : ℕ) → words ≡ needed widths (countsOf c) →
+  pub stage-moved : (t table stage : List ℕ) (words : ℕ) → words ≡ needed widths (countsOf c) →
       words - 3 * c .values + 3 * c .values ≤ length table →
-      Noted t table notes 0 0 → Before notes (c .values) → (moved : List ℕ) →
+      Staged t table stage 0 0 → Before stage (c .values) → (moved : List ℕ) →
       moved ≡ sets (replicate (length table) 0) (words - 3 * c .values) (take (3 * c .values) table) →
-      Noted t moved notes (needed widths (countsOf c) - 3 * c .values) 0
-  noted-moved t table notes words is-words room noted before moved is-moved =
-      rw (is-moved, ← is-words) (noted-lifted t table notes (c .values) (words - 3 * c .values) noted before room)
+      Staged t moved stage (needed widths (countsOf c) - 3 * c .values) 0
+  stage-moved t table stage words is-words room staged before moved is-moved =
+      rw (is-moved, ← is-words) (stage-lifted t table stage (c .values) (words - 3 * c .values) staged before room)
 
 -- ---- room for notes
 
-pub room-zeros : (notes : List ℕ) (n : ℕ) → notes ≡ replicate n 0 → notes ≡ replicate (length notes) 0
-room-zeros notes n e =
-    let l : length notes ≡ n = ap length e ∙ length-replicate n 0 in
+pub room-zeros : (stage : List ℕ) (n : ℕ) → stage ≡ replicate n 0 → stage ≡ replicate (length stage) 0
+room-zeros stage n e =
+    let l : length stage ≡ n = ap length e ∙ length-replicate n 0 in
     e ∙ ap (λ (k : ℕ). replicate k 0) (sym l)

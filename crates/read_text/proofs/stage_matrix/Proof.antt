@@ -1,13 +1,13 @@
 -- `read_text::note_matrix` meets its contract: a note where the lines break no rule and their numbers are all stored.
 -- Assumes nothing.
 use borrow.Author.Tests.{not-true, not-false}
-use Rattle.read_text.proofs.NoteLaws.{behind-unnoted, behind-broken, behind-noted}
+use Rattle.read_text.proofs.StageLaws.{behind-unstaged, behind-broken, behind-staged}
 use borrow.Author.Needs.{needs}
-use Rattle.read_text.proofs.note_matrix.Statement.{statement}
-use Rattle.read_text.proofs.note_matrix.Tie as tie
+use Rattle.read_text.proofs.stage_matrix.Statement.{statement}
+use Rattle.read_text.proofs.stage_matrix.Tie as tie
 
 returns : tie.Need-returns
-returns c = search (behind-unnoted, not-true)
+returns c = search (behind-unstaged, not-true)
 
 returns-2 : tie.Need-returns-2
 returns-2 c = search (behind-broken, not-false)
@@ -18,27 +18,27 @@ told-in-requires c κs = search needs
 sub-t16 : tie.Need-sub-t16
 sub-t16 c = search needs
 
-slice-aggregate-put-note : tie.Need-slice-aggregate-put-note
-slice-aggregate-put-note c = search needs
+slice-aggregate-put-staged : tie.Need-slice-aggregate-put-staged
+slice-aggregate-put-staged c = search needs
 
-put-note-requires : tie.Need-put-note-requires
-put-note-requires c κs = search needs
+put-staged-requires : tie.Need-put-staged-requires
+put-staged-requires c κs = search needs
 
 same-length : tie.Need-same-length
 same-length c = search needs
 
 returns-3 : tie.Need-returns-3
-returns-3 c = search (behind-noted, not-false)
+returns-3 c = search (behind-staged, not-false)
 
-pub note-matrix-spec : {M : Type 1} → statement M
-note-matrix-spec =
+pub stage-matrix-spec : {M : Type 1} → statement M
+stage-matrix-spec =
     tie.close
     (tie.spec
     returns
     returns-2
     told-in-requires
     sub-t16
-    slice-aggregate-put-note
-    put-note-requires
+    slice-aggregate-put-staged
+    put-staged-requires
     same-length
     returns-3)

@@ -1,13 +1,13 @@
 -- `store_matrices::noted_values` meets its contract: by a note of these lines, where there is one.
 -- Assumes nothing.
-use Rattle.store_matrices.proofs.NoteLaws.{note-few, noted-fills}
+use Rattle.store_matrices.proofs.StageLaws.{staged-few, stage-fills}
 use borrow.Author.Needs.{needs}
-use Rattle.store_matrices.proofs.noted_values.Statement.{statement}
-use Rattle.store_matrices.proofs.noted_values.Tie as tie
+use Rattle.store_matrices.proofs.staged_values.Statement.{statement}
+use Rattle.store_matrices.proofs.staged_values.Tie as tie
 use Rattle.store_matrices.proofs.fill_values.Reads as fill-values-reads
 use Rattle.store_matrices.proofs.is_of.Reads as is-of-reads
-use Rattle.store_matrices.proofs.note_at.Reads as note-at-reads
-use Rattle.store_matrices.proofs.noted_walk.Reads as noted-walk-reads
+use Rattle.store_matrices.proofs.staged_at.Reads as staged-at-reads
+use Rattle.store_matrices.proofs.staged_walk.Reads as staged-walk-reads
 
 array-read-first : tie.Need-array-read-first
 array-read-first c = search needs
@@ -24,17 +24,17 @@ same-length c = search needs
 returns : tie.Need-returns
 returns c = search needs
 
-note-at-requires : tie.Need-note-at-requires
-note-at-requires c κs = search needs
+staged-at-requires : tie.Need-staged-at-requires
+staged-at-requires c κs = search needs
 
 is-of-requires : tie.Need-is-of-requires
 is-of-requires c κs = search needs
 
-noted-walk-requires : tie.Need-noted-walk-requires
-noted-walk-requires c κs = search note-few
+staged-walk-requires : tie.Need-staged-walk-requires
+staged-walk-requires c κs = search staged-few
 
 returns-2 : tie.Need-returns-2
-returns-2 c = search noted-fills
+returns-2 c = search stage-fills
 
 fill-values-requires-2 : tie.Need-fill-values-requires-2
 fill-values-requires-2 c κs = search needs
@@ -45,8 +45,8 @@ same-length-2 c = search needs
 returns-3 : tie.Need-returns-3
 returns-3 c = search needs
 
-pub noted-values-spec : {M : Type 1} → statement M
-noted-values-spec =
+pub staged-values-spec : {M : Type 1} → statement M
+staged-values-spec =
     tie.close
     (tie.spec
     array-read-first
@@ -54,9 +54,9 @@ noted-values-spec =
     fill-values-requires
     same-length
     returns
-    note-at-requires
+    staged-at-requires
     is-of-requires
-    noted-walk-requires
+    staged-walk-requires
     returns-2
     fill-values-requires-2
     same-length-2

@@ -22,11 +22,11 @@ use Rattle.table_layout.proofs.FillingLaws.{fits-room, fits-next}
 use Rattle.doc.specs.Document.{Value, valuesFrom}
 use Rattle.store_base.specs.Way.Writes.{valueWrite}
 use Rattle.store_base.specs.Way.Stores.{Stores}
-use Rattle.store_base.specs.Way.Notes.{valuesWords, Note, noteAt, noteValues, Tells, wordsOf, Noted}
-use Rattle.store_matrices.specs.declared.NoteWords.{NoteWords}
+use Rattle.store_base.specs.Way.Stage.{valuesWords, StagedMatrix, stagedAt, stagedValues, Tells, wordsOf, Staged}
+use Rattle.store_matrices.specs.declared.StagedWords.{StagedWords}
 use Rattle.store_matrices.specs.declared.MatrixWalk.{MatrixWalk}
 use Rattle.store_matrices.specs.Way.Told.{toldOr}
-use Rattle.store_matrices.specs.Way.Noted.{noteIn, isOf, notedWalk}
+use Rattle.store_matrices.specs.Way.Staged.{stagedIn, isOf, stagedWalk}
 use Rattle.store_matrices.specs.Way.Matrices.{matrixLines, PutsValues, FillsValues}
 
 -- ---- words that stand where they are stored
@@ -126,14 +126,14 @@ values-few size (v ∷ vs) f seven h long some =
 
 -- ---- a note taken for the lines
 
-count-in : (n : Note) → noteIn n .count ≡ n .count
-unfolding noteIn
+count-in : (n : StagedMatrix) → stagedIn n .count ≡ n .count
+unfolding stagedIn
 count-in n = refl
 
-module _ (t table : List ℕ) (f : Filling) (seven : length (f .counts) ≡ 7) (n : Note) (first : n .first ≡ getD (f .counts) 6 0)
+module _ (t table : List ℕ) (f : Filling) (seven : length (f .counts) ≡ 7) (n : StagedMatrix) (first : n .first ≡ getD (f .counts) 6 0)
     (tells : Tells t n (wordsOf table (getD (f .bases) 6 0) n)) where
   abbrev told : List Value
-  told = noteValues t n
+  told = stagedValues t n
 
   -- its words stand where the next value goes
   words-there : take (length (valuesWords told)) (drop (position f 6) table) ≡ valuesWords told
@@ -144,9 +144,9 @@ module _ (t table : List ℕ) (f : Filling) (seven : length (f .counts) ≡ 7) (
       rw first at (tells .words-are) in
       rw l e
 
-  note-stores : Stores f table (map valueWrite told) (notedWalk (noteIn n) (getD (f .counts) 6 0) f .spot .filling) table
-  unfolding notedWalk noteIn
-  note-stores =
+  staged-stores : Stores f table (map valueWrite told) (stagedWalk (stagedIn n) (getD (f .counts) 6 0) f .spot .filling) table
+  unfolding stagedWalk stagedIn
+  staged-stores =
       record {
         stored = sym (values-over told f table seven ∙ sets-same table (position f 6) (valuesWords told) words-there);
         filled =
@@ -154,11 +154,11 @@ module _ (t table : List ℕ) (f : Filling) (seven : length (f .counts) ≡ 7) (
             ∙ sym (filling-over told f seven);
       }
 
-  note-fills : FillsValues t (n .line) (n .at) (n .form) table f (notedWalk (noteIn n) (getD (f .counts) 6 0) f) table
-  unfolding notedWalk noteIn toldOr
-  note-fills =
+  staged-fills : FillsValues t (n .line) (n .at) (n .form) table f (stagedWalk (stagedIn n) (getD (f .counts) 6 0) f) table
+  unfolding stagedWalk stagedIn toldOr
+  staged-fills =
       record {
-        stores = note-stores;
+        stores = staged-stores;
         bandwidth = if-true _ _ refl ∙ tells .bandwidth-is;
         greatest = tells .greatest-is;
         rest = tells .rest;
@@ -166,20 +166,20 @@ module _ (t table : List ℕ) (f : Filling) (seven : length (f .counts) ≡ 7) (
         onward = tells .onward;
       }
 
-  note-taken : (number at form : ℕ) → n .line ≡ number → n .at ≡ at → n .form ≡ form →
-      FillsValues t number at form table f (notedWalk (noteIn n) (getD (f .counts) 6 0) f) table
-  note-taken number at form a b c = rw (sym a, sym b, sym c) note-fills
+  staged-taken : (number at form : ℕ) → n .line ≡ number → n .at ≡ at → n .form ≡ form →
+      FillsValues t number at form table f (stagedWalk (stagedIn n) (getD (f .counts) 6 0) f) table
+  staged-taken number at form a b c = rw (sym a, sym b, sym c) staged-fills
 
 -- what the test says of a note
-record Right (n : Note) (at number form first : ℕ) : Type 0 where
+record Right (n : StagedMatrix) (at number form first : ℕ) : Type 0 where
   made : 0 < n .further
   at-is : n .at ≡ at
   line-is : n .line ≡ number
   form-is : n .form ≡ form
   first-is : n .first ≡ first
 
-right : (n : Note) (at number form first : ℕ) → isOf (noteIn n) at number form first ≡ true → Right n at number form first
-unfolding isOf noteIn
+right : (n : StagedMatrix) (at number form first : ℕ) → isOf (stagedIn n) at number form first ≡ true → Right n at number form first
+unfolding isOf stagedIn
 right n at number form first e =
     let made : n .further ≡ 0 → ⊥ = eqb-false (n .further) 0 (not-true _ (both-first _ _ e)) in
     let a : both (eqb (n .at) at) (both (eqb (n .line) number) (both (eqb (n .form) form) (eqb (n .first) first))) ≡ true = both-second _ _ e in
@@ -193,33 +193,33 @@ right n at number form first e =
       first-is = eqb-true _ _ (both-second _ _ c);
     }
 
-module _ (t : List ℕ) (n at form : ℕ) (table : List ℕ) (f : Filling) (notes : List ℕ) (puts : PutsValues t n at form table f)
-    (noted : Noted t table notes (getD (f .bases) 6 0) (getD (f .counts) 6 0)) (i : ℕ) (note : NoteWords)
-    (is-note : note ≡ noteIn (noteAt notes i)) (answer : Bool) (is-answer : answer ≡ isOf note at n form (getD (f .counts) 6 0))
+module _ (t : List ℕ) (n at form : ℕ) (table : List ℕ) (f : Filling) (stage : List ℕ) (puts : PutsValues t n at form table f)
+    (holds : Staged t table stage (getD (f .bases) 6 0) (getD (f .counts) 6 0)) (i : ℕ) (staged : StagedWords)
+    (is-staged : staged ≡ stagedIn (stagedAt stage i)) (answer : Bool) (is-answer : answer ≡ isOf staged at n form (getD (f .counts) 6 0))
     (yes-of : answer ≡ true) where
-  found : Right (noteAt notes i) at n form (getD (f .counts) 6 0)
+  found : Right (stagedAt stage i) at n form (getD (f .counts) 6 0)
   found =
-      right (noteAt notes i) at n form (getD (f .counts) 6 0)
-      (ap (λ (x : NoteWords). isOf x at n form (getD (f .counts) 6 0)) (sym is-note) ∙ sym is-answer ∙ yes-of)
+      right (stagedAt stage i) at n form (getD (f .counts) 6 0)
+      (ap (λ (x : StagedWords). isOf x at n form (getD (f .counts) 6 0)) (sym is-staged) ∙ sym is-answer ∙ yes-of)
 
-  tells-here : Tells t (noteAt notes i) (wordsOf table (getD (f .bases) 6 0) (noteAt notes i))
-  tells-here = noted .tells i (found .made) (le-of-eq (sym (found .first-is)))
+  tells-here : Tells t (stagedAt stage i) (wordsOf table (getD (f .bases) 6 0) (stagedAt stage i))
+  tells-here = holds .tells i (found .made) (le-of-eq (sym (found .first-is)))
 
   -- so few that no sum wraps
-  pub note-few : length table * 8 < 2 ^ 63 → 0 < note .count → getD (f .counts) 6 0 + note .count < 2 ^ 64
-  note-few long some =
-      let c : note .count ≡ noteAt notes i .count = ap (λ (x : NoteWords). x .count) is-note ∙ count-in (noteAt notes i) in
-      let d : note .count ≡ length (valuesFrom form 1 1 (matrixLines t n at)) =
+  pub staged-few : length table * 8 < 2 ^ 63 → 0 < staged .count → getD (f .counts) 6 0 + staged .count < 2 ^ 64
+  staged-few long some =
+      let c : staged .count ≡ stagedAt stage i .count = ap (λ (x : StagedWords). x .count) is-staged ∙ count-in (stagedAt stage i) in
+      let d : staged .count ≡ length (valuesFrom form 1 1 (matrixLines t n at)) =
       c ∙ tells-here .count-is
       ∙ (λ j. length (valuesFrom (found .form-is j) 1 1 (matrixLines t (found .line-is j) (found .at-is j)))) in
       rw d (values-few (length table) (valuesFrom form 1 1 (matrixLines t n at)) f (puts .seven) (puts .fits) long (rw d at some))
 
-  pub noted-fills : (w : MatrixWalk) → w ≡ notedWalk note (getD (f .counts) 6 0) f → FillsValues t n at form table f w table
-  noted-fills w is-w =
-      let e : w ≡ notedWalk (noteIn (noteAt notes i)) (getD (f .counts) 6 0) f =
-      is-w ∙ ap (λ (x : NoteWords). notedWalk x (getD (f .counts) 6 0) f) is-note in
-      let g : FillsValues t n at form table f (notedWalk (noteIn (noteAt notes i)) (getD (f .counts) 6 0) f) table =
-      note-taken t table f (puts .seven) (noteAt notes i) (found .first-is) tells-here n at form (found .line-is) (found .at-is)
+  pub stage-fills : (w : MatrixWalk) → w ≡ stagedWalk staged (getD (f .counts) 6 0) f → FillsValues t n at form table f w table
+  stage-fills w is-w =
+      let e : w ≡ stagedWalk (stagedIn (stagedAt stage i)) (getD (f .counts) 6 0) f =
+      is-w ∙ ap (λ (x : StagedWords). stagedWalk x (getD (f .counts) 6 0) f) is-staged in
+      let g : FillsValues t n at form table f (stagedWalk (stagedIn (stagedAt stage i)) (getD (f .counts) 6 0) f) table =
+      staged-taken t table f (puts .seven) (stagedAt stage i) (found .first-is) tells-here n at form (found .line-is) (found .at-is)
       (found .form-is) in
       rw e g
 

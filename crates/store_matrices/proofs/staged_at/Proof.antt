@@ -1,11 +1,11 @@
 -- `store_matrices::note_at` meets its contract: nine words, one behind the other.
 -- Assumes nothing.
 use mathlib.Core.Path.{refl}
-use Rattle.store_base.specs.Way.Notes.{noteAt}
-use Rattle.store_matrices.specs.Way.Noted.{noteIn}
+use Rattle.store_base.specs.Way.Stage.{stagedAt}
+use Rattle.store_matrices.specs.Way.Staged.{stagedIn}
 use borrow.Author.Needs.{needs}
-use Rattle.store_matrices.proofs.note_at.Statement.{statement}
-use Rattle.store_matrices.proofs.note_at.Tie as tie
+use Rattle.store_matrices.proofs.staged_at.Statement.{statement}
+use Rattle.store_matrices.proofs.staged_at.Tie as tie
 
 mul-from : tie.Need-mul-from
 mul-from c = search needs
@@ -89,11 +89,11 @@ shared-slice-read-t38 : tie.Need-shared-slice-read-t38
 shared-slice-read-t38 c = search needs
 
 returns : tie.Need-returns
-unfolding noteAt noteIn
+unfolding stagedAt stagedIn
 returns c = refl
 
-pub note-at-spec : {M : Type 1} → statement M
-note-at-spec =
+pub staged-at-spec : {M : Type 1} → statement M
+staged-at-spec =
     tie.close
     (tie.spec
     mul-from

@@ -7,12 +7,12 @@ use lib.Dec.{eqb}
 use Rattle.base.specs.If.{both}
 use Rattle.table_layout.specs.Layout.{values}
 use Rattle.table_layout.specs.declared.Filling.{Filling}
-use Rattle.store_base.specs.Way.Notes.{Note}
-use Rattle.store_matrices.specs.declared.NoteWords.{NoteWords}
+use Rattle.store_base.specs.Way.Stage.{StagedMatrix}
+use Rattle.store_matrices.specs.declared.StagedWords.{StagedWords}
 use Rattle.store_matrices.specs.declared.MatrixWalk.{MatrixWalk}
 
-unfoldable pub noteIn : Note → NoteWords
-noteIn n =
+unfoldable pub stagedIn : StagedMatrix → StagedWords
+stagedIn n =
     record {
       at = n .at;
       line = n .line;
@@ -26,14 +26,14 @@ noteIn n =
     }
 
 -- it is made, and of the lines that start there, read in this form, so many values standing before theirs
-unfoldable pub isOf : NoteWords → ℕ → ℕ → ℕ → ℕ → Bool
+unfoldable pub isOf : StagedWords → ℕ → ℕ → ℕ → ℕ → Bool
 isOf n at line form first =
     both (not (eqb (n .further) 0))
     (both (eqb (n .at) at) (both (eqb (n .line) line) (both (eqb (n .form) form) (eqb (n .first) first))))
 
 -- where the lines end, and what they say; their values are counted as stored behind the first ones
-unfoldable pub notedWalk : NoteWords → ℕ → Filling → MatrixWalk
-notedWalk n first f =
+unfoldable pub stagedWalk : StagedWords → ℕ → Filling → MatrixWalk
+stagedWalk n first f =
     record {
       at = n .further;
       line = n .next;
