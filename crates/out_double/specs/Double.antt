@@ -37,7 +37,7 @@ signed negative x = if negative then neg x else x
 unfoldable pub double : Decimal → Float
 double d = signed (d .negative) (scaled (d .size) (d .shifted))
 
--- "a value m times ten to the k with k from -22 to 22": the word's own k, and a word that is no value word is outside (D1, D2 of docs/DECISIONS.md)
+-- "a value m times ten to the k with k from -22 to 22": the word's own k, and a word that is no value word is outside (D1, D2 of docs/READINGS.md)
 unfoldable pub isDrawn : ℕ → Bool
 isDrawn word = both (isValueWord word) (within (64 - span) (64 + span) (decimalOf word .shifted))
 

@@ -35,7 +35,7 @@ unfoldable pub listedFrom : (ℕ → List ℕ) → ℕ → ℕ → List ℕ
 listedFrom line zero i = []
 listedFrom line (suc many) i = line i ++ listedFrom line many (i + 1)
 
--- a Mult prints as an integer, a Len as a value (G3 of docs/DECISIONS.md): a Lumped section has the one, a Distributed one the other
+-- a Mult prints as an integer, a Len as a value (G3 of docs/READINGS.md): a Lumped section has the one, a Distributed one the other
 unfoldable pub amountText : List ℕ → ℕ → List ℕ
 amountText table i =
     if eqb (fieldOf table sections (fieldOf table steps i 1) 2) 0
@@ -55,7 +55,7 @@ module _ (t table : List ℕ) where
   unfoldable pub listedSide : ℕ → List ℕ
   listedSide i = nameAt t (fieldOf table steps i 3) (fieldOf table steps i 4)
 
-  -- "then amount .. or Side": the last field, if there is one (G3 of docs/DECISIONS.md)
+  -- "then amount .. or Side": the last field, if there is one (G3 of docs/READINGS.md)
   unfoldable pub listedEnd : ℕ → List ℕ
   listedEnd i =
       if eqb (fieldOf table steps i 4) 0

@@ -40,6 +40,6 @@ exponentText shifted = if ltb shifted 64 then code "-" ∷ decimal (64 - shifted
 unfoldable pub decimalText : Decimal → List ℕ
 decimalText d = signText (d .negative) ++ (decimal (d .size) ++ (code "e" ∷ exponentText (d .shifted)))
 
--- m, `e`, k, with `-` in front if negative (G4 of docs/DECISIONS.md); "Zero prints 0e0"
+-- m, `e`, k, with `-` in front if negative (G4 of docs/READINGS.md); "Zero prints 0e0"
 unfoldable pub valueText : ℕ → List ℕ
 valueText word = decimalText (decimalOf word)
