@@ -22,7 +22,7 @@ use Rattle.ask_sound.specs.Way.Standing.{places, placesOf, baseOf, countOf, mod
 use Rattle.ask_sound.proofs.PlaceLaws.{places-long, kinds-range}
 use Rattle.ask_walk.specs.declared.Place.{Place}
 use Rattle.ask_walk.specs.Walk.{noModel, noRecord, modelAtPlace, stepAtPlace, countKind, isDepth, kindsBefore, isPlace}
-use Rattle.ask_walk.specs.Way.Walkable.{modelPlace, firstOf, manyOf, Walkable, Stands}
+use Rattle.ask_walk.specs.Way.Walkable.{modelPlace, firstOf, manyOf, Walkable, StandsAt}
 use Rattle.ask_walk.proofs.KindLaws.{depth-most}
 
 -- ---- opens and closes
@@ -248,7 +248,7 @@ module _ (table : List ℕ) (v : View) (ready : Walkable table v) (p : Place) wh
           ap (λ (m : ModelRecord). getD (records .steps) (m .first + p .step) noRecord) model-is
           ∙ step-there table v (ready .records) (first + p .step) k
 
-      stands-by : isDepth (p .depth) (kindsBefore records p) ≡ true → Stands table v p
+      stands-by : isDepth (p .depth) (kindsBefore records p) ≡ true → StandsAt table v p
       stands-by e =
           let i : first + many ≤ countOf v steps = steps-inside in
           let f : countOf v steps ≤ 4_096 = ready .few-steps in
@@ -276,5 +276,5 @@ module _ (table : List ℕ) (v : View) (ready : Walkable table v) (p : Place) wh
     rest-holds : both (leb (p .step) many) (isDepth (p .depth) (kindsBefore records p)) ≡ true
     rest-holds = sym (place-rest model-has) ∙ in-range
 
-    pub stands : Stands table v p
+    pub stands : StandsAt table v p
     stands = stands-by model-has (leb-true _ _ (both-first _ _ rest-holds)) (both-second _ _ rest-holds)

@@ -30,7 +30,7 @@ use Rattle.ask_walk.specs.Walk.{
   walkFrom,
   walkAnswer,
 }
-use Rattle.ask_walk.specs.Way.Walkable.{firstOf, manyOf, Stands}
+use Rattle.ask_walk.specs.Way.Walkable.{firstOf, manyOf, StandsAt}
 
 pub next-told :
     (p : Place) (kind depth : ℕ) → depth ≡ depthAfter (p .depth) kind →
@@ -46,7 +46,7 @@ over-steps table at p next e = ap (stepped (shownWords (stepAt table at))) e
 
 -- ---- from a place that is in range
 
-module _ (table : List ℕ) (v : View) (p : Place) (here : Stands table v p) where
+module _ (table : List ℕ) (v : View) (p : Place) (here : StandsAt table v p) where
   pub on-done : p .step ≡ manyOf table v (p .model) → doneAt p ≡ walkOn (recordsOf table) p
   unfolding walkOn
   on-done e = sym (if-true _ _ (eq-eqb _ _ (e ∙ ap (λ (m : ModelRecord). m .steps) (sym (here .model-is)))))

@@ -8,7 +8,7 @@ ghost use Rattle.line_path.specs.Path.{deepest};
 ghost use Rattle.doc.specs.Records.{recordsOf};
 ghost use Rattle.ask_sound.specs.Way.Standing.{stepAt, kindsFrom};
 ghost use Rattle.ask_walk.specs.Walk.{walkWords, isDepth, isPlace, nextOf, walkOver, walkOn, walkFrom, walkAnswer};
-ghost use Rattle.ask_walk.specs.Way.Walkable.{Walkable, Stands};
+ghost use Rattle.ask_walk.specs.Way.Walkable.{Walkable, StandsAt};
 use table_layout::View;
 
 // "30 TABLE", "31 NOSUCH".
@@ -146,7 +146,7 @@ fn is_place(table: &[u64], view: View, place: Place) -> bool
 
 // From a place that is in range.
 fn walk_on(table: &[u64], view: View, place: Place) -> Walked
-    requires { ⌜ Stands (now table) view place ⌝ }
+    requires { ⌜ StandsAt (now table) view place ⌝ }
     ensures { λ r. ⌜ walkWords r ≡ walkOn (recordsOf (now (table .entry))) place ⌝ }
 {
     let bases = view.bases;

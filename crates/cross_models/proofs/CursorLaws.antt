@@ -17,8 +17,8 @@ use Rattle.lex_line.specs.Lines.{Raw, lines, contentOf, isBlankLine}
 use Rattle.lex_line.specs.Way.LineEnds.{lineAt}
 use Rattle.lex_line.specs.declared.Line as text
 use Rattle.lex_line.specs.Words.{wordsFrom, words, secondOf, leftOf, toEquals}
-use Rattle.lex_line.specs.Way.Spans.{fewOf, markedBy}
-use Rattle.lex_line.specs.declared.Few.{Few}
+use Rattle.lex_line.specs.Way.Spans.{firstTwoOf, markedBy}
+use Rattle.lex_line.specs.declared.FirstTwo.{FirstTwo}
 use Rattle.lex_line.proofs.WordLaws.{second-marked}
 use Rattle.lex_line.proofs.FormLaws.{left-words}
 use Rattle.line_place.specs.Place as place
@@ -29,7 +29,7 @@ use Rattle.line_path.proofs.UsualLaws.{opens-is-mult}
 use Rattle.read_line.specs.Reading.{commentByte}
 use Rattle.doc.specs.Lines.{Line, placeAfter, linesFrom, linesAt, significant, gather, upTo}
 use Rattle.doc.specs.Document.{Step, Model, sectionKind, sayingAt, stepOf, stepsIn, opensModel, inModel, modelOf, modelAt, documentIn, documentOf}
-use Rattle.doc.specs.Way.Found.{contentIn, lineIn, linesBehind, Located, Finds}
+use Rattle.doc.specs.Way.Found.{contentIn, lineIn, linesBehind, Located, FindsLine}
 use Rattle.doc.specs.declared.Found.{Found}
 use Rattle.doc.specs.Holds.{Each}
 use Rattle.doc.specs.Holds.Each.{none, more}
@@ -46,7 +46,7 @@ use Rattle.cross_models.specs.declared.Told.{Told}
 -- ---- Mult before the sign
 
 pub mult-told :
-    (content : List ℕ) (sign : ℕ) → sign ≡ toEquals content → (few : Few) → few ≡ fewOf (take sign content) →
+    (content : List ℕ) (sign : ℕ) → sign ≡ toEquals content → (few : FirstTwo) → few ≡ firstTwoOf (take sign content) →
     (unit : List ℕ) → unit ≡ markedBy (take sign content) (few .second) → (r : Bool) → r ≡ same unit (bytes "Mult") → r ≡ isMult content
 unfolding isMult
 mult-told content sign at few told unit there r is =
@@ -99,7 +99,7 @@ cursor-starts t = record { within = zero-le; counted = omega arith; valid = λ (
 first-low : {t : List ℕ} {n at : ℕ} {l : Line} {ls : List Line} → Laid t n at (l ∷ ls) → n ≤ l .line
 first-low (onward end h k lies rest) = h
 
-module _ (t : List ℕ) (wanted at n : ℕ) (seeks : Seeks t wanted at n) (line : Found) (finds : Finds t n at line) where
+module _ (t : List ℕ) (wanted at n : ℕ) (seeks : Seeks t wanted at n) (line : Found) (finds : FindsLine t n at line) where
   pub seek-ends : not (line .there) ≡ true → Tells t wanted (record { mult = false; at = at; line = n })
   seek-ends h =
       let e : contentAt wanted (significant t) ≡ [] =

@@ -29,9 +29,9 @@ use Rattle.cross_rules.proofs.KindLaws.{first-here, first-later}
 use Rattle.cross_rules.proofs.TableLaws.{view-holds}
 use Rattle.cross_names.specs.Way.Listed.{Listed}
 use Rattle.cross_names.proofs.NamedLaws.{models-many}
-use Rattle.cross_steps.specs.Way.StepWords.{Rooms, stepRuleAt}
+use Rattle.cross_steps.specs.Way.StepWords.{StepRooms, stepRuleAt}
 use Rattle.table_name.specs.Way.Marks.{marksMany}
-use Rattle.cross_steps.specs.Way.Marks.{Marked, Below, Judged}
+use Rattle.cross_steps.specs.Way.Marks.{MarkedEnds, Below, Judged}
 use Rattle.cross_steps.specs.declared.Owner.{Owner}
 use Rattle.cross_steps.proofs.MarkLaws.{marked-starts}
 use Rattle.cross_steps.proofs.JoinLaws.{Owns, table-tells, rooms-of, kind-here, line-here, step-is}
@@ -145,7 +145,7 @@ pub record StepsLeft (t table : List ℕ) (v : View) (marks : List ℕ) (index :
   pub steps : split .one .steps ≡ above ++ below
   pub place : i ≡ length above
   pub own-is : own ≡ o .from + 6 * i
-  pub marked : Marked t table marks (o .stamp) (o .from) i
+  pub marked : MarkedEnds t table marks (o .stamp) (o .from) i
   pub same :
       firstIn (rest (documentOf t) (split .one) below (split .behind)) ≡ firstIn (belowFirst (documentOf t) (drop index (documentOf t .models)))
   pub cursor : Cursor t here next
@@ -155,7 +155,7 @@ module _ (t table : List ℕ) (filled : HoldsText t table) (v : View) (is-view :
   tells : join.Tells table v (documentOf t)
   tells = rw is-view (table-tells t table filled)
 
-  rooms : Rooms table v
+  rooms : StepRooms table v
   rooms =
       rooms-of table v (documentOf t) tells (rw is-view (view-holds t table filled .inside 2 (omega arith)))
       (rw is-view (view-holds t table filled .inside 4 (omega arith))) (rw is-view (view-holds t table filled .inside 5 (omega arith)))
@@ -291,7 +291,7 @@ module _ (t table : List ℕ) (filled : HoldsText t table) (v : View) (is-view :
       pub asks-line : (own + 6 ≤ length table) × Cursor t here next × (next ≤ getD table (own + 5) 0)
       asks-line = (own-inside, left .cursor, rw line-is (rising-first rising-here))
 
-      pub asks-rule : Rooms table v × Below t table marks o own i
+      pub asks-rule : StepRooms table v × Below t table marks o own i
       asks-rule = (rooms, record { place = left .own-is; inside = own-inside; marked = left .marked })
 
       module _ (told : Told) (is-told : TellsStep t table own told) (after : List ℕ) (rule : ℕ)

@@ -62,7 +62,7 @@ fn is_mult(content: &[u8]) -> bool
 {
     let sign = lex_line::equals_at(content);
     let left = &content[..sign];
-    let few = lex_line::few_words(left);
+    let few = lex_line::first_two_words(left);
     let unit = few.second;
     lex_line::same_bytes(lex_line::marked(left, unit), b"Mult")
 }
@@ -192,7 +192,7 @@ fn model_rule(text: &[u8], table: &[u64], view: View, listed: [bool; 65], index:
     ensures { λ r. ⌜ r ≡ modelRuleAt (now (text .entry)) (now (table .entry)) view listed index ⌝ }
 {
     let bases = view.bases;
-    if cross_rules::is_twice(text, table, bases[table_layout::MODELS], MODEL_WORDS, index) {
+    if cross_rules::is_repeated_name(text, table, bases[table_layout::MODELS], MODEL_WORDS, index) {
         return TWICE;
     }
     let flag = index as usize;

@@ -23,7 +23,7 @@ use Rattle.table_layout.specs.View.{viewOf}
 use Rattle.table_layout.specs.declared.View.{View}
 use Rattle.doc.specs.Lines.{Line, plain, keyOf, placeAfter, linesAt, significant, gather, upTo, standsIn, wordsOf, firstWord}
 use Rattle.doc.specs.Document.{Named, Model, Document, listedAt, opensModel, modelOf, modelAt, inModel, documentIn, documentOf}
-use Rattle.doc.specs.Way.Found.{contentIn, lineIn, linesBehind, Located, Finds, IsPlain, Plainly, Meets}
+use Rattle.doc.specs.Way.Found.{contentIn, lineIn, linesBehind, Located, FindsLine, IsPlain, Plainly, FindsKeyed}
 use Rattle.doc.specs.declared.Found.{Found}
 use Rattle.doc.specs.Holds.{Each}
 use Rattle.doc.specs.Holds.Each.{none, more}
@@ -43,7 +43,7 @@ use Rattle.cross_rules.proofs.ListLaws.{models-below}
 use Rattle.cross_rules.proofs.TwiceLaws.{listed-twice}
 use Rattle.cross_rules.proofs.KindLaws.{first-here, first-later}
 use Rattle.cross_names.specs.Way.Listed.{namedBy, isListed, Listed}
-use Rattle.cross_names.specs.Way.Judged.{ModelsIn, noModel, modelFound, judgedBy, nameJudged, lineJudged, Nears}
+use Rattle.cross_names.specs.Way.Judged.{ModelsIn, noModel, modelFound, judgedBy, nameJudged, lineJudged, FindsListed}
 use Rattle.cross_names.specs.declared.list.Judged.{Judged}
 use Rattle.cross_names.proofs.NamedLaws.{above-found, above-none, there-found, models-many, models-in, model-is}
 
@@ -107,7 +107,7 @@ either-swap false b c = refl
 -- ---- the line found next
 
 module _ (t : List ℕ) (n at p : ℕ) (f : Found) where
-  pub near-listed : Finds t n at f → Nears t n at p f
+  pub near-listed : FindsLine t n at f → FindsListed t n at p f
   near-listed finds =
       record {
         meets = meets-found t n at p f finds;
@@ -120,7 +120,7 @@ module _ (t : List ℕ) (n at p : ℕ) (f : Found) where
     unfolding listedAt standsIn
     not-listed l ls h = if-false _ _ (both-not-left _ _ (ne-eqb _ _ (λ (e : l .place ≡ place.list). other (sym (h .place-is) ∙ e))))
 
-    pub near-keyed : Meets t n at p f → Nears t n at p f
+    pub near-keyed : FindsKeyed t n at p f → FindsListed t n at p f
     near-keyed meets =
         record {
           meets = meets;
@@ -308,7 +308,7 @@ module _ (t : List ℕ) (listed : List Bool) (at n p : ℕ) (left : ListLeft t l
             },
       )
 
-  module _ (line : Found) (nears : Nears t n at p line) where
+  module _ (line : Found) (nears : FindsListed t n at p line) where
     pub list-ends : not (line .there) ≡ true → Gives t 0 0 listed
     list-ends h = list-done (nears .names-none (not-true (line .there) h))
 

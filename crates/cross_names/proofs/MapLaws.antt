@@ -134,10 +134,10 @@ module _ (t table : List ℕ) (v : View) (holds : HoldsText t table × (v ≡ vi
     same-here =
         ap firstIn (sym (findings-on d m behind)) ∙ ap (λ (ms : List Map). firstIn (mapFindings d ms)) (sym (front .whole)) ∙ left .same
 
-    module _ (twice : Bool) (is-twice : twice ≡ twiceAt t table mapBase 7 i) where
+    module _ (twice : Bool) (is-repeated-name : twice ≡ twiceAt t table mapBase 7 i) where
       rule-is : firstBroken (19 when twice ∷ []) ≡ mapNameRule d m
       rule-is =
-          ap (λ (b : Bool). firstBroken (19 when b ∷ [])) (is-twice ∙ ap (twiceAt t table mapBase 7) (sym (left .place)))
+          ap (λ (b : Bool). firstBroken (19 when b ∷ [])) (is-repeated-name ∙ ap (twiceAt t table mapBase 7) (sym (left .place)))
           ∙ rule-here t table v holds (left .above) behind m split
 
       pub map-breaks : twice ≡ true → (line : ℕ) → line ≡ nthLine maps i (significant t) → record { rule = 19; line = line } ≡ firstIn (mapFindings d (d .maps))

@@ -52,7 +52,7 @@ module _ (t table : List ℕ) (base first count : ℕ) where
         let z : count - i ≡ 0 = omega arith in
         sym (none-left t table base first i) ∙ ap (λ (n : ℕ). firstIn (pinsFrom t table base first i n)) (sym z) ∙ left .same
 
-    module _ (h : i < count) (twice : Bool) (is-twice : twice ≡ twiceAt t table base 2 i) where
+    module _ (h : i < count) (twice : Bool) (is-repeated-name : twice ≡ twiceAt t table base 2 i) where
       same-here : firstIn (pinAt t table base first i ∷ pinsFrom t table base first (i + 1) (count - (i + 1))) ≡ whole
       same-here =
           let c : count - i ≡ suc (count - (i + 1)) = omega arith in
@@ -62,10 +62,10 @@ module _ (t table : List ℕ) (base first count : ℕ) where
 
       pub pin-breaks : twice ≡ true → (line : ℕ) → line ≡ nthLine pins (first + i) (significant t) → record { rule = 19; line = line } ≡ whole
       pin-breaks e line l =
-          let f : record { rule = 19; line = line } ≡ pinAt t table base first i = found-here t table base first i line (sym is-twice ∙ e) l in
+          let f : record { rule = 19; line = line } ≡ pinAt t table base first i = found-here t table base first i line (sym is-repeated-name ∙ e) l in
           let n : 19 ≡ pinAt t table base first i .rule = ap (λ (x : Finding). x .rule) f in
           f ∙ sym (first-here (pinAt t table base first i) _ (λ (z : pinAt t table base first i .rule ≡ 0). omega arith)) ∙ same-here
 
       pub pins-on : twice ≡ false → PinsLeft t table base first count (i + 1)
       pins-on e =
-          record { same = sym (first-later (pinAt t table base first i) _ (kept-here t table base first i (sym is-twice ∙ e))) ∙ same-here }
+          record { same = sym (first-later (pinAt t table base first i) _ (kept-here t table base first i (sym is-repeated-name ∙ e))) ∙ same-here }

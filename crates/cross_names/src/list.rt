@@ -14,7 +14,7 @@ ghost use Rattle.cross_rules.specs.Way.First.{firstIn};
 ghost use Rattle.cross_rules.specs.Way.HoldsText.{HoldsText};
 ghost use Rattle.table_layout.specs.View.{viewOf};
 ghost use Rattle.cross_names.specs.Way.Listed.{Listed};
-ghost use Rattle.cross_names.specs.Way.Judged.{ModelsIn, modelFound, nameJudged, lineJudged, Nears};
+ghost use Rattle.cross_names.specs.Way.Judged.{ModelsIn, modelFound, nameJudged, lineJudged, FindsListed};
 use doc::Found;
 use table_layout::View;
 
@@ -65,7 +65,7 @@ fn opens_model(place: u64, key: u64) -> bool
 // The next line that may say something of the list: in the list any line, elsewhere one with a keyword.
 fn next_told(text: &[u8], at: usize, line: u64, place: u64) -> Found
     requires { ⌜ (at ≤ length (now text)) × (line ≤ at + 1) ⌝ }
-    ensures { λ r. ⌜ Nears (now (text .entry)) line at place r ⌝ }
+    ensures { λ r. ⌜ FindsListed (now (text .entry)) line at place r ⌝ }
 {
     if place == line_place::LIST {
         return doc::next_line(text, at, line);

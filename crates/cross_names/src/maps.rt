@@ -38,7 +38,7 @@ fn pin_finding(
 {
     let mut i = 0;
     while i < count {
-        if cross_rules::is_again(text, table, marks, stamp, base, PIN_WORDS, i) {
+        if cross_rules::is_repeated_marked(text, table, marks, stamp, base, PIN_WORDS, i) {
             return Finding {
                 rule: TWICE,
                 line: cross_rules::nth_line(text, table_layout::PINS, first + i),
@@ -88,7 +88,7 @@ pub fn map_finding(text: &[u8], table: &[u64], view: View) -> Finding
     let mut marks = [UNMARKED; table_name::MARKS];
     let mut i = 0;
     while i < count {
-        if cross_rules::is_twice(text, table, maps, MAP_WORDS, i) {
+        if cross_rules::is_repeated_name(text, table, maps, MAP_WORDS, i) {
             return Finding {
                 rule: TWICE,
                 line: cross_rules::nth_line(text, table_layout::MAPS, i),

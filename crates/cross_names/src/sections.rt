@@ -55,7 +55,7 @@ fn section_rule(text: &[u8], table: &[u64], base: usize, index: u64, used: [bool
     requires { ⌜ (base + 8 * index + 8 ≤ length (now table)) × (index < 256) ⌝ }
     ensures { λ r. ⌜ r ≡ ruleOf (hasAbove (now (text .entry)) (nameAt (now (text .entry)) (getD (now (table .entry)) (base + 8 * index) 0) (getD (now (table .entry)) (base + 8 * index + 1) 0)) (chopped 8 index (drop base (now (table .entry))))) (getD used index false) ⌝ }
 {
-    if cross_rules::is_twice(text, table, base, 8, index) {
+    if cross_rules::is_repeated_name(text, table, base, 8, index) {
         return 19;
     }
     let at = index as usize;

@@ -56,7 +56,7 @@ use Rattle.cross_rules.specs.Rules.{
   earliest,
   crossRule,
 }
-use Rattle.cross_rules.specs.Listed.{Looked, listNameRules, modelRules, mapNameRules, sectionRules, endStepRules, sectionStepRules, stepRules, pinNameRules, listLooked, stepLooked, modelLooked, pinLooked, mapLooked, sectionLooked, looked, Among}
+use Rattle.cross_rules.specs.Listed.{RulesAtLine, listNameRules, modelRules, mapNameRules, sectionRules, endStepRules, sectionStepRules, stepRules, pinNameRules, listRulesAtLines, stepRulesAtLines, modelRulesAtLines, pinRulesAtLines, mapRulesAtLines, sectionRulesAtLines, allRulesAtLines, Among}
 use Rattle.cross_rules.specs.Listed.Among.{front, further}
 use Rattle.cross_rules.specs.declared.Finding.{Finding}
 use Rattle.cross_rules.proofs.RisingLaws.{each-one}
@@ -221,93 +221,93 @@ module _ (d : Document) where
 
 -- ---- the whole document, by its lines and their rules
 
-abbrev findingOf : Looked → Finding
+abbrev findingOf : RulesAtLine → Finding
 findingOf x = record { rule = firstBroken (x .rules); line = x .line }
 
 -- one look for each finding
 mapped-found :
-    {A : Type 0} (finding : A → Finding) (look : A → Looked) → ((x : A) → finding x ≡ findingOf (look x)) → (xs : List A) →
+    {A : Type 0} (finding : A → Finding) (look : A → RulesAtLine) → ((x : A) → finding x ≡ findingOf (look x)) → (xs : List A) →
     map finding xs ≡ map findingOf (map look xs)
 mapped-found finding look same [] = refl
 mapped-found finding look same (x ∷ xs) = λ i. same x i ∷ mapped-found finding look same xs i
 
 module _ (d : Document) where
-  list-looked : listFindings d ≡ map findingOf (listLooked d)
-  unfolding listFindings listLooked listNameRule
+  list-looked : listFindings d ≡ map findingOf (listRulesAtLines d)
+  unfolding listFindings listRulesAtLines listNameRule
   list-looked = mapped-found _ _ (λ (n : Named). refl) (d .listed)
 
-  step-looked : (m : Model) → stepFindings d m ≡ map findingOf (stepLooked d m)
-  unfolding stepFindings stepLooked
+  step-looked : (m : Model) → stepFindings d m ≡ map findingOf (stepRulesAtLines d m)
+  unfolding stepFindings stepRulesAtLines
   step-looked m = mapped-found _ _ (λ (s : Step). ap (λ (n : ℕ). record { rule = n; line = s .line }) (step-given d m s)) (m .steps)
 
-  pin-looked : (m : Map) → pinFindings m ≡ map findingOf (pinLooked d m)
-  unfolding pinFindings pinLooked pinNameRule
+  pin-looked : (m : Map) → pinFindings m ≡ map findingOf (pinRulesAtLines d m)
+  unfolding pinFindings pinRulesAtLines pinNameRule
   pin-looked m = mapped-found _ _ (λ (p : Named). refl) (m .pins)
 
-  model-looked : (ms : List Model) → modelFindings d ms ≡ map findingOf (modelLooked d ms)
-  unfolding modelFindings modelLooked modelRule
+  model-looked : (ms : List Model) → modelFindings d ms ≡ map findingOf (modelRulesAtLines d ms)
+  unfolding modelFindings modelRulesAtLines modelRule
   model-looked [] = refl
   model-looked (m ∷ ms) =
       ap (λ (fs : List Finding). record { rule = modelRule d m; line = m .line } ∷ fs)
-      ((λ i. step-looked m i ++ model-looked ms i) ∙ sym (map-append findingOf (stepLooked d m) (modelLooked d ms)))
+      ((λ i. step-looked m i ++ model-looked ms i) ∙ sym (map-append findingOf (stepRulesAtLines d m) (modelRulesAtLines d ms)))
 
-  map-looked : (ms : List Map) → mapFindings d ms ≡ map findingOf (mapLooked d ms)
-  unfolding mapFindings mapLooked mapNameRule
+  map-looked : (ms : List Map) → mapFindings d ms ≡ map findingOf (mapRulesAtLines d ms)
+  unfolding mapFindings mapRulesAtLines mapNameRule
   map-looked [] = refl
   map-looked (m ∷ ms) =
       ap (λ (fs : List Finding). record { rule = mapNameRule d m; line = m .line } ∷ fs)
-      ((λ i. pin-looked m i ++ map-looked ms i) ∙ sym (map-append findingOf (pinLooked d m) (mapLooked d ms)))
+      ((λ i. pin-looked m i ++ map-looked ms i) ∙ sym (map-append findingOf (pinRulesAtLines d m) (mapRulesAtLines d ms)))
 
-  section-looked : (n : ℕ) (ss : List Section) → sectionFindings d n ss ≡ map findingOf (sectionLooked d n ss)
-  unfolding sectionFindings sectionLooked sectionRule
+  section-looked : (n : ℕ) (ss : List Section) → sectionFindings d n ss ≡ map findingOf (sectionRulesAtLines d n ss)
+  unfolding sectionFindings sectionRulesAtLines sectionRule
   section-looked n [] = refl
   section-looked n (s ∷ ss) =
       ap (λ (fs : List Finding). record { rule = sectionRule d n s; line = s .line } ∷ fs) (section-looked (n + 1) ss)
 
-  findings-looked : findings d ≡ map findingOf (looked d)
-  unfolding findings looked
+  findings-looked : findings d ≡ map findingOf (allRulesAtLines d)
+  unfolding findings allRulesAtLines
   findings-looked =
       rw (
-        map-append findingOf (listLooked d),
-        map-append findingOf (modelLooked d (d .models)),
-        map-append findingOf (mapLooked d (d .maps)),
+        map-append findingOf (listRulesAtLines d),
+        map-append findingOf (modelRulesAtLines d (d .models)),
+        map-append findingOf (mapRulesAtLines d (d .maps)),
       )
       (λ i. list-looked i ++ (model-looked (d .models) i ++ (map-looked (d .maps) i ++ section-looked 0 (d .sections) i)))
 
 -- the rules of each are ranked
-abbrev LookRanked : Looked → Type 0
+abbrev LookRanked : RulesAtLine → Type 0
 LookRanked x = Ranked (x .rules)
 
-mapped-ranked : {A : Type 0} (look : A → Looked) → ((x : A) → LookRanked (look x)) → (xs : List A) → Each LookRanked (map look xs)
+mapped-ranked : {A : Type 0} (look : A → RulesAtLine) → ((x : A) → LookRanked (look x)) → (xs : List A) → Each LookRanked (map look xs)
 mapped-ranked look all [] = none
 mapped-ranked look all (x ∷ xs) = more (all x) (mapped-ranked look all xs)
 
 module _ (d : Document) where
-  models-ranked : (ms : List Model) → Each LookRanked (modelLooked d ms)
-  unfolding modelLooked stepLooked
+  models-ranked : (ms : List Model) → Each LookRanked (modelRulesAtLines d ms)
+  unfolding modelRulesAtLines stepRulesAtLines
   models-ranked [] = none
   models-ranked (m ∷ ms) = more (model-ranked d m) (each-append (mapped-ranked _ (step-ranked d m) (m .steps)) (models-ranked ms))
 
-  maps-ranked : (ms : List Map) → Each LookRanked (mapLooked d ms)
-  unfolding mapLooked pinLooked
+  maps-ranked : (ms : List Map) → Each LookRanked (mapRulesAtLines d ms)
+  unfolding mapRulesAtLines pinRulesAtLines
   maps-ranked [] = none
   maps-ranked (m ∷ ms) = more (map-ranked d m) (each-append (mapped-ranked _ (pin-ranked m) (m .pins)) (maps-ranked ms))
 
-  sections-ranked : (i : ℕ) (ss : List Section) → Each LookRanked (sectionLooked d i ss)
-  unfolding sectionLooked
+  sections-ranked : (i : ℕ) (ss : List Section) → Each LookRanked (sectionRulesAtLines d i ss)
+  unfolding sectionRulesAtLines
   sections-ranked i [] = none
   sections-ranked i (s ∷ ss) = more (section-ranked d i s) (sections-ranked (i + 1) ss)
 
-  all-ranked : Each LookRanked (looked d)
-  unfolding looked listLooked
+  all-ranked : Each LookRanked (allRulesAtLines d)
+  unfolding allRulesAtLines listRulesAtLines
   all-ranked =
       each-append (mapped-ranked _ (list-ranked d) (d .listed))
       (each-append (models-ranked (d .models)) (each-append (maps-ranked (d .maps)) (sections-ranked 0 (d .sections))))
 
 -- the document breaks a rule of this number on this line
 pub record Breaks (d : Document) (line number : ℕ) : Type 0 where
-  pub look : Looked
-  pub among : Among look (looked d)
+  pub look : RulesAtLine
+  pub among : Among look (allRulesAtLines d)
   pub place : ℕ
   pub within : place < length (look .rules)
   pub broken : getD (look .rules) place sound .broken ≡ true
@@ -333,10 +333,10 @@ module _ {A B : Type 0} (f : A → B) where
   among-mapped (further m) = further (among-mapped m)
 
 module _ (d : Document) where
-  look-judged : {x : Looked} → Among x (looked d) → Judged (firstBroken (x .rules)) (x .rules)
+  look-judged : {x : RulesAtLine} → Among x (allRulesAtLines d) → Judged (firstBroken (x .rules)) (x .rules)
   look-judged {x} m = judged (x .rules) (each-one (all-ranked d) m)
 
-  look-found : {x : Looked} → Among x (looked d) → Among (findingOf x) (findings d)
+  look-found : {x : RulesAtLine} → Among x (allRulesAtLines d) → Among (findingOf x) (findings d)
   look-found m = rw (findings-looked d) (among-mapped findingOf m)
 
   -- what a line that breaks something is found for
@@ -346,13 +346,13 @@ module _ (d : Document) where
   pub none-breaks : crossRule d .rule ≡ 0 → (line number : ℕ) → Breaks d line number → ⊥
   none-breaks e line number b = breaks-found b (each-one (all-kept d e) (look-found (b .among)))
 
-  look-breaks : (x : Looked) → Among x (looked d) → (firstBroken (x .rules) ≡ 0 → ⊥) → Breaks d (x .line) (firstBroken (x .rules))
+  look-breaks : (x : RulesAtLine) → Among x (allRulesAtLines d) → (firstBroken (x .rules) ≡ 0 → ⊥) → Breaks d (x .line) (firstBroken (x .rules))
   look-breaks x m n = by-place (look-judged m .found (omega arith))
     where
       by-place : FoundIn (firstBroken (x .rules)) (x .rules) → Breaks d (x .line) (firstBroken (x .rules))
       by-place f = record { look = x; among = m; place = f .0; within = f .1; broken = f .2; on-line = refl; numbered = f .3 }
 
-  source-breaks : {f : Finding} → Source findingOf (looked d) f → (f .rule ≡ 0 → ⊥) → Breaks d (f .line) (f .rule)
+  source-breaks : {f : Finding} → Source findingOf (allRulesAtLines d) f → (f .rule ≡ 0 → ⊥) → Breaks d (f .line) (f .rule)
   source-breaks s n =
       subst (λ (g : Finding). Breaks d (g .line) (g .rule)) (s .gives)
       (look-breaks (s .source) (s .among)
@@ -360,7 +360,7 @@ module _ (d : Document) where
 
   -- the rule that is given is broken on the line that is given
   pub given-breaks : (crossRule d .rule ≡ 0 → ⊥) → Breaks d (crossRule d .line) (crossRule d .rule)
-  given-breaks n = source-breaks (source-of findingOf (looked d) (rw (findings-looked d) at (first-found d n .found))) n
+  given-breaks n = source-breaks (source-of findingOf (allRulesAtLines d) (rw (findings-looked d) at (first-found d n .found))) n
 
   pub unbroken : ((line number : ℕ) → Breaks d line number → ⊥) → crossRule d .rule ≡ 0
   unbroken h =

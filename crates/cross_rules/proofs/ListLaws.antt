@@ -58,7 +58,7 @@ use Rattle.line_place.specs.Place.{
   leadsInModel,
   opensMatrix,
   leadsInSection,
-  keepsMatrix,
+  isRowOrBandwidth,
   leadsInMatrix,
   leadsAfterFamily,
   isInHeader,
@@ -139,7 +139,7 @@ module _ (k : ℕ) (other : k ≡ icmModelList → ⊥) where
 
   matrix-off : Off (leadsInMatrix k)
   unfolding leadsInMatrix
-  matrix-off = choose (keepsMatrix k) _ _ refl section-off
+  matrix-off = choose (isRowOrBandwidth k) _ _ refl section-off
 
   model-off : Off (leadsInModel k)
   unfolding leadsInModel
@@ -212,8 +212,8 @@ still seen k b n h = record { listed = getD-set-other seen k icmModelList b fals
 has-next : (k : ℕ) (seen : List Bool) → (k ≡ icmModelList → ⊥) → Has seen → Has (seenAfter k seen)
 unfolding seenAfter
 has-next k seen other h =
-    by-test Has (keepsMatrix k) _ _ (λ (g : keepsMatrix k ≡ true). h)
-    (λ (g : keepsMatrix k ≡ false).
+    by-test Has (isRowOrBandwidth k) _ _ (λ (g : isRowOrBandwidth k ≡ true). h)
+    (λ (g : isRowOrBandwidth k ≡ false).
     by-test Has (eqb k beginIcmModel) _ _
     (λ (e : eqb k beginIcmModel ≡ true).
     still _ icmModelDescription false (λ (z : icmModelList ≡ icmModelDescription). omega arith)
@@ -331,7 +331,7 @@ module _ (k : ℕ) where
 
   late-matrix : Late (leadsInMatrix k)
   unfolding leadsInMatrix
-  late-matrix = one-of (keepsMatrix k) _ _ matrix late-section
+  late-matrix = one-of (isRowOrBandwidth k) _ _ matrix late-section
 
   late-family : Late (leadsAfterFamily k)
   unfolding leadsAfterFamily

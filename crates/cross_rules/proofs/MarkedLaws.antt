@@ -15,10 +15,10 @@ use Rattle.base.proofs.IfLaws.{by-cases, either-false}
 use Rattle.base.proofs.RunLaws.{same-equal}
 use Rattle.table_layout.specs.Layout.{chopped}
 use Rattle.table_name.specs.Name.{nameAt}
-use Rattle.table_name.specs.Way.Marks.{marksMany, markOf}
+use Rattle.table_name.specs.Way.Marks.{marksMany, hashOf}
 use Rattle.table_name.proofs.MarkLaws.{of-inside}
 use Rattle.cross_rules.specs.Rules.{any}
-use Rattle.cross_rules.specs.Way.Twice.{nameIn, hasAbove, ownName, ownMark, Marked}
+use Rattle.cross_rules.specs.Way.Twice.{nameIn, hasAbove, ownName, ownMark, MarkedNames}
 
 -- the name of the first of the records
 first-name : (t table : List ℕ) (base width : ℕ) → 2 ≤ width → nameIn t (take width (drop base table)) ≡ ownName t table base
@@ -29,13 +29,13 @@ first-name t table base width wide =
     let z : base + 0 ≡ base = omega arith in
     λ i. nameAt t ((a ∙ ap (λ (k : ℕ). getD table k 0) z) i) (b i)
 
-module _ (t table marks name : List ℕ) (stamp width : ℕ) (wide : 2 ≤ width) (free : getD marks (markOf 0 name) 0 ≡ stamp → ⊥) where
+module _ (t table marks name : List ℕ) (stamp width : ℕ) (wide : 2 ≤ width) (free : getD marks (hashOf 0 name) 0 ≡ stamp → ⊥) where
   other-name : (at : ℕ) → getD marks (ownMark t table at) 0 ≡ stamp → same name (ownName t table at) ≡ false
   unfolding ownMark
   other-name at marked =
       by-cases (same name (ownName t table at) ≡ false) (same name (ownName t table at))
       (λ (e : same name (ownName t table at) ≡ true).
-      absurd (free (ap (λ (n : List ℕ). getD marks (markOf 0 n) 0) (same-equal name (ownName t table at) e) ∙ marked)))
+      absurd (free (ap (λ (n : List ℕ). getD marks (hashOf 0 n) 0) (same-equal name (ownName t table at) e) ∙ marked)))
       (λ (e : same name (ownName t table at) ≡ false). e)
 
   pub none-above : (base n : ℕ) → ((j : ℕ) → j < n → getD marks (ownMark t table (base + width * j)) 0 ≡ stamp) → hasAbove t name (chopped width n (drop base table)) ≡ false
@@ -58,17 +58,17 @@ module _ (t table marks name : List ℕ) (stamp width : ℕ) (wide : 2 ≤ width
           let m : width * suc j ≡ width * j + width = mul-suc width j in
           omega arith
 
-pub marked-none : (t table marks : List ℕ) (stamp base width : ℕ) → length marks ≡ marksMany → Marked t table marks stamp base width 0
+pub marked-none : (t table marks : List ℕ) (stamp base width : ℕ) → length marks ≡ marksMany → MarkedNames t table marks stamp base width 0
 marked-none t table marks stamp base width long = record { whole = long; each = λ (j : ℕ) (h : j < 0). absurd (not-suc-le-zero h) }
 
 -- ---- a record that is marked too
 
-module _ (t table marks : List ℕ) (stamp base width index : ℕ) (marked : Marked t table marks stamp base width index) where
+module _ (t table marks : List ℕ) (stamp base width index : ℕ) (marked : MarkedNames t table marks stamp base width index) where
   own-inside : (mark : ℕ) → mark ≡ ownMark t table (base + width * index) → mark < length marks
   unfolding ownMark
   own-inside mark is = rw (marked .whole) (of-inside 0 (ownName t table (base + width * index)) mark is)
 
-  next-marked : (mark : ℕ) → mark ≡ ownMark t table (base + width * index) → Marked t table (set marks mark stamp) stamp base width (index + 1)
+  next-marked : (mark : ℕ) → mark ≡ ownMark t table (base + width * index) → MarkedNames t table (set marks mark stamp) stamp base width (index + 1)
   next-marked mark is =
       record {
         whole = simp length-set (marked .whole);
@@ -83,12 +83,12 @@ module _ (t table marks : List ℕ) (stamp base width index : ℕ) (marked : Mar
       }
 
   -- what the code has found of the name
-  module _ (own : List ℕ) (is-own : own ≡ nameAt t (getD table (base + width * index) 0) (getD table (base + width * index + 1) 0)) (mark : ℕ) (is-mark : mark ≡ markOf 0 own) where
+  module _ (own : List ℕ) (is-own : own ≡ nameAt t (getD table (base + width * index) 0) (getD table (base + width * index + 1) 0)) (mark : ℕ) (is-mark : mark ≡ hashOf 0 own) where
     mark-told : mark ≡ ownMark t table (base + width * index)
     unfolding ownMark ownName
-    mark-told = is-mark ∙ ap (markOf 0) is-own
+    mark-told = is-mark ∙ ap (hashOf 0) is-own
 
-    pub marked-on : Marked t table (set marks mark stamp) stamp base width (index + 1)
+    pub marked-on : MarkedNames t table (set marks mark stamp) stamp base width (index + 1)
     marked-on = next-marked mark mark-told
 
     pub none-told :
@@ -96,7 +96,7 @@ module _ (t table marks : List ℕ) (stamp base width index : ℕ) (marked : Mar
         false ≡ hasAbove t (nameAt t (getD table (base + width * index) 0) (getD table (base + width * index + 1) 0)) (chopped width index (drop base table))
     unfolding ownName ownMark
     none-told wide free =
-        let n : getD marks (markOf 0 (ownName t table (base + width * index))) 0 ≡ stamp → ⊥ =
-        λ (k : getD marks (markOf 0 (ownName t table (base + width * index))) 0 ≡ stamp).
+        let n : getD marks (hashOf 0 (ownName t table (base + width * index))) 0 ≡ stamp → ⊥ =
+        λ (k : getD marks (hashOf 0 (ownName t table (base + width * index))) 0 ≡ stamp).
         eqb-false _ _ (not-true _ free) (ap (λ (m : ℕ). getD marks m 0) mark-told ∙ k) in
         sym (none-above t table marks (ownName t table (base + width * index)) stamp width wide n base index (marked .each))

@@ -14,7 +14,7 @@ use Rattle.line_place.specs.Place as place
 use Rattle.table_layout.specs.Layout.{models, maps, pins, sections}
 use Rattle.doc.specs.Lines.{Line, keyOf, placeAfter, linesAt, significant, gather, upTo, standsIn, firstWord, wordsOf}
 use Rattle.doc.specs.Document.{Named, Model, Map, Section, opensModel, inModel, modelOf, modelAt, opensMap, inMap, mapOf, mapAt, pinAt, opensSection, inSection, sectionOf, sectionAt, documentIn, documentOf}
-use Rattle.doc.specs.Way.Found.{contentIn, lineIn, linesBehind, Located, Finds}
+use Rattle.doc.specs.Way.Found.{contentIn, lineIn, linesBehind, Located, FindsLine}
 use Rattle.doc.specs.declared.Found.{Found}
 use Rattle.cross_rules.specs.Way.Nth.{writesAt, writesPart, nthLine}
 
@@ -48,7 +48,7 @@ nth-none : (part i : ℕ) → nthLine part i [] ≡ 0
 unfolding nthLine
 nth-none part i = refl
 
-module _ (t : List ℕ) (part index left at n p : ℕ) (inv : CountLeft t part index left at n p) (line : Found) (finds : Finds t n at line) where
+module _ (t : List ℕ) (part index left at n p : ℕ) (inv : CountLeft t part index left at n p) (line : Found) (finds : FindsLine t n at line) where
   pub count-ends : not (line .there) ≡ true → 0 ≡ nthLine part index (significant t)
   count-ends h = sym (nth-none part left) ∙ ap (nthLine part left) (sym (finds .same-none (not-true (line .there) h) p)) ∙ inv .same
 

@@ -59,31 +59,31 @@ pinNameRules m p = 19 when isTwice (m .pins) p ∷ []
 -- ---- the lines
 
 -- a line, and the rules that it is looked at for
-pub record Looked : Type 0 where
+pub record RulesAtLine : Type 0 where
   pub line : ℕ
   pub rules : List Rule
 
 module _ (d : Document) where
-  unfoldable pub listLooked : List Looked
-  listLooked = map (λ (n : Named). record { line = n .line; rules = listNameRules d n }) (d .listed)
+  unfoldable pub listRulesAtLines : List RulesAtLine
+  listRulesAtLines = map (λ (n : Named). record { line = n .line; rules = listNameRules d n }) (d .listed)
 
-  unfoldable pub stepLooked : Model → List Looked
-  stepLooked m = map (λ (s : Step). record { line = s .line; rules = stepRules d m s }) (m .steps)
+  unfoldable pub stepRulesAtLines : Model → List RulesAtLine
+  stepRulesAtLines m = map (λ (s : Step). record { line = s .line; rules = stepRules d m s }) (m .steps)
 
-  unfoldable pub modelLooked : List Model → List Looked
-  modelLooked [] = []
-  modelLooked (m ∷ ms) = record { line = m .line; rules = modelRules d m } ∷ (stepLooked m ++ modelLooked ms)
+  unfoldable pub modelRulesAtLines : List Model → List RulesAtLine
+  modelRulesAtLines [] = []
+  modelRulesAtLines (m ∷ ms) = record { line = m .line; rules = modelRules d m } ∷ (stepRulesAtLines m ++ modelRulesAtLines ms)
 
-  unfoldable pub pinLooked : Map → List Looked
-  pinLooked m = map (λ (p : Named). record { line = p .line; rules = pinNameRules m p }) (m .pins)
+  unfoldable pub pinRulesAtLines : Map → List RulesAtLine
+  pinRulesAtLines m = map (λ (p : Named). record { line = p .line; rules = pinNameRules m p }) (m .pins)
 
-  unfoldable pub mapLooked : List Map → List Looked
-  mapLooked [] = []
-  mapLooked (m ∷ ms) = record { line = m .line; rules = mapNameRules d m } ∷ (pinLooked m ++ mapLooked ms)
+  unfoldable pub mapRulesAtLines : List Map → List RulesAtLine
+  mapRulesAtLines [] = []
+  mapRulesAtLines (m ∷ ms) = record { line = m .line; rules = mapNameRules d m } ∷ (pinRulesAtLines m ++ mapRulesAtLines ms)
 
-  unfoldable pub sectionLooked : ℕ → List Section → List Looked
-  sectionLooked i [] = []
-  sectionLooked i (s ∷ ss) = record { line = s .line; rules = sectionRules d i s } ∷ sectionLooked (i + 1) ss
+  unfoldable pub sectionRulesAtLines : ℕ → List Section → List RulesAtLine
+  sectionRulesAtLines i [] = []
+  sectionRulesAtLines i (s ∷ ss) = record { line = s .line; rules = sectionRules d i s } ∷ sectionRulesAtLines (i + 1) ss
 
-  unfoldable pub looked : List Looked
-  looked = listLooked ++ (modelLooked (d .models) ++ (mapLooked (d .maps) ++ sectionLooked 0 (d .sections)))
+  unfoldable pub allRulesAtLines : List RulesAtLine
+  allRulesAtLines = listRulesAtLines ++ (modelRulesAtLines (d .models) ++ (mapRulesAtLines (d .maps) ++ sectionRulesAtLines 0 (d .sections)))

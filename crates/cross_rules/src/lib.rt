@@ -8,7 +8,7 @@ ghost use Rattle.cross_rules.specs.Way.Nth.{writesAt, nthLine};
 ghost use lib.ListN.{length, getD, drop};
 ghost use Rattle.table_layout.specs.Layout.{chopped};
 ghost use Rattle.table_name.specs.Name.{nameAt};
-ghost use Rattle.cross_rules.specs.Way.Twice.{hasAbove, Marked};
+ghost use Rattle.cross_rules.specs.Way.Twice.{hasAbove, MarkedNames};
 
 // What a line breaks of the rules 19 to 27, 0 for nothing.
 pub struct Finding {
@@ -94,7 +94,7 @@ pub fn nth_line(text: &[u8], part: usize, index: u64) -> u64
 // ---- Names that stand twice among the records of a part.
 
 // Whether a record above the one numbered `index` has its name; the part's records begin at `base`.
-pub fn is_twice(text: &[u8], table: &[u64], base: usize, width: usize, index: u64) -> bool
+pub fn is_repeated_name(text: &[u8], table: &[u64], base: usize, width: usize, index: u64) -> bool
     requires { ⌜ (base + width * index + width ≤ length (now table)) × (2 ≤ width) ⌝ }
     ensures { λ r. ⌜ r ≡ hasAbove (now (text .entry)) (nameAt (now (text .entry)) (getD (now (table .entry)) (base + width * index) 0) (getD (now (table .entry)) (base + width * index + 1) 0)) (chopped width index (drop base (now (table .entry)))) ⌝ }
 {
@@ -106,7 +106,7 @@ pub fn is_twice(text: &[u8], table: &[u64], base: usize, width: usize, index: u6
 }
 
 // The same, where the names of the records above are marked: only names of one mark are compared. Its own name is marked for those below.
-pub fn is_again(
+pub fn is_repeated_marked(
     text: &[u8],
     table: &[u64],
     marks: &mut [u8; table_name::MARKS],
@@ -115,16 +115,16 @@ pub fn is_again(
     width: usize,
     index: u64,
 ) -> bool
-    requires { ⌜ (base + width * index + width ≤ length (now table)) × (2 ≤ width) × Marked (now text) (now table) (now marks) stamp base width index ⌝ }
-    ensures { λ r. ⌜ (r ≡ hasAbove (now (text .entry)) (nameAt (now (text .entry)) (getD (now (table .entry)) (base + width * index) 0) (getD (now (table .entry)) (base + width * index + 1) 0)) (chopped width index (drop base (now (table .entry))))) × Marked (now (text .entry)) (now (table .entry)) (now (marks .exit)) stamp base width (index + 1) ⌝ }
+    requires { ⌜ (base + width * index + width ≤ length (now table)) × (2 ≤ width) × MarkedNames (now text) (now table) (now marks) stamp base width index ⌝ }
+    ensures { λ r. ⌜ (r ≡ hasAbove (now (text .entry)) (nameAt (now (text .entry)) (getD (now (table .entry)) (base + width * index) 0) (getD (now (table .entry)) (base + width * index + 1) 0)) (chopped width index (drop base (now (table .entry))))) × MarkedNames (now (text .entry)) (now (table .entry)) (now (marks .exit)) stamp base width (index + 1) ⌝ }
 {
     let at = base + width * (index as usize);
     let own = table_name::name_at(text, table[at], table[at + 1]);
-    let mark = table_name::mark_of(0, own);
+    let mark = table_name::hash_of(0, own);
     let met = marks[mark] == stamp;
     marks[mark] = stamp;
     if !met {
         return false;
     }
-    is_twice(text, table, base, width, index)
+    is_repeated_name(text, table, base, width, index)
 }

@@ -65,7 +65,7 @@ use Rattle.cross_rules.proofs.OrderLaws.{Ordered}
 use Rattle.cross_rules.proofs.TwiceLaws.{meets, clashing-above}
 use Rattle.cross_rules.proofs.TableLaws.{view-holds, part-stands, part-many}
 use Rattle.cross_steps.specs.Way.StepWords.{
-  Rooms,
+  StepRooms,
   sideAt,
   clashAt,
   meetsAt,
@@ -172,7 +172,7 @@ module _ (table : List ℕ) (v : View) (d : Document) (tells : Tells table v d) 
     next-is : (i : ℕ) → i < getD (v .counts) sections 0 → firstMatrix table v (i + 1) ≡ startOf 0 (d .sections) (suc i)
     next-is i h = ap (firstMatrix table v) (add-one i) ∙ first-is (suc i) (rw (tells .many-sections) at h)
 
-    pub rooms-of : Rooms table v
+    pub rooms-of : StepRooms table v
     rooms-of =
         record {
           map-room = inside-maps;

@@ -15,9 +15,9 @@ use Rattle.base.proofs.RunLaws.{same-equal}
 use Rattle.doc.specs.Document.{endKind}
 use Rattle.table_name.specs.Name.{nameAt}
 use Rattle.cross_steps.specs.Way.StepWords.{sideAt, clashAt, meetsAt, meetsAbove}
-use Rattle.table_name.specs.Way.Marks.{marksMany, markOf}
+use Rattle.table_name.specs.Way.Marks.{marksMany, hashOf}
 use Rattle.table_name.proofs.MarkLaws.{of-inside}
-use Rattle.cross_steps.specs.Way.Marks.{markAt, isMarked, Marked, Below}
+use Rattle.cross_steps.specs.Way.Marks.{markAt, isMarked, MarkedEnds, Below}
 use Rattle.cross_steps.specs.declared.Owner.{Owner}
 
 -- ---- the mark of a side
@@ -28,13 +28,13 @@ at-inside t table at mark is = of-inside (getD table (at + 1) 0) (sideAt t table
 
 pub mark-told :
     (t table : List ℕ) (own : ℕ) (side : List ℕ) → side ≡ nameAt t (getD table (own + 3) 0) (getD table (own + 4) 0) →
-    (r : ℕ) → r ≡ markOf (getD table (own + 1) 0) side → r ≡ markAt t table own
+    (r : ℕ) → r ≡ hashOf (getD table (own + 1) 0) side → r ≡ markAt t table own
 unfolding markAt sideAt
-mark-told t table own side e r is = is ∙ ap (markOf (getD table (own + 1) 0)) e
+mark-told t table own side e r is = is ∙ ap (hashOf (getD table (own + 1) 0)) e
 
 -- ---- an end that is not marked
 
-module _ (t table marks : List ℕ) (stamp own : ℕ) (has : getD table (own + 4) 0 ≡ 0 → ⊥) (bare : ℕ) (is-bare : bare ≡ markOf (getD table (own + 1) 0) []) where
+module _ (t table marks : List ℕ) (stamp own : ℕ) (has : getD table (own + 4) 0 ≡ 0 → ⊥) (bare : ℕ) (is-bare : bare ≡ hashOf (getD table (own + 1) 0) []) where
   pub bare-marked : getD marks bare 0 ≡ stamp → true ≡ isMarked t table marks stamp own
   unfolding isMarked
   bare-marked e = sym (either-rest _ _ (ne-eqb _ _ has) ∙ either-left _ _ (eq-eqb _ _ (ap (λ (m : ℕ). getD marks m 0) (sym is-bare) ∙ e)))
@@ -42,7 +42,7 @@ module _ (t table marks : List ℕ) (stamp own : ℕ) (has : getD table (own + 4
   pub own-marked : (getD marks bare 0 ≡ stamp → ⊥) → (mark : ℕ) → mark ≡ markAt t table own → eqb (getD marks mark 0) stamp ≡ isMarked t table marks stamp own
   unfolding isMarked
   own-marked n mark is =
-      let b : getD marks (markOf (getD table (own + 1) 0) []) 0 ≡ stamp → ⊥ = rw is-bare at n in
+      let b : getD marks (hashOf (getD table (own + 1) 0) []) 0 ≡ stamp → ⊥ = rw is-bare at n in
       ap (λ (m : ℕ). eqb (getD marks m 0) stamp) is ∙ sym (either-rest _ _ (ne-eqb _ _ has) ∙ either-rest _ _ (ne-eqb _ _ b))
 
 module _ (t table marks : List ℕ) (stamp own : ℕ) (free : isMarked t table marks stamp own ≡ false) where
@@ -50,7 +50,7 @@ module _ (t table marks : List ℕ) (stamp own : ℕ) (free : isMarked t table m
   unfolding isMarked
   has-side = either-none-first _ _ free
 
-  no-bare : (getD marks (markOf (getD table (own + 1) 0) []) 0 ≡ stamp) → ⊥
+  no-bare : (getD marks (hashOf (getD table (own + 1) 0) []) 0 ≡ stamp) → ⊥
   unfolding isMarked
   no-bare e = eqb-false _ _ (either-none-first _ _ (either-none-second _ _ free)) e
 
@@ -71,14 +71,14 @@ module _ (t table marks : List ℕ) (stamp own : ℕ) (free : isMarked t table m
         (λ (e : eqb (getD table (other + 4) 0) 0 ≡ false).
         let sides : sideAt t table other ≡ sideAt t table own =
         same-equal _ _ (sym (either-rest _ _ e ∙ either-rest _ _ has-side) ∙ both-second _ _ (both-second _ _ met)) in
-        no-own (ap (λ (m : ℕ). getD marks m 0) (sym (λ i. markOf (on i) (sides i))) ∙ marked end))
+        no-own (ap (λ (m : ℕ). getD marks m 0) (sym (λ i. hashOf (on i) (sides i))) ∙ marked end))
 
     none-met : meetsAt t table other own ≡ false
     none-met =
         by-cases _ (meetsAt t table other own) (λ (e : meetsAt t table other own ≡ true). absurd (never-met e))
         (λ (e : meetsAt t table other own ≡ false). e)
 
-  pub none-above : (from many : ℕ) → Marked t table marks stamp from many → meetsAbove t table own from many ≡ false
+  pub none-above : (from many : ℕ) → MarkedEnds t table marks stamp from many → meetsAbove t table own from many ≡ false
   unfolding meetsAbove
   none-above from zero marked = refl
   none-above from (suc n) marked =
@@ -96,11 +96,11 @@ module _ (t table marks : List ℕ) (stamp own : ℕ) (free : isMarked t table m
 -- ---- marking
 
 module _ (t table marks : List ℕ) (stamp from many : ℕ) where
-  pub marked-starts : length marks ≡ marksMany → Marked t table marks stamp from 0
+  pub marked-starts : length marks ≡ marksMany → MarkedEnds t table marks stamp from 0
   marked-starts long = record { whole = long; each = λ (j : ℕ) (h : j < 0). absurd (not-suc-le-zero h) }
 
-  module _ (marked : Marked t table marks stamp from many) (own : ℕ) (place : own ≡ from + 6 * many) where
-    pub marked-other : (getD table own 0 ≡ endKind → ⊥) → Marked t table marks stamp from (many + 1)
+  module _ (marked : MarkedEnds t table marks stamp from many) (own : ℕ) (place : own ≡ from + 6 * many) where
+    pub marked-other : (getD table own 0 ≡ endKind → ⊥) → MarkedEnds t table marks stamp from (many + 1)
     marked-other n =
         record {
           whole = marked .whole;
@@ -113,7 +113,7 @@ module _ (t table marks : List ℕ) (stamp from many : ℕ) where
               marked .each j (omega arith) end);
         }
 
-    pub marked-end : Marked t table (set marks (markAt t table own) stamp) stamp from (many + 1)
+    pub marked-end : MarkedEnds t table (set marks (markAt t table own) stamp) stamp from (many + 1)
     marked-end =
         let inside : markAt t table own < length marks = rw (marked .whole) (at-inside t table own _ refl) in
         record {
@@ -133,7 +133,7 @@ module _ (t table marks : List ℕ) (stamp from many : ℕ) where
 -- ---- an end that is judged
 
 module _ (t table marks : List ℕ) (o : Owner) (own above : ℕ) (below : Below t table marks o own above) (mark : ℕ) (is-mark : mark ≡ markAt t table own) where
-  pub end-marked : Marked t table (set marks mark (o .stamp)) (o .stamp) (o .from) (above + 1)
+  pub end-marked : MarkedEnds t table (set marks mark (o .stamp)) (o .stamp) (o .from) (above + 1)
   end-marked = rw is-mark (marked-end t table marks (o .stamp) (o .from) above (below .marked) own (below .place))
 
   pub none-told : (marked : Bool) → marked ≡ isMarked t table marks (o .stamp) own → not marked ≡ true → false ≡ meetsAbove t table own (o .from) above
@@ -142,5 +142,5 @@ module _ (t table marks : List ℕ) (o : Owner) (own above : ℕ) (below : Below
 -- a step that is no end has nothing to mark
 pub other-marked :
     (t table marks : List ℕ) (o : Owner) (own above : ℕ) → Below t table marks o own above → (getD table own 0 ≡ endKind → ⊥) →
-    Marked t table marks (o .stamp) (o .from) (above + 1)
+    MarkedEnds t table marks (o .stamp) (o .from) (above + 1)
 other-marked t table marks o own above below n = marked-other t table marks (o .stamp) (o .from) above (below .marked) own (below .place) n

@@ -15,7 +15,7 @@ use Rattle.base.proofs.BrokenLaws.{gives-first, gives-later}
 use Rattle.table_layout.specs.Layout.{maps, sections, matrices}
 use Rattle.table_layout.specs.declared.View.{View}
 use Rattle.cross_steps.specs.Way.StepWords.{
-  Rooms,
+  StepRooms,
   meetsAbove,
   pinsOf,
   differsFrom,
@@ -52,7 +52,7 @@ module _ (table : List ℕ) (v : View) (i : ℕ) where
     pub first-least : word - 1 ≡ firstMatrix table v i
     first-least = first-word
 
-module _ (table : List ℕ) (v : View) (rooms : Rooms table v) (i : ℕ) (h : i < getD (v .counts) sections 0) (first : ℕ) (is-first : first ≡ firstMatrix table v i) (next : ℕ) (is-next : next ≡ firstMatrix table v (i + 1)) where
+module _ (table : List ℕ) (v : View) (rooms : StepRooms table v) (i : ℕ) (h : i < getD (v .counts) sections 0) (first : ℕ) (is-first : first ≡ firstMatrix table v i) (next : ℕ) (is-next : next ≡ firstMatrix table v (i + 1)) where
   pub forms-ordered : first ≤ next
   forms-ordered = rw (is-first, is-next) (rooms .ordered i h)
 

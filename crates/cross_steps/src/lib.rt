@@ -3,8 +3,8 @@ ghost use mathlib.Core.Path.{_≡_};
 ghost use Prim.Native.Nat.{_+_, _*_, _≤_, _<_};
 ghost use lib.ListN.{length, getD};
 ghost use Rattle.table_layout.specs.Layout.{maps, sections};
-ghost use Rattle.cross_steps.specs.Way.StepWords.{Rooms, clashAt, meetsAt, meetsAbove, firstTarget, pinsOf, differsFrom, lesserOf, leastAt, firstMatrix, otherIn, otherForm, kindBroken, wrongMethod, endRuleAt, sectionRuleAt, stepRuleAt};
-ghost use Rattle.cross_steps.specs.Way.Marks.{markAt, isMarked, Marked, Below, Judged};
+ghost use Rattle.cross_steps.specs.Way.StepWords.{StepRooms, clashAt, meetsAt, meetsAbove, firstTarget, pinsOf, differsFrom, lesserOf, leastAt, firstMatrix, otherIn, otherForm, kindBroken, wrongMethod, endRuleAt, sectionRuleAt, stepRuleAt};
+ghost use Rattle.cross_steps.specs.Way.Marks.{markAt, isMarked, MarkedEnds, Below, Judged};
 use table_layout::View;
 
 // "kind 0 end 1 section 2 fork 3 endfork".
@@ -110,7 +110,7 @@ fn mark_at(text: &[u8], table: &[u64], own: usize) -> usize
     ensures { λ r. ⌜ r ≡ markAt (now (text .entry)) (now (table .entry)) own ⌝ }
 {
     let side = table_name::name_at(text, table[own + 3], table[own + 4]);
-    table_name::mark_of(table[own + 1], side)
+    table_name::hash_of(table[own + 1], side)
 }
 
 // An end may clash with one that is marked. If it may not, no comparison is needed.
@@ -128,7 +128,7 @@ fn is_marked(
     if table[own + 4] == 0 {
         return true;
     }
-    let bare = table_name::mark_of(table[own + 1], b"");
+    let bare = table_name::hash_of(table[own + 1], b"");
     if marks[bare] == stamp {
         return true;
     }
@@ -145,7 +145,7 @@ fn is_met(
     above: u64,
 ) -> bool
     requires { ⌜ Below (now text) (now table) (now marks) owner own above ⌝ }
-    ensures { λ r. ⌜ (r ≡ meetsAbove (now (text .entry)) (now (table .entry)) own (owner .from) above) × Marked (now (text .entry)) (now (table .entry)) (now (marks .exit)) (owner .stamp) (owner .from) (above + 1) ⌝ }
+    ensures { λ r. ⌜ (r ≡ meetsAbove (now (text .entry)) (now (table .entry)) own (owner .from) above) × MarkedEnds (now (text .entry)) (now (table .entry)) (now (marks .exit)) (owner .stamp) (owner .from) (above + 1) ⌝ }
 {
     let stamp = owner.stamp;
     let mark = mark_at(text, table, own);
@@ -177,7 +177,7 @@ pub fn first_target(table: &[u64], none: u64, from: usize, count: u64) -> u64
 }
 
 fn pins_of(table: &[u64], view: View, index: u64) -> u64
-    requires { ⌜ Rooms (now table) view × (index < getD (view .counts) maps 0) ⌝ }
+    requires { ⌜ StepRooms (now table) view × (index < getD (view .counts) maps 0) ⌝ }
     ensures { λ r. ⌜ r ≡ pinsOf (now (table .entry)) view index ⌝ }
 {
     let bases = view.bases;
@@ -186,7 +186,7 @@ fn pins_of(table: &[u64], view: View, index: u64) -> u64
 
 // So many pins or conductors differ from the pins of the first map. Where that is not found nothing differs.
 fn differs(table: &[u64], view: View, first: u64, many: u64) -> bool
-    requires { ⌜ Rooms (now table) view ⌝ }
+    requires { ⌜ StepRooms (now table) view ⌝ }
     ensures { λ r. ⌜ r ≡ differsFrom (now (table .entry)) view first many ⌝ }
 {
     let counts = view.counts;
@@ -227,7 +227,7 @@ fn least(table: &[u64], at: usize) -> u64
 
 // The first matrix of a section: a section's matrices stand one behind the other, in front of those of the next.
 fn first_matrix(table: &[u64], view: View, index: u64) -> u64
-    requires { ⌜ Rooms (now table) view ⌝ }
+    requires { ⌜ StepRooms (now table) view ⌝ }
     ensures { λ r. ⌜ r ≡ firstMatrix (now (table .entry)) view index ⌝ }
 {
     let bases = view.bases;
@@ -263,7 +263,7 @@ fn is_other_in(table: &[u64], from: usize, count: u64) -> bool
 }
 
 fn has_other_form(table: &[u64], view: View, index: u64) -> bool
-    requires { ⌜ Rooms (now table) view × (index < getD (view .counts) sections 0) ⌝ }
+    requires { ⌜ StepRooms (now table) view × (index < getD (view .counts) sections 0) ⌝ }
     ensures { λ r. ⌜ r ≡ otherForm (now (table .entry)) view index ⌝ }
 {
     let bases = view.bases;
@@ -278,7 +278,7 @@ fn has_other_form(table: &[u64], view: View, index: u64) -> bool
 
 // Of a single-line model.
 fn is_kind_broken(table: &[u64], view: View, kind: u64, index: u64) -> bool
-    requires { ⌜ Rooms (now table) view × (index < getD (view .counts) sections 0) ⌝ }
+    requires { ⌜ StepRooms (now table) view × (index < getD (view .counts) sections 0) ⌝ }
     ensures { λ r. ⌜ r ≡ kindBroken (now (table .entry)) view kind index ⌝ }
 {
     if MLM <= kind {
@@ -309,7 +309,7 @@ fn end_rule(
     own: usize,
     above: u64,
 ) -> u64
-    requires { ⌜ Rooms (now table) view × Below (now text) (now table) (now marks) owner own above ⌝ }
+    requires { ⌜ StepRooms (now table) view × Below (now text) (now table) (now marks) owner own above ⌝ }
     ensures { λ r. ⌜ Judged (now (text .entry)) (now (table .entry)) (now (marks .exit)) owner above (endRuleAt (now (text .entry)) (now (table .entry)) view owner own above) r ⌝ }
 {
     let counts = view.counts;
@@ -328,7 +328,7 @@ fn end_rule(
 }
 
 fn section_rule(table: &[u64], view: View, owner: Owner, own: usize, mult: bool) -> u64
-    requires { ⌜ Rooms (now table) view × (own + 6 ≤ length (now table)) ⌝ }
+    requires { ⌜ StepRooms (now table) view × (own + 6 ≤ length (now table)) ⌝ }
     ensures { λ r. ⌜ r ≡ sectionRuleAt (now (table .entry)) view owner own mult ⌝ }
 {
     let bases = view.bases;
@@ -361,7 +361,7 @@ pub fn step_rule(
     above: u64,
     mult: bool,
 ) -> u64
-    requires { ⌜ Rooms (now table) view × Below (now text) (now table) (now marks) owner own above ⌝ }
+    requires { ⌜ StepRooms (now table) view × Below (now text) (now table) (now marks) owner own above ⌝ }
     ensures { λ r. ⌜ Judged (now (text .entry)) (now (table .entry)) (now (marks .exit)) owner above (stepRuleAt (now (text .entry)) (now (table .entry)) view owner own above mult) r ⌝ }
 {
     let kind = table[own];

@@ -31,7 +31,7 @@ use Rattle.lex_keyword.specs.Names.{row, bandwidth, endIcmSection, derivationMe
 use Rattle.line_place.specs.Place.{
   dead,
   opensMatrix,
-  keepsMatrix,
+  isRowOrBandwidth,
   moved,
   movedByLine,
   isText,
@@ -144,12 +144,12 @@ module _ (k : ℕ) (argument : List ℕ) (s : State) (kept : keywordRule k argum
     unfolding isShapeBroken
     matrix-kept = sym (if-true _ _ (eq-eqb _ _ p)) ∙ keyword-shaped
 
-    module _ (keeps : keepsMatrix k ≡ true) where
+    module _ (keeps : isRowOrBandwidth k ≡ true) where
       inside-kept : isWrongInMatrix k (wholeOf argument .value) (s .matrix) ≡ false
       unfolding isMatrixBroken
       inside-kept = sym (if-true _ _ keeps) ∙ matrix-kept
 
-    module _ (closes : keepsMatrix k ≡ false) where
+    module _ (closes : isRowOrBandwidth k ≡ false) where
       shape-kept : isWrongShape (s .matrix) (s .section .conductors) (s .counts .values) ≡ false
       unfolding isMatrixBroken
       shape-kept = sym (if-false _ _ closes) ∙ matrix-kept
@@ -170,7 +170,7 @@ module _ (argument : List ℕ) (s : State) (kept : keywordRule row argument s �
   row-within = not-false _ (keyword-bounds row argument s kept)
 
   row-right : isWrongRow (wholeOf argument .value) (s .matrix) ≡ false
-  unfolding isWrongInMatrix keepsMatrix either if_then_else_
+  unfolding isWrongInMatrix isRowOrBandwidth either if_then_else_
   row-right = inside-kept row argument s kept p refl
 
   pub row-follows : Follows (s .matrix) (wholeOf argument .value)
@@ -186,7 +186,7 @@ module _ (argument : List ℕ) (s : State) (kept : keywordRule bandwidth argumen
   width-most = ltb-false _ _ (keyword-bounds bandwidth argument s kept)
 
   width-right : isWrongBandwidth (s .matrix) ≡ false
-  unfolding isWrongInMatrix keepsMatrix either if_then_else_
+  unfolding isWrongInMatrix isRowOrBandwidth either if_then_else_
   width-right = inside-kept bandwidth argument s kept p refl
 
   pub width-widens : Widens (s .matrix) (wholeOf argument .value)
@@ -221,14 +221,14 @@ pub row-onward :
     (argument : List ℕ) (s : State) → s .place ≡ place.matrix →
     Onward (keywordNext row argument s) (s .section .conductors) (withRow (wholeOf argument .value) (s .matrix) (s .counts .values))
     (s .counts .values)
-unfolding keywordNext moved leadsInMatrix sectionAfter conductorsAfter matrixAfter countsAfter keepsMatrix opensMatrix either if_then_else_
+unfolding keywordNext moved leadsInMatrix sectionAfter conductorsAfter matrixAfter countsAfter isRowOrBandwidth opensMatrix either if_then_else_
 row-onward argument s p = record { place = rw p; conductors = rw p; matrix = refl; values = refl }
 
 pub width-onward :
     (argument : List ℕ) (s : State) → s .place ≡ place.matrix →
     Onward (keywordNext bandwidth argument s) (s .section .conductors) (withBandwidth (wholeOf argument .value) (s .matrix))
     (s .counts .values)
-unfolding keywordNext moved leadsInMatrix sectionAfter conductorsAfter matrixAfter countsAfter keepsMatrix opensMatrix either if_then_else_
+unfolding keywordNext moved leadsInMatrix sectionAfter conductorsAfter matrixAfter countsAfter isRowOrBandwidth opensMatrix either if_then_else_
 width-onward argument s p = record { place = rw p; conductors = rw p; matrix = refl; values = refl }
 
 -- a keyword that opens a matrix is none of the others
@@ -335,7 +335,7 @@ matrix-else k (SectionKey.opens h) = MatrixKey.opens h
 matrix-else k (SectionKey.leaves h) = MatrixKey.leaves h
 
 pub matrix-key : (k : ℕ) → (leadsInMatrix k ≡ dead → ⊥) → MatrixKey k
-unfolding leadsInMatrix keepsMatrix
+unfolding leadsInMatrix isRowOrBandwidth
 matrix-key k h =
     by-cases (MatrixKey k) (eqb k row) (λ (e : eqb k row ≡ true). isRow (eqb-true _ _ e))
     (λ (e : eqb k row ≡ false).
@@ -355,5 +355,5 @@ section-leads k argument s kept p e = keyword-leads k argument s kept (rw p e)
 
 -- [End ICM Section] leads out of the section
 pub end-leads : (argument : List ℕ) (s : State) → s .place ≡ place.matrix → keywordNext endIcmSection argument s .place ≡ place.after
-unfolding keywordNext moved leadsInMatrix leadsInSection keepsMatrix opensMatrix either if_then_else_
+unfolding keywordNext moved leadsInMatrix leadsInSection isRowOrBandwidth opensMatrix either if_then_else_
 end-leads argument s p = rw p

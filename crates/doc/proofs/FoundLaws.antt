@@ -22,7 +22,7 @@ use Rattle.lex_keyword.specs.Bracket.{bracketOf}
 use Rattle.lex_keyword.specs.declared.Bracket.{Bracket}
 use Rattle.read_line.specs.Reading.{commentByte}
 use Rattle.doc.specs.Lines.{Line, plain, linesFrom, linesAt, placeAfter, keyIn, argumentIn, keyAt}
-use Rattle.doc.specs.Way.Found.{contentIn, lineIn, linesBehind, Located, Finds}
+use Rattle.doc.specs.Way.Found.{contentIn, lineIn, linesBehind, Located, FindsLine}
 use Rattle.doc.specs.declared.Found.{Found}
 use Rattle.doc.proofs.Goes.{lines-blank, lines-said, lines-none}
 
@@ -107,7 +107,7 @@ pub search-starts : (t : List ℕ) (n at : ℕ) → at ≤ length t → n ≤ at
 search-starts t n at h k = record { within = h; counted = k; behind = omega arith; same = λ (p : ℕ). refl }
 
 module _ (t : List ℕ) (n₀ at₀ n at : ℕ) (on : Onward t n₀ at₀ n at) where
-  pub search-ends : length t ≤ at → Finds t n₀ at₀ (record { there = false; line = n; at = at; end = at; next = at; key = 41; argument = 0 })
+  pub search-ends : length t ≤ at → FindsLine t n₀ at₀ (record { there = false; line = n; at = at; end = at; next = at; key = 41; argument = 0 })
   search-ends h =
       record {
         located = λ (e : false ≡ true). absurd (true≢false (sym e));
@@ -131,7 +131,7 @@ module _ (t : List ℕ) (n₀ at₀ n at : ℕ) (on : Onward t n₀ at₀ n at) 
 
     pub search-finds :
         not blank ≡ true → (bracket : Bracket) → bracket ≡ bracketOf (take (ends .content - at) (drop at t)) → (key : ℕ) → key ≡ keyIn bracket → (argument : ℕ) → argument ≡ argumentIn bracket →
-        Finds t n₀ at₀ (record { there = true; line = n; at = at; end = ends .content; next = ends .next; key = key; argument = argument })
+        FindsLine t n₀ at₀ (record { there = true; line = n; at = at; end = ends .content; next = ends .next; key = key; argument = argument })
     unfolding keyAt
     search-finds b bracket is-bracket key is-key argument is-argument =
         record {

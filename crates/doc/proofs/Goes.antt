@@ -25,7 +25,7 @@ use Rattle.line_keyword.specs.declared.Counts.{Counts}
 use Rattle.line_keyword.specs.declared.State.{State}
 use Rattle.read_line.specs.Reading.{lineRule, lineNext, argumentFrom, goes, breaks, judged, lineStep, keywordStep, bracketStep, beforeStep, lineResult, onward, readFrom, atEnd, readingOf, commentByte}
 use Rattle.read_line.proofs.OutsideLaws.{Met}
-use Rattle.read_line.specs.declared.Step.{Step}
+use Rattle.read_line.specs.declared.LineResult.{LineResult}
 use Rattle.read_line.specs.declared.Reading.{Reading}
 use Rattle.read_line.specs.declared.Reading.the-variants.{Read, Refused}
 use Rattle.doc.specs.Lines.{Line, plain, keyIn, argumentIn, keyAt, placeAfter, linesFrom, linesAt, significant, keyOf, argumentOf}
@@ -76,11 +76,11 @@ unfolding judged breaks
 judged-zero k next s =
     by-cases (judged k next s .rule ≡ 0 → k ≡ 0) (eqb k 0)
     (λ (e : eqb k 0 ≡ true) (h : judged k next s .rule ≡ 0). eqb-true _ _ e)
-    (λ (e : eqb k 0 ≡ false) (h : judged k next s .rule ≡ 0). ap (λ (x : Step). x .rule) (sym (if-false (goes next) (breaks k s) e)) ∙ h)
+    (λ (e : eqb k 0 ≡ false) (h : judged k next s .rule ≡ 0). ap (λ (x : LineResult). x .rule) (sym (if-false (goes next) (breaks k s) e)) ∙ h)
 
 judged-next : (k : ℕ) (next s : State) → k ≡ 0 → judged k next s .state ≡ next
 unfolding judged goes
-judged-next k next s e = ap (λ (x : Step). x .state) (if-true (goes next) (breaks k s) (eq-eqb _ _ e))
+judged-next k next s e = ap (λ (x : LineResult). x .state) (if-true (goes next) (breaks k s) (eq-eqb _ _ e))
 
 module _ (l : Line) (s : State) where
   module _ (k start : ℕ) (b : bracketOf (l .content) ≡ Keyword k start) where
@@ -106,14 +106,14 @@ module _ (l : Line) (s : State) where
           next = keywordNext (keyOf l) (argumentOf l .text) s;
           moves = keyed key-keyed r;
           met = rw key-is met;
-          is-next = ap (λ (x : Step). x .state) e ∙ judged-next _ _ _ z ∙ (λ i. keywordNext (sym key-is i) (sym argument-is i) s);
+          is-next = ap (λ (x : LineResult). x .state) e ∙ judged-next _ _ _ z ∙ (λ i. keywordNext (sym key-is i) (sym argument-is i) s);
         }
 
   by-line : keyOf l ≡ plain → lineStep (l .content) s .rule ≡ 0 → lineResult (l .content) s ≡ lineStep (l .content) s → Moved l s
   unfolding lineStep
   by-line k h e =
       let z : lineRule (l .content) s ≡ 0 = judged-zero _ _ _ h in
-      record { next = lineNext (l .content) s; moves = plainly k z; met = tt; is-next = ap (λ (x : Step). x .state) e ∙ judged-next _ _ _ z }
+      record { next = lineNext (l .content) s; moves = plainly k z; met = tt; is-next = ap (λ (x : LineResult). x .state) e ∙ judged-next _ _ _ z }
 
   -- by what its bracket says, in a place that reads lines
   read-moved : ((k : ℕ) → Met k s) → (b : Bracket) → bracketOf (l .content) ≡ b → lineResult (l .content) s ≡ bracketStep b (l .content) s → bracketStep b (l .content) s .rule ≡ 0 → Moved l s
@@ -121,8 +121,8 @@ module _ (l : Line) (s : State) where
   read-moved met Plain b e h = by-line (ap keyIn b) h e
   read-moved met Indented b e h =
       by-cases (Moved l s) (isText (s .place))
-      (λ (t : isText (s .place) ≡ true). let x : bracketStep Indented (l .content) s ≡ lineStep (l .content) s = if-true _ _ t in by-line (ap keyIn b) (ap (λ (y : Step). y .rule) (sym x) ∙ h) (e ∙ x))
-      (λ (t : isText (s .place) ≡ false). let x : bracketStep Indented (l .content) s ≡ breaks 6 s = if-false _ _ t in let z : _≡_ {A = ℕ} 6 0 = ap (λ (y : Step). y .rule) (sym x) ∙ h in absurd (omega arith))
+      (λ (t : isText (s .place) ≡ true). let x : bracketStep Indented (l .content) s ≡ lineStep (l .content) s = if-true _ _ t in by-line (ap keyIn b) (ap (λ (y : LineResult). y .rule) (sym x) ∙ h) (e ∙ x))
+      (λ (t : isText (s .place) ≡ false). let x : bracketStep Indented (l .content) s ≡ breaks 6 s = if-false _ _ t in let z : _≡_ {A = ℕ} 6 0 = ap (λ (y : LineResult). y .rule) (sym x) ∙ h in absurd (omega arith))
   read-moved met Bad b e h = absurd (omega (arith, h))
   read-moved met Unknown b e h = absurd (omega (arith, h))
   read-moved met Later b e h = absurd (omega (arith, h))
@@ -134,7 +134,7 @@ module _ (l : Line) (s : State) where
 
   passed-over : s .place ≡ before → eqb (keyOf l) beginHeader ≡ false → lineResult (l .content) s ≡ goes s → Moved l s
   unfolding goes
-  passed-over p k e = record { next = s; moves = idle (waits p k); met = tt; is-next = ap (λ (y : Step). y .state) e }
+  passed-over p k e = record { next = s; moves = idle (waits p k); met = tt; is-next = ap (λ (y : LineResult). y .state) e }
 
   not-header : (k : ℕ) → keyOf l ≡ k → (k ≡ beginHeader → ⊥) → eqb (keyOf l) beginHeader ≡ false
   not-header k e h = ne-eqb _ _ (λ (x : keyOf l ≡ beginHeader). h (sym e ∙ x))
@@ -148,22 +148,22 @@ module _ (l : Line) (s : State) where
   early-moved Later b p e h = passed-over p (not-header 40 (ap keyIn b) (λ (x : 40 ≡ 15). omega arith)) e
   early-moved (Keyword k start) b p e h =
       by-cases (Moved l s) (eqb k beginHeader)
-      (λ (t : eqb k beginHeader ≡ true). let x : beforeStep (Keyword k start) (l .content) s ≡ keywordStep k (argumentFrom (l .content) start) s = if-true _ _ t in by-keyword k start b (early-met k (eqb-true _ _ t) p) (ap (λ (y : Step). y .rule) (sym x) ∙ h) (e ∙ x))
+      (λ (t : eqb k beginHeader ≡ true). let x : beforeStep (Keyword k start) (l .content) s ≡ keywordStep k (argumentFrom (l .content) start) s = if-true _ _ t in by-keyword k start b (early-met k (eqb-true _ _ t) p) (ap (λ (y : LineResult). y .rule) (sym x) ∙ h) (e ∙ x))
       (λ (t : eqb k beginHeader ≡ false). let x : beforeStep (Keyword k start) (l .content) s ≡ goes s = if-false _ _ t in passed-over p (not-header k (ap keyIn b) (eqb-false _ _ t)) (e ∙ x))
 
   pub line-moves : isBlankLine (l .content) ≡ false → lineResult (l .content) s .rule ≡ 0 → Moved l s
   unfolding lineResult goes
   line-moves blank h =
       by-cases (Moved l s) (eqb (s .place) done)
-      (λ (d : eqb (s .place) done ≡ true). record { next = s; moves = idle (ended (eqb-true _ _ d)); met = tt; is-next = ap (λ (y : Step). y .state) (if-false _ _ blank ∙ if-true _ _ d) })
+      (λ (d : eqb (s .place) done ≡ true). record { next = s; moves = idle (ended (eqb-true _ _ d)); met = tt; is-next = ap (λ (y : LineResult). y .state) (if-false _ _ blank ∙ if-true _ _ d) })
       (λ (d : eqb (s .place) done ≡ false).
       by-cases (Moved l s) (eqb (s .place) before)
       (λ (p : eqb (s .place) before ≡ true).
       let x : lineResult (l .content) s ≡ beforeStep (bracketOf (l .content)) (l .content) s = if-false _ _ blank ∙ if-false _ _ d ∙ if-true _ _ p in
-      early-moved (bracketOf (l .content)) refl (eqb-true _ _ p) x (ap (λ (y : Step). y .rule) (sym x) ∙ h))
+      early-moved (bracketOf (l .content)) refl (eqb-true _ _ p) x (ap (λ (y : LineResult). y .rule) (sym x) ∙ h))
       (λ (p : eqb (s .place) before ≡ false).
       let x : lineResult (l .content) s ≡ bracketStep (bracketOf (l .content)) (l .content) s = if-false _ _ blank ∙ if-false _ _ d ∙ if-false _ _ p in
-      read-moved (λ (k : ℕ). record { on = eqb-false _ _ d; first = λ (f : s .place ≡ before). absurd (eqb-false _ _ p f) }) (bracketOf (l .content)) refl x (ap (λ (y : Step). y .rule) (sym x) ∙ h)))
+      read-moved (λ (k : ℕ). record { on = eqb-false _ _ d; first = λ (f : s .place ≡ before). absurd (eqb-false _ _ p f) }) (bracketOf (l .content)) refl x (ap (λ (y : LineResult). y .rule) (sym x) ∙ h)))
 
 -- ---- places
 
@@ -232,7 +232,7 @@ end-done s c h =
 
 blank-goes : (content : List ℕ) (s : State) → isBlankLine content ≡ true → lineResult content s .state ≡ s
 unfolding lineResult goes
-blank-goes content s e = ap (λ (y : Step). y .state) (if-true _ _ e)
+blank-goes content s e = ap (λ (y : LineResult). y .state) (if-true _ _ e)
 
 -- one line more in front
 grown : (l : Line) (s : State) (m : Moved l s) (ls : List Line) (c : Counts) → l .place ≡ s .place → isBlankLine (l .content) ≡ false → Ends (m .next) ls c → Ends s (l ∷ ls) c

@@ -53,7 +53,7 @@ use Rattle.line_place.specs.Place.{
   leadsInModel,
   opensMatrix,
   leadsInSection,
-  keepsMatrix,
+  isRowOrBandwidth,
   leadsInMatrix,
   leadsAfterFamily,
   isInHeader,
@@ -141,7 +141,7 @@ either-way P b x y h k = by-test P b x y (λ (e : b ≡ true). h) (λ (e : b ≡
 module _ (P : ℕ → Type 0) (p k : ℕ) where
   -- a keyword that enters a block says so; every other place is reached by some keyword
   pub record Ways : Type 0 where
-    pub keeps : p ≡ place.matrix → keepsMatrix k ≡ true → P place.matrix
+    pub keeps : p ≡ place.matrix → isRowOrBandwidth k ≡ true → P place.matrix
     pub matrix : either (eqb p place.section) (eqb p place.matrix) ≡ true → opensMatrix k ≡ true → P place.matrix
     pub path : isInModel p ≡ true → P place.path
     pub modelText : isInModel p ≡ true → P place.modelText
@@ -172,8 +172,8 @@ module _ (P : ℕ → Type 0) (p k : ℕ) where
     matrix-way : p ≡ place.matrix → P (leadsInMatrix k)
     unfolding leadsInMatrix
     matrix-way e =
-        by-test P (keepsMatrix k) _ _ (w .keeps e)
-        (λ (n : keepsMatrix k ≡ false). section-way (either-right _ _ (eq-eqb p place.matrix e)))
+        by-test P (isRowOrBandwidth k) _ _ (w .keeps e)
+        (λ (n : isRowOrBandwidth k ≡ false). section-way (either-right _ _ (eq-eqb p place.matrix e)))
 
     model-way : isInModel p ≡ true → P (leadsInModel k)
     unfolding leadsInModel
@@ -363,7 +363,7 @@ section-entered p content out shut =
 
 -- a matrix is entered by the keyword of its kind alone, and kept by [Row] and [Bandwidth]
 pub matrix-entered :
-    (p : ℕ) (content : List ℕ) → both (eqb p place.matrix) (either (eqb (keyAt content) plain) (keepsMatrix (keyAt content))) ≡ false →
+    (p : ℕ) (content : List ℕ) → both (eqb p place.matrix) (either (eqb (keyAt content) plain) (isRowOrBandwidth (keyAt content))) ≡ false →
     both (either (eqb p place.section) (eqb p place.matrix)) (opensMatrix (keyAt content)) ≡ false →
     eqb (placeAfter p content) place.matrix ≡ false
 matrix-entered p content out shut =
@@ -506,7 +506,7 @@ strange k h =
 
 module _ (p : ℕ) (looked : Looked p) where
   pub model-stands : (moved p beginIcmModel ≡ place.dead → ⊥) → isInFamily p ≡ true
-  unfolding leadsInMatrix leadsInSection leadsInModel leadsInFamily leadsInHeader leadsAfterFamily keepsMatrix opensMatrix standsInHeader opensHeaderText either if_then_else_
+  unfolding leadsInMatrix leadsInSection leadsInModel leadsInFamily leadsInHeader leadsAfterFamily isRowOrBandwidth opensMatrix standsInHeader opensHeaderText either if_then_else_
   model-stands =
       by-place (λ (q : ℕ). (q ≡ place.dead → ⊥) → isInFamily p ≡ true) p beginIcmModel
       (record {
@@ -524,7 +524,7 @@ module _ (p : ℕ) (looked : Looked p) where
       })
 
   pub map-stands : (moved p icmPinMap ≡ place.dead → ⊥) → isInFamily p ≡ true
-  unfolding leadsInMatrix leadsInSection leadsInModel leadsInFamily leadsInHeader leadsAfterFamily keepsMatrix opensMatrix standsInHeader opensHeaderText either if_then_else_
+  unfolding leadsInMatrix leadsInSection leadsInModel leadsInFamily leadsInHeader leadsAfterFamily isRowOrBandwidth opensMatrix standsInHeader opensHeaderText either if_then_else_
   map-stands =
       by-place (λ (q : ℕ). (q ≡ place.dead → ⊥) → isInFamily p ≡ true) p icmPinMap
       (record {
@@ -542,7 +542,7 @@ module _ (p : ℕ) (looked : Looked p) where
       })
 
   pub section-stands : (moved p beginIcmSection ≡ place.dead → ⊥) → p ≡ place.after
-  unfolding leadsInMatrix leadsInSection leadsInModel leadsInFamily leadsInHeader leadsAfterFamily keepsMatrix opensMatrix standsInHeader opensHeaderText either if_then_else_
+  unfolding leadsInMatrix leadsInSection leadsInModel leadsInFamily leadsInHeader leadsAfterFamily isRowOrBandwidth opensMatrix standsInHeader opensHeaderText either if_then_else_
   section-stands =
       by-place (λ (q : ℕ). (q ≡ place.dead → ⊥) → p ≡ place.after) p beginIcmSection
       (record {

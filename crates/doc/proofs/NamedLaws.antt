@@ -35,7 +35,7 @@ use Rattle.lex_line.specs.declared.Checked.{Checked}
 use Rattle.lex_line.specs.declared.Checked.the-variants.{Fine, Refused}
 use Rattle.lex_keyword.specs.Names.{icmPinMap, beginIcmModel, beginIcmSection}
 use Rattle.lex_keyword.specs.Bracket.{bracketOf}
-use Rattle.line_place.specs.Place.{isText, isInFamily, opensMatrix, keepsMatrix}
+use Rattle.line_place.specs.Place.{isText, isInFamily, opensMatrix, isRowOrBandwidth}
 use Rattle.line_place.specs.Place as place
 use Rattle.line_argument.specs.Argument.{isOneWord, isName, takesNothing, takesName, isBadArgument, isBadInteger, isOutOfBounds}
 use Rattle.line_path.specs.Path.{
@@ -274,7 +274,7 @@ words-there a (b ∷ s) h =
 -- the argument of a keyword that takes a name is one
 module _ (k : ℕ) (argument : List ℕ) where
   bad-name : takesName k ≡ true → isBadArgument k argument ≡ not (isName argument)
-  unfolding isBadArgument keepsMatrix opensMatrix takesNothing takesName either if_then_else_
+  unfolding isBadArgument isRowOrBandwidth opensMatrix takesNothing takesName either if_then_else_
   bad-name h =
       by-cases (isBadArgument k argument ≡ not (isName argument)) (eqb k beginIcmModel)
       (λ (e : eqb k beginIcmModel ≡ true). rw (eqb-true k beginIcmModel e))

@@ -18,7 +18,7 @@ use Rattle.doc.specs.Lines.{Line, plain, argumentIn, linesAt, significan
 use Rattle.doc.specs.Document.{Map, opensMap, mapOf, mapAt, documentIn, documentOf}
 use Rattle.doc.specs.Holds.{Each}
 use Rattle.doc.specs.Holds.Each.{none, more}
-use Rattle.doc.specs.Way.Found.{lineIn, linesBehind, Located, Finds}
+use Rattle.doc.specs.Way.Found.{lineIn, linesBehind, Located, FindsLine}
 use Rattle.doc.specs.declared.Found.{Found}
 use Rattle.doc.proofs.MarkLaws.{argument-in-line}
 use Rattle.doc.proofs.StandsLaws.{each-append, each-gather, each-if, Laid, laid}
@@ -107,7 +107,7 @@ unfolding mapAt mapOf opensMap
 map-told n next k ls h hs = each-if (opensMap k) _ (λ (e : opensMap k ≡ true). h (eqb-true _ _ (both-second _ _ e)))
 
 -- of a line that was found, and has no keyword
-module _ (t : List ℕ) (before : List Line) (n at p : ℕ) (line : Found) (finds : Finds t n at line) (there : line .there ≡ true) where
+module _ (t : List ℕ) (before : List Line) (n at p : ℕ) (line : Found) (finds : FindsLine t n at line) (there : line .there ≡ true) where
   pub maps-behind : significant t ≡ before ++ linesAt t n at p → line .key ≡ plain →
       Each (λ (m : Map). leb (line .next) (m .name .start) ≡ ltb (line .line) (m .line)) (documentOf t .maps)
   unfolding documentOf documentIn keyOf linesAt

@@ -31,9 +31,9 @@ use Rattle.doc.specs.Lines.{Line, plain, linesAt, placeAfter, keyIn, key
 use Rattle.doc.specs.Document.{opensMap, mapAt, opensModel, modelAt, opensSection, sectionAt}
 use Rattle.doc.specs.Holds.{Each}
 use Rattle.doc.specs.Holds.Each.{none, more}
-use Rattle.lex_line.specs.Way.Feeds.{feedOf, feeds}
+use Rattle.lex_line.specs.Way.Feeds.{lineFeedOf, lineFeeds}
 use Rattle.lex_line.proofs.FeedLaws.{feed-one, feed-none, feeds-none, feeds-more, feeds-told}
-use Rattle.doc.specs.Way.Found.{lineIn, linesBehind, Finds, IsPlain, Plainly, PassesPlain, Meets, Amid, PassesBytes, EndsLine}
+use Rattle.doc.specs.Way.Found.{lineIn, linesBehind, FindsLine, IsPlain, Plainly, SkipsPlain, FindsKeyed, Amid, SkipsBytes, SkipsRest}
 use Rattle.doc.specs.Way.Found.Amid.{ended, amid}
 use Rattle.doc.specs.declared.Found.{Found}
 use Rattle.doc.specs.declared.Passed.{Passed}
@@ -150,7 +150,7 @@ module _ {A : Type 0} (p : ℕ) (here : Line → List Line → List A) (silent :
 
 -- ---- lines gone past
 
-pub passes-none : (t : List ℕ) (n at : ℕ) → (at ≤ length t) × (n ≤ at + 1) → PassesPlain t n at (record { at = at; line = n })
+pub passes-none : (t : List ℕ) (n at : ℕ) → (at ≤ length t) × (n ≤ at + 1) → SkipsPlain t n at (record { at = at; line = n })
 passes-none t n at (h, k) =
     record { onward = le-refl at; within = h; counted = k; lines = λ (p : ℕ) (e : p ≡ mapHead → ⊥). plainly-none p _ }
 
@@ -179,7 +179,7 @@ module _ (t : List ℕ) (at : ℕ) (h : at < length t) (other : getD t at 0 ≡ 
       (plainly-same p _ _ _ (plainly-one p _ _ (record { place-is = refl; key-is = line-plain }))
       (ap (linesAt t (n + 1) (ends .next)) (plain-stays p content line-plain head))))
 
-module _ (t : List ℕ) (n₀ at₀ n at : ℕ) (passes : PassesPlain t n₀ at₀ (record { at = at; line = n })) (h : at < length t) (next : ℕ)
+module _ (t : List ℕ) (n₀ at₀ n at : ℕ) (passes : SkipsPlain t n₀ at₀ (record { at = at; line = n })) (h : at < length t) (next : ℕ)
     (told : next ≡ pastFeed t (runEnd (isBefore 10) t at)) where
   next-is : lineAt commentByte t at .next ≡ next
   unfolding lineAt
@@ -188,7 +188,7 @@ module _ (t : List ℕ) (n₀ at₀ n at : ℕ) (passes : PassesPlain t n₀ at�
   further : at < next
   further = rw (sym next-is) (next-further t at h n (lineAt commentByte t at) refl)
 
-  passes-on : (getD t at 0 ≡ 91 → ⊥) → PassesPlain t n₀ at₀ (record { at = next; line = n + 1 })
+  passes-on : (getD t at 0 ≡ 91 → ⊥) → SkipsPlain t n₀ at₀ (record { at = next; line = n + 1 })
   passes-on other =
       let f : at < next = further in
       let a : at₀ ≤ at = passes .onward in
@@ -208,34 +208,34 @@ one-back : (t : List ℕ) (at : ℕ) → getD t (at + 1 - 1) 0 ≡ getD t at 0
 one-back t at = let e : at + 1 - 1 ≡ at = omega arith in ap (λ (k : ℕ). getD t k 0) e
 
 -- a byte of the line that starts at s
-module _ (t : List ℕ) (n₀ at₀ n s at : ℕ) (passes : PassesPlain t n₀ at₀ (record { at = s; line = n })) (h : at < length t) (within : s ≤ at)
+module _ (t : List ℕ) (n₀ at₀ n s at : ℕ) (passes : SkipsPlain t n₀ at₀ (record { at = s; line = n })) (h : at < length t) (within : s ≤ at)
     (inv : runEnd (isBefore 10) t at ≡ runEnd (isBefore 10) t s) (other : getD t s 0 ≡ 91 → ⊥) where
-  byte-ends : getD t at 0 ≡ 10 → Amid t n₀ at₀ (n + feedOf (getD t at 0)) (at + 1)
+  byte-ends : getD t at 0 ≡ 10 → Amid t n₀ at₀ (n + lineFeedOf (getD t at 0)) (at + 1)
   byte-ends e =
       let l : s < length t = omega arith in
       rw (sym (feed-one (getD t at 0) e))
       (ended (passes-on t n₀ at₀ n s passes l (at + 1) (feed-found t s at inv h e) other) (one-back t at ∙ e))
 
-  byte-inside : (getD t at 0 ≡ 10 → ⊥) → Amid t n₀ at₀ (n + feedOf (getD t at 0)) (at + 1)
+  byte-inside : (getD t at 0 ≡ 10 → ⊥) → Amid t n₀ at₀ (n + lineFeedOf (getD t at 0)) (at + 1)
   byte-inside e =
       let f : s < at + 1 = omega arith in
       let g : at + 1 ≤ length t = omega arith in
       rw (sym (feed-none (getD t at 0) e), add-zero n)
       (amid s passes f g (feed-on t s at inv h e) other (λ (k : getD t (at + 1 - 1) 0 ≡ 10). e (sym (one-back t at) ∙ k)))
 
-  pub byte-past : Amid t n₀ at₀ (n + feedOf (getD t at 0)) (at + 1)
+  pub byte-past : Amid t n₀ at₀ (n + lineFeedOf (getD t at 0)) (at + 1)
   byte-past =
       by-cases _ (eqb (getD t at 0) 10)
       (λ (e : eqb (getD t at 0) 10 ≡ true). byte-ends (eqb-true _ _ e))
       (λ (e : eqb (getD t at 0) 10 ≡ false). byte-inside (eqb-false _ _ e))
 
-amid-on : (t : List ℕ) (n₀ at₀ n at : ℕ) → at < length t → (getD t at 0 ≡ 91 → ⊥) → Amid t n₀ at₀ n at → Amid t n₀ at₀ (n + feedOf (getD t at 0)) (at + 1)
+amid-on : (t : List ℕ) (n₀ at₀ n at : ℕ) → at < length t → (getD t at 0 ≡ 91 → ⊥) → Amid t n₀ at₀ n at → Amid t n₀ at₀ (n + lineFeedOf (getD t at 0)) (at + 1)
 amid-on t n₀ at₀ n at h other (ended passes e) = byte-past t n₀ at₀ n at at passes h (le-refl at) refl other
 amid-on t n₀ at₀ n at h other (amid s passes f l inv first e) = byte-past t n₀ at₀ n s at passes h (omega arith) inv first
 
 -- so many bytes without a `[`
 amid-over : (t : List ℕ) (n₀ at₀ k n at : ℕ) → at + k ≤ length t → all (isBefore 91) (take k (drop at t)) ≡ true → Amid t n₀ at₀ n at →
-    Amid t n₀ at₀ (n + feeds (take k (drop at t))) (at + k)
+    Amid t n₀ at₀ (n + lineFeeds (take k (drop at t))) (at + k)
 amid-over t n₀ at₀ zero n at h a m = rw (feeds-none, add-zero n, add-zero at) m
 amid-over t n₀ at₀ (suc k) n at h a m =
     let l : at < length t = omega arith in
@@ -243,25 +243,25 @@ amid-over t n₀ at₀ (suc k) n at h a m =
     let d : drop at t ≡ getD t at 0 ∷ drop (at + 1) t = drop-cons t at 0 l ∙ ap (λ (i : ℕ). getD t at 0 ∷ drop i t) (sym (add-one at)) in
     let b : both (isBefore 91 (getD t at 0)) (all (isBefore 91) (take k (drop (at + 1) t))) ≡ true =
     sym (all-cons (isBefore 91) (getD t at 0) (take k (drop (at + 1) t))) ∙ ap (λ (u : List ℕ). all (isBefore 91) (take (suc k) u)) (sym d) ∙ a in
-    let r : Amid t n₀ at₀ (n + feedOf (getD t at 0) + feeds (take k (drop (at + 1) t))) (at + 1 + k) =
-    amid-over t n₀ at₀ k (n + feedOf (getD t at 0)) (at + 1) g (both-second _ _ b)
+    let r : Amid t n₀ at₀ (n + lineFeedOf (getD t at 0) + lineFeeds (take k (drop (at + 1) t))) (at + 1 + k) =
+    amid-over t n₀ at₀ k (n + lineFeedOf (getD t at 0)) (at + 1) g (both-second _ _ b)
     (amid-on t n₀ at₀ n at l (not-open (getD t at 0) (both-first _ _ b)) m) in
-    let e : n + feedOf (getD t at 0) + feeds (take k (drop (at + 1) t)) ≡ n + feeds (take (suc k) (drop at t)) =
-    add-assoc n (feedOf (getD t at 0)) (feeds (take k (drop (at + 1) t)))
+    let e : n + lineFeedOf (getD t at 0) + lineFeeds (take k (drop (at + 1) t)) ≡ n + lineFeeds (take (suc k) (drop at t)) =
+    add-assoc n (lineFeedOf (getD t at 0)) (lineFeeds (take k (drop (at + 1) t)))
     ∙ ap (λ (x : ℕ). n + x) (sym (feeds-more (getD t at 0) (take k (drop (at + 1) t))))
-    ∙ ap (λ (u : List ℕ). n + feeds (take (suc k) u)) (sym d) in
+    ∙ ap (λ (u : List ℕ). n + lineFeeds (take (suc k) u)) (sym d) in
     let q : at + 1 + k ≡ at + suc k = omega arith in
     rw (sym e, sym q) r
 
 -- ---- block by block
 
-pub bytes-none : (t : List ℕ) (n at : ℕ) → (at ≤ length t) × (n ≤ at + 1) → PassesBytes t n at (record { at = at; line = n })
+pub bytes-none : (t : List ℕ) (n at : ℕ) → (at ≤ length t) × (n ≤ at + 1) → SkipsBytes t n at (record { at = at; line = n })
 bytes-none t n at (h, k) =
     record { onward = le-refl at; within = h; counted = k; over = λ (n₀ at₀ : ℕ) (m : Amid t n₀ at₀ n at). m }
 
-pub bytes-on : (t : List ℕ) (n at count here : ℕ) → PassesBytes t n at (record { at = here; line = count }) → 16 ≤ length t - here →
-    (closed : Bool) → closed ≡ all (isBefore 91) (take 16 (drop here t)) → not closed ≡ false → (f : ℕ) → f ≡ feeds (take 16 (drop here t)) →
-    PassesBytes t n at (record { at = here + 16; line = count + f })
+pub bytes-on : (t : List ℕ) (n at count here : ℕ) → SkipsBytes t n at (record { at = here; line = count }) → 16 ≤ length t - here →
+    (closed : Bool) → closed ≡ all (isBefore 91) (take 16 (drop here t)) → not closed ≡ false → (f : ℕ) → f ≡ lineFeeds (take 16 (drop here t)) →
+    SkipsBytes t n at (record { at = here + 16; line = count + f })
 bytes-on t n at count here passes room closed told h f counted =
     let l : here + 16 ≤ length t = omega arith in
     let a : at ≤ here = passes .onward in
@@ -283,30 +283,30 @@ unfolding pastFeed
 feed-further t end = by-test (λ (n : ℕ). end ≤ n) (ltb end (length t)) _ _ (λ e. omega arith) (λ e. omega arith)
 
 module _ (t : List ℕ) (n at : ℕ) where
-  rest-past : getD t (at - 1) 0 ≡ 10 → (n₀ at₀ : ℕ) → Amid t n₀ at₀ n at → PassesPlain t n₀ at₀ (record { at = at; line = n })
+  rest-past : getD t (at - 1) 0 ≡ 10 → (n₀ at₀ : ℕ) → Amid t n₀ at₀ n at → SkipsPlain t n₀ at₀ (record { at = at; line = n })
   rest-past h n₀ at₀ (ended passes e) = passes
   rest-past h n₀ at₀ (amid s passes f l inv first e) = absurd (e h)
 
-  pub rest-none : getD t (at - 1) 0 ≡ 10 → EndsLine t n at (record { at = at; line = n })
+  pub rest-none : getD t (at - 1) 0 ≡ 10 → SkipsRest t n at (record { at = at; line = n })
   rest-none h = record { onward = le-refl at; past = rest-past h }
 
   module _ (h : getD t (at - 1) 0 ≡ 10 → ⊥) (next : ℕ) (told : next ≡ pastFeed t (runEnd (isBefore 10) t at)) where
-    line-ends : (n₀ at₀ : ℕ) → Amid t n₀ at₀ n at → PassesPlain t n₀ at₀ (record { at = next; line = n + 1 })
+    line-ends : (n₀ at₀ : ℕ) → Amid t n₀ at₀ n at → SkipsPlain t n₀ at₀ (record { at = next; line = n + 1 })
     line-ends n₀ at₀ (ended passes e) = absurd (h e)
     line-ends n₀ at₀ (amid s passes f l inv first e) =
         let g : s < length t = omega arith in
         passes-on t n₀ at₀ n s passes g next (told ∙ ap (pastFeed t) inv) first
 
-    pub rest-line : EndsLine t n at (record { at = next; line = n + 1 })
+    pub rest-line : SkipsRest t n at (record { at = next; line = n + 1 })
     rest-line = record { onward = omega (arith, told, feed-further t (runEnd (isBefore 10) t at)); past = line-ends }
 
 -- ---- line by line, and many at once
 
-module _ (t : List ℕ) (n₀ at₀ n at : ℕ) (passes : PassesPlain t n₀ at₀ (record { at = at; line = n })) (h : at < length t) (f : ℕ)
-    (is : f ≡ feedOf (getD t at 0)) where
-  module _ (mid : Passed) (bytes : PassesBytes t (n + f) (at + 1) mid) where
-    module _ (r : Passed) (ends : EndsLine t (mid .line) (mid .at) r) where
-      pub plain-on : (getD t at 0 ≡ 91 → ⊥) → PassesPlain t n₀ at₀ (record { at = r .at; line = r .line })
+module _ (t : List ℕ) (n₀ at₀ n at : ℕ) (passes : SkipsPlain t n₀ at₀ (record { at = at; line = n })) (h : at < length t) (f : ℕ)
+    (is : f ≡ lineFeedOf (getD t at 0)) where
+  module _ (mid : Passed) (bytes : SkipsBytes t (n + f) (at + 1) mid) where
+    module _ (r : Passed) (ends : SkipsRest t (mid .line) (mid .at) r) where
+      pub plain-on : (getD t at 0 ≡ 91 → ⊥) → SkipsPlain t n₀ at₀ (record { at = r .at; line = r .line })
       plain-on other =
           let m : Amid t n₀ at₀ (n + f) (at + 1) = rw is (byte-past t n₀ at₀ n at at passes h (le-refl at) refl other) in
           ends .past n₀ at₀ (bytes .over n₀ at₀ m)
@@ -317,7 +317,7 @@ module _ (t : List ℕ) (n₀ at₀ n at : ℕ) (passes : PassesPlain t n₀ at�
 -- ---- the next line behind them
 
 module _ (t : List ℕ) (n at p : ℕ) (f : Found) where
-  pub meets-found : Finds t n at f → Meets t n at p f
+  pub meets-found : FindsLine t n at f → FindsKeyed t n at p f
   meets-found finds =
       record {
         located = finds .located;
@@ -326,7 +326,7 @@ module _ (t : List ℕ) (n at p : ℕ) (f : Found) where
         same-none = λ (e : f .there ≡ false). plainly-same p _ _ _ (plainly-none p _) (finds .same-none e p);
       }
 
-  pub meets-past : (p ≡ mapHead → ⊥) → (r : Passed) → PassesPlain t n at r → Finds t (r .line) (r .at) f → Meets t n at p f
+  pub meets-past : (p ≡ mapHead → ⊥) → (r : Passed) → SkipsPlain t n at r → FindsLine t (r .line) (r .at) f → FindsKeyed t n at p f
   meets-past head r passes finds =
       record {
         located = finds .located;

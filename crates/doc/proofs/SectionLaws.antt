@@ -35,7 +35,7 @@ use Rattle.lex_keyword.specs.Names.{
   conductanceMatrix,
   capacitanceMatrix,
 }
-use Rattle.line_place.specs.Place.{opensMatrix, keepsMatrix, done, moved, leadsAfterFamily, isText, isInModel, isInFamily, isInHeader}
+use Rattle.line_place.specs.Place.{opensMatrix, isRowOrBandwidth, done, moved, leadsAfterFamily, isText, isInModel, isInFamily, isInHeader}
 use Rattle.line_place.specs.Place as place
 use Rattle.line_argument.specs.Argument.{formOf, methodOf, takesNothing, takesFreeText, takesName, isBadForm, isBadArgument}
 use Rattle.line_matrix.specs.Matrix.{newMatrix}
@@ -244,7 +244,7 @@ module _ (l : Line) (ls : List Line) (s : State) (q : l .place ≡ place.matrix)
       }
 
   rest-closed :
-      eqb (keyOf l) plain ≡ false → keepsMatrix (keyOf l) ≡ false → Kept l s →
+      eqb (keyOf l) plain ≡ false → isRowOrBandwidth (keyOf l) ≡ false → Kept l s →
       Body (s .section .conductors) (closing s) (s .counts .values) (s .matrix) (s .counts .values) (upTo inMatrix (l ∷ ls))
   rest-closed k closes kept =
       rw (up-out inMatrix l ls (matrix-left l k closes))
@@ -371,7 +371,7 @@ still-not seen k j apart h = getD-set-other seen k j true false (eqb-false j k a
 
 module _ (argument : List ℕ) (s : State) where
   begin-kinds : NoKind (keywordNext beginIcmSection argument s .seen)
-  unfolding keywordNext seenAfter keepsMatrix either if_then_else_
+  unfolding keywordNext seenAfter isRowOrBandwidth either if_then_else_
   begin-kinds = kinds-forgotten (s .seen)
 
   begin-leads : s .place ≡ place.after → keywordNext beginIcmSection argument s .place ≡ place.sectionHead
@@ -379,7 +379,7 @@ module _ (argument : List ℕ) (s : State) where
   begin-leads p = rw p
 
   method-kinds : NoKind (s .seen) → NoKind (keywordNext derivationMethod argument s .seen)
-  unfolding keywordNext seenAfter keepsMatrix either if_then_else_
+  unfolding keywordNext seenAfter isRowOrBandwidth either if_then_else_
   method-kinds h =
       record {
         resistance = still-not (s .seen) derivationMethod resistanceMatrix refl (h .resistance);
@@ -492,7 +492,7 @@ method-most argument =
     (λ e. by-test (λ (n : ℕ). n ≤ 2) _ _ _ (λ e. omega arith) (λ e. omega arith))
 
 method-told : (argument : List ℕ) → isBadArgument derivationMethod argument ≡ false → methodOf argument ≤ 1
-unfolding isBadArgument keepsMatrix opensMatrix takesNothing takesName takesFreeText isBadForm either if_then_else_
+unfolding isBadArgument isRowOrBandwidth opensMatrix takesNothing takesName takesFreeText isBadForm either if_then_else_
 method-told argument h =
     let e : methodOf argument ≡ 2 → ⊥ = eqb-false _ _ h in
     let g : methodOf argument ≤ 2 = method-most argument in

@@ -18,7 +18,7 @@ use Rattle.base.proofs.IfLaws.{
   either-false,
 }
 use Rattle.lex_keyword.specs.Names.{row, bandwidth, endIcmSection, derivationMethod}
-use Rattle.line_place.specs.Place.{opensMatrix, keepsMatrix}
+use Rattle.line_place.specs.Place.{opensMatrix, isRowOrBandwidth}
 use Rattle.line_place.specs.Place as place
 use Rattle.line_argument.specs.Argument.{formOf}
 use Rattle.line_matrix.specs.Matrix as matrix
@@ -72,11 +72,11 @@ module _ (l : Line) where
   unfolding inMatrix
   matrix-plain p k = both-true _ _ (eq-eqb _ _ p) (either-left _ _ (eq-eqb _ _ k))
 
-  pub matrix-kept : l .place ≡ place.matrix → keepsMatrix (keyOf l) ≡ true → inMatrix l ≡ true
+  pub matrix-kept : l .place ≡ place.matrix → isRowOrBandwidth (keyOf l) ≡ true → inMatrix l ≡ true
   unfolding inMatrix
   matrix-kept p k = both-true _ _ (eq-eqb _ _ p) (either-right _ _ k)
 
-  pub matrix-left : eqb (keyOf l) plain ≡ false → keepsMatrix (keyOf l) ≡ false → inMatrix l ≡ false
+  pub matrix-left : eqb (keyOf l) plain ≡ false → isRowOrBandwidth (keyOf l) ≡ false → inMatrix l ≡ false
   unfolding inMatrix
   matrix-left k h = both-not-right _ _ (either-false _ _ k h)
 
@@ -160,14 +160,14 @@ module _ (l : Line) where
   unfolding opensMatrix either
   method-opens k = ap opensMatrix k
 
-  pub row-keeps : keyOf l ≡ row → keepsMatrix (keyOf l) ≡ true
-  unfolding keepsMatrix either
-  row-keeps k = ap keepsMatrix k
+  pub row-keeps : keyOf l ≡ row → isRowOrBandwidth (keyOf l) ≡ true
+  unfolding isRowOrBandwidth either
+  row-keeps k = ap isRowOrBandwidth k
 
-  pub width-keeps : keyOf l ≡ bandwidth → keepsMatrix (keyOf l) ≡ true
-  unfolding keepsMatrix either
-  width-keeps k = ap keepsMatrix k
+  pub width-keeps : keyOf l ≡ bandwidth → isRowOrBandwidth (keyOf l) ≡ true
+  unfolding isRowOrBandwidth either
+  width-keeps k = ap isRowOrBandwidth k
 
-  pub end-closes : keyOf l ≡ endIcmSection → keepsMatrix (keyOf l) ≡ false
-  unfolding keepsMatrix either
-  end-closes k = ap keepsMatrix k
+  pub end-closes : keyOf l ≡ endIcmSection → isRowOrBandwidth (keyOf l) ≡ false
+  unfolding isRowOrBandwidth either
+  end-closes k = ap isRowOrBandwidth k

@@ -27,7 +27,7 @@ use Rattle.base.proofs.IfLaws.{
 use Rattle.base.proofs.BrokenLaws.{Numbered, all-kept}
 use Rattle.lex_line.specs.Words.{words}
 use Rattle.lex_keyword.specs.Names.{row, bandwidth}
-use Rattle.line_place.specs.Place.{isText, opensMatrix, keepsMatrix}
+use Rattle.line_place.specs.Place.{isText, opensMatrix, isRowOrBandwidth}
 use Rattle.line_place.specs.Place as place
 use Rattle.line_argument.specs.Argument.{formOf}
 use Rattle.line_matrix.specs.Matrix.{
@@ -180,8 +180,8 @@ data-numbers form content =
 
 -- ---- what a line does to the count of values and to the form
 
-keeps-not-opens : (k : ℕ) → keepsMatrix k ≡ true → opensMatrix k ≡ false
-unfolding keepsMatrix opensMatrix either
+keeps-not-opens : (k : ℕ) → isRowOrBandwidth k ≡ true → opensMatrix k ≡ false
+unfolding isRowOrBandwidth opensMatrix either
 keeps-not-opens k h =
     by-cases (opensMatrix k ≡ false) (eqb k row) (λ (e : eqb k row ≡ true). rw (eqb-true k row e))
     (λ (e : eqb k row ≡ false).

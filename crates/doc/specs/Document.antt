@@ -23,7 +23,7 @@ use Rattle.lex_keyword.specs.Names.{
   conductanceMatrix,
   beginIcmSection,
 }
-use Rattle.line_place.specs.Place.{isInFamily, isInModel, opensMatrix, keepsMatrix}
+use Rattle.line_place.specs.Place.{isInFamily, isInModel, opensMatrix, isRowOrBandwidth}
 use Rattle.line_place.specs.Place as place
 use Rattle.line_argument.specs.Argument.{formOf, methodOf}
 use Rattle.line_head.specs.Head.{headLineOf, headNext, newHead}
@@ -224,7 +224,7 @@ opensMatrixAt l = both (either (eqb (l .place) place.section) (eqb (l .place) pl
 
 -- a matrix goes up to "the first keyword after the matrix that is not [Row] or [Bandwidth]"
 unfoldable pub inMatrix : Line → Bool
-inMatrix l = both (eqb (l .place) place.matrix) (either (eqb (keyOf l) plain) (keepsMatrix (keyOf l)))
+inMatrix l = both (eqb (l .place) place.matrix) (either (eqb (keyOf l) plain) (isRowOrBandwidth (keyOf l)))
 
 -- the integer after [Row] or [Bandwidth]
 unfoldable pub givenBy : Line → ℕ

@@ -9,7 +9,7 @@ ghost use Rattle.lex_line.specs.Way.LineEnds.{pastFeed};
 ghost use Rattle.lex_line.specs.Words.{wordsFrom};
 ghost use Rattle.line_keyword.specs.Way.Kept.{mostLines};
 ghost use Rattle.doc.specs.Lines.{keyIn, argumentIn, firstWord, secondWord, placeAfter, argumentOf};
-ghost use Rattle.doc.specs.Way.Found.{markOf, markAt, Finds, Located, contentIn, lineIn, PassesPlain, PassesBytes, EndsLine, Meets};
+ghost use Rattle.doc.specs.Way.Found.{markOf, markAt, FindsLine, Located, contentIn, lineIn, SkipsPlain, SkipsBytes, SkipsRest, FindsKeyed};
 use base::Class;
 use lex_keyword::Bracket;
 use lex_line::Span;
@@ -82,7 +82,7 @@ fn argument_in(bracket: Bracket) -> usize
 // The first line from a byte on that says something: blank lines and comments are passed over.
 pub fn next_line(text: &[u8], at: usize, line: u64) -> Found
     requires { ⌜ (at ≤ length (now text)) × (line ≤ at + 1) ⌝ }
-    ensures { λ r. ⌜ Finds (now (text .entry)) line at r ⌝ }
+    ensures { λ r. ⌜ FindsLine (now (text .entry)) line at r ⌝ }
 {
     let mut here = at;
     let mut line_here = line;
@@ -147,7 +147,7 @@ fn is_closed(text: &[u8], from: usize) -> bool
 // Past all blocks from a byte on that have no `[`: no line starts with one there. The last of these lines may go on behind them.
 fn past_blocks(text: &[u8], at: usize, line: u64) -> Passed
     requires { ⌜ (at ≤ length (now text)) × (line ≤ at + 1) ⌝ }
-    ensures { λ r. ⌜ PassesBytes (now (text .entry)) line at r ⌝ }
+    ensures { λ r. ⌜ SkipsBytes (now (text .entry)) line at r ⌝ }
 {
     let mut here = at;
     let mut count = line;
@@ -158,7 +158,7 @@ fn past_blocks(text: &[u8], at: usize, line: u64) -> Passed
                 line: count,
             };
         }
-        count += lex_line::feeds_in(text, here) as u64;
+        count += lex_line::line_feeds_in(text, here) as u64;
         here += BLOCK;
     }
     Passed {
@@ -170,7 +170,7 @@ fn past_blocks(text: &[u8], at: usize, line: u64) -> Passed
 // What is left of the line before a byte: nothing where that one is an LF.
 fn past_rest(text: &[u8], at: usize, line: u64) -> Passed
     requires { ⌜ (1 ≤ at) × (at ≤ length (now text)) × (line ≤ at + 1) ⌝ }
-    ensures { λ r. ⌜ EndsLine (now (text .entry)) line at r ⌝ }
+    ensures { λ r. ⌜ SkipsRest (now (text .entry)) line at r ⌝ }
 {
     if text[at - 1] == LINE_FEED {
         return Passed { at, line };
@@ -184,7 +184,7 @@ fn past_rest(text: &[u8], at: usize, line: u64) -> Passed
 // Past the lines from a byte on that do not start with `[`: none of them has a keyword. A bracket behind blanks is none either.
 pub fn past_plain(text: &[u8], at: usize, line: u64) -> Passed
     requires { ⌜ (at ≤ length (now text)) × (line ≤ at + 1) ⌝ }
-    ensures { λ r. ⌜ PassesPlain (now (text .entry)) line at r ⌝ }
+    ensures { λ r. ⌜ SkipsPlain (now (text .entry)) line at r ⌝ }
 {
     let mut here = at;
     let mut count = line;
@@ -196,7 +196,11 @@ pub fn past_plain(text: &[u8], at: usize, line: u64) -> Passed
                 line: count,
             };
         }
-        let mid = past_blocks(text, here + 1, count + (lex_line::feed_of(first) as u64));
+        let mid = past_blocks(
+            text,
+            here + 1,
+            count + (lex_line::line_feed_of(first) as u64),
+        );
         let passed = past_rest(text, mid.at, mid.line);
         here = passed.at;
         count = passed.line;
@@ -210,7 +214,7 @@ pub fn past_plain(text: &[u8], at: usize, line: u64) -> Passed
 // The next line where keywords alone are looked for. In the head of a map a line without one leads on too, so none is gone past there.
 pub fn next_keyed(text: &[u8], at: usize, line: u64, place: u64) -> Found
     requires { ⌜ (at ≤ length (now text)) × (line ≤ at + 1) ⌝ }
-    ensures { λ r. ⌜ Meets (now (text .entry)) line at place r ⌝ }
+    ensures { λ r. ⌜ FindsKeyed (now (text .entry)) line at place r ⌝ }
 {
     if place == line_place::MAP_HEAD {
         return next_line(text, at, line);

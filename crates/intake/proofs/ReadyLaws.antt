@@ -12,7 +12,7 @@ use borrow.Author.Tests.{lt-ltb, le-ltb}
 use Rattle.base.proofs.IfLaws.{if-true, if-false}
 use Rattle.table_layout.specs.Layout.{widths, maps}
 use Rattle.table_layout.specs.Way.Parts.{needed}
-use Rattle.table_layout.specs.Way.Filling.{startFilling, opened, Few}
+use Rattle.table_layout.specs.Way.Filling.{startFilling, opened, BoundedCounts}
 use Rattle.table_layout.specs.Way.Filling as filling
 use Rattle.table_layout.specs.declared.Filling.{Filling}
 use Rattle.table_layout.proofs.OpenLaws.{values-last}
@@ -42,7 +42,7 @@ use Rattle.intake.proofs.StageLaws.{stage-opened, stage-moved}
 
 module _ (t : List ℕ) (c : Counts) (reads : readingOf t ≡ reading.Read c) where
   -- no count is above the bound of values
-  pub counts-few : Few (countsOf c)
+  pub counts-few : BoundedCounts (countsOf c)
   unfolding countsOf
   counts-few = record { few = each }
     where
@@ -63,10 +63,10 @@ module _ (t : List ℕ) (c : Counts) (reads : readingOf t ≡ reading.Read c) wh
 
   -- the counts as the code has them
   module _ (many : List ℕ) (is-many : many ≡ countsOf c) where
-    pub many-few : Few many
+    pub many-few : BoundedCounts many
     many-few = rw is-many counts-few
 
-    pub open-ready : (size : ℕ) → needed widths (countsOf c) ≤ size → Few many × (needed widths many ≤ size)
+    pub open-ready : (size : ℕ) → needed widths (countsOf c) ≤ size → BoundedCounts many × (needed widths many ≤ size)
     open-ready size room = (many-few, rw is-many room)
 
     pub opened-filling : (f : Filling) → f ≡ startFilling many → f ≡ startFilling (countsOf c)

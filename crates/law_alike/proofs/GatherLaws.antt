@@ -11,7 +11,7 @@ use borrow.Author.Tests.{eq-eqb, ne-eqb, eqb-true, eqb-false}
 use Rattle.base.specs.If.{if_then_else_, both, either}
 use Rattle.base.proofs.IfLaws.{if-true, if-false, by-cases, both-first, both-second, both-true, both-not-left, both-not-right, either-left, either-right, either-false}
 use Rattle.line_place.specs.Place as place
-use Rattle.line_place.specs.Place.{opensMatrix, keepsMatrix}
+use Rattle.line_place.specs.Place.{opensMatrix, isRowOrBandwidth}
 use Rattle.doc.specs.Lines.{Line, plain, keyOf, standsIn, gather, upTo}
 use Rattle.doc.specs.Document.{opensMatrixAt, inMatrix, inSection}
 use Rattle.doc.specs.Holds.{Each}
@@ -63,7 +63,7 @@ pub body-place : (l : Line) → inMatrix l ≡ true → l .place ≡ place.matri
 unfolding inMatrix
 body-place l e = eqb-true _ _ (both-first _ _ e)
 
-pub body-key : (l : Line) → inMatrix l ≡ true → either (eqb (keyOf l) plain) (keepsMatrix (keyOf l)) ≡ true
+pub body-key : (l : Line) → inMatrix l ≡ true → either (eqb (keyOf l) plain) (isRowOrBandwidth (keyOf l)) ≡ true
 unfolding inMatrix
 body-key l e = both-second _ _ e
 

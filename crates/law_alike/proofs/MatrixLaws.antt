@@ -15,7 +15,7 @@ use Rattle.lex_number.specs.Number.{numberOf}
 use Rattle.lex_number.specs.Integer.{wholeOf}
 use Rattle.lex_number.specs.ValueWord.{zeroWord}
 use Rattle.lex_keyword.specs.Names.{row, bandwidth, derivationMethod, resistanceMatrix, inductanceMatrix, conductanceMatrix, capacitanceMatrix, beginIcmSection}
-use Rattle.line_place.specs.Place.{opensMatrix, keepsMatrix, opensHeaderText}
+use Rattle.line_place.specs.Place.{opensMatrix, isRowOrBandwidth, opensHeaderText}
 use Rattle.line_place.specs.Place as place
 use Rattle.line_argument.specs.Argument.{formOf, methodOf}
 use Rattle.line_matrix.specs.Matrix.{diagonal, sparse}
@@ -205,8 +205,8 @@ unfolding gather
 gathered here l ls = refl
 
 -- neither a line without a keyword, nor [Row], nor [Bandwidth] opens a matrix
-body-keys : (k : ℕ) → either (eqb k plain) (keepsMatrix k) ≡ true → opensMatrix k ≡ false
-unfolding opensMatrix keepsMatrix either
+body-keys : (k : ℕ) → either (eqb k plain) (isRowOrBandwidth k) ≡ true → opensMatrix k ≡ false
+unfolding opensMatrix isRowOrBandwidth either
 body-keys k e =
     by-cases _ (eqb k plain) (λ (h : eqb k plain ≡ true). ap opensMatrix (eqb-true k plain h))
     (λ (h : eqb k plain ≡ false).
@@ -242,7 +242,7 @@ opening-out l e = by-cases _ (inMatrix l) (λ (h : inMatrix l ≡ true). absurd 
 
 in-matrix-same : (l m : Line) → SameLine l m → inMatrix l ≡ inMatrix m
 unfolding inMatrix
-in-matrix-same l m s = λ i. both (eqb (s .place i) place.matrix) (either (eqb (keys-same l m s i) plain) (keepsMatrix (keys-same l m s i)))
+in-matrix-same l m s = λ i. both (eqb (s .place i) place.matrix) (either (eqb (keys-same l m s i) plain) (isRowOrBandwidth (keys-same l m s i)))
 
 bodies-same : {ls ms : List Line} → AlikeLines ls ms → All2 SameBody (upTo inMatrix ls) (upTo inMatrix ms)
 bodies-same none = rw (up-nothing inMatrix) all2-none
@@ -353,8 +353,8 @@ unfolding opensMatrix either
 opening-no-method l o e = true≢false (sym (opening-key l o) ∙ ap opensMatrix e)
 
 body-no-method : (l : Line) → inMatrix l ≡ true → keyOf l ≡ derivationMethod → ⊥
-unfolding keepsMatrix either
-body-no-method l h e = true≢false (sym (body-key l h) ∙ ap (λ (k : ℕ). either (eqb k plain) (keepsMatrix k)) e)
+unfolding isRowOrBandwidth either
+body-no-method l h e = true≢false (sym (body-key l h) ∙ ap (λ (k : ℕ). either (eqb k plain) (isRowOrBandwidth k)) e)
 
 method-body : (bs ls : List Line) → Each (λ (l : Line). inMatrix l ≡ true) bs → methodIn (bs ++ ls) ≡ methodIn ls
 method-body [] ls each-none = refl

@@ -15,7 +15,7 @@ use Rattle.lex_line.specs.Words.{words}
 use Rattle.lex_number.specs.Number.{numberOf}
 use Rattle.lex_number.specs.ValueWord.{zeroWord}
 use Rattle.lex_keyword.specs.Names.{row, bandwidth}
-use Rattle.line_place.specs.Place.{opensMatrix, keepsMatrix, done}
+use Rattle.line_place.specs.Place.{opensMatrix, isRowOrBandwidth, done}
 use Rattle.line_place.specs.Place as place
 use Rattle.line_matrix.specs.declared.Matrix as forward
 use Rattle.line_matrix.specs.Matrix.{diagonal, banded, sparse, newMatrix, withRow, withColumn, withBandwidth, shapeConductors}
@@ -490,7 +490,7 @@ module _ (l : Line) (ls : List Line) (s : State) (q : l .place ≡ place.matrix)
             (onward-body _ _ _ _ _ _ (upTo inMatrix ls) (width-onward (argumentOf l .text) s p) (r .body)));
       }
 
-  rest-closed : eqb (keyOf l) plain ≡ false → keepsMatrix (keyOf l) ≡ false → Kept l s → Rest s (l ∷ ls)
+  rest-closed : eqb (keyOf l) plain ≡ false → isRowOrBandwidth (keyOf l) ≡ false → Kept l s → Rest s (l ∷ ls)
   rest-closed k shut kept =
       record {
         conductors = shapeConductors (s .matrix) (s .counts .values);

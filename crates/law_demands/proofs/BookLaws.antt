@@ -16,7 +16,7 @@ use Rattle.base.proofs.IfLaws.{if-true, if-false, by-cases}
 use Rattle.base.proofs.BrokenLaws.{sound, Numbered, all-kept, none-broken, found-broken, first-broken, first-kept}
 use Rattle.doc.specs.Holds.{Each}
 use Rattle.doc.specs.Holds.Each.{none, more}
-use Rattle.cross_rules.specs.Listed.{Looked, Among}
+use Rattle.cross_rules.specs.Listed.{RulesAtLine, Among}
 use Rattle.cross_rules.specs.Listed.Among.{front, further}
 use Rattle.cross_rules.proofs.RisingLaws.{each-one}
 use Rattle.law_demands.specs.RuleBook.{BrokenIn, rank}
@@ -58,11 +58,11 @@ pub record Given : Type 0 where
   pub rule : ℕ
   pub line : ℕ
 
-unfoldable pub givenBy : List Looked → Given
+unfoldable pub givenBy : List RulesAtLine → Given
 givenBy [] = record { rule = 0; line = 0 }
 givenBy (x ∷ xs) = if eqb (firstBroken (x .rules)) 0 then givenBy xs else record { rule = firstBroken (x .rules); line = x .line }
 
-module _ (x : Looked) (xs : List Looked) where
+module _ (x : RulesAtLine) (xs : List RulesAtLine) where
   pub given-later : firstBroken (x .rules) ≡ 0 → givenBy (x ∷ xs) ≡ givenBy xs
   unfolding givenBy
   given-later e = if-true _ _ (eq-eqb _ _ e)
@@ -76,71 +76,71 @@ unfolding givenBy
 empty-gives = refl
 
 -- a look that finds something, or not
-by-look : (P : Type 0) (x : Looked) → (firstBroken (x .rules) ≡ 0 → P) → ((firstBroken (x .rules) ≡ 0 → ⊥) → P) → P
+by-look : (P : Type 0) (x : RulesAtLine) → (firstBroken (x .rules) ≡ 0 → P) → ((firstBroken (x .rules) ≡ 0 → ⊥) → P) → P
 by-look P x h k = by-cases P (eqb (firstBroken (x .rules)) 0) (λ (e : eqb (firstBroken (x .rules)) 0 ≡ true). h (eqb-true _ _ e)) (λ (e : eqb (firstBroken (x .rules)) 0 ≡ false). k (eqb-false _ _ e))
 
 -- ---- looks whose rules are ranked, and whose lines stand in their order
 
 -- one look stands before another: on an earlier line, line 0 last
-pub record Before (x y : Looked) : Type 0 where
+pub record Before (x y : RulesAtLine) : Type 0 where
   pub above : 0 < y .line → (0 < x .line) × (x .line < y .line)
   pub apart : x .line ≡ y .line → ⊥
 
-pub data InOrder : List Looked → Type 0 where
+pub data InOrder : List RulesAtLine → Type 0 where
   last : InOrder []
-  followed : {x : Looked} {xs : List Looked} → Each (Before x) xs → InOrder xs → InOrder (x ∷ xs)
+  followed : {x : RulesAtLine} {xs : List RulesAtLine} → Each (Before x) xs → InOrder xs → InOrder (x ∷ xs)
 
-abbrev pub AllRanked : ℕ → List Looked → Type 0
-AllRanked g looks = Each (λ (x : Looked). Ranked g (x .rules)) looks
+abbrev pub AllRanked : ℕ → List RulesAtLine → Type 0
+AllRanked g looks = Each (λ (x : RulesAtLine). Ranked g (x .rules)) looks
 
-broken-further : (x : Looked) {xs : List Looked} {number line : ℕ} → BrokenIn xs number line → BrokenIn (x ∷ xs) number line
+broken-further : (x : RulesAtLine) {xs : List RulesAtLine} {number line : ℕ} → BrokenIn xs number line → BrokenIn (x ∷ xs) number line
 broken-further x b = record { look = b .look; among = further (b .among); place = b .place; within = b .within; broken = b .broken; on-line = b .on-line; numbered = b .numbered }
 
 -- where one stands in a list with another in front
-pub data Where (x : Looked) (xs : List Looked) (y : Looked) : Type 0 where
+pub data Where (x : RulesAtLine) (xs : List RulesAtLine) (y : RulesAtLine) : Type 0 where
   at-front : y ≡ x → Where x xs y
   behind : Among y xs → Where x xs y
 
-pub where-is : {x y : Looked} {xs : List Looked} → Among y (x ∷ xs) → Where x xs y
+pub where-is : {x y : RulesAtLine} {xs : List RulesAtLine} → Among y (x ∷ xs) → Where x xs y
 where-is front = at-front refl
 where-is (further m) = behind m
 
 module _ (g : ℕ) where
   -- nothing is given where nothing is broken, and the other way round
-  kept-look : (x : Looked) → Ranked g (x .rules) → firstBroken (x .rules) ≡ 0 → (i : ℕ) → getD (x .rules) i sound .broken ≡ true → ⊥
+  kept-look : (x : RulesAtLine) → Ranked g (x .rules) → firstBroken (x .rules) ≡ 0 → (i : ℕ) → getD (x .rules) i sound .broken ≡ true → ⊥
   kept-look x r e i b = true≢false (sym b ∙ all-kept (x .rules) (r .numbered) e i)
 
-  pub given-none : (xs : List Looked) → AllRanked g xs → givenBy xs .rule ≡ 0 → (number line : ℕ) → BrokenIn xs number line → ⊥
+  pub given-none : (xs : List RulesAtLine) → AllRanked g xs → givenBy xs .rule ≡ 0 → (number line : ℕ) → BrokenIn xs number line → ⊥
   given-none xs ranked e number line b = none-look xs ranked e (b .look) (b .among) (b .place) (b .broken)
     where
-      none-look : (ys : List Looked) → AllRanked g ys → givenBy ys .rule ≡ 0 → (y : Looked) → Among y ys → (i : ℕ) → getD (y .rules) i sound .broken ≡ true → ⊥
+      none-look : (ys : List RulesAtLine) → AllRanked g ys → givenBy ys .rule ≡ 0 → (y : RulesAtLine) → Among y ys → (i : ℕ) → getD (y .rules) i sound .broken ≡ true → ⊥
       none-look (x ∷ ys) (more r rs) e y m i b =
           by-look ⊥ x
           (λ (z : firstBroken (x .rules) ≡ 0). there x ys r (λ m′. none-look ys rs (ap (λ (h : Given). h .rule) (sym (given-later x ys z)) ∙ e) y m′ i b) z (where-is m))
           (λ n. n (ap (λ (h : Given). h .rule) (sym (given-here x ys n)) ∙ e))
         where
-          there : (x : Looked) (ys : List Looked) → Ranked g (x .rules) → (Among y ys → ⊥) → firstBroken (x .rules) ≡ 0 → Where x ys y → ⊥
-          there x ys r later z (at-front q) = kept-look x r z i (ap (λ (w : Looked). getD (w .rules) i sound .broken) (sym q) ∙ b)
+          there : (x : RulesAtLine) (ys : List RulesAtLine) → Ranked g (x .rules) → (Among y ys → ⊥) → firstBroken (x .rules) ≡ 0 → Where x ys y → ⊥
+          there x ys r later z (at-front q) = kept-look x r z i (ap (λ (w : RulesAtLine). getD (w .rules) i sound .broken) (sym q) ∙ b)
           there x ys r later z (behind m′) = later m′
 
   -- what is given is broken
-  pub record Found (xs : List Looked) (number line : ℕ) : Type 0 where
+  pub record Found (xs : List RulesAtLine) (number line : ℕ) : Type 0 where
     pub found : BrokenIn xs number line
     pub earliest : (other place : ℕ) → BrokenIn xs other place → 0 < place → (0 < line) × (line ≤ place)
     pub lowest : (other : ℕ) → BrokenIn xs other line → rank g number ≤ rank g other
 
-  found-front : (x : Looked) (xs : List Looked) → (firstBroken (x .rules) ≡ 0 → ⊥) → BrokenIn (x ∷ xs) (firstBroken (x .rules)) (x .line)
+  found-front : (x : RulesAtLine) (xs : List RulesAtLine) → (firstBroken (x .rules) ≡ 0 → ⊥) → BrokenIn (x ∷ xs) (firstBroken (x .rules)) (x .line)
   found-front x xs n = by-place (found-broken (x .rules) (firstBroken (x .rules)) refl (omega arith))
     where
       by-place : ((i : ℕ) × (i < length (x .rules)) × (getD (x .rules) i sound .broken ≡ true) × (getD (x .rules) i sound .number ≡ firstBroken (x .rules))) → BrokenIn (x ∷ xs) (firstBroken (x .rules)) (x .line)
       by-place f = record { look = x; among = front; place = f .0; within = f .1; broken = f .2; on-line = refl; numbered = f .3 }
 
-  earliest-front : (x : Looked) (xs : List Looked) → Each (Before x) xs → (other place : ℕ) → BrokenIn (x ∷ xs) other place → 0 < place → (0 < x .line) × (x .line ≤ place)
+  earliest-front : (x : RulesAtLine) (xs : List RulesAtLine) → Each (Before x) xs → (other place : ℕ) → BrokenIn (x ∷ xs) other place → 0 < place → (0 < x .line) × (x .line ≤ place)
   earliest-front x xs h other place b p = there (where-is (b .among))
     where
       there : Where x xs (b .look) → (0 < x .line) × (x .line ≤ place)
       there (at-front q) =
-          let e : x .line ≡ place = ap (λ (w : Looked). w .line) (sym q) ∙ b .on-line in
+          let e : x .line ≡ place = ap (λ (w : RulesAtLine). w .line) (sym q) ∙ b .on-line in
           (omega arith, omega arith)
       there (behind m) =
           let e : b .look .line ≡ place = b .on-line in
@@ -148,7 +148,7 @@ module _ (g : ℕ) where
           let a : x .line < b .look .line = k .1 in
           (k .0, omega arith)
 
-  lowest-front : (x : Looked) (xs : List Looked) → Ranked g (x .rules) → Each (Before x) xs → (other : ℕ) → BrokenIn (x ∷ xs) other (x .line) → rank g (firstBroken (x .rules)) ≤ rank g other
+  lowest-front : (x : RulesAtLine) (xs : List RulesAtLine) → Ranked g (x .rules) → Each (Before x) xs → (other : ℕ) → BrokenIn (x ∷ xs) other (x .line) → rank g (firstBroken (x .rules)) ≤ rank g other
   lowest-front x xs r h other b = there (where-is (b .among))
     where
       there : Where x xs (b .look) → rank g (firstBroken (x .rules)) ≤ rank g other
@@ -160,7 +160,7 @@ module _ (g : ℕ) where
       there (behind m) = absurd (each-one h m .apart (sym (b .on-line)))
 
   -- where the front finds nothing, what the rest finds
-  found-behind : (x : Looked) (xs : List Looked) (number line : ℕ) → Ranked g (x .rules) → firstBroken (x .rules) ≡ 0 → Found xs number line → Found (x ∷ xs) number line
+  found-behind : (x : RulesAtLine) (xs : List RulesAtLine) (number line : ℕ) → Ranked g (x .rules) → firstBroken (x .rules) ≡ 0 → Found xs number line → Found (x ∷ xs) number line
   found-behind x xs number line r z f =
       record {
         found = broken-further x (f .found);
@@ -175,7 +175,7 @@ module _ (g : ℕ) where
           there (at-front q) = absurd (kept-look x r z (b .place) (rw q at (b .broken)))
           there (behind m) = record { look = b .look; among = m; place = b .place; within = b .within; broken = b .broken; on-line = b .on-line; numbered = b .numbered }
 
-  pub given-first : (xs : List Looked) → AllRanked g xs → InOrder xs → (givenBy xs .rule ≡ 0 → ⊥) → Found xs (givenBy xs .rule) (givenBy xs .line)
+  pub given-first : (xs : List RulesAtLine) → AllRanked g xs → InOrder xs → (givenBy xs .rule ≡ 0 → ⊥) → Found xs (givenBy xs .rule) (givenBy xs .line)
   given-first [] none last n = absurd (n empty-gives)
   given-first (x ∷ xs) (more r rs) (followed h o) n =
       by-look _ x
@@ -184,7 +184,7 @@ module _ (g : ℕ) where
       rw e (found-behind x xs (givenBy xs .rule) (givenBy xs .line) r z (given-first xs rs o (rw e at n))))
       (λ m. rw (given-here x xs m) record { found = found-front x xs m; earliest = earliest-front x xs h; lowest = lowest-front x xs r h })
 
-  pub given-some : (xs : List Looked) → AllRanked g xs → ((number line : ℕ) → BrokenIn xs number line → ⊥) → givenBy xs .rule ≡ 0
+  pub given-some : (xs : List RulesAtLine) → AllRanked g xs → ((number line : ℕ) → BrokenIn xs number line → ⊥) → givenBy xs .rule ≡ 0
   given-some [] none h = empty-gives
   given-some (x ∷ xs) (more r rs) h =
       by-look _ x

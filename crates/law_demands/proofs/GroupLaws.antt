@@ -41,13 +41,13 @@ use Rattle.line_keyword.specs.declared.Counts.{Counts}
 use Rattle.line_keyword.specs.declared.State.{State}
 use Rattle.read_line.specs.Reading as reading
 use Rattle.read_line.specs.Reading.{listRule, lineStep, keywordStep, bracketStep, beforeStep, lineResult, goes, breaks, atEnd, onward, readFrom, commentByte, argumentFrom}
-use Rattle.read_line.specs.declared.Step.{Step}
+use Rattle.read_line.specs.declared.LineResult.{LineResult}
 use Rattle.read_line.specs.declared.Reading.{Reading}
 use Rattle.read_line.specs.declared.Reading.the-variants.{Read, Refused}
 use Rattle.doc.specs.Holds.{Each}
 use Rattle.doc.specs.Holds.Each.{none, more}
-use Rattle.cross_rules.specs.Listed.{Looked}
-use Rattle.law_demands.specs.RuleBook.{sizeRules, characterRules, characterLooked, headRules, openRules, closedRules, pathRules, mapRules, pinRules, dataRules, listRules, lineRules, keywordRules, bracketRules, beforeRules, rulesOn, endOfTextRules, forwardLooked, roomRules, forward, rank}
+use Rattle.cross_rules.specs.Listed.{RulesAtLine}
+use Rattle.law_demands.specs.RuleBook.{sizeRules, characterRules, characterRulesAtLines, headRules, openRules, closedRules, pathRules, mapRules, pinRules, dataRules, listRules, lineRules, keywordRules, bracketRules, beforeRules, rulesOn, endOfTextRules, forwardRulesAtLines, roomRules, forward, rank}
 use Rattle.law_demands.proofs.BookLaws.{Ranked, Given, givenBy, given-later, given-here, Before, InOrder, last, followed, AllRanked}
 
 -- ---- the rules of a line are those of the reading
@@ -91,8 +91,8 @@ module _ (k : ℕ) (next s : State) where
   unfolding reading.judged goes breaks
   judged-number =
       by-cases _ (eqb k 0)
-      (λ (e : eqb k 0 ≡ true). ap (λ (x : Step). x .rule) (if-true _ _ e) ∙ sym (eqb-true _ _ e))
-      (λ (e : eqb k 0 ≡ false). ap (λ (x : Step). x .rule) (if-false _ _ e))
+      (λ (e : eqb k 0 ≡ true). ap (λ (x : LineResult). x .rule) (if-true _ _ e) ∙ sym (eqb-true _ _ e))
+      (λ (e : eqb k 0 ≡ false). ap (λ (x : LineResult). x .rule) (if-false _ _ e))
 
 goes-none : (s : State) → goes s .rule ≡ 0
 unfolding goes
@@ -111,7 +111,7 @@ unfolding keywordStep
 keyword-number k argument s = judged-number (keywordRule k argument s) _ s ∙ keyword-given k argument s
 
 -- a choice between steps is a choice between what their lists give
-step-chosen : (b : Bool) (x y : List Rule) (p q : Step) → p .rule ≡ firstBroken x → q .rule ≡ firstBroken y → (if b then p else q) .rule ≡ firstBroken (if b then x else y)
+step-chosen : (b : Bool) (x y : List Rule) (p q : LineResult) → p .rule ≡ firstBroken x → q .rule ≡ firstBroken y → (if b then p else q) .rule ≡ firstBroken (if b then x else y)
 unfolding if_then_else_
 step-chosen true x y p q e f = e
 step-chosen false x y p q e f = f
@@ -255,33 +255,33 @@ rules-ranked content s =
 abbrev pub checkedBy : Given → Checked
 checkedBy given = if eqb (given .rule) 0 then bytes.Fine else bytes.Refused (given .rule) (given .line)
 
-lookAt : ℕ → Raw → Looked
+lookAt : ℕ → Raw → RulesAtLine
 lookAt n l = record { line = n; rules = characterRules l }
 
-pub characters-given : (n : ℕ) (ls : List Raw) → linesRule n ls ≡ checkedBy (givenBy (characterLooked n ls))
-unfolding linesRule refusedOr rawLineRule characterLooked givenBy
+pub characters-given : (n : ℕ) (ls : List Raw) → linesRule n ls ≡ checkedBy (givenBy (characterRulesAtLines n ls))
+unfolding linesRule refusedOr rawLineRule characterRulesAtLines givenBy
 characters-given n [] = sym (if-true _ _ (eq-eqb 0 0 refl))
 characters-given n (l ∷ ls) =
     by-cases _ (eqb (firstBroken (characterRules l)) 0)
     (λ (e : eqb (firstBroken (characterRules l)) 0 ≡ true). if-true _ _ e ∙ characters-given (n + 1) ls ∙ ap checkedBy (sym (if-true _ _ e)))
     (λ (e : eqb (firstBroken (characterRules l)) 0 ≡ false). if-false _ _ e ∙ sym (if-false _ _ e) ∙ ap checkedBy (sym (if-false _ _ e)))
 
-pub characters-ranked : (n : ℕ) (ls : List Raw) → AllRanked 2 (characterLooked n ls)
-unfolding characterLooked
+pub characters-ranked : (n : ℕ) (ls : List Raw) → AllRanked 2 (characterRulesAtLines n ls)
+unfolding characterRulesAtLines
 characters-ranked n [] = none
 characters-ranked n (l ∷ ls) = more (character-ranked l) (characters-ranked (n + 1) ls)
 
 -- a look on a line before those of looks that stand from a later line on
-before-at : (n : ℕ) (rules : List Rule) (x : Looked) → 0 < n → n < x .line → Before (record { line = n; rules = rules }) x
+before-at : (n : ℕ) (rules : List Rule) (x : RulesAtLine) → 0 < n → n < x .line → Before (record { line = n; rules = rules }) x
 before-at n rules x p l = record { above = λ q. (p, l); apart = λ (e : n ≡ x .line). omega arith }
 
-characters-behind : (m : ℕ) (rules : List Rule) (n : ℕ) (ls : List Raw) → 0 < m → m < n → Each (Before (record { line = m; rules = rules })) (characterLooked n ls)
-unfolding characterLooked
+characters-behind : (m : ℕ) (rules : List Rule) (n : ℕ) (ls : List Raw) → 0 < m → m < n → Each (Before (record { line = m; rules = rules })) (characterRulesAtLines n ls)
+unfolding characterRulesAtLines
 characters-behind m rules n [] p l = none
 characters-behind m rules n (r ∷ ls) p l = more (before-at m rules _ p l) (characters-behind m rules (n + 1) ls p (omega arith))
 
-pub characters-ordered : (n : ℕ) (ls : List Raw) → 0 < n → InOrder (characterLooked n ls)
-unfolding characterLooked
+pub characters-ordered : (n : ℕ) (ls : List Raw) → 0 < n → InOrder (characterRulesAtLines n ls)
+unfolding characterRulesAtLines
 characters-ordered n [] p = last
 characters-ordered n (l ∷ ls) p = followed (characters-behind n (characterRules l) (n + 1) ls p (omega arith)) (characters-ordered (n + 1) ls (omega arith))
 
@@ -293,7 +293,7 @@ pub data Told : Reading → Given → Type 0 where
 
 -- what the end of the text breaks
 module _ (s : State) where
-  abbrev endLook : Looked
+  abbrev endLook : RulesAtLine
   endLook = record { line = 0; rules = endOfTextRules s }
 
   alone : givenBy (endLook ∷ []) ≡ (if eqb (firstBroken (endOfTextRules s)) 0 then record { rule = 0; line = 0 } else record { rule = firstBroken (endOfTextRules s); line = 0 })
@@ -327,7 +327,7 @@ module _ (s : State) where
           let g : givenBy (endLook ∷ []) ≡ record { rule = k; line = 0 } = alone ∙ if-false _ _ (ne-eqb _ _ (λ (z : firstBroken (endOfTextRules s) ≡ 0). n (sym f ∙ z))) ∙ ap (λ (m : ℕ). record { rule = m; line = 0 }) f in
           rw (e, g) (refused-at k 0 n)
 
-module _ (step : Step) (n : ℕ) (more-lines : State → Reading) where
+module _ (step : LineResult) (n : ℕ) (more-lines : State → Reading) where
   on-kept : eqb (step .rule) 0 ≡ true → onward step n more-lines ≡ more-lines (step .state)
   unfolding onward
   on-kept e = if-true _ _ e
@@ -336,20 +336,20 @@ module _ (step : Step) (n : ℕ) (more-lines : State → Reading) where
   unfolding onward
   on-broken e = if-false _ _ e
 
-pub forward-told : (n : ℕ) (ls : List Raw) (s : State) → Told (readFrom n ls s) (givenBy (forwardLooked n ls s))
-unfolding readFrom forwardLooked
+pub forward-told : (n : ℕ) (ls : List Raw) (s : State) → Told (readFrom n ls s) (givenBy (forwardRulesAtLines n ls s))
+unfolding readFrom forwardRulesAtLines
 forward-told n [] s = end-told s
 forward-told n (l ∷ ls) s =
     by-cases _ (eqb (firstBroken (rulesOn (contentOf commentByte (l .bytes)) s)) 0)
     (λ (e : eqb (firstBroken (rulesOn (contentOf commentByte (l .bytes)) s)) 0 ≡ true).
     let kept : eqb (lineResult (contentOf commentByte (l .bytes)) s .rule) 0 ≡ true = ap (λ (m : ℕ). eqb m 0) (step-number (contentOf commentByte (l .bytes)) s) ∙ e in
-    rw (on-kept (lineResult (contentOf commentByte (l .bytes)) s) n (readFrom (n + 1) ls) kept, if-true {A = List Looked} (forwardLooked (n + 1) ls (lineResult (contentOf commentByte (l .bytes)) s .state)) [] e, given-later (record { line = n; rules = rulesOn (contentOf commentByte (l .bytes)) s }) (forwardLooked (n + 1) ls (lineResult (contentOf commentByte (l .bytes)) s .state)) (eqb-true _ _ e)) (forward-told (n + 1) ls (lineResult (contentOf commentByte (l .bytes)) s .state)))
+    rw (on-kept (lineResult (contentOf commentByte (l .bytes)) s) n (readFrom (n + 1) ls) kept, if-true {A = List RulesAtLine} (forwardRulesAtLines (n + 1) ls (lineResult (contentOf commentByte (l .bytes)) s .state)) [] e, given-later (record { line = n; rules = rulesOn (contentOf commentByte (l .bytes)) s }) (forwardRulesAtLines (n + 1) ls (lineResult (contentOf commentByte (l .bytes)) s .state)) (eqb-true _ _ e)) (forward-told (n + 1) ls (lineResult (contentOf commentByte (l .bytes)) s .state)))
     (λ (e : eqb (firstBroken (rulesOn (contentOf commentByte (l .bytes)) s)) 0 ≡ false).
     let broken : eqb (lineResult (contentOf commentByte (l .bytes)) s .rule) 0 ≡ false = ap (λ (m : ℕ). eqb m 0) (step-number (contentOf commentByte (l .bytes)) s) ∙ e in
-    rw (on-broken (lineResult (contentOf commentByte (l .bytes)) s) n (readFrom (n + 1) ls) broken, given-here (record { line = n; rules = rulesOn (contentOf commentByte (l .bytes)) s }) (if eqb (firstBroken (rulesOn (contentOf commentByte (l .bytes)) s)) 0 then forwardLooked (n + 1) ls (lineResult (contentOf commentByte (l .bytes)) s .state) else []) (eqb-false _ _ e), sym (step-number (contentOf commentByte (l .bytes)) s)) (refused-at (lineResult (contentOf commentByte (l .bytes)) s .rule) n (eqb-false _ _ broken)))
+    rw (on-broken (lineResult (contentOf commentByte (l .bytes)) s) n (readFrom (n + 1) ls) broken, given-here (record { line = n; rules = rulesOn (contentOf commentByte (l .bytes)) s }) (if eqb (firstBroken (rulesOn (contentOf commentByte (l .bytes)) s)) 0 then forwardRulesAtLines (n + 1) ls (lineResult (contentOf commentByte (l .bytes)) s .state) else []) (eqb-false _ _ e), sym (step-number (contentOf commentByte (l .bytes)) s)) (refused-at (lineResult (contentOf commentByte (l .bytes)) s .rule) n (eqb-false _ _ broken)))
 
-pub forward-ranked : (n : ℕ) (ls : List Raw) (s : State) → AllRanked forward (forwardLooked n ls s)
-unfolding forwardLooked
+pub forward-ranked : (n : ℕ) (ls : List Raw) (s : State) → AllRanked forward (forwardRulesAtLines n ls s)
+unfolding forwardRulesAtLines
 forward-ranked n [] s = more (end-ranked s) none
 forward-ranked n (l ∷ ls) s =
     more (rules-ranked _ s)
@@ -359,15 +359,15 @@ forward-ranked n (l ∷ ls) s =
 before-end : (n : ℕ) (rules : List Rule) (s : State) → 0 < n → Before (record { line = n; rules = rules }) (endLook s)
 before-end n rules s p = record { above = λ (q : 0 < 0). absurd (omega arith); apart = λ (e : n ≡ 0). omega arith }
 
-forward-behind : (m : ℕ) (rules : List Rule) (n : ℕ) (ls : List Raw) (s : State) → 0 < m → m < n → Each (Before (record { line = m; rules = rules })) (forwardLooked n ls s)
-unfolding forwardLooked
+forward-behind : (m : ℕ) (rules : List Rule) (n : ℕ) (ls : List Raw) (s : State) → 0 < m → m < n → Each (Before (record { line = m; rules = rules })) (forwardRulesAtLines n ls s)
+unfolding forwardRulesAtLines
 forward-behind m rules n [] s p l = more (before-end m rules s p) none
 forward-behind m rules n (r ∷ ls) s p l =
     more (before-at m rules _ p l)
     (by-test (Each (Before (record { line = m; rules = rules }))) (eqb (firstBroken (rulesOn (contentOf commentByte (r .bytes)) s)) 0) _ _ (λ e. forward-behind m rules (n + 1) ls (lineResult (contentOf commentByte (r .bytes)) s .state) p (omega arith)) (λ e. none))
 
-pub forward-ordered : (n : ℕ) (ls : List Raw) (s : State) → 0 < n → InOrder (forwardLooked n ls s)
-unfolding forwardLooked
+pub forward-ordered : (n : ℕ) (ls : List Raw) (s : State) → 0 < n → InOrder (forwardRulesAtLines n ls s)
+unfolding forwardRulesAtLines
 forward-ordered n [] s p = followed none last
 forward-ordered n (l ∷ ls) s p =
     followed

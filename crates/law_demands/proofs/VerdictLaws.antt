@@ -33,12 +33,12 @@ use Rattle.intake.specs.declared.store.StoreAnswer.the-variants as filled
 use Rattle.cross_rules.specs.Rules.{findings, listFindings, modelFindings, mapFindings, sectionFindings, crossRule}
 use Rattle.cross_rules.specs.declared.Finding.{Finding}
 use Rattle.cross_rules.proofs.OrderLaws.{in-order}
-use Rattle.cross_rules.specs.Listed.{Looked, looked, Among}
+use Rattle.cross_rules.specs.Listed.{RulesAtLine, allRulesAtLines, Among}
 use Rattle.cross_rules.specs.Listed.Among.{front, further}
 use Rattle.cross_rules.proofs.RisingLaws.{all-least, each-one}
 use Rattle.cross_rules.proofs.FirstLaws.{Breaks, none-breaks, given-breaks, unbroken, lowest-line, lowest-number, first-found}
 use Rattle.intake.specs.Verdict.{Outcome, acceptedWith, refusedBy, crossed, afterStoring, afterBytes, verdictOf}
-use Rattle.law_demands.specs.RuleBook.{BrokenIn, Broken, First, group, rank, sizeRules, roomRules, characterLooked, forwardLooked, forward}
+use Rattle.law_demands.specs.RuleBook.{BrokenIn, Broken, First, group, rank, sizeRules, roomRules, characterRulesAtLines, forwardRulesAtLines, forward}
 use Rattle.law_demands.proofs.BookLaws.{Given, givenBy, Found, InOrder, last, followed, AllRanked, empty-gives, given-later, given-here, given-none, given-first}
 use Rattle.law_demands.proofs.GroupLaws.{checkedBy, characters-given, characters-ranked, characters-ordered, Told, read-on, refused-at, forward-told, forward-ranked, forward-ordered, size-ranked, room-ranked}
 
@@ -71,11 +71,11 @@ told-refused number line _ (refused-at _ _ n) = record { nonzero = n; is = refl 
 
 -- ---- each group
 
-abbrev NotEmpty : List Looked → Type 0
+abbrev NotEmpty : List RulesAtLine → Type 0
 NotEmpty [] = ⊥
 NotEmpty (x ∷ xs) = Unit {0}
 
-among-some : {x : Looked} {xs : List Looked} → Among x xs → NotEmpty xs
+among-some : {x : RulesAtLine} {xs : List RulesAtLine} → Among x xs → NotEmpty xs
 among-some front = tt
 among-some (further m) = tt
 
@@ -84,21 +84,21 @@ unfolding readingOf
 read-run t e = e
 
 module _ (t : List ℕ) (size : ℕ) where
-  abbrev sizeLook : Looked
+  abbrev sizeLook : RulesAtLine
   sizeLook = record { line = 0; rules = sizeRules t }
 
-  abbrev roomLook : Looked
+  abbrev roomLook : RulesAtLine
   roomLook = record { line = 0; rules = roomRules t size }
 
   size-group : group t size 1 ≡ sizeLook ∷ []
   unfolding group if_then_else_
   size-group = refl
 
-  character-group : group t size 2 ≡ characterLooked 1 (lines t)
+  character-group : group t size 2 ≡ characterRulesAtLines 1 (lines t)
   unfolding group if_then_else_
   character-group = refl
 
-  forward-group : group t size 3 ≡ forwardLooked 1 (lines t) startState
+  forward-group : group t size 3 ≡ forwardRulesAtLines 1 (lines t) startState
   unfolding group if_then_else_
   forward-group = refl
 
@@ -106,7 +106,7 @@ module _ (t : List ℕ) (size : ℕ) where
   unfolding group if_then_else_
   room-group = refl
 
-  cross-group : group t size 5 ≡ looked (documentOf t)
+  cross-group : group t size 5 ≡ allRulesAtLines (documentOf t)
   unfolding group if_then_else_
   cross-group = refl
 
@@ -137,16 +137,16 @@ module _ (t : List ℕ) (size : ℕ) where
   past-kept g h number line b = nothing-there (rw (past-group g h) at b)
 
   -- where the looks of a group give nothing, and where they give something
-  group-kept : (g : ℕ) (xs : List Looked) → group t size g ≡ xs → AllRanked g xs → givenBy xs .rule ≡ 0 → Kept g
+  group-kept : (g : ℕ) (xs : List RulesAtLine) → group t size g ≡ xs → AllRanked g xs → givenBy xs .rule ≡ 0 → Kept g
   group-kept g xs e r z number line b = given-none g xs r z number line (rw e at b)
 
-  group-found : (g : ℕ) (xs : List Looked) → group t size g ≡ xs → AllRanked g xs → InOrder xs → (number line : ℕ) → (number ≡ 0 → ⊥) → givenBy xs ≡ record { rule = number; line = line } → Found g (group t size g) number line
+  group-found : (g : ℕ) (xs : List RulesAtLine) → group t size g ≡ xs → AllRanked g xs → InOrder xs → (number line : ℕ) → (number ≡ 0 → ⊥) → givenBy xs ≡ record { rule = number; line = line } → Found g (group t size g) number line
   group-found g xs e r o number line n given = rw (e, sym (ap (λ (h : Given). h .rule) given), sym (ap (λ (h : Given). h .line) given)) (given-first g xs r o (λ (z : givenBy xs .rule ≡ 0). n (ap (λ (h : Given). h .rule) (sym given) ∙ z)))
 
   -- ---- 1
 
   module _ (number line : ℕ) (b : Bool) where
-    abbrev oneLook : Looked
+    abbrev oneLook : RulesAtLine
     oneLook = record { line = line; rules = number when b ∷ [] }
 
     one-kept : b ≡ false → givenBy (oneLook ∷ []) .rule ≡ 0
@@ -174,11 +174,11 @@ module _ (t : List ℕ) (size : ℕ) where
   -- ---- 2 to 4
 
   abbrev given2 : Given
-  given2 = givenBy (characterLooked 1 (lines t))
+  given2 = givenBy (characterRulesAtLines 1 (lines t))
 
   characters-kept : linesRule 1 (lines t) ≡ bytes.Fine → Kept 2
   characters-kept e =
-      group-kept 2 (characterLooked 1 (lines t)) character-group (characters-ranked 1 (lines t))
+      group-kept 2 (characterRulesAtLines 1 (lines t)) character-group (characters-ranked 1 (lines t))
       (by-cases _ (eqb (given2 .rule) 0)
       (λ (z : eqb (given2 .rule) 0 ≡ true). eqb-true _ _ z)
       (λ (z : eqb (given2 .rule) 0 ≡ false). absurd (fine-refused _ _ (sym e ∙ characters-given 1 (lines t) ∙ if-false _ _ z))))
@@ -189,21 +189,21 @@ module _ (t : List ℕ) (size : ℕ) where
       (λ (z : eqb (given2 .rule) 0 ≡ true). absurd (fine-refused number line (sym (if-true _ _ z) ∙ sym (characters-given 1 (lines t)) ∙ e)))
       (λ (z : eqb (given2 .rule) 0 ≡ false).
       let r : bytes.Refused (given2 .rule) (given2 .line) ≡ bytes.Refused number line = sym (if-false _ _ z) ∙ sym (characters-given 1 (lines t)) ∙ e in
-      group-found 2 (characterLooked 1 (lines t)) character-group (characters-ranked 1 (lines t)) (characters-ordered 1 (lines t) (omega arith)) number line
+      group-found 2 (characterRulesAtLines 1 (lines t)) character-group (characters-ranked 1 (lines t)) (characters-ordered 1 (lines t) (omega arith)) number line
       (λ (q : number ≡ 0). eqb-false _ _ z (ap checkedNumber r ∙ q)) (λ i. record { rule = checkedNumber (r i); line = checkedLine (r i) }))
 
   -- ---- 5 to 17
 
   abbrev given3 : Given
-  given3 = givenBy (forwardLooked 1 (lines t) startState)
+  given3 = givenBy (forwardRulesAtLines 1 (lines t) startState)
 
   forward-kept : (c : Counts) → readingOf t ≡ reading.Read c → Kept 3
-  forward-kept c e = group-kept 3 (forwardLooked 1 (lines t) startState) forward-group (forward-ranked 1 (lines t) startState) (told-read c given3 (rw (read-run t e) at (forward-told 1 (lines t) startState)))
+  forward-kept c e = group-kept 3 (forwardRulesAtLines 1 (lines t) startState) forward-group (forward-ranked 1 (lines t) startState) (told-read c given3 (rw (read-run t e) at (forward-told 1 (lines t) startState)))
 
   forward-found : (number line : ℕ) → readingOf t ≡ reading.Refused number line → Found 3 (group t size 3) number line
   forward-found number line e =
       let told : Refuses number line given3 = told-refused number line given3 (rw (read-run t e) at (forward-told 1 (lines t) startState)) in
-      group-found 3 (forwardLooked 1 (lines t) startState) forward-group (forward-ranked 1 (lines t) startState) (forward-ordered 1 (lines t) startState (omega arith)) number line (told .nonzero) (told .is)
+      group-found 3 (forwardRulesAtLines 1 (lines t) startState) forward-group (forward-ranked 1 (lines t) startState) (forward-ordered 1 (lines t) startState (omega arith)) number line (told .nonzero) (told .is)
 
   -- ---- 19 to 27
 
@@ -213,7 +213,7 @@ module _ (t : List ℕ) (size : ℕ) where
   breaks-of : {number line : ℕ} → Broken t size 5 number line → Breaks d line number
   breaks-of b = by-looks (rw cross-group at b)
     where
-      by-looks : {number line : ℕ} → BrokenIn (looked d) number line → Breaks d line number
+      by-looks : {number line : ℕ} → BrokenIn (allRulesAtLines d) number line → Breaks d line number
       by-looks c = record { look = c .look; among = c .among; place = c .place; within = c .within; broken = c .broken; on-line = c .on-line; numbered = c .numbered }
 
   broken-of : {number line : ℕ} → Breaks d line number → Broken t size 5 number line

@@ -43,7 +43,7 @@ use Rattle.line_keyword.specs.declared.State.{State}
 use Rattle.read_line.specs.Reading.{commentByte, argumentFrom, lineResult}
 use Rattle.doc.specs.Document.{documentOf}
 use Rattle.doc.specs.Records.{tableOf}
-use Rattle.cross_rules.specs.Listed.{Looked, looked, Among}
+use Rattle.cross_rules.specs.Listed.{RulesAtLine, allRulesAtLines, Among}
 
 -- ---- 1
 
@@ -56,9 +56,9 @@ abbrev pub characterRules : Raw → List Rule
 characterRules l =
     2 when not (all isPrinted (characters l)) ∷ 3 when ltb mostCharacters (length (characters l)) ∷ 4 when not (l .ended) ∷ []
 
-unfoldable pub characterLooked : ℕ → List Raw → List Looked
-characterLooked n [] = []
-characterLooked n (l ∷ ls) = record { line = n; rules = characterRules l } ∷ characterLooked (n + 1) ls
+unfoldable pub characterRulesAtLines : ℕ → List Raw → List RulesAtLine
+characterRulesAtLines n [] = []
+characterRulesAtLines n (l ∷ ls) = record { line = n; rules = characterRules l } ∷ characterRulesAtLines (n + 1) ls
 
 -- ---- 5 to 17, reading forward
 
@@ -154,12 +154,12 @@ abbrev pub endOfTextRules : State → List Rule
 endOfTextRules s = 5 when eqb (s .place) before ∷ 10 when not (eqb (s .place) done) ∷ []
 
 -- forward as long as no line breaks a rule; line 0 last
-unfoldable pub forwardLooked : ℕ → List Raw → State → List Looked
-forwardLooked n [] s = record { line = 0; rules = endOfTextRules s } ∷ []
-forwardLooked n (l ∷ ls) s =
+unfoldable pub forwardRulesAtLines : ℕ → List Raw → State → List RulesAtLine
+forwardRulesAtLines n [] s = record { line = 0; rules = endOfTextRules s } ∷ []
+forwardRulesAtLines n (l ∷ ls) s =
     record { line = n; rules = rulesOn (contentOf commentByte (l .bytes)) s }
     ∷ (if eqb (firstBroken (rulesOn (contentOf commentByte (l .bytes)) s)) 0
-    then forwardLooked (n + 1) ls (lineResult (contentOf commentByte (l .bytes)) s .state)
+    then forwardRulesAtLines (n + 1) ls (lineResult (contentOf commentByte (l .bytes)) s .state)
     else [])
 
 -- ---- 18, for a table of so many words
@@ -172,21 +172,21 @@ roomRules t size = 18 when ltb size (length (tableOf t)) ∷ []
 abbrev pub forward : ℕ
 forward = 3
 
-unfoldable pub group : List ℕ → ℕ → ℕ → List Looked
+unfoldable pub group : List ℕ → ℕ → ℕ → List RulesAtLine
 group t size g =
     if eqb g 1 then record { line = 0; rules = sizeRules t } ∷ [] else
-    if eqb g 2 then characterLooked 1 (lines t) else
-    if eqb g forward then forwardLooked 1 (lines t) startState else
+    if eqb g 2 then characterRulesAtLines 1 (lines t) else
+    if eqb g forward then forwardRulesAtLines 1 (lines t) startState else
     if eqb g 4 then record { line = 0; rules = roomRules t size } ∷ [] else
-    if eqb g 5 then looked (documentOf t) else []
+    if eqb g 5 then allRulesAtLines (documentOf t) else []
 
 -- what stands past the last rule of a list: one that is never broken
 abbrev neverBroken : Rule
 neverBroken = 0 when false
 
 -- one of these looks finds a rule of this number broken on this line
-pub record BrokenIn (looks : List Looked) (rule line : ℕ) : Type 0 where
-  pub look : Looked
+pub record BrokenIn (looks : List RulesAtLine) (rule line : ℕ) : Type 0 where
+  pub look : RulesAtLine
   pub among : Among look looks
   pub place : ℕ
   pub within : place < length (look .rules)

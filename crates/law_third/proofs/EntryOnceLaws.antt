@@ -34,7 +34,7 @@ use Rattle.lex_keyword.specs.Names.{
   treePathDescription,
   icmModelDescription,
 }
-use Rattle.line_place.specs.Place.{opensMatrix, keepsMatrix, moved, dead, isInModel, isInFamily, isInHeader}
+use Rattle.line_place.specs.Place.{opensMatrix, isRowOrBandwidth, moved, dead, isInModel, isInFamily, isInHeader}
 use Rattle.line_place.specs.Place as place
 use Rattle.line_keyword.specs.State.{startState, noneSeen}
 use Rattle.line_keyword.specs.Keywords.{isSeen, isOnce, isRepeated, isMisplaced, keywordRule, seenAfter, keywordNext}
@@ -173,12 +173,12 @@ module _ (seen : List Bool) (k : ℕ) (opens : opensMatrix k ≡ true) (long : l
 
 module _ (k : ℕ) (argument : List ℕ) (s : State) where
   -- one that keeps a matrix open is not marked
-  seen-kept : keepsMatrix k ≡ true → keywordNext k argument s .seen ≡ s .seen
+  seen-kept : isRowOrBandwidth k ≡ true → keywordNext k argument s .seen ≡ s .seen
   unfolding keywordNext seenAfter
   seen-kept e = if-true _ _ e
 
   seen-set :
-      keepsMatrix k ≡ false → eqb k beginIcmModel ≡ false → eqb k beginIcmSection ≡ false →
+      isRowOrBandwidth k ≡ false → eqb k beginIcmModel ≡ false → eqb k beginIcmSection ≡ false →
       keywordNext k argument s .seen ≡ set (s .seen) k true
   unfolding keywordNext seenAfter
   seen-set e a b = if-false _ _ e ∙ if-false _ _ a ∙ if-false _ _ b
@@ -186,8 +186,8 @@ module _ (k : ℕ) (argument : List ℕ) (s : State) where
   seen-long : length (keywordNext k argument s .seen) ≡ length (s .seen)
   unfolding keywordNext seenAfter
   seen-long =
-      by-test (λ (l : List Bool). length l ≡ length (s .seen)) (keepsMatrix k) _ _ (λ (g : keepsMatrix k ≡ true). refl)
-      (λ (g : keepsMatrix k ≡ false).
+      by-test (λ (l : List Bool). length l ≡ length (s .seen)) (isRowOrBandwidth k) _ _ (λ (g : isRowOrBandwidth k ≡ true). refl)
+      (λ (g : isRowOrBandwidth k ≡ false).
       by-test (λ (l : List Bool). length l ≡ length (s .seen)) (eqb k beginIcmModel) _ _
       (λ (e : eqb k beginIcmModel ≡ true).
       length-set (set (s .seen) treePathDescription false) icmModelDescription false ∙ length-set (s .seen) treePathDescription false)
@@ -222,7 +222,7 @@ isInside p = either (eqb p place.sectionHead) (either (eqb p place.section) (eqb
 
 -- no model and no section begins there
 none-begins : (p : ℕ) → isInside p ≡ true → (moved p beginIcmModel ≡ dead) × (moved p beginIcmSection ≡ dead)
-unfolding moved isInModel isInFamily isInHeader place.leadsInMatrix place.leadsInSection opensMatrix keepsMatrix either if_then_else_
+unfolding moved isInModel isInFamily isInHeader place.leadsInMatrix place.leadsInSection opensMatrix isRowOrBandwidth either if_then_else_
 none-begins p h =
     by-cases ((moved p beginIcmModel ≡ dead) × (moved p beginIcmSection ≡ dead)) (eqb p place.sectionHead)
     (λ (a : eqb p place.sectionHead ≡ true). at place.sectionHead (eqb-true _ _ a) (refl, refl))
@@ -262,7 +262,7 @@ module _ (l : Line) (ls : List Line) where
   module _ (s : State) (q : l .place ≡ s .place) (long : length (s .seen) ≡ 40) (i : inSection l ≡ true) where
     -- a keyword that does not break off the section
     module _ (kept : keywordRule (keyOf l) (argumentOf l .text) s ≡ 0) where
-      inside-seen : keepsMatrix (keyOf l) ≡ false → keywordNext (keyOf l) (argumentOf l .text) s .seen ≡ set (s .seen) (keyOf l) true
+      inside-seen : isRowOrBandwidth (keyOf l) ≡ false → keywordNext (keyOf l) (argumentOf l .text) s .seen ≡ set (s .seen) (keyOf l) true
       inside-seen other =
           let w : (moved (s .place) beginIcmModel ≡ dead) × (moved (s .place) beginIcmSection ≡ dead) =
           none-begins (s .place) (ap isInside (sym q) ∙ inside-place i) in
@@ -286,7 +286,7 @@ module _ (l : Line) (ls : List Line) where
 
       -- one that keeps a matrix open opens none
       fresh-keeps :
-          keepsMatrix (keyOf l) ≡ true → Fresh (s .seen) (gather matrixAt (upTo inSection ls)) →
+          isRowOrBandwidth (keyOf l) ≡ true → Fresh (s .seen) (gather matrixAt (upTo inSection ls)) →
           Fresh (s .seen) (gather matrixAt (upTo inSection (l ∷ ls)))
       fresh-keeps keeps f =
           by-cases (Fresh (s .seen) (gather matrixAt (upTo inSection (l ∷ ls)))) (opensMatrixAt l)
@@ -297,9 +297,9 @@ module _ (l : Line) (ls : List Line) where
           Fresh (keywordNext (keyOf l) (argumentOf l .text) s .seen) (gather matrixAt (upTo inSection ls)) →
           Fresh (s .seen) (gather matrixAt (upTo inSection (l ∷ ls)))
       fresh-next f =
-          by-cases (Fresh (s .seen) (gather matrixAt (upTo inSection (l ∷ ls)))) (keepsMatrix (keyOf l))
-          (λ (e : keepsMatrix (keyOf l) ≡ true). fresh-keeps e (rw (seen-kept (keyOf l) (argumentOf l .text) s e) at f))
-          (λ (e : keepsMatrix (keyOf l) ≡ false). fresh-keyed (rw (inside-seen e) at f))
+          by-cases (Fresh (s .seen) (gather matrixAt (upTo inSection (l ∷ ls)))) (isRowOrBandwidth (keyOf l))
+          (λ (e : isRowOrBandwidth (keyOf l) ≡ true). fresh-keeps e (rw (seen-kept (keyOf l) (argumentOf l .text) s e) at f))
+          (λ (e : isRowOrBandwidth (keyOf l) ≡ false). fresh-keyed (rw (inside-seen e) at f))
 
     fresh-inside :
         (s' : State) → Moves l s s' → Fresh (s' .seen) (gather matrixAt (upTo inSection ls)) →

@@ -25,7 +25,7 @@ use Rattle.lex_line.specs.Way.LineEnds.{lineAt, terminatorAt}
 use Rattle.lex_line.specs.declared.Checked.{Checked}
 use Rattle.lex_line.specs.declared.Checked.the-variants.{Fine, Refused}
 use Rattle.lex_line.specs.ByteRules.{mostBytes, mostCharacters, withoutReturn, characters, rawLineRule, refusedOr, linesRule, byteRules}
-use Rattle.lex_line.specs.Way.Judges.{Judges}
+use Rattle.lex_line.specs.Way.Judges.{ResumesAfterLine}
 use Rattle.lex_line.proofs.LineLaws.{firstOf, lines-at, next-on, next-within, next-ended}
 
 -- ---- terminators
@@ -276,7 +276,7 @@ unfolding linesRule
 rules-cons n l ls = refl
 
 module _ (t : List ℕ) (at : ℕ) (h : at < length t) where
-  judges : (k next : ℕ) → rawLineRule (firstOf (drop at t)) ≡ k → (k ≡ 0 → lineAt lineFeed t at .next ≡ next) → next ≤ length t → Judges t at k next
+  judges : (k next : ℕ) → rawLineRule (firstOf (drop at t)) ≡ k → (k ≡ 0 → lineAt lineFeed t at .next ≡ next) → next ≤ length t → ResumesAfterLine t at k next
   judges k next e f w =
       record {
         same = λ (n : ℕ). ap (linesRule n) (lines-at lineFeed t at h) ∙ rules-cons n _ _ ∙ ap (λ (j : ℕ). refusedOr j n (linesRule (n + 1) (lines (drop (lineAt lineFeed t at .next) t)))) e ∙ judged-number k n _ _ (λ (z : k ≡ 0). ap (λ (j : ℕ). linesRule (n + 1) (lines (drop j t))) (f z));
@@ -342,7 +342,7 @@ module _ (t : List ℕ) (at stop terminator : ℕ) (h : at < length t) (run-is-s
       let p : suc (run (isBefore lineFeed) lineOf) ≡ stopOf lineOf + terminator = r .past in
       next-ended lineFeed t at h (r .ended ∙ lt-ltb _ _ w) ∙ omega arith
 
-  pub line-bad-byte : terminator ≡ 0 → stop < length t → Judges t at 2 (stop + terminator)
+  pub line-bad-byte : terminator ≡ 0 → stop < length t → ResumesAfterLine t at 2 (stop + terminator)
   line-bad-byte e g =
       judges t at h 2 (stop + terminator) (rule-bad (firstOf lineOf) (from terminator view e)) (λ (z : 2 ≡ 0). absurd (omega arith)) (omega arith)
     where
@@ -365,13 +365,13 @@ module _ (t : List ℕ) (at stop terminator : ℕ) (h : at < length t) (run-is-s
         let k : length lineOf ≤ stopOf lineOf = omega arith in
         unended lineOf k
 
-    pub last-long : mostCharacters < stop - at → Judges t at 3 (stop + terminator)
+    pub last-long : mostCharacters < stop - at → ResumesAfterLine t at 3 (stop + terminator)
     last-long k =
         let c : length (characters (firstOf lineOf)) ≡ stopOf lineOf = whole .count in
         let w : stop ≤ length t = stop-within in
         judges t at h 3 (stop + terminator) (rule-long (firstOf lineOf) (whole .good) (omega arith)) (λ (z : 3 ≡ 0). absurd (omega arith)) (omega arith)
 
-    pub last-unended : stop - at ≤ mostCharacters → Judges t at 4 (stop + terminator)
+    pub last-unended : stop - at ≤ mostCharacters → ResumesAfterLine t at 4 (stop + terminator)
     last-unended k =
         let c : length (characters (firstOf lineOf)) ≡ stopOf lineOf = whole .count in
         let w : stop ≤ length t = stop-within in
@@ -381,19 +381,19 @@ module _ (t : List ℕ) (at stop terminator : ℕ) (h : at < length t) (run-is-s
     right-within : stop + terminator ≤ length t
     right-within = subst (λ (j : ℕ). j ≤ length t) (next-right e) (next-within lineFeed t at h)
 
-    pub line-long : mostCharacters < stop - at → Judges t at 3 (stop + terminator)
+    pub line-long : mostCharacters < stop - at → ResumesAfterLine t at 3 (stop + terminator)
     line-long k =
         let c : length (characters (firstOf lineOf)) ≡ stopOf lineOf = right e .count in
         judges t at h 3 (stop + terminator) (rule-long (firstOf lineOf) (right e .good) (omega arith)) (λ (z : 3 ≡ 0). absurd (omega arith)) right-within
 
-    pub line-fine : stop - at ≤ mostCharacters → Judges t at 0 (stop + terminator)
+    pub line-fine : stop - at ≤ mostCharacters → ResumesAfterLine t at 0 (stop + terminator)
     line-fine k =
         let c : length (characters (firstOf lineOf)) ≡ stopOf lineOf = right e .count in
         let w : 0 < terminator = omega arith in
         judges t at h 0 (stop + terminator) (rule-none (firstOf lineOf) (right e .good) (omega arith) (right e .ended ∙ lt-ltb _ _ w)) (λ (z : 0 ≡ 0). next-right e) right-within
 
 -- an empty line
-pub line-empty : (t : List ℕ) (at b : ℕ) → at < length t → b ≡ getD t at 0 → b ≡ 10 → Judges t at 0 (at + 1)
+pub line-empty : (t : List ℕ) (at b : ℕ) → at < length t → b ≡ getD t at 0 → b ≡ 10 → ResumesAfterLine t at 0 (at + 1)
 unfolding isPrinted either within both
 line-empty t at b h told e =
     let stops : isPrinted (getD t at 0) ≡ false = ap isPrinted (sym told ∙ e) in
@@ -421,7 +421,7 @@ module _ (t : List ℕ) (at n : ℕ) (answer : Checked) (inv : linesRule n (line
   unfolding linesRule lines
   check-past h = rw (drop-of-length-le t h) at inv
 
-  module _ (k next : ℕ) (j : Judges t at k next) where
+  module _ (k next : ℕ) (j : ResumesAfterLine t at k next) where
     pub check-stop : (k ≡ 0 → ⊥) → Refused k n ≡ answer
     unfolding refusedOr
     check-stop e = sym (if-false _ _ (ne-eqb _ _ e)) ∙ sym (j .same n) ∙ inv

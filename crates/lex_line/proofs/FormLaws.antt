@@ -14,17 +14,17 @@ use Rattle.base.specs.Bytes.{isBefore}
 use Rattle.base.proofs.IfLaws.{by-cases}
 use Rattle.base.proofs.RunLaws.{run-le}
 use Rattle.lex_line.specs.Words.{words, toEquals, hasEquals, leftOf, rightOf}
-use Rattle.lex_line.specs.Way.Spans.{fewOf}
-use Rattle.lex_line.specs.declared.Few.{Few}
+use Rattle.lex_line.specs.Way.Spans.{firstTwoOf}
+use Rattle.lex_line.specs.declared.FirstTwo.{FirstTwo}
 use Rattle.lex_line.proofs.WordLaws.{first-ordered, first-within, second-ordered, second-within}
 
 -- what `marked` asks of either of a line's first two words
 pub ruleset marks = (first-ordered, first-within, second-ordered, second-within)
 
-module _ (s : List ℕ) (few : Few) (told : few ≡ fewOf s) where
+module _ (s : List ℕ) (few : FirstTwo) (told : few ≡ firstTwoOf s) where
   count-told : few .count ≡ min 3 (length (words s))
-  unfolding fewOf
-  count-told = ap (λ (f : Few). f .count) told
+  unfolding firstTwoOf
+  count-told = ap (λ (f : FirstTwo). f .count) told
 
   -- a line of n words, n below 3
   pub counted : (n : ℕ) → n < 3 → few .count ≡ n → eqb (length (words s)) n ≡ true

@@ -22,15 +22,15 @@ use Rattle.base.proofs.RunLaws.{run-stop, run-block, all-nil, all-cons}
 use Rattle.lex_line.specs.Lines.{lines}
 use Rattle.lex_line.specs.Words.{backRun}
 use Rattle.lex_line.specs.ByteRules.{linesRule, byteRules}
-use Rattle.lex_line.specs.Way.Judges.{Judges}
+use Rattle.lex_line.specs.Way.Judges.{ResumesAfterLine}
 use Rattle.lex_line.specs.declared.Checked.the-variants.{Refused}
-use Rattle.lex_line.specs.Way.Feeds.{feedOf, feeds, isUsual, PassesLines}
+use Rattle.lex_line.specs.Way.Feeds.{lineFeedOf, lineFeeds, isLineByte, ResumesLines}
 use Rattle.lex_line.proofs.WordLaws.{back-zero, back-grows, back-ends}
 use Rattle.lex_line.proofs.ByteLaws.{is-feed, not-feed, feed-not-printed, terminator-feed, line-fine, check-on, check-stop, size-fine}
 use Rattle.lex_line.proofs.FeedLaws.{feed-one, feed-none, feeds-none, feeds-more, feeds-told}
 
-usual-printed : (b : ℕ) → isUsual b ≡ true → (b ≡ 10 → ⊥) → isPrinted b ≡ true
-unfolding isUsual
+usual-printed : (b : ℕ) → isLineByte b ≡ true → (b ≡ 10 → ⊥) → isPrinted b ≡ true
+unfolding isLineByte
 usual-printed b e other = sym (either-rest _ _ (ne-eqb b 10 other)) ∙ e
 
 -- one more byte behind bytes that all pass
@@ -65,7 +65,7 @@ module _ (u : List ℕ) (line : ℕ) where
         counted = omega arith;
       }
 
-  pub amid-passes : (count at back : ℕ) → Amid count at back → PassesLines u 0 line (at - backRun (isBefore 10) u at) count
+  pub amid-passes : (count at back : ℕ) → Amid count at back → ResumesLines u 0 line (at - backRun (isBefore 10) u at) count
   amid-passes count at back m =
       let l : back ≤ at = m .low in
       let i : at ≤ length u = m .inside in
@@ -93,7 +93,7 @@ module _ (u : List ℕ) (line : ℕ) where
         let r : run isPrinted (drop (at - back) u) ≡ back + run isPrinted (drop back (drop (at - back) u)) =
         run-block isPrinted back (drop (at - back) u) long (m .good) in
         let stop : at ≡ runEnd isPrinted u (at - back) = omega arith in
-        let j : Judges u (at - back) 0 (at + 1) =
+        let j : ResumesAfterLine u (at - back) 0 (at + 1) =
         line-fine u (at - back) at 1 byte-in stop (terminator-feed u at (getD u at 0) refl e) (λ (z : 1 ≡ 0). omega arith) (omega arith) in
         let c : count ≤ line + (at - back) = m .counted in
         record {
@@ -127,69 +127,69 @@ module _ (u : List ℕ) (line : ℕ) where
   -- so many bytes, and what is known behind them
   record Over (n count at back : ℕ) : Type 0 where
     behind : ℕ
-    amid : Amid (count + feeds (take n (drop at u))) (at + n) behind
+    amid : Amid (count + lineFeeds (take n (drop at u))) (at + n) behind
     below : behind ≤ back + n
-    ended : (feeds (take n (drop at u)) ≡ 0 → ⊥) → behind < n
+    ended : (lineFeeds (take n (drop at u)) ≡ 0 → ⊥) → behind < n
 
-  over-byte : (n count at back count′ back′ : ℕ) → at < length u → count′ ≡ count + feedOf (getD u at 0) → Over n count′ (at + 1) back′ →
-      back′ + n ≤ back + suc n → (feedOf (getD u at 0) ≡ 0 ⊎ back′ ≡ 0) → Over (suc n) count at back
+  over-byte : (n count at back count′ back′ : ℕ) → at < length u → count′ ≡ count + lineFeedOf (getD u at 0) → Over n count′ (at + 1) back′ →
+      back′ + n ≤ back + suc n → (lineFeedOf (getD u at 0) ≡ 0 ⊎ back′ ≡ 0) → Over (suc n) count at back
   over-byte n count at back count′ back′ h e o le either-way =
       let d : drop at u ≡ getD u at 0 ∷ drop (at + 1) u = drop-cons u at 0 h ∙ ap (λ (i : ℕ). getD u at 0 ∷ drop i u) (sym (add-one at)) in
-      let f : feeds (take (suc n) (drop at u)) ≡ feedOf (getD u at 0) + feeds (take n (drop (at + 1) u)) =
-      ap (λ (x : List ℕ). feeds (take (suc n) x)) d ∙ feeds-more _ _ in
-      let c : count + feeds (take (suc n) (drop at u)) ≡ count′ + feeds (take n (drop (at + 1) u)) = omega arith in
+      let f : lineFeeds (take (suc n) (drop at u)) ≡ lineFeedOf (getD u at 0) + lineFeeds (take n (drop (at + 1) u)) =
+      ap (λ (x : List ℕ). lineFeeds (take (suc n) x)) d ∙ feeds-more _ _ in
+      let c : count + lineFeeds (take (suc n) (drop at u)) ≡ count′ + lineFeeds (take n (drop (at + 1) u)) = omega arith in
       let q : at + suc n ≡ at + 1 + n = omega arith in
       let b : o .behind ≤ back′ + n = o .below in
       record {
         behind = o .behind;
         amid = rw (c, q) (o .amid);
         below = omega arith;
-        ended = λ (z : feeds (take (suc n) (drop at u)) ≡ 0 → ⊥). last (o .behind) z f b (o .ended) either-way;
+        ended = λ (z : lineFeeds (take (suc n) (drop at u)) ≡ 0 → ⊥). last (o .behind) z f b (o .ended) either-way;
       }
     where
-      last : (behind : ℕ) → (feeds (take (suc n) (drop at u)) ≡ 0 → ⊥) →
-          feeds (take (suc n) (drop at u)) ≡ feedOf (getD u at 0) + feeds (take n (drop (at + 1) u)) → behind ≤ back′ + n →
-          ((feeds (take n (drop (at + 1) u)) ≡ 0 → ⊥) → behind < n) → (feedOf (getD u at 0) ≡ 0 ⊎ back′ ≡ 0) → behind < suc n
+      last : (behind : ℕ) → (lineFeeds (take (suc n) (drop at u)) ≡ 0 → ⊥) →
+          lineFeeds (take (suc n) (drop at u)) ≡ lineFeedOf (getD u at 0) + lineFeeds (take n (drop (at + 1) u)) → behind ≤ back′ + n →
+          ((lineFeeds (take n (drop (at + 1) u)) ≡ 0 → ⊥) → behind < n) → (lineFeedOf (getD u at 0) ≡ 0 ⊎ back′ ≡ 0) → behind < suc n
       last behind z f b later (inl k) =
-          let g : behind < n = later (λ (w : feeds (take n (drop (at + 1) u)) ≡ 0). z (omega arith)) in
+          let g : behind < n = later (λ (w : lineFeeds (take n (drop (at + 1) u)) ≡ 0). z (omega arith)) in
           omega arith
       last behind z f b later (inr k) = omega arith
 
-  over : (n count at back : ℕ) → at + n ≤ length u → all isUsual (take n (drop at u)) ≡ true → back + n ≤ 120 → Amid count at back →
+  over : (n count at back : ℕ) → at + n ≤ length u → all isLineByte (take n (drop at u)) ≡ true → back + n ≤ 120 → Amid count at back →
       Over n count at back
   over zero count at back room a small m =
-      let z : feeds (take 0 (drop at u)) ≡ 0 = feeds-none in
-      let e : count + feeds (take 0 (drop at u)) ≡ count = omega arith in
+      let z : lineFeeds (take 0 (drop at u)) ≡ 0 = feeds-none in
+      let e : count + lineFeeds (take 0 (drop at u)) ≡ count = omega arith in
       record {
         behind = back;
         amid = rw (e, add-zero at) m;
         below = omega arith;
-        ended = λ (f : feeds (take 0 (drop at u)) ≡ 0 → ⊥). absurd (f z);
+        ended = λ (f : lineFeeds (take 0 (drop at u)) ≡ 0 → ⊥). absurd (f z);
       }
   over (suc n) count at back room a small m =
       let h : at < length u = omega arith in
       let d : drop at u ≡ getD u at 0 ∷ drop (at + 1) u = drop-cons u at 0 h ∙ ap (λ (i : ℕ). getD u at 0 ∷ drop i u) (sym (add-one at)) in
-      let b : both (isUsual (getD u at 0)) (all isUsual (take n (drop (at + 1) u))) ≡ true =
-      sym (all-cons isUsual (getD u at 0) (take n (drop (at + 1) u))) ∙ ap (λ (x : List ℕ). all isUsual (take (suc n) x)) (sym d) ∙ a in
+      let b : both (isLineByte (getD u at 0)) (all isLineByte (take n (drop (at + 1) u))) ≡ true =
+      sym (all-cons isLineByte (getD u at 0) (take n (drop (at + 1) u))) ∙ ap (λ (x : List ℕ). all isLineByte (take (suc n) x)) (sym d) ∙ a in
       by-cases _ (eqb (getD u at 0) 10)
       (λ (e : eqb (getD u at 0) 10 ≡ true). feeding h (both-second _ _ b) (eqb-true _ _ e) (over n (count + 1) (at + 1) 0))
       (λ (e : eqb (getD u at 0) 10 ≡ false).
       growing h (both-second _ _ b) (eqb-false _ _ e) (usual-printed _ (both-first _ _ b) (eqb-false _ _ e)) (over n count (at + 1) (back + 1)))
     where
-      feeding : at < length u → all isUsual (take n (drop (at + 1) u)) ≡ true → getD u at 0 ≡ 10 →
-          (at + 1 + n ≤ length u → all isUsual (take n (drop (at + 1) u)) ≡ true → 0 + n ≤ 120 → Amid (count + 1) (at + 1) 0 →
+      feeding : at < length u → all isLineByte (take n (drop (at + 1) u)) ≡ true → getD u at 0 ≡ 10 →
+          (at + 1 + n ≤ length u → all isLineByte (take n (drop (at + 1) u)) ≡ true → 0 + n ≤ 120 → Amid (count + 1) (at + 1) 0 →
           Over n (count + 1) (at + 1) 0) → Over (suc n) count at back
       feeding h b e later =
           let o : Over n (count + 1) (at + 1) 0 = later (omega arith) b (omega arith) (amid-ends count at back m h e (omega arith)) in
-          let f : 1 ≡ feedOf (getD u at 0) = feed-one _ e in
+          let f : 1 ≡ lineFeedOf (getD u at 0) = feed-one _ e in
           over-byte n count at back (count + 1) 0 h (omega arith) o (omega arith) (inr refl)
 
-      growing : at < length u → all isUsual (take n (drop (at + 1) u)) ≡ true → (getD u at 0 ≡ 10 → ⊥) → isPrinted (getD u at 0) ≡ true →
-          (at + 1 + n ≤ length u → all isUsual (take n (drop (at + 1) u)) ≡ true → back + 1 + n ≤ 120 → Amid count (at + 1) (back + 1) →
+      growing : at < length u → all isLineByte (take n (drop (at + 1) u)) ≡ true → (getD u at 0 ≡ 10 → ⊥) → isPrinted (getD u at 0) ≡ true →
+          (at + 1 + n ≤ length u → all isLineByte (take n (drop (at + 1) u)) ≡ true → back + 1 + n ≤ 120 → Amid count (at + 1) (back + 1) →
           Over n count (at + 1) (back + 1)) → Over (suc n) count at back
       growing h b other f later =
           let o : Over n count (at + 1) (back + 1) = later (omega arith) b (omega arith) (amid-grows count at back m h f other) in
-          let g : 0 ≡ feedOf (getD u at 0) = feed-none _ other in
+          let g : 0 ≡ lineFeedOf (getD u at 0) = feed-none _ other in
           over-byte n count at back count (back + 1) h (omega arith) o (omega arith) (inl (sym g))
 
   -- ---- the loop over blocks
@@ -202,7 +202,7 @@ module _ (u : List ℕ) (line : ℕ) where
   pub ending-starts : Ending line 0
   ending-starts = record { back = 0; amid = amid-starts; short = omega arith }
 
-  pub ending-passes : (count at : ℕ) → Ending count at → (at ≤ length u) × PassesLines u 0 line (at - backRun (isBefore 10) u at) count
+  pub ending-passes : (count at : ℕ) → Ending count at → (at ≤ length u) × ResumesLines u 0 line (at - backRun (isBefore 10) u at) count
   ending-passes count at e = (e .amid .inside, amid-passes count at (e .back) (e .amid))
 
   -- blocks in which no line ends stand between the last in which one does and the next to be looked at
@@ -218,7 +218,7 @@ module _ (u : List ℕ) (line : ℕ) where
       record { ending = ending-starts; back = 0; amid = amid-starts; near = omega arith; order = omega arith }
 
   pub running-passes : (count mark here : ℕ) → Running count mark here →
-      (mark ≤ length u) × PassesLines u 0 line (mark - backRun (isBefore 10) u mark) count
+      (mark ≤ length u) × ResumesLines u 0 line (mark - backRun (isBefore 10) u mark) count
   running-passes count mark here r = ending-passes count mark (r .ending)
 
   pub running-bounds : (count mark here : ℕ) → Running count mark here → (here ≤ length u) × (count ≤ line + here)
@@ -228,8 +228,8 @@ module _ (u : List ℕ) (line : ℕ) where
       (r .amid .inside, omega arith)
 
   module _ (count mark here : ℕ) (r : Running count mark here) (room : 16 ≤ length u - here) (most : ℕ) (small : most ≤ 80)
-      (apart : here - mark ≤ most) (usual : Bool) (told : usual ≡ all isUsual (take 16 (drop here u))) (t : not usual ≡ false) (ends : ℕ)
-      (counted : ends ≡ feeds (take 16 (drop here u))) where
+      (apart : here - mark ≤ most) (usual : Bool) (told : usual ≡ all isLineByte (take 16 (drop here u))) (t : not usual ≡ false) (ends : ℕ)
+      (counted : ends ≡ lineFeeds (take 16 (drop here u))) where
     passed-block : Over 16 count here (r .back)
     passed-block =
         let k : here ≤ length u = r .amid .inside in
@@ -241,7 +241,7 @@ module _ (u : List ℕ) (line : ℕ) where
     block-none : ends ≡ 0 → Running (count + ends) mark (here + 16)
     block-none z =
         let e : count + ends ≡ count = omega arith in
-        let f : count + feeds (take 16 (drop here u)) ≡ count = omega arith in
+        let f : count + lineFeeds (take 16 (drop here u)) ≡ count = omega arith in
         let b : passed-block .behind ≤ r .back + 16 = passed-block .below in
         let n : r .back + mark ≤ 15 + here = r .near in
         let o : mark ≤ here = r .order in
@@ -256,7 +256,7 @@ module _ (u : List ℕ) (line : ℕ) where
 
     block-some : (ends ≡ 0 → ⊥) → Running (count + ends) (here + 16) (here + 16)
     block-some some =
-        let l : passed-block .behind < 16 = passed-block .ended (λ (z : feeds (take 16 (drop here u)) ≡ 0). some (counted ∙ z)) in
+        let l : passed-block .behind < 16 = passed-block .ended (λ (z : lineFeeds (take 16 (drop here u)) ≡ 0). some (counted ∙ z)) in
         rw counted
         (record {
           ending = record { back = passed-block .behind; amid = passed-block .amid; short = omega arith };
@@ -276,26 +276,26 @@ module _ (u : List ℕ) (line : ℕ) where
     running-order next is = running-on next is .order
 
     pub running-ends : (next : ℕ) → next ≡ (if eqb ends 0 then mark else (here + 16)) →
-        (next ≤ length u) × PassesLines u 0 line (next - backRun (isBefore 10) u next) (count + ends)
+        (next ≤ length u) × ResumesLines u 0 line (next - backRun (isBefore 10) u next) (count + ends)
     running-ends next is = running-passes (count + ends) next (here + 16) (running-on next is)
 
 -- ---- what the callers see
 
-pub passes-to : (u : List ℕ) (line start next number : ℕ) → PassesLines u 0 line start number → next ≡ start → PassesLines u 0 line next number
+pub passes-to : (u : List ℕ) (line start next number : ℕ) → ResumesLines u 0 line start number → next ≡ start → ResumesLines u 0 line next number
 passes-to u line start next number p e = rw e p
 
-pub passes-none : (t : List ℕ) (at line : ℕ) → at ≤ length t → PassesLines t at line at line
+pub passes-none : (t : List ℕ) (at line : ℕ) → at ≤ length t → ResumesLines t at line at line
 passes-none t at line h = record { same = refl; onward = omega arith; within = h; counted = omega arith }
 
 -- in a part of a text, from a place to the end
 pub passes-part : (t : List ℕ) (at line next number : ℕ) → at ≤ length t →
-    PassesLines (take (length t - at) (drop at t)) 0 line next number → PassesLines t at line (at + next) number
+    ResumesLines (take (length t - at) (drop at t)) 0 line next number → ResumesLines t at line (at + next) number
 passes-part t at line next number h p =
     let l : length (drop at t) ≡ length t - at = length-drop at t in
     let e : take (length t - at) (drop at t) ≡ drop at t = take-all (length t - at) (drop at t) (omega arith) in
     whole (rw e at p) l
   where
-    whole : PassesLines (drop at t) 0 line next number → length (drop at t) ≡ length t - at → PassesLines t at line (at + next) number
+    whole : ResumesLines (drop at t) 0 line next number → length (drop at t) ≡ length t - at → ResumesLines t at line (at + next) number
     whole q l =
         let w : next ≤ length (drop at t) = q .within in
         let c : number + 0 ≤ line + next = q .counted in
@@ -318,7 +318,7 @@ pub record Checking (t : List ℕ) (at line : ℕ) : Type 0 where
 pub checking-starts : (t : List ℕ) → length t ≤ 1_048_576 → Checking t 0 1
 checking-starts t h = record { inside = omega arith; counted = omega arith; small = h; same = size-fine t h }
 
-module _ (t : List ℕ) (at line : ℕ) (c : Checking t at line) (k next : ℕ) (j : Judges t at k next) where
+module _ (t : List ℕ) (at line : ℕ) (c : Checking t at line) (k next : ℕ) (j : ResumesAfterLine t at k next) where
   pub checking-stops : (k ≡ 0 → ⊥) → Refused k line ≡ byteRules t
   checking-stops e = check-stop t at line (byteRules t) (c .same) k next j e
 
@@ -329,7 +329,7 @@ module _ (t : List ℕ) (at line : ℕ) (c : Checking t at line) (k next : ℕ) 
         let l : line ≤ at + 1 = c .counted in
         (j .within, omega arith, c .small)
 
-    pub checking-on : (to number : ℕ) → PassesLines t next (line + 1) to number → Checking t to number
+    pub checking-on : (to number : ℕ) → ResumesLines t next (line + 1) to number → Checking t to number
     checking-on to number p =
         let h : at < next = j .on e in
         let l : line ≤ at + 1 = c .counted in
@@ -341,7 +341,7 @@ module _ (t : List ℕ) (at line : ℕ) (c : Checking t at line) (k next : ℕ) 
           same = p .same ∙ check-on t at line (byteRules t) (c .same) k next j e;
         }
 
-    pub checking-less : (to number : ℕ) → PassesLines t next (line + 1) to number → at < length t → length t - to < length t - at
+    pub checking-less : (to number : ℕ) → ResumesLines t next (line + 1) to number → at < length t → length t - to < length t - at
     checking-less to number p g =
         let h : at < next = j .on e in
         let o : next ≤ to = p .onward in

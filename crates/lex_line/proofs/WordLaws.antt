@@ -18,9 +18,9 @@ use Rattle.base.specs.Way.Class.{runEnd}
 use Rattle.base.proofs.IfLaws.{if-true, if-false, by-cases, not-via, not-not-via}
 use Rattle.base.proofs.RunLaws.{run-nil, run-goes, run-stops, run-le, run-on, run-end-at}
 use Rattle.lex_line.specs.Words.{Word, wordGoesOn, grown, wordsFrom, backRun, words, firstOf, secondOf}
-use Rattle.lex_line.specs.Way.Spans.{wordAt, fewOf, markedBy}
+use Rattle.lex_line.specs.Way.Spans.{wordAt, firstTwoOf, markedBy}
 use Rattle.lex_line.specs.declared.Span.{Span}
-use Rattle.lex_line.specs.declared.Few.{Few}
+use Rattle.lex_line.specs.declared.FirstTwo.{FirstTwo}
 
 filled-not : (b : ℕ) → isBlank b ≡ true → isFilled b ≡ false
 unfolding isFilled
@@ -180,12 +180,12 @@ unfolding wordAt
 end-on s from = omega arith
 
 -- what the spans of a line's first two words mark
-pub few-first : (s : List ℕ) → markedBy s (fewOf s .first) ≡ firstOf (words s)
-unfolding fewOf
+pub few-first : (s : List ℕ) → markedBy s (firstTwoOf s .first) ≡ firstOf (words s)
+unfolding firstTwoOf
 few-first s = sym (first-after s 0)
 
-pub few-second : (s : List ℕ) → markedBy s (fewOf s .second) ≡ secondOf (words s)
-unfolding fewOf
+pub few-second : (s : List ℕ) → markedBy s (firstTwoOf s .second) ≡ secondOf (words s)
+unfolding firstTwoOf
 few-second s =
     let one : ℕ = wordAt s 0 .end in
     let a : wordAt s 0 .start ≤ one = end-on s 0 in
@@ -207,21 +207,21 @@ within-line s from h =
     let d : length (drop st s) ≡ length s - st = length-drop st s in
     omega arith
 
-module _ (s : List ℕ) (few : Few) (told : few ≡ fewOf s) where
+module _ (s : List ℕ) (few : FirstTwo) (told : few ≡ firstTwoOf s) where
   pub first-ordered : few .first .start ≤ few .first .end
-  unfolding fewOf
+  unfolding firstTwoOf
   first-ordered = rw told (end-on s 0)
 
   pub first-within : few .first .end ≤ length s
-  unfolding fewOf
+  unfolding firstTwoOf
   first-within = rw told (within-line s 0 zero-le)
 
   pub second-ordered : few .second .start ≤ few .second .end
-  unfolding fewOf
+  unfolding firstTwoOf
   second-ordered = rw told (end-on s (wordAt s 0 .end))
 
   pub second-within : few .second .end ≤ length s
-  unfolding fewOf
+  unfolding firstTwoOf
   second-within = rw told (within-line s (wordAt s 0 .end) (within-line s 0 zero-le))
 
   pub first-marked : markedBy s (few .first) ≡ firstOf (words s)
@@ -231,19 +231,19 @@ module _ (s : List ℕ) (few : Few) (told : few ≡ fewOf s) where
   second-marked = rw told (few-second s)
 
 -- a line has at most three words that count
-pub few-most : (s : List ℕ) → fewOf s .count ≤ 3
-unfolding fewOf
+pub few-most : (s : List ℕ) → firstTwoOf s .count ≤ 3
+unfolding firstTwoOf
 few-most s = omega arith
 
 -- how many words there are, told by the first place at which none is left
 module _ (s : List ℕ) (first second : Span) (third : ℕ) (one : first ≡ wordAt s 0) (two : second ≡ wordAt s (first .end)) (three : third ≡ runEnd isBlank s (second .end)) where
-  few-counted : (n : ℕ) → min 3 (length (words s)) ≡ n → record { count = n; first = first; second = second } ≡ fewOf s
-  unfolding fewOf
+  few-counted : (n : ℕ) → min 3 (length (words s)) ≡ n → record { count = n; first = first; second = second } ≡ firstTwoOf s
+  unfolding firstTwoOf
   few-counted n e =
       let f : second ≡ wordAt s (wordAt s 0 .end) = two ∙ ap (λ (w : Span). wordAt s (w .end)) one in
       λ i. record { count = sym e i; first = one i; second = f i }
 
-  pub few-none : length s ≤ first .start → record { count = 0; first = first; second = second } ≡ fewOf s
+  pub few-none : length s ≤ first .start → record { count = 0; first = first; second = second } ≡ firstTwoOf s
   few-none h =
       let w : words s ≡ [] = after-none s 0 (rw one at h) in
       let l : length (words s) ≡ 0 = ap length w in
@@ -255,7 +255,7 @@ module _ (s : List ℕ) (first second : Span) (third : ℕ) (one : first ≡ wor
   second-there : second .start < length s → wordsAfter s (first .end) ≡ markedBy s second ∷ wordsAfter s (second .end)
   second-there h = rw two (after-at s (first .end) (rw two at h))
 
-  pub few-one : first .start < length s → length s ≤ second .start → record { count = 1; first = first; second = second } ≡ fewOf s
+  pub few-one : first .start < length s → length s ≤ second .start → record { count = 1; first = first; second = second } ≡ firstTwoOf s
   few-one h k =
       let n : length (wordsAfter s (first .end)) ≡ 0 = ap length (after-none s (first .end) (rw two at k)) in
       let l : length (words s) ≡ suc (length (wordsAfter s (first .end))) = ap length (first-there h) in
@@ -266,7 +266,7 @@ module _ (s : List ℕ) (first second : Span) (third : ℕ) (one : first ≡ wor
   unfolding wordAt
   third-starts = three
 
-  pub few-two : first .start < length s → second .start < length s → length s ≤ third → record { count = 2; first = first; second = second } ≡ fewOf s
+  pub few-two : first .start < length s → second .start < length s → length s ≤ third → record { count = 2; first = first; second = second } ≡ firstTwoOf s
   few-two h g k =
       let n : length (wordsAfter s (second .end)) ≡ 0 = ap length (after-none s (second .end) (rw third-starts at k)) in
       let m : length (wordsAfter s (first .end)) ≡ suc (length (wordsAfter s (second .end))) = ap length (second-there g) in
@@ -276,7 +276,7 @@ module _ (s : List ℕ) (first second : Span) (third : ℕ) (one : first ≡ wor
   third-there : third < length s → wordsAfter s (second .end) ≡ markedBy s (wordAt s (second .end)) ∷ wordsAfter s (wordAt s (second .end) .end)
   third-there h = after-at s (second .end) (rw third-starts at h)
 
-  pub few-three : first .start < length s → second .start < length s → third < length s → record { count = 3; first = first; second = second } ≡ fewOf s
+  pub few-three : first .start < length s → second .start < length s → third < length s → record { count = 3; first = first; second = second } ≡ firstTwoOf s
   few-three h g k =
       let n : length (wordsAfter s (second .end)) ≡ suc (length (wordsAfter s (wordAt s (second .end) .end))) = ap length (third-there k) in
       let m : length (wordsAfter s (first .end)) ≡ suc (length (wordsAfter s (second .end))) = ap length (second-there g) in

@@ -8,10 +8,10 @@ ghost use Rattle.lex_line.specs.Way.LineEnds.{lineAt, terminatorAt};
 ghost use Rattle.base.specs.Way.Class.{inClass, runEnd};
 ghost use Rattle.base.specs.Bytes.{isBefore, isContent};
 ghost use Rattle.lex_line.specs.Words.{backRun, words, firstOf, toEquals};
-ghost use Rattle.lex_line.specs.Way.Spans.{wordAt, lastWord, fewOf, markedBy};
+ghost use Rattle.lex_line.specs.Way.Spans.{wordAt, lastWord, firstTwoOf, markedBy};
 ghost use Rattle.lex_line.specs.ByteRules.{byteRules};
-ghost use Rattle.lex_line.specs.Way.Judges.{Judges};
-ghost use Rattle.lex_line.specs.Way.Feeds.{feedOf, feeds, isUsual, PassesLines};
+ghost use Rattle.lex_line.specs.Way.Judges.{ResumesAfterLine};
+ghost use Rattle.lex_line.specs.Way.Feeds.{lineFeedOf, lineFeeds, isLineByte, ResumesLines};
 ghost use Rattle.base.specs.If.{if_then_else_};
 ghost use lib.Dec.{eqb};
 use base::Class;
@@ -49,7 +49,7 @@ pub struct Span {
 }
 
 // A line's first two words, and how many it has: 3 stands for all above 2.
-pub struct Few {
+pub struct FirstTwo {
     pub count: u64,
     pub first: Span,
     pub second: Span,
@@ -63,7 +63,7 @@ pub enum Checked {
 
 // How many of eight bytes surely are content, from the first on. They are taken as one number: of each byte's low seven bits, a sum with
 // 0x72 reaches the eighth from 14 on, one with 0x04 from `|` on. What lies between needs no further look.
-fn sure_at(text: &[u8], at: usize) -> usize
+fn content_of_eight(text: &[u8], at: usize) -> usize
     requires { ⌜ at + 8 ≤ length (now text) ⌝ }
     ensures { λ r. ⌜ (r ≤ 8) × (all (isContent 124) (take r (drop at (now (text .entry)))) ≡ true) ⌝ }
 {
@@ -75,13 +75,13 @@ fn sure_at(text: &[u8], at: usize) -> usize
 }
 
 // A place in the content at `from`, near its end: the first byte that needs a look.
-fn past_sure(text: &[u8], from: usize) -> usize
+fn skip_content(text: &[u8], from: usize) -> usize
     requires { ⌜ from ≤ length (now text) ⌝ }
     ensures { λ r. ⌜ runEnd (isContent 124) (now (text .entry)) r ≡ runEnd (isContent 124) (now (text .entry)) from ⌝ }
 {
     let mut i = from;
     while EIGHT <= text.len() - i {
-        let sure = sure_at(text, i);
+        let sure = content_of_eight(text, i);
         if sure < EIGHT {
             return i + sure;
         }
@@ -117,7 +117,7 @@ fn past_content(text: &[u8], at: usize, comment: u8) -> usize
     if comment != BAR {
         return past_rest(text, at, comment);
     }
-    past_rest(text, past_sure(text, at), BAR)
+    past_rest(text, skip_content(text, at), BAR)
 }
 
 // Where the first LF from a place on stands, or the end where there is none. It may stand behind a comment that says nothing.
@@ -304,7 +304,7 @@ struct LineCheck {
 // is the lowest: nothing after it needs to be looked at. Nor is anything in an empty line.
 fn line_check(text: &[u8], at: usize) -> LineCheck
     requires { ⌜ at < length (now text) ⌝ }
-    ensures { λ r. ⌜ Judges (now (text .entry)) at (r .rule) (r .next) ⌝ }
+    ensures { λ r. ⌜ ResumesAfterLine (now (text .entry)) at (r .rule) (r .next) ⌝ }
 {
     if text[at] == LINE_FEED {
         return LineCheck {
@@ -334,8 +334,8 @@ fn line_check(text: &[u8], at: usize) -> LineCheck
 // ---- rules 2 to 4 over many short lines at once
 
 // How many lines a byte ends.
-pub fn feed_of(b: u8) -> u8
-    ensures { λ r. ⌜ r ≡ feedOf b ⌝ }
+pub fn line_feed_of(b: u8) -> u8
+    ensures { λ r. ⌜ r ≡ lineFeedOf b ⌝ }
 {
     if b == LINE_FEED {
         return 1;
@@ -344,23 +344,23 @@ pub fn feed_of(b: u8) -> u8
 }
 
 // How many lines end within sixteen bytes. Each byte is looked at, so that a processor takes them at once.
-pub fn feeds_in(text: &[u8], from: usize) -> u8
+pub fn line_feeds_in(text: &[u8], from: usize) -> u8
     requires { ⌜ from + 16 ≤ length (now text) ⌝ }
-    ensures { λ r. ⌜ r ≡ feeds (take 16 (drop from (now (text .entry)))) ⌝ }
+    ensures { λ r. ⌜ r ≡ lineFeeds (take 16 (drop from (now (text .entry)))) ⌝ }
 {
     let end = from + BLOCK;
     let mut count = 0;
     let mut i = from;
     while i < end {
-        count += feed_of(text[i]);
+        count += line_feed_of(text[i]);
         i += 1;
     }
     count
 }
 
 // A byte that a line may hold, or an LF.
-fn is_usual(b: u8) -> bool
-    ensures { λ r. ⌜ r ≡ isUsual b ⌝ }
+fn is_line_byte(b: u8) -> bool
+    ensures { λ r. ⌜ r ≡ isLineByte b ⌝ }
 {
     if b == LINE_FEED {
         return true;
@@ -369,15 +369,15 @@ fn is_usual(b: u8) -> bool
 }
 
 // Whether sixteen bytes are all such, looked at in the same way.
-fn are_usual(text: &[u8], from: usize) -> bool
+fn are_line_bytes(text: &[u8], from: usize) -> bool
     requires { ⌜ from + 16 ≤ length (now text) ⌝ }
-    ensures { λ r. ⌜ r ≡ all isUsual (take 16 (drop from (now (text .entry)))) ⌝ }
+    ensures { λ r. ⌜ r ≡ all isLineByte (take 16 (drop from (now (text .entry)))) ⌝ }
 {
     let end = from + BLOCK;
     let mut whole = true;
     let mut i = from;
     while i < end {
-        whole = base::and(whole, is_usual(text[i]));
+        whole = base::and(whole, is_line_byte(text[i]));
         i += 1;
     }
     whole
@@ -390,7 +390,7 @@ struct Past {
 }
 
 // Where the last block ends in which a line ends: behind the one that was looked at last, or before it.
-fn mark_after(mark: usize, here: usize, ends: u8) -> usize
+fn last_end(mark: usize, here: usize, ends: u8) -> usize
     ensures { λ r. ⌜ r ≡ (if eqb ends 0 then mark else here) ⌝ }
 {
     if ends == 0 {
@@ -404,22 +404,22 @@ fn mark_after(mark: usize, here: usize, ends: u8) -> usize
 fn past_ends(text: &[u8], line: u64, most: usize) -> Past
     requires { ⌜ (line + length (now text) ≤ 2_097_152) × (most ≤ 80) ⌝ }
     ensures { λ r. ⌜ (r .at ≤ length (now (text .entry)))
-        × PassesLines (now (text .entry)) 0 line (r .at - backRun (isBefore 10) (now (text .entry)) (r .at)) (r .line) ⌝ }
+        × ResumesLines (now (text .entry)) 0 line (r .at - backRun (isBefore 10) (now (text .entry)) (r .at)) (r .line) ⌝ }
 {
     let mut here = 0;
     let mut mark = 0;
     let mut count = line;
     while BLOCK <= text.len() - here {
-        if !are_usual(text, here) {
+        if !are_line_bytes(text, here) {
             return Past {
                 at: mark,
                 line: count,
             };
         }
-        let ends = feeds_in(text, here);
+        let ends = line_feeds_in(text, here);
         count += ends as u64;
         here += BLOCK;
-        mark = mark_after(mark, here, ends);
+        mark = last_end(mark, here, ends);
         if most < here - mark {
             return Past {
                 at: mark,
@@ -436,7 +436,7 @@ fn past_ends(text: &[u8], line: u64, most: usize) -> Past
 // Past lines that break nothing, up to the start of one that is left to be looked at.
 fn past_short(text: &[u8], line: u64, most: usize) -> Past
     requires { ⌜ (line + length (now text) ≤ 2_097_152) × (most ≤ 80) ⌝ }
-    ensures { λ r. ⌜ PassesLines (now (text .entry)) 0 line (r .at) (r .line) ⌝ }
+    ensures { λ r. ⌜ ResumesLines (now (text .entry)) 0 line (r .at) (r .line) ⌝ }
 {
     let past = past_ends(text, line, most);
     Past {
@@ -448,7 +448,7 @@ fn past_short(text: &[u8], line: u64, most: usize) -> Past
 // Behind a short line, which has so many bytes, there are often more of about its size.
 fn past_more(text: &[u8], at: usize, line: u64, size: usize) -> Past
     requires { ⌜ (at ≤ length (now text)) × (line ≤ at + 1) × (length (now text) ≤ 1_048_576) ⌝ }
-    ensures { λ r. ⌜ PassesLines (now (text .entry)) at line (r .at) (r .line) ⌝ }
+    ensures { λ r. ⌜ ResumesLines (now (text .entry)) at line (r .at) (r .line) ⌝ }
 {
     if SHORT < size {
         return Past { at, line };
@@ -482,34 +482,34 @@ pub fn check_bytes(text: &[u8]) -> Checked
 }
 
 // The first two words of a line, with one look past them.
-pub fn few_words(s: &[u8]) -> Few
-    ensures { λ r. ⌜ r ≡ fewOf (now (s .entry)) ⌝ }
+pub fn first_two_words(s: &[u8]) -> FirstTwo
+    ensures { λ r. ⌜ r ≡ firstTwoOf (now (s .entry)) ⌝ }
 {
     let first = word_at(s, 0);
     let second = word_at(s, first.end);
     let third = base::past_blanks(s, second.end);
     if s.len() <= first.start {
-        return Few {
+        return FirstTwo {
             count: 0,
             first,
             second,
         };
     }
     if s.len() <= second.start {
-        return Few {
+        return FirstTwo {
             count: 1,
             first,
             second,
         };
     }
     if s.len() <= third {
-        return Few {
+        return FirstTwo {
             count: 2,
             first,
             second,
         };
     }
-    Few {
+    FirstTwo {
         count: 3,
         first,
         second,

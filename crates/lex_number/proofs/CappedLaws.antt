@@ -11,7 +11,7 @@ use Rattle.base.specs.If.{if_then_else_}
 use Rattle.base.proofs.IfLaws.{if-true, if-false, by-cases}
 use Rattle.lex_number.specs.declared.Digits.{Digits}
 use Rattle.lex_number.specs.Number.{isPoint, digitsGoOn, withPoint, withDigit, withByte, scan}
-use Rattle.lex_number.specs.Way.Capped.{sizeCap, cappedDigits, Kept}
+use Rattle.lex_number.specs.Way.Capped.{sizeCap, cappedDigits, CutDigits}
 
 -- one digit more: a number cut before the step gives the same as one cut after it
 pub cut-step : (cap a v : ℕ) → min (10 * min a cap + v) cap ≡ min (10 * a + v) cap
@@ -74,7 +74,7 @@ scan-cut (b ∷ s) d =
     (sym (scan-cut s (withByte (cappedDigits d) b)) ∙ ap (λ (x : Digits). cappedDigits (scan s x)) (byte-cut d b) ∙ scan-cut s (withByte d b)))
     (λ e. rw (scan-stops b s (cappedDigits d) (goes-cut d b ∙ e), scan-stops b s d e) (digits-twice d))
 
-pub kept-cut : (d : Digits) → Kept d → cappedDigits d ≡ d
+pub kept-cut : (d : Digits) → CutDigits d → cappedDigits d ≡ d
 unfolding cappedDigits
 kept-cut d k =
     let e : min (d .all) sizeCap ≡ d .all = omega arith in

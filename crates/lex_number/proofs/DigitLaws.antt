@@ -15,7 +15,7 @@ use Rattle.base.specs.Bytes.{isDigit, within}
 use Rattle.base.proofs.IfLaws.{if-true, if-false, by-test, either-left, either-rest, both-rest, both-not-left, both-first, both-second, either-false, either-comes}
 use Rattle.lex_number.specs.declared.Digits.{Digits}
 use Rattle.lex_number.specs.Number.{isPoint, noDigits, digitsGoOn, withPoint, withDigit, withByte, scan}
-use Rattle.lex_number.specs.Way.Capped.{sizeCap, cappedDigits, Kept}
+use Rattle.lex_number.specs.Way.Capped.{sizeCap, cappedDigits, CutDigits}
 use Rattle.lex_number.proofs.CappedLaws.{scan-goes, scan-stops, scan-ends, scan-cut, kept-cut}
 
 module _ (d : Digits) (b : ℕ) (t : Bool) (told : t ≡ isDigit b) where
@@ -32,7 +32,7 @@ module _ (d : Digits) (b : ℕ) (t : Bool) (told : t ≡ isDigit b) where
   goes-point e p = sym (either-rest _ _ (sym told ∙ e) ∙ both-rest _ _ (eq-eqb b 46 p))
 
 -- digits that are cut stay so past a point
-pub point-kept : (d : Digits) → Kept d → withPoint d ≡ cappedDigits (withPoint d)
+pub point-kept : (d : Digits) → CutDigits d → withPoint d ≡ cappedDigits (withPoint d)
 unfolding cappedDigits withPoint
 point-kept d k =
     let e : min (d .all) sizeCap ≡ d .all = omega arith in
@@ -80,13 +80,13 @@ pub byte-point : (r d : Digits) (b : ℕ) → b ≡ 46 → r ≡ cappedDigits (w
 unfolding withByte isPoint
 byte-point r d b p e = rw (if-true (withPoint d) (withDigit d (b - 48)) (eq-eqb b 46 p)) e
 
-pub kept-none : (from : ℕ) → Kept (noDigits from)
+pub kept-none : (from : ℕ) → CutDigits (noDigits from)
 unfolding noDigits
 kept-none from = record { all-cut = omega arith; size-cut = omega arith; zeros-within = omega arith; fraction-within = omega arith }
 
 -- where the loop begins
 module _ (s : List ℕ) (from : ℕ) (d : Digits) (told : d ≡ noDigits from) where
-  pub start-kept : Kept d
+  pub start-kept : CutDigits d
   start-kept = rw told (kept-none from)
 
   pub start-end : d .end ≡ from
@@ -96,11 +96,11 @@ module _ (s : List ℕ) (from : ℕ) (d : Digits) (told : d ≡ noDigits from) w
   pub start-same : cappedDigits (scan (drop from s) d) ≡ cappedDigits (scan (drop from s) (noDigits from))
   start-same = rw told
 
-counts-point : (d : Digits) → Kept d → Kept (cappedDigits (withPoint d))
+counts-point : (d : Digits) → CutDigits d → CutDigits (cappedDigits (withPoint d))
 unfolding cappedDigits withPoint
 counts-point d k = record { all-cut = omega arith; size-cut = omega arith; zeros-within = omega arith; fraction-within = omega arith }
 
-counts-digit : (d : Digits) (v : ℕ) → Kept d → Kept (cappedDigits (withDigit d v))
+counts-digit : (d : Digits) (v : ℕ) → CutDigits d → CutDigits (cappedDigits (withDigit d v))
 unfolding cappedDigits withDigit
 counts-digit d v k =
     record {
@@ -110,9 +110,9 @@ counts-digit d v k =
       fraction-within = by-test (λ (n : ℕ). n ≤ d .end + 1) (d .point) _ _ (λ e. omega arith) (λ e. omega arith);
     }
 
-pub kept-next : (d next : Digits) (b : ℕ) → Kept d → next ≡ cappedDigits (withByte d b) → Kept next
+pub matrix-keyword-next : (d next : Digits) (b : ℕ) → CutDigits d → next ≡ cappedDigits (withByte d b) → CutDigits next
 unfolding withByte
-kept-next d next b k e = rw e (by-test (λ (x : Digits). Kept (cappedDigits x)) (isPoint b) _ _ (λ t. counts-point d k) (λ t. counts-digit d (b - 48) k))
+matrix-keyword-next d next b k e = rw e (by-test (λ (x : Digits). CutDigits (cappedDigits x)) (isPoint b) _ _ (λ t. counts-point d k) (λ t. counts-digit d (b - 48) k))
 
 pub ends-next : (d : Digits) (b : ℕ) → cappedDigits (withByte d b) .end ≡ d .end + 1
 unfolding cappedDigits withByte withPoint withDigit
@@ -123,12 +123,12 @@ end-next d next b i e h = rw (e, ends-next d b, h)
 
 -- the loop over bytes: from the place that it has come to, the digits read so far lead to the same whole
 module _ (s : List ℕ) (i : ℕ) (d whole : Digits) (inv : cappedDigits (scan (drop i s) d) ≡ whole) where
-  pub digits-past : Kept d → length s ≤ i → d ≡ whole
+  pub digits-past : CutDigits d → length s ≤ i → d ≡ whole
   digits-past k h =
       let e : scan (drop i s) d ≡ d = rw (drop-of-length-le s h) (scan-ends d) in
       sym (kept-cut d k) ∙ ap cappedDigits (sym e) ∙ inv
 
-  pub digits-stop : (t : Bool) → Kept d → i < length s → t ≡ digitsGoOn d (getD s i 0) → not t ≡ true → d ≡ whole
+  pub digits-stop : (t : Bool) → CutDigits d → i < length s → t ≡ digitsGoOn d (getD s i 0) → not t ≡ true → d ≡ whole
   digits-stop t k h told stop =
       let e : scan (drop i s) d ≡ d = rw (drop-cons s i 0 h) (scan-stops (getD s i 0) (drop (suc i) s) d (sym told ∙ not-true t stop)) in
       sym (kept-cut d k) ∙ ap cappedDigits (sym e) ∙ inv

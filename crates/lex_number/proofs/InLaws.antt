@@ -20,7 +20,7 @@ use Rattle.base.proofs.RunLaws.{run-on, run-stop}
 use Rattle.lex_number.specs.declared.Number.{Number}
 use Rattle.lex_number.specs.declared.Number.the-variants.{Malformed}
 use Rattle.lex_number.specs.declared.NumberAt.{NumberAt}
-use Rattle.lex_number.specs.declared.Near.{Near}
+use Rattle.lex_number.specs.declared.ShortNumber.{ShortNumber}
 use Rattle.lex_number.specs.declared.Parts.{Parts}
 use Rattle.lex_number.specs.declared.Scale.{Scale}
 use Rattle.lex_number.specs.Number.{isSign, scaleOf, numberOf}
@@ -62,10 +62,10 @@ far-is comment s from r e =
     rw w at e
 
 -- what is not known, and what is
-pub unknown-knows : (comment : ℕ) (s : List ℕ) (from : ℕ) (r : Near) → r .known ≡ false → Knows comment s from r
+pub unknown-knows : (comment : ℕ) (s : List ℕ) (from : ℕ) (r : ShortNumber) → r .known ≡ false → Knows comment s from r
 unknown-knows comment s from r f = record { knows = λ (e : r .known ≡ true). absurd (true≢false (sym e ∙ f)) }
 
-pub near-is : (comment : ℕ) (s : List ℕ) (from : ℕ) (r : Near) → Knows comment s from r → r .known ≡ true → record { number = r .number; end = r .end } ≡ numberIn comment s from
+pub near-is : (comment : ℕ) (s : List ℕ) (from : ℕ) (r : ShortNumber) → Knows comment s from r → r .known ≡ true → record { number = r .number; end = r .end } ≡ numberIn comment s from
 near-is comment s from r told e = told .knows e
 
 -- ---- no byte that ends a word is what numbers are written with

@@ -20,9 +20,9 @@ use Rattle.lex_number.specs.declared.Scale.{Scale}
 use Rattle.lex_number.specs.declared.Number.{Number}
 use Rattle.lex_number.specs.declared.Number.the-variants.{Malformed}
 use Rattle.lex_number.specs.Number.{isSign, isE, isMinus, pastSign, noDigits, digitsGoOn, withByte, scan, digitsOf, noExponent, exponentAt, exponentOf, exponentFrom, scaleOf, raised, lowered, valueAs, wellFormed, numberFrom, numberOf}
-use Rattle.lex_number.specs.Way.Capped.{sizeCap, exponentCap, countCap, cappedDigits, cappedExponent, raising, lowering, Kept, Bounded}
+use Rattle.lex_number.specs.Way.Capped.{sizeCap, exponentCap, countCap, cappedDigits, cappedExponent, raising, lowering, CutDigits, BoundedNumber}
 use Rattle.lex_number.proofs.CappedLaws.{scan-goes, scan-stops, scan-ends, byte-cut, kept-cut}
-use Rattle.lex_number.proofs.DigitLaws.{kept-none, kept-next, ends-next}
+use Rattle.lex_number.proofs.DigitLaws.{kept-none, matrix-keyword-next, ends-next}
 use Rattle.lex_number.proofs.ScaleLaws.{scale-up, scale-down}
 use Rattle.lex_number.proofs.ValueLaws.{Agree, value-agree}
 
@@ -42,14 +42,14 @@ scan-end (b ∷ s) d =
     (λ (e : digitsGoOn d b ≡ false). rw (scan-stops b s d e) (omega arith))
 
 -- counts stay within the place that the digits end at
-scan-kept : (s : List ℕ) (d : Digits) → Kept (cappedDigits d) → Kept (cappedDigits (scan s d))
+scan-kept : (s : List ℕ) (d : Digits) → CutDigits (cappedDigits d) → CutDigits (cappedDigits (scan s d))
 scan-kept [] d k = rw (scan-ends d) k
 scan-kept (b ∷ s) d k =
     by-cases _ (digitsGoOn d b)
-    (λ (e : digitsGoOn d b ≡ true). rw (scan-goes b s d e) (scan-kept s (withByte d b) (kept-next (cappedDigits d) (cappedDigits (withByte d b)) b k (sym (byte-cut d b)))))
+    (λ (e : digitsGoOn d b ≡ true). rw (scan-goes b s d e) (scan-kept s (withByte d b) (matrix-keyword-next (cappedDigits d) (cappedDigits (withByte d b)) b k (sym (byte-cut d b)))))
     (λ (e : digitsGoOn d b ≡ false). rw (scan-stops b s d e) k)
 
-kept-cut-none : (from : ℕ) → Kept (cappedDigits (noDigits from))
+kept-cut-none : (from : ℕ) → CutDigits (cappedDigits (noDigits from))
 kept-cut-none from = rw (kept-cut (noDigits from) (kept-none from)) (kept-none from)
 
 -- a byte that passes a test that 0 does not stands within the word
@@ -120,7 +120,7 @@ module _ (s : List ℕ) (start : ℕ) (d : Digits) (x : Exponent) (sign : start 
       let e : d .end ≡ scan (drop start s) (noDigits start) .end = ap (λ (e : Digits). e .end) digits ∙ end-same _ in
       omega arith
 
-  digits-kept : Kept d
+  digits-kept : CutDigits d
   digits-kept = rw digits (scan-kept (drop start s) (noDigits start) (kept-cut-none start))
 
   pub number-within : x .end ≤ length s
@@ -131,9 +131,9 @@ module _ (s : List ℕ) (start : ℕ) (d : Digits) (x : Exponent) (sign : start 
   unfolding cappedExponent
   size-within = rw read (omega arith)
 
-  pub number-bounded : (c : Scale) (b : ℕ) → length s * 1 < 2 ^ 63 → c ≡ scaleOf b → Bounded d x c
+  pub number-bounded : (c : Scale) (b : ℕ) → length s * 1 < 2 ^ 63 → c ≡ scaleOf b → BoundedNumber d x c
   number-bounded c b fits e =
-      let k : Kept d = digits-kept in
+      let k : CutDigits d = digits-kept in
       let h : d .end ≤ length s = digits-end in
       record { size-cut = k .size-cut; zeros-below = omega arith; fraction-below = omega arith; exponent-cut = size-within; up-small = scale-up c b e; down-small = scale-down c b e }
 
@@ -145,7 +145,7 @@ module _ (s : List ℕ) (start : ℕ) (d : Digits) (x : Exponent) (sign : start 
   unfolding numberOf numberFrom
   number-malformed t told stop = sym (if-false _ _ (sym formed-same ∙ sym told ∙ not-true t stop))
 
-  exact-value : (negative : Bool) (c : Scale) → Bounded d x c → valueAs negative (d .size) (raised d x c) (lowered d x c) ≡ valueAs negative (digitsOf s .size) (raised (digitsOf s) (exponentFrom s (digitsOf s)) c) (lowered (digitsOf s) (exponentFrom s (digitsOf s)) c)
+  exact-value : (negative : Bool) (c : Scale) → BoundedNumber d x c → valueAs negative (d .size) (raised d x c) (lowered d x c) ≡ valueAs negative (digitsOf s .size) (raised (digitsOf s) (exponentFrom s (digitsOf s)) c) (lowered (digitsOf s) (exponentFrom s (digitsOf s)) c)
   unfolding cappedDigits
   exact-value negative c b =
       let z : d .zeros ≡ digitsOf s .zeros = ap (λ (e : Digits). e .zeros) digits-are in

@@ -21,7 +21,7 @@ use Rattle.lex_number.specs.declared.Number.{Number}
 use Rattle.lex_number.specs.declared.Number.the-variants.{Value, Range}
 use Rattle.lex_number.specs.ValueWord.{zeroWord, valueWord}
 use Rattle.lex_number.specs.Number.{raised, lowered, inRange, valueAs, wellFormed}
-use Rattle.lex_number.specs.Way.Capped.{sizeCap, exponentCap, raising, lowering, Bounded}
+use Rattle.lex_number.specs.Way.Capped.{sizeCap, exponentCap, raising, lowering, BoundedNumber}
 use Rattle.lex_number.proofs.AllLaws.{all-from}
 
 module _ (s : List ℕ) (d : Digits) (x : Exponent) where
@@ -88,7 +88,7 @@ value-agree negative m up down k raise lower a =
         (λ (f : inRange k raise lower ≡ false). value-outside negative m up down n e ∙ sym (value-outside negative k raise lower (λ (z : k ≡ 0). n (a .zero-from z)) f)))
 
 -- the power of ten as the code forms it, its sums cut, stands exactly where the exact one does
-module _ (negative : Bool) (d : Digits) (x : Exponent) (c : Scale) (bound : Bounded d x c) (p q up down : ℕ) (add : p ≡ raising x) (take : q ≡ lowering x) (raise : up ≡ min (d .zeros + p) exponentCap + c .up) (lower : down ≡ min (d .fraction + q) exponentCap + c .down) where
+module _ (negative : Bool) (d : Digits) (x : Exponent) (c : Scale) (bound : BoundedNumber d x c) (p q up down : ℕ) (add : p ≡ raising x) (take : q ≡ lowering x) (raise : up ≡ min (d .zeros + p) exponentCap + c .up) (lower : down ≡ min (d .fraction + q) exponentCap + c .down) where
   one-way : ((p ≡ 0) × (q ≡ x .size)) ⊎ ((p ≡ x .size) × (q ≡ 0))
   unfolding raising lowering
   one-way = by-cases _ (x .negative) (λ e. inl (add ∙ if-true _ _ e, take ∙ if-true _ _ e)) (λ e. inr (add ∙ if-false _ _ e, take ∙ if-false _ _ e))

@@ -12,8 +12,8 @@ ghost use lib.Dec.{ltb};
 ghost use Rattle.lex_number.specs.Number.{isSign, isMinus, isE, pastSign, digitsGoOn, noDigits, withPoint, withDigit, withByte, scan, noExponent, exponentOf, scalings, powerIn, aboveZero, scaleOf, raised, lowered, valueAs, wellFormed, numberOf, isFormed, isBounded};
 ghost use Rattle.lex_number.specs.Integer.{valueOf, wholeOf};
 ghost use Rattle.lex_number.specs.ValueWord.{valueWord, decimalOf, isDecimal, isValueWord};
-ghost use Rattle.lex_number.specs.Way.Capped.{exponentCap, countCap, cappedDigits, cappedExponent, sizeAt, raising, lowering, Kept, Bounded};
-ghost use Rattle.lex_number.specs.Way.At.{numberAt, weight, noReading, RunRead, DigitsRead, ExponentRead, PartsRead, Few, Splits, Says};
+ghost use Rattle.lex_number.specs.Way.Capped.{exponentCap, countCap, cappedDigits, cappedExponent, sizeAt, raising, lowering, CutDigits, BoundedNumber};
+ghost use Rattle.lex_number.specs.Way.At.{numberAt, weight, noReading, RunRead, DigitsRead, ExponentRead, PartsRead, ShortParts, Splits, Says};
 ghost use Rattle.lex_number.specs.Way.Block.{bytesOf, AreDigits, paired};
 ghost use Rattle.lex_number.specs.Way.In.{isWord, isSpelling, isValue, numberIn, Knows};
 use base::Class;
@@ -200,7 +200,7 @@ fn goes_on(d: Digits, b: u8) -> bool
 
 // The point passed over.
 fn with_point(d: Digits) -> Digits
-    requires { ⌜ Kept d ⌝ ∗ ⌜ d .end < countCap ⌝ }
+    requires { ⌜ CutDigits d ⌝ ∗ ⌜ d .end < countCap ⌝ }
     ensures { λ r. ⌜ r ≡ cappedDigits (withPoint d) ⌝ }
 {
     Digits {
@@ -216,7 +216,7 @@ fn with_point(d: Digits) -> Digits
 
 // One digit more. A 0 leaves the size as it is: only a later digit that is not 0 makes it part of m.
 fn with_digit(d: Digits, digit: u64) -> Digits
-    requires { ⌜ Kept d ⌝ ∗ ⌜ d .end < countCap ⌝ ∗ ⌜ digit ≤ 9 ⌝ }
+    requires { ⌜ CutDigits d ⌝ ∗ ⌜ d .end < countCap ⌝ ∗ ⌜ digit ≤ 9 ⌝ }
     ensures { λ r. ⌜ r ≡ cappedDigits (withDigit d digit) ⌝ }
 {
     let all = extended(d.all, digit, 100_000_000_000_000);
@@ -246,7 +246,7 @@ fn with_digit(d: Digits, digit: u64) -> Digits
 
 // The digits with one byte more, with which they go on.
 fn with_byte(d: Digits, b: u8) -> Digits
-    requires { ⌜ Kept d ⌝ ∗ ⌜ d .end < countCap ⌝ ∗ ⌜ digitsGoOn d b ≡ true ⌝ }
+    requires { ⌜ CutDigits d ⌝ ∗ ⌜ d .end < countCap ⌝ ∗ ⌜ digitsGoOn d b ≡ true ⌝ }
     ensures { λ r. ⌜ r ≡ cappedDigits (withByte d b) ⌝ }
 {
     if b == b'.' {
@@ -511,7 +511,7 @@ fn judged(negative: bool, size: u64, up: u64, down: u64) -> Number
 
 // The value of a well-formed number.
 fn value_of(negative: bool, d: Digits, x: Exponent, c: Scale) -> Number
-    requires { ⌜ Bounded d x c ⌝ }
+    requires { ⌜ BoundedNumber d x c ⌝ }
     ensures { λ r. ⌜ r ≡ valueAs negative (d .size) (raised d x c) (lowered d x c) ⌝ }
 {
     let up = power(d.zeros, raising(x), c.up);
@@ -844,7 +844,7 @@ fn without_zeros(all: u64) -> Trimmed
 
 // The value of a number whose parts are few bytes: no sum is cut.
 fn plain_value(parts: Parts, c: Scale) -> Number
-    requires { ⌜ Few parts ⌝ ∗ ⌜ c .up ≤ 15 ⌝ ∗ ⌜ c .down ≤ 15 ⌝ }
+    requires { ⌜ ShortParts parts ⌝ ∗ ⌜ c .up ≤ 15 ⌝ ∗ ⌜ c .down ≤ 15 ⌝ }
     ensures { λ r. ⌜ Says parts c r ⌝ }
 {
     let d = parts.digits;
@@ -895,7 +895,7 @@ pub fn word_end(s: &[u8], from: usize, comment: u8) -> usize
 }
 
 // The number that stands at `from`, whatever its word: first the word's end, then what it says.
-fn far_number(s: &[u8], from: usize, comment: u8) -> NumberAt
+fn long_number(s: &[u8], from: usize, comment: u8) -> NumberAt
     ensures { λ r. ⌜ r ≡ numberIn comment (now (s .entry)) from ⌝ }
 {
     if s.len() <= from {
@@ -912,17 +912,17 @@ fn far_number(s: &[u8], from: usize, comment: u8) -> NumberAt
 }
 
 // A number and where its word ends, if they are known.
-pub struct Near {
+pub struct ShortNumber {
     pub known: bool,
     pub number: Number,
     pub end: usize,
 }
 
 // Not known on the short way: the long one tells.
-fn unknown(from: usize) -> Near
+fn not_short(from: usize) -> ShortNumber
     ensures { λ r. ⌜ r .known ≡ false ⌝ }
 {
-    Near {
+    ShortNumber {
         known: false,
         number: Number::Malformed,
         end: from,
@@ -941,22 +941,22 @@ fn past_letter(s: &[u8], at: usize) -> usize
 }
 
 // The number at `from` of which the parts are read and a word goes on: known where letters follow them.
-fn scaled_in(s: &[u8], from: usize, comment: u8, parts: Parts) -> Near
+fn scaled_in(s: &[u8], from: usize, comment: u8, parts: Parts) -> ShortNumber
     requires { ⌜ isSpelling comment ≡ false ⌝ ∗ ⌜ from < length (now s) ⌝ ∗ ⌜ 40 ≤ length (now s) - from ⌝ ∗ ⌜ PartsRead (take (length (now s) - from) (drop from (now s))) parts ⌝ }
     ensures { λ r. ⌜ Knows comment (now (s .entry)) from r ⌝ }
 {
     let digits = parts.digits;
     if !digits.some {
-        return unknown(from);
+        return not_short(from);
     }
     if !base::is_letter(parts.next) {
-        return unknown(from);
+        return not_short(from);
     }
     let exponent = parts.exponent;
     let scale = scale_of(parts.next);
     let near = past_letter(s, from + exponent.end + 1);
     if !is_word(comment, s[near]) {
-        return Near {
+        return ShortNumber {
             known: true,
             number: plain_value(parts, scale),
             end: near,
@@ -964,9 +964,9 @@ fn scaled_in(s: &[u8], from: usize, comment: u8, parts: Parts) -> Near
     }
     let end = letters_end(s, near);
     if is_word_at(s, end, comment) {
-        return unknown(from);
+        return not_short(from);
     }
-    Near {
+    ShortNumber {
         known: true,
         number: plain_value(parts, scale),
         end,
@@ -974,15 +974,15 @@ fn scaled_in(s: &[u8], from: usize, comment: u8, parts: Parts) -> Near
 }
 
 // The number that stands at `from`: known where its bytes are few, and gone over once.
-fn near_in(s: &[u8], from: usize, comment: u8) -> Near
+fn short_number(s: &[u8], from: usize, comment: u8) -> ShortNumber
     requires { ⌜ isSpelling comment ≡ false ⌝ }
     ensures { λ r. ⌜ Knows comment (now (s .entry)) from r ⌝ }
 {
     if s.len() <= from {
-        return unknown(from);
+        return not_short(from);
     }
     if s.len() - from < ROOM {
-        return unknown(from);
+        return not_short(from);
     }
     let parts = parts_of(&s[from..]);
     if is_word(comment, parts.next) {
@@ -990,11 +990,11 @@ fn near_in(s: &[u8], from: usize, comment: u8) -> Near
     }
     let digits = parts.digits;
     if !digits.some {
-        return unknown(from);
+        return not_short(from);
     }
     let exponent = parts.exponent;
     let scale = Scale { up: 0, down: 0 };
-    Near {
+    ShortNumber {
         known: true,
         number: plain_value(parts, scale),
         end: from + exponent.end,
@@ -1007,13 +1007,13 @@ pub fn number_in(s: &[u8], from: usize, comment: u8) -> NumberAt
     requires { ⌜ isSpelling comment ≡ false ⌝ }
     ensures { λ r. ⌜ r ≡ numberIn comment (now (s .entry)) from ⌝ }
 {
-    let near = near_in(s, from, comment);
+    let near = short_number(s, from, comment);
     if near.known {
         let number = near.number;
         let end = near.end;
         return NumberAt { number, end };
     }
-    let far = far_number(&s[0..], from, comment);
+    let far = long_number(&s[0..], from, comment);
     let number = far.number;
     let end = far.end;
     NumberAt { number, end }

@@ -20,7 +20,7 @@ use Rattle.base.proofs.IfLaws.{by-cases, both-true, both-rest, both-not-left, b
 use Rattle.lex_number.specs.declared.Whole.{Whole}
 use Rattle.lex_number.specs.Integer.{wholeOf}
 use Rattle.lex_number.proofs.AllLaws.{all-run}
-use Rattle.line_place.specs.Place.{keepsMatrix}
+use Rattle.line_place.specs.Place.{isRowOrBandwidth}
 use Rattle.line_argument.specs.Argument.{isOneWord, isName, isReserved, isFileByte, isExtension, isFileName, isBadInteger}
 
 -- every byte passes where the run from the front ends at the end
@@ -105,7 +105,7 @@ module _ (s : List ℕ) (whole : Whole) (told : whole ≡ wholeOf s) where
   wide-band = rw told
 
 -- 13 of a keyword line; t says whether the keyword takes an integer
-module _ (key : ℕ) (s : List ℕ) (t : Bool) (told : t ≡ keepsMatrix key) where
+module _ (key : ℕ) (s : List ℕ) (t : Bool) (told : t ≡ isRowOrBandwidth key) where
   pub no-integer : not t ≡ true → false ≡ isBadInteger key s
   unfolding isBadInteger
   no-integer e = sym (both-not-left _ _ (sym told ∙ not-true t e))

@@ -34,7 +34,7 @@ use Rattle.lex_keyword.specs.Names.{
   beginIcmSection,
   treePathDescription,
 }
-use Rattle.line_place.specs.Place.{opensMatrix, keepsMatrix}
+use Rattle.line_place.specs.Place.{opensMatrix, isRowOrBandwidth}
 
 -- "names .. never POWER, GND, NC or NA"
 unfoldable pub isReserved : List ℕ → Bool
@@ -102,7 +102,7 @@ isBadForm k s =
 -- "11 ARGUMENT: argument missing, surplus or not allowed". A keyword that opens a text block takes any text, also none
 unfoldable pub isBadArgument : ℕ → List ℕ → Bool
 isBadArgument k s =
-    if keepsMatrix k then not (isOneWord s) else
+    if isRowOrBandwidth k then not (isOneWord s) else
     if opensMatrix k then eqb (formOf s) 4 else
     if takesNothing k then ltb 0 (length s) else
     if takesName k then not (isName s) else
@@ -110,7 +110,7 @@ isBadArgument k s =
 
 -- 13 of a keyword line: [Row] and [Bandwidth] take an integer
 unfoldable pub isBadInteger : ℕ → List ℕ → Bool
-isBadInteger k s = both (keepsMatrix k) (not (wholeOf s .formed))
+isBadInteger k s = both (isRowOrBandwidth k) (not (wholeOf s .formed))
 
 -- 14 of a keyword line: "[Row] .. 1 to 256; B 0 to 255"
 unfoldable pub isOutOfBounds : ℕ → List ℕ → Bool

@@ -239,7 +239,7 @@ fn is_bad_form(key: u64, argument: &[u8]) -> bool
 pub fn is_bad_argument(key: u64, argument: &[u8]) -> bool
     ensures { λ r. ⌜ r ≡ isBadArgument key (now (argument .entry)) ⌝ }
 {
-    if line_place::keeps_matrix(key) {
+    if line_place::is_row_or_bandwidth(key) {
         return !is_one_word(argument);
     }
     if line_place::opens_matrix(key) {
@@ -261,7 +261,7 @@ pub fn is_bad_argument(key: u64, argument: &[u8]) -> bool
 pub fn is_bad_integer(key: u64, argument: &[u8]) -> bool
     ensures { λ r. ⌜ r ≡ isBadInteger key (now (argument .entry)) ⌝ }
 {
-    if !line_place::keeps_matrix(key) {
+    if !line_place::is_row_or_bandwidth(key) {
         return false;
     }
     let whole = lex_number::read_integer(argument);

@@ -17,8 +17,8 @@ use Rattle.base.specs.Way.Class.{runEnd}
 use Rattle.base.proofs.IfLaws.{if-true, if-false, both-true, both-not-left, both-not-right, not-via, not-not-via}
 use Rattle.base.proofs.RunLaws.{run-le}
 use Rattle.lex_line.specs.Words.{words, firstOf, secondOf, leftOf, rightOf, toEquals}
-use Rattle.lex_line.specs.Way.Spans.{fewOf, markedBy}
-use Rattle.lex_line.specs.declared.Few.{Few}
+use Rattle.lex_line.specs.Way.Spans.{firstTwoOf, markedBy}
+use Rattle.lex_line.specs.declared.FirstTwo.{FirstTwo}
 use Rattle.lex_line.proofs.WordLaws.{first-marked, second-marked}
 use Rattle.lex_line.proofs.FormLaws.{counted, counted-not, part-from, sign-none, sign-there, left-words, right-words}
 use Rattle.lex_number.specs.Number.{numberOf, isFormed, isBounded}
@@ -67,7 +67,7 @@ module _ (w : List ℕ) (colon : ℕ) (at : colon ≡ runEnd (isBefore (code ":"
   colon-ratio ratio e = e ∙ ap (λ (n : ℕ). wholeOf (take n w)) colon-is
 
 -- what a reader knows of a line: its first two words and how many there are
-module _ (content : List ℕ) (few : Few) (told : few ≡ fewOf content) where
+module _ (content : List ℕ) (few : FirstTwo) (told : few ≡ firstTwoOf content) where
   pub type-count : (r : HeadLine) → (few .count ≡ 2 → ⊥) → r ≡ wrongHeadLine saysModelType → r ≡ typeLine (words content)
   type-count r n h = h ∙ type-surplus (words content) (counted-not content few told 2 (omega arith) n)
 
@@ -109,7 +109,7 @@ module _ (content : List ℕ) (sign : ℕ) (at : sign ≡ toEquals content) wher
   unfolding impedanceLine
   impedance-none r h e = e ∙ sym (if-false _ _ (both-not-left _ _ (sign-none content sign at h)))
 
-  module _ (left : Few) (before : left ≡ fewOf (take sign content)) where
+  module _ (left : FirstTwo) (before : left ≡ firstTwoOf (take sign content)) where
     pub impedance-named : (w : List ℕ) (t : Bool) → w ≡ markedBy (take sign content) (left .first) → t ≡ same w (bytes "Ref_impedance") → t ≡ same (firstOf (leftOf content)) (bytes "Ref_impedance")
     impedance-named w t there h = h ∙ ap (λ (s : List ℕ). same s (bytes "Ref_impedance")) (there ∙ first-marked (take sign content) left before ∙ ap firstOf (left-words content sign at))
 
@@ -119,7 +119,7 @@ module _ (content : List ℕ) (sign : ℕ) (at : sign ≡ toEquals content) wher
         let k : eqb (length (leftOf content)) 1 ≡ false = ap (λ (ws : List (List ℕ)). eqb (length ws) 1) (sym (left-words content sign at)) ∙ counted-not (take sign content) left before 1 (omega arith) n in
         e ∙ sym (if-false _ _ (both-not-right _ _ (both-not-left _ _ k)))
 
-    module _ (right : Few) (after : right ≡ fewOf (take (length content - (sign + 1)) (drop (sign + 1) content))) where
+    module _ (right : FirstTwo) (after : right ≡ firstTwoOf (take (length content - (sign + 1)) (drop (sign + 1) content))) where
       pub impedance-surplus-after : (r : HeadLine) → (right .count ≡ 1 → ⊥) → r ≡ wrongHeadLine saysImpedance → r ≡ impedanceLine content
       unfolding impedanceLine
       impedance-surplus-after r n e =
@@ -136,7 +136,7 @@ module _ (content : List ℕ) (sign : ℕ) (at : sign ≡ toEquals content) wher
 
 -- ---- a line by its first word
 
-module _ (content : List ℕ) (few : Few) (told : few ≡ fewOf content) (w : List ℕ) (there : w ≡ markedBy content (few .first)) where
+module _ (content : List ℕ) (few : FirstTwo) (told : few ≡ firstTwoOf content) (w : List ℕ) (there : w ≡ markedBy content (few .first)) where
   named-is : (t : Bool) (name : List ℕ) → t ≡ same w name → same (firstOf (words content)) name ≡ t
   named-is t name h = sym (h ∙ ap (λ (s : List ℕ). same s name) (there ∙ first-marked content few told))
 

@@ -3,10 +3,10 @@ ghost use mathlib.Core.Path.{_≡_};
 ghost use Rattle.base.specs.Bytes.{bytes};
 ghost use Rattle.base.specs.Runs.{same};
 ghost use Rattle.lex_line.specs.Words.{words, firstOf, leftOf};
-ghost use Rattle.lex_line.specs.Way.Spans.{fewOf};
+ghost use Rattle.lex_line.specs.Way.Spans.{firstTwoOf};
 ghost use Rattle.line_head.specs.Head.{modelTypeOf, wrongHeadLine, typeLine, sgrLine, impedanceLine, headLineOf, isHeadOutOfOrder, headRule, headNext, newHead, headLacks};
 use base::Class;
-use lex_line::Few;
+use lex_line::FirstTwo;
 
 // What a line of the head says: none of the three, or which.
 const NOTHING: u64 = 0;
@@ -70,8 +70,8 @@ fn wrong_line(says: u64) -> HeadLine
 }
 
 // "ICM_model_type (SLM_general, SLM_quiescent, MLM)".
-fn type_line(content: &[u8], few: Few) -> HeadLine
-    requires { ⌜ few ≡ fewOf (now content) ⌝ }
+fn type_line(content: &[u8], few: FirstTwo) -> HeadLine
+    requires { ⌜ few ≡ firstTwoOf (now content) ⌝ }
     ensures { λ r. ⌜ r ≡ typeLine (words (now (content .entry))) ⌝ }
 {
     if few.count != 2 {
@@ -92,8 +92,8 @@ fn type_line(content: &[u8], few: Few) -> HeadLine
 }
 
 // "`SGR n:1`, n 1 to 65,535": one word, parted at its first colon, after which exactly `1` stands.
-fn sgr_line(content: &[u8], few: Few) -> HeadLine
-    requires { ⌜ few ≡ fewOf (now content) ⌝ }
+fn sgr_line(content: &[u8], few: FirstTwo) -> HeadLine
+    requires { ⌜ few ≡ firstTwoOf (now content) ⌝ }
     ensures { λ r. ⌜ r ≡ sgrLine (words (now (content .entry))) ⌝ }
 {
     if few.count != 2 {
@@ -123,12 +123,12 @@ fn impedance_line(content: &[u8]) -> HeadLine
     if content.len() <= sign {
         return wrong_line(IMPEDANCE);
     }
-    let left = lex_line::few_words(&content[..sign]);
+    let left = lex_line::first_two_words(&content[..sign]);
     if left.count != 1 {
         return wrong_line(IMPEDANCE);
     }
     let rest = &content[sign + 1..];
-    let right = lex_line::few_words(rest);
+    let right = lex_line::first_two_words(rest);
     if right.count != 1 {
         return wrong_line(IMPEDANCE);
     }
@@ -149,7 +149,7 @@ fn is_impedance(content: &[u8]) -> bool
 {
     let sign = lex_line::equals_at(content);
     let left = &content[..sign];
-    let few = lex_line::few_words(left);
+    let few = lex_line::first_two_words(left);
     let first = few.first;
     lex_line::same_bytes(lex_line::marked(left, first), b"Ref_impedance")
 }
@@ -158,7 +158,7 @@ fn is_impedance(content: &[u8]) -> bool
 pub fn head_line(content: &[u8]) -> HeadLine
     ensures { λ r. ⌜ r ≡ headLineOf (now (content .entry)) ⌝ }
 {
-    let few = lex_line::few_words(content);
+    let few = lex_line::first_two_words(content);
     let first = few.first;
     let word = lex_line::marked(content, first);
     if lex_line::same_bytes(word, b"ICM_model_type") {

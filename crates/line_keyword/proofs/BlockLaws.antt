@@ -28,7 +28,7 @@ use Rattle.line_keyword.specs.Keywords.{
   countsAfter,
   keywordNext,
 }
-use Rattle.line_keyword.specs.Way.Row.{keptRule, keptNext}
+use Rattle.line_keyword.specs.Way.Row.{matrixKeywordRule, matrixKeywordNext}
 use Rattle.line_head.specs.Head.{newHead}
 use Rattle.line_head.specs.declared.Head.{Head}
 use Rattle.line_path.specs.Path.{newPath}
@@ -40,7 +40,7 @@ use Rattle.base.specs.Broken.{Rule, _when_}
 use Rattle.base.proofs.IfLaws.{if-true, if-false, either-false, either-rest}
 use Rattle.base.proofs.BrokenLaws.{Numbered, all-kept}
 use Rattle.lex_keyword.specs.Names.{row, bandwidth, beginIcmModel, beginIcmSection, derivationMethod, icmPinMap}
-use Rattle.line_place.specs.Place.{moved, keepsMatrix, opensMatrix}
+use Rattle.line_place.specs.Place.{moved, isRowOrBandwidth, opensMatrix}
 use Rattle.line_argument.specs.Argument.{isBadArgument, isBadInteger, isOutOfBounds, formOf, methodOf}
 use Rattle.line_matrix.specs.Matrix.{newMatrix, withRow, withBandwidth}
 use Rattle.line_matrix.specs.declared.Matrix.{Matrix}
@@ -59,8 +59,8 @@ by-value k argument m w read answer h = h ∙ ap (λ (v : Whole). isWrongInMatri
 -- ---- what is remembered
 
 -- one that there is none of keeps no matrix
-none-keeps : (k : ℕ) → 40 ≤ k → keepsMatrix k ≡ false
-unfolding keepsMatrix
+none-keeps : (k : ℕ) → 40 ≤ k → isRowOrBandwidth k ≡ false
+unfolding isRowOrBandwidth
 none-keeps k h = either-false _ _ (ne-eqb k row (λ (e : k ≡ row). omega arith)) (ne-eqb k bandwidth (λ (e : k ≡ bandwidth). omega arith))
 
 -- a keyword that there is none of is not marked
@@ -118,24 +118,24 @@ module _ (k : ℕ) (argument : List ℕ) (m : Matrix) where
   numbered : Numbered keptRules
   numbered = (omega arith, (omega arith, (omega arith, (omega arith, tt))))
 
-  kept-bounds : keptRule k argument m ≡ 0 → isOutOfBounds k argument ≡ false
-  unfolding keptRule
+  kept-bounds : matrixKeywordRule k argument m ≡ 0 → isOutOfBounds k argument ≡ false
+  unfolding matrixKeywordRule
   kept-bounds kept = all-kept keptRules numbered kept 2
 
   -- a keyword that keeps a matrix and is not [Row] is [Bandwidth], and its argument is small
-  pub kept-small : keepsMatrix k ≡ true → keptRule k argument m ≡ 0 → (k ≡ row → ⊥) → (w : Whole) → w ≡ wholeOf argument → w .value ≤ 255
-  unfolding keepsMatrix
+  pub kept-small : isRowOrBandwidth k ≡ true → matrixKeywordRule k argument m ≡ 0 → (k ≡ row → ⊥) → (w : Whole) → w ≡ wholeOf argument → w .value ≤ 255
+  unfolding isRowOrBandwidth
   kept-small keeps kept r w read =
       let b : k ≡ bandwidth = eqb-true k bandwidth (sym (either-rest _ _ (ne-eqb k row r)) ∙ keeps) in
       bandwidth-small k argument (kept-bounds kept) r b w read
 
   module _ (values : ℕ) (w : Whole) (read : w ≡ wholeOf argument) (next : Matrix) where
-    pub kept-row : k ≡ row → next ≡ withRow (w .value) m values → next ≡ keptNext k argument m values
-    unfolding keptNext
+    pub kept-row : k ≡ row → next ≡ withRow (w .value) m values → next ≡ matrixKeywordNext k argument m values
+    unfolding matrixKeywordNext
     kept-row r e = e ∙ ap (λ (x : Whole). withRow (x .value) m values) read ∙ sym (if-true _ _ (eq-eqb _ _ r))
 
-    pub kept-bandwidth : (k ≡ row → ⊥) → next ≡ withBandwidth (w .value) m → next ≡ keptNext k argument m values
-    unfolding keptNext
+    pub kept-bandwidth : (k ≡ row → ⊥) → next ≡ withBandwidth (w .value) m → next ≡ matrixKeywordNext k argument m values
+    unfolding matrixKeywordNext
     kept-bandwidth r e = e ∙ ap (λ (x : Whole). withBandwidth (x .value) m) read ∙ sym (if-false _ _ (ne-eqb _ _ r))
 
 pub counts-told : (k : ℕ) (c : Counts) (models maps sections matrices : ℕ) (opens : Bool) → opens ≡ opensMatrix k → models ≡ oneMoreIf (eqb k beginIcmModel) (c .models) → maps ≡ oneMoreIf (eqb k icmPinMap) (c .maps) → sections ≡ oneMoreIf (eqb k beginIcmSection) (c .sections) → matrices ≡ oneMoreIf opens (c .matrices) → record { models = models; steps = c .steps; maps = maps; pins = c .pins; sections = sections; matrices = matrices; values = c .values } ≡ countsAfter k c

@@ -11,7 +11,7 @@ use Rattle.base.specs.If.{if_then_else_, both, either}
 use Rattle.base.specs.Broken.{first}
 use Rattle.base.proofs.IfLaws.{by-cases, either-rest, either-false}
 use Rattle.lex_keyword.specs.Names.{row, bandwidth}
-use Rattle.line_place.specs.Place.{moved, leadsInMatrix, opensMatrix, keepsMatrix, standsInHeader, opensHeaderText}
+use Rattle.line_place.specs.Place.{moved, leadsInMatrix, opensMatrix, isRowOrBandwidth, standsInHeader, opensHeaderText}
 use Rattle.line_place.specs.Place as place
 use Rattle.line_keyword.specs.declared.State.{State}
 use Rattle.line_keyword.specs.Keywords.{
@@ -38,19 +38,19 @@ use Rattle.line_keyword.specs.Keywords.{
   countsAfter,
   keywordNext,
 }
-use Rattle.line_keyword.specs.Way.Row.{keptRule, keptNext}
+use Rattle.line_keyword.specs.Way.Row.{matrixKeywordRule, matrixKeywordNext}
 
 -- a keyword that keeps a matrix open is one of two
-kept-by : (P : ℕ → Type 0) (k : ℕ) → keepsMatrix k ≡ true → P row → P bandwidth → P k
-unfolding keepsMatrix
+kept-by : (P : ℕ → Type 0) (k : ℕ) → isRowOrBandwidth k ≡ true → P row → P bandwidth → P k
+unfolding isRowOrBandwidth
 kept-by P k keeps r b =
     by-cases (P k) (eqb k row)
     (λ (e : eqb k row ≡ true). let f : k ≡ row = eqb-true k row e in rw f r)
     (λ (e : eqb k row ≡ false). let f : k ≡ bandwidth = eqb-true k bandwidth (sym (either-rest _ _ e) ∙ keeps) in rw f b)
 
 -- one that opens a matrix keeps none
-pub opens-closes : (k : ℕ) → opensMatrix k ≡ true → keepsMatrix k ≡ false
-unfolding keepsMatrix opensMatrix either
+pub opens-closes : (k : ℕ) → opensMatrix k ≡ true → isRowOrBandwidth k ≡ false
+unfolding isRowOrBandwidth opensMatrix either
 opens-closes k opens =
     let other : (j : ℕ) → opensMatrix j ≡ false → eqb k j ≡ false =
     λ (j : ℕ) (g : opensMatrix j ≡ false). ne-eqb k j (λ (e : k ≡ j). true≢false (sym opens ∙ ap opensMatrix e ∙ g)) in
@@ -66,30 +66,30 @@ goesOn k argument s =
       path = s .path;
       map = s .map;
       section = s .section;
-      matrix = keptNext k argument (s .matrix) (s .counts .values);
+      matrix = matrixKeywordNext k argument (s .matrix) (s .counts .values);
       counts = s .counts;
     }
 
 module _ (argument : List ℕ) (s : State) (inside : s .place ≡ place.matrix) where
-  row-rule : keywordRule row argument s ≡ keptRule row argument (s .matrix)
-  unfolding keywordRule keptRule first isForkOpen isMisplaced moved leadsInMatrix keepsMatrix isUnclosed isRepeated isOnce standsInHeader opensHeaderText opensMatrix isLacking isShapeBroken isMatrixBroken isPastBound closesTooWide isFull if_then_else_ both either
+  row-rule : keywordRule row argument s ≡ matrixKeywordRule row argument (s .matrix)
+  unfolding keywordRule matrixKeywordRule first isForkOpen isMisplaced moved leadsInMatrix isRowOrBandwidth isUnclosed isRepeated isOnce standsInHeader opensHeaderText opensMatrix isLacking isShapeBroken isMatrixBroken isPastBound closesTooWide isFull if_then_else_ both either
   row-rule = rw inside
 
-  bandwidth-rule : keywordRule bandwidth argument s ≡ keptRule bandwidth argument (s .matrix)
-  unfolding keywordRule keptRule first isForkOpen isMisplaced moved leadsInMatrix keepsMatrix isUnclosed isRepeated isOnce standsInHeader opensHeaderText opensMatrix isLacking isShapeBroken isMatrixBroken isPastBound closesTooWide isFull if_then_else_ both either
+  bandwidth-rule : keywordRule bandwidth argument s ≡ matrixKeywordRule bandwidth argument (s .matrix)
+  unfolding keywordRule matrixKeywordRule first isForkOpen isMisplaced moved leadsInMatrix isRowOrBandwidth isUnclosed isRepeated isOnce standsInHeader opensHeaderText opensMatrix isLacking isShapeBroken isMatrixBroken isPastBound closesTooWide isFull if_then_else_ both either
   bandwidth-rule = rw inside
 
   row-next : keywordNext row argument s ≡ goesOn row argument s
-  unfolding keywordNext keptNext moved leadsInMatrix keepsMatrix opensMatrix seenAfter headAfter pathAfter mapAfter sectionAfter conductorsAfter matrixAfter countsAfter oneMoreIf if_then_else_ either
+  unfolding keywordNext matrixKeywordNext moved leadsInMatrix isRowOrBandwidth opensMatrix seenAfter headAfter pathAfter mapAfter sectionAfter conductorsAfter matrixAfter countsAfter oneMoreIf if_then_else_ either
   row-next = rw inside
 
   bandwidth-next : keywordNext bandwidth argument s ≡ goesOn bandwidth argument s
-  unfolding keywordNext keptNext moved leadsInMatrix keepsMatrix opensMatrix seenAfter headAfter pathAfter mapAfter sectionAfter conductorsAfter matrixAfter countsAfter oneMoreIf if_then_else_ either
+  unfolding keywordNext matrixKeywordNext moved leadsInMatrix isRowOrBandwidth opensMatrix seenAfter headAfter pathAfter mapAfter sectionAfter conductorsAfter matrixAfter countsAfter oneMoreIf if_then_else_ either
   bandwidth-next = rw inside
 
-  module _ (k : ℕ) (keeps : keepsMatrix k ≡ true) where
-    pub kept-rule-is : keywordRule k argument s ≡ keptRule k argument (s .matrix)
-    kept-rule-is = kept-by (λ (j : ℕ). keywordRule j argument s ≡ keptRule j argument (s .matrix)) k keeps row-rule bandwidth-rule
+  module _ (k : ℕ) (keeps : isRowOrBandwidth k ≡ true) where
+    pub matrix-keyword-rule-is : keywordRule k argument s ≡ matrixKeywordRule k argument (s .matrix)
+    matrix-keyword-rule-is = kept-by (λ (j : ℕ). keywordRule j argument s ≡ matrixKeywordRule j argument (s .matrix)) k keeps row-rule bandwidth-rule
 
-    pub kept-next-is : keywordNext k argument s ≡ goesOn k argument s
-    kept-next-is = kept-by (λ (j : ℕ). keywordNext j argument s ≡ goesOn j argument s) k keeps row-next bandwidth-next
+    pub matrix-keyword-next-is : keywordNext k argument s ≡ goesOn k argument s
+    matrix-keyword-next-is = kept-by (λ (j : ℕ). keywordNext j argument s ≡ goesOn j argument s) k keeps row-next bandwidth-next

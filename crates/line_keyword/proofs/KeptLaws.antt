@@ -18,13 +18,13 @@ use Rattle.line_argument.specs.Argument.{isBadArgument, isBadInteger, isOutOfBo
 use Rattle.line_path.specs.Path.{deepest, newPath}
 use Rattle.line_path.specs.declared.Path.{Path}
 use Rattle.line_path.proofs.DepthLaws.{new-outside}
-use Rattle.line_map.specs.Way.Bounded.{Bounded}
+use Rattle.line_map.specs.Way.Bounded.{BoundedMap}
 use Rattle.line_map.specs.declared.Map.{Map}
 use Rattle.line_map.proofs.MapLaws.{new-bounded}
 use Rattle.line_keyword.specs.declared.Counts.{Counts}
 use Rattle.line_keyword.specs.declared.State.{State}
 use Rattle.line_keyword.specs.State.{startState, noCounts}
-use Rattle.line_keyword.specs.Way.Kept.{Countable, Kept}
+use Rattle.line_keyword.specs.Way.Kept.{Countable, BoundedState}
 use Rattle.line_keyword.specs.Keywords.{
   mostModels,
   mostMaps,
@@ -48,7 +48,7 @@ new-shallow =
     let e : newPath .depth ≡ 0 = new-outside in
     omega arith
 
-pub start-kept : Kept 0 startState
+pub start-kept : BoundedState 0 startState
 unfolding startState noCounts
 start-kept =
     record {
@@ -139,16 +139,16 @@ path-shallow k p h =
     (λ (e : eqb k treePathDescription ≡ true). new-shallow)
     (λ (e : eqb k treePathDescription ≡ false). h)
 
-map-bounded : (k : ℕ) (m : Map) → Bounded m → Bounded (mapAfter k m)
+map-bounded : (k : ℕ) (m : Map) → BoundedMap m → BoundedMap (mapAfter k m)
 unfolding mapAfter
 map-bounded k m h =
-    by-test (λ (q : Map). Bounded q) (eqb k icmPinMap) _ _
+    by-test (λ (q : Map). BoundedMap q) (eqb k icmPinMap) _ _
     (λ (e : eqb k icmPinMap ≡ true). new-bounded)
     (λ (e : eqb k icmPinMap ≡ false). h)
 
 -- ---- a line more
 
-pub keyword-kept : (n k : ℕ) (argument : List ℕ) (s : State) → Kept n s → keywordRule k argument s ≡ 0 → Kept (n + 1) (keywordNext k argument s)
+pub keyword-kept : (n k : ℕ) (argument : List ℕ) (s : State) → BoundedState n s → keywordRule k argument s ≡ 0 → BoundedState (n + 1) (keywordNext k argument s)
 unfolding keywordNext countsAfter
 keyword-kept n k argument s h e =
     let room : isFull k (s .counts) ≡ false = keyword-room k argument s e in
@@ -167,7 +167,7 @@ keyword-kept n k argument s h e =
 -- ---- what follows from it
 
 -- the four counts that a keyword raises are far from the end of a word of 64 bits, where fewer lines than that have been read
-pub kept-countable : (n : ℕ) (s : State) → Kept n s → n < 2 ^ 63 → Countable (s .counts)
+pub kept-countable : (n : ℕ) (s : State) → BoundedState n s → n < 2 ^ 63 → Countable (s .counts)
 kept-countable n s h b =
     record {
       models = lt-of-le-of-lt (h .models) (omega arith);
@@ -177,7 +177,7 @@ kept-countable n s h b =
     }
 
 -- it holds for any greater number of lines
-pub kept-more : (n m : ℕ) (s : State) → Kept n s → n ≤ m → Kept m s
+pub kept-more : (n m : ℕ) (s : State) → BoundedState n s → n ≤ m → BoundedState m s
 kept-more n m s h b =
     record {
       models = h .models;

@@ -32,7 +32,7 @@ use Rattle.lex_keyword.specs.Names.{
   icmModelDescription,
   icmFamilyDescription,
 }
-use Rattle.line_place.specs.Place.{moved, dead, opensMatrix, keepsMatrix, standsInHeader, opensHeaderText}
+use Rattle.line_place.specs.Place.{moved, dead, opensMatrix, isRowOrBandwidth, standsInHeader, opensHeaderText}
 use Rattle.line_place.specs.Place as place
 use Rattle.line_argument.specs.Argument.{isBadArgument, isBadInteger, isOutOfBounds, formOf, methodOf}
 use Rattle.line_head.specs.Head.{headLacks, newHead}
@@ -132,7 +132,7 @@ isWrongInMatrix k value m = if eqb k row then isWrongRow value m else isWrongBan
 -- in a matrix: by [Row] or [Bandwidth] there, or by the matrix that any other keyword closes
 unfoldable pub isMatrixBroken : ℕ → List ℕ → State → Bool
 isMatrixBroken k argument s =
-    if keepsMatrix k
+    if isRowOrBandwidth k
     then isWrongInMatrix k (wholeOf argument .value) (s .matrix)
     else isWrongShape (s .matrix) (s .section .conductors) (s .counts .values)
 
@@ -155,7 +155,7 @@ mostSections = 256
 -- a diagonal over 256, at the keyword that closes it
 unfoldable pub closesTooWide : ℕ → State → Bool
 closesTooWide k s =
-    both (eqb (s .place) place.matrix) (both (not (keepsMatrix k)) (isTooWide (s .matrix) (s .counts .values)))
+    both (eqb (s .place) place.matrix) (both (not (isRowOrBandwidth k)) (isTooWide (s .matrix) (s .counts .values)))
 
 -- as many as there may be
 unfoldable pub isFull : ℕ → Counts → Bool
@@ -186,7 +186,7 @@ keywordRule k argument s =
 -- number of times, and is not marked
 unfoldable pub seenAfter : ℕ → List Bool → List Bool
 seenAfter k seen =
-    if keepsMatrix k then seen else
+    if isRowOrBandwidth k then seen else
     if eqb k beginIcmModel then set (set seen treePathDescription false) icmModelDescription false else
     if eqb k beginIcmSection
     then set (set (set (set seen resistanceMatrix false) inductanceMatrix false) conductanceMatrix false) capacitanceMatrix false
@@ -205,7 +205,7 @@ mapAfter k m = if eqb k icmPinMap then newMap else m
 unfoldable pub conductorsAfter : ℕ → State → ℕ
 conductorsAfter k s =
     if not (eqb (s .place) place.matrix) then s .section .conductors else
-    if keepsMatrix k then s .section .conductors else shapeConductors (s .matrix) (s .counts .values)
+    if isRowOrBandwidth k then s .section .conductors else shapeConductors (s .matrix) (s .counts .values)
 
 unfoldable pub sectionAfter : ℕ → List ℕ → State → Section
 sectionAfter k argument s =

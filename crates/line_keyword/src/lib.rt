@@ -3,12 +3,12 @@ ghost use mathlib.Core.Path.{_≡_};
 ghost use mathlib.Core.Bool.{true, false};
 ghost use Prim.Native.Nat.{_^_, _<_};
 ghost use Rattle.line_keyword.specs.Keywords.{isOnce, isSeen, hasNoKind, kindsLack, headerLacks, familyLacks, isLacking, isUnclosed, isRepeated, isMisplaced, isForkOpen, isWrongInMatrix, isMatrixBroken, isShapeBroken, closesTooWide, isFull, isPastBound, keywordRule, seenAfter, headAfter, pathAfter, mapAfter, conductorsAfter, sectionAfter, matrixAfter, oneMoreIf, countsAfter, keywordNext};
-ghost use Rattle.line_keyword.specs.Way.Row.{keptRule, keptNext};
+ghost use Rattle.line_keyword.specs.Way.Row.{matrixKeywordRule, matrixKeywordNext};
 ghost use Rattle.lex_number.specs.Integer.{wholeOf};
-ghost use Rattle.line_place.specs.Place.{keepsMatrix};
+ghost use Rattle.line_place.specs.Place.{isRowOrBandwidth};
 ghost use Rattle.line_argument.specs.Argument.{isOutOfBounds};
 ghost use Rattle.line_keyword.specs.Way.Kept.{Countable};
-ghost use Rattle.line_map.specs.Way.Bounded.{Bounded};
+ghost use Rattle.line_map.specs.Way.Bounded.{BoundedMap};
 ghost use Rattle.line_keyword.specs.State.{startState};
 use line_head::Head;
 use line_map::Map;
@@ -258,7 +258,7 @@ fn is_matrix_broken(key: u64, argument: &[u8], s: State) -> bool
     ensures { λ r. ⌜ r ≡ isMatrixBroken key (now (argument .entry)) s ⌝ }
 {
     let m = s.matrix;
-    if line_place::keeps_matrix(key) {
+    if line_place::is_row_or_bandwidth(key) {
         return is_wrong_by(key, argument, m);
     }
     let section = s.section;
@@ -268,7 +268,7 @@ fn is_matrix_broken(key: u64, argument: &[u8], s: State) -> bool
 
 // 16: a matrix or a pin grid of the wrong shape.
 fn is_shape_broken(key: u64, argument: &[u8], s: State) -> bool
-    requires { ⌜ Bounded (s .map) ⌝ }
+    requires { ⌜ BoundedMap (s .map) ⌝ }
     ensures { λ r. ⌜ r ≡ isShapeBroken key (now (argument .entry)) s ⌝ }
 {
     if s.place == line_place::MATRIX {
@@ -288,7 +288,7 @@ fn closes_too_wide(key: u64, s: State) -> bool
     if s.place != line_place::MATRIX {
         return false;
     }
-    if line_place::keeps_matrix(key) {
+    if line_place::is_row_or_bandwidth(key) {
         return false;
     }
     let m = s.matrix;
@@ -325,7 +325,7 @@ fn is_past_bound(key: u64, s: State) -> bool
 
 // The number of the first rule that a keyword line breaks, 0 for none.
 pub fn keyword_rule(key: u64, argument: &[u8], s: State) -> u64
-    requires { ⌜ Bounded (s .map) ⌝ }
+    requires { ⌜ BoundedMap (s .map) ⌝ }
     ensures { λ r. ⌜ r ≡ keywordRule key (now (argument .entry)) s ⌝ }
 {
     if is_fork_open(s) {
@@ -358,7 +358,7 @@ pub fn keyword_rule(key: u64, argument: &[u8], s: State) -> u64
 fn seen_after(key: u64, seen: [bool; 40]) -> [bool; 40]
     ensures { λ r. ⌜ r ≡ seenAfter key seen ⌝ }
 {
-    if line_place::keeps_matrix(key) {
+    if line_place::is_row_or_bandwidth(key) {
         return seen;
     }
     let mut next = seen;
@@ -417,7 +417,7 @@ fn conductors_after(key: u64, s: State) -> u64
     if s.place != line_place::MATRIX {
         return section.conductors;
     }
-    if line_place::keeps_matrix(key) {
+    if line_place::is_row_or_bandwidth(key) {
         return section.conductors;
     }
     let m = s.matrix;
@@ -517,8 +517,8 @@ pub fn keyword_next(key: u64, argument: &[u8], s: State) -> State
 // ---- [Row] and [Bandwidth] in a matrix, by the matrix alone
 
 // The number of the first rule that [Row] or [Bandwidth] breaks in a matrix, 0 for none.
-pub fn kept_rule(key: u64, argument: &[u8], m: Matrix) -> u64
-    ensures { λ r. ⌜ r ≡ keptRule key (now (argument .entry)) m ⌝ }
+pub fn matrix_keyword_rule(key: u64, argument: &[u8], m: Matrix) -> u64
+    ensures { λ r. ⌜ r ≡ matrixKeywordRule key (now (argument .entry)) m ⌝ }
 {
     if line_argument::is_bad_argument(key, argument) {
         return 11;
@@ -536,9 +536,9 @@ pub fn kept_rule(key: u64, argument: &[u8], m: Matrix) -> u64
 }
 
 // The matrix after a [Row] or a [Bandwidth] that breaks nothing.
-pub fn kept_next(key: u64, argument: &[u8], m: Matrix, values: u64) -> Matrix
-    requires { ⌜ (keepsMatrix key ≡ true) × (keptRule key (now argument) m ≡ 0) ⌝ }
-    ensures { λ r. ⌜ r ≡ keptNext key (now (argument .entry)) m values ⌝ }
+pub fn matrix_keyword_next(key: u64, argument: &[u8], m: Matrix, values: u64) -> Matrix
+    requires { ⌜ (isRowOrBandwidth key ≡ true) × (matrixKeywordRule key (now argument) m ≡ 0) ⌝ }
+    ensures { λ r. ⌜ r ≡ matrixKeywordNext key (now (argument .entry)) m values ⌝ }
 {
     let value = lex_number::read_integer(argument);
     if key == lex_keyword::ROW {

@@ -13,9 +13,9 @@ use Rattle.base.specs.Bytes.{bytes, within}
 use Rattle.base.specs.Runs.{same}
 use Rattle.base.proofs.IfLaws.{if-true, if-false, both-true, both-rest, both-not-left, not-via, not-not-via}
 use Rattle.base.proofs.RunLaws.{run-le}
-use Rattle.lex_line.specs.declared.Few.{Few}
+use Rattle.lex_line.specs.declared.FirstTwo.{FirstTwo}
 use Rattle.lex_line.specs.Words.{words, firstOf, secondOf, toEquals, hasEquals, leftOf, rightOf}
-use Rattle.lex_line.specs.Way.Spans.{fewOf, markedBy}
+use Rattle.lex_line.specs.Way.Spans.{firstTwoOf, markedBy}
 use Rattle.lex_line.proofs.WordLaws.{first-marked, second-marked}
 use Rattle.lex_number.specs.declared.Whole.{Whole}
 use Rattle.lex_number.specs.Integer.{wholeOf}
@@ -23,10 +23,10 @@ use Rattle.line_map.specs.declared.MapLine.{MapLine}
 use Rattle.line_map.specs.PinMap.{saysNothing, saysOrder, saysColumns, saysRows, saysPinList, orderOf, wrongMapLine, orderLine, listLine, sizeLine, mapLineOf, isPinLine}
 
 -- what the first words of a line, with a count that stops at 3, say of all its words
-module _ (s : List ℕ) (few : Few) (told : few ≡ fewOf s) where
+module _ (s : List ℕ) (few : FirstTwo) (told : few ≡ firstTwoOf s) where
   counted : few .count ≡ min 3 (length (words s))
-  unfolding fewOf
-  counted = ap (λ (f : Few). f .count) told
+  unfolding firstTwoOf
+  counted = ap (λ (f : FirstTwo). f .count) told
 
   one-word : few .count ≡ 1 → eqb (length (words s)) 1 ≡ true
   one-word h = eq-eqb (length (words s)) 1 (omega (arith, counted))
@@ -101,7 +101,7 @@ module _ (content : List ℕ) (sign : ℕ) (told : sign ≡ toEquals content) wh
     unfolding sizeLine hasEquals
     size-unsigned line h e = e ∙ sym (if-false _ _ (both-not-left _ _ (le-ltb (toEquals content) (length content) (omega arith))))
 
-    module _ (signed : sign < length content) (left : Few) (told-left : left ≡ fewOf (take sign content)) where
+    module _ (signed : sign < length content) (left : FirstTwo) (told-left : left ≡ firstTwoOf (take sign content)) where
       has-sign : hasEquals content ≡ true
       unfolding hasEquals
       has-sign = lt-ltb (toEquals content) (length content) (omega arith)
@@ -112,7 +112,7 @@ module _ (content : List ℕ) (sign : ℕ) (told : sign ≡ toEquals content) wh
           let n : eqb (length (leftOf content)) 1 ≡ false = ap (λ (ws : List (List ℕ)). eqb (length ws) 1) (sym left-is) ∙ not-one-word (take sign content) left told-left h in
           e ∙ sym (if-false _ _ (both-rest _ _ has-sign ∙ both-not-left _ _ n))
 
-      module _ (alone : left .count ≡ 1) (right : Few) (told-right : right ≡ fewOf (take (length content - (sign + 1)) (drop (sign + 1) content))) where
+      module _ (alone : left .count ≡ 1) (right : FirstTwo) (told-right : right ≡ firstTwoOf (take (length content - (sign + 1)) (drop (sign + 1) content))) where
         name-alone : eqb (length (leftOf content)) 1 ≡ true
         name-alone = ap (λ (ws : List (List ℕ)). eqb (length ws) 1) (sym left-is) ∙ one-word (take sign content) left told-left alone
 

@@ -19,7 +19,7 @@ use Rattle.lex_number.specs.Integer.{wholeOf}
 use Rattle.line_map.specs.declared.Map.{Map}
 use Rattle.line_map.specs.declared.MapLine.{MapLine}
 use Rattle.line_map.specs.PinMap.{saysOrder, saysColumns, saysRows, orderOf, wrongMapLine, orderLine, listLine, sizeLine, mapLineOf, newMap, isOrdered, isMapOutOfOrder, mapRule, mapNext, mostPins, mostMapPins, isPinLine, pinRule, withPin}
-use Rattle.line_map.specs.Way.Bounded.{Bounded}
+use Rattle.line_map.specs.Way.Bounded.{BoundedMap}
 
 -- t says whether the map is ordered
 module _ (m : Map) (given : ℕ) (t : Bool) (told : t ≡ isOrdered m) where
@@ -42,7 +42,7 @@ unfolding mapNext
 next-map l m o r k e f g = λ i. record { order = e i; rows = f i; columns = g i; pins = m .pins }
 
 -- a grid of at most 256 by 256
-pub grid-most : (m : Map) → Bounded m → m .rows * m .columns ≤ 65_536
+pub grid-most : (m : Map) → BoundedMap m → m .rows * m .columns ≤ 65_536
 grid-most m b = mul-le-mul (b .few-rows) (b .few-columns)
 
 -- ---- what the machine above keeps
@@ -87,16 +87,16 @@ kept-bounded : (l : MapLine) (m : Map) → mapRule l m ≡ 0 → l .bounded ≡ 
 unfolding mapRule
 kept-bounded l m e = not-false (l .bounded) (all-kept (11 when not (l .right) ∷ 12 when isMapOutOfOrder l m ∷ 13 when not (l .formed) ∷ 14 when not (l .bounded) ∷ []) (omega arith, (omega arith, (omega arith, (omega arith, tt)))) e 3)
 
-pub new-bounded : Bounded newMap
+pub new-bounded : BoundedMap newMap
 unfolding newMap
 new-bounded = record { few-rows = omega arith; few-columns = omega arith }
 
-pub pin-bounded : (m : Map) → Bounded m → Bounded (withPin m)
+pub pin-bounded : (m : Map) → BoundedMap m → BoundedMap (withPin m)
 unfolding withPin
 pin-bounded m b = record { few-rows = b .few-rows; few-columns = b .few-columns }
 
 -- the sizes stay at 256 or below with each line that breaks no rule
-pub next-bounded : (content : List ℕ) (l : MapLine) (m : Map) → l ≡ mapLineOf content → mapRule l m ≡ 0 → Bounded m → Bounded (mapNext l m)
+pub next-bounded : (content : List ℕ) (l : MapLine) (m : Map) → l ≡ mapLineOf content → mapRule l m ≡ 0 → BoundedMap m → BoundedMap (mapNext l m)
 unfolding mapNext
 next-bounded content l m told e b =
     let k : mapLineOf content .bounded ≡ true = rw told at (kept-bounded l m e) in

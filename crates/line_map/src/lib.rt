@@ -23,7 +23,7 @@ ghost use Rattle.line_map.specs.PinMap.{
   pinsLack,
   isWrongGrid,
 };
-ghost use Rattle.line_map.specs.Way.Bounded.{Bounded};
+ghost use Rattle.line_map.specs.Way.Bounded.{BoundedMap};
 
 // A map as far as it is read. The order is one above the table's count, so that 0 says of each of the three that it is still to come.
 pub struct Map {
@@ -90,7 +90,7 @@ fn wrong_line(says: u64) -> MapLine
 fn order_line(content: &[u8]) -> MapLine
     ensures { λ r. ⌜ r ≡ orderLine (words (now (content .entry))) ⌝ }
 {
-    let few = lex_line::few_words(content);
+    let few = lex_line::first_two_words(content);
     if few.count != 2 {
         return wrong_line(ORDER);
     }
@@ -111,7 +111,7 @@ fn order_line(content: &[u8]) -> MapLine
 fn list_line(content: &[u8]) -> MapLine
     ensures { λ r. ⌜ r ≡ listLine (words (now (content .entry))) ⌝ }
 {
-    let few = lex_line::few_words(content);
+    let few = lex_line::first_two_words(content);
     if few.count != 1 {
         return wrong_line(PIN_LIST);
     }
@@ -132,13 +132,13 @@ fn size_line(says: u64, content: &[u8]) -> MapLine
     if content.len() <= sign {
         return wrong_line(says);
     }
-    let left = lex_line::few_words(&content[..sign]);
+    let left = lex_line::first_two_words(&content[..sign]);
     if left.count != 1 {
         return wrong_line(says);
     }
     let after = sign + 1;
     let rest = &content[after..];
-    let right = lex_line::few_words(rest);
+    let right = lex_line::first_two_words(rest);
     if right.count != 1 {
         return wrong_line(says);
     }
@@ -297,7 +297,7 @@ pub fn map_next(l: MapLine, m: Map) -> Map
 pub fn pin_rule(content: &[u8], m: Map, total: u64) -> u64
     ensures { λ r. ⌜ r ≡ pinRule (now (content .entry)) m total ⌝ }
 {
-    let few = lex_line::few_words(content);
+    let few = lex_line::first_two_words(content);
     if 2 < few.count {
         return 11;
     }
@@ -332,7 +332,7 @@ pub fn pins_lack(m: Map) -> bool
 
 // "at most rows times columns pins", fewer where a corner is missing; more are 16 at the keyword that ends the map.
 pub fn is_wrong_grid(m: Map) -> bool
-    requires { ⌜ Bounded m ⌝ }
+    requires { ⌜ BoundedMap m ⌝ }
     ensures { λ r. ⌜ r ≡ isWrongGrid m ⌝ }
 {
     if is_ordered(m) {

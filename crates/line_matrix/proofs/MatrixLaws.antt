@@ -13,7 +13,7 @@ use Rattle.base.proofs.IfLaws.{if-true, if-false, by-cases, either-left, either
 use Rattle.line_matrix.specs.declared.Matrix.{Matrix}
 use Rattle.line_matrix.specs.declared.Rows.{Rows}
 use Rattle.line_matrix.specs.declared.DataLine.{DataLine}
-use Rattle.line_matrix.specs.declared.Told.{Told}
+use Rattle.line_matrix.specs.declared.NumberCheck.{NumberCheck}
 use Rattle.base.specs.Bytes.{isBlank, isFilled}
 use Rattle.base.specs.Runs.{run}
 use Rattle.base.specs.Way.Class.{runEnd}
@@ -23,9 +23,9 @@ use Rattle.lex_number.specs.Number.{numberOf, isFormed, isBounded}
 use Rattle.lex_number.specs.Integer.{wholeOf}
 use Rattle.lex_number.specs.declared.Whole.{Whole}
 use Rattle.lex_line.specs.Words.{words, firstOf, secondOf}
-use Rattle.lex_line.specs.Way.Spans.{markedBy, wordAt, fewOf}
+use Rattle.lex_line.specs.Way.Spans.{markedBy, wordAt, firstTwoOf}
 use Rattle.lex_line.specs.declared.Span.{Span}
-use Rattle.lex_line.specs.declared.Few.{Few}
+use Rattle.lex_line.specs.declared.FirstTwo.{FirstTwo}
 use Rattle.lex_line.proofs.FormLaws.{counted, counted-not}
 use Rattle.lex_line.proofs.WordLaws.{wordsAfter, after-at, after-none, after-past, end-past, word-ordered, word-within, first-marked, second-marked, few-none, few-one, few-two, few-three}
 use Rattle.line_matrix.specs.Matrix.{
@@ -98,8 +98,8 @@ module _ (s : List ℕ) (word : Span) (read : NumberAt) (ends : word .end ≡ ru
       let n : word .end - word .start ≡ run isFilled (drop (word .start) s) = omega arith in
       rw n (ap (λ (r : NumberAt). r .number) answer)
 
-pub second-ends : (s : List ℕ) (few : Few) → few ≡ fewOf s → few .second .end ≡ runEnd isFilled s (few .second .start)
-unfolding fewOf wordAt
+pub second-ends : (s : List ℕ) (few : FirstTwo) → few ≡ firstTwoOf s → few .second .end ≡ runEnd isFilled s (few .second .start)
+unfolding firstTwoOf wordAt
 second-ends s few e = rw e
 
 formed-nil : areFormed [] ≡ true
@@ -191,7 +191,7 @@ module _ (s : List ℕ) (at numbers : ℕ) (formed bounded : Bool) (pending : Pe
     line-ends : length s ≤ word .start → record { numbers = numbers; column = 0; right = true; formed = formed; bounded = bounded } ≡ numbersLine (words s)
     line-ends h = line-done (after-none s at (rw found at h))
 
-    line-goes : word .start < length s → (t : Told) → t ≡ toldBy (markedBy s word) → (f b : Bool) → f ≡ both formed (t .formed) → b ≡ both bounded (t .bounded) → Pending s (word .end) (numbers + 1) f b
+    line-goes : word .start < length s → (t : NumberCheck) → t ≡ toldBy (markedBy s word) → (f b : Bool) → f ≡ both formed (t .formed) → b ≡ both bounded (t .bounded) → Pending s (word .end) (numbers + 1) f b
     line-goes h t told f b ef eb =
         let e : wordsAfter s at ≡ markedBy s word ∷ wordsAfter s (word .end) = rw found (after-at s at (rw found at h)) in
         let c : numbers + length (wordsAfter s at) ≡ length (words s) = pending .counted in
@@ -200,8 +200,8 @@ module _ (s : List ℕ) (at numbers : ℕ) (formed bounded : Bool) (pending : Pe
         let k : numbers ≤ at = pending .short in
         record {
           counted = omega arith;
-          wellFormed = ap (λ (x : Bool). both x (areFormed (wordsAfter s (word .end)))) (ef ∙ ap (λ (x : Told). both formed (x .formed)) told) ∙ both-assoc _ _ _ ∙ ap (both formed) (sym (formed-cons _ _) ∙ ap areFormed (sym e)) ∙ pending .wellFormed;
-          inBounds = ap (λ (x : Bool). both x (areBounded (wordsAfter s (word .end)))) (eb ∙ ap (λ (x : Told). both bounded (x .bounded)) told) ∙ both-assoc _ _ _ ∙ ap (both bounded) (sym (bounded-cons _ _) ∙ ap areBounded (sym e)) ∙ pending .inBounds;
+          wellFormed = ap (λ (x : Bool). both x (areFormed (wordsAfter s (word .end)))) (ef ∙ ap (λ (x : NumberCheck). both formed (x .formed)) told) ∙ both-assoc _ _ _ ∙ ap (both formed) (sym (formed-cons _ _) ∙ ap areFormed (sym e)) ∙ pending .wellFormed;
+          inBounds = ap (λ (x : Bool). both x (areBounded (wordsAfter s (word .end)))) (eb ∙ ap (λ (x : NumberCheck). both bounded (x .bounded)) told) ∙ both-assoc _ _ _ ∙ ap (both bounded) (sym (bounded-cons _ _) ∙ ap areBounded (sym e)) ∙ pending .inBounds;
           short = omega arith;
         }
 
@@ -218,9 +218,9 @@ module _ (s : List ℕ) (at numbers : ℕ) (formed bounded : Bool) (pending : Pe
 
 -- a line of a Sparse_matrix: its first word, and the number behind it
 module _ (s : List ℕ) (first : Span) (one : first ≡ wordAt s 0) (start : ℕ) (begins : start ≡ runEnd isBlank s (first .end)) where
-  other-line : (n : ℕ) → fewOf s .count ≡ n → (n ≡ 2 → ⊥) → record { numbers = 0; column = 0; right = false; formed = true; bounded = true } ≡ sparseLine (words s)
+  other-line : (n : ℕ) → firstTwoOf s .count ≡ n → (n ≡ 2 → ⊥) → record { numbers = 0; column = 0; right = false; formed = true; bounded = true } ≡ sparseLine (words s)
   unfolding sparseLine
-  other-line n e h = sym (if-false _ _ (counted-not s (fewOf s) refl 2 (omega arith) (λ (k : fewOf s .count ≡ 2). h (sym e ∙ k))))
+  other-line n e h = sym (if-false _ _ (counted-not s (firstTwoOf s) refl 2 (omega arith) (λ (k : firstTwoOf s .count ≡ 2). h (sym e ∙ k))))
 
   second-found : record { start = start; end = runEnd isFilled s start } ≡ wordAt s (first .end)
   unfolding wordAt
@@ -230,9 +230,9 @@ module _ (s : List ℕ) (first : Span) (one : first ≡ wordAt s 0) (start : ℕ
   sparse-short h r told =
       by-cases (r ≡ sparseLine (words s)) (ltb (first .start) (length s))
       (λ (e : ltb (first .start) (length s) ≡ true).
-      told ∙ other-line 1 (sym (ap (λ (f : Few). f .count) (few-one s first _ _ one second-found refl (ltb-true _ _ e) h))) (λ (k : 1 ≡ 2). omega arith))
+      told ∙ other-line 1 (sym (ap (λ (f : FirstTwo). f .count) (few-one s first _ _ one second-found refl (ltb-true _ _ e) h))) (λ (k : 1 ≡ 2). omega arith))
       (λ (e : ltb (first .start) (length s) ≡ false).
-      told ∙ other-line 0 (sym (ap (λ (f : Few). f .count) (few-none s first _ _ one second-found refl (ltb-false _ _ e)))) (λ (k : 0 ≡ 2). omega arith))
+      told ∙ other-line 0 (sym (ap (λ (f : FirstTwo). f .count) (few-none s first _ _ one second-found refl (ltb-false _ _ e)))) (λ (k : 0 ≡ 2). omega arith))
 
   module _ (there : start < length s) (read : NumberAt) (told : read ≡ numberAt s start) (third : ℕ) (after : third ≡ runEnd isBlank s (read .end)) where
     second : Span
@@ -255,14 +255,14 @@ module _ (s : List ℕ) (first : Span) (one : first ≡ wordAt s 0) (start : ℕ
     pub sparse-long : third < length s → (r : DataLine) → r ≡ record { numbers = 0; column = 0; right = false; formed = true; bounded = true } → r ≡ sparseLine (words s)
     unfolding second
     sparse-long h r is =
-        is ∙ other-line 3 (sym (ap (λ (f : Few). f .count) (few-three s first second third one is-second after first-stands there h))) (λ (k : 3 ≡ 2). omega arith)
+        is ∙ other-line 3 (sym (ap (λ (f : FirstTwo). f .count) (few-three s first second third one is-second after first-stands there h))) (λ (k : 3 ≡ 2). omega arith)
 
     pub sparse-pair :
-        length s ≤ third → (part : List ℕ) → part ≡ markedBy s first → (column : Whole) → column ≡ wholeOf part → (t : Told) →
+        length s ≤ third → (part : List ℕ) → part ≡ markedBy s first → (column : Whole) → column ≡ wholeOf part → (t : NumberCheck) →
         t ≡ record { formed = isFormed (read .number); bounded = isBounded (read .number) } → (r : DataLine) → r ≡ pairLine column t → r ≡ sparseLine (words s)
     unfolding second sparseLine toldBy
     sparse-pair h part cut column whole t is r pair =
-        let two : record { count = 2; first = first; second = second } ≡ fewOf s = few-two s first second third one is-second after first-stands there h in
+        let two : record { count = 2; first = first; second = second } ≡ firstTwoOf s = few-two s first second third one is-second after first-stands there h in
         let w : column ≡ wholeOf (firstOf (words s)) = whole ∙ ap wholeOf (cut ∙ first-marked s _ two) in
         let n : read .number ≡ numberOf (secondOf (words s)) = placed-number s (first .end) start read begins told ∙ ap numberOf (second-marked s _ two) in
         let v : t ≡ toldBy (secondOf (words s)) = is ∙ (λ i. record { formed = isFormed (n i); bounded = isBounded (n i) }) in

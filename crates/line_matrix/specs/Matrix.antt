@@ -16,7 +16,7 @@ use Rattle.lex_number.specs.declared.Whole.{Whole}
 use Rattle.line_matrix.specs.declared.Matrix.{Matrix}
 use Rattle.line_matrix.specs.declared.Rows.{Rows}
 use Rattle.line_matrix.specs.declared.DataLine.{DataLine}
-use Rattle.line_matrix.specs.declared.Told.{Told}
+use Rattle.line_matrix.specs.declared.NumberCheck.{NumberCheck}
 
 abbrev pub diagonal : ℕ
 diagonal = 0
@@ -97,7 +97,7 @@ withRow row m values =
 -- ---- data lines
 
 -- what a word says as a number
-unfoldable pub toldBy : List ℕ → Told
+unfoldable pub toldBy : List ℕ → NumberCheck
 toldBy w = record { formed = isFormed (numberOf w); bounded = isBounded (numberOf w) }
 
 -- every word is a number; every number is within its bounds
@@ -114,7 +114,7 @@ unfoldable pub numbersLine : List (List ℕ) → DataLine
 numbersLine ws = record { numbers = length ws; column = 0; right = true; formed = areFormed ws; bounded = areBounded ws }
 
 -- a column and what the word behind it says
-abbrev pub pairLine : Whole → Told → DataLine
+abbrev pub pairLine : Whole → NumberCheck → DataLine
 pairLine column told =
     record {
       numbers = 1;

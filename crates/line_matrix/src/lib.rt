@@ -201,15 +201,15 @@ pub fn with_row(row: u64, m: Matrix, values: u64) -> Matrix
 }
 
 // What a word of a data line says as a number.
-struct Told {
+struct NumberCheck {
     formed: bool,
     bounded: bool,
 }
 
-fn told_of(number: Number) -> Told
+fn told_of(number: Number) -> NumberCheck
     ensures { λ r. ⌜ r ≡ record { formed = isFormed number; bounded = isBounded number } ⌝ }
 {
-    Told {
+    NumberCheck {
         formed: lex_number::is_formed(number),
         bounded: lex_number::is_bounded(number),
     }
@@ -264,7 +264,7 @@ fn not_two() -> DataLine
 }
 
 // A column and a value.
-fn pair_line(column: Whole, told: Told) -> DataLine
+fn pair_line(column: Whole, told: NumberCheck) -> DataLine
     ensures { λ r. ⌜ r ≡ pairLine column told ⌝ }
 {
     DataLine {

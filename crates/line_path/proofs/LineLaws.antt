@@ -10,15 +10,15 @@ use borrow.Author.Tests.{ne-eqb}
 use Rattle.base.specs.If.{either}
 use Rattle.base.proofs.IfLaws.{if-true, if-false, both-rest, both-not-left}
 use Rattle.lex_line.specs.Words.{words}
-use Rattle.lex_line.specs.Way.Spans.{fewOf, markedBy}
-use Rattle.lex_line.specs.declared.Few.{Few}
+use Rattle.lex_line.specs.Way.Spans.{firstTwoOf, markedBy}
+use Rattle.lex_line.specs.declared.FirstTwo.{FirstTwo}
 use Rattle.lex_line.proofs.WordLaws.{first-marked, second-marked}
 use Rattle.lex_line.proofs.FormLaws.{counted, counted-not, count-tells}
 use Rattle.line_argument.specs.Argument.{isReserved}
 use Rattle.line_path.specs.Path.{saysNothing, saysEnd, saysSide, saysSection, saysFork, saysEndfork, sayingOf, plainLine, namesOne, lineSaying, pathLineOf}
 use Rattle.line_path.specs.declared.PathLine.{PathLine}
 
-module _ (content : List ℕ) (few : Few) (told : few ≡ fewOf content) where
+module _ (content : List ℕ) (few : FirstTwo) (told : few ≡ firstTwoOf content) where
   -- ---- a name
 
   pub names-none : (few .count ≡ 2 → ⊥) → false ≡ namesOne (words content)

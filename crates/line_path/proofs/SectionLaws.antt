@@ -12,8 +12,8 @@ use Rattle.base.specs.Bytes.{bytes, within}
 use Rattle.base.specs.Runs.{same}
 use Rattle.base.proofs.IfLaws.{if-true, if-false, by-cases, by-test, both-true, both-not-left, both-not-right, both-first, both-second, either-left, either-right, either-false, not-via, not-not-via}
 use Rattle.lex_line.specs.Words.{words, firstOf, secondOf, hasEquals, leftOf, rightOf, toEquals}
-use Rattle.lex_line.specs.Way.Spans.{fewOf, markedBy}
-use Rattle.lex_line.specs.declared.Few.{Few}
+use Rattle.lex_line.specs.Way.Spans.{firstTwoOf, markedBy}
+use Rattle.lex_line.specs.declared.FirstTwo.{FirstTwo}
 use Rattle.lex_line.proofs.WordLaws.{first-marked, second-marked}
 use Rattle.lex_line.proofs.FormLaws.{counted, counted-not, sign-none, sign-there, left-words, right-words}
 use Rattle.lex_number.specs.Number.{numberOf, isFormed}
@@ -43,12 +43,12 @@ amount-length mult amount n formed bounded e k f b =
 
 -- ---- the words before the sign and after it
 
-module _ (left : List ℕ) (before : Few) (one : before ≡ fewOf left) (right : List ℕ) where
+module _ (left : List ℕ) (before : FirstTwo) (one : before ≡ firstTwoOf left) (right : List ℕ) where
   pub parts-before : (r : PathLine) → (before .count ≡ 2 → ⊥) → r ≡ plainLine saysSection false → r ≡ partsLine (words left) (words right)
   unfolding partsLine isParted
   parts-before r n h = h ∙ sym (if-false _ _ (both-not-left _ _ (counted-not left before one 2 (omega arith) n)))
 
-  module _ (after : Few) (two : after ≡ fewOf right) where
+  module _ (after : FirstTwo) (two : after ≡ firstTwoOf right) where
     pub parts-after : (r : PathLine) → (after .count ≡ 2 → ⊥) → r ≡ plainLine saysSection false → r ≡ partsLine (words left) (words right)
     unfolding partsLine isParted
     parts-after r n h = h ∙ sym (if-false _ _ (both-not-right _ _ (both-not-left _ _ (counted-not right after two 2 (omega arith) n))))

@@ -5,12 +5,12 @@ ghost use Prim.Native.Nat.{_-_, _≤_};
 ghost use lib.Dec.{eqb};
 ghost use Rattle.base.specs.If.{either};
 ghost use Rattle.lex_line.specs.Words.{words};
-ghost use Rattle.lex_line.specs.Way.Spans.{fewOf};
+ghost use Rattle.lex_line.specs.Way.Spans.{firstTwoOf};
 ghost use Rattle.lex_number.specs.declared.Number.the-variants.{Value};
 ghost use Rattle.line_path.specs.Path.{saysFork, saysEndfork, saysEnd, saysSide, deepest, sayingOf, plainLine, namesOne, isLength, sectionLine, lineSaying, pathLineOf, newPath, isBadFork, isPathOutOfOrder, isStepLine, openRule, closedRule, pathRule, withEnd, pathNext, pathOpen, pathLacks};
 ghost use Rattle.line_path.specs.Way.Section.{amountLine, unitLine, partsLine};
 ghost use Rattle.line_path.specs.Way.Usual.{OpensMult, Paired, UsualSection, UsualFork};
-use lex_line::Few;
+use lex_line::FirstTwo;
 use lex_number::Number;
 
 // What a line of a path says: Model_pinmap is an end.
@@ -180,8 +180,8 @@ fn plain_line(says: u64, right: bool) -> PathLine
 }
 
 // "`Model_pinmap name`", "`Side name`": one word more, never a reserved one.
-fn names_one(content: &[u8], few: Few) -> bool
-    requires { ⌜ few ≡ fewOf (now content) ⌝ }
+fn names_one(content: &[u8], few: FirstTwo) -> bool
+    requires { ⌜ few ≡ firstTwoOf (now content) ⌝ }
     ensures { λ r. ⌜ r ≡ namesOne (words (now (content .entry))) ⌝ }
 {
     if few.count != 2 {
@@ -250,11 +250,11 @@ fn unit_line(unit: &[u8], amount: &[u8]) -> PathLine
 fn parts_line(left: &[u8], right: &[u8]) -> PathLine
     ensures { λ r. ⌜ r ≡ partsLine (words (now (left .entry))) (words (now (right .entry))) ⌝ }
 {
-    let before = lex_line::few_words(left);
+    let before = lex_line::first_two_words(left);
     if before.count != 2 {
         return plain_line(SECTION, false);
     }
-    let after = lex_line::few_words(right);
+    let after = lex_line::first_two_words(right);
     if after.count != 2 {
         return plain_line(SECTION, false);
     }
@@ -301,8 +301,8 @@ fn takes_name(says: u64) -> bool
     says == SIDE
 }
 
-fn line_saying(says: u64, content: &[u8], few: Few) -> PathLine
-    requires { ⌜ few ≡ fewOf (now content) ⌝ }
+fn line_saying(says: u64, content: &[u8], few: FirstTwo) -> PathLine
+    requires { ⌜ few ≡ firstTwoOf (now content) ⌝ }
     ensures { λ r. ⌜ r ≡ lineSaying says (now (content .entry)) ⌝ }
 {
     if says == SECTION {
@@ -333,7 +333,7 @@ fn usual_line(content: &[u8], end: usize) -> PathLine
 fn told_line(content: &[u8]) -> PathLine
     ensures { λ r. ⌜ r ≡ pathLineOf (now (content .entry)) ⌝ }
 {
-    let few = lex_line::few_words(content);
+    let few = lex_line::first_two_words(content);
     let first = few.first;
     let says = saying_of(lex_line::marked(content, first));
     line_saying(says, content, few)

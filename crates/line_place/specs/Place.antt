@@ -164,11 +164,11 @@ unfoldable pub leadsInSection : ℕ → ℕ
 leadsInSection k = if opensMatrix k then matrix else if eqb k endIcmSection then after else dead
 
 -- the keywords that end no matrix
-unfoldable pub keepsMatrix : ℕ → Bool
-keepsMatrix k = either (eqb k row) (eqb k bandwidth)
+unfoldable pub isRowOrBandwidth : ℕ → Bool
+isRowOrBandwidth k = either (eqb k row) (eqb k bandwidth)
 
 unfoldable pub leadsInMatrix : ℕ → ℕ
-leadsInMatrix k = if keepsMatrix k then matrix else leadsInSection k
+leadsInMatrix k = if isRowOrBandwidth k then matrix else leadsInSection k
 
 unfoldable pub leadsAfterFamily : ℕ → ℕ
 leadsAfterFamily k = if eqb k beginIcmSection then sectionHead else if eqb k theEnd then done else dead

@@ -9,7 +9,7 @@ ghost use Rattle.line_place.specs.Place.{
   leadsInModel,
   opensMatrix,
   leadsInSection,
-  keepsMatrix,
+  isRowOrBandwidth,
   leadsInMatrix,
   leadsAfterFamily,
   isInHeader,
@@ -202,8 +202,8 @@ fn leads_in_section(key: u64) -> u64
 }
 
 // The keywords that end no matrix: all others are "the first keyword after the matrix that is not [Row] or [Bandwidth]".
-pub fn keeps_matrix(key: u64) -> bool
-    ensures { λ r. ⌜ r ≡ keepsMatrix key ⌝ }
+pub fn is_row_or_bandwidth(key: u64) -> bool
+    ensures { λ r. ⌜ r ≡ isRowOrBandwidth key ⌝ }
 {
     if key == lex_keyword::ROW {
         return true;
@@ -214,7 +214,7 @@ pub fn keeps_matrix(key: u64) -> bool
 fn leads_in_matrix(key: u64) -> u64
     ensures { λ r. ⌜ r ≡ leadsInMatrix key ⌝ }
 {
-    if keeps_matrix(key) {
+    if is_row_or_bandwidth(key) {
         return MATRIX;
     }
     leads_in_section(key)

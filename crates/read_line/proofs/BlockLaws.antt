@@ -11,10 +11,10 @@ use Rattle.base.proofs.IfLaws.{if-true}
 use Rattle.lex_line.specs.Lines.{lines}
 use Rattle.line_place.specs.Place as place
 use Rattle.line_path.specs.declared.Path.{Path}
-use Rattle.line_keyword.specs.Way.Kept.{Kept}
+use Rattle.line_keyword.specs.Way.Kept.{BoundedState}
 use Rattle.line_keyword.specs.declared.State.{State}
 use Rattle.read_line.specs.Reading.{readFrom}
-use Rattle.read_line.specs.Way.Walk.{resume, Rises, Crossed, Holds, Stepping, Stays, withPath, Blocked}
+use Rattle.read_line.specs.Way.Walk.{resume, Rises, ResumesPart, HoldsPart, Stepping, NoProgressMeansBracket, withPath, Blocked}
 use Rattle.read_line.specs.declared.PathWalk.{PathWalk}
 
 module _ (t : List ℕ) (at line : ℕ) (p : Path) (n : ℕ) (w : PathWalk) (first : Blocked t at line p n w) (whole : w .part .rule ≡ 0) where
@@ -24,7 +24,7 @@ module _ (t : List ℕ) (at line : ℕ) (p : Path) (n : ℕ) (w : PathWalk) (fir
       let c : w .line + at ≤ line + w .at = first .crossed .counted in
       omega arith
 
-  come : (s : State) → Holds place.path (withPath p n) s →
+  come : (s : State) → HoldsPart place.path (withPath p n) s →
       readFrom (w .line) (lines (drop (w .at) t)) (withPath (w .part .path) (w .part .steps) s) ≡ readFrom line (lines (drop at t)) s
   unfolding resume
   come s f = sym (if-true _ _ (eq-eqb _ _ whole)) ∙ first .crossed .same s f
@@ -41,12 +41,12 @@ module _ (t : List ℕ) (at line : ℕ) (p : Path) (n : ℕ) (w : PathWalk) (fir
         record {
           crossed =
               record {
-                same = λ (s : State) (f : Holds place.path (withPath p n) s). second .crossed .same (withPath (w .part .path) (w .part .steps) s) (f .0, refl) ∙ come s f;
+                same = λ (s : State) (f : HoldsPart place.path (withPath p n) s). second .crossed .same (withPath (w .part .path) (w .part .steps) s) (f .0, refl) ∙ come s f;
                 kept =
-                    λ (z : v .part .rule ≡ 0) (s : State) (f : Holds place.path (withPath p n) s) (k : Kept line s).
+                    λ (z : v .part .rule ≡ 0) (s : State) (f : HoldsPart place.path (withPath p n) s) (k : BoundedState line s).
                     second .crossed .kept z (withPath (w .part .path) (w .part .steps) s) (f .0, refl) (first .crossed .kept whole s f k);
                 rises =
-                    λ (z : v .part .rule ≡ 0) (s : State) (f : Holds place.path (withPath p n) s).
+                    λ (z : v .part .rule ≡ 0) (s : State) (f : HoldsPart place.path (withPath p n) s).
                     le-trans (first .crossed .rises whole s f) (second .crossed .rises z (withPath (w .part .path) (w .part .steps) s) (f .0, refl));
                 onward = omega arith;
                 within = second .crossed .within;

@@ -57,7 +57,7 @@ use Rattle.line_place.specs.Place.{
   leadsInFamily,
   leadsInModel,
   opensMatrix,
-  keepsMatrix,
+  isRowOrBandwidth,
   leadsAfterFamily,
   isInHeader,
   isInFamily,
@@ -66,7 +66,7 @@ use Rattle.line_place.specs.Place.{
   movedByLine,
 }
 use Rattle.line_place.specs.Place as place
-use Rattle.line_keyword.specs.Way.Kept.{Kept}
+use Rattle.line_keyword.specs.Way.Kept.{BoundedState}
 use Rattle.line_keyword.specs.Keywords.{isSeen, isOnce, isRepeated, isMisplaced, seenAfter, oneMoreIf, countsAfter, keywordRule, keywordNext}
 use Rattle.line_keyword.specs.State.{noCounts, noneSeen, startState}
 use Rattle.line_keyword.specs.declared.Counts.{Counts}
@@ -80,9 +80,9 @@ use Rattle.read_line.proofs.WalkLaws.{step-kept}
 use Rattle.read_line.proofs.ReadingLaws.{reads-only, reads-when, reads-done}
 use Rattle.read_line.proofs.OutsideLaws.{along-counted, along, Met, step-holds, keyword-placed}
 
-pub read-kept : (t : List ℕ) (c : Counts) → readingOf t ≡ Read c → Kept (1 + length (lines t)) (stateAfter 1 (lines t) startState)
+pub read-kept : (t : List ℕ) (c : Counts) → readingOf t ≡ Read c → BoundedState (1 + length (lines t)) (stateAfter 1 (lines t) startState)
 read-kept t c e =
-    along-counted (λ (m : ℕ) (s : State). Kept m s) step-kept 1 1 (lines t) startState (kept-more 0 1 startState start-kept (omega arith)) (reads-only t c e)
+    along-counted (λ (m : ℕ) (s : State). BoundedState m s) step-kept 1 1 (lines t) startState (kept-more 0 1 startState start-kept (omega arith)) (reads-only t c e)
 
 -- what a text comes to is one answer
 same-counts : (c d : Counts) → Read c ≡ Read d → c ≡ d
@@ -101,7 +101,7 @@ pub record Within (c : Counts) : Type 0 where
   pub sections : c .sections ≤ 256
   pub values : c .values ≤ 65_536
 
-kept-within : (n : ℕ) (s : State) → Kept n s → Within (s .counts)
+kept-within : (n : ℕ) (s : State) → BoundedState n s → Within (s .counts)
 kept-within n s h =
     record { models = h .models; steps = h .steps; maps = h .maps; pins = h .pins; sections = h .sections; values = h .values }
 
@@ -243,17 +243,17 @@ section-other : opensMatrix beginIcmSection ≡ false
 unfolding opensMatrix either
 section-other = refl
 
-section-keeps : keepsMatrix beginIcmSection ≡ false
-unfolding keepsMatrix either
+section-keeps : isRowOrBandwidth beginIcmSection ≡ false
+unfolding isRowOrBandwidth either
 section-keeps = refl
 
 module _ (k : ℕ) (seen : List Bool) where
   seen-long : length (seenAfter k seen) ≡ length seen
   unfolding seenAfter
   seen-long =
-      by-test (λ (l : List Bool). length l ≡ length seen) (keepsMatrix k) _ _
-      (λ (g : keepsMatrix k ≡ true). refl)
-      (λ (g : keepsMatrix k ≡ false).
+      by-test (λ (l : List Bool). length l ≡ length seen) (isRowOrBandwidth k) _ _
+      (λ (g : isRowOrBandwidth k ≡ true). refl)
+      (λ (g : isRowOrBandwidth k ≡ false).
       by-test (λ (l : List Bool). length l ≡ length seen) (eqb k beginIcmModel) _ _
       (λ (e : eqb k beginIcmModel ≡ true). length-set (set seen treePathDescription false) icmModelDescription false ∙ length-set seen treePathDescription false)
       (λ (e : eqb k beginIcmModel ≡ false).
@@ -271,7 +271,7 @@ module _ (k : ℕ) (seen : List Bool) where
   kinds-section e =
       let f : k ≡ beginIcmSection = eqb-true k beginIcmSection e in
       let n : eqb k beginIcmModel ≡ false = ne-eqb k beginIcmModel (λ (g : k ≡ beginIcmModel). omega arith) in
-      let o : keepsMatrix k ≡ false = rw f section-keeps in
+      let o : isRowOrBandwidth k ≡ false = rw f section-keeps in
       ap kinds (if-false _ _ o ∙ if-false _ _ n ∙ if-true _ _ e) ∙ kinds-forgotten seen _ _ _ _ refl refl refl refl
 
   kinds-matrix : eqb k beginIcmModel ≡ false → eqb k beginIcmSection ≡ false → length seen ≡ 40 → opensMatrix k ≡ true → getD seen k false ≡ false → kinds (seenAfter k seen) ≡ kinds seen + 1
@@ -281,9 +281,9 @@ module _ (k : ℕ) (seen : List Bool) where
   kinds-else : eqb k beginIcmSection ≡ false → opensMatrix k ≡ false → kinds (seenAfter k seen) ≡ kinds seen
   unfolding seenAfter
   kinds-else e m =
-      by-test (λ (l : List Bool). kinds l ≡ kinds seen) (keepsMatrix k) _ _
-      (λ (g : keepsMatrix k ≡ true). refl)
-      (λ (g : keepsMatrix k ≡ false).
+      by-test (λ (l : List Bool). kinds l ≡ kinds seen) (isRowOrBandwidth k) _ _
+      (λ (g : isRowOrBandwidth k ≡ true). refl)
+      (λ (g : isRowOrBandwidth k ≡ false).
       by-test (λ (l : List Bool). kinds l ≡ kinds seen) (eqb k beginIcmModel) _ _
       (λ (n : eqb k beginIcmModel ≡ true).
       kinds-same (set seen treePathDescription false) icmModelDescription false description-other ∙ kinds-same seen treePathDescription false path-other)

@@ -13,11 +13,11 @@ use Rattle.lex_line.specs.Lines.{lines}
 use Rattle.lex_line.specs.Way.LineEnds.{lineAt}
 use Rattle.lex_line.specs.declared.Line.{Line}
 use Rattle.lex_line.proofs.LineLaws.{next-on, next-within}
-use Rattle.line_keyword.specs.Way.Kept.{Kept}
+use Rattle.line_keyword.specs.Way.Kept.{BoundedState}
 use Rattle.line_keyword.specs.declared.State.{State}
 use Rattle.read_line.specs.Reading.{commentByte, breaks, lineResult, onward, readFrom}
-use Rattle.read_line.specs.Way.Walk.{resume, Onward, Rises, Reached, Crossed, Opens, contentAt, StandsElsewhere, Stays}
-use Rattle.read_line.specs.declared.Step.{Step}
+use Rattle.read_line.specs.Way.Walk.{resume, Onward, Rises, ResumesText, ResumesPart, Opens, contentAt, BracketOrLineByLine, NoProgressMeansBracket}
+use Rattle.read_line.specs.declared.LineResult.{LineResult}
 use Rattle.read_line.specs.declared.Reading.{Reading}
 use Rattle.read_line.specs.declared.Reading.the-variants.{Refused}
 use Rattle.read_line.proofs.WalkLaws.{step-kept, step-raises, line-run}
@@ -31,12 +31,12 @@ unfolding onward breaks
 onward-stops k s n more h = if-false _ _ (ne-eqb _ _ h)
 
 module _ (t : List ℕ) (at line : ℕ) (fits : State → Type 0) where
-  pub crossed-none : (put : State → State) → at ≤ length t → ((s : State) → fits s → s ≡ put s) → Crossed t at line fits put 0 at line
+  pub crossed-none : (put : State → State) → at ≤ length t → ((s : State) → fits s → s ≡ put s) → ResumesPart t at line fits put 0 at line
   unfolding resume
   crossed-none put h same =
       record {
         same = λ (s : State) (f : fits s). if-true _ _ (eq-eqb 0 0 refl) ∙ ap (readFrom line (lines (drop at t))) (sym (same s f));
-        kept = λ (z : _≡_ {A = ℕ} 0 0) (s : State) (f : fits s) (k : Kept line s). rw (sym (same s f)) k;
+        kept = λ (z : _≡_ {A = ℕ} 0 0) (s : State) (f : fits s) (k : BoundedState line s). rw (sym (same s f)) k;
         rises = λ (z : _≡_ {A = ℕ} 0 0) (s : State) (f : fits s). subst (Rises s) (same s f) (le-refl (s .counts .values));
         onward = le-refl at;
         within = h;
@@ -44,7 +44,7 @@ module _ (t : List ℕ) (at line : ℕ) (fits : State → Type 0) where
         counted = le-refl (line + at);
       }
 
-  module _ (put : State → State) (broken here number : ℕ) (whole : broken ≡ 0) (crossed : Crossed t at line fits put broken here number) where
+  module _ (put : State → State) (broken here number : ℕ) (whole : broken ≡ 0) (crossed : ResumesPart t at line fits put broken here number) where
     -- one line more: what the part decides of it
     module _ (h : here < length t) (found : Line) (told : found ≡ lineAt commentByte t here) (next : State → State) (k : ℕ) (decided : (s : State) → fits s → lineResult (take (found .content - here) (drop here t)) (put s) ≡ breaks k (next s)) where
       over : (s : State) → fits s → onward (breaks k (next s)) number (readFrom (number + 1) (lines (drop (found .next) t))) ≡ readFrom line (lines (drop at t)) s
@@ -60,17 +60,17 @@ module _ (t : List ℕ) (at line : ℕ) (fits : State → Type 0) where
       inside : found .next ≤ length t
       inside = rw told (next-within commentByte t here h)
 
-      on-kept : k ≡ 0 → (s : State) → fits s → Kept line s → Kept (number + 1) (next s)
+      on-kept : k ≡ 0 → (s : State) → fits s → BoundedState line s → BoundedState (number + 1) (next s)
       unfolding breaks
       on-kept z s f kept =
-          subst (λ (x : Step). x .rule ≡ 0 → Kept (number + 1) (x .state)) (decided s f)
+          subst (λ (x : LineResult). x .rule ≡ 0 → BoundedState (number + 1) (x .state)) (decided s f)
           (step-kept number (take (found .content - here) (drop here t)) (put s) (crossed .kept whole s f kept)) z
 
       on-rises : k ≡ 0 → (s : State) → fits s → Rises s (next s)
       unfolding breaks
       on-rises z s f =
           le-trans (crossed .rises whole s f)
-          (subst (λ (x : Step). x .rule ≡ 0 → Rises (put s) (x .state)) (decided s f)
+          (subst (λ (x : LineResult). x .rule ≡ 0 → Rises (put s) (x .state)) (decided s f)
           (step-raises (take (found .content - here) (drop here t)) (put s)) z)
 
       on-same : k ≡ 0 → (s : State) → fits s → readFrom (number + 1) (lines (drop (found .next) t)) (next s) ≡ readFrom line (lines (drop at t)) s
@@ -79,7 +79,7 @@ module _ (t : List ℕ) (at line : ℕ) (fits : State → Type 0) where
           ∙ ap (λ (n : ℕ). onward (breaks n (next s)) number (readFrom (number + 1) (lines (drop (found .next) t)))) (sym z)
           ∙ over s f
 
-      pub crossed-on : k ≡ 0 → Crossed t at line fits next k (found .next) (number + 1)
+      pub crossed-on : k ≡ 0 → ResumesPart t at line fits next k (found .next) (number + 1)
       unfolding resume
       crossed-on z =
           let a : here < found .next = ahead in
@@ -88,7 +88,7 @@ module _ (t : List ℕ) (at line : ℕ) (fits : State → Type 0) where
           let c : number + at ≤ line + here = crossed .counted in
           record {
             same = λ (s : State) (f : fits s). if-true _ _ (eq-eqb _ _ z) ∙ on-same z s f;
-            kept = λ (e : k ≡ 0) (s : State) (f : fits s) (kept : Kept line s). on-kept z s f kept;
+            kept = λ (e : k ≡ 0) (s : State) (f : fits s) (kept : BoundedState line s). on-kept z s f kept;
             rises = λ (e : k ≡ 0) (s : State) (f : fits s). on-rises z s f;
             onward = omega arith;
             within = inside;
@@ -96,7 +96,7 @@ module _ (t : List ℕ) (at line : ℕ) (fits : State → Type 0) where
             counted = omega arith;
           }
 
-      pub crossed-stops : (k ≡ 0 → ⊥) → Crossed t at line fits next k (found .next) number
+      pub crossed-stops : (k ≡ 0 → ⊥) → ResumesPart t at line fits next k (found .next) number
       unfolding resume
       crossed-stops z =
           let a : here < found .next = ahead in
@@ -105,7 +105,7 @@ module _ (t : List ℕ) (at line : ℕ) (fits : State → Type 0) where
           let c : number + at ≤ line + here = crossed .counted in
           record {
             same = λ (s : State) (f : fits s). if-false _ _ (ne-eqb _ _ z) ∙ sym (onward-stops k (next s) number _ z) ∙ over s f;
-            kept = λ (e : k ≡ 0) (s : State) (f : fits s) (kept : Kept line s). absurd (z e);
+            kept = λ (e : k ≡ 0) (s : State) (f : fits s) (kept : BoundedState line s). absurd (z e);
             rises = λ (e : k ≡ 0) (s : State) (f : fits s). absurd (z e);
             onward = omega arith;
             within = inside;
@@ -118,8 +118,8 @@ crossed-less t here found h told =
     let f : here < found .next = rw told (next-on commentByte t here h) in
     omega arith
 
-pub crossed-reached : (t : List ℕ) (at line : ℕ) (fits : State → Type 0) (put : State → State) (number further last : ℕ) → Crossed t at line fits put number further last →
-    (s : State) → fits s → Onward t at line s → at < further → Reached t at line s (record { rule = number; at = further; line = last; state = put s })
+pub crossed-reached : (t : List ℕ) (at line : ℕ) (fits : State → Type 0) (put : State → State) (number further last : ℕ) → ResumesPart t at line fits put number further last →
+    (s : State) → fits s → Onward t at line s → at < further → ResumesText t at line s (record { rule = number; at = further; line = last; state = put s })
 crossed-reached t at line fits put number further last crossed s f on h =
     let c : line ≤ at + 1 = on .counted in
     let k : last + at ≤ line + further = crossed .counted in
@@ -133,22 +133,22 @@ crossed-reached t at line fits put number further last crossed s f on h =
 -- ---- a walk that has not gone further
 
 module _ (t : List ℕ) (at here : ℕ) where
-  pub stays-opens : (found : Line) → found ≡ lineAt commentByte t here → Opens (take (found .content - here) (drop here t)) → Stays t at here
+  pub stays-opens : (found : Line) → found ≡ lineAt commentByte t here → Opens (take (found .content - here) (drop here t)) → NoProgressMeansBracket t at here
   stays-opens found told opens e h =
       subst (λ (n : ℕ). Opens (contentAt t n)) e (subst (λ (l : Line). Opens (take (l .content - here) (drop here t))) told opens)
 
-  pub stays-moved : (found : Line) → found ≡ lineAt commentByte t here → here < length t → at ≤ here → Stays t at (found .next)
+  pub stays-moved : (found : Line) → found ≡ lineAt commentByte t here → here < length t → at ≤ here → NoProgressMeansBracket t at (found .next)
   stays-moved found told h o e l =
       let a : here < found .next = rw told (next-on commentByte t here h) in
       absurd (omega arith)
 
-  pub stays-ended : length t ≤ here → Stays t at here
+  pub stays-ended : length t ≤ here → NoProgressMeansBracket t at here
   stays-ended h e l = absurd (omega arith)
 
-  pub stays-elsewhere : (p : ℕ) → Stays t at here → at ≤ here → here ≤ at → at < length t → StandsElsewhere (contentAt t at) p
+  pub stays-elsewhere : (p : ℕ) → NoProgressMeansBracket t at here → at ≤ here → here ≤ at → at < length t → BracketOrLineByLine (contentAt t at) p
   stays-elsewhere p stays o n h filled plain =
       let e : here ≡ at = omega arith in
       absurd (stays e h plain)
 
-pub elsewhere-here : (t : List ℕ) (at p : ℕ) (found : Line) → found ≡ lineAt commentByte t at → StandsElsewhere (contentAt t at) p → StandsElsewhere (take (found .content - at) (drop at t)) p
-elsewhere-here t at p found told there = subst (λ (l : Line). StandsElsewhere (take (l .content - at) (drop at t)) p) (sym told) there
+pub elsewhere-here : (t : List ℕ) (at p : ℕ) (found : Line) → found ≡ lineAt commentByte t at → BracketOrLineByLine (contentAt t at) p → BracketOrLineByLine (take (found .content - at) (drop at t)) p
+elsewhere-here t at p found told there = subst (λ (l : Line). BracketOrLineByLine (take (l .content - at) (drop at t)) p) (sym told) there

@@ -24,14 +24,14 @@ use Rattle.line_path.specs.declared.PathLine.{PathLine}
 use Rattle.line_path.proofs.RuleLaws.{closed-other}
 use Rattle.line_path.proofs.DepthLaws.{depth-within}
 use Rattle.line_map.specs.PinMap.{mostPins, mostMapPins, isPinLine, mapLineOf, mapRule, pinRule}
-use Rattle.line_map.specs.Way.Bounded.{Bounded}
+use Rattle.line_map.specs.Way.Bounded.{BoundedMap}
 use Rattle.line_map.specs.declared.Map.{Map}
 use Rattle.line_map.proofs.MapLaws.{next-bounded, pin-bounded}
 use Rattle.line_matrix.specs.Matrix.{sparse, mostValues, sparseLine, numbersLine, dataLineOf, areTooMany, dataRule}
 use Rattle.line_matrix.specs.Matrix as matrix
 use Rattle.line_matrix.specs.declared.Matrix.{Matrix}
 use Rattle.line_matrix.specs.declared.DataLine.{DataLine}
-use Rattle.line_keyword.specs.Way.Kept.{Kept}
+use Rattle.line_keyword.specs.Way.Kept.{BoundedState}
 use Rattle.line_keyword.specs.declared.State.{State}
 use Rattle.line_keyword.proofs.KeptLaws.{more-within}
 use Rattle.read_line.specs.Reading.{lineRule, countsAfterLine, lineNext}
@@ -108,7 +108,7 @@ module _ (l : PathLine) (p : Path) (steps : ℕ) where
 
 -- ---- what the updates ask, and what each count has room for
 
-pub grid-bounded : (n : ℕ) (s : State) → Kept n s → Bounded (s .map)
+pub grid-bounded : (n : ℕ) (s : State) → BoundedState n s → BoundedMap (s .map)
 grid-bounded n s h = h .grid
 
 module _ (content : List ℕ) (s : State) where
@@ -152,7 +152,7 @@ column-small form content l told = rw told (line-narrow form content)
 
 -- ---- a line more
 
-module _ (n : ℕ) (content : List ℕ) (s : State) (h : Kept n s) (kept : lineRule content s ≡ 0) where
+module _ (n : ℕ) (content : List ℕ) (s : State) (h : BoundedState n s) (kept : lineRule content s ≡ 0) where
   steps-kept : countsAfterLine content s .steps ≤ mostSteps
   unfolding countsAfterLine
   steps-kept =
@@ -181,18 +181,18 @@ module _ (n : ℕ) (content : List ℕ) (s : State) (h : Kept n s) (kept : lineR
       depth-within (pathLineOf content) (s .path) (s .counts .steps) (sym (path-rule content s (eqb-true (s .place) place.path b)) ∙ kept) (h .depth))
       (λ (b : eqb (s .place) place.path ≡ false). h .depth)
 
-  grid-kept : Bounded (lineNext content s .map)
+  grid-kept : BoundedMap (lineNext content s .map)
   unfolding lineNext
   grid-kept =
-      by-test (λ (m : Map). Bounded m) (eqb (s .place) place.mapHead) _ _
+      by-test (λ (m : Map). BoundedMap m) (eqb (s .place) place.mapHead) _ _
       (λ (b : eqb (s .place) place.mapHead ≡ true).
       next-bounded content (mapLineOf content) (s .map) refl (sym (head-rule content s (eqb-true (s .place) place.mapHead b)) ∙ kept) (h .grid))
       (λ (b : eqb (s .place) place.mapHead ≡ false).
-      by-test (λ (m : Map). Bounded m) (eqb (s .place) place.pinList) _ _
+      by-test (λ (m : Map). BoundedMap m) (eqb (s .place) place.pinList) _ _
       (λ (c : eqb (s .place) place.pinList ≡ true). pin-bounded (s .map) (h .grid))
       (λ (c : eqb (s .place) place.pinList ≡ false). h .grid))
 
-  pub line-kept : Kept (n + 1) (lineNext content s)
+  pub line-kept : BoundedState (n + 1) (lineNext content s)
   unfolding lineNext countsAfterLine
   line-kept =
       let m : s .counts .matrices ≤ n = h .matrices in

@@ -42,7 +42,7 @@ use Rattle.read_line.specs.Reading.{
   lineResult,
 }
 use Rattle.read_line.specs.Way.Trace.{brokenAt, afterwards, meetingOf, meetings, stateAfter, AllGo}
-use Rattle.read_line.specs.declared.Step.{Step}
+use Rattle.read_line.specs.declared.LineResult.{LineResult}
 use Rattle.read_line.proofs.ReadingLaws.{meet-goes, meet-stops, by-broken, head-goes, tail-goes}
 
 -- ---- what both kinds of line keep, a step keeps
@@ -54,7 +54,7 @@ pub record Met (k : ℕ) (s : State) : Type 0 where
 
 module _ (P : State → Type 0) where
   -- a step that breaks nothing leads to a state of which it holds
-  abbrev Holds : Step → Type 0
+  abbrev Holds : LineResult → Type 0
   Holds step = step .rule ≡ 0 → P (step .state)
 
   holds-goes : (s : State) → P s → Holds (goes s)
@@ -73,7 +73,7 @@ module _ (P : State → Type 0) where
       (λ (e : eqb k 0 ≡ false). rw (if-false {b = eqb k 0} (goes next) (breaks k s) e) (λ (z : k ≡ 0). absurd (eqb-false k 0 e z)))
 
   -- whichever of two steps a test chooses
-  holds-if : (b : Bool) (x y : Step) → Holds x → Holds y → Holds (if b then x else y)
+  holds-if : (b : Bool) (x y : LineResult) → Holds x → Holds y → Holds (if b then x else y)
   unfolding if_then_else_
   holds-if true x y h k = h
   holds-if false x y h k = k
@@ -102,7 +102,7 @@ module _ (P : State → Type 0) where
     holds-before Unknown content s on h = holds-goes s h
     holds-before Later content s on h = holds-goes s h
     holds-before (Keyword key start) content s on h =
-        by-test (λ (x : Step). Holds x) (eqb key beginHeader) _ _
+        by-test (λ (x : LineResult). Holds x) (eqb key beginHeader) _ _
         (λ (e : eqb key beginHeader ≡ true).
         holds-keyword key (argumentFrom content start) s (record { on = on; first = λ (b : s .place ≡ before). eqb-true key beginHeader e }) h)
         (λ (e : eqb key beginHeader ≡ false). holds-goes s h)
@@ -111,10 +111,10 @@ module _ (P : State → Type 0) where
     unfolding lineResult
     step-holds content s h =
         holds-if (isBlankLine content) _ _ (holds-goes s h)
-        (by-test (λ (x : Step). Holds x) (eqb (s .place) done) _ _
+        (by-test (λ (x : LineResult). Holds x) (eqb (s .place) done) _ _
         (λ (d : eqb (s .place) done ≡ true). holds-goes s h)
         (λ (d : eqb (s .place) done ≡ false).
-        by-test (λ (x : Step). Holds x) (eqb (s .place) before) _ _
+        by-test (λ (x : LineResult). Holds x) (eqb (s .place) before) _ _
         (λ (b : eqb (s .place) before ≡ true). holds-before (bracketOf content) content s (eqb-false _ _ d) h)
         (λ (b : eqb (s .place) before ≡ false).
         holds-bracket (bracketOf content) content s

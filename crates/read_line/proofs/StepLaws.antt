@@ -30,7 +30,7 @@ use Rattle.read_line.proofs.KeptLaws.{data-fits, pin-total, step-room}
 use Rattle.line_matrix.specs.declared.Matrix.{Matrix}
 use Rattle.line_matrix.specs.declared.DataLine.{DataLine}
 use Rattle.line_keyword.specs.Keywords.{oneMoreIf, keywordRule, keywordNext}
-use Rattle.line_keyword.specs.Way.Kept.{Kept, Countable, mostLines}
+use Rattle.line_keyword.specs.Way.Kept.{BoundedState, Countable, mostLines}
 use Rattle.line_keyword.proofs.KeptLaws.{keyword-bounds, kept-countable, more-within}
 use Rattle.base.specs.Bytes.{isBlank}
 use Rattle.base.specs.Runs.{run, all}
@@ -43,9 +43,9 @@ use Rattle.lex_keyword.specs.declared.Bracket.{Bracket}
 use lib.ListN.{length, take, drop}
 use native.Mathlib.Nat.{zero-add}
 use Rattle.line_keyword.specs.declared.State.{State}
-use Rattle.read_line.specs.declared.Step.{Step}
+use Rattle.read_line.specs.declared.LineResult.{LineResult}
 use Rattle.read_line.specs.Reading.{listRule, lineRule, countsAfterLine, lineNext, goes, breaks, judged, lineStep, keywordStep, argumentFrom, bracketStep, beforeStep}
-use Rattle.read_line.specs.Way.Walk.{Decides, Stepping, Elsewhere, withPath, withPinned, withMatrix}
+use Rattle.read_line.specs.Way.Walk.{Decides, Stepping, ReadLineByLine, withPath, withPinned, withMatrix}
 
 -- ---- a line judged
 
@@ -160,7 +160,7 @@ module _ (content : List ℕ) (s : State) where
 
 -- ---- what code that has judged a line has to show, place by place
 
-module _ (content : List ℕ) (s : State) (r : Step) where
+module _ (content : List ℕ) (s : State) (r : LineResult) where
   module _ (here : s .place ≡ place.head) (l : HeadLine) (read : l ≡ headLineOf content) (k : ℕ) (rule : k ≡ headRule l (s .head)) where
     head-rule : k ≡ lineRule content s
     head-rule = rule ∙ ap (λ (x : HeadLine). headRule x (s .head)) read ∙ sym (rule-head content s here)
@@ -200,7 +200,7 @@ module _ (content : List ℕ) (s : State) (r : Step) where
   unfolding lineRule
   text-goes b told h e = e ∙ line-goes content s 0 (sym (if-true _ _ (sym told ∙ h))) refl s (next-text content s (sym told ∙ h))
 
-  pub other-stops : Elsewhere (s .place) → (s .place ≡ place.list → ⊥) → (s .place ≡ place.mapHead → ⊥) → (s .place ≡ place.head → ⊥) → (b : Bool) → b ≡ isText (s .place) → b ≡ false → r ≡ breaks 12 s → r ≡ lineStep content s
+  pub other-stops : ReadLineByLine (s .place) → (s .place ≡ place.list → ⊥) → (s .place ≡ place.mapHead → ⊥) → (s .place ≡ place.head → ⊥) → (b : Bool) → b ≡ isText (s .place) → b ≡ false → r ≡ breaks 12 s → r ≡ lineStep content s
   unfolding lineRule
   other-stops o l d h b told f e =
       e ∙ line-stops content s 12
@@ -220,7 +220,7 @@ text-pins : isText place.pinList ≡ false
 unfolding isText either if_then_else_
 text-pins = refl
 
-pub text-elsewhere : (p : ℕ) (b : Bool) → b ≡ isText p → b ≡ true → Elsewhere p
+pub text-elsewhere : (p : ℕ) (b : Bool) → b ≡ isText p → b ≡ true → ReadLineByLine p
 text-elsewhere p b told e =
     record {
       matrix = λ (h : p ≡ place.matrix). true≢false (sym e ∙ told ∙ ap isText h ∙ text-matrix);
@@ -292,7 +292,7 @@ steps-small p n h =
     let k : n ≤ mostSteps = h .steps in
     omega arith
 
-pub stepping-kept : (n : ℕ) (s : State) → Kept n s → Stepping (s .path) (s .counts .steps)
+pub stepping-kept : (n : ℕ) (s : State) → BoundedState n s → Stepping (s .path) (s .counts .steps)
 stepping-kept n s kept = record { depth = kept .depth; steps = kept .steps }
 
 pub stepping-on : (l : PathLine) (p : Path) (n k : ℕ) → k ≡ pathRule l p n → k ≡ 0 → Stepping p n → (b : Bool) → b ≡ isStepLine l → (more : ℕ) → more ≡ oneMoreIf b n → (next : Path) → next ≡ pathNext l p → Stepping next more
@@ -307,7 +307,7 @@ values-small l m values k rule e = data-fits l m values (sym rule ∙ e)
 
 -- ---- keyword lines
 
-module _ (k : ℕ) (argument : List ℕ) (s : State) (n : ℕ) (rule : n ≡ keywordRule k argument s) (r : Step) where
+module _ (k : ℕ) (argument : List ℕ) (s : State) (n : ℕ) (rule : n ≡ keywordRule k argument s) (r : LineResult) where
   pub keyword-stops : (n ≡ 0 → ⊥) → r ≡ breaks n s → r ≡ keywordStep k argument s
   unfolding keywordStep
   keyword-stops h e = e ∙ judged-stops n (keywordNext k argument s) s h ∙ ap (λ (x : ℕ). judged x (keywordNext k argument s) s) rule
@@ -319,7 +319,7 @@ module _ (k : ℕ) (argument : List ℕ) (s : State) (n : ℕ) (rule : n ≡ key
 pub keyword-inside : (k : ℕ) (argument : List ℕ) (s : State) (n : ℕ) → n ≡ keywordRule k argument s → n ≡ 0 → isOutOfBounds k argument ≡ false
 keyword-inside k argument s n rule e = keyword-bounds k argument s (sym rule ∙ e)
 
-pub all-countable : (s : State) → Kept mostLines s → Countable (s .counts)
+pub all-countable : (s : State) → BoundedState mostLines s → Countable (s .counts)
 all-countable s kept = kept-countable mostLines s kept (omega arith)
 
 -- ---- arguments
@@ -351,12 +351,12 @@ module _ (content : List ℕ) (start : ℕ) (last : Span) (found : last ≡ last
   argument-there = ap (λ (n : ℕ). take (n - start) (drop start content)) end-told
 
 -- a keyword by the argument that was cut
-pub named-told : (k : ℕ) (content : List ℕ) (start : ℕ) (s : State) (argument : List ℕ) (r : Step) → argument ≡ argumentFrom content start → r ≡ keywordStep k argument s → r ≡ keywordStep k (argumentFrom content start) s
+pub named-told : (k : ℕ) (content : List ℕ) (start : ℕ) (s : State) (argument : List ℕ) (r : LineResult) → argument ≡ argumentFrom content start → r ≡ keywordStep k argument s → r ≡ keywordStep k (argumentFrom content start) s
 named-told k content start s argument r cut e = e ∙ ap (λ (x : List ℕ). keywordStep k x s) cut
 
 -- ---- brackets
 
-module _ (content : List ℕ) (s : State) (r : Step) (b : Bracket) (read : b ≡ bracketOf content) where
+module _ (content : List ℕ) (s : State) (r : LineResult) (b : Bracket) (read : b ≡ bracketOf content) where
   -- by the case that was read
   pub bracket-told : (c : Bracket) → b ≡ c → r ≡ bracketStep c content s → r ≡ bracketStep (bracketOf content) content s
   bracket-told c e h = h ∙ ap (λ (x : Bracket). bracketStep x content s) (sym e ∙ read)

@@ -18,7 +18,7 @@ use Rattle.lex_line.specs.Lines.{Raw, lines, contentOf, isBlankLine}
 use Rattle.lex_line.specs.Way.LineEnds.{lineAt}
 use Rattle.lex_line.specs.declared.Line.{Line}
 use Rattle.lex_line.proofs.LineLaws.{firstOf, lines-at, next-on, next-within, content-at}
-use Rattle.line_keyword.specs.Way.Kept.{Kept}
+use Rattle.line_keyword.specs.Way.Kept.{BoundedState}
 use Rattle.line_keyword.proofs.KeptLaws.{start-kept, keyword-kept, kept-more}
 use Rattle.line_keyword.specs.State.{startState}
 use Rattle.line_keyword.specs.Keywords.{keywordRule, keywordNext, countsAfter, oneMoreIf}
@@ -49,8 +49,8 @@ use Rattle.read_line.specs.Reading.{
   atEnd,
   readingOf,
 }
-use Rattle.read_line.specs.Way.Walk.{resume, Onward, Rises, Reached}
-use Rattle.read_line.specs.declared.Step.{Step}
+use Rattle.read_line.specs.Way.Walk.{resume, Onward, Rises, ResumesText}
+use Rattle.read_line.specs.declared.LineResult.{LineResult}
 use Rattle.read_line.specs.declared.Walk.{Walk}
 use Rattle.read_line.specs.declared.Reading.{Reading}
 use Rattle.read_line.specs.declared.Reading.the-variants.{Refused}
@@ -59,10 +59,10 @@ use Rattle.read_line.proofs.KeptLaws.{line-kept}
 -- ---- what a line that breaks nothing keeps
 
 -- a step keeps what the reading keeps
-abbrev Keeps : ℕ → Step → Type 0
-Keeps n step = step .rule ≡ 0 → Kept (n + 1) (step .state)
+abbrev Keeps : ℕ → LineResult → Type 0
+Keeps n step = step .rule ≡ 0 → BoundedState (n + 1) (step .state)
 
-keeps-goes : (n : ℕ) (s : State) → Kept n s → Keeps n (goes s)
+keeps-goes : (n : ℕ) (s : State) → BoundedState n s → Keeps n (goes s)
 unfolding goes
 keeps-goes n s k z = kept-more n (n + 1) s k (omega arith)
 
@@ -70,28 +70,28 @@ keeps-breaks : (n k : ℕ) (s : State) → 0 < k → Keeps n (breaks k s)
 unfolding breaks
 keeps-breaks n k s h z = absurd (omega arith)
 
-keeps-judged : (n k : ℕ) (next s : State) → (k ≡ 0 → Kept (n + 1) next) → Keeps n (judged k next s)
+keeps-judged : (n k : ℕ) (next s : State) → (k ≡ 0 → BoundedState (n + 1) next) → Keeps n (judged k next s)
 unfolding judged goes breaks
 keeps-judged n k next s h =
     by-cases (Keeps n (judged k next s)) (eqb k 0)
     (λ (e : eqb k 0 ≡ true). rw (if-true {b = eqb k 0} (goes next) (breaks k s) e) (λ (z : _≡_ {A = ℕ} 0 0). h (eqb-true _ _ e)))
     (λ (e : eqb k 0 ≡ false). rw (if-false {b = eqb k 0} (goes next) (breaks k s) e) (λ (z : k ≡ 0). absurd (eqb-false k 0 e z)))
 
-keeps-line : (n : ℕ) (content : List ℕ) (s : State) → Kept n s → Keeps n (lineStep content s)
+keeps-line : (n : ℕ) (content : List ℕ) (s : State) → BoundedState n s → Keeps n (lineStep content s)
 unfolding lineStep
 keeps-line n content s k = keeps-judged n (lineRule content s) (lineNext content s) s (line-kept n content s k)
 
-keeps-keyword : (n k : ℕ) (argument : List ℕ) (s : State) → Kept n s → Keeps n (keywordStep k argument s)
+keeps-keyword : (n k : ℕ) (argument : List ℕ) (s : State) → BoundedState n s → Keeps n (keywordStep k argument s)
 unfolding keywordStep
 keeps-keyword n k argument s kept = keeps-judged n (keywordRule k argument s) (keywordNext k argument s) s (keyword-kept n k argument s kept)
 
 -- whichever of two steps a test chooses
-keeps-if : (n : ℕ) (b : Bool) (x y : Step) → Keeps n x → Keeps n y → Keeps n (if b then x else y)
+keeps-if : (n : ℕ) (b : Bool) (x y : LineResult) → Keeps n x → Keeps n y → Keeps n (if b then x else y)
 unfolding if_then_else_
 keeps-if n true x y h k = h
 keeps-if n false x y h k = k
 
-keeps-bracket : (n : ℕ) (b : Bracket) (content : List ℕ) (s : State) → Kept n s → Keeps n (bracketStep b content s)
+keeps-bracket : (n : ℕ) (b : Bracket) (content : List ℕ) (s : State) → BoundedState n s → Keeps n (bracketStep b content s)
 keeps-bracket n Plain content s k = keeps-line n content s k
 keeps-bracket n Indented content s k = keeps-if n (isText (s .place)) _ _ (keeps-line n content s k) (keeps-breaks n 6 s (omega arith))
 keeps-bracket n Bad content s k = keeps-breaks n 6 s (omega arith)
@@ -99,7 +99,7 @@ keeps-bracket n Unknown content s k = keeps-breaks n 7 s (omega arith)
 keeps-bracket n Later content s k = keeps-breaks n 8 s (omega arith)
 keeps-bracket n (Keyword key start) content s k = keeps-keyword n key (argumentFrom content start) s k
 
-keeps-before : (n : ℕ) (b : Bracket) (content : List ℕ) (s : State) → Kept n s → Keeps n (beforeStep b content s)
+keeps-before : (n : ℕ) (b : Bracket) (content : List ℕ) (s : State) → BoundedState n s → Keeps n (beforeStep b content s)
 keeps-before n Plain content s k = keeps-goes n s k
 keeps-before n Indented content s k = keeps-goes n s k
 keeps-before n Bad content s k = keeps-goes n s k
@@ -107,7 +107,7 @@ keeps-before n Unknown content s k = keeps-goes n s k
 keeps-before n Later content s k = keeps-goes n s k
 keeps-before n (Keyword key start) content s k = keeps-if n (eqb key beginHeader) _ _ (keeps-keyword n key (argumentFrom content start) s k) (keeps-goes n s k)
 
-pub step-kept : (n : ℕ) (content : List ℕ) (s : State) → Kept n s → Keeps n (lineResult content s)
+pub step-kept : (n : ℕ) (content : List ℕ) (s : State) → BoundedState n s → Keeps n (lineResult content s)
 unfolding lineResult
 step-kept n content s k =
     keeps-if n (isBlankLine content) _ _ (keeps-goes n s k)
@@ -116,7 +116,7 @@ step-kept n content s k =
 
 -- ---- values only rise
 
-abbrev Raises : State → Step → Type 0
+abbrev Raises : State → LineResult → Type 0
 Raises s step = step .rule ≡ 0 → Rises s (step .state)
 
 raises-goes : (s : State) → Raises s (goes s)
@@ -127,7 +127,7 @@ raises-breaks : (k : ℕ) (s : State) → Raises s (breaks k s)
 unfolding breaks
 raises-breaks k s z = le-refl (s .counts .values)
 
-raises-if : (s : State) (b : Bool) (x y : Step) → Raises s x → Raises s y → Raises s (if b then x else y)
+raises-if : (s : State) (b : Bool) (x y : LineResult) → Raises s x → Raises s y → Raises s (if b then x else y)
 unfolding if_then_else_
 raises-if s true x y h k = h
 raises-if s false x y h k = k
@@ -189,7 +189,7 @@ module _ (t : List ℕ) (at line : ℕ) (s : State) (h : at < length t) (here : 
   content-told : take (here .content - at) (drop at t) ≡ contentOf commentByte (firstOf (drop at t) .bytes)
   content-told = ap (λ (l : Line). take (l .content - at) (drop at t)) found ∙ sym (content-at commentByte t at)
 
-  module _ (step : Step) (taken : step ≡ lineResult (take (here .content - at) (drop at t)) s) where
+  module _ (step : LineResult) (taken : step ≡ lineResult (take (here .content - at) (drop at t)) s) where
     step-told : step ≡ lineResult (contentOf commentByte (firstOf (drop at t) .bytes)) s
     step-told = taken ∙ ap (λ (c : List ℕ). lineResult c s) content-told
 
@@ -200,8 +200,8 @@ module _ (t : List ℕ) (at line : ℕ) (s : State) (h : at < length t) (here : 
         ∙ (λ i. onward (sym step-told i) line (readFrom (line + 1) (lines (drop (sym found i .next) t))))
 
 module _ (t : List ℕ) (at line : ℕ) (s : State) (h : at < length t) (on : Onward t at line s) (here : Line) (found : here ≡ lineAt commentByte t at) where
-  module _ (step : Step) (taken : step ≡ lineResult (take (here .content - at) (drop at t)) s) where
-    line-broken : (step .rule ≡ 0 → ⊥) → Reached t at line s (record { rule = step .rule; at = here .next; line = line; state = step .state })
+  module _ (step : LineResult) (taken : step ≡ lineResult (take (here .content - at) (drop at t)) s) where
+    line-broken : (step .rule ≡ 0 → ⊥) → ResumesText t at line s (record { rule = step .rule; at = here .next; line = line; state = step .state })
     unfolding resume onward
     line-broken z =
         record {
@@ -211,7 +211,7 @@ module _ (t : List ℕ) (at line : ℕ) (s : State) (h : at < length t) (on : On
           rises = λ (e : step .rule ≡ 0). absurd (z e);
         }
 
-    line-taken : step .rule ≡ 0 → Reached t at line s (record { rule = step .rule; at = here .next; line = line + 1; state = step .state })
+    line-taken : step .rule ≡ 0 → ResumesText t at line s (record { rule = step .rule; at = here .next; line = line + 1; state = step .state })
     unfolding resume onward
     line-taken z =
         let f : at < here .next = rw found (next-on commentByte t at h) in
@@ -220,18 +220,18 @@ module _ (t : List ℕ) (at line : ℕ) (s : State) (h : at < length t) (on : On
         record {
           same = if-true _ _ (eq-eqb _ _ z) ∙ sym (line-run t at line s h here found step taken ∙ if-true _ _ (eq-eqb _ _ z));
           further = λ (e : step .rule ≡ 0). f;
-          onward = λ (e : step .rule ≡ 0). record { within = w; counted = omega arith; kept = kept-next z };
+          onward = λ (e : step .rule ≡ 0). record { within = w; counted = omega arith; kept = matrix-keyword-next z };
           rises = λ (e : step .rule ≡ 0). raised-next e;
         }
       where
         raised-next : step .rule ≡ 0 → Rises s (step .state)
         raised-next z = rw taken (step-raises (take (here .content - at) (drop at t)) s (rw taken at z))
 
-        kept-next : step .rule ≡ 0 → Kept (line + 1) (step .state)
-        kept-next z = rw taken (step-kept line (take (here .content - at) (drop at t)) s (on .kept) (rw taken at z))
+        matrix-keyword-next : step .rule ≡ 0 → BoundedState (line + 1) (step .state)
+        matrix-keyword-next z = rw taken (step-kept line (take (here .content - at) (drop at t)) s (on .kept) (rw taken at z))
 
     -- the next line is the one after it, unless it breaks a rule
-    pub line-reached : (after : ℕ) → after ≡ oneMoreIf (eqb (step .rule) 0) line → Reached t at line s (record { rule = step .rule; at = here .next; line = after; state = step .state })
+    pub line-reached : (after : ℕ) → after ≡ oneMoreIf (eqb (step .rule) 0) line → ResumesText t at line s (record { rule = step .rule; at = here .next; line = after; state = step .state })
     unfolding oneMoreIf
     line-reached after count =
         by-cases _ (eqb (step .rule) 0)
@@ -266,7 +266,7 @@ module _ (t : List ℕ) (at line : ℕ) (s : State) (answer : Reading) (rest : r
   unfolding readFrom lines
   reading-ends h r e = e ∙ rw (drop-of-length-le t h) at rest
 
-  module _ (w : Walk) (reached : Reached t at line s w) where
+  module _ (w : Walk) (reached : ResumesText t at line s w) where
     pub reading-stops : (w .rule ≡ 0 → ⊥) → Refused (w .rule) (w .line) ≡ answer
     unfolding resume
     reading-stops z = sym (if-false _ _ (ne-eqb _ _ z)) ∙ reached .same ∙ rest

@@ -24,7 +24,7 @@ use Rattle.line_keyword.specs.Keywords.{keywordRule, keywordNext, oneMoreIf}
 use Rattle.line_keyword.specs.State.{startState}
 use Rattle.line_keyword.specs.declared.Counts.{Counts}
 use Rattle.line_keyword.specs.declared.State.{State}
-use Rattle.read_line.specs.declared.Step.{Step}
+use Rattle.read_line.specs.declared.LineResult.{LineResult}
 use Rattle.read_line.specs.declared.Reading.{Reading}
 use Rattle.read_line.specs.declared.Reading.the-variants.{Read, Refused}
 
@@ -79,24 +79,24 @@ unfoldable pub argumentFrom : List ℕ → ℕ → List ℕ
 argumentFrom content start = take (lastEnd content - start) (drop start content)
 
 -- the line breaks nothing, and leads on
-unfoldable pub goes : State → Step
+unfoldable pub goes : State → LineResult
 goes s = record { rule = 0; state = s }
 
 -- the line breaks a rule
-unfoldable pub breaks : ℕ → State → Step
+unfoldable pub breaks : ℕ → State → LineResult
 breaks k s = record { rule = k; state = s }
 
-unfoldable pub judged : ℕ → State → State → Step
+unfoldable pub judged : ℕ → State → State → LineResult
 judged k next s = if eqb k 0 then goes next else breaks k s
 
-unfoldable pub lineStep : List ℕ → State → Step
+unfoldable pub lineStep : List ℕ → State → LineResult
 lineStep content s = judged (lineRule content s) (lineNext content s) s
 
-unfoldable pub keywordStep : ℕ → List ℕ → State → Step
+unfoldable pub keywordStep : ℕ → List ℕ → State → LineResult
 keywordStep k argument s = judged (keywordRule k argument s) (keywordNext k argument s) s
 
 -- 6 for a bad bracket, 7 for a keyword not of 000, 8 for a later one, before all else
-abbrev pub bracketStep : Bracket → List ℕ → State → Step
+abbrev pub bracketStep : Bracket → List ℕ → State → LineResult
 bracketStep Plain content s = lineStep content s
 bracketStep Indented content s = if isText (s .place) then lineStep content s else breaks 6 s
 bracketStep Bad content s = breaks 6 s
@@ -105,7 +105,7 @@ bracketStep Later content s = breaks 8 s
 bracketStep (Keyword k start) content s = keywordStep k (argumentFrom content start) s
 
 -- "Lines before [Begin Header] .. are read only for 2, 3, 4": only that keyword, well formed and in column 1, counts there
-abbrev pub beforeStep : Bracket → List ℕ → State → Step
+abbrev pub beforeStep : Bracket → List ℕ → State → LineResult
 beforeStep Plain content s = goes s
 beforeStep Indented content s = goes s
 beforeStep Bad content s = goes s
@@ -114,7 +114,7 @@ beforeStep Later content s = goes s
 beforeStep (Keyword k start) content s = if eqb k beginHeader then keywordStep k (argumentFrom content start) s else goes s
 
 -- "lines left blank are skipped"; nor is a line after [End] looked at
-unfoldable pub lineResult : List ℕ → State → Step
+unfoldable pub lineResult : List ℕ → State → LineResult
 lineResult content s =
     if isBlankLine content then goes s else
     if eqb (s .place) done then goes s else
@@ -133,7 +133,7 @@ atEnd s =
     if eqb (s .place) before then Refused 5 0 else Refused 10 0
 
 -- "5 to 17 reading forward .. the earliest line counts"
-unfoldable pub onward : Step → ℕ → (State → Reading) → Reading
+unfoldable pub onward : LineResult → ℕ → (State → Reading) → Reading
 onward step n more = if eqb (step .rule) 0 then more (step .state) else Refused (step .rule) n
 
 unfoldable pub readFrom : ℕ → List Raw → State → Reading

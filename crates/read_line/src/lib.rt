@@ -4,7 +4,7 @@ ghost use mathlib.Core.Bool.{true, false};
 ghost use Prim.Native.Nat.{_+_, _≤_, _<_};
 ghost use lib.ListN.{length};
 ghost use Rattle.line_place.specs.Place as place;
-ghost use Rattle.line_keyword.specs.Way.Kept.{Kept, mostLines};
+ghost use Rattle.line_keyword.specs.Way.Kept.{BoundedState, mostLines};
 ghost use Rattle.read_line.specs.Reading.{goes, breaks, lineStep, keywordStep, argumentFrom, bracketStep, beforeStep, lineResult, atEnd};
 ghost use Rattle.read_line.specs.Way.Listed.{isFree};
 ghost use Rattle.lex_line.specs.Lines.{isBlankLine};
@@ -13,7 +13,7 @@ ghost use Rattle.line_argument.specs.Argument.{isReserved};
 ghost use Rattle.line_keyword.specs.declared.State.{State};
 ghost use Rattle.lex_keyword.specs.Bracket.{bracketOf};
 ghost use Rattle.lex_keyword.specs.declared.Bracket.the-variants.{Plain, Indented, Keyword};
-ghost use Rattle.read_line.specs.Way.Walk.{Reached, Onward, Passed, Crossed, Holds, Decides, Fronted, Stepping, Opens, Elsewhere, StandsElsewhere, contentAt, Stays, Blocked, withPath, withPinned};
+ghost use Rattle.read_line.specs.Way.Walk.{ResumesText, Onward, ResumesIdle, ResumesPart, HoldsPart, Decides, Fronted, Stepping, Opens, ReadLineByLine, BracketOrLineByLine, contentAt, NoProgressMeansBracket, Blocked, withPath, withPinned};
 use lex_keyword::Bracket;
 use line_keyword::Counts;
 use line_keyword::State;
@@ -33,7 +33,7 @@ const DEEPEST: u64 = 8;
 const CARRIAGE_RETURN: u8 = 13;
 
 // What one line comes to: the number of the rule that it breaks, 0 for none, and what is remembered after it.
-pub struct Step {
+pub struct LineResult {
     pub rule: u64,
     pub state: State,
 }
@@ -52,22 +52,22 @@ pub struct Walk {
     pub state: State,
 }
 
-fn goes_on(s: State) -> Step
+fn goes_on(s: State) -> LineResult
     ensures { λ r. ⌜ r ≡ goes s ⌝ }
 {
-    Step { rule: 0, state: s }
+    LineResult { rule: 0, state: s }
 }
 
-fn stops(rule: u64, s: State) -> Step
+fn stops(rule: u64, s: State) -> LineResult
     ensures { λ r. ⌜ r ≡ breaks rule s ⌝ }
 {
-    Step { rule, state: s }
+    LineResult { rule, state: s }
 }
 
 // ---- lines without a keyword, place by place
 
 // A list line: its first word is never a reserved one.
-fn list_step(content: &[u8], s: State) -> Step
+fn list_step(content: &[u8], s: State) -> LineResult
     requires { ⌜ s .place ≡ place.list ⌝ }
     ensures { λ r. ⌜ r ≡ lineStep (now (content .entry)) s ⌝ }
 {
@@ -77,7 +77,7 @@ fn list_step(content: &[u8], s: State) -> Step
     goes_on(s)
 }
 
-fn head_step(content: &[u8], s: State) -> Step
+fn head_step(content: &[u8], s: State) -> LineResult
     requires { ⌜ s .place ≡ place.head ⌝ }
     ensures { λ r. ⌜ r ≡ lineStep (now (content .entry)) s ⌝ }
 {
@@ -92,7 +92,7 @@ fn head_step(content: &[u8], s: State) -> Step
     goes_on(next)
 }
 
-fn map_step(content: &[u8], s: State) -> Step
+fn map_step(content: &[u8], s: State) -> LineResult
     requires { ⌜ s .place ≡ place.mapHead ⌝ }
     ensures { λ r. ⌜ r ≡ lineStep (now (content .entry)) s ⌝ }
 {
@@ -110,8 +110,8 @@ fn map_step(content: &[u8], s: State) -> Step
 
 // A line without a keyword: what its place takes. The lines of a matrix, a path and a pin list are not read here but with the part of
 // the state that they change, several at once (`read_matrix::pass_data`, `pass_path`, `pass_pins`).
-fn line_step(content: &[u8], s: State) -> Step
-    requires { ⌜ Elsewhere (s .place) ⌝ }
+fn line_step(content: &[u8], s: State) -> LineResult
+    requires { ⌜ ReadLineByLine (s .place) ⌝ }
     ensures { λ r. ⌜ r ≡ lineStep (now (content .entry)) s ⌝ }
 {
     if s.place == line_place::LIST {
@@ -132,8 +132,8 @@ fn line_step(content: &[u8], s: State) -> Step
 // ---- one line
 
 // A keyword line: the rules that it may break, then what is remembered.
-fn keyword_step(key: u64, argument: &[u8], s: State) -> Step
-    requires { ⌜ Kept mostLines s ⌝ }
+fn keyword_step(key: u64, argument: &[u8], s: State) -> LineResult
+    requires { ⌜ BoundedState mostLines s ⌝ }
     ensures { λ r. ⌜ r ≡ keywordStep key (now (argument .entry)) s ⌝ }
 {
     let rule = line_keyword::keyword_rule(key, argument, s);
@@ -155,15 +155,15 @@ pub fn argument_of(content: &[u8], start: usize) -> &[u8]
     &content[start..end]
 }
 
-fn named_step(key: u64, start: usize, content: &[u8], s: State) -> Step
-    requires { ⌜ Kept mostLines s ⌝ }
+fn named_step(key: u64, start: usize, content: &[u8], s: State) -> LineResult
+    requires { ⌜ BoundedState mostLines s ⌝ }
     ensures { λ r. ⌜ r ≡ keywordStep key (argumentFrom (now (content .entry)) start) s ⌝ }
 {
     keyword_step(key, argument_of(content, start), s)
 }
 
 // An indented bracket is text in a text block, and bad elsewhere.
-fn indented_step(content: &[u8], s: State) -> Step
+fn indented_step(content: &[u8], s: State) -> LineResult
     ensures { λ r. ⌜ r ≡ bracketStep Indented (now (content .entry)) s ⌝ }
 {
     if line_place::is_text(s.place) {
@@ -172,8 +172,8 @@ fn indented_step(content: &[u8], s: State) -> Step
     stops(6, s)
 }
 
-fn bracket_step(content: &[u8], s: State) -> Step
-    requires { ⌜ Kept mostLines s × (bracketOf (now content) ≡ Plain → Elsewhere (s .place)) ⌝ }
+fn bracket_step(content: &[u8], s: State) -> LineResult
+    requires { ⌜ BoundedState mostLines s × (bracketOf (now content) ≡ Plain → ReadLineByLine (s .place)) ⌝ }
     ensures { λ r. ⌜ r ≡ bracketStep (bracketOf (now (content .entry))) (now (content .entry)) s ⌝ }
 {
     match lex_keyword::read_bracket(content) {
@@ -187,8 +187,8 @@ fn bracket_step(content: &[u8], s: State) -> Step
 }
 
 // [Begin Header] is looked for; every other keyword is passed over.
-fn opening_step(key: u64, start: usize, content: &[u8], s: State) -> Step
-    requires { ⌜ Kept mostLines s ⌝ }
+fn opening_step(key: u64, start: usize, content: &[u8], s: State) -> LineResult
+    requires { ⌜ BoundedState mostLines s ⌝ }
     ensures { λ r. ⌜ r ≡ beforeStep (Keyword key start) (now (content .entry)) s ⌝ }
 {
     if key == lex_keyword::BEGIN_HEADER {
@@ -197,8 +197,8 @@ fn opening_step(key: u64, start: usize, content: &[u8], s: State) -> Step
     goes_on(s)
 }
 
-fn before_step(content: &[u8], s: State) -> Step
-    requires { ⌜ Kept mostLines s ⌝ }
+fn before_step(content: &[u8], s: State) -> LineResult
+    requires { ⌜ BoundedState mostLines s ⌝ }
     ensures { λ r. ⌜ r ≡ beforeStep (bracketOf (now (content .entry))) (now (content .entry)) s ⌝ }
 {
     match lex_keyword::read_bracket(content) {
@@ -218,8 +218,8 @@ pub fn is_blank_line(content: &[u8]) -> bool
 }
 
 // One line, given by its content.
-fn take_line(content: &[u8], s: State) -> Step
-    requires { ⌜ Kept mostLines s × StandsElsewhere (now content) (s .place) ⌝ }
+fn take_line(content: &[u8], s: State) -> LineResult
+    requires { ⌜ BoundedState mostLines s × BracketOrLineByLine (now content) (s .place) ⌝ }
     ensures { λ r. ⌜ r ≡ lineResult (now (content .entry)) s ⌝ }
 {
     if is_blank_line(content) {
@@ -285,7 +285,7 @@ fn is_listed(content: &[u8]) -> bool
     reads_listed(content)
 }
 
-fn is_quiet(content: &[u8], place: u64) -> bool
+fn is_idle_line(content: &[u8], place: u64) -> bool
     ensures { λ r. ⌜ (r ≡ true → (s : State) → s .place ≡ place → lineResult (now (content .entry)) s ≡ goes s) ⌝ }
 {
     if is_blank_line(content) {
@@ -298,7 +298,7 @@ fn is_quiet(content: &[u8], place: u64) -> bool
 }
 
 // A look at the first byte: an empty line, a comment, or a place whose lines mostly change nothing.
-fn may_be_quiet(text: &[u8], at: usize, place: u64) -> bool {
+fn may_be_idle(text: &[u8], at: usize, place: u64) -> bool {
     if place == line_place::LIST {
         return true;
     }
@@ -313,14 +313,14 @@ fn may_be_quiet(text: &[u8], at: usize, place: u64) -> bool {
 }
 
 // Goes past lines that change nothing, with no look at what is remembered but for the place.
-pub fn pass_quiet(text: &[u8], at: usize, line: u64, place: u64) -> Passing
+pub fn skip_idle_lines(text: &[u8], at: usize, line: u64, place: u64) -> Passing
     requires { ⌜ (at ≤ length (now text)) × (line ≤ at + 1) ⌝ }
-    ensures { λ r. ⌜ Passed (now (text .entry)) at line place (r .at) (r .line) ⌝ }
+    ensures { λ r. ⌜ ResumesIdle (now (text .entry)) at line place (r .at) (r .line) ⌝ }
 {
     let mut here = at;
     let mut line_here = line;
     while here < text.len() {
-        if !may_be_quiet(text, here, place) {
+        if !may_be_idle(text, here, place) {
             return Passing {
                 at: here,
                 line: line_here,
@@ -328,7 +328,7 @@ pub fn pass_quiet(text: &[u8], at: usize, line: u64, place: u64) -> Passing
         }
         let found = lex_line::line_at(text, here, COMMENT);
         let content = found.content;
-        if !is_quiet(&text[here..content], place) {
+        if !is_idle_line(&text[here..content], place) {
             return Passing {
                 at: here,
                 line: line_here,
@@ -427,8 +427,8 @@ struct PinWalk {
 // Goes over the lines of a pin list.
 fn pass_pins(text: &[u8], at: usize, line: u64, map: Map, pins: u64) -> PinWalk
     requires { ⌜ (at ≤ length (now text)) × (line ≤ at + 1) ⌝ }
-    ensures { λ r. ⌜ Crossed (now (text .entry)) at line (Holds place.pinList (withPinned map pins)) (withPinned (r .part .map) (r .part .pins)) (r .part .rule) (r .at) (r .line)
-        × Stays (now (text .entry)) at (r .at) ⌝ }
+    ensures { λ r. ⌜ ResumesPart (now (text .entry)) at line (HoldsPart place.pinList (withPinned map pins)) (withPinned (r .part .map) (r .part .pins)) (r .part .rule) (r .at) (r .line)
+        × NoProgressMeansBracket (now (text .entry)) at (r .at) ⌝ }
 {
     let mut here = at;
     let mut line_here = line;
@@ -618,8 +618,8 @@ fn pass_block(text: &[u8], at: usize, line: u64, path: Path, steps: u64, left: u
 
 // The line at a place: each byte is gone over a bounded number of times.
 pub fn read_one(text: &[u8], at: usize, line: u64, s: State) -> Walk
-    requires { ⌜ (at < length (now text)) × Onward (now text) at line s × StandsElsewhere (contentAt (now text) at) (s .place) ⌝ }
-    ensures { λ r. ⌜ Reached (now (text .entry)) at line s r ⌝ }
+    requires { ⌜ (at < length (now text)) × Onward (now text) at line s × BracketOrLineByLine (contentAt (now text) at) (s .place) ⌝ }
+    ensures { λ r. ⌜ ResumesText (now (text .entry)) at line s r ⌝ }
 {
     let here = lex_line::line_at(text, at, COMMENT);
     let content = here.content;
@@ -636,7 +636,7 @@ pub fn read_one(text: &[u8], at: usize, line: u64, s: State) -> Walk
 // The lines up to the keyword behind a pin list, or that keyword's line.
 pub fn read_pins(text: &[u8], at: usize, line: u64, s: State) -> Walk
     requires { ⌜ (at < length (now text)) × Onward (now text) at line s × (s .place ≡ place.pinList) ⌝ }
-    ensures { λ r. ⌜ Reached (now (text .entry)) at line s r ⌝ }
+    ensures { λ r. ⌜ ResumesText (now (text .entry)) at line s r ⌝ }
 {
     let map = s.map;
     let mut counts = s.counts;
@@ -661,7 +661,7 @@ pub fn read_pins(text: &[u8], at: usize, line: u64, s: State) -> Walk
 // The lines of a path up to one that opens or closes a fork block, or the line of a keyword.
 pub fn read_path(text: &[u8], at: usize, line: u64, s: State) -> Walk
     requires { ⌜ (at < length (now text)) × Onward (now text) at line s × (s .place ≡ place.path) ⌝ }
-    ensures { λ r. ⌜ Reached (now (text .entry)) at line s r ⌝ }
+    ensures { λ r. ⌜ ResumesText (now (text .entry)) at line s r ⌝ }
 {
     let path = s.path;
     let mut counts = s.counts;

@@ -19,7 +19,7 @@ use Rattle.table_layout.specs.Layout.{joined}
 use Rattle.line_matrix.specs.declared.Matrix.{Matrix}
 use Rattle.line_keyword.specs.declared.State.{State}
 use Rattle.read_line.specs.Reading.{commentByte, breaks, lineResult}
-use Rattle.read_line.specs.Way.Walk.{Holds, withMatrix}
+use Rattle.read_line.specs.Way.Walk.{HoldsPart, withMatrix}
 use Rattle.read_line.proofs.CrossLaws.{crossed-none, crossed-on, crossed-stops, stays-opens, stays-moved, stays-ended}
 use Rattle.doc.specs.Lines.{Line, keyOf, placeAfter, linesAt, upTo}
 use Rattle.doc.specs.Document.{Value, inMatrix, valuesFrom, bandwidthIn, greatestIn}
@@ -33,7 +33,7 @@ use Rattle.store_matrices.proofs.MatrixLaws.{matrix-stays, told-untold}
 use Rattle.read_numbers.specs.declared.Staging as stages
 use Rattle.read_numbers.specs.Way.Staging.{Adds}
 use Rattle.read_matrix.specs.declared.Data.{Data}
-use Rattle.read_matrix.specs.Way.Body.{newStaging, Behind, Ends, Takes, Goes, stagedOf}
+use Rattle.read_matrix.specs.Way.Body.{newStaging, Behind, Ends, Takes, ResumesMatrix, stagedOf}
 use Rattle.read_matrix.specs.Way.Run.{Left, Gone}
 use Rattle.read_matrix.proofs.LineLaws.{no-bounded, behind-same}
 
@@ -142,7 +142,7 @@ gone-start t at line m values table b h room n told =
     rw told
     (record {
       whole = refl;
-      crossed = crossed-none t at line (Holds place.matrix (withMatrix m values)) (withMatrix m values) h (λ (s : State) (f : Holds place.matrix (withMatrix m values) s). f .1);
+      crossed = crossed-none t at line (HoldsPart place.matrix (withMatrix m values)) (withMatrix m values) h (λ (s : State) (f : HoldsPart place.matrix (withMatrix m values) s). f .1);
       form = refl;
       behind = behind-same values table;
       rises = le-refl values;
@@ -184,7 +184,7 @@ module _ (t : List ℕ) (at line : ℕ) (m : Matrix) (values : ℕ) (table₀ : 
       let left : Left t line at (m .form) table₀ values number here table (part .values) (part .staging) = gone .left w in
       left-told t line at (m .form) table₀ values number here table (part .values) (part .staging) left e (gone .behind .long) (placed-here h) (gone .crossed .onward)
 
-  pub gone-ends : length t ≤ here → Goes t at line m values table₀ (record { at = here; line = number; part = part; staged = part .staging .whole }) table
+  pub gone-ends : length t ≤ here → ResumesMatrix t at line m values table₀ (record { at = here; line = number; part = part; staged = part .staging .whole }) table
   gone-ends h =
       record {
         crossed = gone .crossed;
@@ -206,7 +206,7 @@ module _ (t : List ℕ) (at line : ℕ) (m : Matrix) (values : ℕ) (table₀ : 
     stops-here ends = ap (upTo inMatrix) (stop-here t here h number found is-found (ends .filled) place.matrix) ∙ up-stops inMatrix l _ (ends .outside l refl)
 
     pub gone-leaves : next .taken ≡ false → (staged : Bool) → staged ≡ both (next .ends) (part .staging .whole) →
-        Goes t at line m values table₀ (record { at = here; line = number; part = part; staged = staged }) table'
+        ResumesMatrix t at line m values table₀ (record { at = here; line = number; part = part; staged = staged }) table'
     gone-leaves left staged is-staged =
         rw (takes .kept left)
         (record {
@@ -224,14 +224,14 @@ module _ (t : List ℕ) (at line : ℕ) (m : Matrix) (values : ℕ) (table₀ : 
       behind-next : Behind values table₀ table'
       behind-next = behind-on values (part .values) table₀ table table' (gone .rises) (gone .behind) (takes .behind)
 
-      decided : (s : State) → Holds place.matrix (withMatrix m values) s → lineResult content (withMatrix (part .matrix) (part .values) s) ≡ breaks (next .rule) (withMatrix (next .matrix) (next .values) s)
+      decided : (s : State) → HoldsPart place.matrix (withMatrix m values) s → lineResult content (withMatrix (part .matrix) (part .values) s) ≡ breaks (next .rule) (withMatrix (next .matrix) (next .values) s)
       decided s f = takes .decides taken s (f .0)
 
-      pub gone-stops : (next .rule ≡ 0 → ⊥) → Goes t at line m values table₀ (record { at = found .next; line = number; part = next; staged = false }) table'
+      pub gone-stops : (next .rule ≡ 0 → ⊥) → ResumesMatrix t at line m values table₀ (record { at = found .next; line = number; part = next; staged = false }) table'
       gone-stops broken =
           record {
             crossed =
-                crossed-stops t at line (Holds place.matrix (withMatrix m values)) (withMatrix (part .matrix) (part .values)) (part .rule) here number (gone .whole) (gone .crossed) h found is-found
+                crossed-stops t at line (HoldsPart place.matrix (withMatrix m values)) (withMatrix (part .matrix) (part .values)) (part .rule) here number (gone .whole) (gone .crossed) h found is-found
                 (withMatrix (next .matrix) (next .values)) (next .rule) decided broken;
             stays = stays-moved t at here found is-found h (gone .crossed .onward);
             behind = behind-next;
@@ -264,7 +264,7 @@ module _ (t : List ℕ) (at line : ℕ) (m : Matrix) (values : ℕ) (table₀ : 
             record {
               whole = z;
               crossed =
-                  crossed-on t at line (Holds place.matrix (withMatrix m values)) (withMatrix (part .matrix) (part .values)) (part .rule) here number (gone .whole) (gone .crossed) h found is-found
+                  crossed-on t at line (HoldsPart place.matrix (withMatrix m values)) (withMatrix (part .matrix) (part .values)) (part .rule) here number (gone .whole) (gone .crossed) h found is-found
                   (withMatrix (next .matrix) (next .values)) (next .rule) decided z;
               form = takes .form ∙ gone .form;
               behind = behind-next;

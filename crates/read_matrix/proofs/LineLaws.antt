@@ -18,15 +18,15 @@ use Rattle.lex_keyword.specs.Names.{row, bandwidth}
 use Rattle.lex_keyword.specs.Bracket.{bracketOf}
 use Rattle.lex_keyword.specs.declared.Bracket.{Bracket}
 use Rattle.lex_keyword.specs.declared.Bracket.the-variants.{Plain, Indented, Bad, Unknown, Later, Keyword}
-use Rattle.line_place.specs.Place.{keepsMatrix}
+use Rattle.line_place.specs.Place.{isRowOrBandwidth}
 use Rattle.line_place.specs.Place as place
 use Rattle.line_matrix.specs.Matrix.{sparse, dataLineOf, dataRule, dataNext, withColumn, withRow, withBandwidth}
 use Rattle.line_matrix.specs.declared.Matrix.{Matrix}
 use Rattle.line_matrix.specs.declared.DataLine.{DataLine}
 use Rattle.line_keyword.specs.Keywords.{keywordRule}
-use Rattle.line_keyword.specs.Way.Row.{keptRule, keptNext}
+use Rattle.line_keyword.specs.Way.Row.{matrixKeywordRule, matrixKeywordNext}
 use Rattle.line_keyword.specs.declared.State.{State}
-use Rattle.line_keyword.proofs.InsideLaws.{kept-rule-is, kept-next-is}
+use Rattle.line_keyword.proofs.InsideLaws.{matrix-keyword-rule-is, matrix-keyword-next-is}
 use Rattle.read_line.specs.Reading.{argumentFrom, goes, breaks, bracketStep, keywordStep, lineResult}
 use Rattle.read_line.specs.Way.Walk.{Decides, Opens, withMatrix}
 use Rattle.read_line.specs.declared.Front.the-variants.{Words}
@@ -39,13 +39,13 @@ use Rattle.store_matrices.specs.Way.Told.{firstTold, toldOr}
 use Rattle.store_matrices.specs.declared.First.{First}
 use Rattle.store_matrices.proofs.BodyLaws.{told-first, whole-below, most-of, row-values, row-bandwidth, row-greatest, bandwidth-values, bandwidth-told, bandwidth-greatest}
 use Rattle.read_numbers.specs.declared.Staging.{Staging}
-use Rattle.read_numbers.specs.Way.Staging.{Bounded, Adds}
+use Rattle.read_numbers.specs.Way.Staging.{BoundedStaging, Adds}
 use Rattle.read_matrix.specs.declared.Data.{Data}
-use Rattle.read_matrix.specs.Way.Body.{newStaging, keptStaging, Keeps, Behind, Extends, Ends, Takes}
+use Rattle.read_matrix.specs.Way.Body.{newStaging, keywordStaging, TakesKeyword, Behind, Extends, Ends, Takes}
 
 -- ---- notes
 
-pub no-bounded : (values : ℕ) (b : Bool) → Bounded (newStaging b) values
+pub no-bounded : (values : ℕ) (b : Bool) → BoundedStaging (newStaging b) values
 no-bounded values b = record { row = omega arith; column = omega arith }
 
 pub behind-same : (values : ℕ) (table : List ℕ) → Behind values table table
@@ -156,7 +156,7 @@ module _ (content : List ℕ) (filled : isBlankLine content ≡ false) (plainly 
 
 -- ---- a blank line
 
-pub blank-takes : (content : List ℕ) (m : Matrix) (values : ℕ) (a : Staging) (table : List ℕ) → isBlankLine content ≡ true → Bounded a values →
+pub blank-takes : (content : List ℕ) (m : Matrix) (values : ℕ) (a : Staging) (table : List ℕ) → isBlankLine content ≡ true → BoundedStaging a values →
     Takes content m values a table (record { taken = true; ends = false; rule = 0; matrix = m; values = values; staging = a }) table
 unfolding breaks goes
 blank-takes content m values a table blank bound =
@@ -178,7 +178,7 @@ blank-takes content m values a table blank bound =
 
 -- ---- a line that is not taken
 
-pub left-takes : (content : List ℕ) (m : Matrix) (values : ℕ) (a : Staging) (table : List ℕ) (b : Bool) → Opens content → (b ≡ true → Ends content) → Bounded a values → (r : Data) →
+pub left-takes : (content : List ℕ) (m : Matrix) (values : ℕ) (a : Staging) (table : List ℕ) (b : Bool) → Opens content → (b ≡ true → Ends content) → BoundedStaging a values → (r : Data) →
     r ≡ record { taken = false; ends = b; rule = 0; matrix = m; values = values; staging = a } → Takes content m values a table r table
 left-takes content m values a table b opens ends bound r told =
     rw told
@@ -222,26 +222,26 @@ module _ (content : List ℕ) (k start : ℕ) (is : bracketOf content ≡ Keywor
       ∙ ap (λ (b : Bracket). wholeOf (argumentFrom content (argumentIn b)) .value) is
 
 -- [Row] and [Bandwidth] leave the form as it is
-kept-form : (k : ℕ) (argument : List ℕ) (m : Matrix) (values : ℕ) → keptNext k argument m values .form ≡ m .form
-unfolding keptNext withRow withBandwidth
+kept-form : (k : ℕ) (argument : List ℕ) (m : Matrix) (values : ℕ) → matrixKeywordNext k argument m values .form ≡ m .form
+unfolding matrixKeywordNext withRow withBandwidth
 kept-form k argument m values =
     by-cases _ (eqb k row)
     (λ (e : eqb k row ≡ true). ap (λ (x : Matrix). x .form) (if-true _ _ e))
     (λ (e : eqb k row ≡ false). ap (λ (x : Matrix). x .form) (if-false _ _ e))
 
 -- rows and columns stay within their bounds
-kept-bounded : (k value : ℕ) (a : Staging) (values : ℕ) → value < 1_000_000_000 → Bounded a values → Bounded (keptStaging k value a) values
-unfolding keptStaging
+kept-bounded : (k value : ℕ) (a : Staging) (values : ℕ) → value < 1_000_000_000 → BoundedStaging a values → BoundedStaging (keywordStaging k value a) values
+unfolding keywordStaging
 kept-bounded k value a values small bound =
     by-cases _ (eqb k row)
     (λ (e : eqb k row ≡ true). rw (if-true {A = Staging} _ _ e) (record { row = omega arith; column = omega arith }))
     (λ (e : eqb k row ≡ false). rw (if-false {A = Staging} _ _ e) (record { row = bound .row; column = bound .column }))
 
-module _ (k : ℕ) (argument : List ℕ) (m : Matrix) (values : ℕ) (a : Staging) (keeps : keepsMatrix k ≡ true) (bound : Bounded a values) (n : ℕ) (rule : n ≡ keptRule k argument m) where
+module _ (k : ℕ) (argument : List ℕ) (m : Matrix) (values : ℕ) (a : Staging) (keeps : isRowOrBandwidth k ≡ true) (bound : BoundedStaging a values) (n : ℕ) (rule : n ≡ matrixKeywordRule k argument m) where
   rule-here : (s : State) → s .place ≡ place.matrix → n ≡ keywordRule k argument (withMatrix m values s)
-  rule-here s p = rule ∙ sym (kept-rule-is argument (withMatrix m values s) p k keeps)
+  rule-here s p = rule ∙ sym (matrix-keyword-rule-is argument (withMatrix m values s) p k keeps)
 
-  pub keeps-stop : (n ≡ 0 → ⊥) → Keeps k argument m values a (record { taken = true; ends = false; rule = n; matrix = m; values = values; staging = a })
+  pub keeps-stop : (n ≡ 0 → ⊥) → TakesKeyword k argument m values a (record { taken = true; ends = false; rule = n; matrix = m; values = values; staging = a })
   keeps-stop h =
       record {
         taken = refl;
@@ -252,8 +252,8 @@ module _ (k : ℕ) (argument : List ℕ) (m : Matrix) (values : ℕ) (a : Stagin
         bounded = bound;
       }
 
-  pub keeps-go : n ≡ 0 → (whole : Whole) → whole ≡ wholeOf argument → (next : Matrix) → next ≡ keptNext k argument m values → (b : Staging) → b ≡ keptStaging k (whole .value) a →
-      Keeps k argument m values a (record { taken = true; ends = false; rule = 0; matrix = next; values = values; staging = b })
+  pub keeps-go : n ≡ 0 → (whole : Whole) → whole ≡ wholeOf argument → (next : Matrix) → next ≡ matrixKeywordNext k argument m values → (b : Staging) → b ≡ keywordStaging k (whole .value) a →
+      TakesKeyword k argument m values a (record { taken = true; ends = false; rule = 0; matrix = next; values = values; staging = b })
   unfolding goes breaks
   keeps-go z whole whole-is next next-is b b-is =
       let v : whole .value ≡ wholeOf argument .value = ap (λ (x : Whole). x .value) whole-is in
@@ -262,10 +262,10 @@ module _ (k : ℕ) (argument : List ℕ) (m : Matrix) (values : ℕ) (a : Stagin
         taken = refl;
         decides = λ (s : State) (p : s .place ≡ place.matrix).
             sym (keyword-goes k argument (withMatrix m values s) n (rule-here s p) (goes (withMatrix next values s)) z (withMatrix next values s)
-            (ap (λ (x : Matrix). withMatrix x values s) next-is ∙ sym (kept-next-is argument (withMatrix m values s) p k keeps)) refl);
+            (ap (λ (x : Matrix). withMatrix x values s) next-is ∙ sym (matrix-keyword-next-is argument (withMatrix m values s) p k keeps)) refl);
         form = ap (λ (x : Matrix). x .form) next-is ∙ kept-form k argument m values;
         same = refl;
-        staging = λ (y : _≡_ {A = ℕ} 0 0). b-is ∙ ap (λ (x : ℕ). keptStaging k x a) v;
+        staging = λ (y : _≡_ {A = ℕ} 0 0). b-is ∙ ap (λ (x : ℕ). keywordStaging k x a) v;
         bounded = rw b-is (kept-bounded k (whole .value) a values small bound);
       }
 
@@ -276,16 +276,16 @@ abbrev banded : Staging → ℕ → Staging
 banded a n = record { whole = a .whole; row = a .row; column = a .column; bandwidth = firstTold (a .bandwidth) n; greatest = a .greatest }
 
 -- what [Row] or [Bandwidth] adds
-kept-adds : (form : ℕ) (k : ℕ) (l : Line) (table : List ℕ) (values : ℕ) (a : Staging) → keepsMatrix k ≡ true → keyOf l ≡ k → a .whole ≡ true → Bounded (keptStaging k (givenBy l) a) values →
-    Adds form l table values a table values (keptStaging k (givenBy l) a)
-unfolding keptStaging keepsMatrix
+kept-adds : (form : ℕ) (k : ℕ) (l : Line) (table : List ℕ) (values : ℕ) (a : Staging) → isRowOrBandwidth k ≡ true → keyOf l ≡ k → a .whole ≡ true → BoundedStaging (keywordStaging k (givenBy l) a) values →
+    Adds form l table values a table values (keywordStaging k (givenBy l) a)
+unfolding keywordStaging isRowOrBandwidth
 kept-adds form k l table values a keeps key whole bound =
     by-cases _ (eqb k row) on-row on-bandwidth
   where
-    on-row : eqb k row ≡ true → Adds form l table values a table values (keptStaging k (givenBy l) a)
+    on-row : eqb k row ≡ true → Adds form l table values a table values (keywordStaging k (givenBy l) a)
     on-row e =
         let is-row : keyOf l ≡ row = key ∙ eqb-true k row e in
-        let f : keptStaging k (givenBy l) a ≡ rowed a (givenBy l) = if-true {A = Staging} (rowed a (givenBy l)) (banded a (givenBy l)) e in
+        let f : keywordStaging k (givenBy l) a ≡ rowed a (givenBy l) = if-true {A = Staging} (rowed a (givenBy l)) (banded a (givenBy l)) e in
         rw f
         (record {
           whole = whole;
@@ -297,10 +297,10 @@ kept-adds form k l table values a keeps key whole bound =
           room = λ (h : 3 * values ≤ length table). h;
         })
 
-    on-bandwidth : eqb k row ≡ false → Adds form l table values a table values (keptStaging k (givenBy l) a)
+    on-bandwidth : eqb k row ≡ false → Adds form l table values a table values (keywordStaging k (givenBy l) a)
     on-bandwidth e =
         let is : keyOf l ≡ bandwidth = key ∙ eqb-true k bandwidth (sym (either-rest _ _ e) ∙ keeps) in
-        let f : keptStaging k (givenBy l) a ≡ banded a (givenBy l) = if-false {A = Staging} (rowed a (givenBy l)) (banded a (givenBy l)) e in
+        let f : keywordStaging k (givenBy l) a ≡ banded a (givenBy l) = if-false {A = Staging} (rowed a (givenBy l)) (banded a (givenBy l)) e in
         rw f
         (record {
           whole = whole;
@@ -312,8 +312,8 @@ kept-adds form k l table values a keeps key whole bound =
           room = λ (h : 3 * values ≤ length table). h;
         })
 
-kept-whole : (k value : ℕ) (a : Staging) → keptStaging k value a .whole ≡ true → a .whole ≡ true
-unfolding keptStaging
+kept-whole : (k value : ℕ) (a : Staging) → keywordStaging k value a .whole ≡ true → a .whole ≡ true
+unfolding keywordStaging
 kept-whole k value a w =
     by-cases _ (eqb k row)
     (λ (e : eqb k row ≡ true). sym (ap (λ (x : Staging). x .whole) (if-true {A = Staging} _ _ e)) ∙ w)
@@ -325,12 +325,12 @@ module _ (content : List ℕ) (filled : isBlankLine content ≡ false) (k start 
   step-keyed s d b =
       if-false _ _ filled ∙ if-false _ _ (ne-eqb _ _ d) ∙ if-false _ _ (ne-eqb _ _ b) ∙ ap (λ (x : Bracket). bracketStep x content s) is
 
-  keyed-inside : keepsMatrix k ≡ true → (l : Line) → l .place ≡ place.matrix → l .content ≡ content → inMatrix l ≡ true
+  keyed-inside : isRowOrBandwidth k ≡ true → (l : Line) → l .place ≡ place.matrix → l .content ≡ content → inMatrix l ≡ true
   unfolding inMatrix
-  keyed-inside keeps l p e = both-true _ _ (eq-eqb _ _ p) (either-right _ _ (ap keepsMatrix (keyed content k start is l e) ∙ keeps))
+  keyed-inside keeps l p e = both-true _ _ (eq-eqb _ _ p) (either-right _ _ (ap isRowOrBandwidth (keyed content k start is l e) ∙ keeps))
 
   -- one that keeps the matrix
-  pub keeps-takes : keepsMatrix k ≡ true → (argument : List ℕ) → argument ≡ argumentFrom content start → (r : Data) → Keeps k argument m values a r → (table : List ℕ) → Takes content m values a table r table
+  pub keeps-takes : isRowOrBandwidth k ≡ true → (argument : List ℕ) → argument ≡ argumentFrom content start → (r : Data) → TakesKeyword k argument m values a r → (table : List ℕ) → Takes content m values a table r table
   keeps-takes keeps argument argument-is r kept table =
       record {
         decides = λ (e : r .taken ≡ true) (s : State) (p : s .place ≡ place.matrix).
@@ -357,19 +357,19 @@ module _ (content : List ℕ) (filled : isBlankLine content ≡ false) (k start 
       added : r .rule ≡ 0 → r .staging .whole ≡ true → (l : Line) → l .content ≡ content → Adds (m .form) l table values a table (r .values) (r .staging)
       added z w l c =
           let g : wholeOf argument .value ≡ givenBy l = ap (λ (x : List ℕ). wholeOf x .value) argument-is ∙ sym (given content k start is l c) in
-          let n : r .staging ≡ keptStaging k (givenBy l) a = kept .staging z ∙ ap (λ (x : ℕ). keptStaging k x a) g in
-          let b : Bounded (keptStaging k (givenBy l) a) values = rw n at (kept .bounded) in
+          let n : r .staging ≡ keywordStaging k (givenBy l) a = kept .staging z ∙ ap (λ (x : ℕ). keywordStaging k x a) g in
+          let b : BoundedStaging (keywordStaging k (givenBy l) a) values = rw n at (kept .bounded) in
           rw (kept .same, n)
           (kept-adds (m .form) k l table values a keeps (keyed content k start is l c) (kept-whole k (givenBy l) a (ap (λ (x : Staging). x .whole) (sym n) ∙ w)) b)
 
   -- one that ends it
-  outside : keepsMatrix k ≡ false → eqb k plain ≡ false → (l : Line) → l .content ≡ content → inMatrix l ≡ false
+  outside : isRowOrBandwidth k ≡ false → eqb k plain ≡ false → (l : Line) → l .content ≡ content → inMatrix l ≡ false
   unfolding inMatrix
   outside leaves other l e =
       let key : keyOf l ≡ k = keyed content k start is l e in
-      both-not-right _ _ (either-false _ _ (ap (λ (x : ℕ). eqb x plain) key ∙ other) (ap keepsMatrix key ∙ leaves))
+      both-not-right _ _ (either-false _ _ (ap (λ (x : ℕ). eqb x plain) key ∙ other) (ap isRowOrBandwidth key ∙ leaves))
 
-  pub leaves-takes : (b : Bool) → b ≡ keepsMatrix k → b ≡ false → Bounded a values → (r : Data) →
+  pub leaves-takes : (b : Bool) → b ≡ isRowOrBandwidth k → b ≡ false → BoundedStaging a values → (r : Data) →
       r ≡ record { taken = false; ends = not (eqb k plain); rule = 0; matrix = m; values = values; staging = a } → (table : List ℕ) → Takes content m values a table r table
   leaves-takes b keeps leaves bound r told table =
       left-takes content m values a table (not (eqb k plain)) (keyed-opens content k start is)
@@ -377,12 +377,12 @@ module _ (content : List ℕ) (filled : isBlankLine content ≡ false) (k start 
 
 -- what the code makes of a note at [Row] and at [Bandwidth]
 module _ (k value : ℕ) (a : Staging) where
-  pub row-staged : (g : ℕ) → g ≡ max (a .greatest) value → k ≡ 1 → record { whole = a .whole; row = value; column = value; bandwidth = a .bandwidth; greatest = g } ≡ keptStaging k value a
-  unfolding keptStaging
+  pub row-staged : (g : ℕ) → g ≡ max (a .greatest) value → k ≡ 1 → record { whole = a .whole; row = value; column = value; bandwidth = a .bandwidth; greatest = g } ≡ keywordStaging k value a
+  unfolding keywordStaging
   row-staged g told e = ap (λ (x : ℕ). record { whole = a .whole; row = value; column = value; bandwidth = a .bandwidth; greatest = x }) told ∙ sym (if-true {A = Staging} _ _ (eq-eqb _ _ e))
 
-  pub bandwidth-staged : (b : First) → b ≡ firstTold (a .bandwidth) value → (k ≡ 1 → ⊥) → record { whole = a .whole; row = a .row; column = a .column; bandwidth = b; greatest = a .greatest } ≡ keptStaging k value a
-  unfolding keptStaging
+  pub bandwidth-staged : (b : First) → b ≡ firstTold (a .bandwidth) value → (k ≡ 1 → ⊥) → record { whole = a .whole; row = a .row; column = a .column; bandwidth = b; greatest = a .greatest } ≡ keywordStaging k value a
+  unfolding keywordStaging
   bandwidth-staged b told h = ap (λ (x : First). record { whole = a .whole; row = a .row; column = a .column; bandwidth = x; greatest = a .greatest }) told ∙ sym (if-false {A = Staging} _ _ (ne-eqb _ _ h))
 
 -- what was read of a bracket

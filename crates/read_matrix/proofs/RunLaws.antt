@@ -35,13 +35,13 @@ use Rattle.store_matrices.specs.Way.Numbers.{mostGiven}
 use Rattle.read_numbers.specs.declared.Staging.{Staging}
 use Rattle.read_numbers.specs.declared.Numbers.{Numbers}
 use Rattle.read_numbers.specs.declared.Pair.{Pair}
-use Rattle.read_numbers.specs.Way.Staging.{Bounded, Adds, movedTo, namedTo, StagesNumbers, StagesPair}
+use Rattle.read_numbers.specs.Way.Staging.{BoundedStaging, Adds, movedTo, namedTo, StagesNumbers, StagesPair}
 use Rattle.read_matrix.specs.declared.Data.{Data}
 use Rattle.read_matrix.specs.declared.Run.{Run}
 use Rattle.read_matrix.specs.declared.TakenNumbers.{TakenNumbers}
 use Rattle.read_matrix.specs.declared.TakenPair.{TakenPair}
-use Rattle.read_matrix.specs.Way.Body.{Behind, Takes, TakesAlone, Goes}
-use Rattle.read_matrix.specs.Way.Run.{Gone, Leads, Ordered, Runs, numbersPart, TakesNumbers, pairsMatrix, pairsPart, TakesPair}
+use Rattle.read_matrix.specs.Way.Body.{Behind, Takes, TakesAlone, ResumesMatrix}
+use Rattle.read_matrix.specs.Way.Run.{Gone, ResumesRun, Ordered, Runs, numbersPart, TakesNumbers, pairsMatrix, pairsPart, TakesPair}
 use Rattle.read_matrix.proofs.LineLaws.{behind-same, stage-goes}
 use Rattle.read_matrix.proofs.BodyLaws.{behind-on, gone-ends, gone-leaves, gone-stops, gone-on}
 
@@ -190,7 +190,7 @@ module _ (t : List ℕ) (here values row : ℕ) (table : List ℕ) where
       abbrev pairLine : DataLine
       pairLine = record { numbers = 1; column = pair .column; right = true; formed = true; bounded = true }
 
-      module _ (m : Matrix) (form-is : m .form ≡ sparse) (ordered : Ordered m) (a : Staging) (whole : a .whole ≡ true) (bound : Bounded a values)
+      module _ (m : Matrix) (form-is : m .form ≡ sparse) (ordered : Ordered m) (a : Staging) (whole : a .whole ≡ true) (bound : BoundedStaging a values)
           (row-is : a .row ≡ row) where
         pair-read : pairLine ≡ dataLineOf (m .form) (contentAt t here)
         pair-read = rw form-is (read .line-is staged)
@@ -234,13 +234,13 @@ module _ (t : List ℕ) (here values row : ℕ) (table : List ℕ) where
 -- ---- how far a run has come
 
 pub record On (t : List ℕ) (at line : ℕ) (part : Data) (table₀ : List ℕ) (here number : ℕ) (reached : Data) (table : List ℕ) : Type 0 where
-  pub leads : Leads t at line part table₀ (record { at = here; line = number; part = reached }) table
+  pub leads : ResumesRun t at line part table₀ (record { at = here; line = number; part = reached }) table
   pub counted : number ≤ here + 1
-  pub bounded : Bounded (reached .staging) (reached .values)
+  pub bounded : BoundedStaging (reached .staging) (reached .values)
   pub few : reached .values ≤ mostValues
   pub whole : reached .staging .whole ≡ true
 
-pub runs-now : (t : List ℕ) (at line : ℕ) (part : Data) → at ≤ length t → line ≤ at + 1 → Bounded (part .staging) (part .values) →
+pub runs-now : (t : List ℕ) (at line : ℕ) (part : Data) → at ≤ length t → line ≤ at + 1 → BoundedStaging (part .staging) (part .values) →
     not (part .staging .whole) ≡ false → part .values ≤ mostValues → (b : Bool) → (b ≡ true → Ordered (part .matrix)) → not b ≡ false →
     Runs t at line part
 runs-now t at line part within counted bounded whole few b ordered tested =
@@ -309,7 +309,7 @@ module _ (t : List ℕ) (at line : ℕ) (part : Data) (table₀ : List ℕ) (her
   -- a line that is no part of the run: what it has changed, it has changed behind the values, and then not all is told
   module _ (table' : List ℕ) (behind : Behind (reached .values) table table') (left : Data) (broken : left .rule ≡ 0)
       (matrix : left .matrix ≡ reached .matrix) (values : left .values ≡ reached .values)
-      (bounded : Bounded (left .staging) (reached .values))
+      (bounded : BoundedStaging (left .staging) (reached .values))
       (told : left .staging .whole ≡ true → (table' ≡ table) × (left .staging ≡ reached .staging)) where
     gone-left : (at₀ line₀ : ℕ) (m : Matrix) (values₀ : ℕ) (first : List ℕ) → Gone t at₀ line₀ m values₀ first here number reached table →
         Gone t at₀ line₀ m values₀ first here number left table'
@@ -324,7 +324,7 @@ module _ (t : List ℕ) (at line : ℕ) (part : Data) (table₀ : List ℕ) (her
           left = λ (w : left .staging .whole ≡ true). rw (told w .0, told w .1, values) (g .left (on .whole));
         }
 
-    left-leads : Leads t at line part table₀ (record { at = here; line = number; part = left }) table'
+    left-leads : ResumesRun t at line part table₀ (record { at = here; line = number; part = left }) table'
     left-leads =
         record {
           gone = λ (at₀ line₀ : ℕ) (m : Matrix) (values₀ : ℕ) (first : List ℕ) (g : Gone t at₀ line₀ m values₀ first at line part table₀).
@@ -366,13 +366,13 @@ module _ (t : List ℕ) (at line : ℕ) (part : Data) (table₀ : List ℕ) wher
     numbers-few = on .few
 
     pub numbers-end : (r : Run) → r ≡ record { at = here; line = number; part = numbersPart part true values row column } →
-        Leads t at line part table₀ r table
+        ResumesRun t at line part table₀ r table
     numbers-end r e = rw e (on .leads)
 
     module _ (next : TakenNumbers) (table' : List ℕ)
         (takes : TakesNumbers t here (part .matrix .form) values row column table next table') where
       pub numbers-leave : not (next .taken) ≡ true → (r : Run) →
-          r ≡ record { at = here; line = number; part = numbersPart part (next .whole) values row column } → Leads t at line part table₀ r table'
+          r ≡ record { at = here; line = number; part = numbersPart part (next .whole) values row column } → ResumesRun t at line part table₀ r table'
       unfolding numbersPart
       numbers-leave left r e =
           rw e
@@ -428,7 +428,7 @@ module _ (t : List ℕ) (at line : ℕ) (part : Data) (table₀ : List ℕ) wher
     pairs-row = on .bounded .row
 
     pub pairs-end : (m : Matrix) → m ≡ pairsMatrix (part .matrix) least greatest fits → (r : Run) →
-        r ≡ record { at = here; line = number; part = pairsPart part true values m named } → Leads t at line part table₀ r table
+        r ≡ record { at = here; line = number; part = pairsPart part true values m named } → ResumesRun t at line part table₀ r table
     pairs-end m is r e = rw (e, is) (on .leads)
 
     module _ (next : TakenPair) (table' : List ℕ) (takes : TakesPair t here values (part .staging .row) table next table') where
@@ -436,7 +436,7 @@ module _ (t : List ℕ) (at line : ℕ) (part : Data) (table₀ : List ℕ) wher
       pairs-long = takes .behind .long ∙ on .leads .long
 
       pub pairs-leave : not (next .taken) ≡ true → (m : Matrix) → m ≡ pairsMatrix (part .matrix) least greatest fits → (r : Run) →
-          r ≡ record { at = here; line = number; part = pairsPart part (next .whole) values m named } → Leads t at line part table₀ r table'
+          r ≡ record { at = here; line = number; part = pairsPart part (next .whole) values m named } → ResumesRun t at line part table₀ r table'
       unfolding pairsPart
       pairs-leave left m is r e =
           rw (e, is)
@@ -493,15 +493,15 @@ module _ (t : List ℕ) (at line : ℕ) (m : Matrix) (values : ℕ) (table₀ : 
   pub gone-counted : line ≤ at + 1 → number ≤ here + 1
   gone-counted h = let c : number + at ≤ line + here = gone .crossed .counted in omega arith
 
-  module _ (r : Run) (table₁ : List ℕ) (leads : Leads t here number part table r table₁) where
+  module _ (r : Run) (table₁ : List ℕ) (leads : ResumesRun t here number part table r table₁) where
     pub run-gone : Gone t at line m values table₀ (r .at) (r .line) (r .part) table₁
     run-gone = leads .gone at line m values table₀ gone
 
-    pub run-bounded : Bounded (r .part .staging) (r .part .values)
+    pub run-bounded : BoundedStaging (r .part .staging) (r .part .values)
     run-bounded = run-gone .bounded
 
     pub run-ends : length t ≤ r .at →
-        Goes t at line m values table₀ (record { at = r .at; line = r .line; part = r .part; staged = r .part .staging .whole }) table₁
+        ResumesMatrix t at line m values table₀ (record { at = r .at; line = r .line; part = r .part; staged = r .part .staging .whole }) table₁
     run-ends h = gone-ends t at line m values table₀ (r .at) (r .line) (r .part) table₁ run-gone h
 
     module _ (h : r .at < length t) (found : text.Line) (is-found : found ≡ lineAt commentByte t (r .at)) where
@@ -515,14 +515,14 @@ module _ (t : List ℕ) (at line : ℕ) (m : Matrix) (values : ℕ) (table₀ : 
       module _ (next : Data)
           (takes : TakesAlone (take (found .content - r .at) (drop (r .at) t)) (r .part .matrix) (r .part .values) (r .part .staging) next) where
         pub run-leaves : not (next .taken) ≡ true → (staged : Bool) → staged ≡ both (next .ends) (r .part .staging .whole) →
-            Goes t at line m values table₀ (record { at = r .at; line = r .line; part = r .part; staged = staged }) table₁
+            ResumesMatrix t at line m values table₀ (record { at = r .at; line = r .line; part = r .part; staged = staged }) table₁
         run-leaves left staged is-staged =
             gone-leaves t at line m values table₀ (r .at) (r .line) (r .part) table₁ run-gone h found is-found next table₁ (takes table₁)
             (not-true (next .taken) left) staged is-staged
 
         module _ (taken : not (next .taken) ≡ false) where
           pub run-stops : (next .rule ≡ 0 → ⊥) →
-              Goes t at line m values table₀ (record { at = found .next; line = r .line; part = next; staged = false }) table₁
+              ResumesMatrix t at line m values table₀ (record { at = found .next; line = r .line; part = next; staged = false }) table₁
           run-stops broken =
               gone-stops t at line m values table₀ (r .at) (r .line) (r .part) table₁ run-gone h found is-found next table₁ (takes table₁)
               (not-false (next .taken) taken) broken

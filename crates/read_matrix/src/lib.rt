@@ -8,15 +8,15 @@ ghost use Rattle.lex_line.specs.Lines.{isBlankLine};
 ghost use Rattle.lex_line.specs.Way.LineEnds.{lineAt};
 ghost use Rattle.lex_keyword.specs.Bracket.{bracketOf};
 ghost use Rattle.lex_keyword.specs.declared.Bracket.the-variants.{Plain, Keyword};
-ghost use Rattle.line_place.specs.Place.{keepsMatrix};
+ghost use Rattle.line_place.specs.Place.{isRowOrBandwidth};
 ghost use Rattle.read_line.specs.Reading.{commentByte};
 ghost use Rattle.read_line.specs.Way.Walk.{Opens, Fronted, contentAt};
 ghost use Rattle.line_matrix.specs.Matrix.{sparse, mostValues};
 ghost use Rattle.store_matrices.specs.Way.Numbers.{mostGiven};
 ghost use Rattle.read_numbers.specs.declared.Staging as stages;
-ghost use Rattle.read_numbers.specs.Way.Staging.{Bounded};
-ghost use Rattle.read_matrix.specs.Way.Body.{newStaging, keptStaging, Keeps, TakesAlone, Goes};
-ghost use Rattle.read_matrix.specs.Way.Run.{Leads, Ordered, Runs, numbersPart, TakesNumbers, pairsMatrix, pairsPart, TakesPair};
+ghost use Rattle.read_numbers.specs.Way.Staging.{BoundedStaging};
+ghost use Rattle.read_matrix.specs.Way.Body.{newStaging, keywordStaging, TakesKeyword, TakesAlone, ResumesMatrix};
+ghost use Rattle.read_matrix.specs.Way.Run.{ResumesRun, Ordered, Runs, numbersPart, TakesNumbers, pairsMatrix, pairsPart, TakesPair};
 use lex_keyword::Bracket;
 use line_matrix::Matrix;
 use line_matrix::Rows;
@@ -93,8 +93,8 @@ fn greater(a: u64, b: u64) -> u64
 }
 
 // [Row] i: the next number stands at (i, i). Of [Bandwidth] the first counts.
-fn kept_staging(key: u64, value: u64, staging: Staging) -> Staging
-    ensures { λ r. ⌜ r ≡ keptStaging key value staging ⌝ }
+fn keyword_staging(key: u64, value: u64, staging: Staging) -> Staging
+    ensures { λ r. ⌜ r ≡ keywordStaging key value staging ⌝ }
 {
     let before = staging.bandwidth;
     if key == lex_keyword::ROW {
@@ -116,11 +116,17 @@ fn kept_staging(key: u64, value: u64, staging: Staging) -> Staging
 }
 
 // [Row] or [Bandwidth].
-fn kept_line(key: u64, argument: &[u8], matrix: Matrix, values: u64, staging: Staging) -> Data
-    requires { ⌜ (keepsMatrix key ≡ true) × Bounded staging values ⌝ }
-    ensures { λ r. ⌜ Keeps key (now (argument .entry)) matrix values staging r ⌝ }
+fn matrix_keyword_line(
+    key: u64,
+    argument: &[u8],
+    matrix: Matrix,
+    values: u64,
+    staging: Staging,
+) -> Data
+    requires { ⌜ (isRowOrBandwidth key ≡ true) × BoundedStaging staging values ⌝ }
+    ensures { λ r. ⌜ TakesKeyword key (now (argument .entry)) matrix values staging r ⌝ }
 {
-    let rule = line_keyword::kept_rule(key, argument, matrix);
+    let rule = line_keyword::matrix_keyword_rule(key, argument, matrix);
     if rule != 0 {
         return Data {
             taken: true,
@@ -136,9 +142,9 @@ fn kept_line(key: u64, argument: &[u8], matrix: Matrix, values: u64, staging: St
         taken: true,
         ends: false,
         rule: 0,
-        matrix: line_keyword::kept_next(key, argument, matrix, values),
+        matrix: line_keyword::matrix_keyword_next(key, argument, matrix, values),
         values,
-        staging: kept_staging(key, whole.value, staging),
+        staging: keyword_staging(key, whole.value, staging),
     }
 }
 
@@ -165,11 +171,11 @@ fn named_line(
     values: u64,
     staging: Staging,
 ) -> Data
-    requires { ⌜ (isBlankLine (now content) ≡ false) × (bracketOf (now content) ≡ Keyword key start) × Bounded staging values ⌝ }
+    requires { ⌜ (isBlankLine (now content) ≡ false) × (bracketOf (now content) ≡ Keyword key start) × BoundedStaging staging values ⌝ }
     ensures { λ r. ⌜ TakesAlone (now (content .entry)) matrix values staging r ⌝ }
 {
-    if line_place::keeps_matrix(key) {
-        return kept_line(
+    if line_place::is_row_or_bandwidth(key) {
+        return matrix_keyword_line(
             key,
             read_line::argument_of(content, start),
             matrix,
@@ -182,7 +188,7 @@ fn named_line(
 
 // A line with a bracket at its front.
 fn opened_line(content: &[u8], matrix: Matrix, values: u64, staging: Staging) -> Data
-    requires { ⌜ (isBlankLine (now content) ≡ false) × Opens (now content) × Bounded staging values ⌝ }
+    requires { ⌜ (isBlankLine (now content) ≡ false) × Opens (now content) × BoundedStaging staging values ⌝ }
     ensures { λ r. ⌜ TakesAlone (now (content .entry)) matrix values staging r ⌝ }
 {
     match lex_keyword::read_bracket(content) {
@@ -197,7 +203,7 @@ fn opened_line(content: &[u8], matrix: Matrix, values: u64, staging: Staging) ->
 
 // A line of a matrix that is no part of a run.
 fn take_data(content: &[u8], matrix: Matrix, values: u64, staging: Staging) -> Data
-    requires { ⌜ Bounded staging values ⌝ }
+    requires { ⌜ BoundedStaging staging values ⌝ }
     ensures { λ r. ⌜ TakesAlone (now (content .entry)) matrix values staging r ⌝ }
 {
     match read_line::front_of(content) {
@@ -377,7 +383,7 @@ fn numbers_passed(
 // A run of lines of numbers.
 fn pass_numbers(text: &[u8], at: usize, line: u64, part: Data, table: &mut [u64]) -> Run
     requires { ⌜ Runs (now text) at line part ⌝ ∗ ⌜ (part .matrix .form ≡ sparse → ⊥) ⌝ }
-    ensures { λ r. ⌜ Leads (now (text .entry)) at line part (now (table .entry)) r (now (table .exit)) ⌝ }
+    ensures { λ r. ⌜ ResumesRun (now (text .entry)) at line part (now (table .entry)) r (now (table .exit)) ⌝ }
 {
     let matrix = part.matrix;
     let form = matrix.form;
@@ -511,7 +517,7 @@ fn pairs_passed(
 // A run of lines of a Sparse_matrix.
 fn pass_pairs(text: &[u8], at: usize, line: u64, part: Data, table: &mut [u64]) -> Run
     requires { ⌜ Runs (now text) at line part ⌝ ∗ ⌜ part .matrix .form ≡ sparse ⌝ }
-    ensures { λ r. ⌜ Leads (now (text .entry)) at line part (now (table .entry)) r (now (table .exit)) ⌝ }
+    ensures { λ r. ⌜ ResumesRun (now (text .entry)) at line part (now (table .entry)) r (now (table .exit)) ⌝ }
 {
     let matrix = part.matrix;
     let rows = matrix.rows;
@@ -555,8 +561,8 @@ fn is_ordered(matrix: Matrix) -> bool
 
 // A run of plain lines, which may be none.
 fn pass_run(text: &[u8], at: usize, line: u64, part: Data, table: &mut [u64]) -> Run
-    requires { ⌜ at ≤ length (now text) ⌝ ∗ ⌜ line ≤ at + 1 ⌝ ∗ ⌜ Bounded (part .staging) (part .values) ⌝ }
-    ensures { λ r. ⌜ Leads (now (text .entry)) at line part (now (table .entry)) r (now (table .exit)) ⌝ }
+    requires { ⌜ at ≤ length (now text) ⌝ ∗ ⌜ line ≤ at + 1 ⌝ ∗ ⌜ BoundedStaging (part .staging) (part .values) ⌝ }
+    ensures { λ r. ⌜ ResumesRun (now (text .entry)) at line part (now (table .entry)) r (now (table .exit)) ⌝ }
 {
     let staging = part.staging;
     if !staging.whole {
@@ -585,7 +591,7 @@ pub fn pass_data(
     table: &mut [u64],
 ) -> BodyWalk
     requires { ⌜ (at ≤ length (now text)) × (line ≤ at + 1) ⌝ }
-    ensures { λ r. ⌜ Goes (now (text .entry)) at line matrix values (now (table .entry)) r (now (table .exit)) ⌝ }
+    ensures { λ r. ⌜ ResumesMatrix (now (text .entry)) at line matrix values (now (table .entry)) r (now (table .exit)) ⌝ }
 {
     let mut here = at;
     let mut line_here = line;

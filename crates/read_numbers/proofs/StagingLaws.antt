@@ -50,7 +50,7 @@ use Rattle.store_matrices.proofs.BodyLaws.{
 use Rattle.read_numbers.specs.declared.Staging.{Staging}
 use Rattle.read_numbers.specs.declared.Numbers.{Numbers}
 use Rattle.read_numbers.specs.declared.Pair.{Pair}
-use Rattle.read_numbers.specs.Way.Staging.{Bounded, Adds, movedTo, namedTo, StagesNumbers, StagesPair}
+use Rattle.read_numbers.specs.Way.Staging.{BoundedStaging, Adds, movedTo, namedTo, StagesNumbers, StagesPair}
 use Rattle.read_numbers.specs.Way.Steps.{numbersOf, Stored, Stores, pairOf}
 use Rattle.read_numbers.proofs.InTextLaws.{ends-here, no-words, one-word, same-end, word-on}
 
@@ -111,7 +111,7 @@ module _ (table : List ℕ) (values : ℕ) (table' : List ℕ) (vs : List docume
   front-kept : take (3 * values) table' ≡ take (3 * values) table
   front-kept = ap (take (3 * values)) stored ∙ take-sets (3 * values) table (3 * values) (valuesWords vs) (omega arith)
 
-  module _ (form : ℕ) (a b : Staging) (count : ℕ) (many : count ≡ length vs) (told : b .bandwidth ≡ a .bandwidth) (bounded : Bounded b (values + count))
+  module _ (form : ℕ) (a b : Staging) (count : ℕ) (many : count ≡ length vs) (told : b .bandwidth ≡ a .bandwidth) (bounded : BoundedStaging b (values + count))
       (room : 3 * values ≤ length table → 3 * (values + count) ≤ length table) where
     added : (l : Line) → keyOf l ≡ plain → a .whole ≡ true →
         ((ls : List Line) → valuesFrom form (a .row) (a .column) (l ∷ ls) ≡ vs ++ valuesFrom form (b .row) (b .column) ls) →
@@ -427,7 +427,7 @@ module _ (form : ℕ) (t : List ℕ) (here : ℕ) (table : List ℕ) (values row
     more-after l same is-plain ls =
         rw (told .row-is, told .column-is, sym same) (numbers-values form l ls is-plain not-sparse row column)
 
-    bounded-after : (a : Staging) → Bounded (movedTo (r .row) (r .column) a) (values + r .count)
+    bounded-after : (a : Staging) → BoundedStaging (movedTo (r .row) (r .column) a) (values + r .count)
     bounded-after a =
         let f : r .row ≤ row + r .count = told .row-few in
         let g : r .column ≡ column + length (words content) = told .column-is in
@@ -544,7 +544,7 @@ module _ (t : List ℕ) (here start : ℕ) (begins : start ≡ runEnd isBlank t 
         named-here : column .value ≡ wholeOf (firstOf (words (contentAt t here))) .value
         named-here = rw two (ap (λ (w : Whole). w .value) is-column)
 
-        pair-bounded : (a : Staging) → Bounded a values → Bounded (namedTo (column .value) a) (values + 1)
+        pair-bounded : (a : Staging) → BoundedStaging a values → BoundedStaging (namedTo (column .value) a) (values + 1)
         pair-bounded a bound =
             let f : a .row ≤ 1_000_000_000 + values = bound .row in
             let g : a .column ≤ 1_000_000_000 + values = bound .column in
@@ -553,7 +553,7 @@ module _ (t : List ℕ) (here start : ℕ) (begins : start ≡ runEnd isBlank t 
         pair-room : 3 * values ≤ length table → 3 * (values + 1) ≤ length table
         pair-room h = rw one at (behind .room h)
 
-        pair-adds : (a : Staging) → a .whole ≡ true → Bounded a values → a .row ≡ row → (l : Line) → l .content ≡ contentAt t here → keyOf l ≡ plain →
+        pair-adds : (a : Staging) → a .whole ≡ true → BoundedStaging a values → a .row ≡ row → (l : Line) → l .content ≡ contentAt t here → keyOf l ≡ plain →
             Adds sparse l table values a table' (values + 1) (namedTo (column .value) a)
         pair-adds a whole bound row-is l same is-plain =
             added table values table' (sparseAt row (words (contentAt t here)) ∷ []) pair-stored sparse a (namedTo (column .value) a) 1 refl refl

@@ -17,14 +17,14 @@ use Rattle.line_matrix.specs.declared.Matrix.{Matrix}
 use Rattle.line_keyword.specs.declared.Counts.{Counts}
 use Rattle.line_keyword.specs.declared.State.{State}
 use Rattle.read_line.specs.Reading.{atEnd}
-use Rattle.read_line.specs.Way.Walk.{Reached}
+use Rattle.read_line.specs.Way.Walk.{ResumesText}
 use Rattle.read_line.specs.declared.Walk.{Walk}
 use Rattle.read_line.specs.declared.Reading.{Reading}
 use Rattle.read_line.specs.declared.Reading.the-variants.{Read, Refused}
 use Rattle.store_base.specs.Way.Stage.{StagedMatrix, stagedAt, stagedSize, Tells, wordsOf, Made}
 use Rattle.store_matrices.specs.Way.Told.{toldOr}
 use Rattle.read_matrix.specs.declared.BodyWalk.{BodyWalk}
-use Rattle.read_matrix.specs.Way.Body.{Behind, Goes, stagedOf}
+use Rattle.read_matrix.specs.Way.Body.{Behind, ResumesMatrix, stagedOf}
 use Rattle.read_text.specs.Way.Forward.{Carries, mostMatrices, stagedWords, stageAfter, stageBehind}
 
 -- ---- none at the start
@@ -62,7 +62,7 @@ carries-more t table stage v v' c h =
     }
 
 pub carries-on : (t table stage : List ℕ) (at line : ℕ) (s : State) (r : Walk) → Carries t table stage (s .counts .values) →
-    Reached t at line s r → r .rule ≡ 0 → Carries t table stage (r .state .counts .values)
+    ResumesText t at line s r → r .rule ≡ 0 → Carries t table stage (r .state .counts .values)
 carries-on t table stage at line s r c reached z = carries-more t table stage (s .counts .values) (r .state .counts .values) c (reached .rises z)
 
 -- words from a place on, cut out of the first words
@@ -206,7 +206,7 @@ carries-staged t table stage v matrices n c tells h =
 
 -- the lines of a matrix
 pub carries-body : (t table table' stage stage' : List ℕ) (at line : ℕ) (m : Matrix) (values matrices : ℕ) (w : BodyWalk) → line ≤ at + 1 →
-    Goes t at line m values table w table' → Carries t table stage values → stage' ≡ stageBehind at line m values matrices w stage →
+    ResumesMatrix t at line m values table w table' → Carries t table stage values → stage' ≡ stageBehind at line m values matrices w stage →
     w .part .rule ≡ 0 → Carries t table' stage' (w .part .values)
 unfolding stageBehind
 carries-body t table table' stage stage' at line m values matrices w counted goes c stored z =

@@ -7,7 +7,7 @@ ghost use Rattle.line_place.specs.Place as place;
 ghost use Rattle.line_keyword.specs.declared.Counts.{Counts};
 ghost use Rattle.read_line.specs.Reading.{readingOf};
 ghost use Rattle.read_line.specs.declared.Reading.the-variants.{Read};
-ghost use Rattle.read_line.specs.Way.Walk.{Reached, Onward};
+ghost use Rattle.read_line.specs.Way.Walk.{ResumesText, Onward};
 ghost use Rattle.read_text.specs.Way.Forward.{Carries, stageAfter, stageBehind};
 use line_keyword::State;
 use line_matrix::Matrix;
@@ -86,7 +86,7 @@ fn read_data(
 ) -> Walk
     requires { ⌜ (at < length (now text)) × Onward (now text) at line s × (s .place ≡ place.matrix)
         × Carries (now text) (now table) (now stage) (s .counts .values) ⌝ }
-    ensures { λ r. ⌜ Reached (now (text .entry)) at line s r
+    ensures { λ r. ⌜ ResumesText (now (text .entry)) at line s r
         × (r .rule ≡ 0 → Carries (now (text .entry)) (now (table .exit)) (now (stage .exit)) (r .state .counts .values)) ⌝ }
 {
     let matrix = s.matrix;
@@ -128,7 +128,7 @@ fn read_line(
     stage: &mut [u64],
 ) -> Walk
     requires { ⌜ (at < length (now text)) × Onward (now text) at line s × Carries (now text) (now table) (now stage) (s .counts .values) ⌝ }
-    ensures { λ r. ⌜ Reached (now (text .entry)) at line s r
+    ensures { λ r. ⌜ ResumesText (now (text .entry)) at line s r
         × (r .rule ≡ 0 → Carries (now (text .entry)) (now (table .exit)) (now (stage .exit)) (r .state .counts .values)) ⌝ }
 {
     if s.place == line_place::MATRIX {
@@ -140,7 +140,7 @@ fn read_line(
     if s.place == line_place::PINS {
         return read_line::read_pins(text, at, line, s);
     }
-    let passing = read_line::pass_quiet(text, at, line, s.place);
+    let passing = read_line::skip_idle_lines(text, at, line, s.place);
     if at < passing.at {
         return Walk {
             rule: 0,

@@ -28,10 +28,10 @@ use Rattle.line_keyword.specs.Keywords.{keywordRule}
 use Rattle.line_keyword.specs.State.{startState}
 use Rattle.line_keyword.specs.declared.State.{State}
 use Rattle.read_line.specs.Reading.{listRule, lineRule, goes, breaks, judged, lineStep, keywordStep, bracketStep, beforeStep, lineResult, commentByte, argumentFrom, atEnd, onward, readFrom, readingOf}
-use Rattle.read_line.specs.declared.Step.{Step}
+use Rattle.read_line.specs.declared.LineResult.{LineResult}
 use Rattle.read_line.specs.declared.Reading.{Reading}
 use Rattle.read_line.specs.declared.Reading.the-variants.{Read, Refused}
-use Rattle.doc.specs.Document.{Named, Step as PathStep, Model, Map, Section, Document}
+use Rattle.doc.specs.Document.{Named, LineResult as PathStep, Model, Map, Section, Document}
 use Rattle.doc.specs.Holds.{Each}
 use Rattle.doc.specs.Holds.Each.{none, more}
 use Rattle.doc.proofs.StandsLaws.{each-append}
@@ -98,7 +98,7 @@ keyword-other : (k : ℕ) (argument : List ℕ) (s : State) → Other (keywordRu
 unfolding keywordRule
 keyword-other k argument s = rule 15 refl _ _ (rule 9 refl _ _ (rule 11 refl _ _ (rule 13 refl _ _ (rule 14 refl _ _ (rule 16 refl _ _ (rule 17 refl _ _ kept))))))
 
-abbrev OtherStep : Step → Type 0
+abbrev OtherStep : LineResult → Type 0
 OtherStep step = Other (step .rule)
 
 goes-other : (s : State) → OtherStep (goes s)

@@ -11,7 +11,7 @@ use Rattle.table_layout.specs.Way.Filling.{Write, fillingAfter, Fits}
 use Rattle.table_layout.specs.declared.Filling.{Filling}
 use Rattle.table_layout.proofs.FillingLaws.{fits-first}
 use Rattle.doc.specs.Lines.{Line, plain, keyOf, linesAt, gather}
-use Rattle.doc.specs.Way.Found.{lineIn, linesBehind, Located, IsPlain, Plainly, Meets}
+use Rattle.doc.specs.Way.Found.{lineIn, linesBehind, Located, IsPlain, Plainly, FindsKeyed}
 use Rattle.doc.specs.declared.Found.{Found}
 use Rattle.doc.proofs.PlainLaws.{plainly-quiet}
 use Rattle.store_base.specs.Way.Stores.{Stores, Placed, Passes, Ready}
@@ -52,7 +52,7 @@ module _ {B : Type 0} (block : Line → List Line → List B) (writes : Filling 
         pending-done size f₀ table₀ (writes f₀ bs) (w .filling) table
         (pending-same size f₀ table₀ (writes f₀ bs) (w .filling) table _ [] (ap (writes (w .filling)) e ∙ storable .none (w .filling)) (left .pending))
 
-    module _ (line : Found) (meets : Meets t (w .line) (w .at) (w .place) line) where
+    module _ (line : Found) (meets : FindsKeyed t (w .line) (w .at) (w .place) line) where
       pub blocks-end : not (line .there) ≡ true → Stores f₀ table₀ (writes f₀ bs) (w .filling) table
       blocks-end h = blocks-done (over _ [] (meets .same-none (not-true (line .there) h)) ∙ gather-none block)
 

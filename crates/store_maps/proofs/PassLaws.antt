@@ -18,7 +18,7 @@ use Rattle.table_layout.specs.Way.Filling.{Write, Fits}
 use Rattle.table_layout.specs.declared.Filling.{Filling}
 use Rattle.doc.specs.Lines.{Line, plain, keyAt, keyOf, placeAfter, linesAt, significant, gather, upTo, argumentOf}
 use Rattle.doc.specs.Document.{Map, inMap, opensMap, mapOf, mapAt, opensSection, sectionAt, documentOf, documentIn}
-use Rattle.doc.specs.Way.Found.{contentIn, lineIn, linesBehind, Located, IsPlain, Plainly, Meets}
+use Rattle.doc.specs.Way.Found.{contentIn, lineIn, linesBehind, Located, IsPlain, Plainly, FindsKeyed}
 use Rattle.doc.specs.declared.Found.{Found}
 use Rattle.doc.proofs.PlainLaws.{plain-map, plain-section, plainly-quiet}
 use Rattle.store_base.specs.Way.Writes.{mapWrites, mapsWrites}
@@ -178,7 +178,7 @@ module _ (t : List ℕ) (f₀ : Filling) (table₀ : List ℕ) (w : Walk) (table
   pub family-long : length table ≡ length table₀
   family-long = family .left .pending .long
 
-  module _ (line : Found) (meets : Meets t (w .line) (w .at) (w .place) line) where
+  module _ (line : Found) (meets : FindsKeyed t (w .line) (w .at) (w .place) line) where
     pub family-ends : not (line .there) ≡ true → FillsMaps t f₀ table₀ w table
     family-ends h =
         record {

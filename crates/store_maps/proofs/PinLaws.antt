@@ -27,7 +27,7 @@ use Rattle.table_layout.proofs.FillingLaws.{fits-first}
 use Rattle.doc.specs.Lines.{Line, plain, keyAt, keyOf, placeAfter, linesAt, standsIn, gather, upTo, wordsOf, firstWord}
 use Rattle.doc.specs.Records.{pinRecord}
 use Rattle.doc.specs.Document.{Named, inMap, pinAt, gridIn}
-use Rattle.doc.specs.Way.Found.{markOf, contentIn, lineIn, linesBehind, Located, Finds}
+use Rattle.doc.specs.Way.Found.{markOf, contentIn, lineIn, linesBehind, Located, FindsLine}
 use Rattle.doc.specs.declared.Found.{Found}
 use Rattle.doc.specs.declared.Mark.{Mark}
 use Rattle.store_base.specs.Way.Writes.{pinWrite}
@@ -221,7 +221,7 @@ map-stays : (l : Line) → inMap l ≡ true → either (eqb (placeAfter (l .plac
 unfolding keyOf
 map-stays l h = stays-at (l .place) (l .content) (map-plain l h) (map-place l h)
 
-module _ (t : List ℕ) (n₀ at₀ : ℕ) (f₀ : Filling) (table₀ : List ℕ) (w : MapWalk) (table : List ℕ) (left : MapLeft t n₀ at₀ f₀ table₀ w table) (line : Found) (finds : Finds t (w .line) (w .at) line) where
+module _ (t : List ℕ) (n₀ at₀ : ℕ) (f₀ : Filling) (table₀ : List ℕ) (w : MapWalk) (table : List ℕ) (left : MapLeft t n₀ at₀ f₀ table₀ w table) (line : Found) (finds : FindsLine t (w .line) (w .at) line) where
   ends-map : upTo inMap (linesAt t (w .line) (w .at) (w .place)) ≡ [] → ReadsMap t n₀ at₀ f₀ table₀ w table
   unfolding gridIn gather
   ends-map e =

@@ -27,7 +27,7 @@ use Rattle.lex_number.specs.Integer.{isInteger, wholeOf}
 use Rattle.lex_number.specs.declared.Whole.{Whole}
 use Rattle.lex_number.proofs.IntegerLaws.{integer-below}
 use Rattle.lex_keyword.specs.Names.{row, bandwidth}
-use Rattle.line_place.specs.Place.{keepsMatrix}
+use Rattle.line_place.specs.Place.{isRowOrBandwidth}
 use Rattle.line_matrix.specs.Matrix.{sparse}
 use Rattle.read_line.specs.Reading.{argumentFrom}
 use Rattle.table_layout.specs.Way.Filling.{Write, Fits}
@@ -239,7 +239,7 @@ pub most-of : (g n m x y : ℕ) → x ≡ max n y → m ≡ max g n → max m y 
 most-of g n m x y e f = omega arith
 
 inside-plain : (l : Line) → inMatrix l ≡ true → (keyOf l ≡ row → ⊥) → (keyOf l ≡ bandwidth → ⊥) → keyOf l ≡ plain
-unfolding inMatrix keepsMatrix
+unfolding inMatrix isRowOrBandwidth
 inside-plain l e h k =
     let o : either (eqb (keyOf l) plain) (either (eqb (keyOf l) row) (eqb (keyOf l) bandwidth)) ≡ true = both-second _ _ e in
     let n : either (eqb (keyOf l) row) (eqb (keyOf l) bandwidth) ≡ false = either-false _ _ (ne-eqb _ _ h) (ne-eqb _ _ k) in

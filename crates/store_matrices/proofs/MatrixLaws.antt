@@ -12,7 +12,7 @@ use lib.Seq.{sets}
 use borrow.Author.Tests.{eq-eqb, not-true, not-false}
 use Rattle.base.specs.If.{if_then_else_, either}
 use Rattle.base.proofs.IfLaws.{if-true, if-false, by-cases, both-true, both-not-right, either-rest}
-use Rattle.line_place.specs.Place.{keepsMatrix, moved, movedByLine}
+use Rattle.line_place.specs.Place.{isRowOrBandwidth, moved, movedByLine}
 use Rattle.line_place.specs.Place as place
 use Rattle.line_matrix.specs.Matrix.{diagonal}
 use Rattle.line_argument.specs.Argument.{formOf}
@@ -24,7 +24,7 @@ use Rattle.table_layout.proofs.FillingLaws.{fits-first, fits-rest, length-after
 use Rattle.doc.specs.Lines.{Line, plain, keyAt, keyOf, argumentOf, placeAfter, linesAt, upTo}
 use Rattle.doc.specs.Document.{Matrix, inMatrix, valuesFrom, bandwidthIn, greatestIn, conductorsIn, matrixOf}
 use Rattle.doc.specs.Records.{matrixRecord}
-use Rattle.doc.specs.Way.Found.{contentIn, lineIn, linesBehind, Located, Finds}
+use Rattle.doc.specs.Way.Found.{contentIn, lineIn, linesBehind, Located, FindsLine}
 use Rattle.doc.specs.declared.Found.{Found}
 use Rattle.store_base.specs.Way.Writes.{matrixWrite, matrixWrites}
 use Rattle.store_base.specs.Way.Stores.{Placed}
@@ -63,11 +63,11 @@ module _ (content : List ℕ) where
   unfolding placeAfter movedByLine
   plain-stays e = if-true _ _ e ∙ if-false _ _ refl
 
-  key-stays : eqb (keyAt content) plain ≡ false → keepsMatrix (keyAt content) ≡ true → placeAfter place.matrix content ≡ place.matrix
+  key-stays : eqb (keyAt content) plain ≡ false → isRowOrBandwidth (keyAt content) ≡ true → placeAfter place.matrix content ≡ place.matrix
   unfolding placeAfter moved place.leadsInMatrix
   key-stays e k = if-false _ _ e ∙ if-true _ _ refl ∙ if-true _ _ k
 
-  pub matrix-stays : either (eqb (keyAt content) plain) (keepsMatrix (keyAt content)) ≡ true → placeAfter place.matrix content ≡ place.matrix
+  pub matrix-stays : either (eqb (keyAt content) plain) (isRowOrBandwidth (keyAt content)) ≡ true → placeAfter place.matrix content ≡ place.matrix
   matrix-stays h =
       by-cases _ (eqb (keyAt content) plain)
       (λ (e : eqb (keyAt content) plain ≡ true). plain-stays e)
@@ -106,7 +106,7 @@ values-start t n at form table f puts =
     }
 
 module _ (t : List ℕ) (n₀ at₀ form : ℕ) (table₀ : List ℕ) (f₀ : Filling) (w : MatrixWalk) (table : List ℕ)
-    (left : ValuesLeft t n₀ at₀ form table₀ f₀ w table) (line : Found) (finds : Finds t (w .line) (w .at) line) where
+    (left : ValuesLeft t n₀ at₀ form table₀ f₀ w table) (line : Found) (finds : FindsLine t (w .line) (w .at) line) where
   values-done : matrixLines t (w .line) (w .at) ≡ [] → FillsValues t n₀ at₀ form table₀ f₀ w table
   unfolding valuesFrom bandwidthIn greatestIn
   values-done e =
@@ -124,15 +124,15 @@ module _ (t : List ℕ) (n₀ at₀ form : ℕ) (table₀ : List ℕ) (f₀ : Fi
   values-text-ends h = values-done (ap (upTo inMatrix) (finds .same-none (not-true (line .there) h) place.matrix) ∙ up-none inMatrix)
 
   module _ (there : not (line .there) ≡ false) (stays : Bool)
-      (is-stays : stays ≡ either (eqb (line .key) plain) (keepsMatrix (line .key))) where
+      (is-stays : stays ≡ either (eqb (line .key) plain) (isRowOrBandwidth (line .key))) where
     found : Located t line
     found = finds .located (not-false (line .there) there)
 
     here : linesAt t (w .line) (w .at) place.matrix ≡ matrixLine t line ∷ linesBehind t line place.matrix
     here = finds .same-there (not-false (line .there) there) place.matrix
 
-    stays-here : either (eqb (keyAt (contentIn t line)) plain) (keepsMatrix (keyAt (contentIn t line))) ≡ stays
-    stays-here = ap (λ (k : ℕ). either (eqb k plain) (keepsMatrix k)) (sym (found .key-is)) ∙ sym is-stays
+    stays-here : either (eqb (keyAt (contentIn t line)) plain) (isRowOrBandwidth (keyAt (contentIn t line))) ≡ stays
+    stays-here = ap (λ (k : ℕ). either (eqb k plain) (isRowOrBandwidth k)) (sym (found .key-is)) ∙ sym is-stays
 
     pub values-close : not stays ≡ true → FillsValues t n₀ at₀ form table₀ f₀ w table
     unfolding inMatrix keyOf

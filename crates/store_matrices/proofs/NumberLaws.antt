@@ -15,7 +15,7 @@ use Rattle.base.proofs.IfLaws.{if-true, if-false, by-cases}
 use Rattle.base.specs.Bytes.{isBlank}
 use Rattle.base.specs.Way.Class.{runEnd}
 use Rattle.lex_line.specs.Words.{words, firstOf, secondOf}
-use Rattle.lex_line.specs.Way.Spans.{wordAt, markedBy, fewOf}
+use Rattle.lex_line.specs.Way.Spans.{wordAt, markedBy, firstTwoOf}
 use Rattle.lex_line.specs.declared.Span.{Span}
 use Rattle.lex_line.proofs.WordLaws.{wordsAfter, after-at, after-none, after-past, end-past, word-within, first-marked, second-marked}
 use Rattle.lex_number.specs.Number.{numberOf}
@@ -392,22 +392,22 @@ module _ (form : ℕ) (content : List ℕ) (s₀ : Spot) (table₀ : List ℕ) (
 module _ (content : List ℕ) (row : ℕ) (word : Span) (is-word : word ≡ wordAt content 0) (first : List ℕ) (is-first : first ≡ markedBy content word)
     (whole : Whole) (is-whole : whole ≡ wholeOf first) (start : ℕ) (begins : start ≡ runEnd isBlank content (word .end)) (read : NumberAt)
     (is-read : read ≡ numberAt content start) where
-  first-is : first ≡ markedBy content (fewOf content .first)
-  unfolding fewOf
+  first-is : first ≡ markedBy content (firstTwoOf content .first)
+  unfolding firstTwoOf
   first-is = is-first ∙ ap (markedBy content) is-word
 
-  read-is : read ≡ numberAt content (fewOf content .second .start)
-  unfolding fewOf wordAt
+  read-is : read ≡ numberAt content (firstTwoOf content .second .start)
+  unfolding firstTwoOf wordAt
   read-is = is-read ∙ ap (numberAt content) (begins ∙ ap (λ (w : Span). runEnd isBlank content (w .end)) is-word)
 
   pub column-told : whole .value ≡ wholeOf (firstOf (words content)) .value
-  column-told = ap (λ (x : Whole). x .value) (is-whole ∙ ap wholeOf (first-is ∙ first-marked content (fewOf content) refl))
+  column-told = ap (λ (x : Whole). x .value) (is-whole ∙ ap wholeOf (first-is ∙ first-marked content (firstTwoOf content) refl))
 
   pub sparse-value : _≡_ {A = Value} (record { row = row; column = whole .value; word = wordIn (read .number) })
       (sparseAt row (words content))
   unfolding sparseAt
   sparse-value =
-      let s : read .number ≡ numberOf (secondOf (words content)) = marked-number content (fewOf content .second) read (second-ends content (fewOf content) refl) read-is ∙ ap numberOf (second-marked content (fewOf content) refl) in
+      let s : read .number ≡ numberOf (secondOf (words content)) = marked-number content (firstTwoOf content .second) read (second-ends content (firstTwoOf content) refl) read-is ∙ ap numberOf (second-marked content (firstTwoOf content) refl) in
       λ i. record { row = row; column = column-told i; word = wordIn (s i) }
 
   pub sparse-puts : (table : List ℕ) (f : Filling) → PutsSparse content row table f →

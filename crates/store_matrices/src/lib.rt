@@ -6,7 +6,7 @@ ghost use lib.ListN.{length, getD};
 ghost use lib.Dec.{eqb};
 ghost use lib.Seq.{sets};
 ghost use Rattle.base.specs.If.{if_then_else_, either};
-ghost use Rattle.line_place.specs.Place.{keepsMatrix};
+ghost use Rattle.line_place.specs.Place.{isRowOrBandwidth};
 ghost use Rattle.line_argument.specs.Argument.{formOf};
 ghost use Rattle.line_matrix.specs.Matrix.{diagonal};
 ghost use Rattle.table_layout.specs.Way.Filling.{position, Fits};
@@ -334,12 +334,12 @@ fn take_line(text: &[u8], line: Found, form: u64, table: &mut [u64], walk: Matri
 
 // The first keyword that is not [Row] or [Bandwidth] ends a matrix.
 fn stays_in_matrix(key: u64) -> bool
-    ensures { λ r. ⌜ r ≡ either (eqb key plain) (keepsMatrix key) ⌝ }
+    ensures { λ r. ⌜ r ≡ either (eqb key plain) (isRowOrBandwidth key) ⌝ }
 {
     if key == doc::PLAIN {
         return true;
     }
-    line_place::keeps_matrix(key)
+    line_place::is_row_or_bandwidth(key)
 }
 
 // The lines of a matrix, from below its keyword.

@@ -19,7 +19,7 @@ use Rattle.table_layout.specs.declared.Filling.{Filling}
 use Rattle.table_layout.proofs.FillingLaws.{fits-wider}
 use Rattle.doc.specs.Lines.{Line, plain, keyAt, keyOf, placeAfter, linesAt, significant, gather, argumentOf}
 use Rattle.doc.specs.Document.{inModel, opensModel, modelOf, modelAt, documentOf, documentIn}
-use Rattle.doc.specs.Way.Found.{contentIn, lineIn, linesBehind, Plainly, Meets}
+use Rattle.doc.specs.Way.Found.{contentIn, lineIn, linesBehind, Plainly, FindsKeyed}
 use Rattle.doc.specs.declared.Found.{Found}
 use Rattle.store_steps.specs.Way.Steps.{lowOf, Aims}
 use Rattle.store_steps.proofs.AimLaws.{bases-kept, low-same, aims-kept}
@@ -224,7 +224,7 @@ module _ (t : List ℕ) (f₀ : Filling) (table₀ : List ℕ) (w : Walk) (table
       low-same f₀ (w .filling)
       (sym (bases-kept _ (w .filling)) ∙ ap (λ (f : Filling). f .bases) (models .left .pending .counts) ∙ bases-kept _ f₀)
 
-  module _ (line : Found) (meets : Meets t (w .line) (w .at) (w .place) line) where
+  module _ (line : Found) (meets : FindsKeyed t (w .line) (w .at) (w .place) line) where
     pub models-end : not (line .there) ≡ true → Stores f₀ table₀ (modelsOf t f₀ (documentOf t .models)) (w .filling) table
     models-end h =
         blocks-end modelAt (modelsOf t) (models-storable t) (lowOf f₀) t f₀ table₀ (documentOf t .models) w table

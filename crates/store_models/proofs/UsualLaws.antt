@@ -26,7 +26,7 @@ use Rattle.line_path.specs.Way.Usual.{multFront, UsualSection, UsualFork, forks
 use Rattle.table_layout.specs.Way.Filling.{counted}
 use Rattle.table_layout.specs.declared.Filling.{Filling}
 use Rattle.doc.specs.Lines.{plain, linesAt}
-use Rattle.doc.specs.Way.Found.{contentIn, Finds}
+use Rattle.doc.specs.Way.Found.{contentIn, FindsLine}
 use Rattle.doc.specs.declared.Found.{Found}
 use Rattle.doc.proofs.FoundLaws.{search-starts, search-finds, content-ordered, content-inside, search-less}
 use Rattle.store_base.specs.Way.Stores.{Stores}
@@ -79,7 +79,7 @@ module _ (t : List ℕ) (start : ModelWalk) (table₀ : List ℕ) (is-path : sta
   abbrev line : Found
   line = foundAt at n found
 
-  usual-finds : Usual (contentIn t line) → Finds t n at line
+  usual-finds : Usual (contentIn t line) → FindsLine t n at line
   usual-finds u =
       search-finds t n at n at (search-starts t n at (on .opened .placed .within) (on .opened .placed .counted)) h found told false
       (sym (usual-filled (contentIn t line) u)) refl Plain (sym (usual-plain (contentIn t line) u)) 41 refl 0 refl

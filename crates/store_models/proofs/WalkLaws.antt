@@ -17,7 +17,7 @@ use Rattle.table_layout.specs.declared.Filling.{Filling}
 use Rattle.table_layout.proofs.FillingLaws.{length-after}
 use Rattle.doc.specs.Lines.{Line, linesAt, gather}
 use Rattle.doc.specs.Document.{headIn, stepOf, stepsIn, inModel}
-use Rattle.doc.specs.Way.Found.{lineIn, linesBehind, Finds}
+use Rattle.doc.specs.Way.Found.{lineIn, linesBehind, FindsLine}
 use Rattle.doc.specs.declared.Found.{Found}
 use Rattle.store_steps.specs.Way.Steps.{stepWrites}
 use Rattle.store_base.proofs.StoreLaws.{stores-none, stores-join}
@@ -84,7 +84,7 @@ module _ (t : List ℕ) where
     pub walk-joins : (u : ModelWalk) (table'' : List ℕ) → Reached t v table' u table'' → Continued t w table u table''
     walk-joins u table'' r = continued-join w table v table' u table'' c (r .continued)
 
-    pub walk-next : (line : Found) → Finds t (v .line) (v .at) line → not (line .there) ≡ false → (is : Bool) → is ≡ isInModel (v .place) →
+    pub walk-next : (line : Found) → FindsLine t (v .line) (v .at) line → not (line .there) ≡ false → (is : Bool) → is ≡ isInModel (v .place) →
         not is ≡ false → Next t line v table'
     walk-next line finds there is told h =
         record {
@@ -134,7 +134,7 @@ module _ (t : List ℕ) (n at : ℕ) (f : Filling) (table : List ℕ) (head : He
           onward = c .onward;
         }
 
-    module _ (line : Found) (finds : Finds t (w .line) (w .at) line) where
+    module _ (line : Found) (finds : FindsLine t (w .line) (w .at) line) where
       pub model-text-ends : not (line .there) ≡ true → ReadsModel t n at f table w table'
       model-text-ends h = ends (ap modelLines (finds .same-none (not-true (line .there) h) (w .place)) ∙ up-none inModel)
 

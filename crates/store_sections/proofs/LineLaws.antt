@@ -13,7 +13,7 @@ use borrow.Author.Tests.{eq-eqb, ne-eqb, eqb-true, eqb-false}
 use Rattle.base.specs.If.{if_then_else_, both, either}
 use Rattle.base.proofs.IfLaws.{if-true, if-false, by-test, by-cases, both-first, both-second, either-rest}
 use Rattle.lex_keyword.specs.Names.{derivationMethod, resistanceMatrix, inductanceMatrix, conductanceMatrix}
-use Rattle.line_place.specs.Place.{opensMatrix, keepsMatrix, moved}
+use Rattle.line_place.specs.Place.{opensMatrix, isRowOrBandwidth, moved}
 use Rattle.line_place.specs.Place as place
 use Rattle.line_argument.specs.Argument.{methodOf}
 use Rattle.read_line.specs.Reading.{argumentFrom}
@@ -165,8 +165,8 @@ module _ (key : ℕ) (opens : opensMatrix key ≡ true) where
   matrix-leads : moved place.matrix key ≡ place.matrix
   unfolding moved place.leadsInMatrix place.leadsInSection
   matrix-leads =
-      if-true _ _ refl ∙ by-test (λ (p : ℕ). p ≡ place.matrix) (keepsMatrix key) _ _ (λ (e : keepsMatrix key ≡ true). refl)
-      (λ (e : keepsMatrix key ≡ false). if-true _ _ opens)
+      if-true _ _ refl ∙ by-test (λ (p : ℕ). p ≡ place.matrix) (isRowOrBandwidth key) _ _ (λ (e : isRowOrBandwidth key ≡ true). refl)
+      (λ (e : isRowOrBandwidth key ≡ false). if-true _ _ opens)
 
   moved-leads : (p : ℕ) → either (eqb p place.section) (eqb p place.matrix) ≡ true → moved p key ≡ place.matrix
   moved-leads p h =

@@ -19,7 +19,7 @@ use Rattle.table_layout.specs.declared.Filling.{Filling}
 use Rattle.table_layout.proofs.FillingLaws.{filling-append}
 use Rattle.doc.specs.Lines.{Line, keyAt, keyOf, argumentOf, placeAfter, linesAt, gather, upTo}
 use Rattle.doc.specs.Document.{Section, inSection, opensSection, sectionOf, sectionAt}
-use Rattle.doc.specs.Way.Found.{contentIn, lineIn, linesBehind, Meets}
+use Rattle.doc.specs.Way.Found.{contentIn, lineIn, linesBehind, FindsKeyed}
 use Rattle.doc.specs.declared.Found.{Found}
 use Rattle.doc.proofs.PassLaws.{section-blocks}
 use Rattle.doc.proofs.PlainLaws.{plain-section}
@@ -79,7 +79,7 @@ sections-storable = record { quiet = plain-section; none = sections-none; split 
 pub section-ready :
     (t : List ℕ) (f₀ : Filling) (table₀ : List ℕ) (ss : List Section) (w : Walk) (table : List ℕ) →
     BlocksLeft sectionAt sectionsOf (length table₀) t f₀ table₀ ss w table →
-    (line : Found) → Meets t (w .line) (w .at) (w .place) line → not (line .there) ≡ false → Ready sectionAt sectionsOf t line w table
+    (line : Found) → FindsKeyed t (w .line) (w .at) (w .place) line → not (line .there) ≡ false → Ready sectionAt sectionsOf t line w table
 section-ready t f₀ table₀ ss w table left line meets there =
     record {
       located = meets .located (not-false (line .there) there);
@@ -92,7 +92,7 @@ section-ready t f₀ table₀ ss w table left line meets there =
 pub section-staged :
     (t : List ℕ) (f₀ : Filling) (table₀ : List ℕ) (ss : List Section) (w : Walk) (table : List ℕ) →
     BlocksLeft sectionAt sectionsOf (length table₀) t f₀ table₀ ss w table →
-    (line : Found) → Meets t (w .line) (w .at) (w .place) line → not (line .there) ≡ false → (v : Walk) (table' : List ℕ) →
+    (line : Found) → FindsKeyed t (w .line) (w .at) (w .place) line → not (line .there) ≡ false → (v : Walk) (table' : List ℕ) →
     Passes sectionAt sectionsOf t line w table v table' → (stage : List ℕ) → StagedOf t table stage (w .filling) →
     StagedOf t table' stage (v .filling)
 section-staged t f₀ table₀ ss w table left line meets there v table' passes stage staged =

@@ -13,7 +13,7 @@ use borrow.Author.Tests.{eq-eqb, eqb-true, not-true, not-false}
 use Rattle.base.specs.If.{either}
 use Rattle.base.proofs.IfLaws.{if-true, if-false, by-cases, both-first, both-second, both-not-right, either-right, either-rest}
 use Rattle.lex_keyword.specs.Names.{row, bandwidth, derivationMethod}
-use Rattle.line_place.specs.Place.{opensMatrix, keepsMatrix}
+use Rattle.line_place.specs.Place.{opensMatrix, isRowOrBandwidth}
 use Rattle.line_place.specs.Place as place
 use Rattle.table_layout.specs.Layout.{widths}
 use Rattle.table_layout.specs.Way.Filling.{Write, widthOf, position, counted, fillingAfter, Fits}
@@ -22,7 +22,7 @@ use Rattle.table_layout.proofs.FillingLaws.{fits-first, fits-rest, length-after
 use Rattle.doc.specs.Lines.{Line, plain, keyOf, argumentOf, linesAt, gather, upTo}
 use Rattle.doc.specs.Document.{Matrix, Section, conductorsOf, inMatrix, opensMatrixAt, matrixAt, inSection, methodIn, sectionOf}
 use Rattle.doc.specs.Records.{indexOfKind, sectionRecord}
-use Rattle.doc.specs.Way.Found.{markOf, lineIn, linesBehind, Located, Finds}
+use Rattle.doc.specs.Way.Found.{markOf, lineIn, linesBehind, Located, FindsLine}
 use Rattle.doc.specs.declared.Found.{Found}
 use Rattle.doc.specs.declared.Mark.{Mark}
 use Rattle.doc.proofs.PassLaws.{section-blocks}
@@ -66,7 +66,7 @@ module _ (l : Line) (inside : inMatrix l ≡ true) where
   in-section = either-right _ _ (either-right _ _ (both-first _ _ inside))
 
   key-among : (P : ℕ → Type 0) → P plain → P row → P bandwidth → P (keyOf l)
-  unfolding inMatrix keepsMatrix
+  unfolding inMatrix isRowOrBandwidth
   key-among P p r b =
       by-cases _ (eqb (keyOf l) plain)
       (λ (e : eqb (keyOf l) plain ≡ true). rw (eqb-true (keyOf l) plain e) p)
@@ -209,7 +209,7 @@ lines-start t n at table f puts =
     }
 
 module _ (t : List ℕ) (n₀ at₀ : ℕ) (table₀ : List ℕ) (f₀ : Filling) (w : SectionWalk) (table : List ℕ)
-    (left : LinesLeft t n₀ at₀ table₀ f₀ w table) (line : Found) (finds : Finds t (w .line) (w .at) line) where
+    (left : LinesLeft t n₀ at₀ table₀ f₀ w table) (line : Found) (finds : FindsLine t (w .line) (w .at) line) where
   lines-done : sectionLines t (w .line) (w .at) (w .place) ≡ [] → FillsLines t n₀ at₀ table₀ f₀ w table
   unfolding gather matricesWrites methodIn indexOfKind
   lines-done e =

@@ -13,8 +13,8 @@ use Rattle.base.specs.Bytes.{bytes, within}
 use Rattle.base.specs.Runs.{same}
 use Rattle.base.proofs.IfLaws.{if-true, if-false, by-test, by-cases, both-true, both-not-right}
 use Rattle.lex_line.specs.Words.{wordsFrom, words, firstOf, secondOf, toEquals, rightOf, leftOf}
-use Rattle.lex_line.specs.Way.Spans.{fewOf, markedBy}
-use Rattle.lex_line.specs.declared.Few.{Few}
+use Rattle.lex_line.specs.Way.Spans.{firstTwoOf, markedBy}
+use Rattle.lex_line.specs.declared.FirstTwo.{FirstTwo}
 use Rattle.lex_line.proofs.WordLaws.{second-marked}
 use Rattle.lex_line.proofs.FormLaws.{part-from, left-words, right-words}
 use Rattle.lex_number.specs.Number.{
@@ -35,7 +35,7 @@ use Rattle.line_path.specs.Path.{sayingOf, isMult}
 use Rattle.line_path.specs.Path as path
 use Rattle.doc.specs.Lines.{plain, keyOf, linesAt, wordsOf, rightWordsOf, noWord, secondWord, standsIn}
 use Rattle.doc.specs.Document.{wordIn, sayingAt, amountOf, sideIn}
-use Rattle.doc.specs.Way.Found.{markOf, contentIn, Located, Finds}
+use Rattle.doc.specs.Way.Found.{markOf, contentIn, Located, FindsLine}
 use Rattle.doc.specs.declared.Found.{Found}
 use Rattle.doc.specs.declared.Mark.{Mark}
 use Rattle.store_steps.specs.Way.Steps.{pathLine}
@@ -56,7 +56,7 @@ pub amount-length : (mult : Bool) (amount : List ℕ) (n : Number) (r : ℕ) →
     r ≡ (if mult then wholeOf amount .value else wordIn (numberOf amount))
 amount-length mult amount n r e k h = h ∙ ap wordIn k ∙ sym (if-false _ _ e)
 
-pub mult-told : (left : List ℕ) (few : Few) → few ≡ fewOf left → (unit : List ℕ) → unit ≡ markedBy left (few .second) → (r : Bool) →
+pub mult-told : (left : List ℕ) (few : FirstTwo) → few ≡ firstTwoOf left → (unit : List ℕ) → unit ≡ markedBy left (few .second) → (r : Bool) →
     r ≡ same unit (bytes "Mult") → r ≡ same (secondOf (words left)) (bytes "Mult")
 mult-told left few told unit there r h = h ∙ ap (λ (w : List ℕ). same w (bytes "Mult")) (there ∙ second-marked left few told)
 
@@ -150,7 +150,7 @@ module _ (t : List ℕ) (line : Found) (located : Located t line) where
     side-told h r e = e ∙ ap markOf (sym (if-true _ _ (eq-eqb _ _ (says-here ∙ eq-of-not-not says 2 h))))
 
 -- the next line that says something
-module _ (t : List ℕ) (n at : ℕ) (line : Found) (finds : Finds t n at line) where
+module _ (t : List ℕ) (n at : ℕ) (line : Found) (finds : FindsLine t n at line) where
   pub side-none : not (line .there) ≡ true → record { start = 0; size = 0 } ≡ markOf (sideIn (linesAt t n at place.path))
   side-none h = rw (finds .same-none (not-true (line .there) h) place.path) no-mark
 

@@ -68,7 +68,7 @@ fn amount_in(mult: bool, amount: &[u8]) -> u64
 fn is_mult(left: &[u8]) -> bool
     ensures { λ r. ⌜ r ≡ same (secondOf (words (now (left .entry)))) (bytes "Mult") ⌝ }
 {
-    let few = lex_line::few_words(left);
+    let few = lex_line::first_two_words(left);
     let unit = few.second;
     lex_line::same_bytes(lex_line::marked(left, unit), b"Mult")
 }

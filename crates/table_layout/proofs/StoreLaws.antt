@@ -13,7 +13,7 @@ use lib.Seq.{sets, drop-cons, sets-eq}
 use Rattle.table_layout.specs.declared.Filling.{Filling}
 use Rattle.table_layout.specs.Layout.{widths}
 use Rattle.table_layout.specs.Way.Parts.{needed}
-use Rattle.table_layout.specs.Way.Filling.{basesFrom, startFilling, Few, position, widthOf}
+use Rattle.table_layout.specs.Way.Filling.{basesFrom, startFilling, BoundedCounts, position, widthOf}
 
 -- ---- a loop over the parts: the words before a part, and what it and those after it need
 
@@ -72,10 +72,10 @@ needed-small (w ∷ ws) (c ∷ counts) h k =
     let n : needed ws counts ≤ 524_289 * length ws = needed-small ws counts (λ (p : ℕ). h (suc p)) (λ (p : ℕ). k (suc p)) in
     omega arith
 
-needed-few : (counts : List ℕ) → Few counts → needed widths counts ≤ 3_670_023
+needed-few : (counts : List ℕ) → BoundedCounts counts → needed widths counts ≤ 3_670_023
 needed-few counts h = needed-small widths counts widths-small (h .few)
 
-module _ (counts : List ℕ) (part at : ℕ) (long : length counts ≡ 7) (few : Few counts) (h : part < 7)
+module _ (counts : List ℕ) (part at : ℕ) (long : length counts ≡ 7) (few : BoundedCounts counts) (h : part < 7)
     (inv : at + needed (drop part widths) (drop part counts) ≡ needed widths counts) where
   pub place-fits : Fits w64 (at * 8)
   place-fits = omega (arith, part-within counts part at long inv h, needed-few counts few)

@@ -8,7 +8,7 @@ use native.Mathlib.Numerals.{add-one}
 use native.Mathlib.Omega.{arith}
 use lib.ListN.{length, drop, getD, drop-of-length-le}
 use lib.Seq.{drop-cons}
-use Rattle.table_name.specs.Way.Marks.{bareMarks, nameMarks, marksMany, markFrom, markOf}
+use Rattle.table_name.specs.Way.Marks.{bareMarks, nameMarks, marksMany, markFrom, hashOf}
 
 pub step-inside : (n : ℕ) → n % nameMarks + bareMarks < marksMany
 step-inside n =
@@ -25,21 +25,21 @@ unfolding markFrom
 from-inside mark [] h = h
 from-inside mark (b ∷ s) h = from-inside ((mark * 37 + b) % nameMarks + bareMarks) s (step-inside (mark * 37 + b))
 
-pub of-inside : (number : ℕ) (name : List ℕ) (mark : ℕ) → mark ≡ markOf number name → mark < marksMany
-unfolding markOf
+pub of-inside : (number : ℕ) (name : List ℕ) (mark : ℕ) → mark ≡ hashOf number name → mark < marksMany
+unfolding hashOf
 of-inside number name mark is = rw is (from-inside (number % bareMarks) name (start-inside number))
 
 -- what is left of the name gives the number of the whole
 pub record MarkLeft (number : ℕ) (name : List ℕ) (mark i : ℕ) : Type 0 where
   pub small : mark < marksMany
-  pub same : markFrom mark (drop i name) ≡ markOf number name
+  pub same : markFrom mark (drop i name) ≡ hashOf number name
 
 pub mark-starts : (number : ℕ) (name : List ℕ) → MarkLeft number name (number % bareMarks) 0
-unfolding markOf
+unfolding hashOf
 mark-starts number name = record { small = start-inside number; same = refl }
 
 module _ (number : ℕ) (name : List ℕ) (mark i : ℕ) (left : MarkLeft number name mark i) where
-  pub mark-ends : length name ≤ i → mark ≡ markOf number name
+  pub mark-ends : length name ≤ i → mark ≡ hashOf number name
   unfolding markFrom
   mark-ends h = rw (drop-of-length-le name h) at (left .same)
 

@@ -6,7 +6,7 @@ ghost use lib.ListN.{length};
 ghost use Rattle.base.specs.Runs.{same};
 ghost use Rattle.table_name.specs.Name.{nameAt};
 ghost use Rattle.table_name.specs.Way.Search.{findIn, Tails};
-ghost use Rattle.table_name.specs.Way.Marks.{markOf};
+ghost use Rattle.table_name.specs.Way.Marks.{hashOf};
 
 // How many bytes at a name's end are looked at together.
 const TAIL: usize = 4;
@@ -114,8 +114,8 @@ fn wide(b: u8) -> usize
 }
 
 // The mark of a name among those of one number: a map's, say. Equal names have one mark; other names seldom have the same.
-pub fn mark_of(number: u64, name: &[u8]) -> usize
-    ensures { λ r. ⌜ r ≡ markOf number (now (name .entry)) ⌝ }
+pub fn hash_of(number: u64, name: &[u8]) -> usize
+    ensures { λ r. ⌜ r ≡ hashOf number (now (name .entry)) ⌝ }
 {
     let mut mark = number as usize % BARE_MARKS;
     let mut next = 0;

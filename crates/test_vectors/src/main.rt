@@ -221,7 +221,7 @@ fn run_file(name: &[u8], word: &[u8]) {
 }
 
 fn run_line(line: &[u8]) {
-    let few = lex_line::few_words(line);
+    let few = lex_line::first_two_words(line);
     let first = few.first;
     let second = few.second;
     run_file(

@@ -34,7 +34,7 @@ pub record Walkable (table : List ℕ) (v : View) : Type 0 where
   pub depths : (i : ℕ) → i < countOf v models → depthHolds 0 (kindsFrom table (baseOf v steps + 6 * firstOf table v i) (manyOf table v i)) ≡ true
 
 -- and of a place that is in range: what stands there
-pub record Stands (table : List ℕ) (v : View) (p : Place) : Type 0 where
+pub record StandsAt (table : List ℕ) (v : View) (p : Place) : Type 0 where
   pub model-room : modelPlace v (p .model) + 5 ≤ length table
   pub step-room : baseOf v steps + 6 * (firstOf table v (p .model) + manyOf table v (p .model)) ≤ length table
   pub few-steps : firstOf table v (p .model) + manyOf table v (p .model) ≤ 4_096

@@ -12,8 +12,8 @@ equals-at-requires c κs = search needs
 slice-aggregate-left : tie.Need-slice-aggregate-left
 slice-aggregate-left c = search sign-taken
 
-few-words-requires : tie.Need-few-words-requires
-few-words-requires c κs = search needs
+first-two-words-requires : tie.Need-first-two-words-requires
+first-two-words-requires c κs = search needs
 
 marked-requires : tie.Need-marked-requires
 marked-requires c κs = search (needs, marks)
@@ -33,7 +33,7 @@ is-mult-spec =
     (tie.spec
     equals-at-requires
     slice-aggregate-left
-    few-words-requires
+    first-two-words-requires
     marked-requires
     slice-aggregate-same-bytes
     same-bytes-requires

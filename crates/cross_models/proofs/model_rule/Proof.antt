@@ -6,11 +6,11 @@ use borrow.Author.Needs.{needs}
 use Rattle.cross_models.proofs.model_rule.Statement.{statement}
 use Rattle.cross_models.proofs.model_rule.Tie as tie
 
-array-read-is-twice : tie.Need-array-read-is-twice
-array-read-is-twice c = search needs
+array-read-is-repeated-name : tie.Need-array-read-is-repeated-name
+array-read-is-repeated-name c = search needs
 
-is-twice-requires : tie.Need-is-twice-requires
-is-twice-requires c κs = search needs
+is-repeated-name-requires : tie.Need-is-repeated-name-requires
+is-repeated-name-requires c κs = search needs
 
 returns : tie.Need-returns
 unfolding modelRuleAt
@@ -30,4 +30,4 @@ returns-3 c = search rules
 pub model-rule-spec : {M : Type 1} → statement M
 model-rule-spec =
     tie.close
-    (tie.spec array-read-is-twice is-twice-requires returns array-read-if2 returns-2 returns-3)
+    (tie.spec array-read-is-repeated-name is-repeated-name-requires returns array-read-if2 returns-2 returns-3)

@@ -12,7 +12,7 @@ use Rattle.table_layout.specs.Layout.{models}
 use Rattle.table_layout.specs.declared.View.{View}
 use Rattle.doc.specs.Lines.{plain, linesAt, gather, wordsOf, firstWord}
 use Rattle.doc.specs.Document.{listedAt}
-use Rattle.doc.specs.Way.Found.{lineIn, linesBehind, Meets}
+use Rattle.doc.specs.Way.Found.{lineIn, linesBehind, FindsKeyed}
 use Rattle.doc.specs.declared.Found.{Found}
 use Rattle.table_name.specs.Way.Search.{findIn}
 use Rattle.cross_names.specs.declared.list.Judged.{Judged}
@@ -46,7 +46,7 @@ lineJudged t table v p line listed =
     if both (eqb p place.list) (eqb (line .key) plain) then nameJudged t table v line listed else record { rule = 0; slot = noModel }
 
 -- a line from a byte on, read in the place p: those before it name no model of the list
-pub record Nears (t : List ℕ) (n at p : ℕ) (f : Found) : Type 0 where
-  pub meets : Meets t n at p f
+pub record FindsListed (t : List ℕ) (n at p : ℕ) (f : Found) : Type 0 where
+  pub meets : FindsKeyed t n at p f
   pub names-there : f .there ≡ true → gather listedAt (linesAt t n at p) ≡ gather listedAt (lineIn t f p ∷ linesBehind t f p)
   pub names-none : f .there ≡ false → gather listedAt (linesAt t n at p) ≡ []

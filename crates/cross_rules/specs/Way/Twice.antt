@@ -7,7 +7,7 @@ use mathlib.Core.List.{List}
 use lib.ListN.{length, getD}
 use Rattle.base.specs.Runs.{same}
 use Rattle.table_name.specs.Name.{nameAt}
-use Rattle.table_name.specs.Way.Marks.{marksMany, markOf}
+use Rattle.table_name.specs.Way.Marks.{marksMany, hashOf}
 use Rattle.cross_rules.specs.Rules.{any}
 
 -- the bytes of the name that a record opens with
@@ -22,9 +22,9 @@ unfoldable pub ownName : List ℕ → List ℕ → ℕ → List ℕ
 ownName t table at = nameAt t (getD table at 0) (getD table (at + 1) 0)
 
 unfoldable pub ownMark : List ℕ → List ℕ → ℕ → ℕ
-ownMark t table at = markOf 0 (ownName t table at)
+ownMark t table at = hashOf 0 (ownName t table at)
 
 -- the names of so many records of a width, the first of which stands at `base`, are marked
-pub record Marked (t table marks : List ℕ) (stamp base width many : ℕ) : Type 0 where
+pub record MarkedNames (t table marks : List ℕ) (stamp base width many : ℕ) : Type 0 where
   pub whole : length marks ≡ marksMany
   pub each : (j : ℕ) → j < many → getD marks (ownMark t table (base + width * j)) 0 ≡ stamp

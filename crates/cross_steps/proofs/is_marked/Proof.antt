@@ -21,20 +21,20 @@ returns : tie.Need-returns
 unfolding isMarked
 returns c = search chain
 
-add-mark-of : tie.Need-add-mark-of
-add-mark-of c = search needs
+add-hash-of : tie.Need-add-hash-of
+add-hash-of c = search needs
 
-mul-mark-of : tie.Need-mul-mark-of
-mul-mark-of c = search needs
+mul-hash-of : tie.Need-mul-hash-of
+mul-hash-of c = search needs
 
-shared-slice-read-mark-of : tie.Need-shared-slice-read-mark-of
-shared-slice-read-mark-of c = search needs
+shared-slice-read-hash-of : tie.Need-shared-slice-read-hash-of
+shared-slice-read-hash-of c = search needs
 
-slice-aggregate-mark-of : tie.Need-slice-aggregate-mark-of
-slice-aggregate-mark-of c = search needs
+slice-aggregate-hash-of : tie.Need-slice-aggregate-hash-of
+slice-aggregate-hash-of c = search needs
 
-mark-of-requires : tie.Need-mark-of-requires
-mark-of-requires c κs = search needs
+hash-of-requires : tie.Need-hash-of-requires
+hash-of-requires c κs = search needs
 
 element-copy-out-if2 : tie.Need-element-copy-out-if2
 element-copy-out-if2 c = search of-inside
@@ -56,11 +56,11 @@ is-marked-spec =
     mul-if1
     shared-slice-read-if1
     returns
-    add-mark-of
-    mul-mark-of
-    shared-slice-read-mark-of
-    slice-aggregate-mark-of
-    mark-of-requires
+    add-hash-of
+    mul-hash-of
+    shared-slice-read-hash-of
+    slice-aggregate-hash-of
+    hash-of-requires
     element-copy-out-if2
     returns-2
     element-copy-out-result

@@ -26,17 +26,17 @@ shared-slice-read-name-at-2 c = search needs
 name-at-requires : tie.Need-name-at-requires
 name-at-requires c κs = search needs
 
-add-mark-of : tie.Need-add-mark-of
-add-mark-of c = search needs
+add-hash-of : tie.Need-add-hash-of
+add-hash-of c = search needs
 
-mul-mark-of : tie.Need-mul-mark-of
-mul-mark-of c = search needs
+mul-hash-of : tie.Need-mul-hash-of
+mul-hash-of c = search needs
 
-shared-slice-read-mark-of : tie.Need-shared-slice-read-mark-of
-shared-slice-read-mark-of c = search needs
+shared-slice-read-hash-of : tie.Need-shared-slice-read-hash-of
+shared-slice-read-hash-of c = search needs
 
-mark-of-requires : tie.Need-mark-of-requires
-mark-of-requires c κs = search needs
+hash-of-requires : tie.Need-hash-of-requires
+hash-of-requires c κs = search needs
 
 returns : tie.Need-returns
 returns c = search mark-told
@@ -52,8 +52,8 @@ mark-at-spec =
     mul-name-at-2
     shared-slice-read-name-at-2
     name-at-requires
-    add-mark-of
-    mul-mark-of
-    shared-slice-read-mark-of
-    mark-of-requires
+    add-hash-of
+    mul-hash-of
+    shared-slice-read-hash-of
+    hash-of-requires
     returns)

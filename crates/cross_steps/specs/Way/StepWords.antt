@@ -126,7 +126,7 @@ stepRuleAt t table v o own above mult =
 -- ---- what is asked of the table
 
 -- the records of the parts lie inside it, and the matrices of a section in front of those of the next
-pub record Rooms (table : List ℕ) (v : View) : Type 0 where
+pub record StepRooms (table : List ℕ) (v : View) : Type 0 where
   pub map-room : getD (v .bases) maps 0 + 7 * getD (v .counts) maps 0 ≤ length table
   pub section-room : getD (v .bases) sections 0 + 8 * getD (v .counts) sections 0 ≤ length table
   pub matrix-room : getD (v .bases) matrices 0 + 5 * getD (v .counts) matrices 0 ≤ length table

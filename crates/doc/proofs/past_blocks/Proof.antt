@@ -2,14 +2,14 @@
 -- Assumes nothing.
 use Prim.Native.Nat.{_-_}
 use lib.ListN.{length}
-use Rattle.doc.specs.Way.Found.{PassesBytes}
+use Rattle.doc.specs.Way.Found.{SkipsBytes}
 use Rattle.doc.proofs.PlainLaws.{bytes-none, bytes-on}
 use borrow.Author.Needs.{needs}
 use Rattle.doc.proofs.past_blocks.Statement.{statement}
 use Rattle.doc.proofs.past_blocks.Tie as tie
 
 abbrev Inv-loop : tie.InvT-loop
-Inv-loop text at number here₀ count₀ here count = PassesBytes text number at (record { at = here; line = count })
+Inv-loop text at number here₀ count₀ here count = SkipsBytes text number at (record { at = here; line = count })
 
 abbrev μ-loop : tie.MeasureT-loop
 μ-loop text at number here₀ count₀ here count = length text - here
@@ -26,8 +26,8 @@ is-closed-requires c κs = search needs
 returns : tie.Need-returns Inv-loop μ-loop
 returns c = search needs
 
-feeds-in-requires : tie.Need-feeds-in-requires Inv-loop μ-loop
-feeds-in-requires c κs = search needs
+line-feeds-in-requires : tie.Need-line-feeds-in-requires Inv-loop μ-loop
+line-feeds-in-requires c κs = search needs
 
 cast-count : tie.Need-cast-count Inv-loop μ-loop
 cast-count c = search needs
@@ -57,7 +57,7 @@ past-blocks-spec =
     sub-loop
     is-closed-requires
     returns
-    feeds-in-requires
+    line-feeds-in-requires
     cast-count
     add-count
     add-here

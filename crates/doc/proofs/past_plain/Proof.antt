@@ -3,7 +3,7 @@
 use Prim.Native.Nat.{_-_}
 use native.Mathlib.Omega.{arith}
 use lib.ListN.{length}
-use Rattle.doc.specs.Way.Found.{PassesPlain}
+use Rattle.doc.specs.Way.Found.{SkipsPlain}
 use Rattle.doc.proofs.PlainLaws.{passes-none, plain-on, plain-less}
 use Rattle.lex_line.proofs.FeedLaws.{feed-told}
 use borrow.Author.Needs.{needs}
@@ -11,7 +11,7 @@ use Rattle.doc.proofs.past_plain.Statement.{statement}
 use Rattle.doc.proofs.past_plain.Tie as tie
 
 abbrev Inv-loop : tie.InvT-loop
-Inv-loop text at number here₀ count₀ here count = PassesPlain text number at (record { at = here; line = count })
+Inv-loop text at number here₀ count₀ here count = SkipsPlain text number at (record { at = here; line = count })
 
 abbrev μ-loop : tie.MeasureT-loop
 μ-loop text at number here₀ count₀ here count = length text - here
@@ -28,8 +28,8 @@ returns c = search needs
 add-past-blocks : tie.Need-add-past-blocks Inv-loop μ-loop
 add-past-blocks c = search needs
 
-feed-of-requires : tie.Need-feed-of-requires Inv-loop μ-loop
-feed-of-requires c κs = search needs
+line-feed-of-requires : tie.Need-line-feed-of-requires Inv-loop μ-loop
+line-feed-of-requires c κs = search needs
 
 cast-past-blocks : tie.Need-cast-past-blocks Inv-loop μ-loop
 cast-past-blocks c = search needs
@@ -38,7 +38,7 @@ add-past-blocks-2 : tie.Need-add-past-blocks-2 Inv-loop μ-loop
 add-past-blocks-2 c = search needs
 
 past-blocks-requires : tie.Need-past-blocks-requires Inv-loop μ-loop
-past-blocks-requires c κs = (search needs, omega (arith, feed-told _ _ (c .feed-of .ensures)))
+past-blocks-requires c κs = (search needs, omega (arith, feed-told _ _ (c .line-feed-of .ensures)))
 
 past-rest-requires : tie.Need-past-rest-requires Inv-loop μ-loop
 past-rest-requires c κs = search needs
@@ -62,7 +62,7 @@ past-plain-spec =
     shared-slice-read-first
     returns
     add-past-blocks
-    feed-of-requires
+    line-feed-of-requires
     cast-past-blocks
     add-past-blocks-2
     past-blocks-requires

@@ -53,7 +53,7 @@ pub record Located (t : List ℕ) (f : Found) : Type 0 where
   pub argument-is : f .argument ≡ argumentIn (bracketOf (contentIn t f))
 
 -- the first line from a byte on that says something
-pub record Finds (t : List ℕ) (n at : ℕ) (f : Found) : Type 0 where
+pub record FindsLine (t : List ℕ) (n at : ℕ) (f : Found) : Type 0 where
   pub located : f .there ≡ true → Located t f
   pub behind : f .there ≡ true → at ≤ f .at
   pub same-there : f .there ≡ true → (p : ℕ) → linesAt t n at p ≡ lineIn t f p ∷ linesBehind t f p
@@ -73,14 +73,14 @@ pub record Plainly (p : ℕ) (ls rest : List Line) : Type 0 where
   pub each : Each (IsPlain p) before
 
 -- lines without a keyword are gone past: outside the head of a map they lead nowhere
-pub record PassesPlain (t : List ℕ) (n at : ℕ) (r : Passed) : Type 0 where
+pub record SkipsPlain (t : List ℕ) (n at : ℕ) (r : Passed) : Type 0 where
   pub onward : at ≤ r .at
   pub within : r .at ≤ length t
   pub counted : r .line ≤ r .at + 1
   pub lines : (p : ℕ) → (p ≡ mapHead → ⊥) → Plainly p (linesAt t n at p) (linesAt t (r .line) (r .at) p)
 
 -- a line from a byte on, read in the place p: those before it have no keyword
-pub record Meets (t : List ℕ) (n at p : ℕ) (f : Found) : Type 0 where
+pub record FindsKeyed (t : List ℕ) (n at p : ℕ) (f : Found) : Type 0 where
   pub located : f .there ≡ true → Located t f
   pub behind : f .there ≡ true → at ≤ f .at
   pub same-there : f .there ≡ true → Plainly p (linesAt t n at p) (lineIn t f p ∷ linesBehind t f p)
@@ -90,19 +90,19 @@ pub record Meets (t : List ℕ) (n at p : ℕ) (f : Found) : Type 0 where
 
 -- gone past lines from at₀ on to a byte behind an LF, or to one in the line that starts at s, which does not start with `[`
 pub data Amid (t : List ℕ) (n₀ at₀ : ℕ) : ℕ → ℕ → Type 0 where
-  ended : {n at : ℕ} → PassesPlain t n₀ at₀ (record { at = at; line = n }) → getD t (at - 1) 0 ≡ lineFeed → Amid t n₀ at₀ n at
-  amid : {n at : ℕ} (s : ℕ) → PassesPlain t n₀ at₀ (record { at = s; line = n }) → s < at → at ≤ length t →
+  ended : {n at : ℕ} → SkipsPlain t n₀ at₀ (record { at = at; line = n }) → getD t (at - 1) 0 ≡ lineFeed → Amid t n₀ at₀ n at
+  amid : {n at : ℕ} (s : ℕ) → SkipsPlain t n₀ at₀ (record { at = s; line = n }) → s < at → at ≤ length t →
       runEnd (isBefore lineFeed) t at ≡ runEnd (isBefore lineFeed) t s → (getD t s 0 ≡ code "[" → ⊥) → (getD t (at - 1) 0 ≡ lineFeed → ⊥) →
       Amid t n₀ at₀ n at
 
 -- bytes are gone past, wherever the lines began
-pub record PassesBytes (t : List ℕ) (n at : ℕ) (r : Passed) : Type 0 where
+pub record SkipsBytes (t : List ℕ) (n at : ℕ) (r : Passed) : Type 0 where
   pub onward : at ≤ r .at
   pub within : r .at ≤ length t
   pub counted : r .line ≤ r .at + 1
   pub over : (n₀ at₀ : ℕ) → Amid t n₀ at₀ n at → Amid t n₀ at₀ (r .line) (r .at)
 
 -- and what is left of their last line
-pub record EndsLine (t : List ℕ) (n at : ℕ) (r : Passed) : Type 0 where
+pub record SkipsRest (t : List ℕ) (n at : ℕ) (r : Passed) : Type 0 where
   pub onward : at ≤ r .at
-  pub past : (n₀ at₀ : ℕ) → Amid t n₀ at₀ n at → PassesPlain t n₀ at₀ r
+  pub past : (n₀ at₀ : ℕ) → Amid t n₀ at₀ n at → SkipsPlain t n₀ at₀ r

@@ -23,8 +23,8 @@ past-rest-requires c κs = search needs
 returns-3 : tie.Need-returns-3
 returns-3 c = search needs
 
-past-sure-requires : tie.Need-past-sure-requires
-past-sure-requires c κs = search needs
+skip-content-requires : tie.Need-skip-content-requires
+skip-content-requires c κs = search needs
 
 past-rest-requires-2 : tie.Need-past-rest-requires-2
 past-rest-requires-2 c κs = search needs
@@ -42,6 +42,6 @@ past-content-spec =
     returns-2
     past-rest-requires
     returns-3
-    past-sure-requires
+    skip-content-requires
     past-rest-requires-2
     returns-4)

@@ -20,14 +20,14 @@ loop-holds c = (omega arith, search running-starts)
 sub-loop : tie.Need-sub-loop Inv-loop μ-loop
 sub-loop c = omega arith
 
-are-usual-requires : tie.Need-are-usual-requires Inv-loop μ-loop
-are-usual-requires c κs = omega arith
+are-line-bytes-requires : tie.Need-are-line-bytes-requires Inv-loop μ-loop
+are-line-bytes-requires c κs = omega arith
 
 returns : tie.Need-returns Inv-loop μ-loop
 returns c = search running-passes
 
-feeds-in-requires : tie.Need-feeds-in-requires Inv-loop μ-loop
-feeds-in-requires c κs = omega arith
+line-feeds-in-requires : tie.Need-line-feeds-in-requires Inv-loop μ-loop
+line-feeds-in-requires c κs = omega arith
 
 cast-count : tie.Need-cast-count Inv-loop μ-loop
 cast-count c = omega arith
@@ -38,8 +38,8 @@ add-count c = omega arith
 add-here : tie.Need-add-here Inv-loop μ-loop
 add-here c = omega arith
 
-mark-after-requires : tie.Need-mark-after-requires Inv-loop μ-loop
-mark-after-requires c κs = search needs
+last-end-requires : tie.Need-last-end-requires Inv-loop μ-loop
+last-end-requires c κs = search needs
 
 sub-if2 : tie.Need-sub-if2 Inv-loop μ-loop
 sub-if2 c = search running-order
@@ -48,8 +48,8 @@ returns-2 : tie.Need-returns-2 Inv-loop μ-loop
 returns-2 c =
     running-ends _ _ _ _ _ (c .before .before .before .before .before .before .loop .inv .1) (c .before .before .before .before .before .loop-test .taken) _
     (c .before .before .before .before .before .before .before .before .pre .1) (c .before .before .before .before .before .before .loop .inv .0) _
-    (c .before .before .before .before .are-usual .ensures) (c .before .before .before .if1 .left) _ (c .before .before .feeds-in .ensures) _
-    (c .before .mark-after .ensures)
+    (c .before .before .before .before .are-line-bytes .ensures) (c .before .before .before .if1 .left) _ (c .before .before .line-feeds-in .ensures) _
+    (c .before .last-end .ensures)
 
 loop-less : tie.Need-loop-less Inv-loop μ-loop
 loop-less c = omega arith
@@ -68,13 +68,13 @@ past-ends-spec =
     μ-loop
     loop-holds
     sub-loop
-    are-usual-requires
+    are-line-bytes-requires
     returns
-    feeds-in-requires
+    line-feeds-in-requires
     cast-count
     add-count
     add-here
-    mark-after-requires
+    last-end-requires
     sub-if2
     returns-2
     loop-less

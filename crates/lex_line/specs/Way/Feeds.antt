@@ -12,19 +12,19 @@ use Rattle.lex_line.specs.Lines.{lines}
 use Rattle.lex_line.specs.ByteRules.{linesRule}
 
 -- how many lines a byte ends, and how many bytes together do
-unfoldable pub feedOf : ℕ → ℕ
-feedOf b = if eqb b lineFeed then 1 else 0
+unfoldable pub lineFeedOf : ℕ → ℕ
+lineFeedOf b = if eqb b lineFeed then 1 else 0
 
-unfoldable pub feeds : List ℕ → ℕ
-feeds [] = 0
-feeds (b ∷ s) = feedOf b + feeds s
+unfoldable pub lineFeeds : List ℕ → ℕ
+lineFeeds [] = 0
+lineFeeds (b ∷ s) = lineFeedOf b + lineFeeds s
 
 -- a byte that a line may hold, or an LF
-unfoldable pub isUsual : ℕ → Bool
-isUsual b = either (eqb b lineFeed) (isPrinted b)
+unfoldable pub isLineByte : ℕ → Bool
+isLineByte b = either (eqb b lineFeed) (isPrinted b)
 
 -- the lines from `at` on come to what those from `next` on come to: the lines between break nothing
-pub record PassesLines (t : List ℕ) (at line next lineThere : ℕ) : Type 0 where
+pub record ResumesLines (t : List ℕ) (at line next lineThere : ℕ) : Type 0 where
   pub same : linesRule lineThere (lines (drop next t)) ≡ linesRule line (lines (drop at t))
   pub onward : at ≤ next
   pub within : next ≤ length t

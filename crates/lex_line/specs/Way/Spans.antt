@@ -6,7 +6,7 @@ use lib.ListN.{length, take, drop}
 use Rattle.base.specs.Bytes.{isBlank, isFilled}
 use Rattle.base.specs.Way.Class.{runEnd}
 use Rattle.lex_line.specs.declared.Span.{Span}
-use Rattle.lex_line.specs.declared.Few.{Few}
+use Rattle.lex_line.specs.declared.FirstTwo.{FirstTwo}
 use Rattle.lex_line.specs.Words.{backRun, lastEnd, words}
 
 -- the first word at or after `from`; it starts at the end of s where there is none
@@ -18,8 +18,8 @@ unfoldable pub lastWord : List ℕ → Span
 lastWord s = record { start = lastEnd s - backRun isFilled s (lastEnd s); end = lastEnd s }
 
 -- a line's first two words, and how many it has: 3 stands for all above 2
-unfoldable pub fewOf : List ℕ → Few
-fewOf s = record { count = min 3 (length (words s)); first = wordAt s 0; second = wordAt s (wordAt s 0 .end) }
+unfoldable pub firstTwoOf : List ℕ → FirstTwo
+firstTwoOf s = record { count = min 3 (length (words s)); first = wordAt s 0; second = wordAt s (wordAt s 0 .end) }
 
 -- the bytes that a span marks
 abbrev pub markedBy : List ℕ → Span → List ℕ

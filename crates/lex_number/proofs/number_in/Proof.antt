@@ -5,23 +5,23 @@ use borrow.Author.Needs.{needs}
 use Rattle.lex_number.proofs.number_in.Statement.{statement}
 use Rattle.lex_number.proofs.number_in.Tie as tie
 
-near-in-requires : tie.Need-near-in-requires
-near-in-requires c κs = search needs
+short-number-requires : tie.Need-short-number-requires
+short-number-requires c κs = search needs
 
 returns : tie.Need-returns
 returns c = search near-is
 
-sub-far-number : tie.Need-sub-far-number
-sub-far-number c = search needs
+sub-long-number : tie.Need-sub-long-number
+sub-long-number c = search needs
 
-part-far-number-start : tie.Need-part-far-number-start
-part-far-number-start c = search needs
+part-long-number-start : tie.Need-part-long-number-start
+part-long-number-start c = search needs
 
-part-far-number-end : tie.Need-part-far-number-end
-part-far-number-end c = search needs
+part-long-number-end : tie.Need-part-long-number-end
+part-long-number-end c = search needs
 
-far-number-requires : tie.Need-far-number-requires
-far-number-requires c κs = search needs
+long-number-requires : tie.Need-long-number-requires
+long-number-requires c κs = search needs
 
 returns-2 : tie.Need-returns-2
 returns-2 c = search far-is
@@ -30,10 +30,10 @@ pub number-in-spec : {M : Type 1} → statement M
 number-in-spec =
     tie.close
     (tie.spec
-    near-in-requires
+    short-number-requires
     returns
-    sub-far-number
-    part-far-number-start
-    part-far-number-end
-    far-number-requires
+    sub-long-number
+    part-long-number-start
+    part-long-number-end
+    long-number-requires
     returns-2)

@@ -5,13 +5,13 @@ use mathlib.Core.Path.{_≡_}
 use Prim.Native.Nat.{_-_}
 use lib.ListN.{length, drop}
 use Rattle.lex_number.specs.Number.{scan, noDigits}
-use Rattle.lex_number.specs.Way.Capped.{cappedDigits, Kept}
-use Rattle.lex_number.proofs.DigitLaws.{start-kept, start-end, start-same, kept-next, end-next, digits-past, digits-stop, digits-on, goes-told}
+use Rattle.lex_number.specs.Way.Capped.{cappedDigits, CutDigits}
+use Rattle.lex_number.proofs.DigitLaws.{start-kept, start-end, start-same, matrix-keyword-next, end-next, digits-past, digits-stop, digits-on, goes-told}
 use Rattle.lex_number.proofs.read_digits.Statement.{statement}
 use Rattle.lex_number.proofs.read_digits.Tie as tie
 
 abbrev Inv-loop : tie.InvT-loop
-Inv-loop s from d₀ i₀ d i = Kept d × (d .end ≡ i) × (cappedDigits (scan (drop i s) d) ≡ cappedDigits (scan (drop from s) (noDigits from)))
+Inv-loop s from d₀ i₀ d i = CutDigits d × (d .end ≡ i) × (cappedDigits (scan (drop i s) d) ≡ cappedDigits (scan (drop from s) (noDigits from)))
 
 abbrev μ-loop : tie.MeasureT-loop
 μ-loop s from d₀ i₀ d i = length s - i
@@ -41,7 +41,7 @@ loop-less : tie.Need-loop-less Inv-loop μ-loop
 loop-less c = search needs
 
 loop-again : tie.Need-loop-again Inv-loop μ-loop
-loop-again c = search (needs, kept-next, end-next, digits-on)
+loop-again c = search (needs, matrix-keyword-next, end-next, digits-on)
 
 returns-2 : tie.Need-returns-2 Inv-loop μ-loop
 returns-2 c = search digits-past

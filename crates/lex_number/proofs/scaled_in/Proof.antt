@@ -6,8 +6,8 @@ use borrow.Author.Needs.{needs}
 use Rattle.lex_number.proofs.scaled_in.Statement.{statement}
 use Rattle.lex_number.proofs.scaled_in.Tie as tie
 
-unknown-requires : tie.Need-unknown-requires
-unknown-requires c κs = search needs
+not-short-requires : tie.Need-not-short-requires
+not-short-requires c κs = search needs
 
 returns : tie.Need-returns
 returns c = search unknown-knows
@@ -15,8 +15,8 @@ returns c = search unknown-knows
 is-letter-requires : tie.Need-is-letter-requires
 is-letter-requires c κs = search needs
 
-unknown-requires-2 : tie.Need-unknown-requires-2
-unknown-requires-2 c κs = search needs
+not-short-requires-2 : tie.Need-not-short-requires-2
+not-short-requires-2 c κs = search needs
 
 returns-2 : tie.Need-returns-2
 returns-2 c = search unknown-knows
@@ -51,8 +51,8 @@ letters-end-requires c κs = search needs
 is-word-at-requires : tie.Need-is-word-at-requires
 is-word-at-requires c κs = search needs
 
-unknown-requires-3 : tie.Need-unknown-requires-3
-unknown-requires-3 c κs = search needs
+not-short-requires-3 : tie.Need-not-short-requires-3
+not-short-requires-3 c κs = search needs
 
 returns-4 : tie.Need-returns-4
 returns-4 c = search unknown-knows
@@ -67,10 +67,10 @@ pub scaled-in-spec : {M : Type 1} → statement M
 scaled-in-spec =
     tie.close
     (tie.spec
-    unknown-requires
+    not-short-requires
     returns
     is-letter-requires
-    unknown-requires-2
+    not-short-requires-2
     returns-2
     scale-of-requires
     add-past-letter
@@ -82,7 +82,7 @@ scaled-in-spec =
     returns-3
     letters-end-requires
     is-word-at-requires
-    unknown-requires-3
+    not-short-requires-3
     returns-4
     plain-value-requires-2
     returns-5)

@@ -90,7 +90,7 @@ pub record ExponentRead (s : List ℕ) (from b : ℕ) (x : Reading) : Type 0 whe
   pub exponent-few : x .exponent .size < 1_000_000_000
 
 -- parts that so few bytes write that no sum of theirs is cut
-pub record Few (p : Parts) : Type 0 where
+pub record ShortParts (p : Parts) : Type 0 where
   pub fraction-few : p .digits .fraction ≤ 19
   pub exponent-few : p .exponent .size < 1_000_000_000
 
@@ -98,7 +98,7 @@ pub record PartsRead (s : List ℕ) (p : Parts) : Type 0 where
   pub parts-next : p .next ≡ getD s (p .exponent .end) 0
   pub parts-whole : isDigit (p .next) ≡ false → p ≡ partsOf s
   pub parts-short : p .exponent .end ≤ 32
-  pub parts-few : Few p
+  pub parts-few : ShortParts p
 
 -- a number as a size and the zeros after it
 pub record Splits (all size zeros : ℕ) : Type 0 where

@@ -57,14 +57,14 @@ unfoldable pub lowering : Exponent → ℕ
 lowering x = if x .negative then x .size else 0
 
 -- digits whose numbers are cut, and whose counts are no greater than the place that they end at
-pub record Kept (d : Digits) : Type 0 where
+pub record CutDigits (d : Digits) : Type 0 where
   pub all-cut : d .all ≤ sizeCap
   pub size-cut : d .size ≤ sizeCap
   pub zeros-within : d .zeros ≤ d .end
   pub fraction-within : d .fraction ≤ d .end
 
 -- what the reader hands on: numbers and counts that are small enough for every sum of them to fit
-pub record Bounded (d : Digits) (x : Exponent) (c : Scale) : Type 0 where
+pub record BoundedNumber (d : Digits) (x : Exponent) (c : Scale) : Type 0 where
   pub size-cut : d .size ≤ sizeCap
   pub zeros-below : d .zeros < countCap
   pub fraction-below : d .fraction < countCap

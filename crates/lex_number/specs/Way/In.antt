@@ -15,7 +15,7 @@ use Rattle.lex_number.specs.Number.{isSign, numberOf}
 use Rattle.lex_number.specs.declared.Number.{Number}
 use Rattle.lex_number.specs.declared.Number.the-variants.{Value, Malformed, Range}
 use Rattle.lex_number.specs.declared.NumberAt.{NumberAt}
-use Rattle.lex_number.specs.declared.Near.{Near}
+use Rattle.lex_number.specs.declared.ShortNumber.{ShortNumber}
 
 -- what words are made of: content that is not blank
 unfoldable pub isWord : ℕ → ℕ → Bool
@@ -37,5 +37,5 @@ numberIn comment s from =
     record { number = numberOf (take (run (isWord comment) (drop from s)) (drop from s)); end = runEnd (isWord comment) s from }
 
 -- an answer that is the number's where it is known
-pub record Knows (comment : ℕ) (s : List ℕ) (from : ℕ) (r : Near) : Type 0 where
+pub record Knows (comment : ℕ) (s : List ℕ) (from : ℕ) (r : ShortNumber) : Type 0 where
   pub knows : r .known ≡ true → record { number = r .number; end = r .end } ≡ numberIn comment s from

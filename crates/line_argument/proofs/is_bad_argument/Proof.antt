@@ -6,8 +6,8 @@ use borrow.Author.Needs.{needs}
 use Rattle.line_argument.proofs.is_bad_argument.Statement.{statement}
 use Rattle.line_argument.proofs.is_bad_argument.Tie as tie
 
-keeps-matrix-requires : tie.Need-keeps-matrix-requires
-keeps-matrix-requires c κs = search needs
+is-row-or-bandwidth-requires : tie.Need-is-row-or-bandwidth-requires
+is-row-or-bandwidth-requires c κs = search needs
 
 is-one-word-requires : tie.Need-is-one-word-requires
 is-one-word-requires c κs = search needs
@@ -61,7 +61,7 @@ pub is-bad-argument-spec : {M : Type 1} → statement M
 is-bad-argument-spec =
     tie.close
     (tie.spec
-    keeps-matrix-requires
+    is-row-or-bandwidth-requires
     is-one-word-requires
     returns
     opens-matrix-requires

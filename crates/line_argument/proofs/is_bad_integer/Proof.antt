@@ -5,8 +5,8 @@ use borrow.Author.Needs.{needs}
 use Rattle.line_argument.proofs.is_bad_integer.Statement.{statement}
 use Rattle.line_argument.proofs.is_bad_integer.Tie as tie
 
-keeps-matrix-requires : tie.Need-keeps-matrix-requires
-keeps-matrix-requires c κs = search needs
+is-row-or-bandwidth-requires : tie.Need-is-row-or-bandwidth-requires
+is-row-or-bandwidth-requires c κs = search needs
 
 returns : tie.Need-returns
 returns c = search (no-integer, integer-told)
@@ -19,4 +19,4 @@ returns-2 c = search (no-integer, integer-told)
 
 pub is-bad-integer-spec : {M : Type 1} → statement M
 is-bad-integer-spec =
-    tie.close (tie.spec keeps-matrix-requires returns read-integer-requires returns-2)
+    tie.close (tie.spec is-row-or-bandwidth-requires returns read-integer-requires returns-2)

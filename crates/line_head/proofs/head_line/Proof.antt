@@ -6,8 +6,8 @@ use borrow.Author.Needs.{needs}
 use Rattle.line_head.proofs.head_line.Statement.{statement}
 use Rattle.line_head.proofs.head_line.Tie as tie
 
-few-words-requires : tie.Need-few-words-requires
-few-words-requires c κs = search needs
+first-two-words-requires : tie.Need-first-two-words-requires
+first-two-words-requires c κs = search needs
 
 marked-requires : tie.Need-marked-requires
 marked-requires c κs = search (needs, marks)
@@ -52,7 +52,7 @@ pub head-line-spec : {M : Type 1} → statement M
 head-line-spec =
     tie.close
     (tie.spec
-    few-words-requires
+    first-two-words-requires
     marked-requires
     slice-aggregate-same-bytes
     same-bytes-requires

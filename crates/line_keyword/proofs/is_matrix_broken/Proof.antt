@@ -7,10 +7,10 @@ use Rattle.line_keyword.proofs.is_matrix_broken.Statement.{statement}
 use Rattle.line_keyword.proofs.is_matrix_broken.Tie as tie
 use Rattle.line_keyword.proofs.is_wrong_by.Reads as is-wrong-by-reads
 use Rattle.line_matrix.proofs.is_wrong_shape.Reads as is-wrong-shape-reads
-use Rattle.line_place.proofs.keeps_matrix.Reads as keeps-matrix-reads
+use Rattle.line_place.proofs.is_row_or_bandwidth.Reads as is-row-or-bandwidth-reads
 
-keeps-matrix-requires : tie.Need-keeps-matrix-requires
-keeps-matrix-requires c κs = search needs
+is-row-or-bandwidth-requires : tie.Need-is-row-or-bandwidth-requires
+is-row-or-bandwidth-requires c κs = search needs
 
 is-wrong-by-requires : tie.Need-is-wrong-by-requires
 is-wrong-by-requires c κs = search needs
@@ -29,4 +29,4 @@ returns-2 c = search chain
 pub is-matrix-broken-spec : {M : Type 1} → statement M
 is-matrix-broken-spec =
     tie.close
-    (tie.spec keeps-matrix-requires is-wrong-by-requires returns is-wrong-shape-requires returns-2)
+    (tie.spec is-row-or-bandwidth-requires is-wrong-by-requires returns is-wrong-shape-requires returns-2)

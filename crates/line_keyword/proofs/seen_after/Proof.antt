@@ -6,10 +6,10 @@ use Rattle.line_keyword.proofs.BlockLaws.{seen-past}
 use borrow.Author.Needs.{needs}
 use Rattle.line_keyword.proofs.seen_after.Statement.{statement}
 use Rattle.line_keyword.proofs.seen_after.Tie as tie
-use Rattle.line_place.proofs.keeps_matrix.Reads as keeps-matrix-reads
+use Rattle.line_place.proofs.is_row_or_bandwidth.Reads as is-row-or-bandwidth-reads
 
-keeps-matrix-requires : tie.Need-keeps-matrix-requires
-keeps-matrix-requires c κs = search needs
+is-row-or-bandwidth-requires : tie.Need-is-row-or-bandwidth-requires
+is-row-or-bandwidth-requires c κs = search needs
 
 returns : tie.Need-returns
 unfolding seenAfter
@@ -55,7 +55,7 @@ pub seen-after-spec : {M : Type 1} → statement M
 seen-after-spec =
     tie.close
     (tie.spec
-    keeps-matrix-requires
+    is-row-or-bandwidth-requires
     returns
     array-write-next
     array-write-next-2

@@ -4,7 +4,7 @@
 use Prim.Native.Nat.{ℕ, _^_, _≤_, _<_}
 use Rattle.line_path.specs.Path.{deepest, mostSteps}
 use Rattle.line_map.specs.PinMap.{mostPins}
-use Rattle.line_map.specs.Way.Bounded.{Bounded}
+use Rattle.line_map.specs.Way.Bounded.{BoundedMap}
 use Rattle.line_matrix.specs.Matrix.{mostValues}
 use Rattle.line_keyword.specs.Keywords.{mostModels, mostMaps, mostSections}
 use Rattle.line_keyword.specs.declared.Counts.{Counts}
@@ -21,7 +21,7 @@ pub record Countable (c : Counts) : Type 0 where
   pub sections : c .sections < 2 ^ 63
   pub matrices : c .matrices < 2 ^ 63
 
-pub record Kept (n : ℕ) (s : State) : Type 0 where
+pub record BoundedState (n : ℕ) (s : State) : Type 0 where
   pub models : s .counts .models ≤ mostModels
   pub steps : s .counts .steps ≤ mostSteps
   pub maps : s .counts .maps ≤ mostMaps
@@ -30,4 +30,4 @@ pub record Kept (n : ℕ) (s : State) : Type 0 where
   pub matrices : s .counts .matrices ≤ n
   pub values : s .counts .values ≤ mostValues
   pub depth : s .path .depth ≤ deepest
-  pub grid : Bounded (s .map)
+  pub grid : BoundedMap (s .map)

@@ -14,8 +14,8 @@ use Rattle.line_matrix.specs.declared.Matrix.{Matrix}
 use Rattle.line_keyword.specs.Keywords.{isWrongInMatrix}
 
 -- the rules that [Row] or [Bandwidth] may break in a matrix
-unfoldable pub keptRule : ℕ → List ℕ → Matrix → ℕ
-keptRule k argument m =
+unfoldable pub matrixKeywordRule : ℕ → List ℕ → Matrix → ℕ
+matrixKeywordRule k argument m =
     firstBroken
     (11 when isBadArgument k argument
     ∷ 13 when isBadInteger k argument
@@ -24,6 +24,6 @@ keptRule k argument m =
     ∷ [])
 
 -- the matrix after it
-unfoldable pub keptNext : ℕ → List ℕ → Matrix → ℕ → Matrix
-keptNext k argument m values =
+unfoldable pub matrixKeywordNext : ℕ → List ℕ → Matrix → ℕ → Matrix
+matrixKeywordNext k argument m values =
     if eqb k row then withRow (wholeOf argument .value) m values else withBandwidth (wholeOf argument .value) m

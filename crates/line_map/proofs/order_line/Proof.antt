@@ -6,8 +6,8 @@ use borrow.Author.Needs.{needs}
 use Rattle.line_map.proofs.order_line.Statement.{statement}
 use Rattle.line_map.proofs.order_line.Tie as tie
 
-few-words-requires : tie.Need-few-words-requires
-few-words-requires c κs = search needs
+first-two-words-requires : tie.Need-first-two-words-requires
+first-two-words-requires c κs = search needs
 
 wrong-line-requires : tie.Need-wrong-line-requires
 wrong-line-requires c κs = search needs
@@ -34,7 +34,7 @@ pub order-line-spec : {M : Type 1} → statement M
 order-line-spec =
     tie.close
     (tie.spec
-    few-words-requires
+    first-two-words-requires
     wrong-line-requires
     returns
     marked-requires

@@ -8,8 +8,8 @@ use borrow.Author.Needs.{needs}
 use Rattle.line_map.proofs.pin_rule.Statement.{statement}
 use Rattle.line_map.proofs.pin_rule.Tie as tie
 
-few-words-requires : tie.Need-few-words-requires
-few-words-requires c κs = search needs
+first-two-words-requires : tie.Need-first-two-words-requires
+first-two-words-requires c κs = search needs
 
 returns : tie.Need-returns
 unfolding pinRule
@@ -28,4 +28,4 @@ unfolding pinRule
 returns-4 c = sym (search (firsts, pin-short, pin-long))
 
 pub pin-rule-spec : {M : Type 1} → statement M
-pin-rule-spec = tie.close (tie.spec few-words-requires returns returns-2 returns-3 returns-4)
+pin-rule-spec = tie.close (tie.spec first-two-words-requires returns returns-2 returns-3 returns-4)

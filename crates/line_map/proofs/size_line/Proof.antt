@@ -15,11 +15,11 @@ wrong-line-requires c κs = search needs
 returns : tie.Need-returns
 returns c = search size-unsigned
 
-slice-aggregate-few-words : tie.Need-slice-aggregate-few-words
-slice-aggregate-few-words c = search sign-cut
+slice-aggregate-first-two-words : tie.Need-slice-aggregate-first-two-words
+slice-aggregate-first-two-words c = search sign-cut
 
-few-words-requires : tie.Need-few-words-requires
-few-words-requires c κs = search needs
+first-two-words-requires : tie.Need-first-two-words-requires
+first-two-words-requires c κs = search needs
 
 wrong-line-requires-2 : tie.Need-wrong-line-requires-2
 wrong-line-requires-2 c κs = search needs
@@ -39,8 +39,8 @@ part-rest-start c = search needs
 part-rest-end : tie.Need-part-rest-end
 part-rest-end c = search needs
 
-few-words-requires-2 : tie.Need-few-words-requires-2
-few-words-requires-2 c κs = search needs
+first-two-words-requires-2 : tie.Need-first-two-words-requires-2
+first-two-words-requires-2 c κs = search needs
 
 wrong-line-requires-3 : tie.Need-wrong-line-requires-3
 wrong-line-requires-3 c κs = search needs
@@ -67,15 +67,15 @@ size-line-spec =
     equals-at-requires
     wrong-line-requires
     returns
-    slice-aggregate-few-words
-    few-words-requires
+    slice-aggregate-first-two-words
+    first-two-words-requires
     wrong-line-requires-2
     returns-2
     add-after
     sub-rest
     part-rest-start
     part-rest-end
-    few-words-requires-2
+    first-two-words-requires-2
     wrong-line-requires-3
     returns-3
     marked-requires

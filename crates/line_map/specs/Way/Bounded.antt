@@ -5,6 +5,6 @@ use Rattle.line_map.specs.declared.Map.{Map}
 use Rattle.line_map.specs.PinMap.{saysColumns, saysRows}
 
 -- the sizes that a map has while no rule is broken: a line gives none above 256
-pub record Bounded (m : Map) : Type 0 where
+pub record BoundedMap (m : Map) : Type 0 where
   pub few-rows : m .rows ≤ 256
   pub few-columns : m .columns ≤ 256

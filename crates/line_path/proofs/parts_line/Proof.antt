@@ -6,8 +6,8 @@ use borrow.Author.Needs.{needs}
 use Rattle.line_path.proofs.parts_line.Statement.{statement}
 use Rattle.line_path.proofs.parts_line.Tie as tie
 
-few-words-requires : tie.Need-few-words-requires
-few-words-requires c κs = search needs
+first-two-words-requires : tie.Need-first-two-words-requires
+first-two-words-requires c κs = search needs
 
 plain-line-requires : tie.Need-plain-line-requires
 plain-line-requires c κs = search needs
@@ -15,8 +15,8 @@ plain-line-requires c κs = search needs
 returns : tie.Need-returns
 returns c = search parts-before
 
-few-words-requires-2 : tie.Need-few-words-requires-2
-few-words-requires-2 c κs = search needs
+first-two-words-requires-2 : tie.Need-first-two-words-requires-2
+first-two-words-requires-2 c κs = search needs
 
 plain-line-requires-2 : tie.Need-plain-line-requires-2
 plain-line-requires-2 c κs = search needs
@@ -52,10 +52,10 @@ pub parts-line-spec : {M : Type 1} → statement M
 parts-line-spec =
     tie.close
     (tie.spec
-    few-words-requires
+    first-two-words-requires
     plain-line-requires
     returns
-    few-words-requires-2
+    first-two-words-requires-2
     plain-line-requires-2
     returns-2
     marked-requires

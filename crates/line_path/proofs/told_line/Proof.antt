@@ -6,8 +6,8 @@ use borrow.Author.Needs.{needs}
 use Rattle.line_path.proofs.told_line.Statement.{statement}
 use Rattle.line_path.proofs.told_line.Tie as tie
 
-few-words-requires : tie.Need-few-words-requires
-few-words-requires c κs = search needs
+first-two-words-requires : tie.Need-first-two-words-requires
+first-two-words-requires c κs = search needs
 
 marked-requires : tie.Need-marked-requires
 marked-requires c κs = search (needs, marks)
@@ -24,4 +24,4 @@ returns c = search line-told
 pub told-line-spec : {M : Type 1} → statement M
 told-line-spec =
     tie.close
-    (tie.spec few-words-requires marked-requires saying-of-requires line-saying-requires returns)
+    (tie.spec first-two-words-requires marked-requires saying-of-requires line-saying-requires returns)

@@ -6,8 +6,8 @@ use borrow.Author.Needs.{needs}
 use Rattle.line_place.proofs.leads_in_matrix.Statement.{statement}
 use Rattle.line_place.proofs.leads_in_matrix.Tie as tie
 
-keeps-matrix-requires : tie.Need-keeps-matrix-requires
-keeps-matrix-requires c κs = search needs
+is-row-or-bandwidth-requires : tie.Need-is-row-or-bandwidth-requires
+is-row-or-bandwidth-requires c κs = search needs
 
 returns : tie.Need-returns
 unfolding leadsInMatrix
@@ -21,4 +21,4 @@ unfolding leadsInMatrix
 returns-2 c = search chain depth 12
 
 pub leads-in-matrix-spec : {M : Type 1} → statement M
-leads-in-matrix-spec = tie.close (tie.spec keeps-matrix-requires returns leads-in-section-requires returns-2)
+leads-in-matrix-spec = tie.close (tie.spec is-row-or-bandwidth-requires returns leads-in-section-requires returns-2)

@@ -5,7 +5,7 @@ use Prim.Native.Nat.{_+_, _-_, _≤_}
 use lib.ListN.{length}
 use borrow.Author.Tests.{not-true, not-false}
 use Rattle.line_place.specs.Place as place
-use Rattle.read_line.specs.Way.Walk.{Crossed, Holds, Stepping, withPath}
+use Rattle.read_line.specs.Way.Walk.{ResumesPart, HoldsPart, Stepping, withPath}
 use Rattle.read_line.proofs.WalkLaws.{content-start, content-within}
 use Rattle.read_line.proofs.CrossLaws.{crossed-none, crossed-on, crossed-stops, crossed-less, stays-opens, stays-moved, stays-ended}
 use borrow.Author.Needs.{needs}
@@ -14,7 +14,7 @@ use Rattle.read_line.proofs.pass_path.Tie as tie
 
 abbrev Inv-loop : tie.InvT-loop
 Inv-loop text at line steps depth here₀ number₀ part₀ here number part =
-    (part .rule ≡ 0) × (line ≤ at + 1) × Stepping (part .path) (part .steps) × Crossed text at line (Holds place.path (withPath (part₀ .path) (part₀ .steps))) (withPath (part .path) (part .steps)) (part .rule) here number
+    (part .rule ≡ 0) × (line ≤ at + 1) × Stepping (part .path) (part .steps) × ResumesPart text at line (HoldsPart place.path (withPath (part₀ .path) (part₀ .steps))) (withPath (part .path) (part .steps)) (part .rule) here number
 
 abbrev μ-loop : tie.MeasureT-loop
 μ-loop text at line steps depth here₀ number₀ part₀ here number part = length text - here

@@ -17,11 +17,11 @@ use Rattle.line_path.specs.Path.{deepest, mostSteps}
 use Rattle.line_path.specs.declared.Path.{Path}
 use Rattle.line_map.specs.declared.Map.{Map}
 use Rattle.line_matrix.specs.declared.Matrix.{Matrix}
-use Rattle.line_keyword.specs.Way.Kept.{Kept}
+use Rattle.line_keyword.specs.Way.Kept.{BoundedState}
 use Rattle.line_keyword.specs.declared.Counts.{Counts}
 use Rattle.line_keyword.specs.declared.State.{State}
 use Rattle.read_line.specs.Reading.{commentByte, breaks, readFrom}
-use Rattle.read_line.specs.declared.Step.{Step}
+use Rattle.read_line.specs.declared.LineResult.{LineResult}
 use Rattle.read_line.specs.declared.Front.{Front}
 use Rattle.read_line.specs.declared.Front.the-variants.{Blanks, Words, Opening}
 use Rattle.read_line.specs.declared.Walk.{Walk}
@@ -37,13 +37,13 @@ resume t w = if eqb (w .rule) 0 then readFrom (w .line) (lines (drop (w .at) t))
 pub record Onward (t : List ℕ) (at line : ℕ) (s : State) : Type 0 where
   pub within : at ≤ length t
   pub counted : line ≤ at + 1
-  pub kept : Kept line s
+  pub kept : BoundedState line s
 
 -- no line takes a value back
 abbrev pub Rises : State → State → Type 0
 Rises s r = s .counts .values ≤ r .counts .values
 
-pub record Reached (t : List ℕ) (at line : ℕ) (s : State) (w : Walk) : Type 0 where
+pub record ResumesText (t : List ℕ) (at line : ℕ) (s : State) (w : Walk) : Type 0 where
   pub same : resume t w ≡ readFrom line (lines (drop at t)) s
   pub further : w .rule ≡ 0 → at < w .at
   pub onward : w .rule ≡ 0 → Onward t (w .at) (w .line) (w .state)
@@ -53,9 +53,9 @@ pub record Reached (t : List ℕ) (at line : ℕ) (s : State) (w : Walk) : Type 
 
 -- `fits` says which states the lines are met in, `put` what each of them has become behind them: from there the text comes to the same.
 -- A line that breaks a rule is the last.
-pub record Crossed (t : List ℕ) (at line : ℕ) (fits : State → Type 0) (put : State → State) (rule further last : ℕ) : Type 0 where
+pub record ResumesPart (t : List ℕ) (at line : ℕ) (fits : State → Type 0) (put : State → State) (rule further last : ℕ) : Type 0 where
   pub same : (s : State) → fits s → resume t (record { rule = rule; at = further; line = last; state = put s }) ≡ readFrom line (lines (drop at t)) s
-  pub kept : rule ≡ 0 → (s : State) → fits s → Kept line s → Kept last (put s)
+  pub kept : rule ≡ 0 → (s : State) → fits s → BoundedState line s → BoundedState last (put s)
   pub rises : rule ≡ 0 → (s : State) → fits s → Rises s (put s)
   pub onward : at ≤ further
   pub within : further ≤ length t
@@ -63,15 +63,15 @@ pub record Crossed (t : List ℕ) (at line : ℕ) (fits : State → Type 0) (put
   pub counted : last + at ≤ line + further
 
 -- lines that change nothing, wherever they stand in this place
-abbrev pub Passed : List ℕ → ℕ → ℕ → ℕ → ℕ → ℕ → Type 0
-Passed t at line here further last = Crossed t at line (λ (s : State). s .place ≡ here) (λ (s : State). s) 0 further last
+abbrev pub ResumesIdle : List ℕ → ℕ → ℕ → ℕ → ℕ → ℕ → Type 0
+ResumesIdle t at line here further last = ResumesPart t at line (λ (s : State). s .place ≡ here) (λ (s : State). s) 0 further last
 
 -- the place, and a part as it was put
-abbrev pub Holds : ℕ → (State → State) → State → Type 0
-Holds here put s = (s .place ≡ here) × (s ≡ put s)
+abbrev pub HoldsPart : ℕ → (State → State) → State → Type 0
+HoldsPart here put s = (s .place ≡ here) × (s ≡ put s)
 
 -- in a place the part that was put decides what a line breaks, and what is put after it
-abbrev pub Decides : ℕ → (State → State) → (State → Step) → ℕ → (State → State) → Type 0
+abbrev pub Decides : ℕ → (State → State) → (State → LineResult) → ℕ → (State → State) → Type 0
 Decides here put step rule next = (s : State) → s .place ≡ here → step (put s) ≡ breaks rule (next s)
 
 -- a bracket stands at the front of the line
@@ -83,18 +83,18 @@ abbrev pub contentAt : List ℕ → ℕ → List ℕ
 contentAt t at = take (lineAt commentByte t at .content - at) (drop at t)
 
 -- none of the places whose lines are gone over together
-pub record Elsewhere (p : ℕ) : Type 0 where
+pub record ReadLineByLine (p : ℕ) : Type 0 where
   pub matrix : p ≡ place.matrix → ⊥
   pub path : p ≡ place.path → ⊥
   pub pins : p ≡ place.pinList → ⊥
 
 -- so for a line without a bracket that is not blank
-abbrev pub StandsElsewhere : List ℕ → ℕ → Type 0
-StandsElsewhere content p = isBlankLine content ≡ false → bracketOf content ≡ Plain → Elsewhere p
+abbrev pub BracketOrLineByLine : List ℕ → ℕ → Type 0
+BracketOrLineByLine content p = isBlankLine content ≡ false → bracketOf content ≡ Plain → ReadLineByLine p
 
 -- a walk that has not gone further than where it started stands at a line with a bracket
-abbrev pub Stays : List ℕ → ℕ → ℕ → Type 0
-Stays t at further = further ≡ at → at < length t → Opens (contentAt t at)
+abbrev pub NoProgressMeansBracket : List ℕ → ℕ → ℕ → Type 0
+NoProgressMeansBracket t at further = further ≡ at → at < length t → Opens (contentAt t at)
 
 -- what stands at the front of a line
 abbrev pub Fronted : List ℕ → Front → Type 0
@@ -129,8 +129,8 @@ pub record Stepping (p : Path) (n : ℕ) : Type 0 where
 
 -- lines of a path are gone over, from one that the path stood so at and so many steps were read before
 pub record Blocked (t : List ℕ) (at line : ℕ) (p : Path) (n : ℕ) (w : PathWalk) : Type 0 where
-  pub crossed : Crossed t at line (Holds place.path (withPath p n)) (withPath (w .part .path) (w .part .steps)) (w .part .rule) (w .at) (w .line)
-  pub stays : Stays t at (w .at)
+  pub crossed : ResumesPart t at line (HoldsPart place.path (withPath p n)) (withPath (w .part .path) (w .part .steps)) (w .part .rule) (w .at) (w .line)
+  pub stays : NoProgressMeansBracket t at (w .at)
   pub stepping : Stepping (w .part .path) (w .part .steps)
 
 abbrev withPins : ℕ → Counts → Counts

@@ -5,24 +5,24 @@ use Rattle.read_matrix.proofs.LineLaws.{keeps-takes, leaves-takes}
 use borrow.Author.Needs.{needs}
 use Rattle.read_matrix.proofs.named_line.Statement.{statement}
 use Rattle.read_matrix.proofs.named_line.Tie as tie
-use Rattle.read_matrix.proofs.kept_line.Reads as kept-line-reads
+use Rattle.read_matrix.proofs.matrix_keyword_line.Reads as matrix-keyword-line-reads
 use Rattle.read_matrix.proofs.left_line.Reads as left-line-reads
-use Rattle.line_place.proofs.keeps_matrix.Reads as keeps-matrix-reads
+use Rattle.line_place.proofs.is_row_or_bandwidth.Reads as is-row-or-bandwidth-reads
 use Rattle.read_line.proofs.argument_of.Reads as argument-of-reads
 
-keeps-matrix-requires : tie.Need-keeps-matrix-requires
-keeps-matrix-requires c κs = search needs
+is-row-or-bandwidth-requires : tie.Need-is-row-or-bandwidth-requires
+is-row-or-bandwidth-requires c κs = search needs
 
 argument-of-requires : tie.Need-argument-of-requires
 argument-of-requires c κs = search needs
 
-kept-line-requires : tie.Need-kept-line-requires
-kept-line-requires c κs = search (sym, _∙_)
+matrix-keyword-line-requires : tie.Need-matrix-keyword-line-requires
+matrix-keyword-line-requires c κs = search (sym, _∙_)
 
 returns : tie.Need-returns
 returns c =
-    keeps-takes _ (c .before .before .before .before .before .pre .0) _ _ (c .before .before .before .before .before .pre .1) _ _ _ (sym (c .before .before .before .keeps-matrix .ensures) ∙ c .before .before .if1 .taken) _
-    (c .before .argument-of .ensures) _ (c .kept-line .ensures)
+    keeps-takes _ (c .before .before .before .before .before .pre .0) _ _ (c .before .before .before .before .before .pre .1) _ _ _ (sym (c .before .before .before .is-row-or-bandwidth .ensures) ∙ c .before .before .if1 .taken) _
+    (c .before .argument-of .ensures) _ (c .matrix-keyword-line .ensures)
 
 left-line-requires : tie.Need-left-line-requires
 left-line-requires c κs = search needs
@@ -34,9 +34,9 @@ pub named-line-spec : {M : Type 1} → statement M
 named-line-spec =
     tie.close
     (tie.spec
-    keeps-matrix-requires
+    is-row-or-bandwidth-requires
     argument-of-requires
-    kept-line-requires
+    matrix-keyword-line-requires
     returns
     left-line-requires
     returns-2)

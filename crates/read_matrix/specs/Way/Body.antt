@@ -14,13 +14,13 @@ use Rattle.lex_keyword.specs.Names.{row}
 use Rattle.line_place.specs.Place as place
 use Rattle.line_matrix.specs.declared.Matrix.{Matrix}
 use Rattle.read_line.specs.Reading.{keywordStep, lineResult}
-use Rattle.read_line.specs.Way.Walk.{Crossed, Holds, Decides, Opens, Stays, withMatrix}
+use Rattle.read_line.specs.Way.Walk.{ResumesPart, HoldsPart, Decides, Opens, NoProgressMeansBracket, withMatrix}
 use Rattle.doc.specs.Lines.{Line}
 use Rattle.doc.specs.Document.{inMatrix}
 use Rattle.store_base.specs.Way.Stage.{StagedMatrix, Tells, wordsOf}
 use Rattle.store_matrices.specs.Way.Told.{untold, firstTold, toldOr}
 use Rattle.read_numbers.specs.declared.Staging as stages
-use Rattle.read_numbers.specs.Way.Staging.{Bounded, Adds}
+use Rattle.read_numbers.specs.Way.Staging.{BoundedStaging, Adds}
 use Rattle.read_matrix.specs.declared.Data.{Data}
 use Rattle.read_matrix.specs.declared.BodyWalk.{BodyWalk}
 
@@ -29,20 +29,20 @@ abbrev pub newStaging : Bool → stages.Staging
 newStaging whole = record { whole = whole; row = 1; column = 1; bandwidth = untold; greatest = 0 }
 
 -- [Row] i: the next number stands at (i, i); of [Bandwidth] the first counts
-unfoldable pub keptStaging : ℕ → ℕ → stages.Staging → stages.Staging
-keptStaging key value a =
+unfoldable pub keywordStaging : ℕ → ℕ → stages.Staging → stages.Staging
+keywordStaging key value a =
     if eqb key row
     then record { whole = a .whole; row = value; column = value; bandwidth = a .bandwidth; greatest = max (a .greatest) value }
     else record { whole = a .whole; row = a .row; column = a .column; bandwidth = firstTold (a .bandwidth) value; greatest = a .greatest }
 
 -- [Row] or [Bandwidth], by its argument
-pub record Keeps (key : ℕ) (argument : List ℕ) (m : Matrix) (values : ℕ) (a : stages.Staging) (r : Data) : Type 0 where
+pub record TakesKeyword (key : ℕ) (argument : List ℕ) (m : Matrix) (values : ℕ) (a : stages.Staging) (r : Data) : Type 0 where
   pub taken : r .taken ≡ true
   pub decides : Decides place.matrix (withMatrix m values) (keywordStep key argument) (r .rule) (withMatrix (r .matrix) (r .values))
   pub form : r .matrix .form ≡ m .form
   pub same : r .values ≡ values
-  pub staging : r .rule ≡ 0 → r .staging ≡ keptStaging key (wholeOf argument .value) a
-  pub bounded : Bounded (r .staging) values
+  pub staging : r .rule ≡ 0 → r .staging ≡ keywordStaging key (wholeOf argument .value) a
+  pub bounded : BoundedStaging (r .staging) values
 
 -- a table is changed only behind so many values
 pub record Behind (values : ℕ) (table table' : List ℕ) : Type 0 where
@@ -69,7 +69,7 @@ pub record Takes (content : List ℕ) (m : Matrix) (values : ℕ) (a : stages.St
   pub form : r .matrix .form ≡ m .form
   pub behind : Behind values table table'
   pub rises : values ≤ r .values
-  pub bounded : Bounded (r .staging) (r .values)
+  pub bounded : BoundedStaging (r .staging) (r .values)
   pub extends : r .taken ≡ true → r .rule ≡ 0 → r .staging .whole ≡ true → Extends content (m .form) table values a table' (r .values) (r .staging)
 
 -- a line that adds no number, whatever the table
@@ -92,9 +92,9 @@ stagedOf at line m values w =
     }
 
 -- the lines of a matrix up to the keyword that ends it, or as far as they are taken here
-pub record Goes (t : List ℕ) (at line : ℕ) (m : Matrix) (values : ℕ) (table : List ℕ) (w : BodyWalk) (table' : List ℕ) : Type 0 where
-  pub crossed : Crossed t at line (Holds place.matrix (withMatrix m values)) (withMatrix (w .part .matrix) (w .part .values)) (w .part .rule) (w .at) (w .line)
-  pub stays : Stays t at (w .at)
+pub record ResumesMatrix (t : List ℕ) (at line : ℕ) (m : Matrix) (values : ℕ) (table : List ℕ) (w : BodyWalk) (table' : List ℕ) : Type 0 where
+  pub crossed : ResumesPart t at line (HoldsPart place.matrix (withMatrix m values)) (withMatrix (w .part .matrix) (w .part .values)) (w .part .rule) (w .at) (w .line)
+  pub stays : NoProgressMeansBracket t at (w .at)
   pub behind : Behind values table table'
   pub rises : values ≤ w .part .values
   pub tells : w .part .rule ≡ 0 → w .staged ≡ true → line ≤ at + 1 → Tells t (stagedOf at line m values w) (wordsOf table' 0 (stagedOf at line m values w))

@@ -14,13 +14,13 @@ use Rattle.line_place.specs.Place as place
 use Rattle.line_matrix.specs.Matrix.{diagonal, sparse, mostValues, withColumn}
 use Rattle.line_matrix.specs.declared.Matrix.{Matrix}
 use Rattle.read_line.specs.Reading.{commentByte}
-use Rattle.read_line.specs.Way.Walk.{Crossed, Holds, withMatrix, contentAt}
+use Rattle.read_line.specs.Way.Walk.{ResumesPart, HoldsPart, withMatrix, contentAt}
 use Rattle.doc.specs.Lines.{Line, linesAt}
 use Rattle.doc.specs.Document.{valuesFrom, bandwidthIn, greatestIn}
 use Rattle.store_base.specs.Way.Stage.{bodyLines, valuesWords}
 use Rattle.store_matrices.specs.Way.Told.{toldOr}
 use Rattle.read_numbers.specs.declared.Staging.{Staging}
-use Rattle.read_numbers.specs.Way.Staging.{Bounded, movedTo, namedTo}
+use Rattle.read_numbers.specs.Way.Staging.{BoundedStaging, movedTo, namedTo}
 use Rattle.read_matrix.specs.declared.Data.{Data}
 use Rattle.read_matrix.specs.declared.Run.{Run}
 use Rattle.read_matrix.specs.declared.TakenNumbers.{TakenNumbers}
@@ -42,15 +42,15 @@ pub record Left (t : List ℕ) (n₀ at₀ form : ℕ) (table₀ : List ℕ) (va
 -- how far the lines of a matrix have been gone over, no rule being broken
 pub record Gone (t : List ℕ) (at line : ℕ) (m : Matrix) (values : ℕ) (table₀ : List ℕ) (here lineHere : ℕ) (part : Data) (table : List ℕ) : Type 0 where
   pub whole : part .rule ≡ 0
-  pub crossed : Crossed t at line (Holds place.matrix (withMatrix m values)) (withMatrix (part .matrix) (part .values)) (part .rule) here lineHere
+  pub crossed : ResumesPart t at line (HoldsPart place.matrix (withMatrix m values)) (withMatrix (part .matrix) (part .values)) (part .rule) here lineHere
   pub form : part .matrix .form ≡ m .form
   pub behind : Behind values table₀ table
   pub rises : values ≤ part .values
-  pub bounded : Bounded (part .staging) (part .values)
+  pub bounded : BoundedStaging (part .staging) (part .values)
   pub left : part .staging .whole ≡ true → Left t line at (m .form) table₀ values lineHere here table (part .values) (part .staging)
 
 -- a run of lines: what had been gone over up to it has been gone over up to its end
-pub record Leads (t : List ℕ) (at line : ℕ) (part : Data) (table : List ℕ) (r : Run) (table' : List ℕ) : Type 0 where
+pub record ResumesRun (t : List ℕ) (at line : ℕ) (part : Data) (table : List ℕ) (r : Run) (table' : List ℕ) : Type 0 where
   pub gone : (at₀ line₀ : ℕ) (m : Matrix) (values : ℕ) (table₀ : List ℕ) → Gone t at₀ line₀ m values table₀ at line part table →
       Gone t at₀ line₀ m values table₀ (r .at) (r .line) (r .part) table'
   pub onward : at ≤ r .at
@@ -64,7 +64,7 @@ Ordered m = both (not (eqb (m .form) diagonal)) (eqb (m .rows .row) 0) ≡ false
 pub record Runs (t : List ℕ) (at line : ℕ) (part : Data) : Type 0 where
   pub within : at ≤ length t
   pub counted : line ≤ at + 1
-  pub bounded : Bounded (part .staging) (part .values)
+  pub bounded : BoundedStaging (part .staging) (part .values)
   pub few : part .values ≤ mostValues
   pub whole : part .staging .whole ≡ true
   pub ordered : Ordered (part .matrix)
@@ -138,6 +138,6 @@ pub record TakesPair (t : List ℕ) (here values row : ℕ) (table : List ℕ) (
   pub few : r .taken ≡ true → values < mostValues
   pub narrow : r .taken ≡ true → r .column < 4_294_967_296
   pub onward : r .taken ≡ true → r .next ≡ lineAt commentByte t here .next
-  pub takes : r .taken ≡ true → (m : Matrix) → m .form ≡ sparse → Ordered m → (a : Staging) → a .whole ≡ true → Bounded a values → a .row ≡ row →
+  pub takes : r .taken ≡ true → (m : Matrix) → m .form ≡ sparse → Ordered m → (a : Staging) → a .whole ≡ true → BoundedStaging a values → a .row ≡ row →
       Takes (contentAt t here) m values a table
       (record { taken = true; ends = false; rule = 0; matrix = withColumn (r .column) m; values = values + 1; staging = namedTo (r .column) a }) table'

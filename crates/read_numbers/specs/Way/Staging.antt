@@ -21,7 +21,7 @@ use Rattle.read_numbers.specs.declared.Numbers.{Numbers}
 use Rattle.read_numbers.specs.declared.Pair.{Pair}
 
 -- rows and columns are given by integers, and rise by one only with a value: so few that no sum wraps
-pub record Bounded (n : Staging) (values : ℕ) : Type 0 where
+pub record BoundedStaging (n : Staging) (values : ℕ) : Type 0 where
   pub row : n .row ≤ mostGiven + values
   pub column : n .column ≤ mostGiven + values
 
@@ -35,7 +35,7 @@ pub record Adds (form : ℕ) (l : Line) (table : List ℕ) (values : ℕ) (a : S
       values' + length (valuesFrom form (b .row) (b .column) ls) ≡ values + length (valuesFrom form (a .row) (a .column) (l ∷ ls))
   pub bandwidth : (ls : List Line) → toldOr (b .bandwidth) (bandwidthIn ls) ≡ toldOr (a .bandwidth) (bandwidthIn (l ∷ ls))
   pub greatest : (ls : List Line) → max (b .greatest) (greatestIn form ls) ≡ max (a .greatest) (greatestIn form (l ∷ ls))
-  pub bounded : Bounded b values'
+  pub bounded : BoundedStaging b values'
   -- values are counted only where there is room for them
   pub room : 3 * values ≤ length table → 3 * values' ≤ length table'
 
@@ -66,5 +66,5 @@ pub record StagesPair (t : List ℕ) (here : ℕ) (table : List ℕ) (values row
   pub ends : r .staged ≡ true → r .end ≡ lineAt commentByte t here .content
   pub line-is : r .staged ≡ true →
       record { numbers = 1; column = r .column; right = true; formed = true; bounded = true } ≡ dataLineOf sparse (contentAt t here)
-  pub adds : r .staged ≡ true → (a : Staging) → a .whole ≡ true → Bounded a values → a .row ≡ row → (l : Line) → l .content ≡ contentAt t here →
+  pub adds : r .staged ≡ true → (a : Staging) → a .whole ≡ true → BoundedStaging a values → a .row ≡ row → (l : Line) → l .content ≡ contentAt t here →
       keyOf l ≡ plain → Adds sparse l table values a table' (values + 1) (namedTo (r .column) a)

@@ -31,12 +31,12 @@ read-pins-requires c κs = search needs
 returns-3 : tie.Need-returns-3
 returns-3 c = (c .read-pins .ensures, search carries-on)
 
-pass-quiet-requires : tie.Need-pass-quiet-requires
-pass-quiet-requires c κs = search needs
+skip-idle-lines-requires : tie.Need-skip-idle-lines-requires
+skip-idle-lines-requires c κs = search needs
 
 returns-4 : tie.Need-returns-4
 returns-4 c = (
-  crossed-reached _ _ _ _ _ _ _ _ (c .before .before .pass-quiet .ensures) _ refl
+  crossed-reached _ _ _ _ _ _ _ _ (c .before .before .skip-idle-lines .ensures) _ refl
       (c .before .before .before .before .before .before .before .before .before .before .before .before .pre .1)
       (c .if4 .taken),
   λ z. c .before .before .before .before .before .before .before .before .before .before .before .before .pre .2,
@@ -63,7 +63,7 @@ read-line-spec =
     returns-2
     read-pins-requires
     returns-3
-    pass-quiet-requires
+    skip-idle-lines-requires
     returns-4
     read-one-requires
     returns-5)

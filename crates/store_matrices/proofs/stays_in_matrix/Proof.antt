@@ -8,11 +8,11 @@ use Rattle.store_matrices.proofs.stays_in_matrix.Tie as tie
 returns : tie.Need-returns
 returns c = search chain
 
-keeps-matrix-requires : tie.Need-keeps-matrix-requires
-keeps-matrix-requires c κs = search needs
+is-row-or-bandwidth-requires : tie.Need-is-row-or-bandwidth-requires
+is-row-or-bandwidth-requires c κs = search needs
 
 returns-2 : tie.Need-returns-2
 returns-2 c = search chain
 
 pub stays-in-matrix-spec : {M : Type 1} → statement M
-stays-in-matrix-spec = tie.close (tie.spec returns keeps-matrix-requires returns-2)
+stays-in-matrix-spec = tie.close (tie.spec returns is-row-or-bandwidth-requires returns-2)

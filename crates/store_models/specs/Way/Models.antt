@@ -14,7 +14,7 @@ use Rattle.table_layout.specs.declared.Filling.{Filling}
 use Rattle.doc.specs.Lines.{Line, plain, significant, linesAt, placeAfter, upTo}
 use Rattle.doc.specs.Document.{Model, documentOf, headIn, stepOf, stepsIn, inModel, modelOf, modelAt}
 use Rattle.doc.specs.Records.{mapRecords, sectionRecords, mapWords, sectionWords}
-use Rattle.doc.specs.Way.Found.{Located, Finds, contentIn, lineIn, linesBehind}
+use Rattle.doc.specs.Way.Found.{Located, FindsLine, contentIn, lineIn, linesBehind}
 use Rattle.doc.specs.declared.Found.{Found}
 use Rattle.store_base.specs.Way.Writes.{modelWrites, modelsWrites}
 use Rattle.store_base.specs.Way.Stores.{Stores, Placed, Passes}
@@ -65,7 +65,7 @@ pub record Open (t : List ℕ) (n at p : ℕ) (f : Filling) (table : List ℕ) :
 -- the line found next is one of the model's
 pub record Next (t : List ℕ) (line : Found) (w : ModelWalk) (table : List ℕ) : Type 0 where
   pub opened : Open t (w .line) (w .at) (w .place) (w .filling) table
-  pub finds : Finds t (w .line) (w .at) line
+  pub finds : FindsLine t (w .line) (w .at) line
   pub there : line .there ≡ true
   pub inside : isInModel (w .place) ≡ true
 

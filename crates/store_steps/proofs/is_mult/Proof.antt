@@ -6,8 +6,8 @@ use borrow.Author.Needs.{needs}
 use Rattle.store_steps.proofs.is_mult.Statement.{statement}
 use Rattle.store_steps.proofs.is_mult.Tie as tie
 
-few-words-requires : tie.Need-few-words-requires
-few-words-requires c κs = search needs
+first-two-words-requires : tie.Need-first-two-words-requires
+first-two-words-requires c κs = search needs
 
 marked-requires : tie.Need-marked-requires
 marked-requires c κs = search (needs, marks)
@@ -25,7 +25,7 @@ pub is-mult-spec : {M : Type 1} → statement M
 is-mult-spec =
     tie.close
     (tie.spec
-    few-words-requires
+    first-two-words-requires
     marked-requires
     slice-aggregate-same-bytes
     same-bytes-requires

@@ -77,5 +77,5 @@ opened at (w ∷ ws) [] t = t
 opened at (w ∷ ws) (c ∷ cs) t = opened (at + 1 + w * c) ws cs (set t at c)
 
 -- "65,536 values" is the greatest of the bounds: no count is above it, so no sum of theirs wraps
-pub record Few (counts : List ℕ) : Type 0 where
+pub record BoundedCounts (counts : List ℕ) : Type 0 where
   pub few : (p : ℕ) → getD counts p 0 ≤ 65_536

@@ -19,5 +19,5 @@ markFrom mark [] = mark
 markFrom mark (b ∷ s) = markFrom ((mark * 37 + b) % nameMarks + bareMarks) s
 
 -- among those of one number
-unfoldable pub markOf : ℕ → List ℕ → ℕ
-markOf number name = markFrom (number % bareMarks) name
+unfoldable pub hashOf : ℕ → List ℕ → ℕ
+hashOf number name = markFrom (number % bareMarks) name

@@ -5,8 +5,8 @@ use borrow.Author.Needs.{needs}
 use Rattle.test_vectors.proofs.run_line.Statement.{statement}
 use Rattle.test_vectors.proofs.run_line.Tie as tie
 
-few-words-requires : tie.Need-few-words-requires
-few-words-requires c κs = search needs
+first-two-words-requires : tie.Need-first-two-words-requires
+first-two-words-requires c κs = search needs
 
 marked-requires : tie.Need-marked-requires
 marked-requires c κs = search marks
@@ -23,4 +23,4 @@ returns c = search needs
 pub run-line-spec : {M : Type 1} → statement M
 run-line-spec =
     tie.close
-    (tie.spec few-words-requires marked-requires marked-requires-2 run-file-requires returns)
+    (tie.spec first-two-words-requires marked-requires marked-requires-2 run-file-requires returns)

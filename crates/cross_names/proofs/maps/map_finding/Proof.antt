@@ -28,8 +28,8 @@ array-read-count c = search needs
 loop-holds : tie.Need-loop-holds Inv-loop μ-loop
 loop-holds c = (search maps-start, length-replicate {A = ℕ} marksMany 64)
 
-is-twice-requires : tie.Need-is-twice-requires Inv-loop μ-loop
-is-twice-requires c κs = asks-map _ _ (c .before .before .before .before .before .before .args .view) (c .before .before .before .before .before .before .pre) _ (c .before .loop .inv .0) (c .loop-test .taken)
+is-repeated-name-requires : tie.Need-is-repeated-name-requires Inv-loop μ-loop
+is-repeated-name-requires c κs = asks-map _ _ (c .before .before .before .before .before .before .args .view) (c .before .before .before .before .before .before .pre) _ (c .before .loop .inv .0) (c .loop-test .taken)
 
 nth-line-requires : tie.Need-nth-line-requires Inv-loop μ-loop
 nth-line-requires c κs = search needs
@@ -50,7 +50,7 @@ loop-less : tie.Need-loop-less Inv-loop μ-loop
 loop-less c = search needs
 
 loop-again : tie.Need-loop-again Inv-loop μ-loop
-loop-again c = (maps-on _ _ (c .before .before .before .before .before .before .before .before .before .before .before .before .args .view) (c .before .before .before .before .before .before .before .before .before .before .before .before .pre) _ (c .before .before .before .before .before .before .before .loop .inv .0) (c .before .before .before .before .before .before .loop-test .taken) _ (c .before .before .before .before .before .is-twice .ensures) (c .before .before .before .before .if1 .left) _ (c .before .before .own-finding .ensures .0) (c .if2 .left), c .before .before .own-finding .ensures .1)
+loop-again c = (maps-on _ _ (c .before .before .before .before .before .before .before .before .before .before .before .before .args .view) (c .before .before .before .before .before .before .before .before .before .before .before .before .pre) _ (c .before .before .before .before .before .before .before .loop .inv .0) (c .before .before .before .before .before .before .loop-test .taken) _ (c .before .before .before .before .before .is-repeated-name .ensures) (c .before .before .before .before .if1 .left) _ (c .before .before .own-finding .ensures .0) (c .if2 .left), c .before .before .own-finding .ensures .1)
 
 returns-3 : tie.Need-returns-3 Inv-loop μ-loop
 returns-3 c = maps-end _ _ (c .before .before .before .before .before .before .args .view) (c .before .before .before .before .before .before .pre) _ (c .before .loop .inv .0) (c .loop-test .left)
@@ -65,7 +65,7 @@ map-finding-spec =
     array-read-pins
     array-read-count
     loop-holds
-    is-twice-requires
+    is-repeated-name-requires
     nth-line-requires
     returns
     own-finding-requires

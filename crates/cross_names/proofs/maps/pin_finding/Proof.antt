@@ -2,14 +2,14 @@
 -- Assumes nothing.
 use borrow.Author.Needs.{needs}
 use Prim.Native.Nat.{_-_}
-use Rattle.cross_rules.specs.Way.Twice.{Marked}
+use Rattle.cross_rules.specs.Way.Twice.{MarkedNames}
 use Rattle.cross_rules.proofs.MarkedLaws.{marked-none}
 use Rattle.cross_names.proofs.PinLaws.{PinsLeft, pins-start, pins-end, pin-breaks, pins-on}
 use Rattle.cross_names.proofs.maps.pin_finding.Statement.{statement}
 use Rattle.cross_names.proofs.maps.pin_finding.Tie as tie
 
 abbrev Inv-loop : tie.InvT-loop
-Inv-loop text table marks₀ stamp base first count i₀ marks i = PinsLeft text table base first count i × Marked text table marks stamp base 2 i
+Inv-loop text table marks₀ stamp base first count i₀ marks i = PinsLeft text table base first count i × MarkedNames text table marks stamp base 2 i
 
 abbrev μ-loop : tie.MeasureT-loop
 μ-loop text table marks₀ stamp base first count i₀ marks i = count - i
@@ -17,8 +17,8 @@ abbrev μ-loop : tie.MeasureT-loop
 loop-holds : tie.Need-loop-holds Inv-loop μ-loop
 loop-holds c = (search pins-start, search marked-none)
 
-is-again-requires : tie.Need-is-again-requires Inv-loop μ-loop
-is-again-requires c κs = search needs
+is-repeated-marked-requires : tie.Need-is-repeated-marked-requires Inv-loop μ-loop
+is-repeated-marked-requires c κs = search needs
 
 add-nth-line : tie.Need-add-nth-line Inv-loop μ-loop
 add-nth-line c = search needs
@@ -27,7 +27,7 @@ nth-line-requires : tie.Need-nth-line-requires Inv-loop μ-loop
 nth-line-requires c κs = search needs
 
 returns : tie.Need-returns Inv-loop μ-loop
-returns c = (search pin-breaks, c .before .before .is-again .ensures .1 .whole)
+returns c = (search pin-breaks, c .before .before .is-repeated-marked .ensures .1 .whole)
 
 add-i : tie.Need-add-i Inv-loop μ-loop
 add-i c = search needs
@@ -48,7 +48,7 @@ pin-finding-spec =
     Inv-loop
     μ-loop
     loop-holds
-    is-again-requires
+    is-repeated-marked-requires
     add-nth-line
     nth-line-requires
     returns

@@ -6,8 +6,8 @@ use borrow.Author.Needs.{needs}
 use Rattle.cross_names.proofs.sections.section_rule.Statement.{statement}
 use Rattle.cross_names.proofs.sections.section_rule.Tie as tie
 
-is-twice-requires : tie.Need-is-twice-requires
-is-twice-requires c κs = search needs
+is-repeated-name-requires : tie.Need-is-repeated-name-requires
+is-repeated-name-requires c κs = search needs
 
 returns : tie.Need-returns
 unfolding ruleOf
@@ -26,4 +26,4 @@ returns-3 c = search rules
 
 pub section-rule-spec : {M : Type 1} → statement M
 section-rule-spec =
-    tie.close (tie.spec is-twice-requires returns array-read-if2 returns-2 returns-3)
+    tie.close (tie.spec is-repeated-name-requires returns array-read-if2 returns-2 returns-3)
