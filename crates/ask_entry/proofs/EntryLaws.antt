@@ -1,4 +1,4 @@
--- Laws of the question "entry": row and column may be exchanged, and the definition leaves one answer.
+-- Laws of the question "entry": row and column may be exchanged, and the definition leaves exactly one answer.
 -- Assumes nothing.
 use mathlib.Core.Path.{_≡_, refl, sym, _∙_, ap}
 use mathlib.Core.Bool.{Bool, true, false, not, true≢false}
@@ -61,12 +61,12 @@ one-answer (Found x) (Refused y) e = absurd (true≢false (ap (λ (w : EntryWord
 one-answer (Refused x) (Found y) e = absurd (true≢false (sym (ap (λ (w : EntryWords). w .found) e)))
 one-answer (Refused x) (Refused y) e = ap (λ (w : EntryWords). Refused (w .rule)) e
 
--- any two answers that keep the promise are the same
+-- any two answers that satisfy the contract are equal
 pub unique : (t table : List ℕ) (section kind row column : ℕ) (a b : Answer) →
     entryWords a ≡ entryAnswer t table section kind row column → entryWords b ≡ entryAnswer t table section kind row column → a ≡ b
 unique t table section kind row column a b e f = one-answer a b (e ∙ sym f)
 
--- ---- what each `return` knows
+-- ---- what is known at each `return`
 
 module _ (t table : List ℕ) (section kind row column : ℕ) (sound : Bool) (is-sound : sound ≡ isSound t table) where
   pub answer-unsound : not sound ≡ true → entryWords (Refused 30) ≡ entryAnswer t table section kind row column

@@ -1,5 +1,5 @@
--- Laws of the order of values, row first: what comes before goes on from one to the next, and of two that do not come before each other
--- row and column are the same.
+-- Laws of the order of values, by row and then by column: it is transitive, and two values that do not come before each
+-- other have the same row and column.
 -- Assumes nothing.
 use mathlib.Core.Path.{_≡_, sym, _∙_}
 use mathlib.Core.Bool.{true, false}
@@ -31,7 +31,7 @@ before-before u v w (Before.rows h) (Before.columns e k) = Before.rows (omega ar
 before-before u v w (Before.columns e h) (Before.rows k) = Before.rows (omega arith)
 before-before u v w (Before.columns e h) (Before.columns f k) = Before.columns (omega arith) (omega arith)
 
--- one that comes before another has not both its row and its column
+-- a value that comes before another differs from it in row or column
 pub before-other : (u v : Value) → Before u v → both (eqb (u .row) (v .row)) (eqb (u .column) (v .column)) ≡ false
 before-other u v (Before.rows h) = both-not-left _ _ (ne-eqb _ _ (λ (e : u .row ≡ v .row). omega arith))
 before-other u v (Before.columns e h) = both-not-right _ _ (ne-eqb _ _ (λ (f : u .column ≡ v .column). omega arith))

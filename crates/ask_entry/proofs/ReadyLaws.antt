@@ -1,4 +1,4 @@
--- Laws of a table that is found sound: where its sections and matrices stand, and that the values of each matrix lie inside and rise.
+-- Laws of a sound table: where its sections and matrices are, and that the values of each matrix lie inside and rise.
 -- Assumes nothing.
 use mathlib.Core.Path.{_≡_, refl, sym, _∙_, ap}
 use mathlib.Core.Bool.{Bool, true, false, not}
@@ -162,7 +162,7 @@ module _ (table : List ℕ) (v : View) (ready : Ready table v) where
           unfolding matrixIndex
           kind-capacitance d = told _ (sym (if-false _ _ (ne-eqb kind 0 a) ∙ if-false _ _ (ne-eqb kind 1 b) ∙ if-false _ _ (ne-eqb kind 2 d)))
 
-      -- none of them is the index of a matrix that is not there
+      -- each of them is 0 or refers to a matrix that exists
       pub matrix-few : matrixIndex (getD (recordsOf table .sections) section noSection) kind ≤ countOf v matrices
       matrix-few =
           let l : section < length (recordsOf table .sections) = rw sections-long has in

@@ -1,4 +1,4 @@
--- Laws of the entries of a matrix stored row by row: what is left to store, stored, gives the whole.
+-- Laws of the entries stored row by row: storing the rest gives the whole matrix.
 -- Assumes nothing.
 use mathlib.Core.Path.{_≡_, refl, sym, _∙_, ap}
 use mathlib.Core.List.{List, [], _∷_, _++_}
@@ -27,7 +27,7 @@ module _ (r : Records) (index row : ℕ) where
   row-long column zero = refl
   row-long column (suc many) = ap suc (row-long (column + 1) many)
 
-  -- those from a column on are still to be stored, from a place on
+  -- the loop's invariant: the entries from `column` on are still to be stored, at word `to` and after it
   pub record RowLeft (conductors : ℕ) (values₀ : List ℕ) (at : ℕ) (values : List ℕ) (column to : ℕ) : Type 0 where
     pub low : 1 ≤ column
     pub high : column ≤ conductors + 1
@@ -75,7 +75,7 @@ module _ (r : Records) (index row : ℕ) where
 -- ---- all rows
 
 module _ (r : Records) (index conductors : ℕ) where
-  -- those from a row on are still to be stored, from a place on
+  -- the loop's invariant: the rows from `row` on are still to be stored, at word `to` and after it
   pub record RowsLeft (values₀ values : List ℕ) (row to : ℕ) : Type 0 where
     pub low : 1 ≤ row
     pub high : row ≤ conductors + 1
@@ -97,7 +97,7 @@ module _ (r : Records) (index conductors : ℕ) where
       }
 
   module _ (values₀ values : List ℕ) (row to : ℕ) (left : RowsLeft values₀ values row to) where
-    -- a row and those below it
+    -- a row and the rows below it
     below : row ≤ conductors → (conductors + 1 - row) * conductors ≡ (conductors + 1 - (row + 1)) * conductors + conductors
     below h =
         let n : conductors + 1 - row ≡ suc (conductors + 1 - (row + 1)) = omega arith in

@@ -1,5 +1,5 @@
--- Laws of the search in a matrix's values, which rise: values before one that comes too early do not match, nor do values behind one that
--- comes too late, so that what is asked for lies in the part left, or nowhere.
+-- Laws of the binary search in a matrix's values, which rise. The values before one that is too early do not match, nor
+-- do those after one that is too late. So the value asked for is in the part that is left, or not written.
 -- Assumes nothing.
 use mathlib.Core.Path.{_≡_, refl, sym, _∙_, ap}
 use mathlib.Core.Bool.{Bool, true, false}
@@ -74,7 +74,7 @@ module _ (table : List ℕ) where
       let q : suc n - suc m ≡ n - m = omega arith in
       rw (p, q) (rises-behind (at + 3) m n (le-of-suc-le-suc h) (rises-tail at n e))
 
-  -- the first comes before each of the others
+  -- the first value comes before each of the others
   rises-later : (at m n : ℕ) → m < n → Rising at (suc n) → Before (here at) (here (at + 3 * suc m))
   rises-later at m zero h e = absurd (not-suc-le-zero h)
   rises-later at zero (suc n) h e =
@@ -84,7 +84,7 @@ module _ (table : List ℕ) where
       let p : at + 3 * suc (suc m) ≡ at + 3 + 3 * suc m = omega arith in
       rw p (before-before _ _ _ (rises-next at n e) (rises-later (at + 3) m n (le-of-suc-le-suc h) (rises-tail at (suc n) e)))
 
-  -- ---- what is asked for
+  -- ---- the value asked for
 
   module _ (row column : ℕ) where
     abbrev word : ℕ → ℕ → ℕ
@@ -150,7 +150,7 @@ module _ (table : List ℕ) where
         let first : word at (suc n) ≡ word (at + 3) n = too-early at n (before-asked _ _ (rises-later at m n (le-of-suc-le-suc h) e) r c) in
         first ∙ rw p (word-here (at + 3) m n (le-of-suc-le-suc h) (rises-tail at n e) (rw p at r) (rw p at c))
 
--- ---- the search: what is asked for lies from `low` on and below `high`, or nowhere
+-- ---- the search: the value asked for is between `low` and `high` (not `high` itself), or not written
 
 pub record Lies (table : List ℕ) (from many row column low high : ℕ) : Type 0 where
   pub order : low ≤ high
@@ -171,7 +171,7 @@ module _ (table : List ℕ) (from many row column : ℕ) where
         let z : high - low ≡ 0 = omega arith in
         word-none table row column (from + 3 * low) ∙ (rw z at (lies .same))
 
-    -- halfway stands a value that is compared with what is asked for
+    -- the value in the middle is compared with what is asked for
     module _ (go : low < high) where
       abbrev middle : ℕ
       middle = low + (high - low) / 2

@@ -1,4 +1,4 @@
--- Each word of a whole matrix is the entry of its row and column: what `entry` answers there.
+-- Each word of a whole matrix is the entry of its row and column: the answer of `entry`.
 -- Assumes nothing.
 use mathlib.Core.Path.{_≡_, refl, sym, _∙_, ap}
 use mathlib.Core.Bool.{Bool, true, false, not, true≢false}
@@ -60,7 +60,7 @@ module _ (r : Records) (index : ℕ) where
       let f : 1 + (column - 1) ≡ column = omega arith in
       rows-at conductors 1 conductors (row - 1) (column - 1) i k ∙ rw (e, f) refl
 
--- ---- what an answer that found the matrix tells
+-- ---- what holds if the matrix was found
 
 inside : (low high x : ℕ) → low ≤ x → x ≤ high → within low high x ≡ true
 unfolding within
@@ -105,7 +105,7 @@ module _ (t table : List ℕ) (section kind room conductors : ℕ) (found : matr
       (both-true _ _ (both-first _ _ rest)
       (rw conductors-told (both-true _ _ (inside 1 conductors row a b) (inside 1 conductors column c d))))
 
-  -- "entry" answers with the word that stands at its row and column
+  -- `entry` answers with the word at its row and column
   pub square-entry : (row column : ℕ) → 1 ≤ row → row ≤ conductors → 1 ≤ column → column ≤ conductors →
       entryAnswer t table section kind row column
       ≡ foundWith (getD (squareOf (recordsOf table) (matrixIndex (getD (recordsOf table .sections) section noSection) kind) conductors) ((row - 1) * conductors + (column - 1)) 0)

@@ -1,4 +1,5 @@
--- Laws of the question for a whole matrix: where N of a section stands and that it is at most 256, and what each `return` knows.
+-- Laws of the question for a whole matrix: where N of a section is, that N is at most 256, and what is known at each
+-- `return`.
 -- Assumes nothing.
 use mathlib.Core.Path.{_≡_, refl, sym, _∙_, ap}
 use mathlib.Core.Bool.{Bool, true, false, not}
@@ -30,7 +31,7 @@ use Rattle.ask_entry.specs.declared.Whole.the-variants.{Found, Short, Re
 -- ---- lists
 
 module _ {A : Type 0} (stands : ℕ → A) (test : A → Bool) (w : ℕ) (none : A) where
-  -- the one at an index is the one at its place
+  -- the element at an index is the record that begins there
   stands-at : (from i n : ℕ) → i < n → getD (map stands (places w from n)) i none ≡ stands (from + w * i)
   unfolding places
   stands-at from i zero h = absurd (not-suc-le-zero h)
@@ -43,7 +44,7 @@ module _ {A : Type 0} (stands : ℕ → A) (test : A → Bool) (w : ℕ) (none :
       let e : from + w + w * i ≡ from + w * suc i = omega arith in
       stands-at (from + w) i n (le-of-suc-le-suc h) ∙ ap stands e
 
-  -- where each passes a test it does
+  -- if every element passes a test, so does this one
   stands-right : (from i n : ℕ) → i < n → every test (map stands (places w from n)) ≡ true → test (getD (map stands (places w from n)) i none) ≡ true
   unfolding places every
   stands-right from i zero h e = absurd (not-suc-le-zero h)
@@ -82,7 +83,7 @@ module _ (table : List ℕ) (v : View) (ready : Ready table v) (section : ℕ) (
       conductors-few (length t) (length (recordsOf table .matrices)) _
       (ap (λ (ss : List SectionRecord). isSection (length t) (length (recordsOf table .matrices)) (getD ss section noSection)) sections-are ∙ here)
 
--- ---- what each `return` knows
+-- ---- what is known at each `return`
 
 module _ (t table : List ℕ) (section kind : ℕ) (sound : Bool) (is-sound : sound ≡ isSound t table) where
   pub whole-unsound : (values : List ℕ) → not sound ≡ true →

@@ -15,7 +15,8 @@ use Rattle.ask_sound.specs.Sound.{range, isSound}
 use Rattle.ask_entry.specs.declared.Answer.{Answer}
 use Rattle.ask_entry.specs.declared.Answer.the-variants.{Found, Refused}
 
--- the words of the answer: "refused, they return the number and line 0, every other word 0"; `found` tells an answer from a refusal
+-- the words of the answer: "refused, they return the number and line 0, every other word 0"; `found` is false for a
+-- refusal
 pub record EntryWords : Type 0 where
   pub found : Bool
   pub rule : ℕ
@@ -33,7 +34,7 @@ abbrev pub entryWords : Answer → EntryWords
 entryWords (Found word) = foundWith word
 entryWords (Refused rule) = entryRefused rule
 
--- ---- records by their index; what stands past the last is never asked for
+-- ---- records by their index; these two stand for an index past the last, which is never asked for
 
 abbrev pub noSection : SectionRecord
 noSection =
@@ -51,7 +52,7 @@ matrixIndex s kind =
     if eqb kind 1 then s .inductance else
     if eqb kind 2 then s .conductance else s .capacitance
 
--- the number written for a row and a column, zero where none is
+-- the value word written for a row and a column; zero if none is written
 unfoldable pub wordAt : ℕ → ℕ → List Value → ℕ
 wordAt row column [] = zeroWord
 wordAt row column (v ∷ vs) = if both (eqb (v .row) row) (eqb (v .column) column) then v .word else wordAt row column vs
@@ -60,7 +61,7 @@ wordAt row column (v ∷ vs) = if both (eqb (v .row) row) (eqb (v .column) colum
 unfoldable pub matrixValues : Records → MatrixRecord → List Value
 matrixValues r m = range (m .first) (m .values) (r .values)
 
--- of a kind's matrix by its index plus 1; 0 says that the kind is not given
+-- the entry of a matrix, given the matrix's index plus 1; 0 means that the kind is not given
 unfoldable pub entryOf : Records → ℕ → ℕ → ℕ → ℕ
 entryOf r index row column =
     if eqb index 0 then zeroWord else wordAt (min row column) (max row column) (matrixValues r (getD (r .matrices) (index - 1) noMatrix))

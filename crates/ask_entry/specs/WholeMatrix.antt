@@ -1,5 +1,5 @@
--- A section's matrix of a kind as a whole: every entry of its N rows and N columns, row by row. Document 01: "Entries not written, and kinds
--- not given, are zero; entry (j,i) is entry (i,j)."
+-- A section's whole matrix of a kind: every entry of its N rows and N columns, row by row. Document 01: "Entries not
+-- written, and kinds not given, are zero; entry (j,i) is entry (i,j)."
 -- Assumes nothing.
 use Prim.Native.Nat.{ℕ, zero, suc, _+_, _*_}
 use mathlib.Core.Bool.{Bool, true, false, not}
@@ -16,8 +16,8 @@ use Rattle.ask_entry.specs.declared.Whole.the-variants.{Found, Short, Re
 
 -- ---- the answer
 
--- the words of the answer: "refused, they return the number and line 0, every other word 0". N alone, with nothing found and no number, says
--- that the room lent is shorter than N times N words
+-- the words of the answer: "refused, they return the number and line 0, every other word 0". If `found` is false and
+-- `rule` is 0, the lent room is shorter than N times N words; `conductors` is then N.
 pub record MatrixWords : Type 0 where
   pub found : Bool
   pub rule : ℕ
@@ -39,14 +39,14 @@ wholeWords (Found conductors) = foundOf conductors
 wholeWords (Short conductors) = shortOf conductors
 wholeWords (Refused rule) = matrixRefused rule
 
--- ---- the entries, of a matrix by its index plus 1
+-- ---- the entries of a matrix, given the matrix's index plus 1
 
--- so many of a row, from a column on
+-- the next entries of a row, from `column` on; the last argument is their number
 unfoldable pub rowFrom : Records → ℕ → ℕ → ℕ → ℕ → List ℕ
 rowFrom r index row column zero = []
 rowFrom r index row column (suc left) = entryOf r index row column ∷ rowFrom r index row (column + 1) left
 
--- so many rows of N columns, from a row on
+-- the next rows of N columns, from `row` on; the last argument is their number
 unfoldable pub rowsFrom : Records → ℕ → ℕ → ℕ → ℕ → List ℕ
 rowsFrom r index conductors row zero = []
 rowsFrom r index conductors row (suc left) = rowFrom r index row 1 conductors ++ rowsFrom r index conductors (row + 1) left
@@ -60,8 +60,8 @@ squareOf r index conductors = rowsFrom r index conductors 1 conductors
 unfoldable pub sectionConductors : Records → ℕ → ℕ
 sectionConductors r section = getD (r .sections) section noSection .conductors
 
--- "30 TABLE: question over an unsound table", "31 NOSUCH: section, kind .. out of range": every section that is there has a row 1 and a
--- column 1. Then whether so many words are room enough
+-- "30 TABLE: question over an unsound table", "31 NOSUCH: section, kind .. out of range": every section of a sound
+-- table has a row 1 and a column 1. Then whether `room` words are enough.
 unfoldable pub matrixAnswer : List ℕ → List ℕ → ℕ → ℕ → ℕ → MatrixWords
 matrixAnswer t table section kind room =
     if not (isSound t table) then matrixRefused 30 else
@@ -70,7 +70,7 @@ matrixAnswer t table section kind room =
     shortOf (sectionConductors (recordsOf table) section)
     else foundOf (sectionConductors (recordsOf table) section)
 
--- the room after an answer: the entries from its start on where the matrix was found, and else as it was
+-- the room after an answer: the entries from its start on if the matrix was found, else unchanged
 unfoldable pub roomAfter : List ℕ → ℕ → ℕ → MatrixWords → List ℕ → List ℕ
 roomAfter table section kind answer room =
     if answer .found then

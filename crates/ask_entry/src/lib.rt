@@ -1,5 +1,6 @@
-// Document 01: the question "entry", one entry of a section's matrix as a value word. "Entries not written, and kinds not given, are zero;
-// entry (j,i) is entry (i,j)." A caller that has found its table sound asks `entry_in`, which does not judge it again.
+// Document 01: the question "entry", one entry of a section's matrix as a value word. "Entries not written, and kinds
+// not given, are zero; entry (j,i) is entry (i,j)." A caller that knows its table to be sound can use `entry_in`, which
+// does not judge the table again.
 ghost use mathlib.Core.Path.{_≡_};
 ghost use mathlib.Core.Bool.{true};
 ghost use Prim.Native.Nat.{_+_, _*_, _≤_, _<_, min, max};
@@ -25,7 +26,7 @@ const ZERO: u64 = 128;
 // R, L, G, C.
 const KINDS: u64 = 4;
 
-// How many words a record of a section has, of a matrix and of a value.
+// How many words the record of a section has, and that of a matrix and a value.
 const SECTION_WORDS: usize = 8;
 
 const MATRIX_WORDS: usize = 5;
@@ -35,7 +36,7 @@ const VALUE_WORDS: usize = 3;
 // Which word of a section is N.
 const CONDUCTORS: usize = 3;
 
-// The value word, or the number of a refusal.
+// The value word, or the rule of a refusal.
 pub enum Answer {
     Found(u64),
     Refused(u64),
@@ -61,7 +62,7 @@ fn greater(a: u64, b: u64) -> u64
     a
 }
 
-// Whether the value that stands at a place comes before the row and column asked for.
+// Whether the value at word `at` comes before the row and column asked for.
 fn is_before(table: &[u64], at: usize, row: u64, column: u64) -> bool
     requires { ⌜ at + 3 ≤ length (now table) ⌝ }
     ensures { λ r. ⌜ r ≡ comesBefore (valueAt (now (table .entry)) at) (asked row column) ⌝ }
@@ -76,7 +77,7 @@ fn is_before(table: &[u64], at: usize, row: u64, column: u64) -> bool
     table[at + 1] < column
 }
 
-// Whether it comes behind them.
+// Whether it comes after them.
 fn is_behind(table: &[u64], at: usize, row: u64, column: u64) -> bool
     requires { ⌜ at + 3 ≤ length (now table) ⌝ }
     ensures { λ r. ⌜ r ≡ comesBefore (asked row column) (valueAt (now (table .entry)) at) ⌝ }
@@ -91,7 +92,8 @@ fn is_behind(table: &[u64], at: usize, row: u64, column: u64) -> bool
     column < table[at + 1]
 }
 
-// Of so many rising values, the first of which stands at `from`: what is asked for lies from `low` on and below `high`, or nowhere.
+// Binary search in `many` rising values, the first of which is at word `from`. The value asked for is between `low` and
+// `high` (not `high` itself), or it is not written.
 fn word_at(table: &[u64], from: usize, many: u64, row: u64, column: u64) -> u64
     requires { ⌜ (from + 3 * many ≤ length (now table)) × (rises 256 (valuesFrom (now table) from many) ≡ true) ⌝ }
     ensures { λ r. ⌜ r ≡ wordAt row column (valuesFrom (now (table .entry)) from many) ⌝ }
@@ -116,7 +118,7 @@ fn word_at(table: &[u64], from: usize, many: u64, row: u64, column: u64) -> u64
 
 // ---- one entry
 
-// Of a matrix by its index plus 1; 0 says that the kind is not given.
+// The entry of a matrix, given the matrix's index plus 1; 0 means that the kind is not given.
 pub fn entry_in(table: &[u64], view: View, index: u64, row: u64, column: u64) -> u64
     requires { ⌜ Ready (now table) view × (index ≤ countOf view matrices) ⌝ }
     ensures { λ r. ⌜ r ≡ entryOf (recordsOf (now (table .entry))) index row column ⌝ }
@@ -132,7 +134,7 @@ pub fn entry_in(table: &[u64], view: View, index: u64, row: u64, column: u64) ->
     word_at(table, from, many, lesser(row, column), greater(row, column))
 }
 
-// Whether the section and the kind are there, and the row and column are 1 to N.
+// Whether the section and the kind exist, and row and column are 1 to N.
 pub fn is_in_range(
     table: &[u64],
     view: View,
@@ -159,7 +161,7 @@ pub fn is_in_range(
     lex_number::is_within(1, conductors, column)
 }
 
-// The index plus 1 of a section's matrix of a kind; 0 where the kind is not given.
+// The index plus 1 of a section's matrix of a kind; 0 if the kind is not given.
 pub fn matrix_of(table: &[u64], view: View, section: u64, kind: u64) -> u64
     requires { ⌜ Ready (now table) view × (section < countOf view sections) ⌝ }
     ensures { λ r. ⌜ r ≡ matrixIndex (getD (recordsOf (now (table .entry)) .sections) section noSection) kind ⌝ }
@@ -193,16 +195,17 @@ pub fn entry(text: &[u8], table: &[u64], section: u64, kind: u64, row: u64, colu
     Answer::Found(entry_in(table, view, index, row, column))
 }
 
-// ---- A section's matrix of a kind as a whole, row by row, into a lent room of N times N words: the table is judged once for all the entries.
+// ---- A section's whole matrix of a kind, row by row, into lent room for N times N words. The table is judged once for
+// all entries.
 
-// Found, with N; or N, for a room that is too short; or the number of a refusal.
+// Found, with N; or N, if the room is too short; or the rule of a refusal.
 pub enum Whole {
     Found(u64),
     Short(u64),
     Refused(u64),
 }
 
-// One row, from column 1 to N, stored from a place on.
+// Stores one row, columns 1 to N, from word `at` of the room on.
 fn put_row(
     table: &[u64],
     view: View,
@@ -224,7 +227,7 @@ fn put_row(
     }
 }
 
-// All rows, stored from the start.
+// Stores all rows, from the start of the room on.
 fn put_rows(table: &[u64], view: View, index: u64, conductors: u64, values: &mut [u64])
     requires { ⌜ Ready (now table) view × (index ≤ countOf view matrices) × (conductors ≤ 256) × (conductors * conductors ≤ length (now values)) ⌝ }
     ensures { λ _. ⌜ now (values .exit) ≡ sets (now (values .entry)) 0 (squareOf (recordsOf (now (table .entry))) index conductors) ⌝ }
@@ -247,7 +250,7 @@ fn conductors_of(table: &[u64], view: View, section: u64) -> u64
     table[bases[table_layout::SECTIONS] + SECTION_WORDS * (section as usize) + CONDUCTORS]
 }
 
-// Every entry of a section's matrix. Where it is not found the room is left as it was.
+// Stores every entry of a section's matrix. If the answer is not Found, the room is left unchanged.
 pub fn whole_matrix(
     text: &[u8],
     table: &[u64],

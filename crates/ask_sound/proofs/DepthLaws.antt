@@ -11,7 +11,7 @@ use Rattle.doc.specs.Document.{Step, forkKind, endforkKind}
 use Rattle.doc.specs.Way.Holds as holds
 use Rattle.ask_sound.specs.Sound.{depthStays, depthAfter, depthHolds}
 
--- a test with what follows on each of three ways, and the test and what follows told apart
+-- a test and the rest in each of three cases, or the test of all cases and then the rest
 told-apart :
     (fork endfork a b : Bool) (opened closed kept : ℕ) (rest : ℕ → Bool) →
     (if fork then both a (rest opened) else if endfork then both b (rest closed) else rest kept)

@@ -1,4 +1,4 @@
--- Laws of the loops over records one behind the other: what is left of them gives the whole.
+-- Laws of the loops over records that follow each other: the records that are left give the result of all.
 -- Assumes nothing.
 use mathlib.Core.Path.{_≡_, refl, sym, _∙_, ap}
 use mathlib.Core.Bool.{Bool, true, false, not}
@@ -22,7 +22,7 @@ use Rattle.doc.specs.Holds.{isInUpperHalf, comesBefore, rises}
 use Rattle.ask_sound.specs.Sound.{every, depthStays, depthAfter, depthHolds, areZeros}
 use Rattle.ask_sound.specs.Way.Standing.{places, valueAt, baseOf, countOf, kindsFrom, valuesFrom, placesOf, goesOn, isRecord, areRecords, areParts, ValueReaches, Rooms}
 
--- i of so many records of a width are gone over, and what is left of them gives the whole
+-- a loop's invariant: after i of `many` records of w words, the rest gives the result of all
 pub record Left {A : Type 0} (w from many : ℕ) (over : ℕ → ℕ → A) (whole : A) (at i : ℕ) : Type 0 where
   pub most : i ≤ many
   pub place : at ≡ from + w * i
@@ -56,7 +56,7 @@ module _ {A : Type 0} (w from many : ℕ) (over : ℕ → ℕ → A) (whole : A)
 pub none-closed : (d : ℕ) → d ≡ 0 → 0 ≡ d - 1
 none-closed d e = omega arith
 
--- so many forks are open, and never more than may be
+-- the depth never exceeds 8
 pub stays-within : (d kind : ℕ) → d ≤ 8 → depthStays d kind ≡ true → depthAfter d kind ≤ 8
 unfolding depthStays depthAfter
 stays-within d kind h e = by-cases _ (eqb kind forkKind) fork other
@@ -215,7 +215,7 @@ widths-some (suc (suc (suc (suc (suc zero))))) h = omega arith
 widths-some (suc (suc (suc (suc (suc (suc zero)))))) h = omega arith
 widths-some (suc (suc (suc (suc (suc (suc (suc part))))))) h = absurd (omega arith)
 
--- i of them are gone over, and the test of those left gives the test of all
+-- the loop's invariant: after i records, the test of the rest gives the test of all
 pub record PartLeft (bytes : ℕ) (table : List ℕ) (v : View) (part at i : ℕ) : Type 0 where
   pub most : i ≤ countOf v part
   pub place : at ≡ baseOf v part + getD widths part 0 * i
@@ -250,7 +250,7 @@ module _ (bytes : ℕ) (table : List ℕ) (v : View) (part : ℕ) where
     pub part-ends : countOf v part ≤ i → true ≡ areRecords bytes table v part
     part-ends h = none-left at ∙ left-ends width (baseOf v part) (countOf v part) _ _ at i part-left h
 
-    -- the record at hand lies inside
+    -- the current record lies inside the table
     module _ (rooms : Rooms table v) (p : part < 7) (h : i < countOf v part) where
       reaches : at + width ≤ length table × width * i + width ≤ length table
       reaches =
@@ -326,7 +326,7 @@ module _ (bytes : ℕ) (table : List ℕ) (v : View) where
       pub parts-on : not sound ≡ false → PartsLeft bytes table v (part + 1)
       parts-on e = record { most = omega arith; same = sym (both-rest _ _ (sym told ∙ not-false sound e)) ∙ parts-here }
 
--- ---- the words after the last
+-- ---- the words after the last part
 
 zeros-cons : (w : ℕ) (ws : List ℕ) → areZeros (w ∷ ws) ≡ both (eqb w 0) (areZeros ws)
 unfolding areZeros every

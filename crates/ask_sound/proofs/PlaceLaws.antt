@@ -1,4 +1,4 @@
--- Laws of the places of records: how many there are, those of a range, and what stands at each of them.
+-- Laws of the words where records begin: how many there are, those of a range, and the record at each of them.
 -- Assumes nothing.
 use mathlib.Core.Path.{_≡_, refl, sym, _∙_, ap}
 use mathlib.Core.List.{List, [], _∷_, map}
@@ -33,7 +33,7 @@ module _ (w : ℕ) where
   places-front from (suc many) zero h = absurd (not-suc-le-zero h)
   places-front from (suc many) (suc n) h = ap (λ (ps : List ℕ). from ∷ ps) (places-front (from + w) many n (le-of-suc-le-suc h))
 
-  -- those of a range
+  -- the records of a range
   places-range : (from first many n : ℕ) → first + many ≤ n → range first many (places w from n) ≡ places w (from + w * first) many
   unfolding places
   places-range from zero many n h =
@@ -44,7 +44,7 @@ module _ (w : ℕ) where
       let k : first + many ≤ n = omega arith in
       places-range (from + w) first many n k ∙ ap (λ (p : ℕ). places w p many) (later from first)
 
-  -- the one numbered i
+  -- where record i begins
   module _ (f : ℕ → ℕ) where
     place-at : (from i n : ℕ) → i < n → getD (map f (places w from n)) i 0 ≡ f (from + w * i)
     unfolding places

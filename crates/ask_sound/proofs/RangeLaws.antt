@@ -1,4 +1,4 @@
--- Laws of ranges: a difference compared in place of a sum, which might wrap.
+-- Laws of ranges: the code compares a difference, as a sum might wrap.
 -- Assumes nothing.
 use mathlib.Core.Path.{_≡_, sym, _∙_}
 use mathlib.Core.Bool.{true, false}
@@ -32,7 +32,7 @@ module _ (first many all : ℕ) where
           let k : all < first + many = omega arith in
           e ∙ sym (lt-leb _ _ k)
 
-  -- what a range that is inside tells
+  -- a range that is inside ends inside
   pub range-inside : isRange first many all ≡ true → first + many ≤ all
   unfolding isRange
   range-inside e = leb-true (first + many) all e

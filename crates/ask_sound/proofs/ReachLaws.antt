@@ -1,4 +1,5 @@
--- Laws of how far values rise: a matrix's values rise exactly where they do not go further, and that is found for every 64th value.
+-- Laws of the reach: a matrix's values rise exactly if they are no more than the reach of the first. It is stored for
+-- every 64th value.
 -- Assumes nothing.
 use mathlib.Core.Path.{_≡_, refl, sym, _∙_, ap}
 use mathlib.Core.Bool.{Bool, true, false, not}
@@ -24,7 +25,7 @@ leb-suc x y =
     (λ (e : leb x y ≡ true). e ∙ sym (le-leb (suc x) (suc y) (suc-le-suc (leb-true x y e))))
     (λ (e : leb x y ≡ false). e ∙ sym (lt-leb (suc x) (suc y) (suc-le-suc (leb-false x y e))))
 
--- what the first value, and the first two, say of the reach
+-- the reach by the first value, and by the first two
 one-rises : (a : Bool) → a ≡ leb 1 (if a then 1 else 0)
 unfolding if_then_else_
 one-rises true = refl
@@ -83,7 +84,7 @@ module _ (table : List ℕ) where
           (λ (e : a ≡ true). by-test (λ (k : ℕ). k ≤ suc (suc n)) b (suc r) 1 (λ (f : b ≡ true). suc-le-suc h) (λ (f : b ≡ false). suc-le-suc zero-le))
           (λ (e : a ≡ false). zero-le)
 
-  -- the first n of them rise exactly where n is not more
+  -- the first n values rise exactly if n is at most the reach
   rises-reach : (at n m : ℕ) → n ≤ m → rises 256 (valuesFrom table at n) ≡ leb n (reaches at m)
   rises-reach at zero m h = sym (no-values table at) ∙ sym (le-leb 0 (reaches at m) zero-le)
   rises-reach at (suc n) zero h = absurd (not-suc-le-zero h)

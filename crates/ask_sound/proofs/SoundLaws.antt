@@ -1,4 +1,5 @@
--- The records that stand in a table by its view are those of the table taken apart, so the tests by places are the definition.
+-- The records that the view locates in a table are those of `recordsOf`, so the tests that the code makes are the
+-- definition.
 -- Assumes nothing.
 use mathlib.Core.Path.{_≡_, refl, sym, _∙_, ap}
 use mathlib.Core.Bool.{Bool, true, false, not}
@@ -265,7 +266,7 @@ module _ (bytes : ℕ) (table : List ℕ) (v : View) where
       (both (steps-sound i)
       (both (maps-sound i) (both (pins-sound i) (both (sections-sound i) (both (matrices-sound i) ((both-end _ ∙ values-sound) i))))))
 
--- ---- the whole: what each `return` knows, v being the view of the table
+-- ---- the whole: what is known at each `return`; v is the view of the table
 
 module _ (table : List ℕ) (v : View) (is-view : v ≡ viewOf table) where
   module _ (fits : not (v .fits) ≡ false) where

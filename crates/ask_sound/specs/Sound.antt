@@ -1,5 +1,5 @@
--- Document 01, "The table", from "Sound": what a text and a table handed in must be like, so that questions over them have answers. Every
--- record is judged; lines are not. All sums are exact, none wraps.
+-- Document 01, "The table", from "Sound": what a table must be for a text, so that questions about it have answers.
+-- Every record is judged; lines are not. All sums are exact, none wraps.
 -- Assumes nothing.
 use Prim.Native.Nat.{ℕ, _+_, _-_}
 use mathlib.Core.Bool.{Bool, true}
@@ -25,30 +25,31 @@ use Rattle.doc.specs.Holds.{rises}
 use Rattle.table_layout.specs.View.{viewOf}
 use Rattle.ask_sound.specs.Tests.{isRange, isNameIn, hasNoSide, isSide, amountFits, isGrid, isBandwidth}
 
--- each of a list passes the test
+-- every element of the list passes the test
 unfoldable pub every : {A : Type 0} → (A → Bool) → List A → Bool
 every test [] = true
 every test (x ∷ xs) = both (test x) (every test xs)
 
--- those of a range
+-- the elements of a range: `many` of them from `first` on
 abbrev pub range : {A : Type 0} → ℕ → ℕ → List A → List A
 range first many xs = take many (drop first xs)
 
 -- ---- models
 
--- a step of this kind may come where d forks are open: a fork opens one more, an endfork closes one
+-- whether a step of this kind is allowed where d forks are open, and how many are open after it: a fork opens one more,
+-- an endfork closes one
 unfoldable pub depthStays : ℕ → ℕ → Bool
 depthStays d kind = if eqb kind forkKind then ltb d deepest else if eqb kind endforkKind then ltb 0 d else true
 
 unfoldable pub depthAfter : ℕ → ℕ → ℕ
 depthAfter d kind = if eqb kind forkKind then d + 1 else if eqb kind endforkKind then d - 1 else d
 
--- "each model's depth stays 0 to 8 and ends at 0": along steps of these kinds, d forks being open
+-- "each model's depth stays 0 to 8 and ends at 0": along steps of these kinds, where d forks are open before the first
 unfoldable pub depthHolds : ℕ → List ℕ → Bool
 depthHolds d [] = eqb d 0
 depthHolds d (kind ∷ kinds) = both (depthStays d kind) (depthHolds (depthAfter d kind) kinds)
 
--- all steps of the table being of these kinds
+-- `bytes` is the length of the text, here and below; `kinds` are the kinds of all steps of the table
 unfoldable pub isModel : ℕ → List ℕ → ModelRecord → Bool
 isModel bytes kinds m =
     both (isNameIn bytes (m .start) (m .size))
@@ -57,11 +58,11 @@ isModel bytes kinds m =
 
 -- ---- steps
 
--- there being so many maps
+-- `maps` is the number of maps
 unfoldable pub isEnd : ℕ → ℕ → StepRecord → Bool
 isEnd bytes maps s = both (ltb (s .target) maps) (both (eqb (s .amount) 0) (isSide bytes (s .side) (s .sideSize)))
 
--- the sections being of these methods
+-- `methods` are the methods of all sections
 unfoldable pub isSectionStep : List ℕ → StepRecord → Bool
 isSectionStep methods s =
     both (ltb (s .target) (length methods))
@@ -79,7 +80,7 @@ isStep bytes maps methods s =
 
 -- ---- maps and pins
 
--- there being so many pins; "256 a map"
+-- `pins` is the number of pins of all maps; "256 a map"
 unfoldable pub isMap : ℕ → ℕ → MapRecord → Bool
 isMap bytes pins m =
     both (isNameIn bytes (m .start) (m .size))
@@ -91,7 +92,7 @@ isPin bytes p = isNameIn bytes (p .start) (p .size)
 
 -- ---- sections, matrices and values
 
--- "R L G C each matrix index plus 1 or 0", there being so many matrices
+-- "R L G C each matrix index plus 1 or 0"; `matrices` is the number of matrices
 unfoldable pub areMatrices : ℕ → SectionRecord → Bool
 areMatrices matrices s =
     both (leb (s .resistance) matrices)
@@ -102,7 +103,7 @@ isSection bytes matrices s =
     both (isNameIn bytes (s .start) (s .size))
     (both (ltb (s .method) 2) (both (within 1 256 (s .conductors)) (areMatrices matrices s)))
 
--- "a matrix's values rising strictly with 1 <= row <= column <= 256", these being the values of the table
+-- "a matrix's values rising strictly with 1 <= row <= column <= 256"; `values` are all values of the table
 unfoldable pub isMatrix : List Value → MatrixRecord → Bool
 isMatrix values m =
     both (ltb (m .form) 4)
@@ -121,7 +122,7 @@ recordKinds steps = map (λ (s : StepRecord). s .kind) steps
 unfoldable pub methodsOf : List SectionRecord → List ℕ
 methodsOf sections = map (λ (s : SectionRecord). s .method) sections
 
--- the records of a table, over a text of so many bytes
+-- all records of a table are sound
 unfoldable pub areSound : ℕ → Records → Bool
 areSound bytes r =
     both (every (isModel bytes (recordKinds (r .steps))) (r .models))

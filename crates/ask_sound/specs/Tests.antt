@@ -8,11 +8,11 @@ use Rattle.base.specs.Bytes.{within}
 use Rattle.lex_number.specs.ValueWord.{zeroWord, isValueWord}
 use Rattle.line_matrix.specs.Matrix.{banded}
 
--- "indexes and ranges (even empty) inside": so many from `first` on, of so many
+-- "indexes and ranges (even empty) inside": `many` elements from `first` on, out of `all`
 unfoldable pub isRange : ℕ → ℕ → ℕ → Bool
 isRange first many all = leb (first + many) all
 
--- "every name 1 to 120 bytes inside the text", which has so many bytes
+-- "every name 1 to 120 bytes inside the text", which has `bytes` bytes
 unfoldable pub isNameIn : ℕ → ℕ → ℕ → Bool
 isNameIn bytes start size = both (within 1 120 size) (isRange start size bytes)
 

@@ -1,4 +1,4 @@
-// Whether a text and a table handed in are such that questions over them have answers.
+// Rule 30: whether a table is sound for a text, so that questions about it have answers.
 ghost use mathlib.Core.Path.{_≡_};
 ghost use Prim.Native.Nat.{_+_, _-_, _*_, _≤_, _<_};
 ghost use lib.ListN.{length, drop, getD};
@@ -22,7 +22,7 @@ const ENDFORK: u64 = 3;
 
 const KINDS: u64 = 4;
 
-// How many there are of each other enumeration.
+// How many values the other enumerations have.
 const TYPES: u64 = 3;
 
 const ORDERS: u64 = 3;
@@ -31,7 +31,7 @@ const METHODS: u64 = 2;
 
 const FORMS: u64 = 4;
 
-// How many words a record of a step has, of a section and of a value.
+// How many words the record of a step has, and that of a section and a value.
 const STEP_WORDS: usize = 6;
 
 const SECTION_WORDS: usize = 8;
@@ -44,12 +44,12 @@ const DEEPEST: u64 = 8;
 // The most pins of a map, conductors of a section, rows and columns of a matrix.
 const MOST: u64 = 256;
 
-// Every such value's reach is kept.
+// The reach is stored for every 64th value: how many values rise from it on.
 const BLOCK: u64 = 64;
 
 // ---- models
 
-// Whether a step of this kind may come where so many forks are open.
+// Whether a step of this kind is allowed at this depth: a fork below 8, an endfork above 0, any other step always.
 fn depth_stays(depth: u64, kind: u64) -> bool
     ensures { λ r. ⌜ r ≡ depthStays depth kind ⌝ }
 {
@@ -62,7 +62,7 @@ fn depth_stays(depth: u64, kind: u64) -> bool
     true
 }
 
-// How many forks are open after a step of this kind, where so many were open before it.
+// The depth after a step of this kind.
 pub fn depth_after(depth: u64, kind: u64) -> u64
     requires { ⌜ depth ≤ deepest ⌝ }
     ensures { λ r. ⌜ r ≡ depthAfter depth kind ⌝ }
@@ -79,7 +79,7 @@ pub fn depth_after(depth: u64, kind: u64) -> u64
     depth
 }
 
-// Along so many steps, the first of which stands at `from`.
+// Whether the depth stays 0 to 8 and ends at 0, along `many` steps whose records begin at word `from`.
 fn depth_holds(table: &[u64], from: usize, many: u64) -> bool
     requires { ⌜ from + 6 * many ≤ length (now table) ⌝ }
     ensures { λ r. ⌜ r ≡ depthHolds 0 (kindsFrom (now (table .entry)) from many) ⌝ }
@@ -267,7 +267,7 @@ fn is_inside(table: &[u64], at: usize) -> bool
     column <= MOST
 }
 
-// One value and the next, row first.
+// Whether one value comes before another: by row, then by column.
 fn comes_before(table: &[u64], at: usize, next: usize) -> bool
     requires { ⌜ (at + 3 ≤ length (now table)) × (next + 3 ≤ length (now table)) ⌝ }
     ensures { λ r. ⌜ r ≡ comesBefore (valueAt (now (table .entry)) at) (valueAt (now (table .entry)) next) ⌝ }
@@ -283,7 +283,7 @@ fn comes_before(table: &[u64], at: usize, next: usize) -> bool
     table[at + 1] < table[next + 1]
 }
 
-// The first of so many values is inside, and comes before the next.
+// Whether the first of `many` values has a row and a column in bounds and comes before the second, if there is one.
 fn goes_on(table: &[u64], at: usize, many: u64) -> bool
     requires { ⌜ (at + 3 * many ≤ length (now table)) × (1 ≤ many) ⌝ }
     ensures { λ r. ⌜ r ≡ goesOn 256 (valuesFrom (now (table .entry)) at many) ⌝ }
@@ -297,7 +297,7 @@ fn goes_on(table: &[u64], at: usize, many: u64) -> bool
     comes_before(table, at, at + VALUE_WORDS)
 }
 
-// How many of so many values rise from the first on; of those behind it so many do.
+// The reach of the first of `many` values: how many of them rise from it on. `behind` is the reach of the second.
 fn reach_on(table: &[u64], at: usize, many: u64, behind: u64) -> u64
     requires { ⌜ (at + 3 * many ≤ length (now table)) × (1 ≤ many) × (behind ≡ reach 256 (valuesFrom (now table) (at + 3) (many - 1))) ⌝ }
     ensures { λ r. ⌜ r ≡ reach 256 (valuesFrom (now (table .entry)) at many) ⌝ }
@@ -314,7 +314,7 @@ fn reach_on(table: &[u64], at: usize, many: u64, behind: u64) -> u64
     behind + 1
 }
 
-// The same from every 64th value on, found from the last value to the first.
+// Stores the reach of every 64th value, going from the last value to the first.
 fn find_reaches(table: &[u64], from: usize, count: u64, blocks: &mut [u64])
     requires { ⌜ (from + 3 * count ≤ length (now table)) × (count ≤ 65_536) × (length (now blocks) ≡ 1_024) ⌝ }
     ensures { λ _. ⌜ Reaches (now (table .entry)) from count (now (blocks .exit)) ⌝ }
@@ -328,7 +328,8 @@ fn find_reaches(table: &[u64], from: usize, count: u64, blocks: &mut [u64])
     }
 }
 
-// So many values from the one numbered `first` on, of all that stand from `base` on: one by one to the next 64th, whose reach is known.
+// Whether `many` values rise from value `first` on; all values begin at word `base`. Goes one by one to the next 64th
+// value, whose reach is stored.
 fn values_rise(
     table: &[u64],
     blocks: &[u64],
@@ -393,7 +394,7 @@ fn is_value(table: &[u64], at: usize) -> bool
 
 // ---- the whole
 
-// The record of a part that stands at a place.
+// Whether the record of a part that begins at word `at` is sound.
 fn is_record(bytes: u64, table: &[u64], blocks: &[u64], view: View, part: usize, at: usize) -> bool
     requires { ⌜ Rooms (now table) view × ValueReaches (now table) view (now blocks) × (part < 7) × (at + getD widths part 0 ≤ length (now table)) ⌝ }
     ensures { λ r. ⌜ r ≡ isRecord bytes (now (table .entry)) view part at ⌝ }
@@ -456,7 +457,7 @@ fn are_parts(bytes: u64, table: &[u64], blocks: &[u64], view: View) -> bool
     true
 }
 
-// No word from `from` on is other than 0.
+// Whether all words from `from` on are 0.
 fn zeros_from(table: &[u64], from: usize) -> bool
     ensures { λ r. ⌜ r ≡ areZeros (drop from (now (table .entry))) ⌝ }
 {
@@ -470,7 +471,7 @@ fn zeros_from(table: &[u64], from: usize) -> bool
     true
 }
 
-// Whether a text and a table handed in are such that questions over them have answers.
+// Whether a table is sound for a text. A question about any other table is refused with 30.
 pub fn is_sound(text: &[u8], table: &[u64]) -> bool
     ensures { λ r. ⌜ r ≡ isSound (now (text .entry)) (now (table .entry)) ⌝ }
 {

@@ -1,4 +1,4 @@
-// What the words of one record must be like, so that questions over its table have answers.
+// What the words of one record must be in a sound table.
 ghost use mathlib.Core.Path.{_≡_};
 ghost use Rattle.ask_sound.specs.Tests.{isRange, isNameIn, hasNoSide, isSide, isLengthWord, amountFits, isGrid, isBandwidth};
 
@@ -14,14 +14,14 @@ const LUMPED: u64 = 0;
 // "Row_ordered, Column_ordered or Un_ordered".
 const UNORDERED: u64 = 2;
 
-// The most rows, columns, conductors, and the greatest Mult.
+// The most rows and columns of a map, the greatest Mult, and the greatest bandwidth.
 const MOST: u64 = 256;
 
 const MOST_MULT: u64 = 65_535;
 
 const WIDEST: u64 = 255;
 
-// Whether so many from `first` on are all among so many. No sum is taken: it might wrap.
+// Whether the range of `many` elements from `first` on lies inside `all` elements. It takes no sum, which might wrap.
 pub fn is_range(first: u64, many: u64, all: u64) -> bool
     ensures { λ r. ⌜ r ≡ isRange first many all ⌝ }
 {
@@ -31,7 +31,7 @@ pub fn is_range(first: u64, many: u64, all: u64) -> bool
     first <= all - many
 }
 
-// A name inside a text of so many bytes.
+// Whether a name of 1 to 120 bytes lies inside a text of `bytes` bytes.
 pub fn is_name_in(bytes: u64, start: u64, size: u64) -> bool
     ensures { λ r. ⌜ r ≡ isNameIn bytes start size ⌝ }
 {
@@ -73,7 +73,7 @@ fn is_length(word: u64) -> bool
     word % 2 == 0
 }
 
-// The amount of a step over a section of this method.
+// Whether the amount of a step fits the section's method: a Mult if it is Lumped, a length if it is Distributed.
 pub fn amount_fits(method: u64, amount: u64) -> bool
     ensures { λ r. ⌜ r ≡ amountFits method amount ⌝ }
 {
@@ -83,7 +83,7 @@ pub fn amount_fits(method: u64, amount: u64) -> bool
     is_length(amount)
 }
 
-// Rows and columns of a map.
+// Whether rows and columns fit the order of a map.
 pub fn is_grid(order: u64, rows: u64, columns: u64) -> bool
     ensures { λ r. ⌜ r ≡ isGrid order rows columns ⌝ }
 {

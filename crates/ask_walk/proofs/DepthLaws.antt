@@ -1,5 +1,5 @@
--- The depth of a place in range, over a sound table: at most 8, and never below 0. A walk therefore meets no Fork that may not be opened and no
--- Endfork with nothing to close, and needs no refusal of its own for them.
+-- The depth of a place in range of a sound table is 0 to 8. So a walk never meets a Fork at depth 8 or an Endfork at
+-- depth 0, and needs no refusal for them.
 -- Assumes nothing.
 use mathlib.Core.Path.{_≡_, refl, _∙_}
 use mathlib.Core.Bool.{true}
@@ -41,7 +41,7 @@ module _ (t table : List ℕ) (sound : isSound t table ≡ true) where
     unfolding kindsBefore
     never-below = closes-most (pathKinds r p) (right .depth) (p .step)
 
-    -- so that at every step of it a depth is in range: opens less closes
+    -- so each step of the model has a depth that is in range: opens less closes
     pub has-depth :
         p .step ≤ modelAtPlace r p .steps →
         isPlace r (record { model = p .model; step = p .step; depth = countKind forkKind (kindsBefore r p) - countKind endforkKind (kindsBefore r p) }) ≡ true
@@ -91,10 +91,10 @@ module _ (t table : List ℕ) (sound : isSound t table ≡ true) where
       pub may-be-here : depthStays (p .depth) (stepAtPlace r p .kind) ≡ true
       may-be-here = rw step-kind at (step-may-come kinds (right p has-model .depth) (p .step) (p .depth) depth-right has-step)
 
-      -- where the step is a Fork, one more may be opened
+      -- if the step is a Fork, the depth is below 8
       pub fork-opens : stepAtPlace r p .kind ≡ forkKind → p .depth < deepest
       fork-opens e = fork-below (p .depth) (stepAtPlace r p .kind) may-be-here (eq-eqb _ _ e)
 
-      -- where it is an Endfork, one is open
+      -- if the step is an Endfork, the depth is above 0
       pub endfork-closes : stepAtPlace r p .kind ≡ endforkKind → 0 < p .depth
       endfork-closes e = endfork-above (p .depth) (stepAtPlace r p .kind) may-be-here (eq-eqb _ _ e)

@@ -1,4 +1,4 @@
--- Laws of the depth along steps of given kinds: opens less closes, at most the deepest and never below 0.
+-- Laws of the depth along steps of given kinds: opens less closes, at most 8 and never below 0.
 -- Assumes nothing.
 use mathlib.Core.Path.{_≡_, refl, sym, _∙_, ap}
 use mathlib.Core.Bool.{Bool, true, false}
@@ -17,7 +17,7 @@ use Rattle.ask_sound.specs.Sound.{depthStays, depthAfter, depthHolds}
 use Rattle.ask_sound.proofs.LoopLaws.{stays-within}
 use Rattle.ask_walk.specs.Walk.{countKind, isDepth}
 
--- ---- one step, where it may come
+-- ---- one step that is allowed at its depth
 
 fork-not-endfork : (kind : ℕ) → eqb kind forkKind ≡ true → eqb kind endforkKind ≡ false
 fork-not-endfork kind e =
@@ -29,18 +29,18 @@ endfork-not-fork kind e =
     let k : kind ≡ 3 = eqb-true kind 3 e in
     ne-eqb _ _ (λ (f : kind ≡ 2). omega arith)
 
--- a step of this kind changes the depth by what it opens less what it closes, whatever else is opened and closed
+-- a step of this kind changes the depth by its opens less its closes, whatever other steps open and close
 abbrev pub Moves : ℕ → ℕ → ℕ → ℕ → Type 0
 Moves d kind opens closes =
     depthAfter d kind + (if eqb kind endforkKind then closes + 1 else closes) + opens ≡ d + (if eqb kind forkKind then opens + 1 else opens) + closes
 
 module _ (d kind : ℕ) (stays : depthStays d kind ≡ true) where
-  -- where a fork comes, one more may be opened
+  -- if the step is a fork, the depth is below 8
   pub fork-below : eqb kind forkKind ≡ true → d < deepest
   unfolding depthStays
   fork-below f = ltb-true d deepest (sym (if-true _ _ f) ∙ stays)
 
-  -- where an endfork comes, one is open
+  -- if the step is an endfork, the depth is above 0
   pub endfork-above : eqb kind endforkKind ≡ true → 0 < d
   unfolding depthStays
   endfork-above g = ltb-true 0 d (sym (if-false _ _ (endfork-not-fork kind g) ∙ if-true _ _ g) ∙ stays)
@@ -74,7 +74,7 @@ module _ (d kind : ℕ) (stays : depthStays d kind ≡ true) where
               let c : (if eqb kind endforkKind then closes + 1 else closes) ≡ closes = if-false _ _ g in
               omega arith
 
-  -- the depth e at the end is the same whether it is counted from before the step or from behind it
+  -- the depth e at the end is the same whether it is counted from before the step or from after it
   moves-on :
       (opens closes e : ℕ) → e + (if eqb kind endforkKind then closes + 1 else closes) ≡ d + (if eqb kind forkKind then opens + 1 else opens) →
       e + closes ≡ depthAfter d kind + opens
@@ -82,7 +82,7 @@ module _ (d kind : ℕ) (stays : depthStays d kind ≡ true) where
       let m : Moves d kind opens closes = moves opens closes in
       omega arith
 
--- ---- the first n steps, where the depth holds from d on; e is the depth behind them
+-- ---- the first n steps, where the depth holds from d on; e is the depth after them
 
 still-holds :
     (n : ℕ) (ks : List ℕ) (d e : ℕ) → depthHolds d ks ≡ true → e + countKind endforkKind (take n ks) ≡ d + countKind forkKind (take n ks) →
@@ -142,11 +142,11 @@ module _ (ks : List ℕ) (holds : depthHolds 0 ks ≡ true) (n : ℕ) where
     from-none : depth + countKind endforkKind (take n ks) ≡ 0 + countKind forkKind (take n ks)
     from-none = omega (arith, depth-counts)
 
-    -- behind them no more forks are open than may be
+    -- after them the depth is at most 8
     pub depth-most : depth ≤ deepest
     depth-most = still-shallow n ks 0 depth zero-le holds from-none
 
-    -- the step behind them may come there
+    -- the step after them is allowed at its depth
     pub step-may-come : n < length ks → depthStays depth (getD ks n 0) ≡ true
     step-may-come h = may-come depth ks n h (still-holds n ks 0 depth holds from-none)
 

@@ -1,4 +1,5 @@
--- Laws of places: opens and closes counted along the steps before one, and what stands in the table for the model and the steps of one.
+-- Laws of places: the opens and closes of the steps before a place, and the words of the table for its model and its
+-- steps.
 -- Assumes nothing.
 use mathlib.Core.Path.{_≡_, refl, sym, _∙_, ap}
 use mathlib.Core.Bool.{Bool, true, false, not}
@@ -22,7 +23,7 @@ use Rattle.ask_sound.specs.Way.Standing.{places, placesOf, baseOf, countOf, mod
 use Rattle.ask_sound.proofs.PlaceLaws.{places-long, kinds-range}
 use Rattle.ask_walk.specs.declared.Place.{Place}
 use Rattle.ask_walk.specs.Walk.{noModel, noRecord, modelAtPlace, stepAtPlace, countKind, isDepth, kindsBefore, isPlace}
-use Rattle.ask_walk.specs.Way.Walkable.{modelPlace, firstOf, manyOf, Walkable, StandsAt}
+use Rattle.ask_walk.specs.Way.Walkable.{modelPlace, firstStepOf, manyOf, Walkable, StandsAt}
 use Rattle.ask_walk.proofs.KindLaws.{depth-most}
 
 -- ---- opens and closes
@@ -49,7 +50,7 @@ unfolding if_then_else_
 count-few true n i h = omega arith
 count-few false n i h = omega arith
 
--- i of so many steps are gone over, and those left bring the counts to those of all
+-- the loop's invariant: after i of `many` steps, the counts so far and those of the rest are the counts of all
 pub record CountLeft (table : List ℕ) (from many opens closes at i : ℕ) : Type 0 where
   pub most : i ≤ many
   pub place : at ≡ from + 6 * i
@@ -127,7 +128,7 @@ module _ (table : List ℕ) (from many opens closes at i : ℕ) (left : CountLef
             let n : depth + closes ≡ opens → ⊥ = λ (k : depth + closes ≡ opens). eqb-false depth (opens - closes) e (omega arith) in
             e ∙ sym (ne-eqb _ _ n)
 
--- ---- the record of an index, and the kinds of the first steps of so many
+-- ---- the record at an index, and the kinds of the first steps
 
 module _ {A : Type 0} (w : ℕ) (f : ℕ → A) (none : A) where
   record-at : (from i n : ℕ) → i < n → getD (map f (places w from n)) i none ≡ f (from + w * i)
@@ -151,7 +152,7 @@ map-map : {A B : Type 0} (g : A → B) (f : ℕ → A) (ps : List ℕ) → map g
 map-map g f [] = refl
 map-map {B = B} g f (p ∷ ps) = ap (λ (ys : List B). g (f p) ∷ ys) (map-map g f ps)
 
--- ---- models, steps and kinds, where the view tells the records
+-- ---- models, steps and kinds, by the view
 
 module _ (table : List ℕ) (v : View) (same : recordsAt table v ≡ recordsOf table) where
   models-are : map (modelAt table) (places 5 (baseOf v models) (countOf v models)) ≡ recordsOf table .models
@@ -175,14 +176,14 @@ module _ (table : List ℕ) (v : View) (same : recordsAt table v ≡ recordsOf t
   step-there : (i : ℕ) → i < countOf v steps → getD (recordsOf table .steps) i noRecord ≡ stepAt table (baseOf v steps + 6 * i)
   step-there i h = ap (λ (ss : List StepRecord). getD ss i noRecord) (sym steps-are) ∙ record-at 6 (stepAt table) noRecord (baseOf v steps) i (countOf v steps) h
 
--- ---- where the model and the steps of a place stand
+-- ---- where the model and the steps of a place are in the table
 
 module _ (table : List ℕ) (v : View) (ready : Walkable table v) (p : Place) where
   abbrev at : ℕ
   at = modelPlace v (p .model)
 
   abbrev first : ℕ
-  first = firstOf table v (p .model)
+  first = firstStepOf table v (p .model)
 
   abbrev many : ℕ
   many = manyOf table v (p .model)

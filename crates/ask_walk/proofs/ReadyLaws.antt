@@ -1,4 +1,4 @@
--- What a sound table is ready for: what a walk asks of it holds, and each of its models is right.
+-- A sound table has what a walk needs of it, and each of its models is right.
 -- Assumes nothing.
 use mathlib.Core.Path.{_≡_, sym, _∙_, ap}
 use mathlib.Core.Bool.{Bool, true, false, not}
@@ -20,7 +20,7 @@ use Rattle.ask_sound.specs.Way.Standing.{baseOf, countOf, kindsFrom, kindsAt, r
 use Rattle.ask_sound.proofs.PlaceLaws.{kinds-long, kinds-range}
 use Rattle.ask_sound.proofs.SoundLaws.{records-here}
 use Rattle.ask_walk.specs.Walk.{noModel}
-use Rattle.ask_walk.specs.Way.Walkable.{firstOf, manyOf, Walkable}
+use Rattle.ask_walk.specs.Way.Walkable.{firstStepOf, manyOf, Walkable}
 use Rattle.ask_walk.proofs.PlaceLaws.{models-many, kinds-are, model-there}
 
 every-at : {A : Type 0} (test : A → Bool) (none : A) (xs : List A) (i : ℕ) → every test xs ≡ true → i < length xs → test (getD xs i none) ≡ true
@@ -29,7 +29,7 @@ every-at test none [] i e h = absurd (not-suc-le-zero h)
 every-at test none (x ∷ xs) zero e h = both-first _ _ e
 every-at test none (x ∷ xs) (suc i) e h = every-at test none xs i (both-second _ _ e) (le-of-suc-le-suc h)
 
--- the model of an index: its steps lie inside, and its depth holds
+-- model i is right: its steps lie inside, and its depth stays 0 to 8 and ends at 0
 pub record RightModel (r : Records) (i : ℕ) : Type 0 where
   pub inside : getD (r .models) i noModel .first + getD (r .models) i noModel .steps ≤ length (recordKinds (r .steps))
   pub depth : depthHolds 0 (range (getD (r .models) i noModel .first) (getD (r .models) i noModel .steps) (recordKinds (r .steps))) ≡ true
@@ -70,16 +70,16 @@ module _ (t table : List ℕ) (sound : isSound t table ≡ true) where
         let k : i < length (recordsOf table .models) = rw (models-many table (viewOf table) same) h in
         right-model i k
 
-    range-there : firstOf table (viewOf table) i + manyOf table (viewOf table) i ≤ countOf (viewOf table) steps
+    range-there : firstStepOf table (viewOf table) i + manyOf table (viewOf table) i ≤ countOf (viewOf table) steps
     range-there =
         let n : length (recordKinds (recordsOf table .steps)) ≡ countOf (viewOf table) steps = ap length (kinds-are table (viewOf table) same) ∙ kinds-long table (viewOf table) in
         rw (n, model-there table (viewOf table) same i h) at (right-there .inside)
 
-    depth-there : depthHolds 0 (kindsFrom table (baseOf (viewOf table) steps + 6 * firstOf table (viewOf table) i) (manyOf table (viewOf table) i)) ≡ true
+    depth-there : depthHolds 0 (kindsFrom table (baseOf (viewOf table) steps + 6 * firstStepOf table (viewOf table) i) (manyOf table (viewOf table) i)) ≡ true
     depth-there =
-        let e : depthHolds 0 (range (firstOf table (viewOf table) i) (manyOf table (viewOf table) i) (kindsAt table (viewOf table))) ≡ true =
+        let e : depthHolds 0 (range (firstStepOf table (viewOf table) i) (manyOf table (viewOf table) i) (kindsAt table (viewOf table))) ≡ true =
         rw (kinds-are table (viewOf table) same, model-there table (viewOf table) same i h) at (right-there .depth) in
-        rw (kinds-range table (viewOf table) (firstOf table (viewOf table) i) (manyOf table (viewOf table) i) range-there) at e
+        rw (kinds-range table (viewOf table) (firstStepOf table (viewOf table) i) (manyOf table (viewOf table) i) range-there) at e
 
   of-view : Walkable table (viewOf table)
   of-view =
@@ -92,7 +92,7 @@ module _ (t table : List ℕ) (sound : isSound t table ≡ true) where
         depths = depth-there;
       }
 
-  -- for those who call `walk_in`
+  -- for callers of `walk_in`
   pub walkable : (v : View) → v ≡ viewOf table → Walkable table v
   walkable v e = rw e of-view
 

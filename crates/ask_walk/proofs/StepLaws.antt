@@ -1,4 +1,4 @@
--- Laws of one step: what each `return` knows gives the definition.
+-- Laws of one step: what is known at each `return` gives the definition.
 -- Assumes nothing.
 use mathlib.Core.Path.{_≡_, sym, _∙_, ap}
 use mathlib.Core.Bool.{Bool, true, false, not}
@@ -30,7 +30,7 @@ use Rattle.ask_walk.specs.Walk.{
   walkFrom,
   walkAnswer,
 }
-use Rattle.ask_walk.specs.Way.Walkable.{firstOf, manyOf, StandsAt}
+use Rattle.ask_walk.specs.Way.Walkable.{firstStepOf, manyOf, StandsAt}
 
 pub next-told :
     (p : Place) (kind depth : ℕ) → depth ≡ depthAfter (p .depth) kind →
@@ -53,7 +53,7 @@ module _ (table : List ℕ) (v : View) (p : Place) (here : StandsAt table v p) w
 
   pub on-over :
       (p .step ≡ manyOf table v (p .model) → ⊥) → (answer : WalkWords) →
-      answer ≡ walkOver (stepAt table (baseOf v steps + 6 * (firstOf table v (p .model) + p .step))) p → answer ≡ walkOn (recordsOf table) p
+      answer ≡ walkOver (stepAt table (baseOf v steps + 6 * (firstStepOf table v (p .model) + p .step))) p → answer ≡ walkOn (recordsOf table) p
   unfolding walkOn
   on-over n answer e =
       let h : p .step ≤ manyOf table v (p .model) = here .step-inside in

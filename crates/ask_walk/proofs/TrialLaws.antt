@@ -46,7 +46,7 @@ fork = record { kind = 2; target = 0; amount = 0; side = 0; «side_size» = 0; l
 abbrev endfork : StepWords
 endfork = record { kind = 3; target = 0; amount = 0; side = 0; «side_size» = 0; line = 6 }
 
--- what each place asked is to answer
+-- the answer expected at each place
 tried :
     (walkAnswer text table (place 0 0 0) ≡ stepped fork (place 0 1 1)) × (walkAnswer text table (place 0 1 1) ≡ stepped endfork (place 0 2 0))
     × (walkAnswer text table (place 0 2 0) ≡ doneAt (place 0 2 0)) × (walkAnswer text table (place 0 1 0) ≡ walkRefused 31)

@@ -1,4 +1,5 @@
--- What a walk promises: one answer, refused by 30 and then by 31 alone, and a next place that is in range again, from the first of each model on.
+-- What a walk promises: exactly one answer; no refusals but 30 and 31, in this order; and a next place that is in range
+-- again, beginning with the first place of each model.
 -- Assumes nothing.
 use mathlib.Core.Path.{_≡_, refl, sym, _∙_, ap}
 use mathlib.Core.Bool.{Bool, true, false, not}
@@ -41,7 +42,7 @@ use Rattle.ask_walk.proofs.DepthLaws.{pathKinds, has-model, its-depth, 
 
 -- ---- one answer
 
--- the case that the words tell
+-- the case of an answer, found from its words
 abbrev cased : Bool → Bool → WalkWords → Walked
 cased true true w = Done (w .next)
 cased true false w = Step (w .step) (w .next)
@@ -56,7 +57,7 @@ walked-words (Step words next) = refl
 walked-words (Done place) = refl
 walked-words (Refused number) = refl
 
--- the words leave one answer
+-- the words determine the answer
 pub one-answer : (r s : Walked) (w : WalkWords) → walkWords r ≡ w → walkWords s ≡ w → r ≡ s
 one-answer r s w e f = sym (walked-words r) ∙ ap walked (e ∙ sym f) ∙ walked-words s
 
@@ -83,7 +84,7 @@ module _ (t table : List ℕ) (sound : isSound t table ≡ true) (p : Place) (in
         moves (p .depth) (stepAtPlace r p .kind) (may-be-here t table sound p in-range more) _ _ in
         omega arith
 
-    -- the place handed back is in range again
+    -- the next place is in range again
     pub next-place : isPlace r (nextOf p (stepAtPlace r p .kind)) ≡ true
     unfolding isPlace isDepth kindsBefore nextOf
     next-place =
@@ -126,7 +127,7 @@ module _ (t table : List ℕ) (p : Place) where
   unfolding walkAnswer walkFrom
   refused-by = two-numbers (walkOn (recordsOf table) p) (on-answers (recordsOf table) p) (isSound t table) (isPlace (recordsOf table) p)
 
-  -- from every place in range of every sound table, and from no other, a walk is answered
+  -- a walk is answered from every place in range of every sound table, and from no other
   pub answered-when : walkAnswer t table p .answered ≡ both (isSound t table) (isPlace (recordsOf table) p)
   unfolding walkAnswer walkFrom
   answered-when = two-refuse (walkOn (recordsOf table) p) (on-answers (recordsOf table) p) (isSound t table) (isPlace (recordsOf table) p)

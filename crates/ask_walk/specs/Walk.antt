@@ -24,7 +24,7 @@ noSuch = 31
 
 -- ---- the answer
 
--- the words of the answer; `answered` and `done` tell its three cases apart
+-- the words of the answer; `answered` and `done` distinguish its three cases
 pub record WalkWords : Type 0 where
   pub answered : Bool
   pub rule : ℕ
@@ -54,7 +54,8 @@ walkWords (Step words next) = stepped words next
 walkWords (Done place) = doneAt place
 walkWords (Refused rule) = walkRefused rule
 
--- ---- models and steps by their index; what stands past the last is never asked for
+-- ---- models and steps by their index; `noModel` and `noRecord` stand for an index past the last, which is never asked
+-- for
 
 abbrev pub noModel : ModelRecord
 noModel = record { start = 0; size = 0; type = 0; first = 0; steps = 0 }
@@ -65,13 +66,13 @@ noRecord = record { kind = 0; target = 0; amount = 0; side = 0; sideSize = 0; li
 abbrev pub modelAtPlace : Records → Place → ModelRecord
 modelAtPlace r p = getD (r .models) (p .model) noModel
 
--- the step that a place stands before
+-- the step that comes next at a place
 unfoldable pub stepAtPlace : Records → Place → StepRecord
 stepAtPlace r p = getD (r .steps) (modelAtPlace r p .first + p .step) noRecord
 
 -- ---- places
 
--- how many steps of a kind there are
+-- how many steps are of a kind
 unfoldable pub countKind : ℕ → List ℕ → ℕ
 countKind kind [] = 0
 countKind kind (k ∷ ks) = if eqb k kind then countKind kind ks + 1 else countKind kind ks
@@ -96,21 +97,21 @@ abbrev pub shownWords : StepRecord → StepWords
 shownWords s =
     record { kind = s .kind; target = s .target; amount = s .amount; side = s .side; «side_size» = s .sideSize; line = s .line }
 
--- the place behind a step of this kind
+-- the place after a step of this kind
 unfoldable pub nextOf : Place → ℕ → Place
 nextOf p kind = record { model = p .model; step = p .step + 1; depth = depthAfter (p .depth) kind }
 
--- over this step
+-- the answer of a walk over this step
 unfoldable pub walkOver : StepRecord → Place → WalkWords
 walkOver s p = stepped (shownWords s) (nextOf p (s .kind))
 
 -- ---- the whole
 
--- "At step equal to steps it says done"; the place is in range
+-- "At step equal to steps it says done"; for a place in range
 unfoldable pub walkOn : Records → Place → WalkWords
 walkOn r p = if eqb (p .step) (modelAtPlace r p .steps) then doneAt p else walkOver (stepAtPlace r p) p
 
--- the table is sound
+-- for a sound table
 unfoldable pub walkFrom : Records → Place → WalkWords
 walkFrom r p = if not (isPlace r p) then walkRefused noSuch else walkOn r p
 

@@ -1,4 +1,4 @@
-// The question walk: one step from a place in a model's path, with the step's words and the next place.
+// The question "walk": one step from a place in a model's path. It answers with the step's words and the next place.
 ghost use mathlib.Core.Path.{_≡_};
 ghost use Prim.Native.Nat.{_+_, _*_, _^_, _≤_, _<_};
 ghost use lib.ListN.{length};
@@ -21,7 +21,7 @@ const FORK: u64 = 2;
 
 const ENDFORK: u64 = 3;
 
-// How many words a record of a model has, and of a step.
+// How many words the record of a model has, and that of a step.
 const MODEL_WORDS: usize = 5;
 
 const STEP_WORDS: usize = 6;
@@ -52,7 +52,7 @@ pub enum Walked {
 
 // ---- one step
 
-// The place behind a step of this kind.
+// The place after a step of this kind.
 fn next_of(place: Place, kind: u64) -> Place
     requires { ⌜ (place .step ≤ 4_096) × (place .depth ≤ deepest) ⌝ }
     ensures { λ r. ⌜ r ≡ nextOf place kind ⌝ }
@@ -64,7 +64,7 @@ fn next_of(place: Place, kind: u64) -> Place
     }
 }
 
-// Over the step that stands at this word.
+// Walks over the step whose record begins at word `at`.
 fn walk_over(table: &[u64], at: usize, place: Place) -> Walked
     requires { ⌜ (at + 6 ≤ length (now table)) × (place .step ≤ 4_096) × (place .depth ≤ deepest) ⌝ }
     ensures { λ r. ⌜ walkWords r ≡ walkOver (stepAt (now (table .entry)) at) place ⌝ }
@@ -96,7 +96,7 @@ fn counted(n: u64, kind: u64, other: u64) -> u64
     n
 }
 
-// Whether the depth is opens less closes along so many steps, the first of which stands at `from`.
+// Whether the depth is opens less closes along `many` steps, whose records begin at word `from`.
 fn is_depth(table: &[u64], from: usize, many: u64, depth: u64) -> bool
     requires { ⌜ from + 6 * many ≤ length (now table) ⌝ }
     ensures { λ r. ⌜ r ≡ isDepth depth (kindsFrom (now (table .entry)) from many) ⌝ }
@@ -144,7 +144,7 @@ fn is_place(table: &[u64], view: View, place: Place) -> bool
 
 // ---- the whole
 
-// From a place that is in range.
+// One step from a place that is in range.
 fn walk_on(table: &[u64], view: View, place: Place) -> Walked
     requires { ⌜ StandsAt (now table) view place ⌝ }
     ensures { λ r. ⌜ walkWords r ≡ walkOn (recordsOf (now (table .entry))) place ⌝ }
@@ -164,7 +164,7 @@ fn walk_on(table: &[u64], view: View, place: Place) -> Walked
     )
 }
 
-// One step in a table that is known to be sound, for those who ask more than once.
+// One step in a table that is known to be sound, for callers that ask more than once.
 pub fn walk_in(table: &[u64], view: View, place: Place) -> Walked
     requires { ⌜ Walkable (now table) view ⌝ }
     ensures { λ r. ⌜ walkWords r ≡ walkFrom (recordsOf (now (table .entry))) place ⌝ }
@@ -176,7 +176,7 @@ pub fn walk_in(table: &[u64], view: View, place: Place) -> Walked
 }
 
 impl Place {
-    // One step from this place, over every text and every table.
+    // One step from this place. Every text and every table has an answer.
     pub fn step(self, text: &[u8], table: &[u64]) -> Walked
         ensures { λ r. ⌜ walkWords r ≡ walkAnswer (now (text .entry)) (now (table .entry)) self ⌝ }
     {

@@ -1,5 +1,5 @@
--- Laws of rules as data: nothing is broken exactly when every test is false, and in a list whose numbers rise the first one
--- found is the least. `firsts` is the rule set by which code with the same tests in the same order is shown to meet a list.
+-- Laws of rules as data. `firstBroken` is 0 exactly when every test is false. In a list whose numbers rise it is the
+-- least number of a broken rule. The rule set `firsts` proves code that makes the tests of a list in the same order.
 -- Assumes nothing.
 use mathlib.Core.Path.{_≡_, refl, sym, _∙_}
 use mathlib.Core.Bool.{Bool, true, false, not, true≢false}
@@ -24,26 +24,26 @@ first-kept b n later found e h = rw e h
 
 pub ruleset firsts = (refl, first-broken, first-kept, both-true, both-not-left, both-not-right, either-left, either-right, either-false, not-via, not-not-via, le-leb, lt-leb, eq-eqb, ne-eqb, lt-ltb, le-ltb)
 
--- a rule that stands past the end of a list
+-- what is read past the end of a list: a rule that is not broken
 abbrev pub sound : Rule
 sound = 0 when false
 
--- no rule of the list has the number 0, which says that none is broken
+-- no rule of the list has the number 0, because 0 means that no rule is broken
 abbrev pub Numbered : List Rule → Type 0
 Numbered [] = Unit {0}
 Numbered (r ∷ rs) = (0 < r .number) × Numbered rs
 
--- the numbers rise from the front to the back, none is below the least
+-- the numbers never fall from front to back, and the first is at least `least`
 abbrev pub Rising : ℕ → List Rule → Type 0
 Rising least [] = Unit {0}
 Rising least (r ∷ rs) = (least ≤ r .number) × Rising (r .number) rs
 
--- every test is false: nothing is broken
+-- if every test is false, the answer is 0
 pub none-broken : (rs : List Rule) → ((i : ℕ) → getD rs i sound .broken ≡ false) → firstBroken rs ≡ 0
 none-broken [] h = refl
 none-broken (r ∷ rs) h = first-kept _ _ _ _ (h zero) (none-broken rs (λ (i : ℕ). h (suc i)))
 
--- nothing is broken: every test is false
+-- if the answer is 0, every test is false
 pub all-kept : (rs : List Rule) → Numbered rs → firstBroken rs ≡ 0 → (i : ℕ) → getD rs i sound .broken ≡ false
 all-kept [] n e i = refl
 all-kept (r ∷ rs) n e i = by-cases _ (r .broken) (λ (b : r .broken ≡ true). never b) (λ (b : r .broken ≡ false). kept (all-kept rs (n .1)) b i)
@@ -58,7 +58,7 @@ all-kept (r ∷ rs) n e i = by-cases _ (r .broken) (λ (b : r .broken ≡ true).
     kept later b zero = b
     kept later b (suc j) = later (sym (first-kept _ _ _ _ b refl) ∙ e) j
 
--- what is found is the number of a broken rule of the list
+-- an answer other than 0 is the number of a broken rule of the list
 pub found-broken : (rs : List Rule) (n : ℕ) → firstBroken rs ≡ n → 0 < n → (i : ℕ) × (i < length rs) × (getD rs i sound .broken ≡ true) × (getD rs i sound .number ≡ n)
 found-broken [] n e p = absurd (omega arith)
 found-broken (r ∷ rs) n e p =
@@ -74,7 +74,7 @@ rising-least [] least h i g = absurd (not-suc-le-zero g)
 rising-least (r ∷ rs) least h zero g = h .0
 rising-least (r ∷ rs) least h (suc i) g = le-trans (h .0) (rising-least rs (r .number) (h .1) i (le-of-suc-le-suc g))
 
--- in a list that rises what is found is the least of all that is broken
+-- in a rising list the answer is at most the number of any broken rule
 pub found-least : (rs : List Rule) (least : ℕ) → Rising least rs → (i : ℕ) → i < length rs → getD rs i sound .broken ≡ true → firstBroken rs ≤ getD rs i sound .number
 found-least [] least h i g b = absurd (not-suc-le-zero g)
 found-least (r ∷ rs) least h i g b = by-cases _ (r .broken) (λ (t : r .broken ≡ true). rw (first-broken _ (r .number) (firstBroken rs) t) (head i g)) (λ (t : r .broken ≡ false). tail (found-least rs (r .number) (h .1)) i g b t)
@@ -87,7 +87,7 @@ found-least (r ∷ rs) least h i g b = by-cases _ (r .broken) (λ (t : r .broken
     tail later zero k c t = absurd (true≢false (sym c ∙ t))
     tail later (suc j) k c t = rw (first-kept _ (r .number) (firstBroken rs) (firstBroken rs) t refl) (later j (le-of-suc-le-suc k) c)
 
--- ---- what code finds by one test after the other: the premises are what it knows at a `return`, the conclusion is the contract
+-- ---- code that makes one test after another: premises are what it knows at a `return`, the conclusion its contract
 
 module _ (b : Bool) (n later : ℕ) where
   pub gives-first : b ≡ true → n ≡ first b n later
@@ -102,5 +102,5 @@ module _ (b : Bool) (n later : ℕ) where
   pub is-kept : (found : ℕ) → No b → found ≡ later → found ≡ first b n later
   is-kept found h k = gives-later found (h .fails) k
 
--- `search rules` answers every `return` of a function that has the tests of a list in the list's order
+-- `search rules` proves every `return` of a function that makes the tests of a list in the list's order
 pub ruleset rules = (refl, is-broken, is-kept, tests)

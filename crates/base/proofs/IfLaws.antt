@@ -1,4 +1,4 @@
--- Laws of the conditional and of the two joined tests. `ifs` is the rule set that settles most small predicates.
+-- Laws of the conditional, of `both` and of `either`. The rule set `ifs` proves most small predicates.
 -- Assumes nothing.
 use mathlib.Core.Path.{_≡_, refl, sym, _∙_, ap}
 use mathlib.Core.Bool.{Bool, true, false, not, true≢false}
@@ -15,13 +15,13 @@ pub if-false : {A : Type 0} {b : Bool} (x y : A) → b ≡ false → (if b then 
 unfolding if_then_else_
 if-false x y e = rw e
 
--- a case split on a test without writing it as a helper's argument
+-- a case split on the test of a conditional
 pub by-test : {A : Type 0} (P : A → Type 0) (b : Bool) (x y : A) → (b ≡ true → P x) → (b ≡ false → P y) → P (if b then x else y)
 unfolding if_then_else_
 by-test P true x y h k = h refl
 by-test P false x y h k = k refl
 
--- the same for any fact that follows on both sides
+-- a case split on a test, for any fact that follows in both cases
 pub by-cases : (P : Type 0) (b : Bool) → (b ≡ true → P) → (b ≡ false → P) → P
 by-cases P true h k = h refl
 by-cases P false h k = k refl
@@ -93,17 +93,17 @@ not-not-via e = rw e
 
 pub ruleset ifs = (refl, if-true, if-false, both-true, both-not-left, both-not-right, either-left, either-right, either-false, not-via, not-not-via, le-leb, lt-leb, eq-eqb, ne-eqb, lt-ltb, le-ltb)
 
--- ---- what code finds by one test after the other
+-- ---- code that makes one test after another
 
--- A test of a definition that holds, and one that does not. They are records so that a search looks for what a test needs only where a
--- test is to be settled, and nowhere else.
+-- `Yes` says that a test of a definition holds, `No` that it does not. They are records so that a search tries the
+-- laws of tests only where a test has to be decided.
 pub record Yes (a : Bool) : Type 0 where
   pub holds : a ≡ true
 
 pub record No (a : Bool) : Type 0 where
   pub fails : a ≡ false
 
--- by a comparison of numbers in the code
+-- decided by a comparison of numbers in the code
 module _ (m n : ℕ) where
   pub yes-eq : m ≡ n → Yes (eqb m n)
   yes-eq h = record { holds = eq-eqb m n h }
@@ -123,7 +123,7 @@ module _ (m n : ℕ) where
   pub no-ge : n ≤ m → No (ltb m n)
   no-ge h = record { fails = le-ltb m n h }
 
--- by a bool that the code has, also turned round
+-- decided by a bool of the code, or by its negation
 module _ (a : Bool) where
   pub yes-is : a ≡ true → Yes a
   yes-is h = record { holds = h }
@@ -149,7 +149,7 @@ module _ (a : Bool) where
   pub no-either : (b : Bool) → No a → No b → No (either a b)
   no-either b h k = record { fails = either-false a b (h .fails) (k .fails) }
 
--- by a call's answer r, told to be the test
+-- decided by the result r of a call whose contract says that r equals the test
 module _ (a r : Bool) (told : r ≡ a) where
   pub yes-told : r ≡ true → Yes a
   yes-told h = record { holds = sym told ∙ h }
@@ -163,7 +163,7 @@ module _ (a r : Bool) (told : r ≡ a) where
   pub no-told-turned : not r ≡ true → No a
   no-told-turned h = record { fails = sym told ∙ not-true r h }
 
--- by a call's number n, told to be the number that is compared
+-- decided by the number n of a call whose contract says that n equals the compared number
 module _ (number n m : ℕ) (told : n ≡ number) where
   pub yes-eq-told : n ≡ m → Yes (eqb number m)
   yes-eq-told h = record { holds = eq-eqb number m (sym told ∙ h) }
@@ -173,7 +173,7 @@ module _ (number n m : ℕ) (told : n ≡ number) where
 
 pub ruleset tests = (yes-eq-told, no-ne-told, yes-eq, no-ne, yes-le, no-gt, yes-lt, no-ge, yes-is, no-is, yes-turned, no-turned, yes-told, no-told, yes-told-turned, no-told-turned, yes-not, no-not, yes-both, no-either)
 
--- `search chain` answers every `return` of an if-chain whose tests stand as its definition has them
+-- `search chain` proves every `return` of an if-chain that makes the tests of its definition in the same order
 module _ (a b : Bool) where
   pub found-yes : Yes a → true ≡ either a b
   found-yes h = sym (either-left a b (h .holds))
@@ -194,14 +194,14 @@ module _ {A : Type 0} (b : Bool) (x y answer : A) where
   pub chosen-no : No b → answer ≡ y → answer ≡ (if b then x else y)
   chosen-no h k = k ∙ sym (if-false x y (h .fails))
 
--- where the last test stands alone
+-- for a last test that is itself the answer
 pub answer-yes : (a : Bool) → Yes a → true ≡ a
 answer-yes a h = sym (h .holds)
 
 pub answer-no : (a : Bool) → No a → false ≡ a
 answer-no a h = sym (h .fails)
 
--- where it is a call's answer turned round, or compared with a number
+-- for a last test that is the negated result of a call, or a result compared with a number
 pub turned : (a r : Bool) → r ≡ a → not r ≡ not a
 turned a r e = ap not e
 

@@ -1,4 +1,4 @@
--- Laws of bytes taken together as one number: bytes that are the same number are the same bytes.
+-- Laws of several bytes as one number. The main one: equally many bytes that make the same number are the same bytes.
 -- Assumes nothing.
 use mathlib.Core.Path.{_≡_, refl, sym, _∙_, ap}
 use mathlib.Core.Bool.{Bool, true, false}
@@ -33,7 +33,7 @@ pub below-byte : (b : ℕ) → b < 256 → isByte b ≡ true
 unfolding isByte
 below-byte b h = lt-ltb b 256 h
 
--- a byte in front of others
+-- no bytes, and one byte in front of others
 pub joins-nil : Joins [] 0
 joins-nil = record { word = sym joined-nil; bytes = all-nil isByte }
 
@@ -44,7 +44,7 @@ joins-cons b s r h inner =
       bytes = all-cons isByte b s ∙ both-true _ _ (below-byte b h) (inner .bytes);
     }
 
--- the first bytes of what is left, one after another
+-- the first bytes of a rest: one byte, then the first bytes of the next rest
 take-on : (n : ℕ) (s : List ℕ) (i : ℕ) → i < length s → take (suc n) (drop i s) ≡ getD s i 0 ∷ take n (drop (i + 1) s)
 take-on n s i h = rw (add-one, drop-cons s i 0 h) refl
 
@@ -70,7 +70,7 @@ four-joined s at a b c d room is-a small-a is-b small-b is-c small-c is-d small-
     joins-on 3 s at a (b + 256 * (c + 256 * (d + 256 * 0))) (omega arith) is-a small-a three-on in
     rw (four-parts a b c d) at four-on
 
--- ---- bytes behind bytes
+-- ---- bytes followed by bytes
 
 all-append : (p : ℕ → Bool) (xs ys : List ℕ) → all p xs ≡ true → all p ys ≡ true → all p (xs ++ ys) ≡ true
 all-append p [] ys e g = g

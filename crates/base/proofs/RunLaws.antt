@@ -1,4 +1,4 @@
--- Laws of runs: the three that a loop over bytes needs (go on, stop, past the end), and what a run says of its bytes.
+-- Laws of runs: the three that a loop over bytes needs (go on, stop, past the end), and which bytes are in a run.
 -- Assumes nothing.
 use mathlib.Core.Path.{_≡_, refl, sym, _∙_, ap}
 use mathlib.Core.Bool.{Bool, true, false, not, true≢false}
@@ -42,7 +42,7 @@ module _ (p : ℕ → Bool) (s : List ℕ) (i : ℕ) where
   pub run-past : length s ≤ i → run p (drop i s) ≡ 0
   run-past h = rw (drop-of-length-le s h) (run-nil p)
 
--- the place that a loop has come to leads to the same end
+-- the invariant of a loop over bytes: from its position i the run ends at `end`
 module _ (p : ℕ → Bool) (s : List ℕ) (i : ℕ) (end : ℕ) (inv : i + run p (drop i s) ≡ end) where
   pub reach-on : i < length s → p (getD s i 0) ≡ true → i + 1 + run p (drop (i + 1) s) ≡ end
   reach-on h e =
@@ -79,7 +79,7 @@ run-all p (b ∷ s) k h = by-cases _ (p b) (λ e. inside (run-all p s) k h e) (�
     inside later zero g e = e
     inside later (suc j) g e = later j (le-of-suc-le-suc (rw (run-goes p b s e) at g))
 
--- the byte after the run, if there is one, does not
+-- the byte after the run, if there is one, does not pass
 pub run-end : (p : ℕ → Bool) (s : List ℕ) → run p s < length s → p (getD s (run p s) 0) ≡ false
 run-end p [] h = absurd (native.Mathlib.Nat.not-suc-le-zero h)
 run-end p (b ∷ s) h =
@@ -87,7 +87,7 @@ run-end p (b ∷ s) h =
     (λ (e : p b ≡ true). rw (run-goes p b s e) (run-end p s (le-of-suc-le-suc (rw (run-goes p b s e) at h))))
     (λ (e : p b ≡ false). rw (run-stops p b s e) e)
 
--- a run is as long as it is: the only place with passing bytes before it and none at it
+-- the length of a run is determined: all bytes before n pass, and the byte at n does not
 pub run-is : (p : ℕ → Bool) (s : List ℕ) (n : ℕ) → n ≤ length s → ((k : ℕ) → k < n → p (getD s k 0) ≡ true) → (n < length s → p (getD s n 0) ≡ false) → run p s ≡ n
 run-is p [] zero h a e = run-nil p
 run-is p [] (suc n) h a e = absurd (native.Mathlib.Nat.not-suc-le-zero h)
@@ -111,7 +111,7 @@ same-equal (b ∷ s) (c ∷ t) e =
     let k : s ≡ t = same-equal s t (both-second _ _ e) in
     cc
 
--- the same three with the answer of a test in between, as a loop of code has it
+-- the laws of going on and stopping, with the result t of a call in place of the test, as a loop of code has it
 module _ (p : ℕ → Bool) (s : List ℕ) (i end : ℕ) (t : Bool) (inv : i + run p (drop i s) ≡ end) (h : i < length s) (told : t ≡ p (getD s i 0)) where
   pub tested-on : not t ≡ false → i + 1 + run p (drop (i + 1) s) ≡ end
   tested-on e = reach-on p s i end inv h (sym told ∙ not-false t e)
@@ -119,7 +119,7 @@ module _ (p : ℕ → Bool) (s : List ℕ) (i end : ℕ) (t : Bool) (inv : i + r
   pub tested-stop : not t ≡ true → i ≡ end
   tested-stop e = reach-stop p s i end inv h (sym told ∙ not-true t e)
 
--- a run goes on through another whose bytes all pass its test too
+-- if every byte that passes p passes q, a run of q goes on past a run of p
 run-split : (p q : ℕ → Bool) → ((b : ℕ) → p b ≡ true → q b ≡ true) → (s : List ℕ) → run q s ≡ run p s + run q (drop (run p s) s)
 run-split p q h [] = rw (run-nil p, run-nil q)
 run-split p q h (b ∷ s) = by-cases _ (p b) (λ (e : p b ≡ true). goes e (run-split p q h s)) (λ (e : p b ≡ false). rw (run-stops p b s e) (sym (zero-add (run q (b ∷ s)))))
@@ -140,7 +140,7 @@ run-wider p q h s =
     let k : run q s ≡ run p s + run q (drop (run p s) s) = run-split p q h s in
     omega arith
 
--- a run that ends within a part is the same in the part
+-- a run that ends within the first n bytes is the same in those n bytes
 pub run-take : (p : ℕ → Bool) (s : List ℕ) (n : ℕ) → run p s ≤ n → run p (take n s) ≡ run p s
 run-take p [] zero h = refl
 run-take p [] (suc n) h = refl
@@ -192,14 +192,14 @@ run-whole p (b ∷ s) e = by-cases _ (p b) (λ (f : p b ≡ true). goes f (run-w
 pub run-short : (p : ℕ → Bool) (s : List ℕ) → run p s < length s → all p s ≡ false
 run-short p s h = by-cases (all p s ≡ false) (all p s) (λ (e : all p s ≡ true). let k : run p s ≡ length s = all-run p s e in absurd (omega arith)) (λ (e : all p s ≡ false). e)
 
--- the bytes of a run, cut off, all pass
+-- the bytes of a run all pass
 pub all-take : (p : ℕ → Bool) (s : List ℕ) → all p (take (run p s) s) ≡ true
 all-take p s =
     let r : run p (take (run p s) s) ≡ run p s = run-take p s (run p s) (le-refl (run p s)) in
     let l : length (take (run p s) s) ≡ run p s = length-take-le (run p s) s (run-le p s) in
     run-whole p (take (run p s) s) (r ∙ sym l)
 
--- a whole run stops at the first byte after it that does not pass
+-- if all of x passes and b does not, the run ends right after x
 pub run-append : (p : ℕ → Bool) (x : List ℕ) (b : ℕ) (y : List ℕ) → all p x ≡ true → p b ≡ false → run p (x ++ (b ∷ y)) ≡ length x
 run-append p [] b y e f = run-stops p b y f
 run-append p (a ∷ x) b y e f =
@@ -223,7 +223,7 @@ same-longer [] (c ∷ t) h = refl
 same-longer (b ∷ s) [] h = refl
 same-longer (b ∷ s) (c ∷ t) h = both-not-right _ _ (same-longer s t (λ (e : length s ≡ length t). h (ap suc e)))
 
--- a loop that has found the same bytes before i
+-- the invariant of a loop that has found equal bytes before i: the rests compare as the whole lists do
 module _ (s t : List ℕ) (i : ℕ) (answer : Bool) (inv : same (drop i s) (drop i t) ≡ answer) (long : length s ≡ length t) where
   pub same-on : i < length s → getD s i 0 ≡ getD t i 0 → same (drop (i + 1) s) (drop (i + 1) t) ≡ answer
   same-on h e =
@@ -247,7 +247,7 @@ module _ (s t : List ℕ) (i : ℕ) (answer : Bool) (inv : same (drop i s) (drop
 pub none-past : (s : List ℕ) (i : ℕ) → length s ≤ i → 0 ≡ getD s i 0
 none-past s i h = sym (List·getD-eq-default s 0 h)
 
--- ---- going from run to run: what `skip` answers stays within the list, and one past it is further on
+-- ---- from run to run: the result of `skip` is within the list, and the position after it is further on
 
 module _ (p : ℕ → Bool) (s : List ℕ) (at end : ℕ) (within : at < length s) (told : end ≡ runEnd p s at) where
   pub run-starts : at ≤ end
@@ -265,9 +265,9 @@ module _ (p : ℕ → Bool) (s : List ℕ) (at end : ℕ) (within : at < length 
   pub next-less : length s - (end + 1) < length s - at
   next-less = omega (arith, run-starts)
 
--- ---- blocks: a test of some bytes at once
+-- ---- blocks: several bytes tested at once
 
--- so many bytes at a place all pass: the run goes on behind them
+-- if the first n bytes all pass, the run goes on after them
 pub run-block : (p : ℕ → Bool) (n : ℕ) (x : List ℕ) → n ≤ length x → all p (take n x) ≡ true → run p x ≡ n + run p (drop n x)
 run-block p zero x h e = sym (zero-add (run p x))
 run-block p (suc n) [] h e = absurd (native.Mathlib.Nat.not-suc-le-zero h)
@@ -275,7 +275,7 @@ run-block p (suc n) (b ∷ x) h e =
     let f : both (p b) (all p (take n x)) ≡ true = rw (all-cons p b (take n x)) at e in
     rw (suc-add) (run-goes p b x (both-first _ _ f) ∙ ap suc (run-block p n x (le-of-suc-le-suc h) (both-second _ _ f)))
 
--- the place that a loop over blocks has come to leads to the same end
+-- the invariant of a loop over blocks: from its position i the run ends at `end`
 pub block-on : (p : ℕ → Bool) (s : List ℕ) (n i last end : ℕ) (t : Bool) → last + n ≡ length s → i ≤ last → t ≡ all p (take n (drop i s)) → not t ≡ false → runEnd p s i ≡ end → runEnd p s (i + n) ≡ end
 block-on p s n i last end t room h told e inv =
     let l : length (drop i s) ≡ length s - i = length-drop i s in
@@ -290,7 +290,7 @@ unfolding both
 both-assoc true b c = refl
 both-assoc false b c = refl
 
--- a loop that has found whether the bytes before i pass, and looks at those up to an end
+-- the invariant of a loop within a block: `whole` says whether the bytes before i pass; those from i to `end` are left
 module _ (p : ℕ → Bool) (s : List ℕ) (n from i end : ℕ) (whole goal : Bool) (room : from + n ≤ length s) (is : end ≡ from + n) (inv : both whole (all p (take (end - i) (drop i s))) ≡ goal) (g : i < end) where
   block-next : both whole (both (p (getD s i 0)) (all p (take (end - (i + 1)) (drop (i + 1) s)))) ≡ goal
   block-next =

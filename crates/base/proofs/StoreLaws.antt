@@ -1,4 +1,4 @@
--- Laws of the stores into a lent table: a run of stores taken one word at a time, and zeros up to the end.
+-- Laws of stores into a lent table: several words stored one by one, and zeros up to the end.
 -- Assumes nothing.
 use mathlib.Core.Path.{_≡_, refl, sym, _∙_, ap}
 use mathlib.Core.List.{List, [], _∷_, _++_, append-assoc, append-nil}
@@ -9,14 +9,14 @@ use native.Mathlib.Omega.{arith}
 use lib.ListN.{length, take, drop, getD, set, replicate, drop-of-length-le, length-set}
 use lib.Seq.{drop-cons, sets, set-split, take-all, take-suc-set}
 
--- one word stored, the rest still to store
+-- storing one word and then the rest gives the same table as storing all
 pub store-on : (t ws : List ℕ) (at i : ℕ) (goal : List ℕ) → i < length ws → sets t (at + i) (drop i ws) ≡ goal → sets (set t (at + i) (getD ws i 0)) (at + (i + 1)) (drop (i + 1) ws) ≡ goal
 store-on t ws at i goal h e = rw (add-one i, add-suc at i) (rw (drop-cons ws i 0 h) at e)
 
 pub store-done : (t ws : List ℕ) (at i : ℕ) (goal : List ℕ) → length ws ≤ i → sets t (at + i) (drop i ws) ≡ goal → t ≡ goal
 store-done t ws at i goal h e = rw (drop-of-length-le ws h) at e
 
--- a table that is right up to i and then zeros to its end
+-- the first i words of a table, and zeros from there to its end
 unfoldable pub zeroed : List ℕ → ℕ → List ℕ
 zeroed t i = take i t ++ replicate (length t - i) 0
 

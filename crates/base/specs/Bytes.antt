@@ -1,4 +1,4 @@
--- Bytes by their names, and the classes of bytes that document 01 speaks of.
+-- Names of single bytes, and the classes of bytes that document 01 uses.
 -- Assumes nothing.
 use Prim.Native.Nat.{ℕ, _+_}
 use Prim.Native.Char.{code}
@@ -25,7 +25,7 @@ carriageReturn = 13
 abbrev pub space : ℕ
 space = 32
 
--- from low to high, both counted
+-- from low to high, both included
 unfoldable pub within : ℕ → ℕ → ℕ → Bool
 within low high b = both (leb low b) (leb b high)
 
@@ -48,11 +48,11 @@ isSmall b = within 97 122 b
 unfoldable pub isLetter : ℕ → Bool
 isLetter b = either (isCapital b) (isSmall b)
 
--- a letter as its small one: what "case does not count" compares
+-- a capital letter as its small letter, any other byte unchanged: what is compared where "case does not count"
 unfoldable pub small : ℕ → ℕ
 small b = if isCapital b then b + 32 else b
 
--- any byte but a blank: what a word is made of
+-- any byte but a blank: the bytes of a word
 unfoldable pub isFilled : ℕ → Bool
 isFilled b = not (isBlank b)
 
@@ -60,10 +60,10 @@ isFilled b = not (isBlank b)
 unfoldable pub isPrinted : ℕ → Bool
 isPrinted b = either (within 32 126 b) (eqb b tab)
 
--- any byte but one
+-- any byte but `stop`
 unfoldable pub isBefore : ℕ → ℕ → Bool
 isBefore stop b = not (eqb b stop)
 
--- any byte but the comment byte and those of a terminator: what the content of a line is made of
+-- any byte but the comment byte, LF and CR: the bytes of a line's content
 unfoldable pub isContent : ℕ → ℕ → Bool
 isContent comment b = both (isBefore comment b) (both (isBefore lineFeed b) (isBefore carriageReturn b))

@@ -1,4 +1,5 @@
--- The one conditional that every definition of the project uses. It is shut: proofs go by its laws, `if-true` and `if-false`.
+-- The conditional that every definition of the project uses. It does not unfold by itself: proofs use its laws,
+-- `if-true` and `if-false`.
 -- Assumes nothing.
 use mathlib.Core.Bool.{Bool, true, false}
 
@@ -7,7 +8,7 @@ unfoldable pub if_then_else_ : {A : Type 0} → Bool → A → A → A
 if true then x else y = x
 if false then x else y = y
 
--- both tests hold; either test holds
+-- both tests hold; at least one test holds
 unfoldable pub both : Bool → Bool → Bool
 both true b = b
 both false b = false

@@ -1,4 +1,4 @@
--- How far a run of bytes of one class goes, and what stands before and after it.
+-- Runs: how many bytes from the front pass a test. Also whether all bytes pass, and whether two lists are equal.
 -- Assumes nothing.
 use Prim.Native.Nat.{ℕ, zero, suc}
 use mathlib.Core.Bool.{Bool}

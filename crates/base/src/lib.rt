@@ -1,4 +1,4 @@
-// The ground that every other crate stands on: byte classes, and stores into a lent table.
+// What every other crate uses: byte classes, runs of bytes, and stores into a lent table.
 ghost use mathlib.Core.Path.{_≡_};
 ghost use mathlib.Core.List.{_++_};
 ghost use Prim.Native.Nat.{_+_, _-_, _<_, _≤_};
@@ -10,7 +10,7 @@ ghost use Rattle.base.specs.Bytes.{isBlank, isDigit, isCapital, isSmall,
 ghost use Rattle.base.specs.Way.Joined.{Joins};
 ghost use Rattle.base.specs.Way.Class.{isNamed, inClass, runEnd};
 
-// How many bytes of a run are looked at together.
+// How many bytes of a run are tested together.
 const BLOCK: usize = 16;
 
 // A space or a TAB.
@@ -59,7 +59,7 @@ pub fn is_letter(b: u8) -> bool
     is_small(b)
 }
 
-// What a run of bytes is made of.
+// The kinds of bytes that a run can consist of.
 pub enum Class {
     Blank,
     // Not blank.
@@ -68,11 +68,11 @@ pub enum Class {
     Named,
     Digit,
     Letter,
-    // What a line may hold.
+    // A byte that a line may contain.
     Printed,
     // Any byte but this one.
     Before(u8),
-    // Any byte but this comment byte and those of a terminator.
+    // Any byte but this comment byte, LF and CR.
     Content(u8),
 }
 
@@ -136,7 +136,8 @@ pub fn in_class(class: Class, b: u8) -> bool
     }
 }
 
-// The byte at a place, 0 past the end: no text that is read holds a 0, so a test against any other byte fails there.
+// The byte at position `i`, or 0 past the end. A text that passes rule 2 contains no 0, so past the end a comparison
+// with any other byte fails.
 pub fn byte_at(s: &[u8], i: usize) -> u8
     ensures { λ r. ⌜ r ≡ getD (now (s .entry)) i 0 ⌝ }
 {
@@ -146,16 +147,16 @@ pub fn byte_at(s: &[u8], i: usize) -> u8
     s[i]
 }
 
-// ---- bytes taken together
+// ---- several bytes as one number
 
-// A byte as a word, so that its arithmetic asks nothing of the byte's own width.
+// A byte as a 64-bit word, so that arithmetic with it cannot overflow the width of a byte.
 fn wide(b: u8) -> u64
     ensures { λ r. ⌜ r ≡ b ⌝ ∗ ⌜ r < 256 ⌝ }
 {
     b as u64
 }
 
-// Four bytes as one number, the first of them the least: a processor takes them at once.
+// Four bytes as one number, the first byte the least significant. A processor can load them at once.
 pub fn four_at(s: &[u8], at: usize) -> u64
     requires { ⌜ at + 4 ≤ length (now s) ⌝ }
     ensures { λ r. ⌜ Joins (take 4 (drop at (now (s .entry)))) r ⌝ ∗ ⌜ r < 4_294_967_296 ⌝ }
@@ -165,7 +166,7 @@ pub fn four_at(s: &[u8], at: usize) -> u64
     low + 65_536 * high
 }
 
-// Eight bytes in the same way.
+// Eight bytes as one number, the first byte the least significant.
 pub fn eight_at(s: &[u8], at: usize) -> u64
     requires { ⌜ at + 8 ≤ length (now s) ⌝ }
     ensures { λ r. ⌜ Joins (take 8 (drop at (now (s .entry)))) r ⌝ }
@@ -175,14 +176,15 @@ pub fn eight_at(s: &[u8], at: usize) -> u64
 
 // ---- runs
 
-// Both, where the second is known already: no branch.
+// Whether both hold. The second is already computed, so no branch is needed.
 pub fn and(a: bool, b: bool) -> bool
     ensures { λ r. ⌜ r ≡ both a b ⌝ }
 {
     if a { b } else { false }
 }
 
-// Whether sixteen bytes are all of a class. Each is looked at, so that a processor takes them at once.
+// Whether sixteen bytes are all of a class. The loop tests every byte, without an early exit, so that a processor can
+// test them at once.
 fn is_block(class: Class, s: &[u8], from: usize) -> bool
     requires { ⌜ from + 16 ≤ length (now s) ⌝ }
     ensures { λ r. ⌜ r ≡ all (inClass class) (take 16 (drop from (now (s .entry)))) ⌝ }
@@ -197,7 +199,8 @@ fn is_block(class: Class, s: &[u8], from: usize) -> bool
     whole
 }
 
-// A place in the run that starts at `from`, near its end: past all blocks that lie in it whole.
+// Skips the whole blocks of sixteen bytes that lie inside the run that starts at `from`. Returns a position inside that
+// run, from which the run has the same end.
 fn skip_blocks(class: Class, s: &[u8], from: usize) -> usize
     ensures { λ r. ⌜ runEnd (inClass class) (now (s .entry)) r ≡ runEnd (inClass class) (now (s .entry)) from ⌝ }
 {
@@ -229,16 +232,16 @@ pub fn skip(class: Class, s: &[u8], from: usize) -> usize
     i
 }
 
-// The same, for runs that are often longer than a block.
+// The same as `skip`, faster for runs that are often longer than a block.
 pub fn skip_far(class: Class, s: &[u8], from: usize) -> usize
     ensures { λ r. ⌜ r ≡ runEnd (inClass class) (now (s .entry)) from ⌝ }
 {
     skip(class, s, skip_blocks(class, s, from))
 }
 
-// ---- runs that every line has: each says what `skip` says of its class, by a loop that is taken into its callers whole
+// ---- runs that every line has: each returns what `skip` returns for its class; its own short loop can be inlined
 
-// Past the blanks at `from`: where the next word of a line starts.
+// The position after the blanks at `from`: where the next word of a line starts.
 pub fn past_blanks(s: &[u8], from: usize) -> usize
     ensures { λ r. ⌜ r ≡ runEnd isBlank (now (s .entry)) from ⌝ }
 {
@@ -252,7 +255,7 @@ pub fn past_blanks(s: &[u8], from: usize) -> usize
     i
 }
 
-// Past the word at `from`.
+// The position after the word at `from`.
 pub fn past_word(s: &[u8], from: usize) -> usize
     ensures { λ r. ⌜ r ≡ runEnd isFilled (now (s .entry)) from ⌝ }
 {
@@ -278,7 +281,7 @@ pub fn put_words(table: &mut [u64], at: usize, words: &[u64])
     }
 }
 
-// Zeros from `from` to the end; nothing where `from` lies past it.
+// Sets every word from `from` to the end to zero. Does nothing if `from` is past the end.
 pub fn zero_from(table: &mut [u64], from: usize)
     ensures { λ _. ⌜ now (table .exit) ≡ take from (now (table .entry)) ++ replicate (length (now (table .entry)) - from) 0 ⌝ }
 {
@@ -289,7 +292,7 @@ pub fn zero_from(table: &mut [u64], from: usize)
     }
 }
 
-// A table that holds nothing: what a refusal leaves.
+// Zeroes the whole table, as a refused intake must.
 pub fn zero_all(table: &mut [u64])
     ensures { λ _. ⌜ now (table .exit) ≡ replicate (length (now (table .entry))) 0 ⌝ }
 {

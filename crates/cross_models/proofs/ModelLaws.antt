@@ -42,7 +42,7 @@ use Rattle.cross_rules.proofs.OrderLaws.{in-order}
 use Rattle.cross_rules.proofs.TwiceLaws.{model-twice}
 use Rattle.cross_rules.proofs.TableLaws.{view-holds, part-stands, part-many}
 use Rattle.cross_rules.specs.Way.Twice.{nameIn, hasAbove}
-use Rattle.cross_names.specs.Way.Listed.{namedBy, isListed, Listed}
+use Rattle.cross_names.specs.Way.Listed.{modelNamed, isListed, Listed}
 use Rattle.cross_names.proofs.NamedLaws.{same-turned, any-by, texts, first-has, first as firstNamed}
 use Rattle.cross_steps.specs.Way.StepWords.{firstTarget}
 use Rattle.cross_steps.specs.declared.Owner.{Owner}
@@ -174,8 +174,8 @@ module _ (d : Document) (before : List Model) (m : Model) (behind : List Model) 
       let l : length (before ++ (m ∷ behind)) ≡ length before + suc (length behind) = length-append before (m ∷ behind) in
       rw split (omega arith)
 
-  name-finds : (n : Named) → sameWord (n .name) (m .name) ≡ eqb (namedBy d n) (length before)
-  unfolding sameWord namedBy
+  name-finds : (n : Named) → sameWord (n .name) (m .name) ≡ eqb (modelNamed d n) (length before)
+  unfolding sameWord modelNamed
   name-finds n =
       by-cases _ (same (n .name .text) (m .name .text))
       (λ (e : same (n .name .text) (m .name .text) ≡ true).

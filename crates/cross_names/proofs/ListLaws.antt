@@ -1,5 +1,5 @@
--- Laws of the lines gone over for the list: the flags raised tell which models the lines above name, and what is left of the list gives
--- what the whole list breaks first.
+-- Laws of the loop over the model list: the flags say which models the lines so far name, and the rest of the list
+-- gives the first finding of the whole list.
 -- Assumes nothing.
 use mathlib.Core.Path.{_≡_, refl, sym, _∙_, ap}
 use mathlib.Core.Bool.{Bool, true, false, not, true≢false}
@@ -42,35 +42,35 @@ use Rattle.cross_rules.proofs.OrderLaws.{in-order, lines-rise}
 use Rattle.cross_rules.proofs.ListLaws.{models-below}
 use Rattle.cross_rules.proofs.TwiceLaws.{listed-twice}
 use Rattle.cross_rules.proofs.KindLaws.{first-here, first-later}
-use Rattle.cross_names.specs.Way.Listed.{namedBy, isListed, Listed}
-use Rattle.cross_names.specs.Way.Judged.{ModelsIn, noModel, modelFound, judgedBy, nameJudged, lineJudged, FindsListed}
+use Rattle.cross_names.specs.Way.Listed.{modelNamed, isListed, Listed}
+use Rattle.cross_names.specs.Way.Judged.{ModelsIn, noSlot, modelFound, judgedBy, nameJudged, lineJudged, FindsListed}
 use Rattle.cross_names.specs.declared.list.Judged.{Judged}
 use Rattle.cross_names.proofs.NamedLaws.{above-found, above-none, there-found, models-many, models-in, model-is}
 
--- what a line of the list breaks
+-- the finding of a list line
 abbrev finding : Document → Named → Finding
 finding d n = record { rule = listNameRule d n; line = n .line }
 
--- a line above names the model numbered i
+-- a list line above names model i
 abbrev raised : Document → List Named → ℕ → Bool
-raised d above i = any (λ (a : Named). eqb (namedBy d a) i) above
+raised d above i = any (λ (a : Named). eqb (modelNamed d a) i) above
 
 -- ---- one line
 
--- a line that names a model, by what it is in the document
+-- the line l is a list line, and n is what the document has for it
 pub record Names (l : Line) (ls : List Line) (n : Named) : Type 0 where
   pub one : listedAt l ls ≡ n ∷ []
   pub line : n .line ≡ l .line
 
--- what a line turns out to be
+-- the possible results of judging a line
 pub data Outcome (d : Document) (l : Line) (ls : List Line) : Judged → Type 0 where
-  silent : listedAt l ls ≡ [] → Outcome d l ls (record { rule = 0; slot = noModel })
+  silent : listedAt l ls ≡ [] → Outcome d l ls (record { rule = 0; slot = noSlot })
   broken : (n : Named) → Names l ls n → (number slot : ℕ) → listNameRule d n ≡ number → (number ≡ 0 → ⊥) → slot ≤ 64 →
       Outcome d l ls (record { rule = number; slot = slot })
-  fresh : (n : Named) → Names l ls n → (slot : ℕ) → listNameRule d n ≡ 0 → slot ≡ namedBy d n → slot < length (d .models) →
+  fresh : (n : Named) → Names l ls n → (slot : ℕ) → listNameRule d n ≡ 0 → slot ≡ modelNamed d n → slot < length (d .models) →
       Outcome d l ls (record { rule = 0; slot = slot })
 
--- the lines above the name n break nothing, and raise the flags
+-- the list lines above the name n break no rule, and they have set the flags
 module _ (t : List ℕ) (listed : List Bool) (above below : List Named) (n : Named) (split : documentOf t .listed ≡ above ++ (n ∷ below)) where
   abbrev d : Document
   d = documentOf t
@@ -78,20 +78,20 @@ module _ (t : List ℕ) (listed : List Bool) (above below : List Named) (n : Nam
   twice-is : isTwice (d .listed) n ≡ isThere above n
   twice-is = listed-twice d (in-order t) above below n split
 
-  rule-none : Each (λ (a : Named). namedBy d a < length (d .models)) above → length (d .models) ≤ namedBy d n → listNameRule d n ≡ 20
+  rule-none : Each (λ (a : Named). modelNamed d a < length (d .models)) above → length (d .models) ≤ modelNamed d n → listNameRule d n ≡ 20
   unfolding listNameRule
   rule-none have h =
       first-kept _ 19 _ 20 (twice-is ∙ above-none d n have h) (first-broken _ 20 0 (not-via (there-found d n ∙ le-ltb _ _ h)))
 
-  module _ (few : length (d .models) ≤ 64) (told : (i : ℕ) → i < 64 → getD listed i false ≡ raised d above i) (h : namedBy d n < length (d .models)) where
-    flag-is : isTwice (d .listed) n ≡ getD listed (namedBy d n) false
-    flag-is = twice-is ∙ above-found d n above h ∙ sym (told (namedBy d n) (omega arith))
+  module _ (few : length (d .models) ≤ 64) (told : (i : ℕ) → i < 64 → getD listed i false ≡ raised d above i) (h : modelNamed d n < length (d .models)) where
+    flag-is : isTwice (d .listed) n ≡ getD listed (modelNamed d n) false
+    flag-is = twice-is ∙ above-found d n above h ∙ sym (told (modelNamed d n) (omega arith))
 
-    rule-twice : getD listed (namedBy d n) false ≡ true → listNameRule d n ≡ 19
+    rule-twice : getD listed (modelNamed d n) false ≡ true → listNameRule d n ≡ 19
     unfolding listNameRule
     rule-twice e = first-broken _ 19 _ (flag-is ∙ e)
 
-    rule-fresh : getD listed (namedBy d n) false ≡ false → listNameRule d n ≡ 0
+    rule-fresh : getD listed (modelNamed d n) false ≡ false → listNameRule d n ≡ 0
     unfolding listNameRule
     rule-fresh e = first-kept _ 19 _ 0 (flag-is ∙ e) (first-kept _ 20 _ 0 (not-not-via (there-found d n ∙ lt-ltb _ _ h)) refl)
 
@@ -128,7 +128,7 @@ module _ (t : List ℕ) (n at p : ℕ) (f : Found) where
           names-none = λ (e : f .there ≡ false). plainly-quiet p listedAt not-listed _ _ (meets .same-none e) ∙ gather-none listedAt;
         }
 
--- ---- the lines that are left
+-- ---- the rest of the lines
 
 pub record ListLeft (t : List ℕ) (listed : List Bool) (at n p : ℕ) : Type 0 where
   pub passed : List Line
@@ -136,7 +136,7 @@ pub record ListLeft (t : List ℕ) (listed : List Bool) (at n p : ℕ) : Type 0 
   pub above : List Named
   pub rest : documentOf t .listed ≡ above ++ gather listedAt (linesAt t n at p)
   pub same : firstIn (map (finding (documentOf t)) (gather listedAt (linesAt t n at p))) ≡ firstIn (listFindings (documentOf t))
-  pub have : Each (λ (a : Named). namedBy (documentOf t) a < length (documentOf t .models)) above
+  pub have : Each (λ (a : Named). modelNamed (documentOf t) a < length (documentOf t .models)) above
   pub long : length listed ≡ 65
   pub told : (i : ℕ) → i < 64 → getD listed i false ≡ raised (documentOf t) above i
   pub within : at ≤ length t
@@ -158,7 +158,7 @@ list-starts t =
       counted = omega arith;
     }
 
--- ---- no line of the list stands below a line that opens a model
+-- ---- no list line comes after a line that opens a model
 
 each-behind : {A : Type 0} {P : A → Type 0} (xs : List A) {ys : List A} → Each P (xs ++ ys) → Each P ys
 each-behind [] h = h
@@ -211,14 +211,14 @@ module _ (t : List ℕ) (before : List Line) (l : Line) (ls : List Line) (all : 
       omega arith)
       (each-gather (λ (x : Line). l .line ≤ x .line) listedAt name-from lines-from) below
 
--- ---- a line that breaks nothing, and one that does
+-- ---- a line that breaks no rule, and one that does
 
--- what holds behind a line that breaks nothing
+-- what holds after a line that breaks no rule
 record Kept (t : List ℕ) (listed : List Bool) (l : Line) (ls : List Line) (judged : Judged) : Type 0 where
   above : List Named
   rest : documentOf t .listed ≡ above ++ gather listedAt ls
   same : firstIn (map (finding (documentOf t)) (gather listedAt ls)) ≡ firstIn (listFindings (documentOf t))
-  have : Each (λ (a : Named). namedBy (documentOf t) a < length (documentOf t .models)) above
+  have : Each (λ (a : Named). modelNamed (documentOf t) a < length (documentOf t .models)) above
   told : (i : ℕ) → i < 64 → getD (set listed (judged .slot) true) i false ≡ raised (documentOf t) above i
 
 slot-small : {d : Document} {l : Line} {ls : List Line} {judged : Judged} → length (d .models) ≤ 64 → Outcome d l ls judged → judged .slot < 65
@@ -260,7 +260,7 @@ kept-by :
     length (documentOf t .models) ≤ 64 → Outcome (documentOf t) l ls judged → judged .rule ≡ 0 →
     documentOf t .listed ≡ above ++ (listedAt l ls ++ gather listedAt ls) →
     firstIn (map (finding (documentOf t)) (listedAt l ls ++ gather listedAt ls)) ≡ firstIn (listFindings (documentOf t)) →
-    Each (λ (a : Named). namedBy (documentOf t) a < length (documentOf t .models)) above →
+    Each (λ (a : Named). modelNamed (documentOf t) a < length (documentOf t .models)) above →
     length listed ≡ 65 → ((i : ℕ) → i < 64 → getD listed i false ≡ raised (documentOf t) above i) → Kept t listed l ls judged
 kept-by {t} {listed} {l} {ls} {above = above} few (silent e) z rest same have long told =
     record {
@@ -268,7 +268,7 @@ kept-by {t} {listed} {l} {ls} {above = above} few (silent e) z rest same have lo
       rest = rest ∙ ap (λ (ns : List Named). above ++ (ns ++ gather listedAt ls)) e;
       same = ap (λ (ns : List Named). firstIn (map (finding (documentOf t)) (ns ++ gather listedAt ls))) (sym e) ∙ same;
       have = have;
-      told = λ (i : ℕ) (h : i < 64). flag-other listed noModel i (λ (k : i ≡ noModel). omega arith) ∙ told i h;
+      told = λ (i : ℕ) (h : i < 64). flag-other listed noSlot i (λ (k : i ≡ noSlot). omega arith) ∙ told i h;
     }
 kept-by few (broken m names number slot e ne low) z rest same have long told = absurd (ne z)
 kept-by {t} {listed} {l} {ls} {above = above} few (fresh m names slot e is h) z rest same have long told =
@@ -286,16 +286,16 @@ kept-by {t} {listed} {l} {ls} {above = above} few (fresh m names slot e is h) z 
           λ (i : ℕ) (k : i < 64).
           flag-more listed slot i (omega arith)
           ∙ (λ j. either (eqb (is j) i) (told i k j))
-          ∙ sym (any-one-more (λ (a : Named). eqb (namedBy (documentOf t) a) i) above m);
+          ∙ sym (any-one-more (λ (a : Named). eqb (modelNamed (documentOf t) a) i) above m);
     }
 
--- what the whole list gives, which is broken nowhere or in this line
+-- `number` and `line` are the first finding of the whole list; if there is none, the flags are as `Listed` says
 abbrev pub Gives : List ℕ → ℕ → ℕ → List Bool → Type 0
 Gives t number line listed =
     (record { rule = number; line = line } ≡ firstIn (listFindings (documentOf t))) × (number ≡ 0 → Listed (documentOf t) listed)
 
 module _ (t : List ℕ) (listed : List Bool) (at n p : ℕ) (left : ListLeft t listed at n p) where
-  -- nothing is left
+  -- no list line is left
   list-done : gather listedAt (linesAt t n at p) ≡ [] → Gives t 0 0 listed
   unfolding firstIn noFinding isListed
   list-done e =
@@ -328,7 +328,7 @@ module _ (t : List ℕ) (listed : List Bool) (at n p : ℕ) (left : ListLeft t l
       abbrev ls : List Line
       ls = linesBehind t line p
 
-      -- the lines before it, which name no model
+      -- the lines skipped before it, which name no model
       over : Plainly p (linesAt t n at p) (l ∷ ls)
       over = nears .meets .same-there (not-false (line .there) there)
 
@@ -371,30 +371,30 @@ module _ (t : List ℕ) (listed : List Bool) (at n p : ℕ) (left : ListLeft t l
         few : length (documentOf t .models) ≤ 64
         few = rw many at (models-in t table filled v is-view .few)
 
-        index-is : modelFound t table v line ≡ namedBy (documentOf t) name
+        index-is : modelFound t table v line ≡ modelNamed (documentOf t) name
         unfolding wordsOf
         index-is = model-is t table filled v is-view line name refl
 
         -- a name, by the model that it finds
-        name-outcome : Names l ls name → Outcome (documentOf t) l ls (judgedBy (length (documentOf t .models)) (namedBy (documentOf t) name) listed)
+        name-outcome : Names l ls name → Outcome (documentOf t) l ls (judgedBy (length (documentOf t .models)) (modelNamed (documentOf t) name) listed)
         unfolding judgedBy
         name-outcome names =
             let split : documentOf t .listed ≡ left .above ++ (name ∷ gather listedAt ls) =
             rest-here ∙ ap (λ (ns : List Named). left .above ++ (ns ++ gather listedAt ls)) (names .one) in
-            by-cases _ (leb (length (documentOf t .models)) (namedBy (documentOf t) name))
-            (λ (e : leb (length (documentOf t .models)) (namedBy (documentOf t) name) ≡ true).
-            rw (if-true {A = Judged} (record { rule = 20; slot = noModel }) _ e)
-            (broken name names 20 noModel (rule-none t listed (left .above) _ name split (left .have) (leb-true _ _ e)) (λ (z : _≡_ {A = ℕ} 20 0). omega arith) (omega arith)))
-            (λ (e : leb (length (documentOf t .models)) (namedBy (documentOf t) name) ≡ false).
-            let h : namedBy (documentOf t) name < length (documentOf t .models) = leb-false _ _ e in
-            rw (if-false {A = Judged} (record { rule = 20; slot = noModel }) _ e)
-            (by-cases _ (getD listed (namedBy (documentOf t) name) false)
-            (λ (f : getD listed (namedBy (documentOf t) name) false ≡ true).
-            rw (if-true {A = Judged} (record { rule = 19; slot = namedBy (documentOf t) name }) _ f)
-            (broken name names 19 (namedBy (documentOf t) name) (rule-twice t listed (left .above) _ name split few (left .told) h f) (λ (z : _≡_ {A = ℕ} 19 0). omega arith) (small h few)))
-            (λ (f : getD listed (namedBy (documentOf t) name) false ≡ false).
-            rw (if-false {A = Judged} (record { rule = 19; slot = namedBy (documentOf t) name }) _ f)
-            (fresh name names (namedBy (documentOf t) name) (rule-fresh t listed (left .above) _ name split few (left .told) h f) refl h))))
+            by-cases _ (leb (length (documentOf t .models)) (modelNamed (documentOf t) name))
+            (λ (e : leb (length (documentOf t .models)) (modelNamed (documentOf t) name) ≡ true).
+            rw (if-true {A = Judged} (record { rule = 20; slot = noSlot }) _ e)
+            (broken name names 20 noSlot (rule-none t listed (left .above) _ name split (left .have) (leb-true _ _ e)) (λ (z : _≡_ {A = ℕ} 20 0). omega arith) (omega arith)))
+            (λ (e : leb (length (documentOf t .models)) (modelNamed (documentOf t) name) ≡ false).
+            let h : modelNamed (documentOf t) name < length (documentOf t .models) = leb-false _ _ e in
+            rw (if-false {A = Judged} (record { rule = 20; slot = noSlot }) _ e)
+            (by-cases _ (getD listed (modelNamed (documentOf t) name) false)
+            (λ (f : getD listed (modelNamed (documentOf t) name) false ≡ true).
+            rw (if-true {A = Judged} (record { rule = 19; slot = modelNamed (documentOf t) name }) _ f)
+            (broken name names 19 (modelNamed (documentOf t) name) (rule-twice t listed (left .above) _ name split few (left .told) h f) (λ (z : _≡_ {A = ℕ} 19 0). omega arith) (small h few)))
+            (λ (f : getD listed (modelNamed (documentOf t) name) false ≡ false).
+            rw (if-false {A = Judged} (record { rule = 19; slot = modelNamed (documentOf t) name }) _ f)
+            (fresh name names (modelNamed (documentOf t) name) (rule-fresh t listed (left .above) _ name split few (left .told) h f) refl h))))
 
         judged-outcome : Outcome (documentOf t) l ls (lineJudged t table v p line listed)
         unfolding lineJudged nameJudged
@@ -402,13 +402,13 @@ module _ (t : List ℕ) (listed : List Bool) (at n p : ℕ) (left : ListLeft t l
             by-cases _ (both (eqb p place.list) (eqb (line .key) plain))
             (λ (e : both (eqb p place.list) (eqb (line .key) plain) ≡ true).
             let names : Names l ls name = record { one = listed-is ∙ if-true _ _ e; line = refl } in
-            rw (if-true {A = Judged} (judgedBy count (modelFound t table v line) listed) (record { rule = 0; slot = noModel }) e, many, index-is)
+            rw (if-true {A = Judged} (judgedBy count (modelFound t table v line) listed) (record { rule = 0; slot = noSlot }) e, many, index-is)
             (name-outcome names))
             (λ (e : both (eqb p place.list) (eqb (line .key) plain) ≡ false).
-            rw (if-false {A = Judged} (judgedBy count (modelFound t table v line) listed) (record { rule = 0; slot = noModel }) e)
+            rw (if-false {A = Judged} (judgedBy count (modelFound t table v line) listed) (record { rule = 0; slot = noSlot }) e)
             (silent (listed-is ∙ if-false _ _ e)))
 
-        -- the line opens a model: the list stands above all models
+        -- the line opens a model: the list is above all models
         module _ (opens : Bool) (told-opens : opens ≡ both (isInFamily p) (eqb (line .key) beginIcmModel)) (is-open : opens ≡ true) where
           opened : opensModel l ≡ true
           unfolding opensModel keyOf

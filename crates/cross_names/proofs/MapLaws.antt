@@ -1,4 +1,4 @@
--- Laws of the maps gone over: those that are left give what all of them, with their pins, break first.
+-- Laws of the loop over the maps: the maps that are left give the first finding of all maps and their pins.
 -- Assumes nothing.
 use mathlib.Core.Path.{_≡_, refl, sym, _∙_, ap, subst}
 use mathlib.Core.Bool.{Bool, true, false}
@@ -26,7 +26,7 @@ use Rattle.cross_rules.proofs.KindLaws.{first-here, first-later}
 use Rattle.cross_names.specs.Way.Pins.{twiceAt, MapRoom, pinsOfMap}
 use Rattle.cross_names.proofs.TableLaws.{maps-many, rule-here, line-here, room-here, own-here}
 
--- ---- the first of two lists
+-- ---- the first finding of two lists
 
 none-first : firstIn [] .rule ≡ 0
 unfolding firstIn noFinding
@@ -52,7 +52,7 @@ first-behind (f ∷ fs) gs z =
     first-later f (fs ++ gs) (eqb-true _ _ e) ∙ first-behind fs gs (ap numberOf (sym (first-later f fs (eqb-true _ _ e))) ∙ z))
     (λ (e : eqb (f .rule) 0 ≡ false). absurd (eqb-false _ _ e (ap numberOf (sym (first-here f fs (eqb-false _ _ e))) ∙ z)))
 
--- ---- what is left
+-- ---- the maps that are left
 
 pub record MapsLeft (t : List ℕ) (i : ℕ) : Type 0 where
   pub above : List Map

@@ -1,4 +1,5 @@
--- Laws of the model that a name finds: in the table as in the document, and that two names that find one model are the same.
+-- Laws of the model that a name finds: it is the same in the table and in the document, and two names that find one
+-- model are equal.
 -- Assumes nothing.
 use mathlib.Core.Path.{_≡_, refl, sym, _∙_, ap}
 use mathlib.Core.Bool.{Bool, true, false, not, true≢false}
@@ -35,9 +36,9 @@ use Rattle.table_name.specs.Way.Search.{isNamed, findIn}
 use Rattle.cross_rules.specs.Rules.{any, sameWord, isThere, modelName}
 use Rattle.cross_rules.specs.Way.HoldsText.{HoldsText}
 use Rattle.cross_rules.proofs.TableLaws.{view-holds, part-stands, part-many}
-use Rattle.cross_names.specs.Way.Listed.{namedBy}
+use Rattle.cross_names.specs.Way.Listed.{modelNamed}
 use Rattle.cross_names.specs.declared.list.Judged.{Judged}
-use Rattle.cross_names.specs.Way.Judged.{ModelsIn, modelFound, noModel, judgedBy, nameJudged}
+use Rattle.cross_names.specs.Way.Judged.{ModelsIn, modelFound, noSlot, judgedBy, nameJudged}
 
 -- ---- names that are the same
 
@@ -51,7 +52,7 @@ same-turned s t =
 
 -- ---- the first model of a name
 
--- the names of models, and the first one that is this
+-- the names of the models, and the index of the first that equals a name
 abbrev pub texts : List Model → List (List ℕ)
 texts ms = map (λ (m : Model). m .name .text) ms
 
@@ -68,7 +69,7 @@ first-has name (m ∷ ms) h =
     let f : first name (m ∷ ms) ≡ suc (first name ms) = if-false {A = ℕ} zero (suc (first name ms)) e in
     rw f (first-has name ms (le-of-suc-le-suc (rw f at h))))
 
--- two names that find one model are the same, and only they
+-- if a name finds a model, another name is the same exactly if it finds that model too
 first-same : (x y : List ℕ) (ms : List Model) → first y ms < length ms → same x y ≡ eqb (first x ms) (first y ms)
 first-same x y ms h =
     by-cases _ (same x y)
@@ -102,14 +103,14 @@ any-by f g e [] = refl
 any-by f g e (x ∷ xs) = λ i. either (e x i) (any-by f g e xs i)
 
 module _ (d : Document) (n : Named) where
-  -- a name that has a model stands above exactly where a line above finds its model
-  pub above-found : (above : List Named) → namedBy d n < length (d .models) → isThere above n ≡ any (λ (a : Named). eqb (namedBy d a) (namedBy d n)) above
-  unfolding isThere sameWord namedBy
+  -- a name that has a model is repeated exactly if a list line above finds the same model
+  pub above-found : (above : List Named) → modelNamed d n < length (d .models) → isThere above n ≡ any (λ (a : Named). eqb (modelNamed d a) (modelNamed d n)) above
+  unfolding isThere sameWord modelNamed
   above-found above h = any-by _ _ (λ (a : Named). first-same (a .name .text) (n .name .text) (d .models) h) above
 
-  -- one that has none stands nowhere above, where all above have one
-  pub above-none : {above : List Named} → Each (λ (a : Named). namedBy d a < length (d .models)) above → length (d .models) ≤ namedBy d n → isThere above n ≡ false
-  unfolding isThere any sameWord namedBy
+  -- a name that has no model is not repeated, if all names above have one
+  pub above-none : {above : List Named} → Each (λ (a : Named). modelNamed d a < length (d .models)) above → length (d .models) ≤ modelNamed d n → isThere above n ≡ false
+  unfolding isThere any sameWord modelNamed
   above-none none h = refl
   above-none (more {x = a} k ks) h = either-false _ _ (apart a k h) (above-none ks h)
     where
@@ -121,8 +122,8 @@ module _ (d : Document) (n : Named) where
           absurd (omega arith))
           (λ (e : same (a .name .text) (n .name .text) ≡ false). e)
 
-  pub there-found : isThere (map modelName (d .models)) n ≡ ltb (namedBy d n) (length (d .models))
-  unfolding namedBy sameWord
+  pub there-found : isThere (map modelName (d .models)) n ≡ ltb (modelNamed d n) (length (d .models))
+  unfolding modelNamed sameWord
   there-found = first-there n (d .models)
 
 -- ---- in the table
@@ -160,9 +161,9 @@ module _ (t table : List ℕ) (filled : HoldsText t table) (v : View) (is-view :
         few = view-holds t table filled .few models (omega arith);
       })
 
-  -- the name of a line of the list finds its model
-  pub model-is : (line : Found) (n : Named) → n .name ≡ firstWord (wordsOf (lineIn t line 0)) → modelFound t table v line ≡ namedBy d n
-  unfolding modelFound findIn namedBy sameWord
+  -- the search of the table finds the model that the list line names
+  pub model-is : (line : Found) (n : Named) → n .name ≡ firstWord (wordsOf (lineIn t line 0)) → modelFound t table v line ≡ modelNamed d n
+  unfolding modelFound findIn modelNamed sameWord
   model-is line n e =
       ap (indexOf (isNamed t (firstWord (wordsOf (lineIn t line 0)) .text) 0)) models-stand
       ∙ find-model t (firstWord (wordsOf (lineIn t line 0)) .text) 0 (all-stand t .models)
@@ -179,7 +180,7 @@ module _ (t : List ℕ) (line : Found) (located : Located t line) where
       let c : length (contentIn t line) ≡ line .end - line .at = length-take-le (line .end - line .at) (drop (line .at) t) (omega arith) in
       record { inside = omega arith; bytes = ap (λ (k : ℕ). take k (drop (line .at) t)) c }
 
-  -- the search of the table for the word that is marked
+  -- the search of the table for the first word of the line
   pub found-first :
       (table : List ℕ) (v : View) (mark : Mark) → mark ≡ markOf (firstWord (wordsFrom (line .at) (contentIn t line))) →
       (name : List ℕ) → name ≡ nameAt t (mark .start) (mark .size) →
@@ -190,10 +191,10 @@ module _ (t : List ℕ) (line : Found) (located : Located t line) where
       told ∙ ap (λ (m : Mark). take (m .size) (drop (m .start) t)) e ∙ first-word-stands t (lineIn t line 0) line-stands .bytes in
       is ∙ ap (λ (s : List ℕ). findIn t table (getD (v .bases) models 0) 5 (getD (v .counts) models 0) s 0) n
 
--- ---- what it breaks
+-- ---- the rule that it breaks
 
 module _ (t table : List ℕ) (v : View) (line : Found) (listed : List Bool) (index : ℕ) (is : index ≡ modelFound t table v line) where
-  pub name-none : getD (v .counts) models 0 ≤ index → record { rule = 20; slot = noModel } ≡ nameJudged t table v line listed
+  pub name-none : getD (v .counts) models 0 ≤ index → record { rule = 20; slot = noSlot } ≡ nameJudged t table v line listed
   unfolding nameJudged judgedBy
   name-none h = rw (← is) (sym (if-true _ _ (le-leb _ _ h)))
 

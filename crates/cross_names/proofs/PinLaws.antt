@@ -1,4 +1,4 @@
--- Laws of the pins of one map gone over: those that are left give what all of them break first.
+-- Laws of the loop over the pins of one map: the pins that are left give the first finding of all its pins.
 -- Assumes nothing.
 use mathlib.Core.Path.{_≡_, refl, sym, _∙_, ap}
 use mathlib.Core.Bool.{Bool, true, false}

@@ -1,4 +1,4 @@
--- The rules of a section by the table's records are those of the document.
+-- By its record in the table a section breaks the same rules as by the document.
 -- Assumes nothing.
 use mathlib.Core.Path.{_≡_, refl, sym, _∙_, ap}
 use mathlib.Core.Bool.{Bool, true, false, not}
@@ -79,7 +79,7 @@ unfolding sectionRecords
 section-count first [] = refl
 section-count first (x ∷ xs) = ap suc (section-count (first + length (x .matrices)) xs)
 
--- the first matrix of the section behind these
+-- the index of the first matrix of the section after these
 unfoldable firstAt : ℕ → List Section → ℕ
 firstAt first [] = first
 firstAt first (x ∷ xs) = firstAt (first + length (x .matrices)) xs
@@ -126,7 +126,7 @@ module _ (t table : List ℕ) (filled : HoldsText t table) where
     here : length above < length (d .sections)
     here = let n : length (d .sections) ≡ length above + suc (length below) = ap length e ∙ length-append above (x ∷ below) in omega arith
 
-    -- the name of the record that stands there
+    -- the words of the record of this section
     word-here : (f : ℕ) → f < 8 → getD table (base + 8 * length above + f) 0 ≡ getD (sectionWords (sectionRecord (firstAt 0 above) x)) f 0
     word-here f h =
         let n : base + 8 * length above + f ≡ base + (8 * length above + f) = omega arith in
@@ -168,7 +168,7 @@ module _ (t table : List ℕ) (filled : HoldsText t table) where
 
 -- ---- one section after another
 
--- what the sections left give is what all of them give
+-- the loop's invariant: the sections that are left give the first finding of all sections
 pub record SectionsLeft (t table : List ℕ) (i : ℕ) : Type 0 where
   pub above : List Section
   pub below : List Section
@@ -199,7 +199,7 @@ module _ (t table : List ℕ) (filled : HoldsText t table) (used : List Bool) (f
   abbrev whole : Finding
   whole = firstIn (sectionFindings (documentOf t) 0 (documentOf t .sections))
 
-  -- what the code finds of the section numbered i
+  -- the rule that the code gives for section i
   abbrev ruleAt : ℕ → ℕ
   ruleAt i = ruleOf (hasAbove t (nameAt t (getD table (start + 8 * i) 0) (getD table (start + 8 * i + 1) 0)) (chopped 8 i (drop start table))) (getD used i false)
 
@@ -243,7 +243,7 @@ module _ (t table : List ℕ) (filled : HoldsText t table) (used : List Bool) (f
         same = sym (first-later (record { rule = sectionRule (documentOf t) i x; line = x .line }) (sectionFindings (documentOf t) (i + 1) below) (sym a ∙ z)) ∙ ap firstIn (sym (finding-on (documentOf t) i x below)) ∙ s;
       }
 
-  -- for the code, whose view is the table's
+  -- for the code, which has the view of the table
   module _ (i : ℕ) (left : SectionsLeft t table i) where
     sections-done : getD (viewOf table .counts) sections 0 ≤ i → record { rule = 0; line = 0 } ≡ whole
     sections-done h = done-with i (left .above) (left .below) (left .all) (left .many-above) (left .same) h
@@ -264,7 +264,7 @@ module _ (t table : List ℕ) (filled : HoldsText t table) (used : List Bool) (f
 steps-inside : (t table : List ℕ) → HoldsText t table → getD (viewOf table .bases) steps 0 + 6 * getD (viewOf table .counts) steps 0 ≤ length table
 steps-inside t table filled = view-holds t table filled .inside steps (omega arith)
 
--- ---- the same over the view that the code has
+-- ---- the same for the view that the code has
 
 module _ (t table : List ℕ) (v : View) (holds : HoldsText t table × (v ≡ viewOf table)) where
   pub steps-asked : getD (v .bases) steps 0 + 6 * getD (v .counts) steps 0 ≤ length table

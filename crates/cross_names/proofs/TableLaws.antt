@@ -1,4 +1,5 @@
--- The names of a table's records, and those of the maps and of their pins: a name stands twice there exactly where the document has it so.
+-- The names of a table's records, of maps and of their pins: a name is repeated in the table exactly if it is in the
+-- document.
 -- Assumes nothing.
 use mathlib.Core.Path.{_≡_, refl, sym, _∙_, ap}
 use mathlib.Core.Bool.{Bool}
@@ -39,7 +40,7 @@ module _ {A B : Type 0} (f : A → B) where
   mapped-here [] below x none = refl
   mapped-here (y ∷ above) below x none = mapped-here above below x none
 
-  -- one of the middle of three lists
+  -- an element of the middle one of three lists
   mapped-middle :
       (front above below behind : List A) (x : A) (none : B) →
       getD (map f (front ++ ((above ++ (x ∷ below)) ++ behind))) (length front + length above) none ≡ f x
@@ -51,7 +52,7 @@ module _ {A B : Type 0} (f : A → B) where
       ap (λ (k : ℕ). getD (map f ((y ∷ front) ++ ((above ++ (x ∷ below)) ++ behind))) k none) (suc-add (length front) (length above))
       ∙ mapped-middle front above below behind x none
 
-  -- the middle of three lists
+  -- the middle one of three lists
   middle : (xs ys zs : List A) → take (length ys) (drop (length xs) (map f (xs ++ (ys ++ zs)))) ≡ map f ys
   middle xs ys zs =
       let e : map f (xs ++ (ys ++ zs)) ≡ map f xs ++ (map f ys ++ map f zs) =
@@ -64,7 +65,7 @@ mapped-twice : {A B C : Type 0} (f : B → C) (g : A → B) (xs : List A) → ma
 mapped-twice f g [] = refl
 mapped-twice f g (x ∷ xs) = ap (λ (ys : List _). f (g x) ∷ ys) (mapped-twice f g xs)
 
--- ---- records that begin behind others
+-- ---- records that come after others
 
 part-first : (w n total : ℕ) (t : List ℕ) → n ≤ total → chopped w n (drop (w * zero) t) ≡ take n (chopped w total t)
 part-first w n total t h = ap (λ (k : ℕ). chopped w n (drop k t)) (mul-zero w) ∙ chopped-first w n total t h
@@ -141,7 +142,7 @@ unfolding mapRecords
 map-count first [] = refl
 map-count first (m ∷ ms) = ap suc (map-count (first + length (m .pins)) ms)
 
--- its first pin comes behind those of the maps above it
+-- its first pin comes after the pins of the maps before it
 record-here :
     (first : ℕ) (above below : List Map) (m : Map) →
     getD (map mapWords (mapRecords first (above ++ (m ∷ below)))) (length above) [] ≡ mapWords (mapRecord (first + length (pinsOf above)) m)
@@ -204,7 +205,7 @@ module _ (t table : List ℕ) (v : View) (holds : HoldsText t table × (v ≡ vi
   pins-few : pinCount ≤ 4_096
   pins-few = rw (holds .1) (view-holds t table (holds .0) .few pins (omega arith))
 
-  -- the map that stands behind so many others
+  -- a map, with the maps before it and after it
   module _ (above below : List Map) (m : Map) (split : d .maps ≡ above ++ (m ∷ below)) where
     map-inside : length above < mapCount
     map-inside =
@@ -282,7 +283,7 @@ module _ (t table : List ℕ) (v : View) (holds : HoldsText t table × (v ≡ vi
     map-stands : MapStands t m
     map-stands = each-at above below m (rw split at (all-stand t .maps))
 
-    -- the pin that stands behind so many of its map
+    -- a pin of the map, with the pins before it and after it
     module _ (front behind : List Named) (p : Named) (own : m .pins ≡ front ++ (p ∷ behind)) where
       pin-twice-here : twiceAt t table ownBase 2 (length front) ≡ isTwice (m .pins) p
       pin-twice-here =

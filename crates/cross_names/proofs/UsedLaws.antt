@@ -1,4 +1,4 @@
--- Laws of the flags: those raised so far and the steps left give what all steps give.
+-- Laws of the loop over the steps: the flags set so far and the steps that are left give the flags of all steps.
 -- Assumes nothing.
 use mathlib.Core.Path.{_≡_, refl, sym, _∙_, ap}
 use mathlib.Core.Bool.{Bool, true, false, not}
@@ -26,7 +26,7 @@ far i target h =
     ne-eqb target i (λ (z : target ≡ i). omega arith) ∙ sym (ne-eqb 256 i (λ (z : 256 ≡ i). omega arith)) ∙ ap (λ (x : ℕ). eqb x i) (sym (if-true {A = ℕ} 256 target e)))
     (λ (e : leb 256 target ≡ false). ap (λ (x : ℕ). eqb x i) (sym (if-false {A = ℕ} 256 target e)))
 
--- a step raises the flag of the section that it points at
+-- a step sets the flag of its section
 slot-points : (i kind target : ℕ) → i < 256 → both (eqb kind sectionKind) (eqb target i) ≡ eqb (slotOf kind target) i
 unfolding slotOf
 slot-points i kind target h =
@@ -47,7 +47,7 @@ slot-in kind target slot e = let s : slotOf kind target ≤ 256 = slot-small kin
 slot-within : (kind target slot : ℕ) (used : List Bool) → slot ≡ slotOf kind target → length used ≡ 257 → slot < length used
 slot-within kind target slot used e l = let s : slotOf kind target ≤ 256 = slot-small kind target in omega arith
 
--- what is raised and what is left gives the whole
+-- the loop's invariant: the flags set so far, with the steps that are left, give the flags of all steps
 pub record Raised (table : List ℕ) (base count : ℕ) (used : List Bool) (at i : ℕ) : Type 0 where
   pub long : length used ≡ 257
   pub place : at ≡ base + 6 * i

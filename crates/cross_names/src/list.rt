@@ -26,23 +26,24 @@ const TWICE: u64 = 19;
 // How many words a record of a model has.
 const MODEL_WORDS: usize = 5;
 
-// The flag behind those of all models: it is raised by a line that names none.
+// The flag after those of all models: a line that names no model sets it.
 const NO_MODEL: usize = 64;
 
-// What the list breaks, and, where it breaks nothing, which models it names: a flag for each, and one behind them.
+// The first list line that breaks a rule; rule 0 if none does. Then `listed` says which models the list names: a flag
+// for each model, and NO_MODEL.
 pub struct ListFinding {
     pub rule: u64,
     pub line: u64,
     pub listed: [bool; 65],
 }
 
-// What one line breaks, 0 for nothing, and the flag that it raises.
+// The rule that a line breaks, 0 for none, and the flag that it sets.
 pub struct Judged {
     pub rule: u64,
     pub slot: usize,
 }
 
-// A line of the list.
+// Whether a line belongs to the model list.
 fn stands_in_list(place: u64, key: u64) -> bool
     ensures { λ r. ⌜ r ≡ both (eqb place list) (eqb key plain) ⌝ }
 {
@@ -52,7 +53,7 @@ fn stands_in_list(place: u64, key: u64) -> bool
     key == doc::PLAIN
 }
 
-// The list stands above all models.
+// Whether a line opens a model. The list is above all models, so the search for list lines ends there.
 fn opens_model(place: u64, key: u64) -> bool
     ensures { λ r. ⌜ r ≡ both (isInFamily place) (eqb key beginIcmModel) ⌝ }
 {
@@ -62,7 +63,7 @@ fn opens_model(place: u64, key: u64) -> bool
     key == lex_keyword::BEGIN_ICM_MODEL
 }
 
-// The next line that may say something of the list: in the list any line, elsewhere one with a keyword.
+// The next line that matters for the list: inside the list any line, elsewhere only a line with a keyword.
 fn next_told(text: &[u8], at: usize, line: u64, place: u64) -> Found
     requires { ⌜ (at ≤ length (now text)) × (line ≤ at + 1) ⌝ }
     ensures { λ r. ⌜ FindsListed (now (text .entry)) line at place r ⌝ }
@@ -73,7 +74,7 @@ fn next_told(text: &[u8], at: usize, line: u64, place: u64) -> Found
     doc::next_keyed(text, at, line, place)
 }
 
-// The first model of the name that a line opens with; as many as there are where none has it.
+// The index of the first model whose name is the first word of the line; the number of models if there is none.
 fn model_found(text: &[u8], table: &[u64], view: View, line: Found) -> u64
     requires { ⌜ ModelsIn (now table) view × Located (now text) line ⌝ }
     ensures { λ r. ⌜ r ≡ modelFound (now (text .entry)) (now (table .entry)) view line ⌝ }
@@ -95,7 +96,8 @@ fn model_found(text: &[u8], table: &[u64], view: View, line: Found) -> u64
     )
 }
 
-// A name of the list, by the model that it finds: where all lines above it break nothing, a second one finds a flag raised.
+// Judges a name of the list by the model that it finds. If no list line above breaks a rule, a repeated name finds the
+// flag of its model set.
 fn judge_name(text: &[u8], table: &[u64], view: View, line: Found, listed: [bool; 65]) -> Judged
     requires { ⌜ ModelsIn (now table) view × Located (now text) line ⌝ }
     ensures { λ r. ⌜ r ≡ nameJudged (now (text .entry)) (now (table .entry)) view line listed ⌝ }
@@ -135,7 +137,8 @@ fn judge_line(
     judge_name(text, table, view, line, listed)
 }
 
-// The lines of the list, up to the first that breaks a rule. At most 64 models exist, so the search ends after at most 65 lines.
+// Goes through the list lines up to the first that breaks a rule. There are at most 64 models, so at most 65 list lines
+// are judged.
 pub fn list_finding(text: &[u8], table: &[u64], view: View) -> ListFinding
     requires { ⌜ HoldsText (now text) (now table) × (view ≡ viewOf (now table)) ⌝ }
     ensures { λ r. ⌜ (record { rule = r .rule; line = r .line } ≡ firstIn (listFindings (documentOf (now (text .entry))))) × (r .rule ≡ 0 → Listed (documentOf (now (text .entry))) (r .listed)) ⌝ }

@@ -20,10 +20,12 @@ const MAP_WORDS: usize = 7;
 
 const PIN_WORDS: usize = 2;
 
-// A mark that is the number of no map.
+// A stamp that no map has: the stamp of a map is its index, at most 63. As the stamps differ, the marks of one map need
+// not be cleared for the next.
 const UNMARKED: u8 = 64;
 
-// The first of a map's pins that has the name of one above it. The record of the map's first pin stands at `base`; it is numbered `first`.
+// The first of a map's pins that has the name of an earlier pin. The record of the map's first pin begins at word
+// `base`; its index among all pins is `first`.
 fn pin_finding(
     text: &[u8],
     table: &[u64],
@@ -49,7 +51,7 @@ fn pin_finding(
     Finding { rule: 0, line: 0 }
 }
 
-// The same of the map numbered `index`: `maps` and `pins` say where the records of each begin.
+// The same for map `index`. The records of maps begin at word `maps`, those of pins at word `pins`.
 fn own_finding(
     text: &[u8],
     table: &[u64],
@@ -75,7 +77,8 @@ fn own_finding(
     )
 }
 
-// The first map, or pin of a map, that has a name twice.
+// The first line that breaks rule 19: a map with the name of an earlier map, or a pin with the name of an earlier pin
+// of its map.
 pub fn map_finding(text: &[u8], table: &[u64], view: View) -> Finding
     requires { ⌜ HoldsText (now text) (now table) × (view ≡ viewOf (now table)) ⌝ }
     ensures { λ r. ⌜ r ≡ firstIn (mapFindings (documentOf (now (text .entry))) (documentOf (now (text .entry)) .maps)) ⌝ }

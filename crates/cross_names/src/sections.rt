@@ -18,7 +18,7 @@ use table_layout::View;
 // The kind of a step over a section.
 const SECTION: u64 = 1;
 
-// The flag that a step raises: that of the section it points at, or the one behind all of them.
+// The flag that a step sets: that of its section, or flag 256, which no section has.
 fn slot_of(kind: u64, target: u64) -> usize
     ensures { λ r. ⌜ r ≡ slotOf kind target ⌝ }
 {
@@ -31,7 +31,7 @@ fn slot_of(kind: u64, target: u64) -> usize
     target as usize
 }
 
-// Which sections the steps point at.
+// Which sections are the target of a step: a flag for each, and flag 256.
 fn used_sections(table: &[u64], base: usize, count: u64) -> [bool; 257]
     requires { ⌜ base + 6 * count ≤ length (now table) ⌝ }
     ensures { λ r. ⌜ Flags r (chopped 6 count (drop base (now (table .entry)))) ⌝ }
@@ -50,7 +50,7 @@ fn used_sections(table: &[u64], base: usize, count: u64) -> [bool; 257]
     used
 }
 
-// What the section numbered `index` breaks.
+// The rule that section `index` breaks, 0 for none.
 fn section_rule(text: &[u8], table: &[u64], base: usize, index: u64, used: [bool; 257]) -> u64
     requires { ⌜ (base + 8 * index + 8 ≤ length (now table)) × (index < 256) ⌝ }
     ensures { λ r. ⌜ r ≡ ruleOf (hasAbove (now (text .entry)) (nameAt (now (text .entry)) (getD (now (table .entry)) (base + 8 * index) 0) (getD (now (table .entry)) (base + 8 * index + 1) 0)) (chopped 8 index (drop base (now (table .entry))))) (getD used index false) ⌝ }

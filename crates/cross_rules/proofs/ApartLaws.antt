@@ -1,4 +1,4 @@
--- A line is looked at once: of all that is looked at in the document of a text, no two stand on one line.
+-- Each line has at most one finding: no two findings of the document of a text are on one line.
 -- Assumes nothing.
 use mathlib.Core.Path.{_≡_, refl, sym, _∙_, ap}
 use mathlib.Core.Bool.{true, false}
@@ -66,7 +66,7 @@ data Part : Type 0 where
   sections : Part
   other : Part
 
--- of a line without a keyword, and of one with the keyword k
+-- the part of a line without a keyword, and of one with the keyword k
 unfoldable plainPart : ℕ → Part
 plainPart p = if eqb p place.list then list else if eqb p place.path then models else if eqb p place.pinList then maps else other
 
@@ -85,14 +85,14 @@ module _ (l : Line) where
   unfolding partOf if_then_else_
   keyed-part k n e = rw (e, n)
 
--- a line of these is in the part, and has the number n
+-- some line of the list is in the part, and its number is n
 record Comes (ls : List Line) (part : Part) (n : ℕ) : Type 0 where
   line : Line
   among : Among line ls
   numbered : line .line ≡ n
   in-part : partOf line ≡ part
 
--- ---- every one of a list
+-- ---- every element of a list
 
 module _ {A B : Type 0} {P : B → Type 0} (f : A → B) where
   each-mapped : (xs : List A) → Each (λ (x : A). P (f x)) xs → Each P (map f xs)
@@ -204,7 +204,7 @@ module _ (d : Document) (ls : List Line) where
   unfolding listFindings
   list-found h = each-mapped _ (d .listed) h
 
--- a finding is one of a part
+-- a finding, and the part of the document that it belongs to
 data InPart (d : Document) (f : Finding) : Part → Type 0 where
   in-list : Among f (listFindings d) → InPart d f list
   in-models : Among f (modelFindings d (d .models)) → InPart d f models
@@ -253,7 +253,7 @@ module _ (t : List ℕ) where
   part-comes (in-sections m) =
       each-one (sections-found (documentOf t) (significant t) 0 _ (each-gather _ sectionAt (section-comes (significant t)) all-in)) m
 
-  -- of every text, also of one that is refused
+  -- holds for every text, a refused one too
   pub one-finding :
       (f g : Finding) → Among f (findings (documentOf t)) → Among g (findings (documentOf t)) → f .line ≡ g .line → f ≡ g
   one-finding f g m n e =

@@ -1,5 +1,5 @@
--- The rules 19 to 27 over a document: nothing is given exactly where no line breaks a rule, and what is given is the least rule of the
--- first line that breaks one.
+-- Rules 19 to 27 over a document: `crossRule` gives rule 0 exactly if no line breaks a rule. Otherwise it gives the
+-- first line that breaks one, and the lowest rule that is broken there.
 -- Assumes nothing.
 use mathlib.Core.Path.{_≡_, refl, sym, _∙_, ap, subst}
 use mathlib.Core.Bool.{Bool, true, false, not, true≢false}
@@ -65,16 +65,16 @@ use Rattle.cross_rules.proofs.ApartLaws.{one-finding}
 
 -- ---- what a list of rules gives
 
--- their numbers rise, and none is 0
+-- the numbers of the rules rise, and none is 0
 record Ranked (rules : List Rule) : Type 0 where
   numbered : Numbered rules
   ascending : Ascending 1 rules
 
--- a rule of the list has the number, and its test is true
+-- a rule of this number is in the list, and it is broken
 abbrev pub FoundIn : ℕ → List Rule → Type 0
 FoundIn number rules = (i : ℕ) × (i < length rules) × (getD rules i sound .broken ≡ true) × (getD rules i sound .number ≡ number)
 
--- 0 exactly where no test is true, else the least number whose test is
+-- `number` is 0 exactly if no rule of the list is broken; otherwise it is the lowest number of a broken one
 pub record Judged (number : ℕ) (rules : List Rule) : Type 0 where
   pub kept : number ≡ 0 → (i : ℕ) → getD rules i sound .broken ≡ false
   pub holds : ((i : ℕ) → getD rules i sound .broken ≡ false) → number ≡ 0
@@ -224,7 +224,7 @@ module _ (d : Document) where
 abbrev findingOf : RulesAtLine → Finding
 findingOf x = record { rule = firstBroken (x .rules); line = x .line }
 
--- one look for each finding
+-- each finding is the finding of one line with its rules
 mapped-found :
     {A : Type 0} (finding : A → Finding) (look : A → RulesAtLine) → ((x : A) → finding x ≡ findingOf (look x)) → (xs : List A) →
     map finding xs ≡ map findingOf (map look xs)
@@ -274,7 +274,7 @@ module _ (d : Document) where
       )
       (λ i. list-looked i ++ (model-looked (d .models) i ++ (map-looked (d .maps) i ++ section-looked 0 (d .sections) i)))
 
--- the rules of each are ranked
+-- the rules of the line are ranked
 abbrev LookRanked : RulesAtLine → Type 0
 LookRanked x = Ranked (x .rules)
 
@@ -314,7 +314,7 @@ pub record Breaks (d : Document) (line number : ℕ) : Type 0 where
   pub on-line : look .line ≡ line
   pub numbered : getD (look .rules) place sound .number ≡ number
 
--- one of a mapped list comes from one of the list
+-- an element of a mapped list comes from an element of the list
 record Source {A B : Type 0} (f : A → B) (xs : List A) (y : B) : Type 0 where
   source : A
   among : Among source xs
@@ -339,7 +339,7 @@ module _ (d : Document) where
   look-found : {x : RulesAtLine} → Among x (allRulesAtLines d) → Among (findingOf x) (findings d)
   look-found m = rw (findings-looked d) (among-mapped findingOf m)
 
-  -- what a line that breaks something is found for
+  -- a line that breaks a rule has a finding other than 0
   breaks-found : {line number : ℕ} (b : Breaks d line number) → firstBroken (b .look .rules) ≡ 0 → ⊥
   breaks-found b e = true≢false (sym (b .broken) ∙ look-judged (b .among) .kept e (b .place))
 
@@ -358,7 +358,7 @@ module _ (d : Document) where
       (look-breaks (s .source) (s .among)
       (λ (e : firstBroken (s .source .rules) ≡ 0). n (ap (λ (g : Finding). g .rule) (sym (s .gives)) ∙ e)))
 
-  -- the rule that is given is broken on the line that is given
+  -- the rule that `crossRule` gives is broken on the line that it gives
   pub given-breaks : (crossRule d .rule ≡ 0 → ⊥) → Breaks d (crossRule d .line) (crossRule d .rule)
   given-breaks n = source-breaks (source-of findingOf (allRulesAtLines d) (rw (findings-looked d) at (first-found d n .found))) n
 
@@ -372,7 +372,7 @@ module _ (d : Document) where
       let n : crossRule d .rule ≡ 0 → ⊥ = λ (e : crossRule d .rule ≡ 0). none-breaks e line number b in
       rw (b .on-line) at (first-found d n .lowest (findingOf (b .look)) (look-found (b .among)) (breaks-found b))
 
--- "on one line the lowest number": of every text, also of one that is refused
+-- "on one line the lowest number"; holds for every text, a refused one too
 pub lowest-number :
     (t : List ℕ) (number : ℕ) → Breaks (documentOf t) (crossRule (documentOf t) .line) number → crossRule (documentOf t) .rule ≤ number
 lowest-number t number b =

@@ -1,5 +1,5 @@
--- What a document breaks first is the earliest of what each kind of line breaks first: list, models with their steps, maps with their pins,
--- sections.
+-- The earliest finding of a document is the earliest of four: the first finding of the model list, of the models and
+-- their steps, of the maps and their pins, and of the sections.
 -- Assumes nothing.
 use mathlib.Core.Path.{_≡_, refl, sym, _∙_, ap}
 use mathlib.Core.Bool.{true, false}
@@ -28,14 +28,14 @@ use Rattle.cross_rules.proofs.RisingLaws.{Rising}
 use Rattle.cross_rules.proofs.RisingLaws.Rising.{rise}
 use Rattle.cross_rules.proofs.OrderLaws.{findingLines, Ordered, in-order}
 
--- ---- the earlier of two
+-- ---- the earlier of two findings
 
 module _ (a b : Finding) where
   pub earlier-second : a .rule ≡ 0 → earlier a b ≡ b
   unfolding earlier
   earlier-second e = if-true _ _ (eq-eqb _ _ e)
 
-  -- one that breaks something stands, unless the other breaks something on a lower line
+  -- a finding that breaks a rule is the earlier one, unless the other breaks a rule on an earlier line
   pub earlier-first : (a .rule ≡ 0 → ⊥) → ((b .rule ≡ 0 → ⊥) → a .line ≤ b .line) → earlier a b ≡ a
   unfolding earlier
   earlier-first n h =
@@ -47,7 +47,7 @@ module _ (a b : Finding) where
   unfolding earlier
   earlier-lower n m h = if-false _ _ (ne-eqb _ _ n) ∙ if-false _ _ (ne-eqb _ _ m) ∙ if-true _ _ (lt-ltb _ _ h)
 
--- which of the two it is
+-- which of its two arguments `earlier` gives
 data Which (a b : Finding) : Finding → Type 0 where
   silent : a .rule ≡ 0 → Which a b b
   stands : (a .rule ≡ 0 → ⊥) → ((b .rule ≡ 0 → ⊥) → a .line ≤ b .line) → Which a b a
@@ -70,7 +70,7 @@ which a b =
     let h : (b .rule ≡ 0 → ⊥) → a .line ≤ b .line = λ n. ltb-false _ _ l in
     rw (earlier-first a b (eqb-false _ _ e) h) (stands (eqb-false _ _ e) h))))
 
--- beside one that breaks something the earlier one breaks something too, on its line or above it
+-- if one of two findings breaks a rule, so does the earlier one, on that line or before it
 breaks-by : {a b c : Finding} → Which a b c → (a .rule ≡ 0 → ⊥) → c .rule ≡ 0 → ⊥
 breaks-by (silent e) n = absurd (n e)
 breaks-by (stands m h) n = n
@@ -94,7 +94,7 @@ one-by P (silent e) p q = q
 one-by P (stands m h) p q = p
 one-by P (passed m o l) p q = q
 
--- it is one of the two
+-- `earlier` gives one of its two arguments
 pub earlier-one : (P : Finding → Type 0) (a b : Finding) → P a → P b → P (earlier a b)
 earlier-one P a b p q = one-by P (which a b) p q
 

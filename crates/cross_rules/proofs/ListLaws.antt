@@ -1,5 +1,5 @@
--- The list stands first: every name of [ICM Model List] stands above every model of a text that reads to its end, and above every section
--- of any text. So where a line of the list breaks something, only a line of a pin map can come before it.
+-- The model list comes first: if a text breaks no rule of the reading, every name of [ICM Model List] is above every
+-- model; in any text it is above every section. So only a line of a pin map can break a rule before a list line does.
 -- Assumes nothing.
 use mathlib.Core.Path.{_≡_, refl, sym, _∙_, ap}
 use mathlib.Core.Bool.{Bool, true, false, true≢false}
@@ -125,7 +125,7 @@ use Rattle.cross_rules.proofs.KindLaws.{
 
 -- ---- the places
 
--- [ICM Model List] alone leads into the list
+-- only [ICM Model List] leads into the list
 module _ (k : ℕ) (other : k ≡ icmModelList → ⊥) where
   abbrev Off : ℕ → Type 0
   Off q = eqb q place.list ≡ false
@@ -184,7 +184,7 @@ module _ (k : ℕ) (other : k ≡ icmModelList → ⊥) where
         elsewhere = λ e. either-none-first _ _ (either-none-second _ _ (either-none-second _ _ (e .family)));
       })
 
--- ---- what is remembered of the list
+-- ---- what the state remembers of the list
 
 -- [ICM Model List] has been read
 abbrev ListRead : State → Type 0
@@ -231,7 +231,7 @@ read-kept : (k : ℕ) (argument : List ℕ) (s : State) → (k ≡ icmModelList 
 unfolding isSeen keywordNext
 read-kept k argument s other read = has-next k (s .seen) other (record { listed = read }) .listed
 
--- ---- no line behind is one of the list
+-- ---- after the list is closed, no line is a list line
 
 -- the list has been read, and it is closed
 record Closed (s : State) : Type 0 where
@@ -296,7 +296,7 @@ model-closes {l} {s} p (keyed k h) o =
 
 -- ---- at a section: the family is closed
 
--- a place behind the family, which no line leads back from
+-- a place after the family; no line leads back from it
 data Late : ℕ → Type 0 where
   after : Late place.after
   head : Late place.sectionHead
@@ -360,14 +360,14 @@ late-listed (next {l = l} {ls = ls} e follow) h =
     gather-more listedAt l ls
     ∙ (λ i. unlisted l ls (ap (λ (q : ℕ). eqb q place.list) e ∙ late-off h) i ++ late-listed follow (late-content (l .content) h) i)
 
--- ---- a kind that stands below the list
+-- ---- a kind of record that comes after the list
 
--- lines of which each gives none of a kind, or is past the list
+-- after the first line that gives a record of the kind, there is no list line
 data Parted {A : Type 0} (here : Line → List Line → List A) : List Line → Type 0 where
   past : {ls : List Line} → gather listedAt ls ≡ [] → Parted here ls
   silent : {l : Line} {ls : List Line} → here l ls ≡ [] → Parted here ls → Parted here (l ∷ ls)
 
--- an opening is no line of the list
+-- the opening line of a model is not a list line
 model-unlisted : (l : Line) (ls : List Line) → opensModel l ≡ true → listedAt l ls ≡ []
 unfolding opensModel listedAt standsIn
 model-unlisted l ls o =
@@ -422,16 +422,16 @@ unfolding documentOf documentIn
 models-below t c h =
     below-list (λ (m : Model). m .line) modelAt model-own (significant t) (lines-rise t) (goes-parted (text-ends t c h .goes))
 
--- also of a text that is refused
+-- holds for a refused text too
 pub sections-below :
     (t : List ℕ) → Each (λ (n : Named). Each (λ (s : Section). n .line < s .line) (documentOf t .sections)) (documentOf t .listed)
 unfolding documentOf documentIn
 sections-below t =
     below-list (λ (s : Section). s .line) sectionAt section-own (significant t) (lines-rise t) (follow-parted (text-follows t))
 
--- ---- what a line of the list breaks comes first
+-- ---- a list line that breaks a rule comes first
 
--- what holds of the line of each holds of the line of the first that breaks something
+-- what holds for the line of every finding holds for the line of the first one that breaks a rule
 first-holds :
     {A : Type 0} (finding : A → Finding) (P : ℕ → Type 0) {xs : List A} → Each (λ (x : A). P (finding x .line)) xs →
     (firstIn (map finding xs) .rule ≡ 0 → ⊥) → P (firstIn (map finding xs) .line)
@@ -444,7 +444,7 @@ first-holds finding P (each-more {x = x} {xs = xs} h hs) n =
     rw l (first-holds finding P hs (rw l at n)))
     (λ (e : eqb (finding x .rule) 0 ≡ false). rw (first-here (finding x) (map finding xs) (eqb-false _ _ e)) h)
 
--- none of a list whose lines rise is above its first
+-- where lines rise, the first finding that breaks a rule is not before the first finding
 above-low :
     {least : ℕ} (f : Finding) (fs : List Finding) → Rising least (findingLines (f ∷ fs)) → (firstIn (f ∷ fs) .rule ≡ 0 → ⊥) →
     f .line ≤ firstIn (f ∷ fs) .line
@@ -469,7 +469,7 @@ module _ (d : Document) where
   sections-low line i (each-more {x = s} {xs = ss} h hs) r n =
       le-trans h (above-low (record { rule = sectionRule d i s; line = s .line }) (sectionFindings d (i + 1) ss) r n)
 
--- what stands below one that breaks something is passed by
+-- findings below one that breaks a rule do not matter
 module _ (first second third fourth : Finding) (n : first .rule ≡ 0 → ⊥) where
   passed-by :
       ((second .rule ≡ 0 → ⊥) → first .line < second .line) → ((fourth .rule ≡ 0 → ⊥) → first .line < fourth .line) →

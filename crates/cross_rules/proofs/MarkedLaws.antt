@@ -1,4 +1,4 @@
--- Laws of names that are marked: one whose mark is not set is none of those above it.
+-- Laws of marked names: a name whose mark is not set differs from every name above it.
 -- Assumes nothing.
 use mathlib.Core.Path.{_≡_, refl, sym, _∙_, ap}
 use mathlib.Core.Bool.{true, false, not}
@@ -20,7 +20,7 @@ use Rattle.table_name.proofs.MarkLaws.{of-inside}
 use Rattle.cross_rules.specs.Rules.{any}
 use Rattle.cross_rules.specs.Way.Twice.{nameIn, hasAbove, ownName, ownMark, MarkedNames}
 
--- the name of the first of the records
+-- the name of the first record
 first-name : (t table : List ℕ) (base width : ℕ) → 2 ≤ width → nameIn t (take width (drop base table)) ≡ ownName t table base
 unfolding ownName
 first-name t table base width wide =
@@ -61,7 +61,7 @@ module _ (t table marks name : List ℕ) (stamp width : ℕ) (wide : 2 ≤ width
 pub marked-none : (t table marks : List ℕ) (stamp base width : ℕ) → length marks ≡ marksMany → MarkedNames t table marks stamp base width 0
 marked-none t table marks stamp base width long = record { whole = long; each = λ (j : ℕ) (h : j < 0). absurd (not-suc-le-zero h) }
 
--- ---- a record that is marked too
+-- ---- one record more is marked
 
 module _ (t table marks : List ℕ) (stamp base width index : ℕ) (marked : MarkedNames t table marks stamp base width index) where
   own-inside : (mark : ℕ) → mark ≡ ownMark t table (base + width * index) → mark < length marks
@@ -82,7 +82,7 @@ module _ (t table marks : List ℕ) (stamp base width index : ℕ) (marked : Mar
             getD-set-other marks mark (ownMark t table (base + width * j)) stamp 0 (eqb-false _ _ e) ∙ marked .each j (omega arith));
       }
 
-  -- what the code has found of the name
+  -- the name and the mark that the code has computed
   module _ (own : List ℕ) (is-own : own ≡ nameAt t (getD table (base + width * index) 0) (getD table (base + width * index + 1) 0)) (mark : ℕ) (is-mark : mark ≡ hashOf 0 own) where
     mark-told : mark ≡ ownMark t table (base + width * index)
     unfolding ownMark ownName

@@ -1,4 +1,4 @@
--- The names of a document's records: a record above has the name of one exactly where a name above is the same.
+-- The names of a document's records: an earlier record has a name exactly if an earlier element of the document has it.
 -- Assumes nothing.
 use mathlib.Core.Path.{_≡_, refl, sym, _∙_, ap}
 use mathlib.Core.Bool.{Bool, true, false}
@@ -25,7 +25,7 @@ use Rattle.table_name.specs.Name.{nameAt}
 use Rattle.cross_rules.specs.Rules.{any, sameWord, isThere, modelName, mapName, sectionName}
 use Rattle.cross_rules.specs.Way.Twice.{nameIn, hasAbove}
 
--- ---- sameness goes both ways
+-- ---- sameness is symmetric
 
 eqb-comm : (a b : ℕ) → eqb a b ≡ eqb b a
 eqb-comm a b =
@@ -52,7 +52,7 @@ unfolding isThere any sameWord
 there-bytes [] n = refl
 there-bytes (m ∷ names) n = λ i. either (same-comm (m .name .text) (n .name .text) i) (there-bytes names n i)
 
--- records whose names are these
+-- for records that have the names of the list
 pub above-told : (t : List ℕ) (names : List Named) (n : Named) (rs : List (List ℕ)) → map (nameIn t) rs ≡ map (λ (m : Named). m .name .text) names → hasAbove t (n .name .text) rs ≡ isThere names n
 above-told t names n rs e = above-bytes t (n .name .text) rs ∙ ap (any (same (n .name .text))) e ∙ sym (there-bytes names n)
 
@@ -101,7 +101,7 @@ word-first w f = omega arith
 word-later : (w i f : ℕ) → w + (w * i + f) ≡ w * suc i + f
 word-later w i f = let e : w * suc i ≡ w * i + w = mul-suc w i in omega arith
 
--- a word of a record, where it stands
+-- word f of record i is word w * i + f of the part
 pub chopped-word : (w n i f : ℕ) (t : List ℕ) → i < n → f < w → getD (getD (chopped w n t) i []) f 0 ≡ getD t (w * i + f) 0
 unfolding chopped
 chopped-word w zero i f t h k = absurd (not-suc-le-zero h)

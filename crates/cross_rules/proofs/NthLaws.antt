@@ -1,4 +1,4 @@
--- Laws of the search for the line of a record: what is left to count among the lines left.
+-- Laws of `nth_line`, the search for the line of a record.
 -- Assumes nothing.
 use mathlib.Core.Path.{_≡_, refl, sym, _∙_, ap}
 use mathlib.Core.Bool.{Bool, true, false, not}
@@ -18,11 +18,12 @@ use Rattle.doc.specs.Way.Found.{contentIn, lineIn, linesBehind, Located, FindsL
 use Rattle.doc.specs.declared.Found.{Found}
 use Rattle.cross_rules.specs.Way.Nth.{writesAt, writesPart, nthLine}
 
--- none is left to be counted
+-- no record is left to skip
 pub less-none : (writes : Bool) (left : ℕ) → not writes ≡ false → left ≡ 0 → 0 ≡ (if writes then left - 1 else left)
 less-none writes left w e = let z : left - 1 ≡ 0 = omega arith in sym (if-true {A = ℕ} (left - 1) left (not-false writes w) ∙ z)
 
--- what is left to count among the lines left gives the line
+-- the loop's invariant: skipping `left` records from position `at` on leads to the same line as skipping `index`
+-- records from the start
 pub record CountLeft (t : List ℕ) (part index : ℕ) (left at n p : ℕ) : Type 0 where
   pub same : nthLine part left (linesAt t n at p) ≡ nthLine part index (significant t)
   pub within : at ≤ length t
@@ -106,7 +107,7 @@ number-of l ls (suc i) later e =
     let k : suc i - 1 ≡ i = omega arith in
     if-false _ _ (ne-eqb (suc i) 0 (λ (h : suc i ≡ 0). omega arith)) ∙ ap later k ∙ e i
 
--- where each line gives at most one thing, which stands on that line
+-- for a part of which each line writes at most one record, with that line's number
 module _ {A : Type 0} (part : ℕ) (here : Line → List Line → List A) (lineOf : A → ℕ) (one : (l : Line) (ls : List Line) → map lineOf (here l ls) ≡ (if writesPart part l then l .line ∷ [] else [])) where
   lines-here : (l : Line) (ls : List Line) → map lineOf (gather here (l ∷ ls)) ≡ (if writesPart part l then l .line ∷ [] else []) ++ map lineOf (gather here ls)
   unfolding gather
@@ -124,7 +125,7 @@ module _ {A : Type 0} (part : ℕ) (here : Line → List Line → List A) (lineO
       let e : map lineOf (gather here (l ∷ ls)) ≡ map lineOf (gather here ls) = lines-here l ls ∙ ap (λ (ns : List ℕ). ns ++ map lineOf (gather here ls)) (if-false _ _ w) in
       if-false _ _ w ∙ nth-is ls i ∙ ap (λ (ns : List ℕ). getD ns i 0) (sym e))
 
--- a line that gives one thing or none
+-- a line that gives one record or none
 one-or-none : {A : Type 0} (lineOf : A → ℕ) (n : ℕ) (b : Bool) (x : A) → lineOf x ≡ n → map lineOf (if b then x ∷ [] else []) ≡ (if b then n ∷ [] else [])
 unfolding if_then_else_
 one-or-none lineOf n true x e = ap (λ (k : ℕ). k ∷ []) e

@@ -1,5 +1,5 @@
--- The order of a document: the lines of each of its lists rise, and so do the lines of what is looked at in each kind. It holds of every
--- text.
+-- The order of a document: in each of its lists the line numbers rise, and so do those of the findings of each kind.
+-- This holds for every text.
 -- Assumes nothing.
 use mathlib.Core.Path.{_≡_, refl, _∙_, ap}
 use mathlib.Core.Bool.{Bool, true, false}
@@ -69,7 +69,7 @@ sectionOpenings ss = map (λ (s : Section). s .line) ss
 abbrev pub findingLines : List Finding → List ℕ
 findingLines fs = map (λ (f : Finding). f .line) fs
 
--- a model's line and those of its steps, a map's and those of its pins
+-- the line of a model and those of its steps; the line of a map and those of its pins
 abbrev modelLines : Model → List ℕ
 modelLines m = m .line ∷ stepLines (m .steps)
 
@@ -119,7 +119,7 @@ module _ (l : Line) (after : List Line) where
       Own : List Step → Type 0
       Own ss = Gives (l .line) [] (stepLines ss)
 
-  -- a line that opens a block gives it whole
+  -- a line that opens a block gives the whole block
   block-whole :
       {B : Type 0} (lines : B → List ℕ) (rest : List ℕ) (b : Bool) (x : B) → lines x ≡ l .line ∷ rest →
       Gives (l .line) rest (joined lines (if b then x ∷ [] else []))
@@ -184,7 +184,7 @@ module _ (d : Document) where
 
 -- ---- each block of its own
 
--- the lines of each block are its own line and those of its parts, which stand below it
+-- the lines of a block are its opening line and those of its parts, which are below it
 each-block :
     {B : Type 0} (lines : B → List ℕ) (line : B → ℕ) (parts : B → List ℕ) → ((b : B) → lines b ≡ line b ∷ parts b) →
     {least : ℕ} (bs : List B) → Rising least (joined lines bs) → Each (λ (b : B). Rising (line b + 1) (parts b)) bs
@@ -199,7 +199,7 @@ each-block lines line parts whole (b ∷ bs) h =
 
 -- ---- the whole document
 
--- all lines are 1 or above it, and rise
+-- in every list the line numbers rise, and they are at least 1
 pub record Ordered (d : Document) : Type 0 where
   pub listed : Rising 1 (nameLines (d .listed))
   pub models : Rising 1 (openings (d .models))
@@ -245,7 +245,7 @@ module _ (ls : List Line) (h : Rising 1 (numbers ls)) where
             (gather-rising (λ (s : Section). s .line) sectionAt section-own ls h);
       }
 
--- of every text, also of one that is refused
+-- holds for every text, a refused one too
 pub in-order : (t : List ℕ) → Ordered (documentOf t)
 unfolding documentOf
 in-order t = in-order-of (significant t) (lines-rise t)

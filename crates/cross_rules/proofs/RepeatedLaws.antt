@@ -1,4 +1,4 @@
--- Laws of names that stand twice: a search among the records above finds one exactly where one of them has the name.
+-- Laws of repeated names: the search of the earlier records finds one exactly if one of them has the name.
 -- Assumes nothing.
 use mathlib.Core.Path.{_≡_, refl, sym, _∙_, ap}
 use mathlib.Core.Bool.{Bool, true, false}
@@ -19,7 +19,7 @@ use Rattle.table_name.specs.Way.Search.{isNamed, findIn}
 use Rattle.cross_rules.specs.Rules.{any}
 use Rattle.cross_rules.specs.Way.Twice.{nameIn, hasAbove}
 
--- the first that passes a test stands before the end exactly where one passes it
+-- `indexOf` is below the length exactly if some element passes the test
 found-any : {A : Type 0} (test : A → Bool) (xs : List A) → ltb (indexOf test xs) (length xs) ≡ any test xs
 unfolding indexOf any
 found-any test [] = refl

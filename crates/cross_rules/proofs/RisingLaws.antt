@@ -1,4 +1,4 @@
--- Numbers that rise strictly, as the lines of all that stands in the order of the text do.
+-- Strictly rising numbers, such as the line numbers of anything that is in text order.
 -- Assumes nothing.
 use mathlib.Core.Path.{_≡_, refl}
 use mathlib.Core.Bool.{Bool, true, false}
@@ -14,7 +14,7 @@ use Rattle.doc.proofs.BlockLaws.{gather-none, gather-more, up-to-none, up-to-in
 use Rattle.cross_rules.specs.Listed.{Among}
 use Rattle.cross_rules.specs.Listed.Among.{front, further}
 
--- ---- every one of a list
+-- ---- every element of a list
 
 module _ {A : Type 0} {P : A → Type 0} where
   pub each-by : {Q : A → Type 0} → ((x : A) → P x → Q x) → {xs : List A} → Each P xs → Each Q xs
@@ -25,7 +25,7 @@ module _ {A : Type 0} {P : A → Type 0} where
   each-at [] behind x (more h hs) = h
   each-at (b ∷ before) behind x (more h hs) = each-at before behind x hs
 
--- ---- one of a list
+-- ---- membership in a list
 
 module _ {A : Type 0} where
   pub each-one : {P : A → Type 0} {x : A} {xs : List A} → Each P xs → Among x xs → P x
@@ -38,7 +38,7 @@ module _ {A : Type 0} where
 
 -- ---- numbers that rise
 
--- each is above the one before it, the first is `least` or above it
+-- each number is greater than the one before it, and the first is at least `least`
 pub data Rising : ℕ → List ℕ → Type 0 where
   flat : {least : ℕ} → Rising least []
   rise : {least n : ℕ} {ns : List ℕ} → least ≤ n → Rising (n + 1) ns → Rising least (n ∷ ns)
@@ -55,7 +55,7 @@ pub rising-behind : {least : ℕ} (xs ys : List ℕ) → Rising least (xs ++ ys)
 rising-behind [] ys h = h
 rising-behind (x ∷ xs) ys (rise h rest) = rising-wider (omega arith) (rising-behind xs ys rest)
 
--- ---- what stands above one of a list, and what below it
+-- ---- what comes before an element of a list, and what after
 
 module _ {A : Type 0} (line : A → ℕ) where
   pub all-least : {least : ℕ} (xs : List A) → Rising least (map line xs) → Each (λ (a : A). least ≤ line a) xs
@@ -83,7 +83,7 @@ module _ {A : Type 0} (line : A → ℕ) where
   higher-among : {least : ℕ} {x : A} (xs : List A) → Rising least (map line xs) → Among x xs → least ≤ line x
   higher-among xs h m = each-one (all-least xs h) m
 
-  -- one of a list is known by its line
+  -- an element is determined by its line
   pub same-line : {least : ℕ} {x y : A} (xs : List A) → Rising least (map line xs) → Among x xs → Among y xs → line x ≡ line y → x ≡ y
   same-line xs h front front e = refl
   same-line {x = x} {y = y} (z ∷ xs) (rise h rest) front (further m) e =
@@ -96,7 +96,7 @@ module _ {A : Type 0} (line : A → ℕ) where
 
 -- ---- what lines give
 
--- nothing, or a number with the rest behind it
+-- nothing, or a number followed by the rest
 pub data Gives (n : ℕ) (rest : List ℕ) : List ℕ → Type 0 where
   nothing : Gives n rest []
   itself : Gives n rest (n ∷ rest)
@@ -112,15 +112,15 @@ numbers ls = map (λ (l : Line). l .line) ls
 
 module _ {A : Type 0} (line : A → ℕ) (here : Line → List Line → List A)
     (own : (l : Line) (after : List Line) → Gives (l .line) [] (map line (here l after))) where
-  -- where each line gives at most one, with its own number
+  -- each line gives at most one element, with its own line number
   pub gather-rising : {least : ℕ} (ls : List Line) → Rising least (numbers ls) → Rising least (map line (gather here ls))
   gather-rising [] flat = rw (gather-none here) flat
   gather-rising (l ∷ ls) (rise h rest) =
       rw (gather-more here l ls, map-append line (here l ls) (gather here ls))
       (gives-rising [] (map line (gather here ls)) (own l ls) h (gather-rising ls rest))
 
-  -- A kind of block: the line that opens one gives it, and the block has its line and those of what its lines give. No line in one
-  -- opens one.
+  -- A kind of block: its opening line gives the whole block, whose lines are the opening line and those that its inner
+  -- lines give. No line inside a block opens another.
   module _ {B : Type 0} (lines : B → List ℕ) (blockAt : Line → List Line → List B) (inside : Line → Bool)
       (shut : (l : Line) (after : List Line) → inside l ≡ true → blockAt l after ≡ [])
       (opened : (l : Line) (after : List Line) →
@@ -148,7 +148,7 @@ module _ {A : Type 0} (line : A → ℕ) (here : Line → List Line → List A)
         rw (up-to-out inside l ls e, gather-none here, gather-more blockAt l ls, joined-append lines (blockAt l ls) (gather blockAt ls))
         (gives-rising (map line (gather here (upTo inside ls))) _ (opened l ls) h k)
 
-    -- what is left of an open block, and the blocks behind it
+    -- the rest of an open block, and the blocks after it
     within-rising :
         {least : ℕ} (ls : List Line) → Rising least (numbers ls) →
         Rising least (map line (gather here (upTo inside ls)) ++ joined lines (gather blockAt ls))

@@ -1,4 +1,4 @@
--- The view of a table that holds what a text says: the records of each part are those of the document.
+-- The view of the table of a text: the records of each part are those of the document.
 -- Assumes nothing.
 use mathlib.Core.Path.{_≡_, refl, sym, _∙_, ap}
 use mathlib.Core.Bool.{true}
@@ -65,7 +65,7 @@ module _ (t table : List ℕ) (filled : HoldsText t table) where
   unfolding tableOf
   parts-are = ap (partsIn widths) (filled .words) ∙ taken-apart widths parts (length table - length (tableOf t)) (records-wide (flatten (documentOf t)))
 
-  -- the records of a part, where the view says that they stand
+  -- the records of a part, read where the view locates them
   pub part-stands : (p : ℕ) → p < 7 → chopped (getD widths p 0) (getD (viewOf table .counts) p 0) (drop (getD (viewOf table .bases) p 0) table) ≡ getD parts p []
   part-stands p h = view-holds .records p h ∙ ap (λ (ps : List (List (List ℕ))). getD ps p []) parts-are
 

@@ -1,4 +1,5 @@
--- What stands on a line above, by its position: in a list whose lines rise, the ones above one of it are those in front of it.
+-- Earlier lines are earlier elements: in a list whose lines rise, the elements on lines above x's line are those before
+-- x.
 -- Assumes nothing.
 use mathlib.Core.Path.{_≡_, refl, _∙_, ap}
 use mathlib.Core.Bool.{Bool, true, false}
@@ -29,7 +30,7 @@ use Rattle.cross_rules.specs.Rules.{
 use Rattle.cross_rules.proofs.RisingLaws.{Rising, each-by, each-at, above-lower, below-higher}
 use Rattle.cross_rules.proofs.OrderLaws.{nameLines, stepLines, Ordered}
 
--- ---- one of a list passes a test
+-- ---- some element of a list passes a test
 
 module _ {A : Type 0} where
   any-append : (test : A → Bool) (xs ys : List A) → any test (xs ++ ys) ≡ either (any test xs) (any test ys)
@@ -51,7 +52,7 @@ module _ {A : Type 0} where
   any-same f g none = refl
   any-same f g (more h hs) = λ i. either (h i) (any-same f g hs i)
 
-  -- a test that is another one where the line is above x's, and fails where it is not, by the position of x
+  -- `wide` equals `narrow` on lines above x's line and fails on all others, so only the elements before x count
   module _ (line : A → ℕ) (wide narrow : A → Bool) (x : A) (alike : (a : A) → line a < line x → wide a ≡ narrow a)
       (unlike : (a : A) → line x ≤ line a → wide a ≡ false) where
     any-above :
@@ -118,7 +119,7 @@ module _ (d : Document) (o : Ordered d) where
 
 -- ---- the ends above an end
 
--- an end on the same map whose Side is lacking or the same, wherever it stands
+-- `other` is an end on the same map, and a Side is lacking or both are the same; its line does not matter
 unfoldable pub meets : Document → Step → Step → Bool
 meets d s other = both (eqb (other .kind) endKind) (both (eqb (mapIndex d other) (mapIndex d s)) (clash (other .side) (s .side)))
 

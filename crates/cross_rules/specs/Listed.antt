@@ -1,5 +1,5 @@
--- Document 01, rules 19 to 27 as they are listed: for each line of a document the rules that it is looked at for, in the order of refusal,
--- and the lines in the order in which they are looked at.
+-- Document 01, rules 19 to 27 as lists: for each line of a document the rules that are checked there, the lowest number
+-- first. The lines come in this order: the model list, models with their steps, maps with their pins, sections.
 -- Assumes nothing.
 use Prim.Native.Nat.{ℕ, _+_}
 use mathlib.Core.Bool.{not}
@@ -10,13 +10,13 @@ use Rattle.base.specs.Broken.{Rule, _when_}
 use Rattle.doc.specs.Document.{Named, Step, Model, Map, Section, Document, endKind, sectionKind}
 use Rattle.cross_rules.specs.Rules.{isTwice, isThere, modelName, mapName, sectionName, isUsed, pinsAt, conductorsAt, hasOtherForm, mapIndex, sectionIndex, hasMap, hasSection, isClashing, firstEnd, differs, isWrongMethod, isSingleLine}
 
--- ---- one of a list
+-- ---- membership in a list
 
 pub data Among {A : Type 0} (x : A) : List A → Type 0 where
   front : {xs : List A} → Among x (x ∷ xs)
   further : {y : A} {xs : List A} → Among x xs → Among x (y ∷ xs)
 
--- ---- the rules of each kind of line, as they are listed
+-- ---- the rules of each kind of line
 
 module _ (d : Document) where
   abbrev pub listNameRules : Named → List Rule
@@ -47,7 +47,7 @@ module _ (d : Document) where
       ∷ 26 when both (hasSection d s) (differs d (firstEnd (m .steps)) (conductorsAt (d .sections) (sectionIndex d s)))
       ∷ []
 
-  -- forks break none
+  -- a Fork or an Endfork line is checked for no rule
   abbrev pub stepRules : Model → Step → List Rule
   stepRules m s =
       if eqb (s .kind) endKind then endStepRules m s else
@@ -56,9 +56,9 @@ module _ (d : Document) where
 abbrev pub pinNameRules : Map → Named → List Rule
 pinNameRules m p = 19 when isTwice (m .pins) p ∷ []
 
--- ---- the lines
+-- ---- the lines with their rules
 
--- a line, and the rules that it is looked at for
+-- a line, and the rules that are checked there
 pub record RulesAtLine : Type 0 where
   pub line : ℕ
   pub rules : List Rule

@@ -26,7 +26,7 @@ use Rattle.doc.specs.Document.{
 use Rattle.doc.specs.Records.{indexOf, isMapOf, isSectionOf, targetOf}
 use Rattle.cross_rules.specs.declared.Finding.{Finding}
 
--- one of the list passes the test
+-- some element of the list passes the test
 unfoldable pub any : {A : Type 0} → (A → Bool) → List A → Bool
 any test [] = false
 any test (x ∷ xs) = either (test x) (any test xs)
@@ -37,7 +37,7 @@ sameWord v w = same (v .text) (w .text)
 
 -- ---- 19 TWICE: "second of one name within models, maps, sections, list or one map's pins"
 
--- a name that stands on a line above this one
+-- the same name is on an earlier line
 unfoldable pub isTwice : List Named → Named → Bool
 isTwice names n = any (λ (m : Named). both (ltb (m .line) (n .line)) (sameWord (m .name) (n .name))) names
 
@@ -74,21 +74,22 @@ mapNameRule d m = firstBroken (19 when isTwice (map mapName (d .maps)) (mapName 
 unfoldable pub pinNameRule : Map → Named → ℕ
 pinNameRule m p = firstBroken (19 when isTwice (m .pins) p ∷ [])
 
--- a step uses the first section of its name
+-- the step passes section i: the first section of the step's name has the index i
 unfoldable pub uses : Document → ℕ → Step → Bool
 uses d i s = both (eqb (s .kind) sectionKind) (eqb (targetOf (d .maps) (d .sections) s) i)
 
 unfoldable pub isUsed : Document → ℕ → Bool
 isUsed d i = any (λ (m : Model). any (uses d i) (m .steps)) (d .models)
 
--- "27 UNUSED: section no step uses, at its opening": the section that stands at i
+-- "27 UNUSED: section no step uses, at its opening"; i is the section's index
 unfoldable pub sectionRule : Document → ℕ → Section → ℕ
 sectionRule d i s =
     firstBroken (19 when isTwice (map sectionName (d .sections)) (sectionName s) ∷ 27 when not (isUsed d i) ∷ [])
 
 -- ---- steps
 
--- the pins of the map that an end is on, and the conductors of the section of a step, at the step's target
+-- the number of pins of map i, the number of conductors of section i, and the method of section i; 0 where there is
+-- none. The index i is the target of a step.
 unfoldable pub pinsAt : List Map → ℕ → ℕ
 pinsAt [] i = 0
 pinsAt (m ∷ ms) zero = length (m .pins)
@@ -113,7 +114,7 @@ hasOtherForm [] i = false
 hasOtherForm (s ∷ ss) zero = any isOtherForm (s .matrices)
 hasOtherForm (s ∷ ss) (suc i) = hasOtherForm ss i
 
--- the index of an end's map, of a step's section; as many as there are where none is found
+-- the index of the map of an end, and of the section of a Section step; the length of the list if there is none
 abbrev pub mapIndex : Document → Step → ℕ
 mapIndex d s = indexOf (isMapOf s) (d .maps)
 
@@ -126,11 +127,11 @@ hasMap d s = ltb (mapIndex d s) (length (d .maps))
 unfoldable pub hasSection : Document → Step → Bool
 hasSection d s = ltb (sectionIndex d s) (length (d .sections))
 
--- "22 SIDE: two ends of a path on one map, Side lacking at either or the same"
+-- "22 SIDE: two ends of a path on one map, Side lacking at either or the same": the test of the two Sides
 unfoldable pub clash : Word → Word → Bool
 clash a b = either (eqb (length (a .text)) 0) (either (eqb (length (b .text)) 0) (sameWord a b))
 
--- the other one stands on a line above
+-- the other end is on an earlier line and on the same map, and the Sides clash
 unfoldable pub clashes : Document → Step → Step → Bool
 clashes d s other =
     both (both (eqb (other .kind) endKind) (ltb (other .line) (s .line)))
@@ -139,13 +140,13 @@ clashes d s other =
 unfoldable pub isClashing : Document → Model → Step → Bool
 isClashing d m s = both (hasMap d s) (any (clashes d s) (m .steps))
 
--- "the path's first map": that of its first end
+-- "the path's first map": the map of its first end, here as a list of at most one step
 abbrev pub firstEnd : List Step → List Step
 firstEnd [] = []
 firstEnd (s ∷ ss) = if eqb (s .kind) endKind then s ∷ [] else firstEnd ss
 
--- "26 COUNT: step whose pins or conductors differ from the pins of the path's first map": so many stand at the step. Where that map is
--- not found, nothing differs
+-- "26 COUNT: step whose pins or conductors differ from the pins of the path's first map": `many` is the count at the
+-- step. If the path's first map is not found, nothing differs.
 abbrev pub differs : Document → List Step → ℕ → Bool
 differs d [] many = false
 differs d (first ∷ more) many = both (hasMap d first) (not (eqb many (pinsAt (d .maps) (mapIndex d first))))
@@ -158,11 +159,11 @@ endRule d m s =
     ∷ 26 when both (hasMap d s) (differs d (firstEnd (m .steps)) (pinsAt (d .maps) (mapIndex d s)))
     ∷ [])
 
--- "24 METHOD: Mult with Distributed, Len with Lumped"
+-- "24 METHOD: Mult with Distributed, Len with Lumped"; method 0 is Lumped, 1 is Distributed
 unfoldable pub isWrongMethod : Document → Step → Bool
 isWrongMethod d s = if s .mult then eqb (methodAt (d .sections) (sectionIndex d s)) 1 else eqb (methodAt (d .sections) (sectionIndex d s)) 0
 
--- "SLM_general, SLM_quiescent": the types of the single-line models come first
+-- "SLM_general, SLM_quiescent": an SLM model has type 0 or 1
 unfoldable pub isSingleLine : Model → Bool
 isSingleLine m = ltb (m .type) 2
 
@@ -182,7 +183,7 @@ stepRule d m s =
 
 -- ---- all lines
 
--- what a line breaks, 0 for nothing, is a `Finding`
+-- a `Finding` is a line and the rule that it breaks, 0 for none
 
 unfoldable pub listFindings : Document → List Finding
 listFindings d = map (λ (n : Named). record { rule = listNameRule d n; line = n .line }) (d .listed)
@@ -208,7 +209,7 @@ sectionFindings d i (s ∷ ss) = record { rule = sectionRule d i s; line = s .li
 unfoldable pub findings : Document → List Finding
 findings d = listFindings d ++ (modelFindings d (d .models) ++ (mapFindings d (d .maps) ++ sectionFindings d 0 (d .sections)))
 
--- "In each group the earliest line counts": the earlier of two, one that breaks nothing never
+-- "In each group the earliest line counts": the finding on the earlier line. A finding of rule 0 never counts.
 unfoldable pub earlier : Finding → Finding → Finding
 earlier a b = if eqb (a .rule) 0 then b else if eqb (b .rule) 0 then a else if ltb (b .line) (a .line) then b else a
 
@@ -219,6 +220,6 @@ unfoldable pub earliest : List Finding → Finding
 earliest [] = noFinding
 earliest (f ∷ fs) = earlier f (earliest fs)
 
--- what the document breaks first in the group 19 to 27
+-- the first line that breaks one of the rules 19 to 27, and that rule; rule 0 and line 0 if no line does
 unfoldable pub crossRule : Document → Finding
 crossRule d = earliest (findings d)

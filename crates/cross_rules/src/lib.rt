@@ -1,4 +1,4 @@
-// The lines of a text that write the records of a table: where a rule is broken.
+// Helpers of the rules 19 to 27: the line that writes a record, where a broken rule is reported, and repeated names.
 ghost use mathlib.Core.Path.{_≡_};
 ghost use lib.Dec.{eqb};
 ghost use Prim.Native.Nat.{_-_, _+_, _*_, _≤_};
@@ -10,13 +10,14 @@ ghost use Rattle.table_layout.specs.Layout.{chopped};
 ghost use Rattle.table_name.specs.Name.{nameAt};
 ghost use Rattle.cross_rules.specs.Way.Twice.{hasAbove, MarkedNames};
 
-// What a line breaks of the rules 19 to 27, 0 for nothing.
+// A line, and the rule of 19 to 27 that it breaks; rule 0 if it breaks none.
 pub struct Finding {
     pub rule: u64,
     pub line: u64,
 }
 
-// Whether a line with this keyword in this place writes a record of a part.
+// Whether a line with this keyword, read in this place, writes a record of the part: models, maps, sections, or else
+// pins.
 fn writes_at(part: usize, place: u64, key: u64) -> bool
     ensures { λ r. ⌜ r ≡ writesAt part place key ⌝ }
 {
@@ -44,7 +45,7 @@ fn writes_at(part: usize, place: u64, key: u64) -> bool
     key == doc::PLAIN
 }
 
-// The last of those still to be counted is reached.
+// Whether this is the line searched for: it writes a record, and no record is left to skip.
 fn is_last(writes: bool, left: u64) -> bool
     ensures { λ r. ⌜ r ≡ both writes (eqb left 0) ⌝ }
 {
@@ -54,7 +55,7 @@ fn is_last(writes: bool, left: u64) -> bool
     left == 0
 }
 
-// One less to be counted if the line writes one.
+// How many records are left to skip after a line: one fewer if the line writes one, but never below 0.
 fn less_if(writes: bool, left: u64) -> u64
     ensures { λ r. ⌜ r ≡ (if writes then left - 1 else left) ⌝ }
 {
@@ -67,7 +68,7 @@ fn less_if(writes: bool, left: u64) -> u64
     left - 1
 }
 
-// The line that writes the record of a part that is numbered `index`.
+// The line that writes record `index` (from 0) of a part; 0 if the part has fewer records.
 pub fn nth_line(text: &[u8], part: usize, index: u64) -> u64
     ensures { λ r. ⌜ r ≡ nthLine part index (significant (now (text .entry))) ⌝ }
 {
@@ -91,9 +92,9 @@ pub fn nth_line(text: &[u8], part: usize, index: u64) -> u64
     }
 }
 
-// ---- Names that stand twice among the records of a part.
+// ---- Names that occur twice among the records of a part.
 
-// Whether a record above the one numbered `index` has its name; the part's records begin at `base`.
+// Whether a record before record `index` has the same name. Records of `width` words begin at word `base`.
 pub fn is_repeated_name(text: &[u8], table: &[u64], base: usize, width: usize, index: u64) -> bool
     requires { ⌜ (base + width * index + width ≤ length (now table)) × (2 ≤ width) ⌝ }
     ensures { λ r. ⌜ r ≡ hasAbove (now (text .entry)) (nameAt (now (text .entry)) (getD (now (table .entry)) (base + width * index) 0) (getD (now (table .entry)) (base + width * index + 1) 0)) (chopped width index (drop base (now (table .entry)))) ⌝ }
@@ -105,7 +106,8 @@ pub fn is_repeated_name(text: &[u8], table: &[u64], base: usize, width: usize, i
     table_name::find_name(text, table, base, width, index, name, 0) < index
 }
 
-// The same, where the names of the records above are marked: only names of one mark are compared. Its own name is marked for those below.
+// The same answer, with fewer comparisons. The marks of all names before `index` hold `stamp`: a name whose mark does
+// not hold it is new. Sets the mark of its own name for the records after it.
 pub fn is_repeated_marked(
     text: &[u8],
     table: &[u64],

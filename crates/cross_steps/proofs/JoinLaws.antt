@@ -1,4 +1,4 @@
--- The rules of a step by the words of the table are those of the document, where the table holds what the text says.
+-- In the table of a text, a step breaks the same rule by the words of the table as by the document.
 -- Assumes nothing.
 use mathlib.Core.Path.{_≡_, refl, sym, _∙_, ap}
 use mathlib.Core.Bool.{Bool, true, false, not}
@@ -90,7 +90,7 @@ use Rattle.cross_steps.proofs.SectionLaws.{startOf, start-last, start-r
 
 -- ---- the table of a text
 
--- the records that steps point at, where the view says that they stand
+-- the records that steps refer to are where the view locates them
 pub record Tells (table : List ℕ) (v : View) (d : Document) : Type 0 where
   pub maps-stand : Standing 7 table (getD (v .bases) maps 0) (map mapWords (mapRecords 0 (d .maps)))
   pub many-maps : getD (v .counts) maps 0 ≡ length (d .maps)
@@ -127,20 +127,20 @@ each-front (x ∷ xs) ys (holds.Each.more h hs) = holds.Each.more h (each-front 
 front-words : {w : ℕ} {table : List ℕ} {at : ℕ} {r : List ℕ} {rs : List (List ℕ)} → Standing w table at (r ∷ rs) → Words w table at r
 front-words (more words rest) = words
 
--- a section that is not there
+-- a section that does not exist has no other form
 none-other : (ss : List Section) (i : ℕ) → length ss ≤ i → hasOtherForm ss i ≡ false
 unfolding hasOtherForm
 none-other [] i h = refl
 none-other (s ∷ ss) zero h = absurd (not-suc-le-zero h)
 none-other (s ∷ ss) (suc i) h = none-other ss i (le-of-suc-le-suc h)
 
--- a test that is made only where another holds
+-- a test that only counts if another holds
 guarded : (guard a b : Bool) → (guard ≡ true → a ≡ b) → both guard a ≡ both guard b
 unfolding both
 guarded true a b h = h refl
 guarded false a b h = refl
 
--- ---- what is asked of the table
+-- ---- what the code requires of the table
 
 module _ (table : List ℕ) (v : View) (d : Document) (tells : Tells table v d) where
   pub first-is : (i : ℕ) → i ≤ length (d .sections) → firstMatrix table v i ≡ startOf 0 (d .sections) i
@@ -188,7 +188,7 @@ module _ (table : List ℕ) (v : View) (d : Document) (tells : Tells table v d) 
               rw (next-is i h, tells .many-matrices) (omega arith);
         }
 
-  -- ---- what a step points at
+  -- ---- the target of a step
 
   pub pins-is : (i : ℕ) → i < length (d .maps) → pinsOf table v i ≡ pinsAt (d .maps) i
   unfolding pinsOf
@@ -223,7 +223,7 @@ module _ (table : List ℕ) (v : View) (d : Document) (tells : Tells table v d) 
   section-target s e =
       if-false _ _ (ne-eqb _ _ (λ (z : s .kind ≡ endKind). let y : sectionKind ≡ endKind = sym e ∙ z in omega arith)) ∙ if-true _ _ (eq-eqb _ _ e)
 
-  -- ---- the ends above
+  -- ---- the ends before an end
 
   module _ (t : List ℕ) (own : ℕ) (s : Step) (here : StepAt own s) (stands : StepStands t s) where
     side-is : (at : ℕ) (x : Step) → StepAt at x → StepStands t x → sideAt t table at ≡ x .side .text
@@ -260,7 +260,7 @@ module _ (table : List ℕ) (v : View) (d : Document) (tells : Tells table v d) 
   unfolding hasMap
   has-is s = ap (ltb (mapIndex d s)) (tells .many-maps)
 
-  -- the pins of a map that is there
+  -- the pins of a map that exists
   module _ (s : Step) (P : ℕ → Bool) where
     with-pins : both (ltb (mapIndex d s) (getD (v .counts) maps 0)) (P (pinsOf table v (mapIndex d s))) ≡ both (hasMap d s) (P (pinsAt (d .maps) (mapIndex d s)))
     unfolding hasMap
@@ -290,7 +290,7 @@ module _ (table : List ℕ) (v : View) (d : Document) (tells : Tells table v d) 
 
 -- ---- the rules
 
--- what a model says for its steps
+-- `o` holds what the rules need to know of the model m
 pub record Owns (table : List ℕ) (v : View) (d : Document) (o : Owner) (m : Model) : Type 0 where
   pub kind : o .kind ≡ m .type
   pub steps : Standing 6 table (o .from) (map (λ (s : Step). stepWords (stepRecord (d .maps) (d .sections) s)) (m .steps))
@@ -361,7 +361,7 @@ module _ (t table : List ℕ) (v : View) (d : Document) (tells : Tells table v d
     unfolding hasSection
     points-section = λ i. ltb (target-section i) (tells .many-sections i)
 
-    -- a test of the section, where it is there
+    -- a test of the section, if it exists
     with-section : (a b : Bool) → (sectionIndex d s < length (d .sections) → a ≡ b) → both (ltb (getD table (own + 1) 0) (getD (v .counts) sections 0)) a ≡ both (hasSection d s) b
     unfolding hasSection
     with-section a b h =
@@ -409,7 +409,7 @@ module _ (t table : List ℕ) (v : View) (d : Document) (tells : Tells table v d
     unfolding sectionRuleAt sectionStepRule
     section-is = λ i. firstBroken (23 when not (points-section i) ∷ 24 when method-is i ∷ 25 when kind-is i ∷ 26 when conductors-differ i ∷ [])
 
-  -- whether the amount is a Mult is asked of a section alone
+  -- only for a Section step it matters whether the amount is a Mult
   pub step-is : (mult : Bool) → (s .kind ≡ sectionKind → mult ≡ s .mult) → stepRuleAt t table v o own (length above) mult ≡ stepRule d m s
   unfolding stepRuleAt stepRule
   step-is mult told =

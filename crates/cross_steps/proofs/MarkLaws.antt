@@ -1,4 +1,5 @@
--- Laws of the marks of ends' sides: equal sides on one map have the same mark, so that an end whose mark is not set meets none that is marked.
+-- Laws of the marks of Sides: equal Sides on one map have the same mark, so an end whose mark is not set clashes with
+-- no marked end.
 -- Assumes nothing.
 use mathlib.Core.Path.{_≡_, refl, sym, _∙_, ap}
 use mathlib.Core.Bool.{Bool, true, false, not}
@@ -139,7 +140,7 @@ module _ (t table marks : List ℕ) (o : Owner) (own above : ℕ) (below : Below
   pub none-told : (marked : Bool) → marked ≡ isMarked t table marks (o .stamp) own → not marked ≡ true → false ≡ meetsAbove t table own (o .from) above
   none-told marked is free = sym (none-above t table marks (o .stamp) own (sym is ∙ not-true marked free) (o .from) above (below .marked))
 
--- a step that is no end has nothing to mark
+-- a step that is not an end sets no mark
 pub other-marked :
     (t table marks : List ℕ) (o : Owner) (own above : ℕ) → Below t table marks o own above → (getD table own 0 ≡ endKind → ⊥) →
     MarkedEnds t table marks (o .stamp) (o .from) (above + 1)

@@ -1,4 +1,5 @@
--- Laws of the rules of a step by the words of the table: what each `return` of the functions knows gives what its contract says.
+-- Laws of the rules of a step by the words of the table: what is known at each `return` of the functions implies the
+-- contract.
 -- Assumes nothing.
 use mathlib.Core.Path.{_≡_, refl, sym, _∙_, ap}
 use mathlib.Core.Bool.{Bool, true, false, not}

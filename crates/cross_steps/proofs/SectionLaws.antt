@@ -1,4 +1,5 @@
--- The records of maps, sections and matrices in a table: pins, methods and conductors by their index, and the matrices of a section.
+-- The records of maps, sections and matrices in a table: pins, methods and conductors by their index, and the matrices
+-- of a section.
 -- Assumes nothing.
 use mathlib.Core.Path.{_≡_, refl, sym, _∙_, ap}
 use mathlib.Core.Bool.{Bool, true, false, not}
@@ -59,7 +60,7 @@ module _ (table : List ℕ) where
 
 -- ---- where the matrices of a section begin
 
--- the first matrix of the section numbered i, `first` being that of the first one
+-- the index of the first matrix of section i; `first` is that of section 0
 unfoldable pub startOf : ℕ → List Section → ℕ → ℕ
 startOf first [] i = first
 startOf first (s ∷ ss) zero = first
@@ -97,7 +98,7 @@ start-within first (s ∷ ss) (suc i) =
 
 -- ---- the least of the four words
 
--- 0 or at least so much
+-- 0, or at least `low`
 pub data OrMore (low : ℕ) : ℕ → Type 0 where
   lacks : OrMore low 0
   stands : {n : ℕ} → low ≤ n → OrMore low n
@@ -125,7 +126,7 @@ module _ (low : ℕ) where
   lesser-low {a} {b} h k =
       by-test (OrMore low) (eqb a 0) _ _ (λ e. k) (λ e. by-test (OrMore low) (eqb b 0) _ _ (λ f. h) (λ f. by-test (OrMore low) (ltb b a) _ _ (λ g. k) (λ g. h)))
 
-  -- one that is the least of all stands
+  -- a number below all others is the least
   lesser-left : {b : ℕ} → (low ≡ 0 → ⊥) → OrMore low b → lesserOf low b ≡ low
   unfolding lesserOf
   lesser-left n lacks = if-false _ _ (ne-eqb _ _ n) ∙ if-true _ _ (eq-eqb 0 0 refl)
@@ -222,7 +223,7 @@ module _ (table : List ℕ) where
 
   -- ---- the matrices of a section
 
-  -- those in front, and those behind them
+  -- the matrices of the section come first, the rest after them
   other-any : (values at : ℕ) (front rest : List Matrix) → Standing 5 table at (map matrixWords (matrixRecords values (front ++ rest))) → otherIn table at (length front) ≡ any isOtherForm front
   unfolding matrixRecords matrixRecord otherIn any isOtherForm
   other-any values at [] rest h = refl

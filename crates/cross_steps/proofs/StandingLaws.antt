@@ -1,4 +1,4 @@
--- Records that stand in a table one behind the other, word for word.
+-- Records that follow each other in a table, word for word.
 -- Assumes nothing.
 use mathlib.Core.Path.{_≡_, refl, sym, _∙_, ap}
 use mathlib.Core.List.{List, [], _∷_, _++_}
@@ -9,11 +9,11 @@ use lib.ListN.{length, take, drop, getD}
 use lib.Seq.{drop-drop, getD-drop, getD-take}
 use Rattle.table_layout.specs.Layout.{chopped}
 
--- the words of the record that stands at `at`
+-- the words of the record that begins at word `at`
 pub record Words (w : ℕ) (table : List ℕ) (at : ℕ) (r : List ℕ) : Type 0 where
   pub word : (k : ℕ) → k < w → getD table (at + k) 0 ≡ getD r k 0
 
--- records of a width, the first of which stands at `at`
+-- records of w words, the first of which begins at word `at`
 pub data Standing (w : ℕ) (table : List ℕ) : ℕ → List (List ℕ) → Type 0 where
   none : {at : ℕ} → Standing w table at []
   more : {at : ℕ} {r : List ℕ} {rs : List (List ℕ)} → Words w table at r → Standing w table (at + w) rs → Standing w table at (r ∷ rs)

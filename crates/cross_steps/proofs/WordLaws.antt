@@ -1,4 +1,4 @@
--- Laws of the words of a step's record and of those that it points at, as the functions over them find them.
+-- Laws of the words of a step's record, and of the records that it refers to.
 -- Assumes nothing.
 use mathlib.Core.Path.{_≡_, refl, sym, _∙_, ap}
 use mathlib.Core.Bool.{Bool, true, false, not}
@@ -18,7 +18,7 @@ use Rattle.doc.specs.Document.{endKind}
 use Rattle.table_name.specs.Name.{nameAt}
 use Rattle.cross_steps.specs.Way.StepWords.{sideAt, clashAt, meetsAt, meetsAbove, firstTarget, lesserOf, leastAt, otherIn}
 
--- the sides of two ends, none of which lacks
+-- two ends that both have a Side
 pub sides-told :
     (t table : List ℕ) (other own : ℕ) → (getD table (other + 4) 0 ≡ 0 → ⊥) → (getD table (own + 4) 0 ≡ 0 → ⊥) →
     (a : List ℕ) → a ≡ nameAt t (getD table (other + 3) 0) (getD table (other + 4) 0) →
@@ -34,9 +34,9 @@ pub least-told :
 unfolding leastAt
 least-told table at a e b f r is = is ∙ (λ i. lesserOf (e i) (f i))
 
--- ---- records one behind the other
+-- ---- records that follow each other
 
--- i of so many records of a width are gone over, and what is left of them gives the whole
+-- a loop's invariant: after i of `count` records of w words, the rest gives the result of all
 pub record Left {A : Type 0} (w : ℕ) (over : ℕ → ℕ → A) (from count at i : ℕ) : Type 0 where
   pub most : i ≤ count
   pub place : at ≡ from + w * i

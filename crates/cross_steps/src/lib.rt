@@ -1,4 +1,4 @@
-// Rules 21 to 26 of one step, over the records of a table.
+// Rules 21 to 26 of one step, judged by the records of the table.
 ghost use mathlib.Core.Path.{_≡_};
 ghost use Prim.Native.Nat.{_+_, _*_, _≤_, _<_};
 ghost use lib.ListN.{length, getD};
@@ -12,7 +12,7 @@ const END: u64 = 0;
 
 const SECTION: u64 = 1;
 
-// How many words a record of a step has, of a map, of a section and of a matrix.
+// How many words the record of a step has, and that of a map, a section and a matrix.
 const STEP_WORDS: usize = 6;
 
 const MAP_WORDS: usize = 7;
@@ -43,8 +43,9 @@ const KIND: u64 = 25;
 
 const COUNT: u64 = 26;
 
-// What a model says for its steps: its type, where their records begin and how many there are, the map of its first end, for which
-// as many as there are maps stand for none, and what its ends are marked by.
+// What the rules of a step need to know of its model: the model's type, the word where the records of its steps begin,
+// how many steps it has, the map of its first end (the number of maps if there is none), and the stamp in the marks of
+// its ends.
 pub struct Owner {
     pub kind: u64,
     pub from: usize,
@@ -55,7 +56,7 @@ pub struct Owner {
 
 // ---- 22: two ends on one map
 
-// "Side lacking at either or the same".
+// "Side lacking at either or the same". `other` and `own` are the words where the records of the two ends begin.
 fn clash(text: &[u8], table: &[u64], other: usize, own: usize) -> bool
     requires { ⌜ (other + 6 ≤ length (now table)) × (own + 6 ≤ length (now table)) ⌝ }
     ensures { λ r. ⌜ r ≡ clashAt (now (text .entry)) (now (table .entry)) other own ⌝ }
@@ -73,7 +74,7 @@ fn clash(text: &[u8], table: &[u64], other: usize, own: usize) -> bool
     lex_line::same_bytes(other_side, own_side)
 }
 
-// The other one is an end on the same map, and they clash.
+// Whether the other step is an end on the same map, and the Sides clash.
 fn meets(text: &[u8], table: &[u64], other: usize, own: usize) -> bool
     requires { ⌜ (other + 6 ≤ length (now table)) × (own + 6 ≤ length (now table)) ⌝ }
     ensures { λ r. ⌜ r ≡ meetsAt (now (text .entry)) (now (table .entry)) other own ⌝ }
@@ -87,7 +88,7 @@ fn meets(text: &[u8], table: &[u64], other: usize, own: usize) -> bool
     clash(text, table, other, own)
 }
 
-// One of so many steps above it.
+// Whether one of the first `above` steps of the model, whose records begin at `from`, clashes with the end at `own`.
 fn is_clashing(text: &[u8], table: &[u64], own: usize, from: usize, above: u64) -> bool
     requires { ⌜ (from + 6 * above ≤ length (now table)) × (own + 6 ≤ length (now table)) ⌝ }
     ensures { λ r. ⌜ r ≡ meetsAbove (now (text .entry)) (now (table .entry)) own from above ⌝ }
@@ -104,7 +105,7 @@ fn is_clashing(text: &[u8], table: &[u64], own: usize, from: usize, above: u64) 
     false
 }
 
-// The mark of an end.
+// The mark of an end, made of its map and its Side.
 fn mark_at(text: &[u8], table: &[u64], own: usize) -> usize
     requires { ⌜ own + 6 ≤ length (now table) ⌝ }
     ensures { λ r. ⌜ r ≡ markAt (now (text .entry)) (now (table .entry)) own ⌝ }
@@ -113,7 +114,7 @@ fn mark_at(text: &[u8], table: &[u64], own: usize) -> usize
     table_name::hash_of(table[own + 1], side)
 }
 
-// An end may clash with one that is marked. If it may not, no comparison is needed.
+// Whether an end may clash with one that is marked. If not, it need not be compared with any.
 fn is_marked(
     text: &[u8],
     table: &[u64],
@@ -135,7 +136,8 @@ fn is_marked(
     marks[mark] == stamp
 }
 
-// The same as `is_clashing`, by the marks where they tell it. The end is marked for those below it.
+// The same as `is_clashing`, but compares ends only if the marks do not rule a clash out. Marks the end for the ends
+// after it.
 fn is_met(
     text: &[u8],
     table: &[u64],
@@ -159,7 +161,7 @@ fn is_met(
 
 // ---- 26: the pins of the path's first map
 
-// What the first end of so many steps points at; `none` where there is no end.
+// The target of the first end among `count` steps; `none` if there is no end.
 pub fn first_target(table: &[u64], none: u64, from: usize, count: u64) -> u64
     requires { ⌜ from + 6 * count ≤ length (now table) ⌝ }
     ensures { λ r. ⌜ r ≡ firstTarget (now (table .entry)) none from count ⌝ }
@@ -184,7 +186,8 @@ fn pins_of(table: &[u64], view: View, index: u64) -> u64
     table[bases[table_layout::MAPS] + MAP_WORDS * (index as usize) + 6]
 }
 
-// So many pins or conductors differ from the pins of the first map. Where that is not found nothing differs.
+// Whether a number of pins or conductors differs from the pins of the first map. If there is no such map, nothing
+// differs.
 fn differs(table: &[u64], view: View, first: u64, many: u64) -> bool
     requires { ⌜ StepRooms (now table) view ⌝ }
     ensures { λ r. ⌜ r ≡ differsFrom (now (table .entry)) view first many ⌝ }
@@ -198,7 +201,7 @@ fn differs(table: &[u64], view: View, first: u64, many: u64) -> bool
 
 // ---- 25: the forms of a section's matrices
 
-// The lesser of two, 0 standing for none.
+// The lesser of two numbers, where 0 means none.
 fn lesser(a: u64, b: u64) -> u64
     ensures { λ r. ⌜ r ≡ lesserOf a b ⌝ }
 {
@@ -225,7 +228,8 @@ fn least(table: &[u64], at: usize) -> u64
     )
 }
 
-// The first matrix of a section: a section's matrices stand one behind the other, in front of those of the next.
+// The index of the first matrix of a section. The matrices of a section follow each other, and those of the next
+// section come after them. After the last section: the number of matrices.
 fn first_matrix(table: &[u64], view: View, index: u64) -> u64
     requires { ⌜ StepRooms (now table) view ⌝ }
     ensures { λ r. ⌜ r ≡ firstMatrix (now (table .entry)) view index ⌝ }
@@ -245,7 +249,7 @@ fn first_matrix(table: &[u64], view: View, index: u64) -> u64
     word - 1
 }
 
-// One of so many matrices is no Diagonal_matrix.
+// Whether one of `count` matrices is not a Diagonal_matrix.
 fn is_other_in(table: &[u64], from: usize, count: u64) -> bool
     requires { ⌜ from + 5 * count ≤ length (now table) ⌝ }
     ensures { λ r. ⌜ r ≡ otherIn (now (table .entry)) from count ⌝ }
@@ -276,7 +280,7 @@ fn has_other_form(table: &[u64], view: View, index: u64) -> bool
     )
 }
 
-// Of a single-line model.
+// Rule 25 looks only at SLM models.
 fn is_kind_broken(table: &[u64], view: View, kind: u64, index: u64) -> bool
     requires { ⌜ StepRooms (now table) view × (index < getD (view .counts) sections 0) ⌝ }
     ensures { λ r. ⌜ r ≡ kindBroken (now (table .entry)) view kind index ⌝ }
@@ -299,7 +303,7 @@ fn is_wrong_method(mult: bool, method: u64) -> bool
     method == LUMPED
 }
 
-// An end, so many steps of its model standing above it.
+// The rule that an end breaks, 0 for none. `above` is the number of steps before it in its model.
 fn end_rule(
     text: &[u8],
     table: &[u64],
@@ -350,7 +354,7 @@ fn section_rule(table: &[u64], view: View, owner: Owner, own: usize, mult: bool)
     0
 }
 
-// What a step breaks, 0 for nothing: an end, a step over a section, or a fork.
+// The rule that a step breaks, 0 for none. Forks and endforks break none.
 pub fn step_rule(
     text: &[u8],
     table: &[u64],

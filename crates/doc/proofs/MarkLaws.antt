@@ -13,7 +13,7 @@ use borrow.Author.Tests.{le-leb, lt-leb, leb-true, leb-false}
 use Rattle.base.specs.If.{if_then_else_}
 use Rattle.base.proofs.IfLaws.{if-true, if-false, by-cases}
 use Rattle.lex_line.specs.Words.{Word, wordsFrom}
-use Rattle.lex_line.specs.Way.Spans.{wordAt}
+use Rattle.lex_line.specs.Way.Spans.{wordSpan}
 use Rattle.lex_line.specs.declared.Span.{Span}
 use Rattle.lex_line.proofs.WordLaws.{words-none, words-at, word-ordered, word-within}
 use Rattle.lex_keyword.specs.Bracket.{bracketOf}
@@ -48,45 +48,45 @@ no-mark : markOf noWord ≡ record { start = 0; size = 0 }
 unfolding markOf noWord
 no-mark = refl
 
-pub start-after : (s : List ℕ) (from : ℕ) → from ≤ wordAt s from .start
-unfolding wordAt
+pub start-after : (s : List ℕ) (from : ℕ) → from ≤ wordSpan s from .start
+unfolding wordSpan
 start-after s from = omega arith
 
 -- the first of the words from a place of s on
 module _ (s : List ℕ) (offset from : ℕ) (h : from ≤ length s) where
-  mark-first : markAt s offset (wordAt s from) ≡ markOf (firstWord (wordsFrom (offset + from) (drop from s)))
+  mark-first : markAt s offset (wordSpan s from) ≡ markOf (firstWord (wordsFrom (offset + from) (drop from s)))
   mark-first =
-      by-cases _ (leb (length s) (wordAt s from .start))
-      (λ (e : leb (length s) (wordAt s from .start) ≡ true).
+      by-cases _ (leb (length s) (wordSpan s from .start))
+      (λ (e : leb (length s) (wordSpan s from .start) ≡ true).
       let z : wordsFrom (offset + from) (drop from s) ≡ [] = words-none offset s from (leb-true _ _ e) in
-      rw z (sym (mark-none s offset (wordAt s from) (leb-true _ _ e)) ∙ sym no-mark))
-      (λ (e : leb (length s) (wordAt s from .start) ≡ false).
-      rw (words-at offset s from (leb-false _ _ e)) (sym (mark-some s offset (wordAt s from) (leb-false _ _ e)) ∙ marked))
+      rw z (sym (mark-none s offset (wordSpan s from) (leb-true _ _ e)) ∙ sym no-mark))
+      (λ (e : leb (length s) (wordSpan s from .start) ≡ false).
+      rw (words-at offset s from (leb-false _ _ e)) (sym (mark-some s offset (wordSpan s from) (leb-false _ _ e)) ∙ marked))
     where
-      marked : record { start = offset + wordAt s from .start; size = wordAt s from .end - wordAt s from .start } ≡ markOf (record { start = offset + wordAt s from .start; text = take (wordAt s from .end - wordAt s from .start) (drop (wordAt s from .start) s) })
-      marked = marked-at s (offset + wordAt s from .start) (wordAt s from) (word-ordered s from (wordAt s from) refl) (word-within s from (wordAt s from) refl h)
+      marked : record { start = offset + wordSpan s from .start; size = wordSpan s from .end - wordSpan s from .start } ≡ markOf (record { start = offset + wordSpan s from .start; text = take (wordSpan s from .end - wordSpan s from .start) (drop (wordSpan s from .start) s) })
+      marked = marked-at s (offset + wordSpan s from .start) (wordSpan s from) (word-ordered s from (wordSpan s from) refl) (word-within s from (wordSpan s from) refl h)
 
-module _ (s : List ℕ) (offset : ℕ) (first : Span) (is-first : first ≡ wordAt s 0) (r : Mark) where
+module _ (s : List ℕ) (offset : ℕ) (first : Span) (is-first : first ≡ wordSpan s 0) (r : Mark) where
   pub first-marked : r ≡ markAt s offset first → r ≡ markOf (firstWord (wordsFrom offset s))
   first-marked e =
       e ∙ ap (markAt s offset) is-first ∙ mark-first s offset 0 (omega arith)
       ∙ ap (λ (o : ℕ). markOf (firstWord (wordsFrom o s))) (add-zero offset)
 
-  pub second-marked : (second : Span) → second ≡ wordAt s (first .end) → r ≡ markAt s offset second → r ≡ markOf (secondWord (wordsFrom offset s))
+  pub second-marked : (second : Span) → second ≡ wordSpan s (first .end) → r ≡ markAt s offset second → r ≡ markOf (secondWord (wordsFrom offset s))
   second-marked second is-second e =
-      let w : second ≡ wordAt s (wordAt s 0 .end) = is-second ∙ ap (λ (x : Span). wordAt s (x .end)) is-first in
+      let w : second ≡ wordSpan s (wordSpan s 0 .end) = is-second ∙ ap (λ (x : Span). wordSpan s (x .end)) is-first in
       let z : wordsFrom (offset + 0) (drop 0 s) ≡ wordsFrom offset s = ap (λ (o : ℕ). wordsFrom o s) (add-zero offset) in
       e ∙ ap (markAt s offset) w
-      ∙ by-cases (markAt s offset (wordAt s (wordAt s 0 .end)) ≡ markOf (secondWord (wordsFrom offset s))) (leb (length s) (wordAt s 0 .start))
-      (λ (b : leb (length s) (wordAt s 0 .start) ≡ true). none-second (leb-true _ _ b) (sym z ∙ words-none offset s 0 (leb-true _ _ b)))
-      (λ (b : leb (length s) (wordAt s 0 .start) ≡ false).
-      mark-first s offset (wordAt s 0 .end) (word-within s 0 (wordAt s 0) refl (omega arith)) ∙ ap (λ (ws : List Word). markOf (secondWord ws)) (sym (words-at offset s 0 (leb-false _ _ b)) ∙ z))
+      ∙ by-cases (markAt s offset (wordSpan s (wordSpan s 0 .end)) ≡ markOf (secondWord (wordsFrom offset s))) (leb (length s) (wordSpan s 0 .start))
+      (λ (b : leb (length s) (wordSpan s 0 .start) ≡ true). none-second (leb-true _ _ b) (sym z ∙ words-none offset s 0 (leb-true _ _ b)))
+      (λ (b : leb (length s) (wordSpan s 0 .start) ≡ false).
+      mark-first s offset (wordSpan s 0 .end) (word-within s 0 (wordSpan s 0) refl (omega arith)) ∙ ap (λ (ws : List Word). markOf (secondWord ws)) (sym (words-at offset s 0 (leb-false _ _ b)) ∙ z))
     where
-      none-second : length s ≤ wordAt s 0 .start → wordsFrom offset s ≡ [] → markAt s offset (wordAt s (wordAt s 0 .end)) ≡ markOf (secondWord (wordsFrom offset s))
+      none-second : length s ≤ wordSpan s 0 .start → wordsFrom offset s ≡ [] → markAt s offset (wordSpan s (wordSpan s 0 .end)) ≡ markOf (secondWord (wordsFrom offset s))
       none-second h z =
-          let o : wordAt s 0 .start ≤ wordAt s 0 .end = word-ordered s 0 (wordAt s 0) refl in
-          let k : wordAt s 0 .end ≤ wordAt s (wordAt s 0 .end) .start = start-after s (wordAt s 0 .end) in
-          rw z (sym (mark-none s offset (wordAt s (wordAt s 0 .end)) (omega arith)) ∙ sym no-mark)
+          let o : wordSpan s 0 .start ≤ wordSpan s 0 .end = word-ordered s 0 (wordSpan s 0) refl in
+          let k : wordSpan s 0 .end ≤ wordSpan s (wordSpan s 0 .end) .start = start-after s (wordSpan s 0 .end) in
+          rw z (sym (mark-none s offset (wordSpan s (wordSpan s 0 .end)) (omega arith)) ∙ sym no-mark)
 
 -- ---- arguments
 

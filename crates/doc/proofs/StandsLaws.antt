@@ -21,7 +21,7 @@ use Rattle.lex_line.specs.Lines.{isBlankLine}
 use Rattle.lex_line.specs.Way.LineEnds.{pastFeed, lineAt}
 use Rattle.lex_line.specs.declared.Line as text
 use Rattle.lex_line.specs.Words.{Word, wordsFrom, lastEnd, toEquals}
-use Rattle.lex_line.specs.Way.Spans.{wordAt}
+use Rattle.lex_line.specs.Way.Spans.{wordSpan}
 use Rattle.lex_line.proofs.LineLaws.{content-before-feed}
 use Rattle.lex_line.proofs.WordLaws.{words-none, words-at, end-past}
 use Rattle.lex_keyword.specs.Bracket.{bracketOf}
@@ -133,23 +133,23 @@ module _ (t : List ℕ) (a : ℕ) (s : List ℕ) (h : Stands t (record { start =
       }
 
   -- the words from a place of it on
-  word-found : (from : ℕ) → wordAt s from .start < length s →
-      Each (Stands t) (wordsFrom (a + wordAt s from .end) (drop (wordAt s from .end) s)) →
+  word-found : (from : ℕ) → wordSpan s from .start < length s →
+      Each (Stands t) (wordsFrom (a + wordSpan s from .end) (drop (wordSpan s from .end) s)) →
       Each (Stands t) (wordsFrom (a + from) (drop from s))
   word-found from l others =
-      rw (words-at a s from l) (more (part-stands (wordAt s from .start) (wordAt s from .end - wordAt s from .start) (omega arith)) others)
+      rw (words-at a s from l) (more (part-stands (wordSpan s from .start) (wordSpan s from .end - wordSpan s from .start) (omega arith)) others)
 
   words-from : (n from : ℕ) → length s - from ≤ n → Each (Stands t) (wordsFrom (a + from) (drop from s))
   words-from zero from k =
-      let e : from ≤ wordAt s from .start = start-after s from in
+      let e : from ≤ wordSpan s from .start = start-after s from in
       rw (words-none a s from (omega arith)) none
   words-from (suc n) from k =
-      by-cases (Each (Stands t) (wordsFrom (a + from) (drop from s))) (leb (length s) (wordAt s from .start))
-      (λ (e : leb (length s) (wordAt s from .start) ≡ true). rw (words-none a s from (leb-true _ _ e)) none)
-      (λ (e : leb (length s) (wordAt s from .start) ≡ false).
-      let l : wordAt s from .start < length s = leb-false _ _ e in
-      let f : from < wordAt s from .end = end-past s from (wordAt s from) refl l in
-      word-found from l (words-from n (wordAt s from .end) (omega arith)))
+      by-cases (Each (Stands t) (wordsFrom (a + from) (drop from s))) (leb (length s) (wordSpan s from .start))
+      (λ (e : leb (length s) (wordSpan s from .start) ≡ true). rw (words-none a s from (leb-true _ _ e)) none)
+      (λ (e : leb (length s) (wordSpan s from .start) ≡ false).
+      let l : wordSpan s from .start < length s = leb-false _ _ e in
+      let f : from < wordSpan s from .end = end-past s from (wordSpan s from) refl l in
+      word-found from l (words-from n (wordSpan s from .end) (omega arith)))
 
   pub words-stand : (from : ℕ) → Each (Stands t) (wordsFrom (a + from) (drop from s))
   words-stand from = words-from (length s - from) from (omega arith)

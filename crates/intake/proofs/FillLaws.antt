@@ -10,7 +10,7 @@ use lib.ListN.{length, drop, getD, replicate, length-append, length-replicate, L
 use lib.Seq.{sets, length-sets}
 use Rattle.table_layout.specs.Layout.{widths, layout, chopped, maps, sections, steps, matrices, values, pins}
 use Rattle.table_layout.specs.Way.Parts.{needed}
-use Rattle.table_layout.specs.Way.Filling.{Write, partOf, widthOf, position, tableAfter, fillingAfter, basesFrom, startFilling, headed, opened, Fits}
+use Rattle.table_layout.specs.Way.Filling.{Write, partOf, widthOf, position, tableStored, fillingAfter, basesFrom, startFilling, headed, openedTable, Fits}
 use Rattle.table_layout.specs.declared.Filling.{Filling}
 use Rattle.table_layout.proofs.LayoutLaws.{length-layout}
 use Rattle.table_layout.proofs.FillingLaws.{filled, fits, fits-below, fits-first, fits-rest, fits-wider, kept-above, length-after, after-append}
@@ -96,7 +96,7 @@ module _ (t : List ℕ) (c : Counts) (reads : readingOf t ≡ Read c) (size : �
   spare = size - needed widths (countsOf c)
 
   abbrev t₀ : List ℕ
-  t₀ = opened 0 widths (countsOf c) (sets (replicate size 0) (needed widths (countsOf c) - length vs) vs)
+  t₀ = openedTable 0 widths (countsOf c) (sets (replicate size 0) (needed widths (countsOf c) - length vs) vs)
 
   pub start-long : length t₀ ≡ size
   start-long =
@@ -123,13 +123,13 @@ module _ (t : List ℕ) (c : Counts) (reads : readingOf t ≡ Read c) (size : �
       opened-sets (countsOf c) (replicate size 0) (needed widths (countsOf c) - length vs) vs (seven-counts t c reads) h
       ∙ (λ i. sets (opened-zeros (countsOf c) size room i) (values-at i) vs)
 
-  headed-stored : tableAfter (writesOf d) f₀ (headed widths (countsOf c) ++ replicate spare 0) ≡ layout parts ++ replicate spare 0
+  headed-stored : tableStored (writesOf d) f₀ (headed widths (countsOf c) ++ replicate spare 0) ≡ layout parts ++ replicate spare 0
   headed-stored = rw (counts-are t c reads) at (filled parts (records-wide (flatten d)) (writesOf d) spare (writes-told d) (writes-known d))
 
-  all-stored : tableAfter (writesOf d) f₀ t₀ ≡ layout parts ++ replicate spare 0
+  all-stored : tableStored (writesOf d) f₀ t₀ ≡ layout parts ++ replicate spare 0
   all-stored =
       let l : length vs ≡ 3 * length (partOf values (writesOf d)) = vs-long ∙ ap (λ (n : ℕ). 3 * n) (sym (values-counted t c reads)) in
-      ap (tableAfter (writesOf d) f₀) start-is
+      ap (tableStored (writesOf d) f₀) start-is
       ∙ overwritten (needed widths (countsOf c)) f₀ (writesOf d) (headed widths (countsOf c) ++ replicate spare 0) vs
       all-fit (start-seven (countsOf c)) l
       ∙ headed-stored
@@ -225,7 +225,7 @@ module _ (t : List ℕ) (c : Counts) (reads : readingOf t ≡ Read c) (size : �
       drop-low : drop low t₂ ≡ drop low (layout parts ++ replicate spare 0)
       unfolding writesOf
       drop-low =
-          let s : tableAfter (modelsWrites (d .maps) (d .sections) 0 (d .models)) f₂ t₂ ≡ layout parts ++ replicate spare 0 = (λ i. tableAfter (modelsWrites (d .maps) (d .sections) 0 (d .models)) (blocks-done .filled i) (blocks-done .stored i)) ∙ sym (after-append (blocksWrites d) (modelsWrites (d .maps) (d .sections) 0 (d .models)) f₀ t₀) ∙ all-stored in
+          let s : tableStored (modelsWrites (d .maps) (d .sections) 0 (d .models)) f₂ t₂ ≡ layout parts ++ replicate spare 0 = (λ i. tableStored (modelsWrites (d .maps) (d .sections) 0 (d .models)) (blocks-done .filled i) (blocks-done .stored i)) ∙ sym (after-append (blocksWrites d) (modelsWrites (d .maps) (d .sections) 0 (d .models)) f₀ t₀) ∙ all-stored in
           sym (kept-above low f₂ (modelsWrites (d .maps) (d .sections) 0 (d .models)) t₂ (rw models-from at models-low)) ∙ ap (drop low) s
 
       module _ (p : ℕ) (h : p < 7) where

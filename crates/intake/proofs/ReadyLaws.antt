@@ -12,7 +12,7 @@ use borrow.Author.Tests.{lt-ltb, le-ltb}
 use Rattle.base.proofs.IfLaws.{if-true, if-false}
 use Rattle.table_layout.specs.Layout.{widths, maps}
 use Rattle.table_layout.specs.Way.Parts.{needed}
-use Rattle.table_layout.specs.Way.Filling.{startFilling, opened, BoundedCounts}
+use Rattle.table_layout.specs.Way.Filling.{startFilling, openedTable, BoundedCounts}
 use Rattle.table_layout.specs.Way.Filling as filling
 use Rattle.table_layout.specs.declared.Filling.{Filling}
 use Rattle.table_layout.proofs.OpenLaws.{values-last}
@@ -72,22 +72,22 @@ module _ (t : List ℕ) (c : Counts) (reads : readingOf t ≡ reading.Read c) wh
     pub opened-filling : (f : Filling) → f ≡ startFilling many → f ≡ startFilling (countsOf c)
     opened-filling f e = e ∙ ap startFilling is-many
 
-    pub opened-table : (before table : List ℕ) → table ≡ opened 0 widths many before → table ≡ opened 0 widths (countsOf c) before
+    pub opened-table : (before table : List ℕ) → table ≡ openedTable 0 widths many before → table ≡ openedTable 0 widths (countsOf c) before
     opened-table before table e = rw is-many at e
 
   -- ---- one call after another
 
   module _ (before : List ℕ) (room : needed widths (countsOf c) ≤ length before) (lifted : Lifted (countsOf c) before)
-      (f : Filling) (is-f : f ≡ startFilling (countsOf c)) (table : List ℕ) (is-table : table ≡ opened 0 widths (countsOf c) before) where
+      (f : Filling) (is-f : f ≡ startFilling (countsOf c)) (table : List ℕ) (is-table : table ≡ openedTable 0 widths (countsOf c) before) where
     abbrev size : ℕ
     size = length before
 
     -- the table as the records find it
     abbrev start : List ℕ
-    start = opened 0 widths (countsOf c) (sets (replicate (length before) 0) (needed widths (countsOf c) - length (lifted .words)) (lifted .words))
+    start = openedTable 0 widths (countsOf c) (sets (replicate (length before) 0) (needed widths (countsOf c) - length (lifted .words)) (lifted .words))
 
     table-is : table ≡ start
-    table-is = is-table ∙ ap (opened 0 widths (countsOf c)) (lifted .image)
+    table-is = is-table ∙ ap (openedTable 0 widths (countsOf c)) (lifted .image)
 
     table-long : length table ≡ size
     table-long = ap length table-is ∙ start-long t c reads size room (lifted .words) (lifted .long)

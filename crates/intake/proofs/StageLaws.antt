@@ -10,7 +10,7 @@ use lib.ListN.{length, take, drop, getD, replicate, length-drop, length-replicat
 use lib.Seq.{sets, sets-eq, drop-drop, drop-at, length-take-le}
 use Rattle.table_layout.specs.Layout.{widths, values}
 use Rattle.table_layout.specs.Way.Parts.{needed}
-use Rattle.table_layout.specs.Way.Filling.{basesFrom, startFilling, opened}
+use Rattle.table_layout.specs.Way.Filling.{basesFrom, startFilling, openedTable}
 use Rattle.table_layout.proofs.OpenLaws.{length-opened, opened-sets, values-last}
 use Rattle.line_keyword.specs.declared.Counts.{Counts}
 use Rattle.doc.specs.Way.Holds.{countsOf}
@@ -27,15 +27,15 @@ sets-behind t p vs e =
     sets-eq vs t p h ∙ ap (λ (u : List ℕ). (take p t ++ vs) ++ u) (drop-of-length-le t k) ∙ append-nil (take p t ++ vs)
 
 drop-opened : (counts t : List ℕ) (p : ℕ) → length counts ≡ 7 → getD (basesFrom 0 widths counts) values 0 ≤ p → p ≤ length t →
-    drop p (opened 0 widths counts t) ≡ drop p t
+    drop p (openedTable 0 widths counts t) ≡ drop p t
 drop-opened counts t p seven h room =
-    let u : List ℕ = opened 0 widths counts t in
+    let u : List ℕ = openedTable 0 widths counts t in
     let d : length (drop p t) ≡ length t - p = length-drop p t in
     let o : length u ≡ length t = length-opened 0 widths counts t in
     let same : sets t p (drop p t) ≡ t = sets-behind t p (drop p t) (omega arith) ∙ take-append-drop p t in
     let set : sets u p (drop p t) ≡ take p u ++ drop p t = sets-behind u p (drop p t) (omega arith) in
     let l : length (take p u) ≡ p = length-take-le p u (omega arith) in
-    ap (λ (w : List ℕ). drop p (opened 0 widths counts w)) (sym same)
+    ap (λ (w : List ℕ). drop p (openedTable 0 widths counts w)) (sym same)
     ∙ ap (drop p) (opened-sets counts t p (drop p t) seven h ∙ set)
     ∙ drop-at (take p u) (drop p t) p l
 
@@ -63,14 +63,14 @@ module _ (c : Counts) where
 
   pub stage-opened : (t table stage : List ℕ) → needed widths (countsOf c) ≤ length table →
       Staged t table stage (needed widths (countsOf c) - 3 * c .values) 0 →
-      Staged t (opened 0 widths (countsOf c) table) stage
+      Staged t (openedTable 0 widths (countsOf c) table) stage
       (getD (startFilling (countsOf c) .bases) values 0)
       (getD (startFilling (countsOf c) .counts) values 0)
   unfolding startFilling
   stage-opened t table stage room staged =
       let base : ℕ = getD (basesFrom 0 widths (countsOf c)) values 0 in
       let h : base ≤ length table = omega (arith, values-begin) in
-      stage-same t table (opened 0 widths (countsOf c) table) stage base 0
+      stage-same t table (openedTable 0 widths (countsOf c) table) stage base 0
       (drop-opened (countsOf c) table base seven (le-refl base) h)
       (rw values-begin staged)
 

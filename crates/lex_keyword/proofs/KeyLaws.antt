@@ -17,7 +17,7 @@ use Rattle.base.specs.Runs.{same}
 use Rattle.base.proofs.IfLaws.{if-true, if-false, by-cases, both-first, both-second}
 use Rattle.base.proofs.RunLaws.{same-equal}
 use Rattle.lex_keyword.specs.Names.{folded, sameName, names, nameIndex, keywordOf}
-use Rattle.lex_keyword.specs.Way.Lookup.{shorter, firstOf}
+use Rattle.lex_keyword.specs.Way.Lookup.{shorter, firstOfSize}
 
 pub same-long : (a n : List ℕ) → sameName a n ≡ true → length a ≡ length n
 unfolding sameName
@@ -165,27 +165,27 @@ too-long name h = place-skips name 23 names h
 
 -- where the search has come to: what is left gives the whole
 pub record Searching (name : List ℕ) (key : ℕ) : Type 0 where
-  pub from : firstOf (length name) ≤ key
-  pub upTo : key ≤ firstOf (length name + 1)
+  pub from : firstOfSize (length name) ≤ key
+  pub upTo : key ≤ firstOfSize (length name + 1)
   pub rest : key + nameIndex name (drop key names) ≡ keywordOf name
 
-pub key-first : (name : List ℕ) (key : ℕ) → key ≡ firstOf (length name) → Searching name key
-unfolding firstOf keywordOf
+pub key-first : (name : List ℕ) (key : ℕ) → key ≡ firstOfSize (length name) → Searching name key
+unfolding firstOfSize keywordOf
 key-first name key e =
     let more : shorter (length name) names ≤ shorter (length name + 1) names = shorter-more (length name) (length name + 1) names (omega arith) in
     record { from = omega arith; upTo = omega arith; rest = rw e (place-skips name (length name) names (omega arith)) }
 
-module _ (name : List ℕ) (key end : ℕ) (at : Searching name key) (told : end ≡ firstOf (length name + 1)) where
+module _ (name : List ℕ) (key end : ℕ) (at : Searching name key) (told : end ≡ firstOfSize (length name + 1)) where
   -- before the first longer name
   module _ (h : key < end) where
     pub key-known : key < length names
-    unfolding firstOf
+    unfolding firstOfSize
     key-known =
         let g : shorter (length name + 1) names ≤ length names = shorter-le (length name + 1) names in
         omega arith
 
     pub key-long : length name ≡ length (getD names key [])
-    unfolding firstOf
+    unfolding firstOfSize
     key-long =
         let most : length (getD names key []) < length name + 1 = shorter-all (length name + 1) names key (omega arith) in
         let least : length name ≤ length (getD names key []) = shorter-none (length name) 0 names key names-rise (at .from) key-known in
@@ -201,7 +201,7 @@ module _ (name : List ℕ) (key end : ℕ) (at : Searching name key) (told : end
       key-next e = record { from = omega arith; upTo = omega arith; rest = sym (place-step name names key key-known (sym same ∙ e)) ∙ at .rest }
 
   pub key-none : end ≤ key → 40 ≡ keywordOf name
-  unfolding firstOf
+  unfolding firstOfSize
   key-none h =
       let z : key ≡ shorter (length name + 1) names = omega arith in
       sym (place-ends name (length name + 1) 0 names names-rise (omega arith)) ∙ rw z at (at .rest)

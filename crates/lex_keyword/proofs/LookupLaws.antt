@@ -16,7 +16,7 @@ use Rattle.base.specs.If.{both}
 use Rattle.base.specs.Runs.{same}
 use Rattle.base.proofs.IfLaws.{both-rest, both-not-left}
 use Rattle.lex_keyword.specs.Names.{folded, sameName, names}
-use Rattle.lex_keyword.specs.Way.Lookup.{joined, letters, startOf, begins, standsAt}
+use Rattle.lex_keyword.specs.Way.Lookup.{joinedNames, letters, startOf, begins, standsAt}
 
 begins-cons : (b c : ℕ) (s t : List ℕ) → begins (b ∷ s) (c ∷ t) ≡ both (eqb b c) (begins s t)
 unfolding begins
@@ -52,14 +52,14 @@ unfolding standsFrom
 stands-past table name start i whole inv h = sym (begins-nil (drop (start + i) table)) ∙ rw (drop-of-length-le name h) at inv
 
 -- the letters fall apart at every name
-joined-parts : (key : ℕ) (ns : List (List ℕ)) → joined ns ≡ joined (take key ns) ++ joined (drop key ns)
-unfolding joined
+joined-parts : (key : ℕ) (ns : List (List ℕ)) → joinedNames ns ≡ joinedNames (take key ns) ++ joinedNames (drop key ns)
+unfolding joinedNames
 joined-parts zero ns = refl
 joined-parts (suc key) [] = refl
-joined-parts (suc key) (n ∷ ns) = ap (λ (l : List ℕ). map folded n ++ l) (joined-parts key ns) ∙ sym (append-assoc (map folded n) (joined (take key ns)) (joined (drop key ns)))
+joined-parts (suc key) (n ∷ ns) = ap (λ (l : List ℕ). map folded n ++ l) (joined-parts key ns) ∙ sym (append-assoc (map folded n) (joinedNames (take key ns)) (joinedNames (drop key ns)))
 
-joined-name : (key : ℕ) (ns : List (List ℕ)) → key < length ns → joined (drop key ns) ≡ map folded (getD ns key []) ++ joined (drop (suc key) ns)
-unfolding joined
+joined-name : (key : ℕ) (ns : List (List ℕ)) → key < length ns → joinedNames (drop key ns) ≡ map folded (getD ns key []) ++ joinedNames (drop (suc key) ns)
+unfolding joinedNames
 joined-name key ns h = rw (drop-cons ns key [] h)
 
 -- a list that starts with another one of the same length as the name starts with the name if the two are the same
@@ -74,14 +74,14 @@ module _ (table name : List ℕ) (key start : ℕ) (all : table ≡ letters) (kn
   pub name-room : start + length name ≤ length table
   unfolding startOf letters
   name-room =
-      let parts : length (joined names) ≡ length (joined (take key names)) + length (joined (drop key names)) = ap length (joined-parts key names) ∙ length-append (joined (take key names)) (joined (drop key names)) in
-      let rest : length (joined (drop key names)) ≡ length (map folded (getD names key [])) + length (joined (drop (suc key) names)) = ap length (joined-name key names known) ∙ length-append (map folded (getD names key [])) (joined (drop (suc key) names)) in
-      let whole : length table ≡ length (joined names) = ap length all in
+      let parts : length (joinedNames names) ≡ length (joinedNames (take key names)) + length (joinedNames (drop key names)) = ap length (joined-parts key names) ∙ length-append (joinedNames (take key names)) (joinedNames (drop key names)) in
+      let rest : length (joinedNames (drop key names)) ≡ length (map folded (getD names key [])) + length (joinedNames (drop (suc key) names)) = ap length (joined-name key names known) ∙ length-append (map folded (getD names key [])) (joinedNames (drop (suc key) names)) in
+      let whole : length table ≡ length (joinedNames names) = ap length all in
       omega (arith, length-map (getD names key []) folded)
 
   pub name-stands : (r : Bool) → r ≡ standsAt table name start → r ≡ sameName name (getD names key [])
   unfolding startOf letters standsAt sameName
   name-stands r e =
-      let from : drop start (joined names) ≡ map folded (getD names key []) ++ joined (drop (suc key) names) = rw (joined-parts key names) (drop-at (joined (take key names)) (joined (drop key names)) start (sym told)) ∙ joined-name key names known in
+      let from : drop start (joinedNames names) ≡ map folded (getD names key []) ++ joinedNames (drop (suc key) names) = rw (joined-parts key names) (drop-at (joinedNames (take key names)) (joinedNames (drop key names)) start (sym told)) ∙ joined-name key names known in
       let even : length (map folded name) ≡ length (map folded (getD names key [])) = length-map name folded ∙ long ∙ sym (length-map (getD names key []) folded) in
-      e ∙ ap (λ (l : List ℕ). begins (map folded name) (drop start l)) all ∙ ap (λ (l : List ℕ). begins (map folded name) l) from ∙ begins-same (map folded name) (map folded (getD names key [])) (joined (drop (suc key) names)) even
+      e ∙ ap (λ (l : List ℕ). begins (map folded name) (drop start l)) all ∙ ap (λ (l : List ℕ). begins (map folded name) l) from ∙ begins-same (map folded name) (map folded (getD names key [])) (joinedNames (drop (suc key) names)) even

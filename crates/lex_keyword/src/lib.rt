@@ -8,7 +8,7 @@ ghost use Rattle.base.specs.Bytes.{isBlank};
 ghost use Rattle.base.specs.Way.Class.{runEnd};
 ghost use Rattle.base.specs.Runs.{all};
 ghost use Rattle.lex_keyword.specs.Names.{folded, names, sameName, keywordOf, isLater};
-ghost use Rattle.lex_keyword.specs.Way.Lookup.{letters, startOf, firstOf, standsAt};
+ghost use Rattle.lex_keyword.specs.Way.Lookup.{letters, startOf, firstOfSize, standsAt};
 ghost use Rattle.lex_keyword.specs.Way.Reading.{isWordByte, closesAt, saysName, isRow};
 ghost use Rattle.lex_keyword.specs.Bracket.{isPlainByte, parted, isHyphenWord, isGoodWord, areGoodWords, isGoodName, namedAs, bracketOf};
 
@@ -275,7 +275,7 @@ fn start_of(key: usize) -> usize
 
 fn first_of(size: usize) -> usize
     requires { ⌜ size < 24 ⌝ }
-    ensures { λ r. ⌜ r ≡ firstOf size ⌝ }
+    ensures { λ r. ⌜ r ≡ firstOfSize size ⌝ }
 {
     from_byte(FIRSTS[size])
 }

@@ -1,4 +1,5 @@
--- Laws of rules 1 to 4: what one look at a line, at the run of bytes that a line may hold and at what stops it, says of the line.
+-- Laws of rules 1 to 4: the run of bytes that a line may contain, and the byte that ends it, decide which rule the line
+-- breaks.
 -- Assumes nothing.
 use mathlib.Core.Path.{_≡_, refl, sym, _∙_, ap, subst}
 use mathlib.Core.Bool.{Bool, true, false, not, true≢false}
@@ -54,7 +55,7 @@ module _ (t : List ℕ) (i b : ℕ) (at : b ≡ getD t i 0) where
         sym (if-false _ _ (ne-eqb _ _ (λ (k : getD t i 0 ≡ lineFeed). e (at ∙ k)))
         ∙ if-false _ _ (both-not-right _ _ (ne-eqb _ _ (λ (k : getD t (i + 1) 0 ≡ lineFeed). g (next ∙ k)))))
 
--- what stands where a terminator of some length is found, and where none is
+-- the bytes at a position for each result of `terminatorAt`
 data Terminator (u : List ℕ) (i : ℕ) : ℕ → Type 0 where
   feed : getD u i 0 ≡ lineFeed → Terminator u i 1
   pair : getD u i 0 ≡ carriageReturn → getD u (i + 1) 0 ≡ lineFeed → Terminator u i 2
@@ -70,7 +71,7 @@ terminator-view u i =
     (λ (f : both (eqb (getD u i 0) carriageReturn) (eqb (getD u (i + 1) 0) lineFeed) ≡ false).
     none (eqb-false _ _ e) (λ (g : getD u i 0 ≡ carriageReturn) (h : getD u (i + 1) 0 ≡ lineFeed). true≢false (sym (both-true _ _ (eq-eqb _ _ g) (eq-eqb _ _ h)) ∙ f))))
 
--- ---- bytes that a line may hold
+-- ---- bytes that a line may contain
 
 printed-not : (b : ℕ) → isPrinted b ≡ true → (n : ℕ) → isPrinted n ≡ false → b ≡ n → ⊥
 printed-not b e n f g = true≢false (sym e ∙ ap isPrinted g ∙ f)
@@ -115,7 +116,7 @@ without-last [] = without-one carriageReturn ∙ if-true [] (carriageReturn ∷ 
 without-last (b ∷ []) = without-more b carriageReturn [] ∙ ap (λ (r : List ℕ). b ∷ r) (without-last [])
 without-last (b ∷ c ∷ s) = without-more b c (s ++ (carriageReturn ∷ [])) ∙ ap (λ (r : List ℕ). b ∷ r) (without-last (c ∷ s))
 
--- a line that is right only without its last byte ends in CR
+-- a line whose bytes are all good only without its last byte ends in CR
 without-ends : (l : List ℕ) → all isPrinted (withoutReturn l) ≡ true → all isPrinted l ≡ false → l ≡ withoutReturn l ++ (carriageReturn ∷ [])
 without-ends [] e f = absurd (true≢false (sym (all-nil isPrinted) ∙ f))
 without-ends (b ∷ []) e f =
@@ -128,9 +129,9 @@ without-ends (b ∷ c ∷ s) e f =
     let k : all isPrinted (c ∷ s) ≡ false = sym (both-rest _ _ (both-first _ _ g)) ∙ h in
     rw (without-more b c s) (ap (λ (r : List ℕ). b ∷ r) (without-ends (c ∷ s) (both-second _ _ g) k))
 
--- ---- the characters of the line at the front of u, by what stops its run
+-- ---- the characters of the first line of u, by the byte that ends its run
 
--- a byte other than 0 stands inside the list
+-- a position with a byte other than 0 is inside the list
 inside : (u : List ℕ) (i b : ℕ) → getD u i 0 ≡ suc b → i < length u
 inside [] i b e = absurd (omega arith)
 inside (x ∷ u) zero b e = suc-le-suc zero-le
@@ -159,7 +160,7 @@ return-not-feed b e f =
     let z : _≡_ {A = ℕ} 13 10 = sym e ∙ f in
     omega arith
 
--- a line whose characters are all right, and how many they are
+-- a line whose characters are all good, and how many they are
 record Right (u : List ℕ) (terminator : ℕ) : Type 0 where
   good : all isPrinted (characters (firstOf u)) ≡ true
   count : length (characters (firstOf u)) ≡ stopOf u
@@ -211,7 +212,7 @@ unended u h =
     let c : characters (firstOf u) ≡ take (stopOf u) u = rw (n, b) (if-false _ _ refl) in
     record { good = rw c (good-characters u); count = rw c (count-characters u); ended = rw n b }
 
--- a byte that a line may not hold stands where the run stops
+-- the run ends at a byte that a line may not contain
 bad-bytes : (u : List ℕ) → stopOf u < length u → (getD u (stopOf u) 0 ≡ lineFeed → ⊥) → stopOf u < run (isBefore lineFeed) u
 bad-bytes u h e =
     let w : stopOf u ≤ run (isBefore lineFeed) u = run-wider isPrinted (isBefore lineFeed) printed-before-feed u in
@@ -235,7 +236,7 @@ module _ (u : List ℕ) (h : stopOf u < length u) (e : getD u (stopOf u) 0 ≡ l
       let k : run isPrinted (take feedOf u) < length (take feedOf u) = omega arith in
       run-short isPrinted (take feedOf u) k
 
-  -- without its last byte the line is not right either: that byte would be the CR of a terminator
+  -- without its last byte the line is not good either: that byte would be the CR of a terminator
   stripped-bad : feedOf < length u → all isPrinted (withoutReturn (take feedOf u)) ≡ true → ⊥
   stripped-bad q g =
       let x : List ℕ = withoutReturn (take feedOf u) in
@@ -263,7 +264,7 @@ module _ (u : List ℕ) (h : stopOf u < length u) (e : getD u (stopOf u) 0 ≡ l
       (λ (q : ltb feedOf (length u) ≡ true). rw q (rw (if-true {b = true} (withoutReturn (take feedOf u)) (take feedOf u) refl) (by-cases (all isPrinted (withoutReturn (take feedOf u)) ≡ false) (all isPrinted (withoutReturn (take feedOf u))) (λ (g : all isPrinted (withoutReturn (take feedOf u)) ≡ true). absurd (stripped-bad (ltb-true _ _ q) g)) (λ (g : all isPrinted (withoutReturn (take feedOf u)) ≡ false). g))))
       (λ (q : ltb feedOf (length u) ≡ false). rw q (rw (if-false {b = false} (withoutReturn (take feedOf u)) (take feedOf u) refl) line-bad))
 
--- ---- what code that has looked at a line says of it
+-- ---- the result that code returns for a line
 
 judged-number : (k n : ℕ) (x y : Checked) → (k ≡ 0 → x ≡ y) → refusedOr k n x ≡ refusedOr k n y
 unfolding refusedOr
@@ -302,7 +303,7 @@ module _ (l : Raw) where
     unfolding rawLineRule
     rule-none h e = first-kept _ _ _ _ (not-not-via good) (first-kept _ _ _ _ (le-ltb _ _ h) (first-kept _ _ _ _ (not-not-via e) refl))
 
--- the byte at a place of the line, as a byte of the text
+-- a byte of the line, as a byte of the text
 byte-of : (t : List ℕ) (at k b : ℕ) → getD t (at + k) 0 ≡ b → getD (drop at t) k 0 ≡ b
 byte-of t at k b e = getD-drop at t k 0 ∙ e
 

@@ -1,4 +1,4 @@
--- Laws of the LFs among some bytes: one counts as 1 and any other byte as 0, and a loop that counts them.
+-- Laws of counting LFs among some bytes, byte by byte and in a loop.
 -- Assumes nothing.
 use mathlib.Core.Path.{_≡_, refl, sym, _∙_, ap}
 use mathlib.Core.Bool.{Bool, true, false}
@@ -48,7 +48,7 @@ feeds-told t from f e =
     let s : length (take 16 (drop from t)) ≤ 16 = rw (length-take 16 (drop from t)) (omega arith) in
     omega (arith, feeds-few (take 16 (drop from t)))
 
--- ---- the loop that counts the LFs of some bytes: what it has counted and what is left give the whole
+-- ---- the loop that counts the LFs of some bytes: what it has counted plus the LFs of the rest is the whole count
 
 module _ (t : List ℕ) where
   pub feeds-start : (from end : ℕ) → end ≡ from + 16 → 0 + lineFeeds (take (end - from) (drop from t)) ≡ lineFeeds (take 16 (drop from t))

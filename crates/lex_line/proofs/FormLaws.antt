@@ -1,4 +1,5 @@
--- Laws of a line's form: how many words it has, told by the count that stops at 3, and the parts before and after its `=`.
+-- Laws of the form of a line: how many words it has, by a count that stops at 3, and the parts before and after its
+-- `=`.
 -- Assumes nothing.
 use mathlib.Core.Path.{_≡_, sym, _∙_, ap}
 use mathlib.Core.Bool.{true, false}
@@ -18,7 +19,7 @@ use Rattle.lex_line.specs.Way.Spans.{firstTwoOf}
 use Rattle.lex_line.specs.declared.FirstTwo.{FirstTwo}
 use Rattle.lex_line.proofs.WordLaws.{first-ordered, first-within, second-ordered, second-within}
 
--- what `marked` asks of either of a line's first two words
+-- what `marked` requires, for each of the first two words of a line
 pub ruleset marks = (first-ordered, first-within, second-ordered, second-within)
 
 module _ (s : List ℕ) (few : FirstTwo) (told : few ≡ firstTwoOf s) where
@@ -26,26 +27,26 @@ module _ (s : List ℕ) (few : FirstTwo) (told : few ≡ firstTwoOf s) where
   unfolding firstTwoOf
   count-told = ap (λ (f : FirstTwo). f .count) told
 
-  -- a line of n words, n below 3
+  -- if the count is n, the line has n words, for n below 3
   pub counted : (n : ℕ) → n < 3 → few .count ≡ n → eqb (length (words s)) n ≡ true
   counted n h e = let k : few .count ≡ min 3 (length (words s)) = count-told in eq-eqb (length (words s)) n (omega arith)
 
-  -- a line of another number of words
+  -- if the count is not n, the line does not have n words
   pub counted-not : (n : ℕ) → n < 3 → (few .count ≡ n → ⊥) → eqb (length (words s)) n ≡ false
   counted-not n h e = let k : few .count ≡ min 3 (length (words s)) = count-told in ne-eqb (length (words s)) n (λ (f : length (words s) ≡ n). e (omega arith))
 
-  -- whether a line has n words
+  -- whether a line has n words, by its count
   pub count-tells : (n : ℕ) → n < 3 → eqb (few .count) n ≡ eqb (length (words s)) n
   count-tells n h =
       by-cases _ (eqb (few .count) n)
       (λ (e : eqb (few .count) n ≡ true). e ∙ sym (counted n h (eqb-true (few .count) n e)))
       (λ (e : eqb (few .count) n ≡ false). e ∙ sym (counted-not n h (eqb-false (few .count) n e)))
 
--- what `&s[from..]` reads
+-- the bytes of `&s[from..]`
 pub part-from : (s : List ℕ) (from : ℕ) → take (length s - from) (drop from s) ≡ drop from s
 part-from s from = let e : length (drop from s) ≡ length s - from = length-drop from s in take-all (length s - from) (drop from s) (omega arith)
 
--- a line parted at its first `=`
+-- a line split at its first `=`
 module _ (content : List ℕ) (sign : ℕ) (at : sign ≡ toEquals content) where
   pub sign-within : sign ≤ length content
   sign-within = rw at (run-le (isBefore (code "=")) content)

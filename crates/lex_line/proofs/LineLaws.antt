@@ -1,4 +1,4 @@
--- Laws of lines: what the place of a line says of the lines from there on.
+-- Laws of lines: the line at a position, where the next line starts, and the list of lines from there on.
 -- Assumes nothing.
 use mathlib.Core.Path.{_≡_, refl, sym, _∙_, ap}
 use mathlib.Core.Bool.{Bool, true, false, not}
@@ -32,7 +32,7 @@ feed-none : (t : List ℕ) (end : ℕ) → length t ≤ end → pastFeed t end �
 unfolding pastFeed
 feed-none t end h = if-false _ _ (le-ltb _ _ h)
 
--- where an LF stands, none is looked for further on
+-- at an LF the search ends at once
 pub feed-here : (t : List ℕ) (from b : ℕ) → b ≡ getD t from 0 → b ≡ 10 → from ≡ runEnd (isBefore lineFeed) t from
 unfolding isBefore
 feed-here t from b told e =
@@ -40,13 +40,13 @@ feed-here t from b told e =
     let k : run (isBefore lineFeed) (drop from t) ≡ 0 = by-cases _ (ltb from (length t)) (λ (h : ltb from (length t) ≡ true). run-stop (isBefore lineFeed) t from (ltb-true _ _ h) stops) (λ (h : ltb from (length t) ≡ false). run-past (isBefore lineFeed) t from (ltb-false _ _ h)) in
     omega arith
 
--- nor past the end
+-- past the end of the text the search ends at once too
 pub feed-ended : (t : List ℕ) (from : ℕ) → length t ≤ from → from ≡ runEnd (isBefore lineFeed) t from
 feed-ended t from h =
     let k : run (isBefore lineFeed) (drop from t) ≡ 0 = run-past (isBefore lineFeed) t from h in
     omega arith
 
--- one byte further on
+-- the LF is one byte further on
 pub feed-next : (t : List ℕ) (from a b : ℕ) → from < length t → a ≡ getD t from 0 → (a ≡ 10 → ⊥) → b ≡ getD t (from + 1) 0 → b ≡ 10 → from + 1 ≡ runEnd (isBefore lineFeed) t from
 unfolding isBefore
 feed-next t from a b h told other next e =
@@ -73,7 +73,7 @@ module _ (comment : ℕ) (t : List ℕ) (at content end : ℕ) (e : content ≡ 
   pub line-unended : length t ≤ end → record { content = content; next = end } ≡ lineAt comment t at
   line-unended h = line-next end (feed-none t end h)
 
--- where a line has no content, and where a part of it is passed already
+-- a line without content, and a line part of whose content is already skipped
 module _ (comment : ℕ) (t : List ℕ) (at : ℕ) where
   pub content-none : length t ≤ at → at ≡ runEnd (isContent comment) t at
   content-none h =
@@ -89,7 +89,7 @@ module _ (comment : ℕ) (t : List ℕ) (at : ℕ) where
       runEnd (isContent 124) t mid ≡ runEnd (isContent 124) t at → content ≡ runEnd (isContent comment) t at
   content-through mid content e f g = f ∙ g ∙ ap (λ (b : ℕ). runEnd (isContent b) t at) (sym e)
 
--- an LF stands inside the text
+-- a position with an LF is inside the text
 pub feed-inside : (t : List ℕ) (i b : ℕ) → b ≡ getD t i 0 → b ≡ 10 → i < length t
 feed-inside t i b told e =
     by-cases _ (ltb i (length t)) (λ (h : ltb i (length t) ≡ true). ltb-true _ _ h)
@@ -97,7 +97,7 @@ feed-inside t i b told e =
     let z : getD t i 0 ≡ 0 = List·getD-eq-default t 0 (ltb-false _ _ h) in
     absurd (omega arith))
 
--- a line whose LF stands where its content ends
+-- a line whose LF is right where its content ends
 pub line-here : (comment : ℕ) (t : List ℕ) (at content b : ℕ) → content ≡ runEnd (isContent comment) t at → b ≡ getD t content 0 → b ≡ 10 →
     record { content = content; next = content + 1 } ≡ lineAt comment t at
 line-here comment t at content b is told e =
@@ -155,7 +155,7 @@ lines-of : (u : List ℕ) → 0 < length u → lines u ≡ firstOf u ∷ lines (
 lines-of [] h = absurd (not-suc-le-zero h)
 lines-of (b ∷ v) h = lines-first b v
 
--- ---- the line at a place of a text
+-- ---- the line at a position of a text
 
 module _ (comment : ℕ) (t : List ℕ) (at : ℕ) (h : at < length t) where
   rest-at : restOf (drop at t) ≡ drop (lineAt comment t at .next) t
@@ -177,14 +177,14 @@ module _ (comment : ℕ) (t : List ℕ) (at : ℕ) (h : at < length t) where
           let l : length t ≤ at + suc (run (isBefore lineFeed) (drop at t)) = omega arith in
           drop-of-length-le t l ∙ sym (drop-of-length-le t g) ∙ ap (λ (k : ℕ). drop k t) (sym (feed-none t _ g))
 
-  -- the lines from a place are the line there and those from the next place on
+  -- the lines from `at` on are the line there and the lines from its `next` on
   pub lines-at : lines (drop at t) ≡ firstOf (drop at t) ∷ lines (drop (lineAt comment t at .next) t)
   lines-at =
       let l : length (drop at t) ≡ length t - at = length-drop at t in
       let p : 0 < length (drop at t) = omega arith in
       lines-of (drop at t) p ∙ ap (λ (r : List ℕ). firstOf (drop at t) ∷ lines r) rest-at
 
-  -- the next place lies further on, and within the text
+  -- the next line starts further on, and within the text
   pub next-on : at < lineAt comment t at .next
   unfolding lineAt
   next-on =
@@ -201,7 +201,7 @@ module _ (comment : ℕ) (t : List ℕ) (at : ℕ) (h : at < length t) where
       (λ (e : ltb (runEnd (isBefore lineFeed) t at) (length t) ≡ true). let f : runEnd (isBefore lineFeed) t at < length t = ltb-true _ _ e in let p : pastFeed t (runEnd (isBefore lineFeed) t at) ≡ runEnd (isBefore lineFeed) t at + 1 = feed-past t _ f in omega arith)
       (λ (e : ltb (runEnd (isBefore lineFeed) t at) (length t) ≡ false). let g : length t ≤ runEnd (isBefore lineFeed) t at = ltb-false _ _ e in let p : pastFeed t (runEnd (isBefore lineFeed) t at) ≡ runEnd (isBefore lineFeed) t at = feed-none t _ g in omega arith)
 
-  -- the next line starts past the LF
+  -- the next line starts right after the LF
   pub next-ended : firstOf (drop at t) .ended ≡ true → lineAt comment t at .next ≡ at + suc (run (isBefore lineFeed) (drop at t))
   unfolding lineAt
   next-ended e =
@@ -211,7 +211,7 @@ module _ (comment : ℕ) (t : List ℕ) (at : ℕ) (h : at < length t) where
       let s : at + suc (run (isBefore lineFeed) (drop at t)) ≡ at + run (isBefore lineFeed) (drop at t) + 1 = omega arith in
       feed-past t (at + run (isBefore lineFeed) (drop at t)) g ∙ sym s
 
-  -- or at the end of the text, where it has none
+  -- or at the end of the text, if the line has no LF
   pub next-unended : firstOf (drop at t) .ended ≡ false → length t ≤ lineAt comment t at .next
   unfolding lineAt
   next-unended e =
@@ -220,7 +220,7 @@ module _ (comment : ℕ) (t : List ℕ) (at : ℕ) (h : at < length t) where
       let g : length t ≤ at + run (isBefore lineFeed) (drop at t) = omega arith in
       rw (feed-none t (at + run (isBefore lineFeed) (drop at t)) g) g
 
--- ---- the content of the line at a place
+-- ---- the content of the line at a position
 
 content-of : (comment : ℕ) (u : List ℕ) → contentOf comment (take (run (isBefore lineFeed) u) u) ≡ take (run (isContent comment) u) u
 unfolding contentOf
@@ -228,7 +228,7 @@ content-of comment u =
     let w : run (isContent comment) u ≤ run (isBefore lineFeed) u = run-wider (isContent comment) (isBefore lineFeed) (content-before-feed comment) u in
     rw (run-take (isContent comment) u (run (isBefore lineFeed) u) w) (take-take _ _ u w)
 
--- what code that cuts the text from the line's start to its content's end sees
+-- the content of a line is the text from the start of the line to the end of its content
 pub content-at : (comment : ℕ) (t : List ℕ) (at : ℕ) → contentOf comment (firstOf (drop at t) .bytes) ≡ take (lineAt comment t at .content - at) (drop at t)
 unfolding lineAt
 content-at comment t at =

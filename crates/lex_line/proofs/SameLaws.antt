@@ -1,4 +1,4 @@
--- Laws of two words compared by blocks: the same bytes at a place and the same behind them are the same bytes.
+-- Laws of two words compared by blocks: they are the same if their first n bytes are the same and their rests are.
 -- Assumes nothing.
 use mathlib.Core.Path.{_≡_, refl, sym, _∙_, ap}
 use mathlib.Core.Bool.{Bool, true, false, not, true≢false}
@@ -33,7 +33,7 @@ same-none : same [] [] ≡ true
 unfolding same
 same-none = refl
 
--- so many bytes, and those behind them
+-- the first n bytes, and the rest
 pub same-split : (n : ℕ) (x y : List ℕ) → length x ≡ length y → same x y ≡ both (same (take n x) (take n y)) (same (drop n x) (drop n y))
 same-split zero x y l = sym (both-rest _ _ same-none)
 same-split (suc n) [] [] l = sym (both-rest _ _ same-none)
@@ -44,7 +44,7 @@ same-split (suc n) (b ∷ x) (c ∷ y) l =
     let e : same x y ≡ both (same (take n x) (take n y)) (same (drop n x) (drop n y)) = same-split n x y k in
     rw (same-cons b c x y, same-cons b c (take n x) (take n y), e) (sym (both-assoc (eqb b c) _ _))
 
--- a loop over blocks: a block that is the same is passed
+-- a loop over blocks: an equal block may be skipped
 pub same-passed : (a b : List ℕ) (i last : ℕ) (t goal : Bool) → length a ≡ length b → last + 16 ≡ length a → i ≤ last → same (drop i a) (drop i b) ≡ goal → t ≡ same (take 16 (drop i a)) (take 16 (drop i b)) → not t ≡ false → same (drop (i + 16) a) (drop (i + 16) b) ≡ goal
 same-passed a b i last t goal l room h inv told e =
     let la : length (drop i a) ≡ length a - i = length-drop i a in
@@ -56,7 +56,7 @@ same-passed a b i last t goal l room h inv told e =
     let db : drop 16 (drop i b) ≡ drop (i + 16) b = drop-drop 16 i b in
     rw (sym da, sym db) (sym r ∙ sym s ∙ inv)
 
--- a loop within a block: what it has found, and the bytes up to an end
+-- a loop within a block: what it has found, and the bytes still to compare
 pub within-start : (a b : List ℕ) (from end : ℕ) → end ≡ from + 16 → both true (same (take (end - from) (drop from a)) (take (end - from) (drop from b))) ≡ same (take 16 (drop from a)) (take 16 (drop from b))
 within-start a b from end e =
     let n : end - from ≡ 16 = omega arith in
@@ -79,7 +79,7 @@ within-done a b i end whole goal inv h =
     let k : both whole true ≡ goal = rw (n, same-none) at inv in
     both-last whole ∙ k
 
--- two words whose bytes differ at a place are not the same
+-- two words whose bytes differ at a position are not the same
 pub same-apart : (a b : List ℕ) (i : ℕ) (t : Bool) → t ≡ not (eqb (getD a i 0) (getD b i 0)) → t ≡ true → same a b ≡ false
 same-apart a b i t told e =
     by-cases _ (same a b)

@@ -1,4 +1,5 @@
--- Laws of short lines gone past together: bytes that a line may hold, and LFs, each of which ends a line that breaks nothing.
+-- Laws of short lines skipped together. The bytes are line bytes, and each LF among them ends a line that breaks
+-- nothing.
 -- Assumes nothing.
 use mathlib.Core.Path.{_≡_, refl, sym, _∙_, ap}
 use mathlib.Core.Bool.{Bool, true, false, not}
@@ -33,7 +34,7 @@ usual-printed : (b : ℕ) → isLineByte b ≡ true → (b ≡ 10 → ⊥) → i
 unfolding isLineByte
 usual-printed b e other = sym (either-rest _ _ (ne-eqb b 10 other)) ∙ e
 
--- one more byte behind bytes that all pass
+-- one more byte after bytes that all pass
 all-more : (p : ℕ → Bool) (x : List ℕ) (n : ℕ) → n < length x → all p (take n x) ≡ true → p (getD x n 0) ≡ true → all p (take (n + 1) x) ≡ true
 all-more p x n h e f =
     rw (add-one n, take-suc x n 0 h) (all-behind (take n x) e)
@@ -45,7 +46,8 @@ all-more p x n h e f =
         all-cons p c (y ++ (getD x n 0 ∷ [])) ∙ both-true _ _ (both-first _ _ k) (all-behind y (both-second _ _ k))
 
 module _ (u : List ℕ) (line : ℕ) where
-  -- gone past lines to a byte in one of which so many bytes stand before it, all of them such as a line may hold
+  -- position `at` is in a line, numbered `count`, that starts `back` bytes before it; these bytes are all good, and the
+  -- lines above break nothing
   pub record Amid (count at back : ℕ) : Type 0 where
     pub inside : at ≤ length u
     pub low : back ≤ at
@@ -105,7 +107,7 @@ module _ (u : List ℕ) (line : ℕ) where
           counted = omega arith;
         }
 
-    -- any other such byte is one of its characters
+    -- any other line byte is one of its characters
     amid-grows : isPrinted (getD u at 0) ≡ true → (getD u at 0 ≡ 10 → ⊥) → Amid count (at + 1) (back + 1)
     amid-grows f other =
         let l : back ≤ at = m .low in
@@ -124,7 +126,7 @@ module _ (u : List ℕ) (line : ℕ) where
           counted = omega arith;
         }
 
-  -- so many bytes, and what is known behind them
+  -- n more bytes, and what is known after them
   record Over (n count at back : ℕ) : Type 0 where
     behind : ℕ
     amid : Amid (count + lineFeeds (take n (drop at u))) (at + n) behind
@@ -205,7 +207,7 @@ module _ (u : List ℕ) (line : ℕ) where
   pub ending-passes : (count at : ℕ) → Ending count at → (at ≤ length u) × ResumesLines u 0 line (at - backRun (isBefore 10) u at) count
   ending-passes count at e = (e .amid .inside, amid-passes count at (e .back) (e .amid))
 
-  -- blocks in which no line ends stand between the last in which one does and the next to be looked at
+  -- the state of the loop: `mark` is the end of the last block with an LF, and no line ends from there to `here`
   pub record Running (count mark here : ℕ) : Type 0 where
     pub ending : Ending count mark
     pub back : ℕ
@@ -279,7 +281,7 @@ module _ (u : List ℕ) (line : ℕ) where
         (next ≤ length u) × ResumesLines u 0 line (next - backRun (isBefore 10) u next) (count + ends)
     running-ends next is = running-passes (count + ends) next (here + 16) (running-on next is)
 
--- ---- what the callers see
+-- ---- what callers use
 
 pub passes-to : (u : List ℕ) (line start next number : ℕ) → ResumesLines u 0 line start number → next ≡ start → ResumesLines u 0 line next number
 passes-to u line start next number p e = rw e p
@@ -287,7 +289,7 @@ passes-to u line start next number p e = rw e p
 pub passes-none : (t : List ℕ) (at line : ℕ) → at ≤ length t → ResumesLines t at line at line
 passes-none t at line h = record { same = refl; onward = omega arith; within = h; counted = omega arith }
 
--- in a part of a text, from a place to the end
+-- the same for a text, from the result for its part from `at` to the end
 pub passes-part : (t : List ℕ) (at line next number : ℕ) → at ≤ length t →
     ResumesLines (take (length t - at) (drop at t)) 0 line next number → ResumesLines t at line (at + next) number
 passes-part t at line next number h p =
@@ -308,7 +310,7 @@ passes-part t at line next number h p =
 
 -- ---- the loop over a whole text
 
--- the lines from a place on come to what the whole text comes to
+-- the state of the loop: the lines from `at` on give the result of the whole text
 pub record Checking (t : List ℕ) (at line : ℕ) : Type 0 where
   pub inside : at ≤ length t
   pub counted : line ≤ at + 1

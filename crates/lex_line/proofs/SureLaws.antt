@@ -1,5 +1,5 @@
--- Laws of eight bytes in one number: which of them surely are content is told by one bit of each, and how many at the front by the zeros
--- behind the first such bit.
+-- Laws of eight bytes in one number. One bit of doubt for each byte is clear only if the byte is content. The zeros
+-- below the lowest bit of doubt count how many bytes at the front are content.
 -- Assumes nothing.
 use mathlib.Core.Path.{_≡_, refl, sym, _∙_, ap}
 use mathlib.Core.Bool.{Bool, true, false}
@@ -40,11 +40,11 @@ or-pair r a s b hr hs =
 
 -- ---- the bit of doubt
 
--- of a number, by the masks of its width
+-- the bits of doubt of a number, by the masks of its width
 abbrev pub doubtBy : ℕ → ℕ → ℕ → ℕ → ℕ → ℕ
 doubtBy low high least beyond w = bitOr (high - bitAnd (bitAnd w low + least) high) (bitAnd (bitAnd w low + beyond) high)
 
--- of one byte, and of so many in one number
+-- the bit of doubt of one byte, and the bits of n bytes in one number
 doubtOf : ℕ → ℕ
 doubtOf b = doubtBy 127 128 114 4 b
 
@@ -58,7 +58,7 @@ doubts n w = doubtBy (mask n 127) (mask n 128) (mask n 114) (mask n 4) w
 low-small : (b : ℕ) → bitAnd b 127 ≤ 127
 low-small b = and-le-r b 127
 
--- a byte in front of others: its own bit and theirs
+-- a byte in front of others: its own bit, then theirs
 doubt-pair : (b w low high least beyond : ℕ) → b < 256 →
     doubtBy (127 + 256 * low) (128 + 256 * high) (114 + 256 * least) (4 + 256 * beyond) (b + 256 * w)
     ≡ doubtBy 127 128 114 4 b + 256 * doubtBy low high least beyond w
@@ -136,7 +136,7 @@ sure-content b h e =
     let q : bitAnd (bitAnd b 127 + 4) 128 ≡ 0 = k .1 in
     between b (bitAnd b 127) h l (omega arith) (not-beyond (bitAnd b 127) small (sym y ∙ q))
 
--- ---- zeros behind the first bit
+-- ---- zeros below the lowest bit
 
 record Shifted (j k n : ℕ) : Type 0 where
   rest : ℕ
@@ -175,7 +175,7 @@ tz-many (suc j) k n h =
       zeros = omega arith;
     }
 
--- as many whole bytes of zeros, as many bytes at the front without doubt
+-- r whole bytes of zeros mean r bytes of content at the front
 sure-run : (s : List ℕ) → all isByte s ≡ true → (r : ℕ) → 8 * r ≤ trailingZeros (8 * length s) (doubts (length s) (joined s)) →
     all (isContent 124) (take r s) ≡ true
 sure-run [] small zero h = all-nil (isContent 124)
@@ -232,7 +232,7 @@ module _ (t : List ℕ) (at w r : ℕ) (room : at + 8 ≤ length t) (joins : Joi
   pub sure-told : (r ≤ 8) × (all (isContent 124) (take r (drop at t)) ≡ true)
   sure-told = (sure-few, sure-all)
 
--- a loop over them stays in the content
+-- a loop that skips r bytes of content stays in the content
 pub sure-on : (t : List ℕ) (i r end : ℕ) → 8 ≤ length t - i → i ≤ length t → r ≤ 8 → all (isContent 124) (take r (drop i t)) ≡ true →
     runEnd (isContent 124) t i ≡ end → runEnd (isContent 124) t (i + r) ≡ end
 sure-on t i r end room h few a inv =
@@ -243,14 +243,14 @@ sure-on t i r end room h few a inv =
     let m : run (isContent 124) (drop i t) ≡ r + run (isContent 124) (drop (i + r) t) = rw d at k in
     omega arith
 
--- all eight of them, since no more can be
+-- the same for all eight bytes: r is 8 if it is not less
 pub sure-whole : (t : List ℕ) (i r end : ℕ) → 8 ≤ length t - i → i ≤ length t → r ≤ 8 → 8 ≤ r → all (isContent 124) (take r (drop i t)) ≡ true →
     runEnd (isContent 124) t i ≡ end → runEnd (isContent 124) t (i + 8) ≡ end
 sure-whole t i r end room h few many a inv =
     let e : r ≡ 8 = omega arith in
     ap (λ (k : ℕ). runEnd (isContent 124) t (i + k)) (sym e) ∙ sure-on t i r end room h few a inv
 
--- what the code's sums and differences need
+-- the bounds that the sums and differences of the code need
 pub low-fits : (w : ℕ) → bitAnd w 0x7f7f_7f7f_7f7f_7f7f ≤ 0x7f7f_7f7f_7f7f_7f7f
 low-fits w = and-le-r w 0x7f7f_7f7f_7f7f_7f7f
 

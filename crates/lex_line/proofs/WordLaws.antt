@@ -1,4 +1,4 @@
--- Laws of words: what the place of a word says of the words from there on.
+-- Laws of words: the word found at a position, and the list of words from there on.
 -- Assumes nothing.
 use mathlib.Core.Path.{_≡_, refl, sym, _∙_, ap}
 use mathlib.Core.Bool.{Bool, true, false, not}
@@ -18,7 +18,7 @@ use Rattle.base.specs.Way.Class.{runEnd}
 use Rattle.base.proofs.IfLaws.{if-true, if-false, by-cases, not-via, not-not-via}
 use Rattle.base.proofs.RunLaws.{run-nil, run-goes, run-stops, run-le, run-on, run-end-at}
 use Rattle.lex_line.specs.Words.{Word, wordGoesOn, grown, wordsFrom, backRun, words, firstOf, secondOf}
-use Rattle.lex_line.specs.Way.Spans.{wordAt, firstTwoOf, markedBy}
+use Rattle.lex_line.specs.Way.Spans.{wordSpan, firstTwoOf, markedBy}
 use Rattle.lex_line.specs.declared.Span.{Span}
 use Rattle.lex_line.specs.declared.FirstTwo.{FirstTwo}
 
@@ -38,7 +38,7 @@ words-nil : (a : ℕ) → wordsFrom a [] ≡ []
 unfolding wordsFrom
 words-nil a = refl
 
--- blanks in front say nothing
+-- blanks in front do not count
 words-blanks : (a : ℕ) (s : List ℕ) → wordsFrom a s ≡ wordsFrom (a + run isBlank s) (drop (run isBlank s) s)
 words-blanks a [] = rw (run-nil isBlank) (words-nil a ∙ sym (words-nil (a + 0)))
 words-blanks a (b ∷ s) =
@@ -74,7 +74,7 @@ words-of a [] h e = absurd (not-suc-le-zero h)
 words-of a (b ∷ s) h e = words-word a b s e
 
 module _ (o : ℕ) (s : List ℕ) (from : ℕ) where
-  -- past the blanks that start at `from`
+  -- blanks at `from` may be skipped
   words-past : wordsFrom (o + from) (drop from s) ≡ wordsFrom (o + runEnd isBlank s from) (drop (runEnd isBlank s from) s)
   words-past =
       let d : drop (run isBlank (drop from s)) (drop from s) ≡ drop (from + run isBlank (drop from s)) s = drop-drop _ from s in
@@ -89,13 +89,13 @@ module _ (o : ℕ) (s : List ℕ) (from : ℕ) where
       rw (n, m, d)
 
   -- no word is left
-  pub words-none : length s ≤ wordAt s from .start → wordsFrom (o + from) (drop from s) ≡ []
-  unfolding wordAt
+  pub words-none : length s ≤ wordSpan s from .start → wordsFrom (o + from) (drop from s) ≡ []
+  unfolding wordSpan
   words-none h = words-past ∙ rw (drop-of-length-le s h) (words-nil (o + runEnd isBlank s from))
 
-  -- the word that `wordAt` finds, and the words from its end on
-  pub words-at : wordAt s from .start < length s → wordsFrom (o + from) (drop from s) ≡ record { start = o + wordAt s from .start; text = take (wordAt s from .end - wordAt s from .start) (drop (wordAt s from .start) s) } ∷ wordsFrom (o + wordAt s from .end) (drop (wordAt s from .end) s)
-  unfolding wordAt
+  -- the word that `wordSpan` finds, and the words from its end on
+  pub words-at : wordSpan s from .start < length s → wordsFrom (o + from) (drop from s) ≡ record { start = o + wordSpan s from .start; text = take (wordSpan s from .end - wordSpan s from .start) (drop (wordSpan s from .start) s) } ∷ wordsFrom (o + wordSpan s from .end) (drop (wordSpan s from .end) s)
+  unfolding wordSpan
   words-at h =
       let st : ℕ = runEnd isBlank s from in
       let l : length (drop st s) ≡ length s - st = length-drop st s in
@@ -104,7 +104,7 @@ module _ (o : ℕ) (s : List ℕ) (from : ℕ) where
       let b : isBlank (getD (drop st s) 0 0) ≡ false = rw (getD-drop st s 0 0, z) (run-end-at isBlank s from h) in
       words-past ∙ words-of (o + st) (drop st s) p b ∙ word-placed st
 
--- ---- runs that are gone over backwards
+-- ---- runs counted backwards
 
 back-cons : (p : ℕ → Bool) (s : List ℕ) (j : ℕ) → j < length s → backRun p s (suc j) ≡ run p (getD s j 0 ∷ reverse (take j s))
 unfolding backRun
@@ -146,40 +146,40 @@ back-past p s i end inv h = omega arith
 
 -- ---- the words of a line, as their bytes
 
--- the words from a place on
+-- the words from a position on
 abbrev pub wordsAfter : List ℕ → ℕ → List (List ℕ)
 wordsAfter s from = map (λ (w : Word). w .text) (wordsFrom (0 + from) (drop from s))
 
 words-whole : (s : List ℕ) → wordsAfter s 0 ≡ words s
 words-whole s = refl
 
-pub after-at : (s : List ℕ) (from : ℕ) → wordAt s from .start < length s → wordsAfter s from ≡ markedBy s (wordAt s from) ∷ wordsAfter s (wordAt s from .end)
+pub after-at : (s : List ℕ) (from : ℕ) → wordSpan s from .start < length s → wordsAfter s from ≡ markedBy s (wordSpan s from) ∷ wordsAfter s (wordSpan s from .end)
 after-at s from h = ap (map (λ (w : Word). w .text)) (words-at 0 s from h)
 
-pub after-none : (s : List ℕ) (from : ℕ) → length s ≤ wordAt s from .start → wordsAfter s from ≡ []
+pub after-none : (s : List ℕ) (from : ℕ) → length s ≤ wordSpan s from .start → wordsAfter s from ≡ []
 after-none s from h = ap (map (λ (w : Word). w .text)) (words-none 0 s from h)
 
--- where no word is left the span is empty
-part-none : (s : List ℕ) (from : ℕ) → length s ≤ wordAt s from .start → markedBy s (wordAt s from) ≡ []
-unfolding wordAt
+-- if no word is left, the span is empty
+part-none : (s : List ℕ) (from : ℕ) → length s ≤ wordSpan s from .start → markedBy s (wordSpan s from) ≡ []
+unfolding wordSpan
 part-none s from h =
     let n : ℕ = runEnd isFilled s (runEnd isBlank s from) - runEnd isBlank s from in
     ap (take n) (drop-of-length-le s h) ∙ take-nil n
 
-first-after : (s : List ℕ) (from : ℕ) → firstOf (wordsAfter s from) ≡ markedBy s (wordAt s from)
+first-after : (s : List ℕ) (from : ℕ) → firstOf (wordsAfter s from) ≡ markedBy s (wordSpan s from)
 first-after s from =
-    by-cases _ (ltb (wordAt s from .start) (length s)) (λ (e : ltb (wordAt s from .start) (length s) ≡ true). ap firstOf (after-at s from (ltb-true _ _ e)))
-    (λ (e : ltb (wordAt s from .start) (length s) ≡ false). ap firstOf (after-none s from (ltb-false _ _ e)) ∙ sym (part-none s from (ltb-false _ _ e)))
+    by-cases _ (ltb (wordSpan s from .start) (length s)) (λ (e : ltb (wordSpan s from .start) (length s) ≡ true). ap firstOf (after-at s from (ltb-true _ _ e)))
+    (λ (e : ltb (wordSpan s from .start) (length s) ≡ false). ap firstOf (after-none s from (ltb-false _ _ e)) ∙ sym (part-none s from (ltb-false _ _ e)))
 
-start-on : (s : List ℕ) (from : ℕ) → from ≤ wordAt s from .start
-unfolding wordAt
+start-on : (s : List ℕ) (from : ℕ) → from ≤ wordSpan s from .start
+unfolding wordSpan
 start-on s from = omega arith
 
-end-on : (s : List ℕ) (from : ℕ) → wordAt s from .start ≤ wordAt s from .end
-unfolding wordAt
+end-on : (s : List ℕ) (from : ℕ) → wordSpan s from .start ≤ wordSpan s from .end
+unfolding wordSpan
 end-on s from = omega arith
 
--- what the spans of a line's first two words mark
+-- the bytes of the spans of the first two words of a line
 pub few-first : (s : List ℕ) → markedBy s (firstTwoOf s .first) ≡ firstOf (words s)
 unfolding firstTwoOf
 few-first s = sym (first-after s 0)
@@ -187,18 +187,18 @@ few-first s = sym (first-after s 0)
 pub few-second : (s : List ℕ) → markedBy s (firstTwoOf s .second) ≡ secondOf (words s)
 unfolding firstTwoOf
 few-second s =
-    let one : ℕ = wordAt s 0 .end in
-    let a : wordAt s 0 .start ≤ one = end-on s 0 in
-    let b : one ≤ wordAt s one .start = start-on s one in
-    by-cases (markedBy s (wordAt s one) ≡ secondOf (words s)) (ltb (wordAt s 0 .start) (length s))
-    (λ (e : ltb (wordAt s 0 .start) (length s) ≡ true). sym (ap secondOf (after-at s 0 (ltb-true _ _ e)) ∙ first-after s one))
-    (λ (e : ltb (wordAt s 0 .start) (length s) ≡ false).
-    let g : length s ≤ wordAt s 0 .start = ltb-false _ _ e in
+    let one : ℕ = wordSpan s 0 .end in
+    let a : wordSpan s 0 .start ≤ one = end-on s 0 in
+    let b : one ≤ wordSpan s one .start = start-on s one in
+    by-cases (markedBy s (wordSpan s one) ≡ secondOf (words s)) (ltb (wordSpan s 0 .start) (length s))
+    (λ (e : ltb (wordSpan s 0 .start) (length s) ≡ true). sym (ap secondOf (after-at s 0 (ltb-true _ _ e)) ∙ first-after s one))
+    (λ (e : ltb (wordSpan s 0 .start) (length s) ≡ false).
+    let g : length s ≤ wordSpan s 0 .start = ltb-false _ _ e in
     part-none s one (omega arith) ∙ sym (ap secondOf (after-none s 0 g)))
 
--- the spans of a line's first two words lie within it
-within-line : (s : List ℕ) (from : ℕ) → from ≤ length s → wordAt s from .end ≤ length s
-unfolding wordAt
+-- the spans of the first two words of a line lie within it
+within-line : (s : List ℕ) (from : ℕ) → from ≤ length s → wordSpan s from .end ≤ length s
+unfolding wordSpan
 within-line s from h =
     let st : ℕ = runEnd isBlank s from in
     let a : run isBlank (drop from s) ≤ length (drop from s) = run-le isBlank (drop from s) in
@@ -218,11 +218,11 @@ module _ (s : List ℕ) (few : FirstTwo) (told : few ≡ firstTwoOf s) where
 
   pub second-ordered : few .second .start ≤ few .second .end
   unfolding firstTwoOf
-  second-ordered = rw told (end-on s (wordAt s 0 .end))
+  second-ordered = rw told (end-on s (wordSpan s 0 .end))
 
   pub second-within : few .second .end ≤ length s
   unfolding firstTwoOf
-  second-within = rw told (within-line s (wordAt s 0 .end) (within-line s 0 zero-le))
+  second-within = rw told (within-line s (wordSpan s 0 .end) (within-line s 0 zero-le))
 
   pub first-marked : markedBy s (few .first) ≡ firstOf (words s)
   first-marked = rw told (few-first s)
@@ -230,17 +230,17 @@ module _ (s : List ℕ) (few : FirstTwo) (told : few ≡ firstTwoOf s) where
   pub second-marked : markedBy s (few .second) ≡ secondOf (words s)
   second-marked = rw told (few-second s)
 
--- a line has at most three words that count
+-- the count of words is at most 3
 pub few-most : (s : List ℕ) → firstTwoOf s .count ≤ 3
 unfolding firstTwoOf
 few-most s = omega arith
 
--- how many words there are, told by the first place at which none is left
-module _ (s : List ℕ) (first second : Span) (third : ℕ) (one : first ≡ wordAt s 0) (two : second ≡ wordAt s (first .end)) (three : third ≡ runEnd isBlank s (second .end)) where
+-- the count of words, by the first position at which no word is left
+module _ (s : List ℕ) (first second : Span) (third : ℕ) (one : first ≡ wordSpan s 0) (two : second ≡ wordSpan s (first .end)) (three : third ≡ runEnd isBlank s (second .end)) where
   few-counted : (n : ℕ) → min 3 (length (words s)) ≡ n → record { count = n; first = first; second = second } ≡ firstTwoOf s
   unfolding firstTwoOf
   few-counted n e =
-      let f : second ≡ wordAt s (wordAt s 0 .end) = two ∙ ap (λ (w : Span). wordAt s (w .end)) one in
+      let f : second ≡ wordSpan s (wordSpan s 0 .end) = two ∙ ap (λ (w : Span). wordSpan s (w .end)) one in
       λ i. record { count = sym e i; first = one i; second = f i }
 
   pub few-none : length s ≤ first .start → record { count = 0; first = first; second = second } ≡ firstTwoOf s
@@ -261,9 +261,9 @@ module _ (s : List ℕ) (first second : Span) (third : ℕ) (one : first ≡ wor
       let l : length (words s) ≡ suc (length (wordsAfter s (first .end))) = ap length (first-there h) in
       few-counted 1 (omega arith)
 
-  -- the third word is looked for and not gone over
-  third-starts : third ≡ wordAt s (second .end) .start
-  unfolding wordAt
+  -- only the start of the third word is looked for
+  third-starts : third ≡ wordSpan s (second .end) .start
+  unfolding wordSpan
   third-starts = three
 
   pub few-two : first .start < length s → second .start < length s → length s ≤ third → record { count = 2; first = first; second = second } ≡ firstTwoOf s
@@ -273,12 +273,12 @@ module _ (s : List ℕ) (first second : Span) (third : ℕ) (one : first ≡ wor
       let l : length (words s) ≡ suc (length (wordsAfter s (first .end))) = ap length (first-there h) in
       few-counted 2 (omega arith)
 
-  third-there : third < length s → wordsAfter s (second .end) ≡ markedBy s (wordAt s (second .end)) ∷ wordsAfter s (wordAt s (second .end) .end)
+  third-there : third < length s → wordsAfter s (second .end) ≡ markedBy s (wordSpan s (second .end)) ∷ wordsAfter s (wordSpan s (second .end) .end)
   third-there h = after-at s (second .end) (rw third-starts at h)
 
   pub few-three : first .start < length s → second .start < length s → third < length s → record { count = 3; first = first; second = second } ≡ firstTwoOf s
   few-three h g k =
-      let n : length (wordsAfter s (second .end)) ≡ suc (length (wordsAfter s (wordAt s (second .end) .end))) = ap length (third-there k) in
+      let n : length (wordsAfter s (second .end)) ≡ suc (length (wordsAfter s (wordSpan s (second .end) .end))) = ap length (third-there k) in
       let m : length (wordsAfter s (first .end)) ≡ suc (length (wordsAfter s (second .end))) = ap length (second-there g) in
       let l : length (words s) ≡ suc (length (wordsAfter s (first .end))) = ap length (first-there h) in
       few-counted 3 (omega arith)
@@ -286,11 +286,11 @@ module _ (s : List ℕ) (first second : Span) (third : ℕ) (one : first ≡ wor
 -- past the end of a line there is no word; a word that is there has a byte, and lies within the line
 pub after-past : (s : List ℕ) (from : ℕ) → length s ≤ from → wordsAfter s from ≡ []
 after-past s from h =
-    let a : from ≤ wordAt s from .start = start-on s from in
+    let a : from ≤ wordSpan s from .start = start-on s from in
     after-none s from (omega arith)
 
-pub end-past : (s : List ℕ) (from : ℕ) (word : Span) → word ≡ wordAt s from → word .start < length s → from < word .end
-unfolding wordAt
+pub end-past : (s : List ℕ) (from : ℕ) (word : Span) → word ≡ wordSpan s from → word .start < length s → from < word .end
+unfolding wordSpan
 end-past s from word e h =
     let st : ℕ = runEnd isBlank s from in
     let g : st < length s = rw e at h in
@@ -298,11 +298,11 @@ end-past s from word e h =
     let r : run isFilled (drop st s) ≡ suc (run isFilled (drop (st + 1) s)) = run-on isFilled s st g (blank-not _ b) in
     rw e (omega arith)
 
-pub word-ordered : (s : List ℕ) (from : ℕ) (word : Span) → word ≡ wordAt s from → word .start ≤ word .end
+pub word-ordered : (s : List ℕ) (from : ℕ) (word : Span) → word ≡ wordSpan s from → word .start ≤ word .end
 word-ordered s from word e = rw e (end-on s from)
 
-pub word-within : (s : List ℕ) (from : ℕ) (word : Span) → word ≡ wordAt s from → from ≤ length s → word .end ≤ length s
+pub word-within : (s : List ℕ) (from : ℕ) (word : Span) → word ≡ wordSpan s from → from ≤ length s → word .end ≤ length s
 word-within s from word e h = rw e (within-line s from h)
 
-pub first-at : (s : List ℕ) (word : Span) (part : List ℕ) → word ≡ wordAt s 0 → part ≡ markedBy s word → part ≡ firstOf (words s)
+pub first-at : (s : List ℕ) (word : Span) (part : List ℕ) → word ≡ wordSpan s 0 → part ≡ markedBy s word → part ≡ firstOf (words s)
 first-at s word part e h = h ∙ ap (markedBy s) e ∙ sym (first-after s 0)

@@ -1,4 +1,4 @@
--- Document 01, "Numbers of refusal": rules 1 to 4, over all lines of a text.
+-- Document 01, "Numbers of refusal": rules 1 to 4, judged over all lines of a text.
 -- Assumes nothing.
 use Prim.Native.Nat.{ℕ, _+_}
 use mathlib.Core.Bool.{not}
@@ -21,7 +21,7 @@ mostBytes = 1_048_576
 abbrev pub mostCharacters : ℕ
 mostCharacters = 120
 
--- bytes without a CR that stands last
+-- the bytes without a CR at their end
 unfoldable pub withoutReturn : List ℕ → List ℕ
 withoutReturn [] = []
 withoutReturn (b ∷ []) = if eqb b carriageReturn then [] else b ∷ []
@@ -31,13 +31,13 @@ withoutReturn (b ∷ c ∷ s) = b ∷ withoutReturn (c ∷ s)
 unfoldable pub characters : Raw → List ℕ
 characters l = if l .ended then withoutReturn (l .bytes) else l .bytes
 
--- 2 for a byte that no line may hold, 3 for a long line, 4 for the last line without LF
+-- 2 for a byte that no line may contain, 3 for a long line, 4 for a last line without LF
 unfoldable pub rawLineRule : Raw → ℕ
 rawLineRule l =
     firstBroken
     (2 when not (all isPrinted (characters l)) ∷ 3 when ltb mostCharacters (length (characters l)) ∷ 4 when not (l .ended) ∷ [])
 
--- the number and the line, or what comes after where the line breaks nothing
+-- refused with rule k at line n; if k is 0, the result of the later lines
 unfoldable pub refusedOr : ℕ → ℕ → Checked → Checked
 refusedOr k n later = if eqb k 0 then later else Refused k n
 

@@ -1,4 +1,4 @@
--- Documents 000, 3 and 01, "Lines and keywords": the lines of a text, and the content of each.
+-- Document 000, section 3, and document 01, "Lines and keywords": the lines of a text, and the content of each.
 -- Assumes nothing.
 use Prim.Native.Nat.{ℕ}
 use mathlib.Core.Bool.{Bool, true, false}
@@ -9,12 +9,12 @@ use Rattle.base.specs.If.{if_then_else_}
 use Rattle.base.specs.Bytes.{lineFeed, isBlank, isContent}
 use Rattle.base.specs.Runs.{run, all}
 
--- a line as it stands in the text: its bytes before the LF, and whether it has one
+-- a line of the text: its bytes before the LF, and whether it has an LF
 pub record Raw : Type 0 where
   pub bytes : List ℕ
   pub ended : Bool
 
--- a byte in front of the line that it belongs to, which is a last line without LF where nothing follows
+-- the byte b put in front of the first of these lines; if there are none, it is a last line without LF
 unfoldable pub pushed : ℕ → List Raw → List Raw
 pushed b [] = record { bytes = b ∷ []; ended = false } ∷ []
 pushed b (l ∷ ls) = record { bytes = b ∷ l .bytes; ended = l .ended } ∷ ls
@@ -24,7 +24,7 @@ unfoldable pub lines : List ℕ → List Raw
 lines [] = []
 lines (b ∷ t) = if eqb b lineFeed then record { bytes = []; ended = true } ∷ lines t else pushed b (lines t)
 
--- "From `|` on, a line is comment": the bytes before the comment byte or the CR of the terminator
+-- "From `|` on, a line is comment": the bytes before the comment byte or the CR of the terminator, if there is one
 unfoldable pub contentOf : ℕ → List ℕ → List ℕ
 contentOf comment bytes = take (run (isContent comment) bytes) bytes
 

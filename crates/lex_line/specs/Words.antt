@@ -1,4 +1,4 @@
--- Document 01, "Lines and keywords": "Blanks are space and TAB"; words are what stands between them.
+-- Document 01, "Lines and keywords": "Blanks are space and TAB"; words are the bytes between blanks.
 -- Assumes nothing.
 use Prim.Native.Nat.{ℕ, suc, _+_, _-_}
 use Prim.Native.Char.{code}
@@ -10,29 +10,29 @@ use Rattle.base.specs.If.{if_then_else_}
 use Rattle.base.specs.Bytes.{isBlank, isBefore, isFilled}
 use Rattle.base.specs.Runs.{run}
 
--- a word, with where it starts
+-- a word: where it starts, and its bytes
 pub record Word : Type 0 where
   pub start : ℕ
   pub text : List ℕ
 
--- a word goes on with what is left: its next byte is there and is not blank
+-- the word before s goes on in s: s has a first byte, and it is not blank
 unfoldable pub wordGoesOn : List ℕ → Bool
 wordGoesOn [] = false
 wordGoesOn (b ∷ s) = isFilled b
 
--- a byte in front of the word that follows it
+-- the byte b, at position `at`, put in front of the first of these words
 unfoldable pub grown : ℕ → ℕ → List Word → List Word
 grown at b [] = record { start = at; text = b ∷ [] } ∷ []
 grown at b (w ∷ ws) = record { start = at; text = b ∷ w .text } ∷ ws
 
--- the words of s, whose first byte stands at `at`
+-- the words of s, the first byte of s being at position `at`
 unfoldable pub wordsFrom : ℕ → List ℕ → List Word
 wordsFrom at [] = []
 wordsFrom at (b ∷ s) =
     if isBlank b then wordsFrom (suc at) s else
     if wordGoesOn s then grown at b (wordsFrom (suc at) s) else record { start = at; text = b ∷ [] } ∷ wordsFrom (suc at) s
 
--- how many bytes before a place, the nearest first, pass the test
+-- how many bytes right before a position pass the test, counted backwards from there
 unfoldable pub backRun : (ℕ → Bool) → List ℕ → ℕ → ℕ
 backRun p s place = run p (reverse (take place s))
 
@@ -44,7 +44,7 @@ lastEnd s = length s - backRun isBlank s (length s)
 abbrev pub words : List ℕ → List (List ℕ)
 words content = map (λ (w : Word). w .text) (wordsFrom 0 content)
 
--- the first word of a line and the second; nothing where there is none
+-- the first and the second word of a line; empty if there is none
 abbrev pub firstOf : List (List ℕ) → List ℕ
 firstOf [] = []
 firstOf (w ∷ ws) = w
@@ -53,19 +53,19 @@ abbrev pub secondOf : List (List ℕ) → List ℕ
 secondOf [] = []
 secondOf (w ∷ ws) = firstOf ws
 
--- ---- forms with `=`: "Blanks are .. optional about `=`", and the first one is the sign
+-- ---- forms with `=`: "Blanks are .. optional about `=`"; the first `=` of a line is the sign
 
--- how many bytes stand before the first `=`
+-- how many bytes there are before the first `=`
 abbrev pub toEquals : List ℕ → ℕ
 toEquals content = run (isBefore (code "=")) content
 
 unfoldable pub hasEquals : List ℕ → Bool
 hasEquals content = ltb (toEquals content) (length content)
 
--- the words before the sign, all of them where there is none
+-- the words before the sign; all words if there is no sign
 unfoldable pub leftOf : List ℕ → List (List ℕ)
 leftOf content = words (take (toEquals content) content)
 
--- the words after it
+-- the words after the sign
 unfoldable pub rightOf : List ℕ → List (List ℕ)
 rightOf content = words (drop (toEquals content + 1) content)

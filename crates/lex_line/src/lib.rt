@@ -1,4 +1,4 @@
-// Lines, words and the rules for bytes: documents 000, 3 and 01, "Lines and keywords" and rules 1 to 4.
+// Lines, words, and the rules about bytes: document 000, section 3; document 01, "Lines and keywords" and rules 1 to 4.
 ghost use mathlib.Core.Path.{_≡_};
 ghost use mathlib.Core.Bool.{true, false};
 ghost use Prim.Native.Nat.{_+_, _-_, _<_, _≤_};
@@ -8,7 +8,7 @@ ghost use Rattle.lex_line.specs.Way.LineEnds.{lineAt, terminatorAt};
 ghost use Rattle.base.specs.Way.Class.{inClass, runEnd};
 ghost use Rattle.base.specs.Bytes.{isBefore, isContent};
 ghost use Rattle.lex_line.specs.Words.{backRun, words, firstOf, toEquals};
-ghost use Rattle.lex_line.specs.Way.Spans.{wordAt, lastWord, firstTwoOf, markedBy};
+ghost use Rattle.lex_line.specs.Way.Spans.{wordSpan, lastWord, firstTwoOf, markedBy};
 ghost use Rattle.lex_line.specs.ByteRules.{byteRules};
 ghost use Rattle.lex_line.specs.Way.Judges.{ResumesAfterLine};
 ghost use Rattle.lex_line.specs.Way.Feeds.{lineFeedOf, lineFeeds, isLineByte, ResumesLines};
@@ -16,10 +16,10 @@ ghost use Rattle.base.specs.If.{if_then_else_};
 ghost use lib.Dec.{eqb};
 use base::Class;
 
-// How many bytes of names are looked at together.
+// How many bytes are tested together, of names and of lines.
 const BLOCK: usize = 16;
 
-// How many bytes of a line are, as one number.
+// How many bytes of a line are read as one number.
 const EIGHT: usize = 8;
 
 // "From `|` on, a line is comment".
@@ -36,33 +36,34 @@ const MOST_CHARACTERS: usize = 120;
 // How many bytes a short line has at most.
 const SHORT: usize = 64;
 
-// Of one line: where its content ends, and where the next line starts.
+// A line: where its content ends, and where the next line starts.
 pub struct Line {
     pub content: usize,
     pub next: usize,
 }
 
-// Where a word starts, and where it ends.
+// Where a word starts and where it ends.
 pub struct Span {
     pub start: usize,
     pub end: usize,
 }
 
-// A line's first two words, and how many it has: 3 stands for all above 2.
+// The first two words of a line, and how many words it has; a count of 3 means 3 or more.
 pub struct FirstTwo {
     pub count: u64,
     pub first: Span,
     pub second: Span,
 }
 
-// What rules 1 to 4 say of a text: nothing is broken, or which rule at which line.
+// The result of rules 1 to 4 for a text: none is broken, or which rule is broken at which line.
 pub enum Checked {
     Fine,
     Refused(u64, u64),
 }
 
-// How many of eight bytes surely are content, from the first on. They are taken as one number: of each byte's low seven bits, a sum with
-// 0x72 reaches the eighth from 14 on, one with 0x04 from `|` on. What lies between needs no further look.
+// How many of eight bytes, counted from the first, are surely content. The bytes are read as one number. In each byte,
+// the low seven bits plus 0x72 set the eighth bit from 14 on; plus 0x04 they set it from `|` on. A byte between the two
+// is content. Any other byte may or may not be.
 fn content_of_eight(text: &[u8], at: usize) -> usize
     requires { ⌜ at + 8 ≤ length (now text) ⌝ }
     ensures { λ r. ⌜ (r ≤ 8) × (all (isContent 124) (take r (drop at (now (text .entry)))) ≡ true) ⌝ }
@@ -74,7 +75,8 @@ fn content_of_eight(text: &[u8], at: usize) -> usize
     (u64::trailing_zeros(doubt) / 8) as usize
 }
 
-// A place in the content at `from`, near its end: the first byte that needs a look.
+// Skips bytes that are surely content. Returns a position inside the content that starts at `from`, near its end: the
+// first byte that still has to be tested.
 fn skip_content(text: &[u8], from: usize) -> usize
     requires { ⌜ from ≤ length (now text) ⌝ }
     ensures { λ r. ⌜ runEnd (isContent 124) (now (text .entry)) r ≡ runEnd (isContent 124) (now (text .entry)) from ⌝ }
@@ -90,7 +92,7 @@ fn skip_content(text: &[u8], from: usize) -> usize
     i
 }
 
-// The content at `from`, byte by byte.
+// Where the content that starts at `from` ends, found byte by byte.
 fn past_rest(text: &[u8], from: usize, comment: u8) -> usize
     ensures { λ r. ⌜ r ≡ runEnd (isContent comment) (now (text .entry)) from ⌝ }
 {
@@ -104,7 +106,7 @@ fn past_rest(text: &[u8], from: usize, comment: u8) -> usize
     i
 }
 
-// Past the content of a line at `at`. Many lines have none.
+// Where the content of the line at `at` ends. Many lines have no content, so the first byte is tested on its own.
 fn past_content(text: &[u8], at: usize, comment: u8) -> usize
     ensures { λ r. ⌜ r ≡ runEnd (isContent comment) (now (text .entry)) at ⌝ }
 {
@@ -120,7 +122,8 @@ fn past_content(text: &[u8], at: usize, comment: u8) -> usize
     past_rest(text, skip_content(text, at), BAR)
 }
 
-// Where the first LF from a place on stands, or the end where there is none. It may stand behind a comment that says nothing.
+// The position of the first LF at or after `from`, or the end of the text if there is none. The next byte is tested
+// before the search: the LF may follow a CR or an empty comment.
 fn feed_from(text: &[u8], from: usize) -> usize
     ensures { λ r. ⌜ r ≡ runEnd (isBefore 10) (now (text .entry)) from ⌝ }
 {
@@ -136,7 +139,7 @@ fn feed_from(text: &[u8], from: usize) -> usize
     base::skip_far(Class::Before(LINE_FEED), text, from)
 }
 
-// A line whose content ends at a place.
+// The line that starts at `at` and whose content ends at `content`.
 fn ended_at(text: &[u8], at: usize, content: usize, comment: u8) -> Line
     requires { ⌜ content ≡ runEnd (isContent comment) (now text) at ⌝ }
     ensures { λ r. ⌜ r ≡ lineAt comment (now (text .entry)) at ⌝ }
@@ -152,8 +155,8 @@ fn ended_at(text: &[u8], at: usize, content: usize, comment: u8) -> Line
     }
 }
 
-// The line that starts at `at`. The search for its LF starts where the content ends, so that each byte is read once: most lines have no
-// comment, and it stands right there.
+// The line that starts at `at`. The search for its LF starts where the content ends, so that each byte is read once.
+// Most lines have no comment, and the LF is right there.
 pub fn line_at(text: &[u8], at: usize, comment: u8) -> Line
     ensures { λ r. ⌜ r ≡ lineAt comment (now (text .entry)) at ⌝ }
 {
@@ -167,9 +170,9 @@ pub fn line_at(text: &[u8], at: usize, comment: u8) -> Line
     ended_at(text, at, content, comment)
 }
 
-// The first word at or after `from`: the first of a line from 0, the next from the end of the one before.
+// The first word at or after `from`. From 0 it is the first word of a line, from the end of a word it is the next one.
 pub fn word_at(s: &[u8], from: usize) -> Span
-    ensures { λ r. ⌜ r ≡ wordAt (now (s .entry)) from ⌝ }
+    ensures { λ r. ⌜ r ≡ wordSpan (now (s .entry)) from ⌝ }
 {
     let start = base::past_blanks(s, from);
     Span {
@@ -193,7 +196,7 @@ fn skip_back(class: Class, s: &[u8], from: usize) -> usize
     i
 }
 
-// The last word of a line.
+// The last word of a line, or an empty span at 0 if there is none.
 pub fn last_word(s: &[u8]) -> Span
     ensures { λ r. ⌜ r ≡ lastWord (now (s .entry)) ⌝ }
 {
@@ -204,7 +207,8 @@ pub fn last_word(s: &[u8]) -> Span
     }
 }
 
-// Whether two words have the same sixteen bytes at a place. Each is looked at, so that a processor takes them at once.
+// Whether two words have the same sixteen bytes from `from` on. The loop compares every byte, without an early exit, so
+// that a processor can compare them at once.
 fn same_block(a: &[u8], b: &[u8], from: usize) -> bool
     requires { ⌜ (from + 16 ≤ length (now a)) × (length (now a) ≡ length (now b)) ⌝ }
     ensures { λ r. ⌜ r ≡ same (take 16 (drop from (now (a .entry)))) (take 16 (drop from (now (b .entry)))) ⌝ }
@@ -219,7 +223,8 @@ fn same_block(a: &[u8], b: &[u8], from: usize) -> bool
     whole
 }
 
-// A place up to which two words of one length have the same bytes, by whole blocks: past the last of them, or where one differs.
+// Compares two words of one length by blocks of sixteen bytes. Returns a position before which their bytes are the
+// same: the start of the first block that differs, or the end of the last whole block.
 fn same_blocks(a: &[u8], b: &[u8]) -> usize
     requires { ⌜ length (now a) ≡ length (now b) ⌝ }
     ensures { λ r. ⌜ (r ≤ length (now (a .entry))) × (same (drop r (now (a .entry))) (drop r (now (b .entry))) ≡ same (now (a .entry)) (now (b .entry))) ⌝ }
@@ -238,7 +243,7 @@ fn same_blocks(a: &[u8], b: &[u8]) -> usize
     i
 }
 
-// Whether two words of one length differ in one of their last three bytes: names that are made by a count do.
+// Whether two words of one length differ in one of their last three bytes. Numbered names, such as A101 and A102, do.
 fn has_other_end(a: &[u8], b: &[u8]) -> bool
     requires { ⌜ length (now a) ≡ length (now b) ⌝ }
     ensures { λ r. ⌜ (r ≡ true → same (now (a .entry)) (now (b .entry)) ≡ false) ⌝ }
@@ -276,7 +281,7 @@ pub fn same_bytes(a: &[u8], b: &[u8]) -> bool
     true
 }
 
-// How long the terminator at `i` is: LF, CR LF, or none.
+// The length of the terminator at `i`: 1 for LF, 2 for CR LF, 0 for none.
 fn terminator_at(text: &[u8], i: usize) -> usize
     requires { ⌜ i ≤ length (now text) ⌝ }
     ensures { λ r. ⌜ r ≡ terminatorAt (now (text .entry)) i ⌝ }
@@ -294,14 +299,15 @@ fn terminator_at(text: &[u8], i: usize) -> usize
     0
 }
 
-// What rules 2 to 4 say of one line, 0 for nothing, and where the next one starts.
+// Which of the rules 2 to 4 a line breaks, 0 for none, and where the next line starts.
 struct LineCheck {
     rule: u64,
     next: usize,
 }
 
-// The characters of a line are a run of bytes that a line may hold. Where they stop at no terminator a bad byte stands, and rule 2
-// is the lowest: nothing after it needs to be looked at. Nor is anything in an empty line.
+// Rules 2 to 4 for the line at `at`. Its characters are a run of bytes that a line may contain. If the run ends at a
+// byte that is no terminator, that byte is a bad one: rule 2 is the lowest, so the rest of the line is not read. An
+// empty line breaks nothing.
 fn line_check(text: &[u8], at: usize) -> LineCheck
     requires { ⌜ at < length (now text) ⌝ }
     ensures { λ r. ⌜ ResumesAfterLine (now (text .entry)) at (r .rule) (r .next) ⌝ }
@@ -331,9 +337,9 @@ fn line_check(text: &[u8], at: usize) -> LineCheck
     LineCheck { rule: 0, next }
 }
 
-// ---- rules 2 to 4 over many short lines at once
+// ---- rules 2 to 4 for many short lines at once
 
-// How many lines a byte ends.
+// 1 for an LF, 0 for any other byte.
 pub fn line_feed_of(b: u8) -> u8
     ensures { λ r. ⌜ r ≡ lineFeedOf b ⌝ }
 {
@@ -343,7 +349,7 @@ pub fn line_feed_of(b: u8) -> u8
     0
 }
 
-// How many lines end within sixteen bytes. Each byte is looked at, so that a processor takes them at once.
+// How many of sixteen bytes are LFs. The loop tests every byte, so that a processor can test them at once.
 pub fn line_feeds_in(text: &[u8], from: usize) -> u8
     requires { ⌜ from + 16 ≤ length (now text) ⌝ }
     ensures { λ r. ⌜ r ≡ lineFeeds (take 16 (drop from (now (text .entry)))) ⌝ }
@@ -358,7 +364,7 @@ pub fn line_feeds_in(text: &[u8], from: usize) -> u8
     count
 }
 
-// A byte that a line may hold, or an LF.
+// A byte that a line may contain, or an LF.
 fn is_line_byte(b: u8) -> bool
     ensures { λ r. ⌜ r ≡ isLineByte b ⌝ }
 {
@@ -368,7 +374,7 @@ fn is_line_byte(b: u8) -> bool
     base::in_class(Class::Printed, b)
 }
 
-// Whether sixteen bytes are all such, looked at in the same way.
+// Whether sixteen bytes are all line bytes. Again the loop tests every byte.
 fn are_line_bytes(text: &[u8], from: usize) -> bool
     requires { ⌜ from + 16 ≤ length (now text) ⌝ }
     ensures { λ r. ⌜ r ≡ all isLineByte (take 16 (drop from (now (text .entry)))) ⌝ }
@@ -383,13 +389,13 @@ fn are_line_bytes(text: &[u8], from: usize) -> bool
     whole
 }
 
-// Where lines have been gone past, and the number of the line there.
+// How far lines have been skipped: the position, and the number of the line there.
 struct Past {
     at: usize,
     line: u64,
 }
 
-// Where the last block ends in which a line ends: behind the one that was looked at last, or before it.
+// Where the last block with an LF ends: at `here` if the block just tested, which ends there, has one; else at `mark`.
 fn last_end(mark: usize, here: usize, ends: u8) -> usize
     ensures { λ r. ⌜ r ≡ (if eqb ends 0 then mark else here) ⌝ }
 {
@@ -399,8 +405,9 @@ fn last_end(mark: usize, here: usize, ends: u8) -> usize
     here
 }
 
-// Past blocks of bytes that are all such as a line may hold, and LFs: up to the last block in which a line ends, so that no more than a few
-// bytes of the next line are passed. A line of more than so many bytes is left.
+// Skips blocks of sixteen line bytes, and returns the end of the last block with an LF. So at most fifteen bytes of the
+// next line are skipped. Stops at a block with any other byte, or once more than `most` bytes have no LF. As `most` is
+// at most 80, no line that is skipped whole has over 120 characters.
 fn past_ends(text: &[u8], line: u64, most: usize) -> Past
     requires { ⌜ (line + length (now text) ≤ 2_097_152) × (most ≤ 80) ⌝ }
     ensures { λ r. ⌜ (r .at ≤ length (now (text .entry)))
@@ -433,7 +440,7 @@ fn past_ends(text: &[u8], line: u64, most: usize) -> Past
     }
 }
 
-// Past lines that break nothing, up to the start of one that is left to be looked at.
+// Skips lines that break no rule. Returns the start of the first line that still has to be checked.
 fn past_short(text: &[u8], line: u64, most: usize) -> Past
     requires { ⌜ (line + length (now text) ≤ 2_097_152) × (most ≤ 80) ⌝ }
     ensures { λ r. ⌜ ResumesLines (now (text .entry)) 0 line (r .at) (r .line) ⌝ }
@@ -445,7 +452,8 @@ fn past_short(text: &[u8], line: u64, most: usize) -> Past
     }
 }
 
-// Behind a short line, which has so many bytes, there are often more of about its size.
+// Skips more lines after a line of `size` bytes. After a short line there are often more of about its size; after any
+// other line nothing is skipped.
 fn past_more(text: &[u8], at: usize, line: u64, size: usize) -> Past
     requires { ⌜ (at ≤ length (now text)) × (line ≤ at + 1) × (length (now text) ≤ 1_048_576) ⌝ }
     ensures { λ r. ⌜ ResumesLines (now (text .entry)) at line (r .at) (r .line) ⌝ }
@@ -460,7 +468,7 @@ fn past_more(text: &[u8], at: usize, line: u64, size: usize) -> Past
     }
 }
 
-// Rules 1 to 4 over a whole text.
+// Rules 1 to 4 for a whole text.
 pub fn check_bytes(text: &[u8]) -> Checked
     ensures { λ r. ⌜ r ≡ byteRules (now (text .entry)) ⌝ }
 {
@@ -481,7 +489,7 @@ pub fn check_bytes(text: &[u8]) -> Checked
     Checked::Fine
 }
 
-// The first two words of a line, with one look past them.
+// The first two words of a line, and whether there is a third.
 pub fn first_two_words(s: &[u8]) -> FirstTwo
     ensures { λ r. ⌜ r ≡ firstTwoOf (now (s .entry)) ⌝ }
 {
@@ -516,7 +524,7 @@ pub fn first_two_words(s: &[u8]) -> FirstTwo
     }
 }
 
-// The bytes that a span marks.
+// The bytes of a span.
 pub fn marked(s: &[u8], w: Span) -> &[u8]
     requires { ⌜ (w .start ≤ w .end) × (w .end ≤ length (now s)) ⌝ }
     ensures { λ r. ⌜ now r ≡ markedBy (now (s .entry)) w ⌝ }
@@ -534,7 +542,7 @@ pub fn first_word(s: &[u8]) -> &[u8]
     marked(s, word)
 }
 
-// Where the first `=` stands, or the line's end where there is none.
+// The position of the first `=`, or the end of the line if there is none.
 pub fn equals_at(content: &[u8]) -> usize
     ensures { λ r. ⌜ r ≡ toEquals (now (content .entry)) ⌝ }
 {

@@ -1,4 +1,4 @@
--- Laws of `all`: every byte passes exactly where the run goes to the end, which is how code tells it.
+-- Laws of `all`: every byte passes exactly when the run goes to the end, which is what code tests.
 -- Assumes nothing.
 use mathlib.Core.Path.{_≡_, sym, _∙_}
 use mathlib.Core.Bool.{Bool, true, false}
@@ -12,7 +12,7 @@ use Rattle.base.specs.Runs.{run, all}
 use Rattle.base.proofs.IfLaws.{by-cases, both-rest, both-not-left}
 use Rattle.base.proofs.RunLaws.{run-goes, run-stops, run-nil}
 
--- two tests whose numbers are equal together have one answer
+-- two equality tests agree if each implies the other
 pub eqb-alike : (a b c d : ℕ) → (a ≡ b → c ≡ d) → (c ≡ d → a ≡ b) → eqb a b ≡ eqb c d
 eqb-alike a b c d to from =
     by-cases _ (eqb a b)
@@ -34,7 +34,7 @@ all-run p (b ∷ s) = by-cases _ (p b) (λ e. goes (all-run p s) e) (λ e. stops
         let n : run p (b ∷ s) ≡ suc (run p s) = run-goes p b s e in
         both-rest _ _ e ∙ later ∙ eqb-alike (run p s) (length s) (run p (b ∷ s)) (suc (length s)) (λ (h : run p s ≡ length s). omega arith) (λ (h : run p (b ∷ s) ≡ suc (length s)). omega arith)
 
--- the same for what stands from a place on, as `skip` answers it
+-- the same for the bytes from a position on, with the result of `skip`
 pub all-from : (p : ℕ → Bool) (s : List ℕ) (from end : ℕ) → from ≤ length s → end ≡ from + run p (drop from s) → eqb end (length s) ≡ all p (drop from s)
 all-from p s from end h e =
     let n : length (drop from s) ≡ length s - from = length-drop from s in

@@ -1,4 +1,4 @@
--- Laws of digits that are read a block at a time: so many steps of a run at once. Each holds of any number of digits.
+-- Laws of digits read in blocks: n steps of a run at once. Each law holds for any n.
 -- Assumes nothing.
 use mathlib.Core.Path.{_≡_, refl, sym, _∙_, ap}
 use mathlib.Core.Bool.{Bool, true, false}
@@ -31,7 +31,7 @@ use Rattle.lex_number.proofs.PairLaws.{bytes-are}
 block-step : (p v d : ℕ) → p * (10 * v + d) ≡ p * 10 * v + p * d
 block-step p v d = omega arith
 
--- what stands before digits is raised by their number
+-- the number of earlier digits is multiplied by ten for each digit that follows
 value-from : (s : List ℕ) (v : ℕ) → valueOf v s ≡ 10 ^ length s * v + valueOf 0 s
 unfolding valueOf
 value-from [] v = omega arith
@@ -46,7 +46,7 @@ value-from (b ∷ s) v =
     sums : (a c p v q r : ℕ) → a ≡ p * v + q + r → c ≡ p * 0 + q + r → a ≡ p * v + c
     sums a c p v q r e f = omega arith
 
--- so many digits on, the run goes as it did
+-- after n digits the run goes on with the number read so far
 size-block : (n : ℕ) (x : List ℕ) (v : ℕ) → n ≤ length x → all isDigit (take n x) ≡ true → sizeOn x v ≡ sizeOn (drop n x) (valueOf v (take n x))
 unfolding valueOf
 size-block zero x v h e = refl
@@ -78,7 +78,7 @@ module _ (n : ℕ) (s : List ℕ) (from before : ℕ) (room : from + n ≤ lengt
       e
       (ap (λ (k : ℕ). getD s k 0) e)
 
--- ---- in the words that `read_part` and `read_four` have
+-- ---- as `read_part` and `read_four` use them
 
 module _ (n from stop before value : ℕ) (inside : from + n ≤ stop) (few : value < 10 ^ n) where
   block-light : weight (10 ^ n * before + value) (from + n) stop ≤ weight before from stop

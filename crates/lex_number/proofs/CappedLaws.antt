@@ -1,5 +1,5 @@
--- Laws of the caps over digits: cutting the numbers on the way changes nothing of what is cut at the end.
--- The step of one digit is a law over any cap, so that it serves the digits of an exponent too.
+-- Laws of the caps over digits: capping the numbers while reading gives the same as capping them at the end.
+-- The law of one digit holds for any cap, so that it also serves the digits of an exponent.
 -- Assumes nothing.
 use mathlib.Core.Path.{_≡_, refl, sym, _∙_, ap}
 use mathlib.Core.Bool.{Bool, true, false}
@@ -13,7 +13,7 @@ use Rattle.lex_number.specs.declared.Digits.{Digits}
 use Rattle.lex_number.specs.Number.{isPoint, digitsGoOn, withPoint, withDigit, withByte, scan}
 use Rattle.lex_number.specs.Way.Capped.{sizeCap, cappedDigits, CutDigits}
 
--- one digit more: a number cut before the step gives the same as one cut after it
+-- one more digit: capping before the step gives the same as capping after it
 pub cut-step : (cap a v : ℕ) → min (10 * min a cap + v) cap ≡ min (10 * a + v) cap
 cut-step cap a v = omega arith
 
@@ -64,7 +64,7 @@ pub scan-ends : (d : Digits) → scan [] d ≡ d
 unfolding scan
 scan-ends d = refl
 
--- cutting the digits read so far changes nothing of what the rest makes of them, cut
+-- capping the digits read so far does not change the capped result
 pub scan-cut : (s : List ℕ) (d : Digits) → cappedDigits (scan s (cappedDigits d)) ≡ cappedDigits (scan s d)
 scan-cut [] d = rw (scan-ends (cappedDigits d), scan-ends d) (digits-twice d)
 scan-cut (b ∷ s) d =

@@ -1,4 +1,4 @@
--- Laws of reading digits, in the words that the code has at each place: whether they go on, one byte more, and the loop over bytes.
+-- Laws of reading digits, as the code uses them: whether the digits go on, one more byte, and the loop over bytes.
 -- Assumes nothing.
 use mathlib.Core.Path.{_≡_, refl, sym, _∙_, ap}
 use mathlib.Core.Bool.{Bool, true, false, not}
@@ -31,7 +31,7 @@ module _ (d : Digits) (b : ℕ) (t : Bool) (told : t ≡ isDigit b) where
   unfolding digitsGoOn isPoint
   goes-point e p = sym (either-rest _ _ (sym told ∙ e) ∙ both-rest _ _ (eq-eqb b 46 p))
 
--- digits that are cut stay so past a point
+-- digits that are capped stay so after a point
 pub point-kept : (d : Digits) → CutDigits d → withPoint d ≡ cappedDigits (withPoint d)
 unfolding cappedDigits withPoint
 point-kept d k =
@@ -39,7 +39,7 @@ point-kept d k =
     let f : min (d .size) sizeCap ≡ d .size = omega arith in
     rw (e, f)
 
--- digits are the same where each of their parts is
+-- digits are the same if each of their fields is
 pub digits-same : (r e : Digits) → r .all ≡ e .all → r .size ≡ e .size → r .zeros ≡ e .zeros → r .fraction ≡ e .fraction → r .some ≡ e .some → r .point ≡ e .point → r .end ≡ e .end → r ≡ e
 digits-same r e a b c d f g h = λ i. record { all = a i; size = b i; zeros = c i; fraction = d i; some = f i; point = g i; end = h i }
 
@@ -58,7 +58,7 @@ pub digit-to : (b : ℕ) → isDigit b ≡ true → b ≤ 57
 unfolding isDigit within
 digit-to b e = leb-true b 57 (both-second _ _ e)
 
--- the byte with which digits go on, which is not the point: its value as a digit, and the digits with it
+-- digits go on with a byte that is not the point: its value as a digit, and the digits with it
 module _ (d : Digits) (b w : ℕ) (goes : digitsGoOn d b ≡ true) (other : b ≡ 46 → ⊥) (told : w ≡ b) where
   goes-as-digit : isDigit b ≡ true
   unfolding digitsGoOn isPoint
@@ -84,7 +84,7 @@ pub kept-none : (from : ℕ) → CutDigits (noDigits from)
 unfolding noDigits
 kept-none from = record { all-cut = omega arith; size-cut = omega arith; zeros-within = omega arith; fraction-within = omega arith }
 
--- where the loop begins
+-- the start of the loop
 module _ (s : List ℕ) (from : ℕ) (d : Digits) (told : d ≡ noDigits from) where
   pub start-kept : CutDigits d
   start-kept = rw told (kept-none from)
@@ -121,7 +121,7 @@ ends-next d b = by-test (λ (x : Digits). x .end ≡ d .end + 1) (isPoint b) _ _
 pub end-next : (d next : Digits) (b i : ℕ) → next ≡ cappedDigits (withByte d b) → d .end ≡ i → next .end ≡ i + 1
 end-next d next b i e h = rw (e, ends-next d b, h)
 
--- the loop over bytes: from the place that it has come to, the digits read so far lead to the same whole
+-- the invariant of the loop over bytes: reading on from position i with the digits d gives the whole
 module _ (s : List ℕ) (i : ℕ) (d whole : Digits) (inv : cappedDigits (scan (drop i s) d) ≡ whole) where
   pub digits-past : CutDigits d → length s ≤ i → d ≡ whole
   digits-past k h =

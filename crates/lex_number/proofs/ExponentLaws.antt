@@ -1,4 +1,4 @@
--- Laws of the exponent, in the words that `read_exponent` has at each of its returns, and the place that it ends at.
+-- Laws of the exponent, as `read_exponent` uses them at each return, and of where the exponent ends.
 -- Assumes nothing.
 use mathlib.Core.Path.{_≡_, refl, sym, _∙_, ap}
 use mathlib.Core.Bool.{Bool, true, false, not}
@@ -31,7 +31,7 @@ module _ (s : List ℕ) (from : ℕ) (r : Exponent) where
   pub exponent-none : (t : Bool) → t ≡ isE (getD s from 0) → not t ≡ true → r ≡ noExponent from → r ≡ cappedExponent (exponentOf s from)
   exponent-none t told stop e = none-told (sym told ∙ not-true t stop) e
 
--- after an e: what stands past its sign
+-- after an e: the digits after its sign
 module _ (s : List ℕ) (from digits : ℕ) (t negative : Bool) (x : Exponent) (told : t ≡ isE (getD s from 0)) (on : not t ≡ false) (start : digits ≡ pastSign s (from + 1)) (read : x ≡ cappedExponent (sizeAt s digits negative)) where
   at-start : exponentOf s from ≡ exponentAt s from digits
   unfolding exponentOf

@@ -1,5 +1,6 @@
--- Laws of the word at the front of a text: reading the text is reading the word, since a number is written with no byte that ends one.
--- They hold of every class of bytes that words are made of, as long as what numbers are written with is in it.
+-- Laws of the word at the front of a text: reading the text gives the same as reading the word alone, since no byte
+-- that numbers are written with ends a word. They hold for every class of word bytes that includes all bytes of
+-- numbers.
 -- Assumes nothing.
 use mathlib.Core.Path.{_≡_, refl, sym, _∙_, ap}
 use mathlib.Core.Bool.{Bool, true, false, not, true≢false}
@@ -27,7 +28,7 @@ use Rattle.lex_number.specs.declared.Reading.{Reading}
 use Rattle.lex_number.specs.declared.Parts.{Parts}
 use Rattle.lex_number.specs.Number.{isSign, isMinus, isPoint, isE, pastSign, noDigits, digitsGoOn, withByte, scan, exponentAt, exponentOf, powerIn, scaleBy, scaleOf, raised, lowered, valueAs, wellFormed, numberFrom, digitsOf, exponentFrom, numberOf}
 use Rattle.lex_number.specs.Way.In.{isSpelling}
-use Rattle.lex_number.specs.Way.At.{plainAt, readingAt, partsOf, DigitsRead, ExponentRead, PartsRead, Says}
+use Rattle.lex_number.specs.Way.At.{plainAt, readingAt, partsAt, DigitsRead, ExponentRead, PartsRead, Says}
 use Rattle.lex_number.proofs.CappedLaws.{scan-goes, scan-stops, scan-ends}
 use Rattle.lex_number.proofs.AllLaws.{all-from}
 use Rattle.lex_number.proofs.ReadLaws.{inside, sign-within, scan-end, exponent-within}
@@ -35,9 +36,9 @@ use Rattle.lex_number.proofs.DigitLaws.{digit-to}
 use Rattle.lex_number.proofs.ScaleLaws.{outside-gives-nothing}
 use Rattle.lex_number.proofs.NumberLaws.{Shaped, digits-shaped}
 
--- ---- what numbers are not written with
+-- ---- bytes that numbers are not written with
 
--- what is the same of 0 and of every byte that numbers are not written with
+-- a function with the same value for 0 and for every byte that numbers are not written with
 record Blind {A : Type 0} (f : ℕ → A) : Type 0 where
   blind : (b : ℕ) → isSpelling b ≡ false → f b ≡ f 0
 
@@ -107,7 +108,7 @@ blind-letter = record { blind = none-letter }
 unfoldable pub word : (ℕ → Bool) → List ℕ → List ℕ
 word class s = take (run class s) s
 
--- the word does not go on at a place: there is no byte there, or one that is not of the class
+-- the word does not go on at a position: there is no byte, or one that is not of the class
 abbrev Over : (ℕ → Bool) → List ℕ → ℕ → Type 0
 Over class s at = (length s ≤ at) ⊎ (class (getD s at 0) ≡ false)
 
@@ -131,8 +132,8 @@ module _ (s : List ℕ) (first start : ℕ) (byte : first ≡ getD s 0 0) (past 
   start-near = rw past (by-test (λ (n : ℕ). n ≤ 1) (isSign first) _ _ (λ e. omega arith) (λ e. omega arith))
 
   module _ (d : Plain) (x : Reading) (digits : d ≡ plainAt s (scan (drop start s) (noDigits start))) (read : x ≡ readingAt s (exponentOf s (d .end))) where
-    parts-are : record { negative = eqb first 45; digits = d; exponent = x .exponent; next = x .next } ≡ partsOf s
-    unfolding partsOf digitsOf exponentFrom plainAt readingAt isMinus
+    parts-are : record { negative = eqb first 45; digits = d; exponent = x .exponent; next = x .next } ≡ partsAt s
+    unfolding partsAt digitsOf exponentFrom plainAt readingAt isMinus
     parts-are = rw (read, digits, start-is, byte)
 
   -- the parts as they are read
@@ -152,7 +153,7 @@ module _ (s : List ℕ) (first start : ℕ) (byte : first ≡ getD s 0 0) (past 
           omega (arith, start-near)
 
 module _ (class : ℕ → Bool) (out : (b : ℕ) → class b ≡ false → isSpelling b ≡ false) where
-  -- a byte of which a test says what it does not say of 0 is of the class
+  -- a byte is of the class if it passes a test that 0 does not pass
   in-by : (f : ℕ → Bool) → Blind f → f 0 ≡ false → (b : ℕ) → f b ≡ true → class b ≡ true
   in-by f k none b t =
       by-cases _ (class b)
@@ -189,7 +190,7 @@ module _ (class : ℕ → Bool) (out : (b : ℕ) → class b ≡ false → isSpe
   unfolding word
   word-length s = length-take-le (run class s) s (run-le class s)
 
-  -- what stands from a place of the word on is the word from there on
+  -- the rest of the word from a position on is the word at that position
   word-drop : (s : List ℕ) (p : ℕ) → p ≤ run class s → (drop p (word class s) ≡ word class (drop p s)) × (run class s ≡ p + run class (drop p s))
   word-drop s zero h = (refl, sym (zero-add (run class s)))
   word-drop [] (suc p) h =
@@ -230,7 +231,7 @@ module _ (class : ℕ → Bool) (out : (b : ℕ) → class b ≡ false → isSpe
           (λ (f : class b ≡ true). rw (word-goes b x f) (scan-stops b (word class x) d e ∙ sym (scan-stops b x d e)))
           (λ (f : class b ≡ false). rw (word-stops b x f) (scan-ends d ∙ sym (scan-stops b x d e)))
 
-  -- ---- what is read of the text is what is read of the word
+  -- ---- reading the text gives the same as reading the word
 
   module _ (s : List ℕ) where
     byte-before : (p : ℕ) → p < run class s → getD (word class s) p 0 ≡ getD s p 0
@@ -240,7 +241,7 @@ module _ (class : ℕ → Bool) (out : (b : ℕ) → class b ≡ false → isSpe
     byte-after : (p : ℕ) → p ≡ run class s → p < length s → class (getD s p 0) ≡ false
     byte-after p e h = rw e (run-end class s (omega arith))
 
-    -- the byte at a place of the word, or at its end
+    -- the byte at a position of the word, or at its end
     byte-word : {A : Type 0} (f : ℕ → A) → Blind f → (p : ℕ) → p ≤ run class s → f (getD (word class s) p 0) ≡ f (getD s p 0)
     byte-word f k p h =
         by-cases _ (leb (run class s) p)
@@ -317,7 +318,7 @@ module _ (class : ℕ → Bool) (out : (b : ℕ) → class b ≡ false → isSpe
         let e : exponentOf (word class s) from .end ≡ exponentOf s from .end = ap (λ (x : Exponent). x .end) (exponent-word from h) in
         omega arith
 
-    -- letters only, to the word's end
+    -- only letters up to the end of the word
     letters-word : (at end : ℕ) → at ≤ run class s → end ≡ runEnd isLetter s at → all isLetter (drop at (word class s)) ≡ eqb end (run class s)
     letters-word at end h e =
         let x : drop at (word class s) ≡ word class (drop at s) = word-drop s at h .0 in
@@ -332,7 +333,7 @@ module _ (class : ℕ → Bool) (out : (b : ℕ) → class b ≡ false → isSpe
         let w : run isLetter (drop at s) ≤ run class (drop at s) = run-wider isLetter class letter-in (drop at s) in
         omega arith
 
-    -- where it does not go on it ends
+    -- where the word does not go on, it ends
     over-ends : (end : ℕ) → end ≤ run class s → Over class s end → end ≡ run class s
     over-ends end h t =
         by-cases _ (leb (run class s) end)
@@ -344,7 +345,7 @@ module _ (class : ℕ → Bool) (out : (b : ℕ) → class b ≡ false → isSpe
         let n : end < length s = omega (arith, run-le class s) in
         absurd (⊎-elim (λ (m : length s ≤ end). omega arith) (λ (m : class (getD s end 0) ≡ false). true≢false (sym (run-all class s end k) ∙ m)) t))
 
-  -- where the word does not go on stands no letter
+  -- where the word does not go on, there is no letter
   module _ (s : List ℕ) (from : ℕ) (stop : Over class s from) where
     over-byte : (length s ≤ from) ⊎ ((from < length s) × (class (getD s from 0) ≡ false))
     over-byte =
@@ -372,9 +373,9 @@ module _ (class : ℕ → Bool) (out : (b : ℕ) → class b ≡ false → isSpe
     over-end : from ≡ runEnd isLetter s from
     over-end = rw over-letters (sym (add-zero from))
 
-  module _ (s : List ℕ) (p : Parts) (read : p ≡ partsOf s) where
+  module _ (s : List ℕ) (p : Parts) (read : p ≡ partsAt s) where
     plain-is : p .digits ≡ plainAt s (digitsOf s)
-    unfolding partsOf
+    unfolding partsAt
     plain-is = ap (λ (q : Parts). q .digits) read
 
     some-same : p .digits .some ≡ digitsOf s .some
@@ -390,7 +391,7 @@ module _ (class : ℕ → Bool) (out : (b : ℕ) → class b ≡ false → isSpe
     fraction-same = sym (ap (λ (q : Plain). q .fraction) plain-is)
 
     exponent-is : p .exponent ≡ exponentFrom s (digitsOf s)
-    unfolding partsOf
+    unfolding partsAt
     exponent-is = ap (λ (q : Parts). q .exponent) read
 
     exponent-same : exponentFrom (word class s) (digitsOf (word class s)) ≡ p .exponent
@@ -402,7 +403,7 @@ module _ (class : ℕ → Bool) (out : (b : ℕ) → class b ≡ false → isSpe
     x-inside = rw exponent-is (exponent-inside s (digitsOf s .end) (digits-inside s))
 
     minus-is : isMinus (getD (word class s) 0 0) ≡ p .negative
-    unfolding partsOf
+    unfolding partsAt
     minus-is = byte-word s isMinus blind-minus 0 (omega arith) ∙ sym (ap (λ (q : Parts). q .negative) read)
 
     module _ (scale : Scale) (end : ℕ) (told : scale ≡ scaleOf (getD s (p .exponent .end) 0)) (ends : end ≡ runEnd isLetter s (p .exponent .end)) where
@@ -413,7 +414,7 @@ module _ (class : ℕ → Bool) (out : (b : ℕ) → class b ≡ false → isSpe
       unfolding wellFormed
       formed-is = rw (exponent-same, digits-word s, ← some-same, letters-word s (p .exponent .end) end x-inside ends)
 
-      -- the value of the parts, where they go to the word's end
+      -- the value of the parts is the number of the word, if its letters go to the end of the word
       value-is : (r : Number) → end ≡ run class s → not (p .digits .some) ≡ false → Says p scale r → r ≡ numberOf (word class s)
       unfolding numberOf numberFrom
       value-is r t n v =
@@ -429,16 +430,16 @@ module _ (class : ℕ → Bool) (out : (b : ℕ) → class b ≡ false → isSpe
       let b : getD (drop from s) e 0 ≡ getD s (from + e) 0 = getD-drop from s e 0 in
       ⊎-elim (λ (m : length s ≤ from + e). inl (omega arith)) (λ (m : class (getD s (from + e) 0) ≡ false). inr (rw b m)) t
 
-  -- ---- the number at a place of a text
+  -- ---- the number at a position of a text
 
   module _ (s : List ℕ) (from : ℕ) (h : from < length s) (p : Parts) (read : PartsRead (drop from s) p) where
     byte-here : p .next ≡ getD s (from + p .exponent .end) 0
     byte-here = read .parts-next ∙ getD-drop from s (p .exponent .end) 0
 
-    -- the number is that of the parts where the word ends behind its letters
+    -- the value of the parts is the number at `from`, if the word ends after its letters
     here : (scale : Scale) (end : ℕ) (r : Number) → isDigit (p .next) ≡ false → scale ≡ scaleOf (getD (drop from s) (p .exponent .end) 0) → end ≡ runEnd isLetter (drop from s) (p .exponent .end) → Over class s (from + end) → not (p .digits .some) ≡ false → Says p scale r → (r ≡ numberOf (word class (drop from s))) × (from + end ≡ runEnd class s from)
     here scale end r none told ends off n v =
-        let w : p ≡ partsOf (drop from s) = read .parts-whole none in
+        let w : p ≡ partsAt (drop from s) = read .parts-whole none in
         let g : end ≤ run class (drop from s) = end-inside (drop from s) p w scale end told ends in
         let a : end ≡ run class (drop from s) = over-ends (drop from s) end g (over-drop s from end h off) in
         (value-is (drop from s) p w scale end told ends r a n v, ap (λ (k : ℕ). from + k) a)
@@ -456,7 +457,7 @@ module _ (class : ℕ → Bool) (out : (b : ℕ) → class b ≡ false → isSpe
       unfolding isLetter isCapital isSmall within both either
       letter-there = inside isLetter s (from + p .exponent .end) refl (rw byte-here at letter)
 
-      -- the letters behind the first end where all do
+      -- the letters after the first one end where all of them end
       letters-end : runEnd isLetter s (from + p .exponent .end + 1) ≡ from + runEnd isLetter (drop from s) (p .exponent .end)
       letters-end =
           let k : run isLetter (drop (from + p .exponent .end) s) ≡ suc (run isLetter (drop (from + p .exponent .end + 1) s)) = run-on isLetter s (from + p .exponent .end) letter-there (rw byte-here at letter) in

@@ -1,4 +1,4 @@
--- Laws of a number where it stands in a text whose lines are not cut out.
+-- Laws of a number inside a whole text, whose lines have not been found yet.
 -- Assumes nothing.
 use mathlib.Core.Path.{_≡_, refl, sym, _∙_, ap}
 use mathlib.Core.Bool.{Bool, true, false, not, true≢false}
@@ -55,20 +55,20 @@ in-is comment s from end number e f =
     let n : end - from ≡ run (isWord comment) (drop from s) = omega arith in
     rw (rw n at f, e)
 
--- the same, lent as a part that is the whole
+-- the same for `&s[0..]`, a slice that is the whole text
 pub far-is : (comment : ℕ) (s : List ℕ) (from : ℕ) (r : NumberAt) → r ≡ numberIn comment (take (length s - 0) (drop 0 s)) from → record { number = r .number; end = r .end } ≡ numberIn comment s from
 far-is comment s from r e =
     let w : take (length s - 0) (drop 0 s) ≡ s = take-all (length s - 0) s (omega arith) in
     rw w at e
 
--- what is not known, and what is
+-- an answer that is not known, and one that is
 pub unknown-knows : (comment : ℕ) (s : List ℕ) (from : ℕ) (r : ShortNumber) → r .known ≡ false → Knows comment s from r
 unknown-knows comment s from r f = record { knows = λ (e : r .known ≡ true). absurd (true≢false (sym e ∙ f)) }
 
 pub near-is : (comment : ℕ) (s : List ℕ) (from : ℕ) (r : ShortNumber) → Knows comment s from r → r .known ≡ true → record { number = r .number; end = r .end } ≡ numberIn comment s from
 near-is comment s from r told e = told .knows e
 
--- ---- no byte that ends a word is what numbers are written with
+-- ---- no byte that numbers are written with ends a word
 
 other : (b c : ℕ) → isSpelling b ≡ true → isSpelling c ≡ false → isBefore c b ≡ true
 unfolding isBefore
@@ -87,7 +87,7 @@ outside comment b none over =
     (λ (e : isSpelling b ≡ true). absurd (true≢false (sym (spelling-word comment b none e) ∙ over)))
     (λ (e : isSpelling b ≡ false). e)
 
--- ---- past a letter
+-- ---- after one letter
 
 module _ (s : List ℕ) (at near : ℕ) (there : at < length s) (past : near ≡ (if isLetter (getD s at 0) then at + 1 else at)) where
   past-near : near ≤ at + 1
@@ -96,7 +96,7 @@ module _ (s : List ℕ) (at near : ℕ) (there : at < length s) (past : near ≡
       (λ (e : isLetter (getD s at 0) ≡ true). let k : near ≡ at + 1 = past ∙ if-true _ _ e in omega arith)
       (λ (e : isLetter (getD s at 0) ≡ false). let k : near ≡ at = past ∙ if-false _ _ e in omega arith)
 
-  -- the letters end where they do
+  -- the letters from there on have the same end
   past-more : runEnd isLetter s near ≡ runEnd isLetter s at
   past-more =
       by-cases _ (isLetter (getD s at 0))
@@ -106,14 +106,14 @@ module _ (s : List ℕ) (at near : ℕ) (there : at < length s) (past : near ≡
       rw k (omega arith))
       (λ (e : isLetter (getD s at 0) ≡ false). ap (runEnd isLetter s) (past ∙ if-false _ _ e))
 
-  -- and where no letter stands they end
+  -- if there is no letter, they end there
   past-all : near < length s → isLetter (getD s near 0) ≡ false → near ≡ runEnd isLetter s at
   past-all h e =
       let r : run isLetter (drop near s) ≡ 0 = run-stop isLetter s near h e in
       let m : near + run isLetter (drop near s) ≡ runEnd isLetter s at = past-more in
       omega arith
 
--- ---- in the words that `near_in` and `scaled_in` have
+-- ---- as `short_number` and `scaled_in` use them
 
 module _ (comment : ℕ) (s : List ℕ) (from : ℕ) (quiet : isSpelling comment ≡ false) (inside : from < length s) (room : 40 ≤ length s - from) (p : Parts) (read : PartsRead (take (length s - from) (drop from s)) p) where
   rest-read : PartsRead (drop from s) p
@@ -146,13 +146,13 @@ module _ (comment : ℕ) (s : List ℕ) (from : ℕ) (quiet : isSpelling comment
     scaled end scale r ends over told n v =
         known r end (scaled-here (isWord comment) (λ (c : ℕ) (e : isWord comment c ≡ false). outside comment c quiet e) s from (omega arith) p rest-read (sym letter ∙ not-false b on) end scale r ends over told n v)
 
-    -- the word ends behind one letter or two
+    -- the word ends after one letter or two
     pub scaled-short : (t : Bool) (scale : Scale) (r : Number) → t ≡ isWord comment (getD s near 0) → not t ≡ true → scale ≡ scaleOf (p .next) → not (p .digits .some) ≡ false → Says p scale r → Knows comment s from (record { known = true; number = r; end = near })
     scaled-short t scale r is over told n v =
         let o : isWord comment (getD s near 0) ≡ false = sym is ∙ not-true t over in
         scaled near scale r (past-all s (from + p .exponent .end + 1) near behind past near-there (none-letter (getD s near 0) (outside comment (getD s near 0) quiet o))) (inr o) told n v
 
-    -- or behind more
+    -- the word ends after more letters
     pub scaled-long : (end : ℕ) (t : Bool) (scale : Scale) (r : Number) → end ≡ runEnd isLetter s near → t ≡ both (ltb end (length s)) (isWord comment (getD s end 0)) → t ≡ false → scale ≡ scaleOf (p .next) → not (p .digits .some) ≡ false → Says p scale r → Knows comment s from (record { known = true; number = r; end = end })
     scaled-long end t scale r ends is over told n v = scaled end scale r (ends ∙ past-more s (from + p .exponent .end + 1) near behind past) stop told n v
       where

@@ -1,4 +1,4 @@
--- Laws of a number where it stands in its line.
+-- Laws of a number inside a line.
 -- Assumes nothing.
 use mathlib.Core.Path.{_≡_, refl}
 use mathlib.Core.List.{List, []}

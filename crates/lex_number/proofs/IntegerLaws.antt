@@ -1,4 +1,4 @@
--- Laws of integers, in the words that `read_integer` has at each of its returns: an integer has at most 9 digits, so nothing is cut.
+-- Laws of integers, as `read_integer` uses them at each return. An integer has at most 9 digits, so nothing is capped.
 -- Assumes nothing.
 use mathlib.Core.Path.{_≡_, sym, _∙_, ap}
 use mathlib.Core.Bool.{true, false}
@@ -20,7 +20,7 @@ use Rattle.lex_number.specs.Way.Capped.{exponentCap, cappedExponent, siz
 use Rattle.lex_number.proofs.AllLaws.{all-run}
 use Rattle.lex_number.proofs.DigitLaws.{digit-to}
 
--- n digits after a write less than a + 1 times ten to the n
+-- n digits, after earlier digits that write a, write a number below a + 1 times ten to the n
 value-below : (s : List ℕ) (a : ℕ) → all isDigit s ≡ true → valueOf a s < (a + 1) * 10 ^ length s
 unfolding valueOf all
 value-below [] a e = rw (pow-zero 10, mul-one (a + 1)) (omega arith)
@@ -47,7 +47,7 @@ integer-fails s f =
     (λ (e : both (leb 1 (length s)) (leb (length s) 9) ≡ true). absurd (f (leb-true 1 (length s) (both-first _ _ e)) (leb-true (length s) 9 (both-second _ _ e))))
     (λ (e : both (leb 1 (length s)) (leb (length s) 9) ≡ false). e))
 
--- what `read_size` told of the whole word
+-- the result of `read_size` for the whole word
 module _ (s : List ℕ) (x : Exponent) (read : x ≡ cappedExponent (sizeAt s 0 false)) where
   ends-at : x .end ≡ run isDigit s
   unfolding cappedExponent sizeAt

@@ -1,4 +1,5 @@
--- Laws of numbers: "the value is m times ten to the k, m not ending in 0" of the digits of any word, and a number's value word is one.
+-- Laws of numbers: "the value is m times ten to the k, m not ending in 0" holds for the digits of any word, and the
+-- word of a number that is read is a value word.
 -- Assumes nothing.
 use mathlib.Core.Path.{_≡_, refl, sym, _∙_, ap}
 use mathlib.Core.Bool.{Bool, true, false}
@@ -82,7 +83,8 @@ shaped-none : (from : ℕ) → Shaped (noDigits from)
 unfolding noDigits
 shaped-none from = record { whole = refl; trimmed = inl refl }
 
--- of the digits of any word: the number that they write is m times ten to the zeros after it, and m does not end in 0
+-- for the digits of any word: the number that they write is m times ten to the count of zeros after m, and m is 0 or
+-- does not end in 0
 pub digits-shaped : (s : List ℕ) → Shaped (digitsOf s)
 unfolding digitsOf
 digits-shaped s = scan-shaped (drop (pastSign s 0) s) (noDigits (pastSign s 0)) (shaped-none (pastSign s 0))
@@ -100,7 +102,7 @@ never-range P w e = let z : _≡_ {A = ℕ} 0 1 = cc in absurd (omega arith)
 same-word : (v w : ℕ) → Value v ≡ Value w → w ≡ v
 same-word v w e = cc
 
--- a number that is not zero and has a value: it stands, and its word is the one that the definition builds
+-- a number that is not zero and has a value is within its bounds, and its word is the one that the definition builds
 stands-as : (negative : Bool) (m up down w : ℕ) → (m ≡ 0 → ⊥) → valueAs negative m up down ≡ Value w → Stands m up down × (w ≡ valueWord negative m (up + 64 - down))
 stands-as negative m up down w n e =
     by-cases _ (inRange m up down)
@@ -128,7 +130,7 @@ value-is-word negative m up down w t e =
           high = omega (arith, k .0 .high);
         })
 
--- what numberOf answers with a word is the value of a well-formed number
+-- if `numberOf` gives a value, the number is well formed and has that value
 value-told : (s : List ℕ) (w : ℕ) → numberOf s ≡ Value w → valueAs (isMinus (getD s 0 0)) (digitsOf s .size) (raised (digitsOf s) (exponentFrom s (digitsOf s)) (scaleIn s)) (lowered (digitsOf s) (exponentFrom s (digitsOf s)) (scaleIn s)) ≡ Value w
 unfolding numberOf numberFrom scaleIn
 value-told s w e =
@@ -143,7 +145,7 @@ number-word s w e = value-is-word _ _ _ _ w (digits-shaped s .trimmed) (value-to
 pub number-below : (s : List ℕ) (w : ℕ) → numberOf s ≡ Value w → w < 2 ^ 58
 number-below s w e = word-below w (number-word s w e)
 
--- the word of a number that is not zero has the word's sign, its m and its k
+-- the value word of a number that is not zero contains its sign, its m and its k
 pub number-decimal : (s : List ℕ) (w : ℕ) → numberOf s ≡ Value w → (digitsOf s .size ≡ 0 → ⊥) → decimalOf w ≡ record { negative = isMinus (getD s 0 0); size = digitsOf s .size; shifted = raised (digitsOf s) (exponentFrom s (digitsOf s)) (scaleIn s) + 64 - lowered (digitsOf s) (exponentFrom s (digitsOf s)) (scaleIn s) }
 number-decimal s w e n =
     let k : Stands (digitsOf s .size) (raised (digitsOf s) (exponentFrom s (digitsOf s)) (scaleIn s)) (lowered (digitsOf s) (exponentFrom s (digitsOf s)) (scaleIn s)) × (w ≡ valueWord (isMinus (getD s 0 0)) (digitsOf s .size) (raised (digitsOf s) (exponentFrom s (digitsOf s)) (scaleIn s) + 64 - lowered (digitsOf s) (exponentFrom s (digitsOf s)) (scaleIn s))) = stands-as _ _ _ _ w n (value-told s w e) in
@@ -155,8 +157,8 @@ power-split all m zeros (suc rest) e =
     rw (add-suc zeros rest, pow-suc 10 (zeros + rest), pow-suc 10 rest, ← mul-assoc m (10 ^ (zeros + rest)) 10, ← mul-assoc all (10 ^ rest) 10)
     (ap (λ (n : ℕ). n * 10) (power-split all m zeros rest e))
 
--- "the value is m times ten to the k": the digits as written, times ten to what raises them, are m times ten to the k and to what
--- lowers them. Both sides have 64 powers more, so that k + 64, which the word holds, is not below zero
+-- "the value is m times ten to the k": the digits as written, times ten to what raises them, are m times ten to the k
+-- and to what lowers them. Both sides have 64 powers of ten more, because the word stores k + 64, which is not negative
 pub number-power : (s : List ℕ) (w : ℕ) → numberOf s ≡ Value w → (digitsOf s .size ≡ 0 → ⊥) → decimalOf w .size * 10 ^ (decimalOf w .shifted + lowered (digitsOf s) (exponentFrom s (digitsOf s)) (scaleIn s)) ≡ digitsOf s .all * 10 ^ (raising (exponentFrom s (digitsOf s)) + scaleIn s .up + 64)
 unfolding raised raising
 number-power s w e n =

@@ -1,5 +1,5 @@
--- Laws of the numbers that stand in a word side by side: which bytes are digits by their halves, and the number that digits write by
--- taking them two and two. Each is one law over a list, for four digits and for eight.
+-- Laws of numbers side by side in one word: which bytes are digits, by their high halves, and the number that digits
+-- write, by combining them in pairs. Each law is over a list, so that it serves four digits and eight.
 -- Assumes nothing.
 use mathlib.Core.Path.{_≡_, refl, sym, _∙_, ap, ap₂}
 use mathlib.Core.Bool.{Bool, true, false, true≢false}
@@ -21,7 +21,7 @@ use Rattle.base.proofs.IfLaws.{both-true, both-first, both-second}
 use Rattle.base.proofs.RunLaws.{all-nil, all-cons}
 use Rattle.base.proofs.JoinedLaws.{joined-nil, joined-cons, byte-below}
 use Rattle.lex_number.specs.Integer.{valueOf}
-use Rattle.lex_number.specs.Way.Block.{bytesOf, AreDigits, paired}
+use Rattle.lex_number.specs.Way.Block.{bytesOf, AreDigits, pairedDigits}
 use Rattle.lex_number.proofs.DigitLaws.{digit-from, digit-to}
 
 -- ---- the bytes of a word
@@ -48,7 +48,7 @@ bytes-joined (b ∷ s) small =
 pub bytes-are : (n word : ℕ) (s : List ℕ) → length s ≡ n → Joins s word → bytesOf n word ≡ s
 bytes-are n word s long joins = rw (← long, joins .word) (bytes-joined s (joins .bytes))
 
--- a word of so many bytes is what they join to
+-- a word of n bytes is the number that its bytes make
 joined-bytes : (n word : ℕ) → word < 256 ^ n → joined (bytesOf n word) ≡ word
 unfolding bytesOf
 joined-bytes zero word h = joined-nil ∙ (let e : 0 ≡ word = omega arith in e)
@@ -107,7 +107,7 @@ module _ (b : ℕ) where
   unfolding isDigit within
   is-digit h k = both-true _ _ (le-leb 48 b h) (le-leb b 57 k)
 
--- and still are with 6 more
+-- bytes whose high halves are 3, also after 6 is added, are digits
 six-more : (n word : ℕ) → all (within 48 63) (bytesOf n word) ≡ true → all (within 48 63) (bytesOf n (word + alike n 6)) ≡ true → all isDigit (bytesOf n word) ≡ true
 unfolding bytesOf alike
 six-more zero word e f = all-nil isDigit
@@ -120,7 +120,7 @@ six-more (suc n) word e f =
     let less : word % 256 + 6 ≤ 63 = within-high (word % 256 + 6) (all-first (within 48 63) (word % 256 + 6) (bytesOf n (word / 256 + alike n 6)) g) in
     all-more isDigit (word % 256) (bytesOf n (word / 256)) (is-digit (word % 256) low (omega arith)) (six-more n (word / 256) (all-rest (within 48 63) (word % 256) (bytesOf n (word / 256)) e) (all-rest (within 48 63) (word % 256 + 6) (bytesOf n (word / 256 + alike n 6)) g))
 
--- bytes that are all 63 at most make no greater word
+-- bytes of at most 63 each make a word of at most that many bytes of 63
 most-alike : (n word : ℕ) → all (within 48 63) (bytesOf n word) ≡ true → word < 256 ^ n → word ≤ alike n 63
 unfolding bytesOf alike
 most-alike zero word e h = omega arith
@@ -132,18 +132,18 @@ most-alike (suc n) word e h =
 
 -- ---- numbers side by side
 
--- numbers that stand side by side in a word, each so many bits wide
+-- numbers side by side in one word, each `width` bits wide
 unfoldable side : ℕ → List ℕ → ℕ
 side width [] = 0
 side width (x ∷ s) = x + 2 ^ width * side width s
 
--- two and two made one
+-- the numbers combined in pairs
 unfoldable pairs : ℕ → List ℕ → List ℕ
 pairs factor [] = []
 pairs factor (x ∷ []) = []
 pairs factor (x ∷ (y ∷ s)) = (factor * x + y) ∷ pairs factor s
 
--- the mask that leaves every other number, from the first on
+-- the mask that keeps every other number, beginning with the first
 unfoldable evens : ℕ → List ℕ → ℕ
 evens width [] = 0
 evens width (x ∷ []) = 0
@@ -184,7 +184,7 @@ below-square a r b h k =
     let e : suc a * b ≤ b * b = mul-le-mul-right b h in
     omega arith
 
--- what has to be known of a width: numbers up to m, the first by the factor and the second added, still fit
+-- what a width has to satisfy: for numbers up to m, the first times the factor plus the second still fits
 record Width (width factor m top : ℕ) : Type 0 where
   fits : m < 2 ^ width
   most : (x y : ℕ) → x ≤ m → y ≤ m → factor * x + y ≤ top
@@ -257,7 +257,7 @@ module _ (width factor m top : ℕ) (w : Width width factor m top) where
 
 -- ---- the number that digits write
 
--- what each digit says
+-- the value of each digit
 unfoldable ones : List ℕ → List ℕ
 ones [] = []
 ones (b ∷ s) = (b - 48) ∷ ones s
@@ -269,7 +269,7 @@ ones-small (b ∷ s) e =
     let h : b ≤ 57 = digit-to b (all-first isDigit b s e) in
     small-more (b - 48) (ones s) (omega arith) (ones-small s (all-rest isDigit b s e))
 
--- a word of digits is one of zeros and what they say
+-- a word of digits is a word of bytes `0` plus the values of the digits
 digits-joined : (s : List ℕ) → all isDigit s ≡ true → joined s ≡ alike (length s) 48 + side 8 (ones s)
 unfolding alike side ones
 digits-joined [] e = joined-nil
@@ -286,7 +286,7 @@ bytes-length (suc n) word = ap suc (bytes-length n (word / 256))
 digits-word : (n word : ℕ) → word < 256 ^ n → all isDigit (bytesOf n word) ≡ true → word ≡ alike n 48 + side 8 (ones (bytesOf n word))
 digits-word n word h e = sym (joined-bytes n word h) ∙ digits-joined (bytesOf n word) e ∙ ap (λ (k : ℕ). alike k 48 + side 8 (ones (bytesOf n word))) (bytes-length n word)
 
--- the steps that the code takes, of numbers s that a word has side by side
+-- the steps of the code, for numbers s side by side in a word
 module _ (s : List ℕ) (small : Small 9 s) where
   twos-small : Small 99 (pairs 10 s)
   twos-small = pairs-small 8 10 9 99 width-ones small
@@ -298,31 +298,31 @@ module _ (s : List ℕ) (small : Small 9 s) where
     ones-most : a ≤ side 8 (fill 9 s)
     ones-most = rw one (side-most 8 9 small)
 
-    module _ (b : ℕ) (two : b ≡ paired a 8 10 (evens 8 s)) where
+    module _ (b : ℕ) (two : b ≡ pairedDigits a 8 10 (evens 8 s)) where
       twos-are : b ≡ side 16 (pairs 10 s)
-      unfolding paired
+      unfolding pairedDigits
       twos-are = two ∙ ap (λ (n : ℕ). bitAnd (10 * n + n / 2 ^ 8) (evens 8 s)) one ∙ pairs-are 8 10 9 99 width-ones small
 
       twos-most : b ≤ side 16 (fill 99 (pairs 10 s))
       twos-most = rw twos-are (side-most 16 99 twos-small)
 
-      module _ (c : ℕ) (four : c ≡ paired b 16 100 (evens 16 (pairs 10 s))) where
+      module _ (c : ℕ) (four : c ≡ pairedDigits b 16 100 (evens 16 (pairs 10 s))) where
         fours-are : c ≡ side 32 (pairs 100 (pairs 10 s))
-        unfolding paired
+        unfolding pairedDigits
         fours-are = four ∙ ap (λ (n : ℕ). bitAnd (100 * n + n / 2 ^ 16) (evens 16 (pairs 10 s))) twos-are ∙ pairs-are 16 100 99 9_999 width-twos twos-small
 
         fours-most : c ≤ side 32 (fill 9_999 (pairs 100 (pairs 10 s)))
         fours-most = rw fours-are (side-most 32 9_999 fours-small)
 
-        module _ (d : ℕ) (eight : d ≡ paired c 32 10_000 (evens 32 (pairs 100 (pairs 10 s)))) where
+        module _ (d : ℕ) (eight : d ≡ pairedDigits c 32 10_000 (evens 32 (pairs 100 (pairs 10 s)))) where
           eights-are : d ≡ side 64 (pairs 10_000 (pairs 100 (pairs 10 s)))
-          unfolding paired
+          unfolding pairedDigits
           eights-are = eight ∙ ap (λ (n : ℕ). bitAnd (10_000 * n + n / 2 ^ 32) (evens 32 (pairs 100 (pairs 10 s)))) fours-are ∙ pairs-are 32 10_000 9_999 99_999_999 width-fours fours-small
 
           eights-most : d ≤ side 64 (fill 99_999_999 (pairs 10_000 (pairs 100 (pairs 10 s))))
           eights-most = rw eights-are (side-most 64 99_999_999 (pairs-small 32 10_000 9_999 99_999_999 width-fours fours-small))
 
--- ---- in the words that `are_eight`, `eight_value` and the same of four have
+-- ---- as `are_eight`, `eight_value`, `are_four` and `four_value` use them
 
 pub not-digits : (n word : ℕ) → AreDigits n word false
 not-digits n word = record { are-digits = λ (e : false ≡ true). absurd (true≢false (sym e)) }
@@ -377,21 +377,21 @@ module _ (word : ℕ) (digits : all isDigit (bytesOf 8 word) ≡ true) (fits : w
       let e : word - 0x3030_3030_3030_3030 ≤ 0x0909_0909_0909_0909 = ones-most (ones (bytesOf 8 word)) eight-small (word - 0x3030_3030_3030_3030) eight-ones in
       omega arith
 
-  module _ (twos : ℕ) (two : twos ≡ paired (word - 0x3030_3030_3030_3030) 8 10 0x00ff_00ff_00ff_00ff) where
+  module _ (twos : ℕ) (two : twos ≡ pairedDigits (word - 0x3030_3030_3030_3030) 8 10 0x00ff_00ff_00ff_00ff) where
     pub eight-twos-fit : 100 * twos + twos / 2 ^ 16 < 18_446_744_073_709_551_616
     unfolding bytesOf ones pairs evens fill side
     eight-twos-fit =
         let e : twos ≤ 0x0063_0063_0063_0063 = twos-most (ones (bytesOf 8 word)) eight-small (word - 0x3030_3030_3030_3030) eight-ones twos two in
         omega arith
 
-    module _ (fours : ℕ) (four : fours ≡ paired twos 16 100 0x0000_ffff_0000_ffff) where
+    module _ (fours : ℕ) (four : fours ≡ pairedDigits twos 16 100 0x0000_ffff_0000_ffff) where
       pub eight-fours-fit : 10_000 * fours + fours / 2 ^ 32 < 18_446_744_073_709_551_616
       unfolding bytesOf ones pairs evens fill side
       eight-fours-fit =
           let e : fours ≤ 0x0000_270f_0000_270f = fours-most (ones (bytesOf 8 word)) eight-small (word - 0x3030_3030_3030_3030) eight-ones twos two fours four in
           omega arith
 
-      module _ (r : ℕ) (eight : r ≡ paired fours 32 10_000 0xffff_ffff) where
+      module _ (r : ℕ) (eight : r ≡ pairedDigits fours 32 10_000 0xffff_ffff) where
         pub eight-value : r ≡ valueOf 0 (bytesOf 8 word)
         unfolding bytesOf ones pairs evens side valueOf
         eight-value = eights-are (ones (bytesOf 8 word)) eight-small (word - 0x3030_3030_3030_3030) eight-ones twos two fours four r eight ∙ sym (eight-number _ _ _ _ _ _ _ _)
@@ -420,14 +420,14 @@ module _ (word : ℕ) (digits : all isDigit (bytesOf 4 word) ≡ true) (fits : w
       let e : word ≡ 0x3030_3030 + side 8 (ones (bytesOf 4 word)) = four-is in
       omega arith
 
-  module _ (twos : ℕ) (two : twos ≡ paired (word - 0x3030_3030) 8 10 0x00ff_00ff) where
+  module _ (twos : ℕ) (two : twos ≡ pairedDigits (word - 0x3030_3030) 8 10 0x00ff_00ff) where
     pub four-twos-fit : 100 * twos + twos / 2 ^ 16 < 18_446_744_073_709_551_616
     unfolding bytesOf ones pairs evens fill side
     four-twos-fit =
         let e : twos ≤ 0x0063_0063 = twos-most (ones (bytesOf 4 word)) four-small (word - 0x3030_3030) four-ones twos two in
         omega arith
 
-    module _ (r : ℕ) (four : r ≡ paired twos 16 100 0xffff) where
+    module _ (r : ℕ) (four : r ≡ pairedDigits twos 16 100 0xffff) where
       pub four-value : r ≡ valueOf 0 (bytesOf 4 word)
       unfolding bytesOf ones pairs evens side valueOf
       four-value = fours-are (ones (bytesOf 4 word)) four-small (word - 0x3030_3030) four-ones twos two r four ∙ sym (four-number _ _ _ _)

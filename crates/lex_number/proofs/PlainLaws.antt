@@ -1,4 +1,5 @@
--- Laws of digits read run by run: a run of digits, where a point follows it another, and the exponent. In a few bytes nothing is cut.
+-- Laws of digits read run by run: a run of digits, another run if a point follows, and the exponent. The bytes are so
+-- few that nothing is capped.
 -- Assumes nothing.
 use mathlib.Core.Path.{_≡_, refl, sym, _∙_, ap}
 use mathlib.Core.Bool.{Bool, true, false, not, true≢false}
@@ -38,7 +39,7 @@ use Rattle.lex_number.proofs.TrimLaws.{power-some}
 power-more : (m n : ℕ) → m ≤ n → 10 ^ m ≤ 10 ^ n
 power-more m n h = pow-le-pow-right (zero-lt-suc 9) h
 
--- a byte by its bounds
+-- whether a byte is a digit, by its bounds
 module _ (b w : ℕ) (same : w ≡ b) where
   digit-low : w < 48 → isDigit b ≡ false
   unfolding isDigit within
@@ -59,7 +60,7 @@ module _ (b w : ℕ) (same : w ≡ b) where
       let l : b ≤ 57 = omega arith in
       both-true _ _ (le-leb 48 b k) (le-leb b 57 l)
 
--- ---- the room that digits have up to a stop
+-- ---- how great a number can become up to `stop`
 
 powers-add : (m n : ℕ) → 10 ^ (m + n) ≡ 10 ^ m * 10 ^ n
 powers-add m zero = rw (add-zero m) (sym (mul-one (10 ^ m)))
@@ -81,7 +82,7 @@ module _ (value i stop : ℕ) where
       let c : (value + 1) * 10 ^ (stop - i) ≡ 10 ^ (stop - i) * (value + 1) = mul-comm (value + 1) (10 ^ (stop - i)) in
       omega arith
 
-  -- some digits more
+  -- n more digits
   pub weight-more : (n more : ℕ) → i + n ≤ stop → more < 10 ^ n → weight (10 ^ n * value + more) (i + n) stop ≤ weight value i stop
   unfolding weight
   weight-more n more h k =
@@ -91,7 +92,7 @@ module _ (value i stop : ℕ) where
   weight-on : (digit : ℕ) → i < stop → digit ≤ 9 → weight (10 * value + digit) (i + 1) stop ≤ weight value i stop
   weight-on digit h k = weight-more 1 digit (omega arith) (omega arith)
 
-  -- the point takes up a place
+  -- the point uses one position
   weight-past : weight value (i + 1) stop ≤ weight value i stop
   unfolding weight
   weight-past =
@@ -108,7 +109,7 @@ weight-first from stop n h =
 pub weight-few : (from n : ℕ) → n ≤ 19 → weight 0 from (from + n) ≤ exponentCap
 weight-few from n h = weight-first from (from + n) 19 (omega arith)
 
--- one digit more wraps nothing
+-- one more digit does not wrap
 module _ (value i stop before from : ℕ) (room : weight before from stop ≤ exponentCap) (light : weight value i stop ≤ weight before from stop) (h : i < stop) where
   pub run-digit : (digit : ℕ) → digit ≤ 9 → Fits w64 (10 * value + digit)
   run-digit digit k =
@@ -129,7 +130,7 @@ module _ (value i stop before from : ℕ) (room : weight before from stop ≤ ex
 pub runs-same : (r e : Run) → r .value ≡ e .value → r .end ≡ e .end → r .next ≡ e .next → r ≡ e
 runs-same r e a b c = λ i. record { value = a i; end = b i; next = c i }
 
--- the run as the loop has come to it, and what it promises of the whole
+-- the state of the loop at position i, and how the whole run follows from it
 pub record Runs (s : List ℕ) (i value : ℕ) (whole : Run) : Type 0 where
   pub value-left : sizeOn (drop i s) value ≡ whole .value
   pub end-left : i + run isDigit (drop i s) ≡ whole .end
@@ -177,7 +178,7 @@ module _ (s : List ℕ) (i value : ℕ) (whole : Run) (inv : Runs s i value whol
   pub runs-on : (w : ℕ) → w ≡ getD s i 0 → 48 ≤ w → w - 48 ≤ 9 → Runs s (i + 1) (10 * value + (w - 48)) whole
   runs-on w same k l = rw same (runs-digit (digit-is (getD s i 0) w same k l))
 
--- where the loop ends
+-- the end of the loop
 module _ (s : List ℕ) (from stop before i value : ℕ) (start : from ≤ i) (short : i - from ≤ stop - from) (light : weight value i stop ≤ weight before from stop) (inv : Runs s i value (runFrom s from before)) where
   read-halt : (next : ℕ) → next ≡ getD s i 0 → (isDigit next ≡ true → stop ≤ i) → RunRead s from stop before (record { value = value; end = i; next = next })
   read-halt next e full =
@@ -210,7 +211,7 @@ read-nothing s from stop before t told e =
     read-other s from stop before from before (omega arith) (omega arith) (le-refl (weight before from stop)) (runs-start s from before)
     (sym told ∙ not-true t e)
 
--- two tests whose comparisons hold together have one answer
+-- two comparisons agree if each implies the other
 pub ltb-alike : (a b c d : ℕ) → (a < b → c < d) → (c < d → a < b) → ltb a b ≡ ltb c d
 ltb-alike a b c d to from =
     by-cases _ (ltb a b)
@@ -240,7 +241,7 @@ both-not-right' a e = both-not-right a _ e
 
 -- ---- digits run by run
 
--- the digits after a run of digits at the front of s, those before it being d
+-- the digits d with the run of digits at the front of s added
 unfoldable pub digitsRun : List ℕ → Digits → Digits
 digitsRun [] d = d
 digitsRun (b ∷ s) d = if isDigit b then digitsRun s (withDigit d (b - 48)) else d
@@ -267,7 +268,7 @@ scan-run (b ∷ s) d = by-cases _ (isDigit b) (λ (e : isDigit b ≡ true). goes
     goes : isDigit b ≡ true → scan s (withDigit d (b - 48)) ≡ scan (drop (run isDigit s) s) (digitsRun s (withDigit d (b - 48))) → scan (b ∷ s) d ≡ scan (drop (run isDigit (b ∷ s)) (b ∷ s)) (digitsRun (b ∷ s) d)
     goes e k = rw (run-goes isDigit b s e, if-true (digitsRun s (withDigit d (b - 48))) d e) (scan-goes b s d (digit-goes d b e) ∙ ap (scan s) (digit-with d b e) ∙ k)
 
--- what a run makes of the digits before it
+-- how a run of digits changes the digits d before it
 record Ran (s : List ℕ) (d r : Digits) : Type 0 where
   all-ran : r .all ≡ sizeOn s (d .all)
   fraction-ran : r .fraction ≡ (if d .point then d .fraction + run isDigit s else d .fraction)
@@ -332,7 +333,7 @@ halts s i d n p =
     let h : i < length s = omega (arith, leb-false (length s) i t) in
     rw (drop-cons s i 0 h) (scan-stops (getD s i 0) (drop (suc i) s) d (either-false _ _ (n h) p)))
 
--- and pass over a point that they may have
+-- digits go on past a point that they may have
 point-passed : (s : List ℕ) (i : ℕ) (d : Digits) → d .point ≡ false → isPoint (getD s i 0) ≡ true → scan (drop i s) d ≡ scan (drop (suc i) s) (withPoint d)
 unfolding digitsGoOn withByte isPoint
 point-passed s i d n p =
@@ -343,7 +344,7 @@ point-passed s i d n p =
     none : isPoint 0 ≡ false
     none = refl
 
--- the digits at a place of s, in the two ways that the code goes
+-- the digits at `from`: one run, or two with a point between them, as the code reads them
 module _ (s : List ℕ) (from : ℕ) where
   first-run : Digits
   first-run = digitsRun (drop from s) (noDigits from)
@@ -363,7 +364,7 @@ module _ (s : List ℕ) (from : ℕ) where
   one-run : isPoint (getD s (runEnd isDigit s from) 0) ≡ false → scan (drop from s) (noDigits from) ≡ first-run
   one-run p = to-first ∙ halts s (runEnd isDigit s from) first-run (run-end-at isDigit s from) (both-not-left _ _ p)
 
-  -- past the point
+  -- the second run, after the point
   second-run : ℕ → Digits
   second-run at = digitsRun (drop at s) (withPoint first-run)
 
@@ -387,7 +388,7 @@ module _ (s : List ℕ) (from : ℕ) where
       stop : (t : Bool) → both t (not (second-run at .point)) ≡ false
       stop t = both-not-right' t (ap not (second-point at))
 
--- ---- in the words that `plain_digits` has at its returns
+-- ---- as `plain_digits` uses them at its returns
 
 pub plains-same : (r e : Plain) → r .all ≡ e .all → r .fraction ≡ e .fraction → r .some ≡ e .some → r .end ≡ e .end → r .next ≡ e .next → r ≡ e
 plains-same r e a b c d f = λ i. record { all = a i; fraction = b i; some = c i; end = d i; next = f i }
@@ -458,7 +459,7 @@ module _ (s : List ℕ) (from : ℕ) (whole : Run) (read : whole ≡ runFrom s f
           a
           (next-last ∙ ap (λ (i : ℕ). getD s i 0) (sym last-is ∙ a)))
 
--- digits that are read up to a stop
+-- digits that are read up to `stop`
 module _ (s : List ℕ) (from : ℕ) (whole : Run) (read : RunRead s from (from + 19) 0 whole) where
   pub whole-short : whole .end ≤ from + 19
   whole-short =
@@ -496,7 +497,7 @@ module _ (s : List ℕ) (from : ℕ) (whole : Run) (read : RunRead s from (from 
         fraction-few = omega arith;
       }
 
--- ---- in the words that `plain_exponent` has
+-- ---- as `plain_exponent` uses them
 
 e-no-digit : (b : ℕ) → isE b ≡ true → isDigit b ≡ false
 unfolding isE
@@ -569,7 +570,7 @@ module _ (s : List ℕ) (from b : ℕ) (t : Bool) (byte : b ≡ getD s from 0) (
         read-plain other = rw (← read-exponent-is other, next-read)
 
       module _ (x : Run) (read : RunRead s digits (digits + 9) 0 x) where
-        -- where no digit is read none stands
+        -- if no digit is read, there is none
         bare-next : x .end ≡ digits → isDigit (x .next) ≡ false
         bare-next same =
             by-cases _ (isDigit (x .next))

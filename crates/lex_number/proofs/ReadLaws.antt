@@ -1,4 +1,5 @@
--- Laws of reading a number: where its digits and its exponent end, what the reader may hand on, and that the caps change nothing.
+-- Laws of reading a number: where its digits and its exponent end, the bounds of what the reader passes on, and that
+-- the caps change nothing.
 -- Assumes nothing.
 use mathlib.Core.Path.{_≡_, refl, sym, _∙_, ap}
 use mathlib.Core.Bool.{Bool, true, false, not, true≢false}
@@ -26,7 +27,7 @@ use Rattle.lex_number.proofs.DigitLaws.{kept-none, matrix-keyword-next,
 use Rattle.lex_number.proofs.ScaleLaws.{scale-up, scale-down}
 use Rattle.lex_number.proofs.ValueLaws.{Agree, value-agree}
 
--- digits end no further than the bytes go
+-- digits end within the bytes
 end-same : (d : Digits) → cappedDigits d .end ≡ d .end
 unfolding cappedDigits
 end-same d = refl
@@ -41,7 +42,7 @@ scan-end (b ∷ s) d =
     rw (scan-goes b s d e) (omega arith))
     (λ (e : digitsGoOn d b ≡ false). rw (scan-stops b s d e) (omega arith))
 
--- counts stay within the place that the digits end at
+-- the counts are at most the position where the digits end
 scan-kept : (s : List ℕ) (d : Digits) → CutDigits (cappedDigits d) → CutDigits (cappedDigits (scan s d))
 scan-kept [] d k = rw (scan-ends d) k
 scan-kept (b ∷ s) d k =
@@ -52,7 +53,7 @@ scan-kept (b ∷ s) d k =
 kept-cut-none : (from : ℕ) → CutDigits (cappedDigits (noDigits from))
 kept-cut-none from = rw (kept-cut (noDigits from) (kept-none from)) (kept-none from)
 
--- a byte that passes a test that 0 does not stands within the word
+-- a position whose byte passes a test that 0 does not pass is within the word
 pub inside : (p : ℕ → Bool) (s : List ℕ) (at : ℕ) → p 0 ≡ false → p (getD s at 0) ≡ true → at < length s
 inside p s at none some =
     by-cases _ (leb (length s) at)
@@ -84,7 +85,7 @@ exponent-within s from h =
     (λ f. digits-within s (pastSign s (from + 1)) (sign-within s (from + 1) (omega arith))))
     (λ e. h)
 
--- the caps change nothing where no count is greater than a slice is long
+-- the caps change nothing if no count is greater than the length of a slice
 module _ (negative : Bool) (d : Digits) (x : Exponent) (c : Scale) (zeros : d .zeros < countCap) (fraction : d .fraction < countCap) (up : c .up ≤ 15) (down : c .down ≤ 15) where
   exponents : ((raising (cappedExponent x) ≡ 0) × (raising x ≡ 0) × (lowering x ≡ x .size) × (lowering (cappedExponent x) ≡ min (x .size) exponentCap)) ⊎ ((raising (cappedExponent x) ≡ min (x .size) exponentCap) × (raising x ≡ x .size) × (lowering x ≡ 0) × (lowering (cappedExponent x) ≡ 0))
   unfolding raising lowering cappedExponent
@@ -101,7 +102,7 @@ module _ (negative : Bool) (d : Digits) (x : Exponent) (c : Scale) (zeros : d .z
   unfolding cappedDigits raised lowered raising lowering
   value-cut = value-agree negative _ _ _ _ _ _ cut-agree
 
--- what the reader has when the digits and the exponent are read
+-- what the reader knows after the digits and the exponent are read
 module _ (s : List ℕ) (start : ℕ) (d : Digits) (x : Exponent) (sign : start ≡ pastSign s 0) (digits : d ≡ cappedDigits (scan (drop start s) (noDigits start))) (read : x ≡ cappedExponent (exponentOf s (d .end))) where
   digits-are : d ≡ cappedDigits (digitsOf s)
   unfolding digitsOf

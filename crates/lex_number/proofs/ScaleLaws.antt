@@ -1,5 +1,5 @@
--- Laws of the letters that scale a number: what each of the nine gives, that any other gives nothing, and that the code's search finds what
--- the definition finds.
+-- Laws of the letters that scale a number: what each of the nine gives, that any other byte gives nothing, and that the
+-- search of the code finds what the definition finds.
 -- Assumes nothing.
 use mathlib.Core.Path.{_≡_, refl, sym, _∙_, ap}
 use mathlib.Core.Bool.{Bool, true, false, not, true≢false}
@@ -44,7 +44,7 @@ nine-give = refl
 abbrev letters : List Scaling → List ℕ
 letters l = map (λ (s : Scaling). s .0) l
 
--- a byte outside a class that has all letters of a list
+-- a byte outside a class that includes all letters of a list has the power 0
 outside : (class : ℕ → Bool) (b : ℕ) (l : List Scaling) → all class (letters l) ≡ true → class b ≡ false → powerIn l b ≡ pos 0
 unfolding all powerIn
 outside class b [] e out = refl
@@ -98,19 +98,19 @@ pub scale-down : (c : Scale) (b : ℕ) → c ≡ scaleOf b → c .down ≤ 15
 unfolding scaleBy scaleOf
 scale-down c b e = rw e (above-little (negℤ (powerIn scalings b)) (negated-little (powerIn scalings b) (power-little b)))
 
--- ---- the search. The machine has a signed number as its bits, `ofZ w8 z`, and reads it back by `toZ w8`
+-- ---- the search. The machine stores a signed number z as its bits, `ofZ w8 z`, and reads it back with `toZ w8`
 
--- so little a power fits eight bits
+-- such a power fits eight bits
 power-fits : (b : ℕ) → SFits w8 (powerIn scalings b)
 power-fits b =
     let h : mag (powerIn scalings b) < 15 = power-little b in
     record { sfits = omega arith }
 
--- what stands past the end of the table
+-- what is read past the end of the table
 abbrev past : Scaling
 past = (0, pos 0)
 
--- what the entries from one on give: that one's power if it is the letter's, or else what the later ones give
+-- the power by the entries from i on: that of entry i if it has the letter, else that by the later entries
 power-from : (l : List Scaling) (i b : ℕ) → i < length l → powerIn (drop i l) b ≡ (if eqb b (getD l i past .0) then getD l i past .1 else powerIn (drop (suc i) l) b)
 unfolding powerIn
 power-from l i b h = rw (drop-cons l i past h) refl
@@ -132,7 +132,7 @@ search-done i b power done inv =
     let k : power ≡ ofZ w8 (powerIn scalings b) = rw e at inv in
     rw k (toZ-ofZ (power-fits b))
 
--- ---- how much a power is above zero
+-- ---- by how much a power is above zero
 
 not-above-at : (z : ℤ) → ltZ z (pos 0) ≡ true → 0 ≡ aboveZero z
 not-above-at (pos n) e =
@@ -154,7 +154,7 @@ module _ (z : ℤ) (fits : SFits w8 z) where
   pub above-is : ltZ (toZ w8 (ofZ w8 z)) (pos 0) ≡ false → natAbs (toZ w8 (ofZ w8 z)) ≡ aboveZero z
   above-is e = rw (toZ-ofZ fits) (above-at z (rw (toZ-ofZ fits) at e) .1)
 
--- ---- what raises and what lowers
+-- ---- by how much a letter raises and lowers
 
 module _ (b : ℕ) (power : ℤ) (told : power ≡ powerIn scalings b) where
   read-back : toZ w8 (ofZ w8 power) ≡ powerIn scalings b

@@ -1,4 +1,4 @@
--- Laws of the sign, the e and the scale letter, in the words that the code has at each place; past the end of a word stands none.
+-- Laws of the sign, the e and the scale letter, as the code uses them. Past the end of a word there is none of these.
 -- Assumes nothing.
 use mathlib.Core.Path.{_≡_, refl, sym, _∙_}
 use mathlib.Core.Bool.{Bool, true, false}
@@ -10,7 +10,7 @@ use Rattle.base.proofs.IfLaws.{if-true, if-false}
 use Rattle.lex_number.specs.declared.Scale.{Scale}
 use Rattle.lex_number.specs.Number.{isSign, isMinus, pastSign, scaleOf}
 
--- no byte that stands past the end is a sign
+-- there is no sign past the end
 pub sign-past : (s : List ℕ) (from : ℕ) → length s ≤ from → from ≡ pastSign s from
 unfolding pastSign isSign either
 sign-past s from h = sym (if-false _ _ (rw (List·getD-eq-default s 0 h) refl))
@@ -28,6 +28,6 @@ module _ (s : List ℕ) (from : ℕ) (t : Bool) (told : t ≡ isSign (getD s fro
   unfolding pastSign
   sign-none e = sym (if-false _ _ (sym told ∙ e))
 
--- no letter stands past the end
+-- there is no letter past the end
 pub scale-past : (s : List ℕ) (at : ℕ) (r : Scale) → length s ≤ at → r ≡ scaleOf 0 → r ≡ scaleOf (getD s at 0)
 scale-past s at r h e = rw (List·getD-eq-default s 0 h) e

@@ -1,4 +1,5 @@
--- Laws of the number that a run of digits writes: the loop that reads it, cut at the exponent's cap, and integers, which stay below.
+-- Laws of the number that a run of digits writes: the loop that reads it, capped at the cap of exponents, and integers,
+-- which stay below that cap.
 -- Assumes nothing.
 use mathlib.Core.Path.{_≡_, sym, _∙_, ap}
 use mathlib.Core.Bool.{Bool, true, false, not}
@@ -18,7 +19,7 @@ use Rattle.lex_number.specs.Way.Capped.{exponentCap}
 use Rattle.lex_number.proofs.CappedLaws.{cut-step, cut-twice}
 use Rattle.lex_number.proofs.DigitLaws.{digit-from, digit-to}
 
--- the number that the digits at the front of s write, those before them being a
+-- the number that the digits at the front of s write, after earlier digits that write a
 unfoldable pub sizeOn : List ℕ → ℕ → ℕ
 sizeOn s a = valueOf a (take (run isDigit s) s)
 
@@ -34,7 +35,7 @@ pub size-ends : (a : ℕ) → sizeOn [] a ≡ a
 unfolding sizeOn valueOf
 size-ends a = rw (run-nil isDigit)
 
--- cutting the number read so far changes nothing of what the rest makes of it, cut
+-- capping the number read so far does not change the capped result
 value-cut : (cap : ℕ) (s : List ℕ) (a b : ℕ) → min a cap ≡ min b cap → min (valueOf a s) cap ≡ min (valueOf b s) cap
 unfolding valueOf
 value-cut cap [] a b e = e
@@ -43,7 +44,7 @@ value-cut cap (v ∷ s) a b e = value-cut cap s (10 * a + (v - 48)) (10 * b + (v
 pub exponents-same : (r e : Exponent) → r .size ≡ e .size → r .negative ≡ e .negative → r .end ≡ e .end → r ≡ e
 exponents-same r e a b c = λ i. record { size = a i; negative = b i; end = c i }
 
--- a byte that is told to be a digit: its value
+-- the value of a byte that a call has found to be a digit
 module _ (t : Bool) (b w : ℕ) (told : t ≡ isDigit b) (on : not t ≡ false) (same : w ≡ b) where
   pub told-from : 48 ≤ w
   told-from = rw same (digit-from b (sym told ∙ not-false t on))
@@ -53,7 +54,7 @@ module _ (t : Bool) (b w : ℕ) (told : t ≡ isDigit b) (on : not t ≡ false) 
       let h : b ≤ 57 = digit-to b (sym told ∙ not-false t on) in
       omega arith
 
--- the loop over bytes: from the place that it has come to, the number read so far leads to the same whole
+-- the invariant of the loop over bytes: reading on from position i with the number so far gives the whole
 module _ (s : List ℕ) (i size whole : ℕ) (inv : min (sizeOn (drop i s) size) exponentCap ≡ whole) where
   pub size-past : size ≤ exponentCap → length s ≤ i → size ≡ whole
   size-past k h =

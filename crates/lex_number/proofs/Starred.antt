@@ -1,4 +1,5 @@
--- The starred readings of document 01, "Readings to try": one list of words with the answer that the document gives, one proof over it.
+-- The starred readings of document 01, "Readings to try": one list of words with the answers of the document, and one
+-- proof for the whole list.
 -- Assumes nothing.
 use mathlib.Core.Path.{_≡_, refl}
 use mathlib.Core.Bool.{false}
@@ -14,7 +15,7 @@ use Rattle.lex_number.specs.Integer.{valueOf}
 use Rattle.lex_number.specs.ValueWord.{zeroWord, valueWord}
 use Rattle.lex_number.specs.Number.{isSign, isMinus, isPoint, isE, pastSign, noDigits, digitsGoOn, withPoint, withDigit, withByte, scan, noExponent, exponentAt, exponentOf, powerIn, scaleBy, scaleOf, raised, lowered, inRange, valueAs, wellFormed, numberFrom, digitsOf, exponentFrom, numberOf}
 
--- m and a k that is not below zero; m and a k that is not above
+-- m times ten to the k, for a k of at least zero; and for one of at most zero
 infix 80 _raisedBy_
 abbrev pub _raisedBy_ : ℕ → ℕ → Number
 m raisedBy k = Value (valueWord false m (64 + k))

@@ -1,5 +1,6 @@
--- Laws of the zeros that a number ends in: the loop that takes them off, and that a number has one size and one count of zeros after it.
--- So digits whose zeros were told apart on the way have the value that is formed of them all at once.
+-- Laws of the zeros at the end of a number: the loop that removes them, and that the size and the count of zeros are
+-- unique. So it does not matter whether the zeros are counted digit by digit or removed from the whole number
+-- afterwards.
 -- Assumes nothing.
 use mathlib.Core.Path.{_≡_, refl, sym, _∙_, ap}
 use mathlib.Core.Bool.{Bool}
@@ -24,7 +25,7 @@ use Rattle.lex_number.specs.Way.Capped.{raising, lowering}
 use Rattle.lex_number.specs.Way.At.{Splits, Says}
 use Rattle.lex_number.proofs.ValueLaws.{value-zero}
 
--- one zero more: ten times the number
+-- one more zero: ten times the number
 ten-times : (size zeros : ℕ) → size * 10 ^ suc zeros ≡ 10 * (size * 10 ^ zeros)
 ten-times size zeros =
     let p : size * 10 ^ suc zeros ≡ size * 10 ^ zeros * 10 = rw (pow-suc 10 zeros) (sym (mul-assoc size (10 ^ zeros) 10)) in

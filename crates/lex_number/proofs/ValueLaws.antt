@@ -1,4 +1,4 @@
--- Laws of the value of a number: letters only, the power of ten, and that no cap changes an answer.
+-- Laws of the value of a number: only letters at the end, the power of ten, and that no cap changes an answer.
 -- Assumes nothing.
 use mathlib.Core.Path.{_≡_, refl, sym, _∙_}
 use mathlib.Core.Bool.{Bool, true, false, not}
@@ -33,7 +33,7 @@ module _ (s : List ℕ) (d : Digits) (x : Exponent) where
   unfolding wellFormed
   formed-letters end h e f = all-from isLetter s (x .end) end h f ∙ sym (both-rest _ _ (not-false (d .some) e))
 
--- a number that stands: not 0, at most 15 digits, k from -60 to 60
+-- a number within its bounds: at most 15 digits, k from -60 to 60
 pub record Stands (m up down : ℕ) : Type 0 where
   pub small : m < sizeCap
   pub low : down ≤ up + 60
@@ -62,7 +62,7 @@ value-outside negative m up down n e = if-false _ _ (ne-eqb m 0 n) ∙ if-false 
 pub value-stands : (negative : Bool) (m up down w : ℕ) → (m ≡ 0 → ⊥) → m < sizeCap → down ≤ up + 60 → up ≤ down + 60 → w ≡ valueWord negative m (up + 64 - down) → Value w ≡ valueAs negative m up down
 value-stands negative m up down w n a b c e = rw e (sym (value-inside negative m up down n (stands-range m up down (record { small = a; low = b; high = c }))))
 
--- two ways to say a number have one value where they agree as soon as either of them stands
+-- two descriptions of a number agree: they are zero together, and if either is within its bounds they are equal
 pub record Agree (m up down k raise lower : ℕ) : Type 0 where
   pub zero-to : m ≡ 0 → k ≡ 0
   pub zero-from : k ≡ 0 → m ≡ 0
@@ -87,7 +87,7 @@ value-agree negative m up down k raise lower a =
         (λ (f : inRange k raise lower ≡ true). same (a .stands-from (stands-told k raise lower f)))
         (λ (f : inRange k raise lower ≡ false). value-outside negative m up down n e ∙ sym (value-outside negative k raise lower (λ (z : k ≡ 0). n (a .zero-from z)) f)))
 
--- the power of ten as the code forms it, its sums cut, stands exactly where the exact one does
+-- the power of ten as the code computes it, with capped sums, is within its bounds exactly when the exact one is
 module _ (negative : Bool) (d : Digits) (x : Exponent) (c : Scale) (bound : BoundedNumber d x c) (p q up down : ℕ) (add : p ≡ raising x) (take : q ≡ lowering x) (raise : up ≡ min (d .zeros + p) exponentCap + c .up) (lower : down ≡ min (d .fraction + q) exponentCap + c .down) where
   one-way : ((p ≡ 0) × (q ≡ x .size)) ⊎ ((p ≡ x .size) × (q ≡ 0))
   unfolding raising lowering
@@ -119,7 +119,7 @@ pub lowering-cut : (x : Exponent) (q : ℕ) → x .size ≤ exponentCap → q �
 unfolding lowering
 lowering-cut x q h e = rw e (by-test (λ (n : ℕ). n ≤ exponentCap) (x .negative) _ _ (λ t. h) (λ t. omega arith))
 
--- a number that does not stand, for whatever reason a test has found
+-- a number out of its bounds, for whatever reason
 pub value-fails : (negative : Bool) (m up down : ℕ) → (m ≡ 0 → ⊥) → (m < sizeCap → down ≤ up + 60 → up ≤ down + 60 → ⊥) → Range ≡ valueAs negative m up down
 value-fails negative m up down n f =
     by-cases _ (inRange m up down)
@@ -128,7 +128,7 @@ value-fails negative m up down n f =
     absurd (f (k .small) (k .low) (k .high)))
     (λ (e : inRange m up down ≡ false). sym (value-outside negative m up down n e))
 
--- where the exponent has few digits and there are few others no sum is cut
+-- if the exponent and the counts are small, no sum is capped
 module _ (x : Exponent) (p : ℕ) (small : x .size < 1_000_000_000) (add : p ≡ raising x) where
   raising-small : p < 1_000_000_000
   unfolding raising

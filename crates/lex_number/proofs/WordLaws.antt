@@ -1,4 +1,4 @@
--- Laws of value words: what decoding and building give, and which words are value words.
+-- Laws of value words: decoding and building are inverse, and which words are value words.
 -- Assumes nothing.
 use mathlib.Core.Path.{_≡_, sym, _∙_, ap}
 use mathlib.Core.Bool.{Bool, true, false, not}
@@ -13,7 +13,7 @@ use Rattle.base.proofs.IfLaws.{ifs, by-test, by-cases, both-first, both-second,
 use Rattle.lex_number.specs.declared.Decimal.{Decimal}
 use Rattle.lex_number.specs.ValueWord.{zeroWord, valueWord, decimalOf, isDecimal, isValueWord}
 
--- what `is_value_word` has at its end: the word is not zero's, and its parts are tested
+-- the last return of `is_value_word`: the word is not that of zero, and its parts are tested
 pub word-tested : (w : ℕ) (d : Decimal) (t : Bool) → (w ≡ zeroWord → ⊥) → d ≡ decimalOf w → t ≡ isDecimal d → t ≡ isValueWord w
 unfolding isValueWord
 word-tested w d t n e f = f ∙ ap isDecimal e ∙ sym (either-rest _ _ (ne-eqb w zeroWord n))
@@ -52,7 +52,8 @@ build-decode w =
     let b : (if eqb (w % 2) 1 then 1 else 0) ≡ w % 2 = sign-build w in
     omega arith
 
--- "zero is m 0, k 0"; else "at most 15 digits in m, k from -60 to 60", "m not ending in 0", with either sign
+-- the word of a number that is not zero: "at most 15 digits in m, k from -60 to 60", "m not ending in 0", with either
+-- sign
 pub record Written (w : ℕ) : Type 0 where
   pub negative : Bool
   pub size : ℕ
@@ -64,7 +65,7 @@ pub record Written (w : ℕ) : Type 0 where
   pub low : 4 ≤ shifted
   pub high : shifted ≤ 124
 
--- such a number's word is told apart into its parts
+-- the word of such a number decodes to its parts
 pub decoded : (w : ℕ) (k : Written w) → decimalOf w ≡ record { negative = k .negative; size = k .size; shifted = k .shifted }
 decoded w k =
     let s : k .shifted < 128 = omega (arith, k .high) in
@@ -87,7 +88,7 @@ decimal-made : (d : Decimal) → 1 ≤ d .size → d .size ≤ 999_999_999_999_9
 unfolding isDecimal within
 decimal-made d a b n c e = search ifs
 
--- a value word is zero's word or the word of such a number
+-- a value word is the word of zero ("zero is m 0, k 0") or of such a number
 pub word-says : (w : ℕ) → isValueWord w ≡ true → (w ≡ zeroWord) ⊎ Written w
 unfolding isValueWord
 word-says w e =
@@ -101,7 +102,7 @@ pub word-zero : (w : ℕ) → w ≡ zeroWord → isValueWord w ≡ true
 unfolding isValueWord
 word-zero w e = either-left _ _ (eq-eqb w zeroWord e)
 
--- and the word of every such number is one
+-- the word of every such number is a value word
 pub word-written : (w : ℕ) → Written w → isValueWord w ≡ true
 unfolding isValueWord
 word-written w k =
@@ -117,6 +118,6 @@ written-below w k =
     let v : w ≡ 256 * (k .size) + 2 * (k .shifted) + (if k .negative then 1 else 0) = k .word in
     omega (arith, k .few, k .high)
 
--- so no value word reaches the upper six bits
+-- so no value word uses the upper six bits
 pub word-below : (w : ℕ) → isValueWord w ≡ true → w < 2 ^ 58
 word-below w e = ⊎-elim (λ (z : w ≡ zeroWord). omega arith) (written-below w) (word-says w e)

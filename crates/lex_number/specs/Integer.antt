@@ -9,7 +9,7 @@ use Rattle.base.specs.Bytes.{within, isDigit}
 use Rattle.base.specs.Runs.{all}
 use Rattle.lex_number.specs.declared.Whole.{Whole}
 
--- the number that digits write, those before them being a
+-- the number that these digits write, when the digits before them write a
 unfoldable pub valueOf : ℕ → List ℕ → ℕ
 valueOf a [] = a
 valueOf a (b ∷ s) = valueOf (10 * a + (b - 48)) s
@@ -17,6 +17,6 @@ valueOf a (b ∷ s) = valueOf (10 * a + (b - 48)) s
 unfoldable pub isInteger : List ℕ → Bool
 isInteger s = both (within 1 9 (length s)) (all isDigit s)
 
--- whether a word is an integer, and which: 0 where it is none
+-- whether a word is an integer, and its value, 0 if it is none
 unfoldable pub wholeOf : List ℕ → Whole
 wholeOf s = if isInteger s then record { formed = Bool.true; value = valueOf 0 s } else record { formed = Bool.false; value = 0 }

@@ -1,4 +1,4 @@
--- Document 01, "Numbers": what a word says as a number. Exact for words of any length; nothing here is capped.
+-- Document 01, "Numbers": the number that a word writes. Exact for words of any length; nothing here is capped.
 -- Assumes nothing.
 use Prim.Native.Nat.{ℕ, _+_, _-_, _*_}
 use Prim.Native.Char.{code}
@@ -33,11 +33,11 @@ isPoint b = eqb b (code ".")
 unfoldable pub isE : ℕ → Bool
 isE b = either (eqb b (code "e")) (eqb b (code "E"))
 
--- where what follows an optional sign at `from` starts
+-- the position after an optional sign at `from`
 unfoldable pub pastSign : List ℕ → ℕ → ℕ
 pastSign s from = if isSign (getD s from 0) then from + 1 else from
 
--- no digit read yet, and the next byte is at `from`
+-- no digit read yet; the next byte is at `from`
 unfoldable pub noDigits : ℕ → Digits
 noDigits from = record { all = 0; size = 0; zeros = 0; fraction = 0; some = false; point = false; end = from }
 
@@ -45,13 +45,13 @@ noDigits from = record { all = 0; size = 0; zeros = 0; fraction = 0; some = fals
 unfoldable pub digitsGoOn : Digits → ℕ → Bool
 digitsGoOn d b = either (isDigit b) (both (isPoint b) (not (d .point)))
 
--- the point passed over
+-- the digits with a point added
 unfoldable pub withPoint : Digits → Digits
 withPoint d =
     record { all = d .all; size = d .size; zeros = d .zeros; fraction = d .fraction; some = d .some; point = true; end = d .end + 1 }
 
--- one digit more. `all` is the number that the digits write; `size` the same up to the last digit that is not 0, after which
--- `zeros` zeros stand; `fraction` counts the digits after the point
+-- the digits with one more digit. `all` is the number that the digits write; `size` is the number up to the last digit
+-- that is not 0; `zeros` counts the zeros after that digit; `fraction` counts the digits after the point
 unfoldable pub withDigit : Digits → ℕ → Digits
 withDigit d v =
     record {
@@ -67,7 +67,7 @@ withDigit d v =
 unfoldable pub withByte : Digits → ℕ → Digits
 withByte d b = if isPoint b then withPoint d else withDigit d (b - 48)
 
--- the digits that stand at the front of s, read on from d
+-- the digits at the front of s, added to the digits d before them
 unfoldable pub scan : List ℕ → Digits → Digits
 scan [] d = d
 scan (b ∷ s) d = if digitsGoOn d b then scan s (withByte d b) else d
@@ -87,7 +87,7 @@ exponentAt s from digits =
 unfoldable pub exponentOf : List ℕ → ℕ → Exponent
 exponentOf s from = if isE (getD s from 0) then exponentAt s from (pastSign s (from + 1)) else noExponent from
 
--- a letter that raises the power of ten, or lowers it, by so much
+-- a letter that raises the power of ten by this power, and one that lowers it
 infix 80 _raises_
 abbrev pub _raises_ : ℕ → ℕ → Scaling
 letter raises power = (letter, pos power)
@@ -110,25 +110,26 @@ scalings =
     ∷ code "f" lowers 15
     ∷ []
 
--- the power of a letter, searched for in a list; "any other letter by nothing"
+-- the power of a letter, looked up in a list; "any other letter by nothing"
 unfoldable pub powerIn : List Scaling → ℕ → ℤ
 powerIn [] b = pos 0
 powerIn (s ∷ others) b = if eqb b (s .0) then s .1 else powerIn others b
 
--- by how much a number is above zero; 0 where it is below
+-- by how much a number is above zero, or 0 if it is below
 abbrev pub aboveZero : ℤ → ℕ
 aboveZero (pos n) = n
 aboveZero (negsuc n) = 0
 
--- a power of ten raises by what it is above zero, and lowers by what it is below
+-- a power of ten as two numbers: by how much it is above zero, and by how much it is below
 unfoldable pub scaleBy : ℤ → Scale
 scaleBy power = record { up = aboveZero power; down = aboveZero (negℤ power) }
 
--- what a letter raises and lowers by
+-- by how much a letter raises and lowers the power of ten
 unfoldable pub scaleOf : ℕ → Scale
 scaleOf b = scaleBy (powerIn scalings b)
 
--- the power of ten is what raises it less what lowers it: k is raised minus lowered
+-- k is `raised` minus `lowered`. The zeros after m, a positive exponent and the letter raise it; the digits after the
+-- point, a negative exponent and the letter lower it
 unfoldable pub raised : Digits → Exponent → Scale → ℕ
 raised d x c = d .zeros + (if x .negative then 0 else x .size) + c .up
 
@@ -164,7 +165,7 @@ unfoldable pub numberOf : List ℕ → Number
 numberOf s =
     numberFrom s (digitsOf s) (exponentFrom s (digitsOf s)) (scaleOf (getD s (exponentFrom s (digitsOf s) .end) 0))
 
--- whether a number is well formed, and within its bounds where it is
+-- whether a number is well formed, else 13; and whether a well-formed number is within its bounds, else 14
 abbrev pub isFormed : Number → Bool
 isFormed (Value w) = true
 isFormed Malformed = false

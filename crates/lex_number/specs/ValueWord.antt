@@ -13,14 +13,15 @@ zeroWord = 128
 unfoldable pub valueWord : Bool → ℕ → ℕ → ℕ
 valueWord negative size shifted = 256 * size + 2 * shifted + (if negative then 1 else 0)
 
--- the three parts of a word
+-- the three parts of a value word
 unfoldable pub decimalOf : ℕ → Decimal
 decimalOf w = record { negative = eqb (w % 2) 1; size = w / 256; shifted = w / 2 % 128 }
 
--- "zero is m 0, k 0 and has no sign"; else m of 1 to 15 digits "not ending in 0", "k from -60 to 60"
+-- the parts of a number that is not zero: m of 1 to 15 digits "not ending in 0", "k from -60 to 60"
 unfoldable pub isDecimal : Decimal → Bool
 isDecimal d =
     both (within 1 999_999_999_999_999 (d .size)) (both (not (eqb (d .size % 10) 0)) (within 4 124 (d .shifted)))
 
+-- the word of zero, "zero is m 0, k 0 and has no sign", or that of another number
 unfoldable pub isValueWord : ℕ → Bool
 isValueWord w = either (eqb w zeroWord) (isDecimal (decimalOf w))

@@ -1,5 +1,6 @@
-// Document 01, "Numbers": a word read as a number or an integer, and the value word that the table holds.
-// Words of any length are read in one pass: numbers too great to matter are cut on the way, which changes no answer.
+// Document 01, "Numbers": a word read as a number or an integer, and the value word that the table stores.
+// Words of any length are read in one pass: numbers too great to matter are capped while reading, which changes no
+// answer.
 ghost use mathlib.Core.Path.{_≡_};
 ghost use mathlib.Core.Bool.{true, false};
 ghost use Prim.Native.Nat.{_+_, _-_, _*_, _/_, _^_, _<_, _≤_, min};
@@ -14,18 +15,19 @@ ghost use Rattle.lex_number.specs.Integer.{valueOf, wholeOf};
 ghost use Rattle.lex_number.specs.ValueWord.{valueWord, decimalOf, isDecimal, isValueWord};
 ghost use Rattle.lex_number.specs.Way.Capped.{exponentCap, countCap, cappedDigits, cappedExponent, sizeAt, raising, lowering, CutDigits, BoundedNumber};
 ghost use Rattle.lex_number.specs.Way.At.{numberAt, weight, noReading, RunRead, DigitsRead, ExponentRead, PartsRead, ShortParts, Splits, Says};
-ghost use Rattle.lex_number.specs.Way.Block.{bytesOf, AreDigits, paired};
-ghost use Rattle.lex_number.specs.Way.In.{isWord, isSpelling, isValue, numberIn, Knows};
+ghost use Rattle.lex_number.specs.Way.Block.{bytesOf, AreDigits, pairedDigits};
+ghost use Rattle.lex_number.specs.Way.In.{isWord, isSpelling, isGoodNumber, numberIn, Knows};
 use base::Class;
 
-// Digits are read at once up to so many bytes, their point counted: what they write fits a word. A number of more goes the long way.
+// The short way reads at most this many bytes of digits, with their point. The number that they write fits a word. A
+// number with more digits is read the long way.
 const MOST_DIGITS: usize = 19;
 
-// The same of an exponent.
+// The same for the digits of an exponent.
 const MOST_EXPONENT: usize = 9;
 
-// A number is read the short way where so many bytes follow: then its sign, its digits, its exponent and two letters of its unit stand
-// before the end, and none of them is asked for it.
+// The short way is taken only if at least this many bytes are left. Then sign, digits, exponent and two letters of a
+// unit all lie before the end of the text, and reading them needs no test for the end.
 const ROOM: usize = 40;
 
 // A letter that scales a number, and the power of ten that it scales by.
@@ -44,8 +46,9 @@ const SCALINGS: [Scaling; 9] = [
     Scaling(b'f', -15), // femto
 ];
 
-// Digits read so far: the number that they write, the same up to the last digit that is not 0, the zeros after that one, how many
-// stand after the point, whether there is a digit and a point, and where they end.
+// Digits read so far: the number that they write, the number up to the last digit that is not 0, the count of zeros
+// after that digit, the count of digits after the point, whether there is a digit, whether there is a point, and where
+// they end.
 pub struct Digits {
     pub all: u64,
     pub size: u64,
@@ -56,27 +59,27 @@ pub struct Digits {
     pub end: usize,
 }
 
-// An exponent, 0 where there is none, and where the letters after it start.
+// An exponent, 0 if there is none, and where the letters after it start.
 pub struct Exponent {
     pub size: u64,
     pub negative: bool,
     pub end: usize,
 }
 
-// The power of ten of a letter: what raises and what lowers, one of them 0.
+// The power of ten of a letter: by how much it raises and by how much it lowers. One of the two is 0.
 pub struct Scale {
     pub up: u64,
     pub down: u64,
 }
 
-// What a word says as a number: its value word, or that it is malformed (13) or out of range (14).
+// A word read as a number: its value word, or that it is malformed (rule 13) or out of range (rule 14).
 pub enum Number {
     Value(u64),
     Malformed,
     Range,
 }
 
-// Whether a word is an integer, and which.
+// Whether a word is an integer, and its value, 0 if it is none.
 pub struct Whole {
     pub formed: bool,
     pub value: u64,
@@ -101,7 +104,7 @@ pub fn value_word(negative: bool, size: u64, shifted: u64) -> u64
     word
 }
 
-// The three parts of a word.
+// The three parts of a value word.
 pub fn decimal_of(word: u64) -> Decimal
     ensures { λ r. ⌜ r ≡ decimalOf word ⌝ }
 {
@@ -131,7 +134,7 @@ fn is_decimal(d: Decimal) -> bool
     d.shifted <= 124
 }
 
-// A word that `value_word` makes of a number: what a sound table holds.
+// Whether a word is the value word of a number, as every value of a sound table must be. 128 is zero.
 pub fn is_value_word(word: u64) -> bool
     ensures { λ r. ⌜ r ≡ isValueWord word ⌝ }
 {
@@ -141,14 +144,14 @@ pub fn is_value_word(word: u64) -> bool
     is_decimal(decimal_of(word))
 }
 
-// A byte as a word, so that its arithmetic asks nothing of the byte's own width.
+// A byte as a 64-bit word, so that arithmetic with it cannot overflow the width of a byte.
 fn wide(b: u8) -> u64
     ensures { λ r. ⌜ r ≡ b ⌝ }
 {
     b as u64
 }
 
-// A number with one digit more, cut at ten times `tenth`.
+// A number with one more digit, capped at ten times `tenth`.
 fn extended(number: u64, digit: u64, tenth: u64) -> u64
     requires { ⌜ digit ≤ 9 ⌝ ∗ ⌜ tenth ≤ 1_000_000_000_000_000_000 ⌝ }
     ensures { λ r. ⌜ r ≡ min (10 * number + digit) (10 * tenth) ⌝ }
@@ -159,7 +162,7 @@ fn extended(number: u64, digit: u64, tenth: u64) -> u64
     10 * tenth
 }
 
-// A count that goes up only where it is told to.
+// The count, plus 1 if `more` holds.
 fn counted(count: u64, more: bool) -> u64
     requires { ⌜ count < countCap ⌝ }
     ensures { λ r. ⌜ r ≡ (if more then count + 1 else count) ⌝ }
@@ -170,7 +173,7 @@ fn counted(count: u64, more: bool) -> u64
     count
 }
 
-// No digit read yet, the next byte at `from`.
+// No digit read yet; the next byte is at `from`.
 fn no_digits(from: usize) -> Digits
     ensures { λ r. ⌜ r ≡ noDigits from ⌝ }
 {
@@ -198,7 +201,7 @@ fn goes_on(d: Digits, b: u8) -> bool
     !d.point
 }
 
-// The point passed over.
+// The digits with a point added.
 fn with_point(d: Digits) -> Digits
     requires { ⌜ CutDigits d ⌝ ∗ ⌜ d .end < countCap ⌝ }
     ensures { λ r. ⌜ r ≡ cappedDigits (withPoint d) ⌝ }
@@ -214,7 +217,7 @@ fn with_point(d: Digits) -> Digits
     }
 }
 
-// One digit more. A 0 leaves the size as it is: only a later digit that is not 0 makes it part of m.
+// The digits with one more digit. A 0 leaves `size` as it is: only a later digit that is not 0 makes it part of m.
 fn with_digit(d: Digits, digit: u64) -> Digits
     requires { ⌜ CutDigits d ⌝ ∗ ⌜ d .end < countCap ⌝ ∗ ⌜ digit ≤ 9 ⌝ }
     ensures { λ r. ⌜ r ≡ cappedDigits (withDigit d digit) ⌝ }
@@ -244,7 +247,7 @@ fn with_digit(d: Digits, digit: u64) -> Digits
     }
 }
 
-// The digits with one byte more, with which they go on.
+// The digits with one more byte, a digit or their point.
 fn with_byte(d: Digits, b: u8) -> Digits
     requires { ⌜ CutDigits d ⌝ ∗ ⌜ d .end < countCap ⌝ ∗ ⌜ digitsGoOn d b ≡ true ⌝ }
     ensures { λ r. ⌜ r ≡ cappedDigits (withByte d b) ⌝ }
@@ -255,7 +258,7 @@ fn with_byte(d: Digits, b: u8) -> Digits
     with_digit(d, wide(b) - 48)
 }
 
-// The digits that stand at `from`, in one pass.
+// Reads the digits at `from`, in one pass.
 fn read_digits(s: &[u8], from: usize) -> Digits
     ensures { λ r. ⌜ r ≡ cappedDigits (scan (drop from (now (s .entry))) (noDigits from)) ⌝ }
 {
@@ -282,7 +285,7 @@ fn is_sign(b: u8) -> bool
     b == b'-'
 }
 
-// Where what follows an optional sign at `from` starts.
+// The position after an optional sign at `from`.
 fn past_sign(s: &[u8], from: usize) -> usize
     ensures { λ r. ⌜ r ≡ pastSign (now (s .entry)) from ⌝ }
 {
@@ -295,7 +298,7 @@ fn past_sign(s: &[u8], from: usize) -> usize
     from
 }
 
-// Whether a minus stands at `at`.
+// Whether there is a minus at `at`.
 fn minus_at(s: &[u8], at: usize) -> bool
     ensures { λ r. ⌜ r ≡ isMinus (getD (now (s .entry)) at 0) ⌝ }
 {
@@ -305,7 +308,7 @@ fn minus_at(s: &[u8], at: usize) -> bool
     s[at] == b'-'
 }
 
-// The number that the run of digits at `from` writes, as an exponent of the sign told, in one pass.
+// Reads the run of digits at `from` as an exponent with the given sign, in one pass.
 fn read_size(s: &[u8], from: usize, negative: bool) -> Exponent
     ensures { λ r. ⌜ r ≡ cappedExponent (sizeAt (now (s .entry)) from negative) ⌝ }
 {
@@ -398,8 +401,9 @@ pub fn read_integer(s: &[u8]) -> Whole
     }
 }
 
-// The power of ten that a letter scales by, 0 for "any other letter". All nine entries are looked at, from the last to the first, and what
-// the first one with the letter says stays: so there is no branch that a processor has to guess.
+// The power of ten that a letter scales by, 0 for "any other letter". The loop tests all nine entries, from the last to
+// the first, so that the first entry with the letter decides. Without an early exit there is no branch for a processor
+// to predict.
 fn power_of(b: u8) -> i8
     ensures { λ r. ⌜ r ≡ powerIn scalings b ⌝ }
 {
@@ -415,7 +419,7 @@ fn power_of(b: u8) -> i8
     power
 }
 
-// By how much a power is above zero; 0 where it is below.
+// By how much a power is above zero, or 0 if it is below.
 fn above_zero(power: i8) -> u64
     ensures { λ r. ⌜ r ≡ aboveZero power ⌝ }
 {
@@ -425,7 +429,7 @@ fn above_zero(power: i8) -> u64
     power as u64
 }
 
-// What a letter raises by, and what it lowers by.
+// By how much a letter raises the power of ten, and by how much it lowers it.
 fn scale_of(b: u8) -> Scale
     ensures { λ r. ⌜ r ≡ scaleOf b ⌝ }
 {
@@ -436,7 +440,7 @@ fn scale_of(b: u8) -> Scale
     }
 }
 
-// The scale of the letter that stands at `at`: none past the end.
+// The scale of the letter at `at`; past the end there is none.
 fn scale_at(s: &[u8], at: usize) -> Scale
     ensures { λ r. ⌜ r ≡ scaleOf (getD (now (s .entry)) at 0) ⌝ }
 {
@@ -468,7 +472,7 @@ fn raising(x: Exponent) -> u64
     x.size
 }
 
-// What the exponent takes from the power of ten.
+// What the exponent subtracts from the power of ten.
 fn lowering(x: Exponent) -> u64
     ensures { λ r. ⌜ r ≡ lowering x ⌝ }
 {
@@ -478,7 +482,8 @@ fn lowering(x: Exponent) -> u64
     0
 }
 
-// A count of bytes, an exponent and a letter's power together, the first two cut so that no sum wraps.
+// The sum of a count of bytes, an exponent and a letter's power. The sum of the first two is capped, so that nothing
+// wraps.
 fn power(count: u64, size: u64, scale: u64) -> u64
     requires { ⌜ count < countCap ⌝ ∗ ⌜ size ≤ exponentCap ⌝ ∗ ⌜ scale ≤ 15 ⌝ }
     ensures { λ r. ⌜ r ≡ min (count + size) exponentCap + scale ⌝ }
@@ -489,7 +494,7 @@ fn power(count: u64, size: u64, scale: u64) -> u64
     10_000_000_000_000_000_000 + scale
 }
 
-// "Non-zero: at most 15 digits in m, k from -60 to 60"; k is `up` less `down`.
+// "Non-zero: at most 15 digits in m, k from -60 to 60"; k is `up` minus `down`.
 fn judged(negative: bool, size: u64, up: u64, down: u64) -> Number
     requires { ⌜ up ≤ exponentCap + 15 ⌝ ∗ ⌜ down ≤ exponentCap + 15 ⌝ }
     ensures { λ r. ⌜ r ≡ valueAs negative size up down ⌝ }
@@ -519,7 +524,7 @@ fn value_of(negative: bool, d: Digits, x: Exponent, c: Scale) -> Number
     judged(negative, d.size, up, down)
 }
 
-// The number that a word writes, for words of any length.
+// Reads a word of any length as a number.
 pub fn read_number(s: &[u8]) -> Number
     ensures { λ r. ⌜ r ≡ numberOf (now (s .entry)) ⌝ }
 {
@@ -531,15 +536,15 @@ pub fn read_number(s: &[u8]) -> Number
     value_of(minus_at(s, 0), d, x, scale_at(s, x.end))
 }
 
-// ---- a number where it stands in its line
+// ---- a number inside a line
 
-// A number in its line, and where its word ends.
+// A number inside a line or a text, and where its word ends.
 pub struct NumberAt {
     pub number: Number,
     pub end: usize,
 }
 
-// The number that stands at `from` in a line, and where its word ends: first the word's end, then what it says.
+// Reads the number at `from` in a line: first the end of its word is found, then the word is read.
 pub fn number_at(s: &[u8], from: usize) -> NumberAt
     ensures { λ r. ⌜ r ≡ numberAt (now (s .entry)) from ⌝ }
 {
@@ -556,7 +561,7 @@ pub fn number_at(s: &[u8], from: usize) -> NumberAt
     }
 }
 
-// ---- a number of few bytes, gone over once
+// ---- the short way: a short number, read in one pass
 
 // A run of digits: the number that it writes, where it ends, and the byte there.
 pub struct Run {
@@ -565,8 +570,8 @@ pub struct Run {
     pub next: u8,
 }
 
-// Digits with at most one point: the number that they write, how many stand after the point, whether there is a digit, where they
-// end, and the byte there.
+// Digits with at most one point: the number that they write, the count of digits after the point, whether there is a
+// digit, where they end, and the byte there.
 pub struct Plain {
     pub all: u64,
     pub fraction: u64,
@@ -581,7 +586,7 @@ pub struct Reading {
     pub next: u8,
 }
 
-// The parts of a number but its letters, and the byte where they end.
+// The parts of a number without its letters, and the byte where they end.
 pub struct Parts {
     pub negative: bool,
     pub digits: Plain,
@@ -589,14 +594,14 @@ pub struct Parts {
     pub next: u8,
 }
 
-// A number as a size that does not end in 0, and the zeros after it.
+// A number as a size that does not end in 0, and the count of zeros after it.
 struct Trimmed {
     size: u64,
     zeros: u64,
 }
 
-// The number that the run of digits at `from` writes, those before it being `before`: up to `stop` at most, so that nothing need be
-// cut.
+// Reads the run of digits at `from`. `before` is the number that earlier digits write, and the value includes it. Reads
+// up to `stop` at most, so that nothing has to be capped.
 fn read_run(s: &[u8], from: usize, stop: usize, before: u64) -> Run
     requires { ⌜ from < length (now s) ⌝ ∗ ⌜ stop < length (now s) ⌝ ∗ ⌜ weight before from stop ≤ exponentCap ⌝ }
     ensures { λ r. ⌜ RunRead (now (s .entry)) from stop before r ⌝ }
@@ -632,7 +637,8 @@ fn read_run(s: &[u8], from: usize, stop: usize, before: u64) -> Run
     }
 }
 
-// Whether eight bytes, taken together as a word, are digits. These are 0x30 to 0x39: the high half of each is 3, and still is with 6 more.
+// Whether eight bytes, given as one word, are all digits. Digits are 0x30 to 0x39: the high half of such a byte is 3,
+// and it is still 3 after 6 is added.
 fn are_eight(word: u64) -> bool
     ensures { λ r. ⌜ AreDigits 8 word r ⌝ }
 {
@@ -642,7 +648,7 @@ fn are_eight(word: u64) -> bool
     (word + 0x0606_0606_0606_0606) & 0xf0f0_f0f0_f0f0_f0f0 == 0x3030_3030_3030_3030
 }
 
-// The same of four.
+// The same for four bytes.
 fn are_four(word: u64) -> bool
     requires { ⌜ word < 4_294_967_296 ⌝ }
     ensures { λ r. ⌜ AreDigits 4 word r ⌝ }
@@ -653,17 +659,17 @@ fn are_four(word: u64) -> bool
     (word + 0x0606_0606) & 0xf0f0_f0f0 == 0x3030_3030
 }
 
-// The numbers that stand in a word side by side, each `width` bits wide, two and two made one: the first times `factor`, and the second.
-// They come to stand twice as wide, and the mask takes away what is between them.
+// A word contains numbers side by side, each `width` bits wide. Combines each pair into one number: the first times
+// `factor`, plus the second. The results are twice as wide, and the mask clears the bits between them.
 fn paired(word: u64, width: u64, factor: u64, mask: u64) -> u64
     requires { ⌜ width < 64 ⌝ ∗ ⌜ factor * word + word / 2 ^ width < 18_446_744_073_709_551_616 ⌝ }
-    ensures { λ r. ⌜ r ≡ paired word width factor mask ⌝ }
+    ensures { λ r. ⌜ r ≡ pairedDigits word width factor mask ⌝ }
 {
     (factor * word + (word >> width)) & mask
 }
 
-// The number that eight digits write, taken together as a word: in three steps, where one digit after the other takes eight, each of which
-// waits for the one before.
+// The number that eight digits write, given as one word. It takes three steps. One digit after the other would take
+// eight steps, and each would wait for the one before.
 fn eight_value(word: u64) -> u64
     requires { ⌜ all isDigit (bytesOf 8 word) ≡ true ⌝ }
     ensures { λ r. ⌜ r ≡ valueOf 0 (bytesOf 8 word) ⌝ ∗ ⌜ r < 100_000_000 ⌝ }
@@ -674,7 +680,7 @@ fn eight_value(word: u64) -> u64
     paired(fours, 32, 10_000, 0xffff_ffff)
 }
 
-// The number that four digits write, in the same way.
+// The number that four digits write, computed in the same way.
 fn four_value(word: u64) -> u64
     requires { ⌜ all isDigit (bytesOf 4 word) ≡ true ⌝ ∗ ⌜ word < 4_294_967_296 ⌝ }
     ensures { λ r. ⌜ r ≡ valueOf 0 (bytesOf 4 word) ⌝ ∗ ⌜ r < 10_000 ⌝ }
@@ -684,7 +690,7 @@ fn four_value(word: u64) -> u64
     paired(twos, 16, 100, 0xffff)
 }
 
-// As `read_run`, four digits at once where so many stand there. Mostly there is none.
+// Like `read_run`, but reads four digits at once if there are four. Mostly there is no digit, so that is tested first.
 fn read_four(s: &[u8], from: usize, stop: usize, before: u64) -> Run
     requires { ⌜ from < length (now s) ⌝ ∗ ⌜ stop < length (now s) ⌝ ∗ ⌜ weight before from stop ≤ exponentCap ⌝ }
     ensures { λ r. ⌜ RunRead (now (s .entry)) from stop before r ⌝ }
@@ -707,7 +713,8 @@ fn read_four(s: &[u8], from: usize, stop: usize, before: u64) -> Run
     read_run(s, from, stop, before)
 }
 
-// As `read_run`, for digits behind a point, which are often many: eight at once, then four, then the rest.
+// Like `read_run`, for the digits after a point, which are often many: if there are eight, reads them at once, then
+// four at once, then the rest.
 fn read_part(s: &[u8], from: usize, stop: usize, before: u64) -> Run
     requires { ⌜ from < length (now s) ⌝ ∗ ⌜ stop < length (now s) ⌝ ∗ ⌜ weight before from stop ≤ exponentCap ⌝ }
     ensures { λ r. ⌜ RunRead (now (s .entry)) from stop before r ⌝ }
@@ -722,7 +729,7 @@ fn read_part(s: &[u8], from: usize, stop: usize, before: u64) -> Run
     read_run(s, from, stop, before)
 }
 
-// The digits that stand at `from`: a run, and where a point follows it another.
+// Reads the digits at `from`: a run, and if a point follows it, another run.
 fn plain_digits(s: &[u8], from: usize) -> Plain
     requires { ⌜ from + 20 < length (now s) ⌝ }
     ensures { λ r. ⌜ DigitsRead (now (s .entry)) from r ⌝ }
@@ -752,7 +759,7 @@ fn plain_digits(s: &[u8], from: usize) -> Plain
     }
 }
 
-// Past a byte where it is a sign.
+// The position after the byte b at `at` if b is a sign, else `at`.
 fn past(b: u8, at: usize) -> usize
     requires { ⌜ at < countCap ⌝ }
     ensures { λ r. ⌜ r ≡ (if isSign b then at + 1 else at) ⌝ ∗ ⌜ r ≤ at + 1 ⌝ }
@@ -763,7 +770,7 @@ fn past(b: u8, at: usize) -> usize
     at
 }
 
-// No exponent at `from`, where the byte b stands.
+// No exponent at `from`, where the byte is b.
 fn no_reading(from: usize, b: u8) -> Reading
     ensures { λ r. ⌜ r ≡ noReading from b ⌝ }
 {
@@ -771,7 +778,7 @@ fn no_reading(from: usize, b: u8) -> Reading
     Reading { exponent, next: b }
 }
 
-// The exponent that stands at `from`, where the byte b is.
+// Reads the exponent at `from`, where the byte is b.
 fn plain_exponent(s: &[u8], from: usize, b: u8) -> Reading
     requires { ⌜ from + 11 < length (now s) ⌝ ∗ ⌜ b ≡ getD (now s) from 0 ⌝ }
     ensures { λ r. ⌜ ExponentRead (now (s .entry)) from b r ⌝ }
@@ -797,7 +804,7 @@ fn plain_exponent(s: &[u8], from: usize, b: u8) -> Reading
     }
 }
 
-// The parts of the number at the front of a text.
+// Reads the parts of the number at the front of a text.
 fn parts_of(s: &[u8]) -> Parts
     requires { ⌜ 40 ≤ length (now s) ⌝ }
     ensures { λ r. ⌜ PartsRead (now (s .entry)) r ⌝ }
@@ -828,7 +835,7 @@ fn letters_end(s: &[u8], from: usize) -> usize
     i
 }
 
-// A number that is not 0 without the zeros that it ends in.
+// Splits a number that is not 0 into its size and the zeros at its end.
 fn without_zeros(all: u64) -> Trimmed
     requires { ⌜ 0 < all ⌝ }
     ensures { λ r. ⌜ Splits all (r .size) (r .zeros) ⌝ ∗ ⌜ r .zeros < 20 ⌝ }
@@ -842,7 +849,7 @@ fn without_zeros(all: u64) -> Trimmed
     Trimmed { size, zeros }
 }
 
-// The value of a number whose parts are few bytes: no sum is cut.
+// The value of a number whose parts are short, so that no sum has to be capped.
 fn plain_value(parts: Parts, c: Scale) -> Number
     requires { ⌜ ShortParts parts ⌝ ∗ ⌜ c .up ≤ 15 ⌝ ∗ ⌜ c .down ≤ 15 ⌝ }
     ensures { λ r. ⌜ Says parts c r ⌝ }
@@ -858,9 +865,9 @@ fn plain_value(parts: Parts, c: Scale) -> Number
     judged(parts.negative, m.size, up, down)
 }
 
-// ---- a number where it stands in a text whose lines are not cut out
+// ---- a number inside a whole text, whose lines have not been found yet
 
-// What words are made of: content that is not blank.
+// A byte of a word: content that is not blank.
 fn is_word(comment: u8, b: u8) -> bool
     ensures { λ r. ⌜ r ≡ isWord comment b ⌝ }
 {
@@ -870,7 +877,7 @@ fn is_word(comment: u8, b: u8) -> bool
     base::in_class(Class::Filled, b)
 }
 
-// Whether a word starts, or goes on, at a place.
+// Whether there is a byte of a word at `at`.
 pub fn is_word_at(s: &[u8], at: usize, comment: u8) -> bool
     ensures { λ r. ⌜ r ≡ both (ltb at (length (now (s .entry)))) (isWord comment (getD (now (s .entry)) at 0)) ⌝ }
 {
@@ -880,7 +887,7 @@ pub fn is_word_at(s: &[u8], at: usize, comment: u8) -> bool
     is_word(comment, s[at])
 }
 
-// Where the word at a place ends.
+// Where the word at `from` ends.
 pub fn word_end(s: &[u8], from: usize, comment: u8) -> usize
     ensures { λ r. ⌜ r ≡ runEnd (isWord comment) (now (s .entry)) from ⌝ }
 {
@@ -894,7 +901,7 @@ pub fn word_end(s: &[u8], from: usize, comment: u8) -> usize
     i
 }
 
-// The number that stands at `from`, whatever its word: first the word's end, then what it says.
+// The long way, for any word: first the end of the word at `from` is found, then the word is read.
 fn long_number(s: &[u8], from: usize, comment: u8) -> NumberAt
     ensures { λ r. ⌜ r ≡ numberIn comment (now (s .entry)) from ⌝ }
 {
@@ -911,14 +918,14 @@ fn long_number(s: &[u8], from: usize, comment: u8) -> NumberAt
     }
 }
 
-// A number and where its word ends, if they are known.
+// The result of the short way: a number and where its word ends, or, if not `known`, nothing.
 pub struct ShortNumber {
     pub known: bool,
     pub number: Number,
     pub end: usize,
 }
 
-// Not known on the short way: the long one tells.
+// The short way does not know the number; the long way has to read it.
 fn not_short(from: usize) -> ShortNumber
     ensures { λ r. ⌜ r .known ≡ false ⌝ }
 {
@@ -929,7 +936,8 @@ fn not_short(from: usize) -> ShortNumber
     }
 }
 
-// Past the byte at `at` where it is a letter: a unit of two letters is so passed without a branch.
+// The position after the byte at `at` if it is a letter, else `at`. So a unit of two letters is skipped without a
+// branch.
 fn past_letter(s: &[u8], at: usize) -> usize
     requires { ⌜ at < length (now s) ⌝ }
     ensures { λ r. ⌜ r ≡ (if isLetter (getD (now (s .entry)) at 0) then at + 1 else at) ⌝ ∗ ⌜ r ≤ at + 1 ⌝ }
@@ -940,7 +948,8 @@ fn past_letter(s: &[u8], at: usize) -> usize
     at
 }
 
-// The number at `from` of which the parts are read and a word goes on: known where letters follow them.
+// The short way for a number at `from` whose parts have been read and whose word goes on after them. The number is
+// known if the rest of the word is letters only.
 fn scaled_in(s: &[u8], from: usize, comment: u8, parts: Parts) -> ShortNumber
     requires { ⌜ isSpelling comment ≡ false ⌝ ∗ ⌜ from < length (now s) ⌝ ∗ ⌜ 40 ≤ length (now s) - from ⌝ ∗ ⌜ PartsRead (take (length (now s) - from) (drop from (now s))) parts ⌝ }
     ensures { λ r. ⌜ Knows comment (now (s .entry)) from r ⌝ }
@@ -973,7 +982,7 @@ fn scaled_in(s: &[u8], from: usize, comment: u8, parts: Parts) -> ShortNumber
     }
 }
 
-// The number that stands at `from`: known where its bytes are few, and gone over once.
+// The short way: reads the number at `from` in one pass. The number is known if it is short.
 fn short_number(s: &[u8], from: usize, comment: u8) -> ShortNumber
     requires { ⌜ isSpelling comment ≡ false ⌝ }
     ensures { λ r. ⌜ Knows comment (now (s .entry)) from r ⌝ }
@@ -1001,8 +1010,8 @@ fn short_number(s: &[u8], from: usize, comment: u8) -> ShortNumber
     }
 }
 
-// The number that stands at `from`, and where its word ends. The long way is lent another slice and its answer is taken apart: so
-// neither the text nor the answer of the short way has to stand in memory.
+// Reads the number at `from`, and where its word ends: the short way if it knows the number, else the long way. Passing
+// a new slice to the long way and rebuilding its answer keeps the text and the answer of the short way out of memory.
 pub fn number_in(s: &[u8], from: usize, comment: u8) -> NumberAt
     requires { ⌜ isSpelling comment ≡ false ⌝ }
     ensures { λ r. ⌜ r ≡ numberIn comment (now (s .entry)) from ⌝ }
@@ -1019,9 +1028,9 @@ pub fn number_in(s: &[u8], from: usize, comment: u8) -> NumberAt
     NumberAt { number, end }
 }
 
-// Whether a word is a number within its bounds.
+// Whether a word is a number within its bounds: it breaks neither rule 13 nor rule 14.
 pub fn is_value(n: Number) -> bool
-    ensures { λ r. ⌜ r ≡ isValue n ⌝ }
+    ensures { λ r. ⌜ r ≡ isGoodNumber n ⌝ }
 {
     match n {
         Number::Value(_) => true,
@@ -1030,7 +1039,7 @@ pub fn is_value(n: Number) -> bool
     }
 }
 
-// 13 is for a word that is no number.
+// Whether a word is a number; if not, it breaks rule 13.
 pub fn is_formed(n: Number) -> bool
     ensures { λ r. ⌜ r ≡ isFormed n ⌝ }
 {
@@ -1041,7 +1050,7 @@ pub fn is_formed(n: Number) -> bool
     }
 }
 
-// 14 is for a number out of its bounds; a word that is none breaks no bounds.
+// Whether a number is within its bounds; if not, it breaks rule 14. A word that is no number breaks no bounds.
 pub fn is_bounded(n: Number) -> bool
     ensures { λ r. ⌜ r ≡ isBounded n ⌝ }
 {
@@ -1052,7 +1061,7 @@ pub fn is_bounded(n: Number) -> bool
     }
 }
 
-// From `low` to `high`, both counted: the bounds of an integer.
+// From `low` to `high`, both included: the bounds of an integer.
 pub fn is_within(low: u64, high: u64, value: u64) -> bool
     ensures { λ r. ⌜ r ≡ within low high value ⌝ }
 {

@@ -23,7 +23,7 @@ use Rattle.lex_number.specs.Number.{numberOf, isFormed, isBounded}
 use Rattle.lex_number.specs.Integer.{wholeOf}
 use Rattle.lex_number.specs.declared.Whole.{Whole}
 use Rattle.lex_line.specs.Words.{words, firstOf, secondOf}
-use Rattle.lex_line.specs.Way.Spans.{markedBy, wordAt, firstTwoOf}
+use Rattle.lex_line.specs.Way.Spans.{markedBy, wordSpan, firstTwoOf}
 use Rattle.lex_line.specs.declared.Span.{Span}
 use Rattle.lex_line.specs.declared.FirstTwo.{FirstTwo}
 use Rattle.lex_line.proofs.FormLaws.{counted, counted-not}
@@ -99,7 +99,7 @@ module _ (s : List ℕ) (word : Span) (read : NumberAt) (ends : word .end ≡ ru
       rw n (ap (λ (r : NumberAt). r .number) answer)
 
 pub second-ends : (s : List ℕ) (few : FirstTwo) → few ≡ firstTwoOf s → few .second .end ≡ runEnd isFilled s (few .second .start)
-unfolding firstTwoOf wordAt
+unfolding firstTwoOf wordSpan
 second-ends s few e = rw e
 
 formed-nil : areFormed [] ≡ true
@@ -134,8 +134,8 @@ module _ (s : List ℕ) (at start : ℕ) (read : NumberAt) (begins : start ≡ r
   unfolding numberAt
   placed-end = ap (λ (r : NumberAt). r .end) told
 
-  pub placed-found : record { start = start; end = read .end } ≡ wordAt s at
-  unfolding wordAt
+  pub placed-found : record { start = start; end = read .end } ≡ wordSpan s at
+  unfolding wordSpan
   placed-found = rw (placed-end, begins)
 
   pub placed-number : read .number ≡ numberOf (markedBy s (record { start = start; end = read .end }))
@@ -187,7 +187,7 @@ module _ (s : List ℕ) (at numbers : ℕ) (formed bounded : Bool) (pending : Pe
   pub line-past : length s ≤ at → record { numbers = numbers; column = 0; right = true; formed = formed; bounded = bounded } ≡ numbersLine (words s)
   line-past h = line-done (after-past s at h)
 
-  module _ (word : Span) (found : word ≡ wordAt s at) where
+  module _ (word : Span) (found : word ≡ wordSpan s at) where
     line-ends : length s ≤ word .start → record { numbers = numbers; column = 0; right = true; formed = formed; bounded = bounded } ≡ numbersLine (words s)
     line-ends h = line-done (after-none s at (rw found at h))
 
@@ -207,8 +207,8 @@ module _ (s : List ℕ) (at numbers : ℕ) (formed bounded : Bool) (pending : Pe
 
   module _ (start : ℕ) (begins : start ≡ runEnd isBlank s at) where
     pub line-blank : length s ≤ start → record { numbers = numbers; column = 0; right = true; formed = formed; bounded = bounded } ≡ numbersLine (words s)
-    unfolding wordAt
-    line-blank h = line-ends (wordAt s at) refl (rw begins at h)
+    unfolding wordSpan
+    line-blank h = line-ends (wordSpan s at) refl (rw begins at h)
 
     pub line-number : (read : NumberAt) → read ≡ numberAt s start → start < length s → (f b fits holds : Bool) → fits ≡ isFormed (read .number) → holds ≡ isBounded (read .number) → f ≡ both formed fits → b ≡ both bounded holds → Pending s (read .end) (numbers + 1) f b
     unfolding toldBy
@@ -217,13 +217,13 @@ module _ (s : List ℕ) (at numbers : ℕ) (formed bounded : Bool) (pending : Pe
         line-goes (record { start = start; end = read .end }) (placed-found s at start read begins told) h (record { formed = isFormed (read .number); bounded = isBounded (read .number) }) (λ i. record { formed = isFormed (k i); bounded = isBounded (k i) }) f b (df ∙ ap (both formed) ef) (db ∙ ap (both bounded) eb)
 
 -- a line of a Sparse_matrix: its first word, and the number behind it
-module _ (s : List ℕ) (first : Span) (one : first ≡ wordAt s 0) (start : ℕ) (begins : start ≡ runEnd isBlank s (first .end)) where
+module _ (s : List ℕ) (first : Span) (one : first ≡ wordSpan s 0) (start : ℕ) (begins : start ≡ runEnd isBlank s (first .end)) where
   other-line : (n : ℕ) → firstTwoOf s .count ≡ n → (n ≡ 2 → ⊥) → record { numbers = 0; column = 0; right = false; formed = true; bounded = true } ≡ sparseLine (words s)
   unfolding sparseLine
   other-line n e h = sym (if-false _ _ (counted-not s (firstTwoOf s) refl 2 (omega arith) (λ (k : firstTwoOf s .count ≡ 2). h (sym e ∙ k))))
 
-  second-found : record { start = start; end = runEnd isFilled s start } ≡ wordAt s (first .end)
-  unfolding wordAt
+  second-found : record { start = start; end = runEnd isFilled s start } ≡ wordSpan s (first .end)
+  unfolding wordSpan
   second-found = rw begins
 
   pub sparse-short : length s ≤ start → (r : DataLine) → r ≡ record { numbers = 0; column = 0; right = false; formed = true; bounded = true } → r ≡ sparseLine (words s)
@@ -238,7 +238,7 @@ module _ (s : List ℕ) (first : Span) (one : first ≡ wordAt s 0) (start : ℕ
     second : Span
     second = record { start = start; end = read .end }
 
-    is-second : second ≡ wordAt s (first .end)
+    is-second : second ≡ wordSpan s (first .end)
     unfolding second
     is-second = placed-found s (first .end) start read begins told
 

@@ -20,7 +20,7 @@ use Rattle.base.proofs.IfLaws.{if-true, if-false, both-true, not-via, not-not-v
 use Rattle.base.proofs.RunLaws.{run-nil, run-goes, run-stops, run-le, run-on, run-end-at, run-all, run-is}
 use Rattle.base.proofs.JoinedLaws.{joined-same}
 use Rattle.lex_line.specs.Words.{wordsFrom, wordGoesOn, grown, words, firstOf, secondOf, leftOf, rightOf, hasEquals, toEquals}
-use Rattle.lex_line.specs.Way.Spans.{wordAt, markedBy}
+use Rattle.lex_line.specs.Way.Spans.{wordSpan, markedBy}
 use Rattle.lex_line.proofs.WordLaws.{after-at, after-none, after-past, wordsAfter}
 use Rattle.lex_line.specs.declared.Span.{Span}
 use Rattle.lex_line.proofs.FormLaws.{part-from}
@@ -100,7 +100,7 @@ span a b c d e g = λ i. record { start = e i; end = g i }
 
 pub pair-told : (s : List ℕ) (end name stop : ℕ) → end ≡ runEnd isFilled s 0 → end < length s → name ≡ end + 1 → stop ≡ runEnd isFilled s name →
     (stop ≡ name → ⊥) → stop ≡ length s → (end ≡ 0 → ⊥) → Paired s end
-unfolding wordAt
+unfolding wordSpan
 pair-told s end name stop is-end inside is-name is-stop apart whole some =
     let zero-on : end ≡ run isFilled s = is-end ∙ zero-add (run isFilled s) in
     let first-blanks : run isBlank s ≡ 0 = no-blanks s (omega arith) in
@@ -120,8 +120,8 @@ pair-told s end name stop is-end inside is-name is-stop apart whole some =
 module _ (s : List ℕ) (r : ℕ) (p : Paired s r) where
   pair-words : words s ≡ take (r - 0) s ∷ take (length s - (r + 1)) (drop (r + 1) s) ∷ []
   pair-words =
-      let low : wordAt s 0 .start < length s = rw (p .first) (let g : r + 1 < length s = p .inside in omega arith) in
-      let up : wordAt s r .start < length s = rw (p .second) (p .inside) in
+      let low : wordSpan s 0 .start < length s = rw (p .first) (let g : r + 1 < length s = p .inside in omega arith) in
+      let up : wordSpan s r .start < length s = rw (p .second) (p .inside) in
       let one : wordsAfter s 0 ≡ take (r - 0) s ∷ wordsAfter s r = rw (p .first) at (after-at s 0 low) in
       let two : wordsAfter s r ≡ take (length s - (r + 1)) (drop (r + 1) s) ∷ wordsAfter s (length s) = rw (p .second) at (after-at s r up) in
       let none : wordsAfter s (length s) ≡ [] = after-past s (length s) (omega arith) in

@@ -1,4 +1,4 @@
--- Laws of fork blocks: a walk over the lines of a path that goes on where another has come.
+-- Laws of fork blocks: a walk over lines of a path, joined with one that goes on where it ended.
 -- Assumes nothing.
 use mathlib.Core.Path.{_≡_, refl, sym, _∙_}
 use mathlib.Core.List.{List}
@@ -18,7 +18,7 @@ use Rattle.read_line.specs.Way.Walk.{resume, Rises, ResumesPart, HoldsPa
 use Rattle.read_line.specs.declared.PathWalk.{PathWalk}
 
 module _ (t : List ℕ) (at line : ℕ) (p : Path) (n : ℕ) (w : PathWalk) (first : Blocked t at line p n w) (whole : w .part .rule ≡ 0) where
-  -- where the walk has come the next one may start
+  -- the next walk may start where this one ended
   pub block-counted : line ≤ at + 1 → w .line ≤ w .at + 1
   block-counted h =
       let c : w .line + at ≤ line + w .at = first .crossed .counted in
@@ -57,7 +57,7 @@ module _ (t : List ℕ) (at line : ℕ) (p : Path) (n : ℕ) (w : PathWalk) (fir
           stepping = second .stepping;
         }
 
--- an inner block, and the lines behind it
+-- an inner block, and the lines after it
 pub block-rest : (t : List ℕ) (at line : ℕ) (p : Path) (n : ℕ) (w : PathWalk) → Blocked t at line p n w → w .part .rule ≡ 0 → (v : PathWalk) →
     Blocked t (w .at) (w .line) (w .part .path) (w .part .steps) v → v .part .rule ≡ 0 → (u : PathWalk) →
     Blocked t (v .at) (v .line) (v .part .path) (v .part .steps) u → Blocked t at line p n u

@@ -1,5 +1,5 @@
--- Every count of a text that reads to its end is within its bound.
--- What the reading keeps at each line it keeps to the last, and the counts it answers are those of the last state.
+-- Every count of a text that reads to its end is within its bound. The bounds hold after each line, so also after the last,
+-- and the counts in the result are those of the last state.
 -- Assumes nothing.
 use mathlib.Core.Path.{_≡_, refl, sym, _∙_, ap, subst}
 use mathlib.Core.Bool.{Bool, true, false}
@@ -84,11 +84,11 @@ pub read-kept : (t : List ℕ) (c : Counts) → readingOf t ≡ Read c → Bound
 read-kept t c e =
     along-counted (λ (m : ℕ) (s : State). BoundedState m s) step-kept 1 1 (lines t) startState (kept-more 0 1 startState start-kept (omega arith)) (reads-only t c e)
 
--- what a text comes to is one answer
+-- a text has one result
 same-counts : (c d : Counts) → Read c ≡ Read d → c ≡ d
 same-counts c d e = cc
 
--- the counts that are answered are those of the last state
+-- the counts in the result are those of the last state
 pub reads-counts : (t : List ℕ) (c : Counts) → readingOf t ≡ Read c → c ≡ stateAfter 1 (lines t) startState .counts
 reads-counts t c e = same-counts _ _ (sym e ∙ reads-when t (reads-only t c e) (reads-done t c e))
 
@@ -108,9 +108,9 @@ kept-within n s h =
 pub read-within : (t : List ℕ) (c : Counts) → readingOf t ≡ Read c → Within c
 read-within t c e = rw (reads-counts t c e) (kept-within _ _ (read-kept t c e))
 
--- ---- the kinds of matrix that a section has: which of the four keywords are read
+-- ---- the kinds of matrix that a section has: which of the four keywords have been read
 
--- 1 for a keyword that is read, else 0
+-- 1 for a keyword that has been read, else 0
 unfoldable flag : List Bool → ℕ → ℕ
 flag seen k = if getD seen k false then 1 else 0
 
@@ -142,7 +142,7 @@ kinds-most seen =
     let d : flag seen capacitanceMatrix ≤ 1 = flag-most seen capacitanceMatrix in
     omega arith
 
--- by which of the four it is
+-- what holds of each of the four keywords holds of any keyword that opens a matrix
 by-kind : (P : ℕ → Type 0) → P resistanceMatrix → P inductanceMatrix → P conductanceMatrix → P capacitanceMatrix → (k : ℕ) → opensMatrix k ≡ true → P k
 unfolding opensMatrix
 by-kind P r l g c k e =
@@ -204,7 +204,7 @@ kinds-same seen k a e =
     let d : flag (set seen k a) capacitanceMatrix ≡ flag seen capacitanceMatrix = flag-other seen k capacitanceMatrix a (λ (z : capacitanceMatrix ≡ k). eqb-false k capacitanceMatrix (either-none-second _ _ g) (sym z)) in
     omega arith
 
--- what is forgotten is not read, whatever is forgotten after it
+-- a keyword that is forgotten counts as not read, whatever is forgotten after it
 forgotten : (seen : List Bool) (k : ℕ) → getD (set seen k false) k false ≡ false
 forgotten [] k = refl
 forgotten (b ∷ seen) zero = refl
@@ -229,7 +229,7 @@ kinds-forgotten seen one two three four h i j k =
     let c₄ : flag four capacitanceMatrix ≡ 0 = rw k (flag-forgotten three capacitanceMatrix) in
     omega arith
 
--- ---- what a keyword does to them
+-- ---- how a keyword changes them
 
 description-other : opensMatrix icmModelDescription ≡ false
 unfolding opensMatrix either
@@ -265,7 +265,7 @@ module _ (k : ℕ) (seen : List Bool) where
       ∙ length-set seen resistanceMatrix false)
       (λ (f : eqb k beginIcmSection ≡ false). length-set seen k true)))
 
-  -- a section begins with none
+  -- a section starts with none of them
   kinds-section : eqb k beginIcmSection ≡ true → kinds (seenAfter k seen) ≡ 0
   unfolding seenAfter
   kinds-section e =
@@ -371,7 +371,7 @@ away-moved p k out e =
     inside : (q : ℕ) → p ≡ q → after < q → q < done → ⊥
     inside q s a b = out (omega arith) (omega arith)
 
--- a keyword that opens a matrix may stand nowhere else
+-- a keyword that opens a matrix is allowed nowhere outside a section
 record Strange (k : ℕ) : Type 0 where
   model : leadsInModel k ≡ dead
   family : leadsInFamily k ≡ dead
@@ -392,7 +392,7 @@ strange =
     (record { model = refl; family = refl; header = refl; after = refl; opened = refl; between = refl; other = λ (e : conductanceMatrix ≡ beginHeader). omega arith; model-other = refl; section-other = refl })
     (record { model = refl; family = refl; header = refl; after = refl; opened = refl; between = refl; other = λ (e : capacitanceMatrix ≡ beginHeader). omega arith; model-other = refl; section-other = refl })
 
--- a place that leads no further
+-- a number above all places: no line leads on from it
 abbrev Past : ℕ → Type 0
 Past p = done < p
 
@@ -485,7 +485,7 @@ past-moved p k out on started s =
     inside : (q : ℕ) → p ≡ q → after < q → q < done → ⊥
     inside q s a b = out (omega arith) (omega arith)
 
--- nothing leads back from there
+-- no keyword leads back from there
 stays-past : (p k : ℕ) → done < p → moved p k ≡ p
 unfolding moved isInModel isInFamily isInHeader either if_then_else_
 stays-past p k h =
@@ -521,7 +521,7 @@ moved-within p k h =
     absurd (omega arith))
     (λ (e : ltb done p ≡ false). ltb-false done p e)
 
--- by whether a place is one of a section
+-- two cases: a place of a section, or one outside
 by-away : (P : Type 0) (p : ℕ) → (after < p → p < done → P) → (Away p → P) → P
 by-away P p h k =
     by-cases P (ltb after p)
@@ -558,7 +558,7 @@ line-inside p first =
     (λ (f : same first (bytes "Pin_list") ≡ false) (h : after < mapHead). absurd (omega arith)))
     (λ (e : eqb p mapHead ≡ false) (h : after < p). refl)
 
--- and from above the places to none of them
+-- and from a number above all places it leads to none of them
 line-within : (p : ℕ) (first : List ℕ) → movedByLine p first ≤ done → p ≤ done
 unfolding movedByLine
 line-within p first =
@@ -598,7 +598,7 @@ module _ (k : ℕ) (argument : List ℕ) (s : State) (met : Met k s) (t : Tally 
       let b : s .counts .matrices ≤ 4 * s .counts .sections = t .all (moved-within (s .place) k h) in
       omega arith
 
-  -- a matrix takes the room of its kind
+  -- a matrix uses the room of its kind
   matrix-inside : opensMatrix k ≡ true → moved (s .place) k ≤ done → countsAfter k (s .counts) .matrices + 4 ≤ 4 * countsAfter k (s .counts) .sections + kinds (seenAfter k (s .seen))
   matrix-inside o h =
       let other : Strange k = strange k o in
@@ -613,7 +613,7 @@ module _ (k : ℕ) (argument : List ℕ) (s : State) (met : Met k s) (t : Tally 
       let p : done < moved (s .place) k = past-moved (s .place) k out (met .on) (λ (f : s .place ≡ before). other .other (met .first f)) other in
       absurd (omega arith))
 
-  -- any other keyword changes nothing of it
+  -- any other keyword changes none of it
   else-inside : eqb k beginIcmSection ≡ false → opensMatrix k ≡ false → after < moved (s .place) k → moved (s .place) k < done → countsAfter k (s .counts) .matrices + 4 ≤ 4 * countsAfter k (s .counts) .sections + kinds (seenAfter k (s .seen))
   else-inside e o g h =
       let m : countsAfter k (s .counts) .matrices ≡ s .counts .matrices = matrices-same k (s .counts) o in
@@ -632,7 +632,7 @@ module _ (k : ℕ) (argument : List ℕ) (s : State) (met : Met k s) (t : Tally 
       let b : s .counts .matrices ≤ 4 * s .counts .sections = t .all (moved-within (s .place) k h) in
       omega arith
 
-  -- where there is room for the kinds that lack, no more than four a section are there
+  -- so there are at most four matrices a section
   room-all : countsAfter k (s .counts) .matrices + 4 ≤ 4 * countsAfter k (s .counts) .sections + kinds (seenAfter k (s .seen)) → countsAfter k (s .counts) .matrices ≤ 4 * countsAfter k (s .counts) .sections
   room-all h =
       let f : kinds (seenAfter k (s .seen)) ≤ 4 = kinds-most (seenAfter k (s .seen)) in
@@ -666,7 +666,7 @@ read-fours t c e =
     let f : stateAfter 1 (lines t) startState .counts .matrices ≤ 4 * stateAfter 1 (lines t) startState .counts .sections = y .all (omega arith) in
     rw (reads-counts t c e) f
 
--- so that no rule need count them
+-- so no rule needs to count the matrices
 pub read-matrices : (t : List ℕ) (c : Counts) → readingOf t ≡ Read c → c .matrices ≤ 1_024
 read-matrices t c e =
     let f : c .matrices ≤ 4 * c .sections = read-fours t c e in

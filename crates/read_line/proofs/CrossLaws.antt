@@ -1,5 +1,5 @@
--- Laws of lines that are gone over with a part of the state alone: none of them, one more, the one that breaks a rule, and the walk that
--- has gone over them.
+-- Laws of lines that are read with only a part of the state: no line yet, one line more, a line that breaks a rule, and the
+-- walk over all of them.
 -- Assumes nothing.
 use mathlib.Core.Path.{_≡_, refl, sym, _∙_, ap, subst}
 use mathlib.Core.List.{List}
@@ -45,7 +45,7 @@ module _ (t : List ℕ) (at line : ℕ) (fits : State → Type 0) where
       }
 
   module _ (put : State → State) (broken here number : ℕ) (whole : broken ≡ 0) (crossed : ResumesPart t at line fits put broken here number) where
-    -- one line more: what the part decides of it
+    -- one line more: what the part of the state decides for it
     module _ (h : here < length t) (found : Line) (told : found ≡ lineAt commentByte t here) (next : State → State) (k : ℕ) (decided : (s : State) → fits s → lineResult (take (found .content - here) (drop here t)) (put s) ≡ breaks k (next s)) where
       over : (s : State) → fits s → onward (breaks k (next s)) number (readFrom (number + 1) (lines (drop (found .next) t))) ≡ readFrom line (lines (drop at t)) s
       unfolding resume
@@ -130,7 +130,7 @@ crossed-reached t at line fits put number further last crossed s f on h =
       rises = λ (e : number ≡ 0). crossed .rises e s f;
     }
 
--- ---- a walk that has not gone further
+-- ---- a walk that has made no progress
 
 module _ (t : List ℕ) (at here : ℕ) where
   pub stays-opens : (found : Line) → found ≡ lineAt commentByte t here → Opens (take (found .content - here) (drop here t)) → NoProgressMeansBracket t at here

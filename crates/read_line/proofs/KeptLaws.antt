@@ -1,5 +1,5 @@
--- What the forward reading keeps holds after each line without a keyword that breaks no rule: rule 17 stands at every count that such a
--- line raises. And what each update asks before it: the sizes that it adds to are small.
+-- The bounds of the state hold after each line without a keyword that breaks no rule: rule 17 is checked for every count that
+-- such a line raises. And what each update requires: the sizes that it adds to are small.
 -- Assumes nothing.
 use mathlib.Core.Path.{_≡_, refl, sym, _∙_}
 use mathlib.Core.Bool.{true, false, not}
@@ -57,7 +57,7 @@ module _ (content : List ℕ) (s : State) where
 
 -- ---- 17 in each place
 
--- a data line that breaks nothing passes no bound
+-- a data line that breaks nothing exceeds no bound
 pub data-fits : (l : DataLine) (m : Matrix) (values : ℕ) → dataRule l m values ≡ 0 → values + l .numbers ≤ mostValues
 unfolding dataRule areTooMany
 data-fits l m values kept =
@@ -66,7 +66,7 @@ data-fits l m values kept =
     (12 when matrix.isDataOutOfOrder l m ∷ 13 when not (l .formed) ∷ 14 when not (l .bounded) ∷ 17 when areTooMany values (l .numbers) ∷ [])
     (omega arith, (omega arith, (omega arith, (omega arith, tt)))) kept 3)
 
--- a pin that breaks nothing is at most the last that a file may have
+-- before a pin line that breaks nothing there is room for one pin more
 pub pin-total : (content : List ℕ) (m : Map) (total : ℕ) → pinRule content m total ≡ 0 → total < mostPins
 unfolding pinRule
 pin-total content m total kept =
@@ -96,7 +96,7 @@ module _ (l : PathLine) (p : Path) (steps : ℕ) where
   unfolding isStepLine
   step-other step = eqb-false (l .says) saysSide (not-true _ step)
 
-  -- a step that breaks nothing; a closed path takes none
+  -- the same for a step that breaks nothing; a closed path takes none
   pub step-room : pathRule l p steps ≡ 0 → isStepLine l ≡ true → steps < mostSteps
   unfolding pathRule
   step-room kept step =
@@ -106,7 +106,7 @@ module _ (l : PathLine) (p : Path) (steps : ℕ) where
       absurd (omega arith))
       (λ (e : eqb (p .stage) closed ≡ false). open-room (sym (if-false _ _ e) ∙ kept) step)
 
--- ---- what the updates ask, and what each count has room for
+-- ---- what the updates require, and the room of each count
 
 pub grid-bounded : (n : ℕ) (s : State) → BoundedState n s → BoundedMap (s .map)
 grid-bounded n s h = h .grid
@@ -129,7 +129,7 @@ whole-most w =
     (λ (e : isInteger w ≡ true). let h : valueOf 0 w < 1_000_000_000 = integer-below w e in omega arith)
     (λ (e : isInteger w ≡ false). omega arith)
 
--- no line names a column that a word of 32 bits does not hold
+-- the column that a line names fits into 32 bits
 abbrev Narrow : DataLine → Type 0
 Narrow l = l .column < 4_294_967_296
 
@@ -150,7 +150,7 @@ line-narrow form content =
 pub column-small : (form : ℕ) (content : List ℕ) (l : DataLine) → l ≡ dataLineOf form content → l .column < 4_294_967_296
 column-small form content l told = rw told (line-narrow form content)
 
--- ---- a line more
+-- ---- one line more
 
 module _ (n : ℕ) (content : List ℕ) (s : State) (h : BoundedState n s) (kept : lineRule content s ≡ 0) where
   steps-kept : countsAfterLine content s .steps ≤ mostSteps

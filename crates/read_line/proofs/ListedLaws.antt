@@ -1,4 +1,4 @@
--- Laws of lines of the model list by their first byte: it starts the first word, so that no bracket stands before it.
+-- Laws of lines of the model list by their first byte: that byte starts the first word, so no bracket comes before it.
 -- Assumes nothing.
 use mathlib.Core.Path.{_≡_, refl, sym, _∙_, ap}
 use mathlib.Core.Bool.{Bool, true, false, not, true≢false}
@@ -44,7 +44,7 @@ not-blank : (b : ℕ) → 32 < b → isBlank b ≡ false
 unfolding isBlank
 not-blank b h = either-false _ _ (ne-eqb b 32 (λ (e : b ≡ 32). omega arith)) (ne-eqb b 9 (λ (e : b ≡ 9). omega arith))
 
--- words that start otherwise
+-- words with different first bytes differ
 other-start : (b c : ℕ) (x y : List ℕ) → (b ≡ c → ⊥) → same (b ∷ x) (c ∷ y) ≡ false
 unfolding same
 other-start b c x y h = both-not-left _ _ (ne-eqb b c h)

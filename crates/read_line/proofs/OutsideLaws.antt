@@ -1,5 +1,5 @@
--- Outside a path no fork is open: the keyword that leaves a path breaks rule 15 where one is. And how what each line keeps holds after
--- all of them.
+-- Outside a path no fork is open: a keyword that leaves a path with a fork open breaks rule 15. And what every line preserves
+-- holds after all lines.
 -- Assumes nothing.
 use mathlib.Core.Path.{_≡_, sym, _∙_, subst}
 use mathlib.Core.Bool.{Bool, true, false}
@@ -45,15 +45,15 @@ use Rattle.read_line.specs.Way.Trace.{brokenAt, afterwards, meetingOf, m
 use Rattle.read_line.specs.declared.LineResult.{LineResult}
 use Rattle.read_line.proofs.ReadingLaws.{meet-goes, meet-stops, by-broken, head-goes, tail-goes}
 
--- ---- what both kinds of line keep, a step keeps
+-- ---- what lines with and without a keyword preserve, every line preserves
 
--- where a keyword is looked at: not after [End], and before the header only the one that opens it
+-- where a keyword is looked at: not after [End], and above the header only [Begin Header]
 pub record Met (k : ℕ) (s : State) : Type 0 where
   pub on : s .place ≡ done → ⊥
   pub first : s .place ≡ before → k ≡ beginHeader
 
 module _ (P : State → Type 0) where
-  -- a step that breaks nothing leads to a state of which it holds
+  -- if the line breaks nothing, P holds of the state after it
   abbrev Holds : LineResult → Type 0
   Holds step = step .rule ≡ 0 → P (step .state)
 
@@ -72,7 +72,7 @@ module _ (P : State → Type 0) where
       (λ (e : eqb k 0 ≡ true). rw (if-true {b = eqb k 0} (goes next) (breaks k s) e) (λ (z : _≡_ {A = ℕ} 0 0). h (eqb-true _ _ e)))
       (λ (e : eqb k 0 ≡ false). rw (if-false {b = eqb k 0} (goes next) (breaks k s) e) (λ (z : k ≡ 0). absurd (eqb-false k 0 e z)))
 
-  -- whichever of two steps a test chooses
+  -- whichever of two results a test chooses
   holds-if : (b : Bool) (x y : LineResult) → Holds x → Holds y → Holds (if b then x else y)
   unfolding if_then_else_
   holds-if true x y h k = h
@@ -120,9 +120,9 @@ module _ (P : State → Type 0) where
         holds-bracket (bracketOf content) content s
         (λ (k : ℕ). record { on = eqb-false _ _ d; first = λ (e : s .place ≡ before). absurd (eqb-false _ _ b e) }) h)))
 
--- ---- what each line keeps holds after all of them
+-- ---- what every line preserves holds after all lines
 
--- n is the number of the first line, m how many lines stand above it
+-- n is the first line, m is how many lines are above it
 pub along-counted : (P : ℕ → State → Type 0) → ((m : ℕ) (content : List ℕ) (s : State) → P m s → lineResult content s .rule ≡ 0 → P (m + 1) (lineResult content s .state)) → (m n : ℕ) (ls : List Raw) (s : State) → P m s → AllGo (meetings n ls s) → P (m + length ls) (stateAfter n ls s)
 unfolding stateAfter
 along-counted P step m n [] s h a =
@@ -178,7 +178,7 @@ pub start-outside : Outside startState
 unfolding startState
 start-outside = record { flat = λ (h : place.before ≡ place.path → ⊥). new-outside }
 
--- in a path whose forks are closed, too
+-- nor in a path whose forks are all closed
 closed-flat : (s : State) → isForkOpen s ≡ false → s .place ≡ place.path → s .path .depth ≡ 0
 unfolding isForkOpen pathOpen
 closed-flat s closed e =
@@ -225,6 +225,6 @@ line-outside content s h kept =
 pub step-outside : (content : List ℕ) (s : State) → Outside s → lineResult content s .rule ≡ 0 → Outside (lineResult content s .state)
 step-outside content s h z = step-holds Outside line-outside keyword-outside content s h z
 
--- where a model has ended, and in every other place outside its path
+-- so no fork is open where a model has ended, nor in any other place outside its path
 pub models-end-flat : (content : List ℕ) (s : State) → Outside s → lineResult content s .rule ≡ 0 → (lineResult content s .state .place ≡ place.path → ⊥) → lineResult content s .state .path .depth ≡ 0
 models-end-flat content s h z away = step-outside content s h z .flat away

@@ -1,5 +1,5 @@
--- Laws of lines by their front: a blank line, one without a bracket, a line of the model list. And how the part of the state that
--- decides such a line decides what it comes to.
+-- Laws of lines by their front: a blank line, one without a bracket, a line of the model list. And how the part of the state
+-- that decides such a line decides its result.
 -- Assumes nothing.
 use mathlib.Core.Path.{_≡_, refl, sym, _∙_, ap}
 use mathlib.Core.Bool.{Bool, true, false, not, true≢false}
@@ -59,7 +59,7 @@ named-other k start =
     (λ e. refl)
     (λ e. by-test (λ (b : Bracket). isPlain b ≡ false) (isLater k) _ _ (λ f. refl) (λ f. refl))
 
--- a bracket that opens is none but those
+-- a line whose first byte after the blanks is `[` has a bracket
 opened-other : (content : List ℕ) → isOpen (getD content (run isBlank content) 0) ≡ true → Opens content
 unfolding bracketOf
 opened-other content opens plain = true≢false (sym (ap isPlain plain) ∙ ap isPlain (if-false _ _ (ap not opens)) ∙ other)
@@ -70,7 +70,7 @@ opened-other content opens plain = true≢false (sym (ap isPlain plain) ∙ ap i
         (λ e. refl)
         (λ e. by-test (λ (b : Bracket). isPlain b ≡ false) (not (isGoodBracket content)) _ _ (λ f. refl) (λ f. named-other (keywordOf (nameOf content)) (argumentAt content)))
 
--- ---- what stands at the front
+-- ---- the front of a line
 
 module _ (content : List ℕ) (front : ℕ) (told : front ≡ runEnd isBlank content 0) where
   pub front-blanks : front ≡ length content → Fronted content Blanks
@@ -86,7 +86,7 @@ module _ (content : List ℕ) (front : ℕ) (told : front ≡ runEnd isBlank con
   unfolding isOpen
   front-opens n first there e = (filled n, opened-other content (rw (sym (told ∙ zero-add (run isBlank content)), sym there) (eq-eqb first 91 e)))
 
--- what the front says, by which it is
+-- what each front means for the line
 module _ (content : List ℕ) (front : Front) (told : Fronted content front) where
   pub blanks-front : front ≡ Blanks → isBlankLine content ≡ true
   blanks-front e = rw e at told
@@ -116,7 +116,7 @@ quiet-listed content here is plain free s at =
 pub listed-free : (content word : List ℕ) (bracket : Bracket) (b : Bool) → bracket ≡ bracketOf content → bracket ≡ Plain → word ≡ firstOf (words content) → b ≡ isReserved word → not b ≡ true → (bracketOf content ≡ Plain) × (isReserved (firstOf (words content)) ≡ false)
 listed-free content word bracket b told is first reserved e = (sym told ∙ is, ap isReserved (sym first) ∙ sym reserved ∙ not-true b e)
 
--- ---- lines that a part of the state decides
+-- ---- lines decided by a part of the state
 
 goes-breaks : (s : State) → goes s ≡ breaks 0 s
 unfolding goes breaks

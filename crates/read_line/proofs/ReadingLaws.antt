@@ -1,5 +1,5 @@
--- The laws of the forward reading: a text reads to its end exactly when no line breaks a rule where it is met; what is refused is the
--- first line that breaks one, with the first rule of its list; and what holds of every state on the way.
+-- The laws of the forward reading: a text reads to its end exactly when no line breaks a rule and [End] is reached; a refusal
+-- gives the first line that breaks a rule, with the first rule of its list; and what holds in every state on the way.
 -- Assumes nothing.
 use mathlib.Core.Path.{_≡_, refl, sym, _∙_, ap, subst}
 use mathlib.Core.Bool.{Bool, true, false}
@@ -24,7 +24,7 @@ use Rattle.read_line.specs.declared.Reading.{Reading}
 use Rattle.read_line.specs.declared.Reading.the-variants.{Read, Refused}
 use Rattle.read_line.proofs.WalkLaws.{step-kept}
 
--- ---- the run, line by line
+-- ---- the reading, line by line
 
 module _ (n : ℕ) (l : Raw) (ls : List Raw) (s : State) where
   run-goes : brokenAt (meetingOf n l s) ≡ 0 → readFrom n (l ∷ ls) s ≡ readFrom (n + 1) ls (afterwards (meetingOf n l s))
@@ -60,7 +60,7 @@ refused-not-read k n c e =
     let z : _≡_ {A = ℕ} 0 1 = cc in
     omega arith
 
--- what the end of the text gives is at line 0
+-- a refusal at the end of the text has line 0
 end-not-line : (s : State) (k m : ℕ) → 0 < m → atEnd s ≡ Refused k m → ⊥
 unfolding atEnd
 end-not-line s k m h e =
@@ -105,7 +105,7 @@ first-here : (m : Meeting) (k n : ℕ) → (brokenAt m ≡ 0 → ⊥) → FirstB
 first-here m _ _ z (here b) = refl
 first-here m k n z (later e f) = absurd (z e)
 
--- ---- nothing broken: the text comes to what its last state says
+-- ---- no rule broken: the last state gives the result
 
 pub all-read : (n : ℕ) (ls : List Raw) (s : State) → AllGo (meetings n ls s) → readFrom n ls s ≡ atEnd (stateAfter n ls s)
 unfolding stateAfter readFrom
@@ -119,7 +119,7 @@ all-read n (l ∷ ls) s a =
     let b : AllGo (meetingOf n l s ∷ []) = rw (meet-stops n l ls s e) at a in
     absurd (e (head-goes _ _ b)))
 
--- ---- read to its end: nothing was broken
+-- ---- read to its end: no rule was broken
 
 pub read-goes : (n : ℕ) (ls : List Raw) (s : State) (c : Counts) → readFrom n ls s ≡ Read c → AllGo (meetings n ls s)
 unfolding meetings
@@ -155,7 +155,7 @@ first-refused n (l ∷ ls) s k m f =
 
 -- ---- a whole text
 
--- it reads to its end exactly when no line breaks a rule where it is met and the last place is after [End]
+-- it reads to its end exactly when no line that is reached breaks a rule and the last place is after [End]
 pub reads-when : (t : List ℕ) → AllGo (meetings 1 (lines t) startState) → stateAfter 1 (lines t) startState .place ≡ done → readingOf t ≡ Read (stateAfter 1 (lines t) startState .counts)
 unfolding readingOf atEnd
 reads-when t a p = all-read 1 (lines t) startState a ∙ if-true _ _ (eq-eqb _ _ p)

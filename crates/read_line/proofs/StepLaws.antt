@@ -1,4 +1,4 @@
--- Laws of one line: what the rule and the next state are in each place, and what code that has judged a line has to show.
+-- Laws of one line: its rule and the next state in each place, and the contracts of code that judges a line.
 -- Assumes nothing.
 use mathlib.Core.Path.{_≡_, refl, sym, _∙_, ap}
 use mathlib.Core.Bool.{Bool, true, false, true≢false}
@@ -126,7 +126,7 @@ module _ (content : List ℕ) (s : State) where
   unfolding lineNext countsAfterLine movedByLine oneMoreIf both if_then_else_
   next-data e = rw e
 
-  -- in a place that takes a line and remembers nothing of it
+  -- in a place that takes a line and leaves the state unchanged
   next-same : (p : ℕ) → s .place ≡ p → withPlace s p ≡ lineNext content s → s ≡ lineNext content s
   next-same p e h = (λ i. withPlace s (e i)) ∙ h
 
@@ -158,7 +158,7 @@ module _ (content : List ℕ) (s : State) where
       let g : eqb (s .place) place.modelText ≡ true = sym (either-rest _ _ e ∙ either-rest _ _ f) ∙ t in
       next-same place.modelText (eqb-true _ _ g) (next-model (eqb-true _ _ g))))
 
--- ---- what code that has judged a line has to show, place by place
+-- ---- the contracts of code that judges a line, place by place
 
 module _ (content : List ℕ) (s : State) (r : LineResult) where
   module _ (here : s .place ≡ place.head) (l : HeadLine) (read : l ≡ headLineOf content) (k : ℕ) (rule : k ≡ headRule l (s .head)) where
@@ -207,7 +207,7 @@ module _ (content : List ℕ) (s : State) (r : LineResult) where
       (sym (if-false _ _ (sym told ∙ f) ∙ if-false _ _ (ne-eqb _ _ (o .matrix)) ∙ if-false _ _ (ne-eqb _ _ (o .path)) ∙ if-false _ _ (ne-eqb _ _ (o .pins)) ∙ if-false _ _ (ne-eqb _ _ d) ∙ if-false _ _ (ne-eqb _ _ h) ∙ if-false _ _ (ne-eqb _ _ l)))
       (λ (z : 12 ≡ 0). omega arith)
 
--- a text block is none of the places whose lines are gone over together
+-- a text block is none of the places whose lines are read together
 text-matrix : isText place.matrix ≡ false
 unfolding isText either if_then_else_
 text-matrix = refl
@@ -350,7 +350,7 @@ module _ (content : List ℕ) (start : ℕ) (last : Span) (found : last ≡ last
   unfolding argumentFrom
   argument-there = ap (λ (n : ℕ). take (n - start) (drop start content)) end-told
 
--- a keyword by the argument that was cut
+-- a keyword, with the argument that was cut out
 pub named-told : (k : ℕ) (content : List ℕ) (start : ℕ) (s : State) (argument : List ℕ) (r : LineResult) → argument ≡ argumentFrom content start → r ≡ keywordStep k argument s → r ≡ keywordStep k (argumentFrom content start) s
 named-told k content start s argument r cut e = e ∙ ap (λ (x : List ℕ). keywordStep k x s) cut
 

@@ -1,4 +1,4 @@
--- Laws of the walk over the lines: what one line does, what a step that breaks nothing keeps, and how walks join.
+-- Laws of the walk over the lines: what one line does, what a line that breaks nothing preserves, and how walks join.
 -- Assumes nothing.
 use mathlib.Core.Path.{_≡_, refl, sym, _∙_, ap}
 use mathlib.Core.Bool.{Bool, true, false}
@@ -56,9 +56,9 @@ use Rattle.read_line.specs.declared.Reading.{Reading}
 use Rattle.read_line.specs.declared.Reading.the-variants.{Refused}
 use Rattle.read_line.proofs.KeptLaws.{line-kept}
 
--- ---- what a line that breaks nothing keeps
+-- ---- what a line that breaks nothing preserves
 
--- a step keeps what the reading keeps
+-- the state after the line is within its bounds
 abbrev Keeps : ℕ → LineResult → Type 0
 Keeps n step = step .rule ≡ 0 → BoundedState (n + 1) (step .state)
 
@@ -85,7 +85,7 @@ keeps-keyword : (n k : ℕ) (argument : List ℕ) (s : State) → BoundedState n
 unfolding keywordStep
 keeps-keyword n k argument s kept = keeps-judged n (keywordRule k argument s) (keywordNext k argument s) s (keyword-kept n k argument s kept)
 
--- whichever of two steps a test chooses
+-- whichever of two results a test chooses
 keeps-if : (n : ℕ) (b : Bool) (x y : LineResult) → Keeps n x → Keeps n y → Keeps n (if b then x else y)
 unfolding if_then_else_
 keeps-if n true x y h k = h
@@ -114,7 +114,7 @@ step-kept n content s k =
     (keeps-if n (eqb (s .place) done) _ _ (keeps-goes n s k)
     (keeps-if n (eqb (s .place) before) _ _ (keeps-before n (bracketOf content) content s k) (keeps-bracket n (bracketOf content) content s k)))
 
--- ---- values only rise
+-- ---- the count of values never falls
 
 abbrev Raises : State → LineResult → Type 0
 Raises s step = step .rule ≡ 0 → Rises s (step .state)
@@ -185,7 +185,7 @@ unfolding readFrom
 run-cons n l ls s = refl
 
 module _ (t : List ℕ) (at line : ℕ) (s : State) (h : at < length t) (here : Line) (found : here ≡ lineAt commentByte t at) where
-  -- what the code cuts is the line's content
+  -- what the code cuts out is the line's content
   content-told : take (here .content - at) (drop at t) ≡ contentOf commentByte (firstOf (drop at t) .bytes)
   content-told = ap (λ (l : Line). take (l .content - at) (drop at t)) found ∙ sym (content-at commentByte t at)
 
@@ -238,7 +238,7 @@ module _ (t : List ℕ) (at line : ℕ) (s : State) (h : at < length t) (on : On
         (λ (e : eqb (step .rule) 0 ≡ true). rw (count ∙ if-true _ _ e) (line-taken (eqb-true _ _ e)))
         (λ (e : eqb (step .rule) 0 ≡ false). rw (count ∙ if-false _ _ e) (line-broken (eqb-false _ _ e)))
 
--- ---- the part of the text that a line's content is
+-- ---- the part of the text that is a line's content
 
 module _ (t : List ℕ) (at : ℕ) (here : Line) (found : here ≡ lineAt commentByte t at) where
   pub content-start : at ≤ here .content

@@ -1,4 +1,4 @@
--- The forward reading: what each line may break in its place, what is remembered after it, and what the whole text comes to.
+-- The forward reading: which rule each line breaks in its place, the state after it, and the result of the whole text.
 -- Assumes nothing.
 use Prim.Native.Nat.{ℕ, _+_, _-_}
 use Prim.Native.Char.{code}
@@ -78,11 +78,11 @@ lineNext content s =
 unfoldable pub argumentFrom : List ℕ → ℕ → List ℕ
 argumentFrom content start = take (lastEnd content - start) (drop start content)
 
--- the line breaks nothing, and leads on
+-- the line breaks no rule; s is the state after it
 unfoldable pub goes : State → LineResult
 goes s = record { rule = 0; state = s }
 
--- the line breaks a rule
+-- the line breaks rule k
 unfoldable pub breaks : ℕ → State → LineResult
 breaks k s = record { rule = k; state = s }
 
@@ -95,7 +95,7 @@ lineStep content s = judged (lineRule content s) (lineNext content s) s
 unfoldable pub keywordStep : ℕ → List ℕ → State → LineResult
 keywordStep k argument s = judged (keywordRule k argument s) (keywordNext k argument s) s
 
--- 6 for a bad bracket, 7 for a keyword not of 000, 8 for a later one, before all else
+-- a bad bracket is 6, a keyword not of 000 is 7, a later keyword is 8; these come before every other rule of the line
 abbrev pub bracketStep : Bracket → List ℕ → State → LineResult
 bracketStep Plain content s = lineStep content s
 bracketStep Indented content s = if isText (s .place) then lineStep content s else breaks 6 s
@@ -104,7 +104,7 @@ bracketStep Unknown content s = breaks 7 s
 bracketStep Later content s = breaks 8 s
 bracketStep (Keyword k start) content s = keywordStep k (argumentFrom content start) s
 
--- "Lines before [Begin Header] .. are read only for 2, 3, 4": only that keyword, well formed and in column 1, counts there
+-- "Lines before [Begin Header] .. are read only for 2, 3, 4": only that keyword, well formed and in column 1, has an effect
 abbrev pub beforeStep : Bracket → List ℕ → State → LineResult
 beforeStep Plain content s = goes s
 beforeStep Indented content s = goes s
@@ -113,7 +113,7 @@ beforeStep Unknown content s = goes s
 beforeStep Later content s = goes s
 beforeStep (Keyword k start) content s = if eqb k beginHeader then keywordStep k (argumentFrom content start) s else goes s
 
--- "lines left blank are skipped"; nor is a line after [End] looked at
+-- "lines left blank are skipped"; a line after [End] breaks none of these rules
 unfoldable pub lineResult : List ℕ → State → LineResult
 lineResult content s =
     if isBlankLine content then goes s else
@@ -140,6 +140,6 @@ unfoldable pub readFrom : ℕ → List Raw → State → Reading
 readFrom n [] s = atEnd s
 readFrom n (l ∷ ls) s = onward (lineResult (contentOf commentByte (l .bytes)) s) n (readFrom (n + 1) ls)
 
--- what a text that breaks none of the rules 1 to 4 comes to in the group 5 to 17
+-- the result of rules 5 to 17 for a text that breaks none of rules 1 to 4
 unfoldable pub readingOf : List ℕ → Reading
 readingOf t = readFrom 1 (lines t) startState

@@ -1,4 +1,5 @@
-// Rules 5 to 17, line by line: what a line comes to in its place, and lines gone over together. The walk over a whole text is made of these.
+// Rules 5 to 17, line by line: the result of one line in its place, and of several lines that are read together.
+// `read_text` builds the walk over a whole text from these functions.
 ghost use mathlib.Core.Path.{_≡_};
 ghost use mathlib.Core.Bool.{true, false};
 ghost use Prim.Native.Nat.{_+_, _≤_, _<_};
@@ -32,19 +33,19 @@ const DEEPEST: u64 = 8;
 
 const CARRIAGE_RETURN: u8 = 13;
 
-// What one line comes to: the number of the rule that it breaks, 0 for none, and what is remembered after it.
+// The result of one line: the rule that it breaks, 0 for none, and the state after it. A broken rule leaves the state unchanged.
 pub struct LineResult {
     pub rule: u64,
     pub state: State,
 }
 
-// What a text comes to in the group 5 to 17.
+// The result of a text for rules 5 to 17: the counts of all records, or the rule broken and its line.
 pub enum Reading {
     Read(Counts),
     Refused(u64, u64),
 }
 
-// How far a walk over the lines has come: where it goes on, at which line and in which state; or the rule broken, and its line.
+// How far a walk over the lines has come: the offset, line and state where it goes on; or the rule broken, and its line.
 pub struct Walk {
     pub rule: u64,
     pub at: usize,
@@ -66,7 +67,7 @@ fn stops(rule: u64, s: State) -> LineResult
 
 // ---- lines without a keyword, place by place
 
-// A list line: its first word is never a reserved one.
+// A line of the model list: its first word is never a reserved one.
 fn list_step(content: &[u8], s: State) -> LineResult
     requires { ⌜ s .place ≡ place.list ⌝ }
     ensures { λ r. ⌜ r ≡ lineStep (now (content .entry)) s ⌝ }
@@ -108,8 +109,9 @@ fn map_step(content: &[u8], s: State) -> LineResult
     goes_on(next)
 }
 
-// A line without a keyword: what its place takes. The lines of a matrix, a path and a pin list are not read here but with the part of
-// the state that they change, several at once (`read_matrix::pass_data`, `pass_path`, `pass_pins`).
+// A line without a keyword, judged by what its place takes. Lines of a matrix, a path or a pin list are not read here:
+// they are read several at once, with only the part of the state that they change
+// (`read_matrix::pass_data`, `pass_path`, `pass_pins`).
 fn line_step(content: &[u8], s: State) -> LineResult
     requires { ⌜ ReadLineByLine (s .place) ⌝ }
     ensures { λ r. ⌜ r ≡ lineStep (now (content .entry)) s ⌝ }
@@ -131,7 +133,7 @@ fn line_step(content: &[u8], s: State) -> LineResult
 
 // ---- one line
 
-// A keyword line: the rules that it may break, then what is remembered.
+// A keyword line: first the rules that it may break, then the state after it.
 fn keyword_step(key: u64, argument: &[u8], s: State) -> LineResult
     requires { ⌜ BoundedState mostLines s ⌝ }
     ensures { λ r. ⌜ r ≡ keywordStep key (now (argument .entry)) s ⌝ }
@@ -186,7 +188,7 @@ fn bracket_step(content: &[u8], s: State) -> LineResult
     }
 }
 
-// [Begin Header] is looked for; every other keyword is passed over.
+// Above the header only [Begin Header] counts; every other keyword is skipped.
 fn opening_step(key: u64, start: usize, content: &[u8], s: State) -> LineResult
     requires { ⌜ BoundedState mostLines s ⌝ }
     ensures { λ r. ⌜ r ≡ beforeStep (Keyword key start) (now (content .entry)) s ⌝ }
@@ -236,13 +238,13 @@ fn take_line(content: &[u8], s: State) -> LineResult
 
 // ---- lines that change nothing
 
-// Where lines that change nothing end, and at which line.
+// Where the lines that change nothing end: the offset of the next line, and which line that is.
 pub struct Passing {
     pub at: usize,
     pub line: u64,
 }
 
-// A byte with which a line has no bracket at its front, and no word that is reserved.
+// If a line starts with such a byte, it has no bracket at its front and its first word is not reserved.
 fn is_free(b: u8) -> bool
     ensures { λ r. ⌜ r ≡ isFree b ⌝ }
 {
@@ -261,7 +263,7 @@ fn is_free(b: u8) -> bool
     b != b'N'
 }
 
-// A line of the model list as it should be.
+// A line of the model list that breaks no rule.
 fn reads_listed(content: &[u8]) -> bool
     ensures { λ r. ⌜ (r ≡ true → (bracketOf (now (content .entry)) ≡ Plain) × (isReserved (firstOf (words (now (content .entry)))) ≡ false)) ⌝ }
 {
@@ -275,7 +277,7 @@ fn reads_listed(content: &[u8]) -> bool
     }
 }
 
-// The same: most lines tell it by their first byte.
+// The same test. For most lines the first byte decides it.
 fn is_listed(content: &[u8]) -> bool
     ensures { λ r. ⌜ (r ≡ true → (bracketOf (now (content .entry)) ≡ Plain) × (isReserved (firstOf (words (now (content .entry)))) ≡ false)) ⌝ }
 {
@@ -297,7 +299,8 @@ fn is_idle_line(content: &[u8], place: u64) -> bool
     false
 }
 
-// A look at the first byte: an empty line, a comment, or a place whose lines mostly change nothing.
+// A cheap test before `is_idle_line`: the lines of the model list mostly change nothing; elsewhere the first byte must show
+// an empty line or a comment.
 fn may_be_idle(text: &[u8], at: usize, place: u64) -> bool {
     if place == line_place::LIST {
         return true;
@@ -312,7 +315,7 @@ fn may_be_idle(text: &[u8], at: usize, place: u64) -> bool {
     first == COMMENT
 }
 
-// Goes past lines that change nothing, with no look at what is remembered but for the place.
+// Skips lines that change nothing. Of the state only the place is needed.
 pub fn skip_idle_lines(text: &[u8], at: usize, line: u64, place: u64) -> Passing
     requires { ⌜ (at ≤ length (now text)) × (line ≤ at + 1) ⌝ }
     ensures { λ r. ⌜ ResumesIdle (now (text .entry)) at line place (r .at) (r .line) ⌝ }
@@ -345,7 +348,7 @@ pub fn skip_idle_lines(text: &[u8], at: usize, line: u64, place: u64) -> Passing
 
 // ---- lines that change one part
 
-// What stands at the front of a line: nothing, words, or a bracket.
+// What is at the front of a line: nothing (the line is blank), words, or a bracket.
 pub enum Front {
     Blanks,
     Words,
@@ -365,8 +368,8 @@ pub fn front_of(content: &[u8]) -> Front
     Front::Words
 }
 
-// A pin line, with no more of the state than it changes: whether it is taken here, the rule that it breaks, and the map and the count
-// of pins behind it.
+// The result of a line of a pin list, with only the part of the state that such a line changes. A line with a bracket is not
+// taken here. For a line that is taken: the rule that it breaks, and the map and the count of pins after it.
 struct Pinned {
     taken: bool,
     rule: u64,
@@ -395,7 +398,7 @@ fn pin_line(content: &[u8], map: Map, pins: u64) -> Pinned
     }
 }
 
-// A line of a pin list.
+// A line of a pin list; one with a bracket is not taken.
 fn take_pin(content: &[u8], map: Map, pins: u64) -> Pinned
     ensures { λ r. ⌜ (r .taken ≡ true → Decides place.pinList (withPinned map pins) (lineResult (now (content .entry))) (r .rule) (withPinned (r .map) (r .pins)))
         × (r .taken ≡ false → Opens (now (content .entry))) ⌝ }
@@ -417,14 +420,14 @@ fn take_pin(content: &[u8], map: Map, pins: u64) -> Pinned
     }
 }
 
-// Where the pin lines end, or which rule one of them breaks, and what they come to.
+// Where the lines of a pin list end, or the line that breaks a rule, and the result up to there.
 struct PinWalk {
     at: usize,
     line: u64,
     part: Pinned,
 }
 
-// Goes over the lines of a pin list.
+// Reads the lines of a pin list, up to one with a bracket or one that breaks a rule.
 fn pass_pins(text: &[u8], at: usize, line: u64, map: Map, pins: u64) -> PinWalk
     requires { ⌜ (at ≤ length (now text)) × (line ≤ at + 1) ⌝ }
     ensures { λ r. ⌜ ResumesPart (now (text .entry)) at line (HoldsPart place.pinList (withPinned map pins)) (withPinned (r .part .map) (r .part .pins)) (r .part .rule) (r .at) (r .line)
@@ -467,8 +470,8 @@ fn pass_pins(text: &[u8], at: usize, line: u64, map: Map, pins: u64) -> PinWalk
     }
 }
 
-// A line of a path, with no more of the state than it changes: whether it is taken here, the rule that it breaks, and the path and the
-// count of steps behind it.
+// The result of a line of a path, with only the part of the state that such a line changes. A line with a bracket is not
+// taken here. For a line that is taken: the rule that it breaks, and the path and the count of steps after it.
 pub struct Stepped {
     pub taken: bool,
     pub rule: u64,
@@ -499,7 +502,7 @@ fn path_line(content: &[u8], path: Path, steps: u64) -> Stepped
     }
 }
 
-// A line of a path.
+// A line of a path; one with a bracket is not taken.
 fn take_step(content: &[u8], path: Path, steps: u64) -> Stepped
     requires { ⌜ Stepping path steps ⌝ }
     ensures { λ r. ⌜ (r .taken ≡ true → Decides place.path (withPath path steps) (lineResult (now (content .entry))) (r .rule) (withPath (r .path) (r .steps)))
@@ -522,14 +525,14 @@ fn take_step(content: &[u8], path: Path, steps: u64) -> Stepped
     }
 }
 
-// Where lines of a path end, or which rule one of them breaks, and what they come to.
+// Where the lines of a path end, or the line that breaks a rule, and the result up to there.
 pub struct PathWalk {
     pub at: usize,
     pub line: u64,
     pub part: Stepped,
 }
 
-// Goes over the lines of a path, up to one that opens or closes a fork block.
+// Reads lines of a path: up to and with the first that opens or closes a fork block or breaks a rule, or up to a bracket.
 fn pass_path(text: &[u8], at: usize, line: u64, path: Path, steps: u64) -> PathWalk
     requires { ⌜ (at ≤ length (now text)) × (line ≤ at + 1) × Stepping path steps ⌝ }
     ensures { λ r. ⌜ Blocked (now (text .entry)) at line path steps r ⌝ }
@@ -580,8 +583,8 @@ fn pass_path(text: &[u8], at: usize, line: u64, path: Path, steps: u64) -> PathW
     }
 }
 
-// Goes over the lines of a fork block, up to the line that closes it. An inner block is gone over by the same function, and the depth
-// still left falls. The path itself is the outermost block.
+// Reads the lines of a fork block, up to and with the line that closes it. The function calls itself for an inner block,
+// and the depth still left falls. The path itself is the outermost block.
 fn pass_block(text: &[u8], at: usize, line: u64, path: Path, steps: u64, left: u64) -> PathWalk
     requires { ⌜ (at ≤ length (now text)) × (line ≤ at + 1) × Stepping path steps ⌝ }
     ensures { λ r. ⌜ Blocked (now (text .entry)) at line path steps r ⌝ }
@@ -614,9 +617,9 @@ fn pass_block(text: &[u8], at: usize, line: u64, path: Path, steps: u64, left: u
     }
 }
 
-// ---- a walk
+// ---- parts of the walk over a text
 
-// The line at a place: each byte is gone over a bounded number of times.
+// Reads the line at offset `at`. Each byte is looked at a bounded number of times.
 pub fn read_one(text: &[u8], at: usize, line: u64, s: State) -> Walk
     requires { ⌜ (at < length (now text)) × Onward (now text) at line s × BracketOrLineByLine (contentAt (now text) at) (s .place) ⌝ }
     ensures { λ r. ⌜ ResumesText (now (text .entry)) at line s r ⌝ }
@@ -633,7 +636,7 @@ pub fn read_one(text: &[u8], at: usize, line: u64, s: State) -> Walk
     }
 }
 
-// The lines up to the keyword behind a pin list, or that keyword's line.
+// Reads the lines of a pin list up to the next line with a bracket. If that line comes first, it is read instead.
 pub fn read_pins(text: &[u8], at: usize, line: u64, s: State) -> Walk
     requires { ⌜ (at < length (now text)) × Onward (now text) at line s × (s .place ≡ place.pinList) ⌝ }
     ensures { λ r. ⌜ ResumesText (now (text .entry)) at line s r ⌝ }
@@ -658,7 +661,8 @@ pub fn read_pins(text: &[u8], at: usize, line: u64, s: State) -> Walk
     read_one(text, at, line, s)
 }
 
-// The lines of a path up to one that opens or closes a fork block, or the line of a keyword.
+// Reads the lines of a path, with its fork blocks, up to the next line with a bracket. If that line comes first, it is read
+// instead.
 pub fn read_path(text: &[u8], at: usize, line: u64, s: State) -> Walk
     requires { ⌜ (at < length (now text)) × Onward (now text) at line s × (s .place ≡ place.path) ⌝ }
     ensures { λ r. ⌜ ResumesText (now (text .entry)) at line s r ⌝ }

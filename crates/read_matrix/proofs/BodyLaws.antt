@@ -1,5 +1,5 @@
--- Laws of the lines of a matrix gone over one after another: none of them, one more, the one that breaks a rule, the one that ends the
--- matrix, and what is noted of all of them then.
+-- Laws of the lines of a matrix, read one after another: no line yet, one line more, a line that breaks a rule, the line that
+-- ends the matrix, and what is staged then.
 -- Assumes nothing.
 use mathlib.Core.Path.{_≡_, refl, sym, _∙_, ap}
 use mathlib.Core.Bool.{Bool, true, false, true≢false}
@@ -37,7 +37,7 @@ use Rattle.read_matrix.specs.Way.Body.{newStaging, Behind, Ends, Takes, 
 use Rattle.read_matrix.specs.Way.Run.{Left, Gone}
 use Rattle.read_matrix.proofs.LineLaws.{no-bounded, behind-same}
 
--- the same lines, told otherwise
+-- the same lines, given by another line and offset
 module _ (t : List ℕ) (n₀ at₀ form : ℕ) (table₀ : List ℕ) (values₀ n at n' at' : ℕ) (table : List ℕ) (values : ℕ) (a : stages.Staging) where
   left-same : linesAt t n at place.matrix ≡ linesAt t n' at' place.matrix → Left t n₀ at₀ form table₀ values₀ n at table values a → Left t n₀ at₀ form table₀ values₀ n' at' table values a
   left-same lines left =
@@ -68,12 +68,12 @@ module _ (t : List ℕ) (n₀ at₀ form : ℕ) (table₀ : List ℕ) (values₀
           room = adds .room (left .room);
         }
 
--- a line inside a matrix leads to one that is read in the matrix
+-- after a line inside a matrix the next line is read in the matrix too
 inside-stays : (content : List ℕ) (n at : ℕ) → inMatrix (record { line = n; at = at; place = place.matrix; content = content }) ≡ true → placeAfter place.matrix content ≡ place.matrix
 unfolding inMatrix keyOf
 inside-stays content n at e = matrix-stays content (both-second _ _ e)
 
--- ---- what is noted when no line is left
+-- ---- what is staged when no line is left
 
 words-long : (vs : List Value) → length (valuesWords vs) ≡ 3 * length vs
 unfolding valuesWords joined
@@ -134,7 +134,7 @@ module _ (t : List ℕ) (n₀ at₀ form : ℕ) (table₀ : List ℕ) (values₀
         onward = onward;
       }
 
--- ---- lines gone over
+-- ---- lines that are read
 
 pub gone-start : (t : List ℕ) (at line : ℕ) (m : Matrix) (values : ℕ) (table : List ℕ) (b : Bool) → at ≤ length t → (b ≡ true → 3 * values ≤ length table) → (n : stages.Staging) → n ≡ newStaging b →
     Gone t at line m values table at line (record { taken = true; ends = false; rule = 0; matrix = m; values = values; staging = n }) table
@@ -176,7 +176,7 @@ module _ (t : List ℕ) (at line : ℕ) (m : Matrix) (values : ℕ) (table₀ : 
       let c : number + at ≤ line + here = gone .crossed .counted in
       record { within = gone .crossed .within; counted = omega arith }
 
-  -- what is noted of all lines
+  -- what is staged of all lines
   told : part .staging .whole ≡ true → bodyLines t number here ≡ [] → line ≤ at + 1 → (staged : Bool) →
       Tells t (stagedOf at line m values (record { at = here; line = number; part = part; staged = staged }))
       (wordsOf table 0 (stagedOf at line m values (record { at = here; line = number; part = part; staged = staged })))

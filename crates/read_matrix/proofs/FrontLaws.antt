@@ -1,4 +1,4 @@
--- Laws of what stands at the front of a line that is not cut out of its text.
+-- Laws of the front of a line that is not cut out of its text.
 -- Assumes nothing.
 use mathlib.Core.Path.{_≡_, sym, _∙_}
 use mathlib.Core.Bool.{Bool, true, false, not}

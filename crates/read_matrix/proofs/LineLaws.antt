@@ -1,4 +1,4 @@
--- Laws of one line of a matrix that is judged and noted: a line of numbers, [Row] and [Bandwidth], and a line that ends the matrix.
+-- Laws of one line of a matrix that is judged and staged: a line of numbers, [Row] and [Bandwidth], and a line that ends the matrix.
 -- Assumes nothing.
 use mathlib.Core.Path.{_≡_, refl, sym, _∙_, ap}
 use mathlib.Core.Bool.{Bool, true, false, not, true≢false}
@@ -43,7 +43,7 @@ use Rattle.read_numbers.specs.Way.Staging.{BoundedStaging, Adds}
 use Rattle.read_matrix.specs.declared.Data.{Data}
 use Rattle.read_matrix.specs.Way.Body.{newStaging, keywordStaging, TakesKeyword, Behind, Extends, Ends, Takes}
 
--- ---- notes
+-- ---- stagings
 
 pub no-bounded : (values : ℕ) (b : Bool) → BoundedStaging (newStaging b) values
 no-bounded values b = record { row = omega arith; column = omega arith }
@@ -87,7 +87,7 @@ module _ (content : List ℕ) (filled : isBlankLine content ≡ false) (plainly 
   form-on : (next : Matrix) → next ≡ dataNext line m → next .form ≡ m .form
   form-on next next-is = ap (λ (x : Matrix). x .form) next-is ∙ next-form line m
 
-  -- a line that is judged alone
+  -- a line that is judged but not staged
   module _ (n : Staging) (none : n ≡ newStaging false) (a : Staging) (table : List ℕ) where
     untold-here : n .whole ≡ true → ⊥
     untold-here w = true≢false (sym w ∙ ap (λ (x : Staging). x .whole) none)
@@ -123,10 +123,10 @@ module _ (content : List ℕ) (filled : isBlankLine content ≡ false) (plainly 
           extends = λ (e : true ≡ true) (y : _≡_ {A = ℕ} 0 0) (w : n .whole ≡ true). absurd (untold-here w);
         }
 
-  -- a line that is noted
+  -- a line that is staged
   module _ (a b : Staging) (table table' : List ℕ) (behind : Behind values table table')
       (adds : (l : Line) → l .content ≡ content → keyOf l ≡ plain → Adds (m .form) l table values a table' (values + line .numbers) b) where
-    -- some line of these words, wherever it stands
+    -- some line with these words, wherever it is
     abbrev here : Line
     here = record { line = 0; at = 0; place = place.matrix; content = content }
 
@@ -329,7 +329,7 @@ module _ (content : List ℕ) (filled : isBlankLine content ≡ false) (k start 
   unfolding inMatrix
   keyed-inside keeps l p e = both-true _ _ (eq-eqb _ _ p) (either-right _ _ (ap isRowOrBandwidth (keyed content k start is l e) ∙ keeps))
 
-  -- one that keeps the matrix
+  -- one that keeps the matrix open
   pub keeps-takes : isRowOrBandwidth k ≡ true → (argument : List ℕ) → argument ≡ argumentFrom content start → (r : Data) → TakesKeyword k argument m values a r → (table : List ℕ) → Takes content m values a table r table
   keeps-takes keeps argument argument-is r kept table =
       record {
@@ -375,7 +375,7 @@ module _ (content : List ℕ) (filled : isBlankLine content ≡ false) (k start 
       left-takes content m values a table (not (eqb k plain)) (keyed-opens content k start is)
       (λ (e : not (eqb k plain) ≡ true). record { filled = filled; outside = outside (sym keeps ∙ leaves) (not-true _ e) }) bound r told
 
--- what the code makes of a note at [Row] and at [Bandwidth]
+-- how the code changes a staging at [Row] and at [Bandwidth]
 module _ (k value : ℕ) (a : Staging) where
   pub row-staged : (g : ℕ) → g ≡ max (a .greatest) value → k ≡ 1 → record { whole = a .whole; row = value; column = value; bandwidth = a .bandwidth; greatest = g } ≡ keywordStaging k value a
   unfolding keywordStaging

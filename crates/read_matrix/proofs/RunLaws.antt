@@ -1,4 +1,4 @@
--- Laws of runs of plain lines inside a matrix: one line of them, and how far a run has come.
+-- Laws of runs of plain lines inside a matrix: one line of a run, and how far a run has come.
 -- Assumes nothing.
 use mathlib.Core.Path.{_≡_, refl, sym, _∙_, ap}
 use mathlib.Core.Bool.{Bool, true, false, not, true≢false}
@@ -253,7 +253,7 @@ runs-now t at line part within counted bounded whole few b ordered tested =
       ordered = ordered (not-false b tested);
     }
 
--- what is reached is told again by its fields
+-- the state of a run, given by its fields
 module _ (t : List ℕ) (at line : ℕ) (part : Data) (table : List ℕ) (runs : Runs t at line part) (reached : Data) (broken : reached .rule ≡ 0)
     (matrix : reached .matrix ≡ part .matrix) (values : reached .values ≡ part .values) (staging : reached .staging ≡ part .staging) where
   again : (at₀ line₀ : ℕ) (m : Matrix) (values₀ : ℕ) (table₀ : List ℕ) → Gone t at₀ line₀ m values₀ table₀ at line part table →
@@ -306,7 +306,7 @@ module _ (t : List ℕ) (at line : ℕ) (part : Data) (table₀ : List ℕ) (her
           whole = whole;
         }
 
-  -- a line that is no part of the run: what it has changed, it has changed behind the values, and then not all is told
+  -- a line that is not part of the run: it has changed the table only after the values, and then the staging is not whole
   module _ (table' : List ℕ) (behind : Behind (reached .values) table table') (left : Data) (broken : left .rule ≡ 0)
       (matrix : left .matrix ≡ reached .matrix) (values : left .values ≡ reached .values)
       (bounded : BoundedStaging (left .staging) (reached .values))
@@ -451,7 +451,7 @@ module _ (t : List ℕ) (at line : ℕ) (part : Data) (table₀ : List ℕ) wher
           staging-whole w = ap (λ (b : Bool). pairsPart part b values (pairsMatrix (part .matrix) least greatest fits) named .staging) w
 
       module _ (left : not (next .taken) ≡ false) where
-        -- no sum wraps behind the line
+        -- no sum wraps after the line
         pub pairs-values : Fits w64 (values + 1)
         pairs-values = let few : values < 65536 = takes .few (not-false (next .taken) left) in omega arith
 
@@ -486,7 +486,7 @@ module _ (t : List ℕ) (at line : ℕ) (part : Data) (table₀ : List ℕ) wher
             (pairsPart part true (values + 1) (pairsMatrix (part .matrix) (next .column + 1) greatest' fits') named') table'
         pairs-next form-is ordered h fits' f greatest' g named' n = rw (f, g, n) (moved form-is ordered h)
 
--- ---- a run, and the line behind it
+-- ---- a run, and the line after it
 
 module _ (t : List ℕ) (at line : ℕ) (m : Matrix) (values : ℕ) (table₀ : List ℕ) (here number : ℕ) (part : Data) (table : List ℕ)
     (gone : Gone t at line m values table₀ here number part table) where
@@ -511,7 +511,7 @@ module _ (t : List ℕ) (at line : ℕ) (m : Matrix) (values : ℕ) (table₀ : 
           let o : here ≤ r .at = leads .onward in
           omega arith
 
-      -- a line that is no part of a run leaves the table as it is
+      -- a line that is not part of a run leaves the table as it is
       module _ (next : Data)
           (takes : TakesAlone (take (found .content - r .at) (drop (r .at) t)) (r .part .matrix) (r .part .values) (r .part .staging) next) where
         pub run-leaves : not (next .taken) ≡ true → (staged : Bool) → staged ≡ both (next .ends) (r .part .staging .whole) →

@@ -1,5 +1,5 @@
-// The lines of a matrix, judged and noted in one go: its numbers are stored in the lent table as they are judged, so that nobody has to
-// read them again.
+// The lines of a matrix, judged and staged in one pass: its numbers are stored at the front of the lent table as they are
+// judged, so that they are never read again.
 ghost use mathlib.Core.Path.{_≡_};
 ghost use mathlib.Core.Bool.{true, false};
 ghost use Prim.Native.Nat.{_+_, _*_, _≤_, _<_, max};
@@ -31,8 +31,9 @@ const OPENING: u8 = b'[';
 
 const MOST_VALUES: u64 = 65536;
 
-// A line of a matrix, with no more of the state than it changes: whether it is taken here, or is a keyword that ends the matrix, the rule
-// that it breaks, the matrix and the count of values behind it, and what is noted.
+// The result of a line of a matrix, with only the part of the state that such a line changes: whether it is taken here; if
+// not, whether it is a keyword that ends the matrix; the rule that it breaks; and the matrix, the count of values and the
+// staging after it.
 pub struct Data {
     pub taken: bool,
     pub ends: bool,
@@ -42,7 +43,7 @@ pub struct Data {
     pub staging: Staging,
 }
 
-// A note of nothing: where lines are judged alone, or before the first of them is noted.
+// An empty staging: before the first line is staged, or not whole, for lines that are only judged.
 fn new_staging(whole: bool) -> Staging
     ensures { λ r. ⌜ r ≡ newStaging whole ⌝ }
 {
@@ -59,7 +60,7 @@ fn new_staging(whole: bool) -> Staging
     }
 }
 
-// A line of numbers that is judged alone: where it breaks no rule, not all is noted any more.
+// A line of numbers that is judged but not staged: after it the staging is not whole.
 fn data_line(content: &[u8], matrix: Matrix, values: u64) -> Data
     requires { ⌜ (isBlankLine (now content) ≡ false) × (bracketOf (now content) ≡ Plain) ⌝ }
     ensures { λ r. ⌜ ((staging : stages.Staging) → TakesAlone (now (content .entry)) matrix values staging r) ⌝ }
@@ -92,7 +93,7 @@ fn greater(a: u64, b: u64) -> u64
     if a < b { b } else { a }
 }
 
-// [Row] i: the next number stands at (i, i). Of [Bandwidth] the first counts.
+// [Row] i: the next number belongs at (i, i). Of several [Bandwidth] the first counts.
 fn keyword_staging(key: u64, value: u64, staging: Staging) -> Staging
     ensures { λ r. ⌜ r ≡ keywordStaging key value staging ⌝ }
 {
@@ -162,7 +163,7 @@ fn left_line(ends: bool, matrix: Matrix, values: u64, staging: Staging) -> Data
     }
 }
 
-// A keyword: [Row] and [Bandwidth] keep a matrix, any other ends it.
+// A keyword: [Row] and [Bandwidth] keep a matrix open, any other ends it.
 fn named_line(
     key: u64,
     start: usize,
@@ -201,7 +202,7 @@ fn opened_line(content: &[u8], matrix: Matrix, values: u64, staging: Staging) ->
     }
 }
 
-// A line of a matrix that is no part of a run.
+// A line of a matrix that is not part of a run.
 fn take_data(content: &[u8], matrix: Matrix, values: u64, staging: Staging) -> Data
     requires { ⌜ BoundedStaging staging values ⌝ }
     ensures { λ r. ⌜ TakesAlone (now (content .entry)) matrix values staging r ⌝ }
@@ -220,7 +221,8 @@ fn take_data(content: &[u8], matrix: Matrix, values: u64, staging: Staging) -> D
     }
 }
 
-// Where the lines of a matrix end, or which rule one of them breaks, what they come to, and whether all their numbers are noted.
+// Where the lines of a matrix end, or the line that breaks a rule; the result up to there; and whether all their numbers are
+// staged.
 pub struct BodyWalk {
     pub at: usize,
     pub line: u64,
@@ -228,7 +230,7 @@ pub struct BodyWalk {
     pub staged: bool,
 }
 
-// Whether there is room for so many values.
+// Whether the table has room for `values` values.
 fn has_room(values: u64, words: usize) -> bool
     ensures { λ r. ⌜ (r ≡ true → 3 * values ≤ words) ⌝ }
 {
@@ -238,17 +240,17 @@ fn has_room(values: u64, words: usize) -> bool
     3 * values <= (words as u64)
 }
 
-// ---- runs of plain lines: what they change is kept in numbers of its own while they last, and any other line is left to take_data
+// ---- runs of plain lines: while a run lasts, local variables hold what it changes; any other line is left to take_data
 
-// Where a run of lines ends, and what the lines of the matrix come to there.
+// Where a run of lines ends, and the result of the matrix up to there.
 struct Run {
     at: usize,
     line: u64,
     part: Data,
 }
 
-// What stands at the front of the line that starts at a place, as `read_line::front_of` tells it of a line's content: the line's end is not
-// looked for.
+// What is at the front of the line that starts at offset `here`. The answer is that of `read_line::front_of` for the line's
+// content, but the line's end is not looked for.
 fn front_at(text: &[u8], here: usize) -> Front
     ensures { λ r. ⌜ Fronted (contentAt (now (text .entry)) here) r ⌝ }
 {
@@ -262,7 +264,7 @@ fn front_at(text: &[u8], here: usize) -> Front
     Front::Words
 }
 
-// Where the line behind the one whose content ends at a place starts.
+// Where the next line starts, given the offset where the content of a line ends.
 fn next_line(text: &[u8], end: usize) -> usize
     ensures { λ r. ⌜ r ≡ lineAt commentByte (now (text .entry)) end .next ⌝ }
 {
@@ -270,8 +272,8 @@ fn next_line(text: &[u8], end: usize) -> usize
     line.next
 }
 
-// A line of numbers: whether it is taken, whether what is noted still tells all, how many values are read, where the next stands, and where
-// the next line starts.
+// The result of a line of numbers: whether it is taken; whether the staging is still whole; and for a line that is taken the
+// count of values, the row and column of the next number, and where the next line starts.
 struct TakenNumbers {
     taken: bool,
     whole: bool,
@@ -281,7 +283,7 @@ struct TakenNumbers {
     next: usize,
 }
 
-// A line that is no part of the run. One whose numbers are stored though it breaks a rule spoils what is noted.
+// A line that is not part of the run. If it may have stored numbers, the staging is no longer whole.
 fn left_numbers(whole: bool, values: u64, row: u64, column: u64) -> TakenNumbers
     ensures { λ r. ⌜ r ≡ record { taken = false; whole = whole; values = values; row = row; column = column; next = 0 } ⌝ }
 {
@@ -407,7 +409,8 @@ fn pass_numbers(text: &[u8], at: usize, line: u64, part: Data, table: &mut [u64]
     numbers_passed(here, line_here, part, true, values, row, column)
 }
 
-// A line of a Sparse_matrix: whether it is taken, whether what is noted still tells all, its column, and where the next line starts.
+// The result of a line of a Sparse_matrix: whether it is taken; whether the staging is still whole; and for a line that is
+// taken its column, and where the next line starts.
 struct TakenPair {
     taken: bool,
     whole: bool,
@@ -415,7 +418,7 @@ struct TakenPair {
     next: usize,
 }
 
-// A line that is no part of the run.
+// A line that is not part of the run.
 fn left_pair(whole: bool) -> TakenPair
     ensures { λ r. ⌜ r ≡ record { taken = false; whole = whole; column = 0; next = 0 } ⌝ }
 {
@@ -458,7 +461,7 @@ fn take_pair(text: &[u8], here: usize, values: u64, table: &mut [u64], row: u64)
     }
 }
 
-// What a run of lines of a Sparse_matrix changes of its rows.
+// The matrix after a run of lines of a Sparse_matrix, which changes only its rows.
 fn pairs_matrix(matrix: Matrix, least: u64, greatest: u64, fits: bool) -> Matrix
     ensures { λ r. ⌜ r ≡ pairsMatrix matrix least greatest fits ⌝ }
 {
@@ -548,7 +551,7 @@ fn pass_pairs(text: &[u8], at: usize, line: u64, part: Data, table: &mut [u64]) 
     pairs_passed(here, line_here, part, true, values, reached, named)
 }
 
-// A form with rows has one.
+// Whether a data line is allowed here: a form with rows must have had a [Row].
 fn is_ordered(matrix: Matrix) -> bool
     ensures { λ r. ⌜ (r ≡ true → Ordered matrix) ⌝ }
 {
@@ -559,7 +562,7 @@ fn is_ordered(matrix: Matrix) -> bool
     rows.row != 0
 }
 
-// A run of plain lines, which may be none.
+// A run of plain lines, perhaps empty.
 fn pass_run(text: &[u8], at: usize, line: u64, part: Data, table: &mut [u64]) -> Run
     requires { ⌜ at ≤ length (now text) ⌝ ∗ ⌜ line ≤ at + 1 ⌝ ∗ ⌜ BoundedStaging (part .staging) (part .values) ⌝ }
     ensures { λ r. ⌜ ResumesRun (now (text .entry)) at line part (now (table .entry)) r (now (table .exit)) ⌝ }
@@ -581,7 +584,8 @@ fn pass_run(text: &[u8], at: usize, line: u64, part: Data, table: &mut [u64]) ->
     pass_numbers(text, at, line, part, table)
 }
 
-// Goes over the lines of a matrix, up to the keyword that ends it.
+// Judges and stages the lines of a matrix. It stops before the keyword that ends the matrix, before a bracket that is not
+// read here, or after a line that breaks a rule.
 pub fn pass_data(
     text: &[u8],
     at: usize,

@@ -1,4 +1,4 @@
--- Laws of the words of a line that is not cut out of its text: what stands at a place is what the content of the line has there.
+-- Laws of the words of a line that is not cut out of its text: a word at an offset of the text is a word of the line's content.
 -- Assumes nothing.
 use mathlib.Core.Path.{_≡_, refl, sym, _∙_, ap}
 use mathlib.Core.Bool.{Bool, true, false, true≢false}
@@ -18,7 +18,7 @@ use Rattle.base.proofs.IfLaws.{if-true, if-false, by-cases, both-true, both-fir
 use Rattle.base.proofs.RunLaws.{run-nil, run-goes, run-stops, run-le, run-all, run-end, run-wider, run-take, run-on}
 use Rattle.lex_line.specs.Way.LineEnds.{lineAt}
 use Rattle.lex_line.specs.Words.{Word, wordGoesOn, grown, wordsFrom, words}
-use Rattle.lex_line.specs.Way.Spans.{wordAt, markedBy}
+use Rattle.lex_line.specs.Way.Spans.{wordSpan, markedBy}
 use Rattle.lex_line.proofs.WordLaws.{wordsAfter, after-at, after-none}
 use Rattle.lex_number.specs.Way.In.{isWord}
 use Rattle.read_line.specs.Reading.{commentByte}
@@ -43,7 +43,7 @@ run-both p q (b ∷ s) =
         (λ (f : p b ≡ false).
         run-stops p b (take (run q s) s) f ∙ sym (run-stops (λ (b : ℕ). both (q b) (p b)) b s (both-not-right _ _ f))))
 
--- past some bytes of a run the rest of it is left
+-- after some bytes of a run the rest of it is left
 run-later : (p : ℕ → Bool) (n : ℕ) (s : List ℕ) → n ≤ run p s → run p (drop n s) ≡ run p s - n
 run-later p zero s h = omega arith
 run-later p (suc n) [] h = absurd (not-suc-le-zero (rw (run-nil p) at h))
@@ -140,7 +140,7 @@ word-filled : (b : ℕ) → isContent commentByte b ≡ true → isBlank b ≡ f
 unfolding isWord isFilled
 word-filled b e f = both-true _ _ e (not-via f)
 
--- the run of words' bytes within a line
+-- the run of a word's bytes within a line
 word-run : (s : List ℕ) → run isFilled (take (run (isContent commentByte) s) s) ≡ run (isWord commentByte) s
 unfolding isWord
 word-run s = run-both isFilled (isContent commentByte) s
@@ -161,7 +161,7 @@ module _ (t : List ℕ) (at : ℕ) where
   content-long : length (contentAt t at) ≡ size
   content-long = rw content-is (length-take-le size rest (run-le (isContent commentByte) rest))
 
-  -- what is left behind some of its bytes is the content from there on
+  -- after some bytes of the content, what is left is the content from there on
   content-later : (j : ℕ) → j ≤ size → drop j (contentAt t at) ≡ contentAt t (at + j)
   unfolding lineAt
   content-later j h =
@@ -196,7 +196,7 @@ module _ (t : List ℕ) (at : ℕ) where
     start-byte : getD rest blanks 0 ≡ getD t start 0
     start-byte = getD-drop at t blanks 0 ∙ ap (λ (k : ℕ). getD t k 0) (sym begins)
 
-    -- where no word stands the line ends
+    -- if there is no word here, the line ends here
     module _ (none : both (ltb start (length t)) (isWord commentByte (getD t start 0)) ≡ false) where
       not-before : blanks < size → ⊥
       not-before h =
@@ -221,14 +221,14 @@ module _ (t : List ℕ) (at : ℕ) where
       ends-here = let e : blanks ≡ size = blanks-all in omega arith
 
       pub no-words : words (contentAt t at) ≡ []
-      unfolding wordAt
+      unfolding wordSpan
       no-words =
           let l : length (contentAt t at) ≡ size = content-long in
           let e : runEnd isBlank (contentAt t at) 0 ≡ blanks = blanks-are in
           let f : blanks ≡ size = blanks-all in
           after-none (contentAt t at) 0 (omega arith)
 
-    -- where one stands it is the first, and those behind it are the words from its end on
+    -- if there is a word here, it is the first, and the others are the words from its end on
     module _ (there : both (ltb start (length t)) (isWord commentByte (getD t start 0)) ≡ true) where
       before : blanks < size
       before =
@@ -275,8 +275,8 @@ module _ (t : List ℕ) (at : ℕ) where
       left-content : drop blanks (contentAt t at) ≡ take (run (isContent commentByte) (drop start t)) (drop start t)
       left-content = rw content-is (drop-part blanks size rest ∙ rw (left-is, left-size) refl)
 
-      word-is : wordAt (contentAt t at) 0 ≡ record { start = blanks; end = blanks + long }
-      unfolding wordAt
+      word-is : wordSpan (contentAt t at) 0 ≡ record { start = blanks; end = blanks + long }
+      unfolding wordSpan
       word-is = rw (blanks-are, left-content, word-run (drop start t)) refl
 
       word-bytes : markedBy (contentAt t at) (record { start = blanks; end = blanks + long }) ≡ take long (drop start t)
@@ -293,8 +293,8 @@ module _ (t : List ℕ) (at : ℕ) where
         one-word =
             let n : end - start ≡ long = omega arith in
             let l : length (contentAt t at) ≡ size = content-long in
-            let e : wordAt (contentAt t at) 0 ≡ record { start = blanks; end = blanks + long } = word-is in
-            let h : wordAt (contentAt t at) 0 .start < length (contentAt t at) = rw (e, l) before in
+            let e : wordSpan (contentAt t at) 0 ≡ record { start = blanks; end = blanks + long } = word-is in
+            let h : wordSpan (contentAt t at) 0 .start < length (contentAt t at) = rw (e, l) before in
             after-at (contentAt t at) 0 h
             ∙ rw e (rw n (ap (λ (w : List ℕ). w ∷ wordsAfter (contentAt t at) (blanks + long)) word-bytes
             ∙ ap (λ (ws : List (List ℕ)). take long (drop start t) ∷ ws) (words-later (blanks + long) long-within ∙ ap (λ (k : ℕ). words (contentAt t k)) end-is)))

@@ -1,4 +1,4 @@
--- Laws of one line that is noted: what its numbers store is what the document says, whatever lines come after it.
+-- Laws of one line that is staged: its numbers are stored as the document says, whatever lines come after it.
 -- Assumes nothing.
 use mathlib.Core.Path.{_≡_, refl, sym, _∙_, ap}
 use mathlib.Core.Bool.{Bool, true, false, not, true≢false}
@@ -20,7 +20,7 @@ use Rattle.lex_line.specs.Way.LineEnds.{lineAt}
 use Rattle.lex_line.specs.Words.{words, firstOf}
 use Rattle.lex_number.specs.Number.{isSign, numberOf, isFormed, isBounded}
 use Rattle.lex_number.specs.Integer.{wholeOf}
-use Rattle.lex_number.specs.Way.In.{isWord, isSpelling, isValue, numberIn}
+use Rattle.lex_number.specs.Way.In.{isWord, isSpelling, isGoodNumber, numberIn}
 use Rattle.lex_number.specs.declared.Number.{Number}
 use Rattle.lex_number.specs.declared.Number.the-variants.{Value, Malformed, Range}
 use Rattle.lex_number.specs.declared.NumberAt.{NumberAt}
@@ -51,7 +51,7 @@ use Rattle.read_numbers.specs.declared.Staging.{Staging}
 use Rattle.read_numbers.specs.declared.Numbers.{Numbers}
 use Rattle.read_numbers.specs.declared.Pair.{Pair}
 use Rattle.read_numbers.specs.Way.Staging.{BoundedStaging, Adds, movedTo, namedTo, StagesNumbers, StagesPair}
-use Rattle.read_numbers.specs.Way.Steps.{numbersOf, Stored, Stores, pairOf}
+use Rattle.read_numbers.specs.Way.Steps.{numbersResult, Stored, Stores, pairOf}
 use Rattle.read_numbers.proofs.InTextLaws.{ends-here, no-words, one-word, same-end, word-on}
 
 -- ---- the words of values, stored one after another
@@ -62,7 +62,7 @@ sets-append l at (x ∷ xs) ys =
     let e : suc at + length xs ≡ at + suc (length xs) = omega arith in
     sets-append (set l at x) (suc at) xs ys ∙ ap (λ (k : ℕ). sets (sets (set l at x) (suc at) xs) k ys) e
 
--- what stands before the place is kept
+-- words before the position do not change
 take-sets : (n : ℕ) (l : List ℕ) (at : ℕ) (xs : List ℕ) → n ≤ at → take n (sets l at xs) ≡ take n l
 take-sets n l at [] h = refl
 take-sets n l at (x ∷ xs) h = take-sets n (set l at x) (suc at) xs (omega arith) ∙ take-set-le n l at x h
@@ -92,7 +92,7 @@ words-length (v ∷ vs) =
     let e : length (valuesWords (v ∷ vs)) ≡ suc (suc (suc (length (valuesWords vs)))) = ap length (words-cons v vs) in
     omega arith
 
--- values behind values that are stored
+-- values stored after values that are stored already
 stored-on : (table : List ℕ) (values : ℕ) (vs ws : List document.Value) (n : ℕ) → n ≡ length vs →
     sets (sets table (3 * values) (valuesWords vs)) (3 * (values + n)) (valuesWords ws) ≡ sets table (3 * values) (valuesWords (vs ++ ws))
 stored-on table values vs ws n e =
@@ -102,7 +102,7 @@ stored-on table values vs ws n e =
     ∙ sym (sets-append table (3 * values) (valuesWords vs) (valuesWords ws))
     ∙ ap (sets table (3 * values)) (sym (words-append vs ws))
 
--- ---- a line that adds these values, and leads on to where those of the next lines stand
+-- ---- a line that adds these values, and leads on to the values of the next lines
 
 module _ (table : List ℕ) (values : ℕ) (table' : List ℕ) (vs : List document.Value) (stored : table' ≡ sets table (3 * values) (valuesWords vs)) where
   long-kept : length table' ≡ length table
@@ -189,17 +189,17 @@ none-bounded : areBounded [] ≡ true
 unfolding areBounded
 none-bounded = refl
 
-value-formed : (n : Number) → isValue n ≡ true → isFormed n ≡ true
+value-formed : (n : Number) → isGoodNumber n ≡ true → isFormed n ≡ true
 value-formed (Value w) e = refl
 value-formed Malformed e = e
 value-formed Range e = refl
 
-value-bounded : (n : Number) → isValue n ≡ true → isBounded n ≡ true
+value-bounded : (n : Number) → isGoodNumber n ≡ true → isBounded n ≡ true
 value-bounded (Value w) e = refl
 value-bounded Malformed e = refl
 value-bounded Range e = e
 
--- what the loop has: the numbers that are left give what all of them give
+-- the loop's invariant: the numbers that are left give what all of them give
 pub record Left (form : ℕ) (t : List ℕ) (from : ℕ) (table₀ : List ℕ) (values row₀ column₀ at : ℕ) (c : Cursor) (table : List ℕ) : Type 0 where
   pub counted : c .count + length (words (contentAt t at)) ≡ length (words (contentAt t from))
   pub formed : areFormed (words (contentAt t at)) ≡ areFormed (words (contentAt t from))
@@ -235,9 +235,9 @@ left-start form t from table values row column =
 
 module _ (form : ℕ) (t : List ℕ) (from : ℕ) (table₀ : List ℕ) (values row column at : ℕ) (c : Cursor) (table : List ℕ)
     (left : Left form t from table₀ values row column at c table) where
-  -- where they are not noted the front of the table is kept
-  pub left-unstaged : (end : ℕ) (r : Numbers) → r ≡ numbersOf false c end → Stores form t from table₀ values row column table r
-  unfolding numbersOf
+  -- if they are not staged, the front of the table is unchanged
+  pub left-unstaged : (end : ℕ) (r : Numbers) → r ≡ numbersResult false c end → Stores form t from table₀ values row column table r
+  unfolding numbersResult
   left-unstaged end r e =
       rw e
       (record {
@@ -247,7 +247,7 @@ module _ (form : ℕ) (t : List ℕ) (from : ℕ) (table₀ : List ℕ) (values 
         told = λ (w : false ≡ true). absurd (true≢false (sym w));
       })
 
-  -- every place with room for a number takes one, and no sum wraps
+  -- a number can be stored wherever there is room for it, and no sum wraps
   pub left-roomy : row ≤ mostGiven + values → column ≤ mostGiven + values → values ≤ mostValues → length table₀ * 8 < 2 ^ 63 → (free : Bool) →
       (free ≡ true → c .place + 3 ≤ length table) → not free ≡ false → Roomy (length table) c
   left-roomy row-few column-few few small free has tested =
@@ -305,8 +305,8 @@ module _ (form : ℕ) (t : List ℕ) (from : ℕ) (table₀ : List ℕ) (values 
             room = left .room;
           }
 
-      pub left-done : (r : Numbers) → r ≡ numbersOf true c start → Stores form t from table₀ values row column table r
-      unfolding numbersOf
+      pub left-done : (r : Numbers) → r ≡ numbersResult true c start → Stores form t from table₀ values row column table r
+      unfolding numbersResult
       left-done r e =
           rw e
           (record {
@@ -316,7 +316,7 @@ module _ (form : ℕ) (t : List ℕ) (from : ℕ) (table₀ : List ℕ) (values 
             told = λ (w : true ≡ true). all-told;
           })
 
-    -- a number more
+    -- one number more
     module _ (tested : not there ≡ false) (read : NumberAt) (told : read ≡ numberIn commentByte t start) where
       stands : both (ltb start (length t)) (isWord commentByte (getD t start 0)) ≡ true
       stands = sym told-there ∙ not-false there tested
@@ -344,8 +344,8 @@ module _ (form : ℕ) (t : List ℕ) (from : ℕ) (table₀ : List ℕ) (values 
           let g : start < length t = ltb-true start (length t) (both-first _ _ stands) in
           omega arith
 
-      module _ (value : Bool) (value-told : value ≡ isValue (read .number)) (fine : not value ≡ false) where
-        is-value : isValue (read .number) ≡ true
+      module _ (value : Bool) (value-told : value ≡ isGoodNumber (read .number)) (fine : not value ≡ false) where
+        is-value : isGoodNumber (read .number) ≡ true
         is-value = sym value-told ∙ not-false value fine
 
         module _ (table' : List ℕ) (stored : table' ≡ sets table (c .place) (c .row ∷ c .column ∷ wordIn (read .number) ∷ []))

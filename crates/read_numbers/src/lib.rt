@@ -1,5 +1,6 @@
-// A line of numbers judged and noted at once: each number is read where it stands in the text, and its row, column and value word are stored at
-// the front of the lent table, behind those of the values read before it. A line is gone over once: where it ends is seen by the way.
+// Judges and stages a line of numbers in one pass: each number is read directly from the text, and its row, column and
+// value word are stored at the front of the lent table, after the values that were read before it. A line is read once:
+// its end is found as its last number is read.
 ghost use mathlib.Core.Path.{_≡_};
 ghost use mathlib.Core.Bool.{true, false};
 ghost use Prim.Native.Nat.{_+_, _≤_};
@@ -7,7 +8,7 @@ ghost use Rattle.line_matrix.specs.Matrix.{sparse, mostValues};
 ghost use Rattle.read_line.specs.Way.Walk.{contentAt};
 ghost use Rattle.store_matrices.specs.Way.Numbers.{mostGiven};
 ghost use Rattle.read_numbers.specs.Way.Staging.{StagesNumbers, StagesPair};
-ghost use Rattle.read_numbers.specs.Way.Steps.{Stores, numbersOf, pairOf};
+ghost use Rattle.read_numbers.specs.Way.Steps.{Stores, numbersResult, pairOf};
 use store_matrices::Cursor;
 use store_matrices::First;
 
@@ -17,8 +18,8 @@ const COMMENT: u8 = b'|';
 // How many words a value has.
 const WORDS: usize = 3;
 
-// What the lines of a matrix have said so far: whether all their numbers are noted, where the next number stands, the bandwidth, and the
-// greatest row or column that is named.
+// What the lines of a matrix have given so far: whether all their numbers are staged, the row and column of the next
+// number, the bandwidth, and the greatest row or column that is named.
 pub struct Staging {
     pub whole: bool,
     pub row: u64,
@@ -27,8 +28,8 @@ pub struct Staging {
     pub greatest: u64,
 }
 
-// What a line of numbers comes to: whether all are numbers within their bounds and noted, and then how many they are, where the next number
-// stands, and where the line's content ends.
+// The result of a line of numbers: whether all its words are numbers within their bounds and are staged. If so: how many
+// they are, the row and column of the next number, and where the line's content ends.
 pub struct Numbers {
     pub staged: bool,
     pub count: u64,
@@ -37,15 +38,15 @@ pub struct Numbers {
     pub end: usize,
 }
 
-// What a line of a Sparse_matrix comes to: whether column and value are within their bounds and noted, and then the column, and where the
-// line's content ends.
+// The result of a line of a Sparse_matrix: whether column and value are within their bounds and staged. If so: the column,
+// and where the line's content ends.
 pub struct Pair {
     pub staged: bool,
     pub column: u64,
     pub end: usize,
 }
 
-// Whether a table of so many words has room for a value at a place.
+// Whether a table of `words` words has room for a value at position `place`.
 fn has_room(place: usize, words: usize) -> bool
     ensures { λ r. ⌜ (r ≡ true → place + 3 ≤ words) ⌝ }
 {
@@ -56,7 +57,7 @@ fn has_room(place: usize, words: usize) -> bool
 }
 
 fn numbers_of(staged: bool, cursor: Cursor, end: usize) -> Numbers
-    ensures { λ r. ⌜ r ≡ numbersOf staged cursor end ⌝ }
+    ensures { λ r. ⌜ r ≡ numbersResult staged cursor end ⌝ }
 {
     Numbers {
         staged,
@@ -67,8 +68,8 @@ fn numbers_of(staged: bool, cursor: Cursor, end: usize) -> Numbers
     }
 }
 
-// The numbers from a place up to the end of its line, the first of which stands in this row and column: each is read where it stands and
-// stored. Where one is none, or out of its bounds, or there is no room, they are not noted.
+// Reads and stores the numbers from offset `from` to the end of the line; the first belongs at this row and column. If a
+// word is no number or out of its bounds, or if there is no room, the line is not staged.
 fn store_numbers(
     text: &[u8],
     from: usize,
@@ -106,7 +107,7 @@ fn store_numbers(
     }
 }
 
-// A line of numbers, the first of which stands in this row and column.
+// A line of numbers, the first of which belongs at this row and column.
 pub fn read_numbers(
     text: &[u8],
     here: usize,
@@ -122,7 +123,7 @@ pub fn read_numbers(
     store_numbers(text, here, form, values, table, row, column)
 }
 
-// A line of a Sparse_matrix that is not noted.
+// A line of a Sparse_matrix that is not staged.
 fn no_pair(end: usize) -> Pair
     ensures { λ r. ⌜ r ≡ record { staged = false; column = 0; end = end } ⌝ }
 {
@@ -149,7 +150,7 @@ fn pair_of(column: u64, numbers: Numbers) -> Pair
     }
 }
 
-// A line of a Sparse_matrix, which has a word: a column, and behind it a value.
+// A line of a Sparse_matrix: a column, then a value. A line without a word is not staged.
 pub fn read_pair(text: &[u8], here: usize, values: u64, table: &mut [u64], row: u64) -> Pair
     requires { ⌜ row ≤ mostGiven + values ⌝ ∗ ⌜ values ≤ mostValues ⌝ }
     ensures { λ r. ⌜ StagesPair (now (text .entry)) here (now (table .entry)) values row (now (table .exit)) r ⌝ }

@@ -1,5 +1,5 @@
--- Laws of the notes that the walk carries: none at the start, one more behind a matrix, and what is carried stays true while values are
--- added and the table is changed behind those that have been read.
+-- Laws of the staged matrices that the walk carries along: none at the start, and one more after each matrix. They stay right
+-- while values are added and the table changes only after the values that are read.
 -- Assumes nothing.
 use mathlib.Core.Path.{_≡_, refl, sym, _∙_, ap, subst}
 use mathlib.Core.Bool.{true, false}
@@ -52,7 +52,7 @@ carries-start t table stage v e =
         ap (λ (u : List ℕ). getD u (stagedSize * i + 4) 0) e ∙ zeros-at (length stage) (stagedSize * i + 4) in
         omega arith
 
--- ---- more values, and a table that is changed behind them
+-- ---- more values, and a table that changes only after them
 
 pub carries-more : (t table stage : List ℕ) (v v' : ℕ) → Carries t table stage v → v ≤ v' → Carries t table stage v'
 carries-more t table stage v v' c h =
@@ -65,7 +65,7 @@ pub carries-on : (t table stage : List ℕ) (at line : ℕ) (s : State) (r : Wal
     ResumesText t at line s r → r .rule ≡ 0 → Carries t table stage (r .state .counts .values)
 carries-on t table stage at line s r c reached z = carries-more t table stage (s .counts .values) (r .state .counts .values) c (reached .rises z)
 
--- words from a place on, cut out of the first words
+-- words from a position on, cut out of the first words
 part-of-front : (a b : ℕ) (l : List ℕ) → take b (drop a l) ≡ drop a (take (a + b) l)
 part-of-front zero b l = ap (λ (n : ℕ). take n l) (sym (zero-add b))
 part-of-front (suc a) b [] = take-nil b ∙ sym (ap (drop (suc a)) (take-nil (suc a + b)))
@@ -88,7 +88,7 @@ carries-behind t table table' stage v c behind = record { staged = record { tell
         let e : wordsOf table' 0 n ≡ wordsOf table 0 n = part-same (0 + 3 * n .first) (3 * n .count) (3 * v) table table' h (behind .same) in
         rw e (c .staged .tells i made from)
 
--- ---- one note more
+-- ---- one staged matrix more
 
 module _ (d : ℕ) where
   getD-sets-before : (vs l : List ℕ) (i j : ℕ) → j < i → getD (sets l i vs) j d ≡ getD l j d
@@ -116,7 +116,7 @@ module _ (d : ℕ) where
       let m : length (set l i a) ≡ length l = length-set l i a in
       ap (λ (j : ℕ). getD (sets (set l i a) (suc i) vs) j d) e ∙ getD-sets-in vs (set l i a) (suc i) k (omega arith) (omega arith)
 
--- a note whose nine words are these
+-- a staged matrix with these nine words
 staged-is : (stage : List ℕ) (i : ℕ) (n : StagedMatrix) → ((k : ℕ) → k < 9 → getD stage (stagedSize * i + k) 0 ≡ getD (stagedWords n) k 0) → stagedAt stage i ≡ n
 unfolding stagedAt
 staged-is stage i n e =
@@ -125,7 +125,7 @@ staged-is stage i n e =
     rw (z, word 1 (omega arith), word 2 (omega arith), word 3 (omega arith), word 4 (omega arith)) (
     rw (word 5 (omega arith), word 6 (omega arith), word 7 (omega arith), word 8 (omega arith)) refl)
 
--- each of the nine words of a note
+-- each of the nine words of a staged matrix
 word-of : (stage : List ℕ) (j k : ℕ) → k < 9 → getD stage (stagedSize * j + k) 0 ≡ getD (stagedWords (stagedAt stage j)) k 0
 unfolding stagedAt
 word-of stage j zero h = ap (λ (x : ℕ). getD stage x 0) (add-zero (stagedSize * j))
@@ -164,7 +164,7 @@ module _ (stage : List ℕ) (i : ℕ) (n : StagedMatrix) (room : stagedSize * i 
       words-at : (k : ℕ) → k < 9 → getD (sets stage (stagedSize * i) (stagedWords n)) (stagedSize * j + k) 0 ≡ getD (stagedWords (stagedAt stage j)) k 0
       words-at k h = other-word j k h differ ∙ word-of stage j k h
 
--- whatever holds of a note and of each before it holds of each behind it
+-- what holds of the matrix that is staged now and of those staged before holds of all afterwards
 pub staged-after : (P : StagedMatrix → Type 0) (matrices : ℕ) (n : StagedMatrix) (stage : List ℕ) (j : ℕ) → P (stagedAt stage j) → P n →
     P (stagedAt (stageAfter matrices (stagedWords n) stage) j)
 unfolding stageAfter
@@ -264,7 +264,7 @@ module _ (at line : ℕ) (m : Matrix) (values matrices : ℕ) (w : BodyWalk) (st
     unfolding stageBehind
     behind-staged z stage' told t e = rw t at e ∙ sym (if-true _ _ staged ∙ if-true _ _ (eq-eqb _ _ z))
 
--- ---- behind the whole text
+-- ---- after the whole text
 
 abbrev CarriesRead : List ℕ → List ℕ → List ℕ → Reading → Type 0
 CarriesRead t table stage r = (c : Counts) → r ≡ Read c → Carries t table stage (c .values)

@@ -1,5 +1,5 @@
-// The walk over a whole text, rules 5 to 17: it goes from line to line, and notes each matrix as it goes, so that nobody has to read its
-// numbers again.
+// The walk over a whole text, rules 5 to 17: it reads the lines in order and stages each matrix on the way, so that the
+// numbers of a matrix are never read again.
 ghost use mathlib.Core.Path.{_≡_};
 ghost use Prim.Native.Nat.{_≤_, _<_};
 ghost use lib.ListN.{length, replicate};
@@ -15,13 +15,14 @@ use read_line::Reading;
 use read_line::Walk;
 use read_matrix::BodyWalk;
 
-// How many words a note has.
+// How many words describe a staged matrix.
 const STAGED: usize = 9;
 
-// A text that is accepted has no more matrices.
+// An accepted text has at most this many matrices.
 const MOST_MATRICES: u64 = 1024;
 
-// The words of a note, at the place of the matrix that was opened last, if there is one.
+// Stores the words of a staged matrix at the index of the matrix that was opened last. Nothing is stored if there is no such
+// matrix or no room.
 fn put_staged(stage: &mut [u64], matrices: u64, words: &[u64])
     requires { ⌜ length (now words) ≡ 9 ⌝ }
     ensures { λ _. ⌜ now (stage .exit) ≡ stageAfter matrices (now (words .entry)) (now (stage .entry)) ⌝ }
@@ -39,7 +40,7 @@ fn put_staged(stage: &mut [u64], matrices: u64, words: &[u64])
     base::put_words(stage, at, words);
 }
 
-// Notes a matrix whose numbers are all stored: which lines it has, and what they say.
+// Stages a matrix whose numbers are all stored: which lines it has, and what they give.
 fn stage_matrix(
     at: usize,
     line: u64,
@@ -75,7 +76,7 @@ fn stage_matrix(
     put_staged(stage, matrices, &words);
 }
 
-// The lines of a matrix up to the keyword that ends it, or that keyword's line.
+// Reads the lines of a matrix up to the keyword that ends it. If that keyword comes first, its line is read instead.
 fn read_data(
     text: &[u8],
     at: usize,
@@ -118,7 +119,7 @@ fn read_data(
     read_line::read_one(text, at, line, s)
 }
 
-// The line at a place, or lines that change nothing or one part alone.
+// Reads the line at offset `at`, or several lines that change nothing or only one part of the state.
 fn read_line(
     text: &[u8],
     at: usize,
@@ -152,8 +153,8 @@ fn read_line(
     read_line::read_one(text, at, line, s)
 }
 
-// Rules 5 to 17 over a whole text: the counts of all records, or the rule that is broken first and its line. Where none is broken, every
-// note that is made tells the truth of the words at the front of the table.
+// Rules 5 to 17 over a whole text: the counts of all records, or the rule that is broken first and its line. If none is
+// broken, every staged matrix is right about its lines and about the words of its values at the front of the table.
 pub fn read(text: &[u8], table: &mut [u64], stage: &mut [u64]) -> Reading
     requires { ⌜ now stage ≡ replicate (length (now stage)) 0 ⌝ }
     ensures { λ r. ⌜ (r ≡ readingOf (now (text .entry)))

@@ -31,7 +31,7 @@ use Rattle.read_line.specs.Reading.{listRule, lineRule, goes, breaks, judged, l
 use Rattle.read_line.specs.declared.LineResult.{LineResult}
 use Rattle.read_line.specs.declared.Reading.{Reading}
 use Rattle.read_line.specs.declared.Reading.the-variants.{Read, Refused}
-use Rattle.doc.specs.Document.{Named, LineResult as PathStep, Model, Map, Section, Document}
+use Rattle.doc.specs.Document.{Named, Step as PathStep, Model, Map, Section, Document}
 use Rattle.doc.specs.Holds.{Each}
 use Rattle.doc.specs.Holds.Each.{none, more}
 use Rattle.doc.proofs.StandsLaws.{each-append}

@@ -12,7 +12,7 @@ use lib.Dec.{eqb}
 use borrow.Author.Tests.{eq-eqb, ne-eqb, eqb-true, eqb-false}
 use Rattle.base.proofs.IfLaws.{if-true, if-false, by-cases}
 use Rattle.table_layout.specs.Layout.{widths}
-use Rattle.table_layout.specs.Way.Filling.{Write, partOf, widthOf, position, counted, tableAfter, fillingAfter, Fits}
+use Rattle.table_layout.specs.Way.Filling.{Write, partOf, widthOf, position, counted, tableStored, fillingAfter, Fits}
 use Rattle.table_layout.specs.declared.Filling.{Filling}
 use Rattle.table_layout.proofs.FillingLaws.{after-append, filling-append, length-after, fits-first, fits-rest, fits-part, fits-width, fits-room, fits-next, kept-above}
 use Rattle.store_base.specs.Way.Stores.{Stores}
@@ -25,7 +25,7 @@ module _ (f : Filling) (t : List ℕ) (w : Write) where
       rw (p, e) (fits-part size f w [] h, fits-width size f w [] h, fits-room size f w [] h)
 
   pub put-stored : (part : ℕ) (words : List ℕ) (r : Filling) (t' : List ℕ) → part ≡ w .part → words ≡ w .words → r ≡ counted f part → t' ≡ sets t (position f part) words → Stores f t (w ∷ []) r t'
-  unfolding tableAfter fillingAfter
+  unfolding tableStored fillingAfter
   put-stored part words r t' p e k h =
       record {
         stored = h ∙ (λ i. sets t (position f (p i)) (e i));
@@ -35,21 +35,21 @@ module _ (f : Filling) (t : List ℕ) (w : Write) where
 -- ---- records one after another
 
 pub stores-none : (f : Filling) (t : List ℕ) → Stores f t [] f t
-unfolding tableAfter fillingAfter
+unfolding tableStored fillingAfter
 stores-none f t = record { stored = refl; filled = refl }
 
 module _ (f g h : Filling) (t u v : List ℕ) (ws vs : List Write) where
   pub stores-join : Stores f t ws g u → Stores g u vs h v → Stores f t (ws ++ vs) h v
   stores-join a b =
       record {
-        stored = b .stored ∙ (λ i. tableAfter vs (a .filled i) (a .stored i)) ∙ sym (after-append ws vs f t);
+        stored = b .stored ∙ (λ i. tableStored vs (a .filled i) (a .stored i)) ∙ sym (after-append ws vs f t);
         filled = b .filled ∙ ap (fillingAfter vs) (a .filled) ∙ sym (filling-append ws vs f);
       }
 
 -- the records ws, still to be stored, give what ws₀ gave that were to be stored at the start; they fit below `size`, and nothing above it
 -- has changed
 pub record Pending (size : ℕ) (f₀ : Filling) (t₀ : List ℕ) (ws₀ : List Write) (f : Filling) (t : List ℕ) (ws : List Write) : Type 0 where
-  pub image : tableAfter ws f t ≡ tableAfter ws₀ f₀ t₀
+  pub image : tableStored ws f t ≡ tableStored ws₀ f₀ t₀
   pub counts : fillingAfter ws f ≡ fillingAfter ws₀ f₀
   pub fits : Fits size f ws
   pub long : length t ≡ length t₀
@@ -74,7 +74,7 @@ module _ (size : ℕ) (f₀ : Filling) (t₀ : List ℕ) (ws₀ : List Write) (f
   pub pending-step : (ws vs : List Write) (g : Filling) (u : List ℕ) → Pending size f₀ t₀ ws₀ f t (ws ++ vs) → Stores f t ws g u → Pending size f₀ t₀ ws₀ g u vs
   pending-step ws vs g u p s =
       record {
-        image = (λ i. tableAfter vs (s .filled i) (s .stored i)) ∙ sym (after-append ws vs f t) ∙ p .image;
+        image = (λ i. tableStored vs (s .filled i) (s .stored i)) ∙ sym (after-append ws vs f t) ∙ p .image;
         counts = ap (fillingAfter vs) (s .filled) ∙ sym (filling-append ws vs f) ∙ p .counts;
         fits = rw (s .filled) (fits-rest size f ws vs (p .fits));
         long = ap length (s .stored) ∙ length-after ws f t ∙ p .long;
@@ -83,7 +83,7 @@ module _ (size : ℕ) (f₀ : Filling) (t₀ : List ℕ) (ws₀ : List Write) (f
       }
 
   pub pending-done : Pending size f₀ t₀ ws₀ f t [] → Stores f₀ t₀ ws₀ f t
-  unfolding tableAfter fillingAfter
+  unfolding tableStored fillingAfter
   pending-done p = record { stored = p .image; filled = p .counts }
 
   -- the same records, told otherwise

@@ -15,7 +15,7 @@ use Rattle.base.proofs.IfLaws.{if-true, if-false, by-cases}
 use Rattle.base.specs.Bytes.{isBlank}
 use Rattle.base.specs.Way.Class.{runEnd}
 use Rattle.lex_line.specs.Words.{words, firstOf, secondOf}
-use Rattle.lex_line.specs.Way.Spans.{wordAt, markedBy, firstTwoOf}
+use Rattle.lex_line.specs.Way.Spans.{wordSpan, markedBy, firstTwoOf}
 use Rattle.lex_line.specs.declared.Span.{Span}
 use Rattle.lex_line.proofs.WordLaws.{wordsAfter, after-at, after-none, after-past, end-past, word-within, first-marked, second-marked}
 use Rattle.lex_number.specs.Number.{numberOf}
@@ -194,7 +194,7 @@ module _ (form : ℕ) (content : List ℕ) (s₀ : Spot) (table₀ : List ℕ) (
   pub numbers-past : length content ≤ at → FillsNumbers form content table₀ s₀ s table
   numbers-past h = numbers-done (after-past content at h)
 
-  module _ (word : Span) (is-word : word ≡ wordAt content at) where
+  module _ (word : Span) (is-word : word ≡ wordSpan content at) where
     pub numbers-end : length content ≤ word .start → FillsNumbers form content table₀ s₀ s table
     numbers-end h = numbers-done (after-none content at (rw is-word at h))
 
@@ -288,19 +288,19 @@ module _ (form : ℕ) (content table : List ℕ) (s : Spot) (puts : PutsNumbers 
       }
 
   module _ (start : ℕ) (begins : start ≡ runEnd isBlank content 0) where
-    start-is : wordAt content 0 .start ≡ start
-    unfolding wordAt
+    start-is : wordSpan content 0 .start ≡ start
+    unfolding wordSpan
     start-is = sym begins
 
     pub numbers-nothing : length content ≤ start → FillsNumbers form content table s s table
-    numbers-nothing h = numbers-end form content s table 0 s table (numbers-start form content table s puts) (wordAt content 0) refl (rw start-is h)
+    numbers-nothing h = numbers-end form content s table 0 s table (numbers-start form content table s puts) (wordSpan content 0) refl (rw start-is h)
 
     pub cursor-below : length table * 8 < 2 ^ 63 → start < length content → position (s .filling) 6 < 9_223_372_036_854_775_808
     unfolding widthOf
     cursor-below b h =
-        let p : PutsNumber (markedBy content (wordAt content 0)) table s = numbers-puts form content s table 0 s table (numbers-start form content table s puts) (wordAt content 0) refl (rw start-is h) (markedBy content (wordAt content 0)) refl in
+        let p : PutsNumber (markedBy content (wordSpan content 0)) table s = numbers-puts form content s table 0 s table (numbers-start form content table s puts) (wordSpan content 0) refl (rw start-is h) (markedBy content (wordSpan content 0)) refl in
         let q : (6 < length widths) × (_≡_ {A = ℕ} 3 (widthOf 6)) × (position (s .filling) 6 + widthOf 6 ≤ length table) =
-        value-asked (numberHere (markedBy content (wordAt content 0)) s) (s .filling) (length table) (p .fits) in
+        value-asked (numberHere (markedBy content (wordSpan content 0)) s) (s .filling) (length table) (p .fits) in
         let r : position (s .filling) 6 + 3 ≤ length table = q .2 in
         omega arith
 
@@ -328,22 +328,22 @@ module _ (form : ℕ) (content : List ℕ) (s₀ : Spot) (table₀ : List ℕ) (
 
   module _ (start : ℕ) (begins : start ≡ runEnd isBlank content at) where
     pub cursor-end : (r : Spot) → length content ≤ start → r ≡ spotOf (s₀ .filling) c → FillsNumbers form content table₀ s₀ r table
-    unfolding wordAt
-    cursor-end r h e = rw e (numbers-end form content s₀ table₀ at (spotOf (s₀ .filling) c) table (inv .left) (wordAt content at) refl (rw begins at h))
+    unfolding wordSpan
+    cursor-end r h e = rw e (numbers-end form content s₀ table₀ at (spotOf (s₀ .filling) c) table (inv .left) (wordSpan content at) refl (rw begins at h))
 
     module _ (there : start < length content) where
       -- the first of the numbers that are left fits
-      first-puts : PutsNumber (markedBy content (wordAt content at)) table (spotOf (s₀ .filling) c)
-      unfolding wordAt
-      first-puts = numbers-puts form content s₀ table₀ at (spotOf (s₀ .filling) c) table (inv .left) (wordAt content at) refl (rw begins at there) (markedBy content (wordAt content at)) refl
+      first-puts : PutsNumber (markedBy content (wordSpan content at)) table (spotOf (s₀ .filling) c)
+      unfolding wordSpan
+      first-puts = numbers-puts form content s₀ table₀ at (spotOf (s₀ .filling) c) table (inv .left) (wordSpan content at) refl (rw begins at there) (markedBy content (wordSpan content at)) refl
 
       pub cursor-roomy : length table₀ * 8 < 2 ^ 63 → Roomy (length table) c
       unfolding widthOf spotOf
       cursor-roomy b =
           let g : length table ≡ length table₀ = inv .left .pending .long in
-          let p : PutsNumber (markedBy content (wordAt content at)) table (spotOf (s₀ .filling) c) = first-puts in
+          let p : PutsNumber (markedBy content (wordSpan content at)) table (spotOf (s₀ .filling) c) = first-puts in
           let q : (6 < length widths) × (_≡_ {A = ℕ} 3 (widthOf 6)) × (position (spotOf (s₀ .filling) c .filling) 6 + widthOf 6 ≤ length table) =
-          value-asked (numberHere (markedBy content (wordAt content at)) (spotOf (s₀ .filling) c)) (spotOf (s₀ .filling) c .filling) (length table) (p .fits) in
+          value-asked (numberHere (markedBy content (wordSpan content at)) (spotOf (s₀ .filling) c)) (spotOf (s₀ .filling) c .filling) (length table) (p .fits) in
           let r : position (spotOf (s₀ .filling) c .filling) 6 + 3 ≤ length table = q .2 in
           let l : c .place ≡ position (spotOf (s₀ .filling) c .filling) 6 = inv .place-is in
           let m : position (spotOf (s₀ .filling) c .filling) 6 ≡ getD (s₀ .filling .bases) 6 0 + 3 * c .count = position-in (s₀ .filling) c (inv .seven) in
@@ -356,7 +356,7 @@ module _ (form : ℕ) (content : List ℕ) (s₀ : Spot) (table₀ : List ℕ) (
         abbrev here : Span
         here = record { start = start; end = read .end }
 
-        is-here : here ≡ wordAt content at
+        is-here : here ≡ wordSpan content at
         is-here = placed-found content at start read begins told
 
         pub cursor-less : at < length content → length content - read .end < length content - at
@@ -389,7 +389,7 @@ module _ (form : ℕ) (content : List ℕ) (s₀ : Spot) (table₀ : List ℕ) (
 
 -- ---- a line of a Sparse_matrix
 
-module _ (content : List ℕ) (row : ℕ) (word : Span) (is-word : word ≡ wordAt content 0) (first : List ℕ) (is-first : first ≡ markedBy content word)
+module _ (content : List ℕ) (row : ℕ) (word : Span) (is-word : word ≡ wordSpan content 0) (first : List ℕ) (is-first : first ≡ markedBy content word)
     (whole : Whole) (is-whole : whole ≡ wholeOf first) (start : ℕ) (begins : start ≡ runEnd isBlank content (word .end)) (read : NumberAt)
     (is-read : read ≡ numberAt content start) where
   first-is : first ≡ markedBy content (firstTwoOf content .first)
@@ -397,7 +397,7 @@ module _ (content : List ℕ) (row : ℕ) (word : Span) (is-word : word ≡ word
   first-is = is-first ∙ ap (markedBy content) is-word
 
   read-is : read ≡ numberAt content (firstTwoOf content .second .start)
-  unfolding firstTwoOf wordAt
+  unfolding firstTwoOf wordSpan
   read-is = is-read ∙ ap (numberAt content) (begins ∙ ap (λ (w : Span). runEnd isBlank content (w .end)) is-word)
 
   pub column-told : whole .value ≡ wholeOf (firstOf (words content)) .value

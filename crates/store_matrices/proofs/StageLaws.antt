@@ -16,7 +16,7 @@ use borrow.Author.Tests.{eqb-true, eqb-false, not-true}
 use Rattle.base.specs.If.{both}
 use Rattle.base.proofs.IfLaws.{if-true, both-first, both-second}
 use Rattle.table_layout.specs.Layout.{joined}
-use Rattle.table_layout.specs.Way.Filling.{widthOf, position, counted, tableAfter, fillingAfter, Fits}
+use Rattle.table_layout.specs.Way.Filling.{widthOf, position, counted, tableStored, fillingAfter, Fits}
 use Rattle.table_layout.specs.declared.Filling.{Filling}
 use Rattle.table_layout.proofs.FillingLaws.{fits-room, fits-next}
 use Rattle.doc.specs.Document.{Value, valuesFrom}
@@ -72,8 +72,8 @@ module _ (f : Filling) (seven : length (f .counts) ≡ 7) where
       omega arith
 
 pub values-over : (vs : List Value) (f : Filling) (t : List ℕ) → length (f .counts) ≡ 7 →
-    tableAfter (map valueWrite vs) f t ≡ sets t (position f 6) (valuesWords vs)
-unfolding tableAfter valueWrite valuesWords joined
+    tableStored (map valueWrite vs) f t ≡ sets t (position f 6) (valuesWords vs)
+unfolding tableStored valueWrite valuesWords joined
 values-over [] f t seven = refl
 values-over (v ∷ vs) f t seven =
     values-over vs (counted f 6) (sets t (position f 6) (v .row ∷ v .column ∷ v .word ∷ [])) (next-seven f seven)

@@ -7,7 +7,7 @@ use native.Mathlib.Omega.{arith}
 use lib.ListN.{length, drop, getD}
 use lib.Seq.{drop-drop, getD-set-other}
 use Rattle.table_layout.specs.Layout.{maps, sections, chopped}
-use Rattle.table_layout.specs.Way.Filling.{Write, counted, tableAfter, fillingAfter, Fits}
+use Rattle.table_layout.specs.Way.Filling.{Write, counted, tableStored, fillingAfter, Fits}
 use Rattle.table_layout.specs.declared.Filling.{Filling}
 use Rattle.table_layout.proofs.FillingLaws.{length-after, kept-above, Below}
 use Rattle.doc.specs.Document.{Step}
@@ -43,26 +43,26 @@ module _ (t : List ℕ) (f : Filling) (table : List ℕ) (ws : List Write) (belo
     base-same : getD (fillingAfter ws f .bases) p 0 ≡ getD (f .bases) p 0
     base-same = ap (λ (bases : List ℕ). getD bases p 0) (bases-kept ws f)
 
-    behind-same : drop (getD (f .bases) p 0) (tableAfter ws f table) ≡ drop (getD (f .bases) p 0) table
+    behind-same : drop (getD (f .bases) p 0) (tableStored ws f table) ≡ drop (getD (f .bases) p 0) table
     behind-same =
         let b : lowOf f + (getD (f .bases) p 0 - lowOf f) ≡ getD (f .bases) p 0 = omega arith in
         rw (
           ← b,
-          ← drop-drop (getD (f .bases) p 0 - lowOf f) (lowOf f) (tableAfter ws f table),
+          ← drop-drop (getD (f .bases) p 0 - lowOf f) (lowOf f) (tableStored ws f table),
           ← drop-drop (getD (f .bases) p 0 - lowOf f)
               (lowOf f) table,
         )
         (ap (drop (getD (f .bases) p 0 - lowOf f)) (kept-above (lowOf f) f ws table fits))
 
     records-same :
-        chopped width (getD (fillingAfter ws f .counts) p 0) (drop (getD (fillingAfter ws f .bases) p 0) (tableAfter ws f table))
+        chopped width (getD (fillingAfter ws f .counts) p 0) (drop (getD (fillingAfter ws f .bases) p 0) (tableStored ws f table))
         ≡ chopped width (getD (f .counts) p 0) (drop (getD (f .bases) p 0) table)
     records-same =
-        (λ i. chopped width (count-kept 2 ws f below p h i) (drop (base-same i) (tableAfter ws f table)))
+        (λ i. chopped width (count-kept 2 ws f below p h i) (drop (base-same i) (tableStored ws f table)))
         ∙ ap (chopped width (getD (f .counts) p 0)) behind-same
 
     room-same : getD (f .bases) p 0 + width * getD (f .counts) p 0 ≤ length table →
-        getD (fillingAfter ws f .bases) p 0 + width * getD (fillingAfter ws f .counts) p 0 ≤ length (tableAfter ws f table)
+        getD (fillingAfter ws f .bases) p 0 + width * getD (fillingAfter ws f .counts) p 0 ≤ length (tableStored ws f table)
     room-same r = rw (base-same, count-kept 2 ws f below p h, length-after ws f table) r
 
   low-maps : lowOf f ≤ getD (f .bases) maps 0
@@ -73,7 +73,7 @@ module _ (t : List ℕ) (f : Filling) (table : List ℕ) (ws : List Write) (belo
   unfolding lowOf
   low-sections = omega arith
 
-  aims-after : Aims t f table → Aims t (fillingAfter ws f) (tableAfter ws f table)
+  aims-after : Aims t f table → Aims t (fillingAfter ws f) (tableStored ws f table)
   aims-after aims =
       record {
         maps-there = records-same maps 7 (omega arith) low-maps ∙ aims .maps-there;

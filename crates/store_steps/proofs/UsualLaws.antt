@@ -11,7 +11,7 @@ use lib.Seq.{sets, drop-drop}
 use Rattle.base.proofs.IfLaws.{if-true}
 use Rattle.base.specs.Bytes.{bytes}
 use Rattle.lex_line.specs.Words.{Word, wordsFrom, words, firstOf, toEquals, rightOf}
-use Rattle.lex_line.specs.Way.Spans.{wordAt}
+use Rattle.lex_line.specs.Way.Spans.{wordSpan}
 use Rattle.lex_line.proofs.WordLaws.{words-at}
 use Rattle.lex_number.specs.Integer.{wholeOf}
 use Rattle.lex_number.specs.declared.Whole.{Whole}
@@ -44,8 +44,8 @@ use Rattle.store_steps.proofs.StepLaws.{
 pair-second : (o : ℕ) (s : List ℕ) (r : ℕ) → Paired s r → secondWord (wordsFrom o s) ≡ record { start = o + (r + 1); text = take (length s - (r + 1)) (drop (r + 1) s) }
 pair-second o s r p =
     let inside : r + 1 < length s = p .inside in
-    let low : wordAt s 0 .start < length s = rw (p .first) (omega arith) in
-    let up : wordAt s r .start < length s = rw (p .second) (p .inside) in
+    let low : wordSpan s 0 .start < length s = rw (p .first) (omega arith) in
+    let up : wordSpan s r .start < length s = rw (p .second) (p .inside) in
     let zero-on : o + 0 ≡ o = add-zero o in
     let one : wordsFrom (o + 0) s ≡ record { start = o + 0; text = take (r - 0) s } ∷ wordsFrom (o + r) (drop r s) = rw (p .first) at (words-at o s 0 low) in
     let two : wordsFrom (o + r) (drop r s) ≡ record { start = o + (r + 1); text = take (length s - (r + 1)) (drop (r + 1) s) } ∷ wordsFrom (o + length s) (drop (length s) s) =

@@ -14,7 +14,7 @@ use borrow.Author.Tests.{eqb-true, eqb-false}
 use Rattle.base.proofs.IfLaws.{by-cases}
 use Rattle.table_layout.specs.declared.Filling.{Filling}
 use Rattle.table_layout.specs.Layout.{widths, values}
-use Rattle.table_layout.specs.Way.Filling.{Write, partOf, widthOf, position, counted, tableAfter, fillingAfter, Fits, Apart}
+use Rattle.table_layout.specs.Way.Filling.{Write, partOf, widthOf, position, counted, tableStored, fillingAfter, Fits, Apart}
 use Rattle.table_layout.proofs.FillingLaws.{kept-above, part-here, part-there}
 
 -- ---- runs of stores that lie apart, and one over another
@@ -127,7 +127,7 @@ fits-behind size f (w ∷ ws) (Fits.more part width room apart next) seven =
 
 -- so what stands there and behind stays
 pub kept-behind : (size : ℕ) (f : Filling) (ws : List Write) (t : List ℕ) → Fits size f ws → length (f .counts) ≡ 7 →
-    drop (position (fillingAfter ws f) values) (tableAfter ws f t) ≡ drop (position (fillingAfter ws f) values) t
+    drop (position (fillingAfter ws f) values) (tableStored ws f t) ≡ drop (position (fillingAfter ws f) values) t
 kept-behind size f ws t h seven = kept-above (position (fillingAfter ws f) values) f ws t (fits-behind size f ws h seven)
 
 -- ---- what is stored over
@@ -137,12 +137,12 @@ kept-behind size f ws t h seven = kept-above (position (fillingAfter ws f) value
 module _ (f : Filling) (w : Write) (ws : List Write) (t filler : List ℕ) (width : length (w .words) ≡ widthOf (w .part))
     (long : length filler ≡ 3 * length (partOf values (w ∷ ws)))
     (later : (u rest : List ℕ) → length rest ≡ 3 * length (partOf values ws) →
-    tableAfter ws (counted f (w .part)) (sets u (position (counted f (w .part)) values) rest) ≡ tableAfter ws (counted f (w .part)) u) where
+    tableStored ws (counted f (w .part)) (sets u (position (counted f (w .part)) values) rest) ≡ tableStored ws (counted f (w .part)) u) where
   abbrev Same : Type 0
-  Same = tableAfter (w ∷ ws) f (sets t (position f values) filler) ≡ tableAfter (w ∷ ws) f t
+  Same = tableStored (w ∷ ws) f (sets t (position f values) filler) ≡ tableStored (w ∷ ws) f t
 
   over-value : length (f .counts) ≡ 7 → eqb (w .part) values ≡ true → Same
-  unfolding tableAfter widthOf
+  unfolding tableStored widthOf
   over-value seven e =
       let p : w .part ≡ values = eqb-true (w .part) values e in
       let three : length (w .words) ≡ 3 = rw p at width in
@@ -155,10 +155,10 @@ module _ (f : Filling) (w : Write) (ws : List Write) (t filler : List ℕ) (widt
       let s : sets (sets t (position f values) filler) (position f (w .part)) (w .words)
       ≡ sets (sets t (position f (w .part)) (w .words)) (position (counted f (w .part)) values) (drop (length (w .words)) filler) =
       rw (q, ← k) (sets-first t (position f values) (w .words) filler n) in
-      ap (tableAfter ws (counted f (w .part))) s ∙ later (sets t (position f (w .part)) (w .words)) (drop (length (w .words)) filler) r
+      ap (tableStored ws (counted f (w .part))) s ∙ later (sets t (position f (w .part)) (w .words)) (drop (length (w .words)) filler) r
 
   over-other : w .part < length widths → Apart f (w .part) → eqb (w .part) values ≡ false → Same
-  unfolding tableAfter
+  unfolding tableStored
   over-other known apart e =
       let o : w .part ≡ values → ⊥ = eqb-false (w .part) values e in
       let l : length filler ≡ 3 * length (partOf values ws) = rw (part-there w ws values e) at long in
@@ -166,19 +166,19 @@ module _ (f : Filling) (w : Write) (ws : List Write) (t filler : List ℕ) (widt
       let s : sets (sets t (position f values) filler) (position f (w .part)) (w .words)
       ≡ sets (sets t (position f (w .part)) (w .words)) (position (counted f (w .part)) values) filler =
       rw (next-other f (w .part) o) (sets-apart t (position f (w .part)) (position f values) (w .words) filler h) in
-      ap (tableAfter ws (counted f (w .part))) s ∙ later (sets t (position f (w .part)) (w .words)) filler l
+      ap (tableStored ws (counted f (w .part))) s ∙ later (sets t (position f (w .part)) (w .words)) filler l
 
 -- words where values will be stored change nothing
 pub overwritten : (size : ℕ) (f : Filling) (ws : List Write) (t filler : List ℕ) → Fits size f ws → length (f .counts) ≡ 7 →
-    length filler ≡ 3 * length (partOf values ws) → tableAfter ws f (sets t (position f values) filler) ≡ tableAfter ws f t
+    length filler ≡ 3 * length (partOf values ws) → tableStored ws f (sets t (position f values) filler) ≡ tableStored ws f t
 unfolding partOf
 overwritten size f [] t [] h seven long = refl
 overwritten size f [] t (x ∷ filler) h seven long = absurd (omega arith)
 overwritten size f (w ∷ ws) t filler (Fits.more part width room apart next) seven long =
     let later : (u rest : List ℕ) → length rest ≡ 3 * length (partOf values ws) →
-    tableAfter ws (counted f (w .part)) (sets u (position (counted f (w .part)) values) rest) ≡ tableAfter ws (counted f (w .part)) u =
+    tableStored ws (counted f (w .part)) (sets u (position (counted f (w .part)) values) rest) ≡ tableStored ws (counted f (w .part)) u =
     λ (u rest : List ℕ) (l : length rest ≡ 3 * length (partOf values ws)).
     overwritten size (counted f (w .part)) ws u rest next (next-seven f (w .part) seven) l in
-    by-cases (tableAfter (w ∷ ws) f (sets t (position f values) filler) ≡ tableAfter (w ∷ ws) f t) (eqb (w .part) values)
+    by-cases (tableStored (w ∷ ws) f (sets t (position f values) filler) ≡ tableStored (w ∷ ws) f t) (eqb (w .part) values)
     (over-value f w ws t filler width long later seven)
     (over-other f w ws t filler width long later part apart)

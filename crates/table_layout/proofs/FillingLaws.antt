@@ -14,14 +14,14 @@ use Rattle.base.proofs.IfLaws.{if-true, if-false, by-cases}
 use Rattle.table_layout.specs.declared.Filling.{Filling}
 use Rattle.table_layout.specs.Layout.{widths, values, layout}
 use Rattle.table_layout.specs.Way.Parts.{needed, AllLong, Wide}
-use Rattle.table_layout.specs.Way.Filling.{Write, partOf, widthOf, position, counted, tableAfter, fillingAfter, Fits, Apart, basesFrom, startFilling, headed}
+use Rattle.table_layout.specs.Way.Filling.{Write, partOf, widthOf, position, counted, tableStored, fillingAfter, Fits, Apart, basesFrom, startFilling, headed}
 use Rattle.table_layout.proofs.PartlyLaws.{grown, partly, bare, bare-headed, bare-wide, bare-at, all-laid, store-partly}
 
 -- ---- writes one after the other
 
 pub after-append : (ws vs : List Write) (f : Filling) (t : List ℕ) →
-    tableAfter (ws ++ vs) f t ≡ tableAfter vs (fillingAfter ws f) (tableAfter ws f t)
-unfolding tableAfter fillingAfter
+    tableStored (ws ++ vs) f t ≡ tableStored vs (fillingAfter ws f) (tableStored ws f t)
+unfolding tableStored fillingAfter
 after-append [] vs f t = refl
 after-append (w ∷ ws) vs f t = after-append ws vs (counted f (w .part)) (sets t (position f (w .part)) (w .words))
 
@@ -30,8 +30,8 @@ unfolding fillingAfter
 filling-append [] vs f = refl
 filling-append (w ∷ ws) vs f = filling-append ws vs (counted f (w .part))
 
-pub length-after : (ws : List Write) (f : Filling) (t : List ℕ) → length (tableAfter ws f t) ≡ length t
-unfolding tableAfter
+pub length-after : (ws : List Write) (f : Filling) (t : List ℕ) → length (tableStored ws f t) ≡ length t
+unfolding tableStored
 length-after [] f t = refl
 length-after (w ∷ ws) f t =
     length-after ws (counted f (w .part)) (sets t (position f (w .part)) (w .words)) ∙ length-sets t (position f (w .part)) (w .words)
@@ -79,8 +79,8 @@ drop-sets m i t (v ∷ vs) h =
     let l : i < m = omega arith in
     drop-sets m (suc i) (set t i v) vs k ∙ drop-set-lt m t i v l
 
-pub kept-above : (m : ℕ) (f : Filling) (ws : List Write) (t : List ℕ) → Fits m f ws → drop m (tableAfter ws f t) ≡ drop m t
-unfolding tableAfter
+pub kept-above : (m : ℕ) (f : Filling) (ws : List Write) (t : List ℕ) → Fits m f ws → drop m (tableStored ws f t) ≡ drop m t
+unfolding tableStored
 kept-above m f [] t h = refl
 kept-above m f (w ∷ ws) t (Fits.more part width room apart next) =
     let r : position f (w .part) + length (w .words) ≤ m = rw width room in
@@ -320,8 +320,8 @@ module _ (parts done : List (List (List ℕ))) (w : Write) (ws : List Write) (st
       rw next-position (store-partly [] widths (map length parts) done rest (w .words) p (stage .wide) l k next-width stored-room n)
 
 filled-from : (parts done : List (List (List ℕ))) (ws : List Write) (rest : List ℕ) → Stage parts done ws →
-    tableAfter ws (filling parts done) (partly widths (map length parts) done ++ rest) ≡ layout parts ++ rest
-unfolding tableAfter partOf
+    tableStored ws (filling parts done) (partly widths (map length parts) done ++ rest) ≡ layout parts ++ rest
+unfolding tableStored partOf
 filled-from parts done [] rest stage =
     let l : length done ≡ length parts = wide-length widths done (stage .wide) ∙ sym (wide-length widths parts (stage .whole)) in
     let e : done ≡ parts = ext-getD [] done parts l (λ (i : ℕ) (h : i < length done). sym (append-nil (getD done i [])) ∙ stage .left i) in
@@ -372,7 +372,7 @@ module _ (parts : List (List (List ℕ))) (wide : Wide widths parts) where
 
   -- the records stored one by one, those of each part in their order, fill the table to the layout
   pub filled : (ws : List Write) (z : ℕ) → ((p : ℕ) → partOf p ws ≡ getD parts p []) → Known ws →
-      tableAfter ws (startFilling (map length parts)) (headed widths (map length parts) ++ replicate z 0) ≡ layout parts ++ replicate z 0
+      tableStored ws (startFilling (map length parts)) (headed widths (map length parts) ++ replicate z 0) ≡ layout parts ++ replicate z 0
   filled ws z each known =
       rw (start-filling parts, ← bare-headed widths (map length parts))
       (filled-from parts (bare widths) ws (replicate z 0) (start-stage ws each known))

@@ -11,28 +11,28 @@ use lib.ListN.{length, drop, getD, set, replicate, length-append, length-replica
 use lib.Seq.{sets, drop-cons, set-at}
 use Rattle.table_layout.specs.Layout.{widths, values}
 use Rattle.table_layout.specs.Way.Parts.{needed}
-use Rattle.table_layout.specs.Way.Filling.{headed, basesFrom, opened}
+use Rattle.table_layout.specs.Way.Filling.{headed, basesFrom, openedTable}
 use Rattle.table_layout.proofs.FillingLaws.{begin, end, ends-below, ends-last}
 use Rattle.table_layout.proofs.BehindLaws.{set-sets}
 
 -- ---- one part after another
 
 pub opened-on : (counts table : List ℕ) (at part : ℕ) (goal : List ℕ) → length counts ≡ 7 → part < 7 →
-    opened at (drop part widths) (drop part counts) table ≡ goal →
-    opened (at + 1 + getD widths part 0 * getD counts part 0) (drop (part + 1) widths) (drop (part + 1) counts) (set table at (getD counts part 0))
+    openedTable at (drop part widths) (drop part counts) table ≡ goal →
+    openedTable (at + 1 + getD widths part 0 * getD counts part 0) (drop (part + 1) widths) (drop (part + 1) counts) (set table at (getD counts part 0))
     ≡ goal
-unfolding opened
+unfolding openedTable
 opened-on counts table at part goal long h e =
     let k : part < length counts = omega arith in
     rw (add-one part) (rw (drop-cons widths part 0 h, drop-cons counts part 0 k) at e)
 
 pub opened-done : (counts table : List ℕ) (at part : ℕ) (goal : List ℕ) → 7 ≤ part →
-    opened at (drop part widths) (drop part counts) table ≡ goal → table ≡ goal
-unfolding opened
+    openedTable at (drop part widths) (drop part counts) table ≡ goal → table ≡ goal
+unfolding openedTable
 opened-done counts table at part goal h e = rw (drop-of-length-le widths h) at e
 
-pub length-opened : (at : ℕ) (ws counts t : List ℕ) → length (opened at ws counts t) ≡ length t
-unfolding opened
+pub length-opened : (at : ℕ) (ws counts t : List ℕ) → length (openedTable at ws counts t) ≡ length t
+unfolding openedTable
 length-opened at [] counts t = refl
 length-opened at (w ∷ ws) [] t = refl
 length-opened at (w ∷ ws) (c ∷ counts) t = length-opened (at + 1 + w * c) ws counts (set t at c) ∙ length-set t at c
@@ -47,8 +47,8 @@ set-zeros front at n left c e =
 
 -- behind what stands right already
 zeros-from : (front ws counts : List ℕ) (at spare : ℕ) → length front ≡ at →
-    opened at ws counts (front ++ replicate (needed ws counts + spare) 0) ≡ front ++ (headed ws counts ++ replicate spare 0)
-unfolding opened needed headed
+    openedTable at ws counts (front ++ replicate (needed ws counts + spare) 0) ≡ front ++ (headed ws counts ++ replicate spare 0)
+unfolding openedTable needed headed
 zeros-from front [] counts at spare e = rw (zero-add spare)
 zeros-from front (w ∷ ws) [] at spare e = rw (zero-add spare)
 zeros-from front (w ∷ ws) (c ∷ counts) at spare e =
@@ -61,16 +61,16 @@ zeros-from front (w ∷ ws) (c ∷ counts) at spare e =
     (zeros-from more ws counts (at + 1 + w * c) spare m ∙ simp append-assoc)
 
 pub opened-zeros : (counts : List ℕ) (n : ℕ) → needed widths counts ≤ n →
-    opened 0 widths counts (replicate n 0) ≡ headed widths counts ++ replicate (n - needed widths counts) 0
+    openedTable 0 widths counts (replicate n 0) ≡ headed widths counts ++ replicate (n - needed widths counts) 0
 opened-zeros counts n h =
     let e : n ≡ needed widths counts + (n - needed widths counts) = omega arith in
-    ap (λ (k : ℕ). opened 0 widths counts (replicate k 0)) e ∙ zeros-from [] widths counts 0 (n - needed widths counts) refl
+    ap (λ (k : ℕ). openedTable 0 widths counts (replicate k 0)) e ∙ zeros-from [] widths counts 0 (n - needed widths counts) refl
 
 -- ---- words where the values belong
 
 sets-from : (at : ℕ) (ws counts t : List ℕ) (p : ℕ) (vs : List ℕ) → ((q : ℕ) → q < length ws → q < length counts → begin at ws counts q ≤ p) →
-    opened at ws counts (sets t p vs) ≡ sets (opened at ws counts t) p vs
-unfolding opened basesFrom
+    openedTable at ws counts (sets t p vs) ≡ sets (openedTable at ws counts t) p vs
+unfolding openedTable basesFrom
 sets-from at [] counts t p vs h = refl
 sets-from at (w ∷ ws) [] t p vs h = refl
 sets-from at (w ∷ ws) (c ∷ counts) t p vs h =
@@ -83,10 +83,10 @@ sets-from at (w ∷ ws) (c ∷ counts) t p vs h =
     let x' : suc q < length (w ∷ ws) = omega arith in
     let y' : suc q < length (c ∷ counts) = omega arith in
     h (suc q) x' y' in
-    ap (opened (at + 1 + w * c) ws counts) (set-sets t at p c vs l) ∙ sets-from (at + 1 + w * c) ws counts (set t at c) p vs next
+    ap (openedTable (at + 1 + w * c) ws counts) (set-sets t at p c vs l) ∙ sets-from (at + 1 + w * c) ws counts (set t at c) p vs next
 
 pub opened-sets : (counts t : List ℕ) (p : ℕ) (vs : List ℕ) → length counts ≡ 7 → getD (basesFrom 0 widths counts) values 0 ≤ p →
-    opened 0 widths counts (sets t p vs) ≡ sets (opened 0 widths counts t) p vs
+    openedTable 0 widths counts (sets t p vs) ≡ sets (openedTable 0 widths counts t) p vs
 opened-sets counts t p vs long h = sets-from 0 widths counts t p vs each
   where
     before : (q : ℕ) → q < values → begin 0 widths counts q ≤ p

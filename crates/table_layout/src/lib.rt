@@ -5,7 +5,7 @@ ghost use lib.ListN.{length, take, replicate, getD};
 ghost use lib.Seq.{sets};
 ghost use Rattle.table_layout.specs.Layout.{widths};
 ghost use Rattle.table_layout.specs.Way.Parts.{needed};
-ghost use Rattle.table_layout.specs.Way.Filling.{widthOf, position, counted, startFilling, opened, BoundedCounts};
+ghost use Rattle.table_layout.specs.Way.Filling.{widthOf, position, counted, startFilling, openedTable, BoundedCounts};
 ghost use Rattle.table_layout.specs.View.{viewOf, noView};
 
 pub const MODELS: usize = 0;
@@ -85,7 +85,7 @@ pub fn lift(table: &mut [u64], count: usize, up: usize)
 // The counts stored, each where its part begins.
 pub fn open_parts(table: &mut [u64], counts: [u64; 7]) -> Filling
     requires { ⌜ BoundedCounts counts × (needed widths counts ≤ length (now table)) ⌝ }
-    ensures { λ r. ⌜ (r ≡ startFilling counts) × (now (table .exit) ≡ opened 0 widths counts (now (table .entry))) ⌝ }
+    ensures { λ r. ⌜ (r ≡ startFilling counts) × (now (table .exit) ≡ openedTable 0 widths counts (now (table .entry))) ⌝ }
 {
     let mut bases = [0; 7];
     let mut at = 0;

@@ -1,4 +1,5 @@
--- What a question knows of its table once the table is found sound, so that it need not be judged again for every entry.
+-- What a question knows of its table once it is found sound, so that the table need not be judged again for every
+-- entry.
 -- Assumes nothing.
 use Prim.Native.Nat.{ℕ, _+_, _*_, _≤_}
 use mathlib.Core.Path.{_≡_}
@@ -13,8 +14,8 @@ use Rattle.doc.specs.Records.{recordsOf}
 use Rattle.ask_sound.specs.Sound.{every, areMatrices, isMatrix}
 use Rattle.ask_sound.specs.Way.Standing.{baseOf, countOf}
 
--- the view is the table's and fits, so that the records lie inside; the matrices of every section are there; the values of every matrix lie
--- inside and rise
+-- the view is that of the table and fits, so the records lie inside; the matrices that sections refer to exist; the
+-- values of every matrix lie inside and rise
 pub record Ready (table : List ℕ) (v : View) : Type 0 where
   pub view : v ≡ viewOf table
   pub fits : viewOf table .fits ≡ true
@@ -24,6 +25,6 @@ pub record Ready (table : List ℕ) (v : View) : Type 0 where
   pub given : every (areMatrices (length (recordsOf table .matrices))) (recordsOf table .sections) ≡ true
   pub rising : every (isMatrix (recordsOf table .values)) (recordsOf table .matrices) ≡ true
 
--- what is asked for, as a value that comes before and behind others
+-- the row and column asked for, as a value to compare with others
 abbrev pub asked : ℕ → ℕ → Value
 asked row column = record { row = row; column = column; word = 0 }

@@ -1,4 +1,5 @@
--- Where the records of a table stand, by its view: each record by its place, each part by the places of its records.
+-- Where the records of a table are, by its view: each record by the word where it begins, each part by those of its
+-- records.
 -- Assumes nothing.
 use Prim.Native.Nat.{ℕ, zero, suc, _+_, _-_, _*_, _≤_, _<_}
 use mathlib.Core.Path.{_≡_}
@@ -14,12 +15,12 @@ use Rattle.doc.specs.Records.{ModelRecord, StepRecord, MapRecord, PinRecord, Se
 use Rattle.doc.specs.Holds.{isInUpperHalf, comesBefore}
 use Rattle.ask_sound.specs.Sound.{every, isModel, isStep, isMap, isPin, isSection, isMatrix, isValue}
 
--- the places of so many records of a width, the first of which stands at `from`
+-- the words where n records of w words begin, the first one at `from`
 unfoldable pub places : ℕ → ℕ → ℕ → List ℕ
 places w from zero = []
 places w from (suc n) = from ∷ places w (from + w) n
 
--- ---- the record that stands at a place
+-- ---- the record that begins at word `at`
 
 abbrev pub modelAt : List ℕ → ℕ → ModelRecord
 modelAt table at =
@@ -91,11 +92,11 @@ baseOf v part = getD (v .bases) part 0
 abbrev pub countOf : View → ℕ → ℕ
 countOf v part = getD (v .counts) part 0
 
--- the places of a part's records
+-- the words where the records of a part begin
 unfoldable pub placesOf : View → ℕ → List ℕ
 placesOf v part = places (getD widths part 0) (baseOf v part) (countOf v part)
 
--- the kinds of so many steps, and so many values, the first of which stands at `from`
+-- the kinds of n steps, and n values; the record of the first begins at word `from`
 unfoldable pub kindsFrom : List ℕ → ℕ → ℕ → List ℕ
 kindsFrom table from n = map (λ (at : ℕ). getD table at 0) (places 6 from n)
 
@@ -123,25 +124,26 @@ recordsAt table v =
       values = map (valueAt table) (placesOf v values);
     }
 
--- ---- the tests by places
+-- ---- the tests of records by the words where they begin
 
--- the first of a list of values is inside, and comes before the next
+-- the first of a list of values has a row and a column in bounds and comes before the second, if there is one
 unfoldable pub goesOn : ℕ → List Value → Bool
 goesOn n [] = true
 goesOn n (v ∷ []) = isInUpperHalf n v
 goesOn n (v ∷ w ∷ vs) = both (isInUpperHalf n v) (comesBefore v w)
 
--- how many values from the front on rise
+-- how many values rise, counted from the front
 unfoldable pub reach : ℕ → List Value → ℕ
 reach n [] = 0
 reach n (v ∷ []) = if isInUpperHalf n v then 1 else 0
 reach n (v ∷ w ∷ vs) = if isInUpperHalf n v then if comesBefore v w then suc (reach n (w ∷ vs)) else 1 else 0
 
--- of so many values, the first of which stands at `from`: how many rise from the one numbered i on
+-- of `count` values, the first of which begins at word `from`: how many rise from value i on
 unfoldable pub reachAt : List ℕ → ℕ → ℕ → ℕ → ℕ
 reachAt table from count i = reach 256 (valuesFrom table (from + 3 * i) (count - i))
 
--- found once for every 64th value, so that matrices which share values do not go over all of them again
+-- The reach of every 64th value is computed once, so that matrices which share values do not go through all of them
+-- again.
 pub record Reaches (table : List ℕ) (from count : ℕ) (blocks : List ℕ) : Type 0 where
   pub long : length blocks ≡ 1_024
   pub told : (block : ℕ) → 64 * block < count → getD blocks block 0 ≡ reachAt table from count (64 * block)
@@ -149,7 +151,7 @@ pub record Reaches (table : List ℕ) (from count : ℕ) (blocks : List ℕ) : T
 abbrev pub ValueReaches : List ℕ → View → List ℕ → Type 0
 ValueReaches table v blocks = Reaches table (baseOf v values) (countOf v values) blocks
 
--- the record of a part at a place
+-- the record of a part that begins at word `at` is sound
 unfoldable pub isRecord : ℕ → List ℕ → View → ℕ → ℕ → Bool
 isRecord bytes table v part at =
     if eqb part models then isModel bytes (kindsAt table v) (modelAt table at) else
@@ -162,12 +164,12 @@ isRecord bytes table v part at =
 unfoldable pub areRecords : ℕ → List ℕ → View → ℕ → Bool
 areRecords bytes table v part = every (isRecord bytes table v part) (placesOf v part)
 
--- so many parts from one on
+-- the next parts, from `part` on; the last argument is their number
 unfoldable pub areParts : ℕ → List ℕ → View → ℕ → ℕ → Bool
 areParts bytes table v part zero = true
 areParts bytes table v part (suc n) = both (areRecords bytes table v part) (areParts bytes table v (part + 1) n)
 
--- ---- what is asked of the table: the records of each part lie inside it
+-- ---- what the code requires of the table: the records of each part lie inside it
 
 pub record Rooms (table : List ℕ) (v : View) : Type 0 where
   pub room : (part : ℕ) → part < 7 → baseOf v part + getD widths part 0 * countOf v part ≤ length table

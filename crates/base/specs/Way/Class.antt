@@ -1,4 +1,4 @@
--- The classes of bytes that runs are made of: what `skip` goes over.
+-- The byte classes of runs, as tests: what `skip` skips for each class.
 -- Assumes nothing.
 use Prim.Native.Nat.{ℕ, _+_}
 use Prim.Native.Char.{code}
@@ -12,7 +12,7 @@ use Rattle.base.specs.Runs.{run}
 use Rattle.base.specs.declared.Class.{Class}
 use Rattle.base.specs.declared.Class.the-variants.{Blank, Filled, Named, Digit, Letter, Printed, Before, Content}
 
--- the same but `=`: what a word is made of in a form that has one
+-- neither blank nor `=`: the bytes of a word in a form that has a `=`
 unfoldable pub isNamed : ℕ → Bool
 isNamed b = both (isFilled b) (not (eqb b (code "=")))
 
@@ -26,6 +26,6 @@ inClass Printed = isPrinted
 inClass (Before stop) = isBefore stop
 inClass (Content comment) = isContent comment
 
--- where the run of a class that starts at `from` ends
+-- where the run that starts at `from` ends
 abbrev pub runEnd : (ℕ → Bool) → List ℕ → ℕ → ℕ
 runEnd p s from = from + run p (drop from s)

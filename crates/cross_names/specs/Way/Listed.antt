@@ -1,4 +1,4 @@
--- "20 LIST": which models the list names, by the model that each of its lines finds first.
+-- "20 LIST": which models the list names. A list line names the first model of its name.
 -- Assumes nothing.
 use Prim.Native.Nat.{ℕ, _<_}
 use mathlib.Core.Path.{_≡_}
@@ -10,15 +10,15 @@ use Rattle.doc.specs.Document.{Named, Model, Document}
 use Rattle.doc.specs.Records.{indexOf}
 use Rattle.cross_rules.specs.Rules.{any, sameWord}
 
--- the first model of a line's name
-unfoldable pub namedBy : Document → Named → ℕ
-namedBy d n = indexOf (λ (m : Model). sameWord (n .name) (m .name)) (d .models)
+-- the index of the first model that has the name of the list line
+unfoldable pub modelNamed : Document → Named → ℕ
+modelNamed d n = indexOf (λ (m : Model). sameWord (n .name) (m .name)) (d .models)
 
--- a line names the model numbered i
+-- some list line names model i
 unfoldable pub isListed : Document → ℕ → Bool
-isListed d i = any (λ (n : Named). eqb (namedBy d n) i) (d .listed)
+isListed d i = any (λ (n : Named). eqb (modelNamed d n) i) (d .listed)
 
--- a flag for each model, and one behind them
+-- a flag for each of 64 models, and one more
 pub record Listed (d : Document) (listed : List Bool) : Type 0 where
   pub long : length listed ≡ 65
   pub told : (i : ℕ) → i < 64 → getD listed i false ≡ isListed d i

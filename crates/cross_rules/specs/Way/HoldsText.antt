@@ -1,4 +1,4 @@
--- A table that holds what a text says: what the rules 19 to 27 are judged over.
+-- The table of a text: the code of the rules 19 to 27 needs it.
 -- Assumes nothing.
 use Prim.Native.Nat.{ℕ, _-_}
 use mathlib.Core.Path.{_≡_}
@@ -9,7 +9,7 @@ use Rattle.read_line.specs.Reading.{readingOf}
 use Rattle.read_line.specs.declared.Reading.the-variants.{Read}
 use Rattle.doc.specs.Records.{tableOf}
 
--- the text reads to its end, and the table is its layout and then zeros
+-- the text breaks no rule of the reading (5 to 17), and the table is the text's layout followed by zeros
 pub record HoldsText (t table : List ℕ) : Type 0 where
   pub counts : Counts
   pub reads : readingOf t ≡ Read counts

@@ -1,4 +1,4 @@
--- Where the records of the table stand in the text: the number of the line that writes a record of a part. Steps have their line in the table.
+-- The line of a record: the number of the line that writes it. Steps need no search, the table holds their lines.
 -- Assumes nothing.
 use Prim.Native.Nat.{ℕ, _-_}
 use mathlib.Core.Bool.{Bool}
@@ -11,7 +11,8 @@ use Rattle.line_place.specs.Place as place
 use Rattle.table_layout.specs.Layout.{models, maps, sections}
 use Rattle.doc.specs.Lines.{Line, plain, keyOf}
 
--- a line with this keyword in this place writes a record of a part: the openings of models, maps and sections; pins
+-- whether a line with this keyword, read in this place, writes a record of the part: the opening line of a model, map
+-- or section, or a pin line
 unfoldable pub writesAt : ℕ → ℕ → ℕ → Bool
 writesAt part p key =
     if eqb part models then both (isInFamily p) (eqb key beginIcmModel) else
@@ -22,7 +23,7 @@ writesAt part p key =
 unfoldable pub writesPart : ℕ → Line → Bool
 writesPart part l = writesAt part (l .place) (keyOf l)
 
--- the number of the i-th of them, counted from 0; 0 where there are not so many
+-- the number of the line that writes record i (from 0) of the part; 0 if the part has fewer records
 unfoldable pub nthLine : ℕ → ℕ → List Line → ℕ
 nthLine part i [] = 0
 nthLine part i (l ∷ ls) =

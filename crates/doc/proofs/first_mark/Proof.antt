@@ -9,11 +9,11 @@ use Rattle.doc.proofs.first_mark.Tie as tie
 word-at-requires : tie.Need-word-at-requires
 word-at-requires c κs = search needs
 
-hash-of-requires : tie.Need-hash-of-requires
-hash-of-requires c κs = search (needs, word-ordered, word-within)
+mark-of-requires : tie.Need-mark-of-requires
+mark-of-requires c κs = search (needs, word-ordered, word-within)
 
 returns : tie.Need-returns
 returns c = search first-marked
 
 pub first-mark-spec : {M : Type 1} → statement M
-first-mark-spec = tie.close (tie.spec word-at-requires hash-of-requires returns)
+first-mark-spec = tie.close (tie.spec word-at-requires mark-of-requires returns)

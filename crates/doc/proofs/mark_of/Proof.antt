@@ -17,5 +17,5 @@ sub-t6 c = search needs
 returns-2 : tie.Need-returns-2
 returns-2 c = search mark-some
 
-pub hash-of-spec : {M : Type 1} → statement M
-hash-of-spec = tie.close (tie.spec returns add-t4 sub-t6 returns-2)
+pub mark-of-spec : {M : Type 1} → statement M
+mark-of-spec = tie.close (tie.spec returns add-t4 sub-t6 returns-2)

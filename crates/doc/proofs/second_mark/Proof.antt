@@ -12,12 +12,12 @@ word-at-requires c κs = search needs
 word-at-requires-2 : tie.Need-word-at-requires-2
 word-at-requires-2 c κs = search needs
 
-hash-of-requires : tie.Need-hash-of-requires
-hash-of-requires c κs = search (needs, word-ordered, word-within)
+mark-of-requires : tie.Need-mark-of-requires
+mark-of-requires c κs = search (needs, word-ordered, word-within)
 
 returns : tie.Need-returns
 returns c = search second-marked
 
 pub second-mark-spec : {M : Type 1} → statement M
 second-mark-spec =
-    tie.close (tie.spec word-at-requires word-at-requires-2 hash-of-requires returns)
+    tie.close (tie.spec word-at-requires word-at-requires-2 mark-of-requires returns)

@@ -4,12 +4,12 @@ use mathlib.Core.Path.{refl}
 use Rattle.base.specs.If.{if_then_else_, both}
 use Rattle.base.specs.Bytes.{small, isCapital, within}
 use Rattle.lex_keyword.specs.Names.{folded}
-use Rattle.lex_keyword.specs.Way.Lookup.{joined, letters}
+use Rattle.lex_keyword.specs.Way.Lookup.{joinedNames, letters}
 use Rattle.lex_keyword.proofs.all_letters.Statement.{statement}
 use Rattle.lex_keyword.proofs.all_letters.Tie as tie
 
 returns : tie.Need-returns
-unfolding letters joined folded if_then_else_ small isCapital within both
+unfolding letters joinedNames folded if_then_else_ small isCapital within both
 returns c = refl
 
 pub all-letters-spec : {M : Type 1} → statement M

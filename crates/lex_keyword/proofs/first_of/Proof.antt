@@ -3,7 +3,7 @@
 use mathlib.Core.Path.{_∙_}
 use Rattle.base.specs.If.{if_then_else_}
 use Rattle.base.proofs.TableLaws.{listed-at}
-use Rattle.lex_keyword.specs.Way.Lookup.{shorter, firstOf}
+use Rattle.lex_keyword.specs.Way.Lookup.{shorter, firstOfSize}
 use borrow.Author.Needs.{needs}
 use Rattle.lex_keyword.proofs.first_of.Statement.{statement}
 use Rattle.lex_keyword.proofs.first_of.Tie as tie
@@ -15,8 +15,8 @@ from-byte-requires : tie.Need-from-byte-requires
 from-byte-requires c κs = search needs
 
 returns : tie.Need-returns
-unfolding firstOf shorter if_then_else_
-returns c = c .from-byte .ensures ∙ listed-at firstOf 0 24 (c .before .args .size) (search needs)
+unfolding firstOfSize shorter if_then_else_
+returns c = c .from-byte .ensures ∙ listed-at firstOfSize 0 24 (c .before .args .size) (search needs)
 
 pub first-of-spec : {M : Type 1} → statement M
 first-of-spec = tie.close (tie.spec array-read-from-byte from-byte-requires returns)

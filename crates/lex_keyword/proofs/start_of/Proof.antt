@@ -2,7 +2,7 @@
 -- Assumes nothing.
 use mathlib.Core.Path.{_∙_}
 use Rattle.base.proofs.TableLaws.{listed-at}
-use Rattle.lex_keyword.specs.Way.Lookup.{joined, startOf}
+use Rattle.lex_keyword.specs.Way.Lookup.{joinedNames, startOf}
 use borrow.Author.Needs.{needs}
 use Rattle.lex_keyword.proofs.start_of.Statement.{statement}
 use Rattle.lex_keyword.proofs.start_of.Tie as tie
@@ -17,7 +17,7 @@ from-short-requires : tie.Need-from-short-requires
 from-short-requires c κs = search needs
 
 returns : tie.Need-returns
-unfolding startOf joined
+unfolding startOf joinedNames
 returns c = c .from-short .ensures ∙ listed-at startOf 0 40 (c .before .args .key) (search needs)
 
 pub start-of-spec : {M : Type 1} → statement M

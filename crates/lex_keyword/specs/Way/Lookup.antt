@@ -10,16 +10,16 @@ use Rattle.base.specs.If.{if_then_else_, both}
 use Rattle.lex_keyword.specs.Names.{folded, names}
 
 -- names as they are compared, one after another
-unfoldable pub joined : List (List ℕ) → List ℕ
-joined [] = []
-joined (n ∷ ns) = map folded n ++ joined ns
+unfoldable pub joinedNames : List (List ℕ) → List ℕ
+joinedNames [] = []
+joinedNames (n ∷ ns) = map folded n ++ joinedNames ns
 
 unfoldable pub letters : List ℕ
-letters = joined names
+letters = joinedNames names
 
 -- where the letters of a keyword start
 unfoldable pub startOf : ℕ → ℕ
-startOf key = length (joined (take key names))
+startOf key = length (joinedNames (take key names))
 
 -- how many names from the front are shorter
 unfoldable pub shorter : ℕ → List (List ℕ) → ℕ
@@ -27,8 +27,8 @@ shorter size [] = zero
 shorter size (n ∷ ns) = if ltb (length n) size then suc (shorter size ns) else zero
 
 -- the first keyword of at least this length
-unfoldable pub firstOf : ℕ → ℕ
-firstOf size = shorter size names
+unfoldable pub firstOfSize : ℕ → ℕ
+firstOfSize size = shorter size names
 
 -- the second list starts with the first
 unfoldable pub begins : List ℕ → List ℕ → Bool

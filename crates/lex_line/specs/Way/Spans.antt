@@ -1,4 +1,5 @@
--- Words by where they stand in a line, as code finds them: the first from a place on, the last, and the first two with how many there are.
+-- Words as spans of a line, as code finds them: the first word at or after a position, the last word, and the first two
+-- words with the count of words.
 -- Assumes nothing.
 use Prim.Native.Nat.{ℕ, _-_, min}
 use mathlib.Core.List.{List}
@@ -9,18 +10,18 @@ use Rattle.lex_line.specs.declared.Span.{Span}
 use Rattle.lex_line.specs.declared.FirstTwo.{FirstTwo}
 use Rattle.lex_line.specs.Words.{backRun, lastEnd, words}
 
--- the first word at or after `from`; it starts at the end of s where there is none
-unfoldable pub wordAt : List ℕ → ℕ → Span
-wordAt s from = record { start = runEnd isBlank s from; end = runEnd isFilled s (runEnd isBlank s from) }
+-- the first word at or after `from`; if there is none, it starts at the end of s
+unfoldable pub wordSpan : List ℕ → ℕ → Span
+wordSpan s from = record { start = runEnd isBlank s from; end = runEnd isFilled s (runEnd isBlank s from) }
 
--- the last word of s; it ends at 0 where there is none
+-- the last word of s; if there is none, it ends at 0
 unfoldable pub lastWord : List ℕ → Span
 lastWord s = record { start = lastEnd s - backRun isFilled s (lastEnd s); end = lastEnd s }
 
--- a line's first two words, and how many it has: 3 stands for all above 2
+-- the first two words of a line, and how many words it has; a count of 3 means 3 or more
 unfoldable pub firstTwoOf : List ℕ → FirstTwo
-firstTwoOf s = record { count = min 3 (length (words s)); first = wordAt s 0; second = wordAt s (wordAt s 0 .end) }
+firstTwoOf s = record { count = min 3 (length (words s)); first = wordSpan s 0; second = wordSpan s (wordSpan s 0 .end) }
 
--- the bytes that a span marks
+-- the bytes of a span
 abbrev pub markedBy : List ℕ → Span → List ℕ
 markedBy s w = take (w .end - w .start) (drop (w .start) s)

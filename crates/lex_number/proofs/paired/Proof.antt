@@ -1,6 +1,6 @@
 -- `lex_number::paired` meets its contract: as the definition has it.
 -- Assumes nothing.
-use Rattle.lex_number.specs.Way.Block.{paired}
+use Rattle.lex_number.specs.Way.Block.{pairedDigits}
 use borrow.Author.Needs.{needs}
 use Rattle.lex_number.proofs.paired.Statement.{statement}
 use Rattle.lex_number.proofs.paired.Tie as tie
@@ -15,7 +15,7 @@ add-result : tie.Need-add-result
 add-result c = search needs
 
 returns : tie.Need-returns
-unfolding paired
+unfolding pairedDigits
 returns c = search needs
 
 pub paired-spec : {M : Type 1} → statement M

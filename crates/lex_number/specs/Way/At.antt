@@ -1,5 +1,5 @@
--- A number where it stands in its line: the word that starts at a place, what it says as a number, and where it ends. And what the
--- reader of words that are not long keeps on its way.
+-- A number inside a line: the word that starts at a position, read as a number, and where it ends. Also what the short
+-- way of reading a number promises at each step.
 -- Assumes nothing.
 use Prim.Native.Nat.{ℕ, _+_, _-_, _*_, _%_, _^_, _≤_, _<_}
 use mathlib.Core.Path.{_≡_}
@@ -22,16 +22,16 @@ use Rattle.lex_number.specs.declared.Plain.{Plain}
 use Rattle.lex_number.specs.declared.Reading.{Reading}
 use Rattle.lex_number.specs.declared.Parts.{Parts}
 
--- the word that starts at `from`: nothing where a blank stands there
+-- the word that starts at `from`; empty if there is a blank
 unfoldable pub wordFrom : List ℕ → ℕ → List ℕ
 wordFrom s from = take (run isFilled (drop from s)) (drop from s)
 
 unfoldable pub numberAt : List ℕ → ℕ → NumberAt
 numberAt s from = record { number = numberOf (wordFrom s from); end = runEnd isFilled s from }
 
--- ---- on the way
+-- ---- the parts of a number, as the short way stores them
 
--- the number that the run of digits at `from` writes, those before them being a, where the run ends, and the byte there
+-- the run of digits at `from`: the number it writes after earlier digits that write a, where it ends, and the byte there
 unfoldable pub runFrom : List ℕ → ℕ → ℕ → Run
 runFrom s from a =
     record {
@@ -40,11 +40,11 @@ runFrom s from a =
       next = getD s (runEnd isDigit s from) 0;
     }
 
--- digits of s without what their zeros say, and with the byte where they end
+-- digits of s without their split into size and zeros, and with the byte where they end
 unfoldable pub plainAt : List ℕ → Digits → Plain
 plainAt s d = record { all = d .all; fraction = d .fraction; some = d .some; end = d .end; next = getD s (d .end) 0 }
 
--- an exponent of s with the byte where it ends; none at a place where b stands
+-- an exponent of s with the byte where it ends; and no exponent at `from`, where the byte is b
 unfoldable pub readingAt : List ℕ → Exponent → Reading
 readingAt s x = record { exponent = x; next = getD s (x .end) 0 }
 
@@ -52,8 +52,8 @@ unfoldable pub noReading : ℕ → ℕ → Reading
 noReading from b = record { exponent = noExponent from; next = b }
 
 -- the parts of the number at the front of s
-unfoldable pub partsOf : List ℕ → Parts
-partsOf s =
+unfoldable pub partsAt : List ℕ → Parts
+partsAt s =
     record {
       negative = isMinus (getD s 0 0);
       digits = plainAt s (digitsOf s);
@@ -61,9 +61,9 @@ partsOf s =
       next = getD s (exponentFrom s (digitsOf s) .end) 0;
     }
 
--- ---- what is read of few bytes. Digits that go on where the reader stops are not read whole, and their next byte tells it.
+-- ---- what the short way has read. It stops after some bytes; if the next byte is a digit, not all digits were read.
 
--- what digits up to `stop` may still make of a number stays below this
+-- an upper bound: digits from i up to `stop`, added to `value`, write a number below this
 unfoldable pub weight : ℕ → ℕ → ℕ → ℕ
 weight value i stop = (value + 1) * 10 ^ (stop - i)
 
@@ -81,7 +81,7 @@ pub record DigitsRead (s : List ℕ) (from : ℕ) (d : Plain) : Type 0 where
   pub digits-short : d .end ≤ from + 20
   pub fraction-few : d .fraction ≤ 19
 
--- the byte b stands where the exponent may start
+-- b is the byte at `from`, where the exponent may start
 pub record ExponentRead (s : List ℕ) (from b : ℕ) (x : Reading) : Type 0 where
   pub exponent-next : x .next ≡ getD s (x .exponent .end) 0
   pub exponent-whole : isDigit (x .next) ≡ false → x ≡ readingAt s (exponentOf s from)
@@ -89,23 +89,23 @@ pub record ExponentRead (s : List ℕ) (from b : ℕ) (x : Reading) : Type 0 whe
   pub exponent-short : x .exponent .end ≤ from + 11
   pub exponent-few : x .exponent .size < 1_000_000_000
 
--- parts that so few bytes write that no sum of theirs is cut
+-- parts so short that no sum of them has to be capped
 pub record ShortParts (p : Parts) : Type 0 where
   pub fraction-few : p .digits .fraction ≤ 19
   pub exponent-few : p .exponent .size < 1_000_000_000
 
 pub record PartsRead (s : List ℕ) (p : Parts) : Type 0 where
   pub parts-next : p .next ≡ getD s (p .exponent .end) 0
-  pub parts-whole : isDigit (p .next) ≡ false → p ≡ partsOf s
+  pub parts-whole : isDigit (p .next) ≡ false → p ≡ partsAt s
   pub parts-short : p .exponent .end ≤ 32
   pub parts-few : ShortParts p
 
--- a number as a size and the zeros after it
+-- a number as a size that does not end in 0, and the zeros after it
 pub record Splits (all size zeros : ℕ) : Type 0 where
   pub whole : all ≡ size * 10 ^ zeros
   pub trimmed : size % 10 ≡ 0 → ⊥
 
--- the value of all digits that are as the parts say, however their zeros are told apart
+-- r is the value of every `Digits` that has the number and the fraction of the parts, and whose size does not end in 0
 pub record Says (p : Parts) (c : Scale) (r : Number) : Type 0 where
   pub says :
       (e : Digits) →

@@ -1,5 +1,5 @@
--- What the code keeps of the exact definitions: numbers too great to matter are cut at a cap, so that they fit a word of 64 bits.
--- `proofs/CappedLaws` and `proofs/ReadLaws` show that no answer changes by it.
+-- What the code computes in place of the exact definitions: numbers too great to matter are capped, so that they fit a
+-- word of 64 bits. `proofs/CappedLaws` and `proofs/ReadLaws` show that this changes no answer.
 -- Assumes nothing.
 use Prim.Native.Nat.{ℕ, _+_, _≤_, _<_, min}
 use mathlib.Core.Bool.{Bool}
@@ -13,15 +13,15 @@ use Rattle.lex_number.specs.declared.Digits.{Digits}
 use Rattle.lex_number.specs.declared.Exponent.{Exponent}
 use Rattle.lex_number.specs.declared.Scale.{Scale}
 
--- the least number that has more than the 15 digits that m may have
+-- the least number with more digits than m may have, which is 15
 abbrev pub sizeCap : ℕ
 sizeCap = 1_000_000_000_000_000
 
--- more than any count of bytes can make good: a slice has less than 2 ^ 63 of them
+-- an exponent of this size is out of range whatever the digits: a slice has fewer than 2 ^ 63 bytes to offset it
 abbrev pub exponentCap : ℕ
 exponentCap = 10_000_000_000_000_000_000
 
--- more than any slice has bytes
+-- more bytes than any slice has
 abbrev pub countCap : ℕ
 countCap = 9_223_372_036_854_775_808
 
@@ -40,7 +40,7 @@ cappedDigits d =
 unfoldable pub cappedExponent : Exponent → Exponent
 cappedExponent x = record { size = min (x .size) exponentCap; negative = x .negative; end = x .end }
 
--- the digits that stand at `digits`, read as an exponent of the sign told
+-- the run of digits at `digits`, read as an exponent with the given sign
 unfoldable pub sizeAt : List ℕ → ℕ → Bool → Exponent
 sizeAt s digits negative =
     record {
@@ -49,21 +49,21 @@ sizeAt s digits negative =
       end = digits + run isDigit (drop digits s);
     }
 
--- what the exponent adds to the power of ten, and what it takes from it
+-- what the exponent adds to the power of ten, and what it subtracts
 unfoldable pub raising : Exponent → ℕ
 raising x = if x .negative then 0 else x .size
 
 unfoldable pub lowering : Exponent → ℕ
 lowering x = if x .negative then x .size else 0
 
--- digits whose numbers are cut, and whose counts are no greater than the place that they end at
+-- digits whose numbers are capped, and whose counts are at most the position where they end
 pub record CutDigits (d : Digits) : Type 0 where
   pub all-cut : d .all ≤ sizeCap
   pub size-cut : d .size ≤ sizeCap
   pub zeros-within : d .zeros ≤ d .end
   pub fraction-within : d .fraction ≤ d .end
 
--- what the reader hands on: numbers and counts that are small enough for every sum of them to fit
+-- what the reader passes on: numbers and counts so small that every sum of them fits
 pub record BoundedNumber (d : Digits) (x : Exponent) (c : Scale) : Type 0 where
   pub size-cut : d .size ≤ sizeCap
   pub zeros-below : d .zeros < countCap

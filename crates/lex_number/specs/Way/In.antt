@@ -1,4 +1,4 @@
--- A number where it stands in a text whose lines are not cut out: its word ends at a blank, at a terminator and at a comment.
+-- A number inside a whole text, whose lines have not been found yet. Its word ends at a blank, a terminator or a comment.
 -- Assumes nothing.
 use Prim.Native.Nat.{ℕ}
 use Prim.Native.Char.{code}
@@ -17,25 +17,25 @@ use Rattle.lex_number.specs.declared.Number.the-variants.{Value, Malform
 use Rattle.lex_number.specs.declared.NumberAt.{NumberAt}
 use Rattle.lex_number.specs.declared.ShortNumber.{ShortNumber}
 
--- what words are made of: content that is not blank
+-- a byte of a word: content that is not blank
 unfoldable pub isWord : ℕ → ℕ → Bool
 isWord comment b = both (isContent comment b) (isFilled b)
 
--- what numbers are written with; no comment byte is one of these
+-- a byte that numbers are written with; the comment byte must not be one
 unfoldable pub isSpelling : ℕ → Bool
 isSpelling b = either (isDigit b) (either (isLetter b) (either (isSign b) (eqb b (code "."))))
 
 -- a number within its bounds: neither 13 nor 14
-abbrev pub isValue : Number → Bool
-isValue (Value word) = true
-isValue Malformed = false
-isValue Range = false
+abbrev pub isGoodNumber : Number → Bool
+isGoodNumber (Value word) = true
+isGoodNumber Malformed = false
+isGoodNumber Range = false
 
 -- the word that starts at `from`, as a number, and where it ends
 unfoldable pub numberIn : ℕ → List ℕ → ℕ → NumberAt
 numberIn comment s from =
     record { number = numberOf (take (run (isWord comment) (drop from s)) (drop from s)); end = runEnd (isWord comment) s from }
 
--- an answer that is the number's where it is known
+-- if the answer is known, it is the number at `from` and where its word ends
 pub record Knows (comment : ℕ) (s : List ℕ) (from : ℕ) (r : ShortNumber) : Type 0 where
   pub knows : r .known ≡ true → record { number = r .number; end = r .end } ≡ numberIn comment s from

@@ -5,7 +5,7 @@ use mathlib.Core.Path.{_≡_}
 use mathlib.Core.List.{List, _++_}
 use lib.ListN.{length, drop}
 use Rattle.base.specs.Bytes.{bytes}
-use Rattle.lex_line.specs.Way.Spans.{wordAt}
+use Rattle.lex_line.specs.Way.Spans.{wordSpan}
 use Rattle.line_path.specs.Path.{saysFork, saysEndfork}
 
 -- what stands before the amount
@@ -20,8 +20,8 @@ pub record OpensMult (content : List ℕ) : Type 0 where
 pub record Paired (s : List ℕ) (r : ℕ) : Type 0 where
   pub some : 0 < r
   pub inside : r + 1 < length s
-  pub first : wordAt s 0 ≡ record { start = 0; end = r }
-  pub second : wordAt s r ≡ record { start = r + 1; end = length s }
+  pub first : wordSpan s 0 ≡ record { start = 0; end = r }
+  pub second : wordSpan s r ≡ record { start = r + 1; end = length s }
 
 -- `Section Mult=n name`: the amount ends at `end`, and behind one blank the name goes up to the end of the line
 pub record UsualSection (content : List ℕ) (end : ℕ) : Type 0 where

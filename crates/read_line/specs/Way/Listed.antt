@@ -1,4 +1,4 @@
--- Lines of the model list that tell by their first byte that they are as they should be.
+-- Lines of the model list whose first byte shows that they break no rule.
 -- Assumes nothing.
 use Prim.Native.Nat.{ℕ}
 use Prim.Native.Char.{code}
@@ -7,7 +7,7 @@ use lib.Dec.{ltb, eqb}
 use Rattle.base.specs.If.{both}
 use Rattle.base.specs.Bytes.{space}
 
--- no blank, no bracket, and none of the bytes with which the reserved words start
+-- no blank, no bracket, and not the first byte of a reserved word
 unfoldable pub isFree : ℕ → Bool
 isFree b =
     both (ltb space b)

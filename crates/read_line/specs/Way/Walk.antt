@@ -1,5 +1,5 @@
--- What the walk over the lines promises: from where it has come to, the rest of the text comes to what the text comes to from where it
--- started. So it is free to group lines as it likes, a fork block too.
+-- What a walk over the lines promises: reading on from where the walk ends gives the same result as reading from where it
+-- started. So a walk may read any number of lines at once, a whole fork block too.
 -- Assumes nothing.
 use Prim.Native.Nat.{ℕ, _+_, _-_, _≤_, _<_}
 use mathlib.Core.Path.{_≡_}
@@ -29,30 +29,31 @@ use Rattle.read_line.specs.declared.PathWalk.{PathWalk}
 use Rattle.read_line.specs.declared.Reading.{Reading}
 use Rattle.read_line.specs.declared.Reading.the-variants.{Refused}
 
--- what the text comes to from where a walk has come
+-- the result of reading on from where a walk ends
 unfoldable pub resume : List ℕ → Walk → Reading
 resume t w = if eqb (w .rule) 0 then readFrom (w .line) (lines (drop (w .at) t)) (w .state) else Refused (w .rule) (w .line)
 
--- where a walk that broke no rule has come lies within the text, and what it remembers is kept
+-- where a walk that broke no rule goes on: the offset lies within the text, and the state is within its bounds
 pub record Onward (t : List ℕ) (at line : ℕ) (s : State) : Type 0 where
   pub within : at ≤ length t
   pub counted : line ≤ at + 1
   pub kept : BoundedState line s
 
--- no line takes a value back
+-- no line lowers the count of values
 abbrev pub Rises : State → State → Type 0
 Rises s r = s .counts .values ≤ r .counts .values
 
+-- a walk from offset `at` has come to w: the result is the same from there, and it has gone on unless a rule is broken
 pub record ResumesText (t : List ℕ) (at line : ℕ) (s : State) (w : Walk) : Type 0 where
   pub same : resume t w ≡ readFrom line (lines (drop at t)) s
   pub further : w .rule ≡ 0 → at < w .at
   pub onward : w .rule ≡ 0 → Onward t (w .at) (w .line) (w .state)
   pub rises : w .rule ≡ 0 → Rises s (w .state)
 
--- ---- lines gone over with a part of the state alone
+-- ---- lines read with only a part of the state
 
--- `fits` says which states the lines are met in, `put` what each of them has become behind them: from there the text comes to the same.
--- A line that breaks a rule is the last.
+-- Lines from offset `at` to offset `further` are read. `fits` are the states in which they may be read, and `put` gives the
+-- state after them: reading on from there gives the same result. A line that breaks a rule is the last.
 pub record ResumesPart (t : List ℕ) (at line : ℕ) (fits : State → Type 0) (put : State → State) (rule further last : ℕ) : Type 0 where
   pub same : (s : State) → fits s → resume t (record { rule = rule; at = further; line = last; state = put s }) ≡ readFrom line (lines (drop at t)) s
   pub kept : rule ≡ 0 → (s : State) → fits s → BoundedState line s → BoundedState last (put s)
@@ -62,41 +63,41 @@ pub record ResumesPart (t : List ℕ) (at line : ℕ) (fits : State → Type 0) 
   pub raised : line ≤ last
   pub counted : last + at ≤ line + further
 
--- lines that change nothing, wherever they stand in this place
+-- lines that change nothing, in any state with this place
 abbrev pub ResumesIdle : List ℕ → ℕ → ℕ → ℕ → ℕ → ℕ → Type 0
 ResumesIdle t at line here further last = ResumesPart t at line (λ (s : State). s .place ≡ here) (λ (s : State). s) 0 further last
 
--- the place, and a part as it was put
+-- the state has this place, and its part is the one that `put` puts in
 abbrev pub HoldsPart : ℕ → (State → State) → State → Type 0
 HoldsPart here put s = (s .place ≡ here) × (s ≡ put s)
 
--- in a place the part that was put decides what a line breaks, and what is put after it
+-- in this place the part that `put` puts in decides which rule a line breaks, and which part comes after it
 abbrev pub Decides : ℕ → (State → State) → (State → LineResult) → ℕ → (State → State) → Type 0
 Decides here put step rule next = (s : State) → s .place ≡ here → step (put s) ≡ breaks rule (next s)
 
--- a bracket stands at the front of the line
+-- the line has a bracket at its front
 abbrev pub Opens : List ℕ → Type 0
 Opens content = bracketOf content ≡ Plain → ⊥
 
--- the content of the line that starts at a place
+-- the content of the line that starts at offset `at`
 abbrev pub contentAt : List ℕ → ℕ → List ℕ
 contentAt t at = take (lineAt commentByte t at .content - at) (drop at t)
 
--- none of the places whose lines are gone over together
+-- a place whose lines are read one by one, not several together
 pub record ReadLineByLine (p : ℕ) : Type 0 where
   pub matrix : p ≡ place.matrix → ⊥
   pub path : p ≡ place.path → ⊥
   pub pins : p ≡ place.pinList → ⊥
 
--- so for a line without a bracket that is not blank
+-- a line that is not blank and has no bracket is in a place that is read line by line
 abbrev pub BracketOrLineByLine : List ℕ → ℕ → Type 0
 BracketOrLineByLine content p = isBlankLine content ≡ false → bracketOf content ≡ Plain → ReadLineByLine p
 
--- a walk that has not gone further than where it started stands at a line with a bracket
+-- a walk that has made no progress is at a line with a bracket
 abbrev pub NoProgressMeansBracket : List ℕ → ℕ → ℕ → Type 0
 NoProgressMeansBracket t at further = further ≡ at → at < length t → Opens (contentAt t at)
 
--- what stands at the front of a line
+-- what is at the front of a line
 abbrev pub Fronted : List ℕ → Front → Type 0
 Fronted content Blanks = isBlankLine content ≡ true
 Fronted content Words = (isBlankLine content ≡ false) × (bracketOf content ≡ Plain)
@@ -108,7 +109,7 @@ abbrev withSteps : ℕ → Counts → Counts
 withSteps n c =
     record { models = c .models; steps = n; maps = c .maps; pins = c .pins; sections = c .sections; matrices = c .matrices; values = c .values }
 
--- a path, and how many steps have been read
+-- the state with this path and this count of steps
 abbrev pub withPath : Path → ℕ → State → State
 withPath p n s =
     record {
@@ -122,12 +123,12 @@ withPath p n s =
       counts = withSteps n (s .counts);
     }
 
--- so deep and so long that one step more can be counted
+-- depth and count within their bounds, so that one more can be counted
 pub record Stepping (p : Path) (n : ℕ) : Type 0 where
   pub depth : p .depth ≤ deepest
   pub steps : n ≤ mostSteps
 
--- lines of a path are gone over, from one that the path stood so at and so many steps were read before
+-- lines of a path are read, from a line above which the path was p and n steps were read
 pub record Blocked (t : List ℕ) (at line : ℕ) (p : Path) (n : ℕ) (w : PathWalk) : Type 0 where
   pub crossed : ResumesPart t at line (HoldsPart place.path (withPath p n)) (withPath (w .part .path) (w .part .steps)) (w .part .rule) (w .at) (w .line)
   pub stays : NoProgressMeansBracket t at (w .at)
@@ -137,7 +138,7 @@ abbrev withPins : ℕ → Counts → Counts
 withPins n c =
     record { models = c .models; steps = c .steps; maps = c .maps; pins = n; sections = c .sections; matrices = c .matrices; values = c .values }
 
--- a pin map, and how many pins have been read
+-- the state with this pin map and this count of pins
 abbrev pub withPinned : Map → ℕ → State → State
 withPinned m n s =
     record {
@@ -155,7 +156,7 @@ abbrev withValues : ℕ → Counts → Counts
 withValues n c =
     record { models = c .models; steps = c .steps; maps = c .maps; pins = c .pins; sections = c .sections; matrices = c .matrices; values = n }
 
--- a matrix, and how many values have been read
+-- the state with this matrix and this count of values
 abbrev pub withMatrix : Matrix → ℕ → State → State
 withMatrix m n s =
     record {

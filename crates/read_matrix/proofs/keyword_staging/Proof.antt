@@ -1,4 +1,4 @@
--- `read_matrix::kept_note` meets its contract: by the keyword.
+-- `read_matrix::keyword_staging` meets its contract: by the keyword.
 -- Assumes nothing.
 use Rattle.read_matrix.proofs.LineLaws.{row-staged, bandwidth-staged}
 use borrow.Author.Needs.{needs}

@@ -1,4 +1,4 @@
--- `read_matrix::matrix_keyword_line` meets its contract: the rule, then what is remembered and noted.
+-- `read_matrix::matrix_keyword_line` meets its contract: the rule, then the state and the staging after it.
 -- Assumes nothing.
 use Rattle.read_matrix.proofs.LineLaws.{keeps-stop, keeps-go}
 use borrow.Author.Needs.{needs}

@@ -1,5 +1,5 @@
--- What is promised of the lines of a matrix, which are judged and noted in one go: what each line does to the part of the state that it
--- changes, as elsewhere in the reading, and what is noted of it.
+-- What is promised of the lines of a matrix, which are judged and staged in one pass: how each line changes its part of the
+-- state, as elsewhere in the reading, and what it adds to the staging.
 -- Assumes nothing.
 use Prim.Native.Nat.{ℕ, _+_, _-_, _*_, _≤_, max}
 use mathlib.Core.Path.{_≡_}
@@ -24,18 +24,18 @@ use Rattle.read_numbers.specs.Way.Staging.{BoundedStaging, Adds}
 use Rattle.read_matrix.specs.declared.Data.{Data}
 use Rattle.read_matrix.specs.declared.BodyWalk.{BodyWalk}
 
--- a note of nothing
+-- an empty staging
 abbrev pub newStaging : Bool → stages.Staging
 newStaging whole = record { whole = whole; row = 1; column = 1; bandwidth = untold; greatest = 0 }
 
--- [Row] i: the next number stands at (i, i); of [Bandwidth] the first counts
+-- [Row] i: the next number belongs at (i, i); of several [Bandwidth] the first counts
 unfoldable pub keywordStaging : ℕ → ℕ → stages.Staging → stages.Staging
 keywordStaging key value a =
     if eqb key row
     then record { whole = a .whole; row = value; column = value; bandwidth = a .bandwidth; greatest = max (a .greatest) value }
     else record { whole = a .whole; row = a .row; column = a .column; bandwidth = firstTold (a .bandwidth) value; greatest = a .greatest }
 
--- [Row] or [Bandwidth], by its argument
+-- [Row] or [Bandwidth], with its argument
 pub record TakesKeyword (key : ℕ) (argument : List ℕ) (m : Matrix) (values : ℕ) (a : stages.Staging) (r : Data) : Type 0 where
   pub taken : r .taken ≡ true
   pub decides : Decides place.matrix (withMatrix m values) (keywordStep key argument) (r .rule) (withMatrix (r .matrix) (r .values))
@@ -44,12 +44,12 @@ pub record TakesKeyword (key : ℕ) (argument : List ℕ) (m : Matrix) (values :
   pub staging : r .rule ≡ 0 → r .staging ≡ keywordStaging key (wholeOf argument .value) a
   pub bounded : BoundedStaging (r .staging) values
 
--- a table is changed only behind so many values
+-- the table is changed only after its first `values` values
 pub record Behind (values : ℕ) (table table' : List ℕ) : Type 0 where
   pub long : length table' ≡ length table
   pub same : take (3 * values) table' ≡ take (3 * values) table
 
--- what a line with this content adds to what is noted: nothing where it is blank
+-- what a line with this content adds to the staging; a blank line adds nothing
 pub record Extends (content : List ℕ) (form : ℕ) (table : List ℕ) (values : ℕ) (a : stages.Staging) (table' : List ℕ) (values' : ℕ) (b : stages.Staging) : Type 0 where
   pub blank : isBlankLine content ≡ true → (table' ≡ table) × (values' ≡ values) × (b ≡ a)
   pub filled : isBlankLine content ≡ false → (l : Line) → l .place ≡ place.matrix → l .content ≡ content →
@@ -60,7 +60,7 @@ pub record Ends (content : List ℕ) : Type 0 where
   pub filled : isBlankLine content ≡ false
   pub outside : (l : Line) → l .content ≡ content → inMatrix l ≡ false
 
--- one line, by its content
+-- one line, given by its content
 pub record Takes (content : List ℕ) (m : Matrix) (values : ℕ) (a : stages.Staging) (table : List ℕ) (r : Data) (table' : List ℕ) : Type 0 where
   pub decides : r .taken ≡ true → Decides place.matrix (withMatrix m values) (lineResult content) (r .rule) (withMatrix (r .matrix) (r .values))
   pub opens : r .taken ≡ false → Opens content
@@ -72,11 +72,11 @@ pub record Takes (content : List ℕ) (m : Matrix) (values : ℕ) (a : stages.St
   pub bounded : BoundedStaging (r .staging) (r .values)
   pub extends : r .taken ≡ true → r .rule ≡ 0 → r .staging .whole ≡ true → Extends content (m .form) table values a table' (r .values) (r .staging)
 
--- a line that adds no number, whatever the table
+-- a line that stores no number, whatever the table
 abbrev pub TakesAlone : List ℕ → Matrix → ℕ → stages.Staging → Data → Type 0
 TakesAlone content m values a r = (table : List ℕ) → Takes content m values a table r table
 
--- the note of a matrix whose lines start at `at`, so many values being read before
+-- the staged matrix whose lines start at `at`, with `values` values read before it
 abbrev pub stagedOf : ℕ → ℕ → Matrix → ℕ → BodyWalk → StagedMatrix
 stagedOf at line m values w =
     record {
@@ -91,7 +91,7 @@ stagedOf at line m values w =
       count = w .part .values - values;
     }
 
--- the lines of a matrix up to the keyword that ends it, or as far as they are taken here
+-- the lines of a matrix up to the keyword that ends it, or up to the first line that is not taken here
 pub record ResumesMatrix (t : List ℕ) (at line : ℕ) (m : Matrix) (values : ℕ) (table : List ℕ) (w : BodyWalk) (table' : List ℕ) : Type 0 where
   pub crossed : ResumesPart t at line (HoldsPart place.matrix (withMatrix m values)) (withMatrix (w .part .matrix) (w .part .values)) (w .part .rule) (w .at) (w .line)
   pub stays : NoProgressMeansBracket t at (w .at)

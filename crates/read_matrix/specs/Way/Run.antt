@@ -1,5 +1,5 @@
--- What is promised of runs of plain lines inside a matrix: wherever the lines of a matrix have been gone over up to the run, they have been
--- gone over up to its end.
+-- What is promised of runs of plain lines inside a matrix: if the lines of a matrix are read up to the start of a run, then
+-- after the run they are read up to its end.
 -- Assumes nothing.
 use Prim.Native.Nat.{ℕ, _+_, _*_, _≤_, _<_, max}
 use mathlib.Core.Path.{_≡_}
@@ -27,7 +27,7 @@ use Rattle.read_matrix.specs.declared.TakenNumbers.{TakenNumbers}
 use Rattle.read_matrix.specs.declared.TakenPair.{TakenPair}
 use Rattle.read_matrix.specs.Way.Body.{Behind, Takes}
 
--- what is left of a matrix' lines, noted behind what is noted, gives what all of them give
+-- staging the lines that are left of a matrix, after those staged already, gives what all of them give
 pub record Left (t : List ℕ) (n₀ at₀ form : ℕ) (table₀ : List ℕ) (values₀ n at : ℕ) (table : List ℕ) (values : ℕ) (a : Staging) : Type 0 where
   pub image :
       sets table (3 * values) (valuesWords (valuesFrom form (a .row) (a .column) (bodyLines t n at)))
@@ -35,11 +35,11 @@ pub record Left (t : List ℕ) (n₀ at₀ form : ℕ) (table₀ : List ℕ) (va
   pub count : values + length (valuesFrom form (a .row) (a .column) (bodyLines t n at)) ≡ values₀ + length (valuesFrom form 1 1 (bodyLines t n₀ at₀))
   pub bandwidth : toldOr (a .bandwidth) (bandwidthIn (bodyLines t n at)) ≡ bandwidthIn (bodyLines t n₀ at₀)
   pub greatest : max (a .greatest) (greatestIn form (bodyLines t n at)) ≡ greatestIn form (bodyLines t n₀ at₀)
-  -- what comes after them comes after all of them
+  -- what follows the lines that are left follows all of them
   pub rest : (ls : List Line) → linesAt t n at place.matrix ≡ bodyLines t n at ++ ls → linesAt t n₀ at₀ place.matrix ≡ bodyLines t n₀ at₀ ++ ls
   pub room : 3 * values ≤ length table
 
--- how far the lines of a matrix have been gone over, no rule being broken
+-- how far the lines of a matrix are read, no rule being broken
 pub record Gone (t : List ℕ) (at line : ℕ) (m : Matrix) (values : ℕ) (table₀ : List ℕ) (here lineHere : ℕ) (part : Data) (table : List ℕ) : Type 0 where
   pub whole : part .rule ≡ 0
   pub crossed : ResumesPart t at line (HoldsPart place.matrix (withMatrix m values)) (withMatrix (part .matrix) (part .values)) (part .rule) here lineHere
@@ -49,18 +49,18 @@ pub record Gone (t : List ℕ) (at line : ℕ) (m : Matrix) (values : ℕ) (tabl
   pub bounded : BoundedStaging (part .staging) (part .values)
   pub left : part .staging .whole ≡ true → Left t line at (m .form) table₀ values lineHere here table (part .values) (part .staging)
 
--- a run of lines: what had been gone over up to it has been gone over up to its end
+-- a run of lines: if the lines were read up to its start, they are now read up to its end
 pub record ResumesRun (t : List ℕ) (at line : ℕ) (part : Data) (table : List ℕ) (r : Run) (table' : List ℕ) : Type 0 where
   pub gone : (at₀ line₀ : ℕ) (m : Matrix) (values : ℕ) (table₀ : List ℕ) → Gone t at₀ line₀ m values table₀ at line part table →
       Gone t at₀ line₀ m values table₀ (r .at) (r .line) (r .part) table'
   pub onward : at ≤ r .at
   pub long : length table' ≡ length table
 
--- a data line may stand here: a form with rows has one
+-- a data line is allowed here: a form with rows has had a [Row]
 abbrev pub Ordered : Matrix → Type 0
 Ordered m = both (not (eqb (m .form) diagonal)) (eqb (m .rows .row) 0) ≡ false
 
--- what a run asks for: lines that are noted, and so few values that one line more can be counted
+-- what a run requires: all numbers so far are staged, and there are few enough values to count one line more
 pub record Runs (t : List ℕ) (at line : ℕ) (part : Data) : Type 0 where
   pub within : at ≤ length t
   pub counted : line ≤ at + 1
@@ -71,7 +71,7 @@ pub record Runs (t : List ℕ) (at line : ℕ) (part : Data) : Type 0 where
 
 -- ---- lines of numbers
 
--- what such a run has come to, by what it changes
+-- the result of such a run, by what it changes
 unfoldable pub numbersPart : Data → Bool → ℕ → ℕ → ℕ → Data
 numbersPart part whole values row column =
     record {
@@ -83,8 +83,8 @@ numbersPart part whole values row column =
       staging = record { whole = whole; row = row; column = column; bandwidth = part .staging .bandwidth; greatest = part .staging .greatest };
     }
 
--- the line at a place as one of a run of numbers, whatever the matrix and the note: it is taken, or not a line of the run. One that breaks a rule may have
--- changed what lies behind the values.
+-- the line at offset `here` as one of a run of numbers, whatever the matrix and the staging: it is taken, or not part of the
+-- run. A line that is not taken may have changed the table after the values; then the staging is not whole.
 pub record TakesNumbers (t : List ℕ) (here form values row column : ℕ) (table : List ℕ) (r : TakenNumbers) (table' : List ℕ) : Type 0 where
   pub behind : Behind values table table'
   pub kept : r .taken ≡ false → r .whole ≡ true → table' ≡ table
@@ -96,7 +96,7 @@ pub record TakesNumbers (t : List ℕ) (here form values row column : ℕ) (tabl
 
 -- ---- lines of a column and a value
 
--- the matrix and what is noted of it, by what such a run changes
+-- the matrix and the staging, by what such a run changes
 unfoldable pub pairsMatrix : Matrix → ℕ → ℕ → Bool → Matrix
 pairsMatrix m least greatest fits =
     record {

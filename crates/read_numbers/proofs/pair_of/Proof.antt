@@ -1,4 +1,4 @@
--- `read_numbers::pair_of` meets its contract: noted where there is one number.
+-- `read_numbers::pair_of` meets its contract: staged where there is one number.
 -- Assumes nothing.
 use Rattle.read_numbers.proofs.StagingLaws.{pair-untold, pair-other, pair-told}
 use borrow.Author.Needs.{needs}

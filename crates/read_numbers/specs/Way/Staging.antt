@@ -1,5 +1,5 @@
--- What one line adds to what is noted of a matrix, in the words of the document: noted with whatever lines come after it, they give what
--- these and the line give together.
+-- What one line adds to the staging of a matrix, in the words of the document: whatever lines come after it, staging them
+-- next gives what the line and they give together.
 -- Assumes nothing.
 use Prim.Native.Nat.{ℕ, _+_, _*_, _≤_, max}
 use mathlib.Core.Path.{_≡_}
@@ -20,12 +20,12 @@ use Rattle.read_numbers.specs.declared.Staging.{Staging}
 use Rattle.read_numbers.specs.declared.Numbers.{Numbers}
 use Rattle.read_numbers.specs.declared.Pair.{Pair}
 
--- rows and columns are given by integers, and rise by one only with a value: so few that no sum wraps
+-- rows and columns come from integers and rise by one only with a value: they are so small that no sum wraps
 pub record BoundedStaging (n : Staging) (values : ℕ) : Type 0 where
   pub row : n .row ≤ mostGiven + values
   pub column : n .column ≤ mostGiven + values
 
--- the line l, met with so many values read and noted as `a` says, leaves the table, the count and the note as they are on the right
+-- the line l, read after `values` values with the staging a, leads to the table, count and staging table', values' and b
 pub record Adds (form : ℕ) (l : Line) (table : List ℕ) (values : ℕ) (a : Staging) (table' : List ℕ) (values' : ℕ) (b : Staging) : Type 0 where
   pub whole : a .whole ≡ true
   pub image : (ls : List Line) →
@@ -39,13 +39,13 @@ pub record Adds (form : ℕ) (l : Line) (table : List ℕ) (values : ℕ) (a : S
   -- values are counted only where there is room for them
   pub room : 3 * values ≤ length table → 3 * values' ≤ length table'
 
--- ---- one line, apart from a note
+-- ---- one line, whatever the staging
 
--- the same note with the next number in another row and column
+-- the same staging, with the next number at another row and column
 abbrev pub movedTo : ℕ → ℕ → Staging → Staging
 movedTo row column a = record { whole = true; row = row; column = column; bandwidth = a .bandwidth; greatest = a .greatest }
 
--- the line at a place, a line of numbers from a row and a column on, whatever else is noted
+-- the line at offset `here` is a line of numbers, the first of them at this row and column; `adds` holds for any such staging
 pub record StagesNumbers (form : ℕ) (t : List ℕ) (here : ℕ) (table : List ℕ) (values row column : ℕ) (table' : List ℕ) (r : Numbers) : Type 0 where
   pub long : length table' ≡ length table
   pub front : take (3 * values) table' ≡ take (3 * values) table
@@ -55,11 +55,11 @@ pub record StagesNumbers (form : ℕ) (t : List ℕ) (here : ℕ) (table : List 
   pub adds : r .staged ≡ true → (a : Staging) → a .whole ≡ true → a .row ≡ row → a .column ≡ column → (l : Line) → l .content ≡ contentAt t here →
       keyOf l ≡ plain → Adds form l table values a table' (values + r .count) (movedTo (r .row) (r .column) a)
 
--- the same note with a column that is named
+-- the same staging, with one more column named
 abbrev pub namedTo : ℕ → Staging → Staging
 namedTo column a = record { whole = true; row = a .row; column = a .column; bandwidth = a .bandwidth; greatest = max (a .greatest) column }
 
--- the line at a place, one of a Sparse_matrix in a row, whatever else is noted
+-- the line at offset `here` is one of a Sparse_matrix, in this row; `adds` holds for any such staging
 pub record StagesPair (t : List ℕ) (here : ℕ) (table : List ℕ) (values row : ℕ) (table' : List ℕ) (r : Pair) : Type 0 where
   pub long : length table' ≡ length table
   pub front : take (3 * values) table' ≡ take (3 * values) table

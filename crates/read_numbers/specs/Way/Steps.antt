@@ -1,4 +1,4 @@
--- What the functions that note one line promise of each other.
+-- What the functions that stage one line promise to each other.
 -- Assumes nothing.
 use Prim.Native.Nat.{ℕ, _+_, _*_, _≤_}
 use mathlib.Core.Path.{_≡_}
@@ -20,11 +20,11 @@ use Rattle.store_matrices.specs.Way.Numbers.{rowAfter}
 use Rattle.read_numbers.specs.declared.Numbers.{Numbers}
 use Rattle.read_numbers.specs.declared.Pair.{Pair}
 
--- numbers that are gone over: the next number stands where the cursor is
-unfoldable pub numbersOf : Bool → Cursor → ℕ → Numbers
-numbersOf staged c end = record { staged = staged; count = c .count; row = c .row; column = c .column; end = end }
+-- the result of numbers that are stored: the next number goes where the cursor is
+unfoldable pub numbersResult : Bool → Cursor → ℕ → Numbers
+numbersResult staged c end = record { staged = staged; count = c .count; row = c .row; column = c .column; end = end }
 
--- words that are all numbers within their bounds, stored behind the values, the first in a row and a column
+-- all words are numbers within their bounds and are stored after the values, the first of them at this row and column
 pub record Stored (form : ℕ) (ws : List (List ℕ)) (table : List ℕ) (values row column : ℕ) (table' : List ℕ) (r : Numbers) : Type 0 where
   pub counted : r .count ≡ length ws
   pub formed : areFormed ws ≡ true
@@ -35,14 +35,14 @@ pub record Stored (form : ℕ) (ws : List (List ℕ)) (table : List ℕ) (values
   pub row-few : r .row ≤ row + r .count
   pub room : 3 * values ≤ length table → 3 * (values + r .count) ≤ length table
 
--- the numbers from a place up to the end of its line
+-- the numbers from offset `from` to the end of the line
 pub record Stores (form : ℕ) (t : List ℕ) (from : ℕ) (table : List ℕ) (values row column : ℕ) (table' : List ℕ) (r : Numbers) : Type 0 where
   pub long : length table' ≡ length table
   pub front : take (3 * values) table' ≡ take (3 * values) table
   pub ends : r .staged ≡ true → r .end ≡ lineAt commentByte t from .content
   pub told : r .staged ≡ true → Stored form (words (contentAt t from)) table values row column table' r
 
--- a column and the numbers behind it: noted where that is one
+-- a column and the numbers after it: staged if there is exactly one number
 unfoldable pub pairOf : ℕ → Numbers → Pair
 pairOf column n =
     if both (n .staged) (eqb (n .count) 1)

@@ -1,4 +1,4 @@
--- `read_text::put_note` meets its contract: the words of a note, where there is room for them.
+-- `read_text::put_staged` meets its contract: the words of a staged matrix, where there is room for them.
 -- Assumes nothing.
 use Rattle.read_text.proofs.StageLaws.{after-none, after-many, after-short, after-stored}
 use borrow.Author.Needs.{needs}

@@ -1,4 +1,4 @@
--- `read_text::note_matrix` meets its contract: a note where the lines break no rule and their numbers are all stored.
+-- `read_text::stage_matrix` meets its contract: staged if the lines break no rule and their numbers are all stored.
 -- Assumes nothing.
 use borrow.Author.Tests.{not-true, not-false}
 use Rattle.read_text.proofs.StageLaws.{behind-unstaged, behind-broken, behind-staged}

@@ -1,4 +1,4 @@
--- What the walk over a whole text carries with it: the notes of the matrices that it has gone over.
+-- What the walk over a whole text carries along: the matrices that are staged so far.
 -- Assumes nothing.
 use Prim.Native.Nat.{ℕ, _+_, _-_, _*_}
 use mathlib.Core.Path.{_≡_}
@@ -12,21 +12,21 @@ use Rattle.store_base.specs.Way.Stage.{StagedMatrix, Staged, Before, stagedSize
 use Rattle.read_matrix.specs.declared.BodyWalk.{BodyWalk}
 use Rattle.read_matrix.specs.Way.Body.{stagedOf}
 
--- every note that is made tells the truth, the words of the values standing at the front of the table, and none is of a value past those
--- that have been read
+-- every staged matrix is right, with the words of its values at the front of the table, and none has a value after those
+-- that are read
 pub record Carries (t table stage : List ℕ) (values : ℕ) : Type 0 where
   pub staged : Staged t table stage 0 0
   pub before : Before stage values
 
--- a text that is accepted has no more matrices
+-- an accepted text has at most this many matrices
 abbrev pub mostMatrices : ℕ
 mostMatrices = 1024
 
--- the words of a note
+-- the words that describe a staged matrix
 abbrev pub stagedWords : StagedMatrix → List ℕ
 stagedWords n = n .at ∷ n .line ∷ n .form ∷ n .first ∷ n .further ∷ n .next ∷ n .bandwidth ∷ n .greatest ∷ n .count ∷ []
 
--- the notes behind one of the last of so many matrices: it stands at that matrix's place, if there is one
+-- the stage after the last of `matrices` matrices is staged: its words are at that matrix's index, if there is room
 unfoldable pub stageAfter : ℕ → List ℕ → List ℕ → List ℕ
 stageAfter matrices words stage =
     if ltb matrices 1 then stage
@@ -34,7 +34,7 @@ stageAfter matrices words stage =
     else (if ltb (length stage) (stagedSize * (matrices - 1) + stagedSize) then stage
     else sets stage (stagedSize * (matrices - 1)) words))
 
--- the notes behind the lines of a matrix: one more where these break no rule and their numbers are all stored
+-- the stage after the lines of a matrix: one matrix more if they break no rule and their numbers are all stored
 unfoldable pub stageBehind : ℕ → ℕ → Matrix → ℕ → ℕ → BodyWalk → List ℕ → List ℕ
 stageBehind at line m values matrices w stage =
     if w .staged

@@ -4,7 +4,7 @@ use Prim.Native.Nat.{ℕ, _+_, _≤_}
 use mathlib.Core.Path.{_≡_}
 use mathlib.Core.List.{List}
 use lib.ListN.{length}
-use Rattle.table_layout.specs.Way.Filling.{Write, tableAfter, fillingAfter, Fits}
+use Rattle.table_layout.specs.Way.Filling.{Write, tableStored, fillingAfter, Fits}
 use Rattle.table_layout.specs.declared.Filling.{Filling}
 use Rattle.doc.specs.Lines.{Line, linesAt, gather}
 use Rattle.doc.specs.Way.Found.{Located, lineIn, linesBehind}
@@ -13,7 +13,7 @@ use Rattle.store_base.specs.declared.Walk.{Walk}
 
 -- these records are stored, and no other word is touched
 pub record Stores (f : Filling) (table : List ℕ) (ws : List Write) (f' : Filling) (table' : List ℕ) : Type 0 where
-  pub stored : table' ≡ tableAfter ws f table
+  pub stored : table' ≡ tableStored ws f table
   pub filled : f' ≡ fillingAfter ws f
 
 -- a place of the text, and the number of the line there: lines are no more than bytes

@@ -8,7 +8,7 @@ use lib.ListN.{length, drop}
 use lib.Seq.{sets}
 use Rattle.table_layout.specs.Layout.{widths}
 use Rattle.table_layout.specs.Way.Parts.{needed}
-use Rattle.table_layout.specs.Way.Filling.{basesFrom, opened}
+use Rattle.table_layout.specs.Way.Filling.{basesFrom, openedTable}
 use Rattle.table_layout.proofs.StoreLaws.{part-on, place-within, place-fits, first-fits, part-fits, sum-fits, bases-start, bases-on, bases-done}
 use Rattle.table_layout.proofs.OpenLaws.{opened-on, opened-done}
 use Rattle.table_layout.proofs.open_parts.Statement.{statement}
@@ -18,7 +18,7 @@ abbrev Inv-loop : tie.InvT-loop
 Inv-loop table₀ counts bases₀ at₀ part₀ table bases at part =
     (part ≤ 7) × (length counts ≡ 7) × (length table ≡ length table₀) × (at + needed (drop part widths) (drop part counts) ≡ needed widths counts)
     × (sets bases part (basesFrom at (drop part widths) (drop part counts)) ≡ basesFrom 0 widths counts)
-    × (opened at (drop part widths) (drop part counts) table ≡ opened 0 widths counts table₀)
+    × (openedTable at (drop part widths) (drop part counts) table ≡ openedTable 0 widths counts table₀)
 
 abbrev μ-loop : tie.MeasureT-loop
 μ-loop table₀ counts bases₀ at₀ part₀ table bases at part = 7 - part

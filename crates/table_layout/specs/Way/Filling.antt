@@ -35,9 +35,9 @@ unfoldable pub counted : Filling → ℕ → Filling
 counted f p = record { bases = f .bases; counts = set (f .counts) p (getD (f .counts) p 0 + 1) }
 
 -- the table after these records are stored, and where the next ones go
-unfoldable pub tableAfter : List Write → Filling → List ℕ → List ℕ
-tableAfter [] f t = t
-tableAfter (w ∷ ws) f t = tableAfter ws (counted f (w .part)) (sets t (position f (w .part)) (w .words))
+unfoldable pub tableStored : List Write → Filling → List ℕ → List ℕ
+tableStored [] f t = t
+tableStored (w ∷ ws) f t = tableStored ws (counted f (w .part)) (sets t (position f (w .part)) (w .words))
 
 unfoldable pub fillingAfter : List Write → Filling → Filling
 fillingAfter [] f = f
@@ -71,10 +71,10 @@ headed (w ∷ ws) [] = []
 headed (w ∷ ws) (c ∷ cs) = (c ∷ replicate (w * c) 0) ++ headed ws cs
 
 -- each part's count is set where the part begins
-unfoldable pub opened : ℕ → List ℕ → List ℕ → List ℕ → List ℕ
-opened at [] counts t = t
-opened at (w ∷ ws) [] t = t
-opened at (w ∷ ws) (c ∷ cs) t = opened (at + 1 + w * c) ws cs (set t at c)
+unfoldable pub openedTable : ℕ → List ℕ → List ℕ → List ℕ → List ℕ
+openedTable at [] counts t = t
+openedTable at (w ∷ ws) [] t = t
+openedTable at (w ∷ ws) (c ∷ cs) t = openedTable (at + 1 + w * c) ws cs (set t at c)
 
 -- "65,536 values" is the greatest of the bounds: no count is above it, so no sum of theirs wraps
 pub record BoundedCounts (counts : List ℕ) : Type 0 where

@@ -6,14 +6,14 @@ use mathlib.Core.List.{List}
 use Prim.Native.Nat.{ℕ, _-_, _≤_, _<_}
 use native.Mathlib.Omega.{arith}
 use Rattle.lex_line.specs.declared.Span.{Span}
-use Rattle.lex_line.specs.Way.Spans.{wordAt}
+use Rattle.lex_line.specs.Way.Spans.{wordSpan}
 use lib.ListN.{length}
 use Rattle.lex_line.proofs.WordLaws.{word-ordered, word-within, end-past}
 use Rattle.test_questions.proofs.put_words.Statement.{statement}
 use Rattle.test_questions.proofs.put_words.Tie as tie
 
 -- a word that is there leaves less of the line behind it
-word-less : (s : List ℕ) (from : ℕ) (word : Span) → word ≡ wordAt s from → word .start < length s → from < length s → length s - word .end < length s - from
+word-less : (s : List ℕ) (from : ℕ) (word : Span) → word ≡ wordSpan s from → word .start < length s → from < length s → length s - word .end < length s - from
 word-less s from word e h g =
     let k : from < word .end = end-past s from word e h in
     omega arith
