@@ -5,3 +5,4 @@ pub mod EntryLaws
 mod RowLaws
 mod WholeLaws
 pub mod SquareLaws
+pub mod OneLaws

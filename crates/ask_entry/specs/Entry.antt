@@ -15,8 +15,7 @@ use Rattle.ask_sound.specs.Sound.{range, isSound}
 use Rattle.ask_entry.specs.declared.Answer.{Answer}
 use Rattle.ask_entry.specs.declared.Answer.the-variants.{Found, Refused}
 
--- the words of the answer: "refused, they return the number and line 0, every other word 0"; `found` is false for a
--- refusal
+-- the words of the answer: "refused, they return the number and line 0, every other word 0"; `found` is false for a refusal
 pub record EntryWords : Type 0 where
   pub found : Bool
   pub rule : ℕ
@@ -34,7 +33,7 @@ abbrev pub entryWords : Answer → EntryWords
 entryWords (Found word) = foundWith word
 entryWords (Refused rule) = entryRefused rule
 
--- ---- records by their index; these two stand for an index past the last, which is never asked for
+-- ---- records by their index; `noSection` and `noMatrix` are for an index past the last, which never occurs
 
 abbrev pub noSection : SectionRecord
 noSection =

@@ -54,8 +54,7 @@ walkWords (Step words next) = stepped words next
 walkWords (Done place) = doneAt place
 walkWords (Refused rule) = walkRefused rule
 
--- ---- models and steps by their index; `noModel` and `noRecord` stand for an index past the last, which is never asked
--- for
+-- ---- models and steps by their index; `noModel` and `noRecord` are for an index past the last, which never occurs
 
 abbrev pub noModel : ModelRecord
 noModel = record { start = 0; size = 0; type = 0; first = 0; steps = 0 }

@@ -16,8 +16,7 @@ pub struct Finding {
     pub line: u64,
 }
 
-// Whether a line with this keyword, read in this place, writes a record of the part: models, maps, sections, or else
-// pins.
+// Whether a line with this keyword, read in this place, writes a record of the part: models, maps, sections, or else pins.
 fn writes_at(part: usize, place: u64, key: u64) -> bool
     ensures { λ r. ⌜ r ≡ writesAt part place key ⌝ }
 {

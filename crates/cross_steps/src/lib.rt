@@ -43,9 +43,8 @@ const KIND: u64 = 25;
 
 const COUNT: u64 = 26;
 
-// What the rules of a step need to know of its model: the model's type, the word where the records of its steps begin,
-// how many steps it has, the map of its first end (the number of maps if there is none), and the stamp in the marks of
-// its ends.
+// What the rules of a step need to know of its model: the model's type, the word where the records of its steps begin, how
+// many steps it has, the map of its first end (the number of maps if there is none), and the stamp in the marks of its ends.
 pub struct Owner {
     pub kind: u64,
     pub from: usize,
@@ -136,8 +135,7 @@ fn is_marked(
     marks[mark] == stamp
 }
 
-// The same as `is_clashing`, but compares ends only if the marks do not rule a clash out. Marks the end for the ends
-// after it.
+// The same as `is_clashing`, but compares ends only if the marks do not rule a clash out. Marks the end for the ends after it.
 fn is_met(
     text: &[u8],
     table: &[u64],
@@ -186,8 +184,7 @@ fn pins_of(table: &[u64], view: View, index: u64) -> u64
     table[bases[table_layout::MAPS] + MAP_WORDS * (index as usize) + 6]
 }
 
-// Whether a number of pins or conductors differs from the pins of the first map. If there is no such map, nothing
-// differs.
+// Whether a number of pins or conductors differs from the pins of the first map. If there is no such map, nothing differs.
 fn differs(table: &[u64], view: View, first: u64, many: u64) -> bool
     requires { ⌜ StepRooms (now table) view ⌝ }
     ensures { λ r. ⌜ r ≡ differsFrom (now (table .entry)) view first many ⌝ }

@@ -1,4 +1,4 @@
--- One pass: what the blocks hold, one block after the other, is what one pass over all lines gives. It holds of every text.
+-- One pass: what all blocks hold, block after block, is what one pass over all lines gives. It holds of every text.
 -- Assumes nothing.
 use mathlib.Core.Path.{_≡_, refl, sym, _∙_, ap}
 use mathlib.Core.Bool.{Bool, true, false}
@@ -15,7 +15,7 @@ use Rattle.doc.proofs.Goes.{lines-blank, lines-said, lines-none}
 
 -- ---- lines that follow one another
 
--- each line is read in the place that the line before it leads to, the first in p
+-- each line is read in the place to which the line before it leads, the first in p
 pub data Follow : ℕ → List Line → Type 0 where
   none : {p : ℕ} → Follow p []
   more : {p : ℕ} {l : Line} {ls : List Line} → l .place ≡ p → Follow (placeAfter p (l .content)) ls → Follow p (l ∷ ls)
@@ -58,7 +58,7 @@ module _ (inside : Line → Bool) where
   unfolding upTo
   up-to-out l ls e = if-false _ _ e
 
--- all that the parts of a list hold
+-- everything that the elements of a list hold
 unfoldable pub joined : {A B : Type 0} → (B → List A) → List B → List A
 joined parts [] = []
 joined parts (b ∷ bs) = parts b ++ joined parts bs
@@ -70,15 +70,16 @@ joined-append parts (x ∷ xs) ys = ap (λ (r : List _). parts x ++ r) (joined-a
 
 -- ---- blocks
 
--- A kind of block: which line opens one, which lines are in one, and what each line gives. Only lines in a block give anything, no line in
--- one opens one, none is entered but by the line that opens it, and what a line gives does not hang on the lines behind its block.
+-- A kind of block: which line opens one, which lines are in one, and what each line gives. Only lines in a block give
+-- anything, no line in a block opens one, a block is entered only by the line that opens it, and what a line gives does
+-- not depend on the lines after its block.
 pub record Blocks {A : Type 0} (opens inside : Line → Bool) (here : Line → List Line → List A) : Type 0 where
   pub only : (l : Line) (after : List Line) → inside l ≡ false → here l after ≡ []
   pub apart : (l : Line) → inside l ≡ true → opens l ≡ false
   pub entered : (l m : Line) → m .place ≡ placeAfter (l .place) (l .content) → inside l ≡ false → opens l ≡ false → inside m ≡ false
   pub cut : (l : Line) (after : List Line) → here l (upTo inside after) ≡ here l after
 
--- what the block that a line opens holds
+-- what the block holds that a line opens
 unfoldable pub ofBlock : {A : Type 0} → (Line → Bool) → (Line → Bool) → (Line → List Line → List A) → Line → List Line → List A
 ofBlock opens inside here l after = if opens l then gather here (upTo inside after) else []
 
@@ -87,7 +88,7 @@ abbrev pub Outside : (Line → Bool) → List Line → Type 0
 Outside inside [] = Unit {0}
 Outside inside (l ∷ ls) = inside l ≡ false
 
--- inside a block: what is left of it and the blocks behind it are one pass; outside: the blocks are
+-- inside a block, the rest of it and the blocks after it are one pass; outside, the blocks are
 pub record Passes {A : Type 0} (opens inside : Line → Bool) (here : Line → List Line → List A) (ls : List Line) : Type 0 where
   pub within : gather here (upTo inside ls) ++ gather (ofBlock opens inside here) ls ≡ gather here ls
   pub without : Outside inside ls → gather (ofBlock opens inside here) ls ≡ gather here ls

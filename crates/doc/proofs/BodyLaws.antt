@@ -1,5 +1,5 @@
--- A matrix as the forward reading meets it: what a line in the place of a matrix that breaks no rule does, and so what the lines from a
--- state on are, up to the end of the section.
+-- A matrix as the forward reading reaches it: what a line in the place of a matrix does if it breaks no rule, and so
+-- what the lines from a state on are, up to the end of the section.
 -- Assumes nothing.
 use Prim.Native.Nat.{ℕ, _+_, _≤_}
 use mathlib.Core.Path.{_≡_, refl, sym, _∙_, ap}
@@ -134,7 +134,7 @@ module _ (k : ℕ) (argument : List ℕ) (s : State) (kept : keywordRule k argum
   pub keyword-shaped : isShapeBroken k argument s ≡ false
   keyword-shaped = test-kept 5
 
-  -- it leads somewhere
+  -- it leads to some place
   pub keyword-leads : moved (s .place) k ≡ dead → ⊥
   unfolding isMisplaced
   keyword-leads = eqb-false _ _ (either-none-first _ _ keyword-misplaced)
@@ -192,7 +192,7 @@ module _ (argument : List ℕ) (s : State) (kept : keywordRule bandwidth argumen
   pub width-widens : Widens (s .matrix) (wholeOf argument .value)
   width-widens = width-told (s .matrix) (wholeOf argument .value) width-right width-most
 
--- ---- where a line leads that keeps the matrix open, or opens one
+-- ---- the state after a line that keeps the matrix open, or opens one
 
 pub record Onward (s : State) (known : ℕ) (m : Matrix) (v : ℕ) : Type 0 where
   pub place : s .place ≡ place.matrix
@@ -310,14 +310,14 @@ open-form k argument opens h =
     let g : formOf argument ≤ 4 = form-known argument in
     omega arith
 
--- the keywords that may stand in a matrix
+-- the keywords that are allowed in a matrix
 pub data MatrixKey (k : ℕ) : Type 0 where
   isRow : k ≡ row → MatrixKey k
   isWidth : k ≡ bandwidth → MatrixKey k
   opens : opensMatrix k ≡ true → MatrixKey k
   leaves : k ≡ endIcmSection → MatrixKey k
 
--- those that may stand in a section before its first matrix
+-- those that are allowed in a section before its first matrix
 pub data SectionKey (k : ℕ) : Type 0 where
   opens : opensMatrix k ≡ true → SectionKey k
   leaves : k ≡ endIcmSection → SectionKey k

@@ -85,7 +85,7 @@ use Rattle.doc.proofs.PassLaws.{
 use Rattle.doc.proofs.TallyLaws.{values-counted}
 use Rattle.doc.proofs.StepLaws.{saying-there, saying-elsewhere, saying-keyed, path-ruled, path-says, silent-step, said-steps}
 
--- ---- where a keyword stands that breaks no rule
+-- ---- the place of a keyword that breaks no rule
 
 pub record Placed (p k : ℕ) : Type 0 where
   pub model : k ≡ beginIcmModel → isInFamily p ≡ true
@@ -119,9 +119,9 @@ module _ (k : ℕ) (argument : List ℕ) (s : State) (known : isPlace (s .place)
         matrix = λ (h : opensMatrix k ≡ true). matrix-stands (s .place) (looked (matrix-not-header h)) k h not-dead;
       }
 
--- ---- what each line adds, all lines add
+-- ---- what each line adds to a count, all lines add
 
--- a count goes up by as many as the line gives
+-- the count rises by as many as the line gives
 pub record Counted {A : Type 0} (count : State → ℕ) (here : Line → List Line → List A) : Type 0 where
   pub idly : (l : Line) (s : State) → l .place ≡ s .place → Idle l s → (after : List Line) → here l after ≡ []
   pub plainly :
@@ -176,13 +176,13 @@ module _ (a b : Bool) where
   both-with : b ≡ true → a ≡ both a b
   both-with e = by-cases (a ≡ both a b) a (λ (h : a ≡ true). h ∙ sym (both-true a b h e)) (λ (h : a ≡ false). h ∙ sym (both-not-left a b h))
 
-  -- where the test of a keyword implies that of its place, both are one
+  -- if the test of a keyword implies that of its place, the two together are the test of the keyword
   same-both : (b ≡ true → a ≡ true) → b ≡ both a b
   same-both h = by-cases (b ≡ both a b) b (λ (e : b ≡ true). sym (both-rest a b (h e))) (λ (e : b ≡ false). e ∙ sym (both-not-right a b e))
 
 -- ---- models, maps, sections, matrices
 
--- what a keyword opens where it stands
+-- what a keyword opens in its place
 module _ {A : Type 0} (count : State → ℕ) (stands : ℕ → Bool) (opens : ℕ → Bool) (block : Line → List Line → A) where
   block-counted :
       stands place.done ≡ false → stands place.before ≡ false → opens plain ≡ false →

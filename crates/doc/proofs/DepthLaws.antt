@@ -1,5 +1,5 @@
--- The forks of a text that reads to its end: in each model at most eight are open at once, none is closed that is not open, and none
--- is left open.
+-- The forks of a text that reads to its end: in each model at most eight are open at once, none is
+-- closed that is not open, and none is left open.
 -- Assumes nothing.
 use mathlib.Core.Path.{_≡_, refl, sym, _∙_, ap}
 use mathlib.Core.Bool.{true, false, true≢false}
@@ -56,7 +56,7 @@ use Rattle.doc.proofs.StepLaws.{saying-there, saying-elsewhere, saying-
 
 -- ---- one line of a path
 
--- the steps of a line whose path has the depth d before it and d' after it, the steps behind it being fine from there
+-- the steps of a line whose path has depth d before it and d' after it, if the steps after it are right from there
 module _ (l : Line) (after : List Line) (d d' : ℕ) (rest : List Step) where
   said-deep :
       (sayingAt l ≡ path.saysFork → (d < deepest) × (d' ≡ d + 1)) → (sayingAt l ≡ path.saysEndfork → d' + 1 ≡ d) →
@@ -88,7 +88,7 @@ module _ (l : Line) (after : List Line) (d d' : ℕ) (rest : List Step) where
       stays v e n m =
           rw (others (λ (z : sayingAt l ≡ path.saysFork). n (sym e ∙ z)) (λ (z : sayingAt l ≡ path.saysEndfork). m (sym e ∙ z))) at h
 
--- a line that gives no step, where the depth stays
+-- a line that gives no step and leaves the depth unchanged
 silent-deep :
     (l : Line) (after : List Line) (d d' : ℕ) (rest : List Step) → sayingAt l ≡ path.saysNothing → d' ≡ d → depthOfSteps d' rest ≡ true →
     depthOfSteps d (stepOf l after ++ rest) ≡ true
@@ -139,7 +139,7 @@ module _ (l : Line) (after : List Line) (s : State) (e : l .place ≡ s .place) 
       (saying-elsewhere l (λ (z : l .place ≡ place.path). eqb-false _ _ t (sym e ∙ z)))
       (ap (λ (p : Path). p .depth) (path-same (l .content) s t)) deep)
 
--- a keyword stands where no fork is open, and leaves none open
+-- at a keyword no fork is open, and it leaves none open
 module _ (k : ℕ) (argument : List ℕ) (s : State) (out : Outside s) (kept : keywordRule k argument s ≡ 0) where
   keyword-before : s .path .depth ≡ 0
   keyword-before = keyword-flat s out (keyword-closed k argument s kept)
@@ -191,7 +191,7 @@ unfolding inModel isInModel
 outside-flat l s e out t =
     out .flat (λ (z : s .place ≡ place.path). eqb-false _ _ (either-none-first _ _ (either-none-second _ _ t)) (e ∙ z))
 
--- what is left of a model, the forks that are open being as many as the state has
+-- the rest of a model, if as many forks are open as the state counts
 model-deep :
     {s e : State} (ls : List Line) (g : Goes s ls e) → AllMet g → Outside s → e .place ≡ place.done →
     depthOfSteps (s .path .depth) (stepsIn (upTo inModel ls)) ≡ true

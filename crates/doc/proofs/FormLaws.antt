@@ -1,4 +1,5 @@
--- The numbers of a matrix that breaks no rule, form by form: how many there are, where they stand, and how many conductors they say.
+-- The numbers of a matrix that breaks no rule, form by form: how many there are, at which rows
+-- and columns, and how many conductors they give.
 -- Assumes nothing.
 use Prim.Native.Nat.{ℕ, _+_, _-_, _≤_, _<_, max}
 use mathlib.Core.Path.{_≡_, refl, sym, _∙_, ap}
@@ -60,7 +61,7 @@ told-word w (number.Value v) e f b = number-word w v e
 told-word w number.Malformed e f b = absurd (true≢false (sym f))
 told-word w number.Range e f b = absurd (true≢false (sym b))
 
--- what a number within its bounds writes is a value word
+-- a number within its bounds writes a value word
 number-told : (w : List ℕ) → toldBy w .formed ≡ true → toldBy w .bounded ≡ true → isValueWord (wordIn (numberOf w)) ≡ true
 unfolding toldBy
 number-told w f b = told-word w (numberOf w) refl f b
@@ -268,7 +269,7 @@ module _ (known n w : ℕ) where
       body-most b c (omega arith)
   body-most (widens m v l ls k h b) a g = body-most b a g
 
--- ---- Diagonal_matrix: the next number stands at (p, p)
+-- ---- Diagonal_matrix: the next number is at (p, p)
 
 module _ (known n w : ℕ) where
   pub diagonal-rises :
@@ -288,7 +289,7 @@ module _ (known n w : ℕ) where
       let g : m .form ≡ banded = h .form in
       absurd (omega arith)
 
--- ---- Sparse_matrix: the next number stands in the row now read, not before the least column
+-- ---- Sparse_matrix: the next number is in the row being read, not before the least column
 
 from-one : (n i : ℕ) (vs : List Value) → 1 ≤ i → Rising n i i vs → Rising n 1 1 vs
 from-one n i vs h t =
@@ -297,7 +298,7 @@ from-one n i vs h t =
     (λ (e : eqb i 1 ≡ false). let g : i ≡ 1 → ⊥ = eqb-false i 1 e in rising-below 1 1 (omega arith) t)
 
 module _ (known n w : ℕ) where
-  -- what fits at the end has fitted all along
+  -- a shape that is right at the end was right all along
   sparse-fits : {m : Matrix} {v : ℕ} {ls : List Line} → Body known n w m v ls → m .form ≡ sparse → m .rows .fits ≡ true
   unfolding withRow stillFits withColumn
   sparse-fits (closes m v h e) f = h .fits f

@@ -1,4 +1,4 @@
--- Laws of the lines from a byte on: blank lines passed over, the line found, and the end of the text.
+-- Laws of the lines from an offset on: blank lines that are skipped, the line that is found, and the end of the text.
 -- Assumes nothing.
 use mathlib.Core.Path.{_≡_, refl, sym, _∙_, ap}
 use mathlib.Core.Bool.{Bool, true, false, not, true≢false}
@@ -30,7 +30,7 @@ module _ (t : List ℕ) (at : ℕ) (h : at < length t) where
   bytes-long : length (firstOf (drop at t) .bytes) ≡ run (isBefore lineFeed) (drop at t)
   bytes-long = length-take-le _ (drop at t) (run-le _ (drop at t))
 
-  -- where the next line starts: past the LF, or at the end where nothing follows
+  -- where the next line starts: after the LF, or at the end if nothing follows
   rest-same : (m q : ℕ) → linesFrom m (at + length (firstOf (drop at t) .bytes) + 1) q (lines (drop (lineAt commentByte t at .next) t)) ≡ linesAt t m (lineAt commentByte t at .next) q
   unfolding linesAt
   rest-same m q =
@@ -46,11 +46,11 @@ module _ (t : List ℕ) (at : ℕ) (h : at < length t) where
       rw z (lines-none m _ q ∙ sym (lines-none m _ q)))
 
   module _ (n : ℕ) (ends : text.Line) (told : ends ≡ lineAt commentByte t at) where
-    -- what the code cuts is the line's content
+    -- what the code cuts out is the line's content
     pub cut-content : take (ends .content - at) (drop at t) ≡ contentOf commentByte (firstOf (drop at t) .bytes)
     cut-content = ap (λ (l : text.Line). take (l .content - at) (drop at t)) told ∙ sym (content-at commentByte t at)
 
-    -- a blank line is passed over
+    -- a blank line is skipped
     pub pass-over : isBlankLine (take (ends .content - at) (drop at t)) ≡ true → (p : ℕ) → linesAt t n at p ≡ linesAt t (n + 1) (ends .next) p
     unfolding linesAt
     pass-over b p =
@@ -59,7 +59,7 @@ module _ (t : List ℕ) (at : ℕ) (h : at < length t) where
         ∙ rest-same (n + 1) p
         ∙ ap (λ (l : text.Line). linesAt t (n + 1) (l .next) p) (sym told)
 
-    -- a line that says something is the first of the lines from there
+    -- a significant line is the first of the lines from there
     pub stop-here : isBlankLine (take (ends .content - at) (drop at t)) ≡ false → (p : ℕ) →
         linesAt t n at p ≡ record { line = n; at = at; place = p; content = take (ends .content - at) (drop at t) } ∷ linesAt t (n + 1) (ends .next) (placeAfter p (take (ends .content - at) (drop at t)))
     unfolding linesAt
@@ -94,9 +94,9 @@ pub nothing-left : (t : List ℕ) (n at p : ℕ) → length t ≤ at → linesAt
 unfolding linesAt
 nothing-left t n at p h = ap (linesFrom n at p) (ap lines (drop-of-length-le t h) ∙ lines-nil) ∙ lines-none n at p
 
--- ---- what the search for a line keeps, and what it finds
+-- ---- the invariant of the search for a line, and what it finds
 
--- the lines from where it began are those from where it has come
+-- the lines from where the search began are those from where it is now
 pub record Onward (t : List ℕ) (n₀ at₀ n at : ℕ) : Type 0 where
   pub within : at ≤ length t
   pub counted : n ≤ at + 1
@@ -151,7 +151,7 @@ module _ (t : List ℕ) (n₀ at₀ n at : ℕ) (on : Onward t n₀ at₀ n at) 
           same-none = λ (e : true ≡ false). absurd (true≢false e);
         }
 
--- ---- where a line leads
+-- ---- the place after a line
 
 module _ (t : List ℕ) (f : Found) (located : Located t f) (p : ℕ) where
   pub place-plain : f .key ≡ plain → (first : List ℕ) → first ≡ firstWordOf (words (contentIn t f)) → (r : ℕ) → r ≡ movedByLine p first → r ≡ placeAfter p (contentIn t f)

@@ -1,5 +1,5 @@
--- A text that reads to its end, line by line: what each line that says something does to what is remembered. The laws of the document of
--- such a text go by this.
+-- A text that reads to its end, line by line: how each significant line changes the state. The laws of
+-- the document of such a text are proved with this.
 -- Assumes nothing.
 use mathlib.Core.Path.{_≡_, refl, sym, _∙_, ap}
 use mathlib.Core.Bool.{Bool, true, false, true≢false}
@@ -30,7 +30,7 @@ use Rattle.read_line.specs.declared.Reading.{Reading}
 use Rattle.read_line.specs.declared.Reading.the-variants.{Read, Refused}
 use Rattle.doc.specs.Lines.{Line, plain, keyIn, argumentIn, keyAt, placeAfter, linesFrom, linesAt, significant, keyOf, argumentOf}
 
--- a line that is passed over: after [End], or before [Begin Header]
+-- a line that is skipped: after [End], or above [Begin Header]
 pub data Idle (l : Line) (s : State) : Type 0 where
   ended : s .place ≡ done → Idle l s
   waits : s .place ≡ before → eqb (keyOf l) beginHeader ≡ false → Idle l s
@@ -45,7 +45,7 @@ pub data Goes : State → List Line → State → Type 0 where
   none : {s : State} → Goes s [] s
   more : {s s' e : State} {l : Line} {ls : List Line} → l .place ≡ s .place → isBlankLine (l .content) ≡ false → Moves l s s' → Goes s' ls e → Goes s (l ∷ ls) e
 
--- a keyword that leads on is one that is looked at: not after [End], and before the header only the one that opens it
+-- a keyword that changes the state is one that is looked at: not after [End], and above the header only [Begin Header]
 abbrev pub MetBy : {l : Line} {s s' : State} → Moves l s s' → Type 0
 MetBy (idle i) = Unit {0}
 MetBy (plainly k h) = Unit {0}
@@ -115,7 +115,7 @@ module _ (l : Line) (s : State) where
       let z : lineRule (l .content) s ≡ 0 = judged-zero _ _ _ h in
       record { next = lineNext (l .content) s; moves = plainly k z; met = tt; is-next = ap (λ (x : LineResult). x .state) e ∙ judged-next _ _ _ z }
 
-  -- by what its bracket says, in a place that reads lines
+  -- by its bracket, in a place in which lines are read
   read-moved : ((k : ℕ) → Met k s) → (b : Bracket) → bracketOf (l .content) ≡ b → lineResult (l .content) s ≡ bracketStep b (l .content) s → bracketStep b (l .content) s .rule ≡ 0 → Moved l s
   unfolding breaks keyOf keyAt
   read-moved met Plain b e h = by-line (ap keyIn b) h e
@@ -128,7 +128,7 @@ module _ (l : Line) (s : State) where
   read-moved met Later b e h = absurd (omega (arith, h))
   read-moved met (Keyword k start) b e h = by-keyword k start b (met k) h e
 
-  -- before [Begin Header]
+  -- above [Begin Header]
   early-met : (k : ℕ) → k ≡ beginHeader → s .place ≡ before → Met k s
   early-met k e p = record { on = λ (d : s .place ≡ done). omega arith; first = λ (b : s .place ≡ before). e }
 
@@ -186,12 +186,12 @@ keyed-place : (l : Line) (s : State) → eqb (keyOf l) plain ≡ false → keywo
 unfolding keyOf keywordNext placeAfter
 keyed-place l s k = sym (if-false _ _ k)
 
--- no block is open where a line is passed over
+-- no block is open at a line that is skipped
 pub idle-outside : (test : ℕ → Bool) → test done ≡ false → test before ≡ false → (l : Line) (s : State) → l .place ≡ s .place → Idle l s → test (l .place) ≡ false
 idle-outside test d b l s e (ended f) = ap test (e ∙ f) ∙ d
 idle-outside test d b l s e (waits f k) = ap test (e ∙ f) ∙ b
 
--- a line leads where its words say
+-- the place after a line is the one to which its words lead
 pub moves-place : (l : Line) (s s' : State) → Moves l s s' → s' .place ≡ placeAfter (s .place) (l .content)
 unfolding keyOf
 moves-place l s s' (idle (ended e)) = rw e (sym (done-stays (l .content)))

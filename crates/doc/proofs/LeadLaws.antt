@@ -1,5 +1,5 @@
--- Where a line leads from its place: which lines enter a model, a pin map, a section and a matrix, and in which places a keyword that is
--- not misplaced stands.
+-- The place after a line: which lines enter a model, a pin map, a section and a matrix,
+-- and the places of a keyword that is not misplaced.
 -- Assumes nothing.
 use mathlib.Core.Path.{_≡_, refl, sym, _∙_}
 use mathlib.Core.Bool.{Bool, true, false, true≢false}
@@ -67,7 +67,7 @@ use Rattle.doc.specs.Lines.{plain, keyAt, placeAfter}
 
 -- ---- by the place
 
--- none of the places that a keyword is looked up in
+-- none of the places in which keywords are looked up
 pub record Elsewhere (p : ℕ) : Type 0 where
   pub matrix : eqb p place.matrix ≡ false
   pub model : isInModel p ≡ false
@@ -81,7 +81,7 @@ pub record Elsewhere (p : ℕ) : Type 0 where
   pub before : eqb p place.before ≡ false
 
 module _ (P : ℕ → Type 0) (p k : ℕ) where
-  -- what holds by each place that a keyword is looked up in holds where it leads
+  -- what holds in each place in which keywords are looked up holds of the place after the keyword
   pub record ByPlace : Type 0 where
     pub matrix : p ≡ place.matrix → P (leadsInMatrix k)
     pub model : isInModel p ≡ true → P (leadsInModel k)
@@ -139,7 +139,7 @@ either-way : (P : ℕ → Type 0) (b : Bool) (x y : ℕ) → P x → P y → P (
 either-way P b x y h k = by-test P b x y (λ (e : b ≡ true). h) (λ (e : b ≡ false). k)
 
 module _ (P : ℕ → Type 0) (p k : ℕ) where
-  -- a keyword that enters a block says so; every other place is reached by some keyword
+  -- the places to which keyword k may lead from p: into a block only by the keyword that opens it, elsewhere by any
   pub record Ways : Type 0 where
     pub keeps : p ≡ place.matrix → isRowOrBandwidth k ≡ true → P place.matrix
     pub matrix : either (eqb p place.section) (eqb p place.matrix) ≡ true → opensMatrix k ≡ true → P place.matrix
@@ -361,7 +361,7 @@ section-entered p content out shut =
       elsewhere = λ e. out;
     }))
 
--- a matrix is entered by the keyword of its kind alone, and kept by [Row] and [Bandwidth]
+-- a matrix is entered by the keyword of its kind alone, and kept open by [Row] and [Bandwidth]
 pub matrix-entered :
     (p : ℕ) (content : List ℕ) → both (eqb p place.matrix) (either (eqb (keyAt content) plain) (isRowOrBandwidth (keyAt content))) ≡ false →
     both (either (eqb p place.section) (eqb p place.matrix)) (opensMatrix (keyAt content)) ≡ false →
@@ -441,7 +441,7 @@ place-known p content known =
       elsewhere = λ e. known;
     }))
 
--- a place that a keyword is looked up in nowhere is one that nothing leaves
+-- a known place in which no keyword is looked up is `done` or `dead`
 nowhere-left : (p : ℕ) → isPlace p ≡ true → Elsewhere p → (p ≡ place.done → ⊥) → p ≡ place.dead
 unfolding isPlace
 nowhere-left p known e n =
@@ -460,7 +460,7 @@ nowhere-left p known e n =
     ∙ either-rest _ _ (ne-eqb _ _ n))
     ∙ known)
 
--- ---- where a keyword stands that is not misplaced
+-- ---- the places of a keyword that is not misplaced
 
 -- the place is one in which keywords are looked at
 pub record Looked (p : ℕ) : Type 0 where
@@ -468,11 +468,11 @@ pub record Looked (p : ℕ) : Type 0 where
   pub not-done : p ≡ place.done → ⊥
   pub not-before : p ≡ place.before → ⊥
 
--- a keyword that leads nowhere is misplaced
+-- a keyword that leads to no place is misplaced
 foreign : {T : Type 0} → (place.dead ≡ place.dead → ⊥) → T
 foreign n = absurd (n refl)
 
--- a keyword that leads nowhere but from a section
+-- a keyword that leads on only in a section
 record Strange (k : ℕ) : Type 0 where
   model : leadsInModel k ≡ place.dead
   family : leadsInFamily k ≡ place.dead

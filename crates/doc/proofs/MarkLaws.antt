@@ -1,4 +1,4 @@
--- Laws of the words of a line where they stand in the text: what a span marks is the word of the definition.
+-- Laws of the words of a line and their offsets in the text: what a span marks is the word of the definition.
 -- Assumes nothing.
 use mathlib.Core.Path.{_≡_, refl, sym, _∙_, ap}
 use mathlib.Core.Bool.{Bool, true, false}
@@ -52,7 +52,7 @@ pub start-after : (s : List ℕ) (from : ℕ) → from ≤ wordSpan s from .star
 unfolding wordSpan
 start-after s from = omega arith
 
--- the first of the words from a place of s on
+-- the first of the words from an offset of s on
 module _ (s : List ℕ) (offset from : ℕ) (h : from ≤ length s) where
   mark-first : markAt s offset (wordSpan s from) ≡ markOf (firstWord (wordsFrom (offset + from) (drop from s)))
   mark-first =

@@ -1,5 +1,5 @@
--- Every matrix of every section of a text that reads to its end is right: its numbers rise and stand inside its conductors, which are those
--- of the section, and its rows have the lengths that the paper says.
+-- Every matrix of every section of a text that reads to its end is right: its numbers rise and lie within its
+-- conductors, which are those of the section, and its rows have the lengths that the paper says.
 -- Assumes nothing.
 use Prim.Native.Nat.{ℕ, _+_, _-_, _≤_, _<_, min, max}
 use mathlib.Core.Path.{_≡_, refl, sym, subst}

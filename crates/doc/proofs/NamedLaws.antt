@@ -1,4 +1,4 @@
--- Laws of the names of a text that breaks no rule: every one has 1 to 120 bytes, and stands in the text.
+-- Laws of the names of a text that breaks no rule: each has 1 to 120 bytes and is in the text.
 -- Assumes nothing.
 use mathlib.Core.Path.{_≡_, refl, sym, _∙_, ap}
 use mathlib.Core.Bool.{true, false, not, true≢false}
@@ -235,7 +235,7 @@ grown-count a b c [] (v ∷ vs) e = absurd (omega arith)
 grown-count a b c (w ∷ ws) [] e = absurd (omega arith)
 grown-count a b c (w ∷ ws) (v ∷ vs) e = e
 
--- there are as many wherever they stand
+-- there are as many, whatever their offset
 words-count : (a b : ℕ) (s : List ℕ) → length (wordsFrom a s) ≡ length (wordsFrom b s)
 unfolding wordsFrom
 words-count a b [] = refl
@@ -271,7 +271,7 @@ words-there a (b ∷ s) h =
 
 -- ---- what a line that breaks no rule has
 
--- the argument of a keyword that takes a name is one
+-- the argument of a keyword that takes a name is a name
 module _ (k : ℕ) (argument : List ℕ) where
   bad-name : takesName k ≡ true → isBadArgument k argument ≡ not (isName argument)
   unfolding isBadArgument isRowOrBandwidth opensMatrix takesNothing takesName either if_then_else_
@@ -301,7 +301,7 @@ module _ (k : ℕ) (argument : List ℕ) where
       (omega arith, (omega arith, (omega arith, (omega arith, (omega arith, (omega arith, (omega arith, tt))))))) kept 2 in
       not-false (isName argument) (sym (bad-name h) ∙ b)
 
--- a line of a path is as its first word asks
+-- a line of a path has the form that its first word requires
 module _ (l : PathLine) (p : Path) (steps : ℕ) where
   open-right : openRule l p steps ≡ 0 → l .right ≡ true
   unfolding openRule
@@ -339,7 +339,7 @@ path-rule : (content : List ℕ) (s : State) → s .place ≡ place.path →
 unfolding lineRule isText either if_then_else_
 path-rule content s e = rw e
 
--- what the rules leave of a line that is read
+-- what the rules tell of a line that is read
 record Kept (l : Line) : Type 0 where
   said : isBlankLine (l .content) ≡ false
   named : (l .place ≡ place.done → ⊥) → (l .place ≡ place.before → ⊥) → takesName (keyOf l) ≡ true → isName (argumentOf l .text) ≡ true
@@ -381,7 +381,7 @@ module _ {P : Word → Type 0} where
       let m : 1 ≤ length ws = omega arith in
       first-is ws m hs
 
--- where a line stands, and its length
+-- the offset of a line, and its length
 record StandsShort (t : List ℕ) (l : Line) : Type 0 where
   stands : LineStands t l
   short : Short l
@@ -393,7 +393,7 @@ record Written (t : List ℕ) (l : Line) : Type 0 where
   short : Short l
 
 module _ (t : List ℕ) (l : Line) (h : Written t l) where
-  -- the words from a place of the line on
+  -- the words from an offset of the line on
   words-named : (from : ℕ) → Each (IsName t) (wordsFrom (l .at + from) (drop from (l .content)))
   words-named from =
       let s : length (l .content) ≤ mostCharacters = h .short in
@@ -583,7 +583,7 @@ module _ (t : List ℕ) where
       each-if (eqb (sayingAt l) path.saysEndfork) _
       (λ (e : eqb (sayingAt l) path.saysEndfork ≡ true). fork-named endforkKind (l .line) (omega arith)))))
 
-  -- by the keyword that opens a block of the family
+  -- the name after the keyword that opens a block of the family
   family-named : (l : Line) (k : ℕ) → Written t l → takesName k ≡ true → both (isInFamily (l .place)) (eqb (keyOf l) k) ≡ true →
       IsName t (argumentOf l)
   family-named l k h takes e =

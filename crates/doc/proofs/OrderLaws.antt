@@ -1,5 +1,5 @@
--- Laws of the order of lines: of two lines that say something the one with the lower number ends before the other starts; so the maps below
--- a line are those whose names stand behind it.
+-- Laws of the order of lines: of two significant lines the earlier ends before the later starts. So the maps below a
+-- line are those whose names are after it in the text.
 -- Assumes nothing.
 use mathlib.Core.Path.{_≡_, refl, sym, _∙_, ap}
 use mathlib.Core.Bool.{true}
@@ -24,15 +24,15 @@ use Rattle.doc.proofs.MarkLaws.{argument-in-line}
 use Rattle.doc.proofs.StandsLaws.{each-append, each-gather, each-if, Laid, laid}
 use Rattle.doc.proofs.StandsLaws.Laid.{ended, onward}
 
--- ---- lines one behind the other
+-- ---- lines one after the other
 
--- a line has a lower number than n, starts before `at`, and ends there or before it
+-- a line above line n, which starts before `at` and ends there or before it
 pub record Before (n at : ℕ) (l : Line) : Type 0 where
   pub lower : l .line < n
   pub starts : l .at < at
   pub ends : l .at + length (l .content) ≤ at
 
--- a line has the number n or a higher one, and starts at `at` or behind it
+-- line n or one below it, which starts at `at` or after it
 pub record Behind (n at : ℕ) (l : Line) : Type 0 where
   pub higher : n ≤ l .line
   pub starts : at ≤ l .at
@@ -64,7 +64,7 @@ laid-after : {t : List ℕ} {n at : ℕ} (before after : List Line) (l : Line) �
 laid-after [] after l (onward end u v lies rest) = laid-behind (l .line + 1) (l .at + length (l .content)) (le-refl _) (lies .ends) rest
 laid-after (k ∷ before) after l (onward end u v lies rest) = laid-after before after l rest
 
--- a line of a text among the others: those with a lower number end before it, those with a higher one start behind its end
+-- a line of a text among the others: the lines above it end before it starts, those below it start after its end
 pub record Sorted (before : List Line) (l : Line) (after : List Line) : Type 0 where
   pub earlier : Each (Before (l .line) (l .at)) before
   pub later : Each (Behind (l .line + 1) (l .at + length (l .content))) after
@@ -77,7 +77,7 @@ lines-sorted t before after l e =
 
 -- ---- maps below a line
 
--- a map that this line opens is below the number n exactly where its name stands at `next` or behind it
+-- a map that this line opens is below line n exactly if its name is at `next` or after it
 abbrev Tells : ℕ → ℕ → Line → Type 0
 Tells n next k = keyOf k ≡ icmPinMap → leb next (argumentOf k .start) ≡ ltb n (k .line)
 
@@ -106,7 +106,7 @@ map-told : (n next : ℕ) (k : Line) (ls : List Line) → Tells n next k → Eac
 unfolding mapAt mapOf opensMap
 map-told n next k ls h hs = each-if (opensMap k) _ (λ (e : opensMap k ≡ true). h (eqb-true _ _ (both-second _ _ e)))
 
--- of a line that was found, and has no keyword
+-- for a line that was found, and has no keyword
 module _ (t : List ℕ) (before : List Line) (n at p : ℕ) (line : Found) (finds : FindsLine t n at line) (there : line .there ≡ true) where
   pub maps-behind : significant t ≡ before ++ linesAt t n at p → line .key ≡ plain →
       Each (λ (m : Map). leb (line .next) (m .name .start) ≡ ltb (line .line) (m .line)) (documentOf t .maps)

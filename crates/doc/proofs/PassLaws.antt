@@ -194,7 +194,7 @@ module _ (l : Line) where
   unfolding inMatrix inSection
   matrix-in-section e = either-right _ _ (either-right _ _ (both-first _ _ e))
 
--- cut twice is cut where the inner block ends
+-- cutting twice is cutting where the inner block ends
 up-to-twice :
     (inner outer : Line → Bool) → ((l : Line) → inner l ≡ true → outer l ≡ true) → (ls : List Line) →
     upTo inner (upTo outer ls) ≡ upTo inner ls
@@ -254,7 +254,7 @@ section-gives l after =
     gives-one (λ (s : Section). s .matrices) (opensSection l) (sectionOf l (upTo inSection after))
     (gather matrixAt (upTo inSection after)) refl
 
--- before [Begin Header] no block is open
+-- above [Begin Header] no block is open
 pub starts-outside :
     (inside : Line → Bool) → ((l : Line) → l .place ≡ place.before → inside l ≡ false) → {ls : List Line} → Follow place.before ls →
     Outside inside ls

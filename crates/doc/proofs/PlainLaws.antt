@@ -1,4 +1,4 @@
--- Laws of lines that have no keyword and are gone past: those that do not start with `[`.
+-- Laws of lines without a keyword that are skipped: those that do not start with `[`.
 -- Assumes nothing.
 use mathlib.Core.Path.{_≡_, refl, sym, _∙_, ap}
 use mathlib.Core.Bool.{Bool, true, false, not, true≢false}
@@ -79,7 +79,7 @@ front-of zero u e = absurd (omega (arith, e))
 front-of (suc k) [] e = e
 front-of (suc k) (b ∷ u) e = e
 
--- a bracket in column 1 is the first byte; behind blanks it is no keyword
+-- a bracket in column 1 is the first byte; after blanks it is no keyword
 plain-content : (content : List ℕ) → (getD content 0 0 ≡ 91 → ⊥) → keyAt content ≡ plain
 unfolding keyAt bracketOf isOpen
 plain-content content h =
@@ -148,7 +148,7 @@ module _ {A : Type 0} (p : ℕ) (here : Line → List Line → List A) (silent :
   pub plainly-quiet : (ls rest : List Line) → Plainly p ls rest → gather here ls ≡ gather here rest
   plainly-quiet ls rest h = ap (gather here) (h .all) ∙ plain-quiet (h .each) rest
 
--- ---- lines gone past
+-- ---- lines that are skipped
 
 pub passes-none : (t : List ℕ) (n at : ℕ) → (at ≤ length t) × (n ≤ at + 1) → SkipsPlain t n at (record { at = at; line = n })
 passes-none t n at (h, k) =
@@ -233,7 +233,7 @@ amid-on : (t : List ℕ) (n₀ at₀ n at : ℕ) → at < length t → (getD t a
 amid-on t n₀ at₀ n at h other (ended passes e) = byte-past t n₀ at₀ n at at passes h (le-refl at) refl other
 amid-on t n₀ at₀ n at h other (amid s passes f l inv first e) = byte-past t n₀ at₀ n s at passes h (omega arith) inv first
 
--- so many bytes without a `[`
+-- k bytes without a `[`
 amid-over : (t : List ℕ) (n₀ at₀ k n at : ℕ) → at + k ≤ length t → all (isBefore 91) (take k (drop at t)) ≡ true → Amid t n₀ at₀ n at →
     Amid t n₀ at₀ (n + lineFeeds (take k (drop at t))) (at + k)
 amid-over t n₀ at₀ zero n at h a m = rw (feeds-none, add-zero n, add-zero at) m
@@ -276,7 +276,7 @@ bytes-on t n at count here passes room closed told h f counted =
           rw counted (amid-over t n₀ at₀ 16 count here l (sym told ∙ not-false closed h) (passes .over n₀ at₀ m));
     }
 
--- ---- what is left of a line
+-- ---- the rest of a line
 
 feed-further : (t : List ℕ) (end : ℕ) → end ≤ pastFeed t end
 unfolding pastFeed
@@ -314,7 +314,7 @@ module _ (t : List ℕ) (n₀ at₀ n at : ℕ) (passes : SkipsPlain t n₀ at�
       pub plain-less : length t - r .at < length t - at
       plain-less = omega (arith, bytes .onward, ends .onward)
 
--- ---- the next line behind them
+-- ---- the next line after them
 
 module _ (t : List ℕ) (n at p : ℕ) (f : Found) where
   pub meets-found : FindsLine t n at f → FindsKeyed t n at p f

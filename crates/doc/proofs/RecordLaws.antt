@@ -1,4 +1,5 @@
--- Laws of the records as words: each is as wide as its part asks, the layout of the records taken apart gives them back, and its length.
+-- Laws of the records as words: each is as wide as its part requires, and their layout, taken apart, gives them back;
+-- and the length of the layout.
 -- Assumes nothing.
 use mathlib.Core.Path.{_≡_, refl}
 use mathlib.Core.List.{List, [], _∷_, _++_, map}
@@ -75,7 +76,7 @@ parts-back r =
       values = all-back valueWords toValue (λ (x : Value). refl) (r .values) i;
     }
 
--- a table that holds records, with whatever zeros behind them, holds these records
+-- a table that holds records, with any zeros after them, gives these records back
 pub records-back : (r : Records) (z : ℕ) → recordsOf (layout (partsOf r) ++ replicate z 0) ≡ r
 unfolding recordsOf
 records-back r z = rw (taken-apart widths (partsOf r) z (records-wide r)) (parts-back r)

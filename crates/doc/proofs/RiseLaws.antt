@@ -1,4 +1,4 @@
--- Values that rise: told so that they can be built one line after another, and where the lines of a matrix put their numbers.
+-- Values that rise: in a form that can be built line by line, and where the lines of a matrix put their numbers.
 -- Assumes nothing.
 use Prim.Native.Nat.{ℕ, suc, _+_, _≤_, _<_}
 use mathlib.Core.Path.{_≡_, refl, _∙_, ap}
@@ -31,7 +31,7 @@ pub data From (r c : ℕ) (v : Value) : Type 0 where
   below : r < v .row → From r c v
   along : r ≡ v .row → c ≤ v .column → From r c v
 
--- the first value stands at (r, c) or after it, each other one after the one before it, and all inside n
+-- the first value is at (r, c) or after it, each other one after the one before it, and all inside n
 pub data Rising (n : ℕ) : ℕ → ℕ → List Value → Type 0 where
   none : {r c : ℕ} → Rising n r c []
   more :
@@ -64,13 +64,13 @@ pub rising-inside : {n r c : ℕ} {vs : List Value} → Rising n r c vs → Each
 rising-inside none = Each.none
 rising-inside (more v vs f i t) = Each.more i (rising-inside t)
 
--- it holds from any place before
+-- it holds from any earlier row
 pub rising-below : {n r c : ℕ} {vs : List Value} (q d : ℕ) → q < r → Rising n r c vs → Rising n q d vs
 rising-below q d h none = none
 rising-below q d h (more v vs (below g) i t) = more {r = q} v vs (below (omega arith)) i t
 rising-below q d h (more v vs (along e g) i t) = more {r = q} v vs (below (omega arith)) i t
 
--- ---- where the numbers of a line stand
+-- ---- the rows and columns of the numbers of a line
 
 pub numbers-none : (form r c : ℕ) → numbersAt form r c [] ≡ []
 unfolding numbersAt
@@ -97,7 +97,7 @@ pub numbers-length : (form r c : ℕ) (ws : List (List ℕ)) → length (numbers
 numbers-length form r c [] = ap length (numbers-none form r c)
 numbers-length form r c (w ∷ ws) = ap length (numbers-more form r c w ws) ∙ ap suc (numbers-length form (nextRow form r) (c + 1) ws)
 
--- down the diagonal, e being where the number after them stands
+-- down the diagonal; e is the row of the number after them
 pub down-rises :
     (form n r e : ℕ) (ws : List (List ℕ)) (vs : List Value) → form ≡ diagonal → 1 ≤ r → r + length ws ≡ e → e ≤ n + 1 →
     Rising n e e vs → Rising n r r (numbersAt form r r ws ++ vs)
@@ -126,13 +126,13 @@ along-rises form n r c e (w ∷ ws) vs d h g a b t =
     (more (numberAt r c w) (numbersAt form r (c + 1) ws ++ vs) (along refl (le-refl c))
     (record { low = h; right = g; high = omega arith }) next)
 
--- ---- where the numbers of the lines stand
+-- ---- the rows and columns of the numbers of several lines
 
 pub values-none : (form r c : ℕ) → valuesFrom form r c [] ≡ []
 unfolding valuesFrom
 values-none form r c = refl
 
--- the row of the number after a line of `count` numbers, of which the first stands in the row r
+-- the row of the number after a line of `count` numbers, the first of which is in row r
 abbrev pub rowAfter : ℕ → ℕ → ℕ → ℕ
 rowAfter form r count = if eqb form diagonal then r + count else r
 

@@ -1,4 +1,4 @@
--- Full_matrix and Banded_matrix, the forms whose rows have the right lengths: each row stands rightly above the next and the last has one
+-- Full_matrix and Banded_matrix, the forms whose rows have fixed lengths: each row fits the next and the last has one
 -- number, so that row i has the paper's "N-i+1 numbers, diagonal first", or "1+min(B, N-i)".
 -- Assumes nothing.
 use Prim.Native.Nat.{ℕ, suc, _+_, _-_, _≤_, _<_, min}
@@ -36,7 +36,7 @@ use Rattle.doc.proofs.ShapeLaws.{LastRow, Body}
 use Rattle.doc.proofs.ShapeLaws.Body.{closes, numbers, pair, starts, widens}
 use Rattle.doc.proofs.FormLaws.{width-here}
 
--- ---- how many of the values stand in the row i
+-- ---- how many of the values are in row i
 
 unfoldable pub inRow : ℕ → List Value → ℕ
 inRow i [] = 0
@@ -54,7 +54,7 @@ row-other : (i : ℕ) (v : Value) (vs : List Value) → (v .row ≡ i → ⊥) �
 unfolding inRow
 row-other i v vs e = if-false _ _ (ne-eqb _ _ e)
 
--- none stands above where they rise from
+-- none is in a row above where they start
 row-above : {n r c : ℕ} {vs : List Value} (i : ℕ) → i < r → Rising n r c vs → inRow i vs ≡ 0
 row-above i h Rising.none = row-none i
 row-above i h (Rising.more v vs (From.below g) j t) = row-other i v vs (λ (e : v .row ≡ i). omega arith) ∙ row-above i (omega arith) t
@@ -72,7 +72,7 @@ module _ (form r : ℕ) (d : form ≡ diagonal → ⊥) (vs : List Value) where
   numbers-other i h c (w ∷ ws) =
       rw (numbers-along form r c w ws d, row-other i (numberAt r c w) (numbersAt form r (c + 1) ws ++ vs) h) (numbers-other i h (c + 1) ws)
 
--- ---- the rows from the one now read on, of which q numbers are read
+-- ---- the rows from the one being read on, of which q numbers are read
 
 record Lengths (n q : ℕ) (m : Matrix) (vs : List Value) : Type 0 where
   fits : m .rows .fits ≡ true
@@ -82,7 +82,7 @@ record Lengths (n q : ℕ) (m : Matrix) (vs : List Value) : Type 0 where
   below : (i : ℕ) → m .rows .row < i → i ≤ n → inRow i vs ≡ min (m .band) (n - i + 1)
   rises : Rising n (m .rows .row) (m .rows .row + q) vs
 
--- a row above the row i has one number more, or as many as the band
+-- the row above row i has one number more, or as many as the band
 one-more : (band n i r : ℕ) → i ≤ n → i ≡ r + 1 → min band (min band (n - i + 1) + 1) ≡ min band (n - r + 1)
 one-more band n i r h e = omega arith
 

@@ -1,5 +1,5 @@
--- Every section of a text that reads to its end has a matrix and a method, and its matrices are right, all of the same conductors: the
--- sections are followed line by line as the forward reading goes.
+-- Every section of a text that reads to its end has a matrix and a method, and its matrices are right, all with the
+-- same conductors. The proof follows the sections line by line, as the forward reading does.
 -- Assumes nothing.
 use Prim.Native.Nat.{ℕ, zero, suc, _≤_, zero-le, suc-le-suc}
 use mathlib.Core.Path.{_≡_, refl, sym, _∙_, ap, subst}
@@ -151,7 +151,7 @@ outside (Goes.more {l = l} {ls = ls} q blank mv g) p = up-out inSection l ls (se
 
 -- ---- one line in front
 
--- what is remembered after a keyword
+-- the state after a keyword
 abbrev next : Line → State → State
 next l s = keywordNext (keyOf l) (argumentOf l .text) s
 
@@ -163,7 +163,7 @@ Kept l s = keywordRule (keyOf l) (argumentOf l .text) s ≡ 0
 abbrev closing : State → ℕ
 closing s = matrix.shapeConductors (s .matrix) (s .counts .values)
 
--- a matrix opens, with so many conductors known
+-- a matrix opens, with this count of conductors known
 module _
     (l : Line)
     (ls : List Line)
@@ -453,7 +453,7 @@ module _ (l : Line) (ls : List Line) (s e : State) (d : e .place ≡ done) where
     first-step s' (keyed k kept) g =
         first-keyed kept (section-key (keyOf l) (section-leads (keyOf l) (argumentOf l .text) s kept p)) g
 
--- in the place of a section, its first matrix still to come
+-- in the place of a section, before its first matrix
 section-filled :
     {s e : State} {ls : List Line} → Goes s ls e → e .place ≡ done → s .place ≡ place.section → NoKind (s .seen) → Filled ls
 section-filled Goes.none d p h = absurd (omega arith)
@@ -511,7 +511,7 @@ module _ (l : Line) (ls : List Line) where
   unfolding methodIn
   method-later k = if-false _ _ k
 
--- a line that is passed over stands in no section
+-- a line that is skipped is in no section
 idle-outside : (l : Line) (s : State) → l .place ≡ s .place → Idle l s → inSection l ≡ false
 unfolding inSection either
 idle-outside l s q (ended e) = rw (q, e)

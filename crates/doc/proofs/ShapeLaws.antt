@@ -1,5 +1,6 @@
--- The lines of a matrix that breaks no rule, and what follows of its numbers, form by form: the rules of each line are taken apart once,
--- and the laws go by induction over the lines, from the state that the forward reading has at a line to the keyword that closes the matrix.
+-- The lines of a matrix that breaks no rule, and what follows for its numbers, form by form. The rules of
+-- each line are taken apart once; the laws go by induction over the lines, from the state of the forward
+-- reading at a line to the keyword that closes the matrix.
 -- Assumes nothing.
 use Prim.Native.Nat.{ℕ, _+_, _-_, _≤_, _<_}
 use mathlib.Core.Path.{_≡_, refl, sym, _∙_, ap}
@@ -60,9 +61,9 @@ use Rattle.line_matrix.specs.Matrix.{
 use Rattle.doc.specs.Lines.{Line, plain, keyOf}
 use Rattle.doc.specs.Document.{givenBy}
 
--- ---- what the rules of a line say
+-- ---- what the rules of a line give
 
--- a data line stands below a [Row], where the form has rows
+-- a data line is below a [Row], if the form has rows
 abbrev Placed : Matrix → Type 0
 Placed m = (m .form ≡ diagonal → ⊥) → m .rows .row ≡ 0 → ⊥
 
@@ -104,7 +105,7 @@ pub record LastRow (n : ℕ) (m : Matrix) (v : ℕ) : Type 0 where
   pub one : inRow m v ≡ 1
   pub last : m .rows .row ≡ n
 
--- the keyword that closes a matrix of n conductors, `known` being those of the matrices before it
+-- the keyword that closes a matrix of n conductors; `known` are those of the matrices before it
 pub record Closed (known n : ℕ) (m : Matrix) (v : ℕ) : Type 0 where
   pub some : m .first < v
   pub same : (known ≡ 0) ⊎ (known ≡ n)
@@ -114,7 +115,7 @@ pub record Closed (known n : ℕ) (m : Matrix) (v : ℕ) : Type 0 where
   pub named : m .form ≡ sparse → m .rows .greatest ≡ n
   pub rows : (m .form ≡ diagonal → ⊥) → (m .form ≡ sparse → ⊥) → LastRow n m v
 
--- the lines of a matrix from a state of it on, v values being read and w at its end
+-- the lines of a matrix from a state of it on; v values are read there, and w at its end
 pub data Body (known n w : ℕ) : Matrix → ℕ → List Line → Type 0 where
   closes : (m : Matrix) (v : ℕ) → Closed known n m v → v ≡ w → Body known n w m v []
   numbers :

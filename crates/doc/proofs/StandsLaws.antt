@@ -1,5 +1,5 @@
--- Laws of where lines and words stand in the text: the lines that say something lie one behind the other, and every word of the document
--- of any text stands where it says.
+-- Laws of the offsets of lines and words: the significant lines lie one after the other, and every word of the document
+-- of any text is in the text at its offset.
 -- Assumes nothing.
 use mathlib.Core.Path.{_≡_, refl, sym, _∙_, ap}
 use mathlib.Core.Bool.{Bool, true, false}
@@ -87,7 +87,7 @@ module _ {A : Type 0} {P : A → Type 0} where
   each-append none k = k
   each-append (more h hs) k = more h (each-append hs k)
 
-  -- what lines give, where each line gives only such, by what holds of it and of the lines after it
+  -- what lines give has a property, if it follows for each line from what holds of it and of the lines after it
   pub each-gather : (Q : Line → Type 0) (here : Line → List Line → List A) →
       ((l : Line) (ls : List Line) → Q l → Each Q ls → Each P (here l ls)) →
       {ls : List Line} → Each Q ls → Each P (gather here ls)
@@ -95,7 +95,7 @@ module _ {A : Type 0} {P : A → Type 0} where
   each-gather Q here gives none = none
   each-gather Q here gives (more {x = l} {xs = ls} h hs) = each-append (gives l ls h hs) (each-gather Q here gives hs)
 
-  -- one where the test holds, none where it does not
+  -- one element if the test holds, none if it does not
   pub each-if : (b : Bool) (x : A) → (b ≡ true → P x) → Each P (if b then x ∷ [] else [])
   each-if b x h = by-test (Each P) b (x ∷ []) [] (λ (e : b ≡ true). more (h e) none) (λ (e : b ≡ false). none)
 
@@ -106,7 +106,7 @@ each-up {P} inside (more {x = l} {xs = ls} h hs) =
     by-test (Each P) (inside l) (l ∷ upTo inside ls) [] (λ (e : inside l ≡ true). more h (each-up inside hs))
     (λ (e : inside l ≡ false). none)
 
--- ---- parts of what stands in the text
+-- ---- parts of what is in the text
 
 take-back : (n : ℕ) (s : List ℕ) → take (length (take n s)) s ≡ take n s
 take-back n s = ap (take (length (take n s))) (sym (take-append-drop n s)) ∙ take-append-seam (take n s) (drop n s)
@@ -132,7 +132,7 @@ module _ (t : List ℕ) (a : ℕ) (s : List ℕ) (h : Stands t (record { start =
             ∙ take-back size (drop from s);
       }
 
-  -- the words from a place of it on
+  -- the words from an offset of it on
   word-found : (from : ℕ) → wordSpan s from .start < length s →
       Each (Stands t) (wordsFrom (a + wordSpan s from .end) (drop (wordSpan s from .end) s)) →
       Each (Stands t) (wordsFrom (a + from) (drop from s))
@@ -168,7 +168,7 @@ second-stands : (t : List ℕ) {ws : List Word} → Each (Stands t) ws → Stand
 second-stands t none = no-word-stands t
 second-stands t (more h hs) = first-stands t hs
 
--- a line stands where it says
+-- a line is in the text at its offset
 abbrev pub LineStands : List ℕ → Line → Type 0
 LineStands t l = Stands t (record { start = l .at; text = l .content })
 
@@ -193,15 +193,15 @@ module _ (t : List ℕ) (l : Line) (h : LineStands t l) where
       let from : ℕ = argumentIn (bracketOf (l .content)) in
       part-stands t (l .at) (l .content) h from (lastEnd (l .content) - from) (argument-in-line (l .content) _ refl)
 
--- ---- the lines that say something, one behind the other
+-- ---- the significant lines, one after the other
 
--- a line's content stands where it says, and ends at `next` or before it
+-- a line's content is in the text at its offset, and ends at `next` or before it
 pub record Lies (t : List ℕ) (l : Line) (next : ℕ) : Type 0 where
   pub stands : LineStands t l
   pub ends : l .at + length (l .content) ≤ next
   pub further : l .at < next
 
--- lines from the number n and the byte `at` on
+-- lines from line n and offset `at` on
 pub data Laid (t : List ℕ) : ℕ → ℕ → List Line → Type 0 where
   ended : {n at : ℕ} → Laid t n at []
   onward : {n at : ℕ} {l : Line} {ls : List Line} (end : ℕ) → n ≤ l .line → at ≤ l .at → Lies t l end → Laid t (l .line + 1) end ls →
@@ -264,7 +264,7 @@ laid-from (suc k) t at h n p =
     line-laid t n at p l (laid-from k t (lineAt commentByte t at .next) (omega arith)))
     (λ (e : ltb at (length t) ≡ false). laid-end t n at p (ltb-false _ _ e))
 
--- the lines from any byte of any text on
+-- the lines from any offset of any text on
 pub laid : (t : List ℕ) (n at p : ℕ) → Laid t n at (linesAt t n at p)
 laid t n at p = laid-from (length t - at) t at (omega arith) n p
 
@@ -276,7 +276,7 @@ pub lines-stand : (t : List ℕ) → Each (LineStands t) (significant t)
 unfolding significant
 lines-stand t = laid-stand (laid t 1 0 place.before)
 
--- ---- every word of the document stands where it says
+-- ---- every word of the document is in the text at its offset
 
 pub record StepStands (t : List ℕ) (s : Step) : Type 0 where
   pub name : Stands t (s .name)

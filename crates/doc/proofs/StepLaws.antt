@@ -1,5 +1,5 @@
--- The lines of a path of a text that reads to its end: each says one of the five things that a path's lines say, and gives one step
--- or, a Side, none.
+-- The lines of a path of a text that reads to its end: each says one of the five things that a line of a path can say.
+-- It gives one step, or none if it is a Side.
 -- Assumes nothing.
 use mathlib.Core.Path.{_≡_, refl, sym, _∙_}
 use mathlib.Core.Bool.{true, false, not, true≢false}
@@ -95,7 +95,7 @@ says-said content =
     (λ (g : either (eqb (sayingOf (firstOf (words content))) path.saysEnd) (eqb (sayingOf (firstOf (words content))) path.saysSide) ≡ false).
     saying-none (firstOf (words content)) e f g)))
 
--- what a line in a path says is what its document reads
+-- what a line in a path says is what the document takes from it
 pub saying-there : (l : Line) → l .place ≡ place.path → keyOf l ≡ plain → sayingAt l ≡ pathLineOf (l .content) .says
 unfolding sayingAt standsIn
 saying-there l e k = if-true _ _ (both-true _ _ (eq-eqb _ _ e) (eq-eqb _ _ k)) ∙ sym (says-said (l .content))

@@ -1,4 +1,5 @@
--- How many values a text that reads to its end writes: each line of a matrix adds as many as it has numbers, by the form of its matrix.
+-- How many values a text that reads to its end writes: each line of a matrix adds as many as it has numbers, which
+-- depends on the form.
 -- Assumes nothing.
 use mathlib.Core.Path.{_≡_, refl, sym, _∙_, ap}
 use mathlib.Core.Bool.{true, false, not, true≢false}
@@ -178,7 +179,7 @@ data-numbers form content =
     (λ (e : eqb form sparse ≡ false) (h : dataLineOf form content .right ≡ true).
     ap (λ (d : DataLine). d .numbers) (if-false _ _ e) ∙ numbers-all (words content) ∙ sym (if-false _ _ e))
 
--- ---- what a line does to the count of values and to the form
+-- ---- how a line changes the count of values and the form
 
 keeps-not-opens : (k : ℕ) → isRowOrBandwidth k ≡ true → opensMatrix k ≡ false
 unfolding isRowOrBandwidth opensMatrix either
@@ -221,7 +222,7 @@ opened-form : (k : ℕ) (argument : List ℕ) (s : State) → opensMatrix k ≡ 
 unfolding matrixAfter newMatrix
 opened-form k argument s o = ap (λ (x : matrix.Matrix). x .form) (if-true _ _ o)
 
--- in a matrix: its form stays, the line's numbers are added
+-- in a matrix: its form is unchanged, and the line's numbers are added
 record Grows (l : Line) (s s' : State) : Type 0 where
   form : s' .matrix .form ≡ s .matrix .form
   values : s' .counts .values ≡ s .counts .values + numbersOn (s .matrix .form) l
@@ -302,7 +303,7 @@ shut-values : (l : Line) (ls : List Line) → opensMatrixAt l ≡ false → leng
 unfolding matrixAt joined
 shut-values l ls o = ap (λ (ms : List Matrix). length (joined (λ (m : Matrix). m .values) ms)) (if-false _ _ o)
 
--- inside a matrix: what is left of it and the matrices behind it; outside: the matrices
+-- inside a matrix: the rest of it and the matrices after it; outside: the matrices
 record Tallied (s : State) (ls : List Line) (e : State) : Type 0 where
   within : e .counts .values ≡ s .counts .values + numbersIn (s .matrix .form) (upTo inMatrix ls) + valuesIn ls
   without : Outside inMatrix ls → e .counts .values ≡ s .counts .values + valuesIn ls
@@ -374,7 +375,7 @@ tallied (l ∷ ls) (more p b m g) =
       without = tally-outside l ls p m g (tallied ls g);
     }
 
--- as many values more as the matrices of the lines have
+-- the count rises by as many values as the matrices of the lines have
 pub values-counted :
     {s e : State} (ls : List Line) → Goes s ls e → Outside inMatrix ls →
     e .counts .values ≡ s .counts .values + length (joined (λ (m : Matrix). m .values) (gather matrixAt ls))

@@ -1,5 +1,5 @@
--- The document that a text writes: models with their steps, maps with their pins, sections with their matrices and values. It is a function
--- of every text, also of one that is refused; the rules are elsewhere.
+-- The document that a text writes: the model list, models with their steps, maps with their pins, sections with their
+-- matrices and values. Every text has one, also a text that is refused; the rules are elsewhere.
 -- Assumes nothing.
 use Prim.Native.Nat.{ℕ, _+_, _-_, max}
 use mathlib.Core.Bool.{Bool, true, false, not}
@@ -51,12 +51,12 @@ use Rattle.doc.specs.Lines.{
 
 -- ---- what a document is made of
 
--- a name, and the line that it stands on
+-- a name, and the line that it is on
 pub record Named : Type 0 where
   pub name : Word
   pub line : ℕ
 
--- "kind 0 end 1 section 2 fork 3 endfork"; of a section whether its amount is a Mult
+-- "kind 0 end 1 section 2 fork 3 endfork"; `mult` tells of a section whether its amount is a Mult
 pub record Step : Type 0 where
   pub kind : ℕ
   pub name : Word
@@ -118,13 +118,13 @@ forkKind = 2
 abbrev pub endforkKind : ℕ
 endforkKind = 3
 
--- the value word that a number writes
+-- the value word of a number, 0 if it is malformed or out of range
 abbrev pub wordIn : Number → ℕ
 wordIn (number.Value w) = w
 wordIn number.Malformed = 0
 wordIn number.Range = 0
 
--- what a line of a path says; a line that stands in no path says nothing
+-- what a line of a path says; a line that is in no path says nothing
 unfoldable pub sayingAt : Line → ℕ
 sayingAt l = if standsIn place.path l then sayingOf (firstOf (words (l .content))) else path.saysNothing
 
@@ -154,7 +154,7 @@ stepsIn body = gather stepOf body
 
 -- ---- models
 
--- what the lines of a model's head say; `kind` is one above the table's count of types
+-- what the lines of a model's head give; `kind` is the table's type plus 1
 unfoldable pub headIn : Head → List Line → Head
 headIn h [] = h
 headIn h (l ∷ ls) = headIn (if standsIn place.head l then headNext (headLineOf (l .content)) h else h) ls
@@ -162,7 +162,7 @@ headIn h (l ∷ ls) = headIn (if standsIn place.head l then headNext (headLineOf
 unfoldable pub opensModel : Line → Bool
 opensModel l = both (isInFamily (l .place)) (eqb (keyOf l) beginIcmModel)
 
--- a model's lines are those up to its end
+-- the lines of a model: those up to its end
 unfoldable pub inModel : Line → Bool
 inModel l = isInModel (l .place)
 
@@ -187,7 +187,7 @@ opensMap l = both (isInFamily (l .place)) (eqb (keyOf l) icmPinMap)
 unfoldable pub inMap : Line → Bool
 inMap l = either (standsIn place.mapHead l) (standsIn place.pinList l)
 
--- what the lines above its Pin_list say; `order` is one above the table's count of orders
+-- what the lines above its Pin_list give; `order` is the table's order plus 1
 unfoldable pub gridIn : pin_map.Map → List Line → pin_map.Map
 gridIn m [] = m
 gridIn m (l ∷ ls) = gridIn (if standsIn place.mapHead l then mapNext (mapLineOf (l .content)) m else m) ls
@@ -234,7 +234,7 @@ unfoldable pub bandwidthIn : List Line → ℕ
 bandwidthIn [] = 0
 bandwidthIn (l ∷ ls) = if eqb (keyOf l) bandwidth then givenBy l else bandwidthIn ls
 
--- where the number after one at (row, column) stands: down the diagonal, else along the row
+-- the row of the next number: down the diagonal, else the same row
 unfoldable pub nextRow : ℕ → ℕ → ℕ
 nextRow form r = if eqb form diagonal then r + 1 else r
 

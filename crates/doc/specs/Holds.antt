@@ -1,4 +1,5 @@
--- What holds of the document of every text that reads to its end. Each is a test, so that a table can be put to it too.
+-- Two notions: a property holds of every element of a list, and values rise. `rises` holds of the matrices of every
+-- text that reads to its end. It is a test, so that a table can be tested too.
 -- Assumes nothing.
 use Prim.Native.Nat.{ℕ}
 use mathlib.Core.Bool.{Bool, true}
@@ -7,7 +8,7 @@ use lib.Dec.{leb, ltb, eqb}
 use Rattle.base.specs.If.{both, either}
 use Rattle.doc.specs.Document.{Value}
 
--- every one of a list
+-- P holds of every element of a list
 pub data Each {A : Type 0} (P : A → Type 0) : List A → Type 0 where
   none : Each P []
   more : {x : A} {xs : List A} → P x → Each P xs → Each P (x ∷ xs)

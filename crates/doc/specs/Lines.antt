@@ -1,5 +1,5 @@
--- Document 01, "Lines and keywords": the lines of a text that say something, each with its number, where it starts and the place that it
--- is read in. Blank lines and comments are passed over.
+-- Document 01, "Lines and keywords": the significant lines of a text, which are neither blank nor all comment. Each is
+-- kept with its number, the offset where it starts, and the place in which it is read.
 -- Assumes nothing.
 use Prim.Native.Nat.{ℕ, _+_}
 use mathlib.Core.Bool.{Bool, true, false, not}
@@ -22,11 +22,11 @@ pub record Line : Type 0 where
   pub place : ℕ
   pub content : List ℕ
 
--- what stands for the keyword of a line that has none
+-- the number that is used as the keyword of a line without one
 abbrev pub plain : ℕ
 plain = 41
 
--- the keyword in a bracket; one that may not stand in a file counts as unknown
+-- the keyword in a bracket; a bracket that is not allowed in a file counts as an unknown keyword
 abbrev pub keyIn : Bracket → ℕ
 keyIn Plain = plain
 keyIn Indented = plain
@@ -47,12 +47,12 @@ argumentIn (Keyword k start) = start
 unfoldable pub keyAt : List ℕ → ℕ
 keyAt content = keyIn (bracketOf content)
 
--- where a line leads from a place, by its words alone
+-- the place after a line, by its words alone
 unfoldable pub placeAfter : ℕ → List ℕ → ℕ
 placeAfter p content =
     if eqb (keyAt content) plain then movedByLine p (firstOf (words content)) else moved p (keyAt content)
 
--- the lines that say something, the first of them numbered n, starting at `at` and read in the place p
+-- the significant lines; the first raw line is line n, starts at offset `at` and is read in place p
 unfoldable pub linesFrom : ℕ → ℕ → ℕ → List Raw → List Line
 linesFrom n at p [] = []
 linesFrom n at p (r ∷ rs) =
@@ -62,7 +62,7 @@ linesFrom n at p (r ∷ rs) =
     record { line = n; at = at; place = p; content = contentOf commentByte (r .bytes) }
     ∷ linesFrom (n + 1) (at + length (r .bytes) + 1) (placeAfter p (contentOf commentByte (r .bytes))) rs
 
--- those of a text from a byte of it on
+-- the significant lines of a text from offset `at` on
 unfoldable pub linesAt : List ℕ → ℕ → ℕ → ℕ → List Line
 linesAt t n at p = linesFrom n at p (lines (drop at t))
 
@@ -74,7 +74,7 @@ significant t = linesAt t 1 0 before
 unfoldable pub keyOf : Line → ℕ
 keyOf l = keyAt (l .content)
 
--- the argument of its keyword, and where it stands in the text
+-- the argument of its keyword, with its offset in the text
 unfoldable pub argumentOf : Line → Word
 argumentOf l =
     record {
@@ -82,7 +82,7 @@ argumentOf l =
       text = argumentFrom (l .content) (argumentIn (bracketOf (l .content)));
     }
 
--- its words, and those after its `=`, each with where it stands in the text
+-- its words, and the words after its `=`, each with its offset in the text
 unfoldable pub wordsOf : Line → List Word
 wordsOf l = wordsFrom (l .at) (l .content)
 
@@ -100,18 +100,18 @@ abbrev pub secondWord : List Word → Word
 secondWord [] = noWord
 secondWord (w ∷ ws) = firstWord ws
 
--- the line stands in a place, and has no keyword
+-- the line is read in this place, and has no keyword
 unfoldable pub standsIn : ℕ → Line → Bool
 standsIn p l = both (eqb (l .place) p) (eqb (keyOf l) plain)
 
 -- ---- lines one after another
 
--- what each line gives, which may look at the lines after it
+-- puts together what each line gives; a line may look at the lines after it
 unfoldable pub gather : {A : Type 0} → (Line → List Line → List A) → List Line → List A
 gather here [] = []
 gather here (l ∷ ls) = here l ls ++ gather here ls
 
--- the lines up to the first that does not pass the test
+-- the lines before the first that does not pass the test
 unfoldable pub upTo : (Line → Bool) → List Line → List Line
 upTo inside [] = []
 upTo inside (l ∷ ls) = if inside l then l ∷ upTo inside ls else []

@@ -1,5 +1,5 @@
--- Document 01, "The table": the records of the seven parts, each field by the paper's words, and how the document gives them.
--- "Indexes and offsets from 0, lines from 1, enumerations in the order listed above".
+-- Document 01, "The table": the records of the seven parts, with each field in the paper's words, and how they follow
+-- from the document. "Indexes and offsets from 0, lines from 1, enumerations in the order listed above".
 -- Assumes nothing.
 use Prim.Native.Nat.{ℕ, zero, suc, _+_}
 use mathlib.Core.Bool.{Bool, true, false}
@@ -78,7 +78,7 @@ pub record MatrixRecord : Type 0 where
   pub values : ℕ
   pub line : ℕ
 
--- "values (row, column, value word), one per number written": the document's own
+-- "values (row, column, value word), one per number written": these are the document's own values
 pub record Records : Type 0 where
   pub models : List ModelRecord
   pub steps : List StepRecord
@@ -88,14 +88,14 @@ pub record Records : Type 0 where
   pub matrices : List MatrixRecord
   pub values : List Value
 
--- ---- what the document gives
+-- ---- the records of a document
 
--- where the first that passes the test stands; how many there are where none does
+-- the index of the first element that passes the test; the length of the list if none does
 unfoldable pub indexOf : {A : Type 0} → (A → Bool) → List A → ℕ
 indexOf test [] = zero
 indexOf test (x ∷ xs) = if test x then zero else suc (indexOf test xs)
 
--- "no pin map of that name on a later line": the map of an end is the first of its name that stands below it
+-- "no pin map of that name on a later line": the map of an end is the first map of its name on a later line
 unfoldable pub isMapOf : Step → Map → Bool
 isMapOf s m = both (ltb (s .line) (m .line)) (same (s .name .text) (m .name .text))
 
@@ -123,7 +123,7 @@ unfoldable pub stepRecords : List Map → List Section → List Model → List S
 stepRecords maps sections [] = []
 stepRecords maps sections (m ∷ ms) = map (stepRecord maps sections) (m .steps) ++ stepRecords maps sections ms
 
--- its first step is `first`
+-- `first` is the index of its first step
 unfoldable pub modelRecord : ℕ → Model → ModelRecord
 modelRecord first m =
     record { start = m .name .start; size = length (m .name .text); type = m .type; first = first; steps = length (m .steps) }
@@ -139,7 +139,7 @@ unfoldable pub pinRecords : List Map → List PinRecord
 pinRecords [] = []
 pinRecords (m ∷ ms) = map pinRecord (m .pins) ++ pinRecords ms
 
--- its first pin is `first`
+-- `first` is the index of its first pin
 unfoldable pub mapRecord : ℕ → Map → MapRecord
 mapRecord first m =
     record {
@@ -156,12 +156,12 @@ unfoldable pub mapRecords : ℕ → List Map → List MapRecord
 mapRecords first [] = []
 mapRecords first (m ∷ ms) = mapRecord first m ∷ mapRecords (first + length (m .pins)) ms
 
--- "each matrix index plus 1 or 0": of a kind, the first matrix being `first`
+-- "each matrix index plus 1 or 0": for a kind; `first` is the index of the first matrix
 unfoldable pub indexOfKind : ℕ → ℕ → List Matrix → ℕ
 indexOfKind kind first [] = 0
 indexOfKind kind first (m ∷ ms) = if eqb (m .kind) kind then first + 1 else indexOfKind kind (first + 1) ms
 
--- its first matrix is `first`
+-- `first` is the index of its first matrix
 unfoldable pub sectionRecord : ℕ → Section → SectionRecord
 sectionRecord first s =
     record {
@@ -183,7 +183,7 @@ unfoldable pub matricesOf : List Section → List Matrix
 matricesOf [] = []
 matricesOf (s ∷ ss) = s .matrices ++ matricesOf ss
 
--- its first value is `first`
+-- `first` is the index of its first value
 unfoldable pub matrixRecord : ℕ → Matrix → MatrixRecord
 matrixRecord first m =
     record { form = m .form; bandwidth = m .bandwidth; first = first; values = length (m .values); line = m .line }
@@ -245,7 +245,7 @@ partsOf r =
     ∷ map valueWords (r .values)
     ∷ []
 
--- the words of the table of a text that is accepted, without the zeros behind them
+-- the words of the table of an accepted text, without the zeros after them
 unfoldable pub tableOf : List ℕ → List ℕ
 tableOf t = layout (partsOf (flatten (documentOf t)))
 
@@ -308,6 +308,6 @@ recordsIn parts =
       values = map toValue (part 6 parts);
     }
 
--- a table taken apart
+-- the records that a table holds
 unfoldable pub recordsOf : List ℕ → Records
 recordsOf t = recordsIn (partsIn widths t)

@@ -1,4 +1,4 @@
-// The lines of a text that say something, and the words of such a line, found where they stand.
+// Finds the significant lines of a text (neither blank nor all comment) and the words of such a line, by their offsets.
 ghost use mathlib.Core.Path.{_≡_};
 ghost use Prim.Native.Nat.{_+_, _≤_};
 ghost use lib.ListN.{length, take, drop};
@@ -25,10 +25,11 @@ const LINE_FEED: u8 = 10;
 // How many bytes are looked at together.
 const BLOCK: usize = 16;
 
-// What stands for the keyword of a line that has none.
+// The number that is used as the keyword of a line without one.
 pub const PLAIN: u64 = 41;
 
-// A line that says something: its number, where it and its content end, and what its bracket says.
+// A significant line, if there is one: which line it is, the offsets where it starts, where its content ends and where
+// the next line starts, its keyword, and where in the line the keyword's argument starts.
 pub struct Found {
     pub there: bool,
     pub line: u64,
@@ -39,7 +40,7 @@ pub struct Found {
     pub argument: usize,
 }
 
-// Where lines have been gone past: where the next one starts, and its number.
+// Where lines have been skipped to: the offset of the next line, and which line that is.
 pub struct Passed {
     pub at: usize,
     pub line: u64,
@@ -79,7 +80,7 @@ fn argument_in(bracket: Bracket) -> usize
     }
 }
 
-// The first line from a byte on that says something: blank lines and comments are passed over.
+// The first significant line from offset `at` on: blank lines and comments are skipped.
 pub fn next_line(text: &[u8], at: usize, line: u64) -> Found
     requires { ⌜ (at ≤ length (now text)) × (line ≤ at + 1) ⌝ }
     ensures { λ r. ⌜ FindsLine (now (text .entry)) line at r ⌝ }
@@ -115,7 +116,7 @@ pub fn next_line(text: &[u8], at: usize, line: u64) -> Found
     }
 }
 
-// Where the line_here behind the one at a byte starts. What the line_here says is not looked at.
+// Where the line after the one at offset `at` starts. The content of the line is not looked at.
 fn past_line(text: &[u8], at: usize) -> usize
     ensures { λ r. ⌜ r ≡ pastFeed (now (text .entry)) (runEnd (isBefore 10) (now (text .entry)) at) ⌝ }
 {
@@ -129,7 +130,7 @@ fn past_line(text: &[u8], at: usize) -> usize
     i
 }
 
-// Whether none of sixteen bytes is a `[`. Each is looked at, so that a processor takes them at once.
+// Whether none of sixteen bytes is a `[`. Every byte is looked at, so that a processor can do them all at once.
 fn is_closed(text: &[u8], from: usize) -> bool
     requires { ⌜ from + 16 ≤ length (now text) ⌝ }
     ensures { λ r. ⌜ r ≡ all (isBefore 91) (take 16 (drop from (now (text .entry)))) ⌝ }
@@ -144,7 +145,8 @@ fn is_closed(text: &[u8], from: usize) -> bool
     whole
 }
 
-// Past all blocks from a byte on that have no `[`: no line starts with one there. The last of these lines may go on behind them.
+// Skips all blocks of sixteen bytes from offset `at` on that have no `[`: no line starts with one there. The last line
+// of the blocks may go on after them.
 fn past_blocks(text: &[u8], at: usize, line: u64) -> Passed
     requires { ⌜ (at ≤ length (now text)) × (line ≤ at + 1) ⌝ }
     ensures { λ r. ⌜ SkipsBytes (now (text .entry)) line at r ⌝ }
@@ -167,7 +169,7 @@ fn past_blocks(text: &[u8], at: usize, line: u64) -> Passed
     }
 }
 
-// What is left of the line before a byte: nothing where that one is an LF.
+// Skips the rest of the line to which the byte before `at` belongs: nothing if that byte is an LF.
 fn past_rest(text: &[u8], at: usize, line: u64) -> Passed
     requires { ⌜ (1 ≤ at) × (at ≤ length (now text)) × (line ≤ at + 1) ⌝ }
     ensures { λ r. ⌜ SkipsRest (now (text .entry)) line at r ⌝ }
@@ -181,7 +183,8 @@ fn past_rest(text: &[u8], at: usize, line: u64) -> Passed
     }
 }
 
-// Past the lines from a byte on that do not start with `[`: none of them has a keyword. A bracket behind blanks is none either.
+// Skips the lines from offset `at` on that do not start with `[`. None of them has a keyword, not even one with a
+// bracket after blanks.
 pub fn past_plain(text: &[u8], at: usize, line: u64) -> Passed
     requires { ⌜ (at ≤ length (now text)) × (line ≤ at + 1) ⌝ }
     ensures { λ r. ⌜ SkipsPlain (now (text .entry)) line at r ⌝ }
@@ -211,7 +214,8 @@ pub fn past_plain(text: &[u8], at: usize, line: u64) -> Passed
     }
 }
 
-// The next line where keywords alone are looked for. In the head of a map a line without one leads on too, so none is gone past there.
+// The next line, for a search that needs only lines with a keyword: lines without one are skipped. In the head of a map
+// such a line can lead to another place too, so there none is skipped.
 pub fn next_keyed(text: &[u8], at: usize, line: u64, place: u64) -> Found
     requires { ⌜ (at ≤ length (now text)) × (line ≤ at + 1) ⌝ }
     ensures { λ r. ⌜ FindsKeyed (now (text .entry)) line at place r ⌝ }
@@ -223,7 +227,8 @@ pub fn next_keyed(text: &[u8], at: usize, line: u64, place: u64) -> Found
     next_line(text, passed.at, passed.line)
 }
 
-// Where a line leads from a place. Without a keyword it leads on only in the head of a map: elsewhere its words are not looked at.
+// The place after a line. A line without a keyword leads to another place only in the head
+// of a map: elsewhere its words are not looked at.
 pub fn place_after(place: u64, text: &[u8], line: Found) -> u64
     requires { ⌜ Located (now text) line ⌝ }
     ensures { λ r. ⌜ r ≡ placeAfter place (contentIn (now (text .entry)) line) ⌝ }
@@ -239,7 +244,7 @@ pub fn place_after(place: u64, text: &[u8], line: Found) -> u64
     line_place::moved(place, line.key)
 }
 
-// A word of a part of the text that starts at `offset`: no word is 0 0.
+// The offset and size of a word, in a part of the text that starts at `offset`; they are 0 0 if there is no word.
 fn mark_of(s: &[u8], offset: usize, word: Span) -> Mark
     requires { ⌜ (offset + length (now s) ≤ mostLines) × (word .start ≤ word .end) × (word .end ≤ length (now s)) ⌝ }
     ensures { λ r. ⌜ r ≡ markAt (now (s .entry)) offset word ⌝ }
@@ -262,7 +267,7 @@ pub fn first_mark(s: &[u8], offset: usize) -> Mark
     mark_of(s, offset, word)
 }
 
-// The second one.
+// Its second word.
 pub fn second_mark(s: &[u8], offset: usize) -> Mark
     requires { ⌜ offset + length (now s) ≤ mostLines ⌝ }
     ensures { λ r. ⌜ r ≡ markOf (secondWord (wordsFrom offset (now (s .entry)))) ⌝ }

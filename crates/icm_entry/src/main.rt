@@ -5,19 +5,19 @@ ghost use Rattle.table_layout.specs.View.{viewOf};
 use intake::Answer;
 use table_layout::View;
 
-// The longest file that is taken.
+// The longest file that the program takes, in bytes.
 const MOST: usize = 65536;
 
-// How many words a record of a section has, and which of them is N.
+// How many words the record of a section has, and which of them is N.
 const SECTION_WORDS: usize = 8;
 
 const CONDUCTORS: usize = 3;
 
-// No kind, after R, L, G and C.
+// No kind: R, L, G and C are 0 to 3.
 const NO_KIND: u64 = 4;
 
-// Room for a text, with a byte more so that a longer one is seen, and for the table, which starts as zeros. They come from functions so that no
-// proof has to look at all their words.
+// Room for a text, with one byte more so that a longer one is recognized, and for the table, which starts as zeros.
+// Functions return the rooms so that no proof has to look at all their words.
 fn text_room() -> [u8; 65537] {
     [0u8; 65537]
 }
@@ -28,7 +28,7 @@ fn table_room() -> [u64; 8192] {
 
 // ---- printing
 
-// The bytes that were written, at most all there are.
+// Prints the first `length` bytes of the room, or all of it if it is shorter.
 fn print_room(room: &[u8], length: usize) {
     if room.len() < length {
         io::write_all(1, room);
@@ -55,7 +55,7 @@ fn print_line(what: &[u8], word: &[u8]) {
     io::write_all(1, b"\n");
 }
 
-// The table of an accepted file is sound and what is asked for was looked up in it, so a refusal is not to be expected here.
+// The table of an accepted file is sound, and section, kind, row and column are in range, so no refusal is expected here.
 fn print_entry(answer: ask_entry::Answer) {
     match answer {
         ask_entry::Answer::Found(word) => print_value(word),
@@ -65,7 +65,7 @@ fn print_entry(answer: ask_entry::Answer) {
 
 // ---- what is asked for
 
-// The first section of this name; how many sections there are, where there is none.
+// The first section of this name; the number of sections if there is none.
 fn section_of(text: &[u8], table: &[u64], view: View, name: &[u8]) -> u64
     requires { ⌜ view ≡ viewOf (now table) ⌝ }
 {
@@ -101,7 +101,7 @@ fn kind_of(word: &[u8]) -> u64 {
     NO_KIND
 }
 
-// The kind that the third argument names; where it names none, that is said.
+// The kind that the third argument names. If it names none, prints that and returns NO_KIND.
 fn kind_asked() -> u64 {
     let mut room = io::buffer();
     let length = os::arg(3, &mut room);
@@ -112,7 +112,7 @@ fn kind_asked() -> u64 {
     kind
 }
 
-// A word as a row or column of a section with so many conductors; 0 where it is no number or not from 1 to N.
+// Reads a word as a row or column of a section of N conductors; 0 if it is not a number from 1 to N.
 fn place_of(word: &[u8], conductors: u64) -> u64 {
     let whole = lex_number::read_integer(word);
     if !whole.formed {
@@ -134,7 +134,7 @@ fn print_no_place(what: &[u8], word: &[u8], name: &[u8], conductors: u64) {
     io::write_all(1, b" conductors\n");
 }
 
-// The row or column that an argument names; where it names none, that is said.
+// The row or column that an argument names. If it names none, prints that and returns 0.
 fn place_asked(argument: usize, what: &[u8], name: &[u8], conductors: u64) -> u64 {
     let mut room = io::buffer();
     let length = os::arg(argument, &mut room);
@@ -163,7 +163,7 @@ fn answer_in(text: &[u8], table: &[u64], name: &[u8], section: u64, conductors: 
     print_entry(ask_entry::entry(text, table, section, kind, row, column));
 }
 
-// N is 0 where there is no such section, and never else.
+// N is 0 only if there is no such section.
 fn answer_of(text: &[u8], table: &[u64], name: &[u8]) {
     let view = table_layout::view_of(table);
     let section = section_of(text, table, view, name);
@@ -195,7 +195,7 @@ fn take_in(text: &[u8]) {
     }
 }
 
-// Whether a file can be read: a read behind its end gives no byte, but one that fails, as of a folder, gives less than none.
+// Whether a file can be read: read() returns 0 at the end of the file and a negative number on an error (a directory, say).
 fn is_readable(file: i32) -> bool {
     let mut byte = [0u8; 1];
     0 <= libc::read(file, &mut byte)

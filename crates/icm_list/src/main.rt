@@ -2,11 +2,12 @@
 // Run as: icm_list < FILE
 use intake::Answer;
 
-// The longest file that is taken.
+// The longest file that the program takes, in bytes.
 const MOST: usize = 65536;
 
-// Room for a text, with a byte more so that a longer one is seen; for the table, which starts as zeros; and for the listing: a table of 8,192
-// words lists in less than 500,000 bytes. They come from functions so that no proof has to look at all their words.
+// Room for a text, with one byte more so that a longer one is recognized; for the table, which starts as zeros; and for
+// the listing: that of a table of 8,192 words is shorter than 500,000 bytes. Functions return the rooms so that no
+// proof has to look at all their words.
 fn text_room() -> [u8; 65537] {
     [0u8; 65537]
 }
@@ -19,7 +20,7 @@ fn listing_room() -> [u8; 524288] {
     [0u8; 524288]
 }
 
-// The bytes that were written, at most all there are.
+// Prints the first `length` bytes of the room, or all of it if it is shorter.
 fn print_room(room: &[u8], length: usize) {
     if room.len() < length {
         io::write_all(1, room);

@@ -1,4 +1,5 @@
-// Prints the steps of a model's path in an ICM file, as the listing does, each two blanks further in for every fork that it stands in.
+// Prints the steps of a model's path in an ICM file as the listing does, indented by two blanks for each fork around
+// them.
 // Run as: icm_walk FILE MODEL
 ghost use mathlib.Core.Path.{_≡_};
 ghost use Rattle.table_layout.specs.View.{viewOf};
@@ -7,19 +8,19 @@ use ask_walk::Walked;
 use intake::Answer;
 use table_layout::View;
 
-// The longest file that is taken.
+// The longest file that the program takes, in bytes.
 const MOST: usize = 65536;
 
-// How many words a record of a model has, and which of them is its first step.
+// How many words the record of a model has, and which of them is its first step.
 const MODEL_WORDS: usize = 5;
 
 const FIRST_STEP: usize = 3;
 
-// A path has at most 4,096 steps; then it is done.
+// The most calls of a walk: a path has at most 4,096 steps, and one call more answers done.
 const MOST_STEPS: u64 = 4097;
 
-// Room for a text, with a byte more so that a longer one is seen, and for the table, which starts as zeros. They come from functions so that no
-// proof has to look at all their words.
+// Room for a text, with one byte more so that a longer one is recognized, and for the table, which starts as zeros.
+// Functions return the rooms so that no proof has to look at all their words.
 fn text_room() -> [u8; 65537] {
     [0u8; 65537]
 }
@@ -28,7 +29,7 @@ fn table_room() -> [u64; 8192] {
     [0u64; 8192]
 }
 
-// Where a walk has come to, and whether it goes on.
+// The place that a walk has reached, and whether it goes on.
 struct Reached {
     goes_on: bool,
     place: Place,
@@ -36,7 +37,7 @@ struct Reached {
 
 // ---- printing
 
-// The bytes that were written, at most all there are.
+// Prints the first `length` bytes of the room, or all of it if it is shorter.
 fn print_room(room: &[u8], length: usize) {
     if room.len() < length {
         io::write_all(1, room);
@@ -65,7 +66,7 @@ fn print_blanks(depth: u64) {
     }
 }
 
-// A step's line has at most two names and two numbers.
+// A step's line has at most two names and two numbers, so 512 bytes are enough.
 fn print_step(text: &[u8], table: &[u64], index: u64) {
     let view = table_layout::view_of(table);
     let mut room = [0u8; 512];
@@ -82,13 +83,14 @@ fn lesser(a: u64, b: u64) -> u64 {
     b
 }
 
-// A fork stands as deep as the place before it, an endfork as deep as the place behind it; any other step leaves the depth as it is.
+// A fork is indented by the depth before it, an endfork by the depth after it; any other step does not change the depth.
 fn print_between(text: &[u8], table: &[u64], first: u64, here: Place, next: Place) {
     print_blanks(lesser(here.depth, next.depth));
     print_step(text, table, std::num::wrapping_add_u64(first, here.step));
 }
 
-// One step, printed. The table of an accepted file is sound and the walk begins at its model's start, so a refusal is not to be expected here.
+// Makes one step and prints it. The table of an accepted file is sound and the walk begins at the start of a model, so
+// no refusal is expected here.
 fn step_from(text: &[u8], table: &[u64], first: u64, here: Place) -> Reached {
     match here.step(text, table) {
         Walked::Step(words, next) => {
@@ -175,7 +177,7 @@ fn take_in(text: &[u8]) {
     }
 }
 
-// Whether a file can be read: a read behind its end gives no byte, but one that fails, as of a folder, gives less than none.
+// Whether a file can be read: read() returns 0 at the end of the file and a negative number on an error (a directory, say).
 fn is_readable(file: i32) -> bool {
     let mut byte = [0u8; 1];
     0 <= libc::read(file, &mut byte)

@@ -1,4 +1,4 @@
--- What the kinds of lines break, put together: with the list first where it breaks something, without it where it does not.
+-- The findings of all kinds of lines, put together: with the list first if it breaks a rule, without it if not.
 -- Assumes nothing.
 use mathlib.Core.Path.{_≡_, refl, sym, _∙_, ap}
 use mathlib.Core.List.{List}

@@ -1,5 +1,5 @@
--- The whole filling: after the maps, the sections and the models the table is the layout of the document, and each of the three finds what
--- it asks for.
+-- All records stored: after the maps, the sections and the models the table is the layout of the document, and the code
+-- that stores each of the three finds what it requires.
 -- Assumes nothing.
 use mathlib.Core.Path.{_≡_, refl, sym, _∙_, ap}
 use mathlib.Core.List.{List, [], _++_, map}
@@ -31,7 +31,7 @@ use Rattle.store_base.specs.Way.Stores.{Stores}
 use Rattle.store_base.proofs.StoreLaws.{counts-kept, bases-kept, stores-join}
 use Rattle.store_base.proofs.WriteLaws.{writes-told, writes-known, models-below, no-maps, no-sections, maps-told, sections-told, part-append, part-counted, stored}
 
--- ---- how the filling stands after the maps and after the sections
+-- ---- the filling after the maps and after the sections
 
 module _ (counts : List ℕ) where
   start-seven : length (startFilling counts .counts) ≡ 7
@@ -49,7 +49,7 @@ module _ (counts : List ℕ) where
   start-none (suc (suc (suc (suc (suc (suc zero)))))) = refl
   start-none (suc (suc (suc (suc (suc (suc (suc p))))))) = refl
 
--- a part of which nothing is stored stays at its count
+-- a part of which nothing is stored keeps its count
 none-stored : (p : ℕ) (ws : List Write) (f : Filling) → length (f .counts) ≡ 7 → p < 7 → partOf p ws ≡ [] → stored (fillingAfter ws f) p ≡ stored f p
 none-stored p ws f seven h e =
     let l : p < length (f .counts) = omega arith in
@@ -80,7 +80,7 @@ start-values : (counts : List ℕ) → position (startFilling counts) values ≡
 unfolding position startFilling widthOf
 start-values counts = add-zero (getD (basesFrom 0 widths counts) values 0)
 
--- a table with room for all records, and any words where the values belong
+-- a table with room for all records, and any words in the part of the values
 module _ (t : List ℕ) (c : Counts) (reads : readingOf t ≡ Read c) (size : ℕ) (room : needed widths (countsOf c) ≤ size)
     (vs : List ℕ) (vs-long : length vs ≡ 3 * getD (countsOf c) values 0) where
   abbrev d : Document
@@ -108,7 +108,7 @@ module _ (t : List ℕ) (c : Counts) (reads : readingOf t ≡ Read c) (size : �
   all-fit : Fits (needed widths (countsOf c)) f₀ (writesOf d)
   all-fit = rw (counts-are t c reads) at (fits parts (records-wide (flatten d)) (writesOf d) (writes-told d) (writes-known d))
 
-  -- the words lie where the first value goes and behind it
+  -- these words start where the first value goes
   values-at : needed widths (countsOf c) - length vs ≡ position f₀ values
   values-at =
       let a : getD (basesFrom 0 widths (countsOf c)) values 0 + 3 * getD (countsOf c) values 0 ≡ needed widths (countsOf c) =
@@ -207,7 +207,7 @@ module _ (t : List ℕ) (c : Counts) (reads : readingOf t ≡ Read c) (size : �
       pub models-from : modelsWrites (d .maps) (d .sections) (stored f₂ steps) (d .models) ≡ modelsWrites (d .maps) (d .sections) 0 (d .models)
       models-from = ap (λ (n : ℕ). modelsWrites (d .maps) (d .sections) n (d .models)) no-steps
 
-      -- what the models' records lie below
+      -- all records of models lie below this word
       abbrev low : ℕ
       low = getD (f₀ .bases) maps 0 - 1
 
@@ -221,7 +221,7 @@ module _ (t : List ℕ) (c : Counts) (reads : readingOf t ≡ Read c) (size : �
           rw (models-from, after-blocks)
           (rw (counts-are t c reads) at (fits-below parts (records-wide (flatten d)) (blocksWrites d) (modelsWrites (d .maps) (d .sections) 0 (d .models)) 2 (writes-told d) (writes-known d) (omega arith) (models-below (d .maps) (d .sections) 0 (d .models))))
 
-      -- the maps and sections are there: the models' records change nothing above
+      -- the maps and sections are in the table, and storing the models changes nothing from this word on
       drop-low : drop low t₂ ≡ drop low (layout parts ++ replicate spare 0)
       unfolding writesOf
       drop-low =
@@ -232,7 +232,7 @@ module _ (t : List ℕ) (c : Counts) (reads : readingOf t ≡ Read c) (size : �
         base-is : getD (f₂ .bases) p 0 ≡ baseOf (flatten d) p
         base-is = ap (λ (bs : List ℕ). getD bs p 0) bases-are ∙ ap (λ (ns : List ℕ). getD (basesFrom 0 widths ns) p 0) (sym (counts-are t c reads))
 
-        -- a part that the models' records do not touch is there
+        -- a part that the models' records do not touch is in the table
         part-there : low ≤ baseOf (flatten d) p → stored f₂ p ≡ length (getD parts p []) → chopped (widthOf p) (stored f₂ p) (drop (getD (f₂ .bases) p 0) t₂) ≡ getD parts p []
         unfolding widthOf
         part-there k e = (λ i. chopped (getD widths p 0) (e i) (drop (base-is i) t₂)) ∙ records-at (flatten d) (replicate spare 0) t₂ low p h k drop-low
@@ -308,7 +308,7 @@ module _ (t : List ℕ) (c : Counts) (reads : readingOf t ≡ Read c) (size : �
           let l : low ≡ 0 + 1 + 5 * c .models + 1 + 6 * c .steps + 1 - 1 = low-is in
           fits-wider low (min (getD (f₂ .bases) maps 0) (getD (f₂ .bases) sections 0)) f₂ _ (omega arith) models-low
 
-      -- ---- all of it
+      -- ---- all records
 
       pub all-filled : (f₃ : Filling) (t₃ : List ℕ) → Stores f₂ t₂ (modelsWrites (d .maps) (d .sections) (stored f₂ steps) (d .models)) f₃ t₃ → t₃ ≡ tableOf t ++ replicate spare 0
       unfolding writesOf tableOf

@@ -1,4 +1,4 @@
--- The groups of rules, one after another: what each stage's answer makes of the outcome and of the table.
+-- The groups of rules, one after another: what the answer of each group means for the outcome and for the table.
 -- Assumes nothing.
 use mathlib.Core.Path.{_≡_, refl, sym, _∙_, ap}
 use mathlib.Core.Bool.{Bool, true, false}
@@ -62,7 +62,7 @@ pub record Reads (t : List ℕ) (size words : ℕ) : Type 0 where
   pub room : length (tableOf t) ≤ size
   pub long : words ≡ length (tableOf t)
 
--- which case, and the words of one that is stored
+-- which case it is, and the words of a text that is stored
 abbrev isStored : storing.StoreAnswer → ℕ
 isStored (Stored words) = 1
 isStored (Refused number line) = 0

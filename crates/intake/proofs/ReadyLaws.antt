@@ -1,4 +1,5 @@
--- What the code of the filling has to show: each of its calls finds what it asks for, and the table is the text's at the end.
+-- The contracts of the code that stores a text: each call finds what it requires, and in the end the table is the
+-- text's.
 -- Assumes nothing.
 use mathlib.Core.Path.{_≡_, refl, sym, _∙_, ap}
 use mathlib.Core.List.{List, [], _∷_, _++_}
@@ -82,7 +83,7 @@ module _ (t : List ℕ) (c : Counts) (reads : readingOf t ≡ reading.Read c) wh
     abbrev size : ℕ
     size = length before
 
-    -- the table as the records find it
+    -- the table before the first record is stored
     abbrev start : List ℕ
     start = openedTable 0 widths (countsOf c) (sets (replicate (length before) 0) (needed widths (countsOf c) - length (lifted .words)) (lifted .words))
 
@@ -148,7 +149,7 @@ module _ (t : List ℕ) (c : Counts) (reads : readingOf t ≡ reading.Read c) wh
     unfolding storeAnswer
     has-room h = ap Stored words-are ∙ sym (ap (afterReading t size) reads ∙ if-false _ _ (le-ltb _ _ (rw words-are at h)))
 
--- ---- what the code that stores has to show
+-- ---- the contract of the code that stores
 
 module _ (t : List ℕ) (c : Counts) (reads : readingOf t ≡ reading.Read c) (table many : List ℕ) (is-many : many ≡ countsOf c)
     (words : ℕ) (is-words : words ≡ needed widths many) where
@@ -206,9 +207,9 @@ module _ (t : List ℕ) (c : Counts) (reads : readingOf t ≡ reading.Read c) (t
           (Stored words ≡ storeAnswer t (length table)) × (table' ≡ tableAfterStoring t (length table) (Stored words))
       store-filled table' e = (has-room t c reads (length table) words words-for roomy, rw moved-long at e)
 
--- what the forward reading answered is what the text comes to
+-- the answer of the forward reading is the result of the text
 module _ (t : List ℕ) (answer : Reading) (told : answer ≡ readingOf t) where
-  -- and what it noted is true where it read to the end
+  -- and if the text reads to its end, its staged matrices are right
   pub store-ready : (table stage : List ℕ) → ((c : Counts) → answer ≡ reading.Read c → Carries t table stage (c .values)) →
       (c : Counts) → answer ≡ reading.Read c →
       (readingOf t ≡ reading.Read c) × Staged t table stage 0 0 × Before stage (c .values)

@@ -1,5 +1,5 @@
--- What was noted of the matrices reaches the code that stores the sections: it stays true when the words that it stands for are moved to
--- where the values belong, when the counts are set, and while the maps are stored.
+-- The staged matrices reach the code that stores the sections: they stay right when their words move to the part of the
+-- values, when the counts are set, and while the maps are stored.
 -- Assumes nothing.
 use mathlib.Core.Path.{_≡_, refl, sym, _∙_, ap}
 use mathlib.Core.List.{List, _++_, append-nil}
@@ -39,7 +39,7 @@ drop-opened counts t p seven h room =
     ∙ ap (drop p) (opened-sets counts t p (drop p t) seven h ∙ set)
     ∙ drop-at (take p u) (drop p t) p l
 
--- notes stand for words behind a base: no word before it matters
+-- the words of staged matrices lie at a base or after it: no word before it matters
 stage-same : (t table table' stage : List ℕ) (base from : ℕ) → drop base table' ≡ drop base table → Staged t table stage base from →
     Staged t table' stage base from
 stage-same t table table' stage base from same staged = record { tells = told }
@@ -74,7 +74,7 @@ module _ (c : Counts) where
       (drop-opened (countsOf c) table base seven (le-refl base) h)
       (rw values-begin staged)
 
-  -- ---- what is noted at the front of the table, moved to where the values begin
+  -- ---- the staged words at the front of the table, moved to the part of the values
 
   pub stage-moved : (t table stage : List ℕ) (words : ℕ) → words ≡ needed widths (countsOf c) →
       words - 3 * c .values + 3 * c .values ≤ length table →
@@ -84,7 +84,7 @@ module _ (c : Counts) where
   stage-moved t table stage words is-words room staged before moved is-moved =
       rw (is-moved, ← is-words) (stage-lifted t table stage (c .values) (words - 3 * c .values) staged before room)
 
--- ---- room for notes
+-- ---- room to stage matrices
 
 pub room-zeros : (stage : List ℕ) (n : ℕ) → stage ≡ replicate n 0 → stage ≡ replicate (length stage) 0
 room-zeros stage n e =

@@ -1,5 +1,5 @@
--- Document 01, "18 ROOM: table shorter than the words needed (line 0)": what a text that breaks none of the rules 1 to 4 comes to in the
--- groups 5 to 17 and 18, and what the lent table holds then.
+-- Document 01, "18 ROOM: table shorter than the words needed (line 0)": the result of rules 5 to 17 and 18 for a text
+-- that breaks none of rules 1 to 4. What the table then holds is defined elsewhere (Verdict.antt).
 -- Assumes nothing.
 use Prim.Native.Nat.{ℕ}
 use mathlib.Core.List.{List}
@@ -18,6 +18,6 @@ abbrev pub afterReading : List ℕ → ℕ → Reading → StoreAnswer
 afterReading t size (reading.Read c) = if ltb size (length (tableOf t)) then Refused 18 0 else Stored (length (tableOf t))
 afterReading t size (reading.Refused rule line) = Refused rule line
 
--- for a table of so many words
+-- for a table of `size` words
 unfoldable pub storeAnswer : List ℕ → ℕ → StoreAnswer
 storeAnswer t size = afterReading t size (readingOf t)

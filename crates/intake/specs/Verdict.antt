@@ -1,5 +1,5 @@
--- Document 01: what the intake comes to for a text and a lent table of so many words, and what the table holds then. "Order: 1; 2 to 4 over
--- all lines; 5 to 17 reading forward; 18; 19 to 27 over all lines."
+-- Document 01: the outcome of the intake for a text and a lent table of a given length, and what the table then holds.
+-- "Order: 1; 2 to 4 over all lines; 5 to 17 reading forward; 18; 19 to 27 over all lines."
 -- Assumes nothing.
 use Prim.Native.Nat.{ℕ, _-_}
 use mathlib.Core.Bool.{Bool, true, false}
@@ -38,21 +38,21 @@ abbrev pub answerWords : Answer → Outcome
 answerWords (Accepted words) = acceptedWith words
 answerWords (Refused rule line) = refusedBy rule line
 
--- 19 to 27: a text that is stored in so many words, and what it breaks first of them
+-- rules 19 to 27: the text is stored in `words` words, and `finding` is what it breaks first, if anything
 abbrev pub crossed : ℕ → Finding → Outcome
 crossed words finding = if eqb (finding .rule) 0 then acceptedWith words else refusedBy (finding .rule) (finding .line)
 
--- 5 to 18 have come to this
+-- the outcome, given the result of rules 5 to 18
 abbrev pub afterStoring : List ℕ → StoreAnswer → Outcome
 afterStoring t (storing.Stored words) = crossed words (crossRule (documentOf t))
 afterStoring t (storing.Refused rule line) = refusedBy rule line
 
--- 1 to 4 have come to this
+-- the outcome, given the result of rules 1 to 4
 abbrev pub afterBytes : List ℕ → ℕ → Checked → Outcome
 afterBytes t size bytes.Fine = afterStoring t (storeAnswer t size)
 afterBytes t size (bytes.Refused rule line) = refusedBy rule line
 
--- for a table of so many words
+-- for a table of `size` words
 unfoldable pub verdictOf : List ℕ → ℕ → Outcome
 verdictOf t size = afterBytes t size (byteRules t)
 

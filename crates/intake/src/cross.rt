@@ -1,11 +1,11 @@
-// Rules 19 to 27 over a whole text: what the lines of all kinds break first.
+// Rules 19 to 27 over a whole text: the earliest finding among the lines of all kinds.
 ghost use mathlib.Core.Path.{_≡_};
 ghost use Rattle.doc.specs.Document.{documentOf};
 ghost use Rattle.cross_rules.specs.Rules.{earlier, crossRule};
 ghost use Rattle.cross_rules.specs.Way.HoldsText.{HoldsText};
 use cross_rules::Finding;
 
-// The earlier of two, one that breaks nothing never.
+// The earlier of two findings. One that breaks no rule never counts as the earlier.
 fn earlier_of(a: Finding, b: Finding) -> Finding
     ensures { λ r. ⌜ r ≡ earlier a b ⌝ }
 {
@@ -21,8 +21,9 @@ fn earlier_of(a: Finding, b: Finding) -> Finding
     a
 }
 
-// What a text that the table holds breaks first. The list stands above all models and sections, so where one of its lines breaks a rule
-// only a map above it can come before; the rules of models need the flags of a list that breaks nothing.
+// The earliest finding in a text that the table holds. The model list is above all models and
+// sections: if one of its lines breaks a rule, only a map above it can come earlier. The rules of
+// models need the flags of a list that breaks no rule.
 pub fn cross_finding(text: &[u8], table: &[u64]) -> Finding
     requires { ⌜ HoldsText (now text) (now table) ⌝ }
     ensures { λ r. ⌜ r ≡ crossRule (documentOf (now (text .entry))) ⌝ }

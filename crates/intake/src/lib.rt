@@ -1,4 +1,14 @@
 // The intake: a text and a lent table, accepted with the words used, or refused with the paper's number and line.
+//
+// How a text goes:
+// 1. Its bytes are checked: rules 1 to 4 (`lex_line::check_bytes`).
+// 2. Its lines are judged in order: rules 5 to 17 (`read_text::read`). On the way the numbers of each matrix are staged:
+//    their words are stored at the front of the table.
+// 3. The room is checked: rule 18 (`store::store`).
+// 4. The staged words move to their part of the table, the values (`table_layout::lift`).
+// 5. The records of all parts are stored (`store::fill`). The lines of a staged matrix are not read again.
+// 6. Rules 19 to 27 are judged over the whole file (`cross::cross_finding`).
+// If a rule is broken, the text is refused and the table is zeroed.
 ghost use mathlib.Core.Path.{_≡_};
 ghost use lib.ListN.{length};
 ghost use Rattle.doc.specs.Document.{documentOf};
@@ -17,7 +27,7 @@ pub enum Answer {
     Refused(u64, u64),
 }
 
-// Rules 19 to 27 over a text that the table holds.
+// Rules 19 to 27, for a text whose records the table holds.
 fn judge(text: &[u8], table: &mut [u64], words: usize) -> Answer
     requires { ⌜ HoldsText (now text) (now table) ⌝ }
     ensures { λ r. ⌜ (answerWords r ≡ crossed words (crossRule (documentOf (now (text .entry))))) × (now (table .exit) ≡ tableFor (now (text .entry)) (length (now (table .entry))) (answerWords r)) ⌝ }
@@ -30,7 +40,7 @@ fn judge(text: &[u8], table: &mut [u64], words: usize) -> Answer
     Answer::Accepted(words)
 }
 
-// Rules 5 to 27 over a text whose bytes and lines are right.
+// Rules 5 to 27, for a text that breaks none of rules 1 to 4.
 fn take(text: &[u8], table: &mut [u64]) -> Answer
     ensures { λ r. ⌜ (answerWords r ≡ afterStoring (now (text .entry)) (storeAnswer (now (text .entry)) (length (now (table .entry))))) × (now (table .exit) ≡ tableFor (now (text .entry)) (length (now (table .entry))) (answerWords r)) ⌝ }
 {
@@ -40,7 +50,8 @@ fn take(text: &[u8], table: &mut [u64]) -> Answer
     }
 }
 
-// Takes every byte string and every table. Refused, the table is all zeros; accepted, what the text says and then zeros.
+// Any bytes and any table may be given. After a refusal the table is all zeros; otherwise it
+// holds the records of the text, and zeros after them.
 pub fn intake(text: &[u8], table: &mut [u64]) -> Answer
     ensures { λ r. ⌜ (answerWords r ≡ verdictOf (now (text .entry)) (length (now (table .entry)))) × (now (table .exit) ≡ tableFor (now (text .entry)) (length (now (table .entry))) (answerWords r)) ⌝ }
 {

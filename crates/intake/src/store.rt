@@ -1,4 +1,6 @@
-// The filling of a lent table: the forward reading, the room, and the records of all parts.
+// Stores a text in a lent table, rules 5 to 18. First all lines are judged, and the numbers of each matrix are staged
+// at the front of the table. If the table has room for all records, the staged words move to the part of the values,
+// and the records of all parts are stored.
 ghost use mathlib.Core.Path.{_≡_};
 ghost use mathlib.Core.List.{_++_};
 ghost use Prim.Native.Nat.{_-_, _*_, _≤_};
@@ -18,7 +20,7 @@ use read_line::Reading;
 // How many words a value has.
 const WORDS: usize = 3;
 
-// A text stored, with the words used, or the rule that it breaks and its line.
+// The text is stored, with the words used; or the rule that it breaks, and its line.
 pub enum StoreAnswer {
     Stored(usize),
     Refused(u64, u64),
@@ -39,8 +41,9 @@ fn counts_of(counts: Counts) -> [u64; 7]
     ]
 }
 
-// The records of all parts, in a table that is long enough and holds zeros, but for words where the values belong. Where these are the words
-// of a matrix that was noted, its lines are not read again. Models come last, since their steps point at maps and sections.
+// Stores the records of all parts. The table is long enough and holds zeros, except for words in the part
+// of the values. If these are the words of a staged matrix, its lines are not read again. Models come
+// last, since their steps point at maps and sections.
 fn fill(text: &[u8], table: &mut [u64], counts: Counts, stage: &[u64])
     requires { ⌜ (readingOf (now text) ≡ Read counts)
         × (needed widths (countsOf counts) ≤ length (now table))
@@ -54,7 +57,8 @@ fn fill(text: &[u8], table: &mut [u64], counts: Counts, stage: &[u64])
     store_models::fill_models(text, table, filled);
 }
 
-// A text that reads to its end: its records, if the table has room for them. The words of what was noted stand at the front of the table.
+// A text that breaks none of rules 5 to 17: its records are stored if the table has room for them, rule 18. The staged
+// words are at the front of the table; they move to the part of the values first.
 fn store(text: &[u8], table: &mut [u64], counts: Counts, stage: &[u64]) -> StoreAnswer
     requires { ⌜ (readingOf (now text) ≡ Read counts)
         × Staged (now text) (now table) (now stage) 0 0
@@ -72,14 +76,15 @@ fn store(text: &[u8], table: &mut [u64], counts: Counts, stage: &[u64]) -> Store
     StoreAnswer::Stored(words)
 }
 
-// Room for notes: nine words for each of at most 1,024 matrices. They come from a function so that no proof has to look at all of them.
+// Room to stage matrices: nine words for each of at most 1,024 matrices. A function makes the
+// array, so that no proof has to look at all its words.
 fn stage_room() -> [u64; 9216]
     ensures { λ r. ⌜ r ≡ replicate 9216 0 ⌝ }
 {
     [0; 9216]
 }
 
-// Rules 5 to 18 over a text and a lent table: what the text says is stored, or nothing.
+// Rules 5 to 18 over a text and a lent table: either all records of the text are stored, or the table is zeroed.
 pub fn store_text(text: &[u8], table: &mut [u64]) -> StoreAnswer
     ensures { λ r. ⌜ (r ≡ storeAnswer (now (text .entry)) (length (now (table .entry)))) × (now (table .exit) ≡ tableAfterStoring (now (text .entry)) (length (now (table .entry))) r) ⌝ }
 {

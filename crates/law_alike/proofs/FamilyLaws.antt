@@ -1,4 +1,4 @@
--- The list, the models with their paths and the pin maps of alike lines are the same but for lines and offsets.
+-- The list, the models with their paths and the pin maps of alike lines are the same except for lines and offsets.
 -- Assumes nothing.
 use mathlib.Core.Path.{_≡_, refl, sym, _∙_, ap, subst}
 use mathlib.Core.Bool.{Bool, true, false, not, true≢false}
@@ -36,7 +36,7 @@ use Rattle.law_alike.proofs.SidesLaws.{bare, words-bare}
 use Rattle.law_alike.proofs.LineLaws.{SameSides, SamePlain, plain-same, head-same, map-same, SamePath, path-same, mult-same, amount-same, words-same, argument-same}
 use Rattle.law_alike.proofs.GatherLaws.{all2-append, all2-if, keys-same, stands-same, isDeep, opening-deep, body-deep, block-inside, body-place, other-opens, gather-alike, up-alike}
 
--- ---- words where they stand
+-- ---- words with their offsets
 
 first-text : (ws : List Word) → firstWord ws .text ≡ firstOf (map (λ (w : Word). w .text) ws)
 unfolding noWord
@@ -67,7 +67,7 @@ module _ (l : Line) where
       second-text (wordsFrom (l .at + (toEquals (l .content) + 1)) (drop (toEquals (l .content) + 1) (l .content)))
       ∙ ap secondOf (anywhere (l .at + (toEquals (l .content) + 1)) (drop (toEquals (l .content) + 1) (l .content)))
 
--- a line that stands in a place has no keyword
+-- a line that `standsIn` a place is in that place and has no keyword
 stands-place : (p : ℕ) (l : Line) → standsIn p l ≡ true → l .place ≡ p
 unfolding standsIn
 stands-place p l e = eqb-true _ _ (both-first _ _ e)
@@ -76,7 +76,7 @@ stands-plain : (p : ℕ) (l : Line) → standsIn p l ≡ true → keyAt (l .cont
 unfolding standsIn keyOf
 stands-plain p l e = eqb-true _ _ (both-second _ _ e)
 
--- none of the places here is one of a matrix's lines
+-- a line of a matrix is in none of the places used here
 module _ (l : Line) (e : isDeep l ≡ true) where
   deep-stands : (p : ℕ) → (p ≡ place.section → ⊥) → (p ≡ place.matrix → ⊥) → standsIn p l ≡ false
   unfolding standsIn isDeep
@@ -122,7 +122,7 @@ module _ (l m : Line) (s : SameLine l m) where
       (λ (e : standsIn place.path l ≡ true). if-true _ _ e ∙ path-said e .saying ∙ sym (if-true _ _ (sym (stands-same l m s place.path) ∙ e)))
       (λ (e : standsIn place.path l ≡ false). if-false _ _ e ∙ sym (if-false _ _ (sym (stands-same l m s place.path) ∙ e)))
 
-  -- a line that says something of a path stands in one
+  -- a line that says something of a path is in a path
   says-stands : (k : ℕ) → (k ≡ path.saysNothing → ⊥) → sayingAt l ≡ k → standsIn place.path l ≡ true
   unfolding sayingAt
   says-stands k n e =
@@ -161,7 +161,7 @@ side-alike (matrix {l = l} {m = m} bs cs n p q a) = ap (λ (w : Word). w .text) 
     no-side : (x : Line) → isDeep x ≡ true → (if eqb (sayingAt x) path.saysSide then secondWord (wordsOf x) else noWord) ≡ noWord
     no-side x e = if-false _ _ (ap (λ (k : ℕ). eqb k path.saysSide) (deep-silent x e))
 
--- the same choice on both sides
+-- both sides make the same choice
 pub all2-choice : {A : Type 0} {Rel : A → A → Type 0} (b c : Bool) → b ≡ c → (x y u v : List A) → (b ≡ true → All2 Rel x u) → (b ≡ false → All2 Rel y v) → All2 Rel (if b then x else y) (if c then u else v)
 unfolding if_then_else_
 all2-choice true true e x y u v h k = h refl
@@ -208,7 +208,7 @@ steps-alike a = gather-alike stepOf step-silent SameStep step-same a
 
 -- ---- models
 
--- the lines of a matrix leave a head and a grid as they are
+-- the lines of a matrix do not change a head or a grid
 module _ {A : Type 0} (test : Line → Bool) (next : A → Line → A) (fold : A → List Line → A)
     (folds : (h : A) (l : Line) (ls : List Line) → fold h (l ∷ ls) ≡ fold (if test l then next h l else h) ls)
     (deep : (l : Line) → isDeep l ≡ true → test l ≡ false)
@@ -253,7 +253,7 @@ grid-alike a g =
     (λ (x : pin_map.Map) (l m : Line) (s : SameLine l m) (e : standsIn place.mapHead l ≡ true). ap (λ (r : MapLine). mapNext r x) (map-same (l .place) (l .content) (m .content) (same-plain l m s place.mapHead e) (stands-place place.mapHead l e)))
     a g
 
--- the argument of a keyword that takes no text of any words
+-- the argument of a keyword that takes no free text
 pub named-same : (l m : Line) → SameLine l m → (k : ℕ) → keyOf l ≡ k → (k ≡ plain → ⊥) → takesText k ≡ false → argumentOf l .text ≡ argumentOf m .text
 unfolding argumentOf keyOf
 named-same l m s k e n x = argument-same (l .content) (m .content) (s .saying) (λ (q : keyAt (l .content) ≡ plain). n (sym e ∙ q)) (ap takesText e ∙ x)

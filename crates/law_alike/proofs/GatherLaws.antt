@@ -1,4 +1,4 @@
--- What alike lines give one after another: the same number of things, each to the one at its place. Matrices aside, which have their own laws.
+-- What is gathered from alike lines: lists of one length whose elements correspond. Matrices have their own laws.
 -- Assumes nothing.
 use mathlib.Core.Path.{_≡_, refl, sym, _∙_, ap, subst}
 use mathlib.Core.Bool.{Bool, true, false, not, true≢false}
@@ -22,7 +22,7 @@ use Rattle.law_alike.specs.Way.Same.{All2}
 use Rattle.law_alike.specs.Way.Same.All2.{none as all2-none, more as all2-more}
 use Rattle.law_alike.proofs.LineLaws.{key-same}
 
--- ---- lists to each other
+-- ---- lists whose elements correspond
 
 module _ {A B : Type 0} {Rel : A → B → Type 0} where
   pub all2-append : {xs ys : List A} {us vs : List B} → All2 Rel xs us → All2 Rel ys vs → All2 Rel (xs ++ ys) (us ++ vs)
@@ -47,7 +47,7 @@ module _ (l m : Line) (s : SameLine l m) where
 
 -- ---- lines of matrices
 
--- a line that stands below a section's method: an opening of a matrix, or one of its lines
+-- a line below a section's method: the opening line of a matrix, or one of its lines
 unfoldable pub isDeep : Line → Bool
 isDeep l = either (eqb (l .place) place.section) (eqb (l .place) place.matrix)
 
@@ -71,12 +71,12 @@ pub body-deep : (l : Line) → inMatrix l ≡ true → isDeep l ≡ true
 unfolding isDeep
 body-deep l e = either-right _ _ (eq-eqb _ _ (body-place l e))
 
--- the other matrix opens too
+-- the other line opens a matrix too
 pub other-opens : (l : Line) (bs : List Line) (m : Line) (cs : List Line) → SameNumbers l bs m cs → opensMatrixAt m ≡ true
 unfolding opensMatrixAt
 other-opens l bs m cs n = sym (λ i. both (either (eqb (n .place i) place.section) (eqb (n .place i) place.matrix)) (opensMatrix (n .kind i))) ∙ n .opens
 
--- the lines up to the first outside are inside
+-- all lines that `upTo` gives are inside
 pub up-inside : (inside : Line → Bool) (ls : List Line) → Each (λ (l : Line). inside l ≡ true) (upTo inside ls)
 unfolding upTo
 up-inside inside [] = each-none
@@ -88,7 +88,7 @@ up-inside inside (l ∷ ls) =
 pub block-inside : (bs ls : List Line) → upTo inMatrix (bs ++ ls) ≡ bs → Each (λ (l : Line). inMatrix l ≡ true) bs
 block-inside bs ls e = subst (Each (λ (l : Line). inMatrix l ≡ true)) e (up-inside inMatrix (bs ++ ls))
 
--- ---- what gives nothing at the lines of matrices
+-- ---- what gathers nothing from the lines of matrices
 
 module _ {A : Type 0} (here : Line → List Line → List A) (silent : (l : Line) (ls : List Line) → isDeep l ≡ true → here l ls ≡ []) where
   gather-body : (bs ls : List Line) → Each (λ (l : Line). inMatrix l ≡ true) bs → gather here (bs ++ ls) ≡ gather here ls
@@ -161,7 +161,7 @@ abbrev isEmpty : List Line → Bool
 isEmpty [] = true
 isEmpty (l ∷ ls) = false
 
--- what stops a matrix stops it too where the section's end is cut off
+-- a line that ends a matrix also ends it if the lines are cut at the end of the section
 stop-kept : (ls : List Line) → upTo inMatrix ls ≡ [] → upTo inMatrix (upTo inSection ls) ≡ []
 unfolding upTo
 stop-kept [] e = refl

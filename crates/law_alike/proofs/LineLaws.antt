@@ -1,4 +1,5 @@
--- What two lines that say the same in a place are read as: the same keyword, and in each place the same words, head, size or saying.
+-- Two lines that say the same in a place are read alike: they have the same keyword, and in each place the same words,
+-- head, size or saying.
 -- Assumes nothing.
 use mathlib.Core.Path.{_≡_, refl, sym, _∙_, ap}
 use mathlib.Core.Bool.{Bool, true, false, not, true≢false}
@@ -39,13 +40,13 @@ key-same a b (same-text n k x t) = k
 
 -- ---- lines without a keyword
 
--- the same sides of the sign
+-- the same words before `=` and after it
 pub record SameSides (a b : List ℕ) : Type 0 where
   pub signs : hasEquals a ≡ hasEquals b
   pub left : leftOf a ≡ leftOf b
   pub right : rightOf a ≡ rightOf b
 
--- either the words are the same, or the line is of a form with a sign, and the sides are
+-- either the words are the same, or the form has a `=` and both sides of it are the same
 pub data SamePlain (p : ℕ) (a b : List ℕ) : Type 0 where
   by-words : words a ≡ words b → SameSides a b → SamePlain p a b
   by-sides : takesEquals p a ≡ true → takesEquals p b ≡ true → SameSides a b → SamePlain p a b
@@ -60,7 +61,7 @@ plain-same {p} a b (same-sides e f x y l r) k = by-sides x y (record { signs = h
 plain-same a b (same-argument n e t) k = absurd (n k)
 plain-same a b (same-text n e x t) k = absurd (n k)
 
--- ---- the forms with a sign, by the place
+-- ---- the forms with a `=`, by their place
 
 first-only : (x y z : Bool) → either x (either y z) ≡ true → y ≡ false → z ≡ false → x ≡ true
 unfolding either
@@ -114,7 +115,7 @@ module _ (p : ℕ) (content : List ℕ) (e : takesEquals p content ≡ true) whe
 
 -- ---- a model's head
 
--- the words of the head and of a map's head have no sign
+-- the words of a model's head and of a map's head contain no `=`
 type-plain : hasSign (bytes "ICM_model_type") ≡ false
 unfolding hasSign isBefore if_then_else_
 type-plain = refl
@@ -142,7 +143,7 @@ impedance-same : (a b : List ℕ) → SameSides a b → impedanceLine a ≡ impe
 unfolding impedanceLine
 impedance-same a b s = rw (s .signs, s .left, s .right)
 
--- a line whose words before the sign open with one word is known by no other
+-- a line whose first word before `=` is this one has no other form
 module _ (a : List ℕ) (e : same (firstOf (leftOf a)) (bytes "Ref_impedance") ≡ true) where
   head-formed : headLineOf a ≡ impedanceLine a
   unfolding headLineOf same both
@@ -162,7 +163,7 @@ size-same : (says : ℕ) (a b : List ℕ) → SameSides a b → sizeLine says a 
 unfolding sizeLine
 size-same says a b s = rw (s .signs, s .left, s .right)
 
--- which of the two sizes the words before the sign name
+-- which of the two sizes the words before `=` name
 unfoldable sizesOf : List ℕ → List ℕ → MapLine
 sizesOf first a =
     if same first (bytes "Num_of_columns") then sizeLine pinMap.saysColumns a else
@@ -197,7 +198,7 @@ map-same p a b (by-sides x y s) q = map-formed a (in-map p a x q) ∙ sizes-same
 
 -- ---- a path
 
--- what a path's line says, and what it says it of
+-- two lines of a path have the same saying, and the same words about it
 pub record SamePath (a b : List ℕ) : Type 0 where
   pub saying : sayingOf (firstOf (words a)) ≡ sayingOf (firstOf (words b))
   pub names : (sayingOf (firstOf (words a)) ≡ path.saysSection → ⊥) → words a ≡ words b
@@ -221,7 +222,7 @@ pub amount-same : (a b : List ℕ) → SameSides a b → amountOf a ≡ amountOf
 unfolding amountOf
 amount-same a b s = rw (mult-same a b s, s .right)
 
--- ---- places without such a form
+-- ---- places without a form with `=`
 
 pub words-same : (p : ℕ) (a b : List ℕ) → SamePlain p a b → (p ≡ place.head → ⊥) → (p ≡ place.path → ⊥) → (p ≡ place.mapHead → ⊥) → words a ≡ words b
 words-same p a b (by-words w s) f g h = w
@@ -229,13 +230,13 @@ words-same p a b (by-sides x y s) f g h = absurd (nowhere-else p a x f g h)
 
 -- ---- keywords
 
--- a keyword whose argument is no text of any words
+-- for a keyword that takes no free text
 pub argument-same : {p : ℕ} (a b : List ℕ) → SameSaying p a b → (keyAt a ≡ plain → ⊥) → takesText (keyAt a) ≡ false → argumentText a ≡ argumentText b
 argument-same a b (same-words e f w) n x = absurd (n e)
 argument-same a b (same-sides e f g h l r) n x = absurd (n e)
 argument-same a b (same-argument m k t) n x = t
 argument-same a b (same-text m k y t) n x = absurd (true≢false (sym y ∙ x))
 
--- nor does a size open the pins
+-- a line that gives a size is not Pin_list
 pub other-lists : (p : ℕ) (a : List ℕ) → takesEquals p a ≡ true → p ≡ place.mapHead → same (firstOf (words a)) (bytes "Pin_list") ≡ false
 other-lists p a e q = other-first a (bytes "Pin_list") list-plain some-bytes (map-named (firstOf (leftOf a)) (in-map p a e q) .1)

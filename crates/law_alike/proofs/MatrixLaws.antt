@@ -1,4 +1,4 @@
--- The matrices and sections of alike lines: the same kinds, conductors and numbers at every place.
+-- The matrices and sections of alike lines: the same kinds, conductors and numbers at every row and column.
 -- Assumes nothing.
 use mathlib.Core.Path.{_≡_, refl, sym, _∙_, ap, subst}
 use mathlib.Core.Bool.{Bool, true, false, not, true≢false}
@@ -39,7 +39,7 @@ use Rattle.law_alike.proofs.WrittenLaws.EachOpening.{none as opening-no
 
 -- ---- lines of a matrix that say the same
 
--- what a line of a matrix is read for
+-- two lines of a matrix that are read alike
 pub record SameBody (l m : Line) : Type 0 where
   pub key : keyOf l ≡ keyOf m
   pub said : keyOf l ≡ plain → words (l .content) ≡ words (m .content)
@@ -63,7 +63,7 @@ module _ (l m : Line) (s : SameLine l m) (h : inMatrix l ≡ true) where
 -- ---- what they write
 
 module _ (form : ℕ) where
-  -- the numbers of one line, and those of the lines behind it
+  -- the numbers of one line, and those of the lines after it
   unfoldable plainValues : ℕ → ℕ → List (List ℕ) → (ℕ → ℕ → List Value) → List Value
   plainValues r c ws rest =
       if eqb form sparse then sparseAt r ws ∷ rest r c else
@@ -89,7 +89,7 @@ module _ (form : ℕ) where
     unfolding valuesFrom
     values-other e f = if-false _ _ (ne-eqb _ _ e) ∙ if-true _ _ (ap not (ne-eqb _ _ f))
 
-  -- a line by its keyword
+  -- the cases of a line by its keyword
   by-key : (P : Type 0) (l : Line) → (keyOf l ≡ row → P) → (keyOf l ≡ plain → P) → ((keyOf l ≡ row → ⊥) → (keyOf l ≡ plain → ⊥) → P) → P
   by-key P l f g h =
       by-cases P (eqb (keyOf l) row) (λ (e : eqb (keyOf l) row ≡ true). f (eqb-true _ _ e))
@@ -298,7 +298,7 @@ module _ (l : Line) (bs ls : List Line) (o : opensMatrixAt l ≡ true) (e : upTo
   unfolding gather matrixAt
   matrix-block = (λ i. (if-true {A = List Matrix} (matrixOf l (formAt l) (e i) ∷ []) [] o i) ++ matrix-body bs ls (block-inside bs ls e) i)
 
--- what holds at each opening holds behind some lines too
+-- what holds at each opening also holds without the first lines
 openings-behind : (bs ls : List Line) → EachOpening (bs ++ ls) → EachOpening ls
 openings-behind [] ls o = o
 openings-behind (b ∷ bs) ls (opening-more f o) = openings-behind bs ls o
@@ -317,7 +317,7 @@ matrix-inside : (l : Line) → inMatrix l ≡ true → inSection l ≡ true
 unfolding inSection
 matrix-inside l e = either-right _ _ (either-right _ _ (eq-eqb _ _ (body-place l e)))
 
--- a matrix ends where it did, with the section cut off behind it
+-- a matrix ends at the same line if the lines are cut at the end of the section
 matrix-cut : (ls : List Line) → upTo inMatrix (upTo inSection ls) ≡ upTo inMatrix ls
 matrix-cut [] = ap (upTo inMatrix) (up-nothing inSection)
 matrix-cut (l ∷ ls) =
@@ -335,7 +335,7 @@ openings-cut (opening-more {l = l} {ls = ls} f o) =
     (λ (k : inSection l ≡ true). rw (up-on inSection l ls k) (opening-more (λ (e : opensMatrixAt l ≡ true). subst (Found (formAt l)) (sym (matrix-cut ls)) (f e)) (openings-cut o)))
     (λ (k : inSection l ≡ false). rw (up-off inSection l ls k) opening-none)
 
--- the method: the first line that gives one, none of a matrix does
+-- the method is given by the first line that has one; no line of a matrix does
 methods-same : (l m : Line) → SameLine l m → keyOf l ≡ derivationMethod → methodOf (argumentOf l .text) ≡ methodOf (argumentOf m .text)
 unfolding takesText opensHeaderText either
 methods-same l m s e = ap methodOf (named-same l m s derivationMethod e (λ (q : derivationMethod ≡ plain). omega arith) refl)

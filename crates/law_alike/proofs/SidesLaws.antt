@@ -1,4 +1,4 @@
--- The words before the first `=` of a line, those after it, and whether there is one, are told by the line's words alone.
+-- The words of a line alone decide whether it has a `=`, and which words are before the first `=` and after it.
 -- Assumes nothing.
 use mathlib.Core.Path.{_≡_, refl, sym, _∙_, ap, subst}
 use mathlib.Core.Bool.{Bool, true, false, not, true≢false}
@@ -18,7 +18,7 @@ use Rattle.base.proofs.IfLaws.{if-true, if-false, by-cases, either-false, not-v
 use Rattle.base.proofs.RunLaws.{run-goes, run-stops, run-nil, same-refl, same-equal}
 use Rattle.lex_line.specs.Words.{Word, wordGoesOn, grown, wordsFrom, words, firstOf, toEquals, hasEquals, leftOf, rightOf}
 
--- ---- words without where they stand
+-- ---- words without their offsets
 
 unfoldable pub grow : ℕ → List (List ℕ) → List (List ℕ)
 grow b [] = (b ∷ []) ∷ []
@@ -59,7 +59,7 @@ module _ (b : ℕ) (s : List ℕ) where
   unfolding bare
   bare-on e f = if-false _ _ e ∙ if-true _ _ f
 
--- the first word starts with the byte that stands first, if that is none of the blanks
+-- the first word begins with the first byte, if that is not a blank
 record Starts (c : ℕ) (ws : List (List ℕ)) : Type 0 where
   first : List ℕ
   others : List (List ℕ)
@@ -76,7 +76,7 @@ bare-starts c s e =
     (λ (f : wordGoesOn s ≡ true). rw (bare-on c s e f) (grow-starts c (bare s)))
     (λ (f : wordGoesOn s ≡ false). rw (bare-last c s e f) record { first = []; others = bare s; are = refl })
 
--- ---- the sign
+-- ---- the sign `=`
 
 abbrev pub isOther : ℕ → Bool
 isOther = isBefore (code "=")
@@ -127,9 +127,9 @@ has-sign (b ∷ s) =
     (λ (e : isOther b ≡ true). ap (λ (n : ℕ). ltb n (suc (length s))) (run-goes isOther b s e) ∙ ltb-suc (toEquals s) (length s) ∙ has-sign s ∙ sym (if-true _ _ e))
     (λ (e : isOther b ≡ false). ap (λ (n : ℕ). ltb n (suc (length s))) (run-stops isOther b s e) ∙ lt-ltb 0 (suc (length s)) (omega arith) ∙ sym (if-false _ _ e))
 
--- ---- the sides by the words
+-- ---- the two sides of `=`, by the words
 
--- a word that is not empty, before others
+-- a word in front of others; an empty word is left out
 unfoldable pub filled : List ℕ → List (List ℕ) → List (List ℕ)
 filled [] ws = ws
 filled (b ∷ w) ws = (b ∷ w) ∷ ws
@@ -208,7 +208,7 @@ module _ (w : List ℕ) (ws : List (List ℕ)) where
   unfolding anySign
   any-on e = if-false _ _ e
 
--- a byte that is no sign, grown in front of words that start with a byte
+-- a byte other than the sign, put in front of the first byte of the first word
 module _ (b c : ℕ) (w : List ℕ) (ws : List (List ℕ)) (o : isOther b ≡ true) where
   any-grown : anySign ((b ∷ c ∷ w) ∷ ws) ≡ anySign ((c ∷ w) ∷ ws)
   unfolding anySign
@@ -231,7 +231,7 @@ module _ (b c : ℕ) (w : List ℕ) (ws : List (List ℕ)) (o : isOther b ≡ tr
   unfolding filled
   left-single oc = left-sign (b ∷ c ∷ w) ws (has-more b (c ∷ w) o ∙ has-here c w oc) ∙ ap (λ (v : List ℕ). filled v []) (before-more b (c ∷ w) o ∙ ap (λ (v : List ℕ). b ∷ v) (before-here c w oc))
 
--- what stands first before the sign
+-- the first byte before the sign
 goes-before : (b : ℕ) (s : List ℕ) → isOther b ≡ true → wordGoesOn (beforeSign (b ∷ s)) ≡ wordGoesOn (b ∷ s)
 unfolding wordGoesOn
 goes-before b s o = ap wordGoesOn (before-more b s o)
@@ -260,7 +260,7 @@ left-none : cutLeft [] ≡ []
 unfolding cutLeft
 left-none = refl
 
--- where a word does not go on, nor does what stands before the sign
+-- if a word does not go on, neither does the part before the sign
 before-ends : (s : List ℕ) → wordGoesOn s ≡ false → wordGoesOn (beforeSign s) ≡ false
 unfolding beforeSign wordGoesOn
 before-ends [] e = refl
@@ -418,7 +418,7 @@ module _ (a b : List ℕ) (e : words a ≡ words b) where
       right-words : (s : List ℕ) → words (drop (toEquals s + 1) s) ≡ cutRight (bare s)
       right-words s = ap words (drop-sign s) ∙ words-bare 0 (behindSign s) ∙ right-is s
 
--- a word without a sign that is not the first of those before the sign is not the first of the line
+-- if the first word of a line has no sign, it is also the first word before the sign
 first-left : (ws : List (List ℕ)) (w : List ℕ) → hasSign w ≡ false → firstOf ws ≡ w → (w ≡ [] → ⊥) → firstOf (cutLeft ws) ≡ w
 first-left [] w h e n = absurd (n (sym e))
 first-left (v ∷ ws) w h e n = ap firstOf (left-on v ws (ap hasSign e ∙ h)) ∙ e

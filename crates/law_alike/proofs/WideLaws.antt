@@ -1,5 +1,5 @@
--- The relation is wide enough: comment lines and blank lines put in or left out, comments at a line's end, blanks between words, about `=` and at
--- the ends, and matrices in other forms, all lead from a text to one that is alike.
+-- The relation is wide enough. Each of these changes gives an alike text: comment lines and blank lines added or left
+-- out; comments at a line's end; blanks between words, about `=` and at the ends; matrices in other forms.
 -- Assumes nothing.
 use mathlib.Core.Path.{_≡_, refl, sym, _∙_, ap, subst}
 use mathlib.Core.Bool.{Bool, true, false, not, true≢false}
@@ -30,7 +30,7 @@ use Rattle.law_alike.specs.Alike.AlikeLines.{none, line, matrix}
 use Rattle.law_alike.proofs.SidesLaws.{bare, grow, isOther, words-bare, bare-blank}
 use Rattle.law_alike.proofs.LineLaws.{other-lists}
 
--- ---- what a line leads to
+-- ---- the place after a line
 
 -- a line says the same as itself
 pub same-self : (p : ℕ) (a : List ℕ) → SameSaying p a a
@@ -50,7 +50,7 @@ place-key : (p : ℕ) (a : List ℕ) → (keyAt a ≡ plain → ⊥) → placeAf
 unfolding placeAfter
 place-key p a n = if-false _ _ (ne-eqb _ _ n)
 
--- a line of a form with a sign does not open the pins
+-- a line of a form with `=` does not change the place
 stays : (p : ℕ) (a : List ℕ) → takesEquals p a ≡ true → movedByLine p (firstOf (words a)) ≡ p
 unfolding movedByLine
 stays p a e =
@@ -64,9 +64,9 @@ place-same p a b (same-sides e f x y l r) = place-plain p a e ∙ stays p a x �
 place-same p a b (same-argument n k t) = place-key p a n ∙ ap (moved p) k ∙ sym (place-key p b (λ (q : keyAt b ≡ plain). n (k ∙ q)))
 place-same p a b (same-text n k x t) = place-key p a n ∙ ap (moved p) k ∙ sym (place-key p b (λ (q : keyAt b ≡ plain). n (k ∙ q)))
 
--- ---- lines of two texts, from a place on
+-- ---- lines of two texts, read from the same place
 
--- where the lines lead from a place
+-- the place after some lines that are read from place p
 unfoldable pub placeBehind : ℕ → List Raw → ℕ
 placeBehind p [] = p
 placeBehind p (r ∷ rs) = placeBehind (if isBlankLine (contentIn r) then p else placeAfter p (contentIn r)) rs
@@ -74,11 +74,11 @@ placeBehind p (r ∷ rs) = placeBehind (if isBlankLine (contentIn r) then p else
 abbrev pub lineAs : ℕ → ℕ → ℕ → Raw → Line
 lineAs n at p r = record { line = n; at = at; place = p; content = contentIn r }
 
--- so many lines of a text are those of a matrix, read from a place, and the next one is not
+-- the lines bs, read from place p, are all lines of a matrix: the first line of rs is outside
 pub record Ends (p : ℕ) (bs rs : List Raw) : Type 0 where
   pub stops : (n at m to : ℕ) → upTo inMatrix (linesFrom n at p bs ++ linesFrom m to (placeBehind p bs) rs) ≡ linesFrom n at p bs
 
--- lines left blank, with a comment or without, stand in either; the others say the same
+-- either text may have blank lines, with a comment or without; the other lines say the same
 pub data SameRaws : ℕ → List Raw → List Raw → Type 0 where
   ended : {p : ℕ} → SameRaws p [] []
   blank : {p : ℕ} {r : Raw} {rs qs : List Raw} → isBlankLine (contentIn r) ≡ true → SameRaws p rs qs → SameRaws p (r ∷ rs) qs
@@ -86,7 +86,7 @@ pub data SameRaws : ℕ → List Raw → List Raw → Type 0 where
   says :
       {p : ℕ} {r q : Raw} {rs qs : List Raw} → isBlankLine (contentIn r) ≡ false → isBlankLine (contentIn q) ≡ false →
       SameSaying p (contentIn r) (contentIn q) → SameRaws (placeAfter p (contentIn r)) rs qs → SameRaws p (r ∷ rs) (q ∷ qs)
-  -- a matrix in another form: the lines of each go up to the first that is not one of them
+  -- a matrix in another form; bs and cs are all lines of the two matrices, up to the first line outside
   block :
       {p : ℕ} {r q : Raw} {rs qs : List Raw} (bs cs : List Raw) → isBlankLine (contentIn r) ≡ false → isBlankLine (contentIn q) ≡ false →
       ((n at m to : ℕ) → SameNumbers (lineAs n at p r) (linesFrom (n + 1) (at + length (r .bytes) + 1) (placeAfter p (contentIn r)) bs) (lineAs m to p q) (linesFrom (m + 1) (to + length (q .bytes) + 1) (placeAfter p (contentIn q)) cs)) →
@@ -111,7 +111,7 @@ unfoldable sizeOf : List Raw → ℕ
 sizeOf [] = 0
 sizeOf (r ∷ rs) = length (r .bytes) + 1 + sizeOf rs
 
--- the lines of some lines and of those behind them
+-- the significant lines of two lists of lines, joined
 lines-append : (n at p : ℕ) (bs rs : List Raw) → linesFrom n at p (bs ++ rs) ≡ linesFrom n at p bs ++ linesFrom (n + length bs) (at + sizeOf bs) (placeBehind p bs) rs
 unfolding placeBehind sizeOf
 lines-append n at p [] rs =
@@ -146,7 +146,7 @@ raws-alike {p} (block {r = r} {q = q} {rs = rs} {qs = qs} bs cs e f numbers ends
     (subst (λ (k : ℕ). AlikeLines (linesFrom (n + 1 + length bs) (at + length (r .bytes) + 1 + sizeOf bs) (placeBehind (placeAfter p (contentIn r)) bs) rs) (linesFrom (m + 1 + length cs) (to + length (q .bytes) + 1 + sizeOf cs) k qs)) same
     (raws-alike more-lines (n + 1 + length bs) (at + length (r .bytes) + 1 + sizeOf bs) (m + 1 + length cs) (to + length (q .bytes) + 1 + sizeOf cs))))
 
--- the texts
+-- texts whose lines say the same are alike
 pub texts-alike : (t u : List ℕ) → SameRaws before (lines t) (lines u) → Alike t u
 unfolding significant linesAt
 texts-alike t u s = raws-alike s 1 0 1 0
@@ -197,7 +197,7 @@ raws-self p (r ∷ rs) =
     (λ (e : isBlankLine (contentIn r) ≡ false). says e e (same-self p (contentIn r)) (raws-self (placeAfter p (contentIn r)) rs))
 
 module _ (rs qs : List Raw) where
-  -- what is the same behind some lines is the same with them in front
+  -- the same lines may be put in front of both
   pub raws-front : (p : ℕ) (xs : List Raw) → SameRaws (placeBehind p xs) rs qs → SameRaws p (xs ++ rs) (xs ++ qs)
   unfolding placeBehind
   raws-front p [] s = s
@@ -220,7 +220,7 @@ module _ (xs ys : List (List ℕ)) (xs-whole : Each Whole xs) (ys-whole : Each W
       (rw (joined-lines ys ys-whole, joined-lines (c ∷ ys) (each-more w ys-whole))
       (raws-front (map rawOf ys) (rawOf c ∷ map rawOf ys) before (map rawOf xs) (other-blank e (raws-self behind (map rawOf ys)))))
 
-  -- a line that says the same in its place
+  -- a line replaced by one that says the same in its place
   pub line-changed :
       (a b : List ℕ) → Whole a → Whole b → isBlankLine (contentOf commentByte a) ≡ false → isBlankLine (contentOf commentByte b) ≡ false →
       SameSaying behind (contentOf commentByte a) (contentOf commentByte b) → Alike (textOf (xs ++ (a ∷ ys))) (textOf (xs ++ (b ∷ ys)))
@@ -264,7 +264,7 @@ drop-front (d ∷ c) b x = let n : suc (length c) + 1 ≡ suc (length c + 1) = o
 front-shorter : (c x : List ℕ) (b : ℕ) (y : List ℕ) → x ≡ b ∷ y → length c < length (c ++ x)
 front-shorter c x b y e = let n : length (c ++ x) ≡ length c + suc (length y) = length-append c x ∙ ap (λ (s : List ℕ). length c + length s) e in omega arith
 
--- whether a word goes on is told by what stands first
+-- whether a word goes on depends only on the first byte
 goes-first : (x y z : List ℕ) (b : ℕ) → wordGoesOn (x ++ (b ∷ y)) ≡ wordGoesOn (x ++ (b ∷ z))
 unfolding wordGoesOn
 goes-first [] y z b = refl
@@ -296,7 +296,7 @@ comment-cut c x e = ap (λ (n : ℕ). take n (c ++ (commentByte ∷ x))) (run-cu
 
 -- ---- blanks
 
--- a blank beside a blank
+-- a blank next to a blank
 pub blank-doubled : (x y : List ℕ) (b c : ℕ) → isBlank b ≡ true → isBlank c ≡ true → words (x ++ (b ∷ c ∷ y)) ≡ words (x ++ (b ∷ y))
 blank-doubled x y b c e f = words-bare 0 (x ++ (b ∷ c ∷ y)) ∙ bare-doubled x y b c e f ∙ sym (words-bare 0 (x ++ (b ∷ y)))
 
@@ -307,7 +307,7 @@ blank-front b s e = words-bare 0 (b ∷ s) ∙ bare-blank b s e ∙ sym (words-b
 pub blank-end : (s : List ℕ) (b : ℕ) → isBlank b ≡ true → words (s ++ (b ∷ [])) ≡ words s
 blank-end s b e = words-bare 0 (s ++ (b ∷ [])) ∙ bare-end s b e ∙ sym (words-bare 0 s)
 
--- the sides of a sign are the words of what stands before it and after it
+-- the two sides of `=` are the words before it and after it
 pub sides-of : (x y : List ℕ) → all isOther x ≡ true → (leftOf (x ++ (code "=" ∷ y)) ≡ words x) × (rightOf (x ++ (code "=" ∷ y)) ≡ words y) × (hasEquals (x ++ (code "=" ∷ y)) ≡ true)
 unfolding leftOf rightOf hasEquals
 sides-of x y e =
@@ -327,7 +327,7 @@ content-raws p a b rs e =
 -- ---- edits of one line of a text
 
 module _ (xs ys : List (List ℕ)) (xs-whole : Each Whole xs) (ys-whole : Each Whole ys) where
-  -- two lines of the same content
+  -- a line replaced by one of the same content
   pub content-kept : (a b : List ℕ) → Whole a → Whole b → contentOf commentByte a ≡ contentOf commentByte b → Alike (textOf (xs ++ (a ∷ ys))) (textOf (xs ++ (b ∷ ys)))
   content-kept a b v w e =
       texts-alike _ _

@@ -1,5 +1,5 @@
--- The number that the lines of a matrix write at a row and a column is the one that its values give there: of every matrix of a text that
--- reads to its end, in each of the four forms.
+-- The number that the lines of a matrix write at a row and a column is the one that its values give there. This holds
+-- for every matrix of a text that breaks no rule of the reading, in each of the four forms.
 -- Assumes nothing.
 use Prim.Native.Nat.{ℕ, zero, suc, _+_, _-_, _≤_, _<_}
 use mathlib.Core.Path.{_≡_, refl, sym, _∙_, ap}
@@ -180,7 +180,7 @@ module _ (i : ℕ) (l : Line) (ls : List Line) where
   unfolding rowLines
   lines-past k = if-false _ _ (both-not-left _ _ k)
 
--- what the lines of a row give the column j, k columns after the one that the next number stands in
+-- what the lines of a row write for column j; the next number is k columns before it
 abbrev inLines : ℕ → ℕ → ℕ → List Line → ℕ
 inLines form k j ls = if eqb form sparse then sparseWord j ls else wordOf k (numbersOf ls)
 
@@ -205,7 +205,7 @@ module _ (form : ℕ) where
       if-true _ _ e ∙ ap (λ (x : ℕ). x + k) (if-true _ _ e) ∙ g ∙ sym (if-true _ _ e))
       (λ (e : eqb form diagonal ≡ false). if-false _ _ e ∙ if-false _ _ e ∙ sym (if-false _ _ e))
 
-  -- down the diagonal or along a row: the number k columns after the first, where it stands in the row x and column j
+  -- down the diagonal or along a row: the number k columns after the first, if its row is x and its column j
   numbers-found :
       (x j : ℕ) (vs : List Value) (rest : List (List ℕ)) (r c : ℕ) (ws : List (List ℕ)) (k : ℕ) →
       c + k ≡ j → rowAfter form r k ≡ x →
@@ -238,7 +238,7 @@ module _ (form : ℕ) where
       rw (numbers-along form r c w ws d)
       (found-below x j (numberAt r c w) (numbersAt form r (c + 1) ws ++ vs) h ∙ numbers-below d x j vs r (c + 1) ws h)
 
-  -- no number of the diagonal stands off it
+  -- no number of a diagonal is off the diagonal
   numbers-off :
       form ≡ diagonal → (x j : ℕ) → (x ≡ j → ⊥) → (vs : List Value) (r : ℕ) (ws : List (List ℕ)) →
       foundAt x j (numbersAt form r r ws ++ vs) ≡ foundAt x j vs
@@ -291,7 +291,7 @@ module _ (r j : ℕ) (l : Line) (vs : List Value) where
   pair-below x h = found-below x j (sparseAt r (words (l .content))) vs (λ (e : sparseAt r (words (l .content)) .row ≡ x). h (sym pair-row ∙ e))
 
 module _ (known n w : ℕ) where
-  -- no row above the one now read comes again
+  -- no row above the current one comes again
   above-none :
       {m : forward.Matrix} {v : ℕ} {ls : List Line} → Body known n w m v ls → (m .form ≡ diagonal → ⊥) → (x j : ℕ) → x < m .rows .row →
       (c : ℕ) → foundAt x j (valuesFrom (m .form) (m .rows .row) c ls) ≡ zeroWord
@@ -309,7 +309,7 @@ module _ (known n w : ℕ) where
       rw (values-row (m .form) (m .rows .row) c l ls k) (above-none b d x j (omega arith) (givenBy l))
   above-none (widens m v l ls k h b) d x j low c = rw (values-width (m .form) (m .rows .row) c l ls k) (above-none b d x j low c)
 
-  -- the row now read goes up to the next keyword
+  -- the current row goes up to the next keyword
   row-found :
       {m : forward.Matrix} {v : ℕ} {ls : List Line} → Body known n w m v ls → (m .form ≡ diagonal → ⊥) → 1 ≤ m .rows .row →
       (c k j : ℕ) → c + k ≡ j →
@@ -427,21 +427,21 @@ matrix-values : (l : Line) (form : ℕ) (body : List Line) → matrixOf l form b
 unfolding matrixOf
 matrix-values l form body = refl
 
--- of a matrix of n conductors whose lines break no rule
+-- for a matrix of n conductors whose lines break no rule
 pub written-found :
     (n : ℕ) (m : Matrix) (w : Written n m) (i j : ℕ) → 1 ≤ i → i ≤ j → writtenAt (w .form) (w .body) i j ≡ foundAt i j (m .values)
 written-found n m w i j low le =
     body-found (w .known) n (w .last) (w .first) (w .form) (w .body) (w .read) i j low le
     ∙ ap (foundAt i j) (sym (ap (λ (x : Matrix). x .values) (w .same) ∙ matrix-values (w .line) (w .form) (w .body)))
 
--- ---- the lines from a line of a matrix on, as the forward reading goes
+-- ---- the lines from a line of a matrix on, in the forward reading
 
 record Rest (s : State) (ls : List Line) : Type 0 where
   conductors : ℕ
   last : ℕ
   body : Body (s .section .conductors) conductors last (s .matrix) (s .counts .values) (upTo inMatrix ls)
 
--- what is remembered after a keyword
+-- the state after a keyword
 abbrev next : Line → State → State
 next l s = keywordNext (keyOf l) (argumentOf l .text) s
 
@@ -526,9 +526,9 @@ rest Goes.none d p = absurd (omega arith)
 rest (Goes.more {s = s} {s' = s'} {l = l} {ls = ls} q blank mv g) d p =
     rest-step l ls s (q ∙ p) p s' mv (λ (h : s' .place ≡ place.matrix). rest g d h)
 
--- ---- the lines of a text that reads to its end
+-- ---- the lines of a text that breaks no rule of the reading
 
--- each line that opens a matrix, with those behind it
+-- for each line that opens a matrix, with the lines after it
 pub data EachOpening : List Line → Type 0 where
   none : EachOpening []
   more :
@@ -544,7 +544,7 @@ module _ (l : Line) (ls : List Line) (s e : State) (d : e .place ≡ done) (q : 
   unfolding opensMatrixAt
   opens-key h = both-second _ _ h
 
-  -- the state behind it is that of a new matrix
+  -- the state after it is that of a new matrix
   onward-found :
       (known : ℕ) → Onward (next l s) known (newMatrix (formAt l) (s .counts .values)) (s .counts .values) → Goes (next l s) ls e →
       Found (formAt l) (upTo inMatrix ls)
@@ -585,7 +585,7 @@ text-openings t c h =
 
 -- ---- the matrices of its document
 
--- a matrix of a document: the line that opens it, in the text, and the lines behind that
+-- a matrix of a document: the line of the text that opens it, and the lines after that
 pub record FoundMatrix (t : List ℕ) (m : Matrix) : Type 0 where
   pub before : List Line
   pub line : Line
@@ -673,7 +673,7 @@ sections-found t before (l ∷ ls) here (more f later) =
     let on : significant t ≡ (before ++ (l ∷ [])) ++ ls = one-more t before l ls here in
     sections-step t before l ls here (matrices-found t (before ++ (l ∷ [])) ls on later) (sections-found t (before ++ (l ∷ [])) ls on later)
 
--- every matrix of every section of a text that reads to its end
+-- for every matrix of every section of a text that breaks no rule of the reading
 pub text-found :
     (t : List ℕ) (c : Counts) → readingOf t ≡ Read c →
     Each (λ (x : Section). Each (FoundMatrix t) (x .matrices)) (documentOf t .sections)

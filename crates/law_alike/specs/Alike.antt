@@ -1,5 +1,6 @@
--- Two texts that differ only "in matrix forms giving the same numbers, comments, blank lines or blanks between words". It is said of the lines
--- that say something, so comments, blank lines, line numbers and offsets do not enter; nor does the intake.
+-- Two texts that differ only "in matrix forms giving the same numbers, comments, blank lines or blanks between words".
+-- The definition compares the significant lines, so comments, blank lines, line numbers and offsets do not matter. It
+-- does not use the intake.
 -- Assumes nothing.
 use Prim.Native.Nat.{ℕ, _≤_}
 use mathlib.Core.Path.{_≡_}
@@ -22,7 +23,7 @@ use Rattle.law_alike.specs.Written.{writtenAt}
 
 -- ---- one line
 
--- "Blanks are .. optional about `=`": the forms that have one
+-- "Blanks are .. optional about `=`": the lines, by their place, whose form has a `=`
 unfoldable pub takesEquals : ℕ → List ℕ → Bool
 takesEquals p content =
     both (hasEquals content)
@@ -30,7 +31,7 @@ takesEquals p content =
     (either (both (eqb p place.path) (same (firstOf (words content)) (bytes "Section")))
     (both (eqb p place.mapHead) (either (same (firstOf (leftOf content)) (bytes "Num_of_columns")) (same (firstOf (leftOf content)) (bytes "Num_of_rows"))))))
 
--- keywords that take text of any words, those that open a text block too
+-- keywords that take free text, also those that open a text block
 unfoldable pub takesText : ℕ → Bool
 takesText k =
     either (eqb k fileRev)
@@ -44,7 +45,7 @@ takesText k =
 abbrev pub argumentText : List ℕ → List ℕ
 argumentText content = argumentFrom content (argumentIn (bracketOf content))
 
--- two lines that say the same in a place: blanks between words, about `=`, after a bracket and at the ends do not count
+-- two lines that say the same in place p; blanks between words, about `=`, after a bracket and at the ends do not matter
 pub data SameSaying (p : ℕ) (a b : List ℕ) : Type 0 where
   same-words : keyAt a ≡ plain → keyAt b ≡ plain → words a ≡ words b → SameSaying p a b
   same-sides :
@@ -65,7 +66,7 @@ pub record SameLine (l m : Line) : Type 0 where
 abbrev pub formAt : Line → ℕ
 formAt l = formOf (argumentOf l .text)
 
--- two matrices, by their openings and the lines below them, that give the same number at every place
+-- two matrices, each given by its opening line and the lines below it, that write the same number at every row and column
 pub record SameNumbers (l : Line) (bs : List Line) (m : Line) (cs : List Line) : Type 0 where
   pub opens : opensMatrixAt l ≡ true
   pub place : l .place ≡ m .place
@@ -78,7 +79,7 @@ pub record SameNumbers (l : Line) (bs : List Line) (m : Line) (cs : List Line) :
 pub data AlikeLines : List Line → List Line → Type 0 where
   none : AlikeLines [] []
   line : {l m : Line} {ls ms : List Line} → SameLine l m → AlikeLines ls ms → AlikeLines (l ∷ ls) (m ∷ ms)
-  -- a matrix in another form: its lines go up to the first that is not one of them
+  -- a matrix in another form; bs and cs are all lines of the two matrices, up to the first line outside
   matrix :
       {l m : Line} {ls ms : List Line} (bs cs : List Line) → SameNumbers l bs m cs → upTo inMatrix (bs ++ ls) ≡ bs →
       upTo inMatrix (cs ++ ms) ≡ cs → AlikeLines ls ms → AlikeLines (l ∷ (bs ++ ls)) (m ∷ (cs ++ ms))

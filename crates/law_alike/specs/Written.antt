@@ -29,17 +29,19 @@ unfoldable pub numbersOf : List Line → List (List ℕ)
 numbersOf [] = []
 numbersOf (l ∷ ls) = (if isPlain l then words (l .content) else []) ++ numbersOf ls
 
--- the value word of the number that stands at i, counted from 0
+-- the value word of number i, counted from 0; zero if there are fewer
 unfoldable pub wordOf : ℕ → List (List ℕ) → ℕ
 wordOf i ws = getD (map (λ (w : List ℕ). wordIn (numberOf w)) ws) i zeroWord
 
--- "lines `column value`": the value of column j
+-- "lines `column value`": the value of column j; zero if no line has it
 unfoldable pub sparseWord : ℕ → List Line → ℕ
 sparseWord j [] = zeroWord
 sparseWord j (l ∷ ls) =
     if eqb (wholeOf (firstOf (words (l .content))) .value) j then wordIn (numberOf (secondOf (words (l .content)))) else sparseWord j ls
 
--- row i and column j, i not above j: of N numbers the i-th on the diagonal; in row i "diagonal first"; in a Sparse_matrix by its column
+-- The number at row i and column j, where i is at most j. In a Diagonal_matrix it is the i-th of N numbers, and zero
+-- off the diagonal. In a Sparse_matrix it is found by its column. Otherwise it is number j - i of row i, counted from
+-- 0: "diagonal first".
 unfoldable pub writtenAt : ℕ → List Line → ℕ → ℕ → ℕ
 writtenAt form body i j =
     if eqb form diagonal then (if eqb i j then wordOf (i - 1) (numbersOf body) else zeroWord) else

@@ -1,1 +1,1 @@
-// Texts that differ only in matrix forms, comments, blank lines and blanks, as definitions and laws: no code stands here.
+// Definitions and laws of texts that differ only in matrix forms, comments, blank lines and blanks. There is no code here.

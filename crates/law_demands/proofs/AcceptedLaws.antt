@@ -1,4 +1,4 @@
--- What an accepted text is known by: every stage of the intake has passed it.
+-- What is known of an accepted text: it has passed every stage of the intake.
 -- Assumes nothing.
 use mathlib.Core.Path.{_≡_, refl, sym, _∙_, ap}
 use mathlib.Core.Bool.{Bool, true, false, true≢false}
@@ -24,7 +24,7 @@ use Rattle.intake.specs.declared.store.StoreAnswer.the-variants.{Stored, Refuse
 use Rattle.cross_rules.specs.Rules.{crossRule}
 use Rattle.intake.specs.Verdict.{Outcome, acceptedWith, refusedBy, crossed, afterStoring, afterBytes, verdictOf}
 
--- the bytes are right, the text reads to its end, the table has room, and no rule of 19 to 27 is broken
+-- no rule of 1 to 4 and of 5 to 17 is broken, the table has room, and no rule of 19 to 27 is broken
 pub record Taken (t : List ℕ) (size : ℕ) : Type 0 where
   pub counts : Counts
   pub fine : byteRules t ≡ bytes.Fine

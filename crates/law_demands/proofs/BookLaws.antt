@@ -1,5 +1,5 @@
--- Laws of looks in their order: nothing is broken exactly where the first look that finds something is none, and what that look gives stands
--- on the earliest line, line 0 last, and is the lowest there.
+-- Laws of looks (lines with their rules) in order: no rule is broken exactly if no look gives one. Otherwise the first
+-- look that gives one is on the earliest line, line 0 last, and its rule is the lowest that is broken there.
 -- Assumes nothing.
 use mathlib.Core.Path.{_≡_, refl, sym, _∙_, ap}
 use mathlib.Core.Bool.{Bool, true, false, true≢false}
@@ -23,7 +23,7 @@ use Rattle.law_demands.specs.RuleBook.{BrokenIn, rank}
 
 -- ---- the rules of one line
 
--- the ranks rise from the front to the back, none is below the least
+-- the ranks of the rules never fall, and none is below `least`
 abbrev pub Ascends : ℕ → ℕ → List Rule → Type 0
 Ascends g least [] = Unit {0}
 Ascends g least (r ∷ rs) = (least ≤ rank g (r .number)) × Ascends g (rank g (r .number)) rs
@@ -52,7 +52,7 @@ first-lowest g (r ∷ rs) least h i l b =
     tail later zero k c t = absurd (true≢false (sym c ∙ t))
     tail later (suc j) k c t = later j (le-of-suc-le-suc k) c
 
--- ---- the first look that finds something
+-- ---- the first look with a broken rule
 
 pub record Given : Type 0 where
   pub rule : ℕ
@@ -75,13 +75,13 @@ pub empty-gives : givenBy [] .rule ≡ 0
 unfolding givenBy
 empty-gives = refl
 
--- a look that finds something, or not
+-- a look with a broken rule, or without one
 by-look : (P : Type 0) (x : RulesAtLine) → (firstBroken (x .rules) ≡ 0 → P) → ((firstBroken (x .rules) ≡ 0 → ⊥) → P) → P
 by-look P x h k = by-cases P (eqb (firstBroken (x .rules)) 0) (λ (e : eqb (firstBroken (x .rules)) 0 ≡ true). h (eqb-true _ _ e)) (λ (e : eqb (firstBroken (x .rules)) 0 ≡ false). k (eqb-false _ _ e))
 
--- ---- looks whose rules are ranked, and whose lines stand in their order
+-- ---- looks whose rules are ranked and whose lines are in order
 
--- one look stands before another: on an earlier line, line 0 last
+-- one look comes before another: on an earlier line, line 0 last
 pub record Before (x y : RulesAtLine) : Type 0 where
   pub above : 0 < y .line → (0 < x .line) × (x .line < y .line)
   pub apart : x .line ≡ y .line → ⊥
@@ -96,7 +96,7 @@ AllRanked g looks = Each (λ (x : RulesAtLine). Ranked g (x .rules)) looks
 broken-further : (x : RulesAtLine) {xs : List RulesAtLine} {number line : ℕ} → BrokenIn xs number line → BrokenIn (x ∷ xs) number line
 broken-further x b = record { look = b .look; among = further (b .among); place = b .place; within = b .within; broken = b .broken; on-line = b .on-line; numbered = b .numbered }
 
--- where one stands in a list with another in front
+-- an element of a list is its first element or one of the rest
 pub data Where (x : RulesAtLine) (xs : List RulesAtLine) (y : RulesAtLine) : Type 0 where
   at-front : y ≡ x → Where x xs y
   behind : Among y xs → Where x xs y
@@ -106,7 +106,7 @@ where-is front = at-front refl
 where-is (further m) = behind m
 
 module _ (g : ℕ) where
-  -- nothing is given where nothing is broken, and the other way round
+  -- rule 0 is given exactly if no rule is broken
   kept-look : (x : RulesAtLine) → Ranked g (x .rules) → firstBroken (x .rules) ≡ 0 → (i : ℕ) → getD (x .rules) i sound .broken ≡ true → ⊥
   kept-look x r e i b = true≢false (sym b ∙ all-kept (x .rules) (r .numbered) e i)
 
@@ -123,7 +123,7 @@ module _ (g : ℕ) where
           there x ys r later z (at-front q) = kept-look x r z i (ap (λ (w : RulesAtLine). getD (w .rules) i sound .broken) (sym q) ∙ b)
           there x ys r later z (behind m′) = later m′
 
-  -- what is given is broken
+  -- the rule is broken on the line, which is the earliest, and it is the lowest there
   pub record Found (xs : List RulesAtLine) (number line : ℕ) : Type 0 where
     pub found : BrokenIn xs number line
     pub earliest : (other place : ℕ) → BrokenIn xs other place → 0 < place → (0 < line) × (line ≤ place)
@@ -159,7 +159,7 @@ module _ (g : ℕ) where
           rw n at (first-lowest g (x .rules) 0 (r .ascends) (b .place) w k)
       there (behind m) = absurd (each-one h m .apart (sym (b .on-line)))
 
-  -- where the front finds nothing, what the rest finds
+  -- if the first look has no broken rule, the rest gives the result
   found-behind : (x : RulesAtLine) (xs : List RulesAtLine) (number line : ℕ) → Ranked g (x .rules) → firstBroken (x .rules) ≡ 0 → Found xs number line → Found (x ∷ xs) number line
   found-behind x xs number line r z f =
       record {

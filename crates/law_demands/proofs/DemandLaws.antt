@@ -1,4 +1,5 @@
--- The first and the second demand hold of every outcome that conforms to the promise, and two such outcomes are equal.
+-- The first and the second demand hold for every outcome that satisfies the intake's contract, and two such outcomes
+-- are equal.
 -- Assumes nothing.
 use mathlib.Core.Path.{_≡_, refl, sym, _∙_, ap}
 use mathlib.Core.Bool.{Bool, true, false, true≢false}
@@ -19,7 +20,7 @@ use Rattle.law_demands.proofs.VerdictLaws.{Decided, accepts, refuses, d
 
 -- ---- answers and the paper's words for them
 
--- an answer by its words
+-- the answer that has these words
 abbrev answerOf : Bool → Outcome → Answer
 answerOf true o = Accepted (o .used)
 answerOf false o = Refused (o .rule) (o .line)
@@ -31,7 +32,7 @@ answer-back (Refused number line) = refl
 same-answer : (a b : Answer) → answerWords a ≡ answerWords b → a ≡ b
 same-answer a b e = sym (answer-back a) ∙ ap (λ (o : Outcome). answerOf (o .accepted) o) e ∙ answer-back b
 
--- ---- by what the stages came to
+-- ---- by the results of the stages
 
 module _ (t : List ℕ) (size : ℕ) where
   decided-accepted : (o : Outcome) → Decided t size o → (words : ℕ) → acceptedWith words ≡ o → ((g number line : ℕ) → Broken t size g number line → ⊥) × (words ≡ length (tableOf t))

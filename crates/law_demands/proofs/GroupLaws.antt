@@ -1,4 +1,5 @@
--- The groups of the rule book and what the stages of the intake come to: each stage gives what the first look of its group finds.
+-- The groups of the rule book and the stages of the intake: each stage gives what the first look of its group with a
+-- broken rule gives.
 -- Assumes nothing.
 use mathlib.Core.Path.{_≡_, refl, sym, _∙_, ap}
 use mathlib.Core.Bool.{Bool, true, false, not, true≢false}
@@ -85,7 +86,7 @@ keyword-given : (k : ℕ) (argument : List ℕ) (s : State) → keywordRule k ar
 unfolding keywordRule
 keyword-given k argument s = refl
 
--- the number of a step
+-- the rule of a line's result
 module _ (k : ℕ) (next s : State) where
   judged-number : reading.judged k next s .rule ≡ k
   unfolding reading.judged goes breaks
@@ -110,7 +111,7 @@ keyword-number : (k : ℕ) (argument : List ℕ) (s : State) → keywordStep k a
 unfolding keywordStep
 keyword-number k argument s = judged-number (keywordRule k argument s) _ s ∙ keyword-given k argument s
 
--- a choice between steps is a choice between what their lists give
+-- a choice between results is a choice between what their lists give
 step-chosen : (b : Bool) (x y : List Rule) (p q : LineResult) → p .rule ≡ firstBroken x → q .rule ≡ firstBroken y → (if b then p else q) .rule ≡ firstBroken (if b then x else y)
 unfolding if_then_else_
 step-chosen true x y p q e f = e
@@ -143,7 +144,7 @@ step-number content s =
     (step-chosen (eqb (s .place) done) _ _ _ _ (goes-none s)
     (step-chosen (eqb (s .place) before) _ _ _ _ (before-number (bracketOf content) content s) (bracket-number (bracketOf content) content s)))
 
--- ---- every list stands in the order of refusal
+-- ---- every list is in the order of refusal
 
 pub size-ranked : (t : List ℕ) → Ranked 1 (sizeRules t)
 unfolding rank if_then_else_ both
@@ -207,7 +208,7 @@ end-ranked : (s : State) → Ranked forward (endOfTextRules s)
 unfolding rank if_then_else_ both
 end-ranked s = record { numbered = (omega arith, (omega arith, tt)); ascends = (omega arith, (omega arith, tt)) }
 
--- of a choice between two lists
+-- for a choice between two lists
 either-ranked : (b : Bool) (x y : List Rule) → Ranked forward x → Ranked forward y → Ranked forward (if b then x else y)
 either-ranked b x y h k = by-test (Ranked forward) b _ _ (λ e. h) (λ e. k)
 
@@ -251,7 +252,7 @@ rules-ranked content s =
 
 -- ---- 2 to 4
 
--- what the byte rules come to by what the looks give
+-- the result of the byte rules, from what the looks give
 abbrev pub checkedBy : Given → Checked
 checkedBy given = if eqb (given .rule) 0 then bytes.Fine else bytes.Refused (given .rule) (given .line)
 
@@ -271,7 +272,7 @@ unfolding characterRulesAtLines
 characters-ranked n [] = none
 characters-ranked n (l ∷ ls) = more (character-ranked l) (characters-ranked (n + 1) ls)
 
--- a look on a line before those of looks that stand from a later line on
+-- a look on line n comes before a look on a later line
 before-at : (n : ℕ) (rules : List Rule) (x : RulesAtLine) → 0 < n → n < x .line → Before (record { line = n; rules = rules }) x
 before-at n rules x p l = record { above = λ q. (p, l); apart = λ (e : n ≡ x .line). omega arith }
 
@@ -291,7 +292,7 @@ pub data Told : Reading → Given → Type 0 where
   read-on : (c : Counts) {given : Given} → given .rule ≡ 0 → Told (Read c) given
   refused-at : (number line : ℕ) → (number ≡ 0 → ⊥) → Told (Refused number line) (record { rule = number; line = line })
 
--- what the end of the text breaks
+-- the rules at the end of the text
 module _ (s : State) where
   abbrev endLook : RulesAtLine
   endLook = record { line = 0; rules = endOfTextRules s }
@@ -355,7 +356,7 @@ forward-ranked n (l ∷ ls) s =
     more (rules-ranked _ s)
     (by-test (AllRanked forward) (eqb (firstBroken (rulesOn (contentOf commentByte (l .bytes)) s)) 0) _ _ (λ e. forward-ranked (n + 1) ls (lineResult (contentOf commentByte (l .bytes)) s .state)) (λ e. none))
 
--- the end of the text stands last
+-- the end of the text comes last
 before-end : (n : ℕ) (rules : List Rule) (s : State) → 0 < n → Before (record { line = n; rules = rules }) (endLook s)
 before-end n rules s p = record { above = λ (q : 0 < 0). absurd (omega arith); apart = λ (e : n ≡ 0). omega arith }
 

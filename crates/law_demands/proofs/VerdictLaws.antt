@@ -1,5 +1,5 @@
--- Demand 2: a file is accepted exactly when no listed rule is broken; otherwise the answer is the rule and line that the stated order puts
--- first. Over the rule book of specs/RuleBook.
+-- Demand 2: a file is accepted exactly when no listed rule is broken; otherwise the answer is the rule and line that
+-- the stated order puts first. The list of rules is the rule book, specs/RuleBook.antt.
 -- Assumes nothing.
 use mathlib.Core.Path.{_≡_, refl, sym, _∙_, ap}
 use mathlib.Core.Bool.{Bool, true, false, true≢false}
@@ -42,7 +42,7 @@ use Rattle.law_demands.specs.RuleBook.{BrokenIn, Broken, First, group, r
 use Rattle.law_demands.proofs.BookLaws.{Given, givenBy, Found, InOrder, last, followed, AllRanked, empty-gives, given-later, given-here, given-none, given-first}
 use Rattle.law_demands.proofs.GroupLaws.{checkedBy, characters-given, characters-ranked, characters-ordered, Told, read-on, refused-at, forward-told, forward-ranked, forward-ordered, size-ranked, room-ranked}
 
--- ---- the answers told apart
+-- ---- the cases of an answer
 
 abbrev checkedNumber : Checked → ℕ
 checkedNumber bytes.Fine = 0
@@ -136,7 +136,7 @@ module _ (t : List ℕ) (size : ℕ) where
   past-kept : (g : ℕ) → 5 < g → Kept g
   past-kept g h number line b = nothing-there (rw (past-group g h) at b)
 
-  -- where the looks of a group give nothing, and where they give something
+  -- if the looks of a group give no broken rule, and if they give one
   group-kept : (g : ℕ) (xs : List RulesAtLine) → group t size g ≡ xs → AllRanked g xs → givenBy xs .rule ≡ 0 → Kept g
   group-kept g xs e r z number line b = given-none g xs r z number line (rw e at b)
 
@@ -256,7 +256,7 @@ module _ (t : List ℕ) (size : ℕ) where
     accepts : ((g : ℕ) → Kept g) → Decided (acceptedWith (length (tableOf t)))
     refuses : (g number line : ℕ) → First t size g number line → Decided (refusedBy number line)
 
-  -- the groups below one of them
+  -- the groups before a group
   below-1 : (h : ℕ) → h < 1 → Kept h
   below-1 zero l = none-kept
   below-1 (suc h) l = absurd (omega arith)

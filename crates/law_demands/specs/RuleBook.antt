@@ -1,5 +1,6 @@
--- Document 01, "Numbers of refusal": the rule book. For each of the five groups the lines in their order, each with the rules that it is
--- looked at for, in the order of refusal: "1; 2 to 4 over all lines; 5 to 17 reading forward; 18; 19 to 27 over all lines".
+-- Document 01, "Numbers of refusal": the rule book. Each of the five groups is a list of lines in their order, each
+-- with the rules that are checked there, in the order of refusal: "1; 2 to 4 over all lines; 5 to 17 reading forward;
+-- 18; 19 to 27 over all lines".
 -- Assumes nothing.
 use Prim.Native.Nat.{ℕ, _+_, _*_, _≤_, _<_}
 use mathlib.Core.Path.{_≡_}
@@ -62,7 +63,8 @@ characterRulesAtLines n (l ∷ ls) = record { line = n; rules = characterRules l
 
 -- ---- 5 to 17, reading forward
 
--- a line of a model's head, of a path that is open or closed, of a map's head, a pin, numbers of a matrix, a name of the list
+-- the rules of a line without a keyword: in a model's head, in a path that is open, in one that is closed, in a map's
+-- head, among pins, among the numbers of a matrix, in the model list
 abbrev pub headRules : HeadLine → Head → List Rule
 headRules l h =
     11 when not (l .right) ∷ 12 when head.isHeadOutOfOrder l h ∷ 13 when not (l .formed) ∷ 14 when not (l .bounded) ∷ []
@@ -142,7 +144,7 @@ beforeRules Unknown content s = []
 beforeRules Later content s = []
 beforeRules (Keyword k start) content s = if eqb k beginHeader then keywordRules k (argumentFrom content start) s else []
 
--- a line, by what is remembered of the lines above it
+-- the rules of a line, by the state after the lines above it
 unfoldable pub rulesOn : List ℕ → State → List Rule
 rulesOn content s =
     if isBlankLine content then [] else
@@ -153,7 +155,7 @@ rulesOn content s =
 abbrev pub endOfTextRules : State → List Rule
 endOfTextRules s = 5 when eqb (s .place) before ∷ 10 when not (eqb (s .place) done) ∷ []
 
--- forward as long as no line breaks a rule; line 0 last
+-- line by line, up to the first line that breaks a rule; the end of the text comes last, as line 0
 unfoldable pub forwardRulesAtLines : ℕ → List Raw → State → List RulesAtLine
 forwardRulesAtLines n [] s = record { line = 0; rules = endOfTextRules s } ∷ []
 forwardRulesAtLines n (l ∷ ls) s =
@@ -162,7 +164,7 @@ forwardRulesAtLines n (l ∷ ls) s =
     then forwardRulesAtLines (n + 1) ls (lineResult (contentOf commentByte (l .bytes)) s .state)
     else [])
 
--- ---- 18, for a table of so many words
+-- ---- 18, for a table of `size` words
 
 abbrev pub roomRules : List ℕ → ℕ → List Rule
 roomRules t size = 18 when ltb size (length (tableOf t)) ∷ []
@@ -180,11 +182,11 @@ group t size g =
     if eqb g 4 then record { line = 0; rules = roomRules t size } ∷ [] else
     if eqb g 5 then allRulesAtLines (documentOf t) else []
 
--- what stands past the last rule of a list: one that is never broken
+-- the default for an index past the last rule: a rule that is never broken
 abbrev neverBroken : Rule
 neverBroken = 0 when false
 
--- one of these looks finds a rule of this number broken on this line
+-- among these lines with their rules, a rule of this number is broken on this line
 pub record BrokenIn (looks : List RulesAtLine) (rule line : ℕ) : Type 0 where
   pub look : RulesAtLine
   pub among : Among look looks
@@ -200,12 +202,13 @@ Broken t size g rule line = BrokenIn (group t size g) rule line
 
 -- ---- the stated order
 
--- "15 FORK .. goes before 9, 11 and 12": where a number of group g stands among those of one line
+-- "15 FORK .. goes before 9, 11 and 12": the rank of a rule among those of one line. In the forward group 15 comes
+-- between 8 and 9.
 unfoldable pub rank : ℕ → ℕ → ℕ
 rank g rule = if both (eqb g forward) (eqb rule 15) then 17 else 2 * rule
 
--- what is given is broken; no group before it has anything broken; "In each group the earliest line counts, line 0 last; on one line the
--- lowest number"
+-- the rule is broken on the line; no rule of an earlier group is broken; "In each group the earliest line counts, line
+-- 0 last; on one line the lowest number"
 pub record First (t : List ℕ) (size g rule line : ℕ) : Type 0 where
   pub found : Broken t size g rule line
   pub earlier-groups : (h other place : ℕ) → Broken t size h other place → g ≤ h

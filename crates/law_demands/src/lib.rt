@@ -1,1 +1,1 @@
-// The demands on the intake, as laws: no code stands here. specs/ states them, proofs/ proves them.
+// The demands on the intake, as laws; there is no code here. specs/ states them, proofs/ proves them.

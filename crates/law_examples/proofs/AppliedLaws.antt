@@ -1,4 +1,4 @@
--- The demands applied: the paper's example keeps the third demand, and two alike texts give the same answers.
+-- The demands applied: the third demand holds for the paper's example, and two alike texts give the same answers.
 -- Assumes nothing.
 use mathlib.Core.Path.{_≡_, refl, sym, _∙_, ap}
 use mathlib.Core.List.{List}
@@ -11,7 +11,7 @@ use Rattle.law_third.specs.Third.{AcceptedTable, SameAnswers, Third}
 use Rattle.law_third.proofs.ThirdLaws.{third}
 use Rattle.law_examples.proofs.ExampleLaws.{example, first, second, example-accepted, first-accepted, second-accepted, first-second}
 
--- a lent table of 8,192 zeros, and what a text that is accepted leaves in it
+-- a lent table of 8,192 zeros, and what an accepted text leaves in it
 abbrev lent : List ℕ
 lent = replicate 8_192 0
 

@@ -1,1 +1,1 @@
-// Texts for which the demands are shown not to be empty, by computation: no code stands here.
+// Texts that show, by computation, that the demands are not empty. There is no code here.

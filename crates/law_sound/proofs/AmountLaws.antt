@@ -1,5 +1,5 @@
--- The words of every step of a text that reads to its end: the amount of a Section is a Mult of 1 to 65,535 or a Len above zero, other
--- steps have none, and only an end has a side.
+-- The words of every step of a text that breaks no rule of the reading: the amount of a Section is a Mult of 1 to
+-- 65,535 or a Len above zero, other steps have none, and only an end has a side.
 -- Assumes nothing.
 use mathlib.Core.Path.{_≡_, refl, sym, _∙_, ap}
 use mathlib.Core.Bool.{true, false, not, true≢false}
@@ -46,7 +46,7 @@ pub record Amount (content : List ℕ) : Type 0 where
   pub mult : isMult content ≡ true → within 1 65_535 (amountOf content) ≡ true
   pub long : isMult content ≡ false → isLengthWord (amountOf content) ≡ true
 
--- a number above zero is written by a value word above zero
+-- the value word of a number above zero is a value word above zero
 length-word : (w : List ℕ) (x : Number) → numberOf w ≡ x → isFormed x ≡ true → path.isLength x ≡ true → isLengthWord (wordIn x) ≡ true
 unfolding isLengthWord
 length-word w (number.Value v) e f b = both-true _ _ (number-word w v e) b

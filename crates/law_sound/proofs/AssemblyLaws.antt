@@ -1,4 +1,4 @@
--- A table that holds a text which breaks no rule is sound, where the words of its models, maps and steps are within their bounds.
+-- The table of a text that breaks no rule is sound, if the words of its models, maps and steps are within their bounds.
 -- Assumes nothing.
 use mathlib.Core.Path.{_≡_, _∙_, ap}
 use mathlib.Core.Bool.{true}
@@ -41,7 +41,7 @@ models-asked t Each.none Each.none Each.none = Each.none
 models-asked t (Each.more n ns) (Each.more h hs) (Each.more k ks) =
     Each.more (record { name = n .name; type = h; deep = k }) (models-asked t ns hs ks)
 
--- the records of the document, over a text with these names
+-- the records of a document whose names lie in the text
 records-sound :
     (t : List ℕ) (d : Document) → AllNamed t d → Bounded d → Each (λ (m : Model). holds.depthOfSteps 0 (m .steps) ≡ true) (d .models) →
     Each RightSection (d .sections) → crossRule d .rule ≡ 0 → areSound (length t) (flatten d) ≡ true

@@ -1,5 +1,5 @@
--- What the rules of the lines leave of a model's type, of a pin map and of a step: each word within the bounds that a sound table asks; and of
--- a map, beyond that, how many pins it has.
+-- What the rules of lines guarantee of a model's type, of a pin map and of a step: each word is within the bounds of a
+-- sound table. Of a map they also guarantee how many pins it has.
 -- Assumes nothing.
 use mathlib.Core.Path.{_≡_}
 use mathlib.Core.Bool.{true, false}

@@ -1,4 +1,4 @@
--- What the rules 19 to 27 leave of the steps of a document that breaks none of them.
+-- What the rules 19 to 27 guarantee of the steps of a document that breaks none of them.
 -- Assumes nothing.
 use mathlib.Core.Path.{_≡_, sym, _∙_}
 use mathlib.Core.Bool.{true, false}
@@ -50,7 +50,7 @@ module _ {A : Type 0} {P : A → Type 0} where
 -- ---- every step
 
 module _ (d : Document) where
-  -- a step breaks no rule
+  -- no step of the model breaks a rule
   abbrev Kept : Model → Type 0
   Kept m = Each (λ (s : Step). stepRule d m s ≡ 0) (m .steps)
 
@@ -71,7 +71,7 @@ module _ (d : Document) where
 -- ---- one step
 
 module _ (d : Document) (m : Model) (s : Step) (kept : stepRule d m s ≡ 0) where
-  -- 21: the map of an end is there
+  -- 21: the map of an end exists
   pub end-found : s .kind ≡ endKind → mapIndex d s < length (d .maps)
   unfolding stepRule hasMap
   end-found k =
@@ -88,11 +88,11 @@ module _ (d : Document) (m : Model) (s : Step) (kept : stepRule d m s ≡ 0) whe
     has-section : hasSection d s ≡ true
     has-section = not-false _ (section-step-judged d m s .kept step-kept 0)
 
-    -- 23: its section is there
+    -- 23: its section exists
     pub section-found : sectionIndex d s < length (d .sections)
     unfolding hasSection
     section-found = ltb-true _ _ has-section
 
-    -- 24: and is of the method that the step asks
+    -- 24: and its method fits the step
     pub method-right : isWrongMethod d s ≡ false
     method-right = sym (both-rest _ _ has-section) ∙ section-step-judged d m s .kept step-kept 1

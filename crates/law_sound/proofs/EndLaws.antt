@@ -1,4 +1,4 @@
--- Where the words of a filled table end: behind the layout, and only zeros follow.
+-- The words that a filled table uses end with the layout, and only zeros follow.
 -- Assumes nothing.
 use mathlib.Core.Path.{_≡_, refl, sym, _∙_, ap}
 use mathlib.Core.Bool.{true, false, true≢false}
@@ -23,7 +23,7 @@ use Rattle.ask_sound.specs.Sound.{every, areZeros}
 
 -- ---- the end of a layout
 
--- what stands behind a part's records
+-- what follows the records of a part
 part-behind :
     (w at : ℕ) (records : List (List ℕ)) (back t : List ℕ) → AllLong w records → drop at t ≡ (length records ∷ joined records) ++ back →
     drop (at + 1 + w * length records) t ≡ back

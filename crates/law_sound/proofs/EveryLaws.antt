@@ -1,4 +1,4 @@
--- A test passed by each of a list, and what stands in a list between two others.
+-- A test that every element of a list passes, and the middle one of three joined lists.
 -- Assumes nothing.
 use mathlib.Core.Path.{_≡_, refl, _∙_, ap}
 use mathlib.Core.Bool.{Bool, true}
@@ -29,7 +29,7 @@ module _ {A : Type 0} (test : A → Bool) where
   each-every none = every-none
   each-every (more {x = x} {xs = xs} h hs) = every-more x xs h (each-every hs)
 
--- those of a list that are mapped
+-- the elements of a mapped list
 pub every-map :
     {A B : Type 0} (test : B → Bool) (f : A → B) {xs : List A} → Each (λ (x : A). test (f x) ≡ true) xs → every test (map f xs) ≡ true
 every-map test f none = every-none test

@@ -1,5 +1,5 @@
--- The same over what the intake promises: where it answers that a text is accepted, the lent table is sound and the words used are at
--- least seven.
+-- The same by the contract of the intake: if it accepts a text, the lent table is sound and at least seven words are
+-- used.
 -- Assumes nothing.
 use mathlib.Core.Path.{_≡_, sym, _∙_, ap}
 use mathlib.Core.Bool.{true}
@@ -18,7 +18,7 @@ use Rattle.law_demands.proofs.AcceptedLaws.{Taken, accepted-taken}
 use Rattle.law_demands.proofs.DemandLaws.{demanded}
 use Rattle.law_sound.proofs.SoundnessLaws.{accepted-sound, seven-words}
 
--- a text that every stage has passed, and a table of so many words that holds it
+-- a text that has passed every stage, and its table of `size` words
 module _ (t table : List ℕ) (size : ℕ) (taken : Taken t size) (holds : table ≡ tableOf t ++ replicate (size - length (tableOf t)) 0) where
   table-size : length table ≡ size
   table-size =
@@ -40,7 +40,7 @@ module _ (t before : List ℕ) (answer : Answer) (after : List ℕ) (conforms : 
       accepted-taken t (length before)
       (ap (λ (o : Outcome). o .accepted) (sym (conforms .answers) ∙ ap answerWords accepted))
 
-  -- an accepted text's table may be asked
+  -- the table of an accepted text is sound, so questions about it have answers
   pub intake-sound : isSound t after ≡ true
   intake-sound =
       taken-sound t after (length before) answer-taken (demanded t before answer after conforms .accepted-holds words accepted)

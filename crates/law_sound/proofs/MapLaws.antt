@@ -1,5 +1,5 @@
--- Every pin map of a text that reads to its end has a grid within its bounds, at least one pin and at most 256, and an ordered one at most rows
--- times columns: the maps are followed line by line as the forward reading goes.
+-- Every pin map of a text that breaks no rule of the reading has a grid within its bounds and 1 to 256 pins, an ordered
+-- one at most rows times columns. The proof follows the maps line by line, as the reading goes.
 -- Assumes nothing.
 use mathlib.Core.Path.{_≡_, refl, sym, _∙_, ap, subst}
 use mathlib.Core.Bool.{true, false, true≢false}
@@ -62,7 +62,7 @@ module _ (l : Line) (ls : List Line) where
   unfolding pinAt
   pin-skip e = ap length (gather-more pinAt l ls ∙ ap (λ (ps : List Named). ps ++ gather pinAt ls) (if-false _ _ e))
 
--- where a line stands
+-- the place of a line
 module _ (l : Line) where
   stands-there : (p : ℕ) → l .place ≡ p → keyOf l ≡ plain → standsIn p l ≡ true
   unfolding standsIn
@@ -139,7 +139,7 @@ module _ (k : ℕ) (argument : List ℕ) (s : State) (kept : keywordRule k argum
 
 -- ---- below Pin_list
 
--- what is left of a map that has been read as far as m
+-- the rest of a map that has been read as far as m
 record Pins (m : pin_map.Map) (ls : List Line) : Type 0 where
   grid : (g : pin_map.Map) → gridIn g (upTo inMap ls) ≡ g
   few : m .pins + length (gather pinAt (upTo inMap ls)) ≤ 256
@@ -201,7 +201,7 @@ pins-rest (Goes.more {s = s} {s' = s'} {l = l} {ls = ls} q blank mv g) d p h =
 
 -- ---- above Pin_list
 
--- what is left of a map that has been read as far as m
+-- the rest of a map that has been read as far as m
 record Left (m : pin_map.Map) (ls : List Line) : Type 0 where
   grid : Grid (gridIn m (upTo inMap ls))
   few : length (gather pinAt (upTo inMap ls)) ≤ 256

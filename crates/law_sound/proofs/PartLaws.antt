@@ -1,4 +1,5 @@
--- The records of the parts but steps are sound: names in the text, ranges and indexes inside, words within their bounds.
+-- The records of all parts but the steps are sound: names in the text, ranges and indexes inside, words within their
+-- bounds.
 -- Assumes nothing.
 use mathlib.Core.Path.{_≡_, refl, sym, _∙_, ap}
 use mathlib.Core.Bool.{Bool, true, false}
@@ -79,7 +80,7 @@ module _ (maps : List Map) (sections : List Section) where
       map-append (λ (s : StepRecord). s .kind) (map (stepRecord maps sections) (m .steps)) (stepRecords maps sections ms)
       ∙ ap (λ (ns : List ℕ). ns ++ map (λ (s : StepRecord). s .kind) (stepRecords maps sections ms)) (kinds-same (m .steps))
 
--- what is asked of a model besides where its steps stand
+-- what a sound model needs, besides the range of its steps
 pub record SoundModel (t : List ℕ) (m : Model) : Type 0 where
   pub name : IsName t (m .name)
   pub type : m .type < 3
@@ -234,7 +235,7 @@ module _ (t : List ℕ) where
 
 -- ---- matrices and values
 
--- a matrix of whatever conductors
+-- a matrix of any number of conductors
 pub record SoundMatrix (m : Matrix) : Type 0 where
   pub conductors : ℕ
   pub right : RightMatrix conductors m

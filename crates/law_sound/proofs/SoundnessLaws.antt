@@ -1,5 +1,5 @@
--- The table of every text that breaks no rule is sound, so no question over it is refused as unsound; and it uses at least seven words,
--- the seven counts.
+-- The table of every text that breaks no rule is sound, so no question about it is refused with 30. It uses at least
+-- seven words, the seven counts.
 -- Assumes nothing.
 use mathlib.Core.Path.{_≡_, refl}
 use mathlib.Core.Bool.{true, not}
@@ -31,17 +31,17 @@ use Rattle.law_sound.proofs.TypeLaws.{text-types}
 use Rattle.law_sound.proofs.AmountLaws.{text-steps}
 use Rattle.law_sound.proofs.MapLaws.{text-maps}
 
--- what the rules of the lines leave of a text that reads to its end
+-- the bounds that a text keeps if it breaks no rule of the reading
 pub read-bounded : (t : List ℕ) (c : Counts) → readingOf t ≡ Read c → Bounded (documentOf t)
 read-bounded t c read = record { types = text-types t; steps = text-steps t c read; maps = text-maps t c read }
 
--- the bytes are right, the text reads to its end, no rule of 19 to 27 is broken: the table that holds it is sound
+-- if a text breaks none of the rules 1 to 17 and 19 to 27, the table that holds it is sound
 pub accepted-sound :
     (t table : List ℕ) → byteRules t ≡ Fine → HoldsText t table → crossRule (documentOf t) .rule ≡ 0 → isSound t table ≡ true
 accepted-sound t table fine filled kept =
     bounded-sound t table fine filled (read-bounded t (filled .counts) (filled .reads)) kept
 
--- 30 comes before all else that a question may break, and is never broken over it
+-- 30 is checked before all other rules of a question; for such a table it is never broken
 pub accepted-asked :
     (t table : List ℕ) → byteRules t ≡ Fine → HoldsText t table → crossRule (documentOf t) .rule ≡ 0 →
     (rules : List Rule) → firstBroken (30 when not (isSound t table) ∷ rules) ≡ firstBroken rules

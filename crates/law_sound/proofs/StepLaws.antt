@@ -27,7 +27,7 @@ use Rattle.law_sound.proofs.Bounds.{RightStep}
 use Rattle.law_sound.proofs.PartLaws.{name-is}
 use Rattle.law_sound.proofs.CrossLaws.{end-found, section-found, method-right}
 
--- ---- what the steps point to
+-- ---- the targets of steps
 
 pub maps-long : (first : ℕ) (ms : List Map) → length (mapRecords first ms) ≡ length ms
 unfolding mapRecords

@@ -1,4 +1,4 @@
--- The type of every model is one of the three, of every text: no line of a head names another.
+-- In every text the type of every model is one of the three: no line of a head gives another.
 -- Assumes nothing.
 use mathlib.Core.Path.{_≡_}
 use mathlib.Core.Bool.{true, false}
@@ -23,7 +23,7 @@ kind-most w =
     by-test (λ (n : ℕ). n ≤ 3) _ _ _ (λ e. omega arith)
     (λ e. by-test (λ (n : ℕ). n ≤ 3) _ _ _ (λ f. omega arith) (λ f. by-test (λ (n : ℕ). n ≤ 3) _ _ _ (λ g. omega arith) (λ g. omega arith)))
 
--- one above the table's count
+-- in a head line the types count from 1, in the table from 0
 abbrev Few : HeadLine → Type 0
 Few l = l .kind ≤ 3
 

@@ -1,1 +1,1 @@
-// The table of every accepted text is sound, as laws: no code stands here.
+// Laws: the table of every accepted text is sound. There is no code here.

@@ -33,9 +33,9 @@ use Rattle.law_third.specs.Third.{AcceptedTable, WrittenBy, Entered}
 use Rattle.law_third.proofs.EntryRecordLaws.{givenAt, given-past, given-not, section-given, section-range}
 use Rattle.law_third.proofs.EntryOnceLaws.{Once, once-above, text-once}
 
--- ---- the question over a table that a text has left
+-- ---- the question about the table of an accepted text
 
--- what is answered over records that are sound
+-- the answer for the records of a sound table
 unfoldable pub answerOver : Records → ℕ → ℕ → ℕ → ℕ → EntryWords
 answerOver r section kind row column =
     if not (isInRange r section kind row column) then entryRefused 31 else
@@ -98,7 +98,7 @@ kind-few k =
     by-test (λ (n : ℕ). n < 4) _ _ _ (λ e. omega arith)
     (λ e. by-test (λ (n : ℕ). n < 4) _ _ _ (λ e. omega arith) (λ e. omega arith)))
 
--- row and column in their order
+-- the lesser and the greater of row and column
 module _ (row column n : ℕ) (low : 1 ≤ row) (high : row ≤ n) (left : 1 ≤ column) (right : column ≤ n) where
   pub least : 1 ≤ min row column
   least = le-min low left
@@ -180,7 +180,7 @@ module _
         exchanged = λ (kind row column : ℕ). exchange t table (length before) kind row column;
       }
 
--- every section of an accepted text
+-- for every section of an accepted text
 pub entries-shown :
     (t table : List ℕ) → AcceptedTable t table → (before behind : List Section) (x : Section) → documentOf t .sections ≡ before ++ (x ∷ behind) →
     Entered t table (length before) x

@@ -1,5 +1,5 @@
--- "each once": of the matrices of a section no two are of one kind where the text reads to its end, for a keyword that is repeated is
--- refused.
+-- "each once": no two matrices of a section are of one kind if the text breaks no rule of the reading, since a repeated
+-- keyword is refused.
 -- Assumes nothing.
 use Prim.Native.Nat.{ℕ, zero, suc, _<_}
 use mathlib.Core.Path.{_≡_, refl, sym, _∙_, ap, subst}
@@ -69,12 +69,12 @@ use Rattle.law_alike.specs.Alike.{formAt}
 
 -- ---- lists of matrices
 
--- none has the kind of one above it
+-- no matrix has the kind of one before it
 pub data Once : List Matrix → Type 0 where
   none : Once []
   more : {m : Matrix} {ms : List Matrix} → Each (λ (n : Matrix). n .kind ≡ m .kind → ⊥) ms → Once ms → Once (m ∷ ms)
 
--- the matrices above one have other kinds than it
+-- the matrices before one of a kind have other kinds
 pub once-above :
     (above below : List Matrix) (m : Matrix) (kind : ℕ) → m .kind ≡ kind → Once (above ++ (m ∷ below)) →
     Each (λ (a : Matrix). a .kind ≡ kind → ⊥) above
@@ -125,7 +125,7 @@ record Fresh (seen : List Bool) (ms : List Matrix) : Type 0 where
 fresh-none : (seen : List Bool) → Fresh seen []
 fresh-none seen = record { once = Once.none; unseen = Each.none }
 
--- less has been read
+-- the same if fewer keywords have been read
 fresh-less :
     (seen later : List Bool) (ms : List Matrix) → ((k : ℕ) → getD seen k false ≡ true → getD later k false ≡ true) → Fresh later ms →
     Fresh seen ms
@@ -172,7 +172,7 @@ module _ (seen : List Bool) (k : ℕ) (opens : opensMatrix k ≡ true) (long : l
 -- ---- one line
 
 module _ (k : ℕ) (argument : List ℕ) (s : State) where
-  -- one that keeps a matrix open is not marked
+  -- [Row] and [Bandwidth] are not recorded as read
   seen-kept : isRowOrBandwidth k ≡ true → keywordNext k argument s .seen ≡ s .seen
   unfolding keywordNext seenAfter
   seen-kept e = if-true _ _ e
@@ -200,7 +200,7 @@ module _ (k : ℕ) (argument : List ℕ) (s : State) where
       ∙ length-set (s .seen) resistanceMatrix false)
       (λ (f : eqb k beginIcmSection ≡ false). length-set (s .seen) k true)))
 
-  -- "repeated": one that opens a matrix has not been read
+  -- "repeated": a keyword that opens a matrix has not been read before
   not-repeated : keywordRule k argument s ≡ 0 → opensMatrix k ≡ true → getD (s .seen) k false ≡ false
   unfolding isMisplaced isRepeated isOnce isSeen
   not-repeated kept opens =
@@ -284,7 +284,7 @@ module _ (l : Line) (ls : List Line) where
           rw (matrices-pass i h)
           (fresh-less (s .seen) (set (s .seen) (keyOf l) true) (gather matrixAt (upTo inSection ls)) (still-seen (s .seen) (keyOf l)) f))
 
-      -- one that keeps a matrix open opens none
+      -- [Row] and [Bandwidth] open no matrix
       fresh-keeps :
           isRowOrBandwidth (keyOf l) ≡ true → Fresh (s .seen) (gather matrixAt (upTo inSection ls)) →
           Fresh (s .seen) (gather matrixAt (upTo inSection (l ∷ ls)))
@@ -363,7 +363,7 @@ start-long : length (startState .seen) ≡ 40
 unfolding startState noneSeen
 start-long = refl
 
--- every section of a text that reads to its end
+-- for every section of a text that breaks no rule of the reading
 pub text-once : (t : List ℕ) (c : Counts) → readingOf t ≡ Read c → Each (λ (x : Section). Once (x .matrices)) (documentOf t .sections)
 unfolding documentOf documentIn
 text-once t c h = goes-once (text-ends t c h .goes) start-long

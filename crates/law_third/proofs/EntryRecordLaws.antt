@@ -1,4 +1,4 @@
--- The entry that the matrices of a section give, and that the records of a document give the same one.
+-- The entry that the matrices of a section give; the records of the document give the same one.
 -- Assumes nothing.
 use Prim.Native.Nat.{ℕ, zero, suc, _+_, _-_, _≤_, _<_, min, max}
 use mathlib.Core.Path.{_≡_, refl, sym, _∙_, ap}
@@ -25,7 +25,7 @@ use Rattle.law_alike.specs.Way.Found.{foundAt}
 
 -- ---- what matrices give
 
--- of a kind, what the first matrix that has it gives; zero where none has
+-- what the first matrix of a kind gives; zero if there is none
 unfoldable pub givenAt : ℕ → ℕ → ℕ → List Matrix → ℕ
 givenAt kind i j [] = zeroWord
 givenAt kind i j (m ∷ ms) = if eqb (m .kind) kind then foundAt i j (m .values) else givenAt kind i j ms
@@ -44,14 +44,14 @@ module _ (kind i j : ℕ) where
     unfolding givenAt
     given-later h = if-false _ _ (ne-eqb _ _ h)
 
-  -- where the matrices above have other kinds
+  -- if the matrices before it have other kinds
   pub given-past :
       {above : List Matrix} (m : Matrix) (below : List Matrix) → Each (λ (a : Matrix). a .kind ≡ kind → ⊥) above → m .kind ≡ kind →
       givenAt kind i j (above ++ (m ∷ below)) ≡ foundAt i j (m .values)
   given-past m below Each.none e = given-here m below e
   given-past m below (Each.more {x = a} {xs = above} h hs) e = given-later a (above ++ (m ∷ below)) h ∙ given-past m below hs e
 
-  -- where all have
+  -- if all matrices have other kinds
   pub given-not : {ms : List Matrix} → Each (λ (a : Matrix). a .kind ≡ kind → ⊥) ms → givenAt kind i j ms ≡ zeroWord
   given-not Each.none = given-none
   given-not (Each.more {x = a} {xs = ms} h hs) = given-later a ms h ∙ given-not hs
@@ -63,7 +63,7 @@ word-found i j [] = refl
 word-found i j (v ∷ vs) =
     ap (λ (n : ℕ). if both (eqb (v .row) i) (eqb (v .column) j) then v .word else n) (word-found i j vs)
 
--- ---- records by their places
+-- ---- records by their index
 
 section-here :
     (first : ℕ) (before behind : List Section) (x : Section) →
@@ -123,7 +123,7 @@ module _ (d : Document) where
   unfolding flatten
   flat-values = refl
 
-  -- a matrix finds its own values
+  -- the record of a matrix leads to its own values
   own-values :
       (above below : List Matrix) (m : Matrix) → matricesOf (d .sections) ≡ above ++ (m ∷ below) →
       entry.matrixValues (flatten d) (getD (flatten d .matrices) (length above) noMatrix) ≡ m .values

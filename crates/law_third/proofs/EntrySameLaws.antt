@@ -1,5 +1,5 @@
--- The third demand, its entries: accepted texts that write the same document but for lines, offsets and the forms of matrices give the same
--- entries.
+-- The third demand, its entries: accepted texts whose documents are the same except for lines, offsets and the forms of
+-- matrices give the same entries.
 -- Assumes nothing.
 use Prim.Native.Nat.{ℕ, zero, suc, _+_, _≤_, _<_, min, max}
 use mathlib.Core.Path.{_≡_, refl, sym, _∙_, ap}
@@ -25,7 +25,7 @@ use Rattle.law_third.specs.Third.{AcceptedTable}
 use Rattle.law_third.proofs.EntryRecordLaws.{givenAt, given-here, given-later, flat-sections, sections-long, section-given, section-conductors}
 use Rattle.law_third.proofs.EntryLaws.{answerOver, taken-kept, answer-over, over-inside, over-outside, least, ordered, greatest}
 
--- ---- matrices and sections at one place
+-- ---- matrices and sections at the same index
 
 all-long : {A B : Type 0} {Rel : A → B → Type 0} {xs : List A} {ys : List B} → All2 Rel xs ys → length xs ≡ length ys
 all-long All2.none = refl
@@ -35,7 +35,7 @@ conductors-same : {ms ns : List Matrix} → All2 SameMatrix ms ns → conductors
 conductors-same All2.none = refl
 conductors-same (All2.more h hs) = h .conductors
 
--- the same number at every place of matrices of n conductors
+-- the same number at every row and column of matrices of n conductors
 module _ (kind i j n : ℕ) (low : 1 ≤ i) (le : i ≤ j) (high : j ≤ n) where
   given-first :
       (m m' : Matrix) (ms ns : List Matrix) → RightMatrix n m → SameMatrix m m' → givenAt kind i j ms ≡ givenAt kind i j ns →
@@ -107,7 +107,7 @@ pair-at (All2.more {x = x} {y = y} {xs = xs} {ys = ys} s ss) (suc n) h =
 
 -- ---- two documents
 
--- N by the records, also past the last section
+-- N by the records, also for an index past the last section
 conductors-at :
     (first second : ℕ) {xs ys : List Section} → All2 SameSection xs ys → (n : ℕ) →
     getD (sectionRecords first xs) n noSection .conductors ≡ getD (sectionRecords second ys) n noSection .conductors

@@ -1,4 +1,4 @@
--- The third demand holds of every text that intake accepts and the table that it leaves.
+-- The third demand holds for every text that the intake accepts and the table that it leaves.
 -- Assumes nothing.
 use mathlib.Core.List.{List}
 use Prim.Native.Nat.{ℕ}

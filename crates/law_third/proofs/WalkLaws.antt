@@ -49,7 +49,7 @@ use Rattle.law_third.proofs.WalkTakenLaws.{taken-kept, taken-sound, tak
 use Rattle.law_third.proofs.WalkRecordLaws.{its-model, its-place, its-step, its-kinds}
 use Rattle.law_third.proofs.WalkNameLaws.{all-nameless, name-shown, section-passed}
 
--- ---- one answer over a sound table
+-- ---- one answer about a sound table
 
 module _ (t table : List ℕ) (is-sound : isSound t table ≡ true) (p : Place) (inside : isPlace (recordsOf table) p ≡ true) where
   pub answer-on :
@@ -78,7 +78,7 @@ balanced d (k ∷ ks) h =
 
 -- ---- the walk of one model
 
--- what holds of each holds of the one that stands here
+-- what holds for every element of a list holds for this one
 each-of : {A : Type 0} {P : A → Type 0} (xs before behind : List A) (x : A) → xs ≡ before ++ (x ∷ behind) → Each P xs → P x
 each-of {P = P} xs before behind x e h = each-at before behind x (subst (Each P) e h)
 
@@ -118,7 +118,7 @@ module _ (t table : List ℕ) (taken : AcceptedTable t table) (before behind : L
   there : i < length (recordsOf table .models)
   there = rw (taken-records t table taken) (its-place d before behind m stands)
 
-  -- ---- where it comes
+  -- ---- the places that it reaches
 
   come-on : (k : ℕ) (p : Place) → k < length (m .steps) → Comes table i k p → Comes table i (suc k) (walk.walkAnswer t table p .next)
   unfolding nextOf
@@ -242,11 +242,11 @@ module _ (t table : List ℕ) (taken : AcceptedTable t table) (before behind : L
         ∙ ap (λ (x : StepRecord). stepped (shownWords x) (nextOf q (stepAtPlace (recordsOf table) q .kind))) (step-there (c .depth)) in
         rw goes (shown-by (nextOf q (stepAtPlace (recordsOf table) q .kind)))
 
-  -- the walk from the start of the model, as the demand has it
+  -- the walk from the start of the model, as the demand states it
   pub walk-shown : Walked t table (length before) m
   walk-shown = record { shows = its-shown; deep = its-deep; ends = its-end }
 
--- of every model of an accepted text
+-- for every model of an accepted text
 pub walks-shown :
     (t table : List ℕ) → AcceptedTable t table → (before behind : List Model) (m : Model) → documentOf t .models ≡ before ++ (m ∷ behind) →
     Walked t table (length before) m

@@ -1,4 +1,4 @@
--- The name that a step's record shows through its target is the name written on the step's line.
+-- The name that a step's record refers to by its target is the name written on the step's line.
 -- Assumes nothing.
 use mathlib.Core.Path.{_≡_, refl, sym, _∙_, ap}
 use mathlib.Core.Bool.{Bool, true, false}
@@ -38,7 +38,7 @@ module _ {A : Type 0} (test : A → Bool) (x : A) (xs : List A) where
   unfolding indexOf
   index-later e = if-false _ _ e
 
--- what is found passes the test, so it has this text
+-- the element that is found passes the test, so it has this text
 pub found-text :
     {A : Type 0} (test : A → Bool) (text : A → List ℕ) (name : List ℕ) → ((x : A) → test x ≡ true → text x ≡ name) → (xs : List A) →
     indexOf test xs < length xs → getD (map text xs) (indexOf test xs) [] ≡ name
@@ -101,7 +101,7 @@ step-nameless l after =
     (λ (c : eqb (sayingAt l) path.saysFork ≡ false).
     each-if (eqb (sayingAt l) path.saysEndfork) _ (λ (f : eqb (sayingAt l) path.saysEndfork ≡ true) n m. no-text))))
 
--- of every line
+-- holds for every line
 abbrev Some : Line → Type 0
 Some l = l ≡ l
 
@@ -121,7 +121,7 @@ unfolding documentOf documentIn
 all-nameless t =
     each-gather Some modelAt (λ (k : Line) (ks : List Line) (p : Some k) (ps : Each Some ks). model-nameless k ks) (each-some (significant t))
 
--- ---- where the first that passes a test stands
+-- ---- the index of the first element that passes a test
 
 pub record Split {A : Type 0} (test : A → Bool) (xs : List A) : Type 0 where
   pub before : List A

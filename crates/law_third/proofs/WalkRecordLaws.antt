@@ -1,4 +1,4 @@
--- Where the records of a model and of its steps stand among those of a document.
+-- Where the records of a model and of its steps are among those of a document.
 -- Assumes nothing.
 use mathlib.Core.Path.{_≡_, refl, sym, _∙_, ap}
 use mathlib.Core.List.{List, [], _∷_, _++_, map, map-append, append-assoc}
@@ -42,7 +42,7 @@ module _ (maps : List Map) (sections : List Section) where
       ap length (steps-more m ms) ∙ length-append (map (stepRecord maps sections) (m .steps)) (stepRecords maps sections ms)
       ∙ ap (λ (n : ℕ). n + length (stepRecords maps sections ms)) (length-map (m .steps) (stepRecord maps sections))
 
-  -- its first step is the one behind those of the models before it
+  -- its first step comes after the steps of the models before it
   model-at :
       (first : ℕ) (before behind : List Model) (m : Model) →
       getD (modelRecords first (before ++ (m ∷ behind))) (length before) noModel ≡ modelRecord (first + length (stepRecords maps sections before)) m

@@ -1,4 +1,5 @@
--- Two accepted texts whose documents are the same but for lines, offsets and forms: a walk from any place answers the same.
+-- Two accepted texts whose documents are the same except for lines, offsets and forms: a walk from any place gets the
+-- same answer.
 -- Assumes nothing.
 use mathlib.Core.Path.{_≡_, refl, sym, _∙_, ap}
 use mathlib.Core.Bool.{Bool, true, false, not, true≢false}
@@ -87,7 +88,7 @@ module _ {A B : Type 0} {Rel : A → B → Type 0} where
   all2-map f g e All2.none = refl
   all2-map f g e (All2.more {x} {y} h hs) = λ j. e x y h j ∷ all2-map f g e hs j
 
-  -- the first that passes stands at the same place
+  -- the first element that passes has the same index
   all2-index : (f : A → Bool) (g : B → Bool) → ((x : A) (y : B) → Rel x y → f x ≡ g y) → {xs : List A} {ys : List B} → All2 Rel xs ys → indexOf f xs ≡ indexOf g ys
   unfolding indexOf
   all2-index f g e All2.none = refl
@@ -103,7 +104,7 @@ none-found test (more {x = x} {xs = xs} e es) h =
     let l : indexOf test xs < length xs = omega arith in
     none-found test es l
 
--- no later one on a line below has the name
+-- x is not a map on a later line with the name of m
 abbrev Unlike : Map → Map → Type 0
 Unlike m x = both (ltb (m .line) (x .line)) (sameWord (m .name) (x .name)) ≡ false
 
@@ -128,7 +129,7 @@ abbrev isNamed : Step → Map → Bool
 isNamed s m = same (s .name .text) (m .name .text)
 
 module _ (s : Step) where
-  -- a map of the name above the end, and the one below it that the end is on: twice
+  -- if a map above the end has its name, no map below it has: 19 forbids it
   above-below : (m x : Map) → isNamed s m ≡ true → isMapOf s m ≡ false → Unlike m x → isMapOf s x ≡ false
   unfolding isMapOf sameWord
   above-below m x n f u =
@@ -166,7 +167,7 @@ module _ (s : Step) where
       (λ (g : isNamed s m ≡ true). absurd (none-found (isMapOf s) (each-by (λ (x : Map) (v : Unlike m x). above-below m x g e v) u) l))
       (λ (g : isNamed s m ≡ false). n ∙ ap suc (first-named f l) ∙ sym (index-later (isNamed s) m ms g)))
 
--- ---- 19 is kept by maps
+-- ---- the maps do not break 19
 
 module _ {A : Type 0} {P : A → Type 0} where
   each-front : (xs ys : List A) → Each P (xs ++ ys) → Each P xs
@@ -193,7 +194,7 @@ module _ (d : Document) where
   maps-fresh : crossRule d .rule ≡ 0 → Fresh (d .maps)
   maps-fresh e = fresh (d .maps) (each-by (λ (m : Map) (h : mapNameRule d m ≡ 0). map-judged d m .kept h 0) (all-maps-kept e))
 
--- ---- records that are the same but for lines and offsets
+-- ---- records that are the same except for lines and offsets
 
 record SameModelRecord (a b : ModelRecord) : Type 0 where
   first : a .first ≡ b .first
@@ -281,7 +282,7 @@ module _ (t u : List ℕ) (kept : crossRule (documentOf t) .rule ≡ 0) (also : 
   unfolding flatten
   models-alike = same-models 0 0 refl (alike .models)
 
-  -- ---- names through targets
+  -- ---- names by targets
 
   map-names : (i : ℕ) → nameAt t (getD (flatten d .maps) i noMap .start) (getD (flatten d .maps) i noMap .size) ≡ nameAt u (getD (flatten e .maps) i noMap .start) (getD (flatten e .maps) i noMap .size)
   unfolding flatten
@@ -345,7 +346,7 @@ module _ {t table u other : List ℕ} where
       (λ (f : b ≡ true). rw (if-true v v' f, if-true w w' (sym e ∙ f)) h)
       (λ (f : b ≡ false). rw (if-false v v' f, if-false w w' (sym e ∙ f)) k)
 
--- 30 is not met
+-- 30 is never the answer
 asked : (t table : List ℕ) → AcceptedTable t table → (p : Place) → walk.walkAnswer t table p ≡ walkFrom (flatten (documentOf t)) p
 unfolding walk.walkAnswer
 asked t table taken p = if-false _ _ (not-not-via (taken-sound t table taken)) ∙ ap (λ (r : Records). walkFrom r p) (taken-records t table taken)
@@ -427,7 +428,7 @@ module _ (t table u other : List ℕ) (taken : AcceptedTable t table) (also : Ac
     pub walk-same : SameAnswer t table u other (walk.walkAnswer t table p) (walk.walkAnswer u other p)
     walk-same = rw (asked t table taken p, asked u other also p) from-same
 
--- from every place, also from one that is not in range
+-- from every place, in range or not
 pub walks-same :
     (t table u other : List ℕ) → AcceptedTable t table → AcceptedTable u other → SameDocument (documentOf t) (documentOf u) → (p : Place) →
     SameAnswer t table u other (walk.walkAnswer t table p) (walk.walkAnswer u other p)

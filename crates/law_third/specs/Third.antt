@@ -1,7 +1,8 @@
--- The third demand. "Over an accepted file, a walk from the start of any model is never refused, shows each path line in turn as written, closes
--- every fork and is done after exactly as many steps as the path has; at every section passed all four matrices answer at every row and
--- column, alike when exchanged, with the number written or zero. Another accepted file that differs only in matrix forms giving the same
--- numbers, comments, blank lines or blanks between words gives the same answers but for lines and offsets."
+-- The third demand. "Over an accepted file, a walk from the start of any model is never refused, shows each path line
+-- in turn as written, closes every fork and is done after exactly as many steps as the path has; at every section
+-- passed all four matrices answer at every row and column, alike when exchanged, with the number written or zero.
+-- Another accepted file that differs only in matrix forms giving the same numbers, comments, blank lines or blanks
+-- between words gives the same answers but for lines and offsets."
 -- Assumes nothing.
 use Prim.Native.Nat.{ℕ, zero, suc, _+_, _*_, _≤_, _<_, min, max}
 use mathlib.Core.Path.{_≡_}
@@ -27,7 +28,7 @@ use Rattle.ask_entry.specs.Entry.{EntryWords, foundWith}
 use Rattle.law_alike.specs.Written.{writtenAt}
 use Rattle.law_alike.specs.Alike.{formAt, Alike}
 
--- a text that intake accepts, and the table that it leaves
+-- a text that the intake accepts, and the table that the intake leaves
 pub record AcceptedTable (t table : List ℕ) : Type 0 where
   pub before : List ℕ
   pub words : ℕ
@@ -35,7 +36,7 @@ pub record AcceptedTable (t table : List ℕ) : Type 0 where
 
 -- ---- (a) the walk
 
--- where a walk from the start of a model has come after so many steps
+-- the place of a walk that began at the start of a model; the last argument is the number of steps made
 unfoldable pub walkedTo : List ℕ → List ℕ → ℕ → ℕ → Place
 walkedTo t table model zero = record { model = model; step = 0; depth = 0 }
 walkedTo t table model (suc k) = walk.walkAnswer t table (walkedTo t table model k) .next
@@ -43,17 +44,17 @@ walkedTo t table model (suc k) = walk.walkAnswer t table (walkedTo t table model
 abbrev pub noMap : MapRecord
 noMap = record { start = 0; size = 0; order = 0; rows = 0; columns = 0; first = 0; pins = 0 }
 
--- the bytes of the name that a step shows through its target: that of a map or of a section; forks have none
+-- the bytes of the name that a step refers to by its target, a map or a section; forks have no name
 unfoldable pub nameThrough : List ℕ → Records → StepWords → List ℕ
 nameThrough t r w =
     if eqb (w .kind) endKind then nameAt t (getD (r .maps) (w .target) noMap .start) (getD (r .maps) (w .target) noMap .size) else
     if eqb (w .kind) sectionKind then nameAt t (getD (r .sections) (w .target) entry.noSection .start) (getD (r .sections) (w .target) entry.noSection .size) else []
 
--- the bytes of its side
+-- the bytes of the step's side
 unfoldable pub sideOf : List ℕ → StepWords → List ℕ
 sideOf t w = nameAt t (w .side) (w .«side_size»)
 
--- a step over a section passes the section of the document that has its name: the target is where that section stands
+-- the target of a Section step is the index of a section of the document that has the step's name
 pub record PassesSection (t : List ℕ) (s : Step) (target : ℕ) : Type 0 where
   pub before : List Section
   pub behind : List Section
@@ -76,7 +77,8 @@ pub record Shown (t table : List ℕ) (s : Step) (w : WalkWords) : Type 0 where
 abbrev pub stepKinds : List Step → List ℕ
 stepKinds steps = map (λ (s : Step). s .kind) steps
 
--- of the model m, which stands at i: each path line in turn; the depth is opens less closes; done after the last, every fork closed
+-- the walk of model m, which has the index i: it shows each path line in turn; the depth is opens less closes; after
+-- the last line it is done, and every fork is closed
 pub record Walked (t table : List ℕ) (i : ℕ) (m : Model) : Type 0 where
   pub shows :
       (above below : List Step) (s : Step) → m .steps ≡ above ++ (s ∷ below) →
@@ -97,8 +99,8 @@ pub record WrittenBy (t : List ℕ) (m : Matrix) : Type 0 where
   pub opens : opensMatrixAt line ≡ true
   pub same : m ≡ matrixOf line (formAt line) (upTo inMatrix after)
 
--- of the section x, which stands at i: all four kinds answer at every row and column, with the number that the matrix writes there, or zero; alike
--- when exchanged
+-- the entries of section x, which has the index i: all four kinds answer at every row and column, with the number that
+-- the matrix writes there, or zero; row and column may be exchanged
 pub record Entered (t table : List ℕ) (i : ℕ) (x : Section) : Type 0 where
   pub answers :
       (kind row column : ℕ) → kind < 4 → 1 ≤ row → row ≤ conductorsOf (x .matrices) → 1 ≤ column →
@@ -118,7 +120,7 @@ pub record Entered (t table : List ℕ) (i : ℕ) (x : Section) : Type 0 where
 
 -- ---- (c) alike texts
 
--- two answers of a walk that are the same but for lines and offsets
+-- two answers of a walk that are the same except for lines and offsets
 pub record SameAnswer (t table u other : List ℕ) (v w : WalkWords) : Type 0 where
   pub answered : v .answered ≡ w .answered
   pub rule : v .rule ≡ w .rule

@@ -1,4 +1,4 @@
--- Laws of "every byte passes" as a loop over the bytes has them: go on, stop, past the end.
+-- Laws of `all` for a loop over the bytes: go on, stop, past the end.
 -- Assumes nothing.
 use mathlib.Core.Path.{_≡_, refl, sym, _∙_}
 use mathlib.Core.Bool.{Bool, true, false, not}
@@ -20,7 +20,7 @@ all-nil : (p : ℕ → Bool) → all p [] ≡ true
 unfolding all
 all-nil p = refl
 
--- t is the answer of the test at i, whole that of the whole list
+-- t is the result of the test at i, `whole` that of the whole list
 module _ (p : ℕ → Bool) (s : List ℕ) (i : ℕ) (whole t : Bool) (inv : all p (drop i s) ≡ whole) (h : i < length s) (told : t ≡ p (getD s i 0)) where
   all-split : both (p (getD s i 0)) (all p (drop (i + 1) s)) ≡ whole
   all-split = rw (add-one, ← all-cons p (getD s i 0) (drop (suc i) s)) (rw (drop-cons s i 0 h) at inv)

@@ -1,4 +1,4 @@
--- What a reader above may conclude from a bracket's answer, and that each keyword's number is its own.
+-- What callers may conclude from a `Bracket`, and that no two keywords have the same number.
 -- Assumes nothing.
 use mathlib.Core.Path.{_≡_, refl, sym, _∙_, ap}
 use mathlib.Core.Bool.{Bool, true, false, not, true≢false}
@@ -24,12 +24,12 @@ unfolding nameIndex
 place-le a [] = zero-le
 place-le a (n ∷ ns) = by-test (λ (k : ℕ). k ≤ suc (length ns)) (sameName a n) _ _ (λ (e : sameName a n ≡ true). zero-le) (λ (e : sameName a n ≡ false). suc-le-suc (place-le a ns))
 
--- a number is a keyword's or that of none
+-- the number is that of a keyword, or `unknown`
 pub key-most : (name : List ℕ) → keywordOf name ≤ unknown
 unfolding keywordOf
 key-most name = place-le name names
 
--- in a good bracket the argument starts past both brackets and inside the content
+-- in a good bracket the argument starts after both brackets, and within the content or at its end
 module _ (content : List ℕ) (good : isGoodBracket content ≡ true) where
   good-closed : nameLength content + 1 < length content
   unfolding isGoodBracket isClosed
@@ -46,7 +46,7 @@ argument-past : (content : List ℕ) → 2 ≤ argumentAt content
 unfolding argumentAt
 argument-past content = omega arith
 
--- what is known of a keyword's answer
+-- what is known if the answer is a keyword
 pub record Known (content : List ℕ) (key argument : ℕ) : Type 0 where
   pub known : key < unknown
   pub now-read : isLater key ≡ false
@@ -74,12 +74,12 @@ isPlain Unknown = false
 isPlain Later = false
 isPlain (Keyword key argument) = false
 
--- two answers that a test tells apart are not equal
+-- two answers with different results of a test are not equal
 never : (test : Bracket → Bool) (r s : Bracket) (P : Type 0) → test s ≡ true → test r ≡ false → r ≡ s → P
 never test r s P yes-there not-here e = absurd (true≢false (sym yes-there ∙ sym (ap test e) ∙ not-here))
 
 module _ (key argument : ℕ) where
-  -- such an answer has no other origin
+  -- an answer that is no keyword is not this one
   other : (r : Bracket) (P : Type 0) → isKeyword r ≡ false → r ≡ Keyword key argument → P
   other r P = never isKeyword r (Keyword key argument) P refl
 
@@ -112,7 +112,7 @@ module _ (key argument : ℕ) where
           first-column = omega arith;
         }
 
-    -- all that the answer `Keyword` says
+    -- all that follows from the answer `Keyword`
     pub keyword-known : bracketOf content ≡ Keyword key argument → Known content key argument
     unfolding bracketOf opensLine
     keyword-known =
@@ -126,7 +126,7 @@ module _ (key argument : ℕ) where
         (λ (e : not (isGoodBracket content) ≡ true). other Bad _ refl)
         (λ (good : not (isGoodBracket content) ≡ false). answer-known opens column good)))
 
--- `Plain` exactly where the first byte that is not blank is no `[`
+-- `Plain` exactly when the first byte that is not blank is no `[`
 module _ (content : List ℕ) where
   pub plain-when : opensLine content ≡ false → bracketOf content ≡ Plain
   unfolding bracketOf opensLine
@@ -158,7 +158,7 @@ module _ (content : List ℕ) where
       (λ (e : not (isGoodBracket content) ≡ true). not-plain Bad refl)
       (λ (good : not (isGoodBracket content) ≡ false). named-not-plain (keywordOf (nameOf content)) (argumentAt content))))
 
--- each of the forty names has its place for a number: no two of them are the same
+-- the number of each of the forty names is its index: no two of them are the same
 pub each-name : map keywordOf names ≡ 0 ∷ 1 ∷ 2 ∷ 3 ∷ 4 ∷ 5 ∷ 6 ∷ 7 ∷ 8 ∷ 9 ∷ 10 ∷ 11 ∷ 12 ∷ 13 ∷ 14 ∷ 15 ∷ 16 ∷ 17 ∷ 18 ∷ 19 ∷ 20 ∷ 21 ∷ 22 ∷ 23 ∷ 24 ∷ 25 ∷ 26 ∷ 27 ∷ 28 ∷ 29 ∷ 30 ∷ 31 ∷ 32 ∷ 33 ∷ 34 ∷ 35 ∷ 36 ∷ 37 ∷ 38 ∷ 39 ∷ []
 unfolding keywordOf nameIndex sameName same folded if_then_else_ both small isCapital within
 each-name = refl

@@ -1,4 +1,4 @@
--- Laws of what a bracket says: those by which the reader meets its definition, and what a reader above may conclude from its answer.
+-- Laws of brackets, by which the code of the bracket reader meets its definition.
 -- Assumes nothing.
 use mathlib.Core.Path.{_≡_, sym, _∙_, ap}
 use mathlib.Core.Bool.{Bool, true, false, not}
@@ -34,7 +34,7 @@ pub named-unknown : (key argument : ℕ) → key ≡ 40 → Unknown ≡ namedAs 
 unfolding namedAs
 named-unknown key argument h = sym (if-true _ _ (eq-eqb key 40 h))
 
--- t says whether the keyword is one that is read later
+-- t says whether the keyword is a later one
 module _ (key argument : ℕ) (t : Bool) (h : key ≡ 40 → ⊥) (told : t ≡ isLater key) where
   pub named-later : t ≡ true → Later ≡ namedAs key argument
   unfolding namedAs
@@ -63,7 +63,7 @@ module _ (content : List ℕ) (end : ℕ) (t : Bool) (closed : t ≡ closesAt co
   pub closes-within : end ≤ length content
   closes-within = omega (arith, closes-before)
 
--- what the reader finds at the front: how many blanks, and the byte after them
+-- what the reader finds at the front: the count of blanks, and the byte after them
 module _ (content : List ℕ) (front first : ℕ) (told : front ≡ runEnd isBlank content 0) (there : first ≡ getD content front 0) where
   front-run : front ≡ run isBlank content
   front-run = told ∙ zero-add (run isBlank content)
@@ -90,7 +90,7 @@ module _ (content : List ℕ) (front first : ℕ) (told : front ≡ runEnd isBla
         let z : front ≡ 0 = omega arith in
         (sym z ∙ told, sym opens ∙ there ∙ ap (λ (i : ℕ). getD content i 0) z)
 
-    -- and where the first `]` after it stands
+    -- and the position of the first `]` after it
     module _ (column : front ≤ 0) (end : ℕ) (t : Bool) (ends : end ≡ runEnd (isBefore 93) content 1) (closed : t ≡ closesAt content end) where
       reads-column : bracketOf content ≡ (if not (isGoodBracket content) then Bad else namedAs (keywordOf (nameOf content)) (argumentAt content))
       unfolding bracketOf

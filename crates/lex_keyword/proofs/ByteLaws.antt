@@ -1,4 +1,4 @@
--- Laws of single bytes and numbers: what the tests of the code say of the definitions.
+-- Laws of single bytes: how the tests of the code decide the definitions.
 -- Assumes nothing.
 use mathlib.Core.Path.{_≡_, sym, _∙_}
 use mathlib.Core.Bool.{Bool, true, false}
@@ -10,7 +10,7 @@ use Rattle.base.proofs.IfLaws.{if-true, if-false, both-second, either-left, eit
 use Rattle.lex_keyword.specs.Names.{folded}
 use Rattle.lex_keyword.specs.Bracket.{isPlainByte}
 
--- t is the answer of the test for a capital letter
+-- t is the result of the test for a capital letter
 module _ (b : ℕ) (t : Bool) (told : t ≡ isCapital b) where
   pub capital-most : t ≡ true → b ≤ 90
   unfolding isCapital within
@@ -24,7 +24,7 @@ module _ (b : ℕ) (t : Bool) (told : t ≡ isCapital b) where
   unfolding folded small
   fold-other h e = sym (if-false _ _ (ne-eqb b 95 h) ∙ if-false _ _ (sym told ∙ e))
 
--- t is the answer of the test for a letter
+-- t is the result of the test for a letter
 module _ (b : ℕ) (t : Bool) (told : t ≡ isLetter b) where
   pub plain-letter : t ≡ true → true ≡ isPlainByte b
   unfolding isPlainByte

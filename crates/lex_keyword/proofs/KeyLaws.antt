@@ -1,5 +1,5 @@
--- Laws of the search for a keyword: names of another length are not the same, the names stand in the order of their lengths, and
--- so a name is found between the first of its own length and the first longer one, or not at all.
+-- Laws of the search for a keyword. Names of different lengths are not the same, and the names are sorted by length. So
+-- a name is found between the first name of its own length and the first longer one, or not at all.
 -- Assumes nothing.
 use mathlib.Core.Path.{_≡_, refl, sym, _∙_, ap}
 use mathlib.Core.Bool.{Bool, true, false}
@@ -81,7 +81,7 @@ shorter-le size (n ∷ ns) =
     (λ (e : ltb (length n) size ≡ true). rw (shorter-on size n ns e) (suc-le-suc (shorter-le size ns)))
     (λ (e : ltb (length n) size ≡ false). rw (shorter-stop size n ns e) zero-le)
 
--- the names before are shorter
+-- the names before that index are shorter
 shorter-all : (size : ℕ) (ns : List (List ℕ)) (k : ℕ) → k < shorter size ns → length (getD ns k []) < size
 shorter-all size [] k h = absurd (not-suc-le-zero (rw shorter-nil at h))
 shorter-all size (n ∷ ns) k h =
@@ -93,7 +93,7 @@ shorter-all size (n ∷ ns) k h =
     inside later zero g e = ltb-true (length n) size e
     inside later (suc j) g e = later j (le-of-suc-le-suc g)
 
--- those after are not
+-- the names from that index on are not
 shorter-none : (size least : ℕ) (ns : List (List ℕ)) (k : ℕ) → rising least ns ≡ true → shorter size ns ≤ k → k < length ns → size ≤ length (getD ns k [])
 shorter-none size least [] k up g h = absurd (not-suc-le-zero h)
 shorter-none size least (n ∷ ns) k up g h =
@@ -109,7 +109,7 @@ shorter-none size least (n ∷ ns) k up g h =
     outside e zero b = ltb-false (length n) size e
     outside e (suc j) b = le-trans (ltb-false (length n) size e) (rising-least (length n) ns j (rising-rest least n ns up) (le-of-suc-le-suc b))
 
--- a greater size has as many shorter names at least
+-- for a greater size at least as many names are shorter
 shorter-more : (size more : ℕ) (ns : List (List ℕ)) → size ≤ more → shorter size ns ≤ shorter more ns
 shorter-more size more [] h = rw shorter-nil zero-le
 shorter-more size more (n ∷ ns) h =
@@ -118,7 +118,7 @@ shorter-more size more (n ∷ ns) h =
     (λ (e : ltb (length n) size ≡ false). rw (shorter-stop size n ns e) zero-le)
 
 module _ (a : List ℕ) where
-  -- shorter names are passed over
+  -- shorter names may be skipped
   place-skips : (size : ℕ) (ns : List (List ℕ)) → size ≤ length a → shorter size ns + nameIndex a (drop (shorter size ns) ns) ≡ nameIndex a ns
   place-skips size [] h = rw (shorter-nil, zero-add)
   place-skips size (n ∷ ns) h =
@@ -131,7 +131,7 @@ module _ (a : List ℕ) where
           let k : length n < size = ltb-true (length n) size e in
           rw (shorter-on size n ns e, place-later a n ns (not-same a n (λ (z : length a ≡ length n). omega arith)), suc-add) (ap suc later)
 
-  -- among longer names there is none
+  -- the name is not among longer names
   place-none : (least : ℕ) (ns : List (List ℕ)) → rising least ns ≡ true → length a < least → nameIndex a ns ≡ length ns
   place-none least [] up h = place-nil a
   place-none least (n ∷ ns) up h =
@@ -163,7 +163,7 @@ pub too-long : (name : List ℕ) → 22 < length name → 40 ≡ keywordOf name
 unfolding keywordOf shorter if_then_else_ nameIndex
 too-long name h = place-skips name 23 names h
 
--- where the search has come to: what is left gives the whole
+-- the state of the search: the names from `key` on give the result
 pub record Searching (name : List ℕ) (key : ℕ) : Type 0 where
   pub from : firstOfSize (length name) ≤ key
   pub upTo : key ≤ firstOfSize (length name + 1)

@@ -1,5 +1,5 @@
--- Laws of the table of letters: how a name's bytes are compared with them one by one, and that a keyword's letters stand where
--- its start says.
+-- Laws of the table of letters: how a name is compared with it byte by byte, and that the letters of a keyword are
+-- where its start says.
 -- Assumes nothing.
 use mathlib.Core.Path.{_≡_, refl, sym, _∙_, ap}
 use mathlib.Core.Bool.{Bool, true, false}
@@ -26,7 +26,7 @@ begins-nil : (t : List ℕ) → begins [] t ≡ true
 unfolding begins
 begins-nil t = refl
 
--- the bytes of a table from start on, one after the other: what is left gives the whole
+-- the comparison from byte i of the name on; a loop may go on from there
 unfoldable pub standsFrom : List ℕ → List ℕ → ℕ → ℕ → Bool
 standsFrom table name start i = begins (map folded (drop i name)) (drop (start + i) table)
 
@@ -51,7 +51,7 @@ pub stands-past : (table name : List ℕ) (start i : ℕ) (whole : Bool) → sta
 unfolding standsFrom
 stands-past table name start i whole inv h = sym (begins-nil (drop (start + i) table)) ∙ rw (drop-of-length-le name h) at inv
 
--- the letters fall apart at every name
+-- the letters can be split before every name
 joined-parts : (key : ℕ) (ns : List (List ℕ)) → joinedNames ns ≡ joinedNames (take key ns) ++ joinedNames (drop key ns)
 unfolding joinedNames
 joined-parts zero ns = refl
@@ -62,7 +62,7 @@ joined-name : (key : ℕ) (ns : List (List ℕ)) → key < length ns → joinedN
 unfolding joinedNames
 joined-name key ns h = rw (drop-cons ns key [] h)
 
--- a list that starts with another one of the same length as the name starts with the name if the two are the same
+-- if a and n have the same length, a list that starts with n starts with a exactly when a and n are the same
 pub begins-same : (a n rest : List ℕ) → length a ≡ length n → begins a (n ++ rest) ≡ same a n
 unfolding begins same
 begins-same [] [] rest h = refl

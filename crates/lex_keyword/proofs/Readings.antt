@@ -1,5 +1,6 @@
--- The decided readings of document 01, "Lines and keywords" (K2, K4 to K10, K16), as far as one line's bracket decides them: each content
--- with what it says, and one proof over the whole list, which the checker computes. The comment is cut before, so no `|` stands here.
+-- The readings of document 01, "Lines and keywords" (K2, K4 to K10, K16), as far as the bracket of one line decides
+-- them: each content with its answer, and one proof for the whole list, which the checker computes. Comments are cut
+-- off before, so no content has a `|`.
 -- Assumes nothing.
 use mathlib.Core.Path.{_≡_, refl}
 use mathlib.Core.List.{List, [], _∷_, _++_, map}
@@ -36,7 +37,7 @@ readings =
     -- K4: a bracket outside column 1
     bytes " [x]" says Indented ∷
     (tab ∷ bytes "[x") says Indented ∷
-    -- K5: a bracket in column 1 is always a keyword's
+    -- K5: a bracket in column 1 always begins a keyword
     bytes "[1] paper" says Bad ∷
     bytes "[Paper]" says Unknown ∷
     -- K6: to the first `]`, then a blank or the end; the separators inside
@@ -51,10 +52,10 @@ readings =
     bytes "[End _Header]" says Bad ∷
     bytes "[]" says Bad ∷
     bytes "[" says Bad ∷
-    -- K7: the first byte a letter, later words as they like
+    -- K7: the first byte is a letter; later words may begin with a digit
     bytes "[a 1b]" says Unknown ∷
     bytes "[1b]" says Bad ∷
-    -- K8: the hyphen in S-parameter alone, and it is no underscore
+    -- K8: a hyphen only in S-parameter, and it does not equal an underscore
     bytes "[A-B]" says Bad ∷
     bytes "[S-parameter]" says Unknown ∷
     bytes "[ICM S-parameters]" says Bad ∷
@@ -64,7 +65,7 @@ readings =
     bytes "[Begin ICM Model Description]" says Unknown ∷
     bytes "[ICM Section]" says Unknown ∷
     bytes "[Begin ICM Model Family]" says Unknown ∷
-    -- K10: those that are read later
+    -- K10: later keywords
     bytes "[Comment Char] " says Later ∷
     bytes "[Nodal Path Description]" says Later ∷
     bytes "[ICM Node Map] x" says Later ∷
@@ -72,7 +73,7 @@ readings =
     bytes "[ICM Swath Pin Numbers]" says Later ∷
     bytes "[Frequency] 1" says Later ∷
     bytes "[ICM S-parameter] x" says Later ∷
-    -- K16: where the argument starts, the content's end where there is none
+    -- K16: where the argument starts; without an argument, the end of the content
     bytes "[End]" says Keyword theEnd 5 ∷
     bytes "[End]  " says Keyword theEnd 7 ∷
     bytes "[Row] 1" says Keyword row 6 ∷

@@ -1,4 +1,4 @@
--- Laws of the bracket of a row: what its five bytes say is known without a search.
+-- Laws of the bracket `[Row]`: its five bytes are recognized without a search.
 -- Assumes nothing.
 use mathlib.Core.Path.{_≡_, refl, sym, _∙_, ap}
 use mathlib.Core.Bool.{Bool, true, false}
@@ -26,12 +26,12 @@ unfolding
     if_then_else_ both either small isCapital isSmall isLetter isDigit within all same folded sameName nameIndex keywordOf isLater isSeparator isPlainByte push parted isHyphenWord isGoodWord areGoodWords isGoodName namedAs saysName
 row-says argument = refl
 
--- its first `]` is the fourth byte
+-- its first `]` comes after three bytes
 row-run : (rest : List ℕ) → run (isBefore 93) (82 ∷ 111 ∷ 119 ∷ 93 ∷ rest) ≡ 3
 unfolding run isBefore if_then_else_
 row-run rest = refl
 
--- fewer than five bytes are no row's
+-- fewer than five bytes are no `[Row]`
 pub row-short : (content : List ℕ) → length content ≤ 4 → false ≡ isRow content
 unfolding isRow closesAt
 row-short content h =

@@ -1,5 +1,5 @@
--- Laws of the words of a name: which word may hold a hyphen, when a word is good, and that a name falls apart into its first word
--- and the words of what follows.
+-- Laws of the words of a name: which word may contain a hyphen, when a word is good, and that the words of a name are
+-- its first word and the words of the rest.
 -- Assumes nothing.
 use mathlib.Core.Path.{_≡_, refl, sym, _∙_}
 use mathlib.Core.Bool.{Bool, true, false, not}
@@ -23,7 +23,7 @@ use Rattle.lex_keyword.specs.Way.Reading.{isWordByte}
 use Rattle.lex_keyword.proofs.LookupLaws.{begins-same}
 use Rattle.lex_keyword.proofs.KeyLaws.{not-same}
 
--- the word's letters as the code has them
+-- the hyphen word, compared as the code does it
 pub hyphen-stands : (letters word : List ℕ) (r : Bool) → letters ≡ map folded (bytes "S-parameter") → length word ≡ 11 → r ≡ standsAt letters word 0 → r ≡ isHyphenWord word
 unfolding standsAt isHyphenWord sameName
 hyphen-stands letters word r told long e =
@@ -38,7 +38,7 @@ pub good-none : (word : List ℕ) → length word ≡ 0 → false ≡ isGoodWord
 unfolding isGoodWord
 good-none word h = sym (both-not-left _ _ (le-ltb 0 (length word) (omega arith)))
 
--- t says whether the word is of letters and digits alone
+-- t says whether the word consists of letters and digits only
 module _ (word : List ℕ) (t : Bool) (some : length word ≡ 0 → ⊥) (told : t ≡ all isPlainByte word) where
   good-rest : isGoodWord word ≡ either (all isPlainByte word) (isHyphenWord word)
   unfolding isGoodWord
@@ -59,7 +59,7 @@ module _ (b : ℕ) (s : List ℕ) where
   unfolding isWordByte parted
   parted-byte e = if-false _ _ (not-true (isSeparator b) e)
 
--- the words of a name that has a separator: the bytes before it, and the words of those after it
+-- the words of a name with a separator: the bytes before it, and the words of the rest
 pub parted-first : (s : List ℕ) → run isWordByte s < length s → parted s ≡ take (run isWordByte s) s ∷ parted (drop (suc (run isWordByte s)) s)
 unfolding push
 parted-first [] h = absurd (not-suc-le-zero h)
@@ -68,7 +68,7 @@ parted-first (b ∷ s) h =
     (λ (e : isWordByte b ≡ true). rw (run-goes isWordByte b s e, parted-byte b s e, parted-first s (le-of-suc-le-suc (rw (run-goes isWordByte b s e) at h))))
     (λ (e : isWordByte b ≡ false). rw (run-stops isWordByte b s e, parted-separator b s e))
 
--- of one that has none: all its bytes
+-- the words of a name without a separator: all its bytes are one word
 pub parted-last : (s : List ℕ) → length s ≤ run isWordByte s → parted s ≡ s ∷ []
 unfolding push parted
 parted-last [] h = refl
@@ -77,7 +77,7 @@ parted-last (b ∷ s) h =
     (λ (e : isWordByte b ≡ true). rw (parted-byte b s e, parted-last s (le-of-suc-le-suc (rw (run-goes isWordByte b s e) at h))))
     (λ (e : isWordByte b ≡ false). absurd (not-suc-le-zero (rw (run-stops isWordByte b s e) at h)))
 
--- where the loop over the words has come to: what is left gives the whole
+-- the state of the loop over the words: the words from i on give the result
 pub record Parting (name : List ℕ) (i end : ℕ) : Type 0 where
   pub inside : i ≤ length name
   pub ends : end ≡ runEnd isWordByte name i
@@ -90,7 +90,7 @@ module _ (name : List ℕ) (i end : ℕ) (at : Parting name i end) where
   pub parting-end : end ≤ length name
   parting-end = omega (arith, at .ends, at .inside, run-le isWordByte (drop i name), length-drop i name)
 
-  -- t says whether the word that was cut is good
+  -- t says whether the word from i to `end` is good
   module _ (t : Bool) (told : t ≡ isGoodWord (take (end - i) (drop i name))) where
     parting-cut : end - i ≡ run isWordByte (drop i name)
     parting-cut = omega (arith, at .ends)

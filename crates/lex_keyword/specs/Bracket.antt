@@ -1,5 +1,5 @@
--- Document 01, "Lines and keywords": what the bracket at the front of a line says. A line is given by its content, the bytes before
--- its comment and terminator.
+-- Document 01, "Lines and keywords": what the bracket at the front of a line means. A line is given by its content, the
+-- bytes before its comment and terminator.
 -- Assumes nothing.
 use Prim.Native.Nat.{ℕ, suc, _+_}
 use Prim.Native.Char.{code}
@@ -17,7 +17,7 @@ use Rattle.lex_keyword.specs.declared.Bracket.the-variants.{Plain, Inden
 unfoldable pub isOpen : ℕ → Bool
 isOpen b = eqb b (code "[")
 
--- not the closing bracket
+-- any byte but `]`
 unfoldable pub isNotClosing : ℕ → Bool
 isNotClosing b = not (eqb b (code "]"))
 
@@ -29,12 +29,12 @@ isSeparator b = either (eqb b (code " ")) (eqb b (code "_"))
 unfoldable pub isPlainByte : ℕ → Bool
 isPlainByte b = either (isLetter b) (isDigit b)
 
--- a byte in front of the words that follow it
+-- the byte b put in front of the first of these words
 unfoldable pub push : ℕ → List (List ℕ) → List (List ℕ)
 push b [] = (b ∷ []) ∷ []
 push b (w ∷ ws) = (b ∷ w) ∷ ws
 
--- the words of a keyword: what stands between its separators, also where that is nothing
+-- the words of a keyword: the bytes between its separators; a word may be empty
 unfoldable pub parted : List ℕ → List (List ℕ)
 parted [] = [] ∷ []
 parted (b ∷ s) = if isSeparator b then [] ∷ parted s else push b (parted s)
@@ -54,14 +54,14 @@ areGoodWords (w ∷ ws) = both (isGoodWord w) (areGoodWords ws)
 unfoldable pub isGoodName : List ℕ → Bool
 isGoodName name = both (isLetter (getD name 0 0)) (areGoodWords (parted name))
 
--- "A keyword opens in column 1, runs to `]`": how many bytes stand between the brackets
+-- "A keyword opens in column 1, runs to `]`": how many bytes there are between the brackets
 unfoldable pub nameLength : List ℕ → ℕ
 nameLength content = run isNotClosing (drop 1 content)
 
 unfoldable pub nameOf : List ℕ → List ℕ
 nameOf content = take (nameLength content) (drop 1 content)
 
--- "then a blank or the end": there is a `]`, and what follows it is right
+-- "then a blank or the end": there is a `]`, and a blank or the end follows it
 unfoldable pub isClosed : List ℕ → Bool
 isClosed content =
     both (ltb (nameLength content + 1) (length content))
@@ -70,15 +70,17 @@ isClosed content =
 unfoldable pub isGoodBracket : List ℕ → Bool
 isGoodBracket content = both (isClosed content) (isGoodName (nameOf content))
 
--- where the argument starts: past the bracket and the blanks after it; the content's length where there is none
+-- where the argument starts: after the bracket and the blanks that follow it; without an argument, the end of the
+-- content
 unfoldable pub argumentAt : List ℕ → ℕ
 argumentAt content = nameLength content + 2 + run isBlank (drop (nameLength content + 2) content)
 
--- 7 for a "keyword not of 000", 8 for a "later keyword above"
+-- 7 for a "keyword not of 000", 8 for a "later keyword above", else the keyword and where its argument starts
 unfoldable pub namedAs : ℕ → ℕ → Bracket
 namedAs key argument = if eqb key unknown then Unknown else if isLater key then Later else Keyword key argument
 
--- no bracket first; "A first non-blank `[` outside column 1 is 6, except in a text block"; 6 for a bad bracket; else what it names
+-- Plain if the first non-blank byte is no `[`; Indented for "A first non-blank `[` outside column 1 is 6, except in a
+-- text block"; Bad for a bad bracket, which is 6; else what the bracket names
 unfoldable pub bracketOf : List ℕ → Bracket
 bracketOf content =
     if not (isOpen (getD content (run isBlank content) 0)) then Plain else

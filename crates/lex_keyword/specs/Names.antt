@@ -1,5 +1,6 @@
--- The keywords of document 000's tree diagram, by name and by number. They stand in the order of their lengths, which is how they
--- are looked up; a keyword's number is its place. Every other name is none of 000's, also one that 000 uses only in passing.
+-- The keywords of the tree diagram in document 000, by name and by number. Shorter names come first, because a name is
+-- looked up by its length. The number of a keyword is its index in the list. Any other name is "not of 000", even one
+-- that 000 uses in passing (K9).
 -- Assumes nothing.
 use Prim.Native.Nat.{ℕ, zero, suc}
 use mathlib.Core.Bool.{Bool}
@@ -60,12 +61,12 @@ names =
     bytes "Nodal Path Description" ∷
     []
 
--- the place of the first name that is the same, or how many there are where none is
+-- the index of the first name that is the same; if none is, the length of the list
 unfoldable pub nameIndex : List ℕ → List (List ℕ) → ℕ
 nameIndex a [] = zero
 nameIndex a (n ∷ ns) = if sameName a n then zero else suc (nameIndex a ns)
 
--- the number of a keyword; `unknown` for "keyword not of 000"
+-- the number of the keyword with this name; `unknown` for a "keyword not of 000"
 unfoldable pub keywordOf : List ℕ → ℕ
 keywordOf a = nameIndex a names
 

@@ -1,4 +1,4 @@
-// Document 01, "Lines and keywords": what the bracket at the front of a line says.
+// Document 01, "Lines and keywords": reads the bracket at the front of a line.
 use base::Class;
 ghost use mathlib.Core.Path.{_≡_};
 ghost use mathlib.Core.List.{[]};
@@ -13,21 +13,21 @@ ghost use Rattle.lex_keyword.specs.Way.Reading.{isWordByte, closesAt, sa
 ghost use Rattle.lex_keyword.specs.Bracket.{isPlainByte, parted, isHyphenWord, isGoodWord, areGoodWords, isGoodName, namedAs, bracketOf};
 
 pub enum Bracket {
-    // The line's first byte that is not blank is no `[`.
+    // The first byte of the line that is not blank is no `[`.
     Plain,
-    // It is one, but not in column 1.
+    // It is a `[`, but not in column 1.
     Indented,
-    // 6: no keyword's bracket.
+    // Rule 6: a `[` in column 1 that opens no well-formed keyword.
     Bad,
-    // 7: not one of document 000's.
+    // Rule 7: a keyword that document 000 does not have.
     Unknown,
-    // 8: one that is read later.
+    // Rule 8: a later keyword.
     Later,
-    // Which keyword, and where its argument starts.
+    // The number of the keyword, and where its argument starts.
     Keyword(u64, usize),
 }
 
-// The keywords' numbers: the places of their names below.
+// The numbers of the keywords: the index of each name in the list below.
 pub const THE_END: u64 = 0;
 
 pub const ROW: u64 = 1;
@@ -108,10 +108,10 @@ pub const ICM_FAMILY_DESCRIPTION: u64 = 38;
 
 pub const NODAL_PATH_DESCRIPTION: u64 = 39;
 
-// None of them.
+// The number of a name that is no keyword.
 pub const UNKNOWN: u64 = 40;
 
-// The keywords' names as they are compared, one after another in the order of their lengths.
+// The names of the keywords as they are compared, one after another, shorter names first.
 const LETTERS: [u8; 524] = *b"\
     end\
     row\
@@ -154,7 +154,7 @@ const LETTERS: [u8; 524] = *b"\
     icm family description\
     nodal path description";
 
-// Where each of them starts.
+// Where each name starts in LETTERS.
 const STARTS: [u16; 40] = [
     0,
     3,
@@ -198,8 +198,8 @@ const STARTS: [u16; 40] = [
     502,
 ];
 
-// For each length the first name that is at least so long: a line's name is compared with those of its own length, four at most,
-// and not with all forty.
+// For each length, the number of the first name that is at least that long. The name on a line is compared only with
+// the names of its own length, four at most, and not with all forty.
 const FIRSTS: [u8; 24] = [
     0,
     0,
@@ -227,10 +227,10 @@ const FIRSTS: [u8; 24] = [
     40,
 ];
 
-// The length of the longest of them.
+// The length of the longest name.
 const LONGEST: usize = 22;
 
-// The word in which a hyphen may stand, as it is compared.
+// The only word that may contain a hyphen, as it is compared.
 const HYPHEN_WORD: [u8; 11] = *b"s-parameter";
 
 // A byte of a keyword as it is compared: underscore and space are equal, case does not count.
@@ -258,8 +258,8 @@ fn from_short(x: u16) -> usize
     x as usize
 }
 
-// The table of letters. A constant that is indexed is built anew at each use, so a search has it once and lends it, and the two
-// tables below are of narrow numbers.
+// The table of letters. A constant that is indexed is built anew at each use. So a search builds this table once and
+// lends it, and the two tables used below have narrow numbers.
 fn all_letters() -> [u8; 524]
     ensures { λ r. ⌜ r ≡ letters ⌝ }
 {
@@ -280,7 +280,7 @@ fn first_of(size: usize) -> usize
     from_byte(FIRSTS[size])
 }
 
-// Whether the table from `start` on has the name's bytes.
+// Whether the table has the bytes of the name, as they are compared, from `start` on.
 fn stands_at(table: &[u8], name: &[u8], start: usize) -> bool
     requires { ⌜ start + length (now name) ≤ length (now table) ⌝ }
     ensures { λ r. ⌜ r ≡ standsAt (now (table .entry)) (now (name .entry)) start ⌝ }
@@ -295,7 +295,7 @@ fn stands_at(table: &[u8], name: &[u8], start: usize) -> bool
     true
 }
 
-// Whether it is the name of a keyword that is as long.
+// Whether the name is that of keyword `key`, whose name has the same length.
 fn is_name_of(table: &[u8], name: &[u8], key: usize) -> bool
     requires { ⌜ now table ≡ letters ⌝ }
     requires { ⌜ key < length names ⌝ }
@@ -306,7 +306,7 @@ fn is_name_of(table: &[u8], name: &[u8], key: usize) -> bool
     stands_at(table, name, start)
 }
 
-// The number of the keyword of this name.
+// The number of the keyword with this name, or UNKNOWN.
 fn key_of(name: &[u8]) -> u64
     ensures { λ r. ⌜ r ≡ keywordOf (now (name .entry)) ⌝ }
 {
@@ -463,7 +463,8 @@ fn says_name(name: &[u8], argument: usize) -> Bracket
     named_as(key_of(name), argument)
 }
 
-// Whether there is a `]` at `end`, and a blank or the line's end after it.
+// Whether a bracket is closed at `end`, which is its first `]` or the end of the line: there is a `]`, and after it a
+// blank or the end of the line.
 fn closes_at(content: &[u8], end: usize) -> bool
     ensures { λ r. ⌜ r ≡ closesAt (now (content .entry)) end ⌝ }
 {
@@ -477,7 +478,8 @@ fn closes_at(content: &[u8], end: usize) -> bool
     base::in_class(Class::Blank, content[next])
 }
 
-// Whether a bracket in column 1 is that of the most frequent keyword, written as it mostly is: `Row]` after its first byte, and closed there.
+// Whether a bracket in column 1 is `[Row]`, the most frequent keyword in its usual spelling: `Row]` after the first
+// byte, and then a blank or the end of the line.
 fn is_row(content: &[u8]) -> bool
     ensures { λ r. ⌜ r ≡ isRow (now (content .entry)) ⌝ }
 {
@@ -499,7 +501,7 @@ fn is_row(content: &[u8]) -> bool
     closes_at(content, 4)
 }
 
-// What a bracket in column 1 says. Most are a row's, which needs no search.
+// Reads a bracket in column 1. Most are `[Row]`, which needs no search.
 fn opened_bracket(content: &[u8]) -> Bracket
     requires { ⌜ (0 ≡ runEnd isBlank (now content) 0) × (91 ≡ getD (now content) 0 0) ⌝ }
     ensures { λ r. ⌜ r ≡ bracketOf (now (content .entry)) ⌝ }
@@ -515,7 +517,8 @@ fn opened_bracket(content: &[u8]) -> Bracket
     says_name(&content[1..end], argument)
 }
 
-// What the content of a line, its bytes before comment and terminator, says by a bracket at its front. Most lines have none.
+// Reads the bracket at the front of a line. A line is given by its content, the bytes before its comment and
+// terminator. Most lines have no bracket.
 pub fn read_bracket(content: &[u8]) -> Bracket
     ensures { λ r. ⌜ r ≡ bracketOf (now (content .entry)) ⌝ }
 {

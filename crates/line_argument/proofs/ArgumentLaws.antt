@@ -1,5 +1,5 @@
--- Laws of arguments, in the words that code has at its returns: what the end of a run of bytes says of one word, of an extension and of a
--- file name, and what an integer that is read says of the argument.
+-- Laws of arguments, as code uses them at its returns: the end of a run of bytes decides whether the argument is one
+-- word, an extension or a file name, and the integer that is read is that of the argument.
 -- Assumes nothing.
 use mathlib.Core.Path.{_≡_, sym, _∙_, ap}
 use mathlib.Core.Bool.{Bool, true, false, not}
@@ -23,7 +23,7 @@ use Rattle.lex_number.proofs.AllLaws.{all-run}
 use Rattle.line_place.specs.Place.{isRowOrBandwidth}
 use Rattle.line_argument.specs.Argument.{isOneWord, isName, isReserved, isFileByte, isExtension, isFileName, isBadInteger}
 
--- every byte passes where the run from the front ends at the end
+-- every byte passes exactly when the run from the front goes to the end
 all-told : (p : ℕ → Bool) (s : List ℕ) (end : ℕ) → end ≡ runEnd p s 0 → eqb end (length s) ≡ all p s
 all-told p s end told = ap (λ (n : ℕ). eqb n (length s)) (told ∙ zero-add (run p s)) ∙ sym (all-run p s)
 
@@ -79,7 +79,7 @@ module _ (s : List ℕ) (period there : ℕ) (told : period ≡ runEnd isFileByt
     no-period h = sym (both-rest _ _ base-told ∙ both-not-left _ _ (ap (λ (b : ℕ). eqb b 46) byte-is ∙ ne-eqb there 46 h))
 
     module _ (is-period : there ≡ 46) where
-      -- past the end there is no byte, so the period stands before it
+      -- past the end there is no byte, so the period is before it
       pub past-period : period + 1 ≤ length s
       past-period =
           by-cases (period + 1 ≤ length s) (ltb period (length s))
@@ -96,7 +96,7 @@ module _ (s : List ℕ) (period there : ℕ) (told : period ≡ runEnd isFileByt
           let n : period + 1 ≡ run isFileByte s + 1 = ap (λ (n : ℕ). n + 1) period-is in
           e ∙ ap isExtension (w ∙ ap (λ (n : ℕ). drop n s) n) ∙ sym (both-rest _ _ base-told ∙ both-rest _ _ (ap (λ (b : ℕ). eqb b 46) byte-is ∙ eq-eqb there 46 is-period))
 
--- the integer that is read is the argument's
+-- the integer that is read is that of the argument
 module _ (s : List ℕ) (whole : Whole) (told : whole ≡ wholeOf s) where
   pub off-rows : (t : Bool) → t ≡ within 1 256 (whole .value) → not t ≡ not (within 1 256 (wholeOf s .value))
   off-rows t e = rw (e, told)
@@ -104,7 +104,7 @@ module _ (s : List ℕ) (whole : Whole) (told : whole ≡ wholeOf s) where
   pub wide-band : ltb 255 (whole .value) ≡ ltb 255 (wholeOf s .value)
   wide-band = rw told
 
--- 13 of a keyword line; t says whether the keyword takes an integer
+-- 13 for a keyword line; t says whether the keyword takes an integer
 module _ (key : ℕ) (s : List ℕ) (t : Bool) (told : t ≡ isRowOrBandwidth key) where
   pub no-integer : not t ≡ true → false ≡ isBadInteger key s
   unfolding isBadInteger

@@ -1,5 +1,5 @@
--- Document 01, "Lines and keywords" and the sections after it: what stands after each keyword. An argument is given without the blanks
--- at its ends and without the comment.
+-- Document 01, "Lines and keywords" and the sections after it: which argument each keyword takes. An argument is given
+-- without the blanks at its ends and without the comment.
 -- Assumes nothing.
 use Prim.Native.Nat.{ℕ, _+_}
 use Prim.Native.Char.{code}
@@ -41,7 +41,7 @@ unfoldable pub isReserved : List ℕ → Bool
 isReserved w =
     either (same w (bytes "POWER")) (either (same w (bytes "GND")) (either (same w (bytes "NC")) (same w (bytes "NA"))))
 
--- one word: something, and no blank in it
+-- one word: not empty, and without a blank
 unfoldable pub isOneWord : List ℕ → Bool
 isOneWord s = both (ltb 0 (length s)) (all isFilled s)
 
@@ -63,7 +63,8 @@ isFileName s =
     both (ltb 0 (run isFileByte s))
     (both (eqb (getD s (run isFileByte s) 0) (code ".")) (isExtension (drop (run isFileByte s + 1) s)))
 
--- "Diagonal_matrix", "Banded_matrix", "Sparse_matrix", "Full_matrix", as the table counts them; 4 for none
+-- "Diagonal_matrix", "Banded_matrix", "Sparse_matrix", "Full_matrix", by their numbers in the table; 4 for any other
+-- word
 unfoldable pub formOf : List ℕ → ℕ
 formOf s =
     if same s (bytes "Diagonal_matrix") then 0 else
@@ -71,7 +72,7 @@ formOf s =
     if same s (bytes "Sparse_matrix") then 2 else
     if same s (bytes "Full_matrix") then 3 else 4
 
--- "[Derivation Method] Lumped or Distributed"; 2 for none
+-- "[Derivation Method] Lumped or Distributed", by their numbers in the table; 2 for any other word
 unfoldable pub methodOf : List ℕ → ℕ
 methodOf s = if same s (bytes "Lumped") then 0 else if same s (bytes "Distributed") then 1 else 2
 
@@ -91,7 +92,7 @@ takesFreeText k = either (eqb k fileRev) (either (eqb k redistribution) (either 
 unfoldable pub takesName : ℕ → Bool
 takesName k = either (eqb k beginIcmModel) (either (eqb k icmPinMap) (eqb k beginIcmSection))
 
--- the keywords that take a text of their own form
+-- 11 for the keywords that take a text of a form of their own
 unfoldable pub isBadForm : ℕ → List ℕ → Bool
 isBadForm k s =
     if eqb k icmVer then not (same s (bytes "1.1")) else
@@ -99,7 +100,7 @@ isBadForm k s =
     if eqb k date then not (within 1 40 (length s)) else
     if eqb k derivationMethod then eqb (methodOf s) 2 else false
 
--- "11 ARGUMENT: argument missing, surplus or not allowed". A keyword that opens a text block takes any text, also none
+-- "11 ARGUMENT: argument missing, surplus or not allowed". A keyword that opens a text block takes any text, even none
 unfoldable pub isBadArgument : ℕ → List ℕ → Bool
 isBadArgument k s =
     if isRowOrBandwidth k then not (isOneWord s) else
@@ -108,11 +109,11 @@ isBadArgument k s =
     if takesName k then not (isName s) else
     if takesFreeText k then eqb (length s) 0 else isBadForm k s
 
--- 13 of a keyword line: [Row] and [Bandwidth] take an integer
+-- 13 for a keyword line: [Row] and [Bandwidth] take an integer
 unfoldable pub isBadInteger : ℕ → List ℕ → Bool
 isBadInteger k s = both (isRowOrBandwidth k) (not (wholeOf s .formed))
 
--- 14 of a keyword line: "[Row] .. 1 to 256; B 0 to 255"
+-- 14 for a keyword line: "[Row] .. 1 to 256; B 0 to 255"
 unfoldable pub isOutOfBounds : ℕ → List ℕ → Bool
 isOutOfBounds k s =
     if eqb k row then not (within 1 256 (wholeOf s .value)) else

@@ -1,5 +1,5 @@
-// Document 01, "Lines and keywords" and the sections after it: what may stand after each keyword, and the words that are never a name.
-// An argument is given without the blanks at its ends and without the comment.
+// Document 01, "Lines and keywords" and the sections after it: which argument each keyword takes, and the words that
+// are never a name. An argument is given without the blanks at its ends and without the comment.
 use base::Class;
 ghost use mathlib.Core.Path.{_≡_};
 ghost use lib.ListN.{length};
@@ -39,7 +39,7 @@ pub fn is_reserved(word: &[u8]) -> bool
     lex_line::same_bytes(word, b"NA")
 }
 
-// One word: something, and no blank in it.
+// One word: not empty, and without a blank.
 fn is_one_word(s: &[u8]) -> bool
     ensures { λ r. ⌜ r ≡ isOneWord (now (s .entry)) ⌝ }
 {
@@ -75,7 +75,7 @@ fn is_file_byte(b: u8) -> bool
     b == b'-'
 }
 
-// Where the bytes of a file name that start at `from` end.
+// Where the run of file name bytes that starts at `from` ends.
 fn skip_file_bytes(s: &[u8], from: usize) -> usize
     ensures { λ r. ⌜ r ≡ runEnd isFileByte (now (s .entry)) from ⌝ }
 {
@@ -117,7 +117,7 @@ fn is_file_name(s: &[u8]) -> bool
     is_extension(&s[after..])
 }
 
-// "at most 40 characters", and not nothing.
+// "at most 40 characters", and not empty.
 fn is_date(s: &[u8]) -> bool
     ensures { λ r. ⌜ r ≡ within 1 40 (length (now (s .entry))) ⌝ }
 {
@@ -127,7 +127,7 @@ fn is_date(s: &[u8]) -> bool
     s.len() <= 40
 }
 
-// The form of a matrix as the table counts it; 4 for none.
+// The form of a matrix by its number in the table; 4 for any other word.
 pub fn form_of(s: &[u8]) -> u64
     ensures { λ r. ⌜ r ≡ formOf (now (s .entry)) ⌝ }
 {
@@ -146,7 +146,7 @@ pub fn form_of(s: &[u8]) -> u64
     4
 }
 
-// "[Derivation Method] Lumped or Distributed", as the table counts them; 2 for none.
+// "[Derivation Method] Lumped or Distributed", by its number in the table; 2 for any other word.
 pub fn method_of(s: &[u8]) -> u64
     ensures { λ r. ⌜ r ≡ methodOf (now (s .entry)) ⌝ }
 {
@@ -216,7 +216,7 @@ fn takes_name(key: u64) -> bool
     key == lex_keyword::BEGIN_ICM_SECTION
 }
 
-// Of the keywords that take a text of their own form.
+// Rule 11 for the keywords that take a text of a form of their own.
 fn is_bad_form(key: u64, argument: &[u8]) -> bool
     ensures { λ r. ⌜ r ≡ isBadForm key (now (argument .entry)) ⌝ }
 {
@@ -235,7 +235,7 @@ fn is_bad_form(key: u64, argument: &[u8]) -> bool
     false
 }
 
-// "11 ARGUMENT: argument missing, surplus or not allowed". A keyword that opens a text block takes any text, also none.
+// "11 ARGUMENT: argument missing, surplus or not allowed". A keyword that opens a text block takes any text, even none.
 pub fn is_bad_argument(key: u64, argument: &[u8]) -> bool
     ensures { λ r. ⌜ r ≡ isBadArgument key (now (argument .entry)) ⌝ }
 {
@@ -257,7 +257,7 @@ pub fn is_bad_argument(key: u64, argument: &[u8]) -> bool
     is_bad_form(key, argument)
 }
 
-// 13 of a keyword line: [Row] and [Bandwidth] take an integer.
+// Rule 13 for a keyword line: [Row] and [Bandwidth] take an integer.
 pub fn is_bad_integer(key: u64, argument: &[u8]) -> bool
     ensures { λ r. ⌜ r ≡ isBadInteger key (now (argument .entry)) ⌝ }
 {
@@ -268,7 +268,7 @@ pub fn is_bad_integer(key: u64, argument: &[u8]) -> bool
     !whole.formed
 }
 
-// 14 of a keyword line: "[Row] .. 1 to 256; B 0 to 255".
+// Rule 14 for a keyword line: "[Row] .. 1 to 256; B 0 to 255".
 pub fn is_out_of_bounds(key: u64, argument: &[u8]) -> bool
     ensures { λ r. ⌜ r ≡ isOutOfBounds key (now (argument .entry)) ⌝ }
 {

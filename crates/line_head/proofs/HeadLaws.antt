@@ -1,4 +1,4 @@
--- Laws of the head: what is told after each kind of line.
+-- Laws of the head: what it contains after each kind of line.
 -- Assumes nothing.
 use mathlib.Core.Path.{_≡_, sym}
 use mathlib.Core.Bool.{true}

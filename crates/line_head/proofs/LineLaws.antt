@@ -1,4 +1,5 @@
--- Laws of the lines of the head: what each reader of a line finds by one test after the other is what its definition says.
+-- Laws of the lines of the head: each reader of a line, making one test after another, returns what its definition
+-- gives.
 -- Assumes nothing.
 use mathlib.Core.Path.{_≡_, sym, _∙_, ap}
 use mathlib.Core.Bool.{Bool, true, false, not}
@@ -48,7 +49,7 @@ sgr-surplus : (ws : List (List ℕ)) → eqb (length ws) 2 ≡ false → wrongHe
 unfolding sgrLine
 sgr-surplus ws e = sym (if-false _ _ (both-not-left _ _ e))
 
--- a word parted at its first colon
+-- a word split at its first colon
 module _ (w : List ℕ) (colon : ℕ) (at : colon ≡ runEnd (isBefore (code ":")) w 0) where
   colon-is : colon ≡ toColon w
   colon-is = at ∙ zero-add (toColon w)
@@ -66,7 +67,7 @@ module _ (w : List ℕ) (colon : ℕ) (at : colon ≡ runEnd (isBefore (code ":"
   unfolding ratioOf
   colon-ratio ratio e = e ∙ ap (λ (n : ℕ). wholeOf (take n w)) colon-is
 
--- what a reader knows of a line: its first two words and how many there are
+-- what a reader knows of a line: its first two words and the count of words
 module _ (content : List ℕ) (few : FirstTwo) (told : few ≡ firstTwoOf content) where
   pub type-count : (r : HeadLine) → (few .count ≡ 2 → ⊥) → r ≡ wrongHeadLine saysModelType → r ≡ typeLine (words content)
   type-count r n h = h ∙ type-surplus (words content) (counted-not content few told 2 (omega arith) n)
@@ -103,7 +104,7 @@ module _ (content : List ℕ) (few : FirstTwo) (told : few ≡ firstTwoOf conten
 
 -- ---- Ref_impedance
 
--- what a reader knows of a line: where its `=` stands, and the words before and after it
+-- what a reader knows of a line: the position of its `=`, and the words before and after it
 module _ (content : List ℕ) (sign : ℕ) (at : sign ≡ toEquals content) where
   pub impedance-none : (r : HeadLine) → length content ≤ sign → r ≡ wrongHeadLine saysImpedance → r ≡ impedanceLine content
   unfolding impedanceLine

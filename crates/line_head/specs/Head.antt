@@ -17,7 +17,7 @@ use Rattle.lex_number.specs.declared.Whole.{Whole}
 use Rattle.line_head.specs.declared.Head.{Head}
 use Rattle.line_head.specs.declared.HeadLine.{HeadLine}
 
--- what a line of the head says: none of the three, or which
+-- what a line of the head says: which of the three it is, or none
 abbrev pub saysNothing : ℕ
 saysNothing = 0
 
@@ -30,14 +30,14 @@ saysRatio = 2
 abbrev pub saysImpedance : ℕ
 saysImpedance = 3
 
--- "SLM_general, SLM_quiescent, MLM", one above the table's count; 0 for none
+-- "SLM_general, SLM_quiescent, MLM": the number in the table plus 1; 0 for any other word
 unfoldable pub modelTypeOf : List ℕ → ℕ
 modelTypeOf w =
     if same w (bytes "SLM_general") then 1 else
     if same w (bytes "SLM_quiescent") then 2 else
     if same w (bytes "MLM") then 3 else 0
 
--- a line known by its first word whose rest is wrong
+-- a line that is known by its first word but has a wrong rest
 unfoldable pub wrongHeadLine : ℕ → HeadLine
 wrongHeadLine says = record { says = says; right = false; formed = true; bounded = true; kind = 0 }
 
@@ -48,7 +48,7 @@ typeLine ws =
     then record { says = saysModelType; right = true; formed = true; bounded = true; kind = modelTypeOf (secondOf ws) }
     else wrongHeadLine saysModelType
 
--- what stands before the first colon of a word
+-- how many bytes of a word come before its first colon
 abbrev pub toColon : List ℕ → ℕ
 toColon w = run (isBefore (code ":")) w
 
@@ -69,7 +69,7 @@ impedanceLine content =
     then record { says = saysImpedance; right = true; formed = isFormed (numberOf (firstOf (rightOf content))); bounded = isBounded (numberOf (firstOf (rightOf content))); kind = 0 }
     else wrongHeadLine saysImpedance
 
--- a line of the head is known by its first word, which `=` ends where the form has one
+-- a line of the head is known by its first word; in the form with a `=`, the sign ends that word
 unfoldable pub headLineOf : List ℕ → HeadLine
 headLineOf content =
     if same (firstOf (words content)) (bytes "ICM_model_type") then typeLine (words content) else
@@ -77,7 +77,7 @@ headLineOf content =
     if same (firstOf (leftOf content)) (bytes "Ref_impedance") then impedanceLine content else
     record { says = saysNothing; right = true; formed = true; bounded = true; kind = 0 }
 
--- each of the three at most once
+-- each of the three may appear once; the head takes no other line
 unfoldable pub isHeadOutOfOrder : HeadLine → Head → Bool
 isHeadOutOfOrder l h =
     if eqb (l .says) saysModelType then not (eqb (h .kind) 0) else

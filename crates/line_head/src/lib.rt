@@ -8,7 +8,7 @@ ghost use Rattle.line_head.specs.Head.{modelTypeOf, wrongHeadLine, typeL
 use base::Class;
 use lex_line::FirstTwo;
 
-// What a line of the head says: none of the three, or which.
+// What a line of the head says: which of the three it is, or none.
 const NOTHING: u64 = 0;
 
 const MODEL_TYPE: u64 = 1;
@@ -17,21 +17,22 @@ const RATIO: u64 = 2;
 
 const IMPEDANCE: u64 = 3;
 
-// The types of a model, one above the table's count; 0 for none.
+// The types of a model: the number in the table plus 1; 0 means no type.
 const SLM_GENERAL: u64 = 1;
 
 const SLM_QUIESCENT: u64 = 2;
 
 const MLM: u64 = 3;
 
-// What the lines read so far have told.
+// What the lines of a head have given so far: the type, and whether SGR and Ref_impedance have been read.
 pub struct Head {
     pub kind: u64,
     pub sgr: bool,
     pub impedance: bool,
 }
 
-// What one line says: which of the three, whether its rest is right, its number formed and within its bounds, and the type that it names.
+// One line of a head: which of the three it is, whether its rest is right, whether its number is well formed and within
+// its bounds, and the type that it names.
 pub struct HeadLine {
     pub says: u64,
     pub right: bool,
@@ -40,7 +41,7 @@ pub struct HeadLine {
     pub kind: u64,
 }
 
-// SLM_general, SLM_quiescent, MLM: the other types of document 000 are none here.
+// SLM_general, SLM_quiescent or MLM; 0 for any other word, also for the other types of document 000.
 fn kind_of(word: &[u8]) -> u64
     ensures { λ r. ⌜ r ≡ modelTypeOf (now (word .entry)) ⌝ }
 {
@@ -56,7 +57,7 @@ fn kind_of(word: &[u8]) -> u64
     0
 }
 
-// A line known by its first word whose rest is wrong.
+// A line that is known by its first word but has a wrong rest.
 fn wrong_line(says: u64) -> HeadLine
     ensures { λ r. ⌜ r ≡ wrongHeadLine says ⌝ }
 {
@@ -91,7 +92,7 @@ fn type_line(content: &[u8], few: FirstTwo) -> HeadLine
     }
 }
 
-// "`SGR n:1`, n 1 to 65,535": one word, parted at its first colon, after which exactly `1` stands.
+// "`SGR n:1`, n 1 to 65,535": one word, split at its first colon, with exactly `1` after the colon.
 fn sgr_line(content: &[u8], few: FirstTwo) -> HeadLine
     requires { ⌜ few ≡ firstTwoOf (now content) ⌝ }
     ensures { λ r. ⌜ r ≡ sgrLine (words (now (content .entry))) ⌝ }
@@ -143,7 +144,7 @@ fn impedance_line(content: &[u8]) -> HeadLine
     }
 }
 
-// Whether the first word of a line, which `=` ends here, is Ref_impedance.
+// Whether the first word of a line is Ref_impedance. In this form a `=` ends the word.
 fn is_impedance(content: &[u8]) -> bool
     ensures { λ r. ⌜ r ≡ same (firstOf (leftOf (now (content .entry)))) (bytes "Ref_impedance") ⌝ }
 {
@@ -154,7 +155,7 @@ fn is_impedance(content: &[u8]) -> bool
     lex_line::same_bytes(lex_line::marked(left, first), b"Ref_impedance")
 }
 
-// What a line of the head says: it is known by its first word.
+// Reads a line of the head, which is known by its first word.
 pub fn head_line(content: &[u8]) -> HeadLine
     ensures { λ r. ⌜ r ≡ headLineOf (now (content .entry)) ⌝ }
 {
@@ -179,7 +180,7 @@ pub fn head_line(content: &[u8]) -> HeadLine
     }
 }
 
-// Each of the three at most once; no other line stands in the head.
+// Each of the three may appear once; the head takes no other line.
 fn is_out_of_order(l: HeadLine, h: Head) -> bool
     ensures { λ r. ⌜ r ≡ isHeadOutOfOrder l h ⌝ }
 {
@@ -195,8 +196,8 @@ fn is_out_of_order(l: HeadLine, h: Head) -> bool
     true
 }
 
-// "A line its place takes with a wrong rest is 11, repeated or out of order 12"; any other line is 12. 0 is for a line that
-// breaks nothing.
+// The rule that a line of the head breaks, 0 for none: "A line its place takes with a wrong rest is 11, repeated or out
+// of order 12"; any other line is 12.
 pub fn head_rule(l: HeadLine, h: Head) -> u64
     ensures { λ r. ⌜ r ≡ headRule l h ⌝ }
 {
@@ -215,7 +216,7 @@ pub fn head_rule(l: HeadLine, h: Head) -> u64
     0
 }
 
-// What is told once a line that breaks nothing has been read.
+// The head after a line that breaks no rule.
 pub fn head_next(l: HeadLine, h: Head) -> Head
     ensures { λ r. ⌜ r ≡ headNext l h ⌝ }
 {
@@ -243,7 +244,7 @@ pub fn head_next(l: HeadLine, h: Head) -> Head
     h
 }
 
-// Nothing told yet.
+// A head of which no line has been read.
 pub fn new_head() -> Head
     ensures { λ r. ⌜ r ≡ newHead ⌝ }
 {
@@ -254,7 +255,8 @@ pub fn new_head() -> Head
     }
 }
 
-// What the model's first keyword asks: its type, and "required for SLM_general" SGR, "where one lacking is 9".
+// Whether the head lacks something at the model's first keyword: the type, or SGR, which is "required for SLM_general";
+// "where one lacking is 9".
 pub fn head_lacks(h: Head) -> bool
     ensures { λ r. ⌜ r ≡ headLacks h ⌝ }
 {

@@ -1,4 +1,4 @@
--- Laws of keyword lines that the code of this crate is shown by.
+-- Laws of keyword lines by which the code of this crate is proved.
 -- Assumes nothing.
 use mathlib.Core.Path.{_≡_, refl, sym, _∙_, ap}
 use mathlib.Core.Bool.{Bool, true, false, not}
@@ -47,7 +47,7 @@ use Rattle.line_matrix.specs.declared.Matrix.{Matrix}
 use Rattle.lex_number.specs.Integer.{wholeOf}
 use Rattle.lex_number.specs.declared.Whole.{Whole}
 
--- a keyword that there is none of has not been read
+-- a number that belongs to no keyword has not been read
 pub unseen : (k : ℕ) (s : State) → length (s .seen) ≡ 40 → 40 ≤ k → false ≡ isSeen k s
 unfolding isSeen
 unseen k s l h = sym (List·getD-eq-default (s .seen) false (le-trans (le-of-eq l) h))
@@ -58,12 +58,12 @@ by-value k argument m w read answer h = h ∙ ap (λ (v : Whole). isWrongInMatri
 
 -- ---- what is remembered
 
--- one that there is none of keeps no matrix
+-- a number that belongs to no keyword is neither [Row] nor [Bandwidth]
 none-keeps : (k : ℕ) → 40 ≤ k → isRowOrBandwidth k ≡ false
 unfolding isRowOrBandwidth
 none-keeps k h = either-false _ _ (ne-eqb k row (λ (e : k ≡ row). omega arith)) (ne-eqb k bandwidth (λ (e : k ≡ bandwidth). omega arith))
 
--- a keyword that there is none of is not marked
+-- a number that belongs to no keyword is not remembered
 pub seen-past : (k : ℕ) (seen : List Bool) → (k ≡ beginIcmModel → ⊥) → (k ≡ beginIcmSection → ⊥) → length seen ≡ 40 → 40 ≤ k → seen ≡ seenAfter k seen
 unfolding seenAfter
 seen-past k seen m s l h = sym (if-false _ _ (none-keeps k h) ∙ if-false _ _ (ne-eqb _ _ m) ∙ if-false _ _ (ne-eqb _ _ s) ∙ set-out seen k true (le-trans (le-of-eq l) h))
@@ -96,7 +96,7 @@ module _ (k : ℕ) (argument : List ℕ) (s : State) where
         unfolding matrixAfter
         matrix-kept b = sym (if-false _ _ (sym told ∙ h) ∙ if-false _ _ (ne-eqb _ _ r) ∙ if-false _ _ (ne-eqb _ _ b))
 
--- a bandwidth that is not out of bounds is small
+-- a bandwidth that is not out of bounds is at most 255
 pub bandwidth-small : (k : ℕ) (argument : List ℕ) → isOutOfBounds k argument ≡ false → (k ≡ row → ⊥) → k ≡ bandwidth → (w : Whole) → w ≡ wholeOf argument → w .value ≤ 255
 unfolding isOutOfBounds
 bandwidth-small k argument e r b w read =
@@ -122,7 +122,7 @@ module _ (k : ℕ) (argument : List ℕ) (m : Matrix) where
   unfolding matrixKeywordRule
   kept-bounds kept = all-kept keptRules numbered kept 2
 
-  -- a keyword that keeps a matrix and is not [Row] is [Bandwidth], and its argument is small
+  -- a keyword of the two that is not [Row] is [Bandwidth], and its argument is at most 255
   pub kept-small : isRowOrBandwidth k ≡ true → matrixKeywordRule k argument m ≡ 0 → (k ≡ row → ⊥) → (w : Whole) → w ≡ wholeOf argument → w .value ≤ 255
   unfolding isRowOrBandwidth
   kept-small keeps kept r w read =

@@ -1,5 +1,5 @@
--- [Row] and [Bandwidth] inside a matrix: what they break and what is remembered after them is settled by the matrix alone, so that a
--- matrix can be judged without what stands around it.
+-- [Row] and [Bandwidth] inside a matrix: the rules they break and what is remembered after them depend on the matrix
+-- alone. So a matrix can be judged without the rest of the state.
 -- Assumes nothing.
 use mathlib.Core.Path.{_≡_, refl, sym, _∙_, ap}
 use mathlib.Core.Bool.{true, false, true≢false}
@@ -40,7 +40,7 @@ use Rattle.line_keyword.specs.Keywords.{
 }
 use Rattle.line_keyword.specs.Way.Row.{matrixKeywordRule, matrixKeywordNext}
 
--- a keyword that keeps a matrix open is one of two
+-- a keyword that does not end a matrix is one of two
 kept-by : (P : ℕ → Type 0) (k : ℕ) → isRowOrBandwidth k ≡ true → P row → P bandwidth → P k
 unfolding isRowOrBandwidth
 kept-by P k keeps r b =
@@ -48,7 +48,7 @@ kept-by P k keeps r b =
     (λ (e : eqb k row ≡ true). let f : k ≡ row = eqb-true k row e in rw f r)
     (λ (e : eqb k row ≡ false). let f : k ≡ bandwidth = eqb-true k bandwidth (sym (either-rest _ _ e) ∙ keeps) in rw f b)
 
--- one that opens a matrix keeps none
+-- a keyword that opens a matrix is neither of them
 pub opens-closes : (k : ℕ) → opensMatrix k ≡ true → isRowOrBandwidth k ≡ false
 unfolding isRowOrBandwidth opensMatrix either
 opens-closes k opens =
@@ -56,7 +56,7 @@ opens-closes k opens =
     λ (j : ℕ) (g : opensMatrix j ≡ false). ne-eqb k j (λ (e : k ≡ j). true≢false (sym opens ∙ ap opensMatrix e ∙ g)) in
     either-false _ _ (other row refl) (other bandwidth refl)
 
--- what is remembered when a matrix goes on
+-- the state after a keyword with which the matrix goes on
 abbrev pub goesOn : ℕ → List ℕ → State → State
 goesOn k argument s =
     record {

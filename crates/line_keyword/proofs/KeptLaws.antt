@@ -1,5 +1,5 @@
--- What the forward reading keeps holds before the first line and after each keyword that breaks no rule: rule 17 stands at every count
--- that a keyword raises but that of the matrices, of which a line opens at most one.
+-- The bounds of the state hold before the first line and after each keyword that breaks no rule. Rule 17 bounds every
+-- count that a keyword raises, except that of the matrices, of which a line opens at most one.
 -- Assumes nothing.
 use mathlib.Core.Path.{_≡_, sym, _∙_}
 use mathlib.Core.Bool.{Bool, true, false}
@@ -42,7 +42,7 @@ use Rattle.line_keyword.specs.Keywords.{
   keywordNext,
 }
 
--- a new path stands outside every block
+-- a new path is outside every fork block
 new-shallow : newPath .depth ≤ deepest
 new-shallow =
     let e : newPath .depth ≡ 0 = new-outside in
@@ -96,7 +96,7 @@ module _ (k : ℕ) (argument : List ℕ) (s : State) where
 
 -- ---- the counts
 
--- a count that is raised only where it is below its bound
+-- a count that is raised only when it is below its bound
 pub more-within : (b : Bool) (count most : ℕ) → (b ≡ true → count < most) → count ≤ most → oneMoreIf b count ≤ most
 unfolding oneMoreIf
 more-within b count most room within =
@@ -104,7 +104,7 @@ more-within b count most room within =
     (λ (e : b ≡ true). let h : count < most = room e in omega arith)
     (λ (e : b ≡ false). within)
 
--- one that no rule bounds
+-- a count that no rule bounds
 more-counted : (b : Bool) (count n : ℕ) → count ≤ n → oneMoreIf b count ≤ n + 1
 unfolding oneMoreIf
 more-counted b count n within =
@@ -146,7 +146,7 @@ map-bounded k m h =
     (λ (e : eqb k icmPinMap ≡ true). new-bounded)
     (λ (e : eqb k icmPinMap ≡ false). h)
 
--- ---- a line more
+-- ---- one more line
 
 pub keyword-kept : (n k : ℕ) (argument : List ℕ) (s : State) → BoundedState n s → keywordRule k argument s ≡ 0 → BoundedState (n + 1) (keywordNext k argument s)
 unfolding keywordNext countsAfter
@@ -166,7 +166,7 @@ keyword-kept n k argument s h e =
 
 -- ---- what follows from it
 
--- the four counts that a keyword raises are far from the end of a word of 64 bits, where fewer lines than that have been read
+-- the four counts that a keyword raises are below 2 ^ 63, if fewer lines than that have been read
 pub kept-countable : (n : ℕ) (s : State) → BoundedState n s → n < 2 ^ 63 → Countable (s .counts)
 kept-countable n s h b =
     record {
@@ -176,7 +176,7 @@ kept-countable n s h b =
       matrices = lt-of-le-of-lt (h .matrices) b;
     }
 
--- it holds for any greater number of lines
+-- the bounds hold for any greater number of lines too
 pub kept-more : (n m : ℕ) (s : State) → BoundedState n s → n ≤ m → BoundedState m s
 kept-more n m s h b =
     record {

@@ -1,4 +1,5 @@
--- A keyword line between [Begin Header] and [End]: the rules that it may break, in the order of refusal, and what is remembered after it.
+-- A keyword line between [Begin Header] and [End]: the rules that it may break, in the order of refusal, and what is
+-- remembered after it.
 -- Assumes nothing.
 use Prim.Native.Nat.{ℕ, _+_}
 use mathlib.Core.Bool.{Bool, true, false, not}
@@ -60,8 +61,9 @@ use Rattle.line_keyword.specs.declared.State.{State}
 unfoldable pub isSeen : ℕ → State → Bool
 isSeen k s = getD (s .seen) k false
 
--- "each once": the header's keywords; of the family [Manufacturer], [ICM Model List] and its description; of a model its path and its
--- description; of a section each kind of matrix
+-- "each once": the keywords of the header; in the family [Manufacturer], [ICM Model List] and its description; in a
+-- model its path and its description; in a section each kind of matrix. Any other keyword that comes once, such as [ICM
+-- Ver], is misplaced the second time
 unfoldable pub isOnce : ℕ → Bool
 isOnce k =
     either (standsInHeader k)
@@ -71,7 +73,7 @@ isOnce k =
     (either (eqb k icmModelList)
     (either (eqb k icmFamilyDescription) (either (eqb k treePathDescription) (eqb k icmModelDescription)))))))
 
--- no matrix of any kind
+-- no matrix of any kind has been read in the section
 unfoldable pub hasNoKind : State → Bool
 hasNoKind s =
     both (not (isSeen resistanceMatrix s))
@@ -91,7 +93,8 @@ headerLacks s = either (not (isSeen fileName s)) (not (isSeen fileRev s))
 unfoldable pub familyLacks : State → Bool
 familyLacks s = either (not (isSeen manufacturer s)) (eqb (s .counts .models) 0)
 
--- "the list stands before the first model"; [Manufacturer] and the description above the list; what must be there when a block closes
+-- "the list stands before the first model"; [Manufacturer] and [ICM Family Description] come before the list (F1); and
+-- what must be there when a block closes
 unfoldable pub isLacking : ℕ → State → Bool
 isLacking k s =
     if eqb k endHeader then headerLacks s else
@@ -103,7 +106,7 @@ isLacking k s =
     if eqb k endIcmSection then kindsLack s else
     if eqb k theEnd then eqb (s .counts .sections) 0 else false
 
--- what the keyword closes is not whole: a model's head, a path, a pin map
+-- what the keyword closes is incomplete: the head of a model, a path or a pin map
 unfoldable pub isUnclosed : State → Bool
 isUnclosed s =
     if eqb (s .place) place.head then headLacks (s .head) else
@@ -111,7 +114,7 @@ isUnclosed s =
     if eqb (s .place) place.mapHead then true else
     if eqb (s .place) place.pinList then pinsLack (s .map) else false
 
--- a keyword that has been read where it may stand once
+-- a keyword that may appear once has been read already
 unfoldable pub isRepeated : ℕ → State → Bool
 isRepeated k s = both (isOnce k) (isSeen k s)
 
@@ -129,7 +132,8 @@ isForkOpen s = both (eqb (s .place) place.path) (pathOpen (s .path))
 unfoldable pub isWrongInMatrix : ℕ → ℕ → Matrix → Bool
 isWrongInMatrix k value m = if eqb k row then isWrongRow value m else isWrongBandwidth m
 
--- in a matrix: by [Row] or [Bandwidth] there, or by the matrix that any other keyword closes
+-- in a matrix, [Row] and [Bandwidth] are judged by their order, any other keyword by the shape of the matrix that it
+-- closes
 unfoldable pub isMatrixBroken : ℕ → List ℕ → State → Bool
 isMatrixBroken k argument s =
     if isRowOrBandwidth k
@@ -157,7 +161,7 @@ unfoldable pub closesTooWide : ℕ → State → Bool
 closesTooWide k s =
     both (eqb (s .place) place.matrix) (both (not (isRowOrBandwidth k)) (isTooWide (s .matrix) (s .counts .values)))
 
--- as many as there may be
+-- the keyword opens a model, map or section when there are already as many as there may be
 unfoldable pub isFull : ℕ → Counts → Bool
 isFull k c =
     if eqb k beginIcmModel then leb mostModels (c .models) else
@@ -182,8 +186,8 @@ keywordRule k argument s =
 
 -- ---- what is remembered
 
--- the keyword is read; a model has its own path and description, a section its own matrices. One that keeps a matrix open may stand any
--- number of times, and is not marked
+-- the keyword has been read. Each model has its own path and description, and each section its own matrices, so opening
+-- one forgets the earlier ones. [Row] and [Bandwidth] may appear any number of times and are not remembered
 unfoldable pub seenAfter : ℕ → List Bool → List Bool
 seenAfter k seen =
     if isRowOrBandwidth k then seen else
@@ -201,7 +205,7 @@ pathAfter k p = if eqb k treePathDescription then newPath else p
 unfoldable pub mapAfter : ℕ → Map → Map
 mapAfter k m = if eqb k icmPinMap then newMap else m
 
--- the conductors of a section are those of the first matrix that closes
+-- the conductors of a section are those of the matrix that is closed; a later matrix has as many, else it breaks 16
 unfoldable pub conductorsAfter : ℕ → State → ℕ
 conductorsAfter k s =
     if not (eqb (s .place) place.matrix) then s .section .conductors else

@@ -1,5 +1,5 @@
--- What the forward reading remembers: the place, which keywords were read, and how far the open block has come. No line number and no
--- offset is in it.
+-- What the forward reading remembers between lines: the place, the keywords read, and what has been read of the open
+-- block. It contains no line number and no offset.
 -- Assumes nothing.
 use Prim.Native.Nat.{ℕ}
 use mathlib.Core.Bool.{Bool, false}

@@ -1,4 +1,4 @@
-// Keyword lines: what each closes and opens, the rules it may break, and what is remembered after it.
+// Keyword lines: what each keyword closes and opens, the rules it may break, and what is remembered after it.
 ghost use mathlib.Core.Path.{_≡_};
 ghost use mathlib.Core.Bool.{true, false};
 ghost use Prim.Native.Nat.{_^_, _<_};
@@ -34,13 +34,13 @@ pub struct Counts {
     pub values: u64,
 }
 
-// The section that is open: its method, and its conductors, 0 until a matrix has closed.
+// The open section: its method, and its conductors, 0 until its first matrix is closed.
 pub struct Section {
     pub method: u64,
     pub conductors: u64,
 }
 
-// What the forward reading remembers. No line number and no offset is in it.
+// What the forward reading remembers between lines. It contains no line number and no offset.
 pub struct State {
     pub place: u64,
     pub seen: [bool; 40],
@@ -52,7 +52,7 @@ pub struct State {
     pub counts: Counts,
 }
 
-// Whether a keyword has been read in the block that is open.
+// Whether a keyword has been read already, in the open model or section if it belongs to one.
 fn is_seen(key: u64, s: State) -> bool
     ensures { λ r. ⌜ r ≡ isSeen key s ⌝ }
 {
@@ -64,7 +64,7 @@ fn is_seen(key: u64, s: State) -> bool
     seen[at]
 }
 
-// The keywords that stand at most once in the file, a model or a section.
+// The keywords that may appear once in the file, in a model or in a section.
 fn is_once(key: u64) -> bool
     ensures { λ r. ⌜ r ≡ isOnce key ⌝ }
 {
@@ -108,7 +108,7 @@ fn has_no_kind(s: State) -> bool
     !is_seen(lex_keyword::CAPACITANCE_MATRIX, s)
 }
 
-// A section that closes without a matrix, or a Distributed one without L or C.
+// Whether a section that closes has no matrix, or is Distributed and has no L or no C.
 fn kinds_lack(s: State) -> bool
     ensures { λ r. ⌜ r ≡ kindsLack s ⌝ }
 {
@@ -144,7 +144,7 @@ fn family_lacks(s: State) -> bool
     counts.models == 0
 }
 
-// What must be there, or must not be there yet, when this keyword comes.
+// Whether something is missing that must come before this keyword, or something is there that must come after it.
 fn is_lacking(key: u64, s: State) -> bool
     ensures { λ r. ⌜ r ≡ isLacking key s ⌝ }
 {
@@ -176,7 +176,7 @@ fn is_lacking(key: u64, s: State) -> bool
     false
 }
 
-// What the keyword closes is not whole: a model's head, a path, a pin map.
+// Whether what the keyword closes is incomplete: the head of a model, a path or a pin map.
 fn is_unclosed(s: State) -> bool
     ensures { λ r. ⌜ r ≡ isUnclosed s ⌝ }
 {
@@ -198,7 +198,7 @@ fn is_unclosed(s: State) -> bool
     false
 }
 
-// A keyword that has been read where it may stand once.
+// Whether a keyword that may appear once has been read already.
 fn is_repeated(key: u64, s: State) -> bool
     ensures { λ r. ⌜ r ≡ isRepeated key s ⌝ }
 {
@@ -208,7 +208,7 @@ fn is_repeated(key: u64, s: State) -> bool
     is_seen(key, s)
 }
 
-// 9: misplaced, repeated, or a required part missing when its block closes.
+// Rule 9: misplaced, repeated, or a required part missing when its block closes.
 fn is_misplaced(key: u64, s: State) -> bool
     ensures { λ r. ⌜ r ≡ isMisplaced key s ⌝ }
 {
@@ -224,7 +224,7 @@ fn is_misplaced(key: u64, s: State) -> bool
     is_lacking(key, s)
 }
 
-// 15: a path that closes with a fork open.
+// Rule 15: a path that closes while a fork is open.
 fn is_fork_open(s: State) -> bool
     ensures { λ r. ⌜ r ≡ isForkOpen s ⌝ }
 {
@@ -235,7 +235,7 @@ fn is_fork_open(s: State) -> bool
     line_path::path_open(path)
 }
 
-// [Row] and [Bandwidth] where they stand in a matrix.
+// Whether a [Row] or [Bandwidth] in a matrix is out of order, by its value.
 fn is_wrong_in_matrix(key: u64, value: u64, m: Matrix) -> bool
     ensures { λ r. ⌜ r ≡ isWrongInMatrix key value m ⌝ }
 {
@@ -245,7 +245,7 @@ fn is_wrong_in_matrix(key: u64, value: u64, m: Matrix) -> bool
     line_matrix::is_wrong_bandwidth(m)
 }
 
-// The same by the argument that stands on the line.
+// The same, by its argument.
 fn is_wrong_by(key: u64, argument: &[u8], m: Matrix) -> bool
     ensures { λ r. ⌜ r ≡ isWrongInMatrix key (wholeOf (now (argument .entry)) .value) m ⌝ }
 {
@@ -253,7 +253,8 @@ fn is_wrong_by(key: u64, argument: &[u8], m: Matrix) -> bool
     is_wrong_in_matrix(key, value.value, m)
 }
 
-// 16 of a keyword in a matrix: [Row] and [Bandwidth] by their place there, any other by the matrix that it closes.
+// Rule 16 for a keyword in a matrix: [Row] and [Bandwidth] are judged by their order, any other keyword by the shape of
+// the matrix that it closes.
 fn is_matrix_broken(key: u64, argument: &[u8], s: State) -> bool
     ensures { λ r. ⌜ r ≡ isMatrixBroken key (now (argument .entry)) s ⌝ }
 {
@@ -266,7 +267,7 @@ fn is_matrix_broken(key: u64, argument: &[u8], s: State) -> bool
     line_matrix::is_wrong_shape(m, section.conductors, counts.values)
 }
 
-// 16: a matrix or a pin grid of the wrong shape.
+// Rule 16: a matrix or a pin grid of the wrong shape.
 fn is_shape_broken(key: u64, argument: &[u8], s: State) -> bool
     requires { ⌜ BoundedMap (s .map) ⌝ }
     ensures { λ r. ⌜ r ≡ isShapeBroken key (now (argument .entry)) s ⌝ }
@@ -281,7 +282,7 @@ fn is_shape_broken(key: u64, argument: &[u8], s: State) -> bool
     line_map::is_wrong_grid(map)
 }
 
-// A keyword that closes a Diagonal_matrix of too many numbers.
+// Whether a keyword closes a Diagonal_matrix with too many numbers.
 fn closes_too_wide(key: u64, s: State) -> bool
     ensures { λ r. ⌜ r ≡ closesTooWide key s ⌝ }
 {
@@ -296,7 +297,7 @@ fn closes_too_wide(key: u64, s: State) -> bool
     line_matrix::is_too_wide(m, counts.values)
 }
 
-// As many models, maps or sections as there may be.
+// Whether a keyword opens a model, map or section when there are already as many as there may be.
 fn is_full(key: u64, c: Counts) -> bool
     ensures { λ r. ⌜ r ≡ isFull key c ⌝ }
 {
@@ -312,7 +313,7 @@ fn is_full(key: u64, c: Counts) -> bool
     false
 }
 
-// 17: a count above its bound.
+// Rule 17: a count above its bound.
 fn is_past_bound(key: u64, s: State) -> bool
     ensures { λ r. ⌜ r ≡ isPastBound key s ⌝ }
 {
@@ -323,7 +324,7 @@ fn is_past_bound(key: u64, s: State) -> bool
     is_full(key, counts)
 }
 
-// The number of the first rule that a keyword line breaks, 0 for none.
+// The first rule that a keyword line breaks, 0 for none.
 pub fn keyword_rule(key: u64, argument: &[u8], s: State) -> u64
     requires { ⌜ BoundedMap (s .map) ⌝ }
     ensures { λ r. ⌜ r ≡ keywordRule key (now (argument .entry)) s ⌝ }
@@ -352,9 +353,10 @@ pub fn keyword_rule(key: u64, argument: &[u8], s: State) -> u64
     0
 }
 
-// ---- what is remembered after a keyword that breaks nothing
+// ---- what is remembered after a keyword that breaks no rule
 
-// A model has its own path and description, a section its own matrices; [Row] and [Bandwidth] may stand any number of times.
+// The keywords read, after this one. Each model has its own path and description, and each section its own matrices, so
+// opening one forgets the earlier ones. [Row] and [Bandwidth] may appear any number of times and are not remembered.
 fn seen_after(key: u64, seen: [bool; 40]) -> [bool; 40]
     ensures { λ r. ⌜ r ≡ seenAfter key seen ⌝ }
 {
@@ -409,7 +411,8 @@ fn map_after(key: u64, m: Map) -> Map
     m
 }
 
-// The conductors of a section are those of the first matrix that closes; a later one has as many.
+// The conductors of a section are those of the first matrix that is closed. A later matrix has as many, else it breaks
+// 16.
 fn conductors_after(key: u64, s: State) -> u64
     ensures { λ r. ⌜ r ≡ conductorsAfter key s ⌝ }
 {
@@ -492,7 +495,7 @@ fn counts_after(key: u64, c: Counts) -> Counts
     }
 }
 
-// What is remembered after a keyword that breaks nothing.
+// What is remembered after a keyword that breaks no rule.
 pub fn keyword_next(key: u64, argument: &[u8], s: State) -> State
     requires { ⌜ (isOutOfBounds key (now argument) ≡ false) × Countable (s .counts) ⌝ }
     ensures { λ r. ⌜ r ≡ keywordNext key (now (argument .entry)) s ⌝ }
@@ -514,9 +517,9 @@ pub fn keyword_next(key: u64, argument: &[u8], s: State) -> State
     }
 }
 
-// ---- [Row] and [Bandwidth] in a matrix, by the matrix alone
+// ---- [Row] and [Bandwidth] in a matrix, judged by the matrix alone
 
-// The number of the first rule that [Row] or [Bandwidth] breaks in a matrix, 0 for none.
+// The first rule that a [Row] or [Bandwidth] in a matrix breaks, 0 for none.
 pub fn matrix_keyword_rule(key: u64, argument: &[u8], m: Matrix) -> u64
     ensures { λ r. ⌜ r ≡ matrixKeywordRule key (now (argument .entry)) m ⌝ }
 {
@@ -535,7 +538,7 @@ pub fn matrix_keyword_rule(key: u64, argument: &[u8], m: Matrix) -> u64
     0
 }
 
-// The matrix after a [Row] or a [Bandwidth] that breaks nothing.
+// The matrix after a [Row] or a [Bandwidth] that breaks no rule.
 pub fn matrix_keyword_next(key: u64, argument: &[u8], m: Matrix, values: u64) -> Matrix
     requires { ⌜ (isRowOrBandwidth key ≡ true) × (matrixKeywordRule key (now argument) m ≡ 0) ⌝ }
     ensures { λ r. ⌜ r ≡ matrixKeywordNext key (now (argument .entry)) m values ⌝ }

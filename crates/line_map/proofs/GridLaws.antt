@@ -1,5 +1,6 @@
--- The pins of a map where a keyword ends it, both ways: it breaks no rule there exactly when it has at least one pin and, if it is ordered, at
--- most rows times columns. With none it breaks 9; 16 it breaks exactly when it is ordered and has more.
+-- The pins of a map at the keyword that ends it, in both directions. It breaks no rule there exactly when it has at
+-- least one pin and, if it is ordered, at most rows times columns pins. Without pins it breaks 9. It breaks 16 exactly
+-- when it is ordered and has more than rows times columns pins.
 -- Assumes nothing.
 use mathlib.Core.Path.{_≡_, sym, _∙_}
 use mathlib.Core.Bool.{true, false}
@@ -10,7 +11,7 @@ use Rattle.base.proofs.IfLaws.{by-cases, both-true, both-first, both-second, bo
 use Rattle.line_map.specs.declared.Map.{Map}
 use Rattle.line_map.specs.PinMap.{isOrdered, pinsLack, isWrongGrid}
 
--- places of the grid may be missing, but not all, and no pin stands outside it
+-- positions of the grid may be empty, but not all, and no pin is outside it
 pub record Fits (m : Map) : Type 0 where
   pub some : 1 ≤ m .pins
   pub few : isOrdered m ≡ true → m .pins ≤ m .rows * m .columns
@@ -37,7 +38,7 @@ module _ (m : Map) (fits : Fits m) where
       by-cases _ (isOrdered m) (λ (o : isOrdered m ≡ true). both-not-right _ _ (le-ltb _ _ (fits .few o)))
       (λ (o : isOrdered m ≡ false). both-not-left _ _ o)
 
--- what 16 says
+-- what it means to break 16
 pub record Passes (m : Map) : Type 0 where
   pub ordered : isOrdered m ≡ true
   pub more : m .rows * m .columns < m .pins

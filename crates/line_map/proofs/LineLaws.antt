@@ -1,4 +1,5 @@
--- Laws of a map's lines, in the words that code has at its returns: what the count of words, the sign and the words found say of a line.
+-- Laws of the lines of a map, as code uses them at its returns: how the count of words, the sign and the words found
+-- decide what a line says.
 -- Assumes nothing.
 use mathlib.Core.Path.{_≡_, sym, _∙_, ap}
 use mathlib.Core.Bool.{Bool, true, false, not}
@@ -22,7 +23,7 @@ use Rattle.lex_number.specs.Integer.{wholeOf}
 use Rattle.line_map.specs.declared.MapLine.{MapLine}
 use Rattle.line_map.specs.PinMap.{saysNothing, saysOrder, saysColumns, saysRows, saysPinList, orderOf, wrongMapLine, orderLine, listLine, sizeLine, mapLineOf, isPinLine}
 
--- what the first words of a line, with a count that stops at 3, say of all its words
+-- what follows for all words of a line from its first two words and a count that stops at 3
 module _ (s : List ℕ) (few : FirstTwo) (told : few ≡ firstTwoOf s) where
   counted : few .count ≡ min 3 (length (words s))
   unfolding firstTwoOf
@@ -76,11 +77,11 @@ module _ (s : List ℕ) (few : FirstTwo) (told : few ≡ firstTwoOf s) where
   unfolding isPinLine
   pin-long h = not-via (le-ltb (length (words s)) 3 (omega (arith, counted)))
 
--- a size as it is read: the integer, and whether it is in bounds
+-- a size as it is read: the integer, and whether it is within its bounds
 abbrev sized : ℕ → Whole → Bool → MapLine
 sized says whole fits = record { says = says; right = true; formed = whole .formed; bounded = fits; value = whole .value }
 
--- where the sign stands
+-- the position of the sign
 module _ (content : List ℕ) (sign : ℕ) (told : sign ≡ toEquals content) where
   pub sign-within : sign ≤ length content
   sign-within = rw told (run-le _ content)
@@ -92,7 +93,7 @@ module _ (content : List ℕ) (sign : ℕ) (told : sign ≡ toEquals content) wh
   unfolding leftOf
   left-is = rw told
 
-  -- what stands before the sign
+  -- the first word before the sign
   pub left-told : (name : List ℕ) → name ≡ firstOf (words (take sign content)) → name ≡ firstOf (leftOf content)
   left-told name e = e ∙ ap firstOf left-is
 

@@ -1,4 +1,5 @@
--- Laws of a map as it is read: what the tests of code say of its rules, and that its sizes stay at 256 or below while none is broken.
+-- Laws of a map while it is read: how the tests of the code decide its rules, and that its sizes are at most 256 while
+-- no rule is broken.
 -- Assumes nothing.
 use mathlib.Core.Path.{_≡_, sym, _∙_}
 use mathlib.Core.Bool.{Bool, true, false, not}
@@ -29,7 +30,7 @@ module _ (m : Map) (given : ℕ) (t : Bool) (told : t ≡ isOrdered m) where
   pub size-early : t ≡ false → true ≡ either (not (isOrdered m)) (not (eqb given 0))
   size-early h = sym (either-left _ _ (not-via (sym told ∙ h)))
 
--- t says whether the line stands out of order
+-- t says whether the line is out of order
 module _ (l : MapLine) (m : Map) (t : Bool) (told : t ≡ isMapOutOfOrder l m) where
   pub out-of-order : t ≡ true → isMapOutOfOrder l m ≡ true
   out-of-order h = sym told ∙ h
@@ -45,7 +46,7 @@ next-map l m o r k e f g = λ i. record { order = e i; rows = f i; columns = g i
 pub grid-most : (m : Map) → BoundedMap m → m .rows * m .columns ≤ 65_536
 grid-most m b = mul-le-mul (b .few-rows) (b .few-columns)
 
--- ---- what the machine above keeps
+-- ---- what stays true from line to line
 
 -- no line gives more than 256
 abbrev Small : MapLine → Type 0
@@ -82,7 +83,7 @@ line-small content =
     (λ f. by-test Small _ _ _ (λ g. size-small saysColumns content)
     (λ g. by-test Small _ _ _ (λ h. size-small saysRows content) (λ h b. omega arith))))
 
--- a line that breaks no rule is in bounds
+-- the number of a line that breaks no rule is within its bounds
 kept-bounded : (l : MapLine) (m : Map) → mapRule l m ≡ 0 → l .bounded ≡ true
 unfolding mapRule
 kept-bounded l m e = not-false (l .bounded) (all-kept (11 when not (l .right) ∷ 12 when isMapOutOfOrder l m ∷ 13 when not (l .formed) ∷ 14 when not (l .bounded) ∷ []) (omega arith, (omega arith, (omega arith, (omega arith, tt)))) e 3)
@@ -95,7 +96,7 @@ pub pin-bounded : (m : Map) → BoundedMap m → BoundedMap (withPin m)
 unfolding withPin
 pin-bounded m b = record { few-rows = b .few-rows; few-columns = b .few-columns }
 
--- the sizes stay at 256 or below with each line that breaks no rule
+-- after a line that breaks no rule the sizes are still at most 256
 pub next-bounded : (content : List ℕ) (l : MapLine) (m : Map) → l ≡ mapLineOf content → mapRule l m ≡ 0 → BoundedMap m → BoundedMap (mapNext l m)
 unfolding mapNext
 next-bounded content l m told e b =

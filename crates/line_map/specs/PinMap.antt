@@ -30,7 +30,7 @@ saysRows = 3
 abbrev pub saysPinList : ℕ
 saysPinList = 4
 
--- "Row_ordered, Column_ordered or Un_ordered", one above the table's count; 0 for none
+-- "Row_ordered, Column_ordered or Un_ordered": the number in the table plus 1; 0 for any other word
 unfoldable pub orderOf : List ℕ → ℕ
 orderOf w =
     if same w (bytes "Row_ordered") then 1 else
@@ -108,7 +108,8 @@ mostPins = 4_096
 abbrev pub mostMapPins : ℕ
 mostMapPins = 256
 
--- "at least one pin, one a line": its name, perhaps a signal's, which is not read, and no third word
+-- "at least one pin, one a line": the name of the pin, perhaps the name of a signal, which is not read, and no third
+-- word
 unfoldable pub isPinLine : List (List ℕ) → Bool
 isPinLine ws = ltb (length ws) 3
 
@@ -120,7 +121,7 @@ pinRule content m total =
 unfoldable pub withPin : Map → Map
 withPin m = record { order = m .order; rows = m .rows; columns = m .columns; pins = m .pins + 1 }
 
--- "at least one pin", and 9 if there is none
+-- "at least one pin"; it is 9 if there is none
 unfoldable pub pinsLack : Map → Bool
 pinsLack m = eqb (m .pins) 0
 

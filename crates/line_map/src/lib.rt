@@ -1,5 +1,5 @@
 // Document 01, "Pin maps": the lines above Pin_list, and the pins below it.
-// A line is read on its own first, then judged against the map as far as it is read.
+// A line is first read on its own, then judged against what has been read of the map.
 ghost use mathlib.Core.Path.{_≡_};
 ghost use mathlib.Core.Bool.{not};
 ghost use Prim.Native.Nat.{_<_};
@@ -25,7 +25,8 @@ ghost use Rattle.line_map.specs.PinMap.{
 };
 ghost use Rattle.line_map.specs.Way.Bounded.{BoundedMap};
 
-// A map as far as it is read. The order is one above the table's count, so that 0 says of each of the three that it is still to come.
+// What has been read of a map. The order is its number in the table plus 1, so that a 0 in order, rows or columns means
+// that it has not been given yet.
 pub struct Map {
     pub order: u64,
     pub rows: u64,
@@ -33,7 +34,8 @@ pub struct Map {
     pub pins: u64,
 }
 
-// What a line above Pin_list says, whether its rest is right, whether its number is formed and in bounds, and what it gives.
+// A line above Pin_list: what it says, whether its rest is right, whether its number is well formed and within its
+// bounds, and the value that it gives.
 pub struct MapLine {
     pub says: u64,
     pub right: bool,
@@ -58,7 +60,7 @@ const MOST_PINS: u64 = 4096;
 
 const MOST_MAP_PINS: u64 = 256;
 
-// "Row_ordered, Column_ordered or Un_ordered", one above the table's count; 0 for none.
+// "Row_ordered, Column_ordered or Un_ordered": the number in the table plus 1; 0 for any other word.
 fn order_of(word: &[u8]) -> u64
     ensures { λ r. ⌜ r ≡ orderOf (now (word .entry)) ⌝ }
 {
@@ -154,7 +156,7 @@ fn size_line(says: u64, content: &[u8]) -> MapLine
     }
 }
 
-// What a line above Pin_list says. In the forms with `=` the sign ends the first word.
+// Reads a line above Pin_list. In the forms with `=` the sign ends the first word.
 pub fn map_line(content: &[u8]) -> MapLine
     ensures { λ r. ⌜ r ≡ mapLineOf (now (content .entry)) ⌝ }
 {
@@ -203,7 +205,7 @@ fn is_ordered(m: Map) -> bool
     m.order <= 2
 }
 
-// A size stands "for the ordered two" only, and once.
+// Whether a size line is out of order: sizes are "for the ordered two" only, and each is given once.
 fn takes_no_size(m: Map, given: u64) -> bool
     ensures { λ r. ⌜ r ≡ either (not (isOrdered m)) (not (eqb given 0)) ⌝ }
 {
@@ -213,7 +215,8 @@ fn takes_no_size(m: Map, given: u64) -> bool
     true
 }
 
-// "for the ordered two `Num_of_columns = c` and `Num_of_rows = r`, either first; then `Pin_list`".
+// Whether Pin_list is out of order: "for the ordered two `Num_of_columns = c` and `Num_of_rows = r`, either first; then
+// `Pin_list`".
 fn takes_no_list(m: Map) -> bool
     ensures { λ r. ⌜ r ≡ either (eqb (m .order) 0) (both (isOrdered m) (either (eqb (m .rows) 0) (eqb (m .columns) 0))) ⌝ }
 {
@@ -229,7 +232,7 @@ fn takes_no_list(m: Map) -> bool
     false
 }
 
-// "repeated or out of order 12", and so is a line that no map takes.
+// "repeated or out of order 12"; a line that no map takes is 12 too.
 fn is_out_of_order(l: MapLine, m: Map) -> bool
     ensures { λ r. ⌜ r ≡ isMapOutOfOrder l m ⌝ }
 {
@@ -248,7 +251,7 @@ fn is_out_of_order(l: MapLine, m: Map) -> bool
     true
 }
 
-// The number of the rule that a line above Pin_list breaks, 0 for none.
+// The rule that a line above Pin_list breaks, 0 for none.
 pub fn map_rule(l: MapLine, m: Map) -> u64
     ensures { λ r. ⌜ r ≡ mapRule l m ⌝ }
 {
@@ -267,7 +270,7 @@ pub fn map_rule(l: MapLine, m: Map) -> u64
     0
 }
 
-// What a line gives where it says the thing that is asked for, else what is there.
+// The value of the line if the line says `asked`, else the value that is there already.
 fn given(l: MapLine, asked: u64, there: u64) -> u64
     ensures { λ r. ⌜ r ≡ (if eqb (l .says) asked then l .value else there) ⌝ }
 {
@@ -292,8 +295,8 @@ pub fn map_next(l: MapLine, m: Map) -> Map
     }
 }
 
-// The number of the rule that a pin's line breaks, 0 for none. `total` is how many pins all maps have before it. A line may hold a
-// signal's name after the pin's, which is not read.
+// The rule that the line of a pin breaks, 0 for none. `total` is how many pins all maps have before it. After the name
+// of the pin a line may have the name of a signal, which is not read.
 pub fn pin_rule(content: &[u8], m: Map, total: u64) -> u64
     ensures { λ r. ⌜ r ≡ pinRule (now (content .entry)) m total ⌝ }
 {
@@ -310,7 +313,7 @@ pub fn pin_rule(content: &[u8], m: Map, total: u64) -> u64
     0
 }
 
-// The map after a pin. Where the pin breaks no rule there are fewer than 256 before it.
+// The map after one more pin. If the pin breaks no rule, there are fewer than 256 pins before it.
 pub fn with_pin(m: Map) -> Map
     requires { ⌜ m .pins < 4_294_967_296 ⌝ }
     ensures { λ r. ⌜ r ≡ withPin m ⌝ }
@@ -330,7 +333,8 @@ pub fn pins_lack(m: Map) -> bool
     m.pins == 0
 }
 
-// "at most rows times columns pins", fewer where a corner is missing; more are 16 at the keyword that ends the map.
+// "at most rows times columns pins": there are fewer if a corner is missing; more are 16 at the keyword that ends the
+// map.
 pub fn is_wrong_grid(m: Map) -> bool
     requires { ⌜ BoundedMap m ⌝ }
     ensures { λ r. ⌜ r ≡ isWrongGrid m ⌝ }

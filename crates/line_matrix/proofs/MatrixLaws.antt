@@ -1,4 +1,5 @@
--- Laws of matrices that the code of this crate is shown by: each has what the code knows at a place as its premises.
+-- Laws of matrices by which the code of this crate is proved: the premises of each law are what the code knows at that
+-- point.
 -- Assumes nothing.
 use mathlib.Core.Path.{_≡_, refl, sym, _∙_, ap}
 use mathlib.Core.Bool.{Bool, true, false, not}
@@ -49,7 +50,7 @@ use Rattle.line_matrix.specs.Matrix.{
 
 -- ---- rows
 
--- whether a number is the next after another, told without a sum that could wrap
+-- whether a row is the next one, decided without a sum that could wrap
 next-told : (row last : ℕ) → (row ≡ 0 → ⊥) → eqb (row - 1) last ≡ eqb row (last + 1)
 next-told row last h =
     by-cases (eqb (row - 1) last ≡ eqb row (last + 1)) (eqb (row - 1) last)
@@ -90,7 +91,7 @@ row-added row m values above greatest fits a g f =
 
 -- ---- data lines
 
--- by what the number reader answered
+-- the result of the number reader
 module _ (s : List ℕ) (word : Span) (read : NumberAt) (ends : word .end ≡ runEnd isFilled s (word .start)) (answer : read ≡ numberAt s (word .start)) where
   pub marked-number : read .number ≡ numberOf (markedBy s word)
   unfolding numberAt wordFrom
@@ -128,7 +129,7 @@ unfolding both
 both-whole true = refl
 both-whole false = refl
 
--- a number read where it stands is the next word of the line
+-- a number that is read in place is the next word of the line
 module _ (s : List ℕ) (at start : ℕ) (read : NumberAt) (begins : start ≡ runEnd isBlank s at) (told : read ≡ numberAt s start) where
   pub placed-end : read .end ≡ runEnd isFilled s start
   unfolding numberAt
@@ -156,7 +157,7 @@ module _ (s : List ℕ) (at start : ℕ) (read : NumberAt) (begins : start ≡ r
   pub placed-within : at ≤ length s → read .end ≤ length s
   placed-within h = word-within s at (record { start = start; end = read .end }) placed-found h
 
--- what has been read of a line, and what its words from `at` on add
+-- the state of the loop: what has been read of a line, together with its words from `at` on, gives the whole line
 pub record Pending (s : List ℕ) (at numbers : ℕ) (formed bounded : Bool) : Type 0 where
   pub counted : numbers + length (wordsAfter s at) ≡ length (words s)
   pub wellFormed : both formed (areFormed (wordsAfter s at)) ≡ areFormed (words s)
@@ -183,7 +184,7 @@ module _ (s : List ℕ) (at numbers : ℕ) (formed bounded : Bool) (pending : Pe
       let b : bounded ≡ areBounded (words s) = sym (ap (both bounded) (ap areBounded e ∙ bounded-nil) ∙ both-whole bounded) ∙ pending .inBounds in
       λ i. record { numbers = n i; column = 0; right = true; formed = f i; bounded = b i }
 
-  -- past the end of the line no word is left
+  -- at the end of the line no word is left
   pub line-past : length s ≤ at → record { numbers = numbers; column = 0; right = true; formed = formed; bounded = bounded } ≡ numbersLine (words s)
   line-past h = line-done (after-past s at h)
 
@@ -216,7 +217,7 @@ module _ (s : List ℕ) (at numbers : ℕ) (formed bounded : Bool) (pending : Pe
         let k : read .number ≡ numberOf (markedBy s (record { start = start; end = read .end })) = placed-number s at start read begins told in
         line-goes (record { start = start; end = read .end }) (placed-found s at start read begins told) h (record { formed = isFormed (read .number); bounded = isBounded (read .number) }) (λ i. record { formed = isFormed (k i); bounded = isBounded (k i) }) f b (df ∙ ap (both formed) ef) (db ∙ ap (both bounded) eb)
 
--- a line of a Sparse_matrix: its first word, and the number behind it
+-- a line of a Sparse_matrix: its first word, and the number after it
 module _ (s : List ℕ) (first : Span) (one : first ≡ wordSpan s 0) (start : ℕ) (begins : start ≡ runEnd isBlank s (first .end)) where
   other-line : (n : ℕ) → firstTwoOf s .count ≡ n → (n ≡ 2 → ⊥) → record { numbers = 0; column = 0; right = false; formed = true; bounded = true } ≡ sparseLine (words s)
   unfolding sparseLine
@@ -242,7 +243,7 @@ module _ (s : List ℕ) (first : Span) (one : first ≡ wordSpan s 0) (start : �
     unfolding second
     is-second = placed-found s (first .end) start read begins told
 
-    -- a second word stands behind the first
+    -- the first word is there, since a second one follows it
     first-stands : first .start < length s
     first-stands =
         by-cases (first .start < length s) (ltb (first .start) (length s)) (ltb-true _ _)

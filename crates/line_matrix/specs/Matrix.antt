@@ -1,5 +1,5 @@
 -- Document 01, "Sections and matrices": the rows and numbers of a matrix in its four forms, and its shape.
--- `values` is how many values have been read in the whole file, so that a row's numbers are those since `from`.
+-- `values` is how many values have been read in the whole file, so that the numbers of a row are those since `from`.
 -- Assumes nothing.
 use Prim.Native.Nat.{ℕ, _+_, _-_, min, max}
 use mathlib.Core.Bool.{Bool, true, false, not}
@@ -38,8 +38,8 @@ mostValues = 65_536
 abbrev pub mostConductors : ℕ
 mostConductors = 256
 
--- a matrix of a form, no row and no number read. The band of a row is the most numbers it may have: B + 1 of a Banded_matrix, 0 before
--- its [Bandwidth]; all of a Full_matrix
+-- a matrix of this form before its first row and number. `band` is the most numbers that a row may have: B + 1 in a
+-- Banded_matrix, 0 before its [Bandwidth]; in a Full_matrix 256, so that it is no limit
 unfoldable pub newMatrix : ℕ → ℕ → Matrix
 newMatrix form values =
     record {
@@ -65,15 +65,16 @@ isWrongRow row m =
 unfoldable pub withBandwidth : ℕ → Matrix → Matrix
 withBandwidth b m = record { form = m .form; band = b + 1; first = m .first; rows = m .rows }
 
--- the row now read has so many numbers
+-- how many numbers the present row has so far
 unfoldable pub inRow : Matrix → ℕ → ℕ
 inRow m values = values - m .rows .from
 
--- "row i has N-i+1 numbers", "row i has 1+min(B, N-i)": of two rows the upper has one more than the lower, or as many as the band
+-- "row i has N-i+1 numbers", "row i has 1+min(B, N-i)": of two rows the upper one has one number more than the lower
+-- one, or as many as the band allows
 unfoldable pub standsAbove : Matrix → ℕ → Bool
 standsAbove m values = either (ltb (m .rows .row) 2) (eqb (m .rows .above) (min (m .band) (inRow m values + 1)))
 
--- all so far fits, the row that the next one ends too
+-- everything so far fits, including the row that ends at the next [Row]
 unfoldable pub stillFits : Matrix → ℕ → Bool
 stillFits m values = both (m .rows .fits) (either (eqb (m .form) sparse) (standsAbove m values))
 
@@ -96,7 +97,7 @@ withRow row m values =
 
 -- ---- data lines
 
--- what a word says as a number
+-- whether a word is a number, and whether the number is within its bounds
 unfoldable pub toldBy : List ℕ → NumberCheck
 toldBy w = record { formed = isFormed (numberOf w); bounded = isBounded (numberOf w) }
 
@@ -113,7 +114,7 @@ areBounded (w ∷ ws) = both (toldBy w .bounded) (areBounded ws)
 unfoldable pub numbersLine : List (List ℕ) → DataLine
 numbersLine ws = record { numbers = length ws; column = 0; right = true; formed = areFormed ws; bounded = areBounded ws }
 
--- a column and what the word behind it says
+-- a sparse line: its column, and the check of the word after it
 abbrev pub pairLine : Whole → NumberCheck → DataLine
 pairLine column told =
     record {
@@ -138,7 +139,7 @@ dataLineOf form content = if eqb form sparse then sparseLine (words content) els
 unfoldable pub isDataOutOfOrder : DataLine → Matrix → Bool
 isDataOutOfOrder l m = either (not (l .right)) (both (not (eqb (m .form) diagonal)) (eqb (m .rows .row) 0))
 
--- so many numbers more pass the bound
+-- this many more numbers exceed the bound
 unfoldable pub areTooMany : ℕ → ℕ → Bool
 areTooMany values numbers = ltb mostValues (values + numbers)
 
@@ -174,21 +175,21 @@ dataNext l m = if eqb (m .form) sparse then withColumn (l .column) m else m
 
 -- ---- the shape, at the keyword that closes the matrix
 
--- "N is the conductor count"; of a Sparse_matrix "the greatest row or column named"
+-- "N is the conductor count"; in a Sparse_matrix it "is the greatest row or column named"
 unfoldable pub shapeConductors : Matrix → ℕ → ℕ
 shapeConductors m values =
     if eqb (m .form) diagonal then values - m .first else
     if eqb (m .form) sparse then m .rows .greatest else m .rows .row
 
--- the rows are of the right lengths, the last of one number; of a Sparse_matrix the columns rise
+-- all rows have the right length, the last one a single number; in a Sparse_matrix the columns rise
 unfoldable pub isShaped : Matrix → ℕ → Bool
 isShaped m values =
     if eqb (m .form) diagonal then true else
     if eqb (m .form) sparse then m .rows .fits else
     both (m .rows .fits) (both (standsAbove m values) (eqb (inRow m values) 1))
 
--- "N is .. the same for a section's matrices": known is that of the matrices before it, 0 where there is none;
--- "Breaks of shape (a matrix with no number too)"
+-- "Breaks of shape (a matrix with no number too)"; "N is .. the same for a section's matrices": `known` is the N of the
+-- earlier matrices of the section, 0 if there is none
 unfoldable pub isWrongShape : Matrix → ℕ → ℕ → Bool
 isWrongShape m known values =
     either (leb values (m .first))

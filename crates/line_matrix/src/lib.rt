@@ -8,7 +8,7 @@ ghost use Rattle.line_matrix.specs.Matrix.{newMatrix, isWrongBandwidth, 
 use lex_number::Number;
 use lex_number::Whole;
 
-// The forms, as the table counts them.
+// The forms, by their numbers in the table.
 pub const DIAGONAL: u64 = 0;
 
 pub const BANDED: u64 = 1;
@@ -21,8 +21,9 @@ const MOST_VALUES: u64 = 65536;
 
 const MOST_CONDUCTORS: u64 = 256;
 
-// How far the rows of a matrix have come: the last [Row], how many numbers the row above it has, how many values had been read
-// where it starts, the least column that may come next, the greatest row or column named, and whether all so far fits.
+// What has been read of the rows of a matrix: the number of the last [Row], how many numbers the row above it has, how
+// many values the file has before it, the least column that may come next, the greatest row or column named, and
+// whether everything so far fits.
 pub struct Rows {
     pub row: u64,
     pub above: u64,
@@ -32,7 +33,7 @@ pub struct Rows {
     pub fits: bool,
 }
 
-// A matrix: its form, the most numbers a row may have, how many values had been read where it starts, and its rows.
+// A matrix: its form, the most numbers that a row may have, how many values the file has before it, and its rows.
 pub struct Matrix {
     pub form: u64,
     pub band: u64,
@@ -40,8 +41,8 @@ pub struct Matrix {
     pub rows: Rows,
 }
 
-// A data line: how many numbers it writes, its column where it has one, whether it has the words it should, and whether they are
-// numbers and within their bounds.
+// A data line: how many numbers it writes, its column if it has one, whether the count of its words is right, whether
+// the words are numbers, and whether the numbers are within their bounds.
 pub struct DataLine {
     pub numbers: u64,
     pub column: u64,
@@ -62,14 +63,14 @@ fn greater(a: u64, b: u64) -> u64
     if a < b { b } else { a }
 }
 
-// What is left of a when b is taken away, 0 where b is more.
+// a minus b, or 0 if b is greater.
 fn less(a: u64, b: u64) -> u64
     ensures { λ r. ⌜ r ≡ a - b ⌝ }
 {
     if a < b { 0 } else { a - b }
 }
 
-// A matrix of which only the keyword is read.
+// A matrix of which only the keyword has been read.
 pub fn new_matrix(form: u64, values: u64) -> Matrix
     ensures { λ r. ⌜ r ≡ newMatrix form values ⌝ }
 {
@@ -97,7 +98,7 @@ pub fn new_matrix(form: u64, values: u64) -> Matrix
     }
 }
 
-// [Bandwidth] stands once, in a Banded_matrix, before its rows.
+// Whether a [Bandwidth] is wrong: it must come once, in a Banded_matrix, before its rows.
 pub fn is_wrong_bandwidth(m: Matrix) -> bool
     ensures { λ r. ⌜ r ≡ isWrongBandwidth m ⌝ }
 {
@@ -111,7 +112,8 @@ pub fn is_wrong_bandwidth(m: Matrix) -> bool
     rows.row != 0
 }
 
-// [Row] is the next of a Full_matrix or a Banded_matrix, above the last of a Sparse_matrix, and never stands in a Diagonal_matrix.
+// Whether a [Row] is wrong. In a Full_matrix or a Banded_matrix, which needs its [Bandwidth] first, it must be the next
+// number; in a Sparse_matrix it must be above the last; a Diagonal_matrix has no [Row].
 pub fn is_wrong_row(row: u64, m: Matrix) -> bool
     ensures { λ r. ⌜ r ≡ isWrongRow row m ⌝ }
 {
@@ -151,7 +153,7 @@ fn in_row(m: Matrix, values: u64) -> u64
     less(values, rows.from)
 }
 
-// The row above has one number more than this one, or as many as the band allows.
+// Whether the row above has one number more than the present row, or as many as the band allows.
 fn stands_above(m: Matrix, values: u64) -> bool
     ensures { λ r. ⌜ r ≡ standsAbove m values ⌝ }
 {
@@ -166,7 +168,7 @@ fn stands_above(m: Matrix, values: u64) -> bool
     rows.above == m.band
 }
 
-// All so far fits, the row that the next one ends too.
+// Whether everything so far fits, including the row that ends at the next [Row].
 fn still_fits(m: Matrix, values: u64) -> bool
     ensures { λ r. ⌜ r ≡ stillFits m values ⌝ }
 {
@@ -200,7 +202,7 @@ pub fn with_row(row: u64, m: Matrix, values: u64) -> Matrix
     }
 }
 
-// What a word of a data line says as a number.
+// Whether a word of a data line is a number, and whether the number is within its bounds.
 struct NumberCheck {
     formed: bool,
     bounded: bool,
@@ -215,7 +217,7 @@ fn told_of(number: Number) -> NumberCheck
     }
 }
 
-// A line of numbers: each is read where it stands, and gone over once.
+// Reads a line of numbers. Each number is read in place, in one pass.
 fn numbers_line(content: &[u8]) -> DataLine
     ensures { λ r. ⌜ r ≡ numbersLine (words (now (content .entry))) ⌝ }
 {
@@ -250,7 +252,7 @@ fn numbers_line(content: &[u8]) -> DataLine
     }
 }
 
-// A line of a Sparse_matrix that has not two words.
+// A line of a Sparse_matrix that does not have two words.
 fn not_two() -> DataLine
     ensures { λ r. ⌜ r ≡ record { numbers = 0; column = 0; right = false; formed = true; bounded = true } ⌝ }
 {
@@ -276,7 +278,7 @@ fn pair_line(column: Whole, told: NumberCheck) -> DataLine
     }
 }
 
-// A line of a Sparse_matrix: a column and a value, which is read where it stands, and gone over once.
+// Reads a line of a Sparse_matrix: a column and a value. The value is read in place, in one pass.
 fn sparse_line(content: &[u8]) -> DataLine
     ensures { λ r. ⌜ r ≡ sparseLine (words (now (content .entry))) ⌝ }
 {
@@ -294,7 +296,7 @@ fn sparse_line(content: &[u8]) -> DataLine
     pair_line(column, told_of(number))
 }
 
-// What a line between the keywords of a matrix says.
+// Reads a line between the keywords of a matrix.
 pub fn data_line(form: u64, content: &[u8]) -> DataLine
     ensures { λ r. ⌜ r ≡ dataLineOf form (now (content .entry)) ⌝ }
 {
@@ -304,7 +306,7 @@ pub fn data_line(form: u64, content: &[u8]) -> DataLine
     numbers_line(content)
 }
 
-// A line above the first [Row] of a form with rows, or of other words than its form takes.
+// Whether a line is above the first [Row] of a form with rows, or has a count of words that its form does not take.
 fn is_out_of_order(l: DataLine, m: Matrix) -> bool
     ensures { λ r. ⌜ r ≡ isDataOutOfOrder l m ⌝ }
 {
@@ -318,7 +320,7 @@ fn is_out_of_order(l: DataLine, m: Matrix) -> bool
     rows.row == 0
 }
 
-// Whether so many numbers more pass the bound; the sum is not formed, since it could wrap.
+// Whether this many more numbers exceed the bound. The code does not form the sum, which could wrap.
 fn are_too_many(values: u64, numbers: u64) -> bool
     ensures { λ r. ⌜ r ≡ areTooMany values numbers ⌝ }
 {
@@ -346,7 +348,7 @@ pub fn data_rule(l: DataLine, m: Matrix, values: u64) -> u64
     0
 }
 
-// A value in a column of a Sparse_matrix: columns rise, and none is below the row.
+// The matrix after a value in this column of a Sparse_matrix: columns rise, and none is below the row.
 fn with_column(column: u64, m: Matrix) -> Matrix
     requires { ⌜ column < 4294967296 ⌝ }
     ensures { λ r. ⌜ r ≡ withColumn column m ⌝ }
@@ -378,7 +380,8 @@ pub fn data_next(l: DataLine, m: Matrix) -> Matrix
     m
 }
 
-// N, by the form: the numbers of a Diagonal_matrix, the greatest row or column of a Sparse_matrix, else the rows.
+// N, by the form: the count of numbers of a Diagonal_matrix, the greatest row or column of a Sparse_matrix, else the
+// count of rows.
 pub fn conductors_of(m: Matrix, values: u64) -> u64
     ensures { λ r. ⌜ r ≡ shapeConductors m values ⌝ }
 {
@@ -392,7 +395,7 @@ pub fn conductors_of(m: Matrix, values: u64) -> u64
     rows.row
 }
 
-// The rows are of the right lengths, the last of one number; of a Sparse_matrix the columns rise.
+// Whether all rows have the right length, the last one a single number; in a Sparse_matrix, whether the columns rise.
 fn is_shaped(m: Matrix, values: u64) -> bool
     ensures { λ r. ⌜ r ≡ isShaped m values ⌝ }
 {
@@ -412,7 +415,8 @@ fn is_shaped(m: Matrix, values: u64) -> bool
     in_row(m, values) == 1
 }
 
-// At the keyword that closes a matrix: no number, a wrong row, or another N than the matrices before it in the section.
+// Whether the shape is wrong at the keyword that closes a matrix: no number, a wrong row, or another N than the earlier
+// matrices of the section, `known`, which is 0 if there is none.
 pub fn is_wrong_shape(m: Matrix, known: u64, values: u64) -> bool
     ensures { λ r. ⌜ r ≡ isWrongShape m known values ⌝ }
 {
@@ -428,7 +432,7 @@ pub fn is_wrong_shape(m: Matrix, known: u64, values: u64) -> bool
     known != conductors_of(m, values)
 }
 
-// A Diagonal_matrix of more numbers than there may be conductors.
+// Whether a Diagonal_matrix has more numbers than there may be conductors.
 pub fn is_too_wide(m: Matrix, values: u64) -> bool
     ensures { λ r. ⌜ r ≡ isTooWide m values ⌝ }
 {

@@ -1,5 +1,5 @@
--- The depth of a path: a line that breaks no rule keeps it within 8. A Fork raises it by one, an Endfork lowers it by one, and every
--- other line keeps it.
+-- The depth of a path: after a line that breaks no rule it is still at most 8. A Fork raises it by one, an Endfork
+-- lowers it by one, and no other line changes it.
 -- Assumes nothing.
 use mathlib.Core.Path.{_≡_, refl, sym, _∙_, ap}
 use mathlib.Core.Bool.{true, false}
@@ -14,7 +14,7 @@ use Rattle.line_path.specs.declared.Path.{Path}
 use Rattle.line_path.specs.declared.PathLine.{PathLine}
 use Rattle.line_path.proofs.RuleLaws.{bad-fork, bad-endfork, closed-other}
 
--- an end changes no depth
+-- an end does not change the depth
 end-keeps : (p : Path) → withEnd p .depth ≡ p .depth
 unfolding withEnd
 end-keeps p =
@@ -73,11 +73,11 @@ module _ (l : PathLine) (p : Path) where
         absurd (omega arith))
         (λ (e : isBadFork l p ≡ false). e)
 
-    -- a Fork that breaks nothing stands above the deepest place
+    -- at a Fork that breaks nothing the depth is below 8
     pub fork-below : l .says ≡ saysFork → p .depth < deepest
     fork-below e = leb-false deepest (p .depth) (bad-fork l p e ∙ no-bad-fork (λ (f : l .says ≡ saysSide). omega arith))
 
-    -- an Endfork that breaks nothing stands in a block
+    -- at an Endfork that breaks nothing a block is open
     pub endfork-inside : l .says ≡ saysEndfork → (p .depth ≡ 0 → ⊥)
     endfork-inside e = eqb-false (p .depth) 0 (bad-endfork l p (λ (f : l .says ≡ saysFork). omega arith) e ∙ no-bad-fork (λ (f : l .says ≡ saysSide). omega arith))
 

@@ -1,4 +1,4 @@
--- Laws of the rules of a path: what code finds by one test after the other is what each rule says.
+-- Laws of the rules of a path: the code, making one test after another, returns what each definition gives.
 -- Assumes nothing.
 use mathlib.Core.Path.{_≡_, refl, sym, _∙_, ap}
 use mathlib.Core.Bool.{Bool, true, false, not}
@@ -40,13 +40,13 @@ module _ (stage : ℕ) (ended : Bool) where
   pub fork-late : items ≤ stage → ended ≡ either (ltb stage items) ended
   fork-late h = sym (either-rest _ _ (le-ltb stage items h))
 
--- only an Endfork is left that stands nowhere out of order
+-- of the lines that are left, only an Endfork is not out of order
 pub no-endfork : (b : Bool) → not b ≡ (if b then false else true)
 unfolding if_then_else_
 no-endfork true = refl
 no-endfork false = refl
 
--- ---- 17, of which t says whether the line is a step
+-- ---- 17; t says whether the line is a step
 
 module _ (l : PathLine) (steps : ℕ) (t : Bool) (told : t ≡ isStepLine l) where
   pub side-free : not t ≡ true → 0 ≡ first (both (isStepLine l) (leb mostSteps steps)) 17 0
@@ -81,7 +81,7 @@ module _ (l : PathLine) (p : Path) where
     unfolding closedRule
     closed-wrong e = gives-first _ _ _ (not-via e) ∙ sym (if-true _ _ closed-side)
 
--- ---- a block less
+-- ---- one open block less
 
 pub next-endfork : (l : PathLine) (p : Path) (depth : ℕ) → (l .says ≡ saysEnd → ⊥) → (l .says ≡ saysSection → ⊥) → (l .says ≡ saysFork → ⊥) → l .says ≡ saysEndfork → depth ≡ p .depth - 1 → record { stage = items; depth = depth; ended = false; side = false } ≡ pathNext l p
 unfolding pathNext

@@ -1,4 +1,4 @@
--- Laws of a Section line: read part by part it is what its definition says.
+-- Laws of a Section line: reading it part by part gives the line of its definition.
 -- Assumes nothing.
 use mathlib.Core.Path.{_≡_, sym, _∙_, ap}
 use mathlib.Core.Bool.{Bool, true, false, true≢false}
@@ -71,7 +71,7 @@ module _ (left : List ℕ) (before : FirstTwo) (one : before ≡ firstTwoOf left
 
 -- ---- the line
 
--- what follows from a test fails only where the test does
+-- if a implies b and b is false, a is false
 fails : (a b : Bool) → (a ≡ true → b ≡ true) → b ≡ false → a ≡ false
 fails a b h e = by-cases (a ≡ false) a (λ (f : a ≡ true). absurd (true≢false (sym (h f) ∙ e))) (λ (f : a ≡ false). f)
 
@@ -109,7 +109,7 @@ module _ (content : List ℕ) where
   unfolding sectionLine amountLine
   section-amount mult m e = rw (sym m) (sym (if-true _ _ e))
 
-  -- the parts are right: only the unit is still to be told
+  -- the words before and after the sign are right; only the unit has to be decided
   parted-line : hasEquals content ≡ true → parted ≡ true → unitLine (secondOf (leftOf content)) (firstOf (rightOf content)) ≡ sectionLine content
   unfolding unitLine isMult
   parted-line s p =
@@ -128,7 +128,7 @@ module _ (content : List ℕ) where
       (λ (p : parted ≡ true). parted-line s p)
       (λ (p : parted ≡ false). section-wrong (fails _ _ section-parted p))
 
-  -- a line parted at its first `=`
+  -- a line split at its first `=`
   module _ (sign : ℕ) (at : sign ≡ toEquals content) where
     pub section-none : (r : PathLine) → length content ≤ sign → r ≡ plainLine saysSection false → r ≡ sectionLine content
     section-none r h e = e ∙ section-wrong (fails _ _ section-sign (sign-none content sign at h))

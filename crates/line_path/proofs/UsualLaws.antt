@@ -1,4 +1,4 @@
--- Laws of the lines of a path as they are mostly written: what their bytes say.
+-- Laws of the lines of a path in their usual forms, recognized by their bytes.
 -- Assumes nothing.
 use mathlib.Core.Path.{_≡_, refl, sym, _∙_, ap}
 use mathlib.Core.Bool.{Bool, true, false, not}
@@ -31,7 +31,7 @@ use Rattle.line_path.specs.Way.Usual.{multFront, OpensMult, Paired, Usua
 use Rattle.line_path.specs.declared.PathLine.{PathLine}
 use Rattle.line_path.proofs.SectionLaws.{parts-are}
 
--- ---- bytes known by their number
+-- ---- bytes recognized by the number that they make
 
 known : (xs ys : List ℕ) (w : ℕ) → length xs ≡ length ys → all isByte ys ≡ true → Joins xs w → w ≡ joined ys → xs ≡ ys
 known xs ys w long small j e = joined-same xs ys long (j .bytes) small (sym (j .word) ∙ e)
@@ -58,7 +58,7 @@ mult-joined : joined (bytes "on Mult=") ≡ 4_428_283_584_672_984_687
 unfolding joined
 mult-joined = refl
 
--- the front of a line by its first eight bytes, and by the eight from the sixth on
+-- the front of a line, from its first eight bytes and from the eight bytes that begin at the sixth
 opens-front : (c : List ℕ) → 13 ≤ length c → take 8 (drop 0 c) ≡ bytes "Section " → take 8 (drop 5 c) ≡ bytes "on Mult=" → c ≡ multFront ++ drop 13 c
 opens-front c long one two =
     let whole : c ≡ bytes "Section " ++ drop 8 c = sym (take-append-drop 8 c) ∙ ap (λ (x : List ℕ). x ++ drop 8 c) one in
@@ -89,7 +89,7 @@ blank-filled : (b : ℕ) → isFilled b ≡ false → isBlank b ≡ true
 unfolding isFilled
 blank-filled b e = not-false (isBlank b) e
 
--- no blank stands where a word starts
+-- there is no blank where a word starts
 no-blanks : (s : List ℕ) → 0 < run isFilled s → run isBlank s ≡ 0
 no-blanks s h =
     run-is isBlank s 0 zero-le (λ k g. absurd (not-suc-le-zero g))
@@ -127,7 +127,7 @@ module _ (s : List ℕ) (r : ℕ) (p : Paired s r) where
       let none : wordsAfter s (length s) ≡ [] = after-past s (length s) (omega arith) in
       one ∙ ap (λ (ws : List (List ℕ)). take (r - 0) s ∷ ws) (two ∙ ap (λ (ws : List (List ℕ)). take (length s - (r + 1)) (drop (r + 1) s) ∷ ws) none)
 
--- ---- a line that opens with `Section Mult=`
+-- ---- a line that starts with `Section Mult=`
 
 front-says : (rest : List ℕ) → sayingOf (firstOf (words (multFront ++ rest))) ≡ saysSection
 unfolding sayingOf same wordsFrom isBlank wordGoesOn isFilled grown both either if_then_else_
@@ -183,7 +183,7 @@ unfolding partsLine isParted unitLine same both if_then_else_
 parts-kept a n e = ap (λ (b : Bool). if not b then unitLine (bytes "Mult") a else plainLine saysSection false) e
 
 module _ (c : List ℕ) (end : ℕ) (u : UsualSection c end) where
-  -- its amount and its name, where they stand in the line
+  -- the words after the sign: its amount and its name
   pub usual-words : words (drop 13 c) ≡ take (end - 13) (drop 13 c) ∷ take (length c - (end + 1)) (drop (end + 1) c) ∷ []
   usual-words =
       let g : 13 < end = u .above in
@@ -274,7 +274,7 @@ unfolding pathLineOf lineSaying sayingOf same wordsFrom isBlank wordGoesOn isFil
 fork-line c says r forks h = h
 fork-line c says r ends h = h
 
--- ---- what the readers of these lines ask for
+-- ---- what the readers of these lines need
 
 pub fork-line-in : (c : List ℕ) (says : ℕ) (r : PathLine) → ((says ≡ 0 → ⊥) → UsualFork c says) → (says ≡ 0 → ⊥) → r ≡ plainLine says true → r ≡ pathLineOf c
 fork-line-in c says r told n h = fork-line c says r (told n) h

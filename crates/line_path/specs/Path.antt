@@ -50,11 +50,11 @@ sayingOf w =
 unfoldable pub plainLine : ℕ → Bool → PathLine
 plainLine says right = record { says = says; right = right; formed = true; bounded = true }
 
--- "`Model_pinmap name`", "`Side name`": one word more, never a reserved one
+-- "`Model_pinmap name`", "`Side name`": one more word, which is not reserved
 unfoldable pub namesOne : List (List ℕ) → Bool
 namesOne ws = both (eqb (length ws) 2) (not (isReserved (secondOf ws)))
 
--- "Len=v name (v above zero)": "Zero is 14 only as a Len"
+-- "Len=v name (v above zero)": "Zero is 14 only as a Len". A word that is no number is 13, and not 14
 abbrev pub isLength : Number → Bool
 isLength (Value w) = both (not (eqb w zeroWord)) (eqb (w % 2) 0)
 isLength Malformed = true
@@ -91,7 +91,7 @@ lineSaying says content =
 unfoldable pub pathLineOf : List ℕ → PathLine
 pathLineOf content = lineSaying (sayingOf (firstOf (words content))) content
 
--- how far a path has come: its first end still to come, its first Section still to come, its items, its closing end read
+-- the stages of a path: before its first end, before its first Section, among its items, after its closing end
 abbrev pub starting : ℕ
 starting = 0
 
@@ -129,7 +129,7 @@ isPathOutOfOrder l p =
     if eqb (l .says) saysEnd then either (eqb (p .stage) started) (p .ended) else
     if eqb (l .says) saysEndfork then false else true
 
--- the lines that are steps: all but Side
+-- of the lines that a path takes, all but Side are steps
 unfoldable pub isStepLine : PathLine → Bool
 isStepLine l = not (eqb (l .says) saysSide)
 
@@ -153,7 +153,7 @@ closedRule l p =
 unfoldable pub pathRule : PathLine → Path → ℕ → ℕ
 pathRule l p steps = if eqb (p .stage) closed then closedRule l p else openRule l p steps
 
--- an end: the first, the closing one, or the last of a fork block
+-- the path after an end: its first end, its closing end, or the end of a fork block
 unfoldable pub withEnd : Path → Path
 withEnd p =
     if eqb (p .stage) starting then record { stage = started; depth = p .depth; ended = false; side = true } else
@@ -172,6 +172,6 @@ pathNext l p =
 unfoldable pub pathOpen : Path → Bool
 pathOpen p = ltb 0 (p .depth)
 
--- its first end, its first Section or its last end lacks
+-- the first end, the first Section or the last end is missing when a keyword closes the path, which is 9
 unfoldable pub pathLacks : Path → Bool
 pathLacks p = not (eqb (p .stage) closed)

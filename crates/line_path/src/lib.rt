@@ -13,7 +13,7 @@ ghost use Rattle.line_path.specs.Way.Usual.{OpensMult, Paired, UsualSect
 use lex_line::FirstTwo;
 use lex_number::Number;
 
-// What a line of a path says: Model_pinmap is an end.
+// What a line of a path says. Model_pinmap is an end.
 const NOTHING: u64 = 0;
 
 pub const END: u64 = 1;
@@ -26,7 +26,7 @@ pub const FORK: u64 = 4;
 
 pub const ENDFORK: u64 = 5;
 
-// How far a path has come: its first end still to come, its first Section still to come, its items, its closing end read.
+// The stages of a path: before its first end, before its first Section, among its items, after its closing end.
 const STARTING: u64 = 0;
 
 const STARTED: u64 = 1;
@@ -42,8 +42,8 @@ const MOST_STEPS: u64 = 4_096;
 
 const ZERO_WORD: u64 = 128;
 
-// Where a path stands: how far it has come, in how many fork blocks, whether the block's end has been read, and whether the next
-// line may be a Side.
+// What has been read of a path: its stage, how many fork blocks are open, whether the end of the innermost block has
+// been read, and whether the next line may be a Side.
 pub struct Path {
     pub stage: u64,
     pub depth: u64,
@@ -51,7 +51,8 @@ pub struct Path {
     pub side: bool,
 }
 
-// What one line says: which line it is, whether its rest is right, its number formed and within its bounds.
+// One line of a path: what it says, whether its rest is right, and whether its number is well formed and within its
+// bounds.
 pub struct PathLine {
     pub says: u64,
     pub right: bool,
@@ -59,7 +60,7 @@ pub struct PathLine {
     pub bounded: bool,
 }
 
-// `Section `, `on Mult=`, `Fork`, `Endf` and `fork`, each as one number.
+// The bytes of `Section `, `on Mult=`, `Fork`, `Endf` and `fork`, each as one number.
 const SECTION_BYTES: u64 = 2_336_927_755_366_786_387;
 
 const MULT_BYTES: u64 = 4_428_283_584_672_984_687;
@@ -70,12 +71,12 @@ const ENDF_BYTES: u64 = 1_717_857_861;
 
 const SMALL_FORK_BYTES: u64 = 1_802_661_734;
 
-// ---- lines as they are mostly written
+// ---- lines in their usual form
 
-// How many bytes stand before the amount of such a Section line.
+// Where the amount starts in a Section line of the usual form, `Section Mult=n name`.
 pub const AMOUNT_AT: usize = 13;
 
-// Whether a line opens with `Section Mult=`, written with one blank.
+// Whether a line starts with `Section Mult=`, written with one space.
 pub fn opens_mult(content: &[u8]) -> bool
     ensures { λ r. ⌜ (r ≡ true → OpensMult (now (content .entry))) ⌝ }
 {
@@ -88,7 +89,7 @@ pub fn opens_mult(content: &[u8]) -> bool
     base::eight_at(content, 5) == MULT_BYTES
 }
 
-// Where the first of two words ends that have one blank between them and none about them; 0 where the form is another.
+// If s is two words with one blank between them and no other blank, where the first word ends; else 0.
 fn pair_end(s: &[u8]) -> usize
     ensures { λ r. ⌜ ((r ≡ 0 → ⊥) → Paired (now (s .entry)) r) ⌝ }
 {
@@ -107,7 +108,7 @@ fn pair_end(s: &[u8]) -> usize
     end
 }
 
-// Where the amount ends of a Section line as it is mostly written, `Section Mult=n name`; 0 where the form is another.
+// Where the amount ends in a Section line of the usual form, `Section Mult=n name`; 0 for any other form.
 pub fn usual_amount(content: &[u8]) -> usize
     ensures { λ r. ⌜ ((r ≡ 0 → ⊥) → UsualSection (now (content .entry)) r) ⌝ }
 {
@@ -121,7 +122,7 @@ pub fn usual_amount(content: &[u8]) -> usize
     AMOUNT_AT + end
 }
 
-// `Fork` or `Endfork` alone; NOTHING where the form is another.
+// `Fork` or `Endfork` alone; NOTHING for any other form.
 pub fn usual_fork(content: &[u8]) -> u64
     ensures { λ r. ⌜ ((r ≡ 0 → ⊥) → UsualFork (now (content .entry)) r) ⌝ }
 {
@@ -145,7 +146,7 @@ pub fn usual_fork(content: &[u8]) -> u64
 
 // ---- what a line says
 
-// A line is known by its first word.
+// What a line says, by its first word.
 pub fn saying_of(word: &[u8]) -> u64
     ensures { λ r. ⌜ r ≡ sayingOf (now (word .entry)) ⌝ }
 {
@@ -167,7 +168,7 @@ pub fn saying_of(word: &[u8]) -> u64
     NOTHING
 }
 
-// A line with no number.
+// A line without a number.
 fn plain_line(says: u64, right: bool) -> PathLine
     ensures { λ r. ⌜ r ≡ plainLine says right ⌝ }
 {
@@ -179,7 +180,7 @@ fn plain_line(says: u64, right: bool) -> PathLine
     }
 }
 
-// "`Model_pinmap name`", "`Side name`": one word more, never a reserved one.
+// "`Model_pinmap name`", "`Side name`": one more word, which is not reserved.
 fn names_one(content: &[u8], few: FirstTwo) -> bool
     requires { ⌜ few ≡ firstTwoOf (now content) ⌝ }
     ensures { λ r. ⌜ r ≡ namesOne (words (now (content .entry))) ⌝ }
@@ -191,7 +192,7 @@ fn names_one(content: &[u8], few: FirstTwo) -> bool
     !line_argument::is_reserved(lex_line::marked(content, second))
 }
 
-// A value word that is above zero: not the word of zero, and its sign bit not set.
+// Whether a value word is above zero: it is not the word of zero, and its sign bit is not set.
 fn is_above_zero(word: u64) -> bool
     ensures { λ r. ⌜ r ≡ isLength (Value word) ⌝ }
 {
@@ -201,7 +202,8 @@ fn is_above_zero(word: u64) -> bool
     word % 2 == 0
 }
 
-// "Len=v name (v above zero)": zero, a negative and a number out of its bounds are 14; a word that is no number is 13 and not this.
+// "Len=v name (v above zero)": zero, a negative number and a number out of its bounds are 14. A word that is no number
+// is 13, and not 14.
 fn is_length(n: Number) -> bool
     ensures { λ r. ⌜ r ≡ isLength n ⌝ }
 {
@@ -246,7 +248,7 @@ fn unit_line(unit: &[u8], amount: &[u8]) -> PathLine
     plain_line(SECTION, false)
 }
 
-// Of a Section line, what stands before its sign and what stands after it: Section and the unit, the amount and the name.
+// Reads a Section line from its two sides: before the sign Section and the unit, after it the amount and the name.
 fn parts_line(left: &[u8], right: &[u8]) -> PathLine
     ensures { λ r. ⌜ r ≡ partsLine (words (now (left .entry))) (words (now (right .entry))) ⌝ }
 {
@@ -317,7 +319,7 @@ fn line_saying(says: u64, content: &[u8], few: FirstTwo) -> PathLine
     plain_line(NOTHING, true)
 }
 
-// A Section line as it is mostly written.
+// Reads a Section line of the usual form, whose amount ends at `end`.
 fn usual_line(content: &[u8], end: usize) -> PathLine
     requires { ⌜ UsualSection (now content) end ⌝ }
     ensures { λ r. ⌜ r ≡ pathLineOf (now (content .entry)) ⌝ }
@@ -329,7 +331,7 @@ fn usual_line(content: &[u8], end: usize) -> PathLine
     amount_line(true, &content[AMOUNT_AT..end])
 }
 
-// A line of a path by its first word.
+// Reads a line of a path of any form, by its first word.
 fn told_line(content: &[u8]) -> PathLine
     ensures { λ r. ⌜ r ≡ pathLineOf (now (content .entry)) ⌝ }
 {
@@ -339,7 +341,7 @@ fn told_line(content: &[u8]) -> PathLine
     line_saying(says, content, few)
 }
 
-// What a line of a path says.
+// Reads a line of a path. The usual forms are tried first.
 pub fn path_line(content: &[u8]) -> PathLine
     ensures { λ r. ⌜ r ≡ pathLineOf (now (content .entry)) ⌝ }
 {
@@ -354,7 +356,7 @@ pub fn path_line(content: &[u8]) -> PathLine
     told_line(content)
 }
 
-// Nothing read yet.
+// A path of which no line has been read.
 pub fn new_path() -> Path
     ensures { λ r. ⌜ r ≡ newPath ⌝ }
 {
@@ -379,8 +381,8 @@ fn is_bad_fork(l: PathLine, p: Path) -> bool
     false
 }
 
-// "perhaps with `Side name` as the next line read"; "The first item is a Section"; "perhaps one end as last". An Endfork with a
-// block open stands nowhere out of order.
+// "perhaps with `Side name` as the next line read"; "The first item is a Section"; "perhaps one end as last". An
+// Endfork is never out of order while a block is open.
 fn is_out_of_order(l: PathLine, p: Path) -> bool
     ensures { λ r. ⌜ r ≡ isPathOutOfOrder l p ⌝ }
 {
@@ -408,14 +410,14 @@ fn is_out_of_order(l: PathLine, p: Path) -> bool
     l.says != ENDFORK
 }
 
-// The lines that are steps: all but Side.
+// Of the lines that a path takes, all but Side are steps.
 pub fn is_step(l: PathLine) -> bool
     ensures { λ r. ⌜ r ≡ isStepLine l ⌝ }
 {
     l.says != SIDE
 }
 
-// Of a path not closed yet: 15 "goes before 9, 11 and 12".
+// The rule that a line breaks in a path that is not closed yet: 15 "goes before 9, 11 and 12".
 fn open_rule(l: PathLine, p: Path, steps: u64) -> u64
     ensures { λ r. ⌜ r ≡ openRule l p steps ⌝ }
 {
@@ -443,7 +445,7 @@ fn open_rule(l: PathLine, p: Path, steps: u64) -> u64
     0
 }
 
-// "The end at depth 0 closes the path": only its Side may follow.
+// The rule that a line breaks in a closed path. "The end at depth 0 closes the path": only its Side may follow.
 fn closed_rule(l: PathLine, p: Path) -> u64
     ensures { λ r. ⌜ r ≡ closedRule l p ⌝ }
 {
@@ -459,7 +461,7 @@ fn closed_rule(l: PathLine, p: Path) -> u64
     11
 }
 
-// The number of the rule that a line breaks, 0 for none; `steps` are those read before it.
+// The rule that a line breaks, 0 for none; `steps` is the count of steps before it.
 pub fn path_rule(l: PathLine, p: Path, steps: u64) -> u64
     ensures { λ r. ⌜ r ≡ pathRule l p steps ⌝ }
 {
@@ -469,7 +471,7 @@ pub fn path_rule(l: PathLine, p: Path, steps: u64) -> u64
     open_rule(l, p, steps)
 }
 
-// An end: the first, the closing one, or the last of a fork block.
+// The path after an end: its first end, its closing end, or the end of a fork block.
 fn with_end(p: Path) -> Path
     ensures { λ r. ⌜ r ≡ withEnd p ⌝ }
 {
@@ -497,7 +499,7 @@ fn with_end(p: Path) -> Path
     }
 }
 
-// One block less; where none is open rule 15 has spoken.
+// One open block less. With no block open the line breaks rule 15, so the result does not matter.
 fn less(depth: u64) -> u64
     ensures { λ r. ⌜ r ≡ depth - 1 ⌝ }
 {
@@ -507,7 +509,7 @@ fn less(depth: u64) -> u64
     depth - 1
 }
 
-// Where the path stands once a line that breaks nothing has been read.
+// The path after a line that breaks no rule.
 pub fn path_next(l: PathLine, p: Path) -> Path
     requires { ⌜ p .depth ≤ deepest ⌝ }
     ensures { λ r. ⌜ r ≡ pathNext l p ⌝ }
@@ -547,14 +549,14 @@ pub fn path_next(l: PathLine, p: Path) -> Path
     }
 }
 
-// A fork block still open where the path is closed: 15.
+// Whether a fork block is still open when a keyword closes the path: 15.
 pub fn path_open(p: Path) -> bool
     ensures { λ r. ⌜ r ≡ pathOpen p ⌝ }
 {
     0 < p.depth
 }
 
-// Its first end, its first Section or its last end lacks where the path is closed: 9.
+// Whether the first end, the first Section or the last end is missing when a keyword closes the path: 9.
 pub fn path_lacks(p: Path) -> bool
     ensures { λ r. ⌜ r ≡ pathLacks p ⌝ }
 {

@@ -1,5 +1,5 @@
--- The places of a file, and how a line leads from one to the next by its words alone: no count, no form and no rule enters here.
--- A keyword that may not stand in a place leads to `dead`, which nothing leaves.
+-- The places of a file, and how a line leads from one place to the next by its words alone. Counts, forms of lines and
+-- rules play no part here. A keyword that a place does not take leads to `dead`, which no line leaves.
 -- Assumes nothing.
 use Prim.Native.Nat.{ℕ}
 use mathlib.Core.Bool.{Bool, true, false}
@@ -48,7 +48,7 @@ use Rattle.lex_keyword.specs.Names.{
 abbrev pub before : ℕ
 before = 0
 
--- [Begin Header] is read, and "[ICM Ver] 1.1 comes first"
+-- after [Begin Header]; "[ICM Ver] 1.1 comes first"
 abbrev pub opened : ℕ
 opened = 1
 
@@ -100,11 +100,11 @@ pinList = 12
 abbrev pub after : ℕ
 after = 13
 
--- in a section, [Derivation Method] still to come
+-- in a section, before [Derivation Method]
 abbrev pub sectionHead : ℕ
 sectionHead = 14
 
--- in a section, the first matrix still to come
+-- in a section, after [Derivation Method] and before the first matrix
 abbrev pub section : ℕ
 section = 15
 
@@ -116,7 +116,7 @@ matrix = 16
 abbrev pub done : ℕ
 done = 17
 
--- where nothing may stand
+-- the place that takes nothing, where a misplaced keyword leads
 abbrev pub dead : ℕ
 dead = 18
 
@@ -127,7 +127,7 @@ opensHeaderText k =
     (either (eqb k notes)
     (either (eqb k disclaimer) (either (eqb k copyright) (either (eqb k support) (eqb k redistributionText)))))
 
--- "[File Name] and [File Rev] are required; optional are [Date], [Redistribution]"
+-- "[File Name] and [File Rev] are required; optional are [Date] .. [Redistribution]"
 unfoldable pub standsInHeader : ℕ → Bool
 standsInHeader k = either (eqb k fileName) (either (eqb k fileRev) (either (eqb k date) (eqb k redistribution)))
 
@@ -163,7 +163,7 @@ opensMatrix k =
 unfoldable pub leadsInSection : ℕ → ℕ
 leadsInSection k = if opensMatrix k then matrix else if eqb k endIcmSection then after else dead
 
--- the keywords that end no matrix
+-- the keywords that do not end a matrix
 unfoldable pub isRowOrBandwidth : ℕ → Bool
 isRowOrBandwidth k = either (eqb k row) (eqb k bandwidth)
 
@@ -173,7 +173,8 @@ leadsInMatrix k = if isRowOrBandwidth k then matrix else leadsInSection k
 unfoldable pub leadsAfterFamily : ℕ → ℕ
 leadsAfterFamily k = if eqb k beginIcmSection then sectionHead else if eqb k theEnd then done else dead
 
--- "A path, map or list closes at the next keyword", and so does a text block: all that may stand in the block around it may follow
+-- "A path, map or list closes at the next keyword", and so does a text block. So the keywords that may follow are those
+-- of the header, family or model around it
 unfoldable pub isInHeader : ℕ → Bool
 isInHeader p = either (eqb p header) (eqb p headerText)
 

@@ -1,5 +1,5 @@
-// The places of a file, and how a line leads from one to the next by its words alone: document 01, "Lines and keywords", "Paths",
-// "Pin maps" and "Sections and matrices", say what may stand where.
+// The places of a file, and how a line leads from one place to the next by its words alone. Document 01, "Lines and
+// keywords", "Paths", "Pin maps" and "Sections and matrices", says which lines each place takes.
 ghost use mathlib.Core.Path.{_≡_};
 ghost use Rattle.line_place.specs.Place.{
   opensHeaderText,
@@ -23,7 +23,7 @@ ghost use Rattle.line_place.specs.Place.{
 // "Lines before [Begin Header]".
 pub const BEFORE: u64 = 0;
 
-// [Begin Header] is read, and "[ICM Ver] 1.1 comes first".
+// After [Begin Header]; "[ICM Ver] 1.1 comes first".
 pub const OPENED: u64 = 1;
 
 // In the header, no text block open.
@@ -62,10 +62,10 @@ pub const PINS: u64 = 12;
 // After [End ICM Family], outside sections.
 pub const AFTER: u64 = 13;
 
-// In a section, [Derivation Method] still to come.
+// In a section, before [Derivation Method].
 pub const SECTION_HEAD: u64 = 14;
 
-// In a section, the first matrix still to come.
+// In a section, after [Derivation Method] and before the first matrix.
 pub const SECTION: u64 = 15;
 
 // In a matrix.
@@ -74,7 +74,7 @@ pub const MATRIX: u64 = 16;
 // After [End].
 pub const DONE: u64 = 17;
 
-// Where nothing may stand: a misplaced keyword leads here, and nothing leads away.
+// The place that takes nothing: a misplaced keyword leads here, and no line leads away.
 pub const DEAD: u64 = 18;
 
 // "as text blocks, [Source], [Notes], [Disclaimer], [Copyright], [Support], [Redistribution Text]".
@@ -99,7 +99,7 @@ pub fn opens_header_text(key: u64) -> bool
     key == lex_keyword::REDISTRIBUTION_TEXT
 }
 
-// "[File Name] and [File Rev] are required; optional are [Date], [Redistribution]".
+// "[File Name] and [File Rev] are required; optional are [Date] .. [Redistribution]".
 pub fn stands_in_header(key: u64) -> bool
     ensures { λ r. ⌜ r ≡ standsInHeader key ⌝ }
 {
@@ -115,7 +115,7 @@ pub fn stands_in_header(key: u64) -> bool
     key == lex_keyword::REDISTRIBUTION
 }
 
-// Of a keyword in the header, past [ICM Ver].
+// Where a keyword leads in the header, after [ICM Ver].
 fn leads_in_header(key: u64) -> u64
     ensures { λ r. ⌜ r ≡ leadsInHeader key ⌝ }
 {
@@ -131,7 +131,7 @@ fn leads_in_header(key: u64) -> u64
     DEAD
 }
 
-// Of a keyword in the family, outside models: "pin maps anywhere outside models".
+// Where a keyword leads in the family, outside models: "pin maps anywhere outside models".
 fn leads_in_family(key: u64) -> u64
     ensures { λ r. ⌜ r ≡ leadsInFamily key ⌝ }
 {
@@ -156,7 +156,7 @@ fn leads_in_family(key: u64) -> u64
     DEAD
 }
 
-// Of a keyword in a model: "Then [Tree Path Description] once, [ICM Model Description] at most once".
+// Where a keyword leads in a model: "Then [Tree Path Description] once, [ICM Model Description] at most once".
 fn leads_in_model(key: u64) -> u64
     ensures { λ r. ⌜ r ≡ leadsInModel key ⌝ }
 {
@@ -188,7 +188,7 @@ pub fn opens_matrix(key: u64) -> bool
     key == lex_keyword::CAPACITANCE_MATRIX
 }
 
-// Of a keyword in a section, past [Derivation Method].
+// Where a keyword leads in a section, after [Derivation Method].
 fn leads_in_section(key: u64) -> u64
     ensures { λ r. ⌜ r ≡ leadsInSection key ⌝ }
 {
@@ -201,7 +201,8 @@ fn leads_in_section(key: u64) -> u64
     DEAD
 }
 
-// The keywords that end no matrix: all others are "the first keyword after the matrix that is not [Row] or [Bandwidth]".
+// The keywords that do not end a matrix. Any other is "the first keyword after the matrix that is not [Row] or
+// [Bandwidth]".
 pub fn is_row_or_bandwidth(key: u64) -> bool
     ensures { λ r. ⌜ r ≡ isRowOrBandwidth key ⌝ }
 {
@@ -220,7 +221,7 @@ fn leads_in_matrix(key: u64) -> u64
     leads_in_section(key)
 }
 
-// Of a keyword after [End ICM Family], outside sections.
+// Where a keyword leads after [End ICM Family], outside sections.
 fn leads_after_family(key: u64) -> u64
     ensures { λ r. ⌜ r ≡ leadsAfterFamily key ⌝ }
 {
@@ -233,7 +234,8 @@ fn leads_after_family(key: u64) -> u64
     DEAD
 }
 
-// "A path, map or list closes at the next keyword", and so does a text block: all that may stand in the block around it may follow.
+// "A path, map or list closes at the next keyword", and so does a text block. So the keywords that may follow are those
+// of the header, family or model around it.
 fn is_in_header(place: u64) -> bool
     ensures { λ r. ⌜ r ≡ isInHeader place ⌝ }
 {

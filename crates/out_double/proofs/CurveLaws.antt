@@ -1,5 +1,6 @@
--- What request 11 promises of the doubles that are drawn: the exact number rounded once, the number itself where it is whole and below two to
--- the 53, its sign, plus zero, never a NaN, bits of its own, and nothing outside the span.
+-- What request 11 promises of the doubles that are drawn: the exact number rounded once; the number itself if it is
+-- whole and below two to the 53; its sign; plus zero for zero; never a NaN; bits that determine the double; and nothing
+-- outside the span.
 -- Assumes nothing.
 use mathlib.Core.Path.{_≡_, refl, sym, ap, _∙_, subst}
 use mathlib.Core.Bool.{Bool, true, false, not}
@@ -31,7 +32,7 @@ use Rattle.out_double.proofs.DrawLaws.{spanned}
 use Rattle.out_double.proofs.ExactLaws.{ten-above, scaled-fits, scaled-above, rounded}
 use Rattle.out_double.proofs.SignLaws.{signed-round, signed-value, signed-fits}
 
--- m times ten to the k is the fraction of these two: cut-off subtraction makes one of the powers ten to the 0
+-- m times ten to the k as a fraction. Subtraction stops at 0, so one of the two powers is ten to the 0.
 abbrev pub numerator : ℕ → ℕ
 numerator w = decimalOf w .size * 10 ^ (decimalOf w .shifted - 64)
 
@@ -48,7 +49,7 @@ in-span : (w : ℕ) → isValueWord w ≡ true → 64 - span ≤ decimalOf w .sh
 unfolding isDrawn within
 in-span w e low high = both-true _ _ e (both-true _ _ (le-leb _ _ low) (le-leb _ _ high))
 
--- every value word "with k from -22 to 22"
+-- every value word "with k from -22 to 22" is drawn
 pub inside-span : (w : ℕ) → isValueWord w ≡ true → 64 - span ≤ decimalOf w .shifted → decimalOf w .shifted ≤ 64 + span → drawnOf w ≡ Value (double (decimalOf w))
 inside-span w e low high = drawn-is w (in-span w e low high)
 
@@ -109,7 +110,7 @@ module _ (frequency value : ℕ) where
   unfolding paired
   pair-of-both x y e f = rw (e, f)
 
--- a pair that is drawn is of two that are drawn
+-- if a pair is drawn, so is each of the two
 module _ (frequency value : ℕ) (x y : Float) (e : paired (drawnOf frequency) (drawnOf value) ≡ Pair x y) where
   pub pair-frequency : drawnOf frequency ≡ Value x
   pair-frequency = first-of (drawnOf frequency) (drawnOf value) x y e
@@ -117,7 +118,7 @@ module _ (frequency value : ℕ) (x y : Float) (e : paired (drawnOf frequency) (
   pub pair-value : drawnOf value ≡ Value y
   pair-value = second-of (drawnOf frequency) (drawnOf value) x y e
 
--- ---- what an answer tells of its word
+-- ---- what an answer says of its word
 
 abbrev valueIn : Drawn → Float
 valueIn (Value x) = x
@@ -138,7 +139,7 @@ drew w x e =
     (λ (t : isDrawn w ≡ true). record { told = t; value = ap valueIn (sym e ∙ if-true _ _ t) })
     (λ (t : isDrawn w ≡ false). absurd (subst IsValue (sym e ∙ if-false _ _ t) tt))
 
--- it is zero's word, or that of a number
+-- a drawn word is the word of zero, or of another number
 which : (w : ℕ) → isDrawn w ≡ true → (w ≡ zeroWord) ⊎ Written w
 unfolding isDrawn
 which w e = word-says w (both-first _ _ e)
@@ -175,7 +176,7 @@ pub zero-plus : drawnOf zeroWord ≡ Value (fin false 0 (pos 0))
 unfolding drawnOf isDrawn isValueWord decimalOf within double scaled signed asDouble both either if_then_else_ ofInt mul
 zero-plus = refl
 
--- finite, above zero in size, and of that sign
+-- a finite number other than zero, with this sign
 pub record IsNumber (x : Float) (negative : Bool) : Type 0 where
   pub size : ℕ
   pub over : ℕ
@@ -228,9 +229,9 @@ finite-number (fin s m e) h = tt
 pub never-nan : (w : ℕ) (x : Float) → drawnOf w ≡ Value x → T (not (isNan x))
 never-nan w x e = finite-number x (drawn-finite w x e)
 
--- ---- its bits are its own
+-- ---- the bits determine the double
 
--- what is handed out as bits is read back as the double itself, so no two doubles have the same bits
+-- the bits read back as the same double, so no two doubles have the same bits
 pub bits-back : (w : ℕ) (x : Float) → drawnOf w ≡ Value x → ofBits binary64 (toBits binary64 x) ≡ x
 unfolding double
 bits-back w x e =
@@ -240,7 +241,7 @@ bits-back w x e =
 
 -- ---- whole numbers
 
--- m times ten to the k is n in size, and below two to the 53
+-- m times ten to the k, without its sign, is n, and n is below two to the 53
 pub record IsWhole (w n : ℕ) : Type 0 where
   pub word : isValueWord w ≡ true
   pub below : n < 2 ^ 53
@@ -296,8 +297,8 @@ whole-span w n h =
     in-span w (h .word) (omega arith) high)
     (word-says w (h .word))
 
--- "whenever m times ten to the k is itself a whole number below two to the 53, the double is that number exactly": it is drawn, and it is n with
--- the word's sign
+-- "whenever m times ten to the k is itself a whole number below two to the 53, the double is that number exactly": it
+-- is drawn, and it is n with the word's sign
 pub whole-drawn :
     (w n : ℕ) →
     IsWhole w n →

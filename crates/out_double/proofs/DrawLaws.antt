@@ -1,4 +1,4 @@
--- What each `return` of the code asks, with what the tests and the calls answered as premises.
+-- What has to be shown at each `return` of the code, given the results of its tests and calls.
 -- Assumes nothing.
 use mathlib.Core.Path.{_≡_, refl, sym, _∙_}
 use mathlib.Core.Bool.{Bool, true, false, not}
@@ -23,7 +23,7 @@ use Rattle.out_double.specs.declared.DrawnPair.the-variants as pairs
 
 -- ---- the one operation
 
--- an m up to 2 ^ 53 is cast with nothing lost
+-- an m up to 2 ^ 53 is converted without loss
 pub holds : (n : ℕ) → n ≤ 2 ^ 53 → T (inFloat binary64 (pos n))
 unfolding inFloat
 holds n h = le→leb n (2 ^ 53) h
@@ -50,7 +50,7 @@ module _ (w : ℕ) (d : Decimal) (x : Float) (parts : d ≡ decimalOf w) (told :
 
 -- ---- which words are drawn
 
--- the parts of such a word: m has 15 digits at most, and k is from -22 to 22
+-- the parts of a word that is drawn: m has at most 15 digits, and k is from -22 to 22
 pub record Spanned (d : Decimal) : Type 0 where
   pub few : d .size ≤ 999_999_999_999_999
   pub low : 64 - span ≤ d .shifted
@@ -77,7 +77,7 @@ spanned w e =
       high = leb-true _ _ (both-second _ _ inside);
     }
 
--- what the operation asks of its operands
+-- what the operation requires of its operands
 module _ (w : ℕ) (d : Decimal) (told : d ≡ decimalOf w) (drawn : isDrawn w ≡ true) where
   pub exact-size : d .size ≤ 2 ^ 53
   exact-size = rw told (le-trans (spanned w drawn .few) (lit≤ tt))
@@ -88,7 +88,7 @@ module _ (w : ℕ) (d : Decimal) (told : d ≡ decimalOf w) (drawn : isDrawn w �
   pub not-too-high : d .shifted ≤ 64 + span
   not-too-high = rw told (spanned w drawn .high)
 
--- by the tests of the code: the call's answer turned round, and two comparisons
+-- by the tests of the code: a call's result, negated, and two comparisons
 module _ (w : ℕ) (b : Bool) (tested : b ≡ isValueWord w) where
   pub no-word : not b ≡ true → false ≡ isDrawn w
   unfolding isDrawn

@@ -1,5 +1,5 @@
--- The operation and its operands: m and the power of ten are held exactly, what is drawn is the exact number rounded once, and it is finite and
--- above zero.
+-- The operation and its operands: m and the power of ten are held exactly, what is drawn is the exact number rounded
+-- once, and it is finite and above zero.
 -- Assumes nothing.
 use mathlib.Core.Path.{_≡_, refl, sym, ap, _∙_, subst}
 use mathlib.Core.Bool.{true, false}
@@ -75,7 +75,7 @@ div-is f (fin false m e) (fin true n d) p q = absurd q
 div-is f (fin false m e) (fin false n d) p q =
     rw (ne-eqb n 0 (λ (z : n ≡ 0). lt-irrefl 0 (subst (λ (x : ℕ). 0 < x) z (ltb→lt 0 n q))))
 
--- by any fractions that the two equal
+-- for any fractions that equal the two
 div-at :
     (f : Format) (x y : Float) (a c b d : ℕ) →
     T (positive x) →
@@ -120,7 +120,7 @@ module _ (size shifted : ℕ) (above : 0 < size) (few : size ≤ 999_999_999_999
   power-above : (k : ℕ) → k ≤ 22 → T (positive (asDouble (10 ^ k)))
   power-above k h = positive-of-value (asDouble (10 ^ k)) (10 ^ k) 1 (ten-exact k h) (ten-above k)
 
-  -- it is the exact number, rounded once; cut-off subtraction lets one fraction serve both signs of k
+  -- it is the exact number, rounded once. Subtraction stops at 0, so one fraction serves both signs of k.
   pub rounded : scaled size shifted ≡ round binary64 false (size * 10 ^ (shifted - 64)) (10 ^ (64 - shifted))
   unfolding scaled
   rounded =

@@ -1,4 +1,5 @@
--- Words of hosts/vectors/doubles.txt, whose bits were found apart from this project, by computation of the definition.
+-- Words of hosts/vectors/doubles.txt, whose bits were computed apart from this project. The definition computes the
+-- same.
 -- Assumes nothing.
 use mathlib.Core.Path.{_≡_, refl}
 use mathlib.Core.List.{List, [], _∷_, map}
@@ -11,7 +12,7 @@ use Rattle.out_double.specs.Double.{asDouble, scaled, signed, double, is
 use Rattle.out_double.specs.declared.Drawn.{Drawn}
 use Rattle.out_double.specs.declared.Drawn.the-variants.{Value, Outside}
 
--- the bits that are handed out, if any
+-- the bits of a double; none for Outside
 abbrev bits : Drawn → List ℕ
 bits (Value x) = toBits binary64 x ∷ []
 bits Outside = []

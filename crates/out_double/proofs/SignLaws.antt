@@ -1,4 +1,4 @@
--- A sign put on a double: it is rounded, holds its value and fits as it did without.
+-- A double with a sign: it is rounded, has its value and fits as without the sign.
 -- Assumes nothing.
 use mathlib.Core.Path.{_≡_, refl, sym, ap, _∙_}
 use mathlib.Core.Bool.{Bool, true, false, not, cond}
@@ -32,7 +32,7 @@ neg-value nan a c h = h
 neg-value (inf s) a c h = h
 neg-value (fin s m e) a c h = (ap not (h .0), h .1)
 
--- a number below zero is rounded as its size is
+-- a negative number is rounded as its absolute value is
 pub signed-round : (s : Bool) (a c : ℕ) → signed s (round binary64 false a c) ≡ round binary64 s a c
 unfolding signed if_then_else_
 signed-round true a c = neg-round binary64 a c

@@ -1,4 +1,5 @@
--- Request 11, "Curves in the browser": what is drawn of a value word, and of a pair of a frequency and a value.
+-- Request 11, "Curves in the browser": the double of a value word, and the doubles of a pair of a frequency and a
+-- value.
 -- Assumes nothing.
 use Prim.Native.Nat.{ℕ, _+_, _-_, _^_}
 use mathlib.Core.Bool.{Bool}
@@ -23,7 +24,8 @@ span = 22
 unfoldable pub asDouble : ℕ → Float
 asDouble n = ofInt binary64 (pos n)
 
--- "one multiplication by, or one division by, the exact power of ten, m itself being exact": of m's size and k, which is held as k + 64
+-- "one multiplication by, or one division by, the exact power of ten, m itself being exact": `size` is m without its
+-- sign, `shifted` is k + 64
 unfoldable pub scaled : ℕ → ℕ → Float
 scaled size shifted =
     if ltb shifted 64
@@ -37,7 +39,8 @@ signed negative x = if negative then neg x else x
 unfoldable pub double : Decimal → Float
 double d = signed (d .negative) (scaled (d .size) (d .shifted))
 
--- "a value m times ten to the k with k from -22 to 22": the word's own k, and a word that is no value word is outside (D1, D2 of docs/READINGS.md)
+-- "a value m times ten to the k with k from -22 to 22": k is the one that the word holds, and a word that is no value
+-- word is outside (D1, D2 of docs/READINGS.md)
 unfoldable pub isDrawn : ℕ → Bool
 isDrawn word = both (isValueWord word) (within (64 - span) (64 + span) (decimalOf word .shifted))
 

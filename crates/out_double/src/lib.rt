@@ -1,5 +1,5 @@
-// Request 11, "Curves in the browser": the double of a value word, and the pair of a frequency and a value, for a panel that plots them.
-// Nothing is drawn but the one rounded operation on exact numbers; where that cannot be had the answer is that the word is outside.
+// Request 11, "Curves in the browser": the double of a value word, and the doubles of a frequency and a value, for a
+// plotting panel. A double comes from one rounded operation on exact numbers; a word that does not allow that is outside.
 ghost use mathlib.Core.Path.{_≡_};
 ghost use mathlib.Core.Bool.{true};
 ghost use Prim.Native.Nat.{_+_, _-_, _≤_, _^_};
@@ -11,7 +11,7 @@ const LEAST: u64 = 64 - 22;
 
 const MOST: u64 = 64 + 22;
 
-// The powers of ten that a double holds exactly: ten to the 23 is none of them.
+// The powers of ten that a double holds exactly; it does not hold ten to the 23.
 const TENS: [f64; 23] = [
     1e0,
     1e1,
@@ -67,7 +67,7 @@ fn scaled(size: u64, shifted: u64) -> f64
     exact * power(shifted - 64)
 }
 
-// A value word whose k is from -22 to 22.
+// Whether a word is a value word with k from -22 to 22.
 fn is_drawn(word: u64) -> bool
     ensures { λ r. ⌜ r ≡ isDrawn word ⌝ }
 {
@@ -94,7 +94,7 @@ fn double(word: u64) -> f64
     size
 }
 
-// The double of a word, or that it is outside.
+// The double of a word, or Outside.
 pub fn double_of(word: u64) -> Drawn
     ensures { λ r. ⌜ r ≡ drawnOf word ⌝ }
 {

@@ -1,4 +1,4 @@
--- Laws of the loops that write a line for each record: the lines left give all of them.
+-- Laws of the loops that write a line for each record: writing the lines that are left completes the text.
 -- Assumes nothing.
 use mathlib.Core.Path.{_≡_, _∙_, ap}
 use mathlib.Core.List.{List, [], _++_}
@@ -40,7 +40,7 @@ module _ (line : ℕ → List ℕ) (out₀ : List ℕ) (at : ℕ) (whole out : L
 
 -- ---- the values of a matrix
 
--- those that are left lie in the table
+-- the loop's invariant; the values that are left lie inside the table
 pub record ValuesLeft (t table out₀ : List ℕ) (at matrix : ℕ) (out : List ℕ) (next section kind value left : ℕ) : Type 0 where
   pub room : left ≤ partCount table values - value
   pub rest : Rest out₀ at (matrixText t table matrix) out next (listedFrom (listedValue t table section kind) left value)

@@ -1,4 +1,4 @@
--- Laws of the lines of a listing: what the fields written one after the other make.
+-- Laws of the lines of a listing: the fields, written one after the other, make the line.
 -- Assumes nothing.
 use mathlib.Core.Path.{_≡_, sym, _∙_, ap}
 use mathlib.Core.Bool.{Bool}
@@ -49,7 +49,7 @@ module _ (a b : List ℕ) (at next : ℕ) (test : Bool) (x y : List ℕ) where
   pub text-no : (after : ℕ) → No test → Written a b at next (y ++ (after ∷ [])) → Written a b at next ((if test then x else y) ++ (after ∷ []))
   text-no after h w = written-is (ap (λ (l : List ℕ). l ++ (after ∷ [])) (sym (if-false x y (h .fails)))) w
 
--- ---- a number and a name that are told
+-- ---- a number and a name that the code has computed
 
 module _ (a b : List ℕ) (at next n m after : ℕ) where
   pub number-told : Written a b at next (decimal n ++ (after ∷ [])) → n ≡ m → Written a b at next (decimal m ++ (after ∷ []))

@@ -13,12 +13,12 @@ module _ (table : List ℕ) where
   unfoldable pub partCount : ℕ → ℕ
   partCount part = getD (viewOf table .counts) part 0
 
-  -- the word numbered `field` of the record numbered `i` of a part; 0 where the part has no such record
+  -- word `field` of record i of a part; 0 if the part has no such record
   unfoldable pub fieldOf : ℕ → ℕ → ℕ → ℕ
   fieldOf part i field =
       if ltb i (partCount part) then getD table (getD (viewOf table .bases) part 0 + getD widths part 0 * i + field) 0 else 0
 
-  -- which kind of the section numbered i the matrix numbered j is; 4 where it is none of them. "R L G C each matrix index plus 1 or 0"
+  -- the kind of matrix j in section i, 0 to 3; 4 if the section does not have it. "R L G C each matrix index plus 1 or 0"
   unfoldable pub kindIn : ℕ → ℕ → ℕ
   kindIn j i =
       if eqb (fieldOf sections i 4) (j + 1) then 0 else
@@ -26,7 +26,7 @@ module _ (table : List ℕ) where
       if eqb (fieldOf sections i 6) (j + 1) then 2 else
       if eqb (fieldOf sections i 7) (j + 1) then 3 else 4
 
-  -- the first of so many sections from i on that has the matrix numbered j; the one behind them where none has
+  -- the first of `many` sections from section i on that has matrix j; the index after them if none has
   unfoldable pub ownerFrom : ℕ → ℕ → ℕ → ℕ
   ownerFrom j zero i = i
   ownerFrom j (suc many) i = if ltb (kindIn j i) 4 then i else ownerFrom j many (i + 1)
@@ -34,6 +34,6 @@ module _ (table : List ℕ) where
   unfoldable pub ownerOf : ℕ → ℕ
   ownerOf j = ownerFrom j (partCount sections) 0
 
-  -- how many values the matrix numbered j has, as far as the table goes
+  -- how many values matrix j has inside the table
   unfoldable pub valuesIn : ℕ → ℕ
   valuesIn j = min (fieldOf matrices j 3) (partCount values - fieldOf matrices j 2)

@@ -1,5 +1,6 @@
--- Document 01, "Listing": what icm-list prints of an accepted file, from the text and the table alone. "Table order; fields: words used;
--- model, type, steps; step kind, line, name, then amount (a Len as value) or Side; map, pins; section, method, N; section, kind, row, column, value."
+-- Document 01, "Listing": what icm-list prints for an accepted file, from the text and the table alone. "Table order;
+-- fields: words used; model, type, steps; step kind, line, name, then amount (a Len as value) or Side; map, pins;
+-- section, method, N; section, kind, row, column, value."
 -- Assumes nothing.
 use Prim.Native.Nat.{ℕ, zero, suc, _+_}
 use mathlib.Core.List.{List, [], _∷_, _++_}
@@ -30,12 +31,13 @@ kindText kind =
     if eqb kind 2 then bytes "G" else
     if eqb kind 3 then bytes "C" else []
 
--- the lines of so many records from i on
+-- the lines of `many` records from record i on
 unfoldable pub listedFrom : (ℕ → List ℕ) → ℕ → ℕ → List ℕ
 listedFrom line zero i = []
 listedFrom line (suc many) i = line i ++ listedFrom line many (i + 1)
 
--- a Mult prints as an integer, a Len as a value (G3 of docs/READINGS.md): a Lumped section has the one, a Distributed one the other
+-- A step over a Lumped section has a Mult, printed as an integer; one over a Distributed section has a Len, printed as
+-- a value (G3 of docs/READINGS.md).
 unfoldable pub amountText : List ℕ → ℕ → List ℕ
 amountText table i =
     if eqb (fieldOf table sections (fieldOf table steps i 1) 2) 0
@@ -43,7 +45,7 @@ amountText table i =
     else valueText (fieldOf table steps i 2)
 
 module _ (t table : List ℕ) where
-  -- the name that a record opens with
+  -- the name of a record, whose first two words are the name's start and length
   unfoldable pub listedName : ℕ → ℕ → List ℕ
   listedName part i = nameAt t (fieldOf table part i 0) (fieldOf table part i 1)
 
@@ -80,7 +82,7 @@ module _ (t table : List ℕ) where
   listedSection i =
       lineOf (listedName sections i ∷ methodText (fieldOf table sections i 2) ∷ decimal (fieldOf table sections i 3) ∷ [])
 
-  -- the value numbered v, of a kind of the section numbered i
+  -- value v, which belongs to the matrix of this kind of section i
   unfoldable pub listedValue : ℕ → ℕ → ℕ → List ℕ
   listedValue i kind v =
       lineOf
@@ -104,7 +106,7 @@ module _ (t table : List ℕ) where
   partText name part =
       lineOf (name ∷ decimal (partCount table part) ∷ []) ++ listedFrom (listedRecord part) (partCount table part) 0
 
-  -- the values of the matrix numbered j
+  -- the values of matrix j
   unfoldable pub matrixText : ℕ → List ℕ
   matrixText j =
       listedFrom (listedValue (ownerOf table j) (kindIn table j (ownerOf table j))) (valuesIn table j) (fieldOf table matrices j 2)

@@ -1,5 +1,5 @@
-// Document 01, "Listing": what icm-list prints, from the text and the table alone, into room that is lent. Each function writes from a place
-// on and hands back the next place. No word of the table is trusted: a record that a part has not reads as zeros.
+// Document 01, "Listing": what icm-list prints, from the text and the table alone, into lent room. Each function writes from
+// offset `at` on and returns the next offset. No word of the table is trusted: a record that does not exist reads as zeros.
 ghost use mathlib.Core.Path.{_≡_};
 ghost use mathlib.Core.List.{_∷_, [], _++_};
 ghost use Prim.Native.Nat.{_+_};
@@ -19,7 +19,7 @@ const SECTION: u64 = 1;
 
 const FORK: u64 = 2;
 
-// How many records a part has. The table is asked for only so that the promise can say whose view it is.
+// How many records a part has. The table is a parameter only so that the contract can say whose view it is.
 pub fn count_of(table: &[u64], view: View, part: usize) -> u64
     requires { ⌜ view ≡ viewOf (now table) ⌝ }
     ensures { λ r. ⌜ r ≡ partCount (now (table .entry)) part ⌝ }
@@ -31,7 +31,7 @@ pub fn count_of(table: &[u64], view: View, part: usize) -> u64
     counts[part]
 }
 
-// A word of a record of a part; 0 where the part has no such record.
+// A word of a record of a part; 0 if the part has no such record.
 pub fn field_of(table: &[u64], view: View, part: usize, index: u64, field: usize) -> u64
     requires { ⌜ view ≡ viewOf (now table) ⌝ }
     ensures { λ r. ⌜ r ≡ fieldOf (now (table .entry)) part index field ⌝ }
@@ -51,7 +51,7 @@ pub fn field_of(table: &[u64], view: View, part: usize, index: u64, field: usize
     table[at + field]
 }
 
-// A word of a record as a number.
+// Prints a word of a record as a number.
 fn put_number(
     out: &mut [u8],
     at: usize,
@@ -69,7 +69,7 @@ fn put_number(
     out_text::put_decimal(out, at, n, after)
 }
 
-// A word of a record as a value.
+// Prints a word of a record as a value.
 fn put_word(
     out: &mut [u8],
     at: usize,
@@ -87,7 +87,7 @@ fn put_word(
     out_text::put_value(out, at, word, after)
 }
 
-// The name that a record opens with.
+// Prints the name of a record, whose first two words are the name's start and length.
 fn put_name(
     out: &mut [u8],
     at: usize,
@@ -151,7 +151,7 @@ fn put_kind(out: &mut [u8], at: usize, kind: u64, after: u8) -> usize
     out_text::put_byte(out, at, after)
 }
 
-// A word and a number on a line.
+// A line of a word and a number.
 fn head_line(out: &mut [u8], at: usize, word: &[u8], n: u64) -> usize
     ensures { λ r. ⌜ Written (now (out .entry)) (now (out .exit)) at r (lineOf (now (word .entry) ∷ decimal n ∷ [])) ⌝ }
 {
@@ -253,7 +253,7 @@ pub fn section_line(
     )
 }
 
-// The Side of an end.
+// Prints the Side of an end.
 fn put_side(out: &mut [u8], at: usize, text: &[u8], table: &[u64], view: View, index: u64) -> usize
     requires { ⌜ view ≡ viewOf (now table) ⌝ }
     ensures { λ r. ⌜ Written (now (out .entry)) (now (out .exit)) at r (listedSide (now (text .entry)) (now (table .entry)) index ++ (10 ∷ [])) ⌝ }
@@ -296,7 +296,7 @@ fn end_line(out: &mut [u8], at: usize, text: &[u8], table: &[u64], view: View, i
     put_side(out, fourth, text, table, view, index)
 }
 
-// What a step over a section has: a Mult if the section is Lumped, else a Len.
+// Prints the amount of a Section step: a Mult if the section is Lumped, else a Len.
 fn put_amount(out: &mut [u8], at: usize, table: &[u64], view: View, index: u64) -> usize
     requires { ⌜ view ≡ viewOf (now table) ⌝ }
     ensures { λ r. ⌜ Written (now (out .entry)) (now (out .exit)) at r (amountText (now (table .entry)) index ++ (10 ∷ [])) ⌝ }
@@ -455,7 +455,7 @@ fn put_parts(out: &mut [u8], at: usize, text: &[u8], table: &[u64], view: View) 
     )
 }
 
-// Whether a word of a section is that of a matrix: "matrix index plus 1 or 0".
+// Whether a word of a section's record refers to the matrix: "matrix index plus 1 or 0".
 fn has_matrix(table: &[u64], view: View, index: u64, field: usize, matrix: u64) -> bool
     requires { ⌜ view ≡ viewOf (now table) ⌝ }
     ensures { λ r. ⌜ r ≡ eqb (fieldOf (now (table .entry)) sections index field) (matrix + 1) ⌝ }
@@ -467,7 +467,7 @@ fn has_matrix(table: &[u64], view: View, index: u64, field: usize, matrix: u64) 
     word - 1 == matrix
 }
 
-// Which kind of a section a matrix is: R, L, G, C, or 4 for none.
+// The kind of a matrix in a section: 0 to 3 for R, L, G, C, or 4 if the section does not have it.
 fn kind_in(table: &[u64], view: View, matrix: u64, index: u64) -> u64
     requires { ⌜ view ≡ viewOf (now table) ⌝ }
     ensures { λ r. ⌜ r ≡ kindIn (now (table .entry)) matrix index ⌝ }
@@ -487,7 +487,7 @@ fn kind_in(table: &[u64], view: View, matrix: u64, index: u64) -> u64
     4
 }
 
-// The section that has a matrix.
+// The first section that has a matrix; the number of sections if none has.
 fn owner_of(table: &[u64], view: View, matrix: u64) -> u64
     requires { ⌜ view ≡ viewOf (now table) ⌝ }
     ensures { λ r. ⌜ r ≡ ownerOf (now (table .entry)) matrix ⌝ }
@@ -504,7 +504,7 @@ fn owner_of(table: &[u64], view: View, matrix: u64) -> u64
     i
 }
 
-// How many values a matrix has, as far as the table goes.
+// How many values a matrix has inside the table.
 fn values_in(table: &[u64], view: View, matrix: u64) -> u64
     requires { ⌜ view ≡ viewOf (now table) ⌝ }
     ensures { λ r. ⌜ r ≡ valuesIn (now (table .entry)) matrix ⌝ }
@@ -623,7 +623,7 @@ fn all_matrix_lines(
     next
 }
 
-// The values of all matrices, under their count.
+// The number of values, then the values of all matrices.
 fn put_values(out: &mut [u8], at: usize, text: &[u8], table: &[u64], view: View) -> usize
     requires { ⌜ view ≡ viewOf (now table) ⌝ }
     ensures { λ r. ⌜ Written (now (out .entry)) (now (out .exit)) at r (valuesText (now (text .entry)) (now (table .entry))) ⌝ }
@@ -634,7 +634,7 @@ fn put_values(out: &mut [u8], at: usize, text: &[u8], table: &[u64], view: View)
     all_matrix_lines(out, lines, text, table, view, matrices)
 }
 
-// What icm-list prints of an accepted file whose table has so many words.
+// What icm-list prints for an accepted file; `words` is the number of words used.
 pub fn write_listing(text: &[u8], table: &[u64], words: usize, out: &mut [u8]) -> usize
     ensures { λ r. ⌜ Written (now (out .entry)) (now (out .exit)) 0 r (listing (now (text .entry)) (now (table .entry)) words) ⌝ }
 {
@@ -644,7 +644,7 @@ pub fn write_listing(text: &[u8], table: &[u64], words: usize, out: &mut [u8]) -
     put_values(out, values, text, table, view)
 }
 
-// What icm-list prints of a refused file.
+// What icm-list prints for a refused file.
 pub fn write_refusal(rule: u64, line: u64, out: &mut [u8]) -> usize
     ensures { λ r. ⌜ Written (now (out .entry)) (now (out .exit)) 0 r (refusalText rule line) ⌝ }
 {

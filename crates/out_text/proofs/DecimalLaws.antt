@@ -1,5 +1,5 @@
--- A number in decimal digits reads back as the number, and has no zero in front. No code leans on this: it says that `decimal` is what its
--- name says.
+-- A number in decimal digits reads back as the number, and has no leading zero. No code needs this: it shows that
+-- `decimal` is what its name says.
 -- Assumes nothing.
 use mathlib.Core.Path.{_≡_, _∙_, ap}
 use mathlib.Core.Bool.{true, false}
@@ -13,7 +13,7 @@ use borrow.Author.Tests.{ltb-true, ltb-false}
 use Rattle.base.proofs.IfLaws.{by-test}
 use Rattle.out_text.specs.Printing.{lastDigit, digitsBefore, decimal}
 
--- the number that digits write behind a number that is read already
+-- the number after reading the digits, where n was read before them
 unfoldable pub numberAfter : ℕ → List ℕ → ℕ
 numberAfter n [] = n
 numberAfter n (digit ∷ digits) = numberAfter (10 * n + (digit - 48)) digits

@@ -14,7 +14,7 @@ use Rattle.out_text.specs.declared.Digits.{Digits}
 use Rattle.out_text.specs.Written.{Written}
 use Rattle.out_text.proofs.WrittenLaws.{written-is}
 
--- the digits that are found, with those that are left before them, are all of them
+-- the loop's invariant: the digits of `left` and then the digits found so far are the digits of n
 pub record Found (n : ℕ) (bytes : List ℕ) (from left : ℕ) : Type 0 where
   pub long : length bytes ≡ 20
   pub inside : from ≤ 20
@@ -78,7 +78,7 @@ module _ (n : ℕ) (bytes : List ℕ) (from left : ℕ) (found : Found n bytes f
           digits = ap (digitsBefore (from - 1) (left / 10)) stored-drop ∙ sym (if-false _ _ (le-ltb left 10 k)) ∙ before;
         }
 
--- the part of the room that is lent
+-- the part of the array that is printed
 module _ (d : Digits) (n : ℕ) (holds : Holds d n) where
   digits-part : take (20 - d .from) (drop (d .from) (d .bytes)) ≡ decimal n
   digits-part =

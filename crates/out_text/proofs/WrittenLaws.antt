@@ -1,4 +1,5 @@
--- Laws of what is written into room that is lent: one piece after another is the pieces joined, and a loop by what is left to write.
+-- Laws of what is written into lent room: writing one piece after another writes the pieces joined; and the invariant
+-- of a loop that writes.
 -- Assumes nothing.
 use mathlib.Core.Path.{_≡_, refl, sym, _∙_, ap}
 use mathlib.Core.Bool.{true, false}
@@ -30,7 +31,7 @@ sets-out l at (x ∷ xs) h =
     let k : length l ≤ suc at = omega arith in
     rw e (sets-out l (suc at) xs k)
 
--- so any place past the end may stand for another
+-- so any offset past the end may be replaced by the end
 sets-cut : (l : List ℕ) (at : ℕ) (xs : List ℕ) → sets l (min at (length l)) xs ≡ sets l at xs
 sets-cut l at xs =
     by-cases _ (leb at (length l))
@@ -60,7 +61,7 @@ module _ (a b : List ℕ) (at m : ℕ) (xs : List ℕ) (first : Written a b at m
       let l : length b ≡ length a = written-long in
       omega arith
 
-  -- what is stored from the next place on is what is stored behind the bytes
+  -- storing from the next offset on is storing after the bytes
   written-on : (ys : List ℕ) → sets b m ys ≡ sets a at (xs ++ ys)
   written-on ys =
       let e : m ≡ min (at + length xs) (length b) = first .place ∙ ap (min (at + length xs)) (sym written-long) in
@@ -80,7 +81,7 @@ module _ (a b : List ℕ) (at m : ℕ) (xs : List ℕ) (first : Written a b at m
 
 -- ---- a loop
 
--- what is left, written from the next place on, gives the whole written from the first place on
+-- the loop's invariant: writing the rest from offset `next` on gives the same as writing the whole from offset `at` on
 pub record Rest (out₀ : List ℕ) (at : ℕ) (whole out : List ℕ) (next : ℕ) (left : List ℕ) : Type 0 where
   pub image : sets out next left ≡ sets out₀ at whole
   pub place : min (next + length left) (length out) ≡ min (at + length whole) (length out₀)
@@ -118,7 +119,7 @@ module _ (out₀ : List ℕ) (at : ℕ) (whole out : List ℕ) (next : ℕ) wher
       let h : next ≤ length out = rest .inside in
       record { image = rest .image; place = omega arith }
 
-  -- the end of the room is come to
+  -- the end of the room is reached
   pub rest-full : (left : List ℕ) → Rest out₀ at whole out next left → length out ≤ next → Written out₀ out at next whole
   rest-full left rest h =
       let f : min (next + length left) (length out) ≡ min (at + length whole) (length out₀) = rest .place in
@@ -149,13 +150,13 @@ module _ (out₀ : List ℕ) (at : ℕ) (bytes out : List ℕ) (next i : ℕ) (r
   pub bytes-full : length out ≤ next → Written out₀ out at next bytes
   bytes-full h = rest-full out₀ at bytes out next (drop i bytes) rest h
 
--- ---- what a program hands on: the part that is written
+-- ---- what a program prints: the part that was written
 
 module _ (a b : List ℕ) (next : ℕ) (bytes : List ℕ) (written : Written a b 0 next bytes) where
   pub written-part : next ≡ length (take next b)
   written-part = sym (length-take-le next b (written-inside a b 0 next bytes written))
 
-  -- all of it, where there is room
+  -- all bytes, if there is room
   pub written-whole : length bytes ≤ length a → take next b ≡ bytes
   written-whole h =
       let e : next ≡ min (0 + length bytes) (length a) = written .place in
@@ -166,7 +167,7 @@ module _ (a b : List ℕ) (next : ℕ) (bytes : List ℕ) (written : Written a b
       front : take (length bytes) ((take 0 a ++ bytes) ++ drop (0 + length bytes) a) ≡ bytes
       front = take-append-seam bytes (drop (0 + length bytes) a)
 
--- else as much as there is room for
+-- otherwise as many as there is room for
 pub written-cut : (a b : List ℕ) (next : ℕ) (bytes : List ℕ) → Written a b 0 next bytes → take next b ≡ take (length a) bytes
 written-cut a b next bytes written =
     by-cases _ (leb (length bytes) (length a))

@@ -20,13 +20,13 @@ lineOf (field ∷ more ∷ fields) = field ++ (space ∷ lineOf (more ∷ fields
 unfoldable pub lastDigit : ℕ → ℕ
 lastDigit n = code "0" + n % 10
 
--- the digits of a number before those that stand already, so many of them at most
+-- the digits of a number, put in front of `digits`; the first argument is the most that are put there
 unfoldable pub digitsBefore : ℕ → ℕ → List ℕ → List ℕ
 digitsBefore zero n digits = digits
 digitsBefore (suc most) n digits =
     if ltb n 10 then lastDigit n ∷ digits else digitsBefore most (n / 10) (lastDigit n ∷ digits)
 
--- a number in decimal digits, with no zero in front; a word of 64 bits has at most 20
+-- a number in decimal digits, with no leading zero; a word of 64 bits has at most 20
 unfoldable pub decimal : ℕ → List ℕ
 decimal n = digitsBefore 20 n []
 

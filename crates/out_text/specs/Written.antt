@@ -1,5 +1,6 @@
--- What a printing function leaves in the room that it is lent. It writes from a place on and hands back the next place. What lies past the
--- end is dropped, and the next place is then the end: a list takes no store past its end, so `sets` says both.
+-- What a printing function leaves in lent room. It writes `bytes` from offset `at` on and returns the next offset. What
+-- is past the end is dropped, and the next offset is then the end. `sets` drops it too: it stores nothing past the end
+-- of a list.
 -- Assumes nothing.
 use Prim.Native.Nat.{ℕ, _+_, min}
 use mathlib.Core.Path.{_≡_}

@@ -1,5 +1,5 @@
-// Document 01, "Listing": fields, numbers and values, printed into room that is lent. Each function writes from a place on and hands back
-// the next place. What does not fit is left out, and no place passes the end, so no sum of places wraps.
+// Document 01, "Listing": fields, numbers and values, printed into lent room. Each function writes from offset `at` on
+// and returns the next offset. What does not fit is left out. No offset passes the end, so no sum of offsets wraps.
 ghost use mathlib.Core.Path.{_≡_};
 ghost use mathlib.Core.List.{_∷_, [], _++_};
 ghost use Prim.Native.Nat.{min};
@@ -13,7 +13,7 @@ struct Digits {
     from: usize,
 }
 
-// The lesser of two places.
+// The lesser of two offsets.
 pub fn lesser(a: usize, b: usize) -> usize
     ensures { λ r. ⌜ r ≡ min a b ⌝ }
 {

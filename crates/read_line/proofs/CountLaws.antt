@@ -1,5 +1,5 @@
--- Every count of a text that reads to its end is within its bound. The bounds hold after each line, so also after the last,
--- and the counts in the result are those of the last state.
+-- Every count of a text that reads to its end is within its bound. The bounds hold after each line, so also after the
+-- last, and the counts in the result are those of the last state.
 -- Assumes nothing.
 use mathlib.Core.Path.{_≡_, refl, sym, _∙_, ap, subst}
 use mathlib.Core.Bool.{Bool, true, false}

@@ -1,5 +1,5 @@
--- Laws of lines that are read with only a part of the state: no line yet, one line more, a line that breaks a rule, and the
--- walk over all of them.
+-- Laws of lines that are read with only a part of the state: no line yet, one line more, a line
+-- that breaks a rule, and the walk over all of them.
 -- Assumes nothing.
 use mathlib.Core.Path.{_≡_, refl, sym, _∙_, ap, subst}
 use mathlib.Core.List.{List}

@@ -1,5 +1,5 @@
--- The bounds of the state hold after each line without a keyword that breaks no rule: rule 17 is checked for every count that
--- such a line raises. And what each update requires: the sizes that it adds to are small.
+-- The bounds of the state hold after each line without a keyword that breaks no rule: rule 17 is checked for every
+-- count that such a line raises. And what each update requires: the sizes that it adds to are small.
 -- Assumes nothing.
 use mathlib.Core.Path.{_≡_, refl, sym, _∙_}
 use mathlib.Core.Bool.{true, false, not}

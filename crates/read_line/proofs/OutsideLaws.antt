@@ -1,5 +1,5 @@
--- Outside a path no fork is open: a keyword that leaves a path with a fork open breaks rule 15. And what every line preserves
--- holds after all lines.
+-- Outside a path no fork is open: a keyword that leaves a path with a fork open breaks rule 15. And
+-- what every line preserves holds after all lines.
 -- Assumes nothing.
 use mathlib.Core.Path.{_≡_, sym, _∙_, subst}
 use mathlib.Core.Bool.{Bool, true, false}

@@ -1,5 +1,5 @@
--- Laws of lines by their front: a blank line, one without a bracket, a line of the model list. And how the part of the state
--- that decides such a line decides its result.
+-- Laws of lines by their front: a blank line, one without a bracket, a line of the model list. And how the part of the
+-- state that decides such a line decides its result.
 -- Assumes nothing.
 use mathlib.Core.Path.{_≡_, refl, sym, _∙_, ap}
 use mathlib.Core.Bool.{Bool, true, false, not, true≢false}

@@ -1,5 +1,6 @@
--- The laws of the forward reading: a text reads to its end exactly when no line breaks a rule and [End] is reached; a refusal
--- gives the first line that breaks a rule, with the first rule of its list; and what holds in every state on the way.
+-- The laws of the forward reading: a text reads to its end exactly when no line breaks a rule and
+-- [End] is reached; a refusal gives the first line that breaks a rule, with the first rule of its
+-- list; and what holds in every state on the way.
 -- Assumes nothing.
 use mathlib.Core.Path.{_≡_, refl, sym, _∙_, ap, subst}
 use mathlib.Core.Bool.{Bool, true, false}

@@ -45,6 +45,7 @@ lineRule content s =
     if eqb (s .place) place.head then headRule (headLineOf content) (s .head) else
     if eqb (s .place) place.list then listRule content else 12
 
+-- the counts after a line without a keyword
 unfoldable pub countsAfterLine : List ℕ → State → Counts
 countsAfterLine content s =
     record {
@@ -57,6 +58,7 @@ countsAfterLine content s =
       values = if eqb (s .place) place.matrix then s .counts .values + dataLineOf (s .matrix .form) content .numbers else s .counts .values;
     }
 
+-- the state after a line without a keyword
 unfoldable pub lineNext : List ℕ → State → State
 lineNext content s =
     record {
@@ -86,6 +88,7 @@ goes s = record { rule = 0; state = s }
 unfoldable pub breaks : ℕ → State → LineResult
 breaks k s = record { rule = k; state = s }
 
+-- the result of a line that breaks rule k, 0 for none
 unfoldable pub judged : ℕ → State → State → LineResult
 judged k next s = if eqb k 0 then goes next else breaks k s
 
@@ -104,7 +107,7 @@ bracketStep Unknown content s = breaks 7 s
 bracketStep Later content s = breaks 8 s
 bracketStep (Keyword k start) content s = keywordStep k (argumentFrom content start) s
 
--- "Lines before [Begin Header] .. are read only for 2, 3, 4": only that keyword, well formed and in column 1, has an effect
+-- "Lines before [Begin Header] .. are read only for 2, 3, 4": only that keyword, well formed and in column 1, counts
 abbrev pub beforeStep : Bracket → List ℕ → State → LineResult
 beforeStep Plain content s = goes s
 beforeStep Indented content s = goes s
@@ -136,6 +139,7 @@ atEnd s =
 unfoldable pub onward : LineResult → ℕ → (State → Reading) → Reading
 onward step n more = if eqb (step .rule) 0 then more (step .state) else Refused (step .rule) n
 
+-- the result of the lines from line n on, read in state s
 unfoldable pub readFrom : ℕ → List Raw → State → Reading
 readFrom n [] s = atEnd s
 readFrom n (l ∷ ls) s = onward (lineResult (contentOf commentByte (l .bytes)) s) n (readFrom (n + 1) ls)

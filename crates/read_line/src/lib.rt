@@ -33,7 +33,7 @@ const DEEPEST: u64 = 8;
 
 const CARRIAGE_RETURN: u8 = 13;
 
-// The result of one line: the rule that it breaks, 0 for none, and the state after it. A broken rule leaves the state unchanged.
+// The result of one line: the rule that it breaks, 0 for none, and the state after it.
 pub struct LineResult {
     pub rule: u64,
     pub state: State,
@@ -45,7 +45,7 @@ pub enum Reading {
     Refused(u64, u64),
 }
 
-// How far a walk over the lines has come: the offset, line and state where it goes on; or the rule broken, and its line.
+// How far a walk over the lines has come: the offset, line and state where it goes on, or the rule broken and its line.
 pub struct Walk {
     pub rule: u64,
     pub at: usize,
@@ -299,8 +299,8 @@ fn is_idle_line(content: &[u8], place: u64) -> bool
     false
 }
 
-// A cheap test before `is_idle_line`: the lines of the model list mostly change nothing; elsewhere the first byte must show
-// an empty line or a comment.
+// A cheap test before `is_idle_line`: the lines of the model list mostly change nothing; elsewhere the
+// first byte must show an empty line or a comment.
 fn may_be_idle(text: &[u8], at: usize, place: u64) -> bool {
     if place == line_place::LIST {
         return true;
@@ -368,8 +368,8 @@ pub fn front_of(content: &[u8]) -> Front
     Front::Words
 }
 
-// The result of a line of a pin list, with only the part of the state that such a line changes. A line with a bracket is not
-// taken here. For a line that is taken: the rule that it breaks, and the map and the count of pins after it.
+// The result of a line of a pin list, with only the part of the state that such a line changes. A line with a bracket
+// is not taken here. For a line that is taken: the rule that it breaks, and the map and the count of pins after it.
 struct Pinned {
     taken: bool,
     rule: u64,
@@ -470,8 +470,8 @@ fn pass_pins(text: &[u8], at: usize, line: u64, map: Map, pins: u64) -> PinWalk
     }
 }
 
-// The result of a line of a path, with only the part of the state that such a line changes. A line with a bracket is not
-// taken here. For a line that is taken: the rule that it breaks, and the path and the count of steps after it.
+// The result of a line of a path, with only the part of the state that such a line changes. A line with a bracket is
+// not taken here. For a line that is taken: the rule that it breaks, and the path and the count of steps after it.
 pub struct Stepped {
     pub taken: bool,
     pub rule: u64,
@@ -532,7 +532,7 @@ pub struct PathWalk {
     pub part: Stepped,
 }
 
-// Reads lines of a path: up to and with the first that opens or closes a fork block or breaks a rule, or up to a bracket.
+// Reads lines of a path. It stops after a line that opens or closes a fork block or breaks a rule, or before a bracket.
 fn pass_path(text: &[u8], at: usize, line: u64, path: Path, steps: u64) -> PathWalk
     requires { ⌜ (at ≤ length (now text)) × (line ≤ at + 1) × Stepping path steps ⌝ }
     ensures { λ r. ⌜ Blocked (now (text .entry)) at line path steps r ⌝ }
@@ -583,8 +583,8 @@ fn pass_path(text: &[u8], at: usize, line: u64, path: Path, steps: u64) -> PathW
     }
 }
 
-// Reads the lines of a fork block, up to and with the line that closes it. The function calls itself for an inner block,
-// and the depth still left falls. The path itself is the outermost block.
+// Reads the lines of a fork block, up to and including the line that closes it. The function calls itself for an inner
+// block, and the depth still left falls. The path itself is the outermost block.
 fn pass_block(text: &[u8], at: usize, line: u64, path: Path, steps: u64, left: u64) -> PathWalk
     requires { ⌜ (at ≤ length (now text)) × (line ≤ at + 1) × Stepping path steps ⌝ }
     ensures { λ r. ⌜ Blocked (now (text .entry)) at line path steps r ⌝ }
@@ -661,8 +661,8 @@ pub fn read_pins(text: &[u8], at: usize, line: u64, s: State) -> Walk
     read_one(text, at, line, s)
 }
 
-// Reads the lines of a path, with its fork blocks, up to the next line with a bracket. If that line comes first, it is read
-// instead.
+// Reads the lines of a path, fork blocks included, up to the next line with a bracket. If that line comes first, it is
+// read instead.
 pub fn read_path(text: &[u8], at: usize, line: u64, s: State) -> Walk
     requires { ⌜ (at < length (now text)) × Onward (now text) at line s × (s .place ≡ place.path) ⌝ }
     ensures { λ r. ⌜ ResumesText (now (text .entry)) at line s r ⌝ }

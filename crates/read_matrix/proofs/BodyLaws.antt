@@ -1,5 +1,5 @@
--- Laws of the lines of a matrix, read one after another: no line yet, one line more, a line that breaks a rule, the line that
--- ends the matrix, and what is staged then.
+-- Laws of the lines of a matrix, read one after another: no line yet, one line more, a line that breaks a rule, the
+-- line that ends the matrix, and what is staged then.
 -- Assumes nothing.
 use mathlib.Core.Path.{_≡_, refl, sym, _∙_, ap}
 use mathlib.Core.Bool.{Bool, true, false, true≢false}

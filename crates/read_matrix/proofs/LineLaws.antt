@@ -1,4 +1,5 @@
--- Laws of one line of a matrix that is judged and staged: a line of numbers, [Row] and [Bandwidth], and a line that ends the matrix.
+-- Laws of one line of a matrix that is judged and staged: a line of numbers, [Row] and [Bandwidth], and a line that
+-- ends the matrix.
 -- Assumes nothing.
 use mathlib.Core.Path.{_≡_, refl, sym, _∙_, ap}
 use mathlib.Core.Bool.{Bool, true, false, not, true≢false}

@@ -306,7 +306,8 @@ module _ (t : List ℕ) (at line : ℕ) (part : Data) (table₀ : List ℕ) (her
           whole = whole;
         }
 
-  -- a line that is not part of the run: it has changed the table only after the values, and then the staging is not whole
+  -- a line that is not part of the run: if it has changed the table, then only after the values, and the staging is not
+  -- whole
   module _ (table' : List ℕ) (behind : Behind (reached .values) table table') (left : Data) (broken : left .rule ≡ 0)
       (matrix : left .matrix ≡ reached .matrix) (values : left .values ≡ reached .values)
       (bounded : BoundedStaging (left .staging) (reached .values))

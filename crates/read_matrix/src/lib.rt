@@ -1,5 +1,5 @@
-// The lines of a matrix, judged and staged in one pass: its numbers are stored at the front of the lent table as they are
-// judged, so that they are never read again.
+// The lines of a matrix, judged and staged in one pass: its numbers are stored at the front of the lent table as they
+// are judged, so that they are never read again.
 ghost use mathlib.Core.Path.{_≡_};
 ghost use mathlib.Core.Bool.{true, false};
 ghost use Prim.Native.Nat.{_+_, _*_, _≤_, _<_, max};
@@ -31,9 +31,9 @@ const OPENING: u8 = b'[';
 
 const MOST_VALUES: u64 = 65536;
 
-// The result of a line of a matrix, with only the part of the state that such a line changes: whether it is taken here; if
-// not, whether it is a keyword that ends the matrix; the rule that it breaks; and the matrix, the count of values and the
-// staging after it.
+// The result of a line of a matrix, with only the part of the state that such a line changes: whether it is
+// taken here; if not, whether it is a keyword that ends the matrix; the rule that it breaks; and the
+// matrix, the count of values and the staging after it.
 pub struct Data {
     pub taken: bool,
     pub ends: bool,
@@ -221,7 +221,7 @@ fn take_data(content: &[u8], matrix: Matrix, values: u64, staging: Staging) -> D
     }
 }
 
-// Where the lines of a matrix end, or the line that breaks a rule; the result up to there; and whether all their numbers are
+// Where the lines of a matrix end, or the line that breaks a rule; the result up to there; whether all numbers are
 // staged.
 pub struct BodyWalk {
     pub at: usize,
@@ -249,8 +249,8 @@ struct Run {
     part: Data,
 }
 
-// What is at the front of the line that starts at offset `here`. The answer is that of `read_line::front_of` for the line's
-// content, but the line's end is not looked for.
+// What is at the front of the line that starts at offset `here`. The answer is that of `read_line::front_of` for the
+// line's content, but the line's end is not looked for.
 fn front_at(text: &[u8], here: usize) -> Front
     ensures { λ r. ⌜ Fronted (contentAt (now (text .entry)) here) r ⌝ }
 {
@@ -272,8 +272,8 @@ fn next_line(text: &[u8], end: usize) -> usize
     line.next
 }
 
-// The result of a line of numbers: whether it is taken; whether the staging is still whole; and for a line that is taken the
-// count of values, the row and column of the next number, and where the next line starts.
+// The result of a line of numbers: whether it is taken; whether the staging is still whole; and for a line that is
+// taken the count of values, the row and column of the next number, and where the next line starts.
 struct TakenNumbers {
     taken: bool,
     whole: bool,
@@ -409,8 +409,8 @@ fn pass_numbers(text: &[u8], at: usize, line: u64, part: Data, table: &mut [u64]
     numbers_passed(here, line_here, part, true, values, row, column)
 }
 
-// The result of a line of a Sparse_matrix: whether it is taken; whether the staging is still whole; and for a line that is
-// taken its column, and where the next line starts.
+// The result of a line of a Sparse_matrix: whether it is taken; whether the staging is still whole; and for a line that
+// is taken its column, and where the next line starts.
 struct TakenPair {
     taken: bool,
     whole: bool,
@@ -584,8 +584,8 @@ fn pass_run(text: &[u8], at: usize, line: u64, part: Data, table: &mut [u64]) ->
     pass_numbers(text, at, line, part, table)
 }
 
-// Judges and stages the lines of a matrix. It stops before the keyword that ends the matrix, before a bracket that is not
-// read here, or after a line that breaks a rule.
+// Judges and stages the lines of a matrix. It stops before the keyword that ends the matrix, before a bracket that is
+// not read here, or after a line that breaks a rule.
 pub fn pass_data(
     text: &[u8],
     at: usize,

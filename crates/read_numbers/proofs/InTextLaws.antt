@@ -1,4 +1,4 @@
--- Laws of the words of a line that is not cut out of its text: a word at an offset of the text is a word of the line's content.
+-- Laws of the words of a line that is not cut out of its text: they are the words of the line's content.
 -- Assumes nothing.
 use mathlib.Core.Path.{_≡_, refl, sym, _∙_, ap}
 use mathlib.Core.Bool.{Bool, true, false, true≢false}

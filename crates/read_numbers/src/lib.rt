@@ -28,8 +28,8 @@ pub struct Staging {
     pub greatest: u64,
 }
 
-// The result of a line of numbers: whether all its words are numbers within their bounds and are staged. If so: how many
-// they are, the row and column of the next number, and where the line's content ends.
+// The result of a line of numbers: whether all its words are numbers within their bounds and are staged. If so: how
+// many they are, the row and column of the next number, and where the line's content ends.
 pub struct Numbers {
     pub staged: bool,
     pub count: u64,
@@ -38,8 +38,8 @@ pub struct Numbers {
     pub end: usize,
 }
 
-// The result of a line of a Sparse_matrix: whether column and value are within their bounds and staged. If so: the column,
-// and where the line's content ends.
+// The result of a line of a Sparse_matrix: whether column and value are within their bounds and staged. If so: the
+// column, and where the line's content ends.
 pub struct Pair {
     pub staged: bool,
     pub column: u64,
@@ -68,8 +68,8 @@ fn numbers_of(staged: bool, cursor: Cursor, end: usize) -> Numbers
     }
 }
 
-// Reads and stores the numbers from offset `from` to the end of the line; the first belongs at this row and column. If a
-// word is no number or out of its bounds, or if there is no room, the line is not staged.
+// Reads and stores the numbers from offset `from` to the end of the line; the first belongs at this row and column. If
+// a word is no number or out of its bounds, or if there is no room, the line is not staged.
 fn store_numbers(
     text: &[u8],
     from: usize,

@@ -1,5 +1,5 @@
--- Laws of the staged matrices that the walk carries along: none at the start, and one more after each matrix. They stay right
--- while values are added and the table changes only after the values that are read.
+-- Laws of the staged matrices that the walk carries along: none at the start, and one more after each matrix. They stay
+-- right while values are added and the table changes only after the values that are read.
 -- Assumes nothing.
 use mathlib.Core.Path.{_≡_, refl, sym, _∙_, ap, subst}
 use mathlib.Core.Bool.{true, false}

@@ -21,8 +21,8 @@ const STAGED: usize = 9;
 // An accepted text has at most this many matrices.
 const MOST_MATRICES: u64 = 1024;
 
-// Stores the words of a staged matrix at the index of the matrix that was opened last. Nothing is stored if there is no such
-// matrix or no room.
+// Stores the words of a staged matrix at the index of the matrix that was opened last. Nothing
+// is stored if there is no such matrix or no room.
 fn put_staged(stage: &mut [u64], matrices: u64, words: &[u64])
     requires { ⌜ length (now words) ≡ 9 ⌝ }
     ensures { λ _. ⌜ now (stage .exit) ≡ stageAfter matrices (now (words .entry)) (now (stage .entry)) ⌝ }

@@ -1,4 +1,5 @@
--- Laws of the answers to hosts: what is lent has room or is left alone, and the words of each case are those of the layout.
+-- Laws of the answers to hosts: lent words that are too few are left unchanged, and the words of each case are those of
+-- the layout.
 -- Assumes nothing.
 use mathlib.Core.Path.{_≡_, refl, sym, _∙_, ap}
 use mathlib.Core.Bool.{true, false, not}
@@ -32,7 +33,7 @@ use Rattle.out_double.specs.declared.DrawnPair.the-variants as pair
 use Rattle.out_double.proofs.CurveLaws.{never-nan, pair-frequency, pair-value}
 use Rattle.skumvari.specs.Words.{flag, intakeLayout, entryLayout, stepLayout, walkLayout, matrixLayout, doubleLayout, pairLayout, isRoom, answered, tableAfter, valuesAfter}
 
--- ---- what is lent
+-- ---- the lent words
 
 module _ (many : ℕ) (lent : List ℕ) where
   pub room-none : length lent < many → false ≡ isRoom many lent
@@ -52,7 +53,7 @@ module _ (words lent : List ℕ) where
   unfolding answered
   answer-put h after e = e ∙ sym (if-true _ _ (sym (room-there (length words) lent h)))
 
--- other words that are the same
+-- words that are equal may be exchanged
 pub answer-same : (words others lent after : List ℕ) → words ≡ others → after ≡ answered words lent → after ≡ answered others lent
 answer-same words others lent after e h = h ∙ ap (λ (ws : List ℕ). answered ws lent) e
 
@@ -173,7 +174,7 @@ module _ (lent after : List ℕ) where
     unfolding pairLayout
     pair-outside e h = rw (← is, e) h
 
--- a double that is drawn has bits: it is no NaN
+-- a double that is drawn has bits: it is not a NaN
 pub double-bits : (answer : Drawn) (word : ℕ) (x : Float) → answer ≡ drawnOf word → answer ≡ drawn.Value x → T (not (isNan x))
 double-bits answer word x is e = never-nan word x (sym is ∙ e)
 
@@ -184,7 +185,7 @@ module _ (answer : DrawnPair) (frequency value : ℕ) (x y : Float) (is : answer
   pub value-bits : T (not (isNan y))
   value-bits = never-nan value y (pair-value frequency value x y (sym is ∙ e))
 
--- an answer that is too short is left as it was, whatever it was to hold
+-- lent words that are too few are left unchanged, whatever the answer
 module _ (lent : List ℕ) (short : length lent < 4) where
   pub intake-left : (outcome : verdicts.Outcome) → lent ≡ answered (intakeLayout outcome) lent
   unfolding intakeLayout
@@ -194,7 +195,7 @@ module _ (lent : List ℕ) (short : length lent < 4) where
   unfolding matrixLayout
   matrix-left words = answer-left _ lent short
 
--- ---- what else is lent
+-- ---- what else is lent: the table and the values
 
 module _ (answer : List ℕ) (room : 4 ≤ length answer) where
   pub table-kept : (t table after : List ℕ) (size : ℕ) (given outcome : verdicts.Outcome) → given ≡ outcome → after ≡ verdicts.tableFor t size given →

@@ -1,4 +1,4 @@
--- The number 18 is given for the room alone: no rule of the groups 1 to 4, 5 to 17 and 19 to 27 has it.
+-- Rule 18 is given for room alone: no rule of the groups 1 to 4, 5 to 17 and 19 to 27 has that number.
 -- Assumes nothing.
 use mathlib.Core.Path.{_≡_, refl}
 use mathlib.Core.Bool.{Bool, true, false}

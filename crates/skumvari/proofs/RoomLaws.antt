@@ -1,5 +1,5 @@
--- A table of `mostWords` words or more is long enough for every text: it comes to what a table of `mostWords` words comes to, and is never
--- refused for its room.
+-- A table of `mostWords` words or more is long enough for every text: the verdict is the same as for `mostWords` words,
+-- and never 18.
 -- Assumes nothing.
 use mathlib.Core.Path.{_≡_, refl, sym, _∙_, ap}
 use mathlib.Core.List.{List}
@@ -31,7 +31,7 @@ use Rattle.intake.specs.Verdict.{Outcome, crossed, afterStoring, afterBytes, ve
 use Rattle.skumvari.specs.Room.{mostWords}
 use Rattle.skumvari.proofs.NumberLaws.{Other, other, OtherBytes, bytes-other, OtherReading, reading-other, cross-other}
 
--- the words that so many records of each part need
+-- the words that the records of all parts need, by their counts
 words-for : (c : Counts) →
     needed widths (countsOf c) ≡ 7 + 5 * c .models + 6 * c .steps + 7 * c .maps + 2 * c .pins + 8 * c .sections + 5 * c .matrices + 3 * c .values
 unfolding needed countsOf
@@ -65,7 +65,7 @@ module _ (t : List ℕ) where
   bytes-alike bytes.Fine size enough = ap (afterStoring t) (filled-same size enough)
   bytes-alike (bytes.Refused number line) size enough = refl
 
-  -- ---- no room is short
+  -- ---- the room always suffices
 
   crossed-other : (words : ℕ) → Other (crossed words (crossRule (documentOf t)) .rule)
   crossed-other words =
@@ -85,7 +85,7 @@ module _ (t : List ℕ) where
     bytes-number bytes.Fine h = filling-number
     bytes-number (bytes.Refused number line) h = h
 
--- what a table comes to does not change past `mostWords`
+-- the verdict does not change if the table is longer than `mostWords`
 pub suffices : (t : List ℕ) (size : ℕ) → mostWords ≤ size → verdictOf t size ≡ verdictOf t mostWords
 unfolding verdictOf
 suffices t size enough = bytes-alike t (byteRules t) size enough

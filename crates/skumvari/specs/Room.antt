@@ -1,5 +1,5 @@
--- A table that is long enough for every text: the seven counts, and as many records of each part as the paper's bounds allow, of which a
--- section has at most four matrices.
+-- How long a table must be to suffice for every text: the seven counts, and as many records of each part as the paper's
+-- bounds allow. A section has at most four matrices.
 -- Assumes nothing.
 use Prim.Native.Nat.{ℕ, _+_, _*_}
 

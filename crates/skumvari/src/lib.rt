@@ -1,5 +1,5 @@
-// The library for hosts in other languages: what include/skumvari.h declares. Each function writes its answer into lent words, in the layout
-// of specs/Words.antt; where they are too few it says false and writes none.
+// The library for hosts in other languages, as declared in include/skumvari.h. Each function writes its answer into
+// lent words, in the layout of specs/Words.antt. If there are too few words it returns false and writes no answer.
 ghost use mathlib.Core.Path.{_≡_};
 ghost use mathlib.Core.List.{[], _∷_};
 ghost use lib.ListN.{length};
@@ -21,7 +21,8 @@ use out_double::DrawnPair;
 
 const TABLE_WORDS: usize = 237_319;
 
-// How many words an answer has: of the intake, an entry, a whole matrix or a double, of a pair of doubles, and of a walk.
+// How many words an answer has: that of the intake, an entry, a whole matrix or a double; that of a pair of doubles;
+// that of a walk.
 const ANSWER_WORDS: usize = 4;
 
 const PAIR_WORDS: usize = 5;
@@ -100,7 +101,7 @@ fn no_step() -> StepWords
 
 // ---- what hosts call
 
-// How many words a table has that is long enough for every text.
+// How many words a table needs to be long enough for every text.
 #[no_mangle]
 pub extern "C" fn skumvari_table_words() -> usize
     ensures { λ r. ⌜ r ≡ mostWords ⌝ }
@@ -108,7 +109,7 @@ pub extern "C" fn skumvari_table_words() -> usize
     TABLE_WORDS
 }
 
-// The intake of a text into a lent table. With too few words for the answer it leaves the table all zeros, as for a refusal.
+// The intake of a text into a lent table. If there are too few words for the answer, the table is zeroed, as for a refusal.
 #[no_mangle]
 pub extern "C" fn skumvari_intake(text: &[u8], table: &mut [u64], answer: &mut [u64]) -> bool
     ensures { λ r. ⌜ r ≡ isRoom 4 (now (answer .entry)) ⌝ }
@@ -181,7 +182,8 @@ pub extern "C" fn skumvari_walk(
     }
 }
 
-// Every entry of a section's matrix, row by row, into lent values of N times N words; fewer are left as they were, and the answer tells N.
+// Every entry of a section's matrix, row by row, into lent values of N times N words. If there are fewer, they are left
+// unchanged and the answer gives N.
 #[no_mangle]
 pub extern "C" fn skumvari_matrix(
     text: &[u8],
@@ -205,7 +207,7 @@ pub extern "C" fn skumvari_matrix(
     }
 }
 
-// The double of a value word, as its bits.
+// The double of a value word, as its 64 bits.
 #[no_mangle]
 pub extern "C" fn skumvari_double(word: u64, answer: &mut [u64]) -> bool
     ensures { λ r. ⌜ r ≡ isRoom 4 (now (answer .entry)) ⌝ }
@@ -217,7 +219,7 @@ pub extern "C" fn skumvari_double(word: u64, answer: &mut [u64]) -> bool
     }
 }
 
-// The doubles of a frequency and a value, as their bits.
+// The doubles of a frequency and a value, as their 64 bits each.
 #[no_mangle]
 pub extern "C" fn skumvari_pair(frequency: u64, value: u64, answer: &mut [u64]) -> bool
     ensures { λ r. ⌜ r ≡ isRoom 5 (now (answer .entry)) ⌝ }

@@ -1,4 +1,4 @@
--- Laws of blocks one after another, whatever their kind: what is stored of those that are left gives what all of them give.
+-- Laws of blocks of any kind, one after another: storing the blocks that are left gives what storing all of them gives.
 -- Assumes nothing.
 use mathlib.Core.Path.{_≡_, refl, sym, _∙_, ap}
 use mathlib.Core.Bool.{Bool, true, false, not}
@@ -19,15 +19,15 @@ use Rattle.store_base.specs.declared.Walk.{Walk}
 use Rattle.store_base.proofs.StoreLaws.{Pending, pending-start, pending-step, pending-done, pending-same}
 use Rattle.store_base.proofs.LineLaws.{gather-none, gather-on}
 
--- Blocks of a kind, which a keyword opens, and what is stored of them from where a filling stands: of none nothing, and of some those in front
--- and then, from where these have led, the rest.
+-- Blocks of one kind, opened by a keyword, and the records written for them, starting from a filling: none for no
+-- block; for several blocks first those in front, and then the rest, from the filling after these.
 module _ {B : Type 0} (block : Line → List Line → List B) (writes : Filling → List B → List Write) where
   pub record Storable : Type 0 where
     pub quiet : (l : Line) (ls : List Line) → keyOf l ≡ plain → block l ls ≡ []
     pub none : (f : Filling) → writes f [] ≡ []
     pub split : (f : Filling) (bs cs : List B) → length (f .counts) ≡ 7 → writes f (bs ++ cs) ≡ writes f bs ++ writes (fillingAfter (writes f bs) f) cs
 
-  -- the blocks that are left, from where the walk has come
+  -- the blocks that are left where the walk goes on
   pub record BlocksLeft (size : ℕ) (t : List ℕ) (f₀ : Filling) (table₀ : List ℕ) (bs : List B) (w : Walk) (table : List ℕ) : Type 0 where
     pub pending : Pending size f₀ table₀ (writes f₀ bs) (w .filling) table (writes (w .filling) (gather block (linesAt t (w .line) (w .at) (w .place))))
     pub seven : length (w .filling .counts) ≡ 7
@@ -46,7 +46,7 @@ module _ {B : Type 0} (block : Line → List Line → List B) (writes : Filling 
     over : (ls rest : List Line) → Plainly (w .place) ls rest → gather block ls ≡ gather block rest
     over = plainly-quiet (w .place) block (λ (l : Line) (ls : List Line) (h : IsPlain (w .place) l). storable .quiet l ls (h .key-is))
 
-    -- where no block is left, all are stored
+    -- if no block is left, all are stored
     pub blocks-done : gather block (linesAt t (w .line) (w .at) (w .place)) ≡ [] → Stores f₀ table₀ (writes f₀ bs) (w .filling) table
     blocks-done e =
         pending-done size f₀ table₀ (writes f₀ bs) (w .filling) table

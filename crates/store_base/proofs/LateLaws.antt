@@ -1,4 +1,5 @@
--- After [End ICM Family] no map and no model may stand: the places from there on are late, and a late place is never left for an early one.
+-- After [End ICM Family] no map and no model is allowed: the places from there on are late, and
+-- no line leads from a late place to an early one.
 -- Assumes nothing.
 use mathlib.Core.Path.{_≡_, refl, sym, _∙_, ap}
 use mathlib.Core.Bool.{Bool, true, false}
@@ -73,7 +74,7 @@ pub late-place : (p : ℕ) (content : List ℕ) → 13 ≤ p → 13 ≤ placeAft
 unfolding placeAfter
 late-place p content h = late-if _ _ _ (late-line p _ h) (late-moved p _ h)
 
--- ---- nothing of the family stands there
+-- ---- nothing of the family is there
 
 -- what gives nothing in a late place gives nothing from there on
 module _ {B : Type 0} (block : Line → List Line → List B) (silent : (l : Line) (ls : List Line) → 13 ≤ l .place → block l ls ≡ []) where

@@ -1,4 +1,4 @@
--- Laws of lines gone over one after another: a run of lines that all pass a test, and what lines give that are gone over.
+-- Laws of lines read one after another: lines that all pass a test, and what the lines give that are read.
 -- Assumes nothing.
 use mathlib.Core.Path.{_≡_, refl, sym, _∙_, ap}
 use mathlib.Core.Bool.{Bool, true, false}
@@ -20,7 +20,7 @@ pub up-none : (inside : Line → Bool) → upTo inside [] ≡ []
 unfolding upTo
 up-none inside = refl
 
--- the lines before `ls` of those that began at ls₀: they all pass the test
+-- the lines of ls₀ before `ls`: they all pass the test
 pub record Skipped (inside : Line → Bool) (ls₀ ls : List Line) : Type 0 where
   pub before : List Line
   pub all : ls₀ ≡ before ++ ls
@@ -60,7 +60,7 @@ module _ {A : Type 0} (here : Line → List Line → List A) where
   unfolding gather
   gather-quiet l ls e = ap (λ (x : List A). x ++ gather here ls) e
 
-  -- lines that give nothing may be passed over
+  -- lines that give nothing may be skipped
   pub quiet : (inside : Line → Bool) → ((l : Line) (ls : List Line) → inside l ≡ true → here l ls ≡ []) → (ls rest : List Line) → gather here (upTo inside ls ++ rest) ≡ gather here rest
   quiet inside silent [] rest = rw (up-none inside)
   quiet inside silent (l ∷ ls) rest =

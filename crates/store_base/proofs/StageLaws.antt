@@ -1,5 +1,5 @@
--- Laws of what is noted of matrices: it stays true when the words that the notes stand for are moved up in the table, and while records are
--- stored before those that are still to be taken.
+-- Laws of staged matrices: they stay right when the words of their values move up in the table, and while records are
+-- stored before the words that are still needed.
 -- Assumes nothing.
 use mathlib.Core.Path.{_≡_, sym, _∙_, ap}
 use mathlib.Core.List.{List, _++_}
@@ -42,7 +42,7 @@ words-moved table a b m up h room =
     ∙ sym (front-words a b (take m table) (drop m table) n)
     ∙ ap (λ (u : List ℕ). take b (drop a u)) (take-append-drop m table)
 
--- the words of all notes, moved up from the front of the table
+-- the words of all staged matrices, moved up from the front of the table
 pub stage-lifted : (t table stage : List ℕ) (v up : ℕ) → Staged t table stage 0 0 → Before stage v → up + 3 * v ≤ length table →
     Staged t (sets (replicate (length table) 0) up (take (3 * v) table)) stage up 0
 stage-lifted t table stage v up staged before room = record { tells = told }
@@ -60,7 +60,7 @@ stage-lifted t table stage v up staged before room = record { tells = told }
 
 -- ---- while records are stored
 
--- what is the same from a place on is so from any later one
+-- lists that agree from one position on agree from any later one
 drop-later : (m n : ℕ) (u v : List ℕ) → m ≤ n → drop m u ≡ drop m v → drop n u ≡ drop n v
 drop-later m n u v h e =
     let k : n ≡ m + (n - m) = omega arith in

@@ -1,4 +1,4 @@
--- Laws of records stored one after another: what is still to store, stored, gives what all of it gives.
+-- Laws of records stored one after another: storing what is left gives what storing all of it gives.
 -- Assumes nothing.
 use mathlib.Core.Path.{_≡_, refl, sym, _∙_, ap}
 use mathlib.Core.List.{List, [], _∷_, _++_, append-nil}
@@ -46,8 +46,8 @@ module _ (f g h : Filling) (t u v : List ℕ) (ws vs : List Write) where
         filled = b .filled ∙ ap (fillingAfter vs) (a .filled) ∙ sym (filling-append ws vs f);
       }
 
--- the records ws, still to be stored, give what ws₀ gave that were to be stored at the start; they fit below `size`, and nothing above it
--- has changed
+-- storing the records ws that are left gives what storing all records ws₀ from the start gives; they
+-- fit below `size`, and nothing above it has changed
 pub record Pending (size : ℕ) (f₀ : Filling) (t₀ : List ℕ) (ws₀ : List Write) (f : Filling) (t : List ℕ) (ws : List Write) : Type 0 where
   pub image : tableStored ws f t ≡ tableStored ws₀ f₀ t₀
   pub counts : fillingAfter ws f ≡ fillingAfter ws₀ f₀
@@ -86,7 +86,7 @@ module _ (size : ℕ) (f₀ : Filling) (t₀ : List ℕ) (ws₀ : List Write) (f
   unfolding tableStored fillingAfter
   pending-done p = record { stored = p .image; filled = p .counts }
 
-  -- the same records, told otherwise
+  -- the same records, written differently
   pub pending-same : (ws vs : List Write) → ws ≡ vs → Pending size f₀ t₀ ws₀ f t ws → Pending size f₀ t₀ ws₀ f t vs
   pending-same ws vs e p = rw e at p
 

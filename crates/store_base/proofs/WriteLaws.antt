@@ -1,5 +1,5 @@
--- Laws of the writes of a document: part by part they are the document's records, every one is to a part that there is, and how many
--- records of a part are stored after them.
+-- Laws of the writes of a document: for each part they are the document's records of that part, every write goes to a
+-- part that exists, and how many records of a part are stored after them.
 -- Assumes nothing.
 use mathlib.Core.Path.{_≡_, refl, sym, _∙_, ap}
 use mathlib.Core.Bool.{true, false}
@@ -67,7 +67,7 @@ use Rattle.store_base.specs.Way.Writes.{
 
 -- ---- which parts are written
 
--- every write is to a part of which this holds
+-- every write goes to a part of which P holds
 module _ (P : ℕ → Type 0) where
   abbrev Writes : List Write → Type 0
   Writes ws = Each (λ (w : Write). P (w .part)) ws
@@ -139,13 +139,13 @@ part-append p (w ∷ ws) vs =
     (λ (e : eqb (w .part) p ≡ false). if-false _ _ e ∙ part-append p ws vs
     ∙ ap (λ (l : List (List ℕ)). l ++ partOf p vs) (sym (if-false (w .words ∷ partOf p ws) (partOf p ws) e)))
 
--- none, where every write is to another part
+-- none, if every write goes to another part
 part-none : (p : ℕ) (ws : List Write) → Writes (λ (k : ℕ). eqb k p ≡ false) ws → partOf p ws ≡ []
 unfolding partOf
 part-none p [] none = refl
 part-none p (w ∷ ws) (more e hs) = if-false _ _ e ∙ part-none p ws hs
 
--- all of them, where each is to this part
+-- all of them, if each goes to this part
 part-all : {A : Type 0} (p : ℕ) (write : A → Write) → ((x : A) → eqb (write x .part) p ≡ true) → (xs : List A) →
     partOf p (map write xs) ≡ map (λ (x : A). write x .words) xs
 unfolding partOf
@@ -156,7 +156,7 @@ part-one : (p : ℕ) (w : Write) → eqb (w .part) p ≡ true → partOf p (w �
 unfolding partOf
 part-one p w e = if-true _ _ e
 
--- a block's records of another part than its own, and its own
+-- the records that a block holds, and its own record
 module _ {A : Type 0} (p : ℕ) (write : A → Write) (xs : List A) (own : Write) where
   block-held : ((x : A) → eqb (write x .part) p ≡ true) → eqb (own .part) p ≡ false →
       partOf p (map write xs ++ (own ∷ [])) ≡ map (λ (x : A). write x .words) xs
@@ -351,7 +351,7 @@ module _ (ms : List Map) (ss : List Section) where
 
 -- ---- the whole
 
--- a part is told by one of the three kinds of blocks
+-- each part is written by one of the three kinds of blocks
 module _ (d : Document) (p : ℕ) where
   abbrev mapsPart : List (List ℕ)
   mapsPart = partOf p (mapsWrites 0 (d .maps))
@@ -377,7 +377,7 @@ module _ (d : Document) (p : ℕ) where
   no-models : eqb steps p ≡ false → eqb models p ≡ false → modelsPart ≡ []
   no-models e f = part-none p _ (in-models (λ (k : ℕ). eqb k p ≡ false) e f (d .maps) (d .sections) 0 (d .models))
 
-  -- what it is where the two others are nothing
+  -- what it is if the two others write nothing to it
   by-maps : (l : List (List ℕ)) → mapsPart ≡ l → sectionsPart ≡ [] → modelsPart ≡ [] → partOf p (writesOf d) ≡ l
   by-maps l e f g = all-parts ∙ (λ i. e i ++ f i ++ g i) ∙ append-nil (l ++ []) ∙ append-nil l
 
@@ -432,7 +432,7 @@ module _ (p q : ℕ) (f : Filling) where
   unfolding counted
   counts-long = length-set (f .counts) q (stored f q + 1)
 
--- after these writes there are as many records of a part more as they hold
+-- these writes add as many records to a part as they have for it
 pub part-counted : (p : ℕ) (ws : List Write) (f : Filling) → p < length (f .counts) →
     stored (fillingAfter ws f) p ≡ stored f p + length (partOf p ws)
 unfolding fillingAfter partOf
@@ -461,7 +461,7 @@ length-matrices first [] = refl
 length-matrices first (m ∷ ms) = ap suc (length-matrices (first + length (m .values)) ms)
 
 module _ (f : Filling) (all : length (f .counts) ≡ length widths) where
-  -- by what the part holds
+  -- given what they have for the part
   by-part : (p n : ℕ) (ws : List Write) → p < length widths → length (partOf p ws) ≡ n → stored (fillingAfter ws f) p ≡ stored f p + n
   by-part p n ws h e = part-counted p ws f (rw all h) ∙ ap (λ (k : ℕ). stored f p + k) e
 

@@ -1,9 +1,9 @@
-// What the fillings of the parts have in common: how far the lines have been gone over, and where the next records go.
+// What the functions that store the parts share: how far the lines have been read, and where the next records go.
 ghost use mathlib.Core.Path.{_≡_};
 ghost use Prim.Native.Nat.{_-_};
 use table_layout::Filling;
 
-// How far the lines have been gone over: where to go on, and in which place; and where the next records go.
+// How far the lines have been read: the offset, line and place where to go on; and where the next records go.
 pub struct Walk {
     pub at: usize,
     pub line: u64,
@@ -11,7 +11,7 @@ pub struct Walk {
     pub filling: Filling,
 }
 
-// One below a count that starts at 1; 0 stays.
+// One less than a count that starts at 1; 0 stays 0.
 pub fn one_less(n: u64) -> u64
     ensures { λ r. ⌜ r ≡ n - 1 ⌝ }
 {

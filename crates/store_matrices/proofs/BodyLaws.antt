@@ -48,7 +48,7 @@ use Rattle.store_matrices.specs.Way.Numbers.{valueWrites, rowAfter, Puts
 use Rattle.store_matrices.proofs.NumberLaws.{counted-on}
 use Rattle.store_matrices.specs.Way.Matrices.{matrixLine, bodyWrites, withRow, withBandwidth, TakesLine, TakesData, TakenLine}
 
--- the first that tells something counts, whatever the rest tell
+-- the first value given counts, whatever the rest gives
 pub told-first : (f : First) (n m : ℕ) → toldOr (firstTold f n) m ≡ toldOr f n
 unfolding toldOr firstTold
 told-first f n m =

@@ -1,4 +1,4 @@
--- Laws of the lines of a matrix one after another, and of a matrix' own record, stored behind its values.
+-- Laws of the lines of a matrix one after another, and of a matrix' own record, stored after its values.
 -- Assumes nothing.
 use mathlib.Core.Path.{_≡_, refl, sym, _∙_, ap}
 use mathlib.Core.Bool.{Bool, true, false, not}

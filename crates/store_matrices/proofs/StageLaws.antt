@@ -1,5 +1,5 @@
--- Laws of what was noted of a matrix: its values stand in the table where they would be stored, so that storing them changes nothing, and
--- what a note says of the lines is what the lines say.
+-- Laws of a staged matrix: its values are in the table where they would be stored, so that storing them changes
+-- nothing; and what it gives for its lines is what those lines give.
 -- Assumes nothing.
 use mathlib.Core.Path.{_≡_, refl, sym, _∙_, ap}
 use mathlib.Core.Bool.{Bool, true}
@@ -29,7 +29,7 @@ use Rattle.store_matrices.specs.Way.Told.{toldOr}
 use Rattle.store_matrices.specs.Way.Staged.{stagedIn, isOf, stagedWalk}
 use Rattle.store_matrices.specs.Way.Matrices.{matrixLines, PutsValues, FillsValues}
 
--- ---- words that stand where they are stored
+-- ---- words that are already where they would be stored
 
 drop-take-one : (n : ℕ) (l : List ℕ) → drop 1 (take (suc n) l) ≡ take n (drop 1 l)
 drop-take-one zero [] = refl
@@ -124,7 +124,7 @@ values-few size (v ∷ vs) f seven h long some =
     let e : getD (f .bases) 6 0 + 3 * getD (f .counts) 6 0 + 3 * suc (length vs) ≤ size = values-room size (v ∷ vs) f seven r h in
     omega arith
 
--- ---- a note taken for the lines
+-- ---- a staged matrix used for its lines
 
 count-in : (n : StagedMatrix) → stagedIn n .count ≡ n .count
 unfolding stagedIn
@@ -135,7 +135,7 @@ module _ (t table : List ℕ) (f : Filling) (seven : length (f .counts) ≡ 7) (
   abbrev told : List Value
   told = stagedValues t n
 
-  -- its words stand where the next value goes
+  -- its words are where the next value goes
   words-there : take (length (valuesWords told)) (drop (position f 6) table) ≡ valuesWords told
   unfolding position widthOf
   words-there =
@@ -170,7 +170,7 @@ module _ (t table : List ℕ) (f : Filling) (seven : length (f .counts) ≡ 7) (
       FillsValues t number at form table f (stagedWalk (stagedIn n) (getD (f .counts) 6 0) f) table
   staged-taken number at form a b c = rw (sym a, sym b, sym c) staged-fills
 
--- what the test says of a note
+-- what the test shows of a staged matrix
 record Right (n : StagedMatrix) (at number form first : ℕ) : Type 0 where
   made : 0 < n .further
   at-is : n .at ≡ at
@@ -223,7 +223,7 @@ module _ (t : List ℕ) (n at form : ℕ) (table : List ℕ) (f : Filling) (stag
       (found .form-is) in
       rw e g
 
--- a sum with nothing is no more
+-- adding 0 changes no sum
 pub sum-fits : (first count : ℕ) → val.Fits w64 first → (0 < count → first + count < 2 ^ 64) → val.Fits w64 (first + count)
 sum-fits first zero h few = rw (add-zero first) h
 sum-fits first (suc n) h few = let l : first + suc n < 2 ^ 64 = few (omega arith) in omega arith

@@ -1,4 +1,4 @@
-// The matrices of a section and their values, stored in a table.
+// Stores the matrices of a section, with their values, in a table.
 ghost use mathlib.Core.Path.{_≡_};
 ghost use mathlib.Core.List.{[], _∷_};
 ghost use Prim.Native.Nat.{_+_, _*_, _^_, _≤_, _<_, max};
@@ -24,20 +24,20 @@ use doc::Found;
 use lex_number::Number;
 use table_layout::Filling;
 
-// What the first of many tells, if one has told anything.
+// A value of which only the first one given counts: whether one is given yet, and which.
 pub struct First {
     pub told: bool,
     pub value: u64,
 }
 
-// Where the next number of a matrix stands, and where its record goes.
+// The row and column of the next number of a matrix, and where its record goes.
 pub struct Spot {
     pub row: u64,
     pub column: u64,
     pub filling: Filling,
 }
 
-// Where the next number of a line goes: its row and column, how many values are stored before it, and its place in the table.
+// Where the next number of a line goes: its row, its column, the count of values before it, and its table position.
 pub struct Cursor {
     pub row: u64,
     pub column: u64,
@@ -51,8 +51,8 @@ pub struct Placing {
     pub filling: Filling,
 }
 
-// How far the lines of a matrix have been read: where to go on, and what they have said. Of [Bandwidth] the first counts, of rows and
-// columns the greatest that is named.
+// How far the lines of a matrix have been read: where to go on, and what they have given. Of several [Bandwidth] the
+// first counts, and of the rows and columns the greatest that is named.
 pub struct MatrixWalk {
     pub at: usize,
     pub line: u64,
@@ -61,8 +61,8 @@ pub struct MatrixWalk {
     pub spot: Spot,
 }
 
-// What was noted of a matrix while its lines were judged: where they start and the number of the first, the form that they are read in,
-// how many values stand before theirs, where they end and the number of the line there, and what they say.
+// A matrix that was staged while its lines were judged: the offset and line where they start, the form in which they
+// are read, how many values come before its own, the offset and line where they end, and what they give.
 pub struct StagedWords {
     pub at: u64,
     pub line: u64,
@@ -75,7 +75,7 @@ pub struct StagedWords {
     pub count: u64,
 }
 
-// A matrix that is stored: where the lines go on behind it, and its conductors.
+// A matrix that is stored: where the lines go on after it, and its conductors.
 pub struct Stored {
     pub at: usize,
     pub line: u64,
@@ -83,7 +83,7 @@ pub struct Stored {
     pub filling: Filling,
 }
 
-// One more tells something: it counts where none has before.
+// One more value is given: it counts only if none was given before.
 pub fn first_told(first: First, value: u64) -> First
     ensures { λ r. ⌜ r ≡ firstTold first value ⌝ }
 {
@@ -93,7 +93,7 @@ pub fn first_told(first: First, value: u64) -> First
     First { told: true, value }
 }
 
-// What was told, 0 where nothing was.
+// The value given, 0 if there is none.
 pub fn told_in(first: First) -> u64
     ensures { λ r. ⌜ r ≡ toldOr first 0 ⌝ }
 {
@@ -129,7 +129,7 @@ fn put_value(number: Number, row: u64, column: u64, table: &mut [u64], filling: 
     table_layout::put_record(table, filling, table_layout::VALUES, &words)
 }
 
-// Down the diagonal, else along the row.
+// The row of the next number: down the diagonal, else the same row.
 fn next_row(form: u64, row: u64) -> u64
     requires { ⌜ row < 18_446_744_073_709_551_615 ⌝ }
     ensures { λ r. ⌜ r ≡ nextRow form row ⌝ }
@@ -174,7 +174,7 @@ fn spot_at(spot: Spot, cursor: Cursor) -> Spot
     }
 }
 
-// A number where the last one has led to.
+// Stores a number where the cursor is, and moves the cursor on.
 pub fn put_number(number: Number, form: u64, table: &mut [u64], cursor: Cursor) -> Cursor
     requires { ⌜ Roomy (length (now table)) cursor ⌝ }
     ensures { λ r. ⌜ (r ≡ nextCursor form cursor) × (now (table .exit) ≡ sets (now (table .entry)) (cursor .place) (cursor .row ∷ cursor .column ∷ wordIn number ∷ [])) ⌝ }
@@ -382,7 +382,7 @@ fn fill_values(
     }
 }
 
-// The note numbered i.
+// The i-th staged matrix.
 pub fn staged_at(stage: &[u64], i: usize) -> StagedWords
     requires { ⌜ 9 * i + 9 ≤ length (now stage) ⌝ }
     ensures { λ r. ⌜ r ≡ stagedIn (stagedAt (now (stage .entry)) i) ⌝ }
@@ -401,7 +401,8 @@ pub fn staged_at(stage: &[u64], i: usize) -> StagedWords
     }
 }
 
-// Whether a note is made, and of the lines at hand: read in this form, so many values standing before theirs.
+// Whether the entry is in use and is of the lines at hand: it starts at the same offset and line, is read in this form,
+// and has the same number of values before its own.
 fn is_of(staged: StagedWords, at: u64, line: u64, form: u64, first: u64) -> bool
     ensures { λ r. ⌜ r ≡ isOf staged at line form first ⌝ }
 {
@@ -420,7 +421,7 @@ fn is_of(staged: StagedWords, at: u64, line: u64, form: u64, first: u64) -> bool
     staged.first == first
 }
 
-// What a note says of the lines: their values stand in the table already, behind the first ones.
+// The walk after the lines of a staged matrix: its values are in the table already, after the first `first` ones.
 fn staged_walk(staged: StagedWords, first: u64, filling: Filling) -> MatrixWalk
     requires { ⌜ (0 < staged .count → first + staged .count < 2 ^ 64) ⌝ }
     ensures { λ r. ⌜ r ≡ stagedWalk staged first filling ⌝ }
@@ -447,7 +448,7 @@ fn staged_walk(staged: StagedWords, first: u64, filling: Filling) -> MatrixWalk
     }
 }
 
-// The lines of a matrix, by what was noted of them where it was, else as they stand.
+// The lines of a matrix: taken from the staged matrix if there is one for them, else read from the text.
 fn staged_values(
     text: &[u8],
     at: usize,
@@ -474,7 +475,7 @@ fn staged_values(
     fill_values(text, at, line, form, table, filling)
 }
 
-// The form of a matrix, after its keyword.
+// The form of a matrix: the argument of its keyword.
 fn form_at(text: &[u8], line: Found) -> u64
     requires { ⌜ Located (now text) line ⌝ }
     ensures { λ r. ⌜ r ≡ formOf (argumentOf (lineIn (now (text .entry)) line 0) .text) ⌝ }
@@ -484,7 +485,7 @@ fn form_at(text: &[u8], line: Found) -> u64
     line_argument::form_of(read_line::argument_of(&text[at..end], line.argument))
 }
 
-// N of a matrix: its numbers down the diagonal, else the greatest row or column that it names.
+// N of a matrix: the count of its numbers if it is diagonal, else the greatest row or column that it names.
 fn conductors_in(form: u64, values: u64, greatest: u64) -> u64
     ensures { λ r. ⌜ r ≡ (if eqb form diagonal then values else greatest) ⌝ }
 {
@@ -494,7 +495,7 @@ fn conductors_in(form: u64, values: u64, greatest: u64) -> u64
     greatest
 }
 
-// A matrix: its values, and behind them its own record.
+// Stores a matrix: its values, and then its own record.
 pub fn fill_matrix(
     text: &[u8],
     line: Found,

@@ -1,4 +1,4 @@
--- Laws of one line of a section: the matrix that it opens, the method, and the kinds of matrices that are kept.
+-- Laws of one line of a section: the matrix that it opens, the method, and the first matrix of each kind.
 -- Assumes nothing.
 use mathlib.Core.Path.{_≡_, refl, sym, _∙_, ap}
 use mathlib.Core.Bool.{Bool, true, false, true≢false}
@@ -83,7 +83,7 @@ module _ (kinds : List ℕ) (kind index : ℕ) where
       (λ (e : eqb (getD kinds kind 0) 0 ≡ true). getD-set-other kinds kind k index 0 (λ (s : k ≡ kind). h (sym s)))
       (λ (e : eqb (getD kinds kind 0) 0 ≡ false). refl)
 
-  -- the first of its kind is kept, whatever comes behind it
+  -- the first of its kind counts, whatever comes after it
   same-kind : kind < length kinds → 0 < index → (rest : ℕ) →
       keptOr (getD (kindsWith kinds kind index) kind 0) rest ≡ keptOr (getD kinds kind 0) index
   unfolding keptOr
@@ -98,7 +98,7 @@ module _ (kinds : List ℕ) (kind index : ℕ) where
       ap (λ (l : List ℕ). getD l kind 0) (sym (kind-kept (eqb-false _ _ e))) in
       rw g (if-false _ _ e ∙ sym (if-false _ _ e)))
 
--- one matrix more: the kinds that are kept, and what the matrices behind it give
+-- one matrix more: the kinds so far, and what the matrices after it give
 kinds-more :
     (kinds : List ℕ) (m : Matrix) (ms : List Matrix) (first : ℕ) → m .kind < length kinds → (k : ℕ) →
     keptOr (getD (kindsWith kinds (m .kind) (first + 1)) k 0) (indexOfKind k (first + 1) ms)
@@ -145,7 +145,7 @@ method-old t line f h = sym (if-false _ _ (ne-eqb _ _ h))
 
 -- ---- the matrix that a line opens
 
--- a keyword that opens a matrix is no other
+-- a keyword that opens a matrix is none of the others
 module _ (key : ℕ) (opens : opensMatrix key ≡ true) where
   not-opening : (k : ℕ) → opensMatrix k ≡ false → eqb key k ≡ false
   not-opening k e = ne-eqb key k (λ (s : key ≡ k). true≢false (sym opens ∙ ap opensMatrix s ∙ e))

@@ -1,4 +1,4 @@
--- Laws of sections one after another: what is stored of them, and where the lines go on behind one.
+-- Laws of sections one after another: what is stored of them, and where the lines go on after one.
 -- Assumes nothing.
 use mathlib.Core.Path.{_≡_, refl, sym, _∙_, ap}
 use mathlib.Core.Bool.{Bool, true, false, not}
@@ -37,11 +37,11 @@ use Rattle.store_sections.proofs.SectionLaws.{StagedOf}
 
 -- ---- what is stored of sections
 
--- of one, from where a filling stands
+-- of one section, starting from a filling
 abbrev sectionFrom : Filling → Section → List Write
 sectionFrom f s = sectionWrites (getD (f .counts) 5 0) (getD (f .counts) 6 0) s
 
--- where the filling stands behind it
+-- the filling after it
 abbrev behindOne : Filling → Section → Filling
 behindOne f s = fillingAfter (sectionFrom f s) f
 
@@ -75,7 +75,7 @@ sections-storable = record { quiet = plain-section; none = sections-none; split 
 
 -- ---- one line
 
--- the section that it opens fits, since all that are left do
+-- the section that it opens fits, since all sections that are left fit
 pub section-ready :
     (t : List ℕ) (f₀ : Filling) (table₀ : List ℕ) (ss : List Section) (w : Walk) (table : List ℕ) →
     BlocksLeft sectionAt sectionsOf (length table₀) t f₀ table₀ ss w table →
@@ -88,7 +88,7 @@ section-ready t f₀ table₀ ss w table left line meets there =
           (block-fits sectionAt sectionsOf sections-storable (length table₀) t f₀ table₀ ss w table left line meets there);
     }
 
--- what is noted of the matrices behind it stays
+-- the staged matrices after it stay right
 pub section-staged :
     (t : List ℕ) (f₀ : Filling) (table₀ : List ℕ) (ss : List Section) (w : Walk) (table : List ℕ) →
     BlocksLeft sectionAt sectionsOf (length table₀) t f₀ table₀ ss w table →

@@ -1,4 +1,4 @@
--- Laws of the lines of a section one after another, and of a section's own record, stored behind its matrices.
+-- Laws of the lines of a section one after another, and of a section's own record, stored after its matrices.
 -- Assumes nothing.
 use mathlib.Core.Path.{_≡_, refl, sym, _∙_, ap}
 use mathlib.Core.Bool.{Bool, true, false, not}
@@ -53,13 +53,13 @@ use Rattle.store_sections.specs.Way.Section.{
   FillsSection,
 }
 
--- what was noted of the values from where a filling stands
+-- the staged matrices whose values come next in a filling, or later
 abbrev pub StagedOf : List ℕ → List ℕ → List ℕ → Filling → Type 0
 StagedOf t table stage f = Staged t table stage (getD (f .bases) 6 0) (getD (f .counts) 6 0)
 
 -- ---- the lines of a matrix, within a section
 
--- a line of a matrix stands in the section, opens no matrix and gives no method
+-- a line of a matrix belongs to the section, opens no matrix and gives no method
 module _ (l : Line) (inside : inMatrix l ≡ true) where
   in-section : inSection l ≡ true
   unfolding inMatrix inSection
@@ -320,7 +320,7 @@ module _ (t : List ℕ) (n₀ at₀ : ℕ) (table₀ : List ℕ) (f₀ : Filling
               onward = omega arith;
             }
 
-        -- what is noted of the matrices behind it stays
+        -- the staged matrices after it stay right
         pub lines-staged : (stage : List ℕ) → StagedOf t table stage (w .filling) → StagedOf t table' stage (v .filling)
         lines-staged stage staged =
             stage-kept t table stage table' (w .filling) (v .filling) _ (taken .stores) (lines-takes .fits) (left .seven) staged

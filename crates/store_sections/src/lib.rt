@@ -1,4 +1,4 @@
-// The sections of a text with their matrices and values, stored in a table.
+// Stores the sections of a text, with their matrices and values, in a table.
 ghost use mathlib.Core.Path.{_≡_};
 ghost use Prim.Native.Nat.{_<_};
 ghost use lib.ListN.{length, getD};
@@ -19,8 +19,9 @@ use store_base::Walk;
 use store_matrices::First;
 use table_layout::Filling;
 
-// How far the lines of a section have been read: where to go on, and what they have said. The first method counts, N is that of the first
-// matrix, and of each kind the first matrix is kept, as its index plus 1, or 0.
+// How far the lines of a section have been read: the offset, line and place where to go on, and what
+// the lines have given. The first method counts. N is that of the first matrix. Of each kind the
+// first matrix counts, as its index plus 1; 0 is none.
 pub struct SectionWalk {
     pub at: usize,
     pub line: u64,
@@ -47,7 +48,7 @@ fn kind_of(key: u64) -> usize
     3
 }
 
-// A matrix of a kind, kept where it is the first.
+// Adds a matrix to the kinds if it is the first of its kind.
 fn with_kind(kinds: [u64; 4], kind: usize, index: u64) -> [u64; 4]
     requires { ⌜ kind < 4 ⌝ }
     ensures { λ r. ⌜ r ≡ kindsWith kinds kind index ⌝ }
@@ -60,7 +61,7 @@ fn with_kind(kinds: [u64; 4], kind: usize, index: u64) -> [u64; 4]
     kinds
 }
 
-// Past [Derivation Method] a section holds matrices.
+// After [Derivation Method] a section takes matrices.
 fn holds_matrices(place: u64) -> bool
     ensures { λ r. ⌜ r ≡ either (eqb place places.section) (eqb place places.matrix) ⌝ }
 {
@@ -70,7 +71,7 @@ fn holds_matrices(place: u64) -> bool
     place == line_place::MATRIX
 }
 
-// Whether a line read in a place is a section's.
+// Whether a line that is read in this place belongs to a section.
 fn is_in_section(place: u64) -> bool
     ensures { λ r. ⌜ r ≡ either (eqb place places.sectionHead) (either (eqb place places.section) (eqb place places.matrix)) ⌝ }
 {
@@ -80,7 +81,7 @@ fn is_in_section(place: u64) -> bool
     holds_matrices(place)
 }
 
-// Whether a keyword opens a matrix where it stands.
+// Whether a keyword opens a matrix in this place.
 fn opens_matrix(place: u64, key: u64) -> bool
     ensures { λ r. ⌜ r ≡ both (either (eqb place places.section) (eqb place places.matrix)) (opensMatrix key) ⌝ }
 {
@@ -111,7 +112,7 @@ fn method_after(text: &[u8], line: Found, method: First) -> First
     method
 }
 
-// A matrix: the lines go on behind its own.
+// Stores a matrix; the walk goes on after its lines.
 fn take_matrix(
     text: &[u8],
     line: Found,
@@ -143,7 +144,7 @@ fn take_matrix(
     }
 }
 
-// A line of a section, and the matrix that it opens if it opens one.
+// A line of a section, with the matrix that it opens, if any.
 fn take_line(
     text: &[u8],
     line: Found,
@@ -174,7 +175,7 @@ fn take_line(
     }
 }
 
-// The lines of a section, from below its keyword.
+// The lines of a section, from the line below its keyword on.
 fn fill_lines(
     text: &[u8],
     at: usize,
@@ -212,7 +213,7 @@ fn fill_lines(
     }
 }
 
-// A section: its matrices with their values, and behind them its own record.
+// Stores a section: its matrices with their values, and then its own record.
 fn fill_section(
     text: &[u8],
     line: Found,
@@ -248,7 +249,7 @@ fn fill_section(
     }
 }
 
-// Sections stand behind the family.
+// Sections come after the family.
 fn opens_section(place: u64, key: u64) -> bool
     ensures { λ r. ⌜ r ≡ both (eqb place places.after) (eqb key beginIcmSection) ⌝ }
 {
@@ -258,7 +259,7 @@ fn opens_section(place: u64, key: u64) -> bool
     key == lex_keyword::BEGIN_ICM_SECTION
 }
 
-// A line, and the section that it opens if it opens one.
+// A line, with the section that it opens, if any.
 fn pass_section(text: &[u8], line: Found, table: &mut [u64], walk: Walk, stage: &[u64]) -> Walk
     requires { ⌜ Ready sectionAt sectionsOf (now text) line walk (now table)
         × Staged (now text) (now table) (now stage) (getD (walk .filling .bases) 6 0) (getD (walk .filling .counts) 6 0) ⌝ }
@@ -276,7 +277,7 @@ fn pass_section(text: &[u8], line: Found, table: &mut [u64], walk: Walk, stage: 
     }
 }
 
-// All sections, from where the walk has come. Where something was noted of a matrix, its lines are not read again.
+// Stores all sections from where the walk goes on. The lines of a staged matrix are not read again.
 pub fn fill_sections(text: &[u8], table: &mut [u64], walk: Walk, stage: &[u64]) -> Filling
     requires { ⌜ Placed (now text) (walk .line) (walk .at)
         × (length (walk .filling .counts) ≡ 7)

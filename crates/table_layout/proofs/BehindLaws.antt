@@ -1,5 +1,5 @@
--- Laws of values that stand in the table already: what is stored leaves alone what lies behind the next value, and words that stand where
--- values will be stored change nothing.
+-- Laws of values that are in the table already: storing records changes nothing from the next value's position on, and
+-- words in positions where values will be stored do not matter.
 -- Assumes nothing.
 use mathlib.Core.Path.{_≡_, refl, sym, _∙_, ap}
 use mathlib.Core.Bool.{true, false}
@@ -93,7 +93,7 @@ module _ (f : Filling) (p : ℕ) where
           let o : p ≡ values → ⊥ = eqb-false p values e in
           rw (next-other o) (before-values known apart o)
 
--- each value moves the place on by its three words
+-- each value moves the position on by its three words
 pub value-place : (ws : List Write) (f : Filling) → length (f .counts) ≡ 7 →
     position (fillingAfter ws f) values ≡ position f values + 3 * length (partOf values ws)
 unfolding fillingAfter partOf
@@ -125,15 +125,15 @@ fits-behind size f (w ∷ ws) (Fits.more part width room apart next) seven =
     let r : position f (w .part) + widthOf (w .part) ≤ position (fillingAfter ws (counted f (w .part))) values = omega arith in
     Fits.more part width r apart (fits-behind size (counted f (w .part)) ws next s)
 
--- so what stands there and behind stays
+-- so what is there and after it stays
 pub kept-behind : (size : ℕ) (f : Filling) (ws : List Write) (t : List ℕ) → Fits size f ws → length (f .counts) ≡ 7 →
     drop (position (fillingAfter ws f) values) (tableStored ws f t) ≡ drop (position (fillingAfter ws f) values) t
 kept-behind size f ws t h seven = kept-above (position (fillingAfter ws f) values) f ws t (fits-behind size f ws h seven)
 
--- ---- what is stored over
+-- ---- what is overwritten
 
--- one record stored over words where values belong, if that holds for those after it: a value takes the place of the first of these words,
--- any other record lies before them
+-- one record stored over words in the part of the values, if the law holds for the records after it: a value replaces
+-- the first of these words, any other record lies before them
 module _ (f : Filling) (w : Write) (ws : List Write) (t filler : List ℕ) (width : length (w .words) ≡ widthOf (w .part))
     (long : length filler ≡ 3 * length (partOf values (w ∷ ws)))
     (later : (u rest : List ℕ) → length rest ≡ 3 * length (partOf values ws) →
@@ -168,7 +168,7 @@ module _ (f : Filling) (w : Write) (ws : List Write) (t filler : List ℕ) (widt
       rw (next-other f (w .part) o) (sets-apart t (position f (w .part)) (position f values) (w .words) filler h) in
       ap (tableStored ws (counted f (w .part))) s ∙ later (sets t (position f (w .part)) (w .words)) filler l
 
--- words where values will be stored change nothing
+-- words in positions where values will be stored do not matter
 pub overwritten : (size : ℕ) (f : Filling) (ws : List Write) (t filler : List ℕ) → Fits size f ws → length (f .counts) ≡ 7 →
     length filler ≡ 3 * length (partOf values ws) → tableStored ws f (sets t (position f values) filler) ≡ tableStored ws f t
 unfolding partOf

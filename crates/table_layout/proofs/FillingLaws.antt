@@ -48,7 +48,7 @@ unfolding fillingAfter
 fits-rest size f [] vs h = h
 fits-rest size f (w ∷ ws) vs (Fits.more part width room apart next) = fits-rest size (counted f (w .part)) ws vs next
 
--- what the first write asks
+-- what the first write requires
 module _ (size : ℕ) (f : Filling) (w : Write) (ws : List Write) where
   pub fits-part : Fits size f (w ∷ ws) → w .part < length widths
   fits-part (Fits.more part width room apart next) = part
@@ -99,14 +99,14 @@ headed-long (w ∷ ws) (c ∷ counts) =
     let h : length (headed ws counts) ≡ needed ws counts = headed-long ws counts in
     omega arith
 
--- where the records of a part begin, and where they end, the first part's count standing at `at`
+-- where the records of a part begin, and where they end, if the count of the first part is at `at`
 abbrev pub begin : ℕ → List ℕ → List ℕ → ℕ → ℕ
 begin at ws counts p = getD (basesFrom at ws counts) p 0
 
 abbrev pub end : ℕ → List ℕ → List ℕ → ℕ → ℕ
 end at ws counts p = begin at ws counts p + getD ws p 0 * getD counts p 0
 
--- no part ends behind what is needed for all of them
+-- no part ends after the words that all parts need
 ends-within : (at : ℕ) (ws counts : List ℕ) (p : ℕ) → end at ws counts p ≤ at + needed ws counts
 unfolding basesFrom needed
 ends-within at [] counts p = rw (zero-mul (getD counts p 0)) (omega arith)
@@ -117,7 +117,7 @@ ends-within at (w ∷ ws) (c ∷ counts) (suc p) =
     let h : end next ws counts p ≤ next + needed ws counts = ends-within next ws counts p in
     omega arith
 
--- the last part ends with what is needed for all of them
+-- the last part ends with the words that all parts need
 pub ends-last : (at w : ℕ) (ws counts : List ℕ) → length counts ≡ suc (length ws) → end at (w ∷ ws) counts (length ws) ≡ at + needed (w ∷ ws) counts
 unfolding basesFrom needed
 ends-last at w ws [] e = absurd (omega arith)
@@ -190,12 +190,12 @@ lengths-at parts p = List·getD-map length parts p []
 
 -- ---- the writes of all records
 
--- every write is to a part before this one
+-- every write goes to a part before this one
 pub data Below (q : ℕ) : List Write → Type 0 where
   none : Below q []
   more : {w : Write} {ws : List Write} → w .part < q → Below q ws → Below q (w ∷ ws)
 
--- every write is to a part that there is
+-- every write goes to a part that exists
 abbrev pub Known : List Write → Type 0
 Known ws = Below (length widths) ws
 

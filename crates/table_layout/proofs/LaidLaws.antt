@@ -24,7 +24,7 @@ pub data AllFew : List ℕ → List (List (List ℕ)) → Type 0 where
   none : AllFew [] []
   more : {b : ℕ} {bs : List ℕ} {records : List (List ℕ)} {parts : List (List (List ℕ))} → length records ≤ b → AllFew bs parts → AllFew (b ∷ bs) (records ∷ parts)
 
--- what stands behind a part's records
+-- what comes after a part's records
 part-behind : (w at : ℕ) (records : List (List ℕ)) (back t : List ℕ) → AllLong w records → drop at t ≡ (length records ∷ joined records) ++ back → drop (at + 1 + w * length records) t ≡ back
 part-behind w at records back t long e =
     let l : length (joined records) ≡ w * length records = length-joined long in

@@ -1,4 +1,5 @@
--- Laws of the layout: how long it is, that a table which holds it is taken apart to the very parts, and where each word of a record stands.
+-- Laws of the layout: its length, that a table which holds it is taken apart into the same parts, and where each word
+-- of a record is.
 -- Assumes nothing.
 use mathlib.Core.Path.{_≡_, refl, sym, _∙_, ap}
 use mathlib.Core.List.{List, [], _∷_, _++_, map, append-assoc}
@@ -41,7 +42,7 @@ chopped-joined {w} (AllLong.more {r} {rs} e h) rest =
     rw (append-assoc r (joined rs) rest, take-at r (joined rs ++ rest) w e, drop-at r (joined rs ++ rest) w e)
     (ap (λ (l : List (List ℕ)). r ∷ l) (chopped-joined h rest))
 
--- the other parts stand behind the first
+-- the other parts come after the first
 behind-first : {w : ℕ} {records : List (List ℕ)} → AllLong w records → (parts : List (List (List ℕ))) (rest : List ℕ) →
     drop (1 + w * length records) (layout (records ∷ parts) ++ rest) ≡ layout parts ++ rest
 unfolding layout
@@ -49,7 +50,7 @@ behind-first {w} {records} h parts rest =
     rw (append-assoc (joined records) (layout parts) rest, one-add (w * length records))
     (drop-at (joined records) (layout parts ++ rest) (w * length records) (length-joined h))
 
--- whatever stands behind
+-- whatever comes after
 pub apart : (ws : List ℕ) (parts : List (List (List ℕ))) (rest : List ℕ) → Wide ws parts → partsIn ws (layout parts ++ rest) ≡ parts
 unfolding layout partsIn
 apart [] [] rest Wide.none = refl
@@ -64,7 +65,7 @@ apart (w ∷ ws) (records ∷ parts) rest (Wide.more h wide) =
 pub taken-apart : (ws : List ℕ) (parts : List (List (List ℕ))) (z : ℕ) → Wide ws parts → partsIn ws (layout parts ++ replicate z 0) ≡ parts
 taken-apart ws parts z wide = apart ws parts (replicate z 0) wide
 
--- ---- where a record stands
+-- ---- where a record is
 
 pub length-chopped : (w n : ℕ) (t : List ℕ) → length (chopped w n t) ≡ n
 unfolding chopped
@@ -124,7 +125,7 @@ word-in ws t p i f h g =
     rw (record-in ws t p i h, getD-take (getD ws p 0) (drop (beginsIn ws t p + getD ws p 0 * i) t) f 0 g)
     (getD-drop (beginsIn ws t p + getD ws p 0 * i) t f 0)
 
--- ---- where the parts of a layout stand
+-- ---- where the parts of a layout are
 
 pub count-laid : (ws : List ℕ) (parts : List (List (List ℕ))) (rest : List ℕ) (p : ℕ) → Wide ws parts → p < length ws →
     getD (layout parts ++ rest) (countAt ws (layout parts ++ rest) p) 0 ≡ length (getD parts p [])
@@ -145,7 +146,7 @@ pub begins-laid : (ws : List ℕ) (parts : List (List (List ℕ))) (rest : List 
     beginsIn ws (layout parts ++ rest) p ≡ getD (basesFrom 0 ws (map length parts)) p 0
 begins-laid ws parts rest p wide h = sym (zero-add (beginsIn ws (layout parts ++ rest) p)) ∙ begins-from ws parts rest 0 p wide h
 
--- ---- a part's records, one behind the other from where it begins
+-- ---- a part's records, one after the other from where it begins
 
 pub part-in : (ws t : List ℕ) (p : ℕ) → p < length ws →
     getD (partsIn ws t) p [] ≡ chopped (getD ws p 0) (getD t (countAt ws t p) 0) (drop (beginsIn ws t p) t)
@@ -170,7 +171,7 @@ module _ (ws : List ℕ) (parts : List (List (List ℕ))) (rest : List ℕ) (p :
       rw (← begins-laid ws parts rest p wide h, ← count-laid ws parts rest p wide h)
       (sym (part-in ws (layout parts ++ rest) p h) ∙ ap (λ (l : List (List (List ℕ))). getD l p []) (apart ws parts rest wide))
 
-  -- the same of a table that holds the layout only from some word on, at or before the part's first
+  -- the same for a table that holds the layout only from some word on, at or before the part's first
   pub part-stands : (t : List ℕ) (m : ℕ) → m ≤ base → drop m t ≡ drop m (layout parts ++ rest) →
       chopped (getD ws p 0) (length (getD parts p [])) (drop base t) ≡ getD parts p []
   part-stands t m k e =

@@ -1,4 +1,4 @@
--- Laws of words moved up in a table: what is moved from the last down, and the zeros around it.
+-- Laws of words that are moved up in a table, the last word first, and of the zeros around them.
 -- Assumes nothing.
 use mathlib.Core.Path.{_≡_, sym, _∙_, ap}
 use mathlib.Core.List.{List, [], _∷_, _++_, append-assoc}
@@ -11,7 +11,7 @@ use lib.Seq.{sets, sets-eq, length-sets, take-suc, take-set-le, length-take-le, 
 use Rattle.table_layout.proofs.PartlyLaws.{sets-over}
 use Rattle.table_layout.proofs.BehindLaws.{sets-apart}
 
--- ---- moved from the last down
+-- ---- moved up, the last word first
 
 sets-append : (t : List ℕ) (i : ℕ) (vs ws : List ℕ) → sets t i (vs ++ ws) ≡ sets (sets t i vs) (i + length vs) ws
 sets-append t i [] ws = rw (add-zero i)

@@ -1,5 +1,5 @@
--- Laws of the counts set where the parts begin: a loop over the parts sets them, what they make of a table of zeros, and that words set
--- where the values belong come to the same before or after them.
+-- Laws of the counts that are set where the parts begin: a loop over the parts sets them, what they make of a table of
+-- zeros, and that words in the part of the values may be set before or after them.
 -- Assumes nothing.
 use mathlib.Core.Path.{_≡_, refl, _∙_, ap}
 use mathlib.Core.List.{List, [], _∷_, _++_, append-assoc}
@@ -45,7 +45,7 @@ set-zeros front at n left c e =
     set-at front 0 (replicate (n + left) 0) c at e
     ∙ rw (append-assoc front (c ∷ replicate n 0) (replicate left 0), replicate-append-replicate {A = ℕ} n left 0)
 
--- behind what stands right already
+-- after a front that is right already
 zeros-from : (front ws counts : List ℕ) (at spare : ℕ) → length front ≡ at →
     openedTable at ws counts (front ++ replicate (needed ws counts + spare) 0) ≡ front ++ (headed ws counts ++ replicate spare 0)
 unfolding openedTable needed headed
@@ -66,7 +66,7 @@ opened-zeros counts n h =
     let e : n ≡ needed widths counts + (n - needed widths counts) = omega arith in
     ap (λ (k : ℕ). openedTable 0 widths counts (replicate k 0)) e ∙ zeros-from [] widths counts 0 (n - needed widths counts) refl
 
--- ---- words where the values belong
+-- ---- words in the part of the values
 
 sets-from : (at : ℕ) (ws counts t : List ℕ) (p : ℕ) (vs : List ℕ) → ((q : ℕ) → q < length ws → q < length counts → begin at ws counts q ≤ p) →
     openedTable at ws counts (sets t p vs) ≡ sets (openedTable at ws counts t) p vs
@@ -104,6 +104,6 @@ opened-sets counts t p vs long h = sets-from 0 widths counts t p vs each
     each (suc (suc (suc (suc (suc (suc zero)))))) k l = h
     each (suc (suc (suc (suc (suc (suc (suc q))))))) k l = absurd (omega arith)
 
--- the values are the last part: they end with what is needed
+-- the values are the last part: they end with the words needed
 pub values-last : (counts : List ℕ) → length counts ≡ 7 → getD (basesFrom 0 widths counts) values 0 + 3 * getD counts values 0 ≡ needed widths counts
 values-last counts long = rw zero-add at (ends-last 0 5 (6 ∷ 7 ∷ 2 ∷ 8 ∷ 5 ∷ 3 ∷ []) counts long)

@@ -1,4 +1,5 @@
--- What a view tells of its table: the records of each part as the table taken apart has them, all inside it, and not too many.
+-- What a view gives: the records of each part are those that the table holds, all inside it, and there are not too
+-- many.
 -- Assumes nothing.
 use mathlib.Core.Path.{_≡_, refl, sym, _∙_, ap}
 use mathlib.Core.Bool.{Bool, true, false, true≢false}
@@ -35,7 +36,7 @@ parts-at (w ∷ ws) t at (suc p) h =
     let d : drop (1 + w * getD (drop at t) 0 0) (drop at t) ≡ drop (at + 1 + w * getD t at 0) t = ap (λ (n : ℕ). drop (1 + w * n) (drop at t)) c ∙ drop-drop (1 + w * getD t at 0) at t ∙ ap (λ (n : ℕ). drop n t) e in
     rw d (parts-at ws t (at + 1 + w * getD t at 0) p (le-of-suc-le-suc h))
 
--- where no count is too great and the last record lies inside
+-- if no count is too great and the last record lies inside
 within-here : (ws bs t : List ℕ) (at : ℕ) → areWithin ws bs t at ≡ true → at ≤ length t
 unfolding areWithin
 within-here [] bs t at e = leb-true _ _ e

@@ -1,4 +1,5 @@
--- A table on its way: of each part its count, the records that are stored, and zeros for those to come. One record more keeps that form.
+-- A table that is partly filled: for each part its count, the records stored so far, and zeros for those to come.
+-- Storing one more record keeps that form.
 -- Assumes nothing.
 use mathlib.Core.Path.{_≡_, refl, sym, _∙_}
 use mathlib.Core.List.{List, [], _∷_, _++_, map, append-assoc, append-nil}
@@ -65,7 +66,7 @@ zeros-more w left =
     let e : w * suc left ≡ w + w * left = mul-suc w left ∙ add-comm (w * left) w in
     rw e (sym (replicate-append-replicate w (w * left) 0))
 
--- stores over as many words, behind what stands before them
+-- words stored over as many others replace just these
 pub sets-over : (before over after words : List ℕ) → length words ≡ length over →
     sets (before ++ (over ++ after)) (length before) words ≡ before ++ (words ++ after)
 sets-over before over after words e =
@@ -103,7 +104,7 @@ store-first before w c left records others rest words long e =
     (sets-over (before ++ (c ∷ joined records)) (zeros w) (zeros (w * left) ++ (others ++ rest)) words z
     ∙ sym (regroup before c (joined records) words (zeros (w * left)) others rest))
 
--- the words of a part on its way are as many as those of its records
+-- a part that is partly filled has as many words as its records need
 length-partly : (w c : ℕ) (records : List (List ℕ)) → AllLong w records → length records ≤ c →
     length (joined records ++ zeros (w * (c - length records))) ≡ w * c
 length-partly w c records long h =
@@ -116,7 +117,7 @@ length-partly w c records long h =
       n,
     )
 
--- a record of any part: it takes the place of the first zeros there
+-- a record of any part: it replaces the first zeros there
 pub store-partly : (before ws counts : List ℕ) (done : List (List (List ℕ))) (rest words : List ℕ) (p : ℕ) →
     Wide ws done → length counts ≡ length ws → p < length ws → length words ≡ getD ws p 0 →
     ((q : ℕ) → length (getD done q []) ≤ getD counts q 0) → length (getD done p []) < getD counts p 0 →

@@ -1,4 +1,5 @@
--- Laws by which the code meets its contracts: a loop over the parts, the counts and bases that it stores, and the place of one record.
+-- Laws by which the code meets its contracts: a loop over the parts, the counts and bases
+-- that it stores, and the position of one record.
 -- Assumes nothing.
 use mathlib.Core.Path.{_≡_, refl, sym, _∙_, ap}
 use mathlib.Core.List.{List, [], _∷_, append-nil}
@@ -34,12 +35,12 @@ module _ (counts : List ℕ) (part at : ℕ) (long : length counts ≡ 7)
       let k : part < length counts = omega arith in
       needed-on widths counts part at (needed widths counts) h k inv
 
-  -- the part itself is among what is needed
+  -- the part itself is among the words needed
   part-within : part < 7 → at + 1 + getD widths part 0 * getD counts part 0 ≤ needed widths counts
   part-within h =
       omega (arith, part-on h)
 
-  -- so its count stands within a table that is as long as one with the room
+  -- so its count lies inside a table that has the room
   pub place-within : (table entry : List ℕ) → part < 7 → length table ≡ length entry → needed widths counts ≤ length entry → at < length table
   place-within table entry h e room = omega (arith, part-within h)
 
@@ -89,7 +90,7 @@ module _ (counts : List ℕ) (part at : ℕ) (long : length counts ≡ 7) (few :
   pub sum-fits : Fits w64 (at + 1 + getD widths part 0 * getD counts part 0)
   sum-fits = omega (arith, part-within counts part at long inv h, needed-few counts few)
 
--- ---- the place of one record
+-- ---- the position of one record
 
 widths-some : (p : ℕ) → p < length widths → 0 < getD widths p 0
 widths-some zero h = omega arith
@@ -101,7 +102,7 @@ widths-some (suc (suc (suc (suc (suc zero))))) h = omega arith
 widths-some (suc (suc (suc (suc (suc (suc zero)))))) h = omega arith
 widths-some (suc (suc (suc (suc (suc (suc (suc p))))))) h = absurd (omega arith)
 
--- every record has a word at least, so a table that holds them is as long as there are records
+-- every record has at least one word, so a table that holds records has at least as many words as records
 records-words : (w n : ℕ) → 0 < w → suc n ≤ w * n + w
 records-words w n h = rw (← mul-suc w n, mul-comm w (suc n)) (le-mul-of-pos-right (suc n) h)
 

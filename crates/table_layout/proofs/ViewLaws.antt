@@ -1,4 +1,4 @@
--- Laws of the loop that makes a view: what the parts left give completes what all of them give.
+-- Laws of the loop that makes a view: the parts that are left complete what the parts so far give.
 -- Assumes nothing.
 use mathlib.Core.Path.{_≡_, refl, sym, _∙_, ap}
 use mathlib.Core.Bool.{true, false}

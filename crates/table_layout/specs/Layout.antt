@@ -1,5 +1,5 @@
--- Document 01, "The table": "Parts in this order, each after its count, records in text order". A part is the list of its records, a
--- record the list of its words. Nothing here depends on how many parts there are.
+-- Document 01, "The table": "Parts in this order, each after its count, records in text order". A part is the list of
+-- its records, a record the list of its words. `layout` and `partsIn` work for any number of parts.
 -- Assumes nothing.
 use Prim.Native.Nat.{ℕ, zero, suc, _+_, _*_}
 use mathlib.Core.List.{List, [], _∷_, _++_}
@@ -42,12 +42,12 @@ layout (records ∷ parts) = (length records ∷ joined records) ++ layout parts
 
 -- ---- a table taken apart
 
--- so many records of a width, one after another
+-- n records of w words each, one after another
 unfoldable pub chopped : ℕ → ℕ → List ℕ → List (List ℕ)
 chopped w zero t = []
 chopped w (suc n) t = take w t ∷ chopped w n (drop w t)
 
--- the parts that a table holds, by the counts that it gives
+-- the parts that a table holds, by the counts that it gives itself
 unfoldable pub partsIn : List ℕ → List ℕ → List (List (List ℕ))
 partsIn [] t = []
 partsIn (w ∷ ws) t = chopped w (getD t 0 0) (drop 1 t) ∷ partsIn ws (drop (1 + w * getD t 0 0) t)

@@ -1,5 +1,5 @@
--- Document 01, "Sound": "counts within bounds (matrices 1,024) and the table long enough". A view says where the records of each part begin
--- in a table, and how many there are, by the counts that the table itself gives.
+-- Document 01, "Sound": "counts within bounds (matrices 1,024) and the table long enough". A view gives where the
+-- records of each part begin in a table, and how many there are, by the counts that the table itself gives.
 -- Assumes nothing.
 use Prim.Native.Nat.{ℕ, _+_, _*_}
 use mathlib.Core.Bool.{Bool, true, false}
@@ -10,11 +10,11 @@ use Rattle.base.specs.If.{if_then_else_, both}
 use Rattle.table_layout.specs.Layout.{widths}
 use Rattle.table_layout.specs.declared.View.{View}
 
--- "64 models, 4,096 steps, 64 maps, 4,096 pins, 256 sections, 65,536 values", "matrices 1,024"
+-- "64 models, 4,096 steps, 64 maps, 4,096 pins .. 256 sections, 65,536 values", "matrices 1,024"
 abbrev pub bounds : List ℕ
 bounds = 64 ∷ 4_096 ∷ 64 ∷ 4_096 ∷ 256 ∷ 1_024 ∷ 65_536 ∷ []
 
--- from a part on whose count stands at `at`: each count is within its bound, and the last record lies inside the table
+-- from the part on whose count is at `at`: each count is within its bound, and the last record lies inside the table
 unfoldable pub areWithin : List ℕ → List ℕ → List ℕ → ℕ → Bool
 areWithin [] bs t at = leb at (length t)
 areWithin (w ∷ ws) [] t at = false

@@ -1,4 +1,5 @@
-// The table's parts: how many words they need, where each begins, and the storing of one record.
+// The parts of a table: how many words they need, where each begins, how one record is
+// stored, and where the parts of a given table are.
 ghost use mathlib.Core.Path.{_≡_};
 ghost use Prim.Native.Nat.{ℕ, _+_, _≤_, _<_};
 ghost use lib.ListN.{length, take, replicate, getD};
@@ -33,7 +34,7 @@ pub struct Filling {
     pub counts: [u64; 7],
 }
 
-// The words that so many records of each part need.
+// The words that all parts need, given how many records each has.
 pub fn words_needed(counts: [u64; 7]) -> usize
     requires { ⌜ BoundedCounts counts ⌝ }
     ensures { λ r. ⌜ r ≡ needed widths counts ⌝ }
@@ -47,7 +48,7 @@ pub fn words_needed(counts: [u64; 7]) -> usize
     words
 }
 
-// The first words moved up, from the last down: none is stored over before it is moved.
+// Moves the first words of the table up, the last word first, so that no word is overwritten before it is moved.
 fn move_up(table: &mut [u64], count: usize, up: usize)
     requires { ⌜ up + count ≤ length (now table) ⌝ }
     ensures { λ _. ⌜ now (table .exit) ≡ sets (now (table .entry)) up (take count (now (table .entry))) ⌝ }
@@ -60,7 +61,7 @@ fn move_up(table: &mut [u64], count: usize, up: usize)
     }
 }
 
-// Zeros for the first words.
+// Sets the first words to zero.
 fn zero_front(table: &mut [u64], count: usize)
     requires { ⌜ count ≤ length (now table) ⌝ }
     ensures { λ _. ⌜ now (table .exit) ≡ sets (now (table .entry)) 0 (replicate count 0) ⌝ }
@@ -72,7 +73,7 @@ fn zero_front(table: &mut [u64], count: usize)
     }
 }
 
-// The first words moved up to where they belong, with zeros before and behind them.
+// Moves the first words, which are the staged values, up to their part. All words before and after them become zero.
 pub fn lift(table: &mut [u64], count: usize, up: usize)
     requires { ⌜ up + count ≤ length (now table) ⌝ }
     ensures { λ _. ⌜ now (table .exit) ≡ sets (replicate (length (now (table .entry))) 0) up (take count (now (table .entry))) ⌝ }
@@ -82,7 +83,7 @@ pub fn lift(table: &mut [u64], count: usize, up: usize)
     base::zero_from(table, up + count);
 }
 
-// The counts stored, each where its part begins.
+// Stores the count of each part where the part begins.
 pub fn open_parts(table: &mut [u64], counts: [u64; 7]) -> Filling
     requires { ⌜ BoundedCounts counts × (needed widths counts ≤ length (now table)) ⌝ }
     ensures { λ r. ⌜ (r ≡ startFilling counts) × (now (table .exit) ≡ openedTable 0 widths counts (now (table .entry))) ⌝ }
@@ -104,7 +105,7 @@ pub fn open_parts(table: &mut [u64], counts: [u64; 7]) -> Filling
     }
 }
 
-// One record stored behind those of its part.
+// Stores one record after those of its part.
 pub fn put_record(table: &mut [u64], filling: Filling, part: usize, words: &[u64]) -> Filling
     requires { ⌜ (part < length widths) × (length (now words) ≡ widthOf part) × (position filling part + widthOf part ≤ length (now table)) ⌝ }
     ensures { λ r. ⌜ (r ≡ counted filling part) × (now (table .exit) ≡ sets (now (table .entry)) (position filling part) (now (words .entry))) ⌝ }
@@ -118,7 +119,7 @@ pub fn put_record(table: &mut [u64], filling: Filling, part: usize, words: &[u64
     Filling { bases, counts }
 }
 
-// ---- How a table's parts lie in it, by the counts that it gives itself.
+// ---- where the parts of a table are, by the counts that the table itself gives
 
 // The most records that each part may have.
 const BOUNDS: [u64; 7] = [64, 4096, 64, 4096, 256, 1024, 65536];

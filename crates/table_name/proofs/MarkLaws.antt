@@ -1,4 +1,4 @@
--- Laws of the marks of names: they stand within the array of marks, and what is left of a name gives the mark of the whole.
+-- Laws of the marks of names: each is an index of the array of marks, and the rest of a name completes its mark.
 -- Assumes nothing.
 use mathlib.Core.Path.{_≡_, refl}
 use mathlib.Core.List.{List, [], _∷_}
@@ -29,7 +29,7 @@ pub of-inside : (number : ℕ) (name : List ℕ) (mark : ℕ) → mark ≡ hashO
 unfolding hashOf
 of-inside number name mark is = rw is (from-inside (number % bareMarks) name (start-inside number))
 
--- what is left of the name gives the number of the whole
+-- the bytes that are left of the name complete the mark of the whole
 pub record MarkLeft (number : ℕ) (name : List ℕ) (mark i : ℕ) : Type 0 where
   pub small : mark < marksMany
   pub same : markFrom mark (drop i name) ≡ hashOf number name

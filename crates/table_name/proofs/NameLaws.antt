@@ -1,5 +1,5 @@
--- Laws of names in the table of a document: the first record of a name is that of the first map, or section, of the name, and the records
--- stand in the table where their part begins.
+-- Laws of names in the table of a document: the first record of a name is that of the first map, or section, of the
+-- name, and the records are in the table where their part begins.
 -- Assumes nothing.
 use mathlib.Core.Path.{_≡_, refl, sym, _∙_, ap}
 use mathlib.Core.List.{List, [], _∷_, _++_, map}
@@ -40,12 +40,12 @@ use Rattle.table_name.specs.Way.Search.{isNamed, findIn}
 
 -- ---- records by their names
 
--- a map whose name stands in the text, at `after` or behind it exactly where the map's line is below the step's
+-- a map whose name is in the text, at offset `after` or later exactly if the map's line is below the step's
 pub record Ordered (t : List ℕ) (s : Step) (after : ℕ) (m : Map) : Type 0 where
   pub stands : Stands t (m .name)
   pub behind : leb after (m .name .start) ≡ ltb (s .line) (m .line)
 
--- by what holds of every text's maps
+-- from what holds of the maps of every text
 pub all-ordered : (t : List ℕ) (s : Step) (after : ℕ) {ms : List Map} → Each (MapStands t) ms →
     Each (λ (m : Map). leb after (m .name .start) ≡ ltb (s .line) (m .line)) ms → Each (Ordered t s after) ms
 all-ordered t s after stand told =
@@ -68,7 +68,7 @@ module _ (t : List ℕ) (s : Step) where
   unfolding isNamed isSectionOf sectionRecord
   section-named first x h = both-rest _ _ (le-leb 0 (x .name .start) (omega arith)) ∙ same-stands (x .name) h
 
-  -- the first record of a map of the step's name, at `after` or behind it, is that of the step's map
+  -- the first record of a map of the step's name, at offset `after` or later, is that of the step's map
   pub find-map : (after first : ℕ) (ms : List Map) → Each (Ordered t s after) ms →
       indexOf (isNamed t (s .name .text) after) (map mapWords (mapRecords first ms)) ≡ indexOf (isMapOf s) ms
   unfolding indexOf mapRecords

@@ -1,4 +1,4 @@
--- Laws of the bytes of a name, and of the search for the first record of a name: what is left of the records gives the whole.
+-- Laws of the bytes of a name, and of the loop that searches for the first record of a name.
 -- Assumes nothing.
 use mathlib.Core.Path.{_≡_, sym, _∙_, ap}
 use mathlib.Core.Bool.{Bool, true, false}
@@ -39,11 +39,11 @@ module _ (t : List ℕ) (start size : ℕ) where
 
 -- ---- the search
 
--- the record that stands at `at`
+-- the record at position `at`
 abbrev recordAt : List ℕ → ℕ → ℕ → List ℕ
 recordAt table width at = take width (drop at table)
 
--- where the one stands among those that are left, i of them being gone over
+-- the index of the record among those that are left after i records
 abbrev foundIn : List ℕ → List ℕ → ℕ → ℕ → List ℕ → ℕ → ℕ → ℕ → ℕ
 foundIn t table width count name after i at = indexOf (isNamed t name after) (chopped width (count - i) (drop at table))
 

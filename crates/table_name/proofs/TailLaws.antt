@@ -1,4 +1,4 @@
--- Laws of names by their ends: where the last bytes at a place differ from a name's, the name does not stand there.
+-- Laws of names by their ends: if the last bytes at an offset differ from those of a name, the name is not there.
 -- Assumes nothing.
 use mathlib.Core.Path.{_≡_, refl, sym, _∙_, ap}
 use mathlib.Core.Bool.{Bool, true, false, not, true≢false}
@@ -33,7 +33,7 @@ tails-short name h = record { four = λ (k : 4 ≤ length name). absurd (omega a
 pub tails-four : (name : List ℕ) (tail : ℕ) → Joins (take 4 (drop (length name - 4) name)) tail → Tails name tail
 tails-four name tail j = record { four = λ (k : 4 ≤ length name). j }
 
--- a name that stands at a place, if it does
+-- a name that is at this offset
 module _ (t name : List ℕ) (start size : ℕ) (is : same name (nameAt t start size) ≡ true) where
   stands : name ≡ take size (drop start t)
   unfolding nameAt

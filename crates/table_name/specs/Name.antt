@@ -1,5 +1,5 @@
--- Names in a table's records: where each stands in the text, and the first record of a name. "Names are (start, length); equal when their
--- bytes are".
+-- Names in a table's records: a name is given by the offset where it starts in the text and by its length. Two names
+-- are equal when their bytes are (K13).
 -- Assumes nothing.
 use Prim.Native.Nat.{ℕ}
 use mathlib.Core.List.{List}

@@ -1,4 +1,4 @@
-// Names in the records of a table: their bytes in the text, and the first record of a name.
+// Names in the records of a table: their bytes in the text, the first record of a name, and marks (hashes) of names.
 ghost use mathlib.Core.Path.{_≡_};
 ghost use mathlib.Core.Bool.{true, false};
 ghost use Prim.Native.Nat.{ℕ, _+_, _*_, _≤_, _<_};
@@ -8,10 +8,10 @@ ghost use Rattle.table_name.specs.Name.{nameAt};
 ghost use Rattle.table_name.specs.Way.Search.{findIn, Tails};
 ghost use Rattle.table_name.specs.Way.Marks.{hashOf};
 
-// How many bytes at a name's end are looked at together.
+// How many bytes at the end of a name are looked at together.
 const TAIL: usize = 4;
 
-// How many marks there are: 64 for what has no name, and behind them four for each of the most that are marked at a time.
+// How many marks there are: 64 for what has no name, then four for each of the most names that are marked at a time.
 const BARE_MARKS: usize = 64;
 
 const NAME_MARKS: usize = 16384;
@@ -33,7 +33,7 @@ pub fn name_at(text: &[u8], start: u64, size: u64) -> &[u8]
     &text[from..from + long]
 }
 
-// The last four bytes of a name as one number; 0 where it has fewer.
+// The last four bytes of a name as one number; 0 if it has fewer.
 fn tail_of(name: &[u8]) -> u64
     ensures { λ r. ⌜ Tails (now (name .entry)) r ⌝ }
 {
@@ -43,7 +43,8 @@ fn tail_of(name: &[u8]) -> u64
     base::four_at(name, name.len() - TAIL)
 }
 
-// Whether the bytes at a place surely are not this name: the last of them differ. So most names are told apart by one look.
+// Whether the bytes at offset `start` are certainly not this name, because their last bytes differ.
+// So most names are told apart by one comparison.
 fn ends_otherwise(text: &[u8], start: u64, name: &[u8], tail: u64) -> bool
     requires { ⌜ Tails (now name) tail ⌝ }
     ensures { λ r. ⌜ (r ≡ true → (size : ℕ) → same (now (name .entry)) (nameAt (now (text .entry)) start size) ≡ false) ⌝ }
@@ -65,7 +66,7 @@ fn ends_otherwise(text: &[u8], start: u64, name: &[u8], tail: u64) -> bool
     text[from + (long - 1)] != name[long - 1]
 }
 
-// Whether a name stands at a place, and is so long.
+// Whether the name of `size` bytes at offset `start` is this one.
 fn is_name(text: &[u8], start: u64, size: u64, name: &[u8], tail: u64) -> bool
     requires { ⌜ Tails (now name) tail ⌝ }
     ensures { λ r. ⌜ r ≡ same (now (name .entry)) (nameAt (now (text .entry)) start size) ⌝ }
@@ -76,7 +77,8 @@ fn is_name(text: &[u8], start: u64, size: u64, name: &[u8], tail: u64) -> bool
     lex_line::same_bytes(name, name_at(text, start, size))
 }
 
-// The first of so many records that opens with this name, standing at `after` or behind it; `count` where there is none.
+// The index of the first of `count` records that has this name at offset `after` of the text or later; `count` if there
+// is none.
 pub fn find_name(
     text: &[u8],
     table: &[u64],
@@ -106,14 +108,14 @@ pub fn find_name(
     count
 }
 
-// A byte as a number, so that its arithmetic asks nothing of the byte's own width.
+// A byte as a larger number, so that arithmetic with it is not limited to the width of a byte.
 fn wide(b: u8) -> usize
     ensures { λ r. ⌜ (r ≡ b) × (r < 256) ⌝ }
 {
     b as usize
 }
 
-// The mark of a name among those of one number: a map's, say. Equal names have one mark; other names seldom have the same.
+// The mark of a name in the group `number`, such as one map's pins. Equal names have the same mark, others seldom.
 pub fn hash_of(number: u64, name: &[u8]) -> usize
     ensures { λ r. ⌜ r ≡ hashOf number (now (name .entry)) ⌝ }
 {

@@ -1,9 +1,9 @@
-// Reads words from standard input, one a line, and prints each with what it says as a number: m and k, or 13 or 14.
-// At most 65,536 bytes are read. No contract says what is written: the file `stdout` does.
+// Reads words from standard input, one a line, and prints each with its number: m and k, or rule 13 or 14.
+// At most 65,536 bytes are read. No contract says what is printed: the file `stdout` does.
 use base::Class;
 use lex_number::Number;
 
-// m and k, each with a minus before it where it is below zero.
+// Prints m and k, each with a minus sign if it is negative.
 fn print_value(word: u64) {
     let d = lex_number::decimal_of(word);
     if d.negative {

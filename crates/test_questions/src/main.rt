@@ -1,19 +1,22 @@
-// Tries any table from outside: standard input gives a text, a table and questions, one command a line, and each question is answered on a line.
-// Run as: questions < COMMANDS, in the folder of the files that they name. Numbers are decimal, up to 2^64 - 1. The commands:
-//   text           the text is empty from here on
-//   text FILE      the text is that of a file
-//   line REST      one line more of text: what stands behind the blank, and LF
-//   table N        a table of N zeros, at most 8,192
-//   intake N       the table of N words that the intake leaves of the text: `intake accepted WORDS` or `intake refused NUMBER LINE`
-//   size N         the table has N words: the first of those it had, then what stood behind them (zeros if nothing was set there)
-//   set INDEX V .. the words from an index on
-//   sound          `sound yes` or `sound no`
+// Asks questions about any text and any table. Standard input has one command a line, and each question is answered on a line.
+// Run as: test_questions < COMMANDS, in the folder of the files that they name. Numbers are decimal, up to 2^64 - 1.
+// The commands:
+//   text           empties the text
+//   text FILE      reads the text from a file
+//   line REST      appends a line to the text: REST and LF
+//   table N        makes a table of N zeros, at most 8,192
+//   intake N       makes the table of N words that the intake leaves for the text, and prints
+//                  `intake accepted WORDS` or `intake refused RULE LINE`
+//   size N         changes the table's length to N words; words that it gains have their last values, zeros if never set
+//   set INDEX V .. sets the words from an index on
+//   sound          prints `sound yes` or `sound no`
 //   entry SECTION KIND ROW COLUMN
-//                  `entry WORD` or `entry refused NUMBER`
+//                  prints `entry WORD` or `entry refused RULE`
 //   walk MODEL STEP DEPTH
-//                  `walk step KIND TARGET AMOUNT SIDE SIZE LINE next MODEL STEP DEPTH`, `walk done MODEL STEP DEPTH` or `walk refused NUMBER`
-//   # REST         copied, so that the answers can be told apart
-// Any other line that is not empty, one with a number that is none too, is answered `what` and the line.
+//                  prints `walk step KIND TARGET AMOUNT SIDE SIZE LINE next MODEL STEP DEPTH`,
+//                  `walk done MODEL STEP DEPTH` or `walk refused RULE`
+//   # REST         is printed as it is, to label the answers
+// Any other line that is not empty, and a command with a bad number, is answered with `what` and the line.
 ghost use Prim.Native.Nat.{_≤_};
 ghost use lib.ListN.{length};
 use ask_walk::Place;
@@ -27,24 +30,24 @@ const MOST: usize = 65536;
 
 const ROOM: usize = 8192;
 
-// The greatest number, and how many tens it has.
+// The greatest number of 64 bits, and a tenth of it, rounded down.
 const GREATEST: u64 = 18446744073709551615;
 
 const TENS: u64 = 1844674407370955161;
 
-// How much of the two rooms the text and the table take.
+// How many bytes the text has, and how many words the table has; the rest of their rooms is not used.
 struct Sizes {
     bytes: usize,
     words: usize,
 }
 
-// A number, if it is one.
+// A number; `fine` is false if the word is none.
 struct Number {
     fine: bool,
     value: u64,
 }
 
-// The numbers behind a command, if there are as many as it asks for.
+// The numbers after a command; `fine` is false if there are more or fewer than it needs.
 struct Numbers {
     fine: bool,
     values: [u64; 4],
@@ -52,7 +55,7 @@ struct Numbers {
 
 // ---- words and numbers
 
-// Where the search for the word of this index begins.
+// The offset where the search for word `index` of a line begins.
 fn place_of(line: &[u8], index: usize) -> usize
     ensures { λ r. ⌜ r ≤ length (now (line .entry)) ⌝ }
 {
@@ -66,7 +69,7 @@ fn place_of(line: &[u8], index: usize) -> usize
     at
 }
 
-// The word of this index, empty where the line has none.
+// Word `index` of a line; empty if there is none.
 fn word_of(line: &[u8], index: usize) -> &[u8] {
     let at = place_of(line, index);
     let word = lex_line::word_at(line, at);
@@ -138,7 +141,7 @@ fn numbers_of(line: &[u8], many: usize) -> Numbers
     Numbers { fine: true, values }
 }
 
-// The words that a command asks for; more than there is room for where it is not as it should be.
+// The number of words that a command asks for; ROOM + 1 if the command is malformed.
 fn size_of(line: &[u8]) -> usize {
     let numbers = numbers_of(line, 1);
     if !numbers.fine {
@@ -263,7 +266,7 @@ fn ask(line: &[u8], text: &[u8], table: &[u64]) {
     say_what(line);
 }
 
-// The first bytes of the room, and the first words.
+// The first `many` bytes of the text's room, and the first `many` words of the table's room.
 fn bytes_of(text: &[u8], many: usize) -> &[u8] {
     if text.len() < many {
         return &text[..0];
@@ -288,7 +291,7 @@ fn ask_parts(line: &[u8], text: &[u8], table: &[u64], sizes: Sizes) {
 
 // ---- the text
 
-// The bytes of a file, put at the start of the room; none where it cannot be read or is too long.
+// Reads a file into the room and returns its length; 0 if the file cannot be read or is too long.
 fn read_text(file: &[u8], text: &mut [u8]) -> usize {
     let open = os::open_read(file);
     if open < 0 {
@@ -304,7 +307,7 @@ fn read_text(file: &[u8], text: &mut [u8]) -> usize {
     count
 }
 
-// What a line says behind its first five bytes, `line` and a blank.
+// The rest of a line after its first five bytes, `line` and a blank.
 fn rest_of(line: &[u8]) -> &[u8] {
     if line.len() < 5 {
         return &line[..0];
@@ -312,7 +315,7 @@ fn rest_of(line: &[u8]) -> &[u8] {
     &line[5..]
 }
 
-// A line more, where there is room for it.
+// Appends a line to the text if there is room for it, and returns the length of the text.
 fn add_line(line: &[u8], text: &mut [u8], bytes: usize) -> usize {
     let next = out_text::put_field(text, bytes, rest_of(line), b'\n');
     if MOST < next {
@@ -346,7 +349,7 @@ fn take_in(text: &[u8], table: &mut [u64], words: usize) {
     print_intake(intake::intake(text, &mut table[..words]));
 }
 
-// One word put into the table; the next index, or 0 where it is no number or no word of the table.
+// Stores one word in the table and returns the next index; 0 if the word is no number or the index is past the table.
 fn put_word(word: &[u8], table: &mut [u64], words: usize, index: usize) -> usize {
     let number = number_of(word);
     if !number.fine {
@@ -362,7 +365,7 @@ fn put_word(word: &[u8], table: &mut [u64], words: usize, index: usize) -> usize
     index + 1
 }
 
-// The words of a line, from its third on, put into the table from an index on; whether all went in.
+// Stores the words of a line, from its third on, in the table from `index` on. Returns whether all were stored.
 fn put_words(line: &[u8], table: &mut [u64], words: usize, index: usize) -> bool {
     let mut at = place_of(line, 2);
     let mut i = index;
@@ -393,13 +396,13 @@ fn run_set(line: &[u8], table: &mut [u64], words: usize) {
 
 // ---- commands
 
-// The word that a line begins with, empty where that is a blank.
+// The word that a line begins with; empty if it begins with a blank.
 fn command_of(line: &[u8]) -> &[u8] {
     let end = base::skip(Class::Filled, line, 0);
     bytes_of(line, end)
 }
 
-// Whether a command gives the table its size.
+// Whether a command sets the size of the table.
 fn is_sizing(command: &[u8]) -> bool {
     if lex_line::same_bytes(command, b"size") {
         return true;
@@ -410,7 +413,7 @@ fn is_sizing(command: &[u8]) -> bool {
     lex_line::same_bytes(command, b"intake")
 }
 
-// Such a command; the size behind it.
+// Runs such a command and returns the size after it.
 fn run_sizing(line: &[u8], text: &[u8], table: &mut [u64], sizes: Sizes) -> usize {
     let command = command_of(line);
     let words = size_of(line);
@@ -428,7 +431,7 @@ fn run_sizing(line: &[u8], text: &[u8], table: &mut [u64], sizes: Sizes) -> usiz
     words
 }
 
-// Any command but those that are about the text; the size of the table behind it.
+// Runs any command except those for the text, and returns the size of the table after it.
 fn run_table(line: &[u8], text: &[u8], table: &mut [u64], sizes: Sizes) -> usize {
     let command = command_of(line);
     if is_sizing(command) {
@@ -442,7 +445,7 @@ fn run_table(line: &[u8], text: &[u8], table: &mut [u64], sizes: Sizes) -> usize
     sizes.words
 }
 
-// `text` alone, or with a file.
+// Runs `text`, alone or with a file, and returns the length of the text.
 fn run_text(line: &[u8], text: &mut [u8]) -> usize {
     let file = word_of(line, 1);
     if file.len() == 0 {
@@ -489,8 +492,8 @@ fn run_lines(lines: &[u8], text: &mut [u8], table: &mut [u64]) {
     }
 }
 
-// Room for the commands, for a text with a byte more so that a longer one is seen, and for the table. They come from functions so that no proof
-// has to look at all their words.
+// Room for the commands; for a text, with one byte more so that a longer one is recognized; and for the table.
+// Functions return the rooms so that no proof has to look at all their words.
 fn lines_room() -> [u8; 1048576] {
     [0u8; 1048576]
 }

@@ -1,15 +1,17 @@
-// Runs the intake over the test files of data/ and prints its answers. A line of standard input is a file alone (a table of 8,192 words, and
-// no text longer than the listing takes), a file and the words of its table, a file and `hash` (the words used and a hash of the table), or
-// a file and `list` (its listing).
-// What a table held before is not zero; an answer says so if a word of that is left.
+// Runs the intake over the test files of data/ and prints its answers. A line of standard input is one of these:
+//   FILE       the answer with a table of 8,192 words, or `toolong` for a text that the listing program does not take
+//   FILE N     the answer with a table of N words, at most 250,000
+//   FILE hash  the words used and a hash of the table
+//   FILE list  the listing
+// A table is not zero before the intake. An answer ends with `old words` if a word of that is left.
 ghost use Prim.Native.Nat.{_≤_};
 use base::Class;
 use intake::Answer;
 
-// One byte more than a text may have, so that a text over the bound is seen to be one.
+// One byte more than a text may have, so that a longer text is recognized.
 const MOST: usize = 1048577;
 
-// The longest text that the listing takes.
+// The longest text that the listing program takes.
 const LISTED: usize = 65536;
 
 // The words of a table, and of the longest one that a line may ask for.
@@ -17,7 +19,7 @@ const WORDS: usize = 8192;
 
 const ROOM: usize = 250000;
 
-// Where FNV-1a begins.
+// The initial value of FNV-1a.
 const BASIS: u64 = 14695981039346656037;
 
 fn print_refusal(rule: u64, line: u64) {
@@ -27,7 +29,7 @@ fn print_refusal(rule: u64, line: u64) {
     io::print_decimal(1, line);
 }
 
-// The end of an answer: no word from a place on may be left of what the table held.
+// Ends an answer. A word from `from` on that is not zero is left from before the intake.
 fn print_end(table: &[u64], from: usize) {
     let mut i = from;
     while i < table.len() {
@@ -54,14 +56,15 @@ fn print_answer(text: &[u8], table: &mut [u64]) {
     }
 }
 
-// The product with FNV's prime, 2^40 + 435, modulo 2^64: each half of the number apart, so that none of the products is too great.
+// The product with FNV's prime, 2^40 + 435, modulo 2^64. The halves of the number are multiplied one by one, so that no
+// product is too great.
 fn times_prime(hash: u64) -> u64 {
     let low = hash % 4294967296 * 435;
     let high = hash / 4294967296 * 435;
     std::num::wrapping_add_u64(std::num::wrapping_add_u64(hash << 40, high << 32), low)
 }
 
-// A word's eight bytes, the least first.
+// Hashes a word's eight bytes, the least significant first.
 fn hash_word(before: u64, word: u64) -> u64 {
     let mut hash = before;
     let mut rest = word;
@@ -101,7 +104,7 @@ fn print_hash(text: &[u8], table: &mut [u64]) {
     }
 }
 
-// The bytes that were written, at most all there are.
+// Prints the first `length` bytes of the room, or all of it if it is shorter.
 fn print_room(room: &[u8], length: usize) {
     if room.len() < length {
         io::write_all(1, room);
@@ -123,7 +126,8 @@ fn print_listing(text: &[u8], table: &mut [u64], room: &mut [u8]) {
     }
 }
 
-// Room for any text, for a listing, and for tables that are not empty. They come from functions so that no proof has to look at all their words.
+// Room for any text, for a listing, and for tables that are not zero. Functions return the rooms so that no proof has
+// to look at all their words.
 fn text_room() -> [u8; MOST] {
     [0u8; MOST]
 }
@@ -140,7 +144,7 @@ fn great_room() -> [u64; ROOM] {
     [9u64; ROOM]
 }
 
-// So many words, as far as there are.
+// The number of words asked for, at most ROOM.
 fn at_most_room(words: u64) -> usize
     ensures { λ r. ⌜ r ≤ 250_000 ⌝ }
 {
@@ -181,7 +185,7 @@ fn run_room(text: &[u8], word: &[u8]) {
     print_answer(text, &mut table[..size]);
 }
 
-// What the second word of a line asks for, if there is one.
+// Does what the second word of a line asks for, if there is one.
 fn run_text(text: &[u8], word: &[u8]) {
     if word.len() == 0 {
         run_plain(text);
@@ -198,7 +202,7 @@ fn run_text(text: &[u8], word: &[u8]) {
     run_room(text, word);
 }
 
-// A file is named without its ending, `.icm`.
+// Prints the name of a file without its ending, `.icm`.
 fn print_name(file: &[u8]) {
     if file.len() < 4 {
         return;

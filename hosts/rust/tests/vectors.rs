@@ -1,5 +1,6 @@
-// vectors.rs: the test files, whose answers were found from the papers by people and programs apart from this project: those of the base, which the
-// program `vectors` runs too, and those of the change requests. The proved reading and the plain one are each asked all of them.
+// vectors.rs: the test files, whose answers were found from the papers by people and programs apart from this project:
+// those of the base, which the program `test_vectors` runs too, and those of the change requests. The proved reading
+// and the plain one are each asked all of them.
 #[path = "vectors/base.rs"]
 mod base;
 #[path = "vectors/reading.rs"]

@@ -142,8 +142,7 @@ reach n (v ∷ w ∷ vs) = if isInUpperHalf n v then if comesBefore v w then suc
 unfoldable pub reachAt : List ℕ → ℕ → ℕ → ℕ → ℕ
 reachAt table from count i = reach 256 (valuesFrom table (from + 3 * i) (count - i))
 
--- The reach of every 64th value is computed once, so that matrices which share values do not go through all of them
--- again.
+-- The reach of every 64th value is computed once, so that matrices which share values do not go through all of them again.
 pub record Reaches (table : List ℕ) (from count : ℕ) (blocks : List ℕ) : Type 0 where
   pub long : length blocks ≡ 1_024
   pub told : (block : ℕ) → 64 * block < count → getD blocks block 0 ≡ reachAt table from count (64 * block)

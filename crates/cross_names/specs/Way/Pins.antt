@@ -18,8 +18,7 @@ abbrev pub twiceAt : List ℕ → List ℕ → ℕ → ℕ → ℕ → Bool
 twiceAt t table base width i =
     hasAbove t (nameAt t (getD table (base + width * i) 0) (getD table (base + width * i + 1) 0)) (chopped width i (drop base table))
 
--- the finding of pin i of a map. The record of the map's first pin begins at word `base`; its index among all pins is
--- `first`.
+-- the finding of pin i of a map. The record of the map's first pin begins at word `base`; its index among all pins is `first`.
 unfoldable pub pinAt : List ℕ → List ℕ → ℕ → ℕ → ℕ → Finding
 pinAt t table base first i =
     record { rule = firstBroken (19 when twiceAt t table base 2 i ∷ []); line = nthLine pins (first + i) (significant t) }

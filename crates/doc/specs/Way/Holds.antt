@@ -1,4 +1,5 @@
--- What holds of the document of every text that reads to its end, beside what is believed: its counts, the depth along a path, and its names.
+-- Further facts on the document of every text that reads to its end: its counts, the depth along a path, and its names.
+-- No promise rests on them.
 -- Assumes nothing.
 use Prim.Native.Nat.{ℕ, _+_, _-_, _≤_}
 use mathlib.Core.Path.{_≡_}
@@ -22,7 +23,7 @@ depthOfSteps d (s ∷ ss) =
     if eqb (s .kind) forkKind then both (ltb d deepest) (depthOfSteps (d + 1) ss) else
     if eqb (s .kind) endforkKind then both (ltb 0 d) (depthOfSteps (d - 1) ss) else depthOfSteps d ss
 
--- the bytes of a word are those of the text where it stands
+-- the bytes of a word are those of the text at its offset
 pub record Stands (t : List ℕ) (w : Word) : Type 0 where
   pub inside : w .start + length (w .text) ≤ length t
   pub bytes : take (length (w .text)) (drop (w .start) t) ≡ w .text

@@ -1,4 +1,5 @@
--- What the lent table holds on the way: once it is filled, or refused, and once the values stand where they belong.
+-- What the lent table holds on the way: after the records are stored or the text is refused, and after the staged words
+-- have moved to the part of the values.
 -- Assumes nothing.
 use Prim.Native.Nat.{ℕ, _-_, _*_}
 use mathlib.Core.Path.{_≡_}
@@ -17,7 +18,7 @@ abbrev pub tableAfterStoring : List ℕ → ℕ → StoreAnswer → List ℕ
 tableAfterStoring t size (Stored words) = tableOf t ++ replicate (size - length (tableOf t)) 0
 tableAfterStoring t size (Refused rule line) = replicate size 0
 
--- a table of zeros, but for words where the values of so many records of each part belong
+-- a table of zeros, except for words in the part of the values; `counts` are the counts of all parts
 pub record Lifted (counts table : List ℕ) : Type 0 where
   pub words : List ℕ
   pub long : length words ≡ 3 * getD counts values 0

@@ -8,7 +8,7 @@ use Rattle.lex_number.specs.ValueWord.{zeroWord}
 use Rattle.lex_keyword.specs.Names.{row}
 use Rattle.doc.specs.Document.{Value}
 
--- what values give there: the first that has this row and this column
+-- the word of the first value with this row and this column; zero if there is none
 unfoldable pub foundAt : ℕ → ℕ → List Value → ℕ
 foundAt i j [] = zeroWord
 foundAt i j (v ∷ vs) = if both (eqb (v .row) i) (eqb (v .column) j) then v .word else foundAt i j vs

@@ -6,7 +6,7 @@ use mathlib.Core.List.{List, [], _∷_}
 use Rattle.doc.specs.Document.{Named, Step, Model, Map, Matrix, Section, Document}
 use Rattle.law_alike.specs.Way.Found.{foundAt}
 
--- each of one list to the one at its place in the other
+-- two lists of one length; elements at the same index are related
 pub data All2 {A B : Type 0} (Rel : A → B → Type 0) : List A → List B → Type 0 where
   none : All2 Rel [] []
   more : {x : A} {y : B} {xs : List A} {ys : List B} → Rel x y → All2 Rel xs ys → All2 Rel (x ∷ xs) (y ∷ ys)
@@ -33,7 +33,7 @@ pub record SameMap (a b : Map) : Type 0 where
   pub columns : a .columns ≡ b .columns
   pub pins : All2 SameNamed (a .pins) (b .pins)
 
--- the same number at every place
+-- the same number at every row and column
 pub record SameMatrix (a b : Matrix) : Type 0 where
   pub kind : a .kind ≡ b .kind
   pub conductors : a .conductors ≡ b .conductors

@@ -1,5 +1,5 @@
--- How a name is looked up: the names as they are compared, one after another, where each of them starts, and the first of each
--- length. A name is then compared only with those of its own length, at most four of the forty.
+-- How a name is looked up: one table with all names as they are compared, where each name starts in it, and the first
+-- name of each length. So a name is compared only with the names of its own length, at most four of the forty.
 -- Assumes nothing.
 use Prim.Native.Nat.{ℕ, zero, suc}
 use mathlib.Core.Bool.{Bool, true, false}
@@ -17,11 +17,11 @@ joinedNames (n ∷ ns) = map folded n ++ joinedNames ns
 unfoldable pub letters : List ℕ
 letters = joinedNames names
 
--- where the letters of a keyword start
+-- where the letters of a keyword start in the table
 unfoldable pub startOf : ℕ → ℕ
 startOf key = length (joinedNames (take key names))
 
--- how many names from the front are shorter
+-- how many names at the front of the list are shorter than `size`
 unfoldable pub shorter : ℕ → List (List ℕ) → ℕ
 shorter size [] = zero
 shorter size (n ∷ ns) = if ltb (length n) size then suc (shorter size ns) else zero
@@ -36,6 +36,6 @@ begins [] t = true
 begins (b ∷ s) [] = false
 begins (b ∷ s) (c ∷ t) = both (eqb b c) (begins s t)
 
--- a name's bytes, as they are compared, are those of a table from this place on
+-- the table has the bytes of the name, as they are compared, from `start` on
 unfoldable pub standsAt : List ℕ → List ℕ → ℕ → Bool
 standsAt table name start = begins (map folded name) (drop start table)

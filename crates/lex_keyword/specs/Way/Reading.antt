@@ -1,4 +1,4 @@
--- What the parts of the bracket reader answer, each in the words of the bracket's definition.
+-- What each part of the bracket reader returns, in terms of the definition of the bracket.
 -- Assumes nothing.
 use Prim.Native.Nat.{ℕ, _+_}
 use Prim.Native.Char.{code}
@@ -14,23 +14,23 @@ use Rattle.lex_keyword.specs.Bracket.{isOpen, isSeparator, isGoodName, n
 use Rattle.lex_keyword.specs.declared.Bracket.{Bracket}
 use Rattle.lex_keyword.specs.declared.Bracket.the-variants.{Bad}
 
--- the first byte that is not blank is a `[`: the line is none that its place takes as plain
+-- the first byte that is not blank is a `[`, so the line is not plain
 unfoldable pub opensLine : List ℕ → Bool
 opensLine content = isOpen (getD content (run isBlank content) 0)
 
--- what a word of a name is made of
+-- a byte of a word of a name: no separator
 unfoldable pub isWordByte : ℕ → Bool
 isWordByte b = not (isSeparator b)
 
--- a `]` that stands at this place is there, and what follows it is right
+-- a bracket is closed at `end`, its first `]` or the end of the content: there is a `]`, and then a blank or the end
 unfoldable pub closesAt : List ℕ → ℕ → Bool
 closesAt content end = both (ltb end (length content)) (either (leb (length content) (end + 1)) (isBlank (getD content (end + 1) 0)))
 
--- what a closed bracket of this name says
+-- what a closed bracket with this name means
 unfoldable pub saysName : List ℕ → ℕ → Bracket
 saysName name argument = if not (isGoodName name) then Bad else namedAs (keywordOf name) argument
 
--- `Row]` stands after the first byte, and what follows it is right
+-- `Row]` follows the first byte, and then a blank or the end
 unfoldable pub isRow : List ℕ → Bool
 isRow content =
     both (eqb (getD content 1 0) (code "R"))

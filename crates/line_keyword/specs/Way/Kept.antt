@@ -1,5 +1,5 @@
--- What the forward reading keeps while no rule is broken: every count within its bound, so that no sum can wrap. n is how many lines
--- have been read; no rule counts matrices, and each takes a line.
+-- What stays true in the forward reading while no rule is broken: every count is within its bound, so that no sum can
+-- wrap. n is how many lines have been read. No rule bounds the matrices, but each takes a line, so there are at most n.
 -- Assumes nothing.
 use Prim.Native.Nat.{ℕ, _^_, _≤_, _<_}
 use Rattle.line_path.specs.Path.{deepest, mostSteps}
@@ -10,11 +10,11 @@ use Rattle.line_keyword.specs.Keywords.{mostModels, mostMaps, mostSectio
 use Rattle.line_keyword.specs.declared.Counts.{Counts}
 use Rattle.line_keyword.specs.declared.State.{State}
 
--- a text has fewer lines than this, since a slice is shorter than 2^63 bytes
+-- a text has at most this many lines, since a slice has fewer than 2^63 bytes
 abbrev pub mostLines : ℕ
 mostLines = 9_223_372_036_854_775_807
 
--- every count can be raised by one
+-- every count that a keyword raises can be raised by one
 pub record Countable (c : Counts) : Type 0 where
   pub models : c .models < 2 ^ 63
   pub maps : c .maps < 2 ^ 63

@@ -1,4 +1,5 @@
--- [Row] and [Bandwidth] by the matrix alone: what they break there, and the matrix after them. They change nothing else of the state.
+-- [Row] and [Bandwidth] judged by the matrix alone: the rules they break in it, and the matrix after them. They change
+-- nothing else of the state.
 -- Assumes nothing.
 use Prim.Native.Nat.{ℕ}
 use mathlib.Core.List.{List, [], _∷_}
@@ -13,7 +14,7 @@ use Rattle.line_matrix.specs.Matrix.{withRow, withBandwidth}
 use Rattle.line_matrix.specs.declared.Matrix.{Matrix}
 use Rattle.line_keyword.specs.Keywords.{isWrongInMatrix}
 
--- the rules that [Row] or [Bandwidth] may break in a matrix
+-- the first rule that a [Row] or [Bandwidth] in a matrix breaks
 unfoldable pub matrixKeywordRule : ℕ → List ℕ → Matrix → ℕ
 matrixKeywordRule k argument m =
     firstBroken
@@ -23,7 +24,7 @@ matrixKeywordRule k argument m =
     ∷ 16 when isWrongInMatrix k (wholeOf argument .value) m
     ∷ [])
 
--- the matrix after it
+-- the matrix after a [Row] or [Bandwidth]
 unfoldable pub matrixKeywordNext : ℕ → List ℕ → Matrix → ℕ → Matrix
 matrixKeywordNext k argument m values =
     if eqb k row then withRow (wholeOf argument .value) m values else withBandwidth (wholeOf argument .value) m

@@ -1,10 +1,10 @@
--- The bounds that a map keeps while no rule is broken, so that no product of its sizes wraps.
+-- The bounds of a map while no rule is broken, so that the product of its sizes does not wrap.
 -- Assumes nothing.
 use Prim.Native.Nat.{_≤_}
 use Rattle.line_map.specs.declared.Map.{Map}
 use Rattle.line_map.specs.PinMap.{saysColumns, saysRows}
 
--- the sizes that a map has while no rule is broken: a line gives none above 256
+-- while no rule is broken no line gives a size above 256
 pub record BoundedMap (m : Map) : Type 0 where
   pub few-rows : m .rows ≤ 256
   pub few-columns : m .columns ≤ 256

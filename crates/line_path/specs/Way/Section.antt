@@ -1,5 +1,5 @@
--- A Section line as it is read: what stands before its `=` and after it, then its unit and its amount. `SectionLaws` says that
--- this is the line of `Path`.
+-- A Section line as the code reads it: first the words before and after its `=`, then its unit and its amount.
+-- `SectionLaws` shows that this is the line that `Path` defines.
 -- Assumes nothing.
 use Prim.Native.Nat.{ℕ}
 use mathlib.Core.Bool.{Bool, true, false, not}
@@ -14,7 +14,7 @@ use Rattle.line_argument.specs.Argument.{isReserved}
 use Rattle.line_path.specs.Path.{saysSection, plainLine, amountFormed, amountBounded}
 use Rattle.line_path.specs.declared.PathLine.{PathLine}
 
--- an amount of a right line, a Mult or a Len
+-- a line whose rest is right, by its amount, a Mult or a Len
 unfoldable pub amountLine : Bool → List ℕ → PathLine
 amountLine mult amount =
     record { says = saysSection; right = true; formed = amountFormed mult amount; bounded = amountBounded mult amount }

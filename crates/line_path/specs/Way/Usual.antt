@@ -1,4 +1,5 @@
--- The lines of a path as they are mostly written: `Section Mult=n name` with one blank between its words, `Fork` and `Endfork` alone.
+-- The usual forms of lines of a path: `Section Mult=n name` with one blank between its words, `Fork` and `Endfork`
+-- alone.
 -- Assumes nothing.
 use Prim.Native.Nat.{ℕ, _+_, _-_, _≤_, _<_}
 use mathlib.Core.Path.{_≡_}
@@ -8,7 +9,7 @@ use Rattle.base.specs.Bytes.{bytes}
 use Rattle.lex_line.specs.Way.Spans.{wordSpan}
 use Rattle.line_path.specs.Path.{saysFork, saysEndfork}
 
--- what stands before the amount
+-- the bytes before the amount
 abbrev pub multFront : List ℕ
 multFront = bytes "Section Mult="
 
@@ -16,14 +17,14 @@ pub record OpensMult (content : List ℕ) : Type 0 where
   pub front : content ≡ multFront ++ drop 13 content
   pub long : 13 ≤ length content
 
--- two words with one blank between them and none about them; the first ends at r
+-- two words with one blank between them and no other blank; the first ends at r
 pub record Paired (s : List ℕ) (r : ℕ) : Type 0 where
   pub some : 0 < r
   pub inside : r + 1 < length s
   pub first : wordSpan s 0 ≡ record { start = 0; end = r }
   pub second : wordSpan s r ≡ record { start = r + 1; end = length s }
 
--- `Section Mult=n name`: the amount ends at `end`, and behind one blank the name goes up to the end of the line
+-- `Section Mult=n name`: the amount ends at `end`; after one blank the name goes to the end of the line
 pub record UsualSection (content : List ℕ) (end : ℕ) : Type 0 where
   pub opens : OpensMult content
   pub above : 13 < end

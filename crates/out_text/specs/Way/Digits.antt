@@ -1,4 +1,4 @@
--- The digits of a number as the code keeps them: at the end of their room, since the last one is found first.
+-- The digits of a number as the code holds them: at the end of the array, since the last digit is found first.
 -- Assumes nothing.
 use Prim.Native.Nat.{ℕ, _≤_}
 use mathlib.Core.Path.{_≡_}

@@ -1,4 +1,5 @@
--- `read_line::pass_pins` meets its contract. The loop's invariant: no rule is broken, and from where it has come the text comes to the same.
+-- `read_line::pass_pins` meets its contract. The loop's invariant: no rule is broken, and reading on gives the same
+-- result.
 -- Assumes nothing.
 use mathlib.Core.Path.{_≡_, refl}
 use Prim.Native.Nat.{_+_, _-_, _≤_}

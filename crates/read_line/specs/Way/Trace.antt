@@ -1,5 +1,5 @@
--- The lines of a text as the forward reading reaches them: each with the state before it, up to the first line that breaks a
--- rule. The laws of the reading are stated over these.
+-- The lines of a text as the forward reading reaches them: each with the state before it, up to the first line that
+-- breaks a rule. The laws of the reading are stated over these.
 -- Assumes nothing.
 use Prim.Native.Nat.{ℕ, _+_}
 use mathlib.Core.Path.{_≡_}

@@ -1,5 +1,5 @@
--- What a walk over the lines promises: reading on from where the walk ends gives the same result as reading from where it
--- started. So a walk may read any number of lines at once, a whole fork block too.
+-- What a walk over the lines promises: reading on from where the walk ends gives the same result as reading from where
+-- it started. So a walk may read any number of lines at once, a whole fork block too.
 -- Assumes nothing.
 use Prim.Native.Nat.{ℕ, _+_, _-_, _≤_, _<_}
 use mathlib.Core.Path.{_≡_}
@@ -52,8 +52,8 @@ pub record ResumesText (t : List ℕ) (at line : ℕ) (s : State) (w : Walk) : T
 
 -- ---- lines read with only a part of the state
 
--- Lines from offset `at` to offset `further` are read. `fits` are the states in which they may be read, and `put` gives the
--- state after them: reading on from there gives the same result. A line that breaks a rule is the last.
+-- Lines from offset `at` to offset `further` are read. `fits` are the states in which they may be read, and `put` gives
+-- the state after them: reading on from there gives the same result. A line that breaks a rule is the last.
 pub record ResumesPart (t : List ℕ) (at line : ℕ) (fits : State → Type 0) (put : State → State) (rule further last : ℕ) : Type 0 where
   pub same : (s : State) → fits s → resume t (record { rule = rule; at = further; line = last; state = put s }) ≡ readFrom line (lines (drop at t)) s
   pub kept : rule ≡ 0 → (s : State) → fits s → BoundedState line s → BoundedState last (put s)

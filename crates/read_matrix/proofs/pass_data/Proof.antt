@@ -1,5 +1,5 @@
--- `read_matrix::pass_data` meets its contract. The loop's invariant: no rule is broken, from where it has come the text comes to the same, and what
--- is left of the lines gives what all of them give.
+-- `read_matrix::pass_data` meets its contract. The loop's invariant: no rule is broken, reading on gives the same
+-- result, and the lines that are left give what all of them give.
 -- Assumes nothing.
 use Prim.Native.Nat.{_+_, _-_, _*_, _^_, _≤_, _<_}
 use native.Mathlib.Omega.{arith}

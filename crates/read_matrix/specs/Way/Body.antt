@@ -1,5 +1,5 @@
--- What is promised of the lines of a matrix, which are judged and staged in one pass: how each line changes its part of the
--- state, as elsewhere in the reading, and what it adds to the staging.
+-- What is promised of the lines of a matrix, which are judged and staged in one pass: how each line changes its part of
+-- the state, as elsewhere in the reading, and what it adds to the staging.
 -- Assumes nothing.
 use Prim.Native.Nat.{ℕ, _+_, _-_, _*_, _≤_, max}
 use mathlib.Core.Path.{_≡_}

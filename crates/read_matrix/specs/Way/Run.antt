@@ -1,5 +1,5 @@
--- What is promised of runs of plain lines inside a matrix: if the lines of a matrix are read up to the start of a run, then
--- after the run they are read up to its end.
+-- What is promised of runs of plain lines inside a matrix: if the lines of a matrix are read up to the start of a run,
+-- then after the run they are read up to its end.
 -- Assumes nothing.
 use Prim.Native.Nat.{ℕ, _+_, _*_, _≤_, _<_, max}
 use mathlib.Core.Path.{_≡_}
@@ -83,8 +83,8 @@ numbersPart part whole values row column =
       staging = record { whole = whole; row = row; column = column; bandwidth = part .staging .bandwidth; greatest = part .staging .greatest };
     }
 
--- the line at offset `here` as one of a run of numbers, whatever the matrix and the staging: it is taken, or not part of the
--- run. A line that is not taken may have changed the table after the values; then the staging is not whole.
+-- the line at offset `here` as one of a run of numbers, whatever the matrix and the staging: it is taken, or not part
+-- of the run. A line that is not taken may have changed the table after the values; then the staging is not whole.
 pub record TakesNumbers (t : List ℕ) (here form values row column : ℕ) (table : List ℕ) (r : TakenNumbers) (table' : List ℕ) : Type 0 where
   pub behind : Behind values table table'
   pub kept : r .taken ≡ false → r .whole ≡ true → table' ≡ table

@@ -1,5 +1,5 @@
--- What one line adds to the staging of a matrix, in the words of the document: whatever lines come after it, staging them
--- next gives what the line and they give together.
+-- What one line adds to the staging of a matrix, in the words of the document: whatever lines come after it, staging
+-- them next gives what the line and they give together.
 -- Assumes nothing.
 use Prim.Native.Nat.{ℕ, _+_, _*_, _≤_, max}
 use mathlib.Core.Path.{_≡_}
@@ -25,7 +25,7 @@ pub record BoundedStaging (n : Staging) (values : ℕ) : Type 0 where
   pub row : n .row ≤ mostGiven + values
   pub column : n .column ≤ mostGiven + values
 
--- the line l, read after `values` values with the staging a, leads to the table, count and staging table', values' and b
+-- the line l, read after `values` values with the staging a, leads to table', values' and the staging b
 pub record Adds (form : ℕ) (l : Line) (table : List ℕ) (values : ℕ) (a : Staging) (table' : List ℕ) (values' : ℕ) (b : Staging) : Type 0 where
   pub whole : a .whole ≡ true
   pub image : (ls : List Line) →
@@ -45,7 +45,7 @@ pub record Adds (form : ℕ) (l : Line) (table : List ℕ) (values : ℕ) (a : S
 abbrev pub movedTo : ℕ → ℕ → Staging → Staging
 movedTo row column a = record { whole = true; row = row; column = column; bandwidth = a .bandwidth; greatest = a .greatest }
 
--- the line at offset `here` is a line of numbers, the first of them at this row and column; `adds` holds for any such staging
+-- the line at `here` is a line of numbers, the first of them at this row and column; `adds` holds for any such staging
 pub record StagesNumbers (form : ℕ) (t : List ℕ) (here : ℕ) (table : List ℕ) (values row column : ℕ) (table' : List ℕ) (r : Numbers) : Type 0 where
   pub long : length table' ≡ length table
   pub front : take (3 * values) table' ≡ take (3 * values) table
@@ -59,7 +59,7 @@ pub record StagesNumbers (form : ℕ) (t : List ℕ) (here : ℕ) (table : List 
 abbrev pub namedTo : ℕ → Staging → Staging
 namedTo column a = record { whole = true; row = a .row; column = a .column; bandwidth = a .bandwidth; greatest = max (a .greatest) column }
 
--- the line at offset `here` is one of a Sparse_matrix, in this row; `adds` holds for any such staging
+-- the line at `here` is one of a Sparse_matrix, in this row; `adds` holds for any such staging
 pub record StagesPair (t : List ℕ) (here : ℕ) (table : List ℕ) (values row : ℕ) (table' : List ℕ) (r : Pair) : Type 0 where
   pub long : length table' ≡ length table
   pub front : take (3 * values) table' ≡ take (3 * values) table

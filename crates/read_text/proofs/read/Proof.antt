@@ -1,5 +1,5 @@
--- `read_text::read` meets its contract. The loop's invariant: the lines from here on come to what the whole text comes to, and what the walk
--- carries is of the values before here.
+-- `read_text::read` meets its contract. The loop's invariant: the lines from here on give the result of the whole text,
+-- and the staged matrices have only values from before here.
 -- Assumes nothing.
 use mathlib.Core.Path.{_≡_, refl}
 use Prim.Native.Nat.{_-_, _<_}

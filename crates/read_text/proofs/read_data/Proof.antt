@@ -1,4 +1,5 @@
--- `read_text::read_data` meets its contract: the lines that the matrix and the values decide, which are staged, or the line at the offset.
+-- `read_text::read_data` meets its contract: the lines that the matrix and the values
+-- decide, which are staged, or the line at the offset.
 -- Assumes nothing.
 use mathlib.Core.Path.{refl}
 use Rattle.read_line.proofs.CrossLaws.{crossed-reached, stays-elsewhere}

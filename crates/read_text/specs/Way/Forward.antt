@@ -12,8 +12,8 @@ use Rattle.store_base.specs.Way.Stage.{StagedMatrix, Staged, Before, stagedSize
 use Rattle.read_matrix.specs.declared.BodyWalk.{BodyWalk}
 use Rattle.read_matrix.specs.Way.Body.{stagedOf}
 
--- every staged matrix is right, with the words of its values at the front of the table, and none has a value after those
--- that are read
+-- every staged matrix is right, with the words of its values at the front of the table, and none has a value after
+-- those that are read
 pub record Carries (t table stage : List ℕ) (values : ℕ) : Type 0 where
   pub staged : Staged t table stage 0 0
   pub before : Before stage values

@@ -1,6 +1,7 @@
--- What is noted of a matrix while its lines are judged, so that its numbers are read once: the words of its values, at the front of the
--- lent table or where they belong, and beside the table nine words that say which lines they are of and where these lines end.
--- A note speaks of the text alone: whoever finds one for the lines at hand may take it for what those lines say.
+-- A staged matrix: its numbers are stored while its lines are judged, so that they are read only once. The words of its
+-- values are at the front of the lent table, or later in their own part. Nine more words, beside the table, tell which
+-- lines the values are from and where these lines end. They depend on the text alone: code that finds a staged matrix
+-- for the lines at hand may use it instead of reading those lines.
 -- Assumes nothing.
 use Prim.Native.Nat.{ℕ, _+_, _*_, _≤_, _<_}
 use mathlib.Core.Path.{_≡_}
@@ -13,7 +14,7 @@ use Rattle.doc.specs.Document.{Value, inMatrix, valuesFrom, bandwidthIn, greate
 use Rattle.doc.specs.Records.{valueWords}
 use Rattle.store_base.specs.Way.Stores.{Placed}
 
--- the lines of a matrix, from below its keyword
+-- the lines of a matrix, from the line below its keyword on
 abbrev pub bodyLines : List ℕ → ℕ → ℕ → List Line
 bodyLines t n at = upTo inMatrix (linesAt t n at place.matrix)
 
@@ -21,8 +22,9 @@ bodyLines t n at = upTo inMatrix (linesAt t n at place.matrix)
 unfoldable pub valuesWords : List Value → List ℕ
 valuesWords vs = joined (map valueWords vs)
 
--- a note: where the lines start and the number of the first, the form that they are read in, how many values stand before theirs, where the
--- lines end and the number of the line there, and what they say
+-- a staged matrix: the offset and line where its lines start, the form in which they are read, how many
+-- values come before its own, the offset and line where its lines end, and what they give: bandwidth,
+-- greatest row or column named, and count of values
 pub record StagedMatrix : Type 0 where
   pub at : ℕ
   pub line : ℕ
@@ -34,11 +36,11 @@ pub record StagedMatrix : Type 0 where
   pub greatest : ℕ
   pub count : ℕ
 
--- how many words a note has
+-- how many words describe a staged matrix
 abbrev pub stagedSize : ℕ
 stagedSize = 9
 
--- the i-th note of a list of words
+-- the i-th staged matrix of a list of such words
 unfoldable pub stagedAt : List ℕ → ℕ → StagedMatrix
 stagedAt stage i =
     record {
@@ -53,11 +55,11 @@ stagedAt stage i =
       count = getD stage (stagedSize * i + 8) 0;
     }
 
--- the values of the lines that a note is of
+-- the values that the lines of a staged matrix write
 abbrev pub stagedValues : List ℕ → StagedMatrix → List Value
 stagedValues t n = valuesFrom (n .form) 1 1 (bodyLines t (n .line) (n .at))
 
--- a note tells the truth, these being the words that it stands for
+-- the staged matrix is right about its lines, and `words` are the words of its values
 pub record Tells (t : List ℕ) (n : StagedMatrix) (words : List ℕ) : Type 0 where
   pub words-are : words ≡ valuesWords (stagedValues t n)
   pub count-is : n .count ≡ length (stagedValues t n)
@@ -67,18 +69,18 @@ pub record Tells (t : List ℕ) (n : StagedMatrix) (words : List ℕ) : Type 0 w
   pub placed : Placed t (n .next) (n .further)
   pub onward : n .at ≤ n .further
 
--- the words that a note stands for, the first value of all standing at `base` of a table
+-- the words of a staged matrix's values in a table, where the first value of all is at `base`
 abbrev pub wordsOf : List ℕ → ℕ → StagedMatrix → List ℕ
 wordsOf table base n = take (3 * n .count) (drop (base + 3 * n .first) table)
 
--- a note that is made ends behind the text's first byte
+-- the entry is in use: its lines end after the text's first byte
 abbrev pub Made : StagedMatrix → Type 0
 Made n = 0 < n .further
 
--- every note that is made, of values not before the one numbered `from`, tells the truth
+-- every entry in use is right, if the index of its first value is `from` or more
 pub record Staged (t table stage : List ℕ) (base from : ℕ) : Type 0 where
   pub tells : (i : ℕ) → Made (stagedAt stage i) → from ≤ stagedAt stage i .first → Tells t (stagedAt stage i) (wordsOf table base (stagedAt stage i))
 
--- and no note is of a value numbered `past` or later
+-- and no entry has a value with the index `past` or more
 pub record Before (stage : List ℕ) (past : ℕ) : Type 0 where
   pub before : (i : ℕ) → Made (stagedAt stage i) → stagedAt stage i .first + stagedAt stage i .count ≤ past

@@ -23,7 +23,7 @@ use Rattle.doc.specs.Records.{
   valueWords,
 }
 
--- ---- maps; the first pin is the one numbered `pin`
+-- ---- maps; `pin` is the index of the first pin
 
 unfoldable pub pinWrite : Named → Write
 pinWrite p = record { part = pins; words = pinWords (pinRecord p) }
@@ -38,7 +38,7 @@ unfoldable pub mapsWrites : ℕ → List Map → List Write
 mapsWrites pin [] = []
 mapsWrites pin (m ∷ ms) = mapWrites pin m ++ mapsWrites (pin + length (m .pins)) ms
 
--- ---- matrices and sections; the first matrix is the one numbered `matrix`, the first value the one numbered `value`
+-- ---- matrices and sections; `matrix` is the index of the first matrix, `value` that of the first value
 
 unfoldable pub valueWrite : Value → Write
 valueWrite v = record { part = values; words = valueWords v }
@@ -68,7 +68,7 @@ sectionsWrites matrix value [] = []
 sectionsWrites matrix value (s ∷ ss) =
     sectionWrites matrix value s ++ sectionsWrites (matrix + length (s .matrices)) (value + valuesCount (s .matrices)) ss
 
--- ---- models; the first step is the one numbered `step`
+-- ---- models; `step` is the index of the first step
 
 unfoldable pub stepWrite : List Map → List Section → Step → Write
 stepWrite ms ss s = record { part = steps; words = stepWords (stepRecord ms ss s) }

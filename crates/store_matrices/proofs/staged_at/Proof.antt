@@ -1,4 +1,4 @@
--- `store_matrices::note_at` meets its contract: nine words, one behind the other.
+-- `store_matrices::staged_at` meets its contract: nine words, one after the other.
 -- Assumes nothing.
 use mathlib.Core.Path.{refl}
 use Rattle.store_base.specs.Way.Stage.{stagedAt}

@@ -1,4 +1,4 @@
--- `store_matrices::noted_values` meets its contract: by a note of these lines, where there is one.
+-- `store_matrices::staged_values` meets its contract: by the staged matrix of these lines, if there is one.
 -- Assumes nothing.
 use Rattle.store_matrices.proofs.StageLaws.{staged-few, stage-fills}
 use borrow.Author.Needs.{needs}

@@ -1,4 +1,4 @@
--- `store_matrices::noted_walk` meets its contract.
+-- `store_matrices::staged_walk` meets its contract.
 -- Assumes nothing.
 use mathlib.Core.Path.{refl}
 use Rattle.store_matrices.specs.Way.Staged.{stagedWalk}

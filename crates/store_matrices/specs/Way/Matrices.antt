@@ -85,7 +85,7 @@ pub record TakenLine (t : List ℕ) (line : Found) (form : ℕ) (table : List �
 
 -- ---- the lines of a matrix
 
--- what is stored of them
+-- the writes of their values
 abbrev pub valuesWrites : ℕ → List Line → List Write
 valuesWrites form body = valueWrites (valuesFrom form 1 1 body)
 
@@ -119,7 +119,7 @@ pub record PutsMatrix (t : List ℕ) (line : Found) (table : List ℕ) (f : Fill
   pub seven : length (f .counts) ≡ 7
   pub fits : Fits (length table) f (matrixWrites (getD (f .counts) values 0) (matrixBelow t line))
 
--- it is stored, and the lines go on behind its own
+-- it is stored, and the walk goes on after its lines
 pub record FillsMatrix (t : List ℕ) (line : Found) (table : List ℕ) (f : Filling) (r : Stored) (table' : List ℕ) : Type 0 where
   pub stores : Stores f table (matrixWrites (getD (f .counts) values 0) (matrixBelow t line)) (r .filling) table'
   pub conductors : r .conductors ≡ matrixBelow t line .conductors

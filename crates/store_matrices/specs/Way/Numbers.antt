@@ -20,7 +20,7 @@ use Rattle.store_matrices.specs.declared.Spot.{Spot}
 use Rattle.store_matrices.specs.declared.Cursor.{Cursor}
 use Rattle.store_matrices.specs.declared.Placing.{Placing}
 
--- what is stored of values
+-- the writes of values
 abbrev pub valueWrites : List Value → List Write
 valueWrites vs = map valueWrite vs
 
@@ -57,7 +57,7 @@ cursorOf s = record { row = s .row; column = s .column; count = getD (s .filling
 unfoldable pub spotOf : Filling → Cursor → Spot
 spotOf f c = record { row = c .row; column = c .column; filling = record { bases = f .bases; counts = set (f .counts) values (c .count) } }
 
--- a number further on
+-- the cursor after one number
 unfoldable pub nextCursor : ℕ → Cursor → Cursor
 nextCursor form c = record { row = nextRow form (c .row); column = c .column + 1; count = c .count + 1; place = c .place + 3 }
 
@@ -70,7 +70,7 @@ pub record Roomy (size : ℕ) (c : Cursor) : Type 0 where
 
 -- ---- the numbers of a line
 
--- the row after so many numbers
+-- the row after n numbers
 abbrev pub rowAfter : ℕ → ℕ → ℕ → ℕ
 rowAfter form r n = if eqb form diagonal then r + n else r
 

@@ -1,4 +1,4 @@
--- What was noted of a matrix, as the code takes it: its words, whether it is of the lines at hand, and what it says of them.
+-- A staged matrix as the code uses it: its words, whether it is of the lines at hand, and what it gives for them.
 -- Assumes nothing.
 use Prim.Native.Nat.{ℕ, _+_}
 use mathlib.Core.Bool.{Bool, true, not}
@@ -25,13 +25,13 @@ stagedIn n =
       count = n .count;
     }
 
--- it is made, and of the lines that start there, read in this form, so many values standing before theirs
+-- the entry is in use; its lines start at this offset and line, are read in this form, and `first` values come before
 unfoldable pub isOf : StagedWords → ℕ → ℕ → ℕ → ℕ → Bool
 isOf n at line form first =
     both (not (eqb (n .further) 0))
     (both (eqb (n .at) at) (both (eqb (n .line) line) (both (eqb (n .form) form) (eqb (n .first) first))))
 
--- where the lines end, and what they say; their values are counted as stored behind the first ones
+-- where the lines end, and what they give; their values are counted as stored after the first `first` ones
 unfoldable pub stagedWalk : StagedWords → ℕ → Filling → MatrixWalk
 stagedWalk n first f =
     record {

@@ -1,18 +1,18 @@
--- What the first of many tells counts, as code that meets one after the other keeps it.
+-- Of several values given one after another the first counts: how code remembers it.
 -- Assumes nothing.
 use Prim.Native.Nat.{ℕ}
 use mathlib.Core.Bool.{true, false}
 use Rattle.base.specs.If.{if_then_else_}
 use Rattle.store_matrices.specs.declared.First.{First}
 
--- nothing is told yet
+-- none is given yet
 abbrev pub untold : First
 untold = record { told = false; value = 0 }
 
--- one more tells n
+-- n is given too
 unfoldable pub firstTold : First → ℕ → First
 firstTold f n = if f .told then f else record { told = true; value = n }
 
--- what the first one tells, the rest telling n
+-- the value given so far, else the n that the rest gives
 unfoldable pub toldOr : First → ℕ → ℕ
 toldOr f n = if f .told then f .value else n

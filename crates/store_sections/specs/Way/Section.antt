@@ -25,13 +25,13 @@ use Rattle.store_matrices.specs.Way.Told.{firstTold, toldOr}
 use Rattle.store_matrices.specs.declared.First.{First}
 use Rattle.store_sections.specs.declared.SectionWalk.{SectionWalk}
 
--- ---- what a section's record holds of its lines
+-- ---- what a section's record takes from its lines
 
--- of a kind, the first matrix is kept
+-- of each kind the first matrix counts
 unfoldable pub kindsWith : List ℕ → ℕ → ℕ → List ℕ
 kindsWith kinds kind index = if eqb (getD kinds kind 0) 0 then set kinds kind index else kinds
 
--- the one that is kept, if there is one, else the one that the rest gives
+-- the matrix that counts so far, if there is one, else the one that the rest gives
 unfoldable pub keptOr : ℕ → ℕ → ℕ
 keptOr kept rest = if eqb kept 0 then rest else kept
 
@@ -43,11 +43,11 @@ methodAfter t line method = if eqb (line .key) derivationMethod then firstTold m
 
 -- ---- one line
 
--- what is stored of matrices, counted from where the filling stands
+-- the writes of matrices, with their values counted on from the filling
 abbrev pub matricesFrom : Filling → List Matrix → List Write
 matricesFrom f ms = matricesWrites (getD (f .counts) values 0) ms
 
--- the line that was found, read where a walk over a section's lines has come, and the matrix that it opens, if it opens one
+-- the line that was found, read where the walk is, and the matrix that it opens, if any
 abbrev pub sectionLine : List ℕ → Found → SectionWalk → Line
 sectionLine t line w = lineIn t line (w .place)
 
@@ -65,12 +65,12 @@ pub record TakesMatrix (t : List ℕ) (line : Found) (table : List ℕ) (w : Sec
   pub takes : TakesLine t line table w
   pub opens : opensMatrixAt (sectionLine t line w) ≡ true
 
--- lines of a matrix, or none, are gone over
+-- the lines of a matrix, or none, are read
 pub record Passed (lines rest : List Line) : Type 0 where
   pub from : List Line
   pub all : lines ≡ upTo inMatrix from ++ rest
 
--- the matrix is stored, and what the lines behind it add to the section is as if they were read with it
+-- the matrix is stored; whatever lines come next, they add to the section what they would add if read with this line
 pub record TakenLine (t : List ℕ) (line : Found) (table : List ℕ) (w v : SectionWalk) (table' : List ℕ) : Type 0 where
   pub stores : Stores (w .filling) table (matricesFrom (w .filling) (matrixHere t line w)) (v .filling) table'
   pub passed : Passed (linesBehind t line (w .place)) (linesAt t (v .line) (v .at) (v .place))
@@ -88,7 +88,7 @@ pub record TakenLine (t : List ℕ) (line : Found) (table : List ℕ) (w v : Sec
 
 -- ---- the lines of a section
 
--- those that are still to be read, and the matrices among them
+-- the lines that are still to be read, and the matrices among them
 abbrev pub sectionLines : List ℕ → ℕ → ℕ → ℕ → List Line
 sectionLines t n at p = upTo inSection (linesAt t n at p)
 
@@ -100,7 +100,7 @@ pub record PutsLines (t : List ℕ) (n at : ℕ) (table : List ℕ) (f : Filling
   pub seven : length (f .counts) ≡ 7
   pub fits : Fits (length table) f (matricesFrom f (matricesIn (sectionLines t n at place.sectionHead)))
 
--- the matrices are stored, and all that the section's record holds is told
+-- the matrices are stored, and everything that the section's record needs is known
 pub record FillsLines (t : List ℕ) (n at : ℕ) (table : List ℕ) (f : Filling) (w : SectionWalk) (table' : List ℕ) : Type 0 where
   pub stores : Stores f table (matricesFrom f (matricesIn (sectionLines t n at place.sectionHead))) (w .filling) table'
   pub method : toldOr (w .method) 0 ≡ methodIn (sectionLines t n at place.sectionHead)
@@ -126,7 +126,7 @@ pub record PutsSection (t : List ℕ) (line : Found) (table : List ℕ) (f : Fil
   pub seven : length (f .counts) ≡ 7
   pub fits : Fits (length table) f (sectionWrites (getD (f .counts) matrices 0) (getD (f .counts) values 0) (sectionBelow t line))
 
--- it is stored, and the lines go on behind its own
+-- it is stored, and the walk goes on after its lines
 pub record FillsSection (t : List ℕ) (line : Found) (table : List ℕ) (f : Filling) (w : Walk) (table' : List ℕ) : Type 0 where
   pub stores : Stores f table (sectionWrites (getD (f .counts) matrices 0) (getD (f .counts) values 0) (sectionBelow t line))
       (w .filling) table'

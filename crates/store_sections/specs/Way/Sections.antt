@@ -11,10 +11,10 @@ use Rattle.doc.specs.Document.{Section, sectionAt}
 use Rattle.store_base.specs.Way.Writes.{sectionsWrites}
 use Rattle.store_base.specs.declared.Walk.{Walk}
 
--- what is stored of sections, counted from where the filling stands
+-- the writes of sections, with matrices and values counted on from the filling
 abbrev pub sectionsOf : Filling → List Section → List Write
 sectionsOf f ss = sectionsWrites (getD (f .counts) matrices 0) (getD (f .counts) values 0) ss
 
--- the sections that stand behind where a walk has come
+-- the sections from where the walk goes on
 abbrev pub sectionsLeft : List ℕ → Walk → List Section
 sectionsLeft t w = gather sectionAt (linesAt t (w .line) (w .at) (w .place))

@@ -1,4 +1,5 @@
--- `table_layout::put_record` meets its contract. That its count does not wrap follows from the room that it asks: every record has a word at least.
+-- `table_layout::put_record` meets its contract. Its count does not wrap, because of the room that it requires: every
+-- record has at least one word.
 -- Assumes nothing.
 use Rattle.table_layout.specs.Way.Filling.{position, widthOf, counted}
 use Rattle.table_layout.proofs.StoreLaws.{count-fits}

@@ -1,4 +1,5 @@
--- `table_layout::words_needed` meets its contract. The loop's invariant: the words counted and those of the parts left are all that is needed.
+-- `table_layout::words_needed` meets its contract. The loop's invariant: the words counted so far and those of the
+-- parts that are left are all the words needed.
 -- Assumes nothing.
 use borrow.Author.Needs.{needs}
 use mathlib.Core.Path.{_≡_}

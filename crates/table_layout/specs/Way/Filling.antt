@@ -1,5 +1,5 @@
--- How a table is filled: records are stored one by one, each behind those of its part that are stored already. The counts stand in the
--- table from the start, so that it is known where each part begins.
+-- How a table is filled: records are stored one by one, each after those of its part that are stored already. The
+-- counts are in the table from the start, so that it is known where each part begins.
 -- Assumes nothing.
 use Prim.Native.Nat.{ℕ, suc, _+_, _*_, _≤_, _<_}
 use mathlib.Core.Path.{_≡_}
@@ -43,24 +43,24 @@ unfoldable pub fillingAfter : List Write → Filling → Filling
 fillingAfter [] f = f
 fillingAfter (w ∷ ws) f = fillingAfter ws (counted f (w .part))
 
--- records of the parts before the values end before the values begin: values may stand there already
+-- records of the parts before the values end before the values begin, since values may be there already
 abbrev pub Apart : Filling → ℕ → Type 0
 Apart f p = p < values → position f p + widthOf p ≤ getD (f .bases) values 0
 
--- each record is as wide as its part asks, is stored below `size`, and is no value's or lies before them
+-- each record is as wide as its part requires, ends at or before `size`, and, if it is no value, ends before the values
 pub data Fits (size : ℕ) : Filling → List Write → Type 0 where
   none : {f : Filling} → Fits size f []
   more : {f : Filling} {w : Write} {ws : List Write} →
       w .part < length widths → length (w .words) ≡ widthOf (w .part) → position f (w .part) + widthOf (w .part) ≤ size →
       Apart f (w .part) → Fits size (counted f (w .part)) ws → Fits size f (w ∷ ws)
 
--- where the records of each part begin, the first part's count standing at `at`
+-- where the records of each part begin, if the count of the first part is at `at`
 unfoldable pub basesFrom : ℕ → List ℕ → List ℕ → List ℕ
 basesFrom at [] counts = []
 basesFrom at (w ∷ ws) [] = []
 basesFrom at (w ∷ ws) (c ∷ cs) = (at + 1) ∷ basesFrom (at + 1 + w * c) ws cs
 
--- nothing stored, for so many records of each part
+-- nothing stored yet, for these counts of records
 unfoldable pub startFilling : List ℕ → Filling
 startFilling counts = record { bases = basesFrom 0 widths counts; counts = replicate (length widths) 0 }
 
@@ -76,6 +76,6 @@ openedTable at [] counts t = t
 openedTable at (w ∷ ws) [] t = t
 openedTable at (w ∷ ws) (c ∷ cs) t = openedTable (at + 1 + w * c) ws cs (set t at c)
 
--- "65,536 values" is the greatest of the bounds: no count is above it, so no sum of theirs wraps
+-- "65,536 values" is the greatest of the bounds: no count is above it, so no sum of counts wraps
 pub record BoundedCounts (counts : List ℕ) : Type 0 where
   pub few : (p : ℕ) → getD counts p 0 ≤ 65_536

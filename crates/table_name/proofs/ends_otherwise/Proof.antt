@@ -1,4 +1,5 @@
--- `table_name::ends_otherwise` meets its contract: where the last bytes differ the name does not stand there, however long it is said to be.
+-- `table_name::ends_otherwise` meets its contract: if the last bytes differ, the name is not there, whatever its
+-- length.
 -- Assumes nothing.
 use mathlib.Core.Path.{refl, sym}
 use mathlib.Core.Bool.{true≢false}

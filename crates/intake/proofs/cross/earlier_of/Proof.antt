@@ -4,19 +4,15 @@ use Rattle.intake.proofs.CrossLaws.{second-stays, first-alone, second-a
 use Rattle.intake.proofs.cross.earlier_of.Statement.{statement}
 use Rattle.intake.proofs.cross.earlier_of.Tie as tie
 
--- src/lib.rt:32:9
 returns : tie.Need-returns
 returns c = search second-stays
 
--- src/lib.rt:35:9
 returns-2 : tie.Need-returns-2
 returns-2 c = search first-alone
 
--- src/lib.rt:38:9
 returns-3 : tie.Need-returns-3
 returns-3 c = search second-above
 
--- src/lib.rt:28:1
 returns-4 : tie.Need-returns-4
 returns-4 c = search first-above
 
