@@ -43,7 +43,7 @@ S L 2 2 45e-10
 """
 ROOT = Path(__file__).resolve().parents[2]
 # The test files, with the program that runs them: its input and what it must print.
-VECTORS = ROOT / "crates" / "vectors"
+VECTORS = ROOT / "crates" / "test_vectors"
 GUARD = 0xA5A5A5A5A5A5A5A5
 
 

@@ -1,5 +1,4 @@
--- Laws of the question for a whole matrix: where N of a section is, that N is at most 256, and what is known at each
--- `return`.
+-- Laws of the question for a whole matrix: where N of a section is, that N is at most 256, and what is known at each `return`.
 -- Assumes nothing.
 use mathlib.Core.Path.{_≡_, refl, sym, _∙_, ap}
 use mathlib.Core.Bool.{Bool, true, false, not}

@@ -33,7 +33,7 @@ abbrev pub entryWords : Answer → EntryWords
 entryWords (Found word) = foundWith word
 entryWords (Refused rule) = entryRefused rule
 
--- ---- records by their index; `noSection` and `noMatrix` are for an index past the last, which never occurs
+-- ---- records by their index; `noSection` and `noMatrix` are the defaults past the last, and reach no answer
 
 abbrev pub noSection : SectionRecord
 noSection =

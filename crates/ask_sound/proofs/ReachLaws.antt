@@ -1,5 +1,4 @@
--- Laws of the reach: a matrix's values rise exactly if they are no more than the reach of the first. It is stored for
--- every 64th value.
+-- Laws of the reach: a matrix's values rise exactly if they are no more than the reach of the first. It is stored for every 64th value.
 -- Assumes nothing.
 use mathlib.Core.Path.{_≡_, refl, sym, _∙_, ap}
 use mathlib.Core.Bool.{Bool, true, false, not}

@@ -1,5 +1,4 @@
--- Laws of the tests of models, section steps and matrices, whose records refer to others: what is known at each
--- `return` gives the test.
+-- Laws of the tests of models, section steps and matrices, whose records refer to others: what is known at each `return` gives the test.
 -- Assumes nothing.
 use mathlib.Core.Path.{_≡_, sym, _∙_, ap}
 use mathlib.Core.Bool.{Bool, true, false, not}

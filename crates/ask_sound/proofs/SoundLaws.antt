@@ -1,5 +1,4 @@
--- The records that the view locates in a table are those of `recordsOf`, so the tests that the code makes are the
--- definition.
+-- The records that the view locates in a table are those of `recordsOf`, so the tests that the code makes are the definition.
 -- Assumes nothing.
 use mathlib.Core.Path.{_≡_, refl, sym, _∙_, ap}
 use mathlib.Core.Bool.{Bool, true, false, not}

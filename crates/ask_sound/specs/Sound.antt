@@ -36,8 +36,8 @@ range first many xs = take many (drop first xs)
 
 -- ---- models
 
--- whether a step of this kind is allowed where d forks are open, and how many are open after it: a fork opens one more,
--- an endfork closes one
+-- whether a step of this kind is allowed where d forks are open, and how many are open after it: a fork opens
+-- one more, an endfork closes one
 unfoldable pub depthStays : ℕ → ℕ → Bool
 depthStays d kind = if eqb kind forkKind then ltb d deepest else if eqb kind endforkKind then ltb 0 d else true
 

@@ -1,5 +1,4 @@
--- Laws of places: the opens and closes of the steps before a place, and the words of the table for its model and its
--- steps.
+-- Laws of places: the opens and closes of the steps before a place, and the words of the table for its model and its steps.
 -- Assumes nothing.
 use mathlib.Core.Path.{_≡_, refl, sym, _∙_, ap}
 use mathlib.Core.Bool.{Bool, true, false, not}

@@ -54,7 +54,7 @@ walkWords (Step words next) = stepped words next
 walkWords (Done place) = doneAt place
 walkWords (Refused rule) = walkRefused rule
 
--- ---- models and steps by their index; `noModel` and `noRecord` are for an index past the last, which never occurs
+-- ---- models and steps by their index; `noModel` and `noRecord` are the defaults past the last, and reach no answer
 
 abbrev pub noModel : ModelRecord
 noModel = record { start = 0; size = 0; type = 0; first = 0; steps = 0 }

@@ -1,5 +1,4 @@
--- Laws of the model that a name finds: it is the same in the table and in the document, and two names that find one
--- model are equal.
+-- Laws of the model that a name finds: it is the same in the table and in the document, and two names that find one model are equal.
 -- Assumes nothing.
 use mathlib.Core.Path.{_≡_, refl, sym, _∙_, ap}
 use mathlib.Core.Bool.{Bool, true, false, not, true≢false}

@@ -1,5 +1,4 @@
--- The names of a table's records, of maps and of their pins: a name is repeated in the table exactly if it is in the
--- document.
+-- The names of a table's records, of maps and of their pins: a name is repeated in the table exactly if it is in the document.
 -- Assumes nothing.
 use mathlib.Core.Path.{_≡_, refl, sym, _∙_, ap}
 use mathlib.Core.Bool.{Bool}

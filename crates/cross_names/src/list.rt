@@ -96,8 +96,8 @@ fn model_found(text: &[u8], table: &[u64], view: View, line: Found) -> u64
     )
 }
 
-// Judges a name of the list by the model that it finds. If no list line above breaks a rule, a repeated name finds the
-// flag of its model set.
+// Judges a name of the list by the model that it finds. If no list line above breaks a rule, a repeated name
+// finds the flag of its model set.
 fn judge_name(text: &[u8], table: &[u64], view: View, line: Found, listed: [bool; 65]) -> Judged
     requires { ⌜ ModelsIn (now table) view × Located (now text) line ⌝ }
     ensures { λ r. ⌜ r ≡ nameJudged (now (text .entry)) (now (table .entry)) view line listed ⌝ }
@@ -137,8 +137,7 @@ fn judge_line(
     judge_name(text, table, view, line, listed)
 }
 
-// Goes through the list lines up to the first that breaks a rule. There are at most 64 models, so at most 65 list lines
-// are judged.
+// Goes through the list lines up to the first that breaks a rule. There are at most 64 models, so at most 65 list lines are judged.
 pub fn list_finding(text: &[u8], table: &[u64], view: View) -> ListFinding
     requires { ⌜ HoldsText (now text) (now table) × (view ≡ viewOf (now table)) ⌝ }
     ensures { λ r. ⌜ (record { rule = r .rule; line = r .line } ≡ firstIn (listFindings (documentOf (now (text .entry))))) × (r .rule ≡ 0 → Listed (documentOf (now (text .entry))) (r .listed)) ⌝ }

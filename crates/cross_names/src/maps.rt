@@ -77,8 +77,7 @@ fn own_finding(
     )
 }
 
-// The first line that breaks rule 19: a map with the name of an earlier map, or a pin with the name of an earlier pin
-// of its map.
+// The first line that breaks rule 19: a map with the name of an earlier map, or a pin with the name of an earlier pin of its map.
 pub fn map_finding(text: &[u8], table: &[u64], view: View) -> Finding
     requires { ⌜ HoldsText (now text) (now table) × (view ≡ viewOf (now table)) ⌝ }
     ensures { λ r. ⌜ r ≡ firstIn (mapFindings (documentOf (now (text .entry))) (documentOf (now (text .entry)) .maps)) ⌝ }

@@ -373,9 +373,9 @@ module _ (d : Document) where
       rw (b .on-line) at (first-found d n .lowest (findingOf (b .look)) (look-found (b .among)) (breaks-found b))
 
 -- "on one line the lowest number"; holds for every text, a refused one too
-pub lowest-number :
+pub lowest-rule :
     (t : List ℕ) (number : ℕ) → Breaks (documentOf t) (crossRule (documentOf t) .line) number → crossRule (documentOf t) .rule ≤ number
-lowest-number t number b =
+lowest-rule t number b =
     let d : Document = documentOf t in
     let n : crossRule d .rule ≡ 0 → ⊥ = λ (e : crossRule d .rule ≡ 0). none-breaks d e (crossRule d .line) number b in
     let same : findingOf (b .look) ≡ crossRule d =

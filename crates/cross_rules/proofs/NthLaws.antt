@@ -22,8 +22,7 @@ use Rattle.cross_rules.specs.Way.Nth.{writesAt, writesPart, nthLine}
 pub less-none : (writes : Bool) (left : ℕ) → not writes ≡ false → left ≡ 0 → 0 ≡ (if writes then left - 1 else left)
 less-none writes left w e = let z : left - 1 ≡ 0 = omega arith in sym (if-true {A = ℕ} (left - 1) left (not-false writes w) ∙ z)
 
--- the loop's invariant: skipping `left` records from position `at` on leads to the same line as skipping `index`
--- records from the start
+-- the loop's invariant: skipping `left` records from position `at` on leads to the same line as skipping `index` records from the start
 pub record CountLeft (t : List ℕ) (part index : ℕ) (left at n p : ℕ) : Type 0 where
   pub same : nthLine part left (linesAt t n at p) ≡ nthLine part index (significant t)
   pub within : at ≤ length t

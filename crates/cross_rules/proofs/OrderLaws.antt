@@ -1,5 +1,5 @@
--- The order of a document: in each of its lists the line numbers rise, and so do those of the findings of each kind.
--- This holds for every text.
+-- The order of a document: in each of its lists the line numbers rise, and so do those of the findings of each
+-- kind. This holds for every text.
 -- Assumes nothing.
 use mathlib.Core.Path.{_≡_, refl, _∙_, ap}
 use mathlib.Core.Bool.{Bool, true, false}

@@ -1,5 +1,4 @@
--- Earlier lines are earlier elements: in a list whose lines rise, the elements on lines above x's line are those before
--- x.
+-- Earlier lines are earlier elements: in a list whose lines rise, the elements on lines above x's line are those before x.
 -- Assumes nothing.
 use mathlib.Core.Path.{_≡_, refl, _∙_, ap}
 use mathlib.Core.Bool.{Bool, true, false}

@@ -1,5 +1,4 @@
--- Laws of the marks of Sides: equal Sides on one map have the same mark, so an end whose mark is not set clashes with
--- no marked end.
+-- Laws of the marks of Sides: equal Sides on one map have the same mark, so an end whose mark is not set clashes with no marked end.
 -- Assumes nothing.
 use mathlib.Core.Path.{_≡_, refl, sym, _∙_, ap}
 use mathlib.Core.Bool.{Bool, true, false, not}

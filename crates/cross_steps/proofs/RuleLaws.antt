@@ -1,5 +1,4 @@
--- Laws of the rules of a step by the words of the table: what is known at each `return` of the functions implies the
--- contract.
+-- Laws of the rules of a step by the words of the table: what is known at each `return` of the functions implies the contract.
 -- Assumes nothing.
 use mathlib.Core.Path.{_≡_, refl, sym, _∙_, ap}
 use mathlib.Core.Bool.{Bool, true, false, not}

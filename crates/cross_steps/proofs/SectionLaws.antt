@@ -1,5 +1,4 @@
--- The records of maps, sections and matrices in a table: pins, methods and conductors by their index, and the matrices
--- of a section.
+-- The records of maps, sections and matrices in a table: pins, methods and conductors by their index, and the matrices of a section.
 -- Assumes nothing.
 use mathlib.Core.Path.{_≡_, refl, sym, _∙_, ap}
 use mathlib.Core.Bool.{Bool, true, false, not}

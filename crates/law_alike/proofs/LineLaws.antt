@@ -1,5 +1,5 @@
--- Two lines that say the same in a place are read alike: they have the same keyword, and in each place the same words,
--- head, size or saying.
+-- Two lines that say the same in a place are read alike: they have the same keyword, and in each place the
+-- same words, head, size or saying.
 -- Assumes nothing.
 use mathlib.Core.Path.{_≡_, refl, sym, _∙_, ap}
 use mathlib.Core.Bool.{Bool, true, false, not, true≢false}

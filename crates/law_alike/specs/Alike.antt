@@ -1,6 +1,5 @@
--- Two texts that differ only "in matrix forms giving the same numbers, comments, blank lines or blanks between words".
--- The definition compares the significant lines, so comments, blank lines, line numbers and offsets do not matter. It
--- does not use the intake.
+-- Two texts that differ only "in matrix forms giving the same numbers, comments, blank lines or blanks between words". The definition
+-- compares the significant lines, so comments, blank lines, line numbers and offsets do not matter. It does not use the intake.
 -- Assumes nothing.
 use Prim.Native.Nat.{ℕ, _≤_}
 use mathlib.Core.Path.{_≡_}

@@ -39,9 +39,8 @@ sparseWord j [] = zeroWord
 sparseWord j (l ∷ ls) =
     if eqb (wholeOf (firstOf (words (l .content))) .value) j then wordIn (numberOf (secondOf (words (l .content)))) else sparseWord j ls
 
--- The number at row i and column j, where i is at most j. In a Diagonal_matrix it is the i-th of N numbers, and zero
--- off the diagonal. In a Sparse_matrix it is found by its column. Otherwise it is number j - i of row i, counted from
--- 0: "diagonal first".
+-- The number at row i and column j, where i is at most j. In a Diagonal_matrix it is the i-th of N numbers, and zero off the
+-- diagonal. In a Sparse_matrix it is found by its column. Otherwise it is number j - i of row i, counted from 0: "diagonal first".
 unfoldable pub writtenAt : ℕ → List Line → ℕ → ℕ → ℕ
 writtenAt form body i j =
     if eqb form diagonal then (if eqb i j then wordOf (i - 1) (numbersOf body) else zeroWord) else

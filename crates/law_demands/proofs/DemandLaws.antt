@@ -1,5 +1,4 @@
--- The first and the second demand hold for every outcome that satisfies the intake's contract, and two such outcomes
--- are equal.
+-- The first and the second demand hold for every outcome that satisfies the intake's contract, and two such outcomes are equal.
 -- Assumes nothing.
 use mathlib.Core.Path.{_≡_, refl, sym, _∙_, ap}
 use mathlib.Core.Bool.{Bool, true, false, true≢false}

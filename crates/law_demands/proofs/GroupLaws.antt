@@ -1,5 +1,4 @@
--- The groups of the rule book and the stages of the intake: each stage gives what the first look of its group with a
--- broken rule gives.
+-- The groups of the rule book and the stages of the intake: each stage gives what the first look of its group with a broken rule gives.
 -- Assumes nothing.
 use mathlib.Core.Path.{_≡_, refl, sym, _∙_, ap}
 use mathlib.Core.Bool.{Bool, true, false, not, true≢false}

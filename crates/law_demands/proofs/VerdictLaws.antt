@@ -36,7 +36,7 @@ use Rattle.cross_rules.proofs.OrderLaws.{in-order}
 use Rattle.cross_rules.specs.Listed.{RulesAtLine, allRulesAtLines, Among}
 use Rattle.cross_rules.specs.Listed.Among.{front, further}
 use Rattle.cross_rules.proofs.RisingLaws.{all-least, each-one}
-use Rattle.cross_rules.proofs.FirstLaws.{Breaks, none-breaks, given-breaks, unbroken, lowest-line, lowest-number, first-found}
+use Rattle.cross_rules.proofs.FirstLaws.{Breaks, none-breaks, given-breaks, unbroken, lowest-line, lowest-rule, first-found}
 use Rattle.intake.specs.Verdict.{Outcome, acceptedWith, refusedBy, crossed, afterStoring, afterBytes, verdictOf}
 use Rattle.law_demands.specs.RuleBook.{BrokenIn, Broken, First, group, rank, sizeRules, roomRules, characterRulesAtLines, forwardRulesAtLines, forward}
 use Rattle.law_demands.proofs.BookLaws.{Given, givenBy, Found, InOrder, last, followed, AllRanked, empty-gives, given-later, given-here, given-none, given-first}
@@ -238,7 +238,7 @@ module _ (t : List ℕ) (size : ℕ) where
       record {
         found = broken-of (given-breaks d n);
         earliest = λ other place b p. (each-one findings-low (first-found d n .found), lowest-line d place other (breaks-of b));
-        lowest = λ other b. let l : crossRule d .rule ≤ other = lowest-number t other (breaks-of b) in rw (rank-plain (crossRule d .rule), rank-plain other) (omega arith);
+        lowest = λ other b. let l : crossRule d .rule ≤ other = lowest-rule t other (breaks-of b) in rw (rank-plain (crossRule d .rule), rank-plain other) (omega arith);
       }
 
   -- ---- one stage after another
@@ -249,7 +249,7 @@ module _ (t : List ℕ) (size : ℕ) where
         found = f .found;
         earlier-groups = λ h other place b. by-cases (g ≤ h) (ltb h g) (λ (e : ltb h g ≡ true). absurd (kept h (ltb-true _ _ e) other place b)) (λ (e : ltb h g ≡ false). ltb-false _ _ e);
         earliest-line = f .earliest;
-        lowest-number = f .lowest;
+        lowest-rule = f .lowest;
       }
 
   pub data Decided : Outcome → Type 0 where

@@ -202,8 +202,7 @@ Broken t size g rule line = BrokenIn (group t size g) rule line
 
 -- ---- the stated order
 
--- "15 FORK .. goes before 9, 11 and 12": the rank of a rule among those of one line. In the forward group 15 comes
--- between 8 and 9.
+-- "15 FORK .. goes before 9, 11 and 12": the rank of a rule among those of one line. In the forward group 15 comes between 8 and 9.
 unfoldable pub rank : ℕ → ℕ → ℕ
 rank g rule = if both (eqb g forward) (eqb rule 15) then 17 else 2 * rule
 
@@ -213,4 +212,4 @@ pub record First (t : List ℕ) (size g rule line : ℕ) : Type 0 where
   pub found : Broken t size g rule line
   pub earlier-groups : (h other place : ℕ) → Broken t size h other place → g ≤ h
   pub earliest-line : (other place : ℕ) → Broken t size g other place → 0 < place → (0 < line) × (line ≤ place)
-  pub lowest-number : (other : ℕ) → Broken t size g other line → rank g rule ≤ rank g other
+  pub lowest-rule : (other : ℕ) → Broken t size g other line → rank g rule ≤ rank g other

@@ -1,5 +1,4 @@
--- The same by the contract of the intake: if it accepts a text, the lent table is sound and at least seven words are
--- used.
+-- The same by the contract of the intake: if it accepts a text, the lent table is sound and at least seven words are used.
 -- Assumes nothing.
 use mathlib.Core.Path.{_≡_, sym, _∙_, ap}
 use mathlib.Core.Bool.{true}

@@ -1,5 +1,4 @@
--- The records of all parts but the steps are sound: names in the text, ranges and indexes inside, words within their
--- bounds.
+-- The records of all parts but the steps are sound: names in the text, ranges and indexes inside, words within their bounds.
 -- Assumes nothing.
 use mathlib.Core.Path.{_≡_, refl, sym, _∙_, ap}
 use mathlib.Core.Bool.{Bool, true, false}

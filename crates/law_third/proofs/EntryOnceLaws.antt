@@ -1,5 +1,4 @@
--- "each once": no two matrices of a section are of one kind if the text breaks no rule of the reading, since a repeated
--- keyword is refused.
+-- "each once": no two matrices of a section are of one kind if the text breaks no rule of the reading, since a repeated keyword is refused.
 -- Assumes nothing.
 use Prim.Native.Nat.{ℕ, zero, suc, _<_}
 use mathlib.Core.Path.{_≡_, refl, sym, _∙_, ap, subst}

@@ -1,5 +1,4 @@
--- Two accepted texts whose documents are the same except for lines, offsets and forms: a walk from any place gets the
--- same answer.
+-- Two accepted texts whose documents are the same except for lines, offsets and forms: a walk from any place gets the same answer.
 -- Assumes nothing.
 use mathlib.Core.Path.{_≡_, refl, sym, _∙_, ap}
 use mathlib.Core.Bool.{Bool, true, false, not, true≢false}

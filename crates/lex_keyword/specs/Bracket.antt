@@ -70,8 +70,7 @@ isClosed content =
 unfoldable pub isGoodBracket : List ℕ → Bool
 isGoodBracket content = both (isClosed content) (isGoodName (nameOf content))
 
--- where the argument starts: after the bracket and the blanks that follow it; without an argument, the end of the
--- content
+-- where the argument starts: after the bracket and the blanks after it; without an argument, the end of the content
 unfoldable pub argumentAt : List ℕ → ℕ
 argumentAt content = nameLength content + 2 + run isBlank (drop (nameLength content + 2) content)
 

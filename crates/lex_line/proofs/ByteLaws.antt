@@ -1,5 +1,4 @@
--- Laws of rules 1 to 4: the run of bytes that a line may contain, and the byte that ends it, decide which rule the line
--- breaks.
+-- Laws of rules 1 to 4: which rule a line breaks follows from its run of allowed bytes and the byte that ends the run.
 -- Assumes nothing.
 use mathlib.Core.Path.{_≡_, refl, sym, _∙_, ap, subst}
 use mathlib.Core.Bool.{Bool, true, false, not, true≢false}

@@ -1,5 +1,4 @@
--- Laws of the form of a line: how many words it has, by a count that stops at 3, and the parts before and after its
--- `=`.
+-- Laws of the form of a line: how many words it has, by a count that stops at 3, and its parts before and after `=`.
 -- Assumes nothing.
 use mathlib.Core.Path.{_≡_, sym, _∙_, ap}
 use mathlib.Core.Bool.{true, false}

@@ -1,5 +1,4 @@
--- Laws of short lines skipped together. The bytes are line bytes, and each LF among them ends a line that breaks
--- nothing.
+-- Laws of short lines skipped together. All bytes are line bytes, and each LF ends a line that breaks nothing.
 -- Assumes nothing.
 use mathlib.Core.Path.{_≡_, refl, sym, _∙_, ap}
 use mathlib.Core.Bool.{Bool, true, false, not}

@@ -1,6 +1,5 @@
 -- Laws of the word at the front of a text: reading the text gives the same as reading the word alone, since no byte
--- that numbers are written with ends a word. They hold for every class of word bytes that includes all bytes of
--- numbers.
+-- that numbers are written with ends a word. They hold for every class of word bytes that includes those bytes.
 -- Assumes nothing.
 use mathlib.Core.Path.{_≡_, refl, sym, _∙_, ap}
 use mathlib.Core.Bool.{Bool, true, false, not, true≢false}

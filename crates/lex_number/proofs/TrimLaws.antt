@@ -1,6 +1,5 @@
 -- Laws of the zeros at the end of a number: the loop that removes them, and that the size and the count of zeros are
--- unique. So it does not matter whether the zeros are counted digit by digit or removed from the whole number
--- afterwards.
+-- unique. So zeros may be counted digit by digit, or removed from the whole number afterwards.
 -- Assumes nothing.
 use mathlib.Core.Path.{_≡_, refl, sym, _∙_, ap}
 use mathlib.Core.Bool.{Bool}

@@ -52,8 +52,7 @@ build-decode w =
     let b : (if eqb (w % 2) 1 then 1 else 0) ≡ w % 2 = sign-build w in
     omega arith
 
--- the word of a number that is not zero: "at most 15 digits in m, k from -60 to 60", "m not ending in 0", with either
--- sign
+-- the word of a non-zero number: "at most 15 digits in m, k from -60 to 60", "m not ending in 0", with either sign
 pub record Written (w : ℕ) : Type 0 where
   pub negative : Bool
   pub size : ℕ

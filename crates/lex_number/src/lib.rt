@@ -1,6 +1,5 @@
 // Document 01, "Numbers": a word read as a number or an integer, and the value word that the table stores.
-// Words of any length are read in one pass: numbers too great to matter are capped while reading, which changes no
-// answer.
+// Words of any length are read in one pass. Numbers too great to matter are capped, which changes no answer.
 ghost use mathlib.Core.Path.{_≡_};
 ghost use mathlib.Core.Bool.{true, false};
 ghost use Prim.Native.Nat.{_+_, _-_, _*_, _/_, _^_, _<_, _≤_, min};
@@ -47,8 +46,7 @@ const SCALINGS: [Scaling; 9] = [
 ];
 
 // Digits read so far: the number that they write, the number up to the last digit that is not 0, the count of zeros
-// after that digit, the count of digits after the point, whether there is a digit, whether there is a point, and where
-// they end.
+// after that digit, the count of digits after the point, whether there is a digit and a point, and where they end.
 pub struct Digits {
     pub all: u64,
     pub size: u64,
@@ -402,8 +400,7 @@ pub fn read_integer(s: &[u8]) -> Whole
 }
 
 // The power of ten that a letter scales by, 0 for "any other letter". The loop tests all nine entries, from the last to
-// the first, so that the first entry with the letter decides. Without an early exit there is no branch for a processor
-// to predict.
+// the first, and the first entry with the letter decides. So there is no branch that a processor has to predict.
 fn power_of(b: u8) -> i8
     ensures { λ r. ⌜ r ≡ powerIn scalings b ⌝ }
 {
@@ -482,8 +479,7 @@ fn lowering(x: Exponent) -> u64
     0
 }
 
-// The sum of a count of bytes, an exponent and a letter's power. The sum of the first two is capped, so that nothing
-// wraps.
+// A count of bytes plus an exponent, capped so that nothing wraps, plus the power of a letter.
 fn power(count: u64, size: u64, scale: u64) -> u64
     requires { ⌜ count < countCap ⌝ ∗ ⌜ size ≤ exponentCap ⌝ ∗ ⌜ scale ≤ 15 ⌝ }
     ensures { λ r. ⌜ r ≡ min (count + size) exponentCap + scale ⌝ }
@@ -936,8 +932,7 @@ fn not_short(from: usize) -> ShortNumber
     }
 }
 
-// The position after the byte at `at` if it is a letter, else `at`. So a unit of two letters is skipped without a
-// branch.
+// The position after the byte at `at` if it is a letter, else `at`: skips a unit of two letters without a branch.
 fn past_letter(s: &[u8], at: usize) -> usize
     requires { ⌜ at < length (now s) ⌝ }
     ensures { λ r. ⌜ r ≡ (if isLetter (getD (now (s .entry)) at 0) then at + 1 else at) ⌝ ∗ ⌜ r ≤ at + 1 ⌝ }

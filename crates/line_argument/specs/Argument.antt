@@ -63,8 +63,7 @@ isFileName s =
     both (ltb 0 (run isFileByte s))
     (both (eqb (getD s (run isFileByte s) 0) (code ".")) (isExtension (drop (run isFileByte s + 1) s)))
 
--- "Diagonal_matrix", "Banded_matrix", "Sparse_matrix", "Full_matrix", by their numbers in the table; 4 for any other
--- word
+-- "Diagonal_matrix", "Banded_matrix", "Sparse_matrix", "Full_matrix", by their numbers in the table; 4 for another word
 unfoldable pub formOf : List ℕ → ℕ
 formOf s =
     if same s (bytes "Diagonal_matrix") then 0 else
@@ -72,7 +71,7 @@ formOf s =
     if same s (bytes "Sparse_matrix") then 2 else
     if same s (bytes "Full_matrix") then 3 else 4
 
--- "[Derivation Method] Lumped or Distributed", by their numbers in the table; 2 for any other word
+-- "[Derivation Method] Lumped or Distributed", by their numbers in the table; 2 for another word
 unfoldable pub methodOf : List ℕ → ℕ
 methodOf s = if same s (bytes "Lumped") then 0 else if same s (bytes "Distributed") then 1 else 2
 

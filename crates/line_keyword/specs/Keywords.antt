@@ -132,8 +132,7 @@ isForkOpen s = both (eqb (s .place) place.path) (pathOpen (s .path))
 unfoldable pub isWrongInMatrix : ℕ → ℕ → Matrix → Bool
 isWrongInMatrix k value m = if eqb k row then isWrongRow value m else isWrongBandwidth m
 
--- in a matrix, [Row] and [Bandwidth] are judged by their order, any other keyword by the shape of the matrix that it
--- closes
+-- in a matrix, [Row] and [Bandwidth] are judged by their order, any other keyword by the matrix that it closes
 unfoldable pub isMatrixBroken : ℕ → List ℕ → State → Bool
 isMatrixBroken k argument s =
     if isRowOrBandwidth k

@@ -235,7 +235,7 @@ fn is_fork_open(s: State) -> bool
     line_path::path_open(path)
 }
 
-// Whether a [Row] or [Bandwidth] in a matrix is out of order, by its value.
+// Whether a [Row] of this value, or a [Bandwidth], is out of order in a matrix.
 fn is_wrong_in_matrix(key: u64, value: u64, m: Matrix) -> bool
     ensures { λ r. ⌜ r ≡ isWrongInMatrix key value m ⌝ }
 {
@@ -245,7 +245,7 @@ fn is_wrong_in_matrix(key: u64, value: u64, m: Matrix) -> bool
     line_matrix::is_wrong_bandwidth(m)
 }
 
-// The same, by its argument.
+// The same, with the value read from the argument.
 fn is_wrong_by(key: u64, argument: &[u8], m: Matrix) -> bool
     ensures { λ r. ⌜ r ≡ isWrongInMatrix key (wholeOf (now (argument .entry)) .value) m ⌝ }
 {
@@ -411,8 +411,7 @@ fn map_after(key: u64, m: Map) -> Map
     m
 }
 
-// The conductors of a section are those of the first matrix that is closed. A later matrix has as many, else it breaks
-// 16.
+// The conductors of a section are those of the first matrix that is closed; a later one has as many, else it is 16.
 fn conductors_after(key: u64, s: State) -> u64
     ensures { λ r. ⌜ r ≡ conductorsAfter key s ⌝ }
 {

@@ -108,8 +108,7 @@ mostPins = 4_096
 abbrev pub mostMapPins : ℕ
 mostMapPins = 256
 
--- "at least one pin, one a line": the name of the pin, perhaps the name of a signal, which is not read, and no third
--- word
+-- "at least one pin, one a line": the name of the pin, perhaps a signal name, which is not read, and no third word
 unfoldable pub isPinLine : List (List ℕ) → Bool
 isPinLine ws = ltb (length ws) 3
 

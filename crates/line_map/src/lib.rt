@@ -215,8 +215,8 @@ fn takes_no_size(m: Map, given: u64) -> bool
     true
 }
 
-// Whether Pin_list is out of order: "for the ordered two `Num_of_columns = c` and `Num_of_rows = r`, either first; then
-// `Pin_list`".
+// Whether Pin_list is out of order:
+// "for the ordered two `Num_of_columns = c` and `Num_of_rows = r`, either first; then `Pin_list`".
 fn takes_no_list(m: Map) -> bool
     ensures { λ r. ⌜ r ≡ either (eqb (m .order) 0) (both (isOrdered m) (either (eqb (m .rows) 0) (eqb (m .columns) 0))) ⌝ }
 {
@@ -333,8 +333,7 @@ pub fn pins_lack(m: Map) -> bool
     m.pins == 0
 }
 
-// "at most rows times columns pins": there are fewer if a corner is missing; more are 16 at the keyword that ends the
-// map.
+// "at most rows times columns pins", fewer if a corner is missing; more are 16 at the keyword that ends the map.
 pub fn is_wrong_grid(m: Map) -> bool
     requires { ⌜ BoundedMap m ⌝ }
     ensures { λ r. ⌜ r ≡ isWrongGrid m ⌝ }

@@ -1,5 +1,4 @@
--- Laws of matrices by which the code of this crate is proved: the premises of each law are what the code knows at that
--- point.
+-- Laws of matrices by which the code of this crate is proved: the premises of a law are what the code knows there.
 -- Assumes nothing.
 use mathlib.Core.Path.{_≡_, refl, sym, _∙_, ap}
 use mathlib.Core.Bool.{Bool, true, false, not}

@@ -51,8 +51,7 @@ pub struct Path {
     pub side: bool,
 }
 
-// One line of a path: what it says, whether its rest is right, and whether its number is well formed and within its
-// bounds.
+// One line of a path: what it says, whether its rest is right, and whether its number is well formed and in bounds.
 pub struct PathLine {
     pub says: u64,
     pub right: bool,

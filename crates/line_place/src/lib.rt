@@ -201,8 +201,8 @@ fn leads_in_section(key: u64) -> u64
     DEAD
 }
 
-// The keywords that do not end a matrix. Any other is "the first keyword after the matrix that is not [Row] or
-// [Bandwidth]".
+// The keywords that do not end a matrix; any other is
+// "the first keyword after the matrix that is not [Row] or [Bandwidth]".
 pub fn is_row_or_bandwidth(key: u64) -> bool
     ensures { λ r. ⌜ r ≡ isRowOrBandwidth key ⌝ }
 {

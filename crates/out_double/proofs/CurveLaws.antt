@@ -1,6 +1,5 @@
--- What request 11 promises of the doubles that are drawn: the exact number rounded once; the number itself if it is
--- whole and below two to the 53; its sign; plus zero for zero; never a NaN; bits that determine the double; and nothing
--- outside the span.
+-- What request 11 promises of the doubles that are drawn: the exact number rounded once; the number itself if it is whole and
+-- below two to the 53; its sign; plus zero for zero; never a NaN; bits that determine the double; and nothing outside the span.
 -- Assumes nothing.
 use mathlib.Core.Path.{_≡_, refl, sym, ap, _∙_, subst}
 use mathlib.Core.Bool.{Bool, true, false, not}

@@ -1,5 +1,4 @@
--- Words of hosts/vectors/doubles.txt, whose bits were computed apart from this project. The definition computes the
--- same.
+-- Words of hosts/vectors/doubles.txt, whose bits were computed apart from this project. The definition computes the same.
 -- Assumes nothing.
 use mathlib.Core.Path.{_≡_, refl}
 use mathlib.Core.List.{List, [], _∷_, map}

@@ -1,5 +1,4 @@
--- Request 11, "Curves in the browser": the double of a value word, and the doubles of a pair of a frequency and a
--- value.
+-- Request 11, "Curves in the browser": the double of a value word, and the doubles of a pair of a frequency and a value.
 -- Assumes nothing.
 use Prim.Native.Nat.{ℕ, _+_, _-_, _^_}
 use mathlib.Core.Bool.{Bool}
@@ -24,8 +23,8 @@ span = 22
 unfoldable pub asDouble : ℕ → Float
 asDouble n = ofInt binary64 (pos n)
 
--- "one multiplication by, or one division by, the exact power of ten, m itself being exact": `size` is m without its
--- sign, `shifted` is k + 64
+-- "one multiplication by, or one division by, the exact power of ten, m itself being exact": `size` is m
+-- without its sign, `shifted` is k + 64
 unfoldable pub scaled : ℕ → ℕ → Float
 scaled size shifted =
     if ltb shifted 64

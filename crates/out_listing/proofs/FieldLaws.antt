@@ -1,5 +1,4 @@
--- Laws of a table's words by its view: the words of a record that the view has lie inside the table, and reading there
--- gives the field.
+-- Laws of a table's words by its view: the words of a record that the view has lie inside the table, and reading there gives the field.
 -- Assumes nothing.
 use mathlib.Core.Path.{_≡_, refl, sym, _∙_, ap}
 use mathlib.Core.Bool.{true, false}

@@ -1,5 +1,5 @@
--- Laws of what is written into lent room: writing one piece after another writes the pieces joined; and the invariant
--- of a loop that writes.
+-- Laws of what is written into lent room: writing one piece after another writes the pieces joined; and the
+-- invariant of a loop that writes.
 -- Assumes nothing.
 use mathlib.Core.Path.{_≡_, refl, sym, _∙_, ap}
 use mathlib.Core.Bool.{true, false}

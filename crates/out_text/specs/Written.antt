@@ -1,6 +1,5 @@
--- What a printing function leaves in lent room. It writes `bytes` from offset `at` on and returns the next offset. What
--- is past the end is dropped, and the next offset is then the end. `sets` drops it too: it stores nothing past the end
--- of a list.
+-- What a printing function leaves in lent room. It writes `bytes` from offset `at` on and returns the next offset. What is past
+-- the end is dropped, and the next offset is then the end. `sets` drops it too: it stores nothing past the end of a list.
 -- Assumes nothing.
 use Prim.Native.Nat.{ℕ, _+_, min}
 use mathlib.Core.Path.{_≡_}

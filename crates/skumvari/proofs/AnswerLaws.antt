@@ -1,5 +1,4 @@
--- Laws of the answers to hosts: lent words that are too few are left unchanged, and the words of each case are those of
--- the layout.
+-- Laws of the answers to hosts: lent words that are too few are left unchanged, and the words of each case are those of the layout.
 -- Assumes nothing.
 use mathlib.Core.Path.{_≡_, refl, sym, _∙_, ap}
 use mathlib.Core.Bool.{true, false, not}

@@ -1,5 +1,4 @@
--- A table of `mostWords` words or more is long enough for every text: the verdict is the same as for `mostWords` words,
--- and never 18.
+-- A table of `mostWords` words or more is long enough for every text: the verdict is the same as for `mostWords` words, and never 18.
 -- Assumes nothing.
 use mathlib.Core.Path.{_≡_, refl, sym, _∙_, ap}
 use mathlib.Core.List.{List}

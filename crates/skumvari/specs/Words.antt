@@ -1,6 +1,5 @@
--- The layout of an answer in the words that a host lends: this is the one place where it is written down. A truth value
--- is 1 or 0. The rest are the paper's words, as `answerWords`, `entryWords`, `walkWords` and `wholeWords` give them for
--- each case.
+-- The layout of an answer in the words that a host lends: this is the one place where it is written down. A truth value is 1
+-- or 0. The rest are the paper's words, as `answerWords`, `entryWords`, `walkWords` and `wholeWords` give them for each case.
 -- Assumes nothing.
 use Prim.Native.Nat.{ℕ}
 use mathlib.Core.Bool.{Bool}
@@ -63,8 +62,8 @@ isRoom many lent = leb many (length lent)
 unfoldable pub answered : List ℕ → List ℕ → List ℕ
 answered words lent = if isRoom (length words) lent then sets lent 0 words else lent
 
--- the lent table after the intake. If there are too few words for an answer, the intake counts as refused: "A refused
--- intake zeroes the table"
+-- the lent table after the intake. If there are too few words for an answer, the intake counts as refused: "A
+-- refused intake zeroes the table"
 unfoldable pub tableAfter : List ℕ → List ℕ → List ℕ → List ℕ
 tableAfter answer taken table = if isRoom 4 answer then taken else replicate (length table) 0
 

@@ -21,8 +21,7 @@ use out_double::DrawnPair;
 
 const TABLE_WORDS: usize = 237_319;
 
-// How many words an answer has: that of the intake, an entry, a whole matrix or a double; that of a pair of doubles;
-// that of a walk.
+// How many words an answer has: that of the intake, an entry, a whole matrix or a double; that of a pair of doubles; that of a walk.
 const ANSWER_WORDS: usize = 4;
 
 const PAIR_WORDS: usize = 5;

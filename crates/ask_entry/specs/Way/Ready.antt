@@ -1,5 +1,4 @@
--- What a question knows of its table once it is found sound, so that the table need not be judged again for every
--- entry.
+-- What a question knows of its table once it is found sound, so that the table need not be judged again for every entry.
 -- Assumes nothing.
 use Prim.Native.Nat.{ℕ, _+_, _*_, _≤_}
 use mathlib.Core.Path.{_≡_}

@@ -1,5 +1,4 @@
--- Where the records of a table are, by its view: each record by the word where it begins, each part by those of its
--- records.
+-- Where the records of a table are, by its view: each record by the word where it begins, each part by those of its records.
 -- Assumes nothing.
 use Prim.Native.Nat.{ℕ, zero, suc, _+_, _-_, _*_, _≤_, _<_}
 use mathlib.Core.Path.{_≡_}

@@ -6,27 +6,21 @@ use Rattle.base.proofs.eight_at.Reads as reads
 use Rattle.base.proofs.eight_at.Lts as lts
 use Rattle.base.proofs.four_at.Reads as four-at-reads
 
--- src/lib.rt:175:5
 four-at-requires : tie.Need-four-at-requires
 four-at-requires c κs = search needs
 
--- src/lib.rt:175:49
 add-four-at : tie.Need-add-four-at
 add-four-at c = search needs
 
--- src/lib.rt:175:38
 four-at-requires-2 : tie.Need-four-at-requires-2
 four-at-requires-2 c κs = search needs
 
--- src/lib.rt:175:22
 mul-result : tie.Need-mul-result
 mul-result c = search needs
 
--- src/lib.rt:175:5
 add-result : tie.Need-add-result
 add-result c = search needs
 
--- src/lib.rt:171:1
 returns : tie.Need-returns
 returns c = search eight-joined
 

@@ -6,75 +6,57 @@ use Rattle.base.proofs.four_at.Reads as reads
 use Rattle.base.proofs.four_at.Lts as lts
 use Rattle.base.proofs.wide.Reads as wide-reads
 
--- src/lib.rt:165:20
 shared-slice-read-wide : tie.Need-shared-slice-read-wide
 shared-slice-read-wide c = search needs
 
--- src/lib.rt:165:15
 wide-requires : tie.Need-wide-requires
 wide-requires c κs = search needs
 
--- src/lib.rt:165:42
 add-wide : tie.Need-add-wide
 add-wide c = search needs
 
--- src/lib.rt:165:40
 shared-slice-read-wide-2 : tie.Need-shared-slice-read-wide-2
 shared-slice-read-wide-2 c = search needs
 
--- src/lib.rt:165:35
 wide-requires-2 : tie.Need-wide-requires-2
 wide-requires-2 c κs = search needs
 
--- src/lib.rt:165:29
 mul-low : tie.Need-mul-low
 mul-low c = search needs
 
--- src/lib.rt:165:15
 add-low : tie.Need-add-low
 add-low c = search needs
 
--- src/lib.rt:166:23
 add-wide-2 : tie.Need-add-wide-2
 add-wide-2 c = search needs
 
--- src/lib.rt:166:21
 shared-slice-read-wide-3 : tie.Need-shared-slice-read-wide-3
 shared-slice-read-wide-3 c = search needs
 
--- src/lib.rt:166:16
 wide-requires-3 : tie.Need-wide-requires-3
 wide-requires-3 c κs = search needs
 
--- src/lib.rt:166:47
 add-wide-3 : tie.Need-add-wide-3
 add-wide-3 c = search needs
 
--- src/lib.rt:166:45
 shared-slice-read-wide-4 : tie.Need-shared-slice-read-wide-4
 shared-slice-read-wide-4 c = search needs
 
--- src/lib.rt:166:40
 wide-requires-4 : tie.Need-wide-requires-4
 wide-requires-4 c κs = search needs
 
--- src/lib.rt:166:34
 mul-high : tie.Need-mul-high
 mul-high c = search needs
 
--- src/lib.rt:166:16
 add-high : tie.Need-add-high
 add-high c = search needs
 
--- src/lib.rt:167:11
 mul-result : tie.Need-mul-result
 mul-result c = search needs
 
--- src/lib.rt:167:5
 add-result : tie.Need-add-result
 add-result c = search needs
 
--- src/lib.rt:161:1
 returns : tie.Need-returns
 returns c = (search four-joined, search needs)
 

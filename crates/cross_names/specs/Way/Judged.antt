@@ -1,5 +1,4 @@
--- The rule that a list line breaks, by the model that its name finds in the table and the flags that earlier lines have
--- set.
+-- The rule that a list line breaks, by the model that its name finds in the table and the flags that earlier lines have set.
 -- Assumes nothing.
 use Prim.Native.Nat.{ℕ, _+_, _*_, _≤_}
 use mathlib.Core.Path.{_≡_}

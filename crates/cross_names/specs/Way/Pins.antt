@@ -1,5 +1,4 @@
--- "19 TWICE: second of one name within .. maps .. or one map's pins", by the words of the table: the findings of one
--- map's pins.
+-- "19 TWICE: second of one name within .. maps .. or one map's pins", by the words of the table: the findings of one map's pins.
 -- Assumes nothing.
 use Prim.Native.Nat.{ℕ, zero, suc, _+_, _*_, _≤_}
 use mathlib.Core.Bool.{Bool}

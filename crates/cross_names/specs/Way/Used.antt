@@ -1,5 +1,4 @@
--- "27 UNUSED: section no step uses", by the records of the steps: the target of a Section step is the first section of
--- its name.
+-- "27 UNUSED: section no step uses", by the records of the steps: the target of a Section step is the first section of its name.
 -- Assumes nothing.
 use Prim.Native.Nat.{ℕ, _<_}
 use mathlib.Core.Path.{_≡_}

@@ -11,8 +11,8 @@ use Rattle.line_place.specs.Place as place
 use Rattle.table_layout.specs.Layout.{models, maps, sections}
 use Rattle.doc.specs.Lines.{Line, plain, keyOf}
 
--- whether a line with this keyword, read in this place, writes a record of the part: the opening line of a model, map
--- or section, or a pin line
+-- whether a line with this keyword, read in this place, writes a record of the part: the opening line of a
+-- model, map or section, or a pin line
 unfoldable pub writesAt : ℕ → ℕ → ℕ → Bool
 writesAt part p key =
     if eqb part models then both (isInFamily p) (eqb key beginIcmModel) else

@@ -1,6 +1,5 @@
 -- Marks for the Sides of ends. Each end of a model, once it is judged, sets a mark made of its map and the bytes of its
--- Side. An end whose mark is not set has another Side than all marked ends of its map and need not be compared with
--- them.
+-- Side. An end whose mark is not set has another Side than all marked ends of its map and need not be compared with them.
 -- Assumes nothing.
 use Prim.Native.Nat.{ℕ, _+_, _*_, _≤_, _<_}
 use mathlib.Core.Path.{_≡_}

@@ -1,4 +1,4 @@
--- `lex_keyword::word_end` meets its contract. The loop's invariant: from the place it has come to the word ends where it ends from the start.
+-- `lex_keyword::word_end` meets its contract. The loop's invariant: from the present position the word has the same end.
 -- Assumes nothing.
 use borrow.Author.Needs.{needs}
 use mathlib.Core.Path.{_≡_}

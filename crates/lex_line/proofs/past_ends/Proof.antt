@@ -1,4 +1,5 @@
--- `lex_line::past_ends` meets its contract. The loop's invariant: the last block in which a line ends, and blocks behind it in which none does.
+-- `lex_line::past_ends` meets its contract. The loop's invariant: the last block in which a line ends, and the blocks
+-- after it, in which none does.
 -- Assumes nothing.
 use borrow.Author.Needs.{needs}
 use Prim.Native.Nat.{_-_, _≤_}

@@ -1,4 +1,4 @@
--- `lex_line::skip_back` meets its contract. The loop's invariant: from the place it has come to the run starts where it starts from the end.
+-- `lex_line::skip_back` meets its contract. The loop's invariant: from the present position the run has the same start.
 -- Assumes nothing.
 use borrow.Author.Needs.{needs}
 use mathlib.Core.Path.{_≡_}

@@ -1,4 +1,5 @@
--- `lex_line::skip_content` meets its contract. The loop's invariant: from the place it has come to the content ends where it ends from the start.
+-- `lex_line::skip_content` meets its contract. The loop's invariant: from the present position the content has the same
+-- end.
 -- Assumes nothing.
 use borrow.Author.Needs.{needs}
 use mathlib.Core.Path.{_≡_}

@@ -1,5 +1,4 @@
--- Many lines checked at once: how many LFs some bytes have, and how lines that break none of the rules 2 to 4 are
--- skipped.
+-- Many lines checked at once: how many LFs some bytes have, and skipping lines that break none of the rules 2 to 4.
 -- Assumes nothing.
 use Prim.Native.Nat.{ℕ, _+_, _≤_}
 use mathlib.Core.Path.{_≡_}

@@ -1,5 +1,4 @@
--- Where a line of a text ends, as code finds it: the end of its content, its terminator, and the start of the next
--- line.
+-- Where a line ends, as code finds it: the end of its content, its terminator, and the start of the next line.
 -- Assumes nothing.
 use Prim.Native.Nat.{ℕ, _+_}
 use mathlib.Core.List.{List}

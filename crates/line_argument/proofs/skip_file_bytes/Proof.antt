@@ -1,4 +1,5 @@
--- `line_argument::skip_file_bytes` meets its contract. The loop's invariant: from the place it has come to the run ends where it ends from the start.
+-- `line_argument::skip_file_bytes` meets its contract. The loop's invariant: from the present position the run has the
+-- same end.
 -- Assumes nothing.
 use borrow.Author.Needs.{needs}
 use mathlib.Core.Path.{_≡_}

@@ -1,5 +1,4 @@
--- The usual forms of lines of a path: `Section Mult=n name` with one blank between its words, `Fork` and `Endfork`
--- alone.
+-- The usual forms of lines in a path: `Section Mult=n name` with single blanks, and `Fork` and `Endfork` alone.
 -- Assumes nothing.
 use Prim.Native.Nat.{ℕ, _+_, _-_, _≤_, _<_}
 use mathlib.Core.Path.{_≡_}

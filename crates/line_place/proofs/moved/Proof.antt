@@ -1,5 +1,5 @@
--- `line_place::moved` meets its contract: each `return` by the places it was compared with. The later ones have many tests behind them, which
--- is why their search counts further. Assumes nothing.
+-- `line_place::moved` meets its contract: each `return` by the places it was compared with. Many tests come before the
+-- later returns, which is why their search counts further. Assumes nothing.
 use Rattle.base.proofs.IfLaws.{chain}
 use Rattle.line_place.specs.Place.{moved}
 use borrow.Author.Needs.{needs}

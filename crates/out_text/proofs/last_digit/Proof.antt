@@ -5,15 +5,12 @@ use borrow.Author.Needs.{needs}
 use Rattle.out_text.proofs.last_digit.Statement.{statement}
 use Rattle.out_text.proofs.last_digit.Tie as tie
 
--- src/lib.rt:63:12
 cast-result : tie.Need-cast-result
 cast-result c = search needs
 
--- src/lib.rt:63:5
 add-result : tie.Need-add-result
 add-result c = search needs
 
--- src/lib.rt:60:1
 returns : tie.Need-returns
 unfolding lastDigit
 returns c = search needs

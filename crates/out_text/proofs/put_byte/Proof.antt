@@ -5,23 +5,18 @@ use borrow.Author.Needs.{needs}
 use Rattle.out_text.proofs.put_byte.Statement.{statement}
 use Rattle.out_text.proofs.put_byte.Tie as tie
 
--- src/lib.rt:30:9
 returns : tie.Need-returns
 returns c = search byte-dropped
 
--- src/lib.rt:32:5
 slice-write-out : tie.Need-slice-write-out
 slice-write-out c = search needs
 
--- src/lib.rt:33:5
 add-result : tie.Need-add-result
 add-result c = search needs
 
--- src/lib.rt:26:1
 same-length : tie.Need-same-length
 same-length c = search needs
 
--- src/lib.rt:26:1
 returns-2 : tie.Need-returns-2
 returns-2 c = search needs
 

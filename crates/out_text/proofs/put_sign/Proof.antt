@@ -5,23 +5,18 @@ use borrow.Author.Needs.{needs}
 use Rattle.out_text.proofs.put_sign.Statement.{statement}
 use Rattle.out_text.proofs.put_sign.Tie as tie
 
--- src/lib.rt:96:9
 put-byte-requires : tie.Need-put-byte-requires
 put-byte-requires c κs = search needs
 
--- src/lib.rt:96:9
 same-length : tie.Need-same-length
 same-length c = search needs
 
--- src/lib.rt:96:9
 returns : tie.Need-returns
 returns c = search sign-written
 
--- src/lib.rt:98:5
 lesser-requires : tie.Need-lesser-requires
 lesser-requires c κs = search needs
 
--- src/lib.rt:92:1
 returns-2 : tie.Need-returns-2
 returns-2 c = search sign-none
 

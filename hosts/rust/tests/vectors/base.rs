@@ -24,7 +24,7 @@ fn file(name: &str) -> Vec<u8> {
 }
 
 pub fn answers_rooms_hashes_and_listings<R: Reading>() {
-    assert_prints("vectors", |line| {
+    assert_prints("test_vectors", |line| {
         let (file_name, asked) = line.split_once(' ').unwrap_or((line, ""));
         let name = file_name.strip_suffix(".icm").expect("a file's name");
         let text = file(file_name);
@@ -46,7 +46,7 @@ pub fn answers_rooms_hashes_and_listings<R: Reading>() {
 
 /// A value word is 256 m + 2 (k + 64) + s.
 pub fn numbers<R: Reading>() {
-    assert_prints("numbers", |word| match R::number(word) {
+    assert_prints("test_numbers", |word| match R::number(word) {
         Ok(value) => {
             let sign = if value % 2 == 1 { "-" } else { "" };
             format!("{word} {sign}{} {}\n", value / 256, (value % 256 / 2) as i64 - 64)
