@@ -1,8 +1,6 @@
 -- `line_path::usual_line` meets its contract: the amount and the name stand where the form has them.
 -- Assumes nothing.
 use native.Mathlib.Omega.{arith}
--- `line_path::usual_line` meets its contract: the amount and the name stand where the form has them.
--- Assumes nothing.
 use Rattle.line_path.proofs.UsualLaws.{usual-reserved, usual-kept, usual-within, usual-above}
 use borrow.Author.Needs.{needs}
 use Rattle.line_path.proofs.usual_line.Statement.{statement}
