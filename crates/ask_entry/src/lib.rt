@@ -195,7 +195,7 @@ pub fn entry(text: &[u8], table: &[u64], section: u64, kind: u64, row: u64, colu
     Answer::Found(entry_in(table, view, index, row, column))
 }
 
-// ---- A section's whole matrix of a kind, row by row, into lent room for N times N words. The table is judged once.
+// ---- a whole matrix, row by row, into lent room for N times N words; the table is judged once
 
 // Found, with N; or N, if the room is too short; or the rule of a refusal.
 pub enum Whole {

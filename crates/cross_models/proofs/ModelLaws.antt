@@ -41,7 +41,7 @@ use Rattle.cross_rules.proofs.RisingLaws.{each-at}
 use Rattle.cross_rules.proofs.OrderLaws.{in-order}
 use Rattle.cross_rules.proofs.TwiceLaws.{model-twice}
 use Rattle.cross_rules.proofs.TableLaws.{view-holds, part-stands, part-many}
-use Rattle.cross_rules.specs.Way.Twice.{nameIn, hasAbove}
+use Rattle.cross_rules.specs.Way.Repeated.{nameIn, hasAbove}
 use Rattle.cross_names.specs.Way.Listed.{modelNamed, isListed, Listed}
 use Rattle.cross_names.proofs.NamedLaws.{same-turned, any-by, texts, first-has, first as firstNamed}
 use Rattle.cross_steps.specs.Way.StepWords.{firstTarget}

@@ -30,7 +30,7 @@ use Rattle.cross_rules.proofs.TableLaws.{view-holds}
 use Rattle.cross_names.specs.Way.Listed.{Listed}
 use Rattle.cross_names.proofs.NamedLaws.{models-many}
 use Rattle.cross_steps.specs.Way.StepWords.{StepRooms, stepRuleAt}
-use Rattle.table_name.specs.Way.Marks.{marksMany}
+use Rattle.table_name.specs.Way.Hash.{marksMany}
 use Rattle.cross_steps.specs.Way.Marks.{MarkedEnds, Below, Judged}
 use Rattle.cross_steps.specs.declared.Owner.{Owner}
 use Rattle.cross_steps.proofs.MarkLaws.{marked-starts}

@@ -24,7 +24,7 @@ use Rattle.cross_rules.proofs.KindLaws.{first-here, first-later}
 use Rattle.cross_rules.proofs.NthLaws.{model-line}
 use Rattle.cross_names.specs.Way.Listed.{Listed}
 use Rattle.cross_names.proofs.NamedLaws.{models-many}
-use Rattle.table_name.specs.Way.Marks.{marksMany}
+use Rattle.table_name.specs.Way.Hash.{marksMany}
 use Rattle.cross_models.specs.Way.Cursor.{Cursor}
 use Rattle.cross_models.specs.Way.Models.{ModelRoom, modelRuleAt, belowFirst, Awaits, StepsTold}
 use Rattle.cross_models.specs.declared.StepsFinding.{StepsFinding}

@@ -11,7 +11,7 @@ ghost use Rattle.cross_rules.specs.Rules.{modelFindings};
 ghost use Rattle.cross_rules.specs.Way.First.{firstIn};
 ghost use Rattle.cross_rules.specs.Way.HoldsText.{HoldsText};
 ghost use Rattle.cross_names.specs.Way.Listed.{Listed};
-ghost use Rattle.table_name.specs.Way.Marks.{marksMany};
+ghost use Rattle.table_name.specs.Way.Hash.{marksMany};
 ghost use Rattle.cross_models.specs.Way.Cursor.{Cursor, Seeks, PastMult, Tells, TellsStep};
 ghost use Rattle.cross_models.specs.Way.Models.{ModelRoom, ownerAt, modelRuleAt, Awaits, StepsTold};
 use cross_rules::Finding;

@@ -22,9 +22,9 @@ use Rattle.table_layout.proofs.PartLaws.{Viewed}
 use Rattle.doc.specs.Lines.{Line, wordsOf, firstWord}
 use Rattle.doc.specs.Document.{Named, Model, Document, documentOf}
 use Rattle.doc.specs.Records.{indexOf, modelRecord, modelRecords, modelWords, flatten, partsOf}
-use Rattle.doc.specs.Way.Found.{contentIn, lineIn, Located, markOf}
+use Rattle.doc.specs.Way.Found.{contentIn, lineIn, Located, extentOf}
 use Rattle.doc.specs.declared.Found.{Found}
-use Rattle.doc.specs.declared.Mark.{Mark}
+use Rattle.doc.specs.declared.Extent.{Extent}
 use Rattle.doc.specs.Holds.{Each}
 use Rattle.doc.specs.Way.Holds.{Stands}
 use Rattle.doc.specs.Holds.Each.{none, more}
@@ -181,13 +181,13 @@ module _ (t : List ℕ) (line : Found) (located : Located t line) where
 
   -- the search of the table for the first word of the line
   pub found-first :
-      (table : List ℕ) (v : View) (mark : Mark) → mark ≡ markOf (firstWord (wordsFrom (line .at) (contentIn t line))) →
+      (table : List ℕ) (v : View) (mark : Extent) → mark ≡ extentOf (firstWord (wordsFrom (line .at) (contentIn t line))) →
       (name : List ℕ) → name ≡ nameAt t (mark .start) (mark .size) →
       (r : ℕ) → r ≡ findIn t table (getD (v .bases) models 0) 5 (getD (v .counts) models 0) name 0 → r ≡ modelFound t table v line
-  unfolding markOf nameAt modelFound wordsOf
+  unfolding extentOf nameAt modelFound wordsOf
   found-first table v mark e name told r is =
       let n : name ≡ firstWord (wordsOf (lineIn t line 0)) .text =
-      told ∙ ap (λ (m : Mark). take (m .size) (drop (m .start) t)) e ∙ first-word-stands t (lineIn t line 0) line-stands .bytes in
+      told ∙ ap (λ (m : Extent). take (m .size) (drop (m .start) t)) e ∙ first-word-stands t (lineIn t line 0) line-stands .bytes in
       is ∙ ap (λ (s : List ℕ). findIn t table (getD (v .bases) models 0) 5 (getD (v .counts) models 0) s 0) n
 
 -- ---- the rule that it breaks

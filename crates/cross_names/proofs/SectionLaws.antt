@@ -33,7 +33,7 @@ use Rattle.cross_rules.proofs.OrderLaws.{in-order}
 use Rattle.cross_rules.proofs.TwiceLaws.{section-twice}
 use Rattle.cross_rules.proofs.KindLaws.{first-here, first-later}
 use Rattle.cross_rules.proofs.NthLaws.{section-line}
-use Rattle.cross_rules.specs.Way.Twice.{nameIn, hasAbove}
+use Rattle.cross_rules.specs.Way.Repeated.{nameIn, hasAbove}
 use Rattle.cross_rules.proofs.NamesLaws.{above-told, section-names, take-map, chopped-first, chopped-word}
 use Rattle.cross_names.specs.Way.Used.{pointsAt, usedIn, Flags, ruleOf}
 

@@ -28,7 +28,7 @@ use Rattle.cross_rules.proofs.OrderLaws.{in-order}
 use Rattle.cross_rules.proofs.TwiceLaws.{map-twice, pin-twice}
 use Rattle.cross_rules.proofs.TableLaws.{view-holds, part-stands, part-many}
 use Rattle.cross_rules.proofs.NthLaws.{map-line, pin-line}
-use Rattle.cross_rules.specs.Way.Twice.{nameIn, hasAbove}
+use Rattle.cross_rules.specs.Way.Repeated.{nameIn, hasAbove}
 use Rattle.cross_rules.proofs.NamesLaws.{above-told, map-names, pin-names, take-map, chopped-first, chopped-word}
 use Rattle.cross_names.specs.Way.Pins.{twiceAt, pinAt, pinsFrom, firstPin, manyPins, MapRoom, pinsOfMap}
 

@@ -44,7 +44,7 @@ pub struct Judged {
 }
 
 // Whether a line belongs to the model list.
-fn stands_in_list(place: u64, key: u64) -> bool
+fn is_list_line(place: u64, key: u64) -> bool
     ensures { λ r. ⌜ r ≡ both (eqb place list) (eqb key plain) ⌝ }
 {
     if place != line_place::LIST {
@@ -64,7 +64,7 @@ fn opens_model(place: u64, key: u64) -> bool
 }
 
 // The next line that matters for the list: inside the list any line, elsewhere only a line with a keyword.
-fn next_told(text: &[u8], at: usize, line: u64, place: u64) -> Found
+fn next_list_line(text: &[u8], at: usize, line: u64, place: u64) -> Found
     requires { ⌜ (at ≤ length (now text)) × (line ≤ at + 1) ⌝ }
     ensures { λ r. ⌜ FindsListed (now (text .entry)) line at place r ⌝ }
 {
@@ -83,7 +83,7 @@ fn model_found(text: &[u8], table: &[u64], view: View, line: Found) -> u64
     let counts = view.counts;
     let at = line.at;
     let end = line.end;
-    let mark = doc::first_mark(&text[at..end], at);
+    let mark = doc::first_extent(&text[at..end], at);
     let name = table_name::name_at(text, mark.start as u64, mark.size as u64);
     table_name::find_name(
         text,
@@ -128,7 +128,7 @@ fn judge_line(
     requires { ⌜ ModelsIn (now table) view × Located (now text) line ⌝ }
     ensures { λ r. ⌜ r ≡ lineJudged (now (text .entry)) (now (table .entry)) view place line listed ⌝ }
 {
-    if !stands_in_list(place, line.key) {
+    if !is_list_line(place, line.key) {
         return Judged {
             rule: 0,
             slot: NO_MODEL,
@@ -147,7 +147,7 @@ pub fn list_finding(text: &[u8], table: &[u64], view: View) -> ListFinding
     let mut line_here = 1;
     let mut place = line_place::BEFORE;
     loop {
-        let line = next_told(text, at, line_here, place);
+        let line = next_list_line(text, at, line_here, place);
         if !line.there {
             return ListFinding {
                 rule: 0,

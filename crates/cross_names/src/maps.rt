@@ -3,7 +3,7 @@ ghost use mathlib.Core.Path.{_≡_};
 ghost use Prim.Native.Nat.{_+_, _*_, _≤_};
 ghost use lib.ListN.{length};
 ghost use Rattle.doc.specs.Document.{documentOf};
-ghost use Rattle.table_name.specs.Way.Marks.{marksMany};
+ghost use Rattle.table_name.specs.Way.Hash.{marksMany};
 ghost use Rattle.table_layout.specs.View.{viewOf};
 ghost use Rattle.cross_rules.specs.Rules.{mapFindings};
 ghost use Rattle.cross_rules.specs.Way.First.{firstIn};

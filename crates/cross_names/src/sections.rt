@@ -10,7 +10,7 @@ ghost use Rattle.table_layout.specs.View.{viewOf};
 ghost use Rattle.cross_rules.specs.Rules.{sectionFindings};
 ghost use Rattle.cross_rules.specs.Way.First.{firstIn};
 ghost use Rattle.cross_rules.specs.Way.HoldsText.{HoldsText};
-ghost use Rattle.cross_rules.specs.Way.Twice.{hasAbove};
+ghost use Rattle.cross_rules.specs.Way.Repeated.{hasAbove};
 ghost use Rattle.cross_names.specs.Way.Used.{Flags, slotOf, ruleOf};
 use cross_rules::Finding;
 use table_layout::View;

@@ -15,10 +15,10 @@ use Rattle.base.proofs.IfLaws.{by-cases, either-false}
 use Rattle.base.proofs.RunLaws.{same-equal}
 use Rattle.table_layout.specs.Layout.{chopped}
 use Rattle.table_name.specs.Name.{nameAt}
-use Rattle.table_name.specs.Way.Marks.{marksMany, hashOf}
+use Rattle.table_name.specs.Way.Hash.{marksMany, hashOf}
 use Rattle.table_name.proofs.MarkLaws.{of-inside}
 use Rattle.cross_rules.specs.Rules.{any}
-use Rattle.cross_rules.specs.Way.Twice.{nameIn, hasAbove, ownName, ownMark, MarkedNames}
+use Rattle.cross_rules.specs.Way.Repeated.{nameIn, hasAbove, ownName, ownMark, MarkedNames}
 
 -- the name of the first record
 first-name : (t table : List ℕ) (base width : ℕ) → 2 ≤ width → nameIn t (take width (drop base table)) ≡ ownName t table base

@@ -23,7 +23,7 @@ use Rattle.doc.specs.Holds.Each.{none, more}
 use Rattle.doc.proofs.StandsLaws.{ModelStands, MapStands}
 use Rattle.table_name.specs.Name.{nameAt}
 use Rattle.cross_rules.specs.Rules.{any, sameWord, isThere, modelName, mapName, sectionName}
-use Rattle.cross_rules.specs.Way.Twice.{nameIn, hasAbove}
+use Rattle.cross_rules.specs.Way.Repeated.{nameIn, hasAbove}
 
 -- ---- sameness is symmetric
 

@@ -17,7 +17,7 @@ use Rattle.doc.specs.Records.{indexOf}
 use Rattle.table_name.specs.Name.{nameAt}
 use Rattle.table_name.specs.Way.Search.{isNamed, findIn}
 use Rattle.cross_rules.specs.Rules.{any}
-use Rattle.cross_rules.specs.Way.Twice.{nameIn, hasAbove}
+use Rattle.cross_rules.specs.Way.Repeated.{nameIn, hasAbove}
 
 -- `indexOf` is below the length exactly if some element passes the test
 found-any : {A : Type 0} (test : A → Bool) (xs : List A) → ltb (indexOf test xs) (length xs) ≡ any test xs

@@ -1,4 +1,4 @@
 pub mod HoldsText
 pub mod Nth
-pub mod Twice
+pub mod Repeated
 pub mod First

@@ -8,7 +8,7 @@ ghost use Rattle.cross_rules.specs.Way.Nth.{writesAt, nthLine};
 ghost use lib.ListN.{length, getD, drop};
 ghost use Rattle.table_layout.specs.Layout.{chopped};
 ghost use Rattle.table_name.specs.Name.{nameAt};
-ghost use Rattle.cross_rules.specs.Way.Twice.{hasAbove, MarkedNames};
+ghost use Rattle.cross_rules.specs.Way.Repeated.{hasAbove, MarkedNames};
 
 // A line, and the rule of 19 to 27 that it breaks; rule 0 if it breaks none.
 pub struct Finding {
@@ -38,7 +38,7 @@ fn writes_at(part: usize, place: u64, key: u64) -> bool
         }
         return key == lex_keyword::BEGIN_ICM_SECTION;
     }
-    if place != line_place::PINS {
+    if place != line_place::PIN_LIST {
         return false;
     }
     key == doc::PLAIN
@@ -91,7 +91,7 @@ pub fn nth_line(text: &[u8], part: usize, index: u64) -> u64
     }
 }
 
-// ---- Names that occur twice among the records of a part.
+// ---- names that occur twice among the records of a part
 
 // Whether a record before record `index` has the same name. Records of `width` words begin at word `base`.
 pub fn is_repeated_name(text: &[u8], table: &[u64], base: usize, width: usize, index: u64) -> bool

@@ -15,7 +15,7 @@ use Rattle.base.proofs.RunLaws.{same-equal}
 use Rattle.doc.specs.Document.{endKind}
 use Rattle.table_name.specs.Name.{nameAt}
 use Rattle.cross_steps.specs.Way.StepWords.{sideAt, clashAt, meetsAt, meetsAbove}
-use Rattle.table_name.specs.Way.Marks.{marksMany, hashOf}
+use Rattle.table_name.specs.Way.Hash.{marksMany, hashOf}
 use Rattle.table_name.proofs.MarkLaws.{of-inside}
 use Rattle.cross_steps.specs.Way.Marks.{markAt, isMarked, MarkedEnds, Below}
 use Rattle.cross_steps.specs.declared.Owner.{Owner}

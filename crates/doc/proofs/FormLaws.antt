@@ -20,7 +20,7 @@ use Rattle.lex_number.specs.declared.Number.the-variants as number
 use Rattle.lex_number.proofs.NumberLaws.{number-word}
 use Rattle.lex_keyword.specs.Names.{row, bandwidth}
 use Rattle.line_matrix.specs.declared.Matrix.{Matrix}
-use Rattle.line_matrix.specs.Matrix.{diagonal, banded, sparse, withBandwidth, stillFits, withRow, toldBy, areFormed, areBounded, withColumn}
+use Rattle.line_matrix.specs.Matrix.{diagonal, banded, sparse, withBandwidth, stillFits, withRow, numberCheck, areFormed, areBounded, withColumn}
 use Rattle.doc.specs.Lines.{Line, plain, keyOf}
 use Rattle.doc.specs.Document.{
   Value,
@@ -62,8 +62,8 @@ told-word w number.Malformed e f b = absurd (true≢false (sym f))
 told-word w number.Range e f b = absurd (true≢false (sym b))
 
 -- a number within its bounds writes a value word
-number-told : (w : List ℕ) → toldBy w .formed ≡ true → toldBy w .bounded ≡ true → isValueWord (wordIn (numberOf w)) ≡ true
-unfolding toldBy
+number-told : (w : List ℕ) → numberCheck w .formed ≡ true → numberCheck w .bounded ≡ true → isValueWord (wordIn (numberOf w)) ≡ true
+unfolding numberCheck
 number-told w f b = told-word w (numberOf w) refl f b
 
 abbrev pub HasWord : Value → Type 0

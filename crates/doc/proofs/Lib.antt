@@ -1,6 +1,6 @@
 pub mod Goes
 pub mod FoundLaws
-pub mod MarkLaws
+pub mod ExtentLaws
 pub mod LeadLaws
 pub mod BlockLaws
 pub mod PassLaws

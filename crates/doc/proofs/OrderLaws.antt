@@ -20,7 +20,7 @@ use Rattle.doc.specs.Holds.{Each}
 use Rattle.doc.specs.Holds.Each.{none, more}
 use Rattle.doc.specs.Way.Found.{lineIn, linesBehind, Located, FindsLine}
 use Rattle.doc.specs.declared.Found.{Found}
-use Rattle.doc.proofs.MarkLaws.{argument-in-line}
+use Rattle.doc.proofs.ExtentLaws.{argument-in-line}
 use Rattle.doc.proofs.StandsLaws.{each-append, each-gather, each-if, Laid, laid}
 use Rattle.doc.proofs.StandsLaws.Laid.{ended, onward}
 

@@ -31,7 +31,7 @@ use Rattle.doc.specs.Lines.{Line, plain, linesAt, placeAfter, keyIn, key
 use Rattle.doc.specs.Document.{opensMap, mapAt, opensModel, modelAt, opensSection, sectionAt}
 use Rattle.doc.specs.Holds.{Each}
 use Rattle.doc.specs.Holds.Each.{none, more}
-use Rattle.lex_line.specs.Way.Feeds.{lineFeedOf, lineFeeds}
+use Rattle.lex_line.specs.Way.LineFeeds.{lineFeedOf, lineFeeds}
 use Rattle.lex_line.proofs.FeedLaws.{feed-one, feed-none, feeds-none, feeds-more, feeds-told}
 use Rattle.doc.specs.Way.Found.{lineIn, linesBehind, FindsLine, IsPlain, Plainly, SkipsPlain, FindsKeyed, Amid, SkipsBytes, SkipsRest}
 use Rattle.doc.specs.Way.Found.Amid.{ended, amid}

@@ -42,7 +42,7 @@ use Rattle.line_matrix.specs.Matrix.{
   inRow,
   standsAbove,
   withRow,
-  toldBy,
+  numberCheck,
   areFormed,
   areBounded,
   numbersLine,
@@ -79,8 +79,8 @@ columnOf l = wholeOf (firstOf (words (l .content))) .value
 pub record Pair (l : Line) : Type 0 where
   pub low : 1 ≤ columnOf l
   pub high : columnOf l ≤ 256
-  pub formed : toldBy (secondOf (words (l .content))) .formed ≡ true
-  pub bounded : toldBy (secondOf (words (l .content))) .bounded ≡ true
+  pub formed : numberCheck (secondOf (words (l .content))) .formed ≡ true
+  pub bounded : numberCheck (secondOf (words (l .content))) .bounded ≡ true
 
 -- [Row] i
 pub record Follows (m : Matrix) (i : ℕ) : Type 0 where
@@ -292,8 +292,8 @@ pairLine ws =
       numbers = 1;
       column = wholeOf (firstOf ws) .value;
       right = true;
-      formed = both (wholeOf (firstOf ws) .formed) (toldBy (secondOf ws) .formed);
-      bounded = both (within 1 256 (wholeOf (firstOf ws) .value)) (toldBy (secondOf ws) .bounded);
+      formed = both (wholeOf (firstOf ws) .formed) (numberCheck (secondOf ws) .formed);
+      bounded = both (within 1 256 (wholeOf (firstOf ws) .value)) (numberCheck (secondOf ws) .bounded);
     }
 
 sparse-two : (ws : List (List ℕ)) → sparseLine ws .right ≡ true → sparseLine ws ≡ pairLine ws
@@ -306,9 +306,9 @@ sparse-two ws h =
 pair-told : (m : Matrix) (v : ℕ) (l : Line) → dataRule (pairLine (words (l .content))) m v ≡ 0 → Pair l
 unfolding within
 pair-told m v l kept =
-    let f : both (wholeOf (firstOf (words (l .content))) .formed) (toldBy (secondOf (words (l .content))) .formed) ≡ true =
+    let f : both (wholeOf (firstOf (words (l .content))) .formed) (numberCheck (secondOf (words (l .content))) .formed) ≡ true =
     data-formed _ m v kept in
-    let b : both (within 1 256 (columnOf l)) (toldBy (secondOf (words (l .content))) .bounded) ≡ true = data-bounded _ m v kept in
+    let b : both (within 1 256 (columnOf l)) (numberCheck (secondOf (words (l .content))) .bounded) ≡ true = data-bounded _ m v kept in
     record {
       low = leb-true 1 (columnOf l) (both-first _ _ (both-first _ _ b));
       high = leb-true (columnOf l) 256 (both-second _ _ (both-first _ _ b));

@@ -74,7 +74,7 @@ use Rattle.doc.specs.Holds.{Each}
 use Rattle.doc.specs.Way.Holds.{Stands}
 use Rattle.doc.specs.Holds.Each.{none, more}
 use Rattle.doc.proofs.FoundLaws.{pass-over, stop-here, next-further, content-ordered, content-inside, nothing-left}
-use Rattle.doc.proofs.MarkLaws.{start-after, argument-in-line}
+use Rattle.doc.proofs.ExtentLaws.{start-after, argument-in-line}
 
 -- ---- every one of a list
 

@@ -7,9 +7,9 @@ ghost use Rattle.base.specs.Way.Class.{runEnd};
 ghost use Rattle.base.specs.Bytes.{isBefore};
 ghost use Rattle.lex_line.specs.Way.LineEnds.{pastFeed};
 ghost use Rattle.lex_line.specs.Words.{wordsFrom};
-ghost use Rattle.line_keyword.specs.Way.Kept.{mostLines};
+ghost use Rattle.line_keyword.specs.Way.Bounded.{mostLines};
 ghost use Rattle.doc.specs.Lines.{keyIn, argumentIn, firstWord, secondWord, placeAfter, argumentOf};
-ghost use Rattle.doc.specs.Way.Found.{markOf, markAt, FindsLine, Located, contentIn, lineIn, SkipsPlain, SkipsBytes, SkipsRest, FindsKeyed};
+ghost use Rattle.doc.specs.Way.Found.{extentOf, extentAt, FindsLine, Located, contentIn, lineIn, SkipsPlain, SkipsBytes, SkipsRest, FindsKeyed};
 use base::Class;
 use lex_keyword::Bracket;
 use lex_line::Span;
@@ -47,7 +47,7 @@ pub struct Passed {
 }
 
 // A word of the text: where it starts, and how many bytes it has.
-pub struct Mark {
+pub struct Extent {
     pub start: usize,
     pub size: usize,
 }
@@ -245,47 +245,47 @@ pub fn place_after(place: u64, text: &[u8], line: Found) -> u64
 }
 
 // The offset and size of a word, in a part of the text that starts at `offset`; they are 0 0 if there is no word.
-fn mark_of(s: &[u8], offset: usize, word: Span) -> Mark
+fn extent_of(s: &[u8], offset: usize, word: Span) -> Extent
     requires { ⌜ (offset + length (now s) ≤ mostLines) × (word .start ≤ word .end) × (word .end ≤ length (now s)) ⌝ }
-    ensures { λ r. ⌜ r ≡ markAt (now (s .entry)) offset word ⌝ }
+    ensures { λ r. ⌜ r ≡ extentAt (now (s .entry)) offset word ⌝ }
 {
     if s.len() <= word.start {
-        return Mark { start: 0, size: 0 };
+        return Extent { start: 0, size: 0 };
     }
-    Mark {
+    Extent {
         start: offset + word.start,
         size: word.end - word.start,
     }
 }
 
 // The first word of a part of the text.
-pub fn first_mark(s: &[u8], offset: usize) -> Mark
+pub fn first_extent(s: &[u8], offset: usize) -> Extent
     requires { ⌜ offset + length (now s) ≤ mostLines ⌝ }
-    ensures { λ r. ⌜ r ≡ markOf (firstWord (wordsFrom offset (now (s .entry)))) ⌝ }
+    ensures { λ r. ⌜ r ≡ extentOf (firstWord (wordsFrom offset (now (s .entry)))) ⌝ }
 {
     let word = lex_line::word_at(s, 0);
-    mark_of(s, offset, word)
+    extent_of(s, offset, word)
 }
 
 // Its second word.
-pub fn second_mark(s: &[u8], offset: usize) -> Mark
+pub fn second_extent(s: &[u8], offset: usize) -> Extent
     requires { ⌜ offset + length (now s) ≤ mostLines ⌝ }
-    ensures { λ r. ⌜ r ≡ markOf (secondWord (wordsFrom offset (now (s .entry)))) ⌝ }
+    ensures { λ r. ⌜ r ≡ extentOf (secondWord (wordsFrom offset (now (s .entry)))) ⌝ }
 {
     let first = lex_line::word_at(s, 0);
     let word = lex_line::word_at(s, first.end);
-    mark_of(s, offset, word)
+    extent_of(s, offset, word)
 }
 
 // The argument of a line's keyword.
-pub fn argument_mark(text: &[u8], line: Found) -> Mark
+pub fn argument_extent(text: &[u8], line: Found) -> Extent
     requires { ⌜ Located (now text) line ⌝ }
-    ensures { λ r. ⌜ r ≡ markOf (argumentOf (lineIn (now (text .entry)) line 0)) ⌝ }
+    ensures { λ r. ⌜ r ≡ extentOf (argumentOf (lineIn (now (text .entry)) line 0)) ⌝ }
 {
     let at = line.at;
     let end = line.end;
     let argument = read_line::argument_of(&text[at..end], line.argument);
-    Mark {
+    Extent {
         start: at + line.argument,
         size: argument.len(),
     }

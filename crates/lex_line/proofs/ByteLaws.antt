@@ -25,7 +25,7 @@ use Rattle.lex_line.specs.Way.LineEnds.{lineAt, terminatorAt}
 use Rattle.lex_line.specs.declared.Checked.{Checked}
 use Rattle.lex_line.specs.declared.Checked.the-variants.{Fine, Refused}
 use Rattle.lex_line.specs.ByteRules.{mostBytes, mostCharacters, withoutReturn, characters, rawLineRule, refusedOr, linesRule, byteRules}
-use Rattle.lex_line.specs.Way.Judges.{ResumesAfterLine}
+use Rattle.lex_line.specs.Way.Resumes.{ResumesAfterLine}
 use Rattle.lex_line.proofs.LineLaws.{firstOf, lines-at, next-on, next-within, next-ended}
 
 -- ---- terminators

@@ -12,7 +12,7 @@ use lib.Seq.{drop-cons}
 use lib.Dec.{eqb}
 use borrow.Author.Tests.{eq-eqb, ne-eqb, eqb-true, eqb-false}
 use Rattle.base.proofs.IfLaws.{if-true, if-false, by-cases}
-use Rattle.lex_line.specs.Way.Feeds.{lineFeedOf, lineFeeds}
+use Rattle.lex_line.specs.Way.LineFeeds.{lineFeedOf, lineFeeds}
 
 pub feed-one : (b : ℕ) → b ≡ 10 → 1 ≡ lineFeedOf b
 unfolding lineFeedOf

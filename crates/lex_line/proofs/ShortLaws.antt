@@ -22,9 +22,9 @@ use Rattle.base.proofs.RunLaws.{run-stop, run-block, all-nil, all-cons}
 use Rattle.lex_line.specs.Lines.{lines}
 use Rattle.lex_line.specs.Words.{backRun}
 use Rattle.lex_line.specs.ByteRules.{linesRule, byteRules}
-use Rattle.lex_line.specs.Way.Judges.{ResumesAfterLine}
+use Rattle.lex_line.specs.Way.Resumes.{ResumesAfterLine}
 use Rattle.lex_line.specs.declared.Checked.the-variants.{Refused}
-use Rattle.lex_line.specs.Way.Feeds.{lineFeedOf, lineFeeds, isLineByte, ResumesLines}
+use Rattle.lex_line.specs.Way.LineFeeds.{lineFeedOf, lineFeeds, isLineByte, ResumesLines}
 use Rattle.lex_line.proofs.WordLaws.{back-zero, back-grows, back-ends}
 use Rattle.lex_line.proofs.ByteLaws.{is-feed, not-feed, feed-not-printed, terminator-feed, line-fine, check-on, check-stop, size-fine}
 use Rattle.lex_line.proofs.FeedLaws.{feed-one, feed-none, feeds-none, feeds-more, feeds-told}

@@ -1,4 +1,4 @@
-pub mod Feeds
+pub mod LineFeeds
 pub mod Spans
 pub mod LineEnds
-pub mod Judges
+pub mod Resumes

@@ -24,7 +24,7 @@ use Rattle.line_map.proofs.MapLaws.{new-bounded}
 use Rattle.line_keyword.specs.declared.Counts.{Counts}
 use Rattle.line_keyword.specs.declared.State.{State}
 use Rattle.line_keyword.specs.State.{startState, noCounts}
-use Rattle.line_keyword.specs.Way.Kept.{Countable, BoundedState}
+use Rattle.line_keyword.specs.Way.Bounded.{Countable, BoundedState}
 use Rattle.line_keyword.specs.Keywords.{
   mostModels,
   mostMaps,

@@ -7,7 +7,7 @@ ghost use Rattle.line_keyword.specs.Way.Row.{matrixKeywordRule, matrixKe
 ghost use Rattle.lex_number.specs.Integer.{wholeOf};
 ghost use Rattle.line_place.specs.Place.{isRowOrBandwidth};
 ghost use Rattle.line_argument.specs.Argument.{isOutOfBounds};
-ghost use Rattle.line_keyword.specs.Way.Kept.{Countable};
+ghost use Rattle.line_keyword.specs.Way.Bounded.{Countable};
 ghost use Rattle.line_map.specs.Way.Bounded.{BoundedMap};
 ghost use Rattle.line_keyword.specs.State.{startState};
 use line_head::Head;
@@ -191,7 +191,7 @@ fn is_unclosed(s: State) -> bool
     if s.place == line_place::MAP_HEAD {
         return true;
     }
-    if s.place == line_place::PINS {
+    if s.place == line_place::PIN_LIST {
         let map = s.map;
         return line_map::pins_lack(map);
     }
@@ -275,7 +275,7 @@ fn is_shape_broken(key: u64, argument: &[u8], s: State) -> bool
     if s.place == line_place::MATRIX {
         return is_matrix_broken(key, argument, s);
     }
-    if s.place != line_place::PINS {
+    if s.place != line_place::PIN_LIST {
         return false;
     }
     let map = s.map;

@@ -36,7 +36,7 @@ use Rattle.line_matrix.specs.Matrix.{
   standsAbove,
   stillFits,
   withRow,
-  toldBy,
+  numberCheck,
   areFormed,
   areBounded,
   numbersLine,
@@ -50,8 +50,8 @@ use Rattle.line_matrix.specs.Matrix.{
 -- ---- rows
 
 -- whether a row is the next one, decided without a sum that could wrap
-next-told : (row last : ℕ) → (row ≡ 0 → ⊥) → eqb (row - 1) last ≡ eqb row (last + 1)
-next-told row last h =
+next-list-line : (row last : ℕ) → (row ≡ 0 → ⊥) → eqb (row - 1) last ≡ eqb row (last + 1)
+next-list-line row last h =
     by-cases (eqb (row - 1) last ≡ eqb row (last + 1)) (eqb (row - 1) last)
     (λ (e : eqb (row - 1) last ≡ true). let k : row - 1 ≡ last = eqb-true _ _ e in e ∙ sym (eq-eqb row (last + 1) (omega arith)))
     (λ (e : eqb (row - 1) last ≡ false). e ∙ sym (ne-eqb row (last + 1) (λ (k : row ≡ last + 1). eqb-false (row - 1) last e (omega arith))))
@@ -65,7 +65,7 @@ module _ (row : ℕ) (m : Matrix) (d : m .form ≡ diagonal → ⊥) (s : m .for
   row-zero e = sym (row-rest ∙ not-via (ne-eqb row (m .rows .row + 1) (λ (k : row ≡ m .rows .row + 1). omega arith)))
 
   pub row-next : (row ≡ 0 → ⊥) → not (eqb (row - 1) (m .rows .row)) ≡ isWrongRow row m
-  row-next h = ap not (next-told row (m .rows .row) h) ∙ sym row-rest
+  row-next h = ap not (next-list-line row (m .rows .row) h) ∙ sym row-rest
 
 module _ (m : Matrix) (values : ℕ) where
   pub above-first : m .rows .row < 2 → true ≡ standsAbove m values
@@ -110,11 +110,11 @@ bounded-nil : areBounded [] ≡ true
 unfolding areBounded
 bounded-nil = refl
 
-formed-cons : (w : List ℕ) (ws : List (List ℕ)) → areFormed (w ∷ ws) ≡ both (toldBy w .formed) (areFormed ws)
+formed-cons : (w : List ℕ) (ws : List (List ℕ)) → areFormed (w ∷ ws) ≡ both (numberCheck w .formed) (areFormed ws)
 unfolding areFormed
 formed-cons w ws = refl
 
-bounded-cons : (w : List ℕ) (ws : List (List ℕ)) → areBounded (w ∷ ws) ≡ both (toldBy w .bounded) (areBounded ws)
+bounded-cons : (w : List ℕ) (ws : List (List ℕ)) → areBounded (w ∷ ws) ≡ both (numberCheck w .bounded) (areBounded ws)
 unfolding areBounded
 bounded-cons w ws = refl
 
@@ -191,7 +191,7 @@ module _ (s : List ℕ) (at numbers : ℕ) (formed bounded : Bool) (pending : Pe
     line-ends : length s ≤ word .start → record { numbers = numbers; column = 0; right = true; formed = formed; bounded = bounded } ≡ numbersLine (words s)
     line-ends h = line-done (after-none s at (rw found at h))
 
-    line-goes : word .start < length s → (t : NumberCheck) → t ≡ toldBy (markedBy s word) → (f b : Bool) → f ≡ both formed (t .formed) → b ≡ both bounded (t .bounded) → Pending s (word .end) (numbers + 1) f b
+    line-goes : word .start < length s → (t : NumberCheck) → t ≡ numberCheck (markedBy s word) → (f b : Bool) → f ≡ both formed (t .formed) → b ≡ both bounded (t .bounded) → Pending s (word .end) (numbers + 1) f b
     line-goes h t told f b ef eb =
         let e : wordsAfter s at ≡ markedBy s word ∷ wordsAfter s (word .end) = rw found (after-at s at (rw found at h)) in
         let c : numbers + length (wordsAfter s at) ≡ length (words s) = pending .counted in
@@ -211,7 +211,7 @@ module _ (s : List ℕ) (at numbers : ℕ) (formed bounded : Bool) (pending : Pe
     line-blank h = line-ends (wordSpan s at) refl (rw begins at h)
 
     pub line-number : (read : NumberAt) → read ≡ numberAt s start → start < length s → (f b fits holds : Bool) → fits ≡ isFormed (read .number) → holds ≡ isBounded (read .number) → f ≡ both formed fits → b ≡ both bounded holds → Pending s (read .end) (numbers + 1) f b
-    unfolding toldBy
+    unfolding numberCheck
     line-number read told h f b fits holds ef eb df db =
         let k : read .number ≡ numberOf (markedBy s (record { start = start; end = read .end })) = placed-number s at start read begins told in
         line-goes (record { start = start; end = read .end }) (placed-found s at start read begins told) h (record { formed = isFormed (read .number); bounded = isBounded (read .number) }) (λ i. record { formed = isFormed (k i); bounded = isBounded (k i) }) f b (df ∙ ap (both formed) ef) (db ∙ ap (both bounded) eb)
@@ -260,12 +260,12 @@ module _ (s : List ℕ) (first : Span) (one : first ≡ wordSpan s 0) (start : �
     pub sparse-pair :
         length s ≤ third → (part : List ℕ) → part ≡ markedBy s first → (column : Whole) → column ≡ wholeOf part → (t : NumberCheck) →
         t ≡ record { formed = isFormed (read .number); bounded = isBounded (read .number) } → (r : DataLine) → r ≡ pairLine column t → r ≡ sparseLine (words s)
-    unfolding second sparseLine toldBy
+    unfolding second sparseLine numberCheck
     sparse-pair h part cut column whole t is r pair =
         let two : record { count = 2; first = first; second = second } ≡ firstTwoOf s = few-two s first second third one is-second after first-stands there h in
         let w : column ≡ wholeOf (firstOf (words s)) = whole ∙ ap wholeOf (cut ∙ first-marked s _ two) in
         let n : read .number ≡ numberOf (secondOf (words s)) = placed-number s (first .end) start read begins told ∙ ap numberOf (second-marked s _ two) in
-        let v : t ≡ toldBy (secondOf (words s)) = is ∙ (λ i. record { formed = isFormed (n i); bounded = isBounded (n i) }) in
+        let v : t ≡ numberCheck (secondOf (words s)) = is ∙ (λ i. record { formed = isFormed (n i); bounded = isBounded (n i) }) in
         pair ∙ (λ i. pairLine (w i) (v i)) ∙ sym (if-true _ _ (counted s _ two 2 (omega arith) refl))
 
 -- ---- the rule of a data line

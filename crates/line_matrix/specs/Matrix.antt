@@ -98,17 +98,17 @@ withRow row m values =
 -- ---- data lines
 
 -- whether a word is a number, and whether the number is within its bounds
-unfoldable pub toldBy : List ℕ → NumberCheck
-toldBy w = record { formed = isFormed (numberOf w); bounded = isBounded (numberOf w) }
+unfoldable pub numberCheck : List ℕ → NumberCheck
+numberCheck w = record { formed = isFormed (numberOf w); bounded = isBounded (numberOf w) }
 
 -- every word is a number; every number is within its bounds
 unfoldable pub areFormed : List (List ℕ) → Bool
 areFormed [] = true
-areFormed (w ∷ ws) = both (toldBy w .formed) (areFormed ws)
+areFormed (w ∷ ws) = both (numberCheck w .formed) (areFormed ws)
 
 unfoldable pub areBounded : List (List ℕ) → Bool
 areBounded [] = true
-areBounded (w ∷ ws) = both (toldBy w .bounded) (areBounded ws)
+areBounded (w ∷ ws) = both (numberCheck w .bounded) (areBounded ws)
 
 -- "Numbers may run over lines": a line of numbers
 unfoldable pub numbersLine : List (List ℕ) → DataLine
@@ -129,7 +129,7 @@ pairLine column told =
 unfoldable pub sparseLine : List (List ℕ) → DataLine
 sparseLine ws =
     if eqb (length ws) 2
-    then pairLine (wholeOf (firstOf ws)) (toldBy (secondOf ws))
+    then pairLine (wholeOf (firstOf ws)) (numberCheck (secondOf ws))
     else record { numbers = 0; column = 0; right = false; formed = true; bounded = true }
 
 unfoldable pub dataLineOf : ℕ → List ℕ → DataLine

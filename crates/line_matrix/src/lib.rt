@@ -208,7 +208,7 @@ struct NumberCheck {
     bounded: bool,
 }
 
-fn told_of(number: Number) -> NumberCheck
+fn number_check(number: Number) -> NumberCheck
     ensures { λ r. ⌜ r ≡ record { formed = isFormed number; bounded = isBounded number } ⌝ }
 {
     NumberCheck {
@@ -293,7 +293,7 @@ fn sparse_line(content: &[u8]) -> DataLine
     }
     let number = read.number;
     let column = lex_number::read_integer(lex_line::marked(content, first));
-    pair_line(column, told_of(number))
+    pair_line(column, number_check(number))
 }
 
 // Reads a line between the keywords of a matrix.

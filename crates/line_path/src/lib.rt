@@ -331,7 +331,7 @@ fn usual_line(content: &[u8], end: usize) -> PathLine
 }
 
 // Reads a line of a path of any form, by its first word.
-fn told_line(content: &[u8]) -> PathLine
+fn general_line(content: &[u8]) -> PathLine
     ensures { λ r. ⌜ r ≡ pathLineOf (now (content .entry)) ⌝ }
 {
     let few = lex_line::first_two_words(content);
@@ -352,7 +352,7 @@ pub fn path_line(content: &[u8]) -> PathLine
     if fork != NOTHING {
         return plain_line(fork, true);
     }
-    told_line(content)
+    general_line(content)
 }
 
 // A path of which no line has been read.

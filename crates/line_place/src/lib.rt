@@ -57,7 +57,7 @@ pub const MODEL_TEXT: u64 = 10;
 pub const MAP_HEAD: u64 = 11;
 
 // In a pin map, below its Pin_list.
-pub const PINS: u64 = 12;
+pub const PIN_LIST: u64 = 12;
 
 // After [End ICM Family], outside sections.
 pub const AFTER: u64 = 13;
@@ -260,7 +260,7 @@ pub fn is_in_family(place: u64) -> bool
     if place == MAP_HEAD {
         return true;
     }
-    place == PINS
+    place == PIN_LIST
 }
 
 pub fn is_in_model(place: u64) -> bool
@@ -343,7 +343,7 @@ pub fn moved_by_line(place: u64, first: &[u8]) -> u64
 {
     if place == MAP_HEAD {
         if lex_line::same_bytes(first, b"Pin_list") {
-            return PINS;
+            return PIN_LIST;
         }
         return MAP_HEAD;
     }

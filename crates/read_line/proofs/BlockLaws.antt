@@ -11,7 +11,7 @@ use Rattle.base.proofs.IfLaws.{if-true}
 use Rattle.lex_line.specs.Lines.{lines}
 use Rattle.line_place.specs.Place as place
 use Rattle.line_path.specs.declared.Path.{Path}
-use Rattle.line_keyword.specs.Way.Kept.{BoundedState}
+use Rattle.line_keyword.specs.Way.Bounded.{BoundedState}
 use Rattle.line_keyword.specs.declared.State.{State}
 use Rattle.read_line.specs.Reading.{readFrom}
 use Rattle.read_line.specs.Way.Walk.{resume, Rises, ResumesPart, HoldsPart, Stepping, NoProgressMeansBracket, withPath, Blocked}

@@ -66,7 +66,7 @@ use Rattle.line_place.specs.Place.{
   movedByLine,
 }
 use Rattle.line_place.specs.Place as place
-use Rattle.line_keyword.specs.Way.Kept.{BoundedState}
+use Rattle.line_keyword.specs.Way.Bounded.{BoundedState}
 use Rattle.line_keyword.specs.Keywords.{isSeen, isOnce, isRepeated, isMisplaced, seenAfter, oneMoreIf, countsAfter, keywordRule, keywordNext}
 use Rattle.line_keyword.specs.State.{noCounts, noneSeen, startState}
 use Rattle.line_keyword.specs.declared.Counts.{Counts}

@@ -13,7 +13,7 @@ use Rattle.lex_line.specs.Lines.{lines}
 use Rattle.lex_line.specs.Way.LineEnds.{lineAt}
 use Rattle.lex_line.specs.declared.Line.{Line}
 use Rattle.lex_line.proofs.LineLaws.{next-on, next-within}
-use Rattle.line_keyword.specs.Way.Kept.{BoundedState}
+use Rattle.line_keyword.specs.Way.Bounded.{BoundedState}
 use Rattle.line_keyword.specs.declared.State.{State}
 use Rattle.read_line.specs.Reading.{commentByte, breaks, lineResult, onward, readFrom}
 use Rattle.read_line.specs.Way.Walk.{resume, Onward, Rises, ResumesText, ResumesPart, Opens, contentAt, BracketOrLineByLine, NoProgressMeansBracket}

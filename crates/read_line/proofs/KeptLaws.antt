@@ -31,7 +31,7 @@ use Rattle.line_matrix.specs.Matrix.{sparse, mostValues, sparseLine, numbersLin
 use Rattle.line_matrix.specs.Matrix as matrix
 use Rattle.line_matrix.specs.declared.Matrix.{Matrix}
 use Rattle.line_matrix.specs.declared.DataLine.{DataLine}
-use Rattle.line_keyword.specs.Way.Kept.{BoundedState}
+use Rattle.line_keyword.specs.Way.Bounded.{BoundedState}
 use Rattle.line_keyword.specs.declared.State.{State}
 use Rattle.line_keyword.proofs.KeptLaws.{more-within}
 use Rattle.read_line.specs.Reading.{lineRule, countsAfterLine, lineNext}

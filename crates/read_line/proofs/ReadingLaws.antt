@@ -13,7 +13,7 @@ use borrow.Author.Tests.{eq-eqb, ne-eqb, eqb-true, eqb-false}
 use Rattle.base.specs.If.{if_then_else_}
 use Rattle.base.proofs.IfLaws.{if-true, if-false, by-cases}
 use Rattle.lex_line.specs.Lines.{Raw, lines}
-use Rattle.line_keyword.specs.Way.Kept.{BoundedState}
+use Rattle.line_keyword.specs.Way.Bounded.{BoundedState}
 use Rattle.line_keyword.specs.State.{startState}
 use Rattle.line_keyword.specs.declared.Counts.{Counts}
 use Rattle.line_keyword.specs.declared.State.{State}

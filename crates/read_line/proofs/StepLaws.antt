@@ -30,7 +30,7 @@ use Rattle.read_line.proofs.KeptLaws.{data-fits, pin-total, step-room}
 use Rattle.line_matrix.specs.declared.Matrix.{Matrix}
 use Rattle.line_matrix.specs.declared.DataLine.{DataLine}
 use Rattle.line_keyword.specs.Keywords.{oneMoreIf, keywordRule, keywordNext}
-use Rattle.line_keyword.specs.Way.Kept.{BoundedState, Countable, mostLines}
+use Rattle.line_keyword.specs.Way.Bounded.{BoundedState, Countable, mostLines}
 use Rattle.line_keyword.proofs.KeptLaws.{keyword-bounds, kept-countable, more-within}
 use Rattle.base.specs.Bytes.{isBlank}
 use Rattle.base.specs.Runs.{run, all}

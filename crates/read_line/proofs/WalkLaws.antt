@@ -18,7 +18,7 @@ use Rattle.lex_line.specs.Lines.{Raw, lines, contentOf, isBlankLine}
 use Rattle.lex_line.specs.Way.LineEnds.{lineAt}
 use Rattle.lex_line.specs.declared.Line.{Line}
 use Rattle.lex_line.proofs.LineLaws.{firstOf, lines-at, next-on, next-within, content-at}
-use Rattle.line_keyword.specs.Way.Kept.{BoundedState}
+use Rattle.line_keyword.specs.Way.Bounded.{BoundedState}
 use Rattle.line_keyword.proofs.KeptLaws.{start-kept, keyword-kept, kept-more}
 use Rattle.line_keyword.specs.State.{startState}
 use Rattle.line_keyword.specs.Keywords.{keywordRule, keywordNext, countsAfter, oneMoreIf}

@@ -5,7 +5,7 @@ ghost use mathlib.Core.Bool.{true, false};
 ghost use Prim.Native.Nat.{_+_, _≤_, _<_};
 ghost use lib.ListN.{length};
 ghost use Rattle.line_place.specs.Place as place;
-ghost use Rattle.line_keyword.specs.Way.Kept.{BoundedState, mostLines};
+ghost use Rattle.line_keyword.specs.Way.Bounded.{BoundedState, mostLines};
 ghost use Rattle.read_line.specs.Reading.{goes, breaks, lineStep, keywordStep, argumentFrom, bracketStep, beforeStep, lineResult, atEnd};
 ghost use Rattle.read_line.specs.Way.Listed.{isFree};
 ghost use Rattle.lex_line.specs.Lines.{isBlankLine};

@@ -25,7 +25,7 @@ use Rattle.lex_number.specs.declared.Number.{Number}
 use Rattle.lex_number.specs.declared.Number.the-variants.{Value, Malformed, Range}
 use Rattle.lex_number.specs.declared.NumberAt.{NumberAt}
 use Rattle.lex_number.specs.declared.Whole.{Whole}
-use Rattle.line_matrix.specs.Matrix.{sparse, mostValues, toldBy, areFormed, areBounded, numbersLine, sparseLine, dataLineOf}
+use Rattle.line_matrix.specs.Matrix.{sparse, mostValues, numberCheck, areFormed, areBounded, numbersLine, sparseLine, dataLineOf}
 use Rattle.read_line.specs.Reading.{commentByte}
 use Rattle.read_line.specs.Way.Walk.{contentAt}
 use Rattle.table_layout.specs.Layout.{joined}
@@ -174,11 +174,11 @@ some-room place words h e = let k : 3 ≤ words - place = leb-true 3 (words - pl
 -- ---- the numbers of a line, one after another
 
 formed-on : (w : List ℕ) (ws : List (List ℕ)) → isFormed (numberOf w) ≡ true → areFormed (w ∷ ws) ≡ areFormed ws
-unfolding areFormed toldBy both
+unfolding areFormed numberCheck both
 formed-on w ws e = rw e refl
 
 bounded-on : (w : List ℕ) (ws : List (List ℕ)) → isBounded (numberOf w) ≡ true → areBounded (w ∷ ws) ≡ areBounded ws
-unfolding areBounded toldBy both
+unfolding areBounded numberCheck both
 bounded-on w ws e = rw e refl
 
 none-formed : areFormed [] ≡ true
@@ -526,11 +526,11 @@ module _ (t : List ℕ) (here start : ℕ) (begins : start ≡ runEnd isBlank t 
             one-word t here start begins stands-there end ends ∙ ap (λ (w : List ℕ). w ∷ words (contentAt t end)) (sym cut)
             ∙ ap (λ (ws : List (List ℕ)). part ∷ ws) single
 
-        value-formed-here : toldBy value .formed ≡ true
+        value-formed-here : numberCheck value .formed ≡ true
         unfolding areFormed
         value-formed-here = both-first _ _ (sym (ap areFormed single) ∙ behind .formed)
 
-        value-bounded-here : toldBy value .bounded ≡ true
+        value-bounded-here : numberCheck value .bounded ≡ true
         unfolding areBounded
         value-bounded-here = both-first _ _ (sym (ap areBounded single) ∙ behind .bounded)
 

@@ -138,7 +138,7 @@ fn read_line(
     if s.place == line_place::PATH {
         return read_line::read_path(text, at, line, s);
     }
-    if s.place == line_place::PINS {
+    if s.place == line_place::PIN_LIST {
         return read_line::read_pins(text, at, line, s);
     }
     let passing = read_line::skip_idle_lines(text, at, line, s.place);

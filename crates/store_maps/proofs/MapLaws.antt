@@ -18,9 +18,9 @@ use Rattle.table_layout.proofs.FillingLaws.{fits-first, fits-rest, length-after
 use Rattle.doc.specs.Lines.{linesAt, gather, argumentOf}
 use Rattle.doc.specs.Document.{Named, Map, mapOf, mapAt, pinAt, gridIn}
 use Rattle.doc.specs.Records.{mapRecord}
-use Rattle.doc.specs.Way.Found.{markOf, lineIn, Located}
+use Rattle.doc.specs.Way.Found.{extentOf, lineIn, Located}
 use Rattle.doc.specs.declared.Found.{Found}
-use Rattle.doc.specs.declared.Mark.{Mark}
+use Rattle.doc.specs.declared.Extent.{Extent}
 use Rattle.doc.proofs.PlainLaws.{plain-map}
 use Rattle.store_base.specs.Way.Writes.{pinWrite, mapWrite, mapWrites, mapsWrites}
 use Rattle.store_base.specs.Way.Stores.{Stores, Placed}
@@ -62,9 +62,9 @@ module _ (t : List ℕ) (line : Found) (f : Filling) (seven : length (f .counts)
         let l : length table' ≡ length table = ap length (reads .pins .stored) ∙ length-after _ f table in
         rw l (put-asked (w .filling) [] (mapWrite (getD (f .counts) 3 0) (mapBelow t line)) (length table) 2 _ g refl refl)
 
-    module _ (mark : Mark) (is-mark : mark ≡ markOf (argumentOf (lineIn t line 0))) (order : ℕ) (is-order : order ≡ w .map .order - 1) where
+    module _ (mark : Extent) (is-mark : mark ≡ extentOf (argumentOf (lineIn t line 0))) (order : ℕ) (is-order : order ≡ w .map .order - 1) where
       map-words : _≡_ {A = List ℕ} (mark .start ∷ mark .size ∷ order ∷ w .map .rows ∷ w .map .columns ∷ getD (f .counts) 3 0 ∷ (getD (w .filling .counts) 3 0 - getD (f .counts) 3 0) ∷ []) (mapWrite (getD (f .counts) 3 0) (mapBelow t line) .words)
-      unfolding mapWrite mapRecord mapOf markOf
+      unfolding mapWrite mapRecord mapOf extentOf
       map-words =
           let c : getD (w .filling .counts) 3 0 ≡ getD (f .counts) 3 0 + length (mapBelow t line .pins) = pins-counted in
           let n : getD (w .filling .counts) 3 0 - getD (f .counts) 3 0 ≡ length (mapBelow t line .pins) = omega arith in

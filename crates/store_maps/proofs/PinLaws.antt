@@ -27,9 +27,9 @@ use Rattle.table_layout.proofs.FillingLaws.{fits-first}
 use Rattle.doc.specs.Lines.{Line, plain, keyAt, keyOf, placeAfter, linesAt, standsIn, gather, upTo, wordsOf, firstWord}
 use Rattle.doc.specs.Records.{pinRecord}
 use Rattle.doc.specs.Document.{Named, inMap, pinAt, gridIn}
-use Rattle.doc.specs.Way.Found.{markOf, contentIn, lineIn, linesBehind, Located, FindsLine}
+use Rattle.doc.specs.Way.Found.{extentOf, contentIn, lineIn, linesBehind, Located, FindsLine}
 use Rattle.doc.specs.declared.Found.{Found}
-use Rattle.doc.specs.declared.Mark.{Mark}
+use Rattle.doc.specs.declared.Extent.{Extent}
 use Rattle.store_base.specs.Way.Writes.{pinWrite}
 use Rattle.store_base.specs.Way.Stores.{Stores, Placed}
 use Rattle.store_maps.specs.Way.Maps.{mapLines, mapLine, pinWrites, TakesMap, TakenMap, ReadsMap}
@@ -40,9 +40,9 @@ use Rattle.store_base.proofs.LineLaws.{up-on, up-stops, up-none, Skipped, skipp
 abbrev namedBy : List ℕ → Found → Named
 namedBy t line = record { name = firstWord (wordsOf (lineIn t line 0)); line = line .line }
 
-module _ (t : List ℕ) (line : Found) (mark : Mark) (is-mark : mark ≡ markOf (firstWord (wordsFrom (line .at) (contentIn t line)))) where
+module _ (t : List ℕ) (line : Found) (mark : Extent) (is-mark : mark ≡ extentOf (firstWord (wordsFrom (line .at) (contentIn t line)))) where
   pin-words : _≡_ {A = List ℕ} (mark .start ∷ mark .size ∷ []) (pinWrite (namedBy t line) .words)
-  unfolding pinWrite pinRecord wordsOf markOf
+  unfolding pinWrite pinRecord wordsOf extentOf
   pin-words = λ i. is-mark i .start ∷ is-mark i .size ∷ []
 
   pin-part : 3 ≡ pinWrite (namedBy t line) .part

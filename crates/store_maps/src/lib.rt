@@ -37,7 +37,7 @@ fn put_pin(text: &[u8], line: Found, table: &mut [u64], filling: Filling) -> Fil
 {
     let at = line.at;
     let end = line.end;
-    let mark = doc::first_mark(&text[at..end], at);
+    let mark = doc::first_extent(&text[at..end], at);
     let words = [mark.start as u64, mark.size as u64];
     table_layout::put_record(table, filling, table_layout::PINS, &words)
 }
@@ -51,12 +51,12 @@ fn take_map_line(text: &[u8], line: Found, table: &mut [u64], walk: MapWalk) -> 
     let end = line.end;
     let map = walk.map;
     let filling = walk.filling;
-    if walk.place == line_place::PINS {
+    if walk.place == line_place::PIN_LIST {
         let next = put_pin(text, line, table, filling);
         return MapWalk {
             at: line.next,
             line: line.line + 1,
-            place: line_place::PINS,
+            place: line_place::PIN_LIST,
             map,
             filling: next,
         };
@@ -112,7 +112,7 @@ fn fill_map(text: &[u8], line: Found, table: &mut [u64], filling: Filling) -> Ma
     let map = walk.map;
     let filled = walk.filling;
     let after = filled.counts;
-    let mark = doc::argument_mark(text, line);
+    let mark = doc::argument_extent(text, line);
     let words = [
         mark.start as u64,
         mark.size as u64,

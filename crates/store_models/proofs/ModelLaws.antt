@@ -16,9 +16,9 @@ use Rattle.table_layout.proofs.FillingLaws.{fits-first, fits-rest, length-after
 use Rattle.doc.specs.Lines.{linesAt, argumentOf}
 use Rattle.doc.specs.Document.{Model, documentOf, headIn, stepsIn, modelOf, modelAt}
 use Rattle.doc.specs.Records.{modelRecord}
-use Rattle.doc.specs.Way.Found.{markOf, lineIn}
+use Rattle.doc.specs.Way.Found.{extentOf, lineIn}
 use Rattle.doc.specs.declared.Found.{Found}
-use Rattle.doc.specs.declared.Mark.{Mark}
+use Rattle.doc.specs.declared.Extent.{Extent}
 use Rattle.store_steps.specs.Way.Steps.{lowOf}
 use Rattle.doc.proofs.PlainLaws.{plain-model}
 use Rattle.store_base.specs.Way.Writes.{modelWrite, modelWrites, modelsWrites}
@@ -67,11 +67,11 @@ module _ (t : List ℕ) (line : Found) (f : Filling) (table : List ℕ) (fits : 
         put-asked (w .filling) [] (own t line f) (lowOf f) 0 (own t line f .words) g refl refl in
         (asked .0, asked .1, omega (arith, asked .2, fits .aims .maps-room))
 
-    module _ (mark : Mark) (is-mark : mark ≡ markOf (argumentOf (lineIn t line 0))) (type : ℕ) (is-type : type ≡ w .head .kind - 1) where
+    module _ (mark : Extent) (is-mark : mark ≡ extentOf (argumentOf (lineIn t line 0))) (type : ℕ) (is-type : type ≡ w .head .kind - 1) where
       model-words : _≡_ {A = List ℕ}
           (mark .start ∷ mark .size ∷ type ∷ getD (f .counts) 1 0 ∷ (getD (w .filling .counts) 1 0 - getD (f .counts) 1 0) ∷ [])
           (own t line f .words)
-      unfolding modelWrite modelRecord modelOf markOf
+      unfolding modelWrite modelRecord modelOf extentOf
       model-words =
           let c : getD (w .filling .counts) 1 0 ≡ getD (f .counts) 1 0 + length (modelBelow t line .steps) = model-counted in
           let n : getD (w .filling .counts) 1 0 - getD (f .counts) 1 0 ≡ length (modelBelow t line .steps) = omega arith in

@@ -200,7 +200,7 @@ fn fill_model(text: &[u8], line: Found, table: &mut [u64], filling: Filling) -> 
     let head = walk.head;
     let filled = walk.filling;
     let after = filled.counts;
-    let mark = doc::argument_mark(text, line);
+    let mark = doc::argument_extent(text, line);
     let words = [
         mark.start as u64,
         mark.size as u64,

@@ -22,9 +22,9 @@ use Rattle.table_layout.proofs.FillingLaws.{fits-first, fits-rest, length-after
 use Rattle.doc.specs.Lines.{Line, plain, keyOf, argumentOf, linesAt, gather, upTo}
 use Rattle.doc.specs.Document.{Matrix, Section, conductorsOf, inMatrix, opensMatrixAt, matrixAt, inSection, methodIn, sectionOf}
 use Rattle.doc.specs.Records.{indexOfKind, sectionRecord}
-use Rattle.doc.specs.Way.Found.{markOf, lineIn, linesBehind, Located, FindsLine}
+use Rattle.doc.specs.Way.Found.{extentOf, lineIn, linesBehind, Located, FindsLine}
 use Rattle.doc.specs.declared.Found.{Found}
-use Rattle.doc.specs.declared.Mark.{Mark}
+use Rattle.doc.specs.declared.Extent.{Extent}
 use Rattle.doc.proofs.PassLaws.{section-blocks}
 use Rattle.store_base.specs.Way.Writes.{valuesCount, matrixWrites, matricesWrites, sectionWrite, sectionWrites}
 use Rattle.store_base.specs.Way.Stores.{Placed}
@@ -327,7 +327,7 @@ module _ (t : List ℕ) (n₀ at₀ : ℕ) (table₀ : List ℕ) (f₀ : Filling
 
 -- ---- a section's own record
 
-abbrev recordWords : Mark → ℕ → ℕ → List ℕ → List ℕ
+abbrev recordWords : Extent → ℕ → ℕ → List ℕ → List ℕ
 recordWords mark method n kinds =
     mark .start ∷ mark .size ∷ method ∷ n ∷ getD kinds 0 0 ∷ getD kinds 1 0 ∷ getD kinds 2 0 ∷ getD kinds 3 0 ∷ []
 
@@ -357,10 +357,10 @@ module _ (t : List ℕ) (line : Found) (table : List ℕ) (f : Filling) (puts : 
         let l : length table' ≡ length table = ap length (fills .stores .stored) ∙ length-after _ f table in
         rw l (put-asked (w .filling) [] own (length table) 4 _ g refl refl)
 
-    module _ (mark : Mark) (is-mark : mark ≡ markOf (argumentOf (lineIn t line 0))) (method : ℕ)
+    module _ (mark : Extent) (is-mark : mark ≡ extentOf (argumentOf (lineIn t line 0))) (method : ℕ)
         (is-method : method ≡ toldOr (w .method) 0) (n : ℕ) (is-n : n ≡ toldOr (w .conductors) 0) where
       section-words : recordWords mark method n (w .kinds) ≡ own .words
-      unfolding sectionWrite sectionRecord sectionOf markOf
+      unfolding sectionWrite sectionRecord sectionOf extentOf
       section-words =
           let m : method ≡ methodIn (linesBelow t line) = is-method ∙ fills .method in
           let c : n ≡ conductorsOf (matricesIn (linesBelow t line)) = is-n ∙ fills .conductors in

@@ -230,7 +230,7 @@ fn fill_section(
     let method = walk.method;
     let conductors = walk.conductors;
     let kinds = walk.kinds;
-    let mark = doc::argument_mark(text, line);
+    let mark = doc::argument_extent(text, line);
     let words = [
         mark.start as u64,
         mark.size as u64,

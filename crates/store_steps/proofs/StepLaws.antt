@@ -22,9 +22,9 @@ use Rattle.doc.specs.Records.{indexOf, targetOf, stepRecord}
 use Rattle.doc.specs.Holds.{Each}
 use Rattle.doc.specs.Way.Holds.{Stands}
 use Rattle.doc.specs.Holds.Each.{none, more}
-use Rattle.doc.specs.Way.Found.{markOf, contentIn, linesBehind}
+use Rattle.doc.specs.Way.Found.{extentOf, contentIn, linesBehind}
 use Rattle.doc.specs.declared.Found.{Found}
-use Rattle.doc.specs.declared.Mark.{Mark}
+use Rattle.doc.specs.declared.Extent.{Extent}
 use Rattle.doc.proofs.StandsLaws.{LineStands, second-word-stands, right-word-stands, MapStands, all-stand}
 use Rattle.table_name.specs.Name.{nameAt}
 use Rattle.table_name.specs.Way.Search.{isNamed, findIn}
@@ -55,15 +55,15 @@ each-both : {A : Type 0} {P Q R : A → Type 0} → ((x : A) → P x → Q x →
 each-both gives none none = none
 each-both gives (more {x = x} h hs) (more k ks) = more (gives x h k) (each-both gives hs ks)
 
-pub found-marked : (t table : List ℕ) (base width count after : ℕ) (mark : Mark) (name : List ℕ) →
+pub found-marked : (t table : List ℕ) (base width count after : ℕ) (mark : Extent) (name : List ℕ) →
     name ≡ nameAt t (mark .start) (mark .size) → (r : ℕ) →
     r ≡ findIn t table base width count name after → r ≡ findIn t table base width count (nameAt t (mark .start) (mark .size)) after
 found-marked t table base width count after mark name e r h = h ∙ ap (λ (w : List ℕ). findIn t table base width count w after) e
 
 -- the bytes that a word's mark marks are the word's
-marked-name : (t : List ℕ) (w : Word) (mark : Mark) → mark ≡ markOf w → Stands t w → nameAt t (mark .start) (mark .size) ≡ w .text
-unfolding nameAt markOf
-marked-name t w mark e h = ap (λ (m : Mark). take (m .size) (drop (m .start) t)) e ∙ h .bytes
+marked-name : (t : List ℕ) (w : Word) (mark : Extent) → mark ≡ extentOf w → Stands t w → nameAt t (mark .start) (mark .size) ≡ w .text
+unfolding nameAt extentOf
+marked-name t w mark e h = ap (λ (m : Extent). take (m .size) (drop (m .start) t)) e ∙ h .bytes
 
 module _ (t : List ℕ) (line : Found) (f : Filling) (table : List ℕ) (aimed : Aimed t line f table) where
   line-stands : LineStands t (pathLine t line)
@@ -82,7 +82,7 @@ module _ (t : List ℕ) (line : Found) (f : Filling) (table : List ℕ) (aimed :
       record { stands = h .name; behind = k })
       (all-stand t .maps) (aimed .order)
 
-  pub end-told : (mark : Mark) → mark ≡ markOf (secondWord (wordsFrom (line .at) (contentIn t line))) → (r : ℕ) →
+  pub end-told : (mark : Extent) → mark ≡ extentOf (secondWord (wordsFrom (line .at) (contentIn t line))) → (r : ℕ) →
       r ≡ findIn t table (getD (f .bases) 2 0) 7 (getD (f .counts) 2 0) (nameAt t (mark .start) (mark .size)) (line .next) →
       r ≡ targetIn t (endStep t line)
   unfolding findIn wordsOf targetOf
@@ -100,7 +100,7 @@ module _ (t : List ℕ) (line : Found) (f : Filling) (table : List ℕ) (aimed :
       ∙ find-section t (sectionStep t line) 0 (documentOf t .sections) (all-stand t .sections)
       ∙ sym (if-false _ _ (ne-eqb 1 0 (λ (e : _≡_ {A = ℕ} 1 0). omega arith)) ∙ if-true _ _ (eq-eqb 1 1 refl))
 
-  pub section-told : (mark : Mark) → mark ≡ markOf (secondWord (rightWordsOf (pathLine t line))) → (r : ℕ) →
+  pub section-told : (mark : Extent) → mark ≡ extentOf (secondWord (rightWordsOf (pathLine t line))) → (r : ℕ) →
       r ≡ findIn t table (getD (f .bases) 4 0) 8 (getD (f .counts) 4 0) (nameAt t (mark .start) (mark .size)) 0 →
       r ≡ targetIn t (sectionStep t line)
   section-told mark is-mark r h =
@@ -132,10 +132,10 @@ module _ (t : List ℕ) (line : Found) (f : Filling) (table : List ℕ) (s : Ste
   step-stored words e r table' k h = put-stored f table (stepIn t s) 1 words r table' refl e k h
 
 module _ (t : List ℕ) (line : Found) (f : Filling) (table : List ℕ) (r : Filling) (table' : List ℕ) (k : r ≡ counted f 1) where
-  pub end-stored : (target : ℕ) → target ≡ targetIn t (endStep t line) → (side : Mark) → side ≡ markOf (sideIn (pathBehind t line)) →
+  pub end-stored : (target : ℕ) → target ≡ targetIn t (endStep t line) → (side : Extent) → side ≡ extentOf (sideIn (pathBehind t line)) →
       table' ≡ sets table (position f 1) (0 ∷ target ∷ 0 ∷ side .start ∷ side .size ∷ line .line ∷ []) →
       Stores f table (stepWrites t (endStep t line ∷ [])) r table'
-  unfolding markOf
+  unfolding extentOf
   end-stored target is-target side is-side h =
       step-stored t line f table (endStep t line) _
       (λ i. 0 ∷ is-target i ∷ 0 ∷ is-side i .start ∷ is-side i .size ∷ line .line ∷ []) r table' k h

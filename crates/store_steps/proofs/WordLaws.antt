@@ -35,9 +35,9 @@ use Rattle.line_path.specs.Path.{sayingOf, isMult}
 use Rattle.line_path.specs.Path as path
 use Rattle.doc.specs.Lines.{plain, keyOf, linesAt, wordsOf, rightWordsOf, noWord, secondWord, standsIn}
 use Rattle.doc.specs.Document.{wordIn, sayingAt, amountOf, sideIn}
-use Rattle.doc.specs.Way.Found.{markOf, contentIn, Located, FindsLine}
+use Rattle.doc.specs.Way.Found.{extentOf, contentIn, Located, FindsLine}
 use Rattle.doc.specs.declared.Found.{Found}
-use Rattle.doc.specs.declared.Mark.{Mark}
+use Rattle.doc.specs.declared.Extent.{Extent}
 use Rattle.store_steps.specs.Way.Steps.{pathLine}
 
 -- what is not other than a number is that number
@@ -99,23 +99,23 @@ module _ (content : List ℕ) (sign : ℕ) (at : sign ≡ toEquals content) wher
 
 -- ---- the name after the sign
 
-no-mark : record { start = 0; size = 0 } ≡ markOf noWord
-unfolding markOf noWord
+no-mark : record { start = 0; size = 0 } ≡ extentOf noWord
+unfolding extentOf noWord
 no-mark = refl
 
 module _ (t : List ℕ) (line : Found) (sign : ℕ) (at : sign ≡ toEquals (contentIn t line)) where
-  pub right-none : length (contentIn t line) ≤ sign → record { start = 0; size = 0 } ≡ markOf (secondWord (rightWordsOf (pathLine t line)))
+  pub right-none : length (contentIn t line) ≤ sign → record { start = 0; size = 0 } ≡ extentOf (secondWord (rightWordsOf (pathLine t line)))
   unfolding rightWordsOf wordsFrom
   right-none h = rw (behind-none (contentIn t line) sign at h) no-mark
 
-  pub right-some : (r : Mark) →
-      r ≡ markOf (secondWord (wordsFrom (line .at + (sign + 1))
+  pub right-some : (r : Extent) →
+      r ≡ extentOf (secondWord (wordsFrom (line .at + (sign + 1))
       (take (length (contentIn t line) - (sign + 1)) (drop (sign + 1) (contentIn t line))))) →
-      r ≡ markOf (secondWord (rightWordsOf (pathLine t line)))
+      r ≡ extentOf (secondWord (rightWordsOf (pathLine t line)))
   unfolding rightWordsOf
   right-some r h =
-      h ∙ ap (λ (s : List ℕ). markOf (secondWord (wordsFrom (line .at + (sign + 1)) s))) (part-from (contentIn t line) (sign + 1))
-      ∙ ap (λ (n : ℕ). markOf (secondWord (wordsFrom (line .at + (n + 1)) (drop (n + 1) (contentIn t line))))) at
+      h ∙ ap (λ (s : List ℕ). extentOf (secondWord (wordsFrom (line .at + (sign + 1)) s))) (part-from (contentIn t line) (sign + 1))
+      ∙ ap (λ (n : ℕ). extentOf (secondWord (wordsFrom (line .at + (n + 1)) (drop (n + 1) (contentIn t line))))) at
 
 -- ---- the Side behind
 
@@ -130,10 +130,10 @@ module _ (t : List ℕ) (line : Found) (located : Located t line) where
   keyed-says k = if-false _ _ (both-not-right _ _ (ne-eqb _ _ (λ (e : _≡_ {A = ℕ} _ plain). k (located .key-is ∙ e))))
 
   no-side : (n : ℕ) → sayingAt (pathLine t line) ≡ n → (n ≡ path.saysSide → ⊥) →
-      record { start = 0; size = 0 } ≡ markOf (sideIn (pathLine t line ∷ []))
-  no-side n e h = no-mark ∙ ap markOf (sym (if-false _ _ (ne-eqb _ _ (λ (k : sayingAt (pathLine t line) ≡ path.saysSide). h (sym e ∙ k)))))
+      record { start = 0; size = 0 } ≡ extentOf (sideIn (pathLine t line ∷ []))
+  no-side n e h = no-mark ∙ ap extentOf (sym (if-false _ _ (ne-eqb _ _ (λ (k : sayingAt (pathLine t line) ≡ path.saysSide). h (sym e ∙ k)))))
 
-  pub side-keyed : (line .key ≡ 41 → ⊥) → record { start = 0; size = 0 } ≡ markOf (sideIn (pathLine t line ∷ []))
+  pub side-keyed : (line .key ≡ 41 → ⊥) → record { start = 0; size = 0 } ≡ extentOf (sideIn (pathLine t line ∷ []))
   side-keyed k = no-side 0 (keyed-says k) (λ (e : _≡_ {A = ℕ} 0 2). omega arith)
 
   module _ (k : (line .key ≡ 41 → ⊥) → ⊥) (word : List ℕ) (is-word : word ≡ firstOf (words (contentIn t line))) (says : ℕ)
@@ -141,22 +141,22 @@ module _ (t : List ℕ) (line : Found) (located : Located t line) where
     says-here : sayingAt (pathLine t line) ≡ says
     says-here = path-says (eq-of-not-not (line .key) 41 k) ∙ sym (told ∙ ap sayingOf is-word)
 
-    pub side-other : (says ≡ 2 → ⊥) → record { start = 0; size = 0 } ≡ markOf (sideIn (pathLine t line ∷ []))
+    pub side-other : (says ≡ 2 → ⊥) → record { start = 0; size = 0 } ≡ extentOf (sideIn (pathLine t line ∷ []))
     side-other h = no-side says says-here h
 
-    pub side-told : ((says ≡ 2 → ⊥) → ⊥) → (r : Mark) → r ≡ markOf (secondWord (wordsFrom (line .at) (contentIn t line))) →
-        r ≡ markOf (sideIn (pathLine t line ∷ []))
+    pub side-told : ((says ≡ 2 → ⊥) → ⊥) → (r : Extent) → r ≡ extentOf (secondWord (wordsFrom (line .at) (contentIn t line))) →
+        r ≡ extentOf (sideIn (pathLine t line ∷ []))
     unfolding wordsOf
-    side-told h r e = e ∙ ap markOf (sym (if-true _ _ (eq-eqb _ _ (says-here ∙ eq-of-not-not says 2 h))))
+    side-told h r e = e ∙ ap extentOf (sym (if-true _ _ (eq-eqb _ _ (says-here ∙ eq-of-not-not says 2 h))))
 
 -- the next line that says something
 module _ (t : List ℕ) (n at : ℕ) (line : Found) (finds : FindsLine t n at line) where
-  pub side-none : not (line .there) ≡ true → record { start = 0; size = 0 } ≡ markOf (sideIn (linesAt t n at place.path))
+  pub side-none : not (line .there) ≡ true → record { start = 0; size = 0 } ≡ extentOf (sideIn (linesAt t n at place.path))
   side-none h = rw (finds .same-none (not-true (line .there) h) place.path) no-mark
 
   module _ (there : not (line .there) ≡ false) where
     pub side-line : Located t line
     side-line = finds .located (not-false (line .there) there)
 
-    pub side-next : (r : Mark) → r ≡ markOf (sideIn (pathLine t line ∷ [])) → r ≡ markOf (sideIn (linesAt t n at place.path))
+    pub side-next : (r : Extent) → r ≡ extentOf (sideIn (pathLine t line ∷ [])) → r ≡ extentOf (sideIn (linesAt t n at place.path))
     side-next r h = rw (finds .same-there (not-false (line .there) there) place.path) h

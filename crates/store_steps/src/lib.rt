@@ -14,14 +14,14 @@ ghost use Rattle.line_place.specs.Place as place;
 ghost use Rattle.table_layout.specs.Way.Filling.{widthOf, position};
 ghost use Rattle.doc.specs.Lines.{linesAt, rightWordsOf, secondWord};
 ghost use Rattle.doc.specs.Document.{wordIn, amountOf, sideIn};
-ghost use Rattle.doc.specs.Way.Found.{Located, markOf};
+ghost use Rattle.doc.specs.Way.Found.{Located, extentOf};
 ghost use Rattle.table_name.specs.Name.{nameAt};
 ghost use Rattle.table_name.specs.Way.Search.{findIn};
 ghost use Rattle.store_base.specs.Way.Stores.{Stores, Placed};
 ghost use Rattle.store_steps.specs.Way.Usual.{Usable, Put, Puts, Forking, Pairing};
 ghost use Rattle.store_steps.specs.Way.Steps.{pathLine, endStep, sectionStep, forkStep, targetIn, stepWrites, Aimed, Says, Told, stepsAt};
+use doc::Extent;
 use doc::Found;
-use doc::Mark;
 use lex_number::Number;
 use table_layout::Filling;
 
@@ -86,46 +86,46 @@ fn amount_of(content: &[u8]) -> u64
 }
 
 // The name of a section: the second word after the sign.
-fn right_mark(text: &[u8], line: Found) -> Mark
+fn right_mark(text: &[u8], line: Found) -> Extent
     requires { ⌜ Located (now text) line ⌝ }
-    ensures { λ r. ⌜ r ≡ markOf (secondWord (rightWordsOf (pathLine (now (text .entry)) line))) ⌝ }
+    ensures { λ r. ⌜ r ≡ extentOf (secondWord (rightWordsOf (pathLine (now (text .entry)) line))) ⌝ }
 {
     let at = line.at;
     let end = line.end;
     let content = &text[at..end];
     let sign = lex_line::equals_at(content);
     if content.len() <= sign {
-        return Mark { start: 0, size: 0 };
+        return Extent { start: 0, size: 0 };
     }
     let from = sign + 1;
-    doc::second_mark(&content[from..], at + from)
+    doc::second_extent(&content[from..], at + from)
 }
 
 // The name of a Side; 0 0 where the line is none.
-fn side_in(text: &[u8], line: Found) -> Mark
+fn side_in(text: &[u8], line: Found) -> Extent
     requires { ⌜ Located (now text) line ⌝ }
-    ensures { λ r. ⌜ r ≡ markOf (sideIn (pathLine (now (text .entry)) line ∷ [])) ⌝ }
+    ensures { λ r. ⌜ r ≡ extentOf (sideIn (pathLine (now (text .entry)) line ∷ [])) ⌝ }
 {
     if line.key != doc::PLAIN {
-        return Mark { start: 0, size: 0 };
+        return Extent { start: 0, size: 0 };
     }
     let at = line.at;
     let end = line.end;
     let content = &text[at..end];
     if line_path::saying_of(lex_line::first_word(content)) != line_path::SIDE {
-        return Mark { start: 0, size: 0 };
+        return Extent { start: 0, size: 0 };
     }
-    doc::second_mark(content, at)
+    doc::second_extent(content, at)
 }
 
 // "perhaps with `Side name` as the next line read".
-fn side_after(text: &[u8], at: usize, first_line: u64) -> Mark
+fn side_after(text: &[u8], at: usize, first_line: u64) -> Extent
     requires { ⌜ Placed (now text) «first_line» at ⌝ }
-    ensures { λ r. ⌜ r ≡ markOf (sideIn (linesAt (now (text .entry)) «first_line» at place.path)) ⌝ }
+    ensures { λ r. ⌜ r ≡ extentOf (sideIn (linesAt (now (text .entry)) «first_line» at place.path)) ⌝ }
 {
     let line = doc::next_line(text, at, first_line);
     if !line.there {
-        return Mark { start: 0, size: 0 };
+        return Extent { start: 0, size: 0 };
     }
     side_in(text, line)
 }
@@ -139,7 +139,7 @@ fn find_marked(
     filling: Filling,
     part: usize,
     width: usize,
-    mark: Mark,
+    mark: Extent,
     after: usize,
 ) -> u64
     requires { ⌜ (part < 7) × (2 ≤ width) × (getD (filling .bases) part 0 + width * getD (filling .counts) part 0 ≤ length (now table)) ⌝ }
@@ -158,7 +158,7 @@ fn end_target(text: &[u8], line: Found, table: &[u64], filling: Filling) -> u64
 {
     let at = line.at;
     let end = line.end;
-    let mark = doc::second_mark(&text[at..end], at);
+    let mark = doc::second_extent(&text[at..end], at);
     find_marked(
         text,
         table,

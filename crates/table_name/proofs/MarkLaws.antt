@@ -8,7 +8,7 @@ use native.Mathlib.Numerals.{add-one}
 use native.Mathlib.Omega.{arith}
 use lib.ListN.{length, drop, getD, drop-of-length-le}
 use lib.Seq.{drop-cons}
-use Rattle.table_name.specs.Way.Marks.{bareMarks, nameMarks, marksMany, markFrom, hashOf}
+use Rattle.table_name.specs.Way.Hash.{bareMarks, nameMarks, marksMany, markFrom, hashOf}
 
 pub step-inside : (n : ℕ) → n % nameMarks + bareMarks < marksMany
 step-inside n =

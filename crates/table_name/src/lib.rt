@@ -6,7 +6,7 @@ ghost use lib.ListN.{length};
 ghost use Rattle.base.specs.Runs.{same};
 ghost use Rattle.table_name.specs.Name.{nameAt};
 ghost use Rattle.table_name.specs.Way.Search.{findIn, Tails};
-ghost use Rattle.table_name.specs.Way.Marks.{hashOf};
+ghost use Rattle.table_name.specs.Way.Hash.{hashOf};
 
 // How many bytes at the end of a name are looked at together.
 const TAIL: usize = 4;

@@ -4,7 +4,7 @@ use borrow.Author.Needs.{needs}
 use Prim.Native.Nat.{ℕ, _-_}
 use native.Mathlib.Omega.{arith}
 use lib.ListN.{length-replicate}
-use Rattle.table_name.specs.Way.Marks.{marksMany}
+use Rattle.table_name.specs.Way.Hash.{marksMany}
 use Rattle.cross_models.proofs.WalkLaws.{ModelsLeft, models-start, models-end, asks-model, model-breaks, asks-steps, steps-break, models-on}
 use Rattle.cross_models.proofs.model_finding.Statement.{statement}
 use Rattle.cross_models.proofs.model_finding.Tie as tie

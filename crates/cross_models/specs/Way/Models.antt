@@ -14,7 +14,7 @@ use Rattle.table_name.specs.Name.{nameAt}
 use Rattle.cross_rules.specs.Rules.{stepFindings, modelFindings}
 use Rattle.cross_rules.specs.Way.First.{firstIn}
 use Rattle.cross_rules.specs.declared.Finding.{Finding}
-use Rattle.cross_rules.specs.Way.Twice.{hasAbove}
+use Rattle.cross_rules.specs.Way.Repeated.{hasAbove}
 use Rattle.cross_steps.specs.Way.StepWords.{firstTarget}
 use Rattle.cross_steps.specs.declared.Owner.{Owner}
 use Rattle.cross_models.specs.Way.Cursor.{Cursor}

@@ -10,7 +10,7 @@ use Rattle.doc.specs.Lines.{significant}
 use Rattle.table_name.specs.Name.{nameAt}
 use Rattle.cross_rules.specs.Way.Nth.{nthLine}
 use Rattle.cross_rules.specs.declared.Finding.{Finding}
-use Rattle.cross_rules.specs.Way.Twice.{hasAbove}
+use Rattle.cross_rules.specs.Way.Repeated.{hasAbove}
 
 -- an earlier record has the name of record i; records of `width` words begin at word `base`
 abbrev pub twiceAt : List ℕ → List ℕ → ℕ → ℕ → ℕ → Bool

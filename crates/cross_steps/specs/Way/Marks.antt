@@ -9,7 +9,7 @@ use lib.ListN.{length, getD}
 use lib.Dec.{eqb}
 use Rattle.base.specs.If.{either}
 use Rattle.doc.specs.Document.{endKind}
-use Rattle.table_name.specs.Way.Marks.{marksMany, hashOf}
+use Rattle.table_name.specs.Way.Hash.{marksMany, hashOf}
 use Rattle.cross_steps.specs.Way.StepWords.{sideAt}
 use Rattle.cross_steps.specs.declared.Owner.{Owner}
 

@@ -17,16 +17,16 @@ use Rattle.line_place.specs.Place.{mapHead}
 use Rattle.doc.specs.Lines.{Line, plain, keyOf, linesAt, placeAfter, keyAt, argumentIn}
 use Rattle.doc.specs.Holds.{Each}
 use Rattle.doc.specs.declared.Found.{Found}
-use Rattle.doc.specs.declared.Mark.{Mark}
+use Rattle.doc.specs.declared.Extent.{Extent}
 use Rattle.doc.specs.declared.Passed.{Passed}
 
 -- the offset and size of a word
-unfoldable pub markOf : Word → Mark
-markOf w = record { start = w .start; size = length (w .text) }
+unfoldable pub extentOf : Word → Extent
+extentOf w = record { start = w .start; size = length (w .text) }
 
 -- the offset and size of the word that a span marks, in a part of the text that starts at `offset`; no word is 0 0
-unfoldable pub markAt : List ℕ → ℕ → Span → Mark
-markAt s offset word =
+unfoldable pub extentAt : List ℕ → ℕ → Span → Extent
+extentAt s offset word =
     if leb (length s) (word .start)
     then record { start = 0; size = 0 }
     else record { start = offset + word .start; size = word .end - word .start }

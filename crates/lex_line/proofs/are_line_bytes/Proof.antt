@@ -5,7 +5,7 @@ use Prim.Native.Nat.{_+_, _-_, _≤_}
 use lib.ListN.{take, drop}
 use Rattle.base.specs.If.{both}
 use Rattle.base.specs.Runs.{all}
-use Rattle.lex_line.specs.Way.Feeds.{isLineByte}
+use Rattle.lex_line.specs.Way.LineFeeds.{isLineByte}
 use Rattle.base.proofs.RunLaws.{block-start, block-goes, block-done}
 use borrow.Author.Needs.{needs}
 use Rattle.lex_line.proofs.are_line_bytes.Statement.{statement}

@@ -2,7 +2,7 @@
 -- Assumes nothing.
 use borrow.Author.Needs.{needs}
 use Rattle.base.proofs.IfLaws.{chain}
-use Rattle.lex_line.specs.Way.Feeds.{isLineByte}
+use Rattle.lex_line.specs.Way.LineFeeds.{isLineByte}
 use Rattle.lex_line.proofs.is_line_byte.Statement.{statement}
 use Rattle.lex_line.proofs.is_line_byte.Tie as tie
 

@@ -4,7 +4,7 @@ use mathlib.Core.Path.{_≡_}
 use Prim.Native.Nat.{_+_, _-_, _≤_}
 use native.Mathlib.Omega.{arith}
 use lib.ListN.{take, drop}
-use Rattle.lex_line.specs.Way.Feeds.{lineFeeds}
+use Rattle.lex_line.specs.Way.LineFeeds.{lineFeeds}
 use Rattle.lex_line.proofs.FeedLaws.{feeds-start, feeds-on, feeds-done, feed-told}
 use borrow.Author.Needs.{needs}
 use Rattle.lex_line.proofs.line_feeds_in.Statement.{statement}

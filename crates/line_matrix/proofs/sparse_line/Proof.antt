@@ -37,8 +37,8 @@ marked-requires c κs = search (word-ordered, word-within, zero-le)
 read-integer-requires : tie.Need-read-integer-requires
 read-integer-requires c κs = search needs
 
-told-of-requires : tie.Need-told-of-requires
-told-of-requires c κs = search needs
+number-check-requires : tie.Need-number-check-requires
+number-check-requires c κs = search needs
 
 pair-line-requires : tie.Need-pair-line-requires
 pair-line-requires c κs = search needs
@@ -60,6 +60,6 @@ sparse-line-spec =
     returns-2
     marked-requires
     read-integer-requires
-    told-of-requires
+    number-check-requires
     pair-line-requires
     returns-3)

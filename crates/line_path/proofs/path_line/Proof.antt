@@ -23,8 +23,8 @@ plain-line-requires c κs = search needs
 returns-2 : tie.Need-returns-2
 returns-2 c = search fork-line-in
 
-told-line-requires : tie.Need-told-line-requires
-told-line-requires c κs = search needs
+general-line-requires : tie.Need-general-line-requires
+general-line-requires c κs = search needs
 
 returns-3 : tie.Need-returns-3
 returns-3 c = search needs
@@ -39,5 +39,5 @@ path-line-spec =
     usual-fork-requires
     plain-line-requires
     returns-2
-    told-line-requires
+    general-line-requires
     returns-3)

@@ -17,7 +17,7 @@ use Rattle.line_path.specs.Path.{deepest, mostSteps}
 use Rattle.line_path.specs.declared.Path.{Path}
 use Rattle.line_map.specs.declared.Map.{Map}
 use Rattle.line_matrix.specs.declared.Matrix.{Matrix}
-use Rattle.line_keyword.specs.Way.Kept.{BoundedState}
+use Rattle.line_keyword.specs.Way.Bounded.{BoundedState}
 use Rattle.line_keyword.specs.declared.Counts.{Counts}
 use Rattle.line_keyword.specs.declared.State.{State}
 use Rattle.read_line.specs.Reading.{commentByte, breaks, readFrom}

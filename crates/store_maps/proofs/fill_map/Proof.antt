@@ -15,8 +15,8 @@ add-fill-pins c = search needs
 fill-pins-requires : tie.Need-fill-pins-requires
 fill-pins-requires c κs = search (needs, map-fits-pins)
 
-argument-mark-requires : tie.Need-argument-mark-requires
-argument-mark-requires c κs = search needs
+argument-extent-requires : tie.Need-argument-extent-requires
+argument-extent-requires c κs = search needs
 
 one-less-requires : tie.Need-one-less-requires
 one-less-requires c κs = search needs
@@ -37,7 +37,7 @@ same-length : tie.Need-same-length
 same-length c = search needs
 
 returns : tie.Need-returns
-returns c = map-filled _ (c .before .before .before .before .before .before .before .before .before .before .before .before .before .before .before .before .before .before .args .line) (c .before .before .before .before .before .before .before .before .before .before .before .before .before .before .before .before .before .before .args .filling) (c .before .before .before .before .before .before .before .before .before .before .before .before .before .before .before .before .before .before .pre .1) _ _ _ (c .before .before .before .before .before .before .before .before .before .before .before .before .fill-pins .ensures) _ (c .before .before .before .before .before .before .argument-mark .ensures) _ (c .before .before .before .before .before .one-less .ensures) _ _ (c .before .before .put-record .ensures .0) (c .before .before .put-record .ensures .1)
+returns c = map-filled _ (c .before .before .before .before .before .before .before .before .before .before .before .before .before .before .before .before .before .before .args .line) (c .before .before .before .before .before .before .before .before .before .before .before .before .before .before .before .before .before .before .args .filling) (c .before .before .before .before .before .before .before .before .before .before .before .before .before .before .before .before .before .before .pre .1) _ _ _ (c .before .before .before .before .before .before .before .before .before .before .before .before .fill-pins .ensures) _ (c .before .before .before .before .before .before .argument-extent .ensures) _ (c .before .before .before .before .before .one-less .ensures) _ _ (c .before .before .put-record .ensures .0) (c .before .before .put-record .ensures .1)
 
 pub fill-map-spec : {M : Type 1} → statement M
 fill-map-spec =
@@ -46,7 +46,7 @@ fill-map-spec =
     array-read-first
     add-fill-pins
     fill-pins-requires
-    argument-mark-requires
+    argument-extent-requires
     one-less-requires
     array-read-t22
     sub-t23

@@ -5,17 +5,17 @@ use borrow.Author.Needs.{needs}
 use Rattle.store_maps.proofs.put_pin.Statement.{statement}
 use Rattle.store_maps.proofs.put_pin.Tie as tie
 
-sub-first-mark : tie.Need-sub-first-mark
-sub-first-mark c = search needs
+sub-first-extent : tie.Need-sub-first-extent
+sub-first-extent c = search needs
 
-part-first-mark-start : tie.Need-part-first-mark-start
-part-first-mark-start c = search needs
+part-first-extent-start : tie.Need-part-first-extent-start
+part-first-extent-start c = search needs
 
-part-first-mark-end : tie.Need-part-first-mark-end
-part-first-mark-end c = search needs
+part-first-extent-end : tie.Need-part-first-extent-end
+part-first-extent-end c = search needs
 
-first-mark-requires : tie.Need-first-mark-requires
-first-mark-requires c κs = search needs
+first-extent-requires : tie.Need-first-extent-requires
+first-extent-requires c κs = search needs
 
 slice-aggregate-put-record : tie.Need-slice-aggregate-put-record
 slice-aggregate-put-record c = search needs
@@ -33,10 +33,10 @@ pub put-pin-spec : {M : Type 1} → statement M
 put-pin-spec =
     tie.close
     (tie.spec
-    sub-first-mark
-    part-first-mark-start
-    part-first-mark-end
-    first-mark-requires
+    sub-first-extent
+    part-first-extent-start
+    part-first-extent-end
+    first-extent-requires
     slice-aggregate-put-record
     put-record-requires
     same-length

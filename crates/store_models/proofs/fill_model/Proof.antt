@@ -15,8 +15,8 @@ add-fill-steps c = search needs
 fill-steps-requires : tie.Need-fill-steps-requires
 fill-steps-requires c κs = search model-open
 
-argument-mark-requires : tie.Need-argument-mark-requires
-argument-mark-requires c κs = search needs
+argument-extent-requires : tie.Need-argument-extent-requires
+argument-extent-requires c κs = search needs
 
 one-less-requires : tie.Need-one-less-requires
 one-less-requires c κs = search needs
@@ -57,7 +57,7 @@ fill-model-spec =
     array-read-first
     add-fill-steps
     fill-steps-requires
-    argument-mark-requires
+    argument-extent-requires
     one-less-requires
     array-read-t22
     sub-t23

@@ -11,8 +11,8 @@ add-fill-lines c = search needs
 fill-lines-requires : tie.Need-fill-lines-requires
 fill-lines-requires c κs = search (lines-puts, needs)
 
-argument-mark-requires : tie.Need-argument-mark-requires
-argument-mark-requires c κs = search needs
+argument-extent-requires : tie.Need-argument-extent-requires
+argument-extent-requires c κs = search needs
 
 told-in-requires : tie.Need-told-in-requires
 told-in-requires c κs = search needs
@@ -49,7 +49,7 @@ returns c =
     section-filled _ _ _ _
     (c .before .before .before .before .before .before .before .before .before .before .before .before .before .before .before .before .before .before .before .before .pre .0) _ _
     (c .before .before .before .before .before .before .before .before .before .before .before .before .before .before .fill-lines .ensures) _
-    (c .before .before .before .before .before .before .before .argument-mark .ensures)
+    (c .before .before .before .before .before .before .before .argument-extent .ensures)
     _ (c .before .before .before .before .before .before .told-in .ensures) _
     (c .before .before .before .before .before .told-in2 .ensures) _ _ (c .before .before .put-record .ensures .0)
     (c .before .before .put-record .ensures .1)
@@ -60,7 +60,7 @@ fill-section-spec =
     (tie.spec
     add-fill-lines
     fill-lines-requires
-    argument-mark-requires
+    argument-extent-requires
     told-in-requires
     told-in-requires-2
     array-read-t21

@@ -5,17 +5,17 @@ use borrow.Author.Needs.{needs}
 use Rattle.store_steps.proofs.end_target.Statement.{statement}
 use Rattle.store_steps.proofs.end_target.Tie as tie
 
-sub-second-mark : tie.Need-sub-second-mark
-sub-second-mark c = search needs
+sub-second-extent : tie.Need-sub-second-extent
+sub-second-extent c = search needs
 
-part-second-mark-start : tie.Need-part-second-mark-start
-part-second-mark-start c = search needs
+part-second-extent-start : tie.Need-part-second-extent-start
+part-second-extent-start c = search needs
 
-part-second-mark-end : tie.Need-part-second-mark-end
-part-second-mark-end c = search needs
+part-second-extent-end : tie.Need-part-second-extent-end
+part-second-extent-end c = search needs
 
-second-mark-requires : tie.Need-second-mark-requires
-second-mark-requires c κs = search needs
+second-extent-requires : tie.Need-second-extent-requires
+second-extent-requires c κs = search needs
 
 find-marked-requires : tie.Need-find-marked-requires
 find-marked-requires c κs = search needs
@@ -27,9 +27,9 @@ pub end-target-spec : {M : Type 1} → statement M
 end-target-spec =
     tie.close
     (tie.spec
-    sub-second-mark
-    part-second-mark-start
-    part-second-mark-end
-    second-mark-requires
+    sub-second-extent
+    part-second-extent-start
+    part-second-extent-end
+    second-extent-requires
     find-marked-requires
     returns)

@@ -23,20 +23,20 @@ returns c = search right-none
 add-from : tie.Need-add-from
 add-from c = search needs
 
-sub-second-mark : tie.Need-sub-second-mark
-sub-second-mark c = search needs
+sub-second-extent : tie.Need-sub-second-extent
+sub-second-extent c = search needs
 
-part-second-mark-start : tie.Need-part-second-mark-start
-part-second-mark-start c = search needs
+part-second-extent-start : tie.Need-part-second-extent-start
+part-second-extent-start c = search needs
 
-part-second-mark-end : tie.Need-part-second-mark-end
-part-second-mark-end c = search needs
+part-second-extent-end : tie.Need-part-second-extent-end
+part-second-extent-end c = search needs
 
-add-second-mark : tie.Need-add-second-mark
-add-second-mark c = search needs
+add-second-extent : tie.Need-add-second-extent
+add-second-extent c = search needs
 
-second-mark-requires : tie.Need-second-mark-requires
-second-mark-requires c κs = search needs
+second-extent-requires : tie.Need-second-extent-requires
+second-extent-requires c κs = search needs
 
 returns-2 : tie.Need-returns-2
 returns-2 c = search right-some
@@ -51,9 +51,9 @@ right-mark-spec =
     equals-at-requires
     returns
     add-from
-    sub-second-mark
-    part-second-mark-start
-    part-second-mark-end
-    add-second-mark
-    second-mark-requires
+    sub-second-extent
+    part-second-extent-start
+    part-second-extent-end
+    add-second-extent
+    second-extent-requires
     returns-2)

@@ -26,8 +26,8 @@ saying-of-requires c κs = search needs
 returns-2 : tie.Need-returns-2
 returns-2 c = search side-other
 
-second-mark-requires : tie.Need-second-mark-requires
-second-mark-requires c κs = search needs
+second-extent-requires : tie.Need-second-extent-requires
+second-extent-requires c κs = search needs
 
 returns-3 : tie.Need-returns-3
 returns-3 c = search side-told
@@ -43,5 +43,5 @@ side-in-spec =
     first-word-requires
     saying-of-requires
     returns-2
-    second-mark-requires
+    second-extent-requires
     returns-3)

@@ -6,8 +6,8 @@ use borrow.Author.Needs.{needs}
 use Rattle.cross_names.proofs.list.judge_line.Statement.{statement}
 use Rattle.cross_names.proofs.list.judge_line.Tie as tie
 
-stands-in-list-requires : tie.Need-stands-in-list-requires
-stands-in-list-requires c κs = search needs
+is-list-line-requires : tie.Need-is-list-line-requires
+is-list-line-requires c κs = search needs
 
 returns : tie.Need-returns
 unfolding lineJudged
@@ -22,4 +22,4 @@ returns-2 c = search chain
 
 pub judge-line-spec : {M : Type 1} → statement M
 judge-line-spec =
-    tie.close (tie.spec stands-in-list-requires returns judge-name-requires returns-2)
+    tie.close (tie.spec is-list-line-requires returns judge-name-requires returns-2)

@@ -17,27 +17,27 @@ abbrev μ-loop : tie.MeasureT-loop
 loop-holds : tie.Need-loop-holds Inv-loop μ-loop
 loop-holds c = search list-starts
 
-next-told-requires : tie.Need-next-told-requires Inv-loop μ-loop
-next-told-requires c κs = search needs
+next-list-line-requires : tie.Need-next-list-line-requires Inv-loop μ-loop
+next-list-line-requires c κs = search needs
 
 returns : tie.Need-returns Inv-loop μ-loop
-returns c = list-ends _ _ _ _ _ (c .before .before .before .loop .inv) _ (c .before .before .next-told .ensures) (c .if1 .taken)
+returns c = list-ends _ _ _ _ _ (c .before .before .before .loop .inv) _ (c .before .before .next-list-line .ensures) (c .if1 .taken)
 
 opens-model-requires : tie.Need-opens-model-requires Inv-loop μ-loop
 opens-model-requires c κs = search needs
 
 returns-2 : tie.Need-returns-2 Inv-loop μ-loop
 returns-2 c =
-    list-stops _ _ _ _ _ (c .before .before .before .before .before .loop .inv) _ (c .before .before .before .before .next-told .ensures) (c .before .before .if1 .left) _ (c .before .before .before .before .before .before .before .before .pre .0) _ (c .before .before .before .before .before .before .before .before .pre .1) _
+    list-stops _ _ _ _ _ (c .before .before .before .before .before .loop .inv) _ (c .before .before .before .before .next-list-line .ensures) (c .before .before .if1 .left) _ (c .before .before .before .before .before .before .before .before .pre .0) _ (c .before .before .before .before .before .before .before .before .pre .1) _
     (c .before .opens-model .ensures) (c .if2 .taken)
 
 judge-line-requires : tie.Need-judge-line-requires Inv-loop μ-loop
 judge-line-requires c κs =
-    line-ready _ _ _ _ _ (c .before .before .before .before .before .loop .inv) _ (c .before .before .before .before .next-told .ensures) (c .before .before .if1 .left) _ (c .before .before .before .before .before .before .before .before .pre .0) _ (c .before .before .before .before .before .before .before .before .pre .1)
+    line-ready _ _ _ _ _ (c .before .before .before .before .before .loop .inv) _ (c .before .before .before .before .next-list-line .ensures) (c .before .before .if1 .left) _ (c .before .before .before .before .before .before .before .before .pre .0) _ (c .before .before .before .before .before .before .before .before .pre .1)
 
 returns-3 : tie.Need-returns-3 Inv-loop μ-loop
 returns-3 c =
-    list-breaks _ _ _ _ _ (c .before .before .before .before .before .before .before .before .loop .inv) _ (c .before .before .before .before .before .before .before .next-told .ensures) (c .before .before .before .before .before .if1 .left) _ (c .before .before .before .before .before .before .before .before .before .before .before .pre .0) _ (c .before .before .before .before .before .before .before .before .before .before .before .pre .1) _
+    list-breaks _ _ _ _ _ (c .before .before .before .before .before .before .before .before .loop .inv) _ (c .before .before .before .before .before .before .before .next-list-line .ensures) (c .before .before .before .before .before .if1 .left) _ (c .before .before .before .before .before .before .before .before .before .before .before .pre .0) _ (c .before .before .before .before .before .before .before .before .before .before .before .pre .1) _
     (c .before .before .judge-line .ensures) (c .if3 .taken)
 
 array-write-listed : tie.Need-array-write-listed Inv-loop μ-loop
@@ -47,7 +47,7 @@ place-after-requires : tie.Need-place-after-requires Inv-loop μ-loop
 place-after-requires c κs = search found
 
 add-line-here : tie.Need-add-line-here Inv-loop μ-loop
-add-line-here c = omega (arith, number-small _ _ _ _ _ (c .before .before .before .before .before .before .before .before .before .before .loop .inv) _ (c .before .before .before .before .before .before .before .before .before .next-told .ensures) (c .before .before .before .before .before .before .before .if1 .left))
+add-line-here c = omega (arith, number-small _ _ _ _ _ (c .before .before .before .before .before .before .before .before .before .before .loop .inv) _ (c .before .before .before .before .before .before .before .before .before .next-list-line .ensures) (c .before .before .before .before .before .before .before .if1 .left))
 
 loop-less : tie.Need-loop-less Inv-loop μ-loop
 loop-less c = search list-less
@@ -62,7 +62,7 @@ list-finding-spec =
     Inv-loop
     μ-loop
     loop-holds
-    next-told-requires
+    next-list-line-requires
     returns
     opens-model-requires
     returns-2

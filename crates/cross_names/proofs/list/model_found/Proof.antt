@@ -5,17 +5,17 @@ use borrow.Author.Needs.{needs}
 use Rattle.cross_names.proofs.list.model_found.Statement.{statement}
 use Rattle.cross_names.proofs.list.model_found.Tie as tie
 
-sub-first-mark : tie.Need-sub-first-mark
-sub-first-mark c = search needs
+sub-first-extent : tie.Need-sub-first-extent
+sub-first-extent c = search needs
 
-part-first-mark-start : tie.Need-part-first-mark-start
-part-first-mark-start c = search needs
+part-first-extent-start : tie.Need-part-first-extent-start
+part-first-extent-start c = search needs
 
-part-first-mark-end : tie.Need-part-first-mark-end
-part-first-mark-end c = search needs
+part-first-extent-end : tie.Need-part-first-extent-end
+part-first-extent-end c = search needs
 
-first-mark-requires : tie.Need-first-mark-requires
-first-mark-requires c κs = search needs
+first-extent-requires : tie.Need-first-extent-requires
+first-extent-requires c κs = search needs
 
 name-at-requires : tie.Need-name-at-requires
 name-at-requires c κs = search needs
@@ -36,10 +36,10 @@ pub model-found-spec : {M : Type 1} → statement M
 model-found-spec =
     tie.close
     (tie.spec
-    sub-first-mark
-    part-first-mark-start
-    part-first-mark-end
-    first-mark-requires
+    sub-first-extent
+    part-first-extent-start
+    part-first-extent-end
+    first-extent-requires
     name-at-requires
     array-read-find-name
     array-read-find-name-2

@@ -5,7 +5,7 @@ use Prim.Native.Nat.{ℕ, _-_}
 use mathlib.Core.Path.{_≡_}
 use native.Mathlib.Omega.{arith}
 use lib.ListN.{length, length-replicate}
-use Rattle.table_name.specs.Way.Marks.{marksMany}
+use Rattle.table_name.specs.Way.Hash.{marksMany}
 use Rattle.cross_names.proofs.MapLaws.{MapsLeft, maps-start, maps-end, asks-map, asks-pins, map-breaks, pins-break, maps-on}
 use Rattle.cross_names.proofs.maps.map_finding.Statement.{statement}
 use Rattle.cross_names.proofs.maps.map_finding.Tie as tie

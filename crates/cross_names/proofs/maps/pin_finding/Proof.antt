@@ -2,7 +2,7 @@
 -- Assumes nothing.
 use borrow.Author.Needs.{needs}
 use Prim.Native.Nat.{_-_}
-use Rattle.cross_rules.specs.Way.Twice.{MarkedNames}
+use Rattle.cross_rules.specs.Way.Repeated.{MarkedNames}
 use Rattle.cross_rules.proofs.MarkedLaws.{marked-none}
 use Rattle.cross_names.proofs.PinLaws.{PinsLeft, pins-start, pins-end, pin-breaks, pins-on}
 use Rattle.cross_names.proofs.maps.pin_finding.Statement.{statement}

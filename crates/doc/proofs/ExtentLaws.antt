@@ -22,30 +22,30 @@ use Rattle.lex_keyword.specs.declared.Bracket.the-variants.{Plain, Indented, Ba
 use Rattle.lex_keyword.proofs.AnswerLaws.{keyword-known}
 use Rattle.read_line.specs.Reading.{argumentFrom}
 use Rattle.doc.specs.Lines.{Line, argumentIn, argumentOf, noWord, firstWord, secondWord}
-use Rattle.doc.specs.Way.Found.{markOf, markAt, contentIn, lineIn, Located}
+use Rattle.doc.specs.Way.Found.{extentOf, extentAt, contentIn, lineIn, Located}
 use Rattle.doc.specs.declared.Found.{Found}
-use Rattle.doc.specs.declared.Mark.{Mark}
+use Rattle.doc.specs.declared.Extent.{Extent}
 
 module _ (s : List ℕ) (offset : ℕ) (word : Span) where
-  pub mark-none : length s ≤ word .start → record { start = 0; size = 0 } ≡ markAt s offset word
-  unfolding markAt
+  pub mark-none : length s ≤ word .start → record { start = 0; size = 0 } ≡ extentAt s offset word
+  unfolding extentAt
   mark-none h = sym (if-true _ _ (le-leb _ _ h))
 
-  pub mark-some : word .start < length s → record { start = offset + word .start; size = word .end - word .start } ≡ markAt s offset word
-  unfolding markAt
+  pub mark-some : word .start < length s → record { start = offset + word .start; size = word .end - word .start } ≡ extentAt s offset word
+  unfolding extentAt
   mark-some h = sym (if-false _ _ (lt-leb _ _ h))
 
 -- ---- the first word and the second
 
-marked-at : (s : List ℕ) (start : ℕ) (word : Span) → word .start ≤ word .end → word .end ≤ length s → record { start = start; size = word .end - word .start } ≡ markOf (record { start = start; text = take (word .end - word .start) (drop (word .start) s) })
-unfolding markOf
+marked-at : (s : List ℕ) (start : ℕ) (word : Span) → word .start ≤ word .end → word .end ≤ length s → record { start = start; size = word .end - word .start } ≡ extentOf (record { start = start; text = take (word .end - word .start) (drop (word .start) s) })
+unfolding extentOf
 marked-at s start word h k =
     let l : length (drop (word .start) s) ≡ length s - word .start = length-drop (word .start) s in
     let m : length (take (word .end - word .start) (drop (word .start) s)) ≡ word .end - word .start = length-take-le _ (drop (word .start) s) (omega arith) in
     λ i. record { start = start; size = sym m i }
 
-no-mark : markOf noWord ≡ record { start = 0; size = 0 }
-unfolding markOf noWord
+no-mark : extentOf noWord ≡ record { start = 0; size = 0 }
+unfolding extentOf noWord
 no-mark = refl
 
 pub start-after : (s : List ℕ) (from : ℕ) → from ≤ wordSpan s from .start
@@ -54,7 +54,7 @@ start-after s from = omega arith
 
 -- the first of the words from an offset of s on
 module _ (s : List ℕ) (offset from : ℕ) (h : from ≤ length s) where
-  mark-first : markAt s offset (wordSpan s from) ≡ markOf (firstWord (wordsFrom (offset + from) (drop from s)))
+  mark-first : extentAt s offset (wordSpan s from) ≡ extentOf (firstWord (wordsFrom (offset + from) (drop from s)))
   mark-first =
       by-cases _ (leb (length s) (wordSpan s from .start))
       (λ (e : leb (length s) (wordSpan s from .start) ≡ true).
@@ -63,26 +63,26 @@ module _ (s : List ℕ) (offset from : ℕ) (h : from ≤ length s) where
       (λ (e : leb (length s) (wordSpan s from .start) ≡ false).
       rw (words-at offset s from (leb-false _ _ e)) (sym (mark-some s offset (wordSpan s from) (leb-false _ _ e)) ∙ marked))
     where
-      marked : record { start = offset + wordSpan s from .start; size = wordSpan s from .end - wordSpan s from .start } ≡ markOf (record { start = offset + wordSpan s from .start; text = take (wordSpan s from .end - wordSpan s from .start) (drop (wordSpan s from .start) s) })
+      marked : record { start = offset + wordSpan s from .start; size = wordSpan s from .end - wordSpan s from .start } ≡ extentOf (record { start = offset + wordSpan s from .start; text = take (wordSpan s from .end - wordSpan s from .start) (drop (wordSpan s from .start) s) })
       marked = marked-at s (offset + wordSpan s from .start) (wordSpan s from) (word-ordered s from (wordSpan s from) refl) (word-within s from (wordSpan s from) refl h)
 
-module _ (s : List ℕ) (offset : ℕ) (first : Span) (is-first : first ≡ wordSpan s 0) (r : Mark) where
-  pub first-marked : r ≡ markAt s offset first → r ≡ markOf (firstWord (wordsFrom offset s))
+module _ (s : List ℕ) (offset : ℕ) (first : Span) (is-first : first ≡ wordSpan s 0) (r : Extent) where
+  pub first-marked : r ≡ extentAt s offset first → r ≡ extentOf (firstWord (wordsFrom offset s))
   first-marked e =
-      e ∙ ap (markAt s offset) is-first ∙ mark-first s offset 0 (omega arith)
-      ∙ ap (λ (o : ℕ). markOf (firstWord (wordsFrom o s))) (add-zero offset)
+      e ∙ ap (extentAt s offset) is-first ∙ mark-first s offset 0 (omega arith)
+      ∙ ap (λ (o : ℕ). extentOf (firstWord (wordsFrom o s))) (add-zero offset)
 
-  pub second-marked : (second : Span) → second ≡ wordSpan s (first .end) → r ≡ markAt s offset second → r ≡ markOf (secondWord (wordsFrom offset s))
+  pub second-marked : (second : Span) → second ≡ wordSpan s (first .end) → r ≡ extentAt s offset second → r ≡ extentOf (secondWord (wordsFrom offset s))
   second-marked second is-second e =
       let w : second ≡ wordSpan s (wordSpan s 0 .end) = is-second ∙ ap (λ (x : Span). wordSpan s (x .end)) is-first in
       let z : wordsFrom (offset + 0) (drop 0 s) ≡ wordsFrom offset s = ap (λ (o : ℕ). wordsFrom o s) (add-zero offset) in
-      e ∙ ap (markAt s offset) w
-      ∙ by-cases (markAt s offset (wordSpan s (wordSpan s 0 .end)) ≡ markOf (secondWord (wordsFrom offset s))) (leb (length s) (wordSpan s 0 .start))
+      e ∙ ap (extentAt s offset) w
+      ∙ by-cases (extentAt s offset (wordSpan s (wordSpan s 0 .end)) ≡ extentOf (secondWord (wordsFrom offset s))) (leb (length s) (wordSpan s 0 .start))
       (λ (b : leb (length s) (wordSpan s 0 .start) ≡ true). none-second (leb-true _ _ b) (sym z ∙ words-none offset s 0 (leb-true _ _ b)))
       (λ (b : leb (length s) (wordSpan s 0 .start) ≡ false).
-      mark-first s offset (wordSpan s 0 .end) (word-within s 0 (wordSpan s 0) refl (omega arith)) ∙ ap (λ (ws : List Word). markOf (secondWord ws)) (sym (words-at offset s 0 (leb-false _ _ b)) ∙ z))
+      mark-first s offset (wordSpan s 0 .end) (word-within s 0 (wordSpan s 0) refl (omega arith)) ∙ ap (λ (ws : List Word). extentOf (secondWord ws)) (sym (words-at offset s 0 (leb-false _ _ b)) ∙ z))
     where
-      none-second : length s ≤ wordSpan s 0 .start → wordsFrom offset s ≡ [] → markAt s offset (wordSpan s (wordSpan s 0 .end)) ≡ markOf (secondWord (wordsFrom offset s))
+      none-second : length s ≤ wordSpan s 0 .start → wordsFrom offset s ≡ [] → extentAt s offset (wordSpan s (wordSpan s 0 .end)) ≡ extentOf (secondWord (wordsFrom offset s))
       none-second h z =
           let o : wordSpan s 0 .start ≤ wordSpan s 0 .end = word-ordered s 0 (wordSpan s 0) refl in
           let k : wordSpan s 0 .end ≤ wordSpan s (wordSpan s 0 .end) .start = start-after s (wordSpan s 0 .end) in
@@ -114,8 +114,8 @@ module _ (t : List ℕ) (f : Found) (located : Located t f) where
       let o : f .at ≤ f .end = located .ordered in
       omega arith
 
-  pub argument-told : (argument : List ℕ) → argument ≡ argumentFrom (contentIn t f) (f .argument) → record { start = f .at + f .argument; size = length argument } ≡ markOf (argumentOf (lineIn t f 0))
-  unfolding markOf argumentOf
+  pub argument-told : (argument : List ℕ) → argument ≡ argumentFrom (contentIn t f) (f .argument) → record { start = f .at + f .argument; size = length argument } ≡ extentOf (argumentOf (lineIn t f 0))
+  unfolding extentOf argumentOf
   argument-told argument e =
       let a : f .argument ≡ argumentIn (bracketOf (contentIn t f)) = located .argument-is in
       let m : length argument ≡ length (argumentFrom (contentIn t f) (argumentIn (bracketOf (contentIn t f)))) = ap length (e ∙ ap (argumentFrom (contentIn t f)) a) in

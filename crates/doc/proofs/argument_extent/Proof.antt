@@ -1,10 +1,10 @@
--- `doc::argument_mark` meets its contract: the argument as it is cut from the line, where it stands in the text.
+-- `doc::argument_extent` meets its contract: the argument as it is cut from the line, where it stands in the text.
 -- Assumes nothing.
-use Rattle.doc.proofs.MarkLaws.{argument-within, argument-told}
+use Rattle.doc.proofs.ExtentLaws.{argument-within, argument-told}
 use borrow.Author.Needs.{needs}
 use native.Mathlib.Omega.{arith}
-use Rattle.doc.proofs.argument_mark.Statement.{statement}
-use Rattle.doc.proofs.argument_mark.Tie as tie
+use Rattle.doc.proofs.argument_extent.Statement.{statement}
+use Rattle.doc.proofs.argument_extent.Tie as tie
 
 sub-argument-of : tie.Need-sub-argument-of
 sub-argument-of c = search needs
@@ -24,8 +24,8 @@ add-t7 c = omega (arith, argument-within _ _ (c .before .before .before .before 
 returns : tie.Need-returns
 returns c = search argument-told
 
-pub argument-mark-spec : {M : Type 1} → statement M
-argument-mark-spec =
+pub argument-extent-spec : {M : Type 1} → statement M
+argument-extent-spec =
     tie.close
     (tie.spec
     sub-argument-of

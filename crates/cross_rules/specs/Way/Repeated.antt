@@ -7,7 +7,7 @@ use mathlib.Core.List.{List}
 use lib.ListN.{length, getD}
 use Rattle.base.specs.Runs.{same}
 use Rattle.table_name.specs.Name.{nameAt}
-use Rattle.table_name.specs.Way.Marks.{marksMany, hashOf}
+use Rattle.table_name.specs.Way.Hash.{marksMany, hashOf}
 use Rattle.cross_rules.specs.Rules.{any}
 
 -- the bytes of a record's name; the first two words of the record are its start and length
