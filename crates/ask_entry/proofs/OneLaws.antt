@@ -11,8 +11,8 @@ use lib.Dec.{ltb}
 use borrow.Author.Tests.{ltb-true}
 use Rattle.base.proofs.IfLaws.{by-test}
 use Rattle.ask_entry.specs.WholeMatrix.{MatrixWords, wholeWords, matrixAnswer}
-use Rattle.ask_entry.specs.declared.Whole.{Whole}
-use Rattle.ask_entry.specs.declared.Whole.the-variants.{Found, Short, Refused}
+use Rattle.ask_entry.specs.declared.WholeAnswer.{WholeAnswer}
+use Rattle.ask_entry.specs.declared.WholeAnswer.the-variants.{Found, Short, Refused}
 
 -- words that tell apart a short room and a refusal
 abbrev Clear : MatrixWords → Type 0
@@ -30,7 +30,7 @@ answer-clear t table section kind room =
     (λ u. by-test Clear _ _ _ (λ v f (z : 31 ≡ 0) n. omega arith)
     (λ v. by-test Clear _ _ _ (λ e f z n. short-clear room _ e n) (λ e f z n. absurd (true≢false f))))
 
-one-of : (w : MatrixWords) → Clear w → (a b : Whole) → wholeWords a ≡ w → wholeWords b ≡ w → a ≡ b
+one-of : (w : MatrixWords) → Clear w → (a b : WholeAnswer) → wholeWords a ≡ w → wholeWords b ≡ w → a ≡ b
 one-of w clear (Found x) (Found y) e f = ap (λ (v : MatrixWords). Found (v .conductors)) (e ∙ sym f)
 one-of w clear (Found x) (Short y) e f = absurd (true≢false (ap (λ (v : MatrixWords). v .found) (e ∙ sym f)))
 one-of w clear (Found x) (Refused y) e f = absurd (true≢false (ap (λ (v : MatrixWords). v .found) (e ∙ sym f)))
@@ -44,6 +44,6 @@ one-of w clear (Refused x) (Short y) e f =
 one-of w clear (Refused x) (Refused y) e f = ap (λ (v : MatrixWords). Refused (v .rule)) (e ∙ sym f)
 
 -- any two answers that keep the promise are the same
-pub one-whole : (t table : List ℕ) (section kind room : ℕ) (a b : Whole) →
+pub one-whole : (t table : List ℕ) (section kind room : ℕ) (a b : WholeAnswer) →
     wholeWords a ≡ matrixAnswer t table section kind room → wholeWords b ≡ matrixAnswer t table section kind room → a ≡ b
 one-whole t table section kind room a b = one-of (matrixAnswer t table section kind room) (answer-clear t table section kind room) a b

@@ -25,7 +25,7 @@ use Rattle.ask_entry.specs.Entry.{noSection, matrixIndex, isInRange}
 use Rattle.ask_entry.specs.Way.Ready.{Ready}
 use Rattle.ask_entry.proofs.ReadyLaws.{ready-of, range-section, matrix-few}
 use Rattle.ask_entry.specs.WholeMatrix.{foundOf, shortOf, wholeWords, squareOf, sectionConductors, matrixAnswer, roomAfter}
-use Rattle.ask_entry.specs.declared.Whole.the-variants.{Found, Short, Refused}
+use Rattle.ask_entry.specs.declared.WholeAnswer.the-variants.{Found, Short, Refused}
 
 -- ---- lists
 

@@ -11,8 +11,8 @@ use Rattle.base.specs.If.{if_then_else_}
 use Rattle.doc.specs.Records.{Records, recordsOf}
 use Rattle.ask_sound.specs.Sound.{isSound}
 use Rattle.ask_entry.specs.Entry.{noSection, matrixIndex, entryOf, isInRange}
-use Rattle.ask_entry.specs.declared.Whole.{Whole}
-use Rattle.ask_entry.specs.declared.Whole.the-variants.{Found, Short, Refused}
+use Rattle.ask_entry.specs.declared.WholeAnswer.{WholeAnswer}
+use Rattle.ask_entry.specs.declared.WholeAnswer.the-variants.{Found, Short, Refused}
 
 -- ---- the answer
 
@@ -34,7 +34,7 @@ abbrev pub matrixRefused : ℕ → MatrixWords
 matrixRefused rule = record { found = false; rule = rule; line = 0; conductors = 0 }
 
 -- the paper's number and words for each case
-abbrev pub wholeWords : Whole → MatrixWords
+abbrev pub wholeWords : WholeAnswer → MatrixWords
 wholeWords (Found conductors) = foundOf conductors
 wholeWords (Short conductors) = shortOf conductors
 wholeWords (Refused rule) = matrixRefused rule

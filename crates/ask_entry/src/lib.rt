@@ -1,6 +1,6 @@
 // Document 01: the question "entry", one entry of a section's matrix as a value word. "Entries not written, and kinds
 // not given, are zero; entry (j,i) is entry (i,j)." A caller that knows its table to be sound can use `entry_in`, which
-// does not judge the table again.
+// does not judge the table again. `whole_matrix` gives all entries of a matrix at once.
 ghost use mathlib.Core.Path.{_≡_};
 ghost use mathlib.Core.Bool.{true};
 ghost use Prim.Native.Nat.{_+_, _*_, _≤_, _<_, min, max};
@@ -198,7 +198,7 @@ pub fn entry(text: &[u8], table: &[u64], section: u64, kind: u64, row: u64, colu
 // ---- a whole matrix, row by row, into lent room for N times N words; the table is judged once
 
 // Found, with N; or N, if the room is too short; or the rule of a refusal.
-pub enum Whole {
+pub enum WholeAnswer {
     Found(u64),
     Short(u64),
     Refused(u64),
@@ -256,21 +256,21 @@ pub fn whole_matrix(
     section: u64,
     kind: u64,
     values: &mut [u64],
-) -> Whole
+) -> WholeAnswer
     ensures { λ r. ⌜ (wholeWords r ≡ matrixAnswer (now (text .entry)) (now (table .entry)) section kind (length (now (values .entry)))) × (now (values .exit) ≡ roomAfter (now (table .entry)) section kind (wholeWords r) (now (values .entry))) ⌝ }
 {
     if !ask_sound::is_sound(text, table) {
-        return Whole::Refused(UNSOUND);
+        return WholeAnswer::Refused(UNSOUND);
     }
     let view = table_layout::view_of(table);
     if !is_in_range(table, view, section, kind, 1, 1) {
-        return Whole::Refused(NO_SUCH);
+        return WholeAnswer::Refused(NO_SUCH);
     }
     let conductors = conductors_of(table, view, section);
     if values.len() < (conductors as usize) * (conductors as usize) {
-        return Whole::Short(conductors);
+        return WholeAnswer::Short(conductors);
     }
     let index = matrix_of(table, view, section, kind);
     put_rows(table, view, index, conductors, values);
-    Whole::Found(conductors)
+    WholeAnswer::Found(conductors)
 }

@@ -8,7 +8,7 @@ const LONGEST: u64 = 120;
 // The value word of zero.
 const ZERO: u64 = 128;
 
-// "Lumped, Distributed".
+// The method Lumped; the other is Distributed.
 const LUMPED: u64 = 0;
 
 // "Row_ordered, Column_ordered or Un_ordered".

@@ -32,11 +32,11 @@ use Rattle.ask_walk.specs.Walk.{
 }
 use Rattle.ask_walk.specs.Way.Walkable.{firstStepOf, manyOf, StandsAt}
 
-pub next-list-line :
+pub next-is :
     (p : Place) (kind depth : ℕ) → depth ≡ depthAfter (p .depth) kind →
     _≡_ {A = Place} (record { model = p .model; step = p .step + 1; depth = depth }) (nextOf p kind)
 unfolding nextOf
-next-list-line p kind depth e = ap (λ (d : ℕ). record { model = p .model; step = p .step + 1; depth = d }) e
+next-is p kind depth e = ap (λ (d : ℕ). record { model = p .model; step = p .step + 1; depth = d }) e
 
 pub over-steps :
     (table : List ℕ) (at : ℕ) (p next : Place) → next ≡ nextOf p (getD table at 0) →

@@ -21,7 +21,7 @@ const SECTION_WORDS: usize = 8;
 
 const MATRIX_WORDS: usize = 5;
 
-// "form 0 diagonal", "SLM_general, SLM_quiescent" before MLM, "Lumped, Distributed".
+// "form 0 diagonal", "SLM_general, SLM_quiescent" before MLM, Lumped before Distributed.
 const DIAGONAL: u64 = 0;
 
 const MLM: u64 = 2;

@@ -31,7 +31,7 @@ use Rattle.line_head.specs.declared.Head.{Head}
 use Rattle.line_path.specs.Path.{sayingOf, isMult}
 use Rattle.line_path.specs.Path as path
 use Rattle.line_map.specs.PinMap.{mapLineOf, mapNext, newMap}
-use Rattle.line_map.specs.declared.Map as pin_map
+use Rattle.line_map.specs.declared.Map as pinMap
 use Rattle.line_matrix.specs.Matrix.{diagonal, sparse}
 use Rattle.doc.specs.Lines.{
   Line,
@@ -188,7 +188,7 @@ unfoldable pub inMap : Line → Bool
 inMap l = either (standsIn place.mapHead l) (standsIn place.pinList l)
 
 -- what the lines above its Pin_list give; `order` is the table's order plus 1
-unfoldable pub gridIn : pin_map.Map → List Line → pin_map.Map
+unfoldable pub gridIn : pinMap.Map → List Line → pinMap.Map
 gridIn m [] = m
 gridIn m (l ∷ ls) = gridIn (if standsIn place.mapHead l then mapNext (mapLineOf (l .content)) m else m) ls
 

@@ -187,9 +187,9 @@ abbrev neverBroken : Rule
 neverBroken = 0 when false
 
 -- among these lines with their rules, a rule of this number is broken on this line
-pub record BrokenIn (looks : List RulesAtLine) (rule line : ℕ) : Type 0 where
+pub record BrokenIn (listed : List RulesAtLine) (rule line : ℕ) : Type 0 where
   pub look : RulesAtLine
-  pub among : Among look looks
+  pub among : Among look listed
   pub place : ℕ
   pub within : place < length (look .rules)
   pub broken : getD (look .rules) place neverBroken .broken ≡ true
@@ -210,6 +210,6 @@ rank g rule = if both (eqb g forward) (eqb rule 15) then 17 else 2 * rule
 -- 0 last; on one line the lowest number"
 pub record First (t : List ℕ) (size g rule line : ℕ) : Type 0 where
   pub found : Broken t size g rule line
-  pub earlier-groups : (h other place : ℕ) → Broken t size h other place → g ≤ h
-  pub earliest-line : (other place : ℕ) → Broken t size g other place → 0 < place → (0 < line) × (line ≤ place)
+  pub earlier-groups : (h other at : ℕ) → Broken t size h other at → g ≤ h
+  pub earliest-line : (other at : ℕ) → Broken t size g other at → 0 < at → (0 < line) × (line ≤ at)
   pub lowest-rule : (other : ℕ) → Broken t size g other line → rank g rule ≤ rank g other

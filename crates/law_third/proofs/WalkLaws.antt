@@ -44,7 +44,7 @@ use Rattle.ask_walk.specs.declared.Place.{Place}
 use Rattle.ask_walk.proofs.KindLaws.{Moves, moves}
 use Rattle.ask_walk.proofs.ReadyLaws.{right-model}
 use Rattle.ask_walk.proofs.WalkLaws.{first-place, next-place}
-use Rattle.law_third.specs.Third.{AcceptedTable, walkedTo, nameThrough, sideOf, Shown, stepKinds, Walked}
+use Rattle.law_third.specs.Third.{AcceptedTable, walkedTo, nameThrough, sideOf, Shown, stepKinds, WalkShown}
 use Rattle.law_third.proofs.WalkTakenLaws.{taken-kept, taken-sound, taken-records}
 use Rattle.law_third.proofs.WalkRecordLaws.{its-model, its-place, its-step, its-kinds}
 use Rattle.law_third.proofs.WalkNameLaws.{all-nameless, name-shown, section-passed}
@@ -243,11 +243,11 @@ module _ (t table : List ℕ) (taken : AcceptedTable t table) (before behind : L
         rw goes (shown-by (nextOf q (stepAtPlace (recordsOf table) q .kind)))
 
   -- the walk from the start of the model, as the demand states it
-  pub walk-shown : Walked t table (length before) m
+  pub walk-shown : WalkShown t table (length before) m
   walk-shown = record { shows = its-shown; deep = its-deep; ends = its-end }
 
 -- for every model of an accepted text
 pub walks-shown :
     (t table : List ℕ) → AcceptedTable t table → (before behind : List Model) (m : Model) → documentOf t .models ≡ before ++ (m ∷ behind) →
-    Walked t table (length before) m
+    WalkShown t table (length before) m
 walks-shown t table taken before behind m stands = walk-shown t table taken before behind m stands

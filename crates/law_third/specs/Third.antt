@@ -79,7 +79,7 @@ stepKinds steps = map (λ (s : Step). s .kind) steps
 
 -- the walk of model m, which has the index i: it shows each path line in turn; the depth is opens less closes; after
 -- the last line it is done, and every fork is closed
-pub record Walked (t table : List ℕ) (i : ℕ) (m : Model) : Type 0 where
+pub record WalkShown (t table : List ℕ) (i : ℕ) (m : Model) : Type 0 where
   pub shows :
       (above below : List Step) (s : Step) → m .steps ≡ above ++ (s ∷ below) →
       Shown t table s (walk.walkAnswer t table (walkedTo t table i (length above)))
@@ -139,6 +139,6 @@ pub record SameAnswers (t table u other : List ℕ) : Type 0 where
 -- ---- the whole
 
 pub record Third (t table : List ℕ) : Type 0 where
-  pub walks : (before behind : List Model) (m : Model) → documentOf t .models ≡ before ++ (m ∷ behind) → Walked t table (length before) m
+  pub walks : (before behind : List Model) (m : Model) → documentOf t .models ≡ before ++ (m ∷ behind) → WalkShown t table (length before) m
   pub entries : (before behind : List Section) (x : Section) → documentOf t .sections ≡ before ++ (x ∷ behind) → Entered t table (length before) x
   pub others : (u other : List ℕ) → AcceptedTable u other → Alike t u → SameAnswers t table u other

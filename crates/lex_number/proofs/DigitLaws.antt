@@ -110,9 +110,9 @@ counts-digit d v k =
       fraction-within = by-test (λ (n : ℕ). n ≤ d .end + 1) (d .point) _ _ (λ e. omega arith) (λ e. omega arith);
     }
 
-pub matrix-keyword-next : (d next : Digits) (b : ℕ) → CutDigits d → next ≡ cappedDigits (withByte d b) → CutDigits next
+pub cut-next : (d next : Digits) (b : ℕ) → CutDigits d → next ≡ cappedDigits (withByte d b) → CutDigits next
 unfolding withByte
-matrix-keyword-next d next b k e = rw e (by-test (λ (x : Digits). CutDigits (cappedDigits x)) (isPoint b) _ _ (λ t. counts-point d k) (λ t. counts-digit d (b - 48) k))
+cut-next d next b k e = rw e (by-test (λ (x : Digits). CutDigits (cappedDigits x)) (isPoint b) _ _ (λ t. counts-point d k) (λ t. counts-digit d (b - 48) k))
 
 pub ends-next : (d : Digits) (b : ℕ) → cappedDigits (withByte d b) .end ≡ d .end + 1
 unfolding cappedDigits withByte withPoint withDigit

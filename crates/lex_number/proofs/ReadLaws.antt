@@ -23,7 +23,7 @@ use Rattle.lex_number.specs.declared.Number.the-variants.{Malformed}
 use Rattle.lex_number.specs.Number.{isSign, isE, isMinus, pastSign, noDigits, digitsGoOn, withByte, scan, digitsOf, noExponent, exponentAt, exponentOf, exponentFrom, scaleOf, raised, lowered, valueAs, wellFormed, numberFrom, numberOf}
 use Rattle.lex_number.specs.Way.Capped.{sizeCap, exponentCap, countCap, cappedDigits, cappedExponent, raising, lowering, CutDigits, BoundedNumber}
 use Rattle.lex_number.proofs.CappedLaws.{scan-goes, scan-stops, scan-ends, byte-cut, kept-cut}
-use Rattle.lex_number.proofs.DigitLaws.{kept-none, matrix-keyword-next, ends-next}
+use Rattle.lex_number.proofs.DigitLaws.{kept-none, cut-next, ends-next}
 use Rattle.lex_number.proofs.ScaleLaws.{scale-up, scale-down}
 use Rattle.lex_number.proofs.ValueLaws.{Agree, value-agree}
 
@@ -47,7 +47,7 @@ scan-kept : (s : List ℕ) (d : Digits) → CutDigits (cappedDigits d) → CutDi
 scan-kept [] d k = rw (scan-ends d) k
 scan-kept (b ∷ s) d k =
     by-cases _ (digitsGoOn d b)
-    (λ (e : digitsGoOn d b ≡ true). rw (scan-goes b s d e) (scan-kept s (withByte d b) (matrix-keyword-next (cappedDigits d) (cappedDigits (withByte d b)) b k (sym (byte-cut d b)))))
+    (λ (e : digitsGoOn d b ≡ true). rw (scan-goes b s d e) (scan-kept s (withByte d b) (cut-next (cappedDigits d) (cappedDigits (withByte d b)) b k (sym (byte-cut d b)))))
     (λ (e : digitsGoOn d b ≡ false). rw (scan-stops b s d e) k)
 
 kept-cut-none : (from : ℕ) → CutDigits (cappedDigits (noDigits from))

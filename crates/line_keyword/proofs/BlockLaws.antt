@@ -145,9 +145,9 @@ counts-told k c models maps sections matrices opens told a b d e =
     λ i. record { models = a i; steps = c .steps; maps = b i; pins = c .pins; sections = d i; matrices = f i; values = c .values }
 
 -- the state after a keyword, part by part
-pub next-list-line : (k : ℕ) (argument : List ℕ) (s : State) (p : ℕ) (seen : List Bool) (h : Head) (t : Path) (m : Map) (n : Section) (x : Matrix) (c : Counts) → p ≡ moved (s .place) k → seen ≡ seenAfter k (s .seen) → h ≡ headAfter k (s .head) → t ≡ pathAfter k (s .path) → m ≡ mapAfter k (s .map) → n ≡ sectionAfter k argument s → x ≡ matrixAfter k argument s → c ≡ countsAfter k (s .counts) → record { place = p; seen = seen; head = h; path = t; map = m; section = n; matrix = x; counts = c } ≡ keywordNext k argument s
+pub next-parts : (k : ℕ) (argument : List ℕ) (s : State) (p : ℕ) (seen : List Bool) (h : Head) (t : Path) (m : Map) (n : Section) (x : Matrix) (c : Counts) → p ≡ moved (s .place) k → seen ≡ seenAfter k (s .seen) → h ≡ headAfter k (s .head) → t ≡ pathAfter k (s .path) → m ≡ mapAfter k (s .map) → n ≡ sectionAfter k argument s → x ≡ matrixAfter k argument s → c ≡ countsAfter k (s .counts) → record { place = p; seen = seen; head = h; path = t; map = m; section = n; matrix = x; counts = c } ≡ keywordNext k argument s
 unfolding keywordNext
-next-list-line k argument s p seen h t m n x c ep es eh et em en ex ec =
+next-parts k argument s p seen h t m n x c ep es eh et em en ex ec =
     λ i. record { place = ep i; seen = es i; head = eh i; path = et i; map = em i; section = en i; matrix = ex i; counts = ec i }
 
 pub start-told : (h : Head) (t : Path) (m : Map) (x : Matrix) → h ≡ newHead → t ≡ newPath → m ≡ newMap → x ≡ newMatrix 0 0 → record { place = 0; seen = noneSeen; head = h; path = t; map = m; section = newSection; matrix = x; counts = noCounts } ≡ startState

@@ -50,8 +50,8 @@ use Rattle.line_matrix.specs.Matrix.{
 -- ---- rows
 
 -- whether a row is the next one, decided without a sum that could wrap
-next-list-line : (row last : ℕ) → (row ≡ 0 → ⊥) → eqb (row - 1) last ≡ eqb row (last + 1)
-next-list-line row last h =
+row-follows : (row last : ℕ) → (row ≡ 0 → ⊥) → eqb (row - 1) last ≡ eqb row (last + 1)
+row-follows row last h =
     by-cases (eqb (row - 1) last ≡ eqb row (last + 1)) (eqb (row - 1) last)
     (λ (e : eqb (row - 1) last ≡ true). let k : row - 1 ≡ last = eqb-true _ _ e in e ∙ sym (eq-eqb row (last + 1) (omega arith)))
     (λ (e : eqb (row - 1) last ≡ false). e ∙ sym (ne-eqb row (last + 1) (λ (k : row ≡ last + 1). eqb-false (row - 1) last e (omega arith))))
@@ -65,7 +65,7 @@ module _ (row : ℕ) (m : Matrix) (d : m .form ≡ diagonal → ⊥) (s : m .for
   row-zero e = sym (row-rest ∙ not-via (ne-eqb row (m .rows .row + 1) (λ (k : row ≡ m .rows .row + 1). omega arith)))
 
   pub row-next : (row ≡ 0 → ⊥) → not (eqb (row - 1) (m .rows .row)) ≡ isWrongRow row m
-  row-next h = ap not (next-list-line row (m .rows .row) h) ∙ sym row-rest
+  row-next h = ap not (row-follows row (m .rows .row) h) ∙ sym row-rest
 
 module _ (m : Matrix) (values : ℕ) where
   pub above-first : m .rows .row < 2 → true ≡ standsAbove m values

@@ -116,13 +116,13 @@ numbersLine ws = record { numbers = length ws; column = 0; right = true; formed 
 
 -- a sparse line: its column, and the check of the word after it
 abbrev pub pairLine : Whole → NumberCheck → DataLine
-pairLine column told =
+pairLine column check =
     record {
       numbers = 1;
       column = column .value;
       right = true;
-      formed = both (column .formed) (told .formed);
-      bounded = both (within 1 256 (column .value)) (told .bounded);
+      formed = both (column .formed) (check .formed);
+      bounded = both (within 1 256 (column .value)) (check .bounded);
     }
 
 -- "lines `column value`": columns 1 to 256

@@ -220,15 +220,15 @@ module _ (t : List ℕ) (at line : ℕ) (s : State) (h : at < length t) (on : On
         record {
           same = if-true _ _ (eq-eqb _ _ z) ∙ sym (line-run t at line s h here found step taken ∙ if-true _ _ (eq-eqb _ _ z));
           further = λ (e : step .rule ≡ 0). f;
-          onward = λ (e : step .rule ≡ 0). record { within = w; counted = omega arith; kept = matrix-keyword-next z };
+          onward = λ (e : step .rule ≡ 0). record { within = w; counted = omega arith; kept = bounded-next z };
           rises = λ (e : step .rule ≡ 0). raised-next e;
         }
       where
         raised-next : step .rule ≡ 0 → Rises s (step .state)
         raised-next z = rw taken (step-raises (take (here .content - at) (drop at t)) s (rw taken at z))
 
-        matrix-keyword-next : step .rule ≡ 0 → BoundedState (line + 1) (step .state)
-        matrix-keyword-next z = rw taken (step-kept line (take (here .content - at) (drop at t)) s (on .kept) (rw taken at z))
+        bounded-next : step .rule ≡ 0 → BoundedState (line + 1) (step .state)
+        bounded-next z = rw taken (step-kept line (take (here .content - at) (drop at t)) s (on .kept) (rw taken at z))
 
     -- the next line is the one after it, unless it breaks a rule
     pub line-reached : (after : ℕ) → after ≡ oneMoreIf (eqb (step .rule) 0) line → ResumesText t at line s (record { rule = step .rule; at = here .next; line = after; state = step .state })

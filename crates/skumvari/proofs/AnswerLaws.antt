@@ -22,8 +22,8 @@ use Rattle.ask_walk.specs.declared.StepWords.{StepWords}
 use Rattle.ask_walk.specs.declared.Walked.{Walked}
 use Rattle.ask_walk.specs.declared.Walked.the-variants as walked
 use Rattle.ask_entry.specs.WholeMatrix as matrices
-use Rattle.ask_entry.specs.declared.Whole.{Whole}
-use Rattle.ask_entry.specs.declared.Whole.the-variants as whole
+use Rattle.ask_entry.specs.declared.WholeAnswer.{WholeAnswer}
+use Rattle.ask_entry.specs.declared.WholeAnswer.the-variants as whole
 use Rattle.out_double.specs.Double.{drawnOf, paired}
 use Rattle.out_double.specs.declared.Drawn.{Drawn}
 use Rattle.out_double.specs.declared.Drawn.the-variants as drawn
@@ -136,7 +136,7 @@ module _ (lent after : List ℕ) where
           ((λ i. flag-false i ∷ number ∷ 0 ∷ flag-false i ∷ stepLayout (is-none i) (record { model = 0; step = 0; depth = 0 }))
           ∙ (λ i. walkLayout (walks.walkWords (sym e i))) ∙ ap walkLayout is) h
 
-  module _ (answer : Whole) (words : matrices.MatrixWords) (is : matrices.wholeWords answer ≡ words) where
+  module _ (answer : WholeAnswer) (words : matrices.MatrixWords) (is : matrices.wholeWords answer ≡ words) where
     pub matrix-found : (conductors : ℕ) → answer ≡ whole.Found conductors → after ≡ answered (1 ∷ 0 ∷ 0 ∷ conductors ∷ []) lent → after ≡ answered (matrixLayout words) lent
     unfolding matrixLayout
     matrix-found conductors e h =

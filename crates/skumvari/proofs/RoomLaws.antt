@@ -37,9 +37,9 @@ unfolding needed countsOf
 words-for c = omega arith
 
 module _ (t : List ℕ) where
-  first-two-words : (c : Counts) → readingOf t ≡ reading.Read c → length (tableOf t) ≤ mostWords
+  words-fit : (c : Counts) → readingOf t ≡ reading.Read c → length (tableOf t) ≤ mostWords
   unfolding mostWords
-  first-two-words c e =
+  words-fit c e =
       let n : needed widths (countsOf c) ≡ length (tableOf t) = needed-is t c e in
       let w : Within c = read-within t c e in
       let m : c .matrices ≤ 1_024 = read-matrices t c e in
@@ -48,7 +48,7 @@ module _ (t : List ℕ) where
   module _ (size : ℕ) (enough : mostWords ≤ size) where
     read-stored : (c : Counts) → readingOf t ≡ reading.Read c → afterReading t size (reading.Read c) ≡ Stored (length (tableOf t))
     read-stored c e =
-        let f : length (tableOf t) ≤ mostWords = first-two-words c e in
+        let f : length (tableOf t) ≤ mostWords = words-fit c e in
         let l : length (tableOf t) ≤ size = omega arith in
         if-false _ _ (le-ltb size (length (tableOf t)) l)
 

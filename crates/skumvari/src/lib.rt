@@ -12,7 +12,7 @@ ghost use Rattle.out_double.specs.Double.{drawnOf, paired};
 ghost use Rattle.skumvari.specs.Words.{intakeLayout, entryLayout, walkLayout, matrixLayout, doubleLayout, pairLayout, stepLayout, isRoom, answered, tableAfter, valuesAfter};
 ghost use Rattle.skumvari.specs.Room.{mostWords};
 use ask_entry::Answer;
-use ask_entry::Whole;
+use ask_entry::WholeAnswer;
 use ask_walk::Place;
 use ask_walk::StepWords;
 use ask_walk::Walked;
@@ -200,9 +200,9 @@ pub extern "C" fn skumvari_matrix(
         return false;
     }
     match ask_entry::whole_matrix(text, table, section, kind, values) {
-        Whole::Found(conductors) => put_answer(answer, 1, 0, 0, conductors),
-        Whole::Short(conductors) => put_answer(answer, 0, 0, 0, conductors),
-        Whole::Refused(rule) => put_answer(answer, 0, rule, 0, 0),
+        WholeAnswer::Found(conductors) => put_answer(answer, 1, 0, 0, conductors),
+        WholeAnswer::Short(conductors) => put_answer(answer, 0, 0, 0, conductors),
+        WholeAnswer::Refused(rule) => put_answer(answer, 0, rule, 0, 0),
     }
 }
 

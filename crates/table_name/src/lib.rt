@@ -115,11 +115,12 @@ fn wide(b: u8) -> usize
     b as usize
 }
 
-// The mark of a name in the group `number`, such as one map's pins. Equal names have the same mark, others seldom.
-pub fn hash_of(number: u64, name: &[u8]) -> usize
-    ensures { λ r. ⌜ r ≡ hashOf number (now (name .entry)) ⌝ }
+// The mark of a name in a group: for the side of an end, the group is its map; for pins there is one group, 0. Equal names
+// of one group have the same mark, others seldom.
+pub fn hash_of(group: u64, name: &[u8]) -> usize
+    ensures { λ r. ⌜ r ≡ hashOf group (now (name .entry)) ⌝ }
 {
-    let mut mark = number as usize % BARE_MARKS;
+    let mut mark = group as usize % BARE_MARKS;
     let mut next = 0;
     while next < name.len() {
         mark = (mark * 37 + wide(name[next])) % NAME_MARKS + BARE_MARKS;

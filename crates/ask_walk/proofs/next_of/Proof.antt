@@ -1,6 +1,6 @@
 -- `ask_walk::next_of` meets its contract.
 -- Assumes nothing.
-use Rattle.ask_walk.proofs.StepLaws.{next-list-line}
+use Rattle.ask_walk.proofs.StepLaws.{next-is}
 use borrow.Author.Needs.{needs}
 use Rattle.ask_walk.proofs.next_of.Statement.{statement}
 use Rattle.ask_walk.proofs.next_of.Tie as tie
@@ -12,7 +12,7 @@ depth-after-requires : tie.Need-depth-after-requires
 depth-after-requires c κs = search needs
 
 returns : tie.Need-returns
-returns c = search next-list-line
+returns c = search next-is
 
 pub next-of-spec : {M : Type 1} → statement M
 next-of-spec = tie.close (tie.spec add-t3 depth-after-requires returns)

@@ -1,6 +1,6 @@
 -- `line_keyword::keyword_next` meets its contract: what the calls answered, part by part.
 -- Assumes nothing.
-use Rattle.line_keyword.proofs.BlockLaws.{next-list-line}
+use Rattle.line_keyword.proofs.BlockLaws.{next-parts}
 use borrow.Author.Needs.{needs}
 use Rattle.line_keyword.proofs.keyword_next.Statement.{statement}
 use Rattle.line_keyword.proofs.keyword_next.Tie as tie
@@ -30,7 +30,7 @@ counts-after-requires : tie.Need-counts-after-requires
 counts-after-requires c κs = c .before .before .before .before .before .before .before .before .before .before .before .before .before .pre .1
 
 returns : tie.Need-returns
-returns c = search next-list-line
+returns c = search next-parts
 
 pub keyword-next-spec : {M : Type 1} → statement M
 keyword-next-spec =

@@ -18,6 +18,6 @@ unfoldable pub markFrom : ℕ → List ℕ → ℕ
 markFrom mark [] = mark
 markFrom mark (b ∷ s) = markFrom ((mark * 37 + b) % nameMarks + bareMarks) s
 
--- the mark of a name in the group `number`
+-- the mark of a name in a group
 unfoldable pub hashOf : ℕ → List ℕ → ℕ
-hashOf number name = markFrom (number % bareMarks) name
+hashOf group name = markFrom (group % bareMarks) name
