@@ -8,20 +8,23 @@ use native.Mathlib.Nat.{min-comm, max-comm}
 use lib.ListN.{length, getD}
 use lib.Dec.{eqb, ltb}
 use borrow.Author.Tests.{not-true, not-false}
+use Rattle.table_record.specs.Way.Standing.{countOf}
+use Rattle.table_record.specs.Records.{Records, recordsOf, noSection, noMatrix}
 use Rattle.base.specs.If.{if_then_else_, both}
+use Rattle.base.specs.Refusal as refusal
+use Rattle.table_layout.specs.Codes.{matrixKinds}
+use Rattle.table_layout.specs.Bounds.{mostConductors}
+use Rattle.table_record.specs.declared.SectionRecord.{SectionRecord}
 use Rattle.base.proofs.IfLaws.{if-true, if-false, not-via, not-not-via}
 use Rattle.lex_number.specs.ValueWord.{zeroWord}
 use Rattle.table_layout.specs.Layout.{sections, matrices}
-use Rattle.table_layout.specs.View.{viewOf}
 use Rattle.table_layout.specs.declared.View.{View}
-use Rattle.doc.specs.Records.{Records, recordsOf}
-use Rattle.ask_sound.specs.Sound.{isSound}
-use Rattle.ask_sound.specs.Way.Standing.{countOf}
-use Rattle.ask_entry.specs.Entry.{EntryWords, foundWith, entryRefused, entryWords, noSection, noMatrix, matrixIndex, wordAt, matrixValues, entryOf, isInRange, entryAnswer}
-use Rattle.ask_entry.specs.Way.Ready.{Ready}
+use Rattle.ask_sound.specs.Sound.{isSound, soundView}
+use Rattle.ask_sound.proofs.SoundLaws.{told-unsound, told-sound, told-rooms, told-records}
+use Rattle.ask_entry.specs.Entry.{EntryWords, foundWith, entryRefused, entryWords, matrixIndex, wordAt, matrixValues, entryOf, isInRange, entryAnswer}
 use Rattle.ask_entry.specs.declared.Answer.{Answer}
 use Rattle.ask_entry.specs.declared.Answer.the-variants.{Found, Refused}
-use Rattle.ask_entry.proofs.ReadyLaws.{ready-of, range-section, matrix-few}
+use Rattle.ask_entry.proofs.ReadyLaws.{range-section, matrix-few, conductors-few}
 
 -- ---- "entry (j,i) is entry (i,j)"
 
@@ -43,14 +46,14 @@ entry-exchange r index row column =
 range-exchange : (r : Records) (section kind row column : ℕ) → isInRange r section kind row column ≡ isInRange r section kind column row
 unfolding isInRange
 range-exchange r section kind row column =
-    ap (λ (b : Bool). both (ltb section (length (r .sections))) (both (ltb kind 4) b)) (both-swap _ _)
+    ap (λ (b : Bool). both (ltb section (length (r .sections))) (both (ltb kind matrixKinds) b)) (both-swap _ _)
 
 pub exchange : (t table : List ℕ) (section kind row column : ℕ) → entryAnswer t table section kind row column ≡ entryAnswer t table section kind column row
 unfolding entryAnswer
 exchange t table section kind row column =
     λ i.
-    if not (isSound t table) then entryRefused 30 else
-    if not (range-exchange (recordsOf table) section kind row column i) then entryRefused 31 else
+    if not (isSound t table) then entryRefused refusal.table else
+    if not (range-exchange (recordsOf table) section kind row column i) then entryRefused refusal.noSuch else
     foundWith (entry-exchange (recordsOf table) (matrixIndex (getD (recordsOf table .sections) section noSection) kind) row column i)
 
 -- ---- one answer
@@ -68,39 +71,32 @@ unique t table section kind row column a b e f = one-answer a b (e ∙ sym f)
 
 -- ---- what is known at each `return`
 
-module _ (t table : List ℕ) (section kind row column : ℕ) (sound : Bool) (is-sound : sound ≡ isSound t table) where
-  pub answer-unsound : not sound ≡ true → entryWords (Refused 30) ≡ entryAnswer t table section kind row column
+module _ (t table : List ℕ) (section kind row column : ℕ) (v : View) (is : v ≡ soundView t table) where
+  pub answer-unsound : not (v .fits) ≡ true → entryWords (Refused refusal.table) ≡ entryAnswer t table section kind row column
   unfolding entryAnswer
-  answer-unsound e = sym (if-true _ _ (not-via (sym is-sound ∙ not-true sound e)))
+  answer-unsound e = sym (if-true _ _ (not-via (told-unsound t table v is e)))
 
-  module _ (kept : not sound ≡ false) (v : View) (is-view : v ≡ viewOf table) where
-    table-sound : isSound t table ≡ true
-    table-sound = sym is-sound ∙ not-false sound kept
+  module _ (fits : not (v .fits) ≡ false) (inside : Bool) (is-inside : inside ≡ isInRange (recordsOf table) section kind row column) where
+    pub answer-no-such : not inside ≡ true → entryWords (Refused refusal.noSuch) ≡ entryAnswer t table section kind row column
+    unfolding entryAnswer
+    answer-no-such e = sym (if-false _ _ (not-not-via (told-sound t table v is fits)) ∙ if-true _ _ (not-via (sym is-inside ∙ not-true inside e)))
 
-    pub answer-ready : Ready table v
-    answer-ready = ready-of t table table-sound v is-view
-
-    module _ (inside : Bool) (is-inside : inside ≡ isInRange (recordsOf table) section kind row column) where
-      pub answer-no-such : not inside ≡ true → entryWords (Refused 31) ≡ entryAnswer t table section kind row column
+    module _ (there : not inside ≡ false) (s : SectionRecord) (here : s ≡ getD (recordsOf table .sections) section noSection) (index : ℕ) (is-index : index ≡ matrixIndex s kind) where
+      pub answer-found : (word : ℕ) → word ≡ entryOf (recordsOf table) index row column → entryWords (Found word) ≡ entryAnswer t table section kind row column
       unfolding entryAnswer
-      answer-no-such e = sym (if-false _ _ (not-not-via table-sound) ∙ if-true _ _ (not-via (sym is-inside ∙ not-true inside e)))
+      answer-found word e =
+          ap foundWith (e ∙ ap (λ (n : ℕ). entryOf (recordsOf table) n row column) (is-index ∙ ap (λ (x : SectionRecord). matrixIndex x kind) here))
+          ∙ sym (if-false _ _ (not-not-via (told-sound t table v is fits)) ∙ if-false _ _ (not-not-via (sym is-inside ∙ not-false inside there)))
 
-      module _ (there : not inside ≡ false) where
-        in-range : isInRange (recordsOf table) section kind row column ≡ true
-        in-range = sym is-inside ∙ not-false inside there
+-- what the functions below ask for
+module _ (t table : List ℕ) (v : View) (is : v ≡ soundView t table) (fits : not (v .fits) ≡ false) (section kind row column : ℕ)
+    (inside : Bool) (is-inside : inside ≡ isInRange (recordsOf table) section kind row column) (there : not inside ≡ false) where
+  pub answer-section : section < countOf v sections
+  answer-section = range-section table v (told-rooms t table v is fits) section kind row column inside is-inside there
 
-        pub answer-section : Ready table v × (section < countOf v sections)
-        answer-section = (answer-ready, range-section table v answer-ready section kind row column in-range)
+  module _ (s : SectionRecord) (here : s ≡ getD (recordsOf table .sections) section noSection) where
+    pub answer-matrix : (other index : ℕ) → index ≡ matrixIndex s other → index ≤ countOf v matrices
+    answer-matrix = matrix-few table v (told-rooms t table v is fits) section (told-records t table v is fits) answer-section s here
 
-        module _ (index : ℕ) (is-index : index ≡ matrixIndex (getD (recordsOf table .sections) section noSection) kind) where
-          pub answer-matrix : Ready table v × (index ≤ countOf v matrices)
-          answer-matrix =
-              let few : matrixIndex (getD (recordsOf table .sections) section noSection) kind ≤ countOf v matrices =
-              matrix-few table v answer-ready section (range-section table v answer-ready section kind row column in-range) kind in
-              (answer-ready, rw is-index few)
-
-          pub answer-found : (word : ℕ) → word ≡ entryOf (recordsOf table) index row column → entryWords (Found word) ≡ entryAnswer t table section kind row column
-          unfolding entryAnswer
-          answer-found word e =
-              ap foundWith (e ∙ ap (λ (n : ℕ). entryOf (recordsOf table) n row column) is-index)
-              ∙ sym (if-false _ _ (not-not-via table-sound) ∙ if-false _ _ (not-not-via in-range))
+    pub answer-few : s .conductors ≤ mostConductors
+    answer-few = conductors-few table v (told-rooms t table v is fits) section (told-records t table v is fits) answer-section s here

@@ -7,9 +7,9 @@ use Prim.Native.Nat.{_≤_, _<_}
 use native.Mathlib.Omega.{arith}
 use lib.Dec.{ltb, eqb}
 use borrow.Author.Tests.{eq-eqb, ne-eqb, eqb-true, ltb-true, ltb-false}
+use Rattle.table_record.specs.declared.Value.{Value}
 use Rattle.base.specs.If.{both}
 use Rattle.base.proofs.IfLaws.{by-cases, both-rest, both-not-left, both-not-right, both-first, both-second, either-rest, either-none-first, either-none-second}
-use Rattle.doc.specs.Document.{Value}
 use Rattle.doc.specs.Holds.{comesBefore}
 
 pub data Before (u v : Value) : Type 0 where

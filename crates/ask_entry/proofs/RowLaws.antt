@@ -1,23 +1,18 @@
 -- Laws of the entries stored row by row: storing the rest gives the whole matrix.
 -- Assumes nothing.
 use mathlib.Core.Path.{_≡_, refl, sym, _∙_, ap}
-use mathlib.Core.List.{List, [], _∷_, _++_}
+use mathlib.Core.List.{List}
 use Prim.Native.Nat.{ℕ, zero, suc, _+_, _-_, _*_, _≤_, _<_}
-use native.Mathlib.Nat.{add-zero, suc-mul}
+use native.Mathlib.Nat.{suc-mul}
 use native.Mathlib.Omega.{arith}
 use lib.ListN.{length, set, length-set}
 use lib.Seq.{sets, length-sets}
-use Rattle.doc.specs.Records.{Records}
+use Rattle.table_record.specs.Records.{Records}
 use Rattle.ask_entry.specs.Entry.{entryOf}
 use Rattle.ask_entry.specs.WholeMatrix.{rowFrom, rowsFrom, squareOf}
+use Rattle.base.proofs.StoreLaws.{sets-append}
 
 -- ---- stores
-
-sets-append : (l : List ℕ) (at : ℕ) (xs ys : List ℕ) → sets l at (xs ++ ys) ≡ sets (sets l at xs) (at + length xs) ys
-sets-append l at [] ys = ap (λ (k : ℕ). sets l k ys) (sym (add-zero at))
-sets-append l at (x ∷ xs) ys =
-    let e : suc at + length xs ≡ at + suc (length xs) = omega arith in
-    sets-append (set l at x) (suc at) xs ys ∙ ap (λ (k : ℕ). sets (sets (set l at x) (suc at) xs) k ys) e
 
 -- ---- one row
 

@@ -1,21 +1,21 @@
 -- Each word of a whole matrix is the entry of its row and column: the answer of `entry`.
 -- Assumes nothing.
 use mathlib.Core.Path.{_≡_, refl, sym, _∙_, ap}
-use mathlib.Core.Bool.{Bool, true, false, not, true≢false}
-use mathlib.Core.List.{List, [], _∷_, _++_}
-use Prim.Native.Nat.{ℕ, zero, suc, _+_, _-_, _*_, _≤_, _<_, zero-le, suc-le-suc}
+use mathlib.Core.Bool.{true, false, not, true≢false}
+use mathlib.Core.List.{List, _++_}
+use Prim.Native.Nat.{ℕ, zero, suc, _+_, _-_, _*_, _≤_, _<_}
 use native.Mathlib.Nat.{add-zero, zero-mul, suc-mul, le-of-suc-le-suc}
 use native.Mathlib.Omega.{arith}
 use lib.ListN.{length, getD, List·getD-append}
 use lib.Seq.{getD-append-add}
-use lib.Dec.{ltb, leb}
+use lib.Dec.{ltb}
 use borrow.Author.Tests.{le-leb}
+use Rattle.table_record.specs.Records.{Records, recordsOf, noSection}
 use Rattle.base.specs.If.{if_then_else_, both}
 use Rattle.base.specs.Bytes.{within}
 use Rattle.base.proofs.IfLaws.{if-true, if-false, both-true, both-first, both-second, not-via, not-not-via, by-cases}
-use Rattle.doc.specs.Records.{Records, recordsOf}
 use Rattle.ask_sound.specs.Sound.{isSound}
-use Rattle.ask_entry.specs.Entry.{foundWith, noSection, matrixIndex, entryOf, isInRange, entryAnswer}
+use Rattle.ask_entry.specs.Entry.{foundWith, matrixIndex, entryOf, isInRange, entryAnswer}
 use Rattle.ask_entry.proofs.RowLaws.{row-long}
 use Rattle.ask_entry.specs.WholeMatrix.{MatrixWords, foundOf, shortOf, matrixRefused, rowFrom, rowsFrom, squareOf, sectionConductors, matrixAnswer}
 

@@ -6,12 +6,16 @@ use mathlib.Core.Bool.{Bool, true, false, not}
 use mathlib.Core.List.{List, [], _∷_}
 use lib.ListN.{length, getD}
 use lib.Dec.{ltb, eqb}
+use Rattle.table_record.specs.Records.{Records, recordsOf, range, noSection, noMatrix}
+use Rattle.table_record.specs.declared.Value.{Value}
+use Rattle.table_record.specs.declared.MatrixRecord.{MatrixRecord}
+use Rattle.table_record.specs.declared.SectionRecord.{SectionRecord}
 use Rattle.base.specs.If.{if_then_else_, both}
+use Rattle.base.specs.Refusal as refusal
+use Rattle.table_layout.specs.Codes.{resistanceKind, inductanceKind, conductanceKind, matrixKinds}
 use Rattle.base.specs.Bytes.{within}
 use Rattle.lex_number.specs.ValueWord.{zeroWord}
-use Rattle.doc.specs.Document.{Value}
-use Rattle.doc.specs.Records.{SectionRecord, MatrixRecord, Records, recordsOf}
-use Rattle.ask_sound.specs.Sound.{range, isSound}
+use Rattle.ask_sound.specs.Sound.{isSound}
 use Rattle.ask_entry.specs.declared.Answer.{Answer}
 use Rattle.ask_entry.specs.declared.Answer.the-variants.{Found, Refused}
 
@@ -33,23 +37,14 @@ abbrev pub entryWords : Answer → EntryWords
 entryWords (Found word) = foundWith word
 entryWords (Refused rule) = entryRefused rule
 
--- ---- records by their index; `noSection` and `noMatrix` are the defaults past the last, and reach no answer
-
-abbrev pub noSection : SectionRecord
-noSection =
-    record { start = 0; size = 0; method = 0; conductors = 0; resistance = 0; inductance = 0; conductance = 0; capacitance = 0 }
-
-abbrev pub noMatrix : MatrixRecord
-noMatrix = record { form = 0; bandwidth = 0; first = 0; values = 0; line = 0 }
-
 -- ---- one entry
 
 -- "R L G C each matrix index plus 1 or 0"
 unfoldable pub matrixIndex : SectionRecord → ℕ → ℕ
 matrixIndex s kind =
-    if eqb kind 0 then s .resistance else
-    if eqb kind 1 then s .inductance else
-    if eqb kind 2 then s .conductance else s .capacitance
+    if eqb kind resistanceKind then s .resistance else
+    if eqb kind inductanceKind then s .inductance else
+    if eqb kind conductanceKind then s .conductance else s .capacitance
 
 -- the value word written for a row and a column; zero if none is written
 unfoldable pub wordAt : ℕ → ℕ → List Value → ℕ
@@ -69,13 +64,13 @@ entryOf r index row column =
 unfoldable pub isInRange : Records → ℕ → ℕ → ℕ → ℕ → Bool
 isInRange r section kind row column =
     both (ltb section (length (r .sections)))
-    (both (ltb kind 4)
+    (both (ltb kind matrixKinds)
     (both (within 1 (getD (r .sections) section noSection .conductors) row)
     (within 1 (getD (r .sections) section noSection .conductors) column)))
 
 -- "30 TABLE: question over an unsound table", "31 NOSUCH: section, kind, row, column (1 to N) .. out of range"
 unfoldable pub entryAnswer : List ℕ → List ℕ → ℕ → ℕ → ℕ → ℕ → EntryWords
 entryAnswer t table section kind row column =
-    if not (isSound t table) then entryRefused 30 else
-    if not (isInRange (recordsOf table) section kind row column) then entryRefused 31 else
+    if not (isSound t table) then entryRefused refusal.table else
+    if not (isInRange (recordsOf table) section kind row column) then entryRefused refusal.noSuch else
     foundWith (entryOf (recordsOf table) (matrixIndex (getD (recordsOf table .sections) section noSection) kind) row column)

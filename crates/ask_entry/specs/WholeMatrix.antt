@@ -4,13 +4,14 @@
 use Prim.Native.Nat.{ℕ, zero, suc, _+_, _*_}
 use mathlib.Core.Bool.{Bool, true, false, not}
 use mathlib.Core.List.{List, [], _∷_, _++_}
-use lib.ListN.{length, getD}
+use lib.ListN.{getD}
 use lib.Seq.{sets}
 use lib.Dec.{ltb}
+use Rattle.table_record.specs.Records.{Records, recordsOf, noSection}
 use Rattle.base.specs.If.{if_then_else_}
-use Rattle.doc.specs.Records.{Records, recordsOf}
+use Rattle.base.specs.Refusal as refusal
 use Rattle.ask_sound.specs.Sound.{isSound}
-use Rattle.ask_entry.specs.Entry.{noSection, matrixIndex, entryOf, isInRange}
+use Rattle.ask_entry.specs.Entry.{matrixIndex, entryOf, isInRange}
 use Rattle.ask_entry.specs.declared.WholeAnswer.{WholeAnswer}
 use Rattle.ask_entry.specs.declared.WholeAnswer.the-variants.{Found, Short, Refused}
 
@@ -64,8 +65,8 @@ sectionConductors r section = getD (r .sections) section noSection .conductors
 -- table has a row 1 and a column 1. Then whether `room` words are enough.
 unfoldable pub matrixAnswer : List ℕ → List ℕ → ℕ → ℕ → ℕ → MatrixWords
 matrixAnswer t table section kind room =
-    if not (isSound t table) then matrixRefused 30 else
-    if not (isInRange (recordsOf table) section kind 1 1) then matrixRefused 31 else
+    if not (isSound t table) then matrixRefused refusal.table else
+    if not (isInRange (recordsOf table) section kind 1 1) then matrixRefused refusal.noSuch else
     if ltb room (sectionConductors (recordsOf table) section * sectionConductors (recordsOf table) section) then
     shortOf (sectionConductors (recordsOf table) section)
     else foundOf (sectionConductors (recordsOf table) section)

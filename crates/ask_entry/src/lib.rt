@@ -1,40 +1,26 @@
 // Document 01: the question "entry", one entry of a section's matrix as a value word. "Entries not written, and kinds
-// not given, are zero; entry (j,i) is entry (i,j)." A caller that knows its table to be sound can use `entry_in`, which
-// does not judge the table again. `whole_matrix` gives all entries of a matrix at once.
+// not given, are zero; entry (j,i) is entry (i,j)." A caller that has the view of a sound table can use
+// `entry_in`, which does not judge the table again. `whole_matrix` gives all entries of a matrix at once.
 ghost use mathlib.Core.Path.{_≡_};
 ghost use mathlib.Core.Bool.{true};
-ghost use Prim.Native.Nat.{_+_, _*_, _≤_, _<_, min, max};
-ghost use lib.ListN.{length, getD};
-ghost use Rattle.table_layout.specs.Layout.{sections, matrices};
-ghost use Rattle.doc.specs.Records.{recordsOf};
-ghost use Rattle.doc.specs.Holds.{comesBefore, rises};
-ghost use Rattle.ask_sound.specs.Way.Standing.{valueAt, valuesFrom, countOf};
-ghost use Rattle.ask_entry.specs.Entry.{entryWords, noSection, matrixIndex, wordAt, entryOf, isInRange, entryAnswer};
-ghost use Rattle.ask_entry.specs.Way.Ready.{Ready, asked};
+ghost use Prim.Native.Nat.{_+_, _*_, _≤_, _<_};
+ghost use lib.ListN.{length};
 ghost use lib.Seq.{sets};
-ghost use Rattle.ask_entry.specs.WholeMatrix.{wholeWords, rowFrom, rowsFrom, squareOf, sectionConductors, matrixAnswer, roomAfter};
+ghost use Rattle.table_layout.specs.Layout.{matrices, valueWidth};
+ghost use Rattle.table_layout.specs.Bounds.{mostConductors};
+ghost use Rattle.table_record.specs.Records.{recordsOf};
+ghost use Rattle.table_record.specs.Way.Standing.{countOf, valuesFrom, Rooms};
+ghost use Rattle.doc.specs.Holds.{comesBefore, rises};
+ghost use Rattle.ask_sound.specs.Way.Judged.{SoundRecords};
+ghost use Rattle.ask_entry.specs.Entry.{entryWords, matrixIndex, wordAt, entryOf, isInRange, entryAnswer};
+ghost use Rattle.ask_entry.specs.Way.Asked.{asked};
+ghost use Rattle.ask_entry.specs.WholeMatrix.{wholeWords, rowFrom, squareOf, matrixAnswer, roomAfter};
 use table_layout::View;
-
-// "30 TABLE: question over an unsound table", "31 NOSUCH: section, kind, row, column (1 to N) .. out of range".
-const UNSOUND: u64 = 30;
-
-const NO_SUCH: u64 = 31;
+use table_record::SectionRecord;
+use table_record::Value;
 
 // The value word of zero.
 const ZERO: u64 = 128;
-
-// R, L, G, C.
-const KINDS: u64 = 4;
-
-// How many words the record of a section has, and that of a matrix and a value.
-const SECTION_WORDS: usize = 8;
-
-const MATRIX_WORDS: usize = 5;
-
-const VALUE_WORDS: usize = 3;
-
-// Which word of a section is N.
-const CONDUCTORS: usize = 3;
 
 // The value word, or the rule of a refusal.
 pub enum Answer {
@@ -44,74 +30,53 @@ pub enum Answer {
 
 // ---- the values of a matrix
 
-fn lesser(a: u64, b: u64) -> u64
-    ensures { λ r. ⌜ r ≡ min a b ⌝ }
+// Whether a value comes before the row and column asked for.
+fn is_before(value: Value, row: u64, column: u64) -> bool
+    ensures { λ r. ⌜ r ≡ comesBefore value (asked row column) ⌝ }
 {
-    if a <= b {
-        return a;
-    }
-    b
-}
-
-fn greater(a: u64, b: u64) -> u64
-    ensures { λ r. ⌜ r ≡ max a b ⌝ }
-{
-    if a <= b {
-        return b;
-    }
-    a
-}
-
-// Whether the value at word `at` comes before the row and column asked for.
-fn is_before(table: &[u64], at: usize, row: u64, column: u64) -> bool
-    requires { ⌜ at + 3 ≤ length (now table) ⌝ }
-    ensures { λ r. ⌜ r ≡ comesBefore (valueAt (now (table .entry)) at) (asked row column) ⌝ }
-{
-    let here = table[at];
-    if here < row {
+    if value.row < row {
         return true;
     }
-    if here != row {
+    if value.row != row {
         return false;
     }
-    table[at + 1] < column
+    value.column < column
 }
 
 // Whether it comes after them.
-fn is_behind(table: &[u64], at: usize, row: u64, column: u64) -> bool
-    requires { ⌜ at + 3 ≤ length (now table) ⌝ }
-    ensures { λ r. ⌜ r ≡ comesBefore (asked row column) (valueAt (now (table .entry)) at) ⌝ }
+fn is_behind(value: Value, row: u64, column: u64) -> bool
+    ensures { λ r. ⌜ r ≡ comesBefore (asked row column) value ⌝ }
 {
-    let here = table[at];
-    if row < here {
+    if row < value.row {
         return true;
     }
-    if row != here {
+    if row != value.row {
         return false;
     }
-    column < table[at + 1]
+    column < value.column
 }
 
 // Binary search in `many` rising values, the first of which is at word `from`. The value asked for is between `low` and
 // `high` (not `high` itself), or it is not written.
 fn word_at(table: &[u64], from: usize, many: u64, row: u64, column: u64) -> u64
-    requires { ⌜ (from + 3 * many ≤ length (now table)) × (rises 256 (valuesFrom (now table) from many) ≡ true) ⌝ }
+    requires { ⌜ (from + valueWidth * many ≤ length (now table)) × (rises mostConductors (valuesFrom (now table) from many) ≡ true) ⌝ }
     ensures { λ r. ⌜ r ≡ wordAt row column (valuesFrom (now (table .entry)) from many) ⌝ }
 {
     let mut low = 0;
     let mut high = many;
     while low < high {
         let middle = low + (high - low) / 2;
-        let at = from + VALUE_WORDS * (middle as usize);
-        if is_before(table, at, row, column) {
+        let at = from + table_layout::VALUE_WIDTH * (middle as usize);
+        let value = table_record::value_at(table, at);
+        if is_before(value, row, column) {
             low = middle + 1;
             continue;
         }
-        if is_behind(table, at, row, column) {
+        if is_behind(value, row, column) {
             high = middle;
             continue;
         }
-        return table[at + 2];
+        return value.word;
     }
     ZERO
 }
@@ -120,18 +85,18 @@ fn word_at(table: &[u64], from: usize, many: u64, row: u64, column: u64) -> u64
 
 // The entry of a matrix, given the matrix's index plus 1; 0 means that the kind is not given.
 pub fn entry_in(table: &[u64], view: View, index: u64, row: u64, column: u64) -> u64
-    requires { ⌜ Ready (now table) view × (index ≤ countOf view matrices) ⌝ }
+    requires { ⌜ Rooms (now table) view × SoundRecords (now table) × (index ≤ countOf view matrices) ⌝ }
     ensures { λ r. ⌜ r ≡ entryOf (recordsOf (now (table .entry))) index row column ⌝ }
 {
     if index == 0 {
         return ZERO;
     }
     let bases = view.bases;
-    let at = bases[table_layout::MATRICES] + MATRIX_WORDS * ((index - 1) as usize);
-    let first = table[at + 2];
-    let many = table[at + 3];
-    let from = bases[table_layout::VALUES] + VALUE_WORDS * (first as usize);
-    word_at(table, from, many, lesser(row, column), greater(row, column))
+    let matrix = table_record::nth_matrix(table, view, index - 1);
+    let from = bases[table_layout::VALUES] + table_layout::VALUE_WIDTH * (matrix.first as usize);
+    let low = base::lesser(row, column);
+    let high = base::greater(row, column);
+    word_at(table, from, matrix.values, low, high)
 }
 
 // Whether the section and the kind exist, and row and column are 1 to N.
@@ -143,55 +108,52 @@ pub fn is_in_range(
     row: u64,
     column: u64,
 ) -> bool
-    requires { ⌜ Ready (now table) view ⌝ }
+    requires { ⌜ Rooms (now table) view ⌝ }
     ensures { λ r. ⌜ r ≡ isInRange (recordsOf (now (table .entry))) section kind row column ⌝ }
 {
-    let bases = view.bases;
     let counts = view.counts;
     if counts[table_layout::SECTIONS] <= section {
         return false;
     }
-    if KINDS <= kind {
+    if table_layout::code::MATRIX_KINDS <= kind {
         return false;
     }
-    let conductors = table[bases[table_layout::SECTIONS] + SECTION_WORDS * (section as usize) + 3];
-    if !lex_number::is_within(1, conductors, row) {
+    let record = table_record::nth_section(table, view, section);
+    if !lex_number::is_within(1, record.conductors, row) {
         return false;
     }
-    lex_number::is_within(1, conductors, column)
+    lex_number::is_within(1, record.conductors, column)
 }
 
 // The index plus 1 of a section's matrix of a kind; 0 if the kind is not given.
-pub fn matrix_of(table: &[u64], view: View, section: u64, kind: u64) -> u64
-    requires { ⌜ Ready (now table) view × (section < countOf view sections) ⌝ }
-    ensures { λ r. ⌜ r ≡ matrixIndex (getD (recordsOf (now (table .entry)) .sections) section noSection) kind ⌝ }
+pub fn matrix_index(section: SectionRecord, kind: u64) -> u64
+    ensures { λ r. ⌜ r ≡ matrixIndex section kind ⌝ }
 {
-    let bases = view.bases;
-    let at = bases[table_layout::SECTIONS] + SECTION_WORDS * (section as usize);
-    if kind == 0 {
-        return table[at + 4];
+    if kind == table_layout::code::RESISTANCE {
+        return section.resistance;
     }
-    if kind == 1 {
-        return table[at + 5];
+    if kind == table_layout::code::INDUCTANCE {
+        return section.inductance;
     }
-    if kind == 2 {
-        return table[at + 6];
+    if kind == table_layout::code::CONDUCTANCE {
+        return section.conductance;
     }
-    table[at + 7]
+    section.capacitance
 }
 
 // One entry of a section's matrix, as a value word.
 pub fn entry(text: &[u8], table: &[u64], section: u64, kind: u64, row: u64, column: u64) -> Answer
     ensures { λ r. ⌜ entryWords r ≡ entryAnswer (now (text .entry)) (now (table .entry)) section kind row column ⌝ }
 {
-    if !ask_sound::is_sound(text, table) {
-        return Answer::Refused(UNSOUND);
+    let view = ask_sound::sound_view(text, table);
+    if !view.fits {
+        return Answer::Refused(base::refusal::TABLE);
     }
-    let view = table_layout::view_of(table);
     if !is_in_range(table, view, section, kind, row, column) {
-        return Answer::Refused(NO_SUCH);
+        return Answer::Refused(base::refusal::NOSUCH);
     }
-    let index = matrix_of(table, view, section, kind);
+    let record = table_record::nth_section(table, view, section);
+    let index = matrix_index(record, kind);
     Answer::Found(entry_in(table, view, index, row, column))
 }
 
@@ -214,7 +176,7 @@ fn put_row(
     values: &mut [u64],
     at: usize,
 )
-    requires { ⌜ Ready (now table) view × (index ≤ countOf view matrices) × (conductors ≤ 256) × (at + conductors ≤ length (now values)) ⌝ }
+    requires { ⌜ Rooms (now table) view × SoundRecords (now table) × (index ≤ countOf view matrices) × (conductors ≤ mostConductors) × (at + conductors ≤ length (now values)) ⌝ }
     ensures { λ _. ⌜ now (values .exit) ≡ sets (now (values .entry)) at (rowFrom (recordsOf (now (table .entry))) index row 1 conductors) ⌝ }
 {
     let mut column = 1;
@@ -228,7 +190,7 @@ fn put_row(
 
 // Stores all rows, from the start of the room on.
 fn put_rows(table: &[u64], view: View, index: u64, conductors: u64, values: &mut [u64])
-    requires { ⌜ Ready (now table) view × (index ≤ countOf view matrices) × (conductors ≤ 256) × (conductors * conductors ≤ length (now values)) ⌝ }
+    requires { ⌜ Rooms (now table) view × SoundRecords (now table) × (index ≤ countOf view matrices) × (conductors ≤ mostConductors) × (conductors * conductors ≤ length (now values)) ⌝ }
     ensures { λ _. ⌜ now (values .exit) ≡ sets (now (values .entry)) 0 (squareOf (recordsOf (now (table .entry))) index conductors) ⌝ }
 {
     let mut row = 1;
@@ -238,15 +200,6 @@ fn put_rows(table: &[u64], view: View, index: u64, conductors: u64, values: &mut
         to += conductors as usize;
         row += 1;
     }
-}
-
-// N of a section.
-fn conductors_of(table: &[u64], view: View, section: u64) -> u64
-    requires { ⌜ Ready (now table) view × (section < countOf view sections) ⌝ }
-    ensures { λ r. ⌜ r ≡ sectionConductors (recordsOf (now (table .entry))) section ⌝ }
-{
-    let bases = view.bases;
-    table[bases[table_layout::SECTIONS] + SECTION_WORDS * (section as usize) + CONDUCTORS]
 }
 
 // Stores every entry of a section's matrix. If the answer is not Found, the room is left unchanged.
@@ -259,18 +212,19 @@ pub fn whole_matrix(
 ) -> WholeAnswer
     ensures { λ r. ⌜ (wholeWords r ≡ matrixAnswer (now (text .entry)) (now (table .entry)) section kind (length (now (values .entry)))) × (now (values .exit) ≡ roomAfter (now (table .entry)) section kind (wholeWords r) (now (values .entry))) ⌝ }
 {
-    if !ask_sound::is_sound(text, table) {
-        return WholeAnswer::Refused(UNSOUND);
+    let view = ask_sound::sound_view(text, table);
+    if !view.fits {
+        return WholeAnswer::Refused(base::refusal::TABLE);
     }
-    let view = table_layout::view_of(table);
     if !is_in_range(table, view, section, kind, 1, 1) {
-        return WholeAnswer::Refused(NO_SUCH);
+        return WholeAnswer::Refused(base::refusal::NOSUCH);
     }
-    let conductors = conductors_of(table, view, section);
+    let record = table_record::nth_section(table, view, section);
+    let conductors = record.conductors;
     if values.len() < (conductors as usize) * (conductors as usize) {
         return WholeAnswer::Short(conductors);
     }
-    let index = matrix_of(table, view, section, kind);
+    let index = matrix_index(record, kind);
     put_rows(table, view, index, conductors, values);
     WholeAnswer::Found(conductors)
 }

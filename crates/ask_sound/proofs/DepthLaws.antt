@@ -5,9 +5,10 @@ use mathlib.Core.Bool.{Bool, true, false}
 use mathlib.Core.List.{List, [], _∷_, map}
 use Prim.Native.Nat.{ℕ, _+_, _-_}
 use lib.Dec.{ltb, eqb}
+use Rattle.table_layout.specs.Codes.{forkKind, endforkKind}
+use Rattle.table_layout.specs.Bounds.{deepest}
 use Rattle.base.specs.If.{if_then_else_, both}
-use Rattle.line_path.specs.Path.{deepest}
-use Rattle.doc.specs.Document.{Step, forkKind, endforkKind}
+use Rattle.doc.specs.Document.{Step}
 use Rattle.doc.specs.Way.Holds as holds
 use Rattle.ask_sound.specs.Sound.{depthStays, depthAfter, depthHolds}
 

@@ -1,4 +1,3 @@
-pub mod PlaceLaws
 pub mod LoopLaws
 pub mod ReachLaws
 pub mod RecordLaws

@@ -4,35 +4,30 @@
 use Prim.Native.Nat.{ℕ, _+_, _-_}
 use mathlib.Core.Bool.{Bool, true}
 use mathlib.Core.List.{List, [], _∷_, map}
-use lib.ListN.{length, take, drop, getD}
+use lib.ListN.{length, drop, getD}
 use lib.Dec.{leb, ltb, eqb}
+use Rattle.table_record.specs.Records.{Records, recordsOf, range}
+use Rattle.table_record.specs.declared.Value.{Value}
+use Rattle.table_record.specs.declared.MatrixRecord.{MatrixRecord}
+use Rattle.table_record.specs.declared.SectionRecord.{SectionRecord}
+use Rattle.table_record.specs.declared.PinRecord.{PinRecord}
+use Rattle.table_record.specs.declared.MapRecord.{MapRecord}
+use Rattle.table_record.specs.declared.StepRecord.{StepRecord}
+use Rattle.table_record.specs.declared.ModelRecord.{ModelRecord}
+use Rattle.table_layout.specs.Codes.{endKind, sectionKind, forkKind, endforkKind, stepKinds, modelTypes, mapOrders, sectionMethods, matrixForms}
+use Rattle.table_layout.specs.Bounds.{deepest, mostMapPins, mostConductors}
 use Rattle.base.specs.If.{if_then_else_, both}
 use Rattle.base.specs.Bytes.{within}
 use Rattle.lex_number.specs.ValueWord.{isValueWord}
-use Rattle.line_path.specs.Path.{deepest}
-use Rattle.doc.specs.Document.{Value, endKind, sectionKind, forkKind, endforkKind}
-use Rattle.doc.specs.Records.{
-  ModelRecord,
-  StepRecord,
-  MapRecord,
-  PinRecord,
-  SectionRecord,
-  MatrixRecord,
-  Records,
-  recordsOf,
-}
 use Rattle.doc.specs.Holds.{rises}
-use Rattle.table_layout.specs.View.{viewOf}
+use Rattle.table_layout.specs.View.{viewOf, noView}
+use Rattle.table_layout.specs.declared.View.{View}
 use Rattle.ask_sound.specs.Tests.{isRange, isNameIn, hasNoSide, isSide, amountFits, isGrid, isBandwidth}
 
 -- every element of the list passes the test
 unfoldable pub every : {A : Type 0} → (A → Bool) → List A → Bool
 every test [] = true
 every test (x ∷ xs) = both (test x) (every test xs)
-
--- the elements of a range: `many` of them from `first` on
-abbrev pub range : {A : Type 0} → ℕ → ℕ → List A → List A
-range first many xs = take many (drop first xs)
 
 -- ---- models
 
@@ -53,30 +48,30 @@ depthHolds d (kind ∷ kinds) = both (depthStays d kind) (depthHolds (depthAfter
 unfoldable pub isModel : ℕ → List ℕ → ModelRecord → Bool
 isModel bytes kinds m =
     both (isNameIn bytes (m .start) (m .size))
-    (both (ltb (m .type) 3)
+    (both (ltb (m .kind) modelTypes)
     (both (isRange (m .first) (m .steps) (length kinds)) (depthHolds 0 (range (m .first) (m .steps) kinds))))
 
 -- ---- steps
 
 -- `maps` is the number of maps
 unfoldable pub isEnd : ℕ → ℕ → StepRecord → Bool
-isEnd bytes maps s = both (ltb (s .target) maps) (both (eqb (s .amount) 0) (isSide bytes (s .side) (s .sideSize)))
+isEnd bytes maps s = both (ltb (s .target) maps) (both (eqb (s .amount) 0) (isSide bytes (s .side) (s .«side_size»)))
 
 -- `methods` are the methods of all sections
 unfoldable pub isSectionStep : List ℕ → StepRecord → Bool
 isSectionStep methods s =
     both (ltb (s .target) (length methods))
-    (both (amountFits (getD methods (s .target) 0) (s .amount)) (hasNoSide (s .side) (s .sideSize)))
+    (both (amountFits (getD methods (s .target) 0) (s .amount)) (hasNoSide (s .side) (s .«side_size»)))
 
 -- "words told to be 0 are 0": a fork's and an endfork's target, amount and side
 unfoldable pub isForkStep : StepRecord → Bool
-isForkStep s = both (eqb (s .target) 0) (both (eqb (s .amount) 0) (hasNoSide (s .side) (s .sideSize)))
+isForkStep s = both (eqb (s .target) 0) (both (eqb (s .amount) 0) (hasNoSide (s .side) (s .«side_size»)))
 
 unfoldable pub isStep : ℕ → ℕ → List ℕ → StepRecord → Bool
 isStep bytes maps methods s =
     if eqb (s .kind) endKind then isEnd bytes maps s else
     if eqb (s .kind) sectionKind then isSectionStep methods s else
-    both (ltb (s .kind) 4) (isForkStep s)
+    both (ltb (s .kind) stepKinds) (isForkStep s)
 
 -- ---- maps and pins
 
@@ -84,8 +79,8 @@ isStep bytes maps methods s =
 unfoldable pub isMap : ℕ → ℕ → MapRecord → Bool
 isMap bytes pins m =
     both (isNameIn bytes (m .start) (m .size))
-    (both (ltb (m .order) 3)
-    (both (isGrid (m .order) (m .rows) (m .columns)) (both (isRange (m .first) (m .pins) pins) (leb (m .pins) 256))))
+    (both (ltb (m .order) mapOrders)
+    (both (isGrid (m .order) (m .rows) (m .columns)) (both (isRange (m .first) (m .pins) pins) (leb (m .pins) mostMapPins))))
 
 unfoldable pub isPin : ℕ → PinRecord → Bool
 isPin bytes p = isNameIn bytes (p .start) (p .size)
@@ -101,14 +96,14 @@ areMatrices matrices s =
 unfoldable pub isSection : ℕ → ℕ → SectionRecord → Bool
 isSection bytes matrices s =
     both (isNameIn bytes (s .start) (s .size))
-    (both (ltb (s .method) 2) (both (within 1 256 (s .conductors)) (areMatrices matrices s)))
+    (both (ltb (s .method) sectionMethods) (both (within 1 mostConductors (s .conductors)) (areMatrices matrices s)))
 
 -- "a matrix's values rising strictly with 1 <= row <= column <= 256"; `values` are all values of the table
 unfoldable pub isMatrix : List Value → MatrixRecord → Bool
 isMatrix values m =
-    both (ltb (m .form) 4)
+    both (ltb (m .form) matrixForms)
     (both (isBandwidth (m .form) (m .bandwidth))
-    (both (isRange (m .first) (m .values) (length values)) (rises 256 (range (m .first) (m .values) values))))
+    (both (isRange (m .first) (m .values) (length values)) (rises mostConductors (range (m .first) (m .values) values))))
 
 -- "value words as above"
 unfoldable pub isValue : Value → Bool
@@ -139,3 +134,7 @@ areZeros words = every (λ (w : ℕ). eqb w 0) words
 unfoldable pub isSound : List ℕ → List ℕ → Bool
 isSound t table =
     both (viewOf table .fits) (both (areZeros (drop (viewOf table .end) table)) (areSound (length t) (recordsOf table)))
+
+-- the view of a sound table, so that questions need not take it again; of any other table, one that does not fit
+unfoldable pub soundView : List ℕ → List ℕ → View
+soundView t table = if isSound t table then viewOf table else noView

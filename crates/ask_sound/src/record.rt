@@ -2,24 +2,8 @@
 ghost use mathlib.Core.Path.{_≡_};
 ghost use Rattle.ask_sound.specs.Tests.{isRange, isNameIn, hasNoSide, isSide, isLengthWord, amountFits, isGrid, isBandwidth};
 
-// The most bytes of a name.
-const LONGEST: u64 = 120;
-
 // The value word of zero.
 const ZERO: u64 = 128;
-
-// The method Lumped; the other is Distributed.
-const LUMPED: u64 = 0;
-
-// "Row_ordered, Column_ordered or Un_ordered".
-const UNORDERED: u64 = 2;
-
-// The most rows and columns of a map, the greatest Mult, and the greatest bandwidth.
-const MOST: u64 = 256;
-
-const MOST_MULT: u64 = 65_535;
-
-const WIDEST: u64 = 255;
 
 // Whether the range of `many` elements from `first` on lies inside `all` elements. It takes no sum, which might wrap.
 pub fn is_range(first: u64, many: u64, all: u64) -> bool
@@ -35,7 +19,7 @@ pub fn is_range(first: u64, many: u64, all: u64) -> bool
 pub fn is_name_in(bytes: u64, start: u64, size: u64) -> bool
     ensures { λ r. ⌜ r ≡ isNameIn bytes start size ⌝ }
 {
-    if !lex_number::is_within(1, LONGEST, size) {
+    if !lex_number::is_within(1, table_layout::bound::NAME, size) {
         return false;
     }
     is_range(start, size, bytes)
@@ -77,8 +61,8 @@ fn is_length(word: u64) -> bool
 pub fn amount_fits(method: u64, amount: u64) -> bool
     ensures { λ r. ⌜ r ≡ amountFits method amount ⌝ }
 {
-    if method == LUMPED {
-        return lex_number::is_within(1, MOST_MULT, amount);
+    if method == table_layout::code::LUMPED {
+        return lex_number::is_within(1, table_layout::bound::MULT, amount);
     }
     is_length(amount)
 }
@@ -87,23 +71,23 @@ pub fn amount_fits(method: u64, amount: u64) -> bool
 pub fn is_grid(order: u64, rows: u64, columns: u64) -> bool
     ensures { λ r. ⌜ r ≡ isGrid order rows columns ⌝ }
 {
-    if order == UNORDERED {
+    if order == table_layout::code::UN_ORDERED {
         if rows != 0 {
             return false;
         }
         return columns == 0;
     }
-    if !lex_number::is_within(1, MOST, rows) {
+    if !lex_number::is_within(1, table_layout::bound::MAP_PINS, rows) {
         return false;
     }
-    lex_number::is_within(1, MOST, columns)
+    lex_number::is_within(1, table_layout::bound::MAP_PINS, columns)
 }
 
 pub fn is_bandwidth(form: u64, bandwidth: u64) -> bool
     ensures { λ r. ⌜ r ≡ isBandwidth form bandwidth ⌝ }
 {
-    if form == line_matrix::BANDED {
-        return bandwidth <= WIDEST;
+    if form == table_layout::code::BANDED {
+        return bandwidth <= table_layout::bound::BANDWIDTH;
     }
     bandwidth == 0
 }

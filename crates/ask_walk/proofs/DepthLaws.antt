@@ -9,17 +9,18 @@ use native.Mathlib.Omega.{arith}
 use lib.ListN.{length, take, drop, getD, length-drop}
 use lib.Seq.{getD-drop, getD-take, length-take-le}
 use borrow.Author.Tests.{eq-eqb, le-leb, lt-ltb, ltb-true}
+use Rattle.table_record.specs.Records.{Records, recordsOf, noStep, range}
+use Rattle.table_record.specs.declared.StepRecord.{StepRecord}
+use Rattle.table_layout.specs.Codes.{forkKind, endforkKind}
+use Rattle.table_layout.specs.Bounds.{deepest}
 use Rattle.base.proofs.IfLaws.{both-true, both-first, both-second}
-use Rattle.line_path.specs.Path.{deepest}
-use Rattle.doc.specs.Document.{forkKind, endforkKind}
-use Rattle.doc.specs.Records.{StepRecord, Records, recordsOf}
-use Rattle.ask_sound.specs.Sound.{range, depthStays, recordKinds, isSound}
+use Rattle.ask_sound.specs.Sound.{depthStays, recordKinds, isSound}
 use Rattle.ask_walk.specs.declared.Place.{Place}
-use Rattle.ask_walk.specs.Walk.{noRecord, modelAtPlace, stepAtPlace, countKind, isDepth, kindsBefore, isPlace}
+use Rattle.ask_walk.specs.Walk.{modelAtPlace, stepAtPlace, countKind, isDepth, kindsBefore, isPlace}
 use Rattle.ask_walk.proofs.KindLaws.{fork-below, endfork-above, closes-most, depth-counts, depth-most, step-may-come}
 use Rattle.ask_walk.proofs.ReadyLaws.{RightModel, right-model}
 
-kind-at : (ss : List StepRecord) (i : ℕ) → getD (map (λ (s : StepRecord). s .kind) ss) i 0 ≡ getD ss i noRecord .kind
+kind-at : (ss : List StepRecord) (i : ℕ) → getD (map (λ (s : StepRecord). s .kind) ss) i 0 ≡ getD ss i noStep .kind
 kind-at [] i = refl
 kind-at (s ∷ ss) zero = refl
 kind-at (s ∷ ss) (suc i) = kind-at ss i

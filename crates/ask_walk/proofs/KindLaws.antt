@@ -9,10 +9,10 @@ use native.Mathlib.Omega.{arith}
 use lib.ListN.{length, take, drop, getD}
 use lib.Dec.{eqb}
 use borrow.Author.Tests.{ne-eqb, eqb-true, ltb-true}
+use Rattle.table_layout.specs.Codes.{forkKind, endforkKind}
+use Rattle.table_layout.specs.Bounds.{deepest}
 use Rattle.base.specs.If.{if_then_else_}
 use Rattle.base.proofs.IfLaws.{if-true, if-false, by-cases, both-first, both-second}
-use Rattle.line_path.specs.Path.{deepest}
-use Rattle.doc.specs.Document.{forkKind, endforkKind}
 use Rattle.ask_sound.specs.Sound.{depthStays, depthAfter, depthHolds}
 use Rattle.ask_sound.proofs.LoopLaws.{stays-within}
 use Rattle.ask_walk.specs.Walk.{countKind, isDepth}

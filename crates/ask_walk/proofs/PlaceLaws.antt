@@ -1,29 +1,34 @@
 -- Laws of places: the opens and closes of the steps before a place, and the words of the table for its model and its steps.
 -- Assumes nothing.
 use mathlib.Core.Path.{_≡_, refl, sym, _∙_, ap}
-use mathlib.Core.Bool.{Bool, true, false, not}
-use mathlib.Core.List.{List, [], _∷_, map}
+use mathlib.Core.Bool.{Bool, true, false}
+use mathlib.Core.List.{List, _∷_, map}
 use Prim.Native.Nat.{ℕ, zero, suc, _+_, _-_, _*_, _^_, _≤_, _<_, zero-le}
-use native.Mathlib.Nat.{add-zero, zero-add, sub-zero, mul-zero, mul-suc, le-of-suc-le-suc, not-suc-le-zero}
+use native.Mathlib.Nat.{add-zero, zero-add, sub-zero, le-of-suc-le-suc, not-suc-le-zero}
 use native.Mathlib.Omega.{arith}
 use mir.Syntax.{w64}
 use mir.Val.{Fits}
-use lib.ListN.{length, take, getD, length-map}
+use lib.ListN.{length, take}
 use lib.Dec.{leb, eqb}
-use borrow.Author.Tests.{eq-eqb, ne-eqb, eqb-true, eqb-false, le-leb, lt-leb, leb-true, lt-ltb, le-ltb, ltb-true, not-false}
+use borrow.Author.Tests.{eq-eqb, ne-eqb, eqb-true, eqb-false, le-leb, lt-leb, leb-true, lt-ltb, le-ltb, ltb-true}
+use Rattle.table_record.specs.declared.StepRecord.{StepRecord}
+use Rattle.table_record.specs.declared.ModelRecord.{ModelRecord}
+use Rattle.table_record.specs.Records.{Records, recordsOf, range}
+use Rattle.table_record.specs.Way.Standing.{places, baseOf, countOf, stepAt, kindsFrom, kindsAt, Rooms}
+use Rattle.table_record.proofs.PlaceLaws.{kinds-long, kinds-range}
+use Rattle.table_record.proofs.RecordLaws.{models-long, kinds-are}
 use Rattle.base.specs.If.{if_then_else_, both}
 use Rattle.base.proofs.IfLaws.{by-cases, both-rest, both-not-left, both-first, both-second}
-use Rattle.table_layout.specs.Layout.{models, steps}
+use Rattle.table_layout.specs.Layout.{models, steps, stepWidth}
+use Rattle.table_layout.specs.Codes.{forkKind, endforkKind}
+use Rattle.table_layout.specs.Bounds.{deepest, mostSteps}
 use Rattle.table_layout.specs.declared.View.{View}
-use Rattle.doc.specs.Document.{forkKind, endforkKind}
-use Rattle.doc.specs.Records.{ModelRecord, StepRecord, Records, recordsOf}
-use Rattle.ask_sound.specs.Sound.{range, recordKinds}
-use Rattle.ask_sound.specs.Way.Standing.{places, placesOf, baseOf, countOf, modelAt, stepAt, kindsFrom, kindsAt, recordsAt}
-use Rattle.ask_sound.proofs.PlaceLaws.{places-long, kinds-range}
+use Rattle.ask_sound.specs.Sound.{recordKinds}
+use Rattle.ask_sound.specs.Way.Judged.{SoundRecords}
 use Rattle.ask_walk.specs.declared.Place.{Place}
-use Rattle.ask_walk.specs.Walk.{noModel, noRecord, modelAtPlace, stepAtPlace, countKind, isDepth, kindsBefore, isPlace}
-use Rattle.ask_walk.specs.Way.Walkable.{modelPlace, firstStepOf, manyOf, Walkable, StandsAt}
+use Rattle.ask_walk.specs.Walk.{modelAtPlace, countKind, isDepth, kindsBefore, isPlace}
 use Rattle.ask_walk.proofs.KindLaws.{depth-most}
+use Rattle.ask_walk.proofs.ReadyLaws.{RightModel, right-of}
 
 -- ---- opens and closes
 
@@ -34,7 +39,7 @@ none-counted kind table at = refl
 one-counted :
     (kind : ℕ) (table : List ℕ) (at n : ℕ) →
     countKind kind (kindsFrom table at (suc n))
-    ≡ (if eqb (getD table at 0) kind then countKind kind (kindsFrom table (at + 6) n) + 1 else countKind kind (kindsFrom table (at + 6) n))
+    ≡ (if eqb (stepAt table at .kind) kind then countKind kind (kindsFrom table (at + stepWidth) n) + 1 else countKind kind (kindsFrom table (at + stepWidth) n))
 unfolding countKind kindsFrom places
 one-counted kind table at n = refl
 
@@ -52,7 +57,7 @@ count-few false n i h = omega arith
 -- the loop's invariant: after i of `many` steps, the counts so far and those of the rest are the counts of all
 pub record CountLeft (table : List ℕ) (from many opens closes at i : ℕ) : Type 0 where
   pub most : i ≤ many
-  pub place : at ≡ from + 6 * i
+  pub place : at ≡ from + stepWidth * i
   pub few-opens : opens ≤ i
   pub few-closes : closes ≤ i
   pub opened : opens + countKind forkKind (kindsFrom table at (many - i)) ≡ countKind forkKind (kindsFrom table from many)
@@ -75,24 +80,28 @@ count-starts table from many =
 module _ (table : List ℕ) (from many opens closes at i : ℕ) (left : CountLeft table from many opens closes at i) where
   moved :
       (kind n : ℕ) → i < many → n + countKind kind (kindsFrom table at (many - i)) ≡ countKind kind (kindsFrom table from many) →
-      (if eqb (getD table at 0) kind then n + 1 else n) + countKind kind (kindsFrom table (at + 6) (many - (i + 1))) ≡ countKind kind (kindsFrom table from many)
+      (if eqb (stepAt table at .kind) kind then n + 1 else n) + countKind kind (kindsFrom table (at + stepWidth) (many - (i + 1))) ≡ countKind kind (kindsFrom table from many)
   moved kind n h e =
       let s : many - i ≡ suc (many - (i + 1)) = omega arith in
       let f : n + countKind kind (kindsFrom table at (suc (many - (i + 1)))) ≡ countKind kind (kindsFrom table from many) = rw s at e in
-      count-moves (eqb (getD table at 0) kind) n _ ∙ ap (λ (k : ℕ). n + k) (sym (one-counted kind table at (many - (i + 1)))) ∙ f
+      count-moves (eqb (stepAt table at .kind) kind) n _ ∙ ap (λ (k : ℕ). n + k) (sym (one-counted kind table at (many - (i + 1)))) ∙ f
 
   pub count-on :
-      i < many → (opened-now closed-now : ℕ) → opened-now ≡ (if eqb (getD table at 0) forkKind then opens + 1 else opens) →
-      closed-now ≡ (if eqb (getD table at 0) endforkKind then closes + 1 else closes) →
-      CountLeft table from many opened-now closed-now (at + 6) (i + 1)
-  count-on h opened-now closed-now o c =
-      let p : at ≡ from + 6 * i = left .place in
+      i < many → (s : StepRecord) → s ≡ stepAt table at → (opened-now closed-now : ℕ) → opened-now ≡ (if eqb (s .kind) forkKind then opens + 1 else opens) →
+      closed-now ≡ (if eqb (s .kind) endforkKind then closes + 1 else closes) →
+      CountLeft table from many opened-now closed-now (at + stepWidth) (i + 1)
+  count-on h s here opened-now closed-now by-step also =
+      let o : opened-now ≡ (if eqb (stepAt table at .kind) forkKind then opens + 1 else opens) =
+      by-step ∙ ap (λ (x : StepRecord). if eqb (x .kind) forkKind then opens + 1 else opens) here in
+      let c : closed-now ≡ (if eqb (stepAt table at .kind) endforkKind then closes + 1 else closes) =
+      also ∙ ap (λ (x : StepRecord). if eqb (x .kind) endforkKind then closes + 1 else closes) here in
+      let p : at ≡ from + stepWidth * i = left .place in
       rw (o, c)
       (record {
         most = omega arith;
         place = omega arith;
-        few-opens = count-few (eqb (getD table at 0) forkKind) opens i (left .few-opens);
-        few-closes = count-few (eqb (getD table at 0) endforkKind) closes i (left .few-closes);
+        few-opens = count-few (eqb (stepAt table at .kind) forkKind) opens i (left .few-opens);
+        few-closes = count-few (eqb (stepAt table at .kind) endforkKind) closes i (left .few-closes);
         opened = moved forkKind opens h (left .opened);
         closed = moved endforkKind closes h (left .closed);
       })
@@ -127,154 +136,101 @@ module _ (table : List ℕ) (from many opens closes at i : ℕ) (left : CountLef
             let n : depth + closes ≡ opens → ⊥ = λ (k : depth + closes ≡ opens). eqb-false depth (opens - closes) e (omega arith) in
             e ∙ sym (ne-eqb _ _ n)
 
--- ---- the record at an index, and the kinds of the first steps
-
-module _ {A : Type 0} (w : ℕ) (f : ℕ → A) (none : A) where
-  record-at : (from i n : ℕ) → i < n → getD (map f (places w from n)) i none ≡ f (from + w * i)
-  unfolding places
-  record-at from i zero h = absurd (not-suc-le-zero h)
-  record-at from zero (suc n) h =
-      let e : from ≡ from + w * 0 = sym (ap (λ (k : ℕ). from + k) (mul-zero w) ∙ add-zero from) in
-      ap f e
-  record-at from (suc i) (suc n) h =
-      let m : w * suc i ≡ w * i + w = mul-suc w i in
-      let e : from + w + w * i ≡ from + w * suc i = omega arith in
-      record-at (from + w) i n (le-of-suc-le-suc h) ∙ ap f e
+-- ---- the kinds of the first steps
 
 kinds-front : (table : List ℕ) (from many n : ℕ) → many ≤ n → take many (kindsFrom table from n) ≡ kindsFrom table from many
 unfolding kindsFrom places
 kinds-front table from zero n h = refl
 kinds-front table from (suc many) zero h = absurd (not-suc-le-zero h)
-kinds-front table from (suc many) (suc n) h = ap (λ (ks : List ℕ). getD table from 0 ∷ ks) (kinds-front table (from + 6) many n (le-of-suc-le-suc h))
-
-map-map : {A B : Type 0} (g : A → B) (f : ℕ → A) (ps : List ℕ) → map g (map f ps) ≡ map (λ (at : ℕ). g (f at)) ps
-map-map g f [] = refl
-map-map {B = B} g f (p ∷ ps) = ap (λ (ys : List B). g (f p) ∷ ys) (map-map g f ps)
-
--- ---- models, steps and kinds, by the view
-
-module _ (table : List ℕ) (v : View) (same : recordsAt table v ≡ recordsOf table) where
-  models-are : map (modelAt table) (places 5 (baseOf v models) (countOf v models)) ≡ recordsOf table .models
-  unfolding recordsAt placesOf
-  models-are = ap (λ (r : Records). r .models) same
-
-  steps-are : map (stepAt table) (places 6 (baseOf v steps) (countOf v steps)) ≡ recordsOf table .steps
-  unfolding recordsAt placesOf
-  steps-are = ap (λ (r : Records). r .steps) same
-
-  pub models-many : length (recordsOf table .models) ≡ countOf v models
-  models-many = ap length (sym models-are) ∙ length-map (places 5 (baseOf v models) (countOf v models)) (modelAt table) ∙ places-long 5 _ _
-
-  pub kinds-are : recordKinds (recordsOf table .steps) ≡ kindsAt table v
-  unfolding recordKinds kindsAt kindsFrom
-  kinds-are = ap (map (λ (s : StepRecord). s .kind)) (sym steps-are) ∙ map-map (λ (s : StepRecord). s .kind) (stepAt table) (places 6 (baseOf v steps) (countOf v steps))
-
-  pub model-there : (i : ℕ) → i < countOf v models → getD (recordsOf table .models) i noModel ≡ modelAt table (modelPlace v i)
-  model-there i h = ap (λ (ms : List ModelRecord). getD ms i noModel) (sym models-are) ∙ record-at 5 (modelAt table) noModel (baseOf v models) i (countOf v models) h
-
-  step-there : (i : ℕ) → i < countOf v steps → getD (recordsOf table .steps) i noRecord ≡ stepAt table (baseOf v steps + 6 * i)
-  step-there i h = ap (λ (ss : List StepRecord). getD ss i noRecord) (sym steps-are) ∙ record-at 6 (stepAt table) noRecord (baseOf v steps) i (countOf v steps) h
+kinds-front table from (suc many) (suc n) h = ap (λ (ks : List ℕ). stepAt table from .kind ∷ ks) (kinds-front table (from + stepWidth) many n (le-of-suc-le-suc h))
 
 -- ---- where the model and the steps of a place are in the table
 
-module _ (table : List ℕ) (v : View) (ready : Walkable table v) (p : Place) where
-  abbrev at : ℕ
-  at = modelPlace v (p .model)
-
-  abbrev first : ℕ
-  first = firstStepOf table v (p .model)
-
-  abbrev many : ℕ
-  many = manyOf table v (p .model)
-
+module _ (table : List ℕ) (v : View) (rooms : Rooms table v) (p : Place) where
   abbrev records : Records
   records = recordsOf table
 
-  models-all : length (records .models) ≡ countOf v models
-  models-all = models-many table v (ready .records)
+  kinds-there : recordKinds (records .steps) ≡ kindsAt table v
+  unfolding recordKinds
+  kinds-there = ap (λ (r : Records). map (λ (s : StepRecord). s .kind) (r .steps)) (sym (rooms .records)) ∙ sym (kinds-are table v)
 
   pub place-none : countOf v models ≤ p .model → false ≡ isPlace records p
   unfolding isPlace
   place-none h =
-      let k : length (records .models) ≤ p .model = rw models-all h in
+      let k : length (records .models) ≤ p .model = rw (models-long table v rooms) h in
       sym (both-not-left _ _ (le-ltb _ _ k))
 
-  module _ (has : p .model < countOf v models) where
-    model-fits : at + 5 ≤ length table
-    model-fits = omega (arith, ready .model-room)
+  module _ (judged : SoundRecords table) (has : p .model < countOf v models) (m : ModelRecord) (here : m ≡ modelAtPlace records p) where
+    in-models : p .model < length (records .models)
+    in-models = rw (models-long table v rooms) has
 
-    model-is : modelAtPlace records p ≡ modelAt table at
-    model-is = model-there table v (ready .records) (p .model) has
+    right : RightModel records (p .model)
+    right = right-of (judged .bytes) records (judged .sound) (p .model) in-models
 
-    steps-inside : first + many ≤ countOf v steps
-    steps-inside = ready .ranges (p .model) has
+    steps-inside : m .first + m .steps ≤ countOf v steps
+    steps-inside = rw (here, sym (kinds-long table v), sym kinds-there) (right .inside)
 
-    place-rest : isPlace records p ≡ both (leb (p .step) many) (isDepth (p .depth) (kindsBefore records p))
+    place-rest : isPlace records p ≡ both (leb (p .step) (m .steps)) (isDepth (p .depth) (kindsBefore records p))
     unfolding isPlace
-    place-rest =
-        let k : p .model < length (records .models) = rw models-all has in
-        both-rest _ _ (lt-ltb _ _ k) ∙ ap (λ (m : ModelRecord). both (leb (p .step) (m .steps)) (isDepth (p .depth) (kindsBefore records p))) model-is
+    place-rest = both-rest _ _ (lt-ltb _ _ in-models) ∙ ap (λ (x : ModelRecord). both (leb (p .step) (x .steps)) (isDepth (p .depth) (kindsBefore records p))) (sym here)
 
-    kinds-taken : kindsBefore records p ≡ take (p .step) (kindsFrom table (baseOf v steps + 6 * first) many)
+    kinds-taken : kindsBefore records p ≡ take (p .step) (kindsFrom table (baseOf v steps + stepWidth * m .first) (m .steps))
     unfolding kindsBefore
     kinds-taken =
-        ap (λ (m : ModelRecord). take (p .step) (range (m .first) (m .steps) (recordKinds (records .steps)))) model-is
-        ∙ ap (λ (ks : List ℕ). take (p .step) (range first many ks)) (kinds-are table v (ready .records))
-        ∙ ap (take (p .step)) (kinds-range table v first many steps-inside)
+        ap (λ (x : ModelRecord). take (p .step) (range (x .first) (x .steps) (recordKinds (records .steps)))) (sym here)
+        ∙ ap (λ (ks : List ℕ). take (p .step) (range (m .first) (m .steps) ks)) kinds-there
+        ∙ ap (take (p .step)) (kinds-range table v (m .first) (m .steps) steps-inside)
 
-    pub place-past : many < p .step → false ≡ isPlace records p
+    pub place-past : m .steps < p .step → false ≡ isPlace records p
     place-past h = sym (place-rest ∙ both-not-left _ _ (lt-leb _ _ h))
 
-    module _ (upto : p .step ≤ many) where
-      kinds-before : kindsBefore records p ≡ kindsFrom table (baseOf v steps + 6 * first) (p .step)
-      kinds-before = kinds-taken ∙ kinds-front table (baseOf v steps + 6 * first) (p .step) many upto
+    module _ (upto : p .step ≤ m .steps) where
+      kinds-before : kindsBefore records p ≡ kindsFrom table (baseOf v steps + stepWidth * m .first) (p .step)
+      kinds-before = kinds-taken ∙ kinds-front table (baseOf v steps + stepWidth * m .first) (p .step) (m .steps) upto
 
-      pub before-room : baseOf v steps + 6 * first + 6 * p .step ≤ length table
-      before-room = omega (arith, ready .step-room, steps-inside)
+      pub before-room : baseOf v steps + stepWidth * m .first + stepWidth * p .step ≤ length table
+      before-room = omega (arith, rooms .step-room, steps-inside)
 
-      pub before-product : length table * 8 < 2 ^ 63 → Fits w64 (6 * first)
+      pub before-product : length table * 8 < 2 ^ 63 → Fits w64 (stepWidth * m .first)
       before-product h = omega (arith, before-room)
 
-      pub before-sum : length table * 8 < 2 ^ 63 → Fits w64 (baseOf v steps + 6 * first)
+      pub before-sum : length table * 8 < 2 ^ 63 → Fits w64 (baseOf v steps + stepWidth * m .first)
       before-sum h = omega (arith, before-room)
 
-      pub place-deep : (r : Bool) → r ≡ isDepth (p .depth) (kindsFrom table (baseOf v steps + 6 * first) (p .step)) → r ≡ isPlace records p
+      pub place-deep : (r : Bool) → r ≡ isDepth (p .depth) (kindsFrom table (baseOf v steps + stepWidth * m .first) (p .step)) → r ≡ isPlace records p
       place-deep r e = e ∙ ap (isDepth (p .depth)) (sym kinds-before) ∙ sym (place-rest ∙ both-rest _ _ (le-leb _ _ upto))
 
-      step-at : p .step < many → stepAtPlace records p ≡ stepAt table (baseOf v steps + 6 * (first + p .step))
-      unfolding stepAtPlace
-      step-at h =
-          let k : first + p .step < countOf v steps = omega (arith, steps-inside) in
-          ap (λ (m : ModelRecord). getD (records .steps) (m .first + p .step) noRecord) model-is
-          ∙ step-there table v (ready .records) (first + p .step) k
+  -- ---- a place that is in range
 
-      stands-by : isDepth (p .depth) (kindsBefore records p) ≡ true → StandsAt table v p
-      stands-by e =
-          let i : first + many ≤ countOf v steps = steps-inside in
-          let f : countOf v steps ≤ 4_096 = ready .few-steps in
-          let r : baseOf v steps + 6 * countOf v steps ≤ length table = ready .step-room in
-          record {
-            model-room = model-fits;
-            step-room = omega arith;
-            few-steps = omega arith;
-            step-inside = upto;
-            shallow = depth-most (kindsFrom table (baseOf v steps + 6 * first) many) (ready .depths (p .model) has) (p .step) (p .depth) (ap (isDepth (p .depth)) (sym kinds-taken) ∙ e);
-            model-is = model-is;
-            step-is = step-at;
-          }
-
-  module _ (is : Bool) (told : is ≡ isPlace records p) (kept : not is ≡ false) where
-    in-range : isPlace records p ≡ true
-    in-range = sym told ∙ not-false is kept
-
-    model-has : p .model < countOf v models
+  module _ (in-range : isPlace records p ≡ true) where
+    pub model-has : p .model < countOf v models
     unfolding isPlace
     model-has =
         let h : p .model < length (records .models) = ltb-true _ _ (both-first _ _ in-range) in
-        rw models-all at h
+        rw (models-long table v rooms) at h
 
-    rest-holds : both (leb (p .step) many) (isDepth (p .depth) (kindsBefore records p)) ≡ true
-    rest-holds = sym (place-rest model-has) ∙ in-range
+    module _ (judged : SoundRecords table) where
+      pub shallow : p .depth ≤ deepest
+      unfolding isPlace kindsBefore
+      shallow =
+          depth-most _ (right-of (judged .bytes) records (judged .sound) (p .model) (ltb-true _ _ (both-first _ _ in-range)) .depth) (p .step) (p .depth)
+          (both-second _ _ (both-second _ _ in-range))
 
-    pub stands : StandsAt table v p
-    stands = stands-by model-has (leb-true _ _ (both-first _ _ rest-holds)) (both-second _ _ rest-holds)
+      module _ (m : ModelRecord) (here : m ≡ modelAtPlace records p) where
+        step-most : p .step ≤ m .steps
+        unfolding isPlace
+        step-most = rw here (leb-true _ _ (both-first _ _ (both-second _ _ in-range)))
+
+        within : m .first + m .steps ≤ countOf v steps
+        within = steps-inside judged model-has m here
+
+        pub few-steps : p .step ≤ mostSteps
+        few-steps = omega (arith, step-most, within, rooms .few-steps)
+
+        pub index-fits : Fits w64 (m .first + p .step)
+        index-fits = omega (arith, step-most, within, rooms .few-steps)
+
+        pub index-inside : (p .step ≡ m .steps → ⊥) → m .first + p .step < countOf v steps
+        index-inside n =
+            let h : p .step ≤ m .steps = step-most in
+            omega (arith, within)

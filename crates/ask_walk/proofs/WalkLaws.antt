@@ -10,33 +10,16 @@ use native.Mathlib.Omega.{arith}
 use lib.ListN.{length, take, getD}
 use lib.Dec.{eqb}
 use borrow.Author.Tests.{eq-eqb, le-leb, lt-ltb}
+use Rattle.table_record.specs.Records.{Records, recordsOf, noModel}
+use Rattle.table_layout.specs.Codes.{forkKind, endforkKind}
 use Rattle.base.specs.If.{if_then_else_, both}
+use Rattle.base.specs.Refusal as refusal
 use Rattle.base.proofs.IfLaws.{by-test, both-true}
-use Rattle.doc.specs.Document.{forkKind, endforkKind}
-use Rattle.doc.specs.Records.{Records, recordsOf}
 use Rattle.ask_sound.specs.Sound.{depthAfter, isSound}
 use Rattle.ask_walk.specs.declared.Place.{Place}
 use Rattle.ask_walk.specs.declared.Walked.{Walked}
 use Rattle.ask_walk.specs.declared.Walked.the-variants.{Step, Done, Refused}
-use Rattle.ask_walk.specs.Walk.{
-  WalkWords,
-  walkWords,
-  walkRefused,
-  noModel,
-  modelAtPlace,
-  stepAtPlace,
-  countKind,
-  isDepth,
-  kindsBefore,
-  isPlace,
-  nextOf,
-  unsound,
-  noSuch,
-  walkOver,
-  walkOn,
-  walkFrom,
-  walkAnswer,
-}
+use Rattle.ask_walk.specs.Walk.{WalkWords, walkWords, walkRefused, modelAtPlace, stepAtPlace, countKind, isDepth, kindsBefore, isPlace, nextOf, walkOver, walkOn, walkFrom, walkAnswer}
 use Rattle.ask_walk.proofs.KindLaws.{Moves, moves, count-next}
 use Rattle.ask_walk.proofs.DepthLaws.{pathKinds, has-model, its-depth, has-step, step-kind, may-be-here}
 
@@ -107,15 +90,15 @@ on-answers r p =
 module _ (on : WalkWords) (answers : (on .answered ≡ true) × (on .rule ≡ 0)) where
   two-numbers :
       (sound place : Bool) →
-      (if not sound then walkRefused unsound else if not place then walkRefused noSuch else on) .rule
-      ≡ (if not sound then unsound else if not place then noSuch else 0)
+      (if not sound then walkRefused refusal.table else if not place then walkRefused refusal.noSuch else on) .rule
+      ≡ (if not sound then refusal.table else if not place then refusal.noSuch else 0)
   unfolding if_then_else_
   two-numbers true true = answers .1
   two-numbers true false = refl
   two-numbers false place = refl
 
   two-refuse :
-      (sound place : Bool) → (if not sound then walkRefused unsound else if not place then walkRefused noSuch else on) .answered ≡ both sound place
+      (sound place : Bool) → (if not sound then walkRefused refusal.table else if not place then walkRefused refusal.noSuch else on) .answered ≡ both sound place
   unfolding if_then_else_ both
   two-refuse true true = answers .0
   two-refuse true false = refl
@@ -123,7 +106,7 @@ module _ (on : WalkWords) (answers : (on .answered ≡ true) × (on .rule ≡ 0)
 
 module _ (t table : List ℕ) (p : Place) where
   -- "Questions: 30, 31"
-  pub refused-by : walkAnswer t table p .rule ≡ (if not (isSound t table) then unsound else if not (isPlace (recordsOf table) p) then noSuch else 0)
+  pub refused-by : walkAnswer t table p .rule ≡ (if not (isSound t table) then refusal.table else if not (isPlace (recordsOf table) p) then refusal.noSuch else 0)
   unfolding walkAnswer walkFrom
   refused-by = two-numbers (walkOn (recordsOf table) p) (on-answers (recordsOf table) p) (isSound t table) (isPlace (recordsOf table) p)
 

@@ -6,37 +6,29 @@ use mathlib.Core.Bool.{Bool, true, false, not}
 use mathlib.Core.List.{List, [], _∷_}
 use lib.ListN.{length, getD, take}
 use lib.Dec.{leb, ltb, eqb}
+use Rattle.table_record.specs.Records.{Records, recordsOf, range, noModel, noStep}
+use Rattle.table_record.specs.declared.StepRecord.{StepRecord}
+use Rattle.table_record.specs.declared.ModelRecord.{ModelRecord}
+use Rattle.table_layout.specs.Codes.{forkKind, endforkKind}
 use Rattle.base.specs.If.{if_then_else_, both}
-use Rattle.doc.specs.Document.{forkKind, endforkKind}
-use Rattle.doc.specs.Records.{ModelRecord, StepRecord, Records, recordsOf}
-use Rattle.ask_sound.specs.Sound.{range, depthAfter, recordKinds, isSound}
+use Rattle.base.specs.Refusal as refusal
+use Rattle.ask_sound.specs.Sound.{depthAfter, recordKinds, isSound}
 use Rattle.ask_walk.specs.declared.Place.{Place}
-use Rattle.ask_walk.specs.declared.StepWords.{StepWords}
 use Rattle.ask_walk.specs.declared.Walked.{Walked}
 use Rattle.ask_walk.specs.declared.Walked.the-variants.{Step, Done, Refused}
 
--- the paper's numbers: "30 TABLE", "31 NOSUCH"
-abbrev pub unsound : ℕ
-unsound = 30
-
-abbrev pub noSuch : ℕ
-noSuch = 31
-
 -- ---- the answer
 
--- the words of the answer; `answered` and `done` distinguish its three cases
+-- the words of the answer; `answered` and `done` distinguish its three cases. A step's words are those of its record
 pub record WalkWords : Type 0 where
   pub answered : Bool
   pub rule : ℕ
   pub line : ℕ
   pub done : Bool
-  pub step : StepWords
+  pub step : StepRecord
   pub next : Place
 
-abbrev pub noStep : StepWords
-noStep = record { kind = 0; target = 0; amount = 0; side = 0; «side_size» = 0; line = 0 }
-
-abbrev pub stepped : StepWords → Place → WalkWords
+abbrev pub stepped : StepRecord → Place → WalkWords
 stepped words next = record { answered = true; rule = 0; line = 0; done = false; step = words; next = next }
 
 -- "it says done, step words 0, and hands the same place back"
@@ -54,20 +46,14 @@ walkWords (Step words next) = stepped words next
 walkWords (Done place) = doneAt place
 walkWords (Refused rule) = walkRefused rule
 
--- ---- models and steps by their index; `noModel` and `noRecord` are the defaults past the last, and reach no answer
-
-abbrev pub noModel : ModelRecord
-noModel = record { start = 0; size = 0; type = 0; first = 0; steps = 0 }
-
-abbrev pub noRecord : StepRecord
-noRecord = record { kind = 0; target = 0; amount = 0; side = 0; sideSize = 0; line = 0 }
+-- ---- the model and the step of a place
 
 abbrev pub modelAtPlace : Records → Place → ModelRecord
 modelAtPlace r p = getD (r .models) (p .model) noModel
 
 -- the step that comes next at a place
 unfoldable pub stepAtPlace : Records → Place → StepRecord
-stepAtPlace r p = getD (r .steps) (modelAtPlace r p .first + p .step) noRecord
+stepAtPlace r p = getD (r .steps) (modelAtPlace r p .first + p .step) noStep
 
 -- ---- places
 
@@ -92,17 +78,13 @@ isPlace r p =
 
 -- ---- one step
 
-abbrev pub shownWords : StepRecord → StepWords
-shownWords s =
-    record { kind = s .kind; target = s .target; amount = s .amount; side = s .side; «side_size» = s .sideSize; line = s .line }
-
 -- the place after a step of this kind
 unfoldable pub nextOf : Place → ℕ → Place
 nextOf p kind = record { model = p .model; step = p .step + 1; depth = depthAfter (p .depth) kind }
 
 -- the answer of a walk over this step
 unfoldable pub walkOver : StepRecord → Place → WalkWords
-walkOver s p = stepped (shownWords s) (nextOf p (s .kind))
+walkOver s p = stepped s (nextOf p (s .kind))
 
 -- ---- the whole
 
@@ -112,8 +94,8 @@ walkOn r p = if eqb (p .step) (modelAtPlace r p .steps) then doneAt p else walkO
 
 -- for a sound table
 unfoldable pub walkFrom : Records → Place → WalkWords
-walkFrom r p = if not (isPlace r p) then walkRefused noSuch else walkOn r p
+walkFrom r p = if not (isPlace r p) then walkRefused refusal.noSuch else walkOn r p
 
 -- "Questions: 30, 31"
 unfoldable pub walkAnswer : List ℕ → List ℕ → Place → WalkWords
-walkAnswer t table p = if not (isSound t table) then walkRefused unsound else walkFrom (recordsOf table) p
+walkAnswer t table p = if not (isSound t table) then walkRefused refusal.table else walkFrom (recordsOf table) p

@@ -1,30 +1,18 @@
 // The question "walk": one step from a place in a model's path. It answers with the step's words and the next place.
 ghost use mathlib.Core.Path.{_≡_};
+ghost use mathlib.Core.Bool.{true};
 ghost use Prim.Native.Nat.{_+_, _*_, _^_, _≤_, _<_};
 ghost use lib.ListN.{length};
 ghost use lib.Dec.{eqb};
 ghost use Rattle.base.specs.If.{if_then_else_};
-ghost use Rattle.line_path.specs.Path.{deepest};
-ghost use Rattle.doc.specs.Records.{recordsOf};
-ghost use Rattle.ask_sound.specs.Way.Standing.{stepAt, kindsFrom};
+ghost use Rattle.table_layout.specs.Layout.{stepWidth};
+ghost use Rattle.table_layout.specs.Bounds.{deepest, mostSteps};
+ghost use Rattle.table_record.specs.Records.{recordsOf};
+ghost use Rattle.table_record.specs.Way.Standing.{kindsFrom, Rooms};
+ghost use Rattle.ask_sound.specs.Way.Judged.{SoundRecords};
 ghost use Rattle.ask_walk.specs.Walk.{walkWords, isDepth, isPlace, nextOf, walkOver, walkOn, walkFrom, walkAnswer};
-ghost use Rattle.ask_walk.specs.Way.Walkable.{Walkable, StandsAt};
 use table_layout::View;
-
-// "30 TABLE", "31 NOSUCH".
-const UNSOUND: u64 = 30;
-
-const NOSUCH: u64 = 31;
-
-// "2 fork 3 endfork".
-const FORK: u64 = 2;
-
-const ENDFORK: u64 = 3;
-
-// How many words the record of a model has, and that of a step.
-const MODEL_WORDS: usize = 5;
-
-const STEP_WORDS: usize = 6;
+use table_record::StepRecord;
 
 // "A walk place is model, step, depth".
 pub struct Place {
@@ -33,19 +21,9 @@ pub struct Place {
     pub depth: u64,
 }
 
-// The words of a step, as the table has them.
-pub struct StepWords {
-    pub kind: u64,
-    pub target: u64,
-    pub amount: u64,
-    pub side: u64,
-    pub side_size: u64,
-    pub line: u64,
-}
-
 // A step and the next place; or done, and the same place; or refused by a rule.
 pub enum Walked {
-    Step(StepWords, Place),
+    Step(StepRecord, Place),
     Done(Place),
     Refused(u64),
 }
@@ -54,7 +32,7 @@ pub enum Walked {
 
 // The place after a step of this kind.
 fn next_of(place: Place, kind: u64) -> Place
-    requires { ⌜ (place .step ≤ 4_096) × (place .depth ≤ deepest) ⌝ }
+    requires { ⌜ (place .step ≤ mostSteps) × (place .depth ≤ deepest) ⌝ }
     ensures { λ r. ⌜ r ≡ nextOf place kind ⌝ }
 {
     Place {
@@ -64,23 +42,13 @@ fn next_of(place: Place, kind: u64) -> Place
     }
 }
 
-// Walks over the step whose record begins at word `at`.
-fn walk_over(table: &[u64], at: usize, place: Place) -> Walked
-    requires { ⌜ (at + 6 ≤ length (now table)) × (place .step ≤ 4_096) × (place .depth ≤ deepest) ⌝ }
-    ensures { λ r. ⌜ walkWords r ≡ walkOver (stepAt (now (table .entry)) at) place ⌝ }
+// Walks over a step.
+fn walk_over(step: StepRecord, place: Place) -> Walked
+    requires { ⌜ (place .step ≤ mostSteps) × (place .depth ≤ deepest) ⌝ }
+    ensures { λ r. ⌜ walkWords r ≡ walkOver step place ⌝ }
 {
-    let kind = table[at];
-    Walked::Step(
-        StepWords {
-            kind,
-            target: table[at + 1],
-            amount: table[at + 2],
-            side: table[at + 3],
-            side_size: table[at + 4],
-            line: table[at + 5],
-        },
-        next_of(place, kind),
-    )
+    let next = next_of(place, step.kind);
+    Walked::Step(step, next)
 }
 
 // ---- places
@@ -98,7 +66,7 @@ fn counted(n: u64, kind: u64, other: u64) -> u64
 
 // Whether the depth is opens less closes along `many` steps, whose records begin at word `from`.
 fn is_depth(table: &[u64], from: usize, many: u64, depth: u64) -> bool
-    requires { ⌜ from + 6 * many ≤ length (now table) ⌝ }
+    requires { ⌜ from + stepWidth * many ≤ length (now table) ⌝ }
     ensures { λ r. ⌜ r ≡ isDepth depth (kindsFrom (now (table .entry)) from many) ⌝ }
 {
     let mut opens = 0;
@@ -106,10 +74,10 @@ fn is_depth(table: &[u64], from: usize, many: u64, depth: u64) -> bool
     let mut at = from;
     let mut i = 0;
     while i < many {
-        let kind = table[at];
-        opens = counted(opens, kind, FORK);
-        closes = counted(closes, kind, ENDFORK);
-        at += STEP_WORDS;
+        let step = table_record::step_at(table, at);
+        opens = counted(opens, step.kind, table_layout::code::FORK);
+        closes = counted(closes, step.kind, table_layout::code::ENDFORK);
+        at += table_layout::STEP_WIDTH;
         i += 1;
     }
     if opens < closes {
@@ -119,58 +87,44 @@ fn is_depth(table: &[u64], from: usize, many: u64, depth: u64) -> bool
 }
 
 fn is_place(table: &[u64], view: View, place: Place) -> bool
-    requires { ⌜ Walkable (now table) view ⌝ }
+    requires { ⌜ Rooms (now table) view × SoundRecords (now table) ⌝ }
     ensures { λ r. ⌜ r ≡ isPlace (recordsOf (now (table .entry))) place ⌝ }
 {
     let bases = view.bases;
     let counts = view.counts;
-    let model = place.model;
-    let step = place.step;
-    if counts[table_layout::MODELS] <= model {
+    if counts[table_layout::MODELS] <= place.model {
         return false;
     }
-    let at = bases[table_layout::MODELS] + MODEL_WORDS * (model as usize);
-    if table[at + 4] < step {
+    let model = table_record::nth_model(table, view, place.model);
+    if model.steps < place.step {
         return false;
     }
-    let first = table[at + 3];
-    is_depth(
-        table,
-        bases[table_layout::STEPS] + STEP_WORDS * (first as usize),
-        step,
-        place.depth,
-    )
+    let from = bases[table_layout::STEPS] + table_layout::STEP_WIDTH * (model.first as usize);
+    is_depth(table, from, place.step, place.depth)
 }
 
 // ---- the whole
 
 // One step from a place that is in range.
 fn walk_on(table: &[u64], view: View, place: Place) -> Walked
-    requires { ⌜ StandsAt (now table) view place ⌝ }
+    requires { ⌜ Rooms (now table) view × SoundRecords (now table) × (isPlace (recordsOf (now table)) place ≡ true) ⌝ }
     ensures { λ r. ⌜ walkWords r ≡ walkOn (recordsOf (now (table .entry))) place ⌝ }
 {
-    let bases = view.bases;
-    let model = place.model;
-    let step = place.step;
-    let at = bases[table_layout::MODELS] + MODEL_WORDS * (model as usize);
-    if step == table[at + 4] {
+    let model = table_record::nth_model(table, view, place.model);
+    if place.step == model.steps {
         return Walked::Done(place);
     }
-    let index = table[at + 3] + step;
-    walk_over(
-        table,
-        bases[table_layout::STEPS] + STEP_WORDS * (index as usize),
-        place,
-    )
+    let index = model.first + place.step;
+    walk_over(table_record::nth_step(table, view, index), place)
 }
 
 // One step in a table that is known to be sound, for callers that ask more than once.
 pub fn walk_in(table: &[u64], view: View, place: Place) -> Walked
-    requires { ⌜ Walkable (now table) view ⌝ }
+    requires { ⌜ Rooms (now table) view × SoundRecords (now table) ⌝ }
     ensures { λ r. ⌜ walkWords r ≡ walkFrom (recordsOf (now (table .entry))) place ⌝ }
 {
     if !is_place(table, view, place) {
-        return Walked::Refused(NOSUCH);
+        return Walked::Refused(base::refusal::NOSUCH);
     }
     walk_on(table, view, place)
 }
@@ -180,9 +134,10 @@ impl Place {
     pub fn step(self, text: &[u8], table: &[u64]) -> Walked
         ensures { λ r. ⌜ walkWords r ≡ walkAnswer (now (text .entry)) (now (table .entry)) self ⌝ }
     {
-        if !ask_sound::is_sound(text, table) {
-            return Walked::Refused(UNSOUND);
+        let view = ask_sound::sound_view(text, table);
+        if !view.fits {
+            return Walked::Refused(base::refusal::TABLE);
         }
-        walk_in(table, table_layout::view_of(table), self)
+        walk_in(table, view, self)
     }
 }

@@ -1,18 +1,17 @@
 -- Laws of rules as data. `firstBroken` is 0 exactly when every test is false. In a list whose numbers rise it is the
 -- least number of a broken rule. The rule set `firsts` proves code that makes the tests of a list in the same order.
 -- Assumes nothing.
-use mathlib.Core.Path.{_≡_, refl, sym, _∙_}
-use mathlib.Core.Bool.{Bool, true, false, not, true≢false}
+use mathlib.Core.Path.{_≡_, refl, sym, _∙_, ap}
+use mathlib.Core.Bool.{Bool, true, false, true≢false}
 use mathlib.Core.List.{List, [], _∷_}
 use Prim.Native.Nat.{ℕ, zero, suc, _≤_, _<_, zero-le, suc-le-suc}
-use native.Mathlib.Nat.{le-of-suc-le-suc, not-suc-le-zero, le-refl, le-trans, le-of-lt}
+use native.Mathlib.Nat.{le-of-suc-le-suc, not-suc-le-zero, le-refl, le-trans}
 use native.Mathlib.Omega.{arith}
 use lib.ListN.{length, getD}
-use lib.Dec.{leb, ltb, eqb}
-use borrow.Author.Tests.{le-leb, lt-leb, eq-eqb, ne-eqb, lt-ltb, le-ltb, ltb-true}
-use Rattle.base.specs.If.{both}
+use borrow.Author.Tests.{le-leb, lt-leb, eq-eqb, ne-eqb, lt-ltb, le-ltb}
+use Rattle.base.specs.If.{if_then_else_}
 use Rattle.base.specs.Broken.{Rule, _when_, first, firstBroken}
-use Rattle.base.proofs.IfLaws.{by-cases, both-first, both-second, not-via, not-not-via, both-true, both-not-left, both-not-right, either-left, either-right, either-false, Yes, No, tests}
+use Rattle.base.proofs.IfLaws.{if-true, if-false, by-cases, not-via, not-not-via, both-true, both-not-left, both-not-right, either-left, either-right, either-false, Yes, No, tests}
 
 pub first-broken : (b : Bool) (n later : ℕ) → b ≡ true → first b n later ≡ n
 unfolding first
@@ -102,5 +101,19 @@ module _ (b : Bool) (n later : ℕ) where
   pub is-kept : (found : ℕ) → No b → found ≡ later → found ≡ first b n later
   is-kept found h k = gives-later found (h .fails) k
 
+-- a choice between two lists
+module _ (b : Bool) (x y : List Rule) where
+  pub lists-yes : b ≡ true → firstBroken (if b then x else y) ≡ firstBroken x
+  lists-yes e = ap firstBroken (if-true x y e)
+
+  pub lists-no : b ≡ false → firstBroken (if b then x else y) ≡ firstBroken y
+  lists-no e = ap firstBroken (if-false x y e)
+
+  pub list-chosen : (found : ℕ) → Yes b → found ≡ firstBroken x → found ≡ firstBroken (if b then x else y)
+  list-chosen found h k = k ∙ sym (lists-yes (h .holds))
+
+  pub list-passed : (found : ℕ) → No b → found ≡ firstBroken y → found ≡ firstBroken (if b then x else y)
+  list-passed found h k = k ∙ sym (lists-no (h .fails))
+
 -- `search rules` proves every `return` of a function that makes the tests of a list in the list's order
-pub ruleset rules = (refl, is-broken, is-kept, tests)
+pub ruleset rules = (refl, is-broken, is-kept, list-chosen, list-passed, tests)

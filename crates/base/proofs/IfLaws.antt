@@ -26,6 +26,11 @@ pub by-cases : (P : Type 0) (b : Bool) → (b ≡ true → P) → (b ≡ false �
 by-cases P true h k = h refl
 by-cases P false h k = k refl
 
+pub both-assoc : (a b c : Bool) → both (both a b) c ≡ both a (both b c)
+unfolding both
+both-assoc true b c = refl
+both-assoc false b c = refl
+
 pub both-true : (a b : Bool) → a ≡ true → b ≡ true → both a b ≡ true
 unfolding both
 both-true a b e f = rw (e, f)

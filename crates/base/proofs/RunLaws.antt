@@ -16,7 +16,7 @@ use borrow.Author.Tests.{eqb-true, eq-eqb, ne-eqb, not-true, not-false}
 use Rattle.base.specs.If.{if_then_else_, both}
 use Rattle.base.specs.Runs.{run, all, same}
 use Rattle.base.specs.Way.Class.{runEnd}
-use Rattle.base.proofs.IfLaws.{if-true, if-false, by-test, by-cases, both-true, both-not-left, both-not-right, both-rest, both-first, both-second}
+use Rattle.base.proofs.IfLaws.{if-true, if-false, by-test, by-cases, both-true, both-not-left, both-not-right, both-rest, both-first, both-second, both-assoc}
 
 pub run-cons : (p : ℕ → Bool) (b : ℕ) (s : List ℕ) → run p (b ∷ s) ≡ (if p b then suc (run p s) else zero)
 unfolding run
@@ -284,11 +284,6 @@ block-on p s n i last end t room h told e inv =
     let d : drop n (drop i s) ≡ drop (i + n) s = drop-drop n i s in
     let m : run p (drop i s) ≡ n + run p (drop (i + n) s) = rw d at k in
     omega arith
-
-both-assoc : (a b c : Bool) → both (both a b) c ≡ both a (both b c)
-unfolding both
-both-assoc true b c = refl
-both-assoc false b c = refl
 
 -- the invariant of a loop within a block: `whole` says whether the bytes before i pass; those from i to `end` are left
 module _ (p : ℕ → Bool) (s : List ℕ) (n from i end : ℕ) (whole goal : Bool) (room : from + n ≤ length s) (is : end ≡ from + n) (inv : both whole (all p (take (end - i) (drop i s))) ≡ goal) (g : i < end) where

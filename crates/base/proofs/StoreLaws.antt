@@ -1,13 +1,13 @@
 -- Laws of stores into a lent table: several words stored one by one, and zeros up to the end.
 -- Assumes nothing.
-use mathlib.Core.Path.{_≡_, refl, sym, _∙_, ap}
+use mathlib.Core.Path.{_≡_}
 use mathlib.Core.List.{List, [], _∷_, _++_, append-assoc, append-nil}
-use Prim.Native.Nat.{ℕ, zero, suc, _+_, _-_, _≤_, _<_}
-use native.Mathlib.Nat.{add-suc, sub-zero}
+use Prim.Native.Nat.{ℕ, suc, _+_, _-_, _≤_, _<_}
+use native.Mathlib.Nat.{add-suc, sub-zero, add-zero}
 use native.Mathlib.Numerals.{add-one}
 use native.Mathlib.Omega.{arith}
 use lib.ListN.{length, take, drop, getD, set, replicate, drop-of-length-le, length-set}
-use lib.Seq.{drop-cons, sets, set-split, take-all, take-suc-set}
+use lib.Seq.{drop-cons, sets, take-all, take-suc-set}
 
 -- storing one word and then the rest gives the same table as storing all
 pub store-on : (t ws : List ℕ) (at i : ℕ) (goal : List ℕ) → i < length ws → sets t (at + i) (drop i ws) ≡ goal → sets (set t (at + i) (getD ws i 0)) (at + (i + 1)) (drop (i + 1) ws) ≡ goal
@@ -34,3 +34,10 @@ zero-done t i goal h e =
 
 pub zero-whole : (t u : List ℕ) → u ≡ take 0 t ++ replicate (length t - 0) 0 → u ≡ replicate (length t) 0
 zero-whole t u e = rw sub-zero at e
+
+-- a run and what is stored behind it
+pub sets-append : (t : List ℕ) (i : ℕ) (vs ws : List ℕ) → sets t i (vs ++ ws) ≡ sets (sets t i vs) (i + length vs) ws
+sets-append t i [] ws = rw (add-zero i)
+sets-append t i (v ∷ vs) ws =
+    let n : suc i + length vs ≡ i + suc (length vs) = omega arith in
+    rw n at (sets-append (set t i v) (suc i) vs ws)

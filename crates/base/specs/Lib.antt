@@ -2,4 +2,5 @@ pub mod If
 pub mod Bytes
 pub mod Runs
 pub mod Broken
+pub mod Refusal
 pub mod Way

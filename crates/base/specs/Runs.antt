@@ -3,7 +3,6 @@
 use Prim.Native.Nat.{ℕ, zero, suc}
 use mathlib.Core.Bool.{Bool}
 use mathlib.Core.List.{List, [], _∷_}
-use lib.ListN.{take, drop}
 use lib.Dec.{eqb}
 use Rattle.base.specs.If.{if_then_else_, both}
 

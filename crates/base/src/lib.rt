@@ -1,17 +1,15 @@
 // What every other crate uses: byte classes, runs of bytes, and stores into a lent table.
 ghost use mathlib.Core.Path.{_≡_};
 ghost use mathlib.Core.List.{_++_};
-ghost use Prim.Native.Nat.{_+_, _-_, _<_, _≤_};
-ghost use lib.ListN.{length, getD, take, drop, replicate};
+ghost use Prim.Native.Nat.{_+_, _-_, _<_, _≤_, min, max};
+ghost use lib.ListN.{length, getD, take, replicate};
 ghost use Rattle.base.specs.If.{both};
-ghost use Rattle.base.specs.Runs.{all};
 ghost use lib.Seq.{sets};
-ghost use Rattle.base.specs.Bytes.{isBlank, isDigit, isCapital, isSmall, isLetter, isFilled, isPrinted, isBefore, isContent};
-ghost use Rattle.base.specs.Way.Joined.{Joins};
-ghost use Rattle.base.specs.Way.Class.{isNamed, inClass, runEnd};
+ghost use Rattle.base.specs.Bytes.{isBlank, isDigit, isCapital, isSmall, isLetter, isFilled, isPrinted, isContent};
+ghost use Rattle.base.specs.Way.Class.{inClass, runEnd};
 
-// How many bytes of a run are tested together.
-const BLOCK: usize = 16;
+pub mod fast;
+pub mod refusal;
 
 // A space or a TAB.
 fn is_blank(b: u8) -> bool
@@ -64,8 +62,6 @@ pub enum Class {
     Blank,
     // Not blank.
     Filled,
-    // Neither blank nor `=`.
-    Named,
     Digit,
     Letter,
     // A byte that a line may contain.
@@ -83,18 +79,6 @@ fn is_filled(b: u8) -> bool
         return false;
     }
     b != 9
-}
-
-fn is_named(b: u8) -> bool
-    ensures { λ r. ⌜ r ≡ isNamed b ⌝ }
-{
-    if b == 32 {
-        return false;
-    }
-    if b == 9 {
-        return false;
-    }
-    b != 61
 }
 
 fn is_printed(b: u8) -> bool
@@ -127,7 +111,6 @@ pub fn in_class(class: Class, b: u8) -> bool
     match class {
         Class::Blank => is_blank(b),
         Class::Filled => is_filled(b),
-        Class::Named => is_named(b),
         Class::Digit => is_digit(b),
         Class::Letter => is_letter(b),
         Class::Printed => is_printed(b),
@@ -147,31 +130,32 @@ pub fn byte_at(s: &[u8], i: usize) -> u8
     s[i]
 }
 
-// ---- several bytes as one number
+// ---- numbers
+
+pub fn lesser(a: u64, b: u64) -> u64
+    ensures { λ r. ⌜ r ≡ min a b ⌝ }
+{
+    if a < b { a } else { b }
+}
+
+pub fn greater(a: u64, b: u64) -> u64
+    ensures { λ r. ⌜ r ≡ max a b ⌝ }
+{
+    if a < b { b } else { a }
+}
+
+// a minus b, or 0 if b is greater.
+pub fn minus(a: u64, b: u64) -> u64
+    ensures { λ r. ⌜ r ≡ a - b ⌝ }
+{
+    if a < b { 0 } else { a - b }
+}
 
 // A byte as a 64-bit word, so that arithmetic with it cannot overflow the width of a byte.
-fn wide(b: u8) -> u64
+pub fn wide(b: u8) -> u64
     ensures { λ r. ⌜ r ≡ b ⌝ ∗ ⌜ r < 256 ⌝ }
 {
     b as u64
-}
-
-// Four bytes as one number, the first byte the least significant. A processor can load them at once.
-pub fn four_at(s: &[u8], at: usize) -> u64
-    requires { ⌜ at + 4 ≤ length (now s) ⌝ }
-    ensures { λ r. ⌜ Joins (take 4 (drop at (now (s .entry)))) r ⌝ ∗ ⌜ r < 4_294_967_296 ⌝ }
-{
-    let low = wide(s[at]) + 256 * wide(s[at + 1]);
-    let high = wide(s[at + 2]) + 256 * wide(s[at + 3]);
-    low + 65_536 * high
-}
-
-// Eight bytes as one number, the first byte the least significant.
-pub fn eight_at(s: &[u8], at: usize) -> u64
-    requires { ⌜ at + 8 ≤ length (now s) ⌝ }
-    ensures { λ r. ⌜ Joins (take 8 (drop at (now (s .entry)))) r ⌝ }
-{
-    four_at(s, at) + 4_294_967_296 * four_at(s, at + 4)
 }
 
 // ---- runs
@@ -181,41 +165,6 @@ pub fn and(a: bool, b: bool) -> bool
     ensures { λ r. ⌜ r ≡ both a b ⌝ }
 {
     if a { b } else { false }
-}
-
-// Whether sixteen bytes are all of a class. The loop tests every byte, without an early exit, so that a processor can
-// test them at once.
-fn is_block(class: Class, s: &[u8], from: usize) -> bool
-    requires { ⌜ from + 16 ≤ length (now s) ⌝ }
-    ensures { λ r. ⌜ r ≡ all (inClass class) (take 16 (drop from (now (s .entry)))) ⌝ }
-{
-    let end = from + BLOCK;
-    let mut whole = true;
-    let mut i = from;
-    while i < end {
-        whole = and(whole, in_class(class, s[i]));
-        i += 1;
-    }
-    whole
-}
-
-// Skips the whole blocks of sixteen bytes that lie inside the run that starts at `from`. Returns a position inside that
-// run, from which the run has the same end.
-fn skip_blocks(class: Class, s: &[u8], from: usize) -> usize
-    ensures { λ r. ⌜ runEnd (inClass class) (now (s .entry)) r ≡ runEnd (inClass class) (now (s .entry)) from ⌝ }
-{
-    if s.len() < BLOCK {
-        return from;
-    }
-    let last = s.len() - BLOCK;
-    let mut i = from;
-    while i <= last {
-        if !is_block(class, s, i) {
-            return i;
-        }
-        i += BLOCK;
-    }
-    i
 }
 
 // Where the run of a class that starts at `from` ends.
@@ -230,13 +179,6 @@ pub fn skip(class: Class, s: &[u8], from: usize) -> usize
         i += 1;
     }
     i
-}
-
-// The same as `skip`, faster for runs that are often longer than a block.
-pub fn skip_far(class: Class, s: &[u8], from: usize) -> usize
-    ensures { λ r. ⌜ r ≡ runEnd (inClass class) (now (s .entry)) from ⌝ }
-{
-    skip(class, s, skip_blocks(class, s, from))
 }
 
 // ---- runs that every line has: each returns what `skip` returns for its class; its own short loop can be inlined

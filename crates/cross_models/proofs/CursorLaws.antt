@@ -6,9 +6,10 @@ use mathlib.Core.List.{List, [], _∷_, _++_}
 use Prim.Native.Nat.{ℕ, _+_, _-_, _≤_, _<_, zero-le}
 use native.Mathlib.Nat.{le-refl}
 use native.Mathlib.Omega.{arith}
-use lib.ListN.{length, take, drop, getD}
+use lib.ListN.{length, take, drop}
 use lib.Dec.{ltb, eqb}
-use borrow.Author.Tests.{lt-ltb, le-ltb, eqb-true, not-true, not-false}
+use borrow.Author.Tests.{lt-ltb, le-ltb, not-true, not-false}
+use Rattle.table_layout.specs.Codes.{endKind, sectionKind, forkKind, endforkKind}
 use Rattle.base.specs.If.{if_then_else_, both, either}
 use Rattle.base.specs.Bytes.{bytes, isBlank}
 use Rattle.base.specs.Runs.{run, all, same}
@@ -16,7 +17,7 @@ use Rattle.base.proofs.IfLaws.{if-true, if-false, by-cases, by-test}
 use Rattle.lex_line.specs.Lines.{Raw, lines, contentOf, isBlankLine}
 use Rattle.lex_line.specs.Way.LineEnds.{lineAt}
 use Rattle.lex_line.specs.declared.Line as text
-use Rattle.lex_line.specs.Words.{wordsFrom, words, secondOf, leftOf, toEquals}
+use Rattle.lex_line.specs.Words.{wordsFrom, secondOf, leftOf, toEquals}
 use Rattle.lex_line.specs.Way.Spans.{firstTwoOf, markedBy}
 use Rattle.lex_line.specs.declared.FirstTwo.{FirstTwo}
 use Rattle.lex_line.proofs.WordLaws.{second-marked}
@@ -27,8 +28,9 @@ use Rattle.line_path.specs.Path as path
 use Rattle.line_path.specs.Way.Usual.{multFront, OpensMult}
 use Rattle.line_path.proofs.UsualLaws.{opens-is-mult}
 use Rattle.read_line.specs.Reading.{commentByte}
-use Rattle.doc.specs.Lines.{Line, placeAfter, linesFrom, linesAt, significant, gather, upTo}
-use Rattle.doc.specs.Document.{Step, Model, sectionKind, sayingAt, stepOf, stepsIn, opensModel, inModel, modelOf, modelAt, documentIn, documentOf}
+use Rattle.table_record.specs.declared.StepRecord.{StepRecord}
+use Rattle.doc.specs.Lines.{Line, placeAfter, linesFrom, linesAt, significant}
+use Rattle.doc.specs.Document.{Step, Model, sayingAt, stepOf, stepsIn, opensModel, inModel, modelOf, modelAt, documentIn, documentOf}
 use Rattle.doc.specs.Way.Found.{contentIn, lineIn, linesBehind, Located, FindsLine}
 use Rattle.doc.specs.declared.Found.{Found}
 use Rattle.doc.specs.Holds.{Each}
@@ -38,10 +40,9 @@ use Rattle.doc.proofs.Goes.{lines-blank, lines-said, lines-none}
 use Rattle.doc.proofs.StandsLaws.{Laid, laid, each-join, each-gather, each-if, each-up}
 use Rattle.doc.proofs.StandsLaws.Laid.{onward}
 use Rattle.cross_rules.proofs.RisingLaws.{Rising, numbers, all-least}
-use Rattle.cross_rules.proofs.RisingLaws.Rising.{flat, rise}
+use Rattle.cross_rules.proofs.RisingLaws.Rising.{rise}
 use Rattle.cross_rules.proofs.OrderLaws.{lines-rise}
 use Rattle.cross_models.specs.Way.Cursor.{contentAt, Cursor, Seeks, OpensLine, PastMult, Tells, TellsStep}
-use Rattle.cross_models.specs.declared.Told.{Told}
 
 -- ---- Mult before the sign
 
@@ -231,9 +232,9 @@ mult-found t wanted at n seeks e r past some =
 -- ---- the line of a step
 
 pub step-unasked :
-    (t table : List ℕ) (own at n : ℕ) → Cursor t at n → n ≤ getD table (own + 5) 0 →
-    (getD table own 0 ≡ sectionKind → ⊥) → TellsStep t table own (record { mult = false; at = at; line = n })
-step-unasked t table own at n cursor low h = record { mult = λ (e : getD table own 0 ≡ sectionKind). absurd (h e); cursor = cursor; low = omega arith }
+    (t : List ℕ) (own : StepRecord) (at n : ℕ) → Cursor t at n → n ≤ own .line → (own .kind ≡ sectionKind → ⊥) →
+    TellsStep t own (record { mult = false; at = at; line = n })
+step-unasked t own at n cursor low h = record { mult = λ (e : own .kind ≡ sectionKind). absurd (h e); cursor = cursor; low = omega arith }
 
 -- lines whose numbers rise are found by their numbers
 found-all : {least : ℕ} (ls : List Line) → Rising least (numbers ls) → Each (λ (l : Line). contentAt (l .line) ls ≡ l .content) ls
@@ -256,12 +257,12 @@ module _ (t : List ℕ) where
   step-said : (l : Line) (ls : List Line) → Found' l → Each Found' ls → Each (MultSaid t) (stepOf l ls)
   unfolding stepOf
   step-said l ls h hs =
-      by-test (Each (MultSaid t)) (eqb (sayingAt l) path.saysEnd) _ _ (λ e. more (λ (k : _≡_ {A = ℕ} 0 1). absurd (omega arith)) none)
+      by-test (Each (MultSaid t)) (eqb (sayingAt l) path.saysEnd) _ _ (λ e. more (λ (k : _≡_ {A = ℕ} endKind sectionKind). absurd (omega arith)) none)
       (λ e.
-      by-test (Each (MultSaid t)) (eqb (sayingAt l) path.saysSection) _ _ (λ f. more (λ (k : _≡_ {A = ℕ} 1 1). ap isMult h) none)
+      by-test (Each (MultSaid t)) (eqb (sayingAt l) path.saysSection) _ _ (λ f. more (λ (k : _≡_ {A = ℕ} sectionKind sectionKind). ap isMult h) none)
       (λ f.
-      by-test (Each (MultSaid t)) (eqb (sayingAt l) path.saysFork) _ _ (λ g. more (λ (k : _≡_ {A = ℕ} 2 1). absurd (omega arith)) none)
-      (λ g. each-if (eqb (sayingAt l) path.saysEndfork) _ (λ i. λ (k : _≡_ {A = ℕ} 3 1). absurd (omega arith)))))
+      by-test (Each (MultSaid t)) (eqb (sayingAt l) path.saysFork) _ _ (λ g. more (λ (k : _≡_ {A = ℕ} forkKind sectionKind). absurd (omega arith)) none)
+      (λ g. each-if (eqb (sayingAt l) path.saysEndfork) _ (λ i. λ (k : _≡_ {A = ℕ} endforkKind sectionKind). absurd (omega arith)))))
 
   model-said : (l : Line) (ls : List Line) → Found' l → Each Found' ls → Each (λ (m : Model). Each (MultSaid t) (m .steps)) (modelAt l ls)
   unfolding modelAt modelOf stepsIn

@@ -3,22 +3,29 @@
 use mathlib.Core.Path.{_≡_, refl, sym, _∙_, ap, subst}
 use mathlib.Core.Bool.{Bool}
 use mathlib.Core.List.{List, [], _∷_, _++_, map, map-append, append-assoc}
-use Prim.Native.Nat.{ℕ, zero, suc, _+_, _-_, _*_, _≤_, _<_}
+use Prim.Native.Nat.{ℕ, zero, suc, _+_, _-_, _≤_, _<_}
 use native.Mathlib.Nat.{not-suc-le-zero, le-of-suc-le-suc}
-use native.Mathlib.Numerals.{add-one}
 use native.Mathlib.Omega.{arith}
+use mir.Syntax.{w64}
+use mir.Val.{Fits}
 use lib.ListN.{length, drop, getD, length-append}
 use lib.Seq.{drop-at}
+use Rattle.cross_rules.specs.Way.Findings.{modelRule, stepRule, stepFindings, modelFindings}
+use Rattle.table_layout.specs.Codes.{sectionKind}
 use Rattle.line_path.specs.Path.{isMult}
-use Rattle.table_layout.specs.Layout.{models, maps, sections, matrices}
+use Rattle.table_layout.specs.Layout.{models, steps}
 use Rattle.table_layout.specs.View.{viewOf}
 use Rattle.table_layout.specs.declared.View.{View}
+use Rattle.table_record.specs.Records.{recordsOf, range, noStep}
+use Rattle.table_record.specs.Way.Standing.{countOf}
+use Rattle.table_record.specs.declared.StepRecord.{StepRecord}
 use Rattle.doc.specs.Lines.{significant}
-use Rattle.doc.specs.Document.{Step, Model, Document, sectionKind, documentOf}
+use Rattle.doc.specs.Document.{Step, Model, Document, documentOf}
+use Rattle.doc.specs.Records.{stepRecord, flatten}
 use Rattle.doc.specs.Holds.{Each}
-use Rattle.doc.specs.Holds.Each.{none, more}
-use Rattle.doc.proofs.StandsLaws.{ModelStands, StepStands, all-stand}
-use Rattle.cross_rules.specs.Rules.{modelRule, stepRule, stepFindings, modelFindings}
+use Rattle.doc.specs.Holds.Each.{more}
+use Rattle.doc.proofs.StandsLaws.{ModelStands, all-stand}
+use Rattle.doc.proofs.SectionLaws.{RightSection, text-sections}
 use Rattle.cross_rules.specs.Way.First.{firstIn}
 use Rattle.cross_rules.specs.Way.HoldsText.{HoldsText}
 use Rattle.cross_rules.specs.declared.Finding.{Finding}
@@ -26,22 +33,19 @@ use Rattle.cross_rules.proofs.RisingLaws.{Rising, rising-wider, rising-behind, 
 use Rattle.cross_rules.proofs.RisingLaws.Rising.{flat, rise}
 use Rattle.cross_rules.proofs.OrderLaws.{findingLines, in-order}
 use Rattle.cross_rules.proofs.KindLaws.{first-here, first-later}
-use Rattle.cross_rules.proofs.TableLaws.{view-holds}
+use Rattle.cross_rules.proofs.TableLaws.{text-records, text-rooms, many-models}
 use Rattle.cross_names.specs.Way.Listed.{Listed}
-use Rattle.cross_names.proofs.NamedLaws.{models-many}
-use Rattle.cross_steps.specs.Way.StepWords.{StepRooms, stepRuleAt}
+use Rattle.cross_steps.specs.Way.StepWords.{stepRuleAt}
 use Rattle.table_name.specs.Way.Hash.{marksMany}
 use Rattle.cross_steps.specs.Way.Marks.{MarkedEnds, Below, Judged}
 use Rattle.cross_steps.specs.declared.Owner.{Owner}
 use Rattle.cross_steps.proofs.MarkLaws.{marked-starts}
-use Rattle.cross_steps.proofs.JoinLaws.{Owns, table-tells, rooms-of, kind-here, line-here, step-is}
-use Rattle.cross_steps.proofs.JoinLaws as join
+use Rattle.cross_steps.proofs.JoinLaws.{Owns, record-here, step-is}
 use Rattle.cross_models.specs.Way.Cursor.{contentAt, Cursor, TellsStep}
-use Rattle.cross_models.specs.Way.Models.{stepsAt, modelAt, ModelRoom, ownerAt, modelRuleAt, belowFirst, Awaits, StepsTold}
-use Rattle.cross_models.specs.declared.StepsFinding.{StepsFinding}
+use Rattle.cross_models.specs.Way.Models.{ModelRoom, ownerAt, modelRuleAt, belowFirst, Awaits, StepsTold}
 use Rattle.cross_models.specs.declared.Told.{Told}
 use Rattle.cross_models.proofs.CursorLaws.{MultSaid, all-said}
-use Rattle.cross_models.proofs.ModelLaws.{stands-here, room-here, owns-here, rule-here}
+use Rattle.cross_models.proofs.ModelLaws.{room-here, owns-here, owner-many, rule-here}
 
 -- ---- lists
 
@@ -135,52 +139,53 @@ module _ (t : List ℕ) (before : List Model) (m : Model) (behind : List Model) 
 
 -- ---- the steps of a model
 
-pub record StepsLeft (t table : List ℕ) (v : View) (marks : List ℕ) (index : ℕ) (o : Owner) (count own here next i : ℕ) : Type 0 where
+pub record StepsLeft (t table : List ℕ) (v : View) (marks : List ℕ) (index : ℕ) (o : Owner) (count here next i : ℕ) : Type 0 where
   pub split : Split (documentOf t .models) index
-  pub owns : Owns table v (documentOf t) o (split .one)
+  pub owns : Owns (documentOf t) o (split .one)
   pub count-is : count ≡ length (split .one .steps)
-  pub room : o .from + 6 * count ≤ length table
+  pub room : o .from + count ≤ countOf v steps
   pub above : List Step
   pub below : List Step
-  pub steps : split .one .steps ≡ above ++ below
+  pub all-steps : split .one .steps ≡ above ++ below
   pub place : i ≡ length above
-  pub own-is : own ≡ o .from + 6 * i
-  pub marked : MarkedEnds t table marks (o .stamp) (o .from) i
+  pub marked : MarkedEnds t marks (o .stamp) (range (o .from) i (recordsOf table .steps))
   pub same :
       firstIn (rest (documentOf t) (split .one) below (split .behind)) ≡ firstIn (belowFirst (documentOf t) (drop index (documentOf t .models)))
   pub cursor : Cursor t here next
   pub rising : Rising next (findingLines (rest (documentOf t) (split .one) below (split .behind)))
 
 module _ (t table : List ℕ) (filled : HoldsText t table) (v : View) (is-view : v ≡ viewOf table) where
-  tells : join.Tells table v (documentOf t)
-  tells = rw is-view (table-tells t table filled)
+  abbrev doc : Document
+  doc = documentOf t
 
-  rooms : StepRooms table v
-  rooms =
-      rooms-of table v (documentOf t) tells (rw is-view (view-holds t table filled .inside 2 (omega arith)))
-      (rw is-view (view-holds t table filled .inside 4 (omega arith))) (rw is-view (view-holds t table filled .inside 5 (omega arith)))
+  records-are : recordsOf table ≡ flatten doc
+  records-are = text-records t table filled
 
   module _ (index : ℕ) (there : index < length (documentOf t .models)) where
     pub model-here : Split (documentOf t .models) index
     model-here = split-at (documentOf t .models) index there
 
-    in-count : length (model-here .before) < getD (v .counts) models 0
-    in-count = rw (models-many t table filled v is-view, ← model-here .place) there
+    in-count : length (model-here .before) < countOf v models
+    in-count = rw (many-models t table filled v is-view, ← model-here .place) there
 
     pub room-there : ModelRoom table v index
     room-there =
         subst (ModelRoom table v) (sym (model-here .place))
         (room-here t table filled v is-view (model-here .before) (model-here .one) (model-here .behind) (model-here .all) in-count)
 
-    owns-there : Owns table v (documentOf t) (ownerAt table v index) (model-here .one)
+    owns-there : Owns doc (ownerAt (recordsOf table) index) (model-here .one)
     owns-there =
-        subst (λ (k : ℕ). Owns table v (documentOf t) (ownerAt table v k) (model-here .one)) (sym (model-here .place))
-        (owns-here t table filled v is-view (model-here .before) (model-here .one) (model-here .behind) (model-here .all) in-count)
+        subst (λ (k : ℕ). Owns doc (ownerAt (recordsOf table) k) (model-here .one)) (sym (model-here .place))
+        (rw records-are (owns-here doc (model-here .before) (model-here .one) (model-here .behind) (model-here .all)))
 
-    many-there : getD table (modelAt v index + 4) 0 ≡ length (model-here .one .steps)
+    many-there : ownerAt (recordsOf table) index .many ≡ length (model-here .one .steps)
     many-there =
-        subst (λ (k : ℕ). getD table (modelAt v k + 4) 0 ≡ length (model-here .one .steps)) (sym (model-here .place))
-        (stands-here t table filled v is-view (model-here .before) (model-here .one) (model-here .behind) (model-here .all) in-count .many)
+        subst (λ (k : ℕ). ownerAt (recordsOf table) k .many ≡ length (model-here .one .steps)) (sym (model-here .place))
+        (rw records-are (owner-many doc (model-here .before) (model-here .one) (model-here .behind) (model-here .all)))
+
+    room-within : ownerAt (recordsOf table) index .from + ownerAt (recordsOf table) index .many ≤ countOf v steps
+    unfolding ownerAt
+    room-within = room-there .inside
 
     pub rule-there : (listed : List Bool) → Listed (documentOf t) listed → modelRuleAt t table v listed index ≡ modelRule (documentOf t) (model-here .one)
     rule-there listed names =
@@ -196,20 +201,18 @@ module _ (t table : List ℕ) (filled : HoldsText t table) (v : View) (is-view :
     lines-there = below-rising t (model-here .before) (model-here .one) (model-here .behind) (model-here .all)
 
     module _ (marks : List ℕ) (whole : length marks ≡ marksMany) (at number : ℕ) (cursor : Cursor t at number) (low : Each (λ (f : Finding). number ≤ f .line) (belowFirst (documentOf t) (drop index (documentOf t .models)))) where
-      first-left : StepsLeft t table v marks index (ownerAt table v index) (ownerAt table v index .many) (ownerAt table v index .from) at number 0
-      unfolding ownerAt
+      first-left : StepsLeft t table v marks index (ownerAt (recordsOf table) index) (ownerAt (recordsOf table) index .many) at number 0
       first-left =
           record {
             split = model-here;
             owns = owns-there;
             count-is = many-there;
-            room = room-there .room;
+            room = room-within;
             above = [];
             below = model-here .one .steps;
-            steps = refl;
+            all-steps = refl;
             place = refl;
-            own-is = omega arith;
-            marked = marked-starts t table marks _ _ 0 whole;
+            marked = marked-starts t marks _ whole;
             same = ap firstIn (sym below-there);
             cursor = cursor;
             rising = raised _ lines-there (rw below-there at (low));
@@ -218,10 +221,12 @@ module _ (t table : List ℕ) (filled : HoldsText t table) (v : View) (is-view :
   pub room-asked : (index at number : ℕ) → Awaits t index at number → ModelRoom table v index
   room-asked index at number awaits = room-there index (awaits .there)
 
-  pub steps-start : (index at number : ℕ) → Awaits t index at number → (marks : List ℕ) → length marks ≡ marksMany → (o : Owner) → o ≡ ownerAt table v index → StepsLeft t table v marks index o (o .many) (o .from) at number 0
+  pub steps-start :
+      (index at number : ℕ) → Awaits t index at number → (marks : List ℕ) → length marks ≡ marksMany → (o : Owner) → o ≡ ownerAt (recordsOf table) index →
+      StepsLeft t table v marks index o (o .many) at number 0
   steps-start index at number awaits marks whole o is = rw is (first-left index (awaits .there) marks whole at number (awaits .cursor) (awaits .low))
 
-  module _ (marks : List ℕ) (index : ℕ) (o : Owner) (count own here next i : ℕ) (left : StepsLeft t table v marks index o count own here next i) where
+  module _ (marks : List ℕ) (index : ℕ) (o : Owner) (count here next i : ℕ) (left : StepsLeft t table v marks index o count here next i) where
     abbrev m : Model
     m = left .split .one
 
@@ -232,7 +237,7 @@ module _ (t table : List ℕ) (filled : HoldsText t table) (v : View) (is-view :
     none-left : count ≤ i → left .below ≡ []
     none-left h =
         let l : length (left .above ++ left .below) ≡ length (left .above) + length (left .below) = length-append (left .above) (left .below) in
-        let c : count ≡ length (left .above ++ left .below) = left .count-is ∙ ap length (left .steps) in
+        let c : count ≡ length (left .above ++ left .below) = left .count-is ∙ ap length (left .all-steps) in
         let p : i ≡ length (left .above) = left .place in
         empty-list (left .below) (omega arith)
 
@@ -248,13 +253,13 @@ module _ (t table : List ℕ) (filled : HoldsText t table) (v : View) (is-view :
         }
 
     module _ (h : i < count) where
-      pub own-inside : own + 6 ≤ length table
-      own-inside = omega (arith, left .own-is, left .room)
+      pub place-fits : Fits w64 (o .from + i)
+      place-fits = omega (arith, left .room, text-rooms t table filled v is-view .few-steps)
 
       front : Front (left .below)
       front =
           let l : length (left .above ++ left .below) ≡ length (left .above) + length (left .below) = length-append (left .above) (left .below) in
-          let c : count ≡ length (left .above ++ left .below) = left .count-is ∙ ap length (left .steps) in
+          let c : count ≡ length (left .above ++ left .below) = left .count-is ∙ ap length (left .all-steps) in
           let p : i ≡ length (left .above) = left .place in
           front-of (left .below) (omega arith)
 
@@ -262,25 +267,13 @@ module _ (t table : List ℕ) (filled : HoldsText t table) (v : View) (is-view :
       s = front .one
 
       steps-here : m .steps ≡ left .above ++ (s ∷ front .others)
-      steps-here = left .steps ∙ ap (λ (ss : List Step). left .above ++ ss) (front .all)
+      steps-here = left .all-steps ∙ ap (λ (ss : List Step). left .above ++ ss) (front .all)
 
       model-stands : ModelStands t m
       model-stands = each-at (left .split .before) behind m (rw (left .split .all) at (all-stand t .models))
 
-      own-place : own ≡ o .from + 6 * length (left .above)
-      own-place = left .own-is ∙ ap (λ (k : ℕ). o .from + 6 * k) (left .place)
-
-      line-is : getD table (own + 5) 0 ≡ s .line
-      line-is =
-          ap (λ (k : ℕ). getD table (k + 5) 0) own-place
-          ∙ line-here t table v (documentOf t) tells (in-order t) (left .split .before) behind m (left .split .all) (model-stands .steps) o (left .owns)
-          (left .above) (front .others) s steps-here
-
-      kind-is : getD table own 0 ≡ s .kind
-      kind-is =
-          ap (λ (k : ℕ). getD table k 0) own-place
-          ∙ kind-here t table v (documentOf t) tells (in-order t) (left .split .before) behind m (left .split .all) (model-stands .steps) o (left .owns)
-          (left .above) (front .others) s steps-here
+      right : Each RightSection (doc .sections)
+      right = text-sections t (filled .counts) (filled .reads)
 
       rest-here : rest (documentOf t) m (left .below) behind ≡ stepFinding (documentOf t) m s ∷ rest (documentOf t) m (front .others) behind
       rest-here = ap (λ (ss : List Step). rest (documentOf t) m ss behind) (front .all)
@@ -288,61 +281,76 @@ module _ (t table : List ℕ) (filled : HoldsText t table) (v : View) (is-view :
       rising-here : Rising next (s .line ∷ findingLines (rest (documentOf t) m (front .others) behind))
       rising-here = subst (λ (fs : List Finding). Rising next (findingLines fs)) rest-here (left .rising)
 
-      pub asks-line : (own + 6 ≤ length table) × Cursor t here next × (next ≤ getD table (own + 5) 0)
-      asks-line = (own-inside, left .cursor, rw line-is (rising-first rising-here))
+      -- the record of the step
+      module _ (own : StepRecord) (is-own : own ≡ getD (recordsOf table .steps) (o .from + i) noStep) where
+        own-is : own ≡ stepRecord (doc .maps) (doc .sections) s
+        own-is =
+            is-own
+            ∙ (λ j. getD (records-are j .steps) (o .from + left .place j) noStep)
+            ∙ record-here t doc right (in-order t) (left .split .before) behind m (left .split .all) (model-stands .steps) o (left .owns)
+            (left .above) (front .others) s steps-here
 
-      pub asks-rule : StepRooms table v × Below t table marks o own i
-      asks-rule = (rooms, record { place = left .own-is; inside = own-inside; marked = left .marked })
+        line-is : own .line ≡ s .line
+        unfolding stepRecord
+        line-is = ap (λ (x : StepRecord). x .line) own-is
 
-      module _ (told : Told) (is-told : TellsStep t table own told) (after : List ℕ) (rule : ℕ)
-          (judged : Judged t table after o i (stepRuleAt t table v o own i (told .mult)) rule) where
-        mult-is : s .kind ≡ sectionKind → told .mult ≡ s .mult
-        mult-is k =
-            let said : Each (MultSaid t) (left .above ++ (s ∷ front .others)) =
-            rw steps-here at (each-at (left .split .before) behind m (rw (left .split .all) at (all-said t))) in
-            is-told .mult (kind-is ∙ k) ∙ ap (λ (n : ℕ). isMult (contentAt n (significant t))) line-is ∙ each-at (left .above) (front .others) s said k
+        kind-is : own .kind ≡ s .kind
+        unfolding stepRecord
+        kind-is = ap (λ (x : StepRecord). x .kind) own-is
 
-        rule-is : rule ≡ stepRule (documentOf t) m s
-        rule-is =
-            judged .told
-            ∙ (λ j. stepRuleAt t table v o (own-place j) (left .place j) (told .mult))
-            ∙ step-is t table v (documentOf t) tells (in-order t) (left .split .before) behind m (left .split .all) (model-stands .steps) o (left .owns)
-            (left .above) (front .others) s steps-here (told .mult) mult-is
+        pub line-low : next ≤ own .line
+        line-low = rw line-is (rising-first rising-here)
 
-        same-here : firstIn (stepFinding (documentOf t) m s ∷ rest (documentOf t) m (front .others) behind) ≡ firstIn (belowFirst (documentOf t) (drop index (documentOf t .models)))
-        same-here = ap firstIn (sym rest-here) ∙ left .same
+        pub below-here : Below t table v marks o own i
+        below-here = record { inside = omega (arith, left .room); here = is-own; marked = left .marked }
 
-        pub step-breaks :
-            (rule ≡ 0 → ⊥) →
-            StepsTold t index (record { rule = rule; line = getD table (own + 5) 0; at = told .at; next = told .line })
-        step-breaks n =
-            let f : record { rule = rule; line = getD table (own + 5) 0 } ≡ stepFinding (documentOf t) m s =
-            λ j. record { rule = rule-is j; line = line-is j } in
-            record {
-              broken = λ (k : rule ≡ 0 → ⊥). f ∙ sym (first-here _ _ (λ (z : stepRule (documentOf t) m s ≡ 0). n (rule-is ∙ z))) ∙ same-here;
-              kept = λ (z : rule ≡ 0). absurd (n z);
-              cursor = is-told .cursor;
-              low = λ (z : rule ≡ 0). absurd (n z);
-            }
+        module _ (told : Told) (is-told : TellsStep t own told) (after : List ℕ) (rule : ℕ)
+            (judged : Judged t table after o i (stepRuleAt t (recordsOf table) o own i (told .mult)) rule) where
+          mult-is : s .kind ≡ sectionKind → told .mult ≡ s .mult
+          mult-is k =
+              let said : Each (MultSaid t) (left .above ++ (s ∷ front .others)) =
+              rw steps-here at (each-at (left .split .before) behind m (rw (left .split .all) at (all-said t))) in
+              is-told .mult (kind-is ∙ k) ∙ ap (λ (n : ℕ). isMult (contentAt n (significant t))) line-is ∙ each-at (left .above) (front .others) s said k
 
-        pub steps-on : rule ≡ 0 → StepsLeft t table v after index o count (own + 6) (told .at) (told .line) (i + 1)
-        steps-on z =
-            let low : told .line ≤ s .line + 1 = rw line-is at (is-told .low) in
-            let l : length (left .above ++ (s ∷ [])) ≡ length (left .above) + 1 = length-append (left .above) (s ∷ []) in
-            let p : i ≡ length (left .above) = left .place in
-            let q : own ≡ o .from + 6 * i = left .own-is in
-            record {
-              split = left .split;
-              owns = left .owns;
-              count-is = left .count-is;
-              room = left .room;
-              above = left .above ++ (s ∷ []);
-              below = front .others;
-              steps = steps-here ∙ sym (append-assoc (left .above) (s ∷ []) (front .others));
-              place = omega arith;
-              own-is = omega arith;
-              marked = judged .marked z;
-              same = sym (first-later _ _ (sym rule-is ∙ z)) ∙ same-here;
-              cursor = is-told .cursor;
-              rising = rising-wider (omega arith) (rising-rest rising-here);
-            }
+          rule-is : rule ≡ stepRule doc m s
+          rule-is =
+              judged .told
+              ∙ (λ j. stepRuleAt t (records-are j) o (own-is j) (left .place j) (told .mult))
+              ∙ step-is t doc right (in-order t) (left .split .before) behind m (left .split .all) (model-stands .steps) o (left .owns)
+              (left .above) (front .others) s steps-here (told .mult) mult-is
+
+          same-here : firstIn (stepFinding (documentOf t) m s ∷ rest (documentOf t) m (front .others) behind) ≡ firstIn (belowFirst (documentOf t) (drop index (documentOf t .models)))
+          same-here = ap firstIn (sym rest-here) ∙ left .same
+
+          pub step-breaks :
+              (rule ≡ 0 → ⊥) →
+              StepsTold t index (record { rule = rule; line = own .line; at = told .at; next = told .line })
+          step-breaks n =
+              let f : record { rule = rule; line = own .line } ≡ stepFinding (documentOf t) m s =
+              λ j. record { rule = rule-is j; line = line-is j } in
+              record {
+                broken = λ (k : rule ≡ 0 → ⊥). f ∙ sym (first-here _ _ (λ (z : stepRule (documentOf t) m s ≡ 0). n (rule-is ∙ z))) ∙ same-here;
+                kept = λ (z : rule ≡ 0). absurd (n z);
+                cursor = is-told .cursor;
+                low = λ (z : rule ≡ 0). absurd (n z);
+              }
+
+          pub steps-on : rule ≡ 0 → StepsLeft t table v after index o count (told .at) (told .line) (i + 1)
+          steps-on z =
+              let low : told .line ≤ s .line + 1 = rw line-is at (is-told .low) in
+              let l : length (left .above ++ (s ∷ [])) ≡ length (left .above) + 1 = length-append (left .above) (s ∷ []) in
+              let p : i ≡ length (left .above) = left .place in
+              record {
+                split = left .split;
+                owns = left .owns;
+                count-is = left .count-is;
+                room = left .room;
+                above = left .above ++ (s ∷ []);
+                below = front .others;
+                all-steps = steps-here ∙ sym (append-assoc (left .above) (s ∷ []) (front .others));
+                place = omega arith;
+                marked = judged .marked z;
+                same = sym (first-later _ _ (sym rule-is ∙ z)) ∙ same-here;
+                cursor = is-told .cursor;
+                rising = rising-wider (omega arith) (rising-rest rising-here);
+              }

@@ -2,18 +2,22 @@
 -- Assumes nothing.
 use mathlib.Core.Path.{_≡_, refl, sym, _∙_, ap}
 use mathlib.Core.Bool.{Bool}
-use mathlib.Core.List.{List, [], _∷_, _++_, map}
+use mathlib.Core.List.{List, [], _∷_, map}
 use Prim.Native.Nat.{ℕ, _+_, _≤_, _<_}
 use native.Mathlib.Omega.{arith}
+use mir.Syntax.{w64}
+use mir.Val.{Fits}
 use lib.ListN.{length, drop, getD, drop-of-length-le}
+use Rattle.cross_rules.specs.Way.Findings.{modelRule, modelFindings}
 use Rattle.table_layout.specs.Layout.{models}
 use Rattle.table_layout.specs.View.{viewOf}
 use Rattle.table_layout.specs.declared.View.{View}
+use Rattle.table_record.specs.Way.Standing.{countOf}
 use Rattle.doc.specs.Lines.{significant}
 use Rattle.doc.specs.Document.{Model, Document, documentOf}
 use Rattle.doc.specs.Holds.{Each}
-use Rattle.doc.specs.Holds.Each.{none, more}
-use Rattle.cross_rules.specs.Rules.{modelRule, modelFindings, noFinding}
+use Rattle.doc.specs.Holds.Each.{more}
+use Rattle.cross_rules.specs.Rules.{noFinding}
 use Rattle.cross_rules.specs.Way.First.{firstIn}
 use Rattle.cross_rules.specs.Way.HoldsText.{HoldsText}
 use Rattle.cross_rules.specs.Way.Nth.{nthLine}
@@ -22,14 +26,15 @@ use Rattle.cross_rules.proofs.RisingLaws.{all-least}
 use Rattle.cross_rules.proofs.OrderLaws.{in-order}
 use Rattle.cross_rules.proofs.KindLaws.{first-here, first-later}
 use Rattle.cross_rules.proofs.NthLaws.{model-line}
+use Rattle.cross_rules.proofs.NamesLaws.{mapped-here}
+use Rattle.cross_rules.proofs.TableLaws.{text-rooms, many-models}
 use Rattle.cross_names.specs.Way.Listed.{Listed}
-use Rattle.cross_names.proofs.NamedLaws.{models-many}
 use Rattle.table_name.specs.Way.Hash.{marksMany}
 use Rattle.cross_models.specs.Way.Cursor.{Cursor}
-use Rattle.cross_models.specs.Way.Models.{ModelRoom, modelRuleAt, belowFirst, Awaits, StepsTold}
+use Rattle.cross_models.specs.Way.Models.{modelRuleAt, belowFirst, Awaits, StepsTold}
 use Rattle.cross_models.specs.declared.StepsFinding.{StepsFinding}
 use Rattle.cross_models.proofs.CursorLaws.{cursor-starts}
-use Rattle.cross_models.proofs.StepsLaws.{Split, drop-to, model-here, room-there, rule-there}
+use Rattle.cross_models.proofs.StepsLaws.{Split, drop-to, model-here, rule-there}
 
 pub record ModelsLeft (t : List ℕ) (at number : ℕ) (marks : List ℕ) (i : ℕ) : Type 0 where
   pub same :
@@ -50,24 +55,20 @@ models-start t marks whole =
 each-rest : {A : Type 0} {P : A → Type 0} {x : A} {xs : List A} → Each P (x ∷ xs) → Each P xs
 each-rest (more h hs) = hs
 
-line-at : (before : List Model) (m : Model) (behind : List Model) → getD (map (λ (x : Model). x .line) (before ++ (m ∷ behind))) (length before) 0 ≡ m .line
-line-at [] m behind = refl
-line-at (b ∷ before) m behind = line-at before m behind
-
 module _ (t table : List ℕ) (filled : HoldsText t table) (v : View) (is-view : v ≡ viewOf table) (at number : ℕ) (marks : List ℕ) (i : ℕ) (left : ModelsLeft t at number marks i) where
   abbrev d : Document
   d = documentOf t
 
-  pub models-end : getD (v .counts) models 0 ≤ i → record { rule = 0; line = 0 } ≡ firstIn (modelFindings d (d .models))
+  pub models-end : countOf v models ≤ i → record { rule = 0; line = 0 } ≡ firstIn (modelFindings d (d .models))
   unfolding firstIn noFinding modelFindings
   models-end h =
-      let k : length (d .models) ≤ i = rw (models-many t table filled v is-view) at h in
+      let k : length (d .models) ≤ i = rw (many-models t table filled v is-view) at h in
       let e : drop i (d .models) ≡ [] = drop-of-length-le (d .models) k in
       rw e at (left .same)
 
-  module _ (h : i < getD (v .counts) models 0) where
+  module _ (h : i < countOf v models) where
     there : i < length (d .models)
-    there = rw (models-many t table filled v is-view) at h
+    there = rw (many-models t table filled v is-view) at h
 
     abbrev here : Split (d .models) i
     here = model-here t table filled v is-view i there
@@ -87,8 +88,8 @@ module _ (t table : List ℕ) (filled : HoldsText t table) (v : View) (is-view :
     same-here : firstIn (own ∷ belowFirst d (drop i (d .models))) ≡ firstIn (modelFindings d (d .models))
     same-here = ap firstIn (sym findings-here) ∙ left .same
 
-    pub asks-model : ModelRoom table v i
-    asks-model = room-there t table filled v is-view i there
+    pub index-fits : Fits w64 (i + 1)
+    index-fits = omega (arith, text-rooms t table filled v is-view .few-models)
 
     module _ (listed : List Bool) (names : Listed d listed) (rule : ℕ) (is-rule : rule ≡ modelRuleAt t table v listed i) where
       rule-is : rule ≡ modelRule d m
@@ -97,18 +98,15 @@ module _ (t table : List ℕ) (filled : HoldsText t table) (v : View) (is-view :
       pub model-breaks : (rule ≡ 0 → ⊥) → (line : ℕ) → line ≡ nthLine models i (significant t) → record { rule = rule; line = line } ≡ firstIn (modelFindings d (d .models))
       model-breaks n line is-line =
           let l : line ≡ m .line =
-          is-line ∙ model-line t i ∙ (λ j. getD (map (λ (x : Model). x .line) (here .all j)) (here .place j) 0) ∙ line-at (here .before) m (here .behind) in
+          is-line ∙ model-line t i ∙ (λ j. getD (map (λ (x : Model). x .line) (here .all j)) (here .place j) 0) ∙ mapped-here (λ (x : Model). x .line) (here .before) (here .behind) m 0 in
           (λ j. record { rule = rule-is j; line = l j }) ∙ sym (first-here own _ (λ (z : modelRule d m ≡ 0). n (rule-is ∙ z))) ∙ same-here
 
       module _ (kept : rule ≡ 0) where
         below-same : firstIn (belowFirst d (drop i (d .models))) ≡ firstIn (modelFindings d (d .models))
         below-same = sym (first-later own _ (sym rule-is ∙ kept)) ∙ same-here
 
-        awaits-here : Awaits t i at number
+        pub awaits-here : Awaits t i at number
         awaits-here = record { there = there; cursor = left .cursor; low = each-rest (rw findings-here at (left .low)) }
-
-        pub asks-steps : HoldsText t table × (v ≡ viewOf table) × Awaits t i at number × (length marks ≡ marksMany)
-        asks-steps = (filled, is-view, awaits-here, left .whole)
 
         module _ (found : StepsFinding) (told : StepsTold t i found) where
           pub steps-break : (found .rule ≡ 0 → ⊥) → record { rule = found .rule; line = found .line } ≡ firstIn (modelFindings d (d .models))

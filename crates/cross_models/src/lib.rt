@@ -1,43 +1,33 @@
 // Rules 19 to 26 of models and their steps.
 ghost use mathlib.Core.Path.{_≡_};
-ghost use Prim.Native.Nat.{_+_, _*_, _≤_, _<_};
-ghost use lib.ListN.{length, getD};
+ghost use Prim.Native.Nat.{_≤_, _<_};
+ghost use lib.ListN.{length};
 ghost use Rattle.line_path.specs.Path.{isMult};
 ghost use Rattle.table_layout.specs.Layout.{models};
 ghost use Rattle.table_layout.specs.View.{viewOf};
+ghost use Rattle.table_record.specs.Records.{recordsOf};
+ghost use Rattle.table_record.specs.Way.Standing.{countOf, Rooms};
+ghost use Rattle.table_name.specs.Way.Hash.{marksMany};
 ghost use Rattle.doc.specs.Document.{documentOf};
 ghost use Rattle.doc.specs.Way.Found.{Located, contentIn};
-ghost use Rattle.cross_rules.specs.Rules.{modelFindings};
+ghost use Rattle.cross_rules.specs.Way.Findings.{modelFindings};
 ghost use Rattle.cross_rules.specs.Way.First.{firstIn};
 ghost use Rattle.cross_rules.specs.Way.HoldsText.{HoldsText};
 ghost use Rattle.cross_names.specs.Way.Listed.{Listed};
-ghost use Rattle.table_name.specs.Way.Hash.{marksMany};
 ghost use Rattle.cross_models.specs.Way.Cursor.{Cursor, Seeks, PastMult, Tells, TellsStep};
 ghost use Rattle.cross_models.specs.Way.Models.{ModelRoom, ownerAt, modelRuleAt, Awaits, StepsTold};
 use cross_rules::Finding;
 use cross_steps::Owner;
 use doc::Found;
-use doc::Passed;
+use doc::fast::Passed;
 use table_layout::View;
+use table_record::StepRecord;
 
 // "From `|` on, a line is comment".
 const COMMENT: u8 = b'|';
 
-// "19 TWICE", "20 LIST".
-const TWICE: u64 = 19;
-
-const LIST: u64 = 20;
-
-// "kind 0 end 1 section 2 fork 3 endfork".
-const SECTION: u64 = 1;
-
 // A mark that is the number of no model.
-const UNMARKED: u8 = 64;
-
-// How many words a record of a model has, and one of a step.
-const MODEL_WORDS: usize = 5;
-
-const STEP_WORDS: usize = 6;
+const UNMARKED: u8 = table_layout::bound::MODELS as u8;
 
 // Whether the line that was asked for says Mult, and where the search for the next one goes on.
 pub struct Told {
@@ -144,7 +134,7 @@ fn past_mult(text: &[u8], at: usize) -> usize
     }
     let line = lex_line::line_at(text, at, COMMENT);
     let end = line.content;
-    if line_path::opens_mult(&text[at..end]) {
+    if line_path::fast::opens_mult(&text[at..end]) {
         return line.next;
     }
     0
@@ -170,34 +160,46 @@ fn tell_mult(text: &[u8], at: usize, line: u64, wanted: u64) -> Told
 }
 
 // The same for a step. Of one that is not over a section it is not asked, and the search stays where it is.
-fn tell_step(text: &[u8], table: &[u64], own: usize, at: usize, line: u64) -> Told
-    requires { ⌜ (own + 6 ≤ length (now table)) × Cursor (now text) at line × (line ≤ getD (now table) (own + 5) 0) ⌝ }
-    ensures { λ r. ⌜ TellsStep (now (text .entry)) (now (table .entry)) own r ⌝ }
+fn tell_step(text: &[u8], own: StepRecord, at: usize, line: u64) -> Told
+    requires { ⌜ Cursor (now text) at line × (line ≤ own .line) ⌝ }
+    ensures { λ r. ⌜ TellsStep (now (text .entry)) own r ⌝ }
 {
-    if table[own] != SECTION {
+    if own.kind != table_layout::code::SECTION {
         return Told {
             mult: false,
             at,
             line,
         };
     }
-    tell_mult(text, at, line, table[own + 5])
+    tell_mult(text, at, line, own.line)
 }
 
 // ---- one model
 
 // A model by its line: 20 is asked of the first model of a name alone, whose flag the list raises.
-fn model_rule(text: &[u8], table: &[u64], view: View, listed: [bool; 65], index: u64) -> u64
-    requires { ⌜ ModelRoom (now table) view index ⌝ }
+fn model_rule(
+    text: &[u8],
+    table: &[u64],
+    view: View,
+    listed: [bool; cross_names::list::FLAGS],
+    index: u64,
+) -> u64
+    requires { ⌜ Rooms (now table) view × (index < countOf view models) ⌝ }
     ensures { λ r. ⌜ r ≡ modelRuleAt (now (text .entry)) (now (table .entry)) view listed index ⌝ }
 {
     let bases = view.bases;
-    if cross_rules::is_repeated_name(text, table, bases[table_layout::MODELS], MODEL_WORDS, index) {
-        return TWICE;
+    if cross_rules::is_repeated_name(
+        text,
+        table,
+        bases[table_layout::MODELS],
+        table_layout::MODEL_WIDTH,
+        index,
+    ) {
+        return base::refusal::TWICE;
     }
     let flag = index as usize;
     if !listed[flag] {
-        return LIST;
+        return base::refusal::LIST;
     }
     0
 }
@@ -205,18 +207,16 @@ fn model_rule(text: &[u8], table: &[u64], view: View, listed: [bool; 65], index:
 // What a model says for its steps.
 fn owner_of(table: &[u64], view: View, index: u64) -> Owner
     requires { ⌜ ModelRoom (now table) view index ⌝ }
-    ensures { λ r. ⌜ r ≡ ownerAt (now (table .entry)) view index ⌝ }
+    ensures { λ r. ⌜ r ≡ ownerAt (recordsOf (now (table .entry))) index ⌝ }
 {
-    let bases = view.bases;
     let counts = view.counts;
-    let at = bases[table_layout::MODELS] + MODEL_WORDS * (index as usize);
-    let from = bases[table_layout::STEPS] + STEP_WORDS * (table[at + 3] as usize);
-    let many = table[at + 4];
+    let model = table_record::nth_model(table, view, index);
+    let maps = counts[table_layout::MAPS];
     Owner {
-        kind: table[at + 2],
-        from,
-        many,
-        first: cross_steps::first_target(table, counts[table_layout::MAPS], from, many),
+        kind: model.kind,
+        from: model.first,
+        many: model.steps,
+        first: cross_steps::first_target(table, view, maps, model.first, model.steps),
         stamp: index as u8,
     }
 }
@@ -236,25 +236,23 @@ fn steps_finding(
 {
     let owner = owner_of(table, view, index);
     let count = owner.many;
-    let mut own = owner.from;
     let mut here = at;
     let mut next = first_line;
     let mut i = 0;
     while i < count {
-        let line = table[own + 5];
-        let told = tell_step(text, table, own, here, next);
+        let own = table_record::nth_step(table, view, owner.from + i);
+        let told = tell_step(text, own, here, next);
         let rule = cross_steps::step_rule(text, table, view, marks, owner, own, i, told.mult);
         if rule != 0 {
             return StepsFinding {
                 rule,
-                line,
+                line: own.line,
                 at: told.at,
                 next: told.line,
             };
         }
         here = told.at;
         next = told.line;
-        own += STEP_WORDS;
         i += 1;
     }
     StepsFinding {
@@ -268,7 +266,12 @@ fn steps_finding(
 // ---- all models
 
 // The first line of a model or of one of its steps that breaks a rule. The list breaks none, and `listed` says which models it names.
-pub fn model_finding(text: &[u8], table: &[u64], view: View, listed: [bool; 65]) -> Finding
+pub fn model_finding(
+    text: &[u8],
+    table: &[u64],
+    view: View,
+    listed: [bool; cross_names::list::FLAGS],
+) -> Finding
     requires { ⌜ HoldsText (now text) (now table) × (view ≡ viewOf (now table)) × Listed (documentOf (now text)) listed ⌝ }
     ensures { λ r. ⌜ r ≡ firstIn (modelFindings (documentOf (now (text .entry))) (documentOf (now (text .entry)) .models)) ⌝ }
 {

@@ -2,25 +2,28 @@
 -- gives the first finding of the whole list.
 -- Assumes nothing.
 use mathlib.Core.Path.{_≡_, refl, sym, _∙_, ap}
-use mathlib.Core.Bool.{Bool, true, false, not, true≢false}
+use mathlib.Core.Bool.{Bool, true, false, not}
 use mathlib.Core.List.{List, [], _∷_, _++_, map, map-append, append-assoc, append-nil}
-use Prim.Native.Nat.{ℕ, zero, suc, _+_, _-_, _≤_, _<_, zero-le}
+use Prim.Native.Nat.{ℕ, _+_, _-_, _≤_, _<_, zero-le}
 use native.Mathlib.Nat.{le-refl}
 use native.Mathlib.Omega.{arith}
 use lib.ListN.{length, getD, set, replicate, length-set, getD-replicate}
 use lib.Seq.{getD-set-same, getD-set-other}
-use lib.Dec.{leb, ltb, eqb}
+use lib.Dec.{leb, eqb}
 use borrow.Author.Tests.{lt-ltb, le-ltb, ne-eqb, eqb-true, eqb-false, leb-true, leb-false, not-true, not-false}
+use Rattle.cross_rules.specs.Way.Findings.{listNameRule, listFindings}
 use Rattle.base.specs.If.{if_then_else_, both, either}
-use Rattle.base.specs.Broken.{firstBroken}
-use Rattle.base.proofs.IfLaws.{if-true, if-false, by-cases, both-not-left, either-left, either-rest, either-comes, not-via, not-not-via}
+use Rattle.base.proofs.IfLaws.{if-true, if-false, by-cases, both-not-left, either-left, either-rest, not-via, not-not-via}
 use Rattle.base.proofs.BrokenLaws.{first-broken, first-kept}
 use Rattle.lex_keyword.specs.Names.{beginIcmModel}
 use Rattle.line_place.specs.Place.{isInFamily}
 use Rattle.line_place.specs.Place as place
+use Rattle.base.specs.Refusal as refusal
 use Rattle.table_layout.specs.Layout.{models}
+use Rattle.table_layout.specs.Bounds.{mostModels}
 use Rattle.table_layout.specs.View.{viewOf}
 use Rattle.table_layout.specs.declared.View.{View}
+use Rattle.table_record.specs.Way.Standing.{countOf, Rooms}
 use Rattle.doc.specs.Lines.{Line, plain, keyOf, placeAfter, linesAt, significant, gather, upTo, standsIn, wordsOf, firstWord}
 use Rattle.doc.specs.Document.{Named, Model, Document, listedAt, opensModel, modelOf, modelAt, inModel, documentIn, documentOf}
 use Rattle.doc.specs.Way.Found.{contentIn, lineIn, linesBehind, Located, FindsLine, IsPlain, Plainly, FindsKeyed}
@@ -28,9 +31,9 @@ use Rattle.doc.specs.declared.Found.{Found}
 use Rattle.doc.specs.Holds.{Each}
 use Rattle.doc.specs.Holds.Each.{none, more}
 use Rattle.doc.proofs.StandsLaws.{each-append, each-gather, each-if}
-use Rattle.doc.proofs.BlockLaws.{gather-none, gather-more}
 use Rattle.doc.proofs.PlainLaws.{plainly-quiet, meets-found}
-use Rattle.cross_rules.specs.Rules.{any, isTwice, isThere, modelName, listNameRule, listFindings, noFinding}
+use Rattle.doc.proofs.GatherLaws.{gather-more, gather-none}
+use Rattle.cross_rules.specs.Rules.{any, isTwice, isThere, noFinding}
 use Rattle.cross_rules.specs.Way.First.{firstIn}
 use Rattle.cross_rules.specs.Way.HoldsText.{HoldsText}
 use Rattle.cross_rules.specs.declared.Finding.{Finding}
@@ -42,10 +45,11 @@ use Rattle.cross_rules.proofs.OrderLaws.{in-order, lines-rise}
 use Rattle.cross_rules.proofs.ListLaws.{models-below}
 use Rattle.cross_rules.proofs.TwiceLaws.{listed-twice}
 use Rattle.cross_rules.proofs.KindLaws.{first-here, first-later}
+use Rattle.cross_rules.proofs.TableLaws.{text-rooms, many-models}
 use Rattle.cross_names.specs.Way.Listed.{modelNamed, isListed, Listed}
-use Rattle.cross_names.specs.Way.Judged.{ModelsIn, noSlot, modelFound, judgedBy, nameJudged, lineJudged, FindsListed}
+use Rattle.cross_names.specs.Way.Judged.{noSlot, modelFound, judgedBy, nameJudged, lineJudged, FindsListed}
 use Rattle.cross_names.specs.declared.list.Judged.{Judged}
-use Rattle.cross_names.proofs.NamedLaws.{above-found, above-none, there-found, models-many, models-in, model-is}
+use Rattle.cross_names.proofs.NamedLaws.{above-found, above-none, there-found, model-is}
 
 -- the finding of a list line
 abbrev finding : Document → Named → Finding
@@ -65,7 +69,7 @@ pub record Names (l : Line) (ls : List Line) (n : Named) : Type 0 where
 -- the possible results of judging a line
 pub data Outcome (d : Document) (l : Line) (ls : List Line) : Judged → Type 0 where
   silent : listedAt l ls ≡ [] → Outcome d l ls (record { rule = 0; slot = noSlot })
-  broken : (n : Named) → Names l ls n → (number slot : ℕ) → listNameRule d n ≡ number → (number ≡ 0 → ⊥) → slot ≤ 64 →
+  broken : (n : Named) → Names l ls n → (number slot : ℕ) → listNameRule d n ≡ number → (number ≡ 0 → ⊥) → slot ≤ mostModels →
       Outcome d l ls (record { rule = number; slot = slot })
   fresh : (n : Named) → Names l ls n → (slot : ℕ) → listNameRule d n ≡ 0 → slot ≡ modelNamed d n → slot < length (d .models) →
       Outcome d l ls (record { rule = 0; slot = slot })
@@ -78,24 +82,24 @@ module _ (t : List ℕ) (listed : List Bool) (above below : List Named) (n : Nam
   twice-is : isTwice (d .listed) n ≡ isThere above n
   twice-is = listed-twice d (in-order t) above below n split
 
-  rule-none : Each (λ (a : Named). modelNamed d a < length (d .models)) above → length (d .models) ≤ modelNamed d n → listNameRule d n ≡ 20
+  rule-none : Each (λ (a : Named). modelNamed d a < length (d .models)) above → length (d .models) ≤ modelNamed d n → listNameRule d n ≡ refusal.list
   unfolding listNameRule
   rule-none have h =
-      first-kept _ 19 _ 20 (twice-is ∙ above-none d n have h) (first-broken _ 20 0 (not-via (there-found d n ∙ le-ltb _ _ h)))
+      first-kept _ refusal.twice _ refusal.list (twice-is ∙ above-none d n have h) (first-broken _ refusal.list 0 (not-via (there-found d n ∙ le-ltb _ _ h)))
 
-  module _ (few : length (d .models) ≤ 64) (told : (i : ℕ) → i < 64 → getD listed i false ≡ raised d above i) (h : modelNamed d n < length (d .models)) where
+  module _ (few : length (d .models) ≤ mostModels) (told : (i : ℕ) → i < mostModels → getD listed i false ≡ raised d above i) (h : modelNamed d n < length (d .models)) where
     flag-is : isTwice (d .listed) n ≡ getD listed (modelNamed d n) false
     flag-is = twice-is ∙ above-found d n above h ∙ sym (told (modelNamed d n) (omega arith))
 
-    rule-twice : getD listed (modelNamed d n) false ≡ true → listNameRule d n ≡ 19
+    rule-twice : getD listed (modelNamed d n) false ≡ true → listNameRule d n ≡ refusal.twice
     unfolding listNameRule
-    rule-twice e = first-broken _ 19 _ (flag-is ∙ e)
+    rule-twice e = first-broken _ refusal.twice _ (flag-is ∙ e)
 
     rule-fresh : getD listed (modelNamed d n) false ≡ false → listNameRule d n ≡ 0
     unfolding listNameRule
-    rule-fresh e = first-kept _ 19 _ 0 (flag-is ∙ e) (first-kept _ 20 _ 0 (not-not-via (there-found d n ∙ lt-ltb _ _ h)) refl)
+    rule-fresh e = first-kept _ refusal.twice _ 0 (flag-is ∙ e) (first-kept _ refusal.list _ 0 (not-not-via (there-found d n ∙ lt-ltb _ _ h)) refl)
 
-small : {index many : ℕ} → index < many → many ≤ 64 → index ≤ 64
+small : {index many : ℕ} → index < many → many ≤ mostModels → index ≤ mostModels
 small h few = omega arith
 
 either-swap : (a b c : Bool) → either a (either b c) ≡ either b (either a c)
@@ -137,12 +141,12 @@ pub record ListLeft (t : List ℕ) (listed : List Bool) (at n p : ℕ) : Type 0 
   pub rest : documentOf t .listed ≡ above ++ gather listedAt (linesAt t n at p)
   pub same : firstIn (map (finding (documentOf t)) (gather listedAt (linesAt t n at p))) ≡ firstIn (listFindings (documentOf t))
   pub have : Each (λ (a : Named). modelNamed (documentOf t) a < length (documentOf t .models)) above
-  pub long : length listed ≡ 65
-  pub told : (i : ℕ) → i < 64 → getD listed i false ≡ raised (documentOf t) above i
+  pub long : length listed ≡ mostModels + 1
+  pub told : (i : ℕ) → i < mostModels → getD listed i false ≡ raised (documentOf t) above i
   pub within : at ≤ length t
   pub counted : n ≤ at + 1
 
-pub list-starts : (t : List ℕ) → ListLeft t (replicate 65 false) 0 1 0
+pub list-starts : (t : List ℕ) → ListLeft t (replicate (mostModels + 1) false) 0 1 0
 unfolding significant documentOf documentIn listFindings any
 list-starts t =
     record {
@@ -153,7 +157,7 @@ list-starts t =
       same = refl;
       have = none;
       long = refl;
-      told = λ (i : ℕ) (h : i < 64). getD-replicate 65 i false false (omega arith);
+      told = λ (i : ℕ) (h : i < mostModels). getD-replicate (mostModels + 1) i false false (omega arith);
       within = zero-le;
       counted = omega arith;
     }
@@ -219,9 +223,9 @@ record Kept (t : List ℕ) (listed : List Bool) (l : Line) (ls : List Line) (jud
   rest : documentOf t .listed ≡ above ++ gather listedAt ls
   same : firstIn (map (finding (documentOf t)) (gather listedAt ls)) ≡ firstIn (listFindings (documentOf t))
   have : Each (λ (a : Named). modelNamed (documentOf t) a < length (documentOf t .models)) above
-  told : (i : ℕ) → i < 64 → getD (set listed (judged .slot) true) i false ≡ raised (documentOf t) above i
+  told : (i : ℕ) → i < mostModels → getD (set listed (judged .slot) true) i false ≡ raised (documentOf t) above i
 
-slot-small : {d : Document} {l : Line} {ls : List Line} {judged : Judged} → length (d .models) ≤ 64 → Outcome d l ls judged → judged .slot < 65
+slot-small : {d : Document} {l : Line} {ls : List Line} {judged : Judged} → length (d .models) ≤ mostModels → Outcome d l ls judged → judged .slot < mostModels + 1
 slot-small few (silent e) = omega arith
 slot-small few (broken n names number slot e ne low) = omega arith
 slot-small few (fresh n names slot e is h) = omega arith
@@ -257,18 +261,18 @@ any-one-more test (y ∷ xs) x = ap (either (test y)) (any-one-more test xs x) �
 
 kept-by :
     {t : List ℕ} {listed : List Bool} {l : Line} {ls : List Line} {judged : Judged} {above : List Named} →
-    length (documentOf t .models) ≤ 64 → Outcome (documentOf t) l ls judged → judged .rule ≡ 0 →
+    length (documentOf t .models) ≤ mostModels → Outcome (documentOf t) l ls judged → judged .rule ≡ 0 →
     documentOf t .listed ≡ above ++ (listedAt l ls ++ gather listedAt ls) →
     firstIn (map (finding (documentOf t)) (listedAt l ls ++ gather listedAt ls)) ≡ firstIn (listFindings (documentOf t)) →
     Each (λ (a : Named). modelNamed (documentOf t) a < length (documentOf t .models)) above →
-    length listed ≡ 65 → ((i : ℕ) → i < 64 → getD listed i false ≡ raised (documentOf t) above i) → Kept t listed l ls judged
+    length listed ≡ mostModels + 1 → ((i : ℕ) → i < mostModels → getD listed i false ≡ raised (documentOf t) above i) → Kept t listed l ls judged
 kept-by {t} {listed} {l} {ls} {above = above} few (silent e) z rest same have long told =
     record {
       above = above;
       rest = rest ∙ ap (λ (ns : List Named). above ++ (ns ++ gather listedAt ls)) e;
       same = ap (λ (ns : List Named). firstIn (map (finding (documentOf t)) (ns ++ gather listedAt ls))) (sym e) ∙ same;
       have = have;
-      told = λ (i : ℕ) (h : i < 64). flag-other listed noSlot i (λ (k : i ≡ noSlot). omega arith) ∙ told i h;
+      told = λ (i : ℕ) (h : i < mostModels). flag-other listed noSlot i (λ (k : i ≡ noSlot). omega arith) ∙ told i h;
     }
 kept-by few (broken m names number slot e ne low) z rest same have long told = absurd (ne z)
 kept-by {t} {listed} {l} {ls} {above = above} few (fresh m names slot e is h) z rest same have long told =
@@ -283,7 +287,7 @@ kept-by {t} {listed} {l} {ls} {above = above} few (fresh m names slot e is h) z 
           ∙ same;
       have = each-append have (more (rw is at h) none);
       told =
-          λ (i : ℕ) (k : i < 64).
+          λ (i : ℕ) (k : i < mostModels).
           flag-more listed slot i (omega arith)
           ∙ (λ j. either (eqb (is j) i) (told i k j))
           ∙ sym (any-one-more (λ (a : Named). eqb (modelNamed (documentOf t) a) i) above m);
@@ -304,7 +308,7 @@ module _ (t : List ℕ) (listed : List Bool) (at n p : ℕ) (left : ListLeft t l
         λ (z : _≡_ {A = ℕ} 0 0).
             record {
               long = left .long;
-              told = λ (i : ℕ) (h : i < 64). left .told i h ∙ ap (λ (ns : List Named). raised (documentOf t) ns i) (sym all);
+              told = λ (i : ℕ) (h : i < mostModels). left .told i h ∙ ap (λ (ns : List Named). raised (documentOf t) ns i) (sym all);
             },
       )
 
@@ -360,16 +364,16 @@ module _ (t : List ℕ) (listed : List Bool) (at n p : ℕ) (left : ListLeft t l
 
       module _ (table : List ℕ) (filled : HoldsText t table) (v : View) (is-view : v ≡ viewOf table) where
         abbrev count : ℕ
-        count = getD (v .counts) models 0
+        count = countOf v models
 
-        pub line-ready : ModelsIn table v × Located t line
-        line-ready = (models-in t table filled v is-view, found)
+        pub line-ready : Rooms table v × Located t line
+        line-ready = (text-rooms t table filled v is-view, found)
 
         many : count ≡ length (documentOf t .models)
-        many = models-many t table filled v is-view
+        many = many-models t table filled v is-view
 
-        few : length (documentOf t .models) ≤ 64
-        few = rw many at (models-in t table filled v is-view .few)
+        few : length (documentOf t .models) ≤ mostModels
+        few = rw many at (text-rooms t table filled v is-view .few-models)
 
         index-is : modelFound t table v line ≡ modelNamed (documentOf t) name
         unfolding wordsOf
@@ -383,17 +387,17 @@ module _ (t : List ℕ) (listed : List Bool) (at n p : ℕ) (left : ListLeft t l
             rest-here ∙ ap (λ (ns : List Named). left .above ++ (ns ++ gather listedAt ls)) (names .one) in
             by-cases _ (leb (length (documentOf t .models)) (modelNamed (documentOf t) name))
             (λ (e : leb (length (documentOf t .models)) (modelNamed (documentOf t) name) ≡ true).
-            rw (if-true {A = Judged} (record { rule = 20; slot = noSlot }) _ e)
-            (broken name names 20 noSlot (rule-none t listed (left .above) _ name split (left .have) (leb-true _ _ e)) (λ (z : _≡_ {A = ℕ} 20 0). omega arith) (omega arith)))
+            rw (if-true {A = Judged} (record { rule = refusal.list; slot = noSlot }) _ e)
+            (broken name names refusal.list noSlot (rule-none t listed (left .above) _ name split (left .have) (leb-true _ _ e)) (λ (z : _≡_ {A = ℕ} refusal.list 0). omega arith) (omega arith)))
             (λ (e : leb (length (documentOf t .models)) (modelNamed (documentOf t) name) ≡ false).
             let h : modelNamed (documentOf t) name < length (documentOf t .models) = leb-false _ _ e in
-            rw (if-false {A = Judged} (record { rule = 20; slot = noSlot }) _ e)
+            rw (if-false {A = Judged} (record { rule = refusal.list; slot = noSlot }) _ e)
             (by-cases _ (getD listed (modelNamed (documentOf t) name) false)
             (λ (f : getD listed (modelNamed (documentOf t) name) false ≡ true).
-            rw (if-true {A = Judged} (record { rule = 19; slot = modelNamed (documentOf t) name }) _ f)
-            (broken name names 19 (modelNamed (documentOf t) name) (rule-twice t listed (left .above) _ name split few (left .told) h f) (λ (z : _≡_ {A = ℕ} 19 0). omega arith) (small h few)))
+            rw (if-true {A = Judged} (record { rule = refusal.twice; slot = modelNamed (documentOf t) name }) _ f)
+            (broken name names refusal.twice (modelNamed (documentOf t) name) (rule-twice t listed (left .above) _ name split few (left .told) h f) (λ (z : _≡_ {A = ℕ} refusal.twice 0). omega arith) (small h few)))
             (λ (f : getD listed (modelNamed (documentOf t) name) false ≡ false).
-            rw (if-false {A = Judged} (record { rule = 19; slot = modelNamed (documentOf t) name }) _ f)
+            rw (if-false {A = Judged} (record { rule = refusal.twice; slot = modelNamed (documentOf t) name }) _ f)
             (fresh name names (modelNamed (documentOf t) name) (rule-fresh t listed (left .above) _ name split few (left .told) h f) refl h))))
 
         judged-outcome : Outcome (documentOf t) l ls (lineJudged t table v p line listed)
@@ -426,7 +430,7 @@ module _ (t : List ℕ) (listed : List Bool) (at n p : ℕ) (left : ListLeft t l
           outcome : Outcome (documentOf t) l ls judged
           outcome = rw is-judged judged-outcome
 
-          pub slot-in : judged .slot < 65
+          pub slot-in : judged .slot < mostModels + 1
           slot-in = slot-small few outcome
 
           pub list-breaks : (judged .rule ≡ 0 → ⊥) → Gives t (judged .rule) (line .line) listed

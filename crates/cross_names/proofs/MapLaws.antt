@@ -1,30 +1,39 @@
 -- Laws of the loop over the maps: the maps that are left give the first finding of all maps and their pins.
 -- Assumes nothing.
-use mathlib.Core.Path.{_≡_, refl, sym, _∙_, ap, subst}
+use mathlib.Core.Path.{_≡_, refl, sym, _∙_, ap}
 use mathlib.Core.Bool.{Bool, true, false}
 use mathlib.Core.List.{List, [], _∷_, _++_, append-assoc}
 use Prim.Native.Nat.{ℕ, _+_, _*_, _≤_, _<_}
 use native.Mathlib.Nat.{not-suc-le-zero}
 use native.Mathlib.Omega.{arith}
+use mir.Syntax.{w8, w64}
+use mir.Val.{Fits}
 use lib.ListN.{length, getD, length-append}
 use lib.Dec.{eqb}
 use borrow.Author.Tests.{eqb-true, eqb-false}
 use Rattle.base.specs.Broken.{_when_, firstBroken}
 use Rattle.base.proofs.IfLaws.{by-cases}
 use Rattle.base.proofs.BrokenLaws.{first-broken, first-kept}
-use Rattle.table_layout.specs.Layout.{maps, pins}
+use Rattle.base.specs.Refusal as refusal
+use Rattle.table_layout.specs.Layout.{maps, pins, mapWidth}
 use Rattle.table_layout.specs.View.{viewOf}
 use Rattle.table_layout.specs.declared.View.{View}
+use Rattle.table_record.specs.Records.{recordsOf, noMap}
+use Rattle.table_record.specs.Way.Standing.{baseOf, countOf}
+use Rattle.table_record.specs.declared.MapRecord.{MapRecord}
 use Rattle.doc.specs.Lines.{significant}
 use Rattle.doc.specs.Document.{Map, Document, documentOf}
-use Rattle.cross_rules.specs.Rules.{mapNameRule, pinFindings, mapFindings, noFinding}
+use Rattle.cross_rules.specs.Rules.{noFinding}
+use Rattle.cross_rules.specs.Way.Findings.{mapNameRule, pinFindings, mapFindings}
 use Rattle.cross_rules.specs.Way.First.{firstIn}
 use Rattle.cross_rules.specs.Way.HoldsText.{HoldsText}
 use Rattle.cross_rules.specs.Way.Nth.{nthLine}
+use Rattle.cross_rules.specs.Way.Repeated.{isRepeated}
 use Rattle.cross_rules.specs.declared.Finding.{Finding}
 use Rattle.cross_rules.proofs.KindLaws.{first-here, first-later}
-use Rattle.cross_names.specs.Way.Pins.{twiceAt, MapRoom, pinsOfMap}
-use Rattle.cross_names.proofs.TableLaws.{maps-many, rule-here, line-here, room-here, own-here}
+use Rattle.cross_rules.proofs.TableLaws.{text-rooms, many-maps}
+use Rattle.cross_names.specs.Way.Pins.{pinsOfMap}
+use Rattle.cross_names.proofs.TableLaws.{rule-here, line-here, room-here, own-here}
 
 -- ---- the first finding of two lists
 
@@ -88,31 +97,28 @@ findings-on : (d : Document) (m : Map) (ms : List Map) → mapFindings d (m ∷ 
 unfolding mapFindings
 findings-on d m ms = refl
 
-module _ (t table : List ℕ) (v : View) (holds : HoldsText t table × (v ≡ viewOf table)) (i : ℕ) (left : MapsLeft t i) where
+module _ (t table : List ℕ) (filled : HoldsText t table) (v : View) (is-view : v ≡ viewOf table) (i : ℕ) (left : MapsLeft t i) where
   abbrev d : Document
   d = documentOf t
 
-  abbrev mapBase : ℕ
-  mapBase = getD (v .bases) maps 0
+  abbrev base : ℕ
+  base = baseOf v maps
 
-  abbrev pinBase : ℕ
-  pinBase = getD (v .bases) pins 0
-
-  left-many : getD (v .counts) maps 0 ≡ i + length (left .below)
+  left-many : countOf v maps ≡ i + length (left .below)
   left-many =
-      maps-many t table v holds ∙ ap length (left .all) ∙ length-append (left .above) (left .below)
+      many-maps t table filled v is-view ∙ ap length (left .all) ∙ length-append (left .above) (left .below)
       ∙ ap (λ (k : ℕ). k + length (left .below)) (left .place)
 
-  pub maps-end : getD (v .counts) maps 0 ≤ i → record { rule = 0; line = 0 } ≡ firstIn (mapFindings d (d .maps))
+  pub maps-end : countOf v maps ≤ i → record { rule = 0; line = 0 } ≡ firstIn (mapFindings d (d .maps))
   maps-end h =
-      let n : getD (v .counts) maps 0 ≡ i + length (left .below) = left-many in
+      let n : countOf v maps ≡ i + length (left .below) = left-many in
       let z : left .below ≡ [] = no-more (left .below) (omega arith) in
       sym (none-found d) ∙ ap (λ (ms : List Map). firstIn (mapFindings d ms)) (sym z) ∙ left .same
 
-  module _ (h : i < getD (v .counts) maps 0) where
+  module _ (h : i < countOf v maps) where
     front : Front (left .below)
     front =
-        let n : getD (v .counts) maps 0 ≡ i + length (left .below) = left-many in
+        let n : countOf v maps ≡ i + length (left .below) = left-many in
         front-of (left .below) (omega arith)
 
     abbrev m : Map
@@ -124,51 +130,60 @@ module _ (t table : List ℕ) (v : View) (holds : HoldsText t table × (v ≡ vi
     split : d .maps ≡ left .above ++ (m ∷ behind)
     split = left .all ∙ ap (λ (ms : List Map). left .above ++ ms) (front .whole)
 
-    pub asks-pins : MapRoom table mapBase pinBase i
-    asks-pins = subst (MapRoom table mapBase pinBase) (left .place) (room-here t table v holds (left .above) behind m split)
+    pub name-room : base + mapWidth * i + mapWidth ≤ length table
+    name-room = omega (arith, text-rooms t table filled v is-view .map-room)
 
-    pub asks-map : (mapBase + 7 * i + 7 ≤ length table) × (2 ≤ 7)
-    asks-map = (asks-pins .inside, omega arith)
+    pub stamp-fits : Fits w8 i
+    stamp-fits = omega (arith, text-rooms t table filled v is-view .few-maps)
+
+    pub index-fits : Fits w64 (i + 1)
+    index-fits = omega (arith, text-rooms t table filled v is-view .few-maps)
 
     same-here : firstIn (ownLine d m ∷ (pinFindings m ++ mapFindings d behind)) ≡ firstIn (mapFindings d (d .maps))
     same-here =
         ap firstIn (sym (findings-on d m behind)) ∙ ap (λ (ms : List Map). firstIn (mapFindings d ms)) (sym (front .whole)) ∙ left .same
 
-    module _ (twice : Bool) (is-repeated-name : twice ≡ twiceAt t table mapBase 7 i) where
-      rule-is : firstBroken (19 when twice ∷ []) ≡ mapNameRule d m
+    module _ (twice : Bool) (is-repeated : twice ≡ isRepeated t table base mapWidth i) where
+      rule-is : firstBroken (refusal.twice when twice ∷ []) ≡ mapNameRule d m
       rule-is =
-          ap (λ (b : Bool). firstBroken (19 when b ∷ [])) (is-repeated-name ∙ ap (twiceAt t table mapBase 7) (sym (left .place)))
-          ∙ rule-here t table v holds (left .above) behind m split
+          ap (λ (b : Bool). firstBroken (refusal.twice when b ∷ [])) (is-repeated ∙ ap (isRepeated t table base mapWidth) (sym (left .place)))
+          ∙ rule-here t table filled v is-view (left .above) behind m split
 
-      pub map-breaks : twice ≡ true → (line : ℕ) → line ≡ nthLine maps i (significant t) → record { rule = 19; line = line } ≡ firstIn (mapFindings d (d .maps))
+      pub map-breaks : twice ≡ true → (line : ℕ) → line ≡ nthLine maps i (significant t) → record { rule = refusal.twice; line = line } ≡ firstIn (mapFindings d (d .maps))
       map-breaks e line is-line =
-          let n : 19 ≡ mapNameRule d m = sym (first-broken twice 19 0 e) ∙ rule-is in
+          let n : refusal.twice ≡ mapNameRule d m = sym (first-broken twice refusal.twice 0 e) ∙ rule-is in
           let l : line ≡ m .line =
-          is-line ∙ ap (λ (k : ℕ). nthLine maps k (significant t)) (sym (left .place)) ∙ line-here t table v holds (left .above) behind m split in
-          let f : record { rule = 19; line = line } ≡ ownLine d m = λ j. record { rule = n j; line = l j } in
+          is-line ∙ ap (λ (k : ℕ). nthLine maps k (significant t)) (sym (left .place)) ∙ line-here t table filled v is-view (left .above) behind m split in
+          let f : record { rule = refusal.twice; line = line } ≡ ownLine d m = λ j. record { rule = n j; line = l j } in
           f ∙ sym (first-here (ownLine d m) _ (λ (z : mapNameRule d m ≡ 0). omega arith)) ∙ same-here
 
       module _ (kept : twice ≡ false) where
         below-same : firstIn (pinFindings m ++ mapFindings d behind) ≡ firstIn (mapFindings d (d .maps))
-        below-same = sym (first-later (ownLine d m) _ (sym rule-is ∙ first-kept twice 19 0 0 kept refl)) ∙ same-here
+        below-same = sym (first-later (ownLine d m) _ (sym rule-is ∙ first-kept twice refusal.twice 0 0 kept refl)) ∙ same-here
 
-        module _ (found : Finding) (is-found : found ≡ firstIn (pinsOfMap t table mapBase pinBase i)) where
-          found-is : found ≡ firstIn (pinFindings m)
-          found-is =
-              is-found ∙ ap (λ (k : ℕ). firstIn (pinsOfMap t table mapBase pinBase k)) (sym (left .place))
-              ∙ ap firstIn (own-here t table v holds (left .above) behind m split)
+        -- the record of the map
+        module _ (x : MapRecord) (here : x ≡ getD (recordsOf table .maps) i noMap) where
+          here-is : x ≡ getD (recordsOf table .maps) (length (left .above)) noMap
+          here-is = here ∙ ap (λ (k : ℕ). getD (recordsOf table .maps) k noMap) (sym (left .place))
 
-          pub pins-break : (found .rule ≡ 0 → ⊥) → found ≡ firstIn (mapFindings d (d .maps))
-          pins-break n =
-              found-is ∙ sym (first-front (pinFindings m) (mapFindings d behind) (λ (z : firstIn (pinFindings m) .rule ≡ 0). n (ap numberOf found-is ∙ z)))
-              ∙ below-same
+          pub pins-room : x .first + x .pins ≤ countOf v pins
+          pins-room = room-here t table filled v is-view (left .above) behind m split x here-is
 
-          pub maps-on : found .rule ≡ 0 → MapsLeft t (i + 1)
-          maps-on z =
-              record {
-                above = left .above ++ (m ∷ []);
-                below = behind;
-                all = split ∙ sym (append-assoc (left .above) (m ∷ []) behind);
-                place = length-append (left .above) (m ∷ []) ∙ ap (λ (k : ℕ). k + 1) (left .place);
-                same = sym (first-behind (pinFindings m) (mapFindings d behind) (ap numberOf (sym found-is) ∙ z)) ∙ below-same;
-              }
+          module _ (found : Finding) (is-found : found ≡ firstIn (pinsOfMap t table v x)) where
+            found-is : found ≡ firstIn (pinFindings m)
+            found-is = is-found ∙ ap firstIn (own-here t table filled v is-view (left .above) behind m split x here-is)
+
+            pub pins-break : (found .rule ≡ 0 → ⊥) → found ≡ firstIn (mapFindings d (d .maps))
+            pins-break n =
+                found-is ∙ sym (first-front (pinFindings m) (mapFindings d behind) (λ (z : firstIn (pinFindings m) .rule ≡ 0). n (ap numberOf found-is ∙ z)))
+                ∙ below-same
+
+            pub maps-on : found .rule ≡ 0 → MapsLeft t (i + 1)
+            maps-on z =
+                record {
+                  above = left .above ++ (m ∷ []);
+                  below = behind;
+                  all = split ∙ sym (append-assoc (left .above) (m ∷ []) behind);
+                  place = length-append (left .above) (m ∷ []) ∙ ap (λ (k : ℕ). k + 1) (left .place);
+                  same = sym (first-behind (pinFindings m) (mapFindings d behind) (ap numberOf (sym found-is) ∙ z)) ∙ below-same;
+                }

@@ -1,53 +1,43 @@
 -- Laws of the model that a name finds: it is the same in the table and in the document, and two names that find one model are equal.
 -- Assumes nothing.
 use mathlib.Core.Path.{_≡_, refl, sym, _∙_, ap}
-use mathlib.Core.Bool.{Bool, true, false, not, true≢false}
-use mathlib.Core.List.{List, [], _∷_, _++_, map}
-use Prim.Native.Nat.{ℕ, zero, suc, _+_, _-_, _*_, _≤_, _<_, zero-le, suc-le-suc}
+use mathlib.Core.Bool.{Bool, true, false, true≢false}
+use mathlib.Core.List.{List, [], _∷_, map}
+use Prim.Native.Nat.{ℕ, zero, suc, _-_, _≤_, _<_, zero-le, suc-le-suc}
 use native.Mathlib.Nat.{not-suc-le-zero, le-of-suc-le-suc}
 use native.Mathlib.Omega.{arith}
-use lib.ListN.{length, take, drop, getD, length-map, length-drop}
+use lib.ListN.{length, take, drop, getD, length-drop}
 use lib.Seq.{length-take-le}
 use lib.Dec.{leb, ltb, eqb, leb·suc-suc}
-use borrow.Author.Tests.{le-leb, lt-leb, lt-ltb, le-ltb, eq-eqb, ne-eqb}
-use Rattle.base.specs.If.{if_then_else_, both, either}
+use borrow.Author.Tests.{le-leb, lt-leb, lt-ltb, eq-eqb, ne-eqb}
+use Rattle.base.specs.If.{if_then_else_, either}
 use Rattle.base.specs.Runs.{same}
-use Rattle.base.proofs.IfLaws.{if-true, if-false, by-cases, both-rest, either-left, either-rest, either-false}
+use Rattle.base.proofs.IfLaws.{if-true, if-false, by-cases, either-left, either-rest, either-false}
 use Rattle.base.proofs.RunLaws.{same-refl, same-equal}
 use Rattle.lex_line.specs.Words.{Word, wordsFrom}
-use Rattle.table_layout.specs.Layout.{models, widths, chopped}
-use Rattle.table_layout.specs.View.{bounds, viewOf}
+use Rattle.base.specs.Refusal as refusal
+use Rattle.table_layout.specs.Layout.{models, modelWidth}
+use Rattle.table_layout.specs.View.{viewOf}
 use Rattle.table_layout.specs.declared.View.{View}
-use Rattle.table_layout.proofs.PartLaws.{Viewed}
-use Rattle.doc.specs.Lines.{Line, wordsOf, firstWord}
+use Rattle.table_record.specs.Way.Standing.{places, baseOf, countOf}
+use Rattle.doc.specs.Lines.{wordsOf, firstWord}
 use Rattle.doc.specs.Document.{Named, Model, Document, documentOf}
-use Rattle.doc.specs.Records.{indexOf, modelRecord, modelRecords, modelWords, flatten, partsOf}
+use Rattle.doc.specs.Records.{indexOf}
 use Rattle.doc.specs.Way.Found.{contentIn, lineIn, Located, extentOf}
 use Rattle.doc.specs.declared.Found.{Found}
 use Rattle.doc.specs.declared.Extent.{Extent}
 use Rattle.doc.specs.Holds.{Each}
-use Rattle.doc.specs.Way.Holds.{Stands}
 use Rattle.doc.specs.Holds.Each.{none, more}
-use Rattle.doc.proofs.StandsLaws.{LineStands, ModelStands, first-word-stands, all-stand}
-use Rattle.doc.proofs.CountLaws.{models-long}
+use Rattle.doc.proofs.StandsLaws.{LineStands, first-word-stands}
 use Rattle.table_name.specs.Name.{nameAt}
-use Rattle.table_name.specs.Way.Search.{isNamed, findIn}
+use Rattle.table_name.specs.Way.Search.{findIn}
 use Rattle.cross_rules.specs.Rules.{any, sameWord, isThere, modelName}
 use Rattle.cross_rules.specs.Way.HoldsText.{HoldsText}
-use Rattle.cross_rules.proofs.TableLaws.{view-holds, part-stands, part-many}
+use Rattle.cross_rules.specs.Way.Repeated.{ownName}
+use Rattle.cross_rules.proofs.RepeatedLaws.{found-places}
+use Rattle.cross_rules.proofs.NamesLaws.{same-comm, map-by, models-named}
 use Rattle.cross_names.specs.Way.Listed.{modelNamed}
-use Rattle.cross_names.specs.declared.list.Judged.{Judged}
-use Rattle.cross_names.specs.Way.Judged.{ModelsIn, modelFound, noSlot, judgedBy, nameJudged}
-
--- ---- names that are the same
-
-pub same-turned : (s t : List ℕ) → same s t ≡ same t s
-same-turned s t =
-    by-cases _ (same s t) (λ (e : same s t ≡ true). e ∙ sym (rw (same-equal s t e) (same-refl t)))
-    (λ (e : same s t ≡ false).
-    by-cases _ (same t s)
-    (λ (f : same t s ≡ true). absurd (true≢false (sym (rw (same-equal t s f) (same-refl s)) ∙ e)))
-    (λ (f : same t s ≡ false). e ∙ sym f))
+use Rattle.cross_names.specs.Way.Judged.{modelFound, noSlot, judgedBy, nameJudged}
 
 -- ---- the first model of a name
 
@@ -87,10 +77,10 @@ first-there n [] = refl
 first-there n (m ∷ ms) =
     by-cases _ (same (n .name .text) (m .name .text))
     (λ (e : same (n .name .text) (m .name .text) ≡ true).
-    either-left _ _ (same-turned (m .name .text) (n .name .text) ∙ e)
+    either-left _ _ (same-comm (m .name .text) (n .name .text) ∙ e)
     ∙ sym (ap (λ (i : ℕ). ltb i (suc (length ms))) (if-true _ _ e) ∙ lt-ltb zero (suc (length ms)) (suc-le-suc zero-le)))
     (λ (e : same (n .name .text) (m .name .text) ≡ false).
-    either-rest _ _ (same-turned (m .name .text) (n .name .text) ∙ e)
+    either-rest _ _ (same-comm (m .name .text) (n .name .text) ∙ e)
     ∙ first-there n ms
     ∙ sym (ap (λ (i : ℕ). ltb i (suc (length ms))) (if-false _ _ e) ∙ leb·suc-suc (suc (first (n .name .text) ms)) (length ms)))
 
@@ -127,46 +117,28 @@ module _ (d : Document) (n : Named) where
 
 -- ---- in the table
 
-module _ (t : List ℕ) (name : List ℕ) where
-  model-named : (first : ℕ) (m : Model) → ModelStands t m → isNamed t name 0 (modelWords (modelRecord first m)) ≡ same name (m .name .text)
-  unfolding isNamed modelRecord nameAt
-  model-named first m h = both-rest _ _ (le-leb 0 (m .name .start) zero-le) ∙ ap (same name) (h .name .bytes)
-
-  find-model : (from : ℕ) {ms : List Model} → Each (ModelStands t) ms → indexOf (isNamed t name 0) (map modelWords (modelRecords from ms)) ≡ first name ms
-  unfolding indexOf modelRecords
-  find-model from none = refl
-  find-model from (more {x = m} {xs = ms} h hs) = λ i. if model-named from m h i then 0 else suc (find-model (from + length (m .steps)) hs i)
+module _ {A B : Type 0} (test : B → Bool) (f : A → B) where
+  index-map : (xs : List A) → indexOf (λ (x : A). test (f x)) xs ≡ indexOf test (map f xs)
+  unfolding indexOf
+  index-map [] = refl
+  index-map (x ∷ xs) = λ i. if test (f x) then zero else suc (index-map xs i)
 
 module _ (t table : List ℕ) (filled : HoldsText t table) (v : View) (is-view : v ≡ viewOf table) where
   abbrev d : Document
   d = documentOf t
 
-  models-stand : chopped 5 (getD (v .counts) models 0) (drop (getD (v .bases) models 0) table) ≡ map modelWords (modelRecords 0 (d .models))
-  unfolding partsOf flatten
-  models-stand = rw is-view (part-stands t table filled models (omega arith))
+  -- the search of the table finds the first model of a name
+  find-model : (name : List ℕ) → findIn t table (baseOf v models) modelWidth (countOf v models) name 0 ≡ first name (d .models)
+  find-model name =
+      found-places t table name modelWidth (omega arith) (countOf v models) (baseOf v models)
+      ∙ index-map (same name) (ownName t table) (places modelWidth (baseOf v models) (countOf v models))
+      ∙ ap (indexOf (same name)) (models-named t table filled v is-view ∙ sym (map-by (λ (m : Model). m .name .text) (λ (n : Named). n .name .text) modelName (λ (m : Model). refl) (d .models)))
+      ∙ sym (index-map (same name) (λ (m : Model). m .name .text) (d .models))
 
-  pub models-many : getD (v .counts) models 0 ≡ length (d .models)
-  unfolding partsOf flatten
-  models-many =
-      rw is-view (part-many t table filled models (omega arith))
-      ∙ length-map (modelRecords 0 (d .models)) modelWords
-      ∙ models-long 0 (d .models)
-
-  pub models-in : ModelsIn table v
-  models-in =
-      rw is-view
-      (record {
-        inside = view-holds t table filled .inside models (omega arith);
-        few = view-holds t table filled .few models (omega arith);
-      })
-
-  -- the search of the table finds the model that the list line names
+  -- the one that the list line names
   pub model-is : (line : Found) (n : Named) → n .name ≡ firstWord (wordsOf (lineIn t line 0)) → modelFound t table v line ≡ modelNamed d n
-  unfolding modelFound findIn modelNamed sameWord
-  model-is line n e =
-      ap (indexOf (isNamed t (firstWord (wordsOf (lineIn t line 0)) .text) 0)) models-stand
-      ∙ find-model t (firstWord (wordsOf (lineIn t line 0)) .text) 0 (all-stand t .models)
-      ∙ ap (λ (w : Word). first (w .text) (d .models)) (sym e)
+  unfolding modelFound modelNamed sameWord
+  model-is line n e = find-model (firstWord (wordsOf (lineIn t line 0)) .text) ∙ ap (λ (w : Word). first (w .text) (d .models)) (sym e)
 
 -- ---- the name that a line opens with
 
@@ -183,22 +155,22 @@ module _ (t : List ℕ) (line : Found) (located : Located t line) where
   pub found-first :
       (table : List ℕ) (v : View) (mark : Extent) → mark ≡ extentOf (firstWord (wordsFrom (line .at) (contentIn t line))) →
       (name : List ℕ) → name ≡ nameAt t (mark .start) (mark .size) →
-      (r : ℕ) → r ≡ findIn t table (getD (v .bases) models 0) 5 (getD (v .counts) models 0) name 0 → r ≡ modelFound t table v line
+      (r : ℕ) → r ≡ findIn t table (baseOf v models) modelWidth (countOf v models) name 0 → r ≡ modelFound t table v line
   unfolding extentOf nameAt modelFound wordsOf
   found-first table v mark e name told r is =
       let n : name ≡ firstWord (wordsOf (lineIn t line 0)) .text =
       told ∙ ap (λ (m : Extent). take (m .size) (drop (m .start) t)) e ∙ first-word-stands t (lineIn t line 0) line-stands .bytes in
-      is ∙ ap (λ (s : List ℕ). findIn t table (getD (v .bases) models 0) 5 (getD (v .counts) models 0) s 0) n
+      is ∙ ap (λ (s : List ℕ). findIn t table (baseOf v models) modelWidth (countOf v models) s 0) n
 
 -- ---- the rule that it breaks
 
 module _ (t table : List ℕ) (v : View) (line : Found) (listed : List Bool) (index : ℕ) (is : index ≡ modelFound t table v line) where
-  pub name-none : getD (v .counts) models 0 ≤ index → record { rule = 20; slot = noSlot } ≡ nameJudged t table v line listed
+  pub name-none : countOf v models ≤ index → record { rule = refusal.list; slot = noSlot } ≡ nameJudged t table v line listed
   unfolding nameJudged judgedBy
   name-none h = rw (← is) (sym (if-true _ _ (le-leb _ _ h)))
 
-  module _ (h : index < getD (v .counts) models 0) where
-    pub name-twice : getD listed index false ≡ true → record { rule = 19; slot = index } ≡ nameJudged t table v line listed
+  module _ (h : index < countOf v models) where
+    pub name-twice : getD listed index false ≡ true → record { rule = refusal.twice; slot = index } ≡ nameJudged t table v line listed
     unfolding nameJudged judgedBy
     name-twice e = rw (← is) (sym (if-false _ _ (lt-leb _ _ h) ∙ if-true _ _ e))
 

@@ -8,14 +8,16 @@ use native.Mathlib.Nat.{sub-zero}
 use native.Mathlib.Omega.{arith}
 use Rattle.base.specs.Broken.{_when_, firstBroken}
 use Rattle.base.proofs.BrokenLaws.{first-broken, first-kept}
-use Rattle.table_layout.specs.Layout.{pins}
+use Rattle.base.specs.Refusal as refusal
+use Rattle.table_layout.specs.Layout.{pins, pinWidth}
 use Rattle.doc.specs.Lines.{significant}
 use Rattle.cross_rules.specs.Rules.{noFinding}
 use Rattle.cross_rules.specs.Way.First.{firstIn}
 use Rattle.cross_rules.specs.Way.Nth.{nthLine}
+use Rattle.cross_rules.specs.Way.Repeated.{isRepeated}
 use Rattle.cross_rules.specs.declared.Finding.{Finding}
 use Rattle.cross_rules.proofs.KindLaws.{first-here, first-later}
-use Rattle.cross_names.specs.Way.Pins.{twiceAt, pinAt, pinsFrom}
+use Rattle.cross_names.specs.Way.Pins.{pinFinding, pinsFrom}
 
 pub record PinsLeft (t table : List ℕ) (base first count i : ℕ) : Type 0 where
   pub same : firstIn (pinsFrom t table base first i (count - i)) ≡ firstIn (pinsFrom t table base first 0 count)
@@ -25,19 +27,19 @@ module _ (t table : List ℕ) (base first : ℕ) where
   unfolding pinsFrom firstIn noFinding
   none-left i = refl
 
-  one-left : (i n : ℕ) → pinsFrom t table base first i (suc n) ≡ pinAt t table base first i ∷ pinsFrom t table base first (i + 1) n
+  one-left : (i n : ℕ) → pinsFrom t table base first i (suc n) ≡ pinFinding t table base first i ∷ pinsFrom t table base first (i + 1) n
   unfolding pinsFrom
   one-left i n = refl
 
-  found-here : (i line : ℕ) → twiceAt t table base 2 i ≡ true → line ≡ nthLine pins (first + i) (significant t) → record { rule = 19; line = line } ≡ pinAt t table base first i
-  unfolding pinAt
+  found-here : (i line : ℕ) → isRepeated t table base pinWidth i ≡ true → line ≡ nthLine pins (first + i) (significant t) → record { rule = refusal.twice; line = line } ≡ pinFinding t table base first i
+  unfolding pinFinding
   found-here i line b l =
-      let n : 19 ≡ firstBroken (19 when twiceAt t table base 2 i ∷ []) = sym (first-broken (twiceAt t table base 2 i) 19 0 b) in
+      let n : refusal.twice ≡ firstBroken (refusal.twice when isRepeated t table base pinWidth i ∷ []) = sym (first-broken (isRepeated t table base pinWidth i) refusal.twice 0 b) in
       λ j. record { rule = n j; line = l j }
 
-  kept-here : (i : ℕ) → twiceAt t table base 2 i ≡ false → pinAt t table base first i .rule ≡ 0
-  unfolding pinAt
-  kept-here i b = first-kept (twiceAt t table base 2 i) 19 0 0 b refl
+  kept-here : (i : ℕ) → isRepeated t table base pinWidth i ≡ false → pinFinding t table base first i .rule ≡ 0
+  unfolding pinFinding
+  kept-here i b = first-kept (isRepeated t table base pinWidth i) refusal.twice 0 0 b refl
 
 module _ (t table : List ℕ) (base first count : ℕ) where
   abbrev whole : Finding
@@ -52,20 +54,20 @@ module _ (t table : List ℕ) (base first count : ℕ) where
         let z : count - i ≡ 0 = omega arith in
         sym (none-left t table base first i) ∙ ap (λ (n : ℕ). firstIn (pinsFrom t table base first i n)) (sym z) ∙ left .same
 
-    module _ (h : i < count) (twice : Bool) (is-repeated-name : twice ≡ twiceAt t table base 2 i) where
-      same-here : firstIn (pinAt t table base first i ∷ pinsFrom t table base first (i + 1) (count - (i + 1))) ≡ whole
+    module _ (h : i < count) (twice : Bool) (is-repeated : twice ≡ isRepeated t table base pinWidth i) where
+      same-here : firstIn (pinFinding t table base first i ∷ pinsFrom t table base first (i + 1) (count - (i + 1))) ≡ whole
       same-here =
           let c : count - i ≡ suc (count - (i + 1)) = omega arith in
           ap firstIn (sym (one-left t table base first i (count - (i + 1))))
           ∙ ap (λ (n : ℕ). firstIn (pinsFrom t table base first i n)) (sym c)
           ∙ left .same
 
-      pub pin-breaks : twice ≡ true → (line : ℕ) → line ≡ nthLine pins (first + i) (significant t) → record { rule = 19; line = line } ≡ whole
+      pub pin-breaks : twice ≡ true → (line : ℕ) → line ≡ nthLine pins (first + i) (significant t) → record { rule = refusal.twice; line = line } ≡ whole
       pin-breaks e line l =
-          let f : record { rule = 19; line = line } ≡ pinAt t table base first i = found-here t table base first i line (sym is-repeated-name ∙ e) l in
-          let n : 19 ≡ pinAt t table base first i .rule = ap (λ (x : Finding). x .rule) f in
-          f ∙ sym (first-here (pinAt t table base first i) _ (λ (z : pinAt t table base first i .rule ≡ 0). omega arith)) ∙ same-here
+          let f : record { rule = refusal.twice; line = line } ≡ pinFinding t table base first i = found-here t table base first i line (sym is-repeated ∙ e) l in
+          let n : refusal.twice ≡ pinFinding t table base first i .rule = ap (λ (x : Finding). x .rule) f in
+          f ∙ sym (first-here (pinFinding t table base first i) _ (λ (z : pinFinding t table base first i .rule ≡ 0). omega arith)) ∙ same-here
 
       pub pins-on : twice ≡ false → PinsLeft t table base first count (i + 1)
       pins-on e =
-          record { same = sym (first-later (pinAt t table base first i) _ (kept-here t table base first i (sym is-repeated-name ∙ e))) ∙ same-here }
+          record { same = sym (first-later (pinFinding t table base first i) _ (kept-here t table base first i (sym is-repeated ∙ e))) ∙ same-here }

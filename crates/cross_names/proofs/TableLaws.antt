@@ -1,55 +1,56 @@
--- The names of a table's records, of maps and of their pins: a name is repeated in the table exactly if it is in the document.
+-- The records of maps and of their pins: a name is repeated in the table exactly if it is in the document.
 -- Assumes nothing.
 use mathlib.Core.Path.{_≡_, refl, sym, _∙_, ap}
 use mathlib.Core.Bool.{Bool}
 use mathlib.Core.List.{List, [], _∷_, _++_, map, map-append, append-assoc}
-use Prim.Native.Nat.{ℕ, zero, suc, _+_, _*_, _≤_, _<_}
-use native.Mathlib.Nat.{add-zero, zero-add, suc-add, mul-zero, mul-suc, le-of-lt}
+use Prim.Native.Nat.{ℕ, _+_, _*_, _≤_}
+use native.Mathlib.Nat.{add-zero, zero-add, suc-add}
 use native.Mathlib.Omega.{arith}
-use lib.ListN.{length, take, drop, getD, length-append, length-map, List·getD-map}
-use lib.Seq.{drop-drop, getD-drop, take-at, drop-at}
-use Rattle.table_layout.specs.Layout.{chopped, maps, pins}
+use lib.ListN.{length, take, drop, getD, length-append, length-map}
+use lib.Seq.{take-at, drop-at}
+use Rattle.cross_rules.specs.Way.Findings.{mapNameRule, pinNameRule, pinFindings}
+use Rattle.base.specs.Broken.{_when_, firstBroken}
+use Rattle.base.specs.Refusal as refusal
+use Rattle.table_layout.specs.Layout.{maps, pins, mapWidth, pinWidth}
 use Rattle.table_layout.specs.View.{viewOf}
 use Rattle.table_layout.specs.declared.View.{View}
+use Rattle.table_record.specs.Records.{Records, recordsOf, range, noMap}
+use Rattle.table_record.specs.Way.Standing.{places, pinAt, baseOf, countOf}
+use Rattle.table_record.specs.declared.MapRecord.{MapRecord}
+use Rattle.table_record.specs.declared.PinRecord.{PinRecord}
+use Rattle.table_record.proofs.PlaceLaws.{places-range, range-map}
 use Rattle.doc.specs.Lines.{significant}
 use Rattle.doc.specs.Document.{Named, Map, Document, documentOf}
-use Rattle.doc.specs.Records.{mapRecord, mapRecords, mapWords, PinRecord, pinRecord, pinRecords, pinWords, flatten, partsOf}
+use Rattle.doc.specs.Records.{mapRecord, mapRecords, pinRecord, pinRecords, flatten}
 use Rattle.doc.proofs.BlockLaws.{joined, joined-append}
 use Rattle.doc.proofs.PassLaws.{pins-of-text}
 use Rattle.doc.proofs.StandsLaws.{MapStands, all-stand}
-use Rattle.table_name.specs.Name.{nameAt}
-use Rattle.base.specs.Broken.{_when_, firstBroken}
-use Rattle.cross_rules.specs.Rules.{isTwice, isThere, mapName, mapNameRule, pinNameRule, pinFindings}
+use Rattle.cross_rules.specs.Rules.{isTwice, mapName}
 use Rattle.cross_rules.specs.Way.HoldsText.{HoldsText}
 use Rattle.cross_rules.specs.Way.Nth.{nthLine}
-use Rattle.cross_rules.specs.declared.Finding.{Finding}
+use Rattle.cross_rules.specs.Way.Repeated.{ownName, isRepeated}
 use Rattle.cross_rules.proofs.RisingLaws.{each-at}
 use Rattle.cross_rules.proofs.OrderLaws.{in-order}
 use Rattle.cross_rules.proofs.TwiceLaws.{map-twice, pin-twice}
-use Rattle.cross_rules.proofs.TableLaws.{view-holds, part-stands, part-many}
+use Rattle.cross_rules.proofs.TableLaws.{text-records, pins-here, many-pins}
 use Rattle.cross_rules.proofs.NthLaws.{map-line, pin-line}
-use Rattle.cross_rules.specs.Way.Repeated.{nameIn, hasAbove}
-use Rattle.cross_rules.proofs.NamesLaws.{above-told, map-names, pin-names, take-map, chopped-first, chopped-word}
-use Rattle.cross_names.specs.Way.Pins.{twiceAt, pinAt, pinsFrom, firstPin, manyPins, MapRoom, pinsOfMap}
+use Rattle.cross_rules.proofs.NamesLaws.{mapped-here, map-by, texts, ofPin, pin-names, repeated-name, map-repeated}
+use Rattle.cross_names.specs.Way.Pins.{pinFinding, pinsFrom, pinsOfMap}
 
 -- ---- lists
 
 module _ {A B : Type 0} (f : A → B) where
-  mapped-here : (above below : List A) (x : A) (none : B) → getD (map f (above ++ (x ∷ below))) (length above) none ≡ f x
-  mapped-here [] below x none = refl
-  mapped-here (y ∷ above) below x none = mapped-here above below x none
-
   -- an element of the middle one of three lists
   mapped-middle :
-      (front above below behind : List A) (x : A) (none : B) →
-      getD (map f (front ++ ((above ++ (x ∷ below)) ++ behind))) (length front + length above) none ≡ f x
-  mapped-middle [] above below behind x none =
-      ap (λ (k : ℕ). getD (map f ((above ++ (x ∷ below)) ++ behind)) k none) (zero-add (length above))
-      ∙ ap (λ (xs : List A). getD (map f xs) (length above) none) (append-assoc above (x ∷ below) behind)
-      ∙ mapped-here above (below ++ behind) x none
-  mapped-middle (y ∷ front) above below behind x none =
-      ap (λ (k : ℕ). getD (map f ((y ∷ front) ++ ((above ++ (x ∷ below)) ++ behind))) k none) (suc-add (length front) (length above))
-      ∙ mapped-middle front above below behind x none
+      (front above below behind : List A) (x : A) (other : B) →
+      getD (map f (front ++ ((above ++ (x ∷ below)) ++ behind))) (length front + length above) other ≡ f x
+  mapped-middle [] above below behind x other =
+      ap (λ (k : ℕ). getD (map f ((above ++ (x ∷ below)) ++ behind)) k other) (zero-add (length above))
+      ∙ ap (λ (xs : List A). getD (map f xs) (length above) other) (append-assoc above (x ∷ below) behind)
+      ∙ mapped-here f above (below ++ behind) x other
+  mapped-middle (y ∷ front) above below behind x other =
+      ap (λ (k : ℕ). getD (map f ((y ∷ front) ++ ((above ++ (x ∷ below)) ++ behind))) k other) (suc-add (length front) (length above))
+      ∙ mapped-middle front above below behind x other
 
   -- the middle one of three lists
   middle : (xs ys zs : List A) → take (length ys) (drop (length xs) (map f (xs ++ (ys ++ zs)))) ≡ map f ys
@@ -59,71 +60,6 @@ module _ {A B : Type 0} (f : A → B) where
       ap (λ (r : List B). take (length ys) (drop (length xs) r)) e
       ∙ ap (take (length ys)) (drop-at (map f xs) (map f ys ++ map f zs) (length xs) (length-map xs f))
       ∙ take-at (map f ys) (map f zs) (length ys) (length-map ys f)
-
-mapped-twice : {A B C : Type 0} (f : B → C) (g : A → B) (xs : List A) → map f (map g xs) ≡ map (λ (x : A). f (g x)) xs
-mapped-twice f g [] = refl
-mapped-twice f g (x ∷ xs) = ap (λ (ys : List _). f (g x) ∷ ys) (mapped-twice f g xs)
-
--- ---- records that come after others
-
-part-first : (w n total : ℕ) (t : List ℕ) → n ≤ total → chopped w n (drop (w * zero) t) ≡ take n (chopped w total t)
-part-first w n total t h = ap (λ (k : ℕ). chopped w n (drop k t)) (mul-zero w) ∙ chopped-first w n total t h
-
-part-later : (w a n : ℕ) (t : List ℕ) → chopped w n (drop (w * suc a) t) ≡ chopped w n (drop (w * a) (drop w t))
-part-later w a n t =
-    let m : w * suc a ≡ w * a + w = mul-suc w a in
-    let e : w * suc a ≡ w + w * a = omega arith in
-    ap (λ (k : ℕ). chopped w n (drop k t)) e ∙ ap (chopped w n) (sym (drop-drop (w * a) w t))
-
-chopped-part : (w a n total : ℕ) (t : List ℕ) → a + n ≤ total → chopped w n (drop (w * a) t) ≡ take n (drop a (chopped w total t))
-unfolding chopped
-chopped-part w zero n total t h = part-first w n total t (omega arith)
-chopped-part w (suc a) n zero t h = absurd (omega arith)
-chopped-part w (suc a) n (suc total) t h = part-later w a n t ∙ chopped-part w a n total (drop w t) (omega arith)
-
--- ---- the names of records
-
-abbrev texts : List Named → List (List ℕ)
-texts names = map (λ (m : Named). m .name .text) names
-
-module _ (t table : List ℕ) (w n base : ℕ) (wide : 2 ≤ w) (names above below : List Named) (x : Named)
-    (told : map (nameIn t) (chopped w n (drop base table)) ≡ texts names) (all : names ≡ above ++ (x ∷ below)) (many : n ≡ length names) where
-  abbrev i : ℕ
-  i = length above
-
-  abbrev records : List (List ℕ)
-  records = chopped w n (drop base table)
-
-  in-records : length above < n
-  in-records =
-      let l : length names ≡ length above + suc (length below) = ap length all ∙ length-append above (x ∷ below) in
-      omega arith
-
-  word-is : (f : ℕ) → f < w → getD table (base + (w * i + f)) 0 ≡ getD (getD records i []) f 0
-  word-is f h = sym (getD-drop base table (w * i + f) 0) ∙ sym (chopped-word w n i f (drop base table) in-records h)
-
-  name-is : nameAt t (getD table (base + w * i) 0) (getD table (base + w * i + 1) 0) ≡ x .name .text
-  name-is =
-      let p : base + w * i ≡ base + (w * i + 0) = omega arith in
-      let q : base + w * i + 1 ≡ base + (w * i + 1) = omega arith in
-      let a : getD table (base + w * i) 0 ≡ getD (getD records i []) 0 0 = ap (λ (k : ℕ). getD table k 0) p ∙ word-is 0 (omega arith) in
-      let b : getD table (base + w * i + 1) 0 ≡ getD (getD records i []) 1 0 = ap (λ (k : ℕ). getD table k 0) q ∙ word-is 1 (omega arith) in
-      (λ k. nameAt t (a k) (b k))
-      ∙ sym (List·getD-map (nameIn t) records i [])
-      ∙ ap (λ (ns : List (List ℕ)). getD ns i (nameIn t [])) (told ∙ ap texts all)
-      ∙ mapped-here (λ (m : Named). m .name .text) above below x (nameIn t [])
-
-  names-above : map (nameIn t) (chopped w i (drop base table)) ≡ texts above
-  names-above =
-      ap (map (nameIn t)) (chopped-first w i n (drop base table) (le-of-lt in-records))
-      ∙ sym (take-map (nameIn t) i records)
-      ∙ ap (take i) (told ∙ ap texts all ∙ map-append (λ (m : Named). m .name .text) above (x ∷ below))
-      ∙ take-at (texts above) (texts (x ∷ below)) i (length-map above (λ (m : Named). m .name .text))
-
-  twice-is : twiceAt t table base w i ≡ isThere above x
-  twice-is =
-      ap (λ (name : List ℕ). hasAbove t name (chopped w i (drop base table))) name-is
-      ∙ above-told t above x (chopped w i (drop base table)) names-above
 
 -- ---- the records of maps and pins
 
@@ -136,94 +72,32 @@ pin-records [] = refl
 pin-records (m ∷ ms) =
     ap (λ (rs : List PinRecord). map pinRecord (m .pins) ++ rs) (pin-records ms) ∙ sym (map-append pinRecord (m .pins) (pinsOf ms))
 
-map-count : (first : ℕ) (ms : List Map) → length (mapRecords first ms) ≡ length ms
-unfolding mapRecords
-map-count first [] = refl
-map-count first (m ∷ ms) = ap suc (map-count (first + length (m .pins)) ms)
-
 -- its first pin comes after the pins of the maps before it
 record-here :
     (first : ℕ) (above below : List Map) (m : Map) →
-    getD (map mapWords (mapRecords first (above ++ (m ∷ below)))) (length above) [] ≡ mapWords (mapRecord (first + length (pinsOf above)) m)
+    getD (mapRecords first (above ++ (m ∷ below))) (length above) noMap ≡ mapRecord (first + length (pinsOf above)) m
 unfolding mapRecords joined
-record-here first [] below m = ap (λ (k : ℕ). mapWords (mapRecord k m)) (sym (add-zero first))
+record-here first [] below m = ap (λ (k : ℕ). mapRecord k m) (sym (add-zero first))
 record-here first (y ∷ above) below m =
     let l : length (y .pins ++ pinsOf above) ≡ length (y .pins) + length (pinsOf above) = length-append (y .pins) (pinsOf above) in
     let e : first + length (y .pins) + length (pinsOf above) ≡ first + length (y .pins ++ pinsOf above) = omega arith in
-    record-here (first + length (y .pins)) above below m ∙ ap (λ (k : ℕ). mapWords (mapRecord k m)) e
+    record-here (first + length (y .pins)) above below m ∙ ap (λ (k : ℕ). mapRecord k m) e
 
-abbrev pinWordsOf : Named → List ℕ
-pinWordsOf p = pinWords (pinRecord p)
-
-module _ (t table : List ℕ) (v : View) (holds : HoldsText t table × (v ≡ viewOf table)) where
+module _ (t table : List ℕ) (filled : HoldsText t table) (v : View) (is-view : v ≡ viewOf table) where
   abbrev d : Document
   d = documentOf t
 
-  abbrev mapBase : ℕ
-  mapBase = getD (v .bases) maps 0
-
-  abbrev pinBase : ℕ
-  pinBase = getD (v .bases) pins 0
-
-  abbrev mapCount : ℕ
-  mapCount = getD (v .counts) maps 0
-
-  abbrev pinCount : ℕ
-  pinCount = getD (v .counts) pins 0
-
-  maps-chopped : chopped 7 mapCount (drop mapBase table) ≡ map mapWords (mapRecords 0 (d .maps))
-  unfolding partsOf flatten
-  maps-chopped = rw (holds .1) (part-stands t table (holds .0) maps (omega arith))
-
-  pub maps-many : mapCount ≡ length (d .maps)
-  unfolding partsOf flatten
-  maps-many =
-      rw (holds .1) (part-many t table (holds .0) maps (omega arith)) ∙ length-map (mapRecords 0 (d .maps)) mapWords ∙ map-count 0 (d .maps)
-
-  maps-inside : mapBase + 7 * mapCount ≤ length table
-  maps-inside = rw (holds .1) (view-holds t table (holds .0) .inside maps (omega arith))
-
-  pins-chopped : chopped 2 pinCount (drop pinBase table) ≡ map pinWordsOf (pinsOf (d .maps))
-  unfolding partsOf flatten
-  pins-chopped =
-      rw (holds .1) (part-stands t table (holds .0) pins (omega arith))
-      ∙ ap (map pinWords) (pin-records (d .maps))
-      ∙ mapped-twice pinWords pinRecord (pinsOf (d .maps))
-
-  pins-many : pinCount ≡ length (pinsOf (d .maps))
-  unfolding partsOf flatten
-  pins-many =
-      rw (holds .1) (part-many t table (holds .0) pins (omega arith))
-      ∙ length-map (pinRecords (d .maps)) pinWords
-      ∙ ap length (pin-records (d .maps))
-      ∙ length-map (pinsOf (d .maps)) pinRecord
-
-  pins-inside : pinBase + 2 * pinCount ≤ length table
-  pins-inside = rw (holds .1) (view-holds t table (holds .0) .inside pins (omega arith))
-
-  pins-few : pinCount ≤ 4_096
-  pins-few = rw (holds .1) (view-holds t table (holds .0) .few pins (omega arith))
+  all-pins : countOf v pins ≡ length (pinsOf (d .maps))
+  all-pins = many-pins t table filled v is-view ∙ ap length (pin-records (d .maps)) ∙ length-map (pinsOf (d .maps)) pinRecord
 
   -- a map, with the maps before it and after it
   module _ (above below : List Map) (m : Map) (split : d .maps ≡ above ++ (m ∷ below)) where
-    map-inside : length above < mapCount
-    map-inside =
-        let n : length (d .maps) ≡ length above + suc (length below) = ap length split ∙ length-append above (m ∷ below) in
-        let k : mapCount ≡ length (d .maps) = maps-many in
-        omega arith
+    twice-here : isRepeated t table (baseOf v maps) mapWidth (length above) ≡ isTwice (map mapName (d .maps)) (mapName m)
+    twice-here = map-repeated t table filled v is-view above below m split ∙ sym (map-twice d (in-order t) above below m split)
 
-    twice-here : twiceAt t table mapBase 7 (length above) ≡ isTwice (map mapName (d .maps)) (mapName m)
-    twice-here =
-        ap (twiceAt t table mapBase 7) (sym (length-map above mapName))
-        ∙ twice-is t table 7 mapCount mapBase (omega arith) (map mapName (d .maps)) (map mapName above) (map mapName below) (mapName m)
-        (ap (map (nameIn t)) maps-chopped ∙ map-names t 0 (d .maps) (all-stand t .maps))
-        (ap (map mapName) split ∙ map-append mapName above (m ∷ below))
-        (maps-many ∙ sym (length-map (d .maps) mapName))
-        ∙ sym (map-twice d (in-order t) above below m split)
-
-    pub rule-here : firstBroken (19 when twiceAt t table mapBase 7 (length above) ∷ []) ≡ mapNameRule d m
+    pub rule-here : firstBroken (refusal.twice when isRepeated t table (baseOf v maps) mapWidth (length above) ∷ []) ≡ mapNameRule d m
     unfolding mapNameRule
-    rule-here = ap (λ (b : Bool). firstBroken (19 when b ∷ [])) twice-here
+    rule-here = ap (λ (b : Bool). firstBroken (refusal.twice when b ∷ [])) twice-here
 
     pub line-here : nthLine maps (length above) (significant t) ≡ m .line
     line-here =
@@ -231,63 +105,53 @@ module _ (t table : List ℕ) (v : View) (holds : HoldsText t table × (v ≡ vi
         ∙ ap (λ (ms : List Map). getD (map (λ (x : Map). x .line) ms) (length above) 0) split
         ∙ mapped-here (λ (x : Map). x .line) above below m 0
 
-    word-here : (f : ℕ) → f < 7 → getD table (mapBase + 7 * length above + f) 0 ≡ getD (mapWords (mapRecord (0 + length (pinsOf above)) m)) f 0
-    word-here f h =
-        let n : mapBase + 7 * length above + f ≡ mapBase + (7 * length above + f) = omega arith in
-        ap (λ (k : ℕ). getD table k 0) n
-        ∙ sym (getD-drop mapBase table (7 * length above + f) 0)
-        ∙ sym (chopped-word 7 mapCount (length above) f (drop mapBase table) map-inside h)
-        ∙ ap (λ (rs : List (List ℕ)). getD (getD rs (length above) []) f 0) (maps-chopped ∙ ap (λ (ms : List Map). map mapWords (mapRecords 0 ms)) split)
-        ∙ ap (λ (r : List ℕ). getD r f 0) (record-here 0 above below m)
-
     abbrev first : ℕ
     first = length (pinsOf above)
 
-    first-is : firstPin table mapBase (length above) ≡ first
-    unfolding mapRecord
-    first-is = word-here 5 (omega arith) ∙ zero-add first
-
-    many-is : manyPins table mapBase (length above) ≡ length (m .pins)
-    unfolding mapRecord
-    many-is = word-here 6 (omega arith)
+    record-is : getD (recordsOf table .maps) (length above) noMap ≡ mapRecord first m
+    unfolding flatten
+    record-is =
+        ap (λ (r : Records). getD (r .maps) (length above) noMap) (text-records t table filled)
+        ∙ ap (λ (ms : List Map). getD (mapRecords 0 ms) (length above) noMap) split
+        ∙ record-here 0 above below m
+        ∙ ap (λ (k : ℕ). mapRecord k m) (zero-add first)
 
     pins-split : pinsOf (d .maps) ≡ pinsOf above ++ (m .pins ++ pinsOf below)
     unfolding joined
     pins-split = ap pinsOf split ∙ joined-append (λ (x : Map). x .pins) above (m ∷ below)
 
-    in-pins : first + length (m .pins) ≤ pinCount
+    in-pins : first + length (m .pins) ≤ countOf v pins
     in-pins =
-        let k : pinCount ≡ length (pinsOf (d .maps)) = pins-many in
+        let k : countOf v pins ≡ length (pinsOf (d .maps)) = all-pins in
         let l : length (pinsOf (d .maps)) ≡ first + length (m .pins ++ pinsOf below) = ap length pins-split ∙ length-append (pinsOf above) (m .pins ++ pinsOf below) in
         let n : length (m .pins ++ pinsOf below) ≡ length (m .pins) + length (pinsOf below) = length-append (m .pins) (pinsOf below) in
         omega arith
 
-    pub room-here : MapRoom table mapBase pinBase (length above)
-    room-here =
-        let a : firstPin table mapBase (length above) ≡ first = first-is in
-        let b : manyPins table mapBase (length above) ≡ length (m .pins) = many-is in
-        record { inside = omega (arith, maps-inside, map-inside); room = omega (arith, in-pins, pins-inside); few = omega (arith, in-pins, pins-few) }
-
     abbrev ownBase : ℕ
-    ownBase = pinBase + 2 * first
+    ownBase = baseOf v pins + pinWidth * first
 
-    own-chopped : chopped 2 (length (m .pins)) (drop ownBase table) ≡ map pinWords (map pinRecord (m .pins))
-    own-chopped =
-        ap (chopped 2 (length (m .pins))) (sym (drop-drop (2 * first) pinBase table))
-        ∙ chopped-part 2 first (length (m .pins)) pinCount (drop pinBase table) in-pins
-        ∙ ap (λ (rs : List (List ℕ)). take (length (m .pins)) (drop first rs)) (pins-chopped ∙ ap (map pinWordsOf) pins-split)
-        ∙ middle pinWordsOf (pinsOf above) (m .pins) (pinsOf below)
-        ∙ sym (mapped-twice pinWords pinRecord (m .pins))
+    own-pins : map (pinAt table) (places pinWidth ownBase (length (m .pins))) ≡ map pinRecord (m .pins)
+    own-pins =
+        ap (map (pinAt table)) (sym (places-range pinWidth (baseOf v pins) first (length (m .pins)) (countOf v pins) in-pins))
+        ∙ sym (range-map (pinAt table) first (length (m .pins)) (places pinWidth (baseOf v pins) (countOf v pins)))
+        ∙ ap (range first (length (m .pins))) (pins-here t table filled v is-view ∙ pin-records (d .maps) ∙ ap (map pinRecord) pins-split)
+        ∙ middle pinRecord (pinsOf above) (m .pins) (pinsOf below)
 
     map-stands : MapStands t m
     map-stands = each-at above below m (rw split at (all-stand t .maps))
 
+    own-names : map (ownName t table) (places pinWidth ownBase (length (m .pins))) ≡ texts (m .pins)
+    unfolding ownName
+    own-names =
+        map-by (ownName t table) (ofPin t) (pinAt table) (λ (at : ℕ). refl) (places pinWidth ownBase (length (m .pins)))
+        ∙ ap (map (ofPin t)) own-pins
+        ∙ pin-names t (map-stands .pins)
+
     -- a pin of the map, with the pins before it and after it
     module _ (front behind : List Named) (p : Named) (own : m .pins ≡ front ++ (p ∷ behind)) where
-      pin-twice-here : twiceAt t table ownBase 2 (length front) ≡ isTwice (m .pins) p
+      pin-twice-here : isRepeated t table ownBase pinWidth (length front) ≡ isTwice (m .pins) p
       pin-twice-here =
-          twice-is t table 2 (length (m .pins)) ownBase (omega arith) (m .pins) front behind p
-          (ap (map (nameIn t)) own-chopped ∙ pin-names t (m .pins) (map-stands .pins)) own refl
+          repeated-name t table pinWidth ownBase (length (m .pins)) (m .pins) own-names front behind p own
           ∙ sym (pin-twice d (in-order t) above below m split front behind p own)
 
       pin-line-here : nthLine pins (first + length front) (significant t) ≡ p .line
@@ -297,23 +161,28 @@ module _ (t table : List ℕ) (v : View) (holds : HoldsText t table × (v ≡ vi
           (sym (pins-of-text t) ∙ pins-split ∙ ap (λ (ps : List Named). pinsOf above ++ (ps ++ pinsOf below)) own)
           ∙ mapped-middle (λ (q : Named). q .line) (pinsOf above) front behind (pinsOf below) p 0
 
-      pin-here : pinAt t table ownBase first (length front) ≡ record { rule = pinNameRule m p; line = p .line }
-      unfolding pinAt pinNameRule
-      pin-here = λ k. record { rule = firstBroken (19 when pin-twice-here k ∷ []); line = pin-line-here k }
+      pin-here : pinFinding t table ownBase first (length front) ≡ record { rule = pinNameRule m p; line = p .line }
+      unfolding pinFinding pinNameRule
+      pin-here = λ k. record { rule = firstBroken (refusal.twice when pin-twice-here k ∷ []); line = pin-line-here k }
 
-    pins-here :
+    pins-there :
         (front behind : List Named) → m .pins ≡ front ++ behind →
         pinsFrom t table ownBase first (length front) (length behind) ≡ map (λ (p : Named). record { rule = pinNameRule m p; line = p .line }) behind
     unfolding pinsFrom
-    pins-here front [] own = refl
-    pins-here front (p ∷ behind) own =
+    pins-there front [] own = refl
+    pins-there front (p ∷ behind) own =
         let l : length (front ++ (p ∷ [])) ≡ length front + 1 = length-append front (p ∷ []) in
         let later : pinsFrom t table ownBase first (length front + 1) (length behind) ≡ map (λ (q : Named). record { rule = pinNameRule m q; line = q .line }) behind =
         ap (λ (k : ℕ). pinsFrom t table ownBase first k (length behind)) (sym l)
-        ∙ pins-here (front ++ (p ∷ [])) behind (own ∙ sym (append-assoc front (p ∷ []) behind)) in
+        ∙ pins-there (front ++ (p ∷ [])) behind (own ∙ sym (append-assoc front (p ∷ []) behind)) in
         λ k. pin-here front behind p own k ∷ later k
 
-    pub own-here : pinsOfMap t table mapBase pinBase (length above) ≡ pinFindings m
-    unfolding pinsOfMap pinFindings
-    own-here =
-        (λ k. pinsFrom t table (pinBase + 2 * first-is k) (first-is k) 0 (many-is k)) ∙ pins-here [] (m .pins) refl
+    -- the record of the map that the code has read
+    module _ (x : MapRecord) (here : x ≡ getD (recordsOf table .maps) (length above) noMap) where
+      pub room-here : x .first + x .pins ≤ countOf v pins
+      unfolding mapRecord
+      room-here = rw (here ∙ record-is) in-pins
+
+      pub own-here : pinsOfMap t table v x ≡ pinFindings m
+      unfolding mapRecord pinsOfMap pinFindings
+      own-here = ap (pinsOfMap t table v) (here ∙ record-is) ∙ pins-there [] (m .pins) refl

@@ -9,32 +9,27 @@ ghost use Rattle.line_place.specs.Place.{isInFamily, list};
 ghost use Rattle.doc.specs.Lines.{plain};
 ghost use Rattle.doc.specs.Document.{documentOf};
 ghost use Rattle.doc.specs.Way.Found.{Located};
-ghost use Rattle.cross_rules.specs.Rules.{listFindings};
+ghost use Rattle.cross_rules.specs.Way.Findings.{listFindings};
 ghost use Rattle.cross_rules.specs.Way.First.{firstIn};
 ghost use Rattle.cross_rules.specs.Way.HoldsText.{HoldsText};
 ghost use Rattle.table_layout.specs.View.{viewOf};
+ghost use Rattle.table_record.specs.Way.Standing.{Rooms};
 ghost use Rattle.cross_names.specs.Way.Listed.{Listed};
-ghost use Rattle.cross_names.specs.Way.Judged.{ModelsIn, modelFound, nameJudged, lineJudged, FindsListed};
+ghost use Rattle.cross_names.specs.Way.Judged.{modelFound, nameJudged, lineJudged, FindsListed};
 use doc::Found;
 use table_layout::View;
 
-// "20 LIST": listed without a model. "19 TWICE": the second of one name.
-const LIST: u64 = 20;
-
-const TWICE: u64 = 19;
-
-// How many words a record of a model has.
-const MODEL_WORDS: usize = 5;
-
 // The flag after those of all models: a line that names no model sets it.
-const NO_MODEL: usize = 64;
+const NO_MODEL: usize = table_layout::bound::MODELS as usize;
+
+pub const FLAGS: usize = NO_MODEL + 1;
 
 // The first list line that breaks a rule; rule 0 if none does. Then `listed` says which models the list names: a flag
 // for each model, and NO_MODEL.
 pub struct ListFinding {
     pub rule: u64,
     pub line: u64,
-    pub listed: [bool; 65],
+    pub listed: [bool; FLAGS],
 }
 
 // The rule that a line breaks, 0 for none, and the flag that it sets.
@@ -76,7 +71,7 @@ fn next_list_line(text: &[u8], at: usize, line: u64, place: u64) -> Found
 
 // The index of the first model whose name is the first word of the line; the number of models if there is none.
 fn model_found(text: &[u8], table: &[u64], view: View, line: Found) -> u64
-    requires { ⌜ ModelsIn (now table) view × Located (now text) line ⌝ }
+    requires { ⌜ Rooms (now table) view × Located (now text) line ⌝ }
     ensures { λ r. ⌜ r ≡ modelFound (now (text .entry)) (now (table .entry)) view line ⌝ }
 {
     let bases = view.bases;
@@ -89,7 +84,7 @@ fn model_found(text: &[u8], table: &[u64], view: View, line: Found) -> u64
         text,
         table,
         bases[table_layout::MODELS],
-        MODEL_WORDS,
+        table_layout::MODEL_WIDTH,
         counts[table_layout::MODELS],
         name,
         0,
@@ -98,21 +93,24 @@ fn model_found(text: &[u8], table: &[u64], view: View, line: Found) -> u64
 
 // Judges a name of the list by the model that it finds. If no list line above breaks a rule, a repeated name
 // finds the flag of its model set.
-fn judge_name(text: &[u8], table: &[u64], view: View, line: Found, listed: [bool; 65]) -> Judged
-    requires { ⌜ ModelsIn (now table) view × Located (now text) line ⌝ }
+fn judge_name(text: &[u8], table: &[u64], view: View, line: Found, listed: [bool; FLAGS]) -> Judged
+    requires { ⌜ Rooms (now table) view × Located (now text) line ⌝ }
     ensures { λ r. ⌜ r ≡ nameJudged (now (text .entry)) (now (table .entry)) view line listed ⌝ }
 {
     let counts = view.counts;
     let index = model_found(text, table, view, line);
     if counts[table_layout::MODELS] <= index {
         return Judged {
-            rule: LIST,
+            rule: base::refusal::LIST,
             slot: NO_MODEL,
         };
     }
     let slot = index as usize;
     if listed[slot] {
-        return Judged { rule: TWICE, slot };
+        return Judged {
+            rule: base::refusal::TWICE,
+            slot,
+        };
     }
     Judged { rule: 0, slot }
 }
@@ -123,9 +121,9 @@ fn judge_line(
     view: View,
     place: u64,
     line: Found,
-    listed: [bool; 65],
+    listed: [bool; FLAGS],
 ) -> Judged
-    requires { ⌜ ModelsIn (now table) view × Located (now text) line ⌝ }
+    requires { ⌜ Rooms (now table) view × Located (now text) line ⌝ }
     ensures { λ r. ⌜ r ≡ lineJudged (now (text .entry)) (now (table .entry)) view place line listed ⌝ }
 {
     if !is_list_line(place, line.key) {
@@ -137,12 +135,13 @@ fn judge_line(
     judge_name(text, table, view, line, listed)
 }
 
-// Goes through the list lines up to the first that breaks a rule. There are at most 64 models, so at most 65 list lines are judged.
+// Goes through the list lines up to the first that breaks a rule. Each line before it sets the flag of another model, so no
+// more than FLAGS lines are judged.
 pub fn list_finding(text: &[u8], table: &[u64], view: View) -> ListFinding
     requires { ⌜ HoldsText (now text) (now table) × (view ≡ viewOf (now table)) ⌝ }
     ensures { λ r. ⌜ (record { rule = r .rule; line = r .line } ≡ firstIn (listFindings (documentOf (now (text .entry))))) × (r .rule ≡ 0 → Listed (documentOf (now (text .entry))) (r .listed)) ⌝ }
 {
-    let mut listed = [false; 65];
+    let mut listed = [false; FLAGS];
     let mut at = 0;
     let mut line_here = 1;
     let mut place = line_place::BEFORE;

@@ -2,27 +2,23 @@
 ghost use mathlib.Core.Path.{_≡_};
 ghost use Prim.Native.Nat.{_+_, _*_, _≤_};
 ghost use lib.ListN.{length};
-ghost use Rattle.doc.specs.Document.{documentOf};
-ghost use Rattle.table_name.specs.Way.Hash.{marksMany};
+ghost use Rattle.cross_rules.specs.Way.Findings.{mapFindings};
+ghost use Rattle.table_layout.specs.Layout.{pins, pinWidth};
+ghost use Rattle.table_layout.specs.Bounds.{mostPins};
 ghost use Rattle.table_layout.specs.View.{viewOf};
-ghost use Rattle.cross_rules.specs.Rules.{mapFindings};
+ghost use Rattle.table_record.specs.Way.Standing.{countOf, Rooms};
+ghost use Rattle.table_name.specs.Way.Hash.{marksMany};
+ghost use Rattle.doc.specs.Document.{documentOf};
 ghost use Rattle.cross_rules.specs.Way.First.{firstIn};
 ghost use Rattle.cross_rules.specs.Way.HoldsText.{HoldsText};
-ghost use Rattle.cross_names.specs.Way.Pins.{pinsFrom, MapRoom, pinsOfMap};
+ghost use Rattle.cross_names.specs.Way.Pins.{pinsFrom, pinsOfMap};
 use cross_rules::Finding;
 use table_layout::View;
+use table_record::MapRecord;
 
-// "19 TWICE".
-const TWICE: u64 = 19;
-
-// How many words a record of a map has, and one of a pin.
-const MAP_WORDS: usize = 7;
-
-const PIN_WORDS: usize = 2;
-
-// A stamp that no map has: the stamp of a map is its index, at most 63. As the stamps differ, the marks of one map need
-// not be cleared for the next.
-const UNMARKED: u8 = 64;
+// A stamp that no map has: the stamp of a map is its index. As the stamps differ, the marks of one map need not be cleared
+// for the next.
+const UNMARKED: u8 = table_layout::bound::MAPS as u8;
 
 // The first of a map's pins that has the name of an earlier pin. The record of the map's first pin begins at word
 // `base`; its index among all pins is `first`.
@@ -35,14 +31,22 @@ fn pin_finding(
     first: u64,
     count: u64,
 ) -> Finding
-    requires { ⌜ (base + 2 * count ≤ length (now table)) × (first + count ≤ 4_096) × (length (now marks) ≡ marksMany) ⌝ }
+    requires { ⌜ (base + pinWidth * count ≤ length (now table)) × (first + count ≤ mostPins) × (length (now marks) ≡ marksMany) ⌝ }
     ensures { λ r. ⌜ (r ≡ firstIn (pinsFrom (now (text .entry)) (now (table .entry)) base first 0 count)) × (length (now (marks .exit)) ≡ marksMany) ⌝ }
 {
     let mut i = 0;
     while i < count {
-        if cross_rules::is_repeated_marked(text, table, marks, stamp, base, PIN_WORDS, i) {
+        if cross_rules::is_repeated_marked(
+            text,
+            table,
+            marks,
+            stamp,
+            base,
+            table_layout::PIN_WIDTH,
+            i,
+        ) {
             return Finding {
-                rule: TWICE,
+                rule: base::refusal::TWICE,
                 line: cross_rules::nth_line(text, table_layout::PINS, first + i),
             };
         }
@@ -51,30 +55,22 @@ fn pin_finding(
     Finding { rule: 0, line: 0 }
 }
 
-// The same for map `index`. The records of maps begin at word `maps`, those of pins at word `pins`.
+// The same for one map.
 fn own_finding(
     text: &[u8],
     table: &[u64],
+    view: View,
     marks: &mut [u8; table_name::MARKS],
-    maps: usize,
-    pins: usize,
-    index: u64,
+    stamp: u8,
+    map: MapRecord,
 ) -> Finding
-    requires { ⌜ MapRoom (now table) maps pins index × (length (now marks) ≡ marksMany) ⌝ }
-    ensures { λ r. ⌜ (r ≡ firstIn (pinsOfMap (now (text .entry)) (now (table .entry)) maps pins index)) × (length (now (marks .exit)) ≡ marksMany) ⌝ }
+    requires { ⌜ Rooms (now table) view × (map .first + map .pins ≤ countOf view pins) × (length (now marks) ≡ marksMany) ⌝ }
+    ensures { λ r. ⌜ (r ≡ firstIn (pinsOfMap (now (text .entry)) (now (table .entry)) view map)) × (length (now (marks .exit)) ≡ marksMany) ⌝ }
 {
-    let at = maps + MAP_WORDS * (index as usize);
-    let first = table[at + 5];
-    let base = pins + PIN_WORDS * (first as usize);
-    pin_finding(
-        text,
-        table,
-        marks,
-        (index % 64) as u8,
-        base,
-        first,
-        table[at + 6],
-    )
+    let bases = view.bases;
+    let first = map.first;
+    let base = bases[table_layout::PINS] + table_layout::PIN_WIDTH * (first as usize);
+    pin_finding(text, table, marks, stamp, base, first, map.pins)
 }
 
 // The first line that breaks rule 19: a map with the name of an earlier map, or a pin with the name of an earlier pin of its map.
@@ -84,19 +80,19 @@ pub fn map_finding(text: &[u8], table: &[u64], view: View) -> Finding
 {
     let bases = view.bases;
     let counts = view.counts;
-    let maps = bases[table_layout::MAPS];
-    let pins = bases[table_layout::PINS];
+    let base = bases[table_layout::MAPS];
     let count = counts[table_layout::MAPS];
     let mut marks = [UNMARKED; table_name::MARKS];
     let mut i = 0;
     while i < count {
-        if cross_rules::is_repeated_name(text, table, maps, MAP_WORDS, i) {
+        if cross_rules::is_repeated_name(text, table, base, table_layout::MAP_WIDTH, i) {
             return Finding {
-                rule: TWICE,
+                rule: base::refusal::TWICE,
                 line: cross_rules::nth_line(text, table_layout::MAPS, i),
             };
         }
-        let found = own_finding(text, table, &mut marks, maps, pins, i);
+        let map = table_record::nth_map(table, view, i);
+        let found = own_finding(text, table, view, &mut marks, i as u8, map);
         if found.rule != 0 {
             return found;
         }

@@ -1,66 +1,76 @@
 // Rules 19 and 27 of sections.
 ghost use mathlib.Core.Path.{_≡_};
-ghost use Prim.Native.Nat.{_+_, _*_, _≤_, _<_};
+ghost use Prim.Native.Nat.{_<_};
 ghost use mathlib.Core.Bool.{false};
-ghost use lib.ListN.{length, getD, drop};
-ghost use Rattle.table_layout.specs.Layout.{chopped};
-ghost use Rattle.doc.specs.Document.{documentOf};
-ghost use Rattle.table_name.specs.Name.{nameAt};
+ghost use lib.ListN.{getD};
+ghost use Rattle.cross_rules.specs.Way.Findings.{sectionFindings};
+ghost use Rattle.table_layout.specs.Layout.{sections, sectionWidth};
 ghost use Rattle.table_layout.specs.View.{viewOf};
-ghost use Rattle.cross_rules.specs.Rules.{sectionFindings};
+ghost use Rattle.table_record.specs.Records.{recordsOf};
+ghost use Rattle.table_record.specs.Way.Standing.{baseOf, countOf, Rooms};
+ghost use Rattle.doc.specs.Document.{documentOf};
 ghost use Rattle.cross_rules.specs.Way.First.{firstIn};
 ghost use Rattle.cross_rules.specs.Way.HoldsText.{HoldsText};
-ghost use Rattle.cross_rules.specs.Way.Repeated.{hasAbove};
+ghost use Rattle.cross_rules.specs.Way.Repeated.{isRepeated};
 ghost use Rattle.cross_names.specs.Way.Used.{Flags, slotOf, ruleOf};
 use cross_rules::Finding;
 use table_layout::View;
+use table_record::StepRecord;
 
-// The kind of a step over a section.
-const SECTION: u64 = 1;
+// The flag after those of all sections: a step that is over no section sets it.
+const NO_SECTION: usize = table_layout::bound::SECTIONS as usize;
 
-// The flag that a step sets: that of its section, or flag 256, which no section has.
-fn slot_of(kind: u64, target: u64) -> usize
-    ensures { λ r. ⌜ r ≡ slotOf kind target ⌝ }
+const FLAGS: usize = NO_SECTION + 1;
+
+// The flag that a step sets: that of its section, or NO_SECTION.
+fn slot_of(step: StepRecord) -> usize
+    ensures { λ r. ⌜ r ≡ slotOf step ⌝ }
 {
-    if kind != SECTION {
-        return 256;
+    if step.kind != table_layout::code::SECTION {
+        return NO_SECTION;
     }
-    if 256 <= target {
-        return 256;
+    let target = step.target;
+    if table_layout::bound::SECTIONS <= target {
+        return NO_SECTION;
     }
     target as usize
 }
 
-// Which sections are the target of a step: a flag for each, and flag 256.
-fn used_sections(table: &[u64], base: usize, count: u64) -> [bool; 257]
-    requires { ⌜ base + 6 * count ≤ length (now table) ⌝ }
-    ensures { λ r. ⌜ Flags r (chopped 6 count (drop base (now (table .entry)))) ⌝ }
+// Which sections are the target of a step: a flag for each, and NO_SECTION.
+fn used_sections(table: &[u64], view: View) -> [bool; FLAGS]
+    requires { ⌜ Rooms (now table) view ⌝ }
+    ensures { λ r. ⌜ Flags r (recordsOf (now (table .entry)) .steps) ⌝ }
 {
-    let mut used = [false; 257];
-    let mut at = base;
+    let counts = view.counts;
+    let count = counts[table_layout::STEPS];
+    let mut used = [false; FLAGS];
     let mut i = 0;
     while i < count {
-        let kind = table[at];
-        let target = table[at + 1];
-        let slot = slot_of(kind, target);
+        let slot = slot_of(table_record::nth_step(table, view, i));
         used[slot] = true;
-        at += 6;
         i += 1;
     }
     used
 }
 
 // The rule that section `index` breaks, 0 for none.
-fn section_rule(text: &[u8], table: &[u64], base: usize, index: u64, used: [bool; 257]) -> u64
-    requires { ⌜ (base + 8 * index + 8 ≤ length (now table)) × (index < 256) ⌝ }
-    ensures { λ r. ⌜ r ≡ ruleOf (hasAbove (now (text .entry)) (nameAt (now (text .entry)) (getD (now (table .entry)) (base + 8 * index) 0) (getD (now (table .entry)) (base + 8 * index + 1) 0)) (chopped 8 index (drop base (now (table .entry))))) (getD used index false) ⌝ }
+fn section_rule(text: &[u8], table: &[u64], view: View, index: u64, used: [bool; FLAGS]) -> u64
+    requires { ⌜ Rooms (now table) view × (index < countOf view sections) ⌝ }
+    ensures { λ r. ⌜ r ≡ ruleOf (isRepeated (now (text .entry)) (now (table .entry)) (baseOf view sections) sectionWidth index) (getD used index false) ⌝ }
 {
-    if cross_rules::is_repeated_name(text, table, base, 8, index) {
-        return 19;
+    let bases = view.bases;
+    if cross_rules::is_repeated_name(
+        text,
+        table,
+        bases[table_layout::SECTIONS],
+        table_layout::SECTION_WIDTH,
+        index,
+    ) {
+        return base::refusal::TWICE;
     }
     let at = index as usize;
     if !used[at] {
-        return 27;
+        return base::refusal::UNUSED;
     }
     0
 }
@@ -70,18 +80,12 @@ pub fn section_finding(text: &[u8], table: &[u64], view: View) -> Finding
     requires { ⌜ HoldsText (now text) (now table) × (view ≡ viewOf (now table)) ⌝ }
     ensures { λ r. ⌜ r ≡ firstIn (sectionFindings (documentOf (now (text .entry))) 0 (documentOf (now (text .entry)) .sections)) ⌝ }
 {
-    let bases = view.bases;
     let counts = view.counts;
-    let used = used_sections(
-        table,
-        bases[table_layout::STEPS],
-        counts[table_layout::STEPS],
-    );
-    let base = bases[table_layout::SECTIONS];
+    let used = used_sections(table, view);
     let count = counts[table_layout::SECTIONS];
     let mut i = 0;
     while i < count {
-        let rule = section_rule(text, table, base, i, used);
+        let rule = section_rule(text, table, view, i, used);
         if rule != 0 {
             return Finding {
                 rule,

@@ -41,15 +41,7 @@ use Rattle.doc.specs.Holds.{Each}
 use Rattle.doc.specs.Holds.Each.{none, more}
 use Rattle.doc.proofs.StandsLaws.{each-append, each-gather, each-if, each-up}
 use Rattle.doc.proofs.StepLaws.{silent-step}
-use Rattle.cross_rules.specs.Rules.{
-  listFindings,
-  stepFindings,
-  modelFindings,
-  pinFindings,
-  mapFindings,
-  sectionFindings,
-  findings,
-}
+use Rattle.cross_rules.specs.Way.Findings.{listFindings, stepFindings, modelFindings, pinFindings, mapFindings, sectionFindings, findings}
 use Rattle.cross_rules.specs.declared.Finding.{Finding}
 use Rattle.cross_rules.specs.Listed.{Among}
 use Rattle.cross_rules.specs.Listed.Among.{front, further}

@@ -2,64 +2,49 @@
 -- first line that breaks one, and the lowest rule that is broken there.
 -- Assumes nothing.
 use mathlib.Core.Path.{_≡_, refl, sym, _∙_, ap, subst}
-use mathlib.Core.Bool.{Bool, true, false, not, true≢false}
-use mathlib.Core.List.{List, [], _∷_, _++_, map, map-append}
+use mathlib.Core.Bool.{true, false, true≢false}
+use mathlib.Core.List.{List, [], _∷_, map}
 use Prim.Native.Nat.{ℕ, _+_, _≤_, _<_}
 use native.Mathlib.Nat.{le-trans}
 use native.Mathlib.Omega.{arith}
 use lib.ListN.{length, getD}
 use lib.Dec.{eqb}
 use borrow.Author.Tests.{eqb-true, eqb-false}
-use Rattle.base.specs.If.{if_then_else_, both}
-use Rattle.base.specs.Broken.{Rule, _when_, firstBroken}
+use Rattle.table_layout.specs.Codes.{endKind, sectionKind}
+use Rattle.base.specs.Broken.{Rule, firstBroken}
 use Rattle.base.proofs.IfLaws.{by-test, by-cases}
 use Rattle.base.proofs.BrokenLaws.{sound, Numbered, none-broken as tests-kept, all-kept as kept-tests, found-broken, found-least, Rising as Ascending}
-use Rattle.doc.specs.Document.{Named, Step, Model, Map, Section, Document, documentOf, endKind, sectionKind}
+use Rattle.doc.specs.Document.{Named, Step, Model, Map, Section, Document, documentOf}
 use Rattle.doc.specs.Holds.{Each}
 use Rattle.doc.specs.Holds.Each.{none, more}
 use Rattle.doc.proofs.StandsLaws.{each-append}
 use Rattle.cross_rules.specs.Rules.{
-  isTwice,
-  isThere,
-  modelName,
-  mapName,
-  sectionName,
-  listNameRule,
-  modelRule,
-  mapNameRule,
-  pinNameRule,
-  isUsed,
-  sectionRule,
-  pinsAt,
-  conductorsAt,
-  hasOtherForm,
-  mapIndex,
-  sectionIndex,
-  hasMap,
-  hasSection,
-  isClashing,
-  firstEnd,
-  differs,
-  endRule,
-  isWrongMethod,
-  isSingleLine,
-  sectionStepRule,
-  stepRule,
-  listFindings,
-  stepFindings,
-  modelFindings,
-  pinFindings,
-  mapFindings,
-  sectionFindings,
-  findings,
+  listNameRules,
+  modelRules,
+  mapNameRules,
+  pinNameRules,
+  sectionRules,
+  endStepRules,
+  sectionStepRules,
+  stepRules,
+  listRulesAtLines,
+  stepRulesAtLines,
+  modelRulesAtLines,
+  pinRulesAtLines,
+  mapRulesAtLines,
+  sectionRulesAtLines,
+  allRulesAtLines,
+  findingOf,
   noFinding,
   earliest,
   crossRule,
 }
-use Rattle.cross_rules.specs.Listed.{RulesAtLine, listNameRules, modelRules, mapNameRules, sectionRules, endStepRules, sectionStepRules, stepRules, pinNameRules, listRulesAtLines, stepRulesAtLines, modelRulesAtLines, pinRulesAtLines, mapRulesAtLines, sectionRulesAtLines, allRulesAtLines, Among}
+use Rattle.cross_rules.specs.Way.Findings.{mapNameRule, endRule, sectionStepRule, findings}
+use Rattle.cross_rules.specs.Listed.{RulesAtLine, Among}
 use Rattle.cross_rules.specs.Listed.Among.{front, further}
 use Rattle.cross_rules.specs.declared.Finding.{Finding}
 use Rattle.cross_rules.proofs.RisingLaws.{each-one}
+use Rattle.cross_rules.proofs.FindingLaws.{findings-looked, cross-findings}
 use Rattle.cross_rules.proofs.KindLaws.{earlier-second, earlier-one, earlier-other, earlier-breaks, earlier-line}
 use Rattle.cross_rules.proofs.ApartLaws.{one-finding}
 
@@ -128,32 +113,10 @@ pin-ranked m p = record { numbered = (omega arith, tt); ascending = (omega arith
 
 -- ---- what each rule of a line gives
 
-chosen : (b : Bool) (x y : List Rule) (n : ℕ) → n ≡ firstBroken y → (if b then firstBroken x else n) ≡ firstBroken (if b then x else y)
-unfolding if_then_else_
-chosen true x y n e = refl
-chosen false x y n e = e
-
 module _ (d : Document) where
-  step-given : (m : Model) (s : Step) → stepRule d m s ≡ firstBroken (stepRules d m s)
-  unfolding stepRule endRule sectionStepRule
-  step-given m s =
-      chosen (eqb (s .kind) endKind) (endStepRules d m s) _ _ (chosen (eqb (s .kind) sectionKind) (sectionStepRules d m s) [] 0 refl)
-
-  pub list-judged : (n : Named) → Judged (listNameRule d n) (listNameRules d n)
-  unfolding listNameRule
-  list-judged n = judged (listNameRules d n) (list-ranked d n)
-
-  pub model-judged : (m : Model) → Judged (modelRule d m) (modelRules d m)
-  unfolding modelRule
-  model-judged m = judged (modelRules d m) (model-ranked d m)
-
   pub map-judged : (m : Map) → Judged (mapNameRule d m) (mapNameRules d m)
   unfolding mapNameRule
   map-judged m = judged (mapNameRules d m) (map-ranked d m)
-
-  pub section-judged : (i : ℕ) (s : Section) → Judged (sectionRule d i s) (sectionRules d i s)
-  unfolding sectionRule
-  section-judged i s = judged (sectionRules d i s) (section-ranked d i s)
 
   pub end-judged : (m : Model) (s : Step) → Judged (endRule d m s) (endStepRules d m s)
   unfolding endRule
@@ -162,13 +125,6 @@ module _ (d : Document) where
   pub section-step-judged : (m : Model) (s : Step) → Judged (sectionStepRule d m s) (sectionStepRules d m s)
   unfolding sectionStepRule
   section-step-judged m s = judged (sectionStepRules d m s) (section-step-ranked d m s)
-
-  pub step-judged : (m : Model) (s : Step) → Judged (stepRule d m s) (stepRules d m s)
-  step-judged m s = rw (step-given m s) (judged (stepRules d m s) (step-ranked d m s))
-
-pub pin-judged : (m : Map) (p : Named) → Judged (pinNameRule m p) (pinNameRules m p)
-unfolding pinNameRule
-pin-judged m p = judged (pinNameRules m p) (pin-ranked m p)
 
 -- ---- the earliest of many
 
@@ -208,71 +164,19 @@ pub record First (d : Document) : Type 0 where
 
 module _ (d : Document) where
   pub none-broken : Each (λ (f : Finding). f .rule ≡ 0) (findings d) → crossRule d .rule ≡ 0
-  unfolding crossRule
-  none-broken h = none-earliest h
+  none-broken h = rw (cross-findings d) (none-earliest h)
 
   pub all-kept : crossRule d .rule ≡ 0 → Each (λ (f : Finding). f .rule ≡ 0) (findings d)
-  unfolding crossRule
-  all-kept e = kept-earliest (findings d) e
+  all-kept e = kept-earliest (findings d) (rw (cross-findings d) at e)
 
   pub first-found : (crossRule d .rule ≡ 0 → ⊥) → First d
-  unfolding crossRule
-  first-found n = record { found = found-earliest (findings d) n; lowest = λ f m k. low-earliest m k }
+  first-found n =
+      record {
+        found = rw (cross-findings d) (found-earliest (findings d) (rw (cross-findings d) at n));
+        lowest = λ f m k. rw (cross-findings d) (low-earliest m k);
+      }
 
 -- ---- the whole document, by its lines and their rules
-
-abbrev findingOf : RulesAtLine → Finding
-findingOf x = record { rule = firstBroken (x .rules); line = x .line }
-
--- each finding is the finding of one line with its rules
-mapped-found :
-    {A : Type 0} (finding : A → Finding) (look : A → RulesAtLine) → ((x : A) → finding x ≡ findingOf (look x)) → (xs : List A) →
-    map finding xs ≡ map findingOf (map look xs)
-mapped-found finding look same [] = refl
-mapped-found finding look same (x ∷ xs) = λ i. same x i ∷ mapped-found finding look same xs i
-
-module _ (d : Document) where
-  list-looked : listFindings d ≡ map findingOf (listRulesAtLines d)
-  unfolding listFindings listRulesAtLines listNameRule
-  list-looked = mapped-found _ _ (λ (n : Named). refl) (d .listed)
-
-  step-looked : (m : Model) → stepFindings d m ≡ map findingOf (stepRulesAtLines d m)
-  unfolding stepFindings stepRulesAtLines
-  step-looked m = mapped-found _ _ (λ (s : Step). ap (λ (n : ℕ). record { rule = n; line = s .line }) (step-given d m s)) (m .steps)
-
-  pin-looked : (m : Map) → pinFindings m ≡ map findingOf (pinRulesAtLines d m)
-  unfolding pinFindings pinRulesAtLines pinNameRule
-  pin-looked m = mapped-found _ _ (λ (p : Named). refl) (m .pins)
-
-  model-looked : (ms : List Model) → modelFindings d ms ≡ map findingOf (modelRulesAtLines d ms)
-  unfolding modelFindings modelRulesAtLines modelRule
-  model-looked [] = refl
-  model-looked (m ∷ ms) =
-      ap (λ (fs : List Finding). record { rule = modelRule d m; line = m .line } ∷ fs)
-      ((λ i. step-looked m i ++ model-looked ms i) ∙ sym (map-append findingOf (stepRulesAtLines d m) (modelRulesAtLines d ms)))
-
-  map-looked : (ms : List Map) → mapFindings d ms ≡ map findingOf (mapRulesAtLines d ms)
-  unfolding mapFindings mapRulesAtLines mapNameRule
-  map-looked [] = refl
-  map-looked (m ∷ ms) =
-      ap (λ (fs : List Finding). record { rule = mapNameRule d m; line = m .line } ∷ fs)
-      ((λ i. pin-looked m i ++ map-looked ms i) ∙ sym (map-append findingOf (pinRulesAtLines d m) (mapRulesAtLines d ms)))
-
-  section-looked : (n : ℕ) (ss : List Section) → sectionFindings d n ss ≡ map findingOf (sectionRulesAtLines d n ss)
-  unfolding sectionFindings sectionRulesAtLines sectionRule
-  section-looked n [] = refl
-  section-looked n (s ∷ ss) =
-      ap (λ (fs : List Finding). record { rule = sectionRule d n s; line = s .line } ∷ fs) (section-looked (n + 1) ss)
-
-  findings-looked : findings d ≡ map findingOf (allRulesAtLines d)
-  unfolding findings allRulesAtLines
-  findings-looked =
-      rw (
-        map-append findingOf (listRulesAtLines d),
-        map-append findingOf (modelRulesAtLines d (d .models)),
-        map-append findingOf (mapRulesAtLines d (d .maps)),
-      )
-      (λ i. list-looked i ++ (model-looked (d .models) i ++ (map-looked (d .maps) i ++ section-looked 0 (d .sections) i)))
 
 -- the rules of the line are ranked
 abbrev LookRanked : RulesAtLine → Type 0

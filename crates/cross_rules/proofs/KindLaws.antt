@@ -11,19 +11,11 @@ use lib.Dec.{ltb, eqb}
 use borrow.Author.Tests.{eq-eqb, ne-eqb, eqb-true, eqb-false, lt-ltb, le-ltb, ltb-true, ltb-false}
 use Rattle.base.proofs.IfLaws.{if-true, if-false, by-cases}
 use Rattle.doc.specs.Document.{Document, documentOf}
-use Rattle.cross_rules.specs.Rules.{
-  listFindings,
-  modelFindings,
-  mapFindings,
-  sectionFindings,
-  findings,
-  earlier,
-  noFinding,
-  earliest,
-  crossRule,
-}
+use Rattle.cross_rules.specs.Rules.{earlier, noFinding, earliest, crossRule}
+use Rattle.cross_rules.specs.Way.Findings.{listFindings, modelFindings, mapFindings, sectionFindings, findings}
 use Rattle.cross_rules.specs.Way.First.{firstIn}
 use Rattle.cross_rules.specs.declared.Finding.{Finding}
+use Rattle.cross_rules.proofs.FindingLaws.{cross-findings}
 use Rattle.cross_rules.proofs.RisingLaws.{Rising}
 use Rattle.cross_rules.proofs.RisingLaws.Rising.{rise}
 use Rattle.cross_rules.proofs.OrderLaws.{findingLines, Ordered, in-order}
@@ -173,9 +165,10 @@ module _ (d : Document) where
       ≡ earlier (firstIn (listFindings d))
       (earlier (firstIn (modelFindings d (d .models)))
       (earlier (firstIn (mapFindings d (d .maps))) (firstIn (sectionFindings d 0 (d .sections)))))
-  unfolding crossRule findings
+  unfolding findings
   kinds-of o =
       rw (
+        cross-findings d,
         first-earliest (listFindings d) (o .in-list),
         first-earliest (modelFindings d (d .models)) (o .in-models),
         first-earliest (mapFindings d (d .maps)) (o .in-maps),

@@ -2,6 +2,7 @@ pub mod TableLaws
 pub mod NthLaws
 pub mod RisingLaws
 pub mod OrderLaws
+pub mod FindingLaws
 pub mod KindLaws
 pub mod TwiceLaws
 pub mod ListLaws

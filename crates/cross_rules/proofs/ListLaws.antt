@@ -92,21 +92,12 @@ use Rattle.doc.specs.Holds.{Each}
 use Rattle.doc.specs.Holds.Each.{none as each-none, more as each-more}
 use Rattle.doc.proofs.Goes.{Moves, idle, plainly, keyed, Goes, none, more, idle-outside, text-ends}
 use Rattle.doc.proofs.LeadLaws.{by-place, by-content}
-use Rattle.doc.proofs.BlockLaws.{Follow, text-follows, gather-none, gather-more}
+use Rattle.doc.proofs.BlockLaws.{Follow, text-follows}
 use Rattle.doc.proofs.BlockLaws.Follow.{none as empty, more as next}
 use Rattle.doc.proofs.StandsLaws.{each-append, each-if}
-use Rattle.cross_rules.specs.Rules.{
-  modelRule,
-  sectionRule,
-  listFindings,
-  stepFindings,
-  modelFindings,
-  mapFindings,
-  sectionFindings,
-  earlier,
-  noFinding,
-  crossRule,
-}
+use Rattle.doc.proofs.GatherLaws.{gather-more, gather-none}
+use Rattle.cross_rules.specs.Rules.{earlier, noFinding, crossRule}
+use Rattle.cross_rules.specs.Way.Findings.{modelRule, sectionRule, listFindings, stepFindings, modelFindings, mapFindings, sectionFindings}
 use Rattle.cross_rules.specs.Way.First.{firstIn}
 use Rattle.cross_rules.specs.declared.Finding.{Finding}
 use Rattle.cross_rules.proofs.RisingLaws.{Rising, Gives, each-by, all-least, numbers, gather-rising}

@@ -18,10 +18,6 @@ use Rattle.doc.specs.Way.Found.{contentIn, lineIn, linesBehind, Located, FindsL
 use Rattle.doc.specs.declared.Found.{Found}
 use Rattle.cross_rules.specs.Way.Nth.{writesAt, writesPart, nthLine}
 
--- no record is left to skip
-pub less-none : (writes : Bool) (left : ℕ) → not writes ≡ false → left ≡ 0 → 0 ≡ (if writes then left - 1 else left)
-less-none writes left w e = let z : left - 1 ≡ 0 = omega arith in sym (if-true {A = ℕ} (left - 1) left (not-false writes w) ∙ z)
-
 -- the loop's invariant: skipping `left` records from position `at` on leads to the same line as skipping `index` records from the start
 pub record CountLeft (t : List ℕ) (part index : ℕ) (left at n p : ℕ) : Type 0 where
   pub same : nthLine part left (linesAt t n at p) ≡ nthLine part index (significant t)
@@ -96,9 +92,6 @@ module _ (t : List ℕ) (part index left at n p : ℕ) (inv : CountLeft t part i
         omega arith
 
 -- ---- the lines of the document's records
-
-getD-none : (i : ℕ) → getD {A = ℕ} [] i 0 ≡ 0
-getD-none i = refl
 
 number-of : (l : Line) (ls : List ℕ) (i : ℕ) (later : ℕ → ℕ) → ((j : ℕ) → later j ≡ getD ls j 0) → (if eqb i 0 then l .line else later (i - 1)) ≡ getD (l .line ∷ ls) i 0
 number-of l ls zero later e = if-true _ _ (eq-eqb 0 0 refl)

@@ -43,7 +43,7 @@ use Rattle.doc.proofs.BlockLaws.{joined}
 use Rattle.doc.proofs.StandsLaws.{Laid, laid}
 use Rattle.doc.proofs.StandsLaws.Laid.{ended, onward}
 use Rattle.doc.proofs.PassLaws.{model-blocks, map-blocks}
-use Rattle.cross_rules.specs.Rules.{listFindings, stepFindings, modelFindings, pinFindings, mapFindings, sectionFindings}
+use Rattle.cross_rules.specs.Way.Findings.{listFindings, stepFindings, modelFindings, pinFindings, mapFindings, sectionFindings}
 use Rattle.cross_rules.specs.declared.Finding.{Finding}
 use Rattle.cross_rules.proofs.RisingLaws.{Rising, Gives, numbers, gather-rising, blocks-rising, rising-front, rising-behind}
 use Rattle.cross_rules.proofs.RisingLaws.Rising.{flat, rise}

@@ -10,7 +10,8 @@ use Rattle.base.proofs.IfLaws.{by-cases}
 use Rattle.doc.specs.Lines.{Line, gather, upTo}
 use Rattle.doc.specs.Holds.{Each}
 use Rattle.doc.specs.Holds.Each.{none, more}
-use Rattle.doc.proofs.BlockLaws.{gather-none, gather-more, up-to-none, up-to-in, up-to-out, joined, joined-append}
+use Rattle.doc.proofs.BlockLaws.{joined, joined-append}
+use Rattle.doc.proofs.GatherLaws.{gather-more, gather-none, up-in, up-none, up-out}
 use Rattle.cross_rules.specs.Listed.{Among}
 use Rattle.cross_rules.specs.Listed.Among.{front, further}
 
@@ -131,7 +132,7 @@ module _ {A : Type 0} (line : A → ℕ) (here : Line → List Line → List A)
         Rising least (map line (gather here (upTo inside (l ∷ ls))) ++ joined lines (gather blockAt (l ∷ ls)))
     inside-rising l ls e h k =
         rw (
-          up-to-in inside l ls e,
+          up-in inside l ls e,
           gather-more here l (upTo inside ls),
           gather-more blockAt l ls,
           shut l ls e,
@@ -145,7 +146,7 @@ module _ {A : Type 0} (line : A → ℕ) (here : Line → List Line → List A)
         Rising (l .line + 1) (map line (gather here (upTo inside ls)) ++ joined lines (gather blockAt ls)) →
         Rising least (map line (gather here (upTo inside (l ∷ ls))) ++ joined lines (gather blockAt (l ∷ ls)))
     outside-rising l ls e h k =
-        rw (up-to-out inside l ls e, gather-none here, gather-more blockAt l ls, joined-append lines (blockAt l ls) (gather blockAt ls))
+        rw (up-out inside l ls e, gather-none here, gather-more blockAt l ls, joined-append lines (blockAt l ls) (gather blockAt ls))
         (gives-rising (map line (gather here (upTo inside ls))) _ (opened l ls) h k)
 
     -- the rest of an open block, and the blocks after it
@@ -153,7 +154,7 @@ module _ {A : Type 0} (line : A → ℕ) (here : Line → List Line → List A)
         {least : ℕ} (ls : List Line) → Rising least (numbers ls) →
         Rising least (map line (gather here (upTo inside ls)) ++ joined lines (gather blockAt ls))
     unfolding joined
-    within-rising [] flat = rw (up-to-none inside, gather-none here, gather-none blockAt) flat
+    within-rising [] flat = rw (up-none inside, gather-none here, gather-none blockAt) flat
     within-rising (l ∷ ls) (rise h rest) =
         by-cases _ (inside l) (λ (e : inside l ≡ true). inside-rising l ls e h (within-rising ls rest))
         (λ (e : inside l ≡ false). outside-rising l ls e h (within-rising ls rest))

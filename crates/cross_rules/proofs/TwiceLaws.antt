@@ -7,9 +7,10 @@ use Prim.Native.Nat.{ℕ, _≤_, _<_}
 use native.Mathlib.Nat.{le-refl, le-of-lt}
 use lib.Dec.{ltb, eqb}
 use borrow.Author.Tests.{lt-ltb, le-ltb}
+use Rattle.table_layout.specs.Codes.{endKind}
 use Rattle.base.specs.If.{both, either}
 use Rattle.base.proofs.IfLaws.{both-rest, both-not-left, both-not-right, either-false, either-comes}
-use Rattle.doc.specs.Document.{Named, Step, Model, Map, Section, Document, endKind}
+use Rattle.doc.specs.Document.{Named, Step, Model, Map, Section, Document}
 use Rattle.doc.specs.Holds.{Each}
 use Rattle.doc.specs.Holds.Each.{none, more}
 use Rattle.cross_rules.specs.Rules.{

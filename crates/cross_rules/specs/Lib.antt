@@ -1,3 +1,3 @@
-pub mod Rules
 pub mod Listed
+pub mod Rules
 pub mod Way

@@ -6,24 +6,15 @@ use mathlib.Core.Bool.{Bool, false, not}
 use mathlib.Core.List.{List, [], _∷_, _++_, map}
 use lib.ListN.{length}
 use lib.Dec.{ltb, eqb}
+use Rattle.table_layout.specs.Codes.{diagonal, endKind, sectionKind}
 use Rattle.base.specs.If.{if_then_else_, both, either}
 use Rattle.base.specs.Runs.{same}
-use Rattle.base.specs.Broken.{_when_, firstBroken}
+use Rattle.base.specs.Broken.{Rule, _when_, firstBroken}
+use Rattle.base.specs.Refusal as refusal
 use Rattle.lex_line.specs.Words.{Word}
-use Rattle.line_matrix.specs.Matrix.{diagonal}
-use Rattle.doc.specs.Document.{
-  Named,
-  Step,
-  Model,
-  Map,
-  Matrix,
-  Section,
-  Document,
-  conductorsOf,
-  endKind,
-  sectionKind,
-}
+use Rattle.doc.specs.Document.{Named, Step, Model, Map, Matrix, Section, Document, conductorsOf}
 use Rattle.doc.specs.Records.{indexOf, isMapOf, isSectionOf, targetOf}
+use Rattle.cross_rules.specs.Listed.{RulesAtLine}
 use Rattle.cross_rules.specs.declared.Finding.{Finding}
 
 -- some element of the list passes the test
@@ -56,23 +47,26 @@ sectionName s = record { name = s .name; line = s .line }
 -- ---- lists and models: 20 LIST
 
 -- "listed without one (at the list line)"
-unfoldable pub listNameRule : Document → Named → ℕ
-listNameRule d n =
-    firstBroken (19 when isTwice (d .listed) n ∷ 20 when not (isThere (map modelName (d .models)) n) ∷ [])
+abbrev pub listNameRules : Document → Named → List Rule
+listNameRules d n =
+    refusal.twice when isTwice (d .listed) n
+    ∷ refusal.list when not (isThere (map modelName (d .models)) n)
+    ∷ []
 
 -- "model not listed (at the model)"
-unfoldable pub modelRule : Document → Model → ℕ
-modelRule d m =
-    firstBroken
-    (19 when isTwice (map modelName (d .models)) (modelName m) ∷ 20 when not (isThere (d .listed) (modelName m)) ∷ [])
+abbrev pub modelRules : Document → Model → List Rule
+modelRules d m =
+    refusal.twice when isTwice (map modelName (d .models)) (modelName m)
+    ∷ refusal.list when not (isThere (d .listed) (modelName m))
+    ∷ []
 
 -- ---- maps, pins and sections
 
-unfoldable pub mapNameRule : Document → Map → ℕ
-mapNameRule d m = firstBroken (19 when isTwice (map mapName (d .maps)) (mapName m) ∷ [])
+abbrev pub mapNameRules : Document → Map → List Rule
+mapNameRules d m = refusal.twice when isTwice (map mapName (d .maps)) (mapName m) ∷ []
 
-unfoldable pub pinNameRule : Map → Named → ℕ
-pinNameRule m p = firstBroken (19 when isTwice (m .pins) p ∷ [])
+abbrev pub pinNameRules : Map → Named → List Rule
+pinNameRules m p = refusal.twice when isTwice (m .pins) p ∷ []
 
 -- the step passes section i: the first section of the step's name has the index i
 unfoldable pub uses : Document → ℕ → Step → Bool
@@ -82,9 +76,11 @@ unfoldable pub isUsed : Document → ℕ → Bool
 isUsed d i = any (λ (m : Model). any (uses d i) (m .steps)) (d .models)
 
 -- "27 UNUSED: section no step uses, at its opening"; i is the section's index
-unfoldable pub sectionRule : Document → ℕ → Section → ℕ
-sectionRule d i s =
-    firstBroken (19 when isTwice (map sectionName (d .sections)) (sectionName s) ∷ 27 when not (isUsed d i) ∷ [])
+abbrev pub sectionRules : Document → ℕ → Section → List Rule
+sectionRules d i s =
+    refusal.twice when isTwice (map sectionName (d .sections)) (sectionName s)
+    ∷ refusal.unused when not (isUsed d i)
+    ∷ []
 
 -- ---- steps
 
@@ -151,13 +147,12 @@ abbrev pub differs : Document → List Step → ℕ → Bool
 differs d [] many = false
 differs d (first ∷ more) many = both (hasMap d first) (not (eqb many (pinsAt (d .maps) (mapIndex d first))))
 
-unfoldable pub endRule : Document → Model → Step → ℕ
-endRule d m s =
-    firstBroken
-    (21 when not (hasMap d s)
-    ∷ 22 when isClashing d m s
-    ∷ 26 when both (hasMap d s) (differs d (firstEnd (m .steps)) (pinsAt (d .maps) (mapIndex d s)))
-    ∷ [])
+abbrev pub endStepRules : Document → Model → Step → List Rule
+endStepRules d m s =
+    refusal.noMap when not (hasMap d s)
+    ∷ refusal.side when isClashing d m s
+    ∷ refusal.count when both (hasMap d s) (differs d (firstEnd (m .steps)) (pinsAt (d .maps) (mapIndex d s)))
+    ∷ []
 
 -- "24 METHOD: Mult with Distributed, Len with Lumped"; method 0 is Lumped, 1 is Distributed
 unfoldable pub isWrongMethod : Document → Step → Bool
@@ -167,47 +162,53 @@ isWrongMethod d s = if s .mult then eqb (methodAt (d .sections) (sectionIndex d 
 unfoldable pub isSingleLine : Model → Bool
 isSingleLine m = ltb (m .type) 2
 
-unfoldable pub sectionStepRule : Document → Model → Step → ℕ
-sectionStepRule d m s =
-    firstBroken
-    (23 when not (hasSection d s)
-    ∷ 24 when both (hasSection d s) (isWrongMethod d s)
-    ∷ 25 when both (isSingleLine m) (hasOtherForm (d .sections) (sectionIndex d s))
-    ∷ 26 when both (hasSection d s) (differs d (firstEnd (m .steps)) (conductorsAt (d .sections) (sectionIndex d s)))
-    ∷ [])
+abbrev pub sectionStepRules : Document → Model → Step → List Rule
+sectionStepRules d m s =
+    refusal.noSection when not (hasSection d s)
+    ∷ refusal.method when both (hasSection d s) (isWrongMethod d s)
+    ∷ refusal.kind when both (isSingleLine m) (hasOtherForm (d .sections) (sectionIndex d s))
+    ∷ refusal.count when both (hasSection d s) (differs d (firstEnd (m .steps)) (conductorsAt (d .sections) (sectionIndex d s)))
+    ∷ []
 
-unfoldable pub stepRule : Document → Model → Step → ℕ
-stepRule d m s =
-    if eqb (s .kind) endKind then endRule d m s else
-    if eqb (s .kind) sectionKind then sectionStepRule d m s else 0
+-- a Fork or an Endfork line is checked for no rule
+abbrev pub stepRules : Document → Model → Step → List Rule
+stepRules d m s =
+    if eqb (s .kind) endKind then endStepRules d m s else
+    if eqb (s .kind) sectionKind then sectionStepRules d m s else []
 
--- ---- all lines
+-- ---- all lines with their rules, in this order: the model list, models with their steps, maps with their pins,
+-- sections
 
--- a `Finding` is a line and the rule that it breaks, 0 for none
+module _ (d : Document) where
+  unfoldable pub listRulesAtLines : List RulesAtLine
+  listRulesAtLines = map (λ (n : Named). record { line = n .line; rules = listNameRules d n }) (d .listed)
 
-unfoldable pub listFindings : Document → List Finding
-listFindings d = map (λ (n : Named). record { rule = listNameRule d n; line = n .line }) (d .listed)
+  unfoldable pub stepRulesAtLines : Model → List RulesAtLine
+  stepRulesAtLines m = map (λ (s : Step). record { line = s .line; rules = stepRules d m s }) (m .steps)
 
-unfoldable pub stepFindings : Document → Model → List Finding
-stepFindings d m = map (λ (s : Step). record { rule = stepRule d m s; line = s .line }) (m .steps)
+  unfoldable pub modelRulesAtLines : List Model → List RulesAtLine
+  modelRulesAtLines [] = []
+  modelRulesAtLines (m ∷ ms) = record { line = m .line; rules = modelRules d m } ∷ (stepRulesAtLines m ++ modelRulesAtLines ms)
 
-unfoldable pub modelFindings : Document → List Model → List Finding
-modelFindings d [] = []
-modelFindings d (m ∷ ms) = record { rule = modelRule d m; line = m .line } ∷ (stepFindings d m ++ modelFindings d ms)
+  unfoldable pub pinRulesAtLines : Map → List RulesAtLine
+  pinRulesAtLines m = map (λ (p : Named). record { line = p .line; rules = pinNameRules m p }) (m .pins)
 
-unfoldable pub pinFindings : Map → List Finding
-pinFindings m = map (λ (p : Named). record { rule = pinNameRule m p; line = p .line }) (m .pins)
+  unfoldable pub mapRulesAtLines : List Map → List RulesAtLine
+  mapRulesAtLines [] = []
+  mapRulesAtLines (m ∷ ms) = record { line = m .line; rules = mapNameRules d m } ∷ (pinRulesAtLines m ++ mapRulesAtLines ms)
 
-unfoldable pub mapFindings : Document → List Map → List Finding
-mapFindings d [] = []
-mapFindings d (m ∷ ms) = record { rule = mapNameRule d m; line = m .line } ∷ (pinFindings m ++ mapFindings d ms)
+  unfoldable pub sectionRulesAtLines : ℕ → List Section → List RulesAtLine
+  sectionRulesAtLines i [] = []
+  sectionRulesAtLines i (s ∷ ss) = record { line = s .line; rules = sectionRules d i s } ∷ sectionRulesAtLines (i + 1) ss
 
-unfoldable pub sectionFindings : Document → ℕ → List Section → List Finding
-sectionFindings d i [] = []
-sectionFindings d i (s ∷ ss) = record { rule = sectionRule d i s; line = s .line } ∷ sectionFindings d (i + 1) ss
+  unfoldable pub allRulesAtLines : List RulesAtLine
+  allRulesAtLines = listRulesAtLines ++ (modelRulesAtLines (d .models) ++ (mapRulesAtLines (d .maps) ++ sectionRulesAtLines 0 (d .sections)))
 
-unfoldable pub findings : Document → List Finding
-findings d = listFindings d ++ (modelFindings d (d .models) ++ (mapFindings d (d .maps) ++ sectionFindings d 0 (d .sections)))
+-- ---- the first broken rule
+
+-- a `Finding` is a line and the rule that it breaks, 0 for none: "on one line the lowest number"
+abbrev pub findingOf : RulesAtLine → Finding
+findingOf look = record { rule = firstBroken (look .rules); line = look .line }
 
 -- "In each group the earliest line counts": the finding on the earlier line. A finding of rule 0 never counts.
 unfoldable pub earlier : Finding → Finding → Finding
@@ -222,4 +223,4 @@ earliest (f ∷ fs) = earlier f (earliest fs)
 
 -- the first line that breaks one of the rules 19 to 27, and that rule; rule 0 and line 0 if no line does
 unfoldable pub crossRule : Document → Finding
-crossRule d = earliest (findings d)
+crossRule d = earliest (map findingOf (allRulesAtLines d))

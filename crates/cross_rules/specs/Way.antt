@@ -1,3 +1,4 @@
+pub mod Findings
 pub mod HoldsText
 pub mod Nth
 pub mod Repeated

@@ -1,14 +1,13 @@
 // Helpers of the rules 19 to 27: the line that writes a record, where a broken rule is reported, and repeated names.
 ghost use mathlib.Core.Path.{_≡_};
 ghost use lib.Dec.{eqb};
+ghost use lib.ListN.{length};
 ghost use Prim.Native.Nat.{_-_, _+_, _*_, _≤_};
 ghost use Rattle.base.specs.If.{if_then_else_, both};
+ghost use Rattle.table_layout.specs.Layout.{nameWidth};
 ghost use Rattle.doc.specs.Lines.{significant};
 ghost use Rattle.cross_rules.specs.Way.Nth.{writesAt, nthLine};
-ghost use lib.ListN.{length, getD, drop};
-ghost use Rattle.table_layout.specs.Layout.{chopped};
-ghost use Rattle.table_name.specs.Name.{nameAt};
-ghost use Rattle.cross_rules.specs.Way.Repeated.{hasAbove, MarkedNames};
+ghost use Rattle.cross_rules.specs.Way.Repeated.{isRepeated, MarkedNames};
 
 // A line, and the rule of 19 to 27 that it breaks; rule 0 if it breaks none.
 pub struct Finding {
@@ -61,10 +60,7 @@ fn less_if(writes: bool, left: u64) -> u64
     if !writes {
         return left;
     }
-    if left == 0 {
-        return 0;
-    }
-    left - 1
+    base::minus(left, 1)
 }
 
 // The line that writes record `index` (from 0) of a part; 0 if the part has fewer records.
@@ -95,13 +91,11 @@ pub fn nth_line(text: &[u8], part: usize, index: u64) -> u64
 
 // Whether a record before record `index` has the same name. Records of `width` words begin at word `base`.
 pub fn is_repeated_name(text: &[u8], table: &[u64], base: usize, width: usize, index: u64) -> bool
-    requires { ⌜ (base + width * index + width ≤ length (now table)) × (2 ≤ width) ⌝ }
-    ensures { λ r. ⌜ r ≡ hasAbove (now (text .entry)) (nameAt (now (text .entry)) (getD (now (table .entry)) (base + width * index) 0) (getD (now (table .entry)) (base + width * index + 1) 0)) (chopped width index (drop base (now (table .entry)))) ⌝ }
+    requires { ⌜ (base + width * index + width ≤ length (now table)) × (nameWidth ≤ width) ⌝ }
+    ensures { λ r. ⌜ r ≡ isRepeated (now (text .entry)) (now (table .entry)) base width index ⌝ }
 {
-    let at = base + width * (index as usize);
-    let start = table[at];
-    let size = table[at + 1];
-    let name = table_name::name_at(text, start, size);
+    let own = table_record::name_at(table, base + width * (index as usize));
+    let name = table_name::name_at(text, own.start, own.size);
     table_name::find_name(text, table, base, width, index, name, 0) < index
 }
 
@@ -116,12 +110,12 @@ pub fn is_repeated_marked(
     width: usize,
     index: u64,
 ) -> bool
-    requires { ⌜ (base + width * index + width ≤ length (now table)) × (2 ≤ width) × MarkedNames (now text) (now table) (now marks) stamp base width index ⌝ }
-    ensures { λ r. ⌜ (r ≡ hasAbove (now (text .entry)) (nameAt (now (text .entry)) (getD (now (table .entry)) (base + width * index) 0) (getD (now (table .entry)) (base + width * index + 1) 0)) (chopped width index (drop base (now (table .entry))))) × MarkedNames (now (text .entry)) (now (table .entry)) (now (marks .exit)) stamp base width (index + 1) ⌝ }
+    requires { ⌜ (base + width * index + width ≤ length (now table)) × (nameWidth ≤ width) × MarkedNames (now text) (now table) (now marks) stamp base width index ⌝ }
+    ensures { λ r. ⌜ (r ≡ isRepeated (now (text .entry)) (now (table .entry)) base width index) × MarkedNames (now (text .entry)) (now (table .entry)) (now (marks .exit)) stamp base width (index + 1) ⌝ }
 {
-    let at = base + width * (index as usize);
-    let own = table_name::name_at(text, table[at], table[at + 1]);
-    let mark = table_name::hash_of(0, own);
+    let own = table_record::name_at(table, base + width * (index as usize));
+    let name = table_name::name_at(text, own.start, own.size);
+    let mark = table_name::hash_of(0, name);
     let met = marks[mark] == stamp;
     marks[mark] = stamp;
     if !met {

@@ -1,6 +1,5 @@
-pub mod WordLaws
-pub mod MarkLaws
+pub mod RangeLaws
 pub mod RuleLaws
-pub mod StandingLaws
+pub mod MarkLaws
 pub mod SectionLaws
 pub mod JoinLaws

@@ -2,145 +2,147 @@
 -- Assumes nothing.
 use mathlib.Core.Path.{_≡_, refl, sym, _∙_, ap}
 use mathlib.Core.Bool.{Bool, true, false, not}
-use mathlib.Core.List.{List, []}
-use Prim.Native.Nat.{ℕ, zero, suc, _+_, _*_, _<_}
-use native.Mathlib.Nat.{not-suc-le-zero}
-use native.Mathlib.Omega.{arith}
+use mathlib.Core.List.{List, [], _∷_, _++_}
+use Prim.Native.Nat.{ℕ, _+_, _<_}
 use lib.ListN.{length, getD, set, length-set}
 use lib.Seq.{getD-set-same, getD-set-other}
 use lib.Dec.{eqb}
 use borrow.Author.Tests.{eq-eqb, ne-eqb, eqb-true, eqb-false, not-true}
 use Rattle.base.proofs.IfLaws.{by-cases, both-first, both-second, either-left, either-rest, either-false, either-none-first, either-none-second}
 use Rattle.base.proofs.RunLaws.{same-equal}
-use Rattle.doc.specs.Document.{endKind}
+use Rattle.table_layout.specs.Codes.{endKind}
+use Rattle.table_layout.specs.declared.View.{View}
+use Rattle.table_record.specs.Records.{recordsOf, range, noStep}
+use Rattle.table_record.specs.Way.Standing.{Rooms}
+use Rattle.table_record.specs.declared.StepRecord.{StepRecord}
+use Rattle.table_record.proofs.RecordLaws.{steps-long}
 use Rattle.table_name.specs.Name.{nameAt}
-use Rattle.cross_steps.specs.Way.StepWords.{sideAt, clashAt, meetsAt, meetsAbove}
 use Rattle.table_name.specs.Way.Hash.{marksMany, hashOf}
 use Rattle.table_name.proofs.MarkLaws.{of-inside}
-use Rattle.cross_steps.specs.Way.Marks.{markAt, isMarked, MarkedEnds, Below}
+use Rattle.doc.specs.Holds.{Each}
+use Rattle.doc.specs.Holds.Each.{none, more}
+use Rattle.doc.proofs.StandsLaws.{each-append}
+use Rattle.cross_rules.specs.Rules.{any}
+use Rattle.cross_rules.proofs.RisingLaws.{each-by}
+use Rattle.cross_steps.specs.Way.StepWords.{sideOf, clashing, meeting, meetsAbove}
+use Rattle.cross_steps.specs.Way.Marks.{markOf, isMarked, MarkedEnds, Below}
 use Rattle.cross_steps.specs.declared.Owner.{Owner}
+use Rattle.cross_steps.proofs.RangeLaws.{range-more}
 
 -- ---- the mark of a side
 
-pub at-inside : (t table : List ℕ) (at mark : ℕ) → mark ≡ markAt t table at → mark < marksMany
-unfolding markAt
-at-inside t table at mark is = of-inside (getD table (at + 1) 0) (sideAt t table at) mark is
+pub mark-inside : (t : List ℕ) (s : StepRecord) (mark : ℕ) → mark ≡ markOf t s → mark < marksMany
+unfolding markOf
+mark-inside t s mark is = of-inside (s .target) (sideOf t s) mark is
 
 pub mark-told :
-    (t table : List ℕ) (own : ℕ) (side : List ℕ) → side ≡ nameAt t (getD table (own + 3) 0) (getD table (own + 4) 0) →
-    (r : ℕ) → r ≡ hashOf (getD table (own + 1) 0) side → r ≡ markAt t table own
-unfolding markAt sideAt
-mark-told t table own side e r is = is ∙ ap (hashOf (getD table (own + 1) 0)) e
+    (t : List ℕ) (own : StepRecord) (side : List ℕ) → side ≡ nameAt t (own .side) (own .«side_size») → (r : ℕ) → r ≡ hashOf (own .target) side →
+    r ≡ markOf t own
+unfolding markOf sideOf
+mark-told t own side e r is = is ∙ ap (hashOf (own .target)) e
 
 -- ---- an end that is not marked
 
-module _ (t table marks : List ℕ) (stamp own : ℕ) (has : getD table (own + 4) 0 ≡ 0 → ⊥) (bare : ℕ) (is-bare : bare ≡ hashOf (getD table (own + 1) 0) []) where
-  pub bare-marked : getD marks bare 0 ≡ stamp → true ≡ isMarked t table marks stamp own
+module _ (t marks : List ℕ) (stamp : ℕ) (own : StepRecord) (has : own .«side_size» ≡ 0 → ⊥) (bare : ℕ) (is-bare : bare ≡ hashOf (own .target) []) where
+  pub bare-marked : getD marks bare 0 ≡ stamp → true ≡ isMarked t marks stamp own
   unfolding isMarked
   bare-marked e = sym (either-rest _ _ (ne-eqb _ _ has) ∙ either-left _ _ (eq-eqb _ _ (ap (λ (m : ℕ). getD marks m 0) (sym is-bare) ∙ e)))
 
-  pub own-marked : (getD marks bare 0 ≡ stamp → ⊥) → (mark : ℕ) → mark ≡ markAt t table own → eqb (getD marks mark 0) stamp ≡ isMarked t table marks stamp own
+  pub own-marked : (getD marks bare 0 ≡ stamp → ⊥) → (mark : ℕ) → mark ≡ markOf t own → eqb (getD marks mark 0) stamp ≡ isMarked t marks stamp own
   unfolding isMarked
   own-marked n mark is =
-      let b : getD marks (hashOf (getD table (own + 1) 0) []) 0 ≡ stamp → ⊥ = rw is-bare at n in
+      let b : getD marks (hashOf (own .target) []) 0 ≡ stamp → ⊥ = rw is-bare at n in
       ap (λ (m : ℕ). eqb (getD marks m 0) stamp) is ∙ sym (either-rest _ _ (ne-eqb _ _ has) ∙ either-rest _ _ (ne-eqb _ _ b))
 
-module _ (t table marks : List ℕ) (stamp own : ℕ) (free : isMarked t table marks stamp own ≡ false) where
-  has-side : eqb (getD table (own + 4) 0) 0 ≡ false
+abbrev Marked : List ℕ → List ℕ → ℕ → StepRecord → Type 0
+Marked t marks stamp s = s .kind ≡ endKind → getD marks (markOf t s) 0 ≡ stamp
+
+module _ (t marks : List ℕ) (stamp : ℕ) (own : StepRecord) (free : isMarked t marks stamp own ≡ false) where
+  has-side : eqb (own .«side_size») 0 ≡ false
   unfolding isMarked
   has-side = either-none-first _ _ free
 
-  no-bare : (getD marks (hashOf (getD table (own + 1) 0) []) 0 ≡ stamp) → ⊥
+  no-bare : getD marks (hashOf (own .target) []) 0 ≡ stamp → ⊥
   unfolding isMarked
   no-bare e = eqb-false _ _ (either-none-first _ _ (either-none-second _ _ free)) e
 
-  no-own : (getD marks (markAt t table own) 0 ≡ stamp) → ⊥
+  no-own : getD marks (markOf t own) 0 ≡ stamp → ⊥
   unfolding isMarked
   no-own e = eqb-false _ _ (either-none-second _ _ (either-none-second _ _ free)) e
 
-  module _ (other : ℕ) (marked : getD table other 0 ≡ endKind → getD marks (markAt t table other) 0 ≡ stamp) where
-    never-met : meetsAt t table other own ≡ true → ⊥
-    unfolding meetsAt clashAt markAt sideAt nameAt
+  module _ (other : StepRecord) (marked : Marked t marks stamp other) where
+    never-met : meeting t other own ≡ true → ⊥
+    unfolding meeting clashing markOf sideOf nameAt
     never-met met =
-        let end : getD table other 0 ≡ endKind = eqb-true _ _ (both-first _ _ met) in
-        let on : getD table (other + 1) 0 ≡ getD table (own + 1) 0 = eqb-true _ _ (both-first _ _ (both-second _ _ met)) in
-        by-cases ⊥ (eqb (getD table (other + 4) 0) 0)
-        (λ (e : eqb (getD table (other + 4) 0) 0 ≡ true).
-        let none : getD table (other + 4) 0 ≡ 0 = eqb-true _ _ e in
-        no-bare (rw (on, none) at (marked end)))
-        (λ (e : eqb (getD table (other + 4) 0) 0 ≡ false).
-        let sides : sideAt t table other ≡ sideAt t table own =
+        let end : other .kind ≡ endKind = eqb-true _ _ (both-first _ _ met) in
+        let on : other .target ≡ own .target = eqb-true _ _ (both-first _ _ (both-second _ _ met)) in
+        by-cases ⊥ (eqb (other .«side_size») 0)
+        (λ (e : eqb (other .«side_size») 0 ≡ true).
+        let without : other .«side_size» ≡ 0 = eqb-true _ _ e in
+        no-bare (rw (on, without) at (marked end)))
+        (λ (e : eqb (other .«side_size») 0 ≡ false).
+        let sides : sideOf t other ≡ sideOf t own =
         same-equal _ _ (sym (either-rest _ _ e ∙ either-rest _ _ has-side) ∙ both-second _ _ (both-second _ _ met)) in
         no-own (ap (λ (m : ℕ). getD marks m 0) (sym (λ i. hashOf (on i) (sides i))) ∙ marked end))
 
-    none-met : meetsAt t table other own ≡ false
+    none-met : meeting t other own ≡ false
     none-met =
-        by-cases _ (meetsAt t table other own) (λ (e : meetsAt t table other own ≡ true). absurd (never-met e))
-        (λ (e : meetsAt t table other own ≡ false). e)
+        by-cases _ (meeting t other own) (λ (e : meeting t other own ≡ true). absurd (never-met e)) (λ (e : meeting t other own ≡ false). e)
 
-  pub none-above : (from many : ℕ) → MarkedEnds t table marks stamp from many → meetsAbove t table own from many ≡ false
-  unfolding meetsAbove
-  none-above from zero marked = refl
-  none-above from (suc n) marked =
-      let z : from + 6 * 0 ≡ from = omega arith in
-      either-false _ _ (none-met from (rw z at (marked .each 0 (omega arith))))
-      (none-above (from + 6) n
-      (record {
-        whole = marked .whole;
-        each =
-            λ (j : ℕ) (h : j < n).
-            let e : from + 6 + 6 * j ≡ from + 6 * suc j = omega arith in
-            rw e (marked .each (suc j) (omega arith));
-      }))
+  none-above : {above : List StepRecord} → Each (Marked t marks stamp) above → meetsAbove t own above ≡ false
+  unfolding meetsAbove any
+  none-above none = refl
+  none-above (more {x = s} h hs) = either-false _ _ (none-met s h) (none-above hs)
 
 -- ---- marking
 
-module _ (t table marks : List ℕ) (stamp from many : ℕ) where
-  pub marked-starts : length marks ≡ marksMany → MarkedEnds t table marks stamp from 0
-  marked-starts long = record { whole = long; each = λ (j : ℕ) (h : j < 0). absurd (not-suc-le-zero h) }
+pub marked-starts : (t marks : List ℕ) (stamp : ℕ) → length marks ≡ marksMany → MarkedEnds t marks stamp []
+marked-starts t marks stamp long = record { whole = long; each = none }
 
-  module _ (marked : MarkedEnds t table marks stamp from many) (own : ℕ) (place : own ≡ from + 6 * many) where
-    pub marked-other : (getD table own 0 ≡ endKind → ⊥) → MarkedEnds t table marks stamp from (many + 1)
-    marked-other n =
-        record {
-          whole = marked .whole;
-          each =
-              λ (j : ℕ) (h : j < many + 1) (end : getD table (from + 6 * j) 0 ≡ endKind).
-              by-cases _ (eqb j many)
-              (λ (e : eqb j many ≡ true). absurd (n (rw (place, ← eqb-true j many e) end)))
-              (λ (e : eqb j many ≡ false).
-              let d : j ≡ many → ⊥ = eqb-false j many e in
-              marked .each j (omega arith) end);
-        }
+module _ (t marks : List ℕ) (stamp : ℕ) (above : List StepRecord) (marked : MarkedEnds t marks stamp above) (own : StepRecord) where
+  marked-other : (own .kind ≡ endKind → ⊥) → MarkedEnds t marks stamp (above ++ (own ∷ []))
+  marked-other n = record { whole = marked .whole; each = each-append (marked .each) (more (λ (e : own .kind ≡ endKind). absurd (n e)) none) }
 
-    pub marked-end : MarkedEnds t table (set marks (markAt t table own) stamp) stamp from (many + 1)
-    marked-end =
-        let inside : markAt t table own < length marks = rw (marked .whole) (at-inside t table own _ refl) in
-        record {
-          whole = simp length-set (marked .whole);
-          each =
-              λ (j : ℕ) (h : j < many + 1) (end : getD table (from + 6 * j) 0 ≡ endKind).
-              by-cases _ (eqb (markAt t table (from + 6 * j)) (markAt t table own))
-              (λ (e : eqb (markAt t table (from + 6 * j)) (markAt t table own) ≡ true).
-              let k : markAt t table (from + 6 * j) ≡ markAt t table own = eqb-true _ _ e in
-              rw k (getD-set-same marks (markAt t table own) stamp 0 inside))
-              (λ (e : eqb (markAt t table (from + 6 * j)) (markAt t table own) ≡ false).
-              let d : j ≡ many → ⊥ =
-              λ (k : j ≡ many). eqb-false _ _ e (ap (λ (i : ℕ). markAt t table (from + 6 * i)) k ∙ ap (markAt t table) (sym place)) in
-              getD-set-other marks (markAt t table own) (markAt t table (from + 6 * j)) stamp 0 (eqb-false _ _ e) ∙ marked .each j (omega arith) end);
-        }
+  inside : markOf t own < length marks
+  inside = rw (marked .whole) (mark-inside t own (markOf t own) refl)
 
--- ---- an end that is judged
+  -- a mark that holds the stamp still holds it
+  still : (s : StepRecord) → Marked t marks stamp s → Marked t (set marks (markOf t own) stamp) stamp s
+  still s h end =
+      by-cases _ (eqb (markOf t s) (markOf t own))
+      (λ (e : eqb (markOf t s) (markOf t own) ≡ true).
+      let k : markOf t s ≡ markOf t own = eqb-true _ _ e in
+      rw k (getD-set-same marks (markOf t own) stamp 0 inside))
+      (λ (e : eqb (markOf t s) (markOf t own) ≡ false). getD-set-other marks (markOf t own) (markOf t s) stamp 0 (eqb-false _ _ e) ∙ h end)
 
-module _ (t table marks : List ℕ) (o : Owner) (own above : ℕ) (below : Below t table marks o own above) (mark : ℕ) (is-mark : mark ≡ markAt t table own) where
-  pub end-marked : MarkedEnds t table (set marks mark (o .stamp)) (o .stamp) (o .from) (above + 1)
-  end-marked = rw is-mark (marked-end t table marks (o .stamp) (o .from) above (below .marked) own (below .place))
+  marked-end : MarkedEnds t (set marks (markOf t own) stamp) stamp (above ++ (own ∷ []))
+  marked-end =
+      record {
+        whole = simp length-set (marked .whole);
+        each =
+            each-append (each-by still (marked .each))
+            (more (λ (e : own .kind ≡ endKind). getD-set-same marks (markOf t own) stamp 0 inside) none);
+      }
 
-  pub none-told : (marked : Bool) → marked ≡ isMarked t table marks (o .stamp) own → not marked ≡ true → false ≡ meetsAbove t table own (o .from) above
-  none-told marked is free = sym (none-above t table marks (o .stamp) own (sym is ∙ not-true marked free) (o .from) above (below .marked))
+-- ---- a step that is judged
 
--- a step that is not an end sets no mark
-pub other-marked :
-    (t table marks : List ℕ) (o : Owner) (own above : ℕ) → Below t table marks o own above → (getD table own 0 ≡ endKind → ⊥) →
-    MarkedEnds t table marks (o .stamp) (o .from) (above + 1)
-other-marked t table marks o own above below n = marked-other t table marks (o .stamp) (o .from) above (below .marked) own (below .place) n
+module _ (t table : List ℕ) (v : View) (rooms : Rooms table v) (marks : List ℕ) (o : Owner) (own : StepRecord) (above : ℕ)
+    (below : Below t table v marks o own above) where
+  abbrev all : List StepRecord
+  all = recordsOf table .steps
+
+  one-more : range (o .from) (above + 1) all ≡ range (o .from) above all ++ (own ∷ [])
+  one-more =
+      range-more noStep all (o .from) above (rw (steps-long table v rooms) (below .inside))
+      ∙ ap (λ (s : StepRecord). range (o .from) above all ++ (s ∷ [])) (sym (below .here))
+
+  -- a step that is not an end sets no mark
+  pub other-marked : (own .kind ≡ endKind → ⊥) → MarkedEnds t marks (o .stamp) (range (o .from) (above + 1) all)
+  other-marked n = rw one-more (marked-other t marks (o .stamp) (range (o .from) above all) (below .marked) own n)
+
+  module _ (mark : ℕ) (is-mark : mark ≡ markOf t own) where
+    pub end-marked : MarkedEnds t (set marks mark (o .stamp)) (o .stamp) (range (o .from) (above + 1) all)
+    end-marked = rw (is-mark, one-more) (marked-end t marks (o .stamp) (range (o .from) above all) (below .marked) own)
+
+  pub none-told : (marked : Bool) → marked ≡ isMarked t marks (o .stamp) own → not marked ≡ true → false ≡ meetsAbove t own (range (o .from) above all)
+  none-told marked is free = sym (none-above t marks (o .stamp) own (sym is ∙ not-true marked free) (below .marked .each))

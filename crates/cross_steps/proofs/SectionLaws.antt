@@ -1,61 +1,48 @@
--- The records of maps, sections and matrices in a table: pins, methods and conductors by their index, and the matrices of a section.
+-- The records of maps, sections and matrices of a document: pins, methods and conductors by their index, and the matrices of a section.
 -- Assumes nothing.
 use mathlib.Core.Path.{_≡_, refl, sym, _∙_, ap}
-use mathlib.Core.Bool.{Bool, true, false, not}
-use mathlib.Core.List.{List, [], _∷_, _++_, map}
-use Prim.Native.Nat.{ℕ, zero, suc, _+_, _-_, _*_, _≤_, _<_, zero-le}
-use native.Mathlib.Nat.{add-zero, not-suc-le-zero, le-of-suc-le-suc, le-refl}
-use native.Mathlib.Numerals.{add-one}
+use mathlib.Core.Bool.{true, false, not}
+use mathlib.Core.List.{List, [], _∷_, _++_}
+use Prim.Native.Nat.{ℕ, zero, suc, _+_, _-_, _≤_, _<_}
+use native.Mathlib.Nat.{not-suc-le-zero, le-of-suc-le-suc, le-refl}
 use native.Mathlib.Omega.{arith}
-use lib.ListN.{length, getD, length-append}
+use lib.ListN.{length, take, drop, getD, length-append}
+use lib.Seq.{drop-drop}
 use lib.Dec.{ltb, eqb}
-use borrow.Author.Tests.{eq-eqb, ne-eqb, eqb-true, eqb-false, lt-ltb, le-ltb, ltb-true, ltb-false}
-use Rattle.base.specs.If.{if_then_else_, either}
+use borrow.Author.Tests.{eq-eqb, ne-eqb, eqb-true, eqb-false, le-ltb, ltb-false}
+use Rattle.base.specs.If.{either}
 use Rattle.base.proofs.IfLaws.{if-true, if-false, by-cases, by-test}
-use Rattle.line_matrix.specs.Matrix.{diagonal}
-use Rattle.doc.specs.Document.{Map, Matrix, Section, conductorsOf}
-use Rattle.doc.specs.Records.{mapRecord, mapRecords, mapWords, indexOfKind, sectionRecord, sectionRecords, sectionWords, matricesOf, matrixRecord, matrixRecords, matrixWords}
+use Rattle.table_layout.specs.Codes.{diagonal, resistanceKind, inductanceKind, conductanceKind, capacitanceKind}
+use Rattle.table_record.specs.Records.{range, noMap, noSection}
+use Rattle.table_record.specs.declared.MatrixRecord.{MatrixRecord}
+use Rattle.doc.specs.Document.{Map, Matrix, Section}
+use Rattle.doc.specs.Records.{mapRecord, mapRecords, indexOfKind, sectionRecord, sectionRecords, matricesOf, matrixRecord, matrixRecords}
 use Rattle.doc.specs.Holds.{Each}
 use Rattle.doc.specs.Holds as holds
 use Rattle.doc.proofs.SectionLaws.{RightSection}
 use Rattle.doc.proofs.MatrixLaws.{RightMatrix}
 use Rattle.cross_rules.specs.Rules.{any, pinsAt, conductorsAt, methodAt, isOtherForm, hasOtherForm}
-use Rattle.cross_steps.specs.Way.StepWords.{lesserOf, leastAt, otherIn}
-use Rattle.cross_steps.proofs.StandingLaws.{Words, Standing}
-use Rattle.cross_steps.proofs.StandingLaws.Standing.{none, more}
+use Rattle.cross_steps.specs.Way.StepWords.{lesserGiven, leastOf, otherIn}
 
 -- ---- maps and sections by their index
 
-module _ (table : List ℕ) where
-  pub pins-word : (first at : ℕ) (ms : List Map) (i : ℕ) → Standing 7 table at (map mapWords (mapRecords first ms)) → i < length ms → getD table (at + 7 * i + 6) 0 ≡ pinsAt ms i
-  unfolding mapRecords mapRecord pinsAt
-  pins-word first at [] i h k = absurd (not-suc-le-zero k)
-  pins-word first at (m ∷ ms) zero (more words rest) k =
-      let e : at + 7 * 0 + 6 ≡ at + 6 = omega arith in
-      rw e (words .word 6 (omega arith))
-  pins-word first at (m ∷ ms) (suc i) (more words rest) k =
-      let e : at + 7 * suc i + 6 ≡ at + 7 + 7 * i + 6 = omega arith in
-      rw e (pins-word (first + length (m .pins)) (at + 7) ms i rest (le-of-suc-le-suc k))
+pub pins-word : (first : ℕ) (ms : List Map) (i : ℕ) → getD (mapRecords first ms) i noMap .pins ≡ pinsAt ms i
+unfolding mapRecords mapRecord pinsAt
+pins-word first [] i = refl
+pins-word first (m ∷ ms) zero = refl
+pins-word first (m ∷ ms) (suc i) = pins-word (first + length (m .pins)) ms i
 
-  pub method-word : (first at : ℕ) (ss : List Section) (i : ℕ) → Standing 8 table at (map sectionWords (sectionRecords first ss)) → i < length ss → getD table (at + 8 * i + 2) 0 ≡ methodAt ss i
-  unfolding sectionRecords sectionRecord methodAt
-  method-word first at [] i h k = absurd (not-suc-le-zero k)
-  method-word first at (s ∷ ss) zero (more words rest) k =
-      let e : at + 8 * 0 + 2 ≡ at + 2 = omega arith in
-      rw e (words .word 2 (omega arith))
-  method-word first at (s ∷ ss) (suc i) (more words rest) k =
-      let e : at + 8 * suc i + 2 ≡ at + 8 + 8 * i + 2 = omega arith in
-      rw e (method-word (first + length (s .matrices)) (at + 8) ss i rest (le-of-suc-le-suc k))
+pub method-word : (first : ℕ) (ss : List Section) (i : ℕ) → getD (sectionRecords first ss) i noSection .method ≡ methodAt ss i
+unfolding sectionRecords sectionRecord methodAt
+method-word first [] i = refl
+method-word first (s ∷ ss) zero = refl
+method-word first (s ∷ ss) (suc i) = method-word (first + length (s .matrices)) ss i
 
-  pub conductors-word : (first at : ℕ) (ss : List Section) (i : ℕ) → Standing 8 table at (map sectionWords (sectionRecords first ss)) → i < length ss → getD table (at + 8 * i + 3) 0 ≡ conductorsAt ss i
-  unfolding sectionRecords sectionRecord conductorsAt
-  conductors-word first at [] i h k = absurd (not-suc-le-zero k)
-  conductors-word first at (s ∷ ss) zero (more words rest) k =
-      let e : at + 8 * 0 + 3 ≡ at + 3 = omega arith in
-      rw e (words .word 3 (omega arith))
-  conductors-word first at (s ∷ ss) (suc i) (more words rest) k =
-      let e : at + 8 * suc i + 3 ≡ at + 8 + 8 * i + 3 = omega arith in
-      rw e (conductors-word (first + length (s .matrices)) (at + 8) ss i rest (le-of-suc-le-suc k))
+pub conductors-word : (first : ℕ) (ss : List Section) (i : ℕ) → getD (sectionRecords first ss) i noSection .conductors ≡ conductorsAt ss i
+unfolding sectionRecords sectionRecord conductorsAt
+conductors-word first [] i = refl
+conductors-word first (s ∷ ss) zero = refl
+conductors-word first (s ∷ ss) (suc i) = conductors-word (first + length (s .matrices)) ss i
 
 -- ---- where the matrices of a section begin
 
@@ -120,22 +107,22 @@ only : {low n : ℕ} → low ≤ n → n ≤ low → low ≡ n
 only h k = omega arith
 
 module _ (low : ℕ) where
-  lesser-low : {a b : ℕ} → OrMore low a → OrMore low b → OrMore low (lesserOf a b)
-  unfolding lesserOf
+  lesser-low : {a b : ℕ} → OrMore low a → OrMore low b → OrMore low (lesserGiven a b)
+  unfolding lesserGiven
   lesser-low {a} {b} h k =
       by-test (OrMore low) (eqb a 0) _ _ (λ e. k) (λ e. by-test (OrMore low) (eqb b 0) _ _ (λ f. h) (λ f. by-test (OrMore low) (ltb b a) _ _ (λ g. k) (λ g. h)))
 
   -- a number below all others is the least
-  lesser-left : {b : ℕ} → (low ≡ 0 → ⊥) → OrMore low b → lesserOf low b ≡ low
-  unfolding lesserOf
+  lesser-left : {b : ℕ} → (low ≡ 0 → ⊥) → OrMore low b → lesserGiven low b ≡ low
+  unfolding lesserGiven
   lesser-left n lacks = if-false _ _ (ne-eqb _ _ n) ∙ if-true _ _ (eq-eqb 0 0 refl)
   lesser-left {b} n (stands h) =
       if-false _ _ (ne-eqb _ _ n)
       ∙ if-false _ _ (ne-eqb b 0 (λ (z : b ≡ 0). n (zero-low h z)))
       ∙ if-false _ _ (le-ltb _ _ h)
 
-  lesser-right : {a : ℕ} → (low ≡ 0 → ⊥) → OrMore low a → lesserOf a low ≡ low
-  unfolding lesserOf
+  lesser-right : {a : ℕ} → (low ≡ 0 → ⊥) → OrMore low a → lesserGiven a low ≡ low
+  unfolding lesserGiven
   lesser-right n lacks = if-true _ _ (eq-eqb 0 0 refl)
   lesser-right {a} n (stands h) =
       if-false _ _ (ne-eqb a 0 (λ (z : a ≡ 0). n (zero-low h z)))
@@ -144,31 +131,31 @@ module _ (low : ℕ) where
       (λ (e : ltb low a ≡ false). if-false _ _ e ∙ sym (only h (ltb-false low a e)))
 
   abbrev least : ℕ → ℕ → ℕ → ℕ → ℕ
-  least a b c d = lesserOf (lesserOf a b) (lesserOf c d)
+  least a b c d = lesserGiven (lesserGiven a b) (lesserGiven c d)
 
   module _ (n : low ≡ 0 → ⊥) {a b c d : ℕ} (p : OrMore low a) (q : OrMore low b) (r : OrMore low c) (s : OrMore low d) where
     least-first : a ≡ low → least a b c d ≡ low
     least-first e =
-        let f : lesserOf a b ≡ low = rw e (lesser-left n q) in
+        let f : lesserGiven a b ≡ low = rw e (lesser-left n q) in
         rw f (lesser-left n (lesser-low r s))
 
     least-second : b ≡ low → least a b c d ≡ low
     least-second e =
-        let f : lesserOf a b ≡ low = rw e (lesser-right n p) in
+        let f : lesserGiven a b ≡ low = rw e (lesser-right n p) in
         rw f (lesser-left n (lesser-low r s))
 
     least-third : c ≡ low → least a b c d ≡ low
     least-third e =
-        let f : lesserOf c d ≡ low = rw e (lesser-left n s) in
+        let f : lesserGiven c d ≡ low = rw e (lesser-left n s) in
         rw f (lesser-right n (lesser-low p q))
 
     least-fourth : d ≡ low → least a b c d ≡ low
     least-fourth e =
-        let f : lesserOf c d ≡ low = rw e (lesser-right n r) in
+        let f : lesserGiven c d ≡ low = rw e (lesser-right n r) in
         rw f (lesser-right n (lesser-low p q))
 
 -- the first matrix has one of the four kinds
-module _ (first : ℕ) (m : Matrix) (ms : List Matrix) (known : m .kind ≤ 3) where
+module _ (first : ℕ) (m : Matrix) (ms : List Matrix) (known : m .kind ≤ capacitanceKind) where
   abbrev word : ℕ → ℕ
   word kind = indexOfKind kind first (m ∷ ms)
 
@@ -178,77 +165,86 @@ module _ (first : ℕ) (m : Matrix) (ms : List Matrix) (known : m .kind ≤ 3) w
   some : first + 1 ≡ 0 → ⊥
   some e = omega arith
 
-  least-is : least (first + 1) (word 0) (word 1) (word 2) (word 3) ≡ first + 1
+  least-is : least (first + 1) (word resistanceKind) (word inductanceKind) (word conductanceKind) (word capacitanceKind) ≡ first + 1
   least-is =
-      by-cases _ (eqb (m .kind) 0)
-      (λ (e : eqb (m .kind) 0 ≡ true).
-      least-first (first + 1) some (low 0) (low 1) (low 2) (low 3) (place-first 0 first m ms (eqb-true _ _ e)))
-      (λ (e : eqb (m .kind) 0 ≡ false).
-      by-cases _ (eqb (m .kind) 1)
-      (λ (f : eqb (m .kind) 1 ≡ true).
-      least-second (first + 1) some (low 0) (low 1) (low 2) (low 3) (place-first 1 first m ms (eqb-true _ _ f)))
-      (λ (f : eqb (m .kind) 1 ≡ false).
-      by-cases _ (eqb (m .kind) 2)
-      (λ (g : eqb (m .kind) 2 ≡ true).
-      least-third (first + 1) some (low 0) (low 1) (low 2) (low 3) (place-first 2 first m ms (eqb-true _ _ g)))
-      (λ (g : eqb (m .kind) 2 ≡ false).
-      least-fourth (first + 1) some (low 0) (low 1) (low 2) (low 3)
-      (place-first 3 first m ms (last (eqb-false _ _ e) (eqb-false _ _ f) (eqb-false _ _ g))))))
+      by-cases _ (eqb (m .kind) resistanceKind)
+      (λ (e : eqb (m .kind) resistanceKind ≡ true).
+      least-first (first + 1) some (low resistanceKind) (low inductanceKind) (low conductanceKind) (low capacitanceKind) (place-first resistanceKind first m ms (eqb-true _ _ e)))
+      (λ (e : eqb (m .kind) resistanceKind ≡ false).
+      by-cases _ (eqb (m .kind) inductanceKind)
+      (λ (f : eqb (m .kind) inductanceKind ≡ true).
+      least-second (first + 1) some (low resistanceKind) (low inductanceKind) (low conductanceKind) (low capacitanceKind) (place-first inductanceKind first m ms (eqb-true _ _ f)))
+      (λ (f : eqb (m .kind) inductanceKind ≡ false).
+      by-cases _ (eqb (m .kind) conductanceKind)
+      (λ (g : eqb (m .kind) conductanceKind ≡ true).
+      least-third (first + 1) some (low resistanceKind) (low inductanceKind) (low conductanceKind) (low capacitanceKind) (place-first conductanceKind first m ms (eqb-true _ _ g)))
+      (λ (g : eqb (m .kind) conductanceKind ≡ false).
+      least-fourth (first + 1) some (low resistanceKind) (low inductanceKind) (low conductanceKind) (low capacitanceKind)
+      (place-first capacitanceKind first m ms (last (eqb-false _ _ e) (eqb-false _ _ f) (eqb-false _ _ g))))))
     where
-      last : (m .kind ≡ 0 → ⊥) → (m .kind ≡ 1 → ⊥) → (m .kind ≡ 2 → ⊥) → m .kind ≡ 3
+      last : (m .kind ≡ resistanceKind → ⊥) → (m .kind ≡ inductanceKind → ⊥) → (m .kind ≡ conductanceKind → ⊥) → m .kind ≡ capacitanceKind
       last e f g = omega (arith, known)
 
 least-of : (first : ℕ) (ms : List Matrix) {n : ℕ} → 1 ≤ length ms → Each (RightMatrix n) ms →
-    least (first + 1) (indexOfKind 0 first ms) (indexOfKind 1 first ms) (indexOfKind 2 first ms) (indexOfKind 3 first ms) ≡ first + 1
+    least (first + 1) (indexOfKind resistanceKind first ms) (indexOfKind inductanceKind first ms) (indexOfKind conductanceKind first ms) (indexOfKind capacitanceKind first ms) ≡ first + 1
 least-of first [] h holds.Each.none = absurd (not-suc-le-zero h)
 least-of first (m ∷ ms) h (holds.Each.more r rs) = least-is first m ms (r .kind)
 
-module _ (table : List ℕ) where
-  section-least : (first at : ℕ) (s : Section) → RightSection s → Words 8 table at (sectionWords (sectionRecord first s)) → leastAt table at ≡ first + 1
-  unfolding leastAt sectionRecord
-  section-least first at s right words =
-      (λ i. lesserOf (lesserOf (words .word 4 (omega arith) i) (words .word 5 (omega arith) i)) (lesserOf (words .word 6 (omega arith) i) (words .word 7 (omega arith) i)))
-      ∙ least-of first (s .matrices) (right .some) (right .matrices)
+section-least : (first : ℕ) (s : Section) → RightSection s → leastOf (sectionRecord first s) ≡ first + 1
+unfolding leastOf sectionRecord
+section-least first s right = least-of first (s .matrices) (right .some) (right .matrices)
 
-  pub least-word : (first at : ℕ) (ss : List Section) (i : ℕ) → Each RightSection ss → Standing 8 table at (map sectionWords (sectionRecords first ss)) → i < length ss → leastAt table (at + 8 * i) ≡ startOf first ss i + 1
-  unfolding sectionRecords startOf
-  least-word first at [] i right h k = absurd (not-suc-le-zero k)
-  least-word first at (s ∷ ss) zero (holds.Each.more r rs) (more words rest) k =
-      let e : at + 8 * 0 ≡ at = omega arith in
-      rw e (section-least first at s r words)
-  least-word first at (s ∷ ss) (suc i) (holds.Each.more r rs) (more words rest) k =
-      let e : at + 8 * suc i ≡ at + 8 + 8 * i = omega arith in
-      rw e (least-word (first + length (s .matrices)) (at + 8) ss i rs rest (le-of-suc-le-suc k))
+pub least-word : (first : ℕ) (ss : List Section) (i : ℕ) → Each RightSection ss → i < length ss → leastOf (getD (sectionRecords first ss) i noSection) ≡ startOf first ss i + 1
+unfolding sectionRecords startOf
+least-word first [] i right k = absurd (not-suc-le-zero k)
+least-word first (s ∷ ss) zero (holds.Each.more r rs) k = section-least first s r
+least-word first (s ∷ ss) (suc i) (holds.Each.more r rs) k = least-word (first + length (s .matrices)) ss i rs (le-of-suc-le-suc k)
 
-  -- ---- the matrices of a section
+-- ---- the matrices of a section
 
-  -- the matrices of the section come first, the rest after them
-  other-any : (values at : ℕ) (front rest : List Matrix) → Standing 5 table at (map matrixWords (matrixRecords values (front ++ rest))) → otherIn table at (length front) ≡ any isOtherForm front
-  unfolding matrixRecords matrixRecord otherIn any isOtherForm
-  other-any values at [] rest h = refl
-  other-any values at (m ∷ ms) rest (more words behind) =
-      let e : getD table at 0 ≡ m .form = ap (λ (k : ℕ). getD table k 0) (sym (add-zero at)) ∙ words .word 0 (omega arith) in
-      λ i. either (not (eqb (e i) diagonal)) (other-any (values + length (m .values)) (at + 5) ms rest behind i)
+other-any : (values : ℕ) (ms : List Matrix) → otherIn (matrixRecords values ms) ≡ any isOtherForm ms
+unfolding matrixRecords matrixRecord otherIn any isOtherForm
+other-any values [] = refl
+other-any values (m ∷ ms) = ap (either (not (eqb (m .form) diagonal))) (other-any (values + length (m .values)) ms)
 
-  matrices-behind : (values at : ℕ) (front rest : List Matrix) → Standing 5 table at (map matrixWords (matrixRecords values (front ++ rest))) →
-      (later : ℕ) × Standing 5 table (at + 5 * length front) (map matrixWords (matrixRecords later rest))
-  unfolding matrixRecords
-  matrices-behind values at [] rest h =
-      let e : at + 5 * 0 ≡ at = omega arith in
-      (values, rw e h)
-  matrices-behind values at (m ∷ ms) rest (more words behind) =
-      let e : at + 5 * suc (length ms) ≡ at + 5 + 5 * length ms = omega arith in
-      rw e (matrices-behind (values + length (m .values)) (at + 5) ms rest behind)
+-- the matrices of a section come first, the rest after them
+matrices-front : (values : ℕ) (front rest : List Matrix) → take (length front) (matrixRecords values (front ++ rest)) ≡ matrixRecords values front
+unfolding matrixRecords
+matrices-front values [] rest = refl
+matrices-front values (m ∷ front) rest =
+    ap (λ (rs : List MatrixRecord). matrixRecord values m ∷ rs) (matrices-front (values + length (m .values)) front rest)
 
-  pub forms-words : (first values base : ℕ) (ss : List Section) (i : ℕ) → Standing 5 table (base + 5 * first) (map matrixWords (matrixRecords values (matricesOf ss))) →
-      i < length ss → otherIn table (base + 5 * startOf first ss i) (startOf first ss (suc i) - startOf first ss i) ≡ hasOtherForm ss i
-  unfolding startOf matricesOf hasOtherForm
-  forms-words first values base [] i h k = absurd (not-suc-le-zero k)
-  forms-words first values base (s ∷ ss) zero h k =
-      let b : startOf (first + length (s .matrices)) ss zero ≡ first + length (s .matrices) = start-first (first + length (s .matrices)) ss in
-      let e : startOf (first + length (s .matrices)) ss zero - first ≡ length (s .matrices) = omega arith in
-      rw e (other-any values (base + 5 * first) (s .matrices) (matricesOf ss) h)
-  forms-words first values base (s ∷ ss) (suc i) h k =
-      let (later, rest) = matrices-behind values (base + 5 * first) (s .matrices) (matricesOf ss) h in
-      let e : base + 5 * first + 5 * length (s .matrices) ≡ base + 5 * (first + length (s .matrices)) = omega arith in
-      forms-words (first + length (s .matrices)) later base ss i (rw e at rest) (le-of-suc-le-suc k)
+matrices-behind : (values : ℕ) (front rest : List Matrix) → (later : ℕ) × (drop (length front) (matrixRecords values (front ++ rest)) ≡ matrixRecords later rest)
+unfolding matrixRecords
+matrices-behind values [] rest = (values, refl)
+matrices-behind values (m ∷ front) rest = matrices-behind (values + length (m .values)) front rest
+
+start-above : (first : ℕ) (ss : List Section) (i : ℕ) → first ≤ startOf first ss i
+unfolding startOf
+start-above first [] i = le-refl first
+start-above first (s ∷ ss) zero = le-refl first
+start-above first (s ∷ ss) (suc i) =
+    let k : first + length (s .matrices) ≤ startOf (first + length (s .matrices)) ss i = start-above (first + length (s .matrices)) ss i in
+    omega arith
+
+pub forms-words : (first values : ℕ) (ss : List Section) (i : ℕ) → i < length ss →
+    otherIn (range (startOf first ss i - first) (startOf first ss (suc i) - startOf first ss i) (matrixRecords values (matricesOf ss))) ≡ hasOtherForm ss i
+unfolding startOf matricesOf hasOtherForm
+forms-words first values [] i k = absurd (not-suc-le-zero k)
+forms-words first values (s ∷ ss) zero k =
+    let b : startOf (first + length (s .matrices)) ss zero ≡ first + length (s .matrices) = start-first (first + length (s .matrices)) ss in
+    let z : first - first ≡ 0 = omega arith in
+    let e : startOf (first + length (s .matrices)) ss zero - first ≡ length (s .matrices) = omega arith in
+    rw (z, e) (ap otherIn (matrices-front values (s .matrices) (matricesOf ss)) ∙ other-any values (s .matrices))
+forms-words first values (s ∷ ss) (suc i) k =
+    let (later, behind) = matrices-behind values (s .matrices) (matricesOf ss) in
+    let h : first + length (s .matrices) ≤ startOf (first + length (s .matrices)) ss i = start-above (first + length (s .matrices)) ss i in
+    let e : startOf (first + length (s .matrices)) ss i - first ≡ length (s .matrices) + (startOf (first + length (s .matrices)) ss i - (first + length (s .matrices))) =
+    omega arith in
+    let f : drop (startOf (first + length (s .matrices)) ss i - first) (matrixRecords values (s .matrices ++ matricesOf ss))
+    ≡ drop (startOf (first + length (s .matrices)) ss i - (first + length (s .matrices))) (matrixRecords later (matricesOf ss)) =
+    ap (λ (n : ℕ). drop n (matrixRecords values (s .matrices ++ matricesOf ss))) e
+    ∙ sym (drop-drop (startOf (first + length (s .matrices)) ss i - (first + length (s .matrices))) (length (s .matrices)) (matrixRecords values (s .matrices ++ matricesOf ss)))
+    ∙ ap (drop (startOf (first + length (s .matrices)) ss i - (first + length (s .matrices)))) behind in
+    ap (λ (rs : List MatrixRecord). otherIn (take (startOf (first + length (s .matrices)) ss (suc i) - startOf (first + length (s .matrices)) ss i) rs)) f
+    ∙ forms-words (first + length (s .matrices)) later ss i (le-of-suc-le-suc k)

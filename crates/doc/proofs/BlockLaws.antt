@@ -12,6 +12,7 @@ use Rattle.line_place.specs.Place as place
 use Rattle.read_line.specs.Reading.{commentByte}
 use Rattle.doc.specs.Lines.{Line, placeAfter, linesFrom, linesAt, significant, gather, upTo}
 use Rattle.doc.proofs.Goes.{lines-blank, lines-said, lines-none}
+use Rattle.doc.proofs.GatherLaws.{gather-more, gather-none, up-in, up-none, up-out}
 
 -- ---- lines that follow one another
 
@@ -35,28 +36,6 @@ unfolding significant linesAt
 text-follows t = lines-follow 1 0 place.before (lines t)
 
 -- ---- passes
-
-module _ {A : Type 0} (here : Line → List Line → List A) where
-  pub gather-none : gather here [] ≡ []
-  unfolding gather
-  gather-none = refl
-
-  pub gather-more : (l : Line) (ls : List Line) → gather here (l ∷ ls) ≡ here l ls ++ gather here ls
-  unfolding gather
-  gather-more l ls = refl
-
-module _ (inside : Line → Bool) where
-  pub up-to-none : upTo inside [] ≡ []
-  unfolding upTo
-  up-to-none = refl
-
-  pub up-to-in : (l : Line) (ls : List Line) → inside l ≡ true → upTo inside (l ∷ ls) ≡ l ∷ upTo inside ls
-  unfolding upTo
-  up-to-in l ls e = if-true _ _ e
-
-  pub up-to-out : (l : Line) (ls : List Line) → inside l ≡ false → upTo inside (l ∷ ls) ≡ []
-  unfolding upTo
-  up-to-out l ls e = if-false _ _ e
 
 -- everything that the elements of a list hold
 unfoldable pub joined : {A B : Type 0} → (B → List A) → List B → List A
@@ -126,7 +105,7 @@ module _ {A : Type 0} (opens inside : Line → Bool) (here : Line → List Line 
         inside l ≡ true → gather here (upTo inside (l ∷ ls)) ++ gather (ofBlock opens inside here) (l ∷ ls) ≡ gather here (l ∷ ls)
     inside-more into =
         let a : gather here (upTo inside (l ∷ ls)) ≡ here l ls ++ gather here (upTo inside ls) =
-        ap (gather here) (up-to-in inside l ls into) ∙ gather-more here l (upTo inside ls)
+        ap (gather here) (up-in inside l ls into) ∙ gather-more here l (upTo inside ls)
         ∙ ap (λ (r : List A). r ++ gather here (upTo inside ls)) (blocks .cut l ls) in
         let b : gather (ofBlock opens inside here) (l ∷ ls) ≡ gather (ofBlock opens inside here) ls =
         gather-more (ofBlock opens inside here) l ls
@@ -140,13 +119,13 @@ module _ {A : Type 0} (opens inside : Line → Bool) (here : Line → List Line 
         inside l ≡ false → gather here (upTo inside (l ∷ ls)) ++ gather (ofBlock opens inside here) (l ∷ ls) ≡ gather here (l ∷ ls)
     left-more out =
         ap (λ (r : List A). r ++ gather (ofBlock opens inside here) (l ∷ ls))
-        (ap (gather here) (up-to-out inside l ls out) ∙ gather-none here)
+        (ap (gather here) (up-out inside l ls out) ∙ gather-none here)
         ∙ outside-more out
 
   pub one-pass : {p : ℕ} (ls : List Line) → Follow p ls → Passes opens inside here ls
   one-pass [] none =
       record {
-        within = ap (λ (r : List Line). gather here r ++ gather (ofBlock opens inside here) []) (up-to-none inside)
+        within = ap (λ (r : List Line). gather here r ++ gather (ofBlock opens inside here) []) (up-none inside)
             ∙ (λ i. gather-none here i ++ gather-none (ofBlock opens inside here) i)
             ∙ sym (gather-none here);
         without = λ (o : Unit {0}). gather-none (ofBlock opens inside here) ∙ sym (gather-none here);

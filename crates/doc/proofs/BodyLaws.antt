@@ -28,19 +28,7 @@ use Rattle.base.proofs.IfLaws.{
 use Rattle.base.proofs.BrokenLaws.{sound, all-kept}
 use Rattle.lex_number.specs.Integer.{wholeOf}
 use Rattle.lex_keyword.specs.Names.{row, bandwidth, endIcmSection, derivationMethod, beginIcmSection}
-use Rattle.line_place.specs.Place.{
-  dead,
-  opensMatrix,
-  isRowOrBandwidth,
-  moved,
-  movedByLine,
-  isText,
-  leadsInSection,
-  leadsInMatrix,
-  isInModel,
-  isInFamily,
-  isInHeader,
-}
+use Rattle.line_place.specs.Place.{dead, opensMatrix, isRowOrBandwidth, moved, movedByLine, leadsInSection, leadsInMatrix, isInModel, isInFamily, isInHeader}
 use Rattle.line_place.specs.Place as place
 use Rattle.line_argument.specs.Argument.{formOf, isBadArgument, isBadInteger, isOutOfBounds}
 use Rattle.line_matrix.specs.declared.Matrix.{Matrix}
@@ -76,15 +64,17 @@ use Rattle.line_keyword.specs.Keywords.{
   keywordNext,
 }
 use Rattle.read_line.specs.Reading.{lineRule, lineNext, countsAfterLine}
+use Rattle.read_line.proofs.ResultLaws.{rule-matrix}
 use Rattle.doc.specs.Lines.{Line}
 use Rattle.doc.proofs.ShapeLaws.{Follows, Widens, Closed, Body, closed-told, row-told, width-told}
+use Rattle.table_layout.specs.Bounds.{mostConductors, mostBandwidth}
+use Rattle.table_layout.specs.Codes.{matrixForms}
 
 -- ---- a line without a keyword
 
 module _ (content : List ℕ) (s : State) (p : s .place ≡ place.matrix) where
   pub data-rule : lineRule content s ≡ dataRule (dataLineOf (s .matrix .form) content) (s .matrix) (s .counts .values)
-  unfolding lineRule isText either if_then_else_
-  data-rule = rw p
+  data-rule = rule-matrix content s p
 
   data-place : lineNext content s .place ≡ place.matrix
   unfolding lineNext movedByLine if_then_else_
@@ -165,7 +155,7 @@ module _ (k : ℕ) (argument : List ℕ) (s : State) (kept : keywordRule k argum
 
 -- [Row]
 module _ (argument : List ℕ) (s : State) (kept : keywordRule row argument s ≡ 0) (p : s .place ≡ place.matrix) where
-  row-within : within 1 256 (wholeOf argument .value) ≡ true
+  row-within : within 1 mostConductors (wholeOf argument .value) ≡ true
   unfolding isOutOfBounds if_then_else_
   row-within = not-false _ (keyword-bounds row argument s kept)
 
@@ -181,7 +171,7 @@ module _ (argument : List ℕ) (s : State) (kept : keywordRule row argument s �
 
 -- [Bandwidth]
 module _ (argument : List ℕ) (s : State) (kept : keywordRule bandwidth argument s ≡ 0) (p : s .place ≡ place.matrix) where
-  width-most : wholeOf argument .value ≤ 255
+  width-most : wholeOf argument .value ≤ mostBandwidth
   unfolding isOutOfBounds if_then_else_
   width-most = ltb-false _ _ (keyword-bounds bandwidth argument s kept)
 
@@ -294,7 +284,7 @@ module _ (k : ℕ) (opens : opensMatrix k ≡ true) where
 
 -- ---- the forms and the keys
 
-form-known : (argument : List ℕ) → formOf argument ≤ 4
+form-known : (argument : List ℕ) → formOf argument ≤ matrixForms
 unfolding formOf
 form-known argument =
     by-test (λ (n : ℕ). n ≤ 4) _ _ _ (λ e. omega arith)
@@ -306,8 +296,8 @@ form-known argument =
 pub open-form : (k : ℕ) (argument : List ℕ) → opensMatrix k ≡ true → isBadArgument k argument ≡ false → formOf argument ≤ 3
 unfolding isBadArgument
 open-form k argument opens h =
-    let e : formOf argument ≡ 4 → ⊥ = eqb-false _ _ (sym (if-false _ _ (opens-closes k opens) ∙ if-true _ _ opens) ∙ h) in
-    let g : formOf argument ≤ 4 = form-known argument in
+    let e : formOf argument ≡ matrixForms → ⊥ = eqb-false _ _ (sym (if-false _ _ (opens-closes k opens) ∙ if-true _ _ opens) ∙ h) in
+    let g : formOf argument ≤ matrixForms = form-known argument in
     omega arith
 
 -- the keywords that are allowed in a matrix

@@ -3,11 +3,12 @@
 use mathlib.Core.Path.{_≡_, refl, sym, _∙_, ap}
 use mathlib.Core.Bool.{Bool, true, false, not, true≢false}
 use mathlib.Core.List.{List, [], _∷_, map}
-use Prim.Native.Nat.{ℕ, suc, _+_}
+use Prim.Native.Nat.{ℕ, suc, _+_, zero, _≤_}
 use native.Mathlib.Omega.{arith}
-use lib.ListN.{length, length-append, length-map}
+use lib.ListN.{length, length-append, length-map, getD}
 use lib.Dec.{eqb}
 use borrow.Author.Tests.{eq-eqb, eqb-true, eqb-false}
+use Rattle.table_record.specs.Records.{partsOf}
 use Rattle.base.specs.If.{if_then_else_, both, either}
 use Rattle.base.proofs.IfLaws.{if-false, by-cases, both-true, both-rest, both-not-left, both-not-right, either-none-first}
 use Rattle.lex_keyword.specs.Names.{icmPinMap, beginHeader, beginIcmModel, beginIcmSection}
@@ -52,7 +53,7 @@ use Rattle.doc.specs.Document.{
   documentIn,
   documentOf,
 }
-use Rattle.doc.specs.Records.{modelRecords, mapRecords, sectionRecords, matrixRecords, matricesOf, valuesOf, flatten, partsOf}
+use Rattle.doc.specs.Records.{modelRecords, mapRecords, sectionRecords, matrixRecords, matricesOf, valuesOf, flatten, tableOf}
 use Rattle.doc.specs.Way.Holds.{countsOf}
 use Rattle.doc.proofs.Goes.{
   Idle,
@@ -71,7 +72,7 @@ use Rattle.doc.proofs.Goes.{
   text-ends,
 }
 use Rattle.doc.proofs.LeadLaws.{isPlace, place-known, Looked, model-stands, map-stands, section-stands, matrix-stands}
-use Rattle.doc.proofs.BlockLaws.{text-follows, gather-none, gather-more, joined}
+use Rattle.doc.proofs.BlockLaws.{text-follows, joined}
 use Rattle.doc.proofs.PassLaws.{
   starts-outside,
   steps-of-text,
@@ -84,6 +85,12 @@ use Rattle.doc.proofs.PassLaws.{
 }
 use Rattle.doc.proofs.TallyLaws.{values-counted}
 use Rattle.doc.proofs.StepLaws.{saying-there, saying-elsewhere, saying-keyed, path-ruled, path-says, silent-step, said-steps}
+use Rattle.doc.proofs.GatherLaws.{gather-more, gather-none}
+use Rattle.table_layout.specs.Layout.{widths, needed, partCount}
+use Rattle.table_layout.proofs.LayoutLaws.{length-layout}
+use Rattle.table_record.proofs.BackLaws.{records-wide}
+use Rattle.table_layout.specs.Bounds.{bounds}
+use Rattle.read_line.proofs.CountLaws.{read-within, read-matrices}
 
 -- ---- the place of a keyword that breaks no rule
 
@@ -397,3 +404,26 @@ module _ (t : List ℕ) (c : Counts) (h : readingOf t ≡ Read c) where
   counts-agree =
       parts-long (documentOf t)
       ∙ (λ i. many-models i ∷ many-steps i ∷ many-maps i ∷ many-pins i ∷ many-sections i ∷ many-matrices i ∷ many-values i ∷ [])
+
+-- ---- each count is within its bound
+
+pub counts-bounded : (t : List ℕ) (c : Counts) → readingOf t ≡ Read c → (p : ℕ) → getD (countsOf c) p 0 ≤ getD bounds p 0
+unfolding countsOf
+counts-bounded t c reads zero = read-within t c reads .models
+counts-bounded t c reads (suc zero) = read-within t c reads .steps
+counts-bounded t c reads (suc (suc zero)) = read-within t c reads .maps
+counts-bounded t c reads (suc (suc (suc zero))) = read-within t c reads .pins
+counts-bounded t c reads (suc (suc (suc (suc zero)))) = read-within t c reads .sections
+counts-bounded t c reads (suc (suc (suc (suc (suc zero))))) = read-matrices t c reads
+counts-bounded t c reads (suc (suc (suc (suc (suc (suc zero)))))) = read-within t c reads .values
+counts-bounded t c reads (suc (suc (suc (suc (suc (suc (suc p))))))) = omega arith
+
+pub counts-parts : (c : Counts) → length (countsOf c) ≡ partCount
+unfolding countsOf
+counts-parts c = refl
+
+-- ---- the length of the layout
+
+pub table-long : (t : List ℕ) → length (tableOf t) ≡ needed widths (map length (partsOf (flatten (documentOf t))))
+unfolding tableOf
+table-long t = length-layout widths (partsOf (flatten (documentOf t))) (records-wide (flatten (documentOf t)))

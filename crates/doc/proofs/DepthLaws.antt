@@ -8,6 +8,7 @@ use Prim.Native.Nat.{ℕ, _+_, _-_, _<_}
 use native.Mathlib.Omega.{arith}
 use lib.Dec.{eqb}
 use borrow.Author.Tests.{eq-eqb, eqb-true, eqb-false, lt-ltb}
+use Rattle.table_layout.specs.Bounds.{deepest}
 use Rattle.base.specs.If.{if_then_else_, either}
 use Rattle.base.proofs.IfLaws.{
   if-true,
@@ -23,7 +24,7 @@ use Rattle.base.proofs.IfLaws.{
 use Rattle.lex_keyword.specs.Names.{beginIcmModel}
 use Rattle.line_place.specs.Place.{isInFamily, isInModel}
 use Rattle.line_place.specs.Place as place
-use Rattle.line_path.specs.Path.{pathLineOf, pathRule, pathNext, deepest}
+use Rattle.line_path.specs.Path.{pathLineOf, pathRule, pathNext}
 use Rattle.line_path.specs.Path as path
 use Rattle.line_path.specs.declared.Path.{Path}
 use Rattle.line_path.proofs.DepthLaws.{fork-raises, other-keeps, fork-below, endfork-lowers}
@@ -51,8 +52,8 @@ use Rattle.doc.specs.Document.{
 use Rattle.doc.specs.Holds.{Each}
 use Rattle.doc.specs.Way.Holds.{depthOfSteps}
 use Rattle.doc.proofs.Goes.{Moves, idle, plainly, keyed, Goes, none, more, MetBy, AllMet, Ends, idle-outside, text-ends}
-use Rattle.doc.proofs.BlockLaws.{gather-none, gather-more, up-to-none, up-to-in, up-to-out}
 use Rattle.doc.proofs.StepLaws.{saying-there, saying-elsewhere, saying-keyed, path-ruled}
+use Rattle.doc.proofs.GatherLaws.{gather-more, gather-none, up-in, up-none, up-out}
 
 -- ---- one line of a path
 
@@ -196,17 +197,17 @@ model-deep :
     {s e : State} (ls : List Line) (g : Goes s ls e) → AllMet g → Outside s → e .place ≡ place.done →
     depthOfSteps (s .path .depth) (stepsIn (upTo inModel ls)) ≡ true
 model-deep {s} [] none met out end =
-    ap (λ (ms : List Line). depthOfSteps (s .path .depth) (stepsIn ms)) (up-to-none inModel)
+    ap (λ (ms : List Line). depthOfSteps (s .path .depth) (stepsIn ms)) (up-none inModel)
     ∙ flat-none _ (out .flat (λ (z : s .place ≡ place.path). let k : place.done ≡ place.path = sym end ∙ z in omega arith))
 model-deep {s} (l ∷ ls) (more {s' = s'} p b m g) met out end =
     by-cases _ (inModel l)
     (λ (t : inModel l ≡ true).
-    ap (λ (ms : List Line). depthOfSteps (s .path .depth) (stepsIn ms)) (up-to-in inModel l ls t)
+    ap (λ (ms : List Line). depthOfSteps (s .path .depth) (stepsIn ms)) (up-in inModel l ls t)
     ∙ ap (depthOfSteps (s .path .depth)) (steps-more l (upTo inModel ls))
     ∙ moves-deep l s p out s' m (upTo inModel ls) (stepsIn (upTo inModel ls))
     (model-deep ls g (met .1) (moves-outside l s p out s' m (met .0)) end))
     (λ (t : inModel l ≡ false).
-    ap (λ (ms : List Line). depthOfSteps (s .path .depth) (stepsIn ms)) (up-to-out inModel l ls t) ∙ flat-none _ (outside-flat l s p out t))
+    ap (λ (ms : List Line). depthOfSteps (s .path .depth) (stepsIn ms)) (up-out inModel l ls t) ∙ flat-none _ (outside-flat l s p out t))
 
 abbrev Deep : Model → Type 0
 Deep m = depthOfSteps 0 (m .steps) ≡ true

@@ -1,27 +1,26 @@
 -- Laws of the words of a line and their offsets in the text: what a span marks is the word of the definition.
 -- Assumes nothing.
 use mathlib.Core.Path.{_≡_, refl, sym, _∙_, ap}
-use mathlib.Core.Bool.{Bool, true, false}
-use mathlib.Core.List.{List, [], _∷_}
+use mathlib.Core.Bool.{true, false}
+use mathlib.Core.List.{List, []}
 use Prim.Native.Nat.{ℕ, _+_, _-_, _≤_, _<_}
 use native.Mathlib.Nat.{add-zero}
 use native.Mathlib.Omega.{arith}
-use lib.ListN.{length, take, drop, length-drop, length-take}
+use lib.ListN.{length, take, drop, length-drop}
 use lib.Seq.{length-take-le}
 use lib.Dec.{leb}
 use borrow.Author.Tests.{le-leb, lt-leb, leb-true, leb-false}
-use Rattle.base.specs.If.{if_then_else_}
 use Rattle.base.proofs.IfLaws.{if-true, if-false, by-cases}
 use Rattle.lex_line.specs.Words.{Word, wordsFrom}
 use Rattle.lex_line.specs.Way.Spans.{wordSpan}
 use Rattle.lex_line.specs.declared.Span.{Span}
-use Rattle.lex_line.proofs.WordLaws.{words-none, words-at, word-ordered, word-within}
+use Rattle.lex_line.proofs.WordLaws.{words-none, words-at, word-ordered, word-within, start-on}
 use Rattle.lex_keyword.specs.Bracket.{bracketOf}
 use Rattle.lex_keyword.specs.declared.Bracket.{Bracket}
 use Rattle.lex_keyword.specs.declared.Bracket.the-variants.{Plain, Indented, Bad, Unknown, Later, Keyword}
 use Rattle.lex_keyword.proofs.AnswerLaws.{keyword-known}
 use Rattle.read_line.specs.Reading.{argumentFrom}
-use Rattle.doc.specs.Lines.{Line, argumentIn, argumentOf, noWord, firstWord, secondWord}
+use Rattle.doc.specs.Lines.{argumentIn, argumentOf, noWord, firstWord, secondWord}
 use Rattle.doc.specs.Way.Found.{extentOf, extentAt, contentIn, lineIn, Located}
 use Rattle.doc.specs.declared.Found.{Found}
 use Rattle.doc.specs.declared.Extent.{Extent}
@@ -47,10 +46,6 @@ marked-at s start word h k =
 no-mark : extentOf noWord ≡ record { start = 0; size = 0 }
 unfolding extentOf noWord
 no-mark = refl
-
-pub start-after : (s : List ℕ) (from : ℕ) → from ≤ wordSpan s from .start
-unfolding wordSpan
-start-after s from = omega arith
 
 -- the first of the words from an offset of s on
 module _ (s : List ℕ) (offset from : ℕ) (h : from ≤ length s) where
@@ -85,7 +80,7 @@ module _ (s : List ℕ) (offset : ℕ) (first : Span) (is-first : first ≡ word
       none-second : length s ≤ wordSpan s 0 .start → wordsFrom offset s ≡ [] → extentAt s offset (wordSpan s (wordSpan s 0 .end)) ≡ extentOf (secondWord (wordsFrom offset s))
       none-second h z =
           let o : wordSpan s 0 .start ≤ wordSpan s 0 .end = word-ordered s 0 (wordSpan s 0) refl in
-          let k : wordSpan s 0 .end ≤ wordSpan s (wordSpan s 0 .end) .start = start-after s (wordSpan s 0 .end) in
+          let k : wordSpan s 0 .end ≤ wordSpan s (wordSpan s 0 .end) .start = start-on s (wordSpan s 0 .end) in
           rw z (sym (mark-none s offset (wordSpan s (wordSpan s 0 .end)) (omega arith)) ∙ sym no-mark)
 
 -- ---- arguments

@@ -11,6 +11,8 @@ use native.Mathlib.Omega.{arith}
 use lib.ListN.{length, length-append}
 use lib.Dec.{eqb}
 use borrow.Author.Tests.{eq-eqb, ne-eqb, eqb-true, eqb-false, leb-true}
+use Rattle.table_record.specs.declared.Value.{Value}
+use Rattle.table_layout.specs.Codes.{diagonal, banded, sparse}
 use Rattle.base.proofs.IfLaws.{if-true, if-false, by-cases, both-true, both-not-left, both-not-right, both-first, both-second}
 use Rattle.lex_line.specs.Words.{words, secondOf}
 use Rattle.lex_number.specs.Number.{numberOf, isFormed, isBounded}
@@ -20,20 +22,9 @@ use Rattle.lex_number.specs.declared.Number.the-variants as number
 use Rattle.lex_number.proofs.NumberLaws.{number-word}
 use Rattle.lex_keyword.specs.Names.{row, bandwidth}
 use Rattle.line_matrix.specs.declared.Matrix.{Matrix}
-use Rattle.line_matrix.specs.Matrix.{diagonal, banded, sparse, withBandwidth, stillFits, withRow, numberCheck, areFormed, areBounded, withColumn}
+use Rattle.line_matrix.specs.Matrix.{withBandwidth, stillFits, withRow, numberCheck, areFormed, areBounded, withColumn}
 use Rattle.doc.specs.Lines.{Line, plain, keyOf}
-use Rattle.doc.specs.Document.{
-  Value,
-  wordIn,
-  nextRow,
-  numbersAt,
-  sparseAt,
-  valuesFrom,
-  givenBy,
-  bandwidthIn,
-  namedBy,
-  greatestIn,
-}
+use Rattle.doc.specs.Document.{wordIn, nextRow, numbersAt, sparseAt, valuesFrom, givenBy, bandwidthIn, namedBy, greatestIn}
 use Rattle.doc.specs.Holds.{Each}
 use Rattle.doc.proofs.RiseLaws.{
   From,
@@ -53,6 +44,7 @@ use Rattle.doc.proofs.RiseLaws.{
 }
 use Rattle.doc.proofs.ShapeLaws.{Pair, columnOf, Closed, Body}
 use Rattle.doc.proofs.ShapeLaws.Body.{closes, numbers, pair, starts, widens}
+use Rattle.table_layout.specs.Bounds.{mostConductors, mostBandwidth}
 
 -- ---- number words
 
@@ -159,7 +151,7 @@ module _ (known n w : ℕ) where
   body-width (starts m v l ls k h b) f = width-row l ls k ∙ body-width b f
   body-width (widens m v l ls k h b) f = absurd (f (h .form))
 
-  pub body-narrow : {m : Matrix} {v : ℕ} {ls : List Line} → Body known n w m v ls → bandwidthIn ls ≤ 255
+  pub body-narrow : {m : Matrix} {v : ℕ} {ls : List Line} → Body known n w m v ls → bandwidthIn ls ≤ mostBandwidth
   body-narrow (closes m v h e) = omega (arith, width-none)
   body-narrow (numbers m v l ls k s p h b) = rw (width-plain l ls k) (body-narrow b)
   body-narrow (pair m v l ls k s p h b) = rw (width-plain l ls k) (body-narrow b)
@@ -248,24 +240,24 @@ module _ (known n w : ℕ) where
       absurd (omega arith)
 
   -- "[Row] .. 1 to 256", "a diagonal over 256 (17)"
-  closed-most : (m : Matrix) (v : ℕ) → Closed known n m v → m .rows .row ≤ 256 → m .rows .greatest ≤ 256 → n ≤ 256
+  closed-most : (m : Matrix) (v : ℕ) → Closed known n m v → m .rows .row ≤ mostConductors → m .rows .greatest ≤ mostConductors → n ≤ mostConductors
   closed-most m v h a g =
-      by-cases (n ≤ 256) (eqb (m .form) diagonal)
+      by-cases (n ≤ mostConductors) (eqb (m .form) diagonal)
       (λ (d : eqb (m .form) diagonal ≡ true). h .narrow (eqb-true _ _ d))
       (λ (d : eqb (m .form) diagonal ≡ false).
-      by-cases (n ≤ 256) (eqb (m .form) sparse)
+      by-cases (n ≤ mostConductors) (eqb (m .form) sparse)
       (λ (f : eqb (m .form) sparse ≡ true). let e : m .rows .greatest ≡ n = h .named (eqb-true _ _ f) in omega arith)
       (λ (f : eqb (m .form) sparse ≡ false). let e : m .rows .row ≡ n = h .rows (eqb-false _ _ d) (eqb-false _ _ f) .last in omega arith))
 
-  pub body-most : {m : Matrix} {v : ℕ} {ls : List Line} → Body known n w m v ls → m .rows .row ≤ 256 → m .rows .greatest ≤ 256 → n ≤ 256
+  pub body-most : {m : Matrix} {v : ℕ} {ls : List Line} → Body known n w m v ls → m .rows .row ≤ mostConductors → m .rows .greatest ≤ mostConductors → n ≤ mostConductors
   unfolding withRow withColumn withBandwidth
   body-most (closes m v h e) a g = closed-most m v h a g
   body-most (numbers m v l ls k s p h b) a g = body-most b a g
   body-most (pair m v l ls k s p h b) a g =
-      let c : columnOf l ≤ 256 = h .high in
+      let c : columnOf l ≤ mostConductors = h .high in
       body-most b a (omega arith)
   body-most (starts m v l ls k h b) a g =
-      let c : givenBy l ≤ 256 = h .high in
+      let c : givenBy l ≤ mostConductors = h .high in
       body-most b c (omega arith)
   body-most (widens m v l ls k h b) a g = body-most b a g
 

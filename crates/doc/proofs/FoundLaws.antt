@@ -22,7 +22,7 @@ use Rattle.lex_keyword.specs.Bracket.{bracketOf}
 use Rattle.lex_keyword.specs.declared.Bracket.{Bracket}
 use Rattle.read_line.specs.Reading.{commentByte}
 use Rattle.doc.specs.Lines.{Line, plain, linesFrom, linesAt, placeAfter, keyIn, argumentIn, keyAt}
-use Rattle.doc.specs.Way.Found.{contentIn, lineIn, linesBehind, Located, FindsLine}
+use Rattle.doc.specs.Way.Found.{contentIn, Located, FindsLine}
 use Rattle.doc.specs.declared.Found.{Found}
 use Rattle.doc.proofs.Goes.{lines-blank, lines-said, lines-none}
 

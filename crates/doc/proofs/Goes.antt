@@ -2,7 +2,7 @@
 -- the document of such a text are proved with this.
 -- Assumes nothing.
 use mathlib.Core.Path.{_≡_, refl, sym, _∙_, ap}
-use mathlib.Core.Bool.{Bool, true, false, true≢false}
+use mathlib.Core.Bool.{Bool, true, false}
 use mathlib.Core.List.{List, [], _∷_}
 use Prim.Native.Nat.{ℕ, _+_, _<_}
 use native.Mathlib.Omega.{arith}
@@ -12,7 +12,6 @@ use borrow.Author.Tests.{eq-eqb, ne-eqb, eqb-true, eqb-false}
 use Rattle.base.specs.If.{if_then_else_, either}
 use Rattle.base.proofs.IfLaws.{if-true, if-false, by-cases}
 use Rattle.lex_line.specs.Lines.{Raw, lines, contentOf, isBlankLine}
-use Rattle.lex_line.specs.Words.{words, firstOf}
 use Rattle.lex_keyword.specs.Names.{beginHeader}
 use Rattle.lex_keyword.specs.Bracket.{bracketOf}
 use Rattle.lex_keyword.specs.declared.Bracket.{Bracket}
@@ -23,11 +22,12 @@ use Rattle.line_keyword.specs.State.{startState}
 use Rattle.line_keyword.specs.Keywords.{keywordRule, keywordNext}
 use Rattle.line_keyword.specs.declared.Counts.{Counts}
 use Rattle.line_keyword.specs.declared.State.{State}
-use Rattle.read_line.specs.Reading.{lineRule, lineNext, argumentFrom, goes, breaks, judged, lineStep, keywordStep, bracketStep, beforeStep, lineResult, onward, readFrom, atEnd, readingOf, commentByte}
+use Rattle.read_line.specs.Reading.{lineRule, lineNext, argumentFrom, goes, breaks, judged, lineResult, onward, readFrom, atEnd, readingOf, commentByte}
+use Rattle.read_line.specs.Way.Steps.{lineStep, keywordStep, bracketStep, beforeStep}
+use Rattle.read_line.proofs.ResultLaws.{result-steps, refused-not-read, end-done}
 use Rattle.read_line.proofs.OutsideLaws.{Met}
 use Rattle.read_line.specs.declared.LineResult.{LineResult}
-use Rattle.read_line.specs.declared.Reading.{Reading}
-use Rattle.read_line.specs.declared.Reading.the-variants.{Read, Refused}
+use Rattle.read_line.specs.declared.Reading.the-variants.{Read}
 use Rattle.doc.specs.Lines.{Line, plain, keyIn, argumentIn, keyAt, placeAfter, linesFrom, linesAt, significant, keyOf, argumentOf}
 
 -- a line that is skipped: after [End], or above [Begin Header]
@@ -152,17 +152,17 @@ module _ (l : Line) (s : State) where
       (λ (t : eqb k beginHeader ≡ false). let x : beforeStep (Keyword k start) (l .content) s ≡ goes s = if-false _ _ t in passed-over p (not-header k (ap keyIn b) (eqb-false _ _ t)) (e ∙ x))
 
   pub line-moves : isBlankLine (l .content) ≡ false → lineResult (l .content) s .rule ≡ 0 → Moved l s
-  unfolding lineResult goes
+  unfolding goes
   line-moves blank h =
       by-cases (Moved l s) (eqb (s .place) done)
-      (λ (d : eqb (s .place) done ≡ true). record { next = s; moves = idle (ended (eqb-true _ _ d)); met = tt; is-next = ap (λ (y : LineResult). y .state) (if-false _ _ blank ∙ if-true _ _ d) })
+      (λ (d : eqb (s .place) done ≡ true). record { next = s; moves = idle (ended (eqb-true _ _ d)); met = tt; is-next = ap (λ (y : LineResult). y .state) (result-steps (l .content) s ∙ if-false _ _ blank ∙ if-true _ _ d) })
       (λ (d : eqb (s .place) done ≡ false).
       by-cases (Moved l s) (eqb (s .place) before)
       (λ (p : eqb (s .place) before ≡ true).
-      let x : lineResult (l .content) s ≡ beforeStep (bracketOf (l .content)) (l .content) s = if-false _ _ blank ∙ if-false _ _ d ∙ if-true _ _ p in
+      let x : lineResult (l .content) s ≡ beforeStep (bracketOf (l .content)) (l .content) s = result-steps (l .content) s ∙ if-false _ _ blank ∙ if-false _ _ d ∙ if-true _ _ p in
       early-moved (bracketOf (l .content)) refl (eqb-true _ _ p) x (ap (λ (y : LineResult). y .rule) (sym x) ∙ h))
       (λ (p : eqb (s .place) before ≡ false).
-      let x : lineResult (l .content) s ≡ bracketStep (bracketOf (l .content)) (l .content) s = if-false _ _ blank ∙ if-false _ _ d ∙ if-false _ _ p in
+      let x : lineResult (l .content) s ≡ bracketStep (bracketOf (l .content)) (l .content) s = result-steps (l .content) s ∙ if-false _ _ blank ∙ if-false _ _ d ∙ if-false _ _ p in
       read-moved (λ (k : ℕ). record { on = eqb-false _ _ d; first = λ (f : s .place ≡ before). absurd (eqb-false _ _ p f) }) (bracketOf (l .content)) refl x (ap (λ (y : LineResult). y .rule) (sym x) ∙ h)))
 
 -- ---- places
@@ -201,11 +201,6 @@ moves-place l s s' (keyed k h) = keyed-place l s k
 
 -- ---- the whole text
 
-refused-not-read : (k n : ℕ) (c : Counts) → Refused k n ≡ Read c → ⊥
-refused-not-read k n c e =
-    let z : _≡_ {A = ℕ} 0 1 = cc in
-    omega arith
-
 pub record Onward (n : ℕ) (r : Raw) (rs : List Raw) (s : State) (c : Counts) : Type 0 where
   pub kept : lineResult (contentOf commentByte (r .bytes)) s .rule ≡ 0
   pub rest : readFrom (n + 1) rs (lineResult (contentOf commentByte (r .bytes)) s .state) ≡ Read c
@@ -217,22 +212,9 @@ run-on n r rs s c h =
     (λ (e : eqb (lineResult (contentOf commentByte (r .bytes)) s .rule) 0 ≡ true). record { kept = eqb-true _ _ e; rest = sym (if-true _ _ e) ∙ h })
     (λ (e : eqb (lineResult (contentOf commentByte (r .bytes)) s .rule) 0 ≡ false). absurd (refused-not-read _ _ c (sym (if-false _ _ e) ∙ h)))
 
-end-done : (s : State) (c : Counts) → atEnd s ≡ Read c → (s .place ≡ done) × (s .counts ≡ c)
-unfolding atEnd
-end-done s c h =
-    by-cases ((s .place ≡ done) × (s .counts ≡ c)) (eqb (s .place) done)
-    (λ (d : eqb (s .place) done ≡ true). let e : Read (s .counts) ≡ Read c = sym (if-true _ _ d) ∙ h in (eqb-true _ _ d, read-same _ _ e))
-    (λ (d : eqb (s .place) done ≡ false).
-    by-cases ((s .place ≡ done) × (s .counts ≡ c)) (eqb (s .place) before)
-    (λ (b : eqb (s .place) before ≡ true). absurd (refused-not-read 5 0 c (sym (if-false _ _ d ∙ if-true _ _ b) ∙ h)))
-    (λ (b : eqb (s .place) before ≡ false). absurd (refused-not-read 10 0 c (sym (if-false _ _ d ∙ if-false _ _ b) ∙ h))))
-  where
-    read-same : (a b : Counts) → Read a ≡ Read b → a ≡ b
-    read-same a b e = cc
-
 blank-goes : (content : List ℕ) (s : State) → isBlankLine content ≡ true → lineResult content s .state ≡ s
-unfolding lineResult goes
-blank-goes content s e = ap (λ (y : LineResult). y .state) (if-true _ _ e)
+unfolding goes
+blank-goes content s e = ap (λ (y : LineResult). y .state) (result-steps content s ∙ if-true _ _ e)
 
 -- one line more in front
 grown : (l : Line) (s : State) (m : Moved l s) (ls : List Line) (c : Counts) → l .place ≡ s .place → isBlankLine (l .content) ≡ false → Ends (m .next) ls c → Ends s (l ∷ ls) c

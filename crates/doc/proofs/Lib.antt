@@ -1,4 +1,5 @@
 pub mod Goes
+pub mod GatherLaws
 pub mod FoundLaws
 pub mod ExtentLaws
 pub mod LeadLaws
@@ -16,7 +17,6 @@ pub mod BodyLaws
 pub mod SpanLaws
 pub mod MatrixLaws
 pub mod SectionLaws
-pub mod RecordLaws
 pub mod StandsLaws
 pub mod OrderLaws
 pub mod NamedLaws

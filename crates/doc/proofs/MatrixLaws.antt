@@ -9,13 +9,15 @@ use native.Mathlib.Omega.{arith}
 use lib.ListN.{length}
 use lib.Dec.{eqb}
 use borrow.Author.Tests.{eq-eqb, eqb-true, eqb-false}
+use Rattle.table_record.specs.declared.Value.{Value}
+use Rattle.table_layout.specs.Codes.{diagonal, banded, sparse, full}
 use Rattle.base.specs.If.{if_then_else_}
 use Rattle.base.proofs.IfLaws.{if-true, by-test, by-cases}
 use Rattle.lex_number.specs.ValueWord.{isValueWord}
 use Rattle.lex_keyword.specs.Names.{row, bandwidth}
-use Rattle.line_matrix.specs.Matrix.{diagonal, banded, sparse, full, newMatrix}
+use Rattle.line_matrix.specs.Matrix.{newMatrix}
 use Rattle.doc.specs.Lines.{Line, keyOf}
-use Rattle.doc.specs.Document.{Value, Matrix, kindOf, bandwidthIn, valuesFrom, greatestIn, conductorsIn, matrixOf}
+use Rattle.doc.specs.Document.{Matrix, kindOf, bandwidthIn, valuesFrom, greatestIn, conductorsIn, matrixOf}
 use Rattle.doc.specs.Holds.{Each, rises}
 use Rattle.doc.proofs.RiseLaws.{Inside, Rising, rising-rises, rising-inside}
 use Rattle.doc.proofs.ShapeLaws.{Body}
@@ -34,6 +36,7 @@ use Rattle.doc.proofs.FormLaws.{
   sparse-rises,
 }
 use Rattle.doc.proofs.RowLaws.{inRow, Rowed, rows-lengths, banded-lengths}
+use Rattle.table_layout.specs.Bounds.{mostConductors, mostBandwidth}
 
 -- ---- what is right
 
@@ -49,10 +52,10 @@ pub record RightMatrix (n : ℕ) (m : Matrix) : Type 0 where
   pub rising : rises (m .conductors) (m .values) ≡ true
   pub conductors : m .conductors ≡ n
   pub some : 1 ≤ n
-  pub few : n ≤ 256
+  pub few : n ≤ mostConductors
   pub form : m .form ≤ 3
   pub kind : m .kind ≤ 3
-  pub bandwidth : m .bandwidth ≤ 255
+  pub bandwidth : m .bandwidth ≤ mostBandwidth
   pub unbanded : (m .form ≡ banded → ⊥) → m .bandwidth ≡ 0
   pub values : Each (RightValue n) (m .values)
   pub filled : 1 ≤ length (m .values)
@@ -113,11 +116,11 @@ module _ (known n w v : ℕ) (body : List Line) where
   unfolding newMatrix if_then_else_
   new-banded b = banded-lengths known n w b refl refl refl
 
-  new-full : Body known n w (newMatrix full v) v body → Rowed n 256 (valuesFrom full 1 1 body)
+  new-full : Body known n w (newMatrix full v) v body → Rowed n mostConductors (valuesFrom full 1 1 body)
   unfolding newMatrix if_then_else_
   new-full b =
       rows-lengths known n w b (λ (e : full ≡ diagonal). omega arith) (λ (e : full ≡ sparse). omega arith)
-      (λ (e : 256 ≡ 0). omega arith) refl
+      (λ (e : mostConductors ≡ 0). omega arith) refl
 
   new-rises : (form : ℕ) → form ≤ 3 → Body known n w (newMatrix form v) v body → Rising n 1 1 (valuesFrom form 1 1 body)
   new-rises =
@@ -147,7 +150,7 @@ module _ (known n w v : ℕ) (body : List Line) where
     unfolding newMatrix
     new-width f = body-width known n w b f
 
-    new-most : n ≤ 256
+    new-most : n ≤ mostConductors
     unfolding newMatrix
     new-most = body-most known n w b (omega arith) (omega arith)
 
@@ -195,9 +198,9 @@ module _ (known n w v : ℕ) (body : List Line) where
 
     full-lengths : form ≡ full → (i : ℕ) → 1 ≤ i → i ≤ n → inRow i (valuesFrom form 1 1 body) ≡ n - i + 1
     full-lengths e i low high =
-        let r : Rowed n 256 (valuesFrom full 1 1 body) = new-full (rw e at b) in
-        let g : inRow i (valuesFrom full 1 1 body) ≡ min 256 (n - i + 1) = r .lengths i low high in
-        let h : n ≤ 256 = new-most in
+        let r : Rowed n mostConductors (valuesFrom full 1 1 body) = new-full (rw e at b) in
+        let g : inRow i (valuesFrom full 1 1 body) ≡ min mostConductors (n - i + 1) = r .lengths i low high in
+        let h : n ≤ mostConductors = new-most in
         rw e (omega arith)
 
     band-lengths : form ≡ banded → (i : ℕ) → 1 ≤ i → i ≤ n → inRow i (valuesFrom form 1 1 body) ≡ 1 + min (bandwidthIn body) (n - i)

@@ -10,10 +10,12 @@ use native.Mathlib.Omega.{arith}
 use lib.ListN.{length, drop, length-take, length-drop, length-map}
 use lib.Dec.{ltb, leb, eqb}
 use borrow.Author.Tests.{eqb-true, eqb-false, eq-eqb, ltb-true, ltb-false, not-false}
+use Rattle.table_layout.specs.Codes.{endKind, sectionKind, forkKind, endforkKind}
+use Rattle.table_layout.specs.Bounds.{mostSteps}
 use Rattle.base.specs.If.{if_then_else_, both, either}
 use Rattle.base.specs.Bytes.{isBlank, carriageReturn, isBefore, isContent, isPrinted}
 use Rattle.base.specs.Runs.{run, all}
-use Rattle.base.specs.Broken.{_when_}
+use Rattle.base.specs.Broken.{_when_, first, firstBroken}
 use Rattle.base.proofs.IfLaws.{
   if-true,
   if-false,
@@ -27,41 +29,28 @@ use Rattle.base.proofs.IfLaws.{
   not-not-via,
 }
 use Rattle.base.proofs.RunLaws.{run-nil, run-cons, run-stops, run-le, all-nil, all-cons}
-use Rattle.base.proofs.BrokenLaws.{all-kept}
+use Rattle.base.proofs.BrokenLaws.{all-kept, lists-yes, lists-no}
 use Rattle.lex_line.specs.Lines.{Raw, lines, contentOf, isBlankLine}
 use Rattle.lex_line.specs.Words.{Word, wordGoesOn, grown, wordsFrom, words, firstOf, lastEnd, toEquals, rightOf}
-use Rattle.lex_line.specs.ByteRules.{mostBytes, mostCharacters, withoutReturn, characters, refusedOr, linesRule, byteRules, rawLineRule as rawRule}
+use Rattle.lex_line.specs.ByteRules.{sizeRules, mostCharacters, withoutReturn, characters, refusedOr, linesRule, byteRules, rawLineRule as rawRule}
 use Rattle.lex_line.specs.declared.Checked.{Checked}
 use Rattle.lex_line.specs.declared.Checked.the-variants.{Fine, Refused}
 use Rattle.lex_keyword.specs.Names.{icmPinMap, beginIcmModel, beginIcmSection}
 use Rattle.lex_keyword.specs.Bracket.{bracketOf}
-use Rattle.line_place.specs.Place.{isText, isInFamily, opensMatrix, isRowOrBandwidth}
+use Rattle.line_place.specs.Place.{isInFamily, opensMatrix, isRowOrBandwidth}
 use Rattle.line_place.specs.Place as place
 use Rattle.line_argument.specs.Argument.{isOneWord, isName, takesNothing, takesName, isBadArgument, isBadInteger, isOutOfBounds}
-use Rattle.line_path.specs.Path.{
-  sayingOf,
-  plainLine,
-  namesOne,
-  isSectionLine,
-  sectionLine,
-  lineSaying,
-  pathLineOf,
-  mostSteps,
-  isBadFork,
-  isPathOutOfOrder,
-  isStepLine,
-  openRule,
-  closedRule,
-  pathRule,
-}
+use Rattle.line_path.specs.Path.{sayingOf, plainLine, namesOne, isSectionLine, sectionLine, lineSaying, pathLineOf, isBadFork, isPathOutOfOrder, isStepLine, openRule, closedRule, pathRule}
 use Rattle.line_path.specs.Path as path
 use Rattle.line_path.specs.declared.Path.{Path}
+use Rattle.line_path.proofs.RuleLaws.{path-closed, path-open}
 use Rattle.line_path.specs.declared.PathLine.{PathLine}
 use Rattle.line_keyword.specs.Keywords.{isForkOpen, isMisplaced, isShapeBroken, isPastBound, keywordRule}
 use Rattle.line_keyword.specs.declared.State.{State}
 use Rattle.line_keyword.specs.declared.Counts.{Counts}
 use Rattle.read_line.specs.Reading.{lineRule, argumentFrom, commentByte, readingOf}
 use Rattle.read_line.specs.declared.Reading.the-variants.{Read}
+use Rattle.read_line.proofs.ResultLaws.{rule-path}
 use Rattle.doc.specs.Lines.{
   Line,
   plain,
@@ -78,37 +67,7 @@ use Rattle.doc.specs.Lines.{
   secondWord,
   standsIn,
 }
-use Rattle.doc.specs.Document.{
-  Named,
-  Step,
-  Model,
-  Map,
-  Section,
-  Document,
-  endKind,
-  sectionKind,
-  forkKind,
-  endforkKind,
-  sayingAt,
-  sideIn,
-  stepOf,
-  stepsIn,
-  opensModel,
-  inModel,
-  modelOf,
-  modelAt,
-  listedAt,
-  opensMap,
-  inMap,
-  pinAt,
-  mapOf,
-  mapAt,
-  opensSection,
-  sectionOf,
-  sectionAt,
-  documentIn,
-  documentOf,
-}
+use Rattle.doc.specs.Document.{Named, Step, Model, Map, Section, Document, sayingAt, sideIn, stepOf, stepsIn, opensModel, inModel, modelOf, modelAt, listedAt, opensMap, inMap, pinAt, mapOf, mapAt, opensSection, sectionOf, sectionAt, documentIn, documentOf}
 use Rattle.doc.specs.Holds.{Each}
 use Rattle.doc.specs.Way.Holds.{Stands, IsName}
 use Rattle.doc.specs.Holds.Each.{none, more}
@@ -189,11 +148,7 @@ lines-short n at p m (r ∷ rs) h =
 
 text-short : (t : List ℕ) → byteRules t ≡ Fine → Each Short (significant t)
 unfolding byteRules significant linesAt
-text-short t h =
-    lines-short 1 0 0 1 (lines t)
-    (by-cases (linesRule 1 (lines t) ≡ Fine) (ltb mostBytes (length t))
-    (λ (e : ltb mostBytes (length t) ≡ true). absurd (refused-not-fine 1 0 (sym (if-true _ _ e) ∙ h)))
-    (λ (e : ltb mostBytes (length t) ≡ false). sym (if-false _ _ e) ∙ h))
+text-short t h = lines-short 1 0 0 1 (lines t) (judged-later (firstBroken (sizeRules t)) 0 (linesRule 1 (lines t)) h)
 
 -- ---- words and their bytes
 
@@ -318,26 +273,24 @@ module _ (l : PathLine) (p : Path) (steps : ℕ) where
       (omega arith, (omega arith, (omega arith, (omega arith, (omega arith, (omega arith, tt)))))) kept 1)
 
   closed-right : closedRule l p ≡ 0 → l .right ≡ true
-  unfolding closedRule
+  unfolding closedRule first
   closed-right kept =
       by-cases (l .right ≡ true) (both (eqb (l .says) path.saysSide) (p .side))
       (λ (e : both (eqb (l .says) path.saysSide) (p .side) ≡ true).
-      not-false (l .right) (all-kept (11 when not (l .right) ∷ []) (omega arith, tt) (sym (if-true _ _ e) ∙ kept) 0))
+      not-false (l .right) (all-kept (11 when not (l .right) ∷ []) (omega arith, tt) (sym (lists-yes _ _ _ e) ∙ kept) 0))
       (λ (e : both (eqb (l .says) path.saysSide) (p .side) ≡ false).
-      let z : _≡_ {A = ℕ} 12 0 = sym (if-false _ _ e) ∙ kept in
+      let z : _≡_ {A = ℕ} 12 0 = sym (lists-no _ _ _ e) ∙ kept in
       absurd (omega arith))
 
   path-right : pathRule l p steps ≡ 0 → l .right ≡ true
-  unfolding pathRule
   path-right kept =
       by-cases (l .right ≡ true) (eqb (p .stage) path.closed)
-      (λ (e : eqb (p .stage) path.closed ≡ true). closed-right (sym (if-true _ _ e) ∙ kept))
-      (λ (e : eqb (p .stage) path.closed ≡ false). open-right (sym (if-false _ _ e) ∙ kept))
+      (λ (e : eqb (p .stage) path.closed ≡ true). closed-right (sym (path-closed l p steps e) ∙ kept))
+      (λ (e : eqb (p .stage) path.closed ≡ false). open-right (sym (path-open l p steps e) ∙ kept))
 
 path-rule : (content : List ℕ) (s : State) → s .place ≡ place.path →
     lineRule content s ≡ pathRule (pathLineOf content) (s .path) (s .counts .steps)
-unfolding lineRule isText either if_then_else_
-path-rule content s e = rw e
+path-rule content s e = rule-path content s e
 
 -- what the rules tell of a line that is read
 record Kept (l : Line) : Type 0 where

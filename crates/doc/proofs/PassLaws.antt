@@ -7,6 +7,9 @@ use Prim.Native.Nat.{ℕ}
 use native.Mathlib.Omega.{arith}
 use lib.Dec.{eqb}
 use borrow.Author.Tests.{eq-eqb, ne-eqb, eqb-true, eqb-false}
+use Rattle.table_record.specs.declared.Value.{Value}
+use Rattle.table_record.specs.declared.PinRecord.{PinRecord}
+use Rattle.table_record.specs.declared.StepRecord.{StepRecord}
 use Rattle.base.specs.If.{if_then_else_, both, either}
 use Rattle.base.proofs.IfLaws.{
   if-false,
@@ -26,52 +29,12 @@ use Rattle.line_place.specs.Place.{isInFamily, isInModel}
 use Rattle.line_place.specs.Place as place
 use Rattle.line_path.specs.Path as path
 use Rattle.doc.specs.Lines.{Line, plain, keyAt, significant, keyOf, standsIn, gather, upTo}
-use Rattle.doc.specs.Document.{
-  Model,
-  Map,
-  Value,
-  Matrix,
-  Section,
-  sayingAt,
-  sideIn,
-  stepOf,
-  stepsIn,
-  opensModel,
-  inModel,
-  modelOf,
-  modelAt,
-  opensMap,
-  inMap,
-  pinAt,
-  mapOf,
-  mapAt,
-  opensMatrixAt,
-  inMatrix,
-  matrixAt,
-  opensSection,
-  inSection,
-  sectionOf,
-  sectionAt,
-  documentIn,
-  documentOf,
-}
-use Rattle.doc.specs.Records.{PinRecord, StepRecord, pinRecord, pinRecords, stepRecord, stepRecords, matricesOf, valuesOf}
+use Rattle.doc.specs.Document.{Model, Map, Matrix, Section, sayingAt, sideIn, stepOf, stepsIn, opensModel, inModel, modelOf, modelAt, opensMap, inMap, pinAt, mapOf, mapAt, opensMatrixAt, inMatrix, matrixAt, opensSection, inSection, sectionOf, sectionAt, documentIn, documentOf}
+use Rattle.doc.specs.Records.{pinRecord, pinRecords, stepRecord, stepRecords, matricesOf, valuesOf}
 use Rattle.doc.proofs.LeadLaws.{OutsideMap, OutsideSection, model-entered, map-entered, section-entered}
-use Rattle.doc.proofs.BlockLaws.{
-  Follow,
-  none,
-  more,
-  text-follows,
-  joined,
-  Blocks,
-  ofBlock,
-  Outside,
-  parts-pass,
-  up-to-none,
-  up-to-in,
-  up-to-out,
-}
+use Rattle.doc.proofs.BlockLaws.{Follow, none, more, text-follows, joined, Blocks, ofBlock, Outside, parts-pass}
 use Rattle.doc.proofs.StepLaws.{saying-elsewhere, silent-step}
+use Rattle.doc.proofs.GatherLaws.{up-in, up-none, up-out}
 
 -- ---- steps of models
 
@@ -82,11 +45,11 @@ silent l out = saying-elsewhere l (eqb-false _ _ (either-none-first _ _ (either-
 
 -- the line after a model's last is no Side
 side-cut : (after : List Line) → sideIn (upTo inModel after) ≡ sideIn after
-side-cut [] = ap sideIn (up-to-none inModel)
+side-cut [] = ap sideIn (up-none inModel)
 side-cut (l ∷ ls) =
     by-cases (sideIn (upTo inModel (l ∷ ls)) ≡ sideIn (l ∷ ls)) (inModel l)
-    (λ (e : inModel l ≡ true). ap sideIn (up-to-in inModel l ls e))
-    (λ (e : inModel l ≡ false). ap sideIn (up-to-out inModel l ls e) ∙ sym (if-false _ _ (quiet e)))
+    (λ (e : inModel l ≡ true). ap sideIn (up-in inModel l ls e))
+    (λ (e : inModel l ≡ false). ap sideIn (up-out inModel l ls e) ∙ sym (if-false _ _ (quiet e)))
   where
     quiet : inModel l ≡ false → eqb (sayingAt l) path.saysSide ≡ false
     quiet e = rw (silent l e)
@@ -198,19 +161,19 @@ module _ (l : Line) where
 up-to-twice :
     (inner outer : Line → Bool) → ((l : Line) → inner l ≡ true → outer l ≡ true) → (ls : List Line) →
     upTo inner (upTo outer ls) ≡ upTo inner ls
-up-to-twice inner outer h [] = ap (upTo inner) (up-to-none outer)
+up-to-twice inner outer h [] = ap (upTo inner) (up-none outer)
 up-to-twice inner outer h (l ∷ ls) =
     by-cases (upTo inner (upTo outer (l ∷ ls)) ≡ upTo inner (l ∷ ls)) (inner l)
     (λ (e : inner l ≡ true).
-    ap (upTo inner) (up-to-in outer l ls (h l e))
-    ∙ up-to-in inner l (upTo outer ls) e
+    ap (upTo inner) (up-in outer l ls (h l e))
+    ∙ up-in inner l (upTo outer ls) e
     ∙ ap (λ (r : List Line). l ∷ r) (up-to-twice inner outer h ls)
-    ∙ sym (up-to-in inner l ls e))
-    (λ (e : inner l ≡ false). left e (outer l) refl ∙ sym (up-to-out inner l ls e))
+    ∙ sym (up-in inner l ls e))
+    (λ (e : inner l ≡ false). left e (outer l) refl ∙ sym (up-out inner l ls e))
   where
     left : inner l ≡ false → (b : Bool) → outer l ≡ b → upTo inner (upTo outer (l ∷ ls)) ≡ []
-    left e true o = ap (upTo inner) (up-to-in outer l ls o) ∙ up-to-out inner l (upTo outer ls) e
-    left e false o = ap (upTo inner) (up-to-out outer l ls o) ∙ up-to-none inner
+    left e true o = ap (upTo inner) (up-in outer l ls o) ∙ up-out inner l (upTo outer ls) e
+    left e false o = ap (upTo inner) (up-out outer l ls o) ∙ up-none inner
 
 matrix-cut : (l : Line) (after : List Line) → matrixAt l (upTo inSection after) ≡ matrixAt l after
 unfolding matrixAt

@@ -2,7 +2,7 @@
 -- Assumes nothing.
 use mathlib.Core.Path.{_≡_, refl, sym, _∙_, ap}
 use mathlib.Core.Bool.{Bool, true, false, not, true≢false}
-use mathlib.Core.List.{List, [], _∷_, _++_, append-assoc, append-nil}
+use mathlib.Core.List.{List, [], _∷_, _++_, append-assoc}
 use Prim.Native.Nat.{ℕ, zero, suc, _+_, _-_, _≤_, _<_}
 use native.Mathlib.Nat.{le-refl, add-zero, add-assoc}
 use native.Mathlib.Numerals.{add-one}
@@ -12,7 +12,7 @@ use lib.Seq.{drop-cons, getD-drop}
 use lib.Dec.{ltb, eqb}
 use borrow.Author.Tests.{eq-eqb, ne-eqb, eqb-true, eqb-false, lt-ltb, le-ltb, ltb-false, not-false}
 use Rattle.base.specs.If.{both}
-use Rattle.base.specs.Bytes.{lineFeed, isBlank, isBefore}
+use Rattle.base.specs.Bytes.{isBlank, isBefore}
 use Rattle.base.specs.Runs.{run, all}
 use Rattle.base.specs.Way.Class.{runEnd}
 use Rattle.base.proofs.IfLaws.{by-cases, by-test, if-true, if-false, both-first, both-second, both-not-right, not-via, not-not-via}
@@ -20,12 +20,9 @@ use Rattle.base.proofs.RunLaws.{reach-on, reach-stop, reach-past, all-cons}
 use Rattle.lex_line.specs.Lines.{isBlankLine}
 use Rattle.lex_line.specs.Way.LineEnds.{pastFeed, lineAt}
 use Rattle.lex_line.specs.declared.Line as text
-use Rattle.lex_line.specs.Words.{words, firstOf}
 use Rattle.line_place.specs.Place.{movedByLine, mapHead}
 use Rattle.lex_keyword.specs.Names.{icmPinMap, beginIcmModel, beginIcmSection}
 use Rattle.lex_keyword.specs.Bracket.{isOpen, bracketOf}
-use Rattle.lex_keyword.specs.declared.Bracket.{Bracket}
-use Rattle.lex_keyword.specs.declared.Bracket.the-variants.{Plain, Indented}
 use Rattle.read_line.specs.Reading.{commentByte}
 use Rattle.doc.specs.Lines.{Line, plain, linesAt, placeAfter, keyIn, keyAt, keyOf, gather}
 use Rattle.doc.specs.Document.{opensMap, mapAt, opensModel, modelAt, opensSection, sectionAt}
@@ -33,10 +30,10 @@ use Rattle.doc.specs.Holds.{Each}
 use Rattle.doc.specs.Holds.Each.{none, more}
 use Rattle.lex_line.specs.Way.LineFeeds.{lineFeedOf, lineFeeds}
 use Rattle.lex_line.proofs.FeedLaws.{feed-one, feed-none, feeds-none, feeds-more, feeds-told}
-use Rattle.doc.specs.Way.Found.{lineIn, linesBehind, FindsLine, IsPlain, Plainly, SkipsPlain, FindsKeyed, Amid, SkipsBytes, SkipsRest}
+use Rattle.doc.specs.Way.Found.{FindsLine, IsPlain, Plainly, SkipsPlain, FindsKeyed, Amid, SkipsBytes, SkipsRest}
 use Rattle.doc.specs.Way.Found.Amid.{ended, amid}
 use Rattle.doc.specs.declared.Found.{Found}
-use Rattle.doc.specs.declared.Passed.{Passed}
+use Rattle.doc.specs.declared.fast.Passed.{Passed}
 use Rattle.doc.proofs.FoundLaws.{pass-over, stop-here, next-further, next-inside}
 use Rattle.doc.proofs.StandsLaws.{each-append}
 

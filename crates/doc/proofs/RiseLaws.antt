@@ -9,14 +9,15 @@ use native.Mathlib.Omega.{arith}
 use lib.ListN.{length}
 use lib.Dec.{eqb}
 use borrow.Author.Tests.{eq-eqb, ne-eqb, le-leb, lt-ltb}
+use Rattle.table_record.specs.declared.Value.{Value}
+use Rattle.table_layout.specs.Codes.{diagonal, sparse}
 use Rattle.base.specs.If.{if_then_else_}
 use Rattle.base.proofs.IfLaws.{if-true, if-false, both-true, either-left, either-right}
 use Rattle.lex_line.specs.Words.{words}
 use Rattle.lex_number.specs.Number.{numberOf}
 use Rattle.lex_keyword.specs.Names.{row, bandwidth}
-use Rattle.line_matrix.specs.Matrix.{diagonal, sparse}
 use Rattle.doc.specs.Lines.{Line, plain, keyOf}
-use Rattle.doc.specs.Document.{Value, wordIn, nextRow, numbersAt, sparseAt, valuesFrom, givenBy}
+use Rattle.doc.specs.Document.{wordIn, nextRow, numbersAt, sparseAt, valuesFrom, givenBy}
 use Rattle.doc.specs.Holds.{Each, comesBefore, isInUpperHalf, rises}
 
 -- ---- values that rise

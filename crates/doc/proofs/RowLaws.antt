@@ -10,15 +10,17 @@ use native.Mathlib.Omega.{arith}
 use lib.ListN.{length}
 use lib.Dec.{eqb}
 use borrow.Author.Tests.{eq-eqb, ne-eqb, eqb-true, eqb-false, le-ltb}
+use Rattle.table_record.specs.declared.Value.{Value}
+use Rattle.table_layout.specs.Codes.{diagonal, banded, sparse}
 use Rattle.base.specs.If.{if_then_else_, both, either}
 use Rattle.base.proofs.IfLaws.{if-true, if-false, by-cases, both-first, both-second, either-rest}
 use Rattle.lex_line.specs.Words.{words}
 use Rattle.lex_keyword.specs.Names.{row}
 use Rattle.line_matrix.specs.declared.Matrix.{Matrix}
-use Rattle.line_matrix.specs.Matrix.{diagonal, banded, sparse, withBandwidth, standsAbove, stillFits, withRow}
+use Rattle.line_matrix.specs.Matrix.{withBandwidth, standsAbove, stillFits, withRow}
 use Rattle.line_matrix.specs.Matrix as matrix
 use Rattle.doc.specs.Lines.{Line}
-use Rattle.doc.specs.Document.{Value, numbersAt, valuesFrom, givenBy, bandwidthIn}
+use Rattle.doc.specs.Document.{numbersAt, valuesFrom, givenBy, bandwidthIn}
 use Rattle.doc.proofs.RiseLaws.{
   From,
   Rising,

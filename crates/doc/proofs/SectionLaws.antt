@@ -12,6 +12,7 @@ use lib.Seq.{getD-set-other}
 use lib.Dec.{eqb}
 use borrow.Author.Tests.{eq-eqb, eqb-true, eqb-false}
 use Rattle.base.specs.If.{if_then_else_, either}
+use Rattle.base.specs.Broken.{first}
 use Rattle.base.proofs.IfLaws.{
   if-true,
   if-false,
@@ -95,33 +96,11 @@ use Rattle.doc.proofs.BodyLaws.{
   section-leads,
   end-leads,
 }
-use Rattle.doc.proofs.SpanLaws.{
-  up-in,
-  up-out,
-  up-none,
-  gather-none,
-  gather-more,
-  matrix-plain,
-  matrix-kept,
-  matrix-left,
-  section-head,
-  section-first,
-  section-matrix,
-  section-left,
-  matrices-skip,
-  matrices-open,
-  opens-next,
-  opens-first,
-  plain-opens,
-  row-opens,
-  width-opens,
-  end-opens,
-  method-opens,
-  row-keeps,
-  width-keeps,
-  end-closes,
-}
+use Rattle.doc.proofs.SpanLaws.{matrix-plain, matrix-kept, matrix-left, section-head, section-first, section-matrix, section-left, matrices-skip, matrices-open, opens-next, opens-first, plain-opens, row-opens, width-opens, end-opens, method-opens, row-keeps, width-keeps, end-closes}
 use Rattle.doc.proofs.MatrixLaws.{RightMatrix, RightRows, new-some, new-right, new-rows}
+use Rattle.doc.proofs.GatherLaws.{gather-more, gather-none, up-in, up-none, up-out}
+use Rattle.read_line.proofs.CountLaws.{forgotten}
+use Rattle.table_layout.specs.Codes.{sectionMethods}
 
 -- ---- a matrix as it is written
 
@@ -332,11 +311,6 @@ no-kind s h =
     both-true _ _ (not-via (h .resistance))
     (both-true _ _ (not-via (h .inductance)) (both-true _ _ (not-via (h .conductance)) (not-via (h .capacitance))))
 
-forgotten : (seen : List Bool) (k : ℕ) → getD (set seen k false) k false ≡ false
-forgotten [] k = refl
-forgotten (b ∷ seen) zero = refl
-forgotten (b ∷ seen) (suc k) = forgotten seen k
-
 -- and what is forgotten after it changes nothing
 still-forgotten : (seen : List Bool) (k j : ℕ) → getD seen j false ≡ false → getD (set seen k false) j false ≡ false
 still-forgotten [] k j h = refl
@@ -408,13 +382,13 @@ head-key k argument s kept p =
 -- neither place takes a line without a keyword
 module _ (content : List ℕ) (s : State) (kept : lineRule content s ≡ 0) where
   section-refuses : s .place ≡ place.section → ⊥
-  unfolding lineRule isText either if_then_else_
+  unfolding lineRule first isText either if_then_else_
   section-refuses p =
       let z : _≡_ {A = ℕ} 12 0 = rw p at kept in
       omega arith
 
   head-refuses : s .place ≡ place.sectionHead → ⊥
-  unfolding lineRule isText either if_then_else_
+  unfolding lineRule first isText either if_then_else_
   head-refuses p =
       let z : _≡_ {A = ℕ} 12 0 = rw p at kept in
       omega arith
@@ -485,7 +459,7 @@ head-filled (Goes.more {s = s} {s' = s'} {e = e} {l = l} {ls = ls} q blank mv g)
 
 -- ---- the method
 
-method-most : (argument : List ℕ) → methodOf argument ≤ 2
+method-most : (argument : List ℕ) → methodOf argument ≤ sectionMethods
 unfolding methodOf
 method-most argument =
     by-test (λ (n : ℕ). n ≤ 2) _ _ _ (λ e. omega arith)
@@ -494,8 +468,8 @@ method-most argument =
 method-told : (argument : List ℕ) → isBadArgument derivationMethod argument ≡ false → methodOf argument ≤ 1
 unfolding isBadArgument isRowOrBandwidth opensMatrix takesNothing takesName takesFreeText isBadForm either if_then_else_
 method-told argument h =
-    let e : methodOf argument ≡ 2 → ⊥ = eqb-false _ _ h in
-    let g : methodOf argument ≤ 2 = method-most argument in
+    let e : methodOf argument ≡ sectionMethods → ⊥ = eqb-false _ _ h in
+    let g : methodOf argument ≤ sectionMethods = method-most argument in
     omega arith
 
 method-none : methodIn [] ≤ 1
@@ -580,11 +554,15 @@ module _ (l : Line) (ls : List Line) (s e : State) (d : e .place ≡ done) (q : 
   section-step s' (keyed k kept) g = section-at l ls s e d opens-place opens-key g
 
 module _ (l : Line) (ls : List Line) where
-  section-open : opensSection l ≡ true → sectionAt l ls ≡ sectionOf l (upTo inSection ls) ∷ []
+  pub section-matrices : sectionOf l ls .matrices ≡ gather matrixAt ls
+  unfolding sectionOf
+  section-matrices = refl
+
+  pub section-open : opensSection l ≡ true → sectionAt l ls ≡ sectionOf l (upTo inSection ls) ∷ []
   unfolding sectionAt
   section-open h = if-true _ _ h
 
-  section-skip : opensSection l ≡ false → sectionAt l ls ≡ []
+  pub section-skip : opensSection l ≡ false → sectionAt l ls ≡ []
   unfolding sectionAt
   section-skip h = if-false _ _ h
 

@@ -11,6 +11,8 @@ use native.Mathlib.Omega.{arith}
 use lib.ListN.{length, getD}
 use lib.Dec.{eqb}
 use borrow.Author.Tests.{eq-eqb, ne-eqb, eqb-true, eqb-false, leb-true, leb-false, ltb-false, not-false}
+use Rattle.table_layout.specs.Codes.{diagonal, banded, sparse}
+use Rattle.table_layout.specs.Bounds.{mostConductors, mostBandwidth}
 use Rattle.base.specs.If.{both, either}
 use Rattle.base.specs.Bytes.{within}
 use Rattle.base.specs.Broken.{Rule, _when_}
@@ -31,33 +33,7 @@ use Rattle.lex_number.specs.Integer.{wholeOf}
 use Rattle.lex_keyword.specs.Names.{row, bandwidth}
 use Rattle.line_matrix.specs.declared.Matrix.{Matrix}
 use Rattle.line_matrix.specs.declared.DataLine.{DataLine}
-use Rattle.line_matrix.specs.Matrix.{
-  diagonal,
-  banded,
-  sparse,
-  mostConductors,
-  isWrongBandwidth,
-  isWrongRow,
-  withBandwidth,
-  inRow,
-  standsAbove,
-  withRow,
-  numberCheck,
-  areFormed,
-  areBounded,
-  numbersLine,
-  sparseLine,
-  dataLineOf,
-  isDataOutOfOrder,
-  areTooMany,
-  dataRule,
-  withColumn,
-  dataNext,
-  shapeConductors,
-  isShaped,
-  isWrongShape,
-  isTooWide,
-}
+use Rattle.line_matrix.specs.Matrix.{isWrongBandwidth, isWrongRow, withBandwidth, inRow, standsAbove, withRow, numberCheck, areFormed, areBounded, numbersLine, sparseLine, dataLineOf, isDataOutOfOrder, areTooMany, dataRule, withColumn, dataNext, shapeConductors, isShaped, isWrongShape, isTooWide}
 use Rattle.doc.specs.Lines.{Line, plain, keyOf}
 use Rattle.doc.specs.Document.{givenBy}
 
@@ -78,14 +54,14 @@ columnOf l = wholeOf (firstOf (words (l .content))) .value
 -- "column value"
 pub record Pair (l : Line) : Type 0 where
   pub low : 1 ≤ columnOf l
-  pub high : columnOf l ≤ 256
+  pub high : columnOf l ≤ mostConductors
   pub formed : numberCheck (secondOf (words (l .content))) .formed ≡ true
   pub bounded : numberCheck (secondOf (words (l .content))) .bounded ≡ true
 
 -- [Row] i
 pub record Follows (m : Matrix) (i : ℕ) : Type 0 where
   pub low : 1 ≤ i
-  pub high : i ≤ 256
+  pub high : i ≤ mostConductors
   pub rowed : m .form ≡ diagonal → ⊥
   pub rises : m .form ≡ sparse → m .rows .row < i
   pub banded : (m .form ≡ sparse → ⊥) → m .band ≡ 0 → ⊥
@@ -96,7 +72,7 @@ pub record Widens (m : Matrix) (b : ℕ) : Type 0 where
   pub form : m .form ≡ banded
   pub once : m .band ≡ 0
   pub above : m .rows .row ≡ 0
-  pub high : b ≤ 255
+  pub high : b ≤ mostBandwidth
 
 -- the rows at the keyword that closes a form with rows
 pub record LastRow (n : ℕ) (m : Matrix) (v : ℕ) : Type 0 where
@@ -110,7 +86,7 @@ pub record Closed (known n : ℕ) (m : Matrix) (v : ℕ) : Type 0 where
   pub some : m .first < v
   pub same : (known ≡ 0) ⊎ (known ≡ n)
   pub down : m .form ≡ diagonal → v - m .first ≡ n
-  pub narrow : m .form ≡ diagonal → n ≤ 256
+  pub narrow : m .form ≡ diagonal → n ≤ mostConductors
   pub fits : m .form ≡ sparse → m .rows .fits ≡ true
   pub named : m .form ≡ sparse → m .rows .greatest ≡ n
   pub rows : (m .form ≡ diagonal → ⊥) → (m .form ≡ sparse → ⊥) → LastRow n m v
@@ -161,7 +137,7 @@ module _ (known : ℕ) (m : Matrix) (v : ℕ) (wrong : isWrongShape m known v �
       told (inl e) = inl (eqb-true _ _ e)
       told (inr e) = inr (eqb-true _ _ e)
 
-  closed-narrow : m .form ≡ diagonal → shapeConductors m v ≤ 256
+  closed-narrow : m .form ≡ diagonal → shapeConductors m v ≤ mostConductors
   unfolding isTooWide
   closed-narrow d = ltb-false mostConductors (shapeConductors m v) (sym (both-rest _ _ (eq-eqb _ _ d)) ∙ wide)
 
@@ -232,10 +208,10 @@ module _ (m : Matrix) (i : ℕ) (wrong : isWrongRow i m ≡ false) where
     row-next : i ≡ m .rows .row + 1
     row-next = eqb-true _ _ (not-false _ (either-none-second _ _ row-rest))
 
-  pub row-told : 1 ≤ i → i ≤ 256 → Follows m i
+  pub row-told : 1 ≤ i → i ≤ mostConductors → Follows m i
   row-told a b = record { low = a; high = b; rowed = row-rowed; rises = row-rises; banded = row-banded; next = row-next }
 
-pub width-told : (m : Matrix) (b : ℕ) → isWrongBandwidth m ≡ false → b ≤ 255 → Widens m b
+pub width-told : (m : Matrix) (b : ℕ) → isWrongBandwidth m ≡ false → b ≤ mostBandwidth → Widens m b
 unfolding isWrongBandwidth
 width-told m b wrong h =
     let rest : either (not (eqb (m .band) 0)) (not (eqb (m .rows .row) 0)) ≡ false = either-none-second _ _ wrong in
@@ -281,7 +257,7 @@ numbers-told : (m : Matrix) (v : ℕ) (l : Line) → dataRule (numbersLine (word
 unfolding numbersLine
 numbers-told m v l kept = record { formed = data-formed _ m v kept; bounded = data-bounded _ m v kept }
 
-numbers-count : (ws : List (List ℕ)) → numbersLine ws .numbers ≡ length ws
+pub numbers-count : (ws : List (List ℕ)) → numbersLine ws .numbers ≡ length ws
 unfolding numbersLine
 numbers-count ws = refl
 
@@ -293,7 +269,7 @@ pairLine ws =
       column = wholeOf (firstOf ws) .value;
       right = true;
       formed = both (wholeOf (firstOf ws) .formed) (numberCheck (secondOf ws) .formed);
-      bounded = both (within 1 256 (wholeOf (firstOf ws) .value)) (numberCheck (secondOf ws) .bounded);
+      bounded = both (within 1 mostConductors (wholeOf (firstOf ws) .value)) (numberCheck (secondOf ws) .bounded);
     }
 
 sparse-two : (ws : List (List ℕ)) → sparseLine ws .right ≡ true → sparseLine ws ≡ pairLine ws
@@ -308,10 +284,10 @@ unfolding within
 pair-told m v l kept =
     let f : both (wholeOf (firstOf (words (l .content))) .formed) (numberCheck (secondOf (words (l .content))) .formed) ≡ true =
     data-formed _ m v kept in
-    let b : both (within 1 256 (columnOf l)) (numberCheck (secondOf (words (l .content))) .bounded) ≡ true = data-bounded _ m v kept in
+    let b : both (within 1 mostConductors (columnOf l)) (numberCheck (secondOf (words (l .content))) .bounded) ≡ true = data-bounded _ m v kept in
     record {
       low = leb-true 1 (columnOf l) (both-first _ _ (both-first _ _ b));
-      high = leb-true (columnOf l) 256 (both-second _ _ (both-first _ _ b));
+      high = leb-true (columnOf l) mostConductors (both-second _ _ (both-first _ _ b));
       formed = both-second _ _ f;
       bounded = both-second _ _ b;
     }

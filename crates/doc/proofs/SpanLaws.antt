@@ -1,22 +1,12 @@
 -- The lines of a section and of its matrices: where they end, and which matrices the document takes from them.
 -- Assumes nothing.
-use mathlib.Core.Path.{_≡_, refl, sym, _∙_, ap}
-use mathlib.Core.Bool.{Bool, true, false}
+use mathlib.Core.Path.{_≡_, _∙_, ap}
+use mathlib.Core.Bool.{true, false}
 use mathlib.Core.List.{List, [], _∷_, _++_}
 use lib.Dec.{eqb}
 use borrow.Author.Tests.{eq-eqb, eqb-true}
 use Rattle.base.specs.If.{either}
-use Rattle.base.proofs.IfLaws.{
-  if-true,
-  if-false,
-  by-cases,
-  both-true,
-  both-first,
-  both-not-right,
-  either-left,
-  either-right,
-  either-false,
-}
+use Rattle.base.proofs.IfLaws.{if-true, if-false, both-true, both-first, both-second, both-not-right, either-left, either-right, either-false}
 use Rattle.lex_keyword.specs.Names.{row, bandwidth, endIcmSection, derivationMethod}
 use Rattle.line_place.specs.Place.{opensMatrix, isRowOrBandwidth}
 use Rattle.line_place.specs.Place as place
@@ -24,46 +14,7 @@ use Rattle.line_argument.specs.Argument.{formOf}
 use Rattle.line_matrix.specs.Matrix as matrix
 use Rattle.doc.specs.Lines.{Line, plain, keyOf, argumentOf, gather, upTo}
 use Rattle.doc.specs.Document.{Matrix, matrixOf, matrixAt, opensMatrixAt, inMatrix, inSection}
-
--- ---- lines up to one that does not pass a test
-
-module _ (inside : Line → Bool) (l : Line) (ls : List Line) where
-  pub up-in : inside l ≡ true → upTo inside (l ∷ ls) ≡ l ∷ upTo inside ls
-  unfolding upTo
-  up-in e = if-true _ _ e
-
-  pub up-out : inside l ≡ false → upTo inside (l ∷ ls) ≡ []
-  unfolding upTo
-  up-out e = if-false _ _ e
-
-pub up-none : (inside : Line → Bool) → upTo inside [] ≡ []
-unfolding upTo
-up-none inside = refl
-
--- a narrower test of what a wider one leaves
-pub up-up :
-    (narrow wide : Line → Bool) → ((l : Line) → narrow l ≡ true → wide l ≡ true) → (ls : List Line) →
-    upTo narrow (upTo wide ls) ≡ upTo narrow ls
-up-up narrow wide h [] = ap (upTo narrow) (up-none wide)
-up-up narrow wide h (l ∷ ls) =
-    by-cases (upTo narrow (upTo wide (l ∷ ls)) ≡ upTo narrow (l ∷ ls)) (narrow l)
-    (λ (e : narrow l ≡ true).
-    ap (upTo narrow) (up-in wide l ls (h l e)) ∙ up-in narrow l (upTo wide ls) e ∙ ap (λ (xs : List Line). l ∷ xs) (up-up narrow wide h ls)
-    ∙ sym (up-in narrow l ls e))
-    (λ (e : narrow l ≡ false).
-    by-cases (upTo narrow (upTo wide (l ∷ ls)) ≡ upTo narrow (l ∷ ls)) (wide l)
-    (λ (f : wide l ≡ true). ap (upTo narrow) (up-in wide l ls f) ∙ up-out narrow l (upTo wide ls) e ∙ sym (up-out narrow l ls e))
-    (λ (f : wide l ≡ false). ap (upTo narrow) (up-out wide l ls f) ∙ up-none narrow ∙ sym (up-out narrow l ls e)))
-
-pub gather-none : {A : Type 0} (here : Line → List Line → List A) → gather here [] ≡ []
-unfolding gather
-gather-none here = refl
-
-pub gather-more :
-    {A : Type 0} (here : Line → List Line → List A) (l : Line) (ls : List Line) →
-    gather here (l ∷ ls) ≡ here l ls ++ gather here ls
-unfolding gather
-gather-more here l ls = refl
+use Rattle.doc.proofs.GatherLaws.{up-in, up-up, gather-more}
 
 -- ---- the lines of a matrix, and of a section
 
@@ -99,6 +50,10 @@ module _ (l : Line) where
   pub matrix-inside : inMatrix l ≡ true → inSection l ≡ true
   unfolding inMatrix
   matrix-inside h = section-matrix (eqb-true _ _ (both-first _ _ h))
+
+  pub opening-key : opensMatrixAt l ≡ true → opensMatrix (keyOf l) ≡ true
+  unfolding opensMatrixAt
+  opening-key k = both-second _ _ k
 
 -- a line of a section that opens no matrix
 module _ (l : Line) (ls : List Line) where

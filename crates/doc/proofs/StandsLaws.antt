@@ -23,7 +23,7 @@ use Rattle.lex_line.specs.declared.Line as text
 use Rattle.lex_line.specs.Words.{Word, wordsFrom, lastEnd, toEquals}
 use Rattle.lex_line.specs.Way.Spans.{wordSpan}
 use Rattle.lex_line.proofs.LineLaws.{content-before-feed}
-use Rattle.lex_line.proofs.WordLaws.{words-none, words-at, end-past}
+use Rattle.lex_line.proofs.WordLaws.{words-none, words-at, end-past, start-on}
 use Rattle.lex_keyword.specs.Bracket.{bracketOf}
 use Rattle.line_place.specs.Place as place
 use Rattle.line_path.specs.Path as path
@@ -74,7 +74,7 @@ use Rattle.doc.specs.Holds.{Each}
 use Rattle.doc.specs.Way.Holds.{Stands}
 use Rattle.doc.specs.Holds.Each.{none, more}
 use Rattle.doc.proofs.FoundLaws.{pass-over, stop-here, next-further, content-ordered, content-inside, nothing-left}
-use Rattle.doc.proofs.ExtentLaws.{start-after, argument-in-line}
+use Rattle.doc.proofs.ExtentLaws.{argument-in-line}
 
 -- ---- every one of a list
 
@@ -141,7 +141,7 @@ module _ (t : List ℕ) (a : ℕ) (s : List ℕ) (h : Stands t (record { start =
 
   words-from : (n from : ℕ) → length s - from ≤ n → Each (Stands t) (wordsFrom (a + from) (drop from s))
   words-from zero from k =
-      let e : from ≤ wordSpan s from .start = start-after s from in
+      let e : from ≤ wordSpan s from .start = start-on s from in
       rw (words-none a s from (omega arith)) none
   words-from (suc n) from k =
       by-cases (Each (Stands t) (wordsFrom (a + from) (drop from s))) (leb (length s) (wordSpan s from .start))

@@ -9,6 +9,7 @@ use native.Mathlib.Omega.{arith}
 use lib.ListN.{length}
 use lib.Dec.{eqb, leb}
 use borrow.Author.Tests.{eq-eqb, ne-eqb, eqb-true, eqb-false}
+use Rattle.table_layout.specs.Bounds.{mostSteps}
 use Rattle.base.specs.If.{if_then_else_, both, either}
 use Rattle.base.specs.Broken.{Rule, _when_}
 use Rattle.base.specs.Bytes.{bytes}
@@ -16,30 +17,16 @@ use Rattle.base.specs.Runs.{same}
 use Rattle.base.proofs.IfLaws.{if-true, if-false, by-test, by-cases, both-true, both-not-left, both-not-right, not-via, not-not-via}
 use Rattle.base.proofs.BrokenLaws.{Numbered, all-kept}
 use Rattle.lex_line.specs.Words.{words, firstOf}
-use Rattle.line_place.specs.Place.{isText}
 use Rattle.line_place.specs.Place as place
-use Rattle.line_path.specs.Path.{
-  sayingOf,
-  plainLine,
-  isSectionLine,
-  sectionLine,
-  lineSaying,
-  pathLineOf,
-  closed,
-  mostSteps,
-  isBadFork,
-  isPathOutOfOrder,
-  isStepLine,
-  openRule,
-  pathRule,
-}
+use Rattle.line_path.specs.Path.{sayingOf, plainLine, isSectionLine, sectionLine, lineSaying, pathLineOf, closed, isBadFork, isPathOutOfOrder, isStepLine, openRule, pathRule}
 use Rattle.line_path.specs.Path as path
 use Rattle.line_path.specs.declared.Path.{Path}
 use Rattle.line_path.specs.declared.PathLine.{PathLine}
-use Rattle.line_path.proofs.RuleLaws.{closed-other}
+use Rattle.line_path.proofs.RuleLaws.{closed-other, path-closed, path-open}
 use Rattle.line_keyword.specs.Keywords.{oneMoreIf}
 use Rattle.line_keyword.specs.declared.State.{State}
 use Rattle.read_line.specs.Reading.{lineRule}
+use Rattle.read_line.proofs.ResultLaws.{rule-path}
 use Rattle.doc.specs.Lines.{Line, plain, keyOf, standsIn}
 use Rattle.doc.specs.Document.{Step, sayingAt, stepOf}
 
@@ -114,8 +101,7 @@ saying-keyed l k = if-false _ _ (both-not-right _ _ k)
 pub path-ruled :
     (content : List ℕ) (s : State) → s .place ≡ place.path → lineRule content s ≡ 0 →
     pathRule (pathLineOf content) (s .path) (s .counts .steps) ≡ 0
-unfolding lineRule isText either if_then_else_
-path-ruled content s e h = rw e at h
+path-ruled content s e h = sym (rule-path content s e) ∙ h
 
 module _ (l : PathLine) (p : Path) (steps : ℕ) where
   abbrev openRules : List Rule
@@ -144,13 +130,12 @@ module _ (l : PathLine) (p : Path) (steps : ℕ) where
   pub path-says :
       pathRule l p steps ≡ 0 → eqb (l .says) path.saysSide ≡ false → eqb (l .says) path.saysSection ≡ false → eqb (l .says) path.saysFork ≡ false →
       eqb (l .says) path.saysEnd ≡ false → eqb (l .says) path.saysEndfork ≡ false → ⊥
-  unfolding pathRule
   path-says h a b c d e =
       by-cases ⊥ (eqb (p .stage) closed)
       (λ (t : eqb (p .stage) closed ≡ true).
-      let z : 12 ≡ 0 = closed-other l p (eqb-false _ _ a) ∙ sym (if-true _ _ t) ∙ h in
+      let z : 12 ≡ 0 = closed-other l p (eqb-false _ _ a) ∙ sym (path-closed l p steps t) ∙ h in
       omega arith)
-      (λ (t : eqb (p .stage) closed ≡ false). true≢false (sym (nothing-disorderly a b c d e) ∙ orderly (sym (if-false _ _ t) ∙ h)))
+      (λ (t : eqb (p .stage) closed ≡ false). true≢false (sym (nothing-disorderly a b c d e) ∙ orderly (sym (path-open l p steps t) ∙ h)))
 
 -- ---- the steps that it gives
 

@@ -4,11 +4,13 @@
 use mathlib.Core.Path.{_≡_, refl, sym, _∙_, ap}
 use mathlib.Core.Bool.{true, false, not, true≢false}
 use mathlib.Core.List.{List, [], _∷_, _++_, append-nil}
-use Prim.Native.Nat.{ℕ, suc, _+_}
+use Prim.Native.Nat.{ℕ, _+_}
 use native.Mathlib.Omega.{arith}
 use lib.ListN.{length, length-append}
 use lib.Dec.{eqb}
 use borrow.Author.Tests.{eq-eqb, ne-eqb, eqb-true, not-false, not-true}
+use Rattle.table_record.specs.declared.Value.{Value}
+use Rattle.table_layout.specs.Codes.{diagonal, sparse}
 use Rattle.base.specs.If.{if_then_else_, either}
 use Rattle.base.specs.Broken.{Rule, _when_}
 use Rattle.base.proofs.IfLaws.{
@@ -28,45 +30,24 @@ use Rattle.base.proofs.IfLaws.{
 use Rattle.base.proofs.BrokenLaws.{Numbered, all-kept}
 use Rattle.lex_line.specs.Words.{words}
 use Rattle.lex_keyword.specs.Names.{row, bandwidth}
-use Rattle.line_place.specs.Place.{isText, opensMatrix, isRowOrBandwidth}
+use Rattle.line_place.specs.Place.{opensMatrix, isRowOrBandwidth}
 use Rattle.line_place.specs.Place as place
 use Rattle.line_argument.specs.Argument.{formOf}
-use Rattle.line_matrix.specs.Matrix.{
-  diagonal,
-  sparse,
-  newMatrix,
-  withRow,
-  withBandwidth,
-  withColumn,
-  numbersLine,
-  sparseLine,
-  dataLineOf,
-  isDataOutOfOrder,
-  areTooMany,
-  dataRule,
-  dataNext,
-}
+use Rattle.line_matrix.specs.Matrix.{newMatrix, withRow, withBandwidth, withColumn, sparseLine, dataLineOf, isDataOutOfOrder, areTooMany, dataRule, dataNext}
 use Rattle.line_matrix.specs.declared.Matrix as matrix
 use Rattle.line_matrix.specs.declared.DataLine.{DataLine}
 use Rattle.line_keyword.specs.Keywords.{matrixAfter, countsAfter, keywordNext}
 use Rattle.line_keyword.specs.declared.State.{State}
 use Rattle.read_line.specs.Reading.{lineRule, lineNext, countsAfterLine}
+use Rattle.read_line.proofs.ResultLaws.{rule-matrix}
 use Rattle.doc.specs.Lines.{Line, plain, placeAfter, keyOf, argumentOf, gather, upTo}
-use Rattle.doc.specs.Document.{
-  Value,
-  Matrix,
-  givenBy,
-  nextRow,
-  numbersAt,
-  valuesFrom,
-  opensMatrixAt,
-  inMatrix,
-  matrixOf,
-  matrixAt,
-}
+use Rattle.doc.specs.Document.{Matrix, givenBy, numbersAt, valuesFrom, opensMatrixAt, inMatrix, matrixOf, matrixAt}
 use Rattle.doc.proofs.Goes.{Moves, idle, plainly, keyed, Goes, none, more, idle-outside, moves-place}
 use Rattle.doc.proofs.LeadLaws.{matrix-entered}
-use Rattle.doc.proofs.BlockLaws.{gather-none, gather-more, up-to-none, up-to-in, up-to-out, joined, joined-append, Outside}
+use Rattle.doc.proofs.BlockLaws.{joined, joined-append, Outside}
+use Rattle.doc.proofs.GatherLaws.{gather-more, gather-none, up-in, up-none, up-out}
+use Rattle.doc.proofs.RiseLaws.{numbers-length}
+use Rattle.doc.proofs.ShapeLaws.{numbers-count}
 
 -- ---- the numbers of a matrix, by its lines
 
@@ -79,11 +60,6 @@ numbersOn form l = if eqb (keyOf l) plain then numbersBy form (l .content) else 
 numbersIn : ℕ → List Line → ℕ
 numbersIn form [] = 0
 numbersIn form (l ∷ ls) = numbersOn form l + numbersIn form ls
-
-numbers-long : (form r c : ℕ) (ws : List (List ℕ)) → length (numbersAt form r c ws) ≡ length ws
-unfolding numbersAt
-numbers-long form r c [] = refl
-numbers-long form r c (w ∷ ws) = ap suc (numbers-long form (nextRow form r) (c + 1) ws)
 
 module _ (form : ℕ) (l : Line) where
   number-none : eqb (keyOf l) plain ≡ false → numbersOn form l ≡ 0
@@ -122,7 +98,7 @@ values-long form r c (l ∷ ls) =
     omega arith)
     (λ (g : eqb form sparse ≡ false).
     let z : numbersOn form l ≡ length (words (l .content)) = number-words form l (not-false _ f) g in
-    let a : length (numbersAt form r c (words (l .content))) ≡ length (words (l .content)) = numbers-long form r c (words (l .content)) in
+    let a : length (numbersAt form r c (words (l .content))) ≡ length (words (l .content)) = numbers-length form r c (words (l .content)) in
     along (numbersAt form r c (words (l .content))) _
     (values-long form (if eqb form diagonal then r + length (words (l .content)) else r) (c + length (words (l .content))) ls)
     (a ∙ sym z))))
@@ -137,8 +113,7 @@ values-long form r c (l ∷ ls) =
 data-ruled :
     (content : List ℕ) (s : State) → s .place ≡ place.matrix → lineRule content s ≡ 0 →
     dataRule (dataLineOf (s .matrix .form) content) (s .matrix) (s .counts .values) ≡ 0
-unfolding lineRule isText either if_then_else_
-data-ruled content s e h = rw e at h
+data-ruled content s e h = sym (rule-matrix content s e) ∙ h
 
 module _ (l : DataLine) (m : matrix.Matrix) (values : ℕ) where
   abbrev dataRules : List Rule
@@ -163,10 +138,6 @@ sparse-one ws =
     (λ (e : eqb (length ws) 2 ≡ true) (h : true ≡ true). refl)
     (λ (e : eqb (length ws) 2 ≡ false) (h : false ≡ true). absurd (true≢false (sym h)))
 
-numbers-all : (ws : List (List ℕ)) → numbersLine ws .numbers ≡ length ws
-unfolding numbersLine
-numbers-all ws = refl
-
 -- it has as many numbers as it writes values
 data-numbers :
     (form : ℕ) (content : List ℕ) → dataLineOf form content .right ≡ true → dataLineOf form content .numbers ≡ numbersBy form content
@@ -177,7 +148,7 @@ data-numbers form content =
     let f : dataLineOf form content ≡ sparseLine (words content) = if-true _ _ e in
     ap (λ (d : DataLine). d .numbers) f ∙ sparse-one (words content) (ap (λ (d : DataLine). d .right) (sym f) ∙ h) ∙ sym (if-true _ _ e))
     (λ (e : eqb form sparse ≡ false) (h : dataLineOf form content .right ≡ true).
-    ap (λ (d : DataLine). d .numbers) (if-false _ _ e) ∙ numbers-all (words content) ∙ sym (if-false _ _ e))
+    ap (λ (d : DataLine). d .numbers) (if-false _ _ e) ∙ numbers-count (words content) ∙ sym (if-false _ _ e))
 
 -- ---- how a line changes the count of values and the form
 
@@ -349,7 +320,7 @@ module _ {s s' e : State} (l : Line) (ls : List Line) (p : l .place ≡ s .place
       let body :
       numbersIn (s .matrix .form) (upTo inMatrix (l ∷ ls))
       ≡ numbersOn (s .matrix .form) l + numbersIn (s .matrix .form) (upTo inMatrix ls) =
-      ap (numbersIn (s .matrix .form)) (up-to-in inMatrix l ls t) in
+      ap (numbersIn (s .matrix .form)) (up-in inMatrix l ls t) in
       let rest : e .counts .values ≡ s' .counts .values + numbersIn (s .matrix .form) (upTo inMatrix ls) + valuesIn ls =
       rw (grows .form) at (later .within) in
       omega arith
@@ -359,7 +330,7 @@ module _ {s s' e : State} (l : Line) (ls : List Line) (p : l .place ≡ s .place
       e .counts .values ≡ s .counts .values + numbersIn (s .matrix .form) (upTo inMatrix (l ∷ ls)) + valuesIn (l ∷ ls)
   unfolding numbersIn
   tally-left t =
-      let z : numbersIn (s .matrix .form) (upTo inMatrix (l ∷ ls)) ≡ 0 = ap (numbersIn (s .matrix .form)) (up-to-out inMatrix l ls t) in
+      let z : numbersIn (s .matrix .form) (upTo inMatrix (l ∷ ls)) ≡ 0 = ap (numbersIn (s .matrix .form)) (up-out inMatrix l ls t) in
       let rest : e .counts .values ≡ s .counts .values + valuesIn (l ∷ ls) = tally-outside t in
       omega arith
 
@@ -367,7 +338,7 @@ tallied : {s e : State} (ls : List Line) → Goes s ls e → Tallied s ls e
 unfolding numbersIn
 tallied {s} [] none =
     let a : valuesIn [] ≡ 0 = values-none in
-    let b : numbersIn (s .matrix .form) (upTo inMatrix []) ≡ 0 = ap (numbersIn (s .matrix .form)) (up-to-none inMatrix) in
+    let b : numbersIn (s .matrix .form) (upTo inMatrix []) ≡ 0 = ap (numbersIn (s .matrix .form)) (up-none inMatrix) in
     record { within = omega arith; without = λ (o : Unit {0}). omega arith }
 tallied (l ∷ ls) (more p b m g) =
     record {

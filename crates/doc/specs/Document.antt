@@ -2,10 +2,12 @@
 -- matrices and values. Every text has one, also a text that is refused; the rules are elsewhere.
 -- Assumes nothing.
 use Prim.Native.Nat.{ℕ, _+_, _-_, max}
-use mathlib.Core.Bool.{Bool, true, false, not}
+use mathlib.Core.Bool.{Bool, false, not}
 use mathlib.Core.List.{List, [], _∷_, _++_}
 use lib.ListN.{length}
 use lib.Dec.{eqb}
+use Rattle.table_record.specs.declared.Value.{Value}
+use Rattle.table_layout.specs.Codes.{diagonal, sparse, endKind, sectionKind, forkKind, endforkKind, resistanceKind, inductanceKind, conductanceKind, capacitanceKind}
 use Rattle.base.specs.If.{if_then_else_, both, either}
 use Rattle.lex_line.specs.Words.{Word, words, firstOf, secondOf, rightOf}
 use Rattle.lex_number.specs.Number.{numberOf}
@@ -32,7 +34,6 @@ use Rattle.line_path.specs.Path.{sayingOf, isMult}
 use Rattle.line_path.specs.Path as path
 use Rattle.line_map.specs.PinMap.{mapLineOf, mapNext, newMap}
 use Rattle.line_map.specs.declared.Map as pinMap
-use Rattle.line_matrix.specs.Matrix.{diagonal, sparse}
 use Rattle.doc.specs.Lines.{
   Line,
   plain,
@@ -79,11 +80,6 @@ pub record Map : Type 0 where
   pub columns : ℕ
   pub pins : List Named
 
-pub record Value : Type 0 where
-  pub row : ℕ
-  pub column : ℕ
-  pub word : ℕ
-
 pub record Matrix : Type 0 where
   pub kind : ℕ
   pub form : ℕ
@@ -105,18 +101,6 @@ pub record Document : Type 0 where
   pub sections : List Section
 
 -- ---- paths
-
-abbrev pub endKind : ℕ
-endKind = 0
-
-abbrev pub sectionKind : ℕ
-sectionKind = 1
-
-abbrev pub forkKind : ℕ
-forkKind = 2
-
-abbrev pub endforkKind : ℕ
-endforkKind = 3
 
 -- the value word of a number, 0 if it is malformed or out of range
 abbrev pub wordIn : Number → ℕ
@@ -215,9 +199,9 @@ mapAt l after = if opensMap l then mapOf l (upTo inMap after) ∷ [] else []
 -- "R L G C"
 unfoldable pub kindOf : ℕ → ℕ
 kindOf key =
-    if eqb key resistanceMatrix then 0 else
-    if eqb key inductanceMatrix then 1 else
-    if eqb key conductanceMatrix then 2 else 3
+    if eqb key resistanceMatrix then resistanceKind else
+    if eqb key inductanceMatrix then inductanceKind else
+    if eqb key conductanceMatrix then conductanceKind else capacitanceKind
 
 unfoldable pub opensMatrixAt : Line → Bool
 opensMatrixAt l = both (either (eqb (l .place) place.section) (eqb (l .place) place.matrix)) (opensMatrix (keyOf l))

@@ -5,8 +5,8 @@ use Prim.Native.Nat.{ℕ}
 use mathlib.Core.Bool.{Bool, true}
 use mathlib.Core.List.{List, [], _∷_}
 use lib.Dec.{leb, ltb, eqb}
+use Rattle.table_record.specs.declared.Value.{Value}
 use Rattle.base.specs.If.{both, either}
-use Rattle.doc.specs.Document.{Value}
 
 -- P holds of every element of a list
 pub data Each {A : Type 0} (P : A → Type 0) : List A → Type 0 where

@@ -1,18 +1,17 @@
 // Finds the significant lines of a text (neither blank nor all comment) and the words of such a line, by their offsets.
 ghost use mathlib.Core.Path.{_≡_};
 ghost use Prim.Native.Nat.{_+_, _≤_};
-ghost use lib.ListN.{length, take, drop};
-ghost use Rattle.base.specs.Runs.{all};
-ghost use Rattle.base.specs.Way.Class.{runEnd};
-ghost use Rattle.base.specs.Bytes.{isBefore};
-ghost use Rattle.lex_line.specs.Way.LineEnds.{pastFeed};
+ghost use lib.ListN.{length};
 ghost use Rattle.lex_line.specs.Words.{wordsFrom};
 ghost use Rattle.line_keyword.specs.Way.Bounded.{mostLines};
+ghost use Rattle.doc.specs.Document.{wordIn};
 ghost use Rattle.doc.specs.Lines.{keyIn, argumentIn, firstWord, secondWord, placeAfter, argumentOf};
-ghost use Rattle.doc.specs.Way.Found.{extentOf, extentAt, FindsLine, Located, contentIn, lineIn, SkipsPlain, SkipsBytes, SkipsRest, FindsKeyed};
-use base::Class;
+ghost use Rattle.doc.specs.Way.Found.{extentOf, extentAt, FindsLine, Located, contentIn, lineIn, FindsKeyed};
 use lex_keyword::Bracket;
 use lex_line::Span;
+use lex_number::Number;
+
+pub mod fast;
 
 // "From `|` on, a line is comment".
 const COMMENT: u8 = b'|';
@@ -21,9 +20,6 @@ const COMMENT: u8 = b'|';
 const OPEN: u8 = b'[';
 
 const LINE_FEED: u8 = 10;
-
-// How many bytes are looked at together.
-const BLOCK: usize = 16;
 
 // The number that is used as the keyword of a line without one.
 pub const PLAIN: u64 = 41;
@@ -38,12 +34,6 @@ pub struct Found {
     pub next: usize,
     pub key: u64,
     pub argument: usize,
-}
-
-// Where lines have been skipped to: the offset of the next line, and which line that is.
-pub struct Passed {
-    pub at: usize,
-    pub line: u64,
 }
 
 // A word of the text: where it starts, and how many bytes it has.
@@ -116,104 +106,6 @@ pub fn next_line(text: &[u8], at: usize, line: u64) -> Found
     }
 }
 
-// Where the line after the one at offset `at` starts. The content of the line is not looked at.
-fn past_line(text: &[u8], at: usize) -> usize
-    ensures { λ r. ⌜ r ≡ pastFeed (now (text .entry)) (runEnd (isBefore 10) (now (text .entry)) at) ⌝ }
-{
-    let mut i = at;
-    while i < text.len() {
-        if text[i] == LINE_FEED {
-            return i + 1;
-        }
-        i += 1;
-    }
-    i
-}
-
-// Whether none of sixteen bytes is a `[`. Every byte is looked at, so that a processor can do them all at once.
-fn is_closed(text: &[u8], from: usize) -> bool
-    requires { ⌜ from + 16 ≤ length (now text) ⌝ }
-    ensures { λ r. ⌜ r ≡ all (isBefore 91) (take 16 (drop from (now (text .entry)))) ⌝ }
-{
-    let end = from + BLOCK;
-    let mut whole = true;
-    let mut i = from;
-    while i < end {
-        whole = base::and(whole, base::in_class(Class::Before(OPEN), text[i]));
-        i += 1;
-    }
-    whole
-}
-
-// Skips all blocks of sixteen bytes from offset `at` on that have no `[`: no line starts with one there. The last line
-// of the blocks may go on after them.
-fn past_blocks(text: &[u8], at: usize, line: u64) -> Passed
-    requires { ⌜ (at ≤ length (now text)) × (line ≤ at + 1) ⌝ }
-    ensures { λ r. ⌜ SkipsBytes (now (text .entry)) line at r ⌝ }
-{
-    let mut here = at;
-    let mut count = line;
-    while BLOCK <= text.len() - here {
-        if !is_closed(text, here) {
-            return Passed {
-                at: here,
-                line: count,
-            };
-        }
-        count += lex_line::line_feeds_in(text, here) as u64;
-        here += BLOCK;
-    }
-    Passed {
-        at: here,
-        line: count,
-    }
-}
-
-// Skips the rest of the line to which the byte before `at` belongs: nothing if that byte is an LF.
-fn past_rest(text: &[u8], at: usize, line: u64) -> Passed
-    requires { ⌜ (1 ≤ at) × (at ≤ length (now text)) × (line ≤ at + 1) ⌝ }
-    ensures { λ r. ⌜ SkipsRest (now (text .entry)) line at r ⌝ }
-{
-    if text[at - 1] == LINE_FEED {
-        return Passed { at, line };
-    }
-    Passed {
-        at: past_line(text, at),
-        line: line + 1,
-    }
-}
-
-// Skips the lines from offset `at` on that do not start with `[`. None of them has a keyword, not even one with a
-// bracket after blanks.
-pub fn past_plain(text: &[u8], at: usize, line: u64) -> Passed
-    requires { ⌜ (at ≤ length (now text)) × (line ≤ at + 1) ⌝ }
-    ensures { λ r. ⌜ SkipsPlain (now (text .entry)) line at r ⌝ }
-{
-    let mut here = at;
-    let mut count = line;
-    while here < text.len() {
-        let first = text[here];
-        if first == OPEN {
-            return Passed {
-                at: here,
-                line: count,
-            };
-        }
-        let mid = past_blocks(
-            text,
-            here + 1,
-            count + (lex_line::line_feed_of(first) as u64),
-        );
-        let passed = past_rest(text, mid.at, mid.line);
-        here = passed.at;
-        count = passed.line;
-    }
-    Passed {
-        at: here,
-        line: count,
-    }
-}
-
 // The next line, for a search that needs only lines with a keyword: lines without one are skipped. In the head of a map
 // such a line can lead to another place too, so there none is skipped.
 pub fn next_keyed(text: &[u8], at: usize, line: u64, place: u64) -> Found
@@ -223,7 +115,7 @@ pub fn next_keyed(text: &[u8], at: usize, line: u64, place: u64) -> Found
     if place == line_place::MAP_HEAD {
         return next_line(text, at, line);
     }
-    let passed = past_plain(text, at, line);
+    let passed = fast::past_plain(text, at, line);
     next_line(text, passed.at, passed.line)
 }
 
@@ -288,5 +180,16 @@ pub fn argument_extent(text: &[u8], line: Found) -> Extent
     Extent {
         start: at + line.argument,
         size: argument.len(),
+    }
+}
+
+// The value word that a number writes; 0 where it writes none.
+pub fn word_in(number: Number) -> u64
+    ensures { λ r. ⌜ r ≡ wordIn number ⌝ }
+{
+    match number {
+        Number::Value(word) => word,
+        Number::Malformed => 0,
+        Number::Range => 0,
     }
 }

@@ -8,14 +8,6 @@ use table_layout::View;
 // The longest file that the program takes, in bytes.
 const MOST: usize = 65536;
 
-// How many words the record of a section has, and which of them is N.
-const SECTION_WORDS: usize = 8;
-
-const CONDUCTORS: usize = 3;
-
-// No kind: R, L, G and C are 0 to 3.
-const NO_KIND: u64 = 4;
-
 // Room for a text, with one byte more so that a longer one is recognized, and for the table, which starts as zeros.
 // Functions return the rooms so that no proof has to look at all their words.
 fn text_room() -> [u8; 65537] {
@@ -78,35 +70,36 @@ fn section_of(text: &[u8], table: &[u64], view: View, name: &[u8]) -> u64
         text,
         table,
         bases[table_layout::SECTIONS],
-        SECTION_WORDS,
+        table_layout::SECTION_WIDTH,
         counts[table_layout::SECTIONS],
         name,
         0,
     )
 }
 
+// The kind that a word names; MATRIX_KINDS if it names none.
 fn kind_of(word: &[u8]) -> u64 {
     if lex_line::same_bytes(word, b"R") {
-        return 0;
+        return table_layout::code::RESISTANCE;
     }
     if lex_line::same_bytes(word, b"L") {
-        return 1;
+        return table_layout::code::INDUCTANCE;
     }
     if lex_line::same_bytes(word, b"G") {
-        return 2;
+        return table_layout::code::CONDUCTANCE;
     }
     if lex_line::same_bytes(word, b"C") {
-        return 3;
+        return table_layout::code::CAPACITANCE;
     }
-    NO_KIND
+    table_layout::code::MATRIX_KINDS
 }
 
-// The kind that the third argument names. If it names none, prints that and returns NO_KIND.
+// The kind that the third argument names. If it names none, prints that and returns MATRIX_KINDS.
 fn kind_asked() -> u64 {
     let mut room = io::buffer();
     let length = os::arg(3, &mut room);
     let kind = kind_of(&room[..length]);
-    if kind == NO_KIND {
+    if kind == table_layout::code::MATRIX_KINDS {
         print_line(b"no kind R, L, G or C: ", &room[..length]);
     }
     kind
@@ -149,7 +142,7 @@ fn place_asked(argument: usize, what: &[u8], name: &[u8], conductors: u64) -> u6
 
 fn answer_in(text: &[u8], table: &[u64], name: &[u8], section: u64, conductors: u64) {
     let kind = kind_asked();
-    if kind == NO_KIND {
+    if kind == table_layout::code::MATRIX_KINDS {
         return;
     }
     let row = place_asked(4, b"no row ", name, conductors);
@@ -167,13 +160,8 @@ fn answer_in(text: &[u8], table: &[u64], name: &[u8], section: u64, conductors: 
 fn answer_of(text: &[u8], table: &[u64], name: &[u8]) {
     let view = table_layout::view_of(table);
     let section = section_of(text, table, view, name);
-    let conductors = out_listing::field_of(
-        table,
-        view,
-        table_layout::SECTIONS,
-        section,
-        CONDUCTORS,
-    );
+    let record = out_listing::section_of(table, view, section);
+    let conductors = record.conductors;
     if conductors == 0 {
         print_line(b"no section ", name);
         return;

@@ -7,17 +7,13 @@ use ask_walk::Place;
 use ask_walk::Walked;
 use intake::Answer;
 use table_layout::View;
+use table_record::StepRecord;
 
 // The longest file that the program takes, in bytes.
 const MOST: usize = 65536;
 
-// How many words the record of a model has, and which of them is its first step.
-const MODEL_WORDS: usize = 5;
-
-const FIRST_STEP: usize = 3;
-
 // The most calls of a walk: a path has at most 4,096 steps, and one call more answers done.
-const MOST_STEPS: u64 = 4097;
+const MOST_STEPS: u64 = table_layout::bound::STEPS + 1;
 
 // Room for a text, with one byte more so that a longer one is recognized, and for the table, which starts as zeros.
 // Functions return the rooms so that no proof has to look at all their words.
@@ -67,34 +63,27 @@ fn print_blanks(depth: u64) {
 }
 
 // A step's line has at most two names and two numbers, so 512 bytes are enough.
-fn print_step(text: &[u8], table: &[u64], index: u64) {
+fn print_step(text: &[u8], table: &[u64], step: StepRecord) {
     let view = table_layout::view_of(table);
     let mut room = [0u8; 512];
-    let length = out_listing::step_line(&mut room, 0, text, table, view, index);
+    let length = out_listing::step_line(&mut room, 0, text, table, view, step);
     print_room(&room, length);
 }
 
 // ---- the walk
 
-fn lesser(a: u64, b: u64) -> u64 {
-    if a < b {
-        return a;
-    }
-    b
-}
-
 // A fork is indented by the depth before it, an endfork by the depth after it; any other step does not change the depth.
-fn print_between(text: &[u8], table: &[u64], first: u64, here: Place, next: Place) {
-    print_blanks(lesser(here.depth, next.depth));
-    print_step(text, table, std::num::wrapping_add_u64(first, here.step));
+fn print_between(text: &[u8], table: &[u64], step: StepRecord, here: Place, next: Place) {
+    print_blanks(base::lesser(here.depth, next.depth));
+    print_step(text, table, step);
 }
 
 // Makes one step and prints it. The table of an accepted file is sound and the walk begins at the start of a model, so
 // no refusal is expected here.
-fn step_from(text: &[u8], table: &[u64], first: u64, here: Place) -> Reached {
+fn step_from(text: &[u8], table: &[u64], here: Place) -> Reached {
     match here.step(text, table) {
-        Walked::Step(words, next) => {
-            print_between(text, table, first, here, next);
+        Walked::Step(step, next) => {
+            print_between(text, table, step, here, next);
             Reached {
                 goes_on: true,
                 place: next,
@@ -114,7 +103,7 @@ fn step_from(text: &[u8], table: &[u64], first: u64, here: Place) -> Reached {
     }
 }
 
-fn walk_from(text: &[u8], table: &[u64], first: u64, model: u64) {
+fn walk_from(text: &[u8], table: &[u64], model: u64) {
     let mut place = Place {
         model,
         step: 0,
@@ -122,7 +111,7 @@ fn walk_from(text: &[u8], table: &[u64], first: u64, model: u64) {
     };
     let mut left = MOST_STEPS;
     while 0 < left {
-        let reached = step_from(text, table, first, place);
+        let reached = step_from(text, table, place);
         if !reached.goes_on {
             return;
         }
@@ -145,7 +134,7 @@ fn model_of(text: &[u8], table: &[u64], view: View, name: &[u8]) -> u64
         text,
         table,
         bases[table_layout::MODELS],
-        MODEL_WORDS,
+        table_layout::MODEL_WIDTH,
         counts[table_layout::MODELS],
         name,
         0,
@@ -155,12 +144,12 @@ fn model_of(text: &[u8], table: &[u64], view: View, name: &[u8]) -> u64
 fn walk_model(text: &[u8], table: &[u64], name: &[u8]) {
     let view = table_layout::view_of(table);
     let model = model_of(text, table, view, name);
-    if out_listing::count_of(table, view, table_layout::MODELS) <= model {
+    let counts = view.counts;
+    if counts[table_layout::MODELS] <= model {
         print_line(b"no model ", name);
         return;
     }
-    let first = out_listing::field_of(table, view, table_layout::MODELS, model, FIRST_STEP);
-    walk_from(text, table, first, model);
+    walk_from(text, table, model);
 }
 
 fn answer(text: &[u8], table: &[u64]) {

@@ -1,11 +1,11 @@
 -- The findings of all kinds of lines, put together: with the list first if it breaks a rule, without it if not.
 -- Assumes nothing.
-use mathlib.Core.Path.{_≡_, refl, sym, _∙_, ap}
+use mathlib.Core.Path.{_≡_, sym, _∙_, ap}
 use mathlib.Core.List.{List}
 use Prim.Native.Nat.{ℕ, _≤_, _<_}
-use native.Mathlib.Nat.{le-of-lt}
 use Rattle.doc.specs.Document.{documentOf}
-use Rattle.cross_rules.specs.Rules.{listFindings, modelFindings, mapFindings, sectionFindings, earlier, crossRule}
+use Rattle.cross_rules.specs.Rules.{earlier, crossRule}
+use Rattle.cross_rules.specs.Way.Findings.{listFindings, modelFindings, mapFindings, sectionFindings}
 use Rattle.cross_rules.specs.Way.First.{firstIn}
 use Rattle.cross_rules.specs.Way.HoldsText.{HoldsText}
 use Rattle.cross_rules.specs.declared.Finding.{Finding}

@@ -3,86 +3,73 @@
 -- Assumes nothing.
 use mathlib.Core.Path.{_≡_, refl, sym, _∙_, ap}
 use mathlib.Core.List.{List, [], _++_, map}
-use Prim.Native.Nat.{ℕ, zero, suc, min, _+_, _-_, _*_, _≤_, _<_}
-use native.Mathlib.Nat.{add-zero, le-refl}
+use Prim.Native.Nat.{ℕ, min, _+_, _-_, _*_, _≤_, _<_}
+use native.Mathlib.Nat.{add-zero, zero-add, le-refl, le-trans}
 use native.Mathlib.Omega.{arith}
 use lib.ListN.{length, drop, getD, replicate, length-append, length-replicate, List·getD-map}
 use lib.Seq.{sets, length-sets}
-use Rattle.table_layout.specs.Layout.{widths, layout, chopped, maps, sections, steps, matrices, values, pins}
-use Rattle.table_layout.specs.Way.Parts.{needed}
-use Rattle.table_layout.specs.Way.Filling.{Write, partOf, widthOf, position, tableStored, fillingAfter, basesFrom, startFilling, headed, openedTable, Fits}
+use Rattle.table_record.specs.Records.{partsOf, mapWords, sectionWords}
+use Rattle.table_layout.specs.Layout.{widths, layout, chopped, maps, sections, steps, matrices, values, pins, partCount, valueWidth, needed}
+use Rattle.table_layout.specs.Way.Filling.{Write, partOf, widthOf, position, tableStored, fillingAfter, basesFrom, startFilling, headed, openedTable, partBase, Fits}
 use Rattle.table_layout.specs.declared.Filling.{Filling}
 use Rattle.table_layout.proofs.LayoutLaws.{length-layout}
-use Rattle.table_layout.proofs.FillingLaws.{filled, fits, fits-below, fits-first, fits-rest, fits-wider, kept-above, length-after, after-append}
-use Rattle.table_layout.proofs.OpenLaws.{length-opened, opened-zeros, opened-sets, values-last}
+use Rattle.table_layout.proofs.FillingLaws.{filled, fits, fits-below, end, ends-within, ends-below, fits-first, fits-rest, fits-wider, kept-above, length-after, after-append}
+use Rattle.table_layout.proofs.OpenLaws.{length-opened, opened-zeros, opened-sets}
 use Rattle.table_layout.proofs.BehindLaws.{overwritten}
 use Rattle.line_keyword.specs.declared.Counts.{Counts}
 use Rattle.read_line.specs.Reading.{readingOf}
 use Rattle.read_line.specs.declared.Reading.the-variants.{Read}
 use Rattle.doc.specs.Document.{Document, documentOf}
-use Rattle.doc.specs.Records.{flatten, partsOf, tableOf, mapRecords, sectionRecords, mapWords, sectionWords}
+use Rattle.doc.specs.Records.{flatten, tableOf, mapRecords, sectionRecords}
 use Rattle.doc.specs.Way.Holds.{countsOf}
-use Rattle.doc.proofs.RecordLaws.{records-wide}
-use Rattle.doc.proofs.CountLaws.{counts-agree}
+use Rattle.table_record.proofs.BackLaws.{records-wide}
+use Rattle.doc.proofs.CountLaws.{counts-agree, counts-parts}
 use Rattle.store_steps.specs.Way.Steps.{lowOf, Aims}
 use Rattle.table_name.proofs.NameLaws.{baseOf, records-at}
+use Rattle.read_text.proofs.StageLaws.{zeros-at}
 use Rattle.store_base.specs.Way.Writes.{mapsWrites, sectionsWrites, modelsWrites, blocksWrites, writesOf}
 use Rattle.store_base.specs.Way.Stores.{Stores}
-use Rattle.store_base.proofs.StoreLaws.{counts-kept, bases-kept, stores-join}
-use Rattle.store_base.proofs.WriteLaws.{writes-told, writes-known, models-below, no-maps, no-sections, maps-told, sections-told, part-append, part-counted, stored}
+use Rattle.store_base.proofs.StoreLaws.{counts-kept, bases-kept, stores-join, count-after, part-append}
+use Rattle.store_base.proofs.WriteLaws.{writes-told, writes-known, models-below, no-maps, no-sections, maps-told, sections-told, stored}
 
 -- ---- the filling after the maps and after the sections
 
 module _ (counts : List ℕ) where
-  start-seven : length (startFilling counts .counts) ≡ 7
+  start-parts : length (startFilling counts .counts) ≡ partCount
   unfolding startFilling
-  start-seven = refl
+  start-parts = refl
 
   start-none : (p : ℕ) → stored (startFilling counts) p ≡ 0
   unfolding startFilling
-  start-none zero = refl
-  start-none (suc zero) = refl
-  start-none (suc (suc zero)) = refl
-  start-none (suc (suc (suc zero))) = refl
-  start-none (suc (suc (suc (suc zero)))) = refl
-  start-none (suc (suc (suc (suc (suc zero))))) = refl
-  start-none (suc (suc (suc (suc (suc (suc zero)))))) = refl
-  start-none (suc (suc (suc (suc (suc (suc (suc p))))))) = refl
+  start-none p = zeros-at (length widths) p
 
 -- a part of which nothing is stored keeps its count
-none-stored : (p : ℕ) (ws : List Write) (f : Filling) → length (f .counts) ≡ 7 → p < 7 → partOf p ws ≡ [] → stored (fillingAfter ws f) p ≡ stored f p
-none-stored p ws f seven h e =
+none-stored : (p : ℕ) (ws : List Write) (f : Filling) → length (f .counts) ≡ partCount → p < partCount → partOf p ws ≡ [] → stored (fillingAfter ws f) p ≡ stored f p
+none-stored p ws f parts h e =
     let l : p < length (f .counts) = omega arith in
-    let c : stored (fillingAfter ws f) p ≡ stored f p + length (partOf p ws) = part-counted p ws f l in
+    let c : stored (fillingAfter ws f) p ≡ stored f p + length (partOf p ws) = count-after p ws f l in
     let z : length (partOf p ws) ≡ 0 = ap length e in
     omega arith
 
 module _ (t : List ℕ) (c : Counts) (reads : readingOf t ≡ Read c) where
-  counts-are : map length (partsOf (flatten (documentOf t))) ≡ countsOf c
-  counts-are = counts-agree t c reads
-
   pub layout-long : length (layout (partsOf (flatten (documentOf t)))) ≡ needed widths (countsOf c)
-  layout-long = length-layout widths (partsOf (flatten (documentOf t))) (records-wide (flatten (documentOf t))) ∙ ap (needed widths) counts-are
-
-  seven-counts : length (countsOf c) ≡ 7
-  unfolding countsOf
-  seven-counts = refl
+  layout-long = length-layout widths (partsOf (flatten (documentOf t))) (records-wide (flatten (documentOf t))) ∙ ap (needed widths) (counts-agree t c reads)
 
   -- as many values are stored as were counted
   values-counted : length (partOf values (writesOf (documentOf t))) ≡ getD (countsOf c) values 0
   values-counted =
       ap length (writes-told (documentOf t) values)
       ∙ sym (List·getD-map length (partsOf (flatten (documentOf t))) values [])
-      ∙ ap (λ (ns : List ℕ). getD ns values 0) counts-are
+      ∙ ap (λ (ns : List ℕ). getD ns values 0) (counts-agree t c reads)
 
 -- where the first value goes
-start-values : (counts : List ℕ) → position (startFilling counts) values ≡ getD (basesFrom 0 widths counts) values 0
+start-values : (counts : List ℕ) → partBase counts values ≡ position (startFilling counts) values
 unfolding position startFilling widthOf
-start-values counts = add-zero (getD (basesFrom 0 widths counts) values 0)
+start-values counts = sym (add-zero (partBase counts values))
 
 -- a table with room for all records, and any words in the part of the values
 module _ (t : List ℕ) (c : Counts) (reads : readingOf t ≡ Read c) (size : ℕ) (room : needed widths (countsOf c) ≤ size)
-    (vs : List ℕ) (vs-long : length vs ≡ 3 * getD (countsOf c) values 0) where
+    (vs : List ℕ) (vs-long : length vs ≡ valueWidth * getD (countsOf c) values 0) where
   abbrev d : Document
   d = documentOf t
 
@@ -96,42 +83,33 @@ module _ (t : List ℕ) (c : Counts) (reads : readingOf t ≡ Read c) (size : �
   spare = size - needed widths (countsOf c)
 
   abbrev t₀ : List ℕ
-  t₀ = openedTable 0 widths (countsOf c) (sets (replicate size 0) (needed widths (countsOf c) - length vs) vs)
+  t₀ = openedTable 0 widths (countsOf c) (sets (replicate size 0) (partBase (countsOf c) values) vs)
 
   pub start-long : length t₀ ≡ size
   start-long =
-      length-opened 0 widths (countsOf c) (sets (replicate size 0) (needed widths (countsOf c) - length vs) vs)
-      ∙ length-sets (replicate size 0) (needed widths (countsOf c) - length vs) vs
+      length-opened 0 widths (countsOf c) (sets (replicate size 0) (partBase (countsOf c) values) vs)
+      ∙ length-sets (replicate size 0) (partBase (countsOf c) values) vs
       ∙ length-replicate size 0
 
   -- all records fit
   all-fit : Fits (needed widths (countsOf c)) f₀ (writesOf d)
-  all-fit = rw (counts-are t c reads) at (fits parts (records-wide (flatten d)) (writesOf d) (writes-told d) (writes-known d))
-
-  -- these words start where the first value goes
-  values-at : needed widths (countsOf c) - length vs ≡ position f₀ values
-  values-at =
-      let a : getD (basesFrom 0 widths (countsOf c)) values 0 + 3 * getD (countsOf c) values 0 ≡ needed widths (countsOf c) =
-      values-last (countsOf c) (seven-counts t c reads) in
-      let b : position f₀ values ≡ getD (basesFrom 0 widths (countsOf c)) values 0 = start-values (countsOf c) in
-      omega arith
+  all-fit = rw (counts-agree t c reads) at (fits parts (records-wide (flatten d)) (writesOf d) (writes-told d) (writes-known d))
 
   start-is : t₀ ≡ sets (headed widths (countsOf c) ++ replicate spare 0) (position f₀ values) vs
   start-is =
-      let h : getD (basesFrom 0 widths (countsOf c)) values 0 ≤ needed widths (countsOf c) - length vs =
-      rw (values-at, start-values (countsOf c)) (le-refl _) in
-      opened-sets (countsOf c) (replicate size 0) (needed widths (countsOf c) - length vs) vs (seven-counts t c reads) h
-      ∙ (λ i. sets (opened-zeros (countsOf c) size room i) (values-at i) vs)
+      let to : partBase (countsOf c) values + length vs ≤ partBase (countsOf c) values + valueWidth * getD (countsOf c) values 0 = omega arith in
+      opened-sets (countsOf c) (replicate size 0) values (partBase (countsOf c) values) vs (counts-parts c) (omega arith) (le-refl _) to
+      ∙ (λ i. sets (opened-zeros (countsOf c) size room i) (start-values (countsOf c) i) vs)
 
   headed-stored : tableStored (writesOf d) f₀ (headed widths (countsOf c) ++ replicate spare 0) ≡ layout parts ++ replicate spare 0
-  headed-stored = rw (counts-are t c reads) at (filled parts (records-wide (flatten d)) (writesOf d) spare (writes-told d) (writes-known d))
+  headed-stored = rw (counts-agree t c reads) at (filled parts (records-wide (flatten d)) (writesOf d) spare (writes-told d) (writes-known d))
 
   all-stored : tableStored (writesOf d) f₀ t₀ ≡ layout parts ++ replicate spare 0
   all-stored =
-      let l : length vs ≡ 3 * length (partOf values (writesOf d)) = vs-long ∙ ap (λ (n : ℕ). 3 * n) (sym (values-counted t c reads)) in
+      let l : length vs ≡ valueWidth * length (partOf values (writesOf d)) = vs-long ∙ ap (λ (n : ℕ). valueWidth * n) (sym (values-counted t c reads)) in
       ap (tableStored (writesOf d) f₀) start-is
       ∙ overwritten (needed widths (countsOf c)) f₀ (writesOf d) (headed widths (countsOf c) ++ replicate spare 0) vs
-      all-fit (start-seven (countsOf c)) l
+      all-fit (start-parts (countsOf c)) l
       ∙ headed-stored
 
   blocks-fit : Fits size f₀ (blocksWrites d)
@@ -143,9 +121,9 @@ module _ (t : List ℕ) (c : Counts) (reads : readingOf t ≡ Read c) (size : �
   maps-from : mapsWrites (stored f₀ pins) (d .maps) ≡ mapsWrites 0 (d .maps)
   maps-from = ap (λ (n : ℕ). mapsWrites n (d .maps)) (start-none (countsOf c) pins)
 
-  pub maps-fit : (length (f₀ .counts) ≡ 7) × Fits size f₀ (mapsWrites (stored f₀ pins) (d .maps))
+  pub maps-fit : (length (f₀ .counts) ≡ partCount) × Fits size f₀ (mapsWrites (stored f₀ pins) (d .maps))
   unfolding blocksWrites
-  maps-fit = (start-seven (countsOf c), rw maps-from (fits-first size f₀ (mapsWrites 0 (d .maps)) _ blocks-fit))
+  maps-fit = (start-parts (countsOf c), rw maps-from (fits-first size f₀ (mapsWrites 0 (d .maps)) _ blocks-fit))
 
   -- ---- sections
 
@@ -156,11 +134,11 @@ module _ (t : List ℕ) (c : Counts) (reads : readingOf t ≡ Read c) (size : �
     after-maps : f₁ ≡ fillingAfter (mapsWrites 0 (d .maps)) f₀
     after-maps = maps-done .filled
 
-    pub seven-maps : length (f₁ .counts) ≡ 7
-    seven-maps = ap (λ (f : Filling). length (f .counts)) after-maps ∙ counts-kept (mapsWrites 0 (d .maps)) f₀ ∙ start-seven (countsOf c)
+    pub parts-maps : length (f₁ .counts) ≡ partCount
+    parts-maps = ap (λ (f : Filling). length (f .counts)) after-maps ∙ counts-kept (mapsWrites 0 (d .maps)) f₀ ∙ start-parts (countsOf c)
 
-    none-after-maps : (p : ℕ) → p < 7 → partOf p (mapsWrites 0 (d .maps)) ≡ [] → stored f₁ p ≡ 0
-    none-after-maps p h e = ap (λ (f : Filling). stored f p) after-maps ∙ none-stored p (mapsWrites 0 (d .maps)) f₀ (start-seven (countsOf c)) h e ∙ start-none (countsOf c) p
+    none-after-maps : (p : ℕ) → p < partCount → partOf p (mapsWrites 0 (d .maps)) ≡ [] → stored f₁ p ≡ 0
+    none-after-maps p h e = ap (λ (f : Filling). stored f p) after-maps ∙ none-stored p (mapsWrites 0 (d .maps)) f₀ (start-parts (countsOf c)) h e ∙ start-none (countsOf c) p
 
     sections-from : sectionsWrites (stored f₁ matrices) (stored f₁ values) (d .sections) ≡ sectionsWrites 0 0 (d .sections)
     sections-from =
@@ -184,15 +162,15 @@ module _ (t : List ℕ) (c : Counts) (reads : readingOf t ≡ Read c) (size : �
       after-blocks : f₂ ≡ fillingAfter (blocksWrites d) f₀
       after-blocks = blocks-done .filled
 
-      pub seven-blocks : length (f₂ .counts) ≡ 7
-      seven-blocks = ap (λ (f : Filling). length (f .counts)) after-blocks ∙ counts-kept (blocksWrites d) f₀ ∙ start-seven (countsOf c)
+      pub parts-blocks : length (f₂ .counts) ≡ partCount
+      parts-blocks = ap (λ (f : Filling). length (f .counts)) after-blocks ∙ counts-kept (blocksWrites d) f₀ ∙ start-parts (countsOf c)
 
-      blocks-stored : (p : ℕ) → p < 7 → stored f₂ p ≡ length (partOf p (mapsWrites 0 (d .maps))) + length (partOf p (sectionsWrites 0 0 (d .sections)))
+      blocks-stored : (p : ℕ) → p < partCount → stored f₂ p ≡ length (partOf p (mapsWrites 0 (d .maps))) + length (partOf p (sectionsWrites 0 0 (d .sections)))
       unfolding blocksWrites
       blocks-stored p h =
-          let k : p < length (f₀ .counts) = rw (start-seven (countsOf c)) h in
+          let k : p < length (f₀ .counts) = rw (start-parts (countsOf c)) h in
           let e : stored f₂ p ≡ stored (fillingAfter (blocksWrites d) f₀) p = ap (λ (f : Filling). stored f p) after-blocks in
-          let s : stored (fillingAfter (blocksWrites d) f₀) p ≡ stored f₀ p + length (partOf p (blocksWrites d)) = part-counted p (blocksWrites d) f₀ k in
+          let s : stored (fillingAfter (blocksWrites d) f₀) p ≡ stored f₀ p + length (partOf p (blocksWrites d)) = count-after p (blocksWrites d) f₀ k in
           let z : stored f₀ p ≡ 0 = start-none (countsOf c) p in
           let l : length (partOf p (blocksWrites d)) ≡ length (partOf p (mapsWrites 0 (d .maps))) + length (partOf p (sectionsWrites 0 0 (d .sections))) = ap length (part-append p (mapsWrites 0 (d .maps)) (sectionsWrites 0 0 (d .sections))) ∙ length-append (partOf p (mapsWrites 0 (d .maps))) _ in
           omega arith
@@ -219,7 +197,7 @@ module _ (t : List ℕ) (c : Counts) (reads : readingOf t ≡ Read c) (size : �
       unfolding writesOf startFilling
       models-low =
           rw (models-from, after-blocks)
-          (rw (counts-are t c reads) at (fits-below parts (records-wide (flatten d)) (blocksWrites d) (modelsWrites (d .maps) (d .sections) 0 (d .models)) 2 (writes-told d) (writes-known d) (omega arith) (models-below (d .maps) (d .sections) 0 (d .models))))
+          (rw (counts-agree t c reads) at (fits-below parts (records-wide (flatten d)) (blocksWrites d) (modelsWrites (d .maps) (d .sections) 0 (d .models)) maps (writes-told d) (writes-known d) (omega arith) (models-below (d .maps) (d .sections) 0 (d .models))))
 
       -- the maps and sections are in the table, and storing the models changes nothing from this word on
       drop-low : drop low t₂ ≡ drop low (layout parts ++ replicate spare 0)
@@ -228,9 +206,9 @@ module _ (t : List ℕ) (c : Counts) (reads : readingOf t ≡ Read c) (size : �
           let s : tableStored (modelsWrites (d .maps) (d .sections) 0 (d .models)) f₂ t₂ ≡ layout parts ++ replicate spare 0 = (λ i. tableStored (modelsWrites (d .maps) (d .sections) 0 (d .models)) (blocks-done .filled i) (blocks-done .stored i)) ∙ sym (after-append (blocksWrites d) (modelsWrites (d .maps) (d .sections) 0 (d .models)) f₀ t₀) ∙ all-stored in
           sym (kept-above low f₂ (modelsWrites (d .maps) (d .sections) 0 (d .models)) t₂ (rw models-from at models-low)) ∙ ap (drop low) s
 
-      module _ (p : ℕ) (h : p < 7) where
+      module _ (p : ℕ) (h : p < partCount) where
         base-is : getD (f₂ .bases) p 0 ≡ baseOf (flatten d) p
-        base-is = ap (λ (bs : List ℕ). getD bs p 0) bases-are ∙ ap (λ (ns : List ℕ). getD (basesFrom 0 widths ns) p 0) (sym (counts-are t c reads))
+        base-is = ap (λ (bs : List ℕ). getD bs p 0) bases-are ∙ ap (λ (ns : List ℕ). getD (basesFrom 0 widths ns) p 0) (sym (counts-agree t c reads))
 
         -- a part that the models' records do not touch is in the table
         part-there : low ≤ baseOf (flatten d) p → stored f₂ p ≡ length (getD parts p []) → chopped (widthOf p) (stored f₂ p) (drop (getD (f₂ .bases) p 0) t₂) ≡ getD parts p []
@@ -256,56 +234,53 @@ module _ (t : List ℕ) (c : Counts) (reads : readingOf t ≡ Read c) (size : �
           let b : length (partOf sections (sectionsWrites 0 0 (d .sections))) ≡ length (map sectionWords (sectionRecords 0 (d .sections))) = ap length (sections-told 0 0 (d .sections)) in
           omega arith
 
-      map-count : stored f₂ maps ≡ c .maps
-      unfolding partsOf countsOf
-      map-count = maps-counted ∙ ap (λ (ns : List ℕ). getD ns 2 0) (counts-are t c reads)
+      -- where the parts begin and how many records they have, by the counts
+      base-of : (p : ℕ) → getD (f₂ .bases) p 0 ≡ partBase (countsOf c) p
+      base-of p = ap (λ (bs : List ℕ). getD bs p 0) bases-are
 
-      section-count : stored f₂ sections ≡ c .sections
-      unfolding partsOf countsOf
-      section-count = sections-counted ∙ ap (λ (ns : List ℕ). getD ns 4 0) (counts-are t c reads)
+      count-of : (p : ℕ) → stored f₂ p ≡ length (getD parts p []) → stored f₂ p ≡ getD (countsOf c) p 0
+      count-of p e = e ∙ sym (List·getD-map length parts p []) ∙ ap (λ (ns : List ℕ). getD ns p 0) (counts-agree t c reads)
 
-      map-base : getD (f₂ .bases) maps 0 ≡ 0 + 1 + 5 * c .models + 1 + 6 * c .steps + 1
-      unfolding basesFrom countsOf
-      map-base = ap (λ (bs : List ℕ). getD bs 2 0) bases-are
-
-      section-base : getD (f₂ .bases) sections 0 ≡ 0 + 1 + 5 * c .models + 1 + 6 * c .steps + 1 + 7 * c .maps + 1 + 2 * c .pins + 1
-      unfolding basesFrom countsOf
-      section-base = ap (λ (bs : List ℕ). getD bs 4 0) bases-are
-
-      low-is : low ≡ 0 + 1 + 5 * c .models + 1 + 6 * c .steps + 1 - 1
-      unfolding startFilling basesFrom countsOf
+      low-is : low ≡ partBase (countsOf c) maps - 1
+      unfolding startFilling
       low-is = refl
 
-      room-is : 1 + 5 * c .models + (1 + 6 * c .steps + (1 + 7 * c .maps + (1 + 2 * c .pins + (1 + 8 * c .sections + (1 + 5 * c .matrices + (1 + 3 * c .values + 0)))))) ≤ size
-      unfolding needed countsOf
-      room-is = room
+      -- the maps stand before the sections
+      maps-before : partBase (countsOf c) maps < partBase (countsOf c) sections
+      maps-before =
+          let e : end 0 widths (countsOf c) maps < partBase (countsOf c) sections =
+          ends-below 0 widths (countsOf c) maps sections (counts-parts c) (omega arith) (omega arith) in
+          omega arith
+
+      -- a part whose records are all stored lies inside the table
+      part-room : (p : ℕ) → stored f₂ p ≡ length (getD parts p []) → getD (f₂ .bases) p 0 + getD widths p 0 * stored f₂ p ≤ length t₂
+      part-room p e =
+          rw (base-of p, count-of p e, long-after) (le-trans (rw zero-add at (ends-within 0 widths (countsOf c) p)) room)
 
       pub aims : Aims t f₂ t₂
       unfolding widthOf partsOf flatten
       aims =
-          let b : getD (f₂ .bases) maps 0 ≡ 0 + 1 + 5 * c .models + 1 + 6 * c .steps + 1 = map-base in
-          let s : getD (f₂ .bases) sections 0 ≡ 0 + 1 + 5 * c .models + 1 + 6 * c .steps + 1 + 7 * c .maps + 1 + 2 * c .pins + 1 = section-base in
-          let l : low ≡ 0 + 1 + 5 * c .models + 1 + 6 * c .steps + 1 - 1 = low-is in
-          let r : 1 + 5 * c .models + (1 + 6 * c .steps + (1 + 7 * c .maps + (1 + 2 * c .pins + (1 + 8 * c .sections + (1 + 5 * c .matrices + (1 + 3 * c .values + 0)))))) ≤ size = room-is in
-          let m : stored f₂ maps ≡ c .maps = map-count in
-          let n : stored f₂ sections ≡ c .sections = section-count in
-          let k : length t₂ ≡ size = long-after in
+          let l : low ≡ partBase (countsOf c) maps - 1 = low-is in
+          let b : partBase (countsOf c) maps < partBase (countsOf c) sections = maps-before in
+          let m : getD (f₂ .bases) maps 0 ≡ partBase (countsOf c) maps = base-of maps in
+          let s : getD (f₂ .bases) sections 0 ≡ partBase (countsOf c) sections = base-of sections in
           let e : getD (f₂ .bases) maps 0 ≡ baseOf (flatten d) maps = base-is maps (omega arith) in
           let g : getD (f₂ .bases) sections 0 ≡ baseOf (flatten d) sections = base-is sections (omega arith) in
           record {
             maps-there = part-there maps (omega arith) (omega arith) maps-counted;
             sections-there = part-there sections (omega arith) (omega arith) sections-counted;
-            maps-room = omega arith;
-            sections-room = omega arith;
+            maps-room = part-room maps maps-counted;
+            sections-room = part-room sections sections-counted;
           }
 
       -- the models' records lie below both
       pub models-fit : Fits (lowOf f₂) f₂ (modelsWrites (d .maps) (d .sections) (stored f₂ steps) (d .models))
       unfolding lowOf
       models-fit =
-          let b : getD (f₂ .bases) maps 0 ≡ 0 + 1 + 5 * c .models + 1 + 6 * c .steps + 1 = map-base in
-          let s : getD (f₂ .bases) sections 0 ≡ 0 + 1 + 5 * c .models + 1 + 6 * c .steps + 1 + 7 * c .maps + 1 + 2 * c .pins + 1 = section-base in
-          let l : low ≡ 0 + 1 + 5 * c .models + 1 + 6 * c .steps + 1 - 1 = low-is in
+          let l : low ≡ partBase (countsOf c) maps - 1 = low-is in
+          let b : partBase (countsOf c) maps < partBase (countsOf c) sections = maps-before in
+          let m : getD (f₂ .bases) maps 0 ≡ partBase (countsOf c) maps = base-of maps in
+          let s : getD (f₂ .bases) sections 0 ≡ partBase (countsOf c) sections = base-of sections in
           fits-wider low (min (getD (f₂ .bases) maps 0) (getD (f₂ .bases) sections 0)) f₂ _ (omega arith) models-low
 
       -- ---- all records

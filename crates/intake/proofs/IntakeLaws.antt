@@ -1,14 +1,13 @@
 -- The groups of rules, one after another: what the answer of each group means for the outcome and for the table.
 -- Assumes nothing.
 use mathlib.Core.Path.{_≡_, refl, sym, _∙_, ap}
-use mathlib.Core.Bool.{Bool, true, false}
+use mathlib.Core.Bool.{true, false}
 use mathlib.Core.List.{List, _++_}
-use Prim.Native.Nat.{ℕ, _+_, _-_, _≤_, _<_}
+use Prim.Native.Nat.{ℕ, _+_, _-_, _≤_}
 use native.Mathlib.Omega.{arith}
 use lib.ListN.{length, replicate, length-append, length-replicate}
-use lib.Dec.{ltb, eqb}
+use lib.Dec.{ltb}
 use borrow.Author.Tests.{eq-eqb, ne-eqb, ltb-false}
-use Rattle.base.specs.If.{if_then_else_}
 use Rattle.base.proofs.IfLaws.{if-true, if-false, by-cases}
 use Rattle.line_keyword.specs.declared.Counts.{Counts}
 use Rattle.lex_line.specs.ByteRules.{byteRules}
@@ -27,6 +26,7 @@ use Rattle.cross_rules.specs.Rules.{crossRule}
 use Rattle.cross_rules.specs.Way.HoldsText.{HoldsText}
 use Rattle.cross_rules.specs.declared.Finding.{Finding}
 use Rattle.intake.specs.Verdict.{Outcome, acceptedWith, refusedBy, crossed, afterStoring, afterBytes, verdictOf, tableFor}
+use Rattle.intake.proofs.RoomLaws.{room-there, room-short}
 
 -- ---- the table
 
@@ -75,15 +75,12 @@ not-stored : (number line words : ℕ) → Refused number line ≡ Stored words 
 not-stored number line words e = let z : _≡_ {A = ℕ} 0 1 = ap isStored e in omega arith
 
 module _ (t : List ℕ) (size words : ℕ) where
-  abbrev roomed : storing.StoreAnswer
-  roomed = if ltb size (length (tableOf t)) then Refused 18 0 else Stored (length (tableOf t))
-
-  reads-by : (counts : Counts) → readingOf t ≡ reading.Read counts → roomed ≡ Stored words → Reads t size words
+  reads-by : (counts : Counts) → readingOf t ≡ reading.Read counts → afterReading t size (reading.Read counts) ≡ Stored words → Reads t size words
   reads-by counts r e =
       by-cases _ (ltb size (length (tableOf t)))
-      (λ (h : ltb size (length (tableOf t)) ≡ true). absurd (not-stored 18 0 words (sym (if-true _ _ h) ∙ e)))
+      (λ (h : ltb size (length (tableOf t)) ≡ true). absurd (not-stored _ 0 words (sym (room-short t size counts h) ∙ e)))
       (λ (h : ltb size (length (tableOf t)) ≡ false).
-      record { counts = counts; reads = r; room = ltb-false _ _ h; long = sym (ap wordsOf (sym (if-false _ _ h) ∙ e)) })
+      record { counts = counts; reads = r; room = ltb-false _ _ h; long = sym (ap wordsOf (sym (room-there t size counts h) ∙ e)) })
 
   stored-by : (answer : Reading) → readingOf t ≡ answer → afterReading t size answer ≡ Stored words → Reads t size words
   stored-by (reading.Read counts) r e = reads-by counts r e

@@ -1,3 +1,4 @@
+pub mod RoomLaws
 pub mod IntakeLaws
 pub mod FillLaws
 pub mod ReadyLaws

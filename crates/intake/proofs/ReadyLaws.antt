@@ -1,27 +1,25 @@
 -- The contracts of the code that stores a text: each call finds what it requires, and in the end the table is the
 -- text's.
 -- Assumes nothing.
-use mathlib.Core.Path.{_≡_, refl, sym, _∙_, ap}
-use mathlib.Core.List.{List, [], _∷_, _++_}
-use Prim.Native.Nat.{ℕ, zero, suc, _+_, _-_, _*_, _≤_, _<_}
+use mathlib.Core.Path.{_≡_, sym, _∙_, ap}
+use mathlib.Core.List.{List, _++_}
+use Prim.Native.Nat.{ℕ, _+_, _-_, _*_, _≤_, _<_}
 use native.Mathlib.Omega.{arith}
 use mir.Syntax.{w64}
 use mir.Val.{Fits}
 use lib.ListN.{length, take, getD, replicate, length-replicate}
 use lib.Seq.{sets, length-sets, length-take-le}
 use borrow.Author.Tests.{lt-ltb, le-ltb}
-use Rattle.base.proofs.IfLaws.{if-true, if-false}
-use Rattle.table_layout.specs.Layout.{widths, maps}
-use Rattle.table_layout.specs.Way.Parts.{needed}
-use Rattle.table_layout.specs.Way.Filling.{startFilling, openedTable, BoundedCounts}
+use Rattle.base.specs.Refusal as refusal
+use Rattle.table_layout.specs.Layout.{values, partCount, valueWidth, widths, needed}
+use Rattle.table_layout.specs.Way.Filling.{partBase, startFilling, openedTable, BoundedCounts}
 use Rattle.table_layout.specs.Way.Filling as filling
 use Rattle.table_layout.specs.declared.Filling.{Filling}
-use Rattle.table_layout.proofs.OpenLaws.{values-last}
 use Rattle.line_keyword.specs.declared.Counts.{Counts}
 use Rattle.read_line.specs.Reading.{readingOf}
 use Rattle.read_line.specs.declared.Reading.{Reading}
 use Rattle.read_line.specs.declared.Reading.the-variants as reading
-use Rattle.read_line.proofs.CountLaws.{read-within, read-matrices}
+use Rattle.read_line.proofs.CountLaws.{read-within}
 use Rattle.doc.specs.Document.{documentOf}
 use Rattle.doc.specs.Records.{tableOf}
 use Rattle.doc.specs.Way.Holds.{countsOf}
@@ -38,24 +36,17 @@ use Rattle.intake.specs.Stored.{afterReading, storeAnswer}
 use Rattle.intake.specs.Way.Stored.{tableAfterStoring, Lifted}
 use Rattle.intake.specs.declared.store.StoreAnswer.{StoreAnswer}
 use Rattle.intake.specs.declared.store.StoreAnswer.the-variants.{Stored, Refused}
-use Rattle.intake.proofs.FillLaws.{start-long, layout-long, maps-fit, seven-maps, sections-fit, seven-blocks, models-fit, aims, all-filled}
-use Rattle.intake.proofs.StageLaws.{stage-opened, stage-moved}
+use Rattle.intake.proofs.RoomLaws.{room-there, room-short}
+use Rattle.intake.proofs.FillLaws.{start-long, layout-long, maps-fit, parts-maps, sections-fit, parts-blocks, models-fit, aims, all-filled}
+use Rattle.intake.proofs.StageLaws.{values-end, stage-opened, stage-moved}
+use Rattle.doc.proofs.CountLaws.{counts-bounded}
+use Rattle.table_layout.proofs.StoreLaws.{bounds-small}
+use native.Mathlib.Nat.{le-trans}
 
 module _ (t : List ℕ) (c : Counts) (reads : readingOf t ≡ reading.Read c) where
   -- no count is above the bound of values
   pub counts-few : BoundedCounts (countsOf c)
-  unfolding countsOf
-  counts-few = record { few = each }
-    where
-      each : (p : ℕ) → getD (c .models ∷ c .steps ∷ c .maps ∷ c .pins ∷ c .sections ∷ c .matrices ∷ c .values ∷ []) p 0 ≤ 65_536
-      each zero = omega (arith, read-within t c reads .models)
-      each (suc zero) = omega (arith, read-within t c reads .steps)
-      each (suc (suc zero)) = omega (arith, read-within t c reads .maps)
-      each (suc (suc (suc zero))) = omega (arith, read-within t c reads .pins)
-      each (suc (suc (suc (suc zero)))) = omega (arith, read-within t c reads .sections)
-      each (suc (suc (suc (suc (suc zero))))) = omega (arith, read-matrices t c reads)
-      each (suc (suc (suc (suc (suc (suc zero)))))) = omega (arith, read-within t c reads .values)
-      each (suc (suc (suc (suc (suc (suc (suc p))))))) = omega arith
+  counts-few = record { few = λ (p : ℕ). le-trans (counts-bounded t c reads p) (bounds-small p) }
 
   -- the words needed are the words used
   pub needed-is : needed widths (countsOf c) ≡ length (tableOf t)
@@ -85,7 +76,7 @@ module _ (t : List ℕ) (c : Counts) (reads : readingOf t ≡ reading.Read c) wh
 
     -- the table before the first record is stored
     abbrev start : List ℕ
-    start = openedTable 0 widths (countsOf c) (sets (replicate (length before) 0) (needed widths (countsOf c) - length (lifted .words)) (lifted .words))
+    start = openedTable 0 widths (countsOf c) (sets (replicate (length before) 0) (partBase (countsOf c) values) (lifted .words))
 
     table-is : table ≡ start
     table-is = is-table ∙ ap (openedTable 0 widths (countsOf c)) (lifted .image)
@@ -93,38 +84,38 @@ module _ (t : List ℕ) (c : Counts) (reads : readingOf t ≡ reading.Read c) wh
     table-long : length table ≡ size
     table-long = ap length table-is ∙ start-long t c reads size room (lifted .words) (lifted .long)
 
-    pub maps-ready : (length (f .counts) ≡ 7) × filling.Fits (length table) f (mapsOf f (documentOf t .maps))
+    pub maps-ready : (length (f .counts) ≡ partCount) × filling.Fits (length table) f (mapsOf f (documentOf t .maps))
     maps-ready = rw (table-long, is-f) (maps-fit t c reads size room (lifted .words) (lifted .long))
 
     module _ (w : Walk) (t₁ : List ℕ) (fills : FillsMaps t f table w t₁) where
       maps-are : Stores (startFilling (countsOf c)) start (mapsOf (startFilling (countsOf c)) (documentOf t .maps)) (w .filling) t₁
       maps-are = rw (is-f, table-is) at (fills .maps)
 
-      sections-staged : (stage : List ℕ) → Staged t before stage (needed widths (countsOf c) - 3 * c .values) 0 →
-          Staged t t₁ stage (getD (w .filling .bases) 6 0) (getD (w .filling .counts) 6 0)
-      sections-staged stage staged =
+      sections-staged : (stage : List ℕ) → Staged t before stage (partBase (countsOf c) values) 0 → Before stage (c .values) →
+          Staged t t₁ stage (getD (w .filling .bases) values 0) (getD (w .filling .counts) values 0)
+      sections-staged stage staged past =
           stage-kept t table stage t₁ f (w .filling) (mapsOf f (documentOf t .maps)) (fills .maps) (maps-ready .1) (maps-ready .0)
-          (rw (is-f, is-table) (stage-opened c t before stage room staged))
+          (rw (is-f, is-table) (stage-opened c t before stage room staged past))
 
-      pub sections-ready : (stage : List ℕ) → Staged t before stage (needed widths (countsOf c) - 3 * c .values) 0 →
+      pub sections-ready : (stage : List ℕ) → Staged t before stage (partBase (countsOf c) values) 0 → Before stage (c .values) →
           Placed t (w .line) (w .at)
-          × (length (w .filling .counts) ≡ 7)
+          × (length (w .filling .counts) ≡ partCount)
           × filling.Fits (length t₁) (w .filling) (sectionsOf (w .filling) (sectionsLeft t w))
-          × Staged t t₁ stage (getD (w .filling .bases) 6 0) (getD (w .filling .counts) 6 0)
-      sections-ready stage staged = (
+          × Staged t t₁ stage (getD (w .filling .bases) values 0) (getD (w .filling .counts) values 0)
+      sections-ready stage staged past = (
         fills .placed,
-        seven-maps t c reads size room (lifted .words) (lifted .long) (w .filling) t₁ maps-are,
+        parts-maps t c reads size room (lifted .words) (lifted .long) (w .filling) t₁ maps-are,
         rw (sym (fills .sections)) (sections-fit t c reads size room (lifted .words) (lifted .long) (w .filling) t₁ maps-are),
-        sections-staged stage staged,
+        sections-staged stage staged past,
       )
 
       module _ (f₂ : Filling) (t₂ : List ℕ) (stores : Stores (w .filling) t₁ (sectionsOf (w .filling) (sectionsLeft t w)) f₂ t₂) where
         sections-are : Stores (w .filling) t₁ (sectionsOf (w .filling) (documentOf t .sections)) f₂ t₂
         sections-are = rw (fills .sections) stores
 
-        pub models-ready : (length (f₂ .counts) ≡ 7) × Aims t f₂ t₂ × filling.Fits (lowOf f₂) f₂ (modelsOf t f₂ (documentOf t .models))
+        pub models-ready : (length (f₂ .counts) ≡ partCount) × Aims t f₂ t₂ × filling.Fits (lowOf f₂) f₂ (modelsOf t f₂ (documentOf t .models))
         models-ready = (
-          seven-blocks t c reads size room (lifted .words) (lifted .long) (w .filling) t₁ maps-are f₂ t₂ sections-are,
+          parts-blocks t c reads size room (lifted .words) (lifted .long) (w .filling) t₁ maps-are f₂ t₂ sections-are,
           aims t c reads size room (lifted .words) (lifted .long) (w .filling) t₁ maps-are f₂ t₂ sections-are,
           models-fit t c reads size room (lifted .words) (lifted .long) (w .filling) t₁ maps-are f₂ t₂ sections-are,
         )
@@ -141,13 +132,13 @@ module _ (t : List ℕ) (c : Counts) (reads : readingOf t ≡ reading.Read c) wh
     words-are : words ≡ length (tableOf t)
     words-are = is-words ∙ needed-is
 
-    pub no-room : size < words → Refused 18 0 ≡ storeAnswer t size
+    pub no-room : size < words → Refused refusal.room 0 ≡ storeAnswer t size
     unfolding storeAnswer
-    no-room h = sym (ap (afterReading t size) reads ∙ if-true _ _ (lt-ltb _ _ (rw words-are at h)))
+    no-room h = sym (ap (afterReading t size) reads ∙ room-short t size c (lt-ltb _ _ (rw words-are at h)))
 
     pub has-room : words ≤ size → Stored words ≡ storeAnswer t size
     unfolding storeAnswer
-    has-room h = ap Stored words-are ∙ sym (ap (afterReading t size) reads ∙ if-false _ _ (le-ltb _ _ (rw words-are at h)))
+    has-room h = ap Stored words-are ∙ sym (ap (afterReading t size) reads ∙ room-there t size c (le-ltb _ _ (rw words-are at h)))
 
 -- ---- the contract of the code that stores
 
@@ -156,56 +147,47 @@ module _ (t : List ℕ) (c : Counts) (reads : readingOf t ≡ reading.Read c) (t
   words-for : words ≡ needed widths (countsOf c)
   words-for = is-words ∙ ap (needed widths) is-many
 
-  pub store-refused : length table < words → (zeros : List ℕ) → zeros ≡ replicate (length table) 0 →
-      (Refused 18 0 ≡ storeAnswer t (length table)) × (zeros ≡ tableAfterStoring t (length table) (Refused 18 0))
-  store-refused h zeros e = (no-room t c reads (length table) words words-for h, e)
+  pub store-refused : length table < words → Refused refusal.room 0 ≡ storeAnswer t (length table)
+  store-refused h = no-room t c reads (length table) words words-for h
 
-  -- the words of the values are among those needed
-  pub lift-within : 3 * c .values ≤ words
-  unfolding countsOf
-  lift-within = omega (arith, values-last (countsOf c) refl, words-for)
-
-  pub lift-fits : Fits w64 (3 * c .values)
+  pub lift-fits : Fits w64 (valueWidth * c .values)
   lift-fits = omega (arith, read-within t c reads .values)
 
-  module _ (roomy : words ≤ length table) where
-    pub lift-ready : words - 3 * c .values + 3 * c .values ≤ length table
-    lift-ready = omega (arith, lift-within)
+  pub store-stored : words ≤ length table → Stored words ≡ storeAnswer t (length table)
+  store-stored h = has-room t c reads (length table) words words-for h
 
-    module _ (moved : List ℕ) (is-moved : moved ≡ sets (replicate (length table) 0) (words - 3 * c .values) (take (3 * c .values) table)) where
+  module _ (roomy : words ≤ length table) (begin : ℕ) (is-begin : begin ≡ partBase many values) where
+    begin-for : begin ≡ partBase (countsOf c) values
+    begin-for = is-begin ∙ ap (λ (ns : List ℕ). partBase ns values) is-many
+
+    pub lift-ready : begin + valueWidth * c .values ≤ length table
+    lift-ready = omega (arith, values-end c, words-for, begin-for)
+
+    module _ (moved : List ℕ) (is-moved : moved ≡ sets (replicate (length table) 0) begin (take (valueWidth * c .values) table)) where
       moved-long : length moved ≡ length table
       moved-long =
           ap length is-moved
-          ∙ length-sets (replicate (length table) 0) (words - 3 * c .values) (take (3 * c .values) table)
+          ∙ length-sets (replicate (length table) 0) begin (take (valueWidth * c .values) table)
           ∙ length-replicate (length table) 0
 
-      moved-lifted : Lifted (countsOf c) moved
+      pub fill-room : needed widths (countsOf c) ≤ length moved
+      fill-room = rw moved-long (rw words-for at roomy)
+
+      pub moved-lifted : Lifted (countsOf c) moved
       unfolding countsOf
       moved-lifted =
-          let l : length (take (3 * c .values) table) ≡ 3 * c .values = length-take-le (3 * c .values) table (omega (arith, lift-within)) in
-          let m : 3 * c .values ≡ length (take (3 * c .values) table) = sym l in
-          let n : length table ≡ length moved = sym moved-long in
           record {
-            words = take (3 * c .values) table;
-            long = l;
-            image = is-moved ∙ (λ i. sets (replicate (n i) 0) (words-for i - m i) (take (3 * c .values) table));
+            words = take (valueWidth * c .values) table;
+            long = length-take-le (valueWidth * c .values) table (omega (arith, lift-ready));
+            image = is-moved ∙ (λ i. sets (replicate (sym moved-long i) 0) (begin-for i) (take (valueWidth * c .values) table));
           }
 
-      pub fill-ready : (stage : List ℕ) → Staged t table stage 0 0 → Before stage (c .values) →
-          (readingOf t ≡ reading.Read c)
-          × (needed widths (countsOf c) ≤ length moved)
-          × Lifted (countsOf c) moved
-          × Staged t moved stage (needed widths (countsOf c) - 3 * c .values) 0
-      fill-ready stage staged before = (
-        reads,
-        rw moved-long (rw words-for at roomy),
-        moved-lifted,
-        stage-moved c t table stage words words-for lift-ready staged before moved is-moved,
-      )
+      pub moved-staged : (stage : List ℕ) → Staged t table stage 0 0 → Before stage (c .values) → Staged t moved stage (partBase (countsOf c) values) 0
+      moved-staged stage staged before = stage-moved c t table stage begin begin-for lift-ready staged before moved is-moved
 
       pub store-filled : (table' : List ℕ) → table' ≡ tableOf t ++ replicate (length moved - length (tableOf t)) 0 →
-          (Stored words ≡ storeAnswer t (length table)) × (table' ≡ tableAfterStoring t (length table) (Stored words))
-      store-filled table' e = (has-room t c reads (length table) words words-for roomy, rw moved-long at e)
+          table' ≡ tableAfterStoring t (length table) (Stored words)
+      store-filled table' e = rw moved-long at e
 
 -- the answer of the forward reading is the result of the text
 module _ (t : List ℕ) (answer : Reading) (told : answer ≡ readingOf t) where

@@ -5,20 +5,17 @@ ghost use mathlib.Core.Path.{_≡_};
 ghost use mathlib.Core.List.{_++_};
 ghost use Prim.Native.Nat.{_-_, _*_, _≤_};
 ghost use lib.ListN.{length, replicate};
-ghost use Rattle.table_layout.specs.Layout.{widths};
-ghost use Rattle.table_layout.specs.Way.Parts.{needed};
+ghost use Rattle.table_layout.specs.Layout.{values, widths, needed};
+ghost use Rattle.table_layout.specs.Way.Filling.{partBase};
 ghost use Rattle.read_line.specs.Reading.{readingOf};
 ghost use Rattle.read_line.specs.declared.Reading.the-variants.{Read};
 ghost use Rattle.doc.specs.Way.Holds.{countsOf};
 ghost use Rattle.doc.specs.Records.{tableOf};
-ghost use Rattle.store_base.specs.Way.Stage.{Staged, Before};
+ghost use Rattle.store_base.specs.Way.Stage.{Staged, Before, stageRoom};
 ghost use Rattle.intake.specs.Stored.{storeAnswer};
 ghost use Rattle.intake.specs.Way.Stored.{tableAfterStoring, Lifted};
 use line_keyword::Counts;
 use read_line::Reading;
-
-// How many words a value has.
-const WORDS: usize = 3;
 
 // The text is stored, with the words used; or the rule that it breaks, and its line.
 pub enum StoreAnswer {
@@ -27,7 +24,7 @@ pub enum StoreAnswer {
 }
 
 // The counts of the forward reading in the order of the parts.
-fn counts_of(counts: Counts) -> [u64; 7]
+fn counts_of(counts: Counts) -> [u64; table_layout::PARTS]
     ensures { λ r. ⌜ r ≡ countsOf counts ⌝ }
 {
     [
@@ -48,7 +45,8 @@ fn fill(text: &[u8], table: &mut [u64], counts: Counts, stage: &[u64])
     requires { ⌜ (readingOf (now text) ≡ Read counts)
         × (needed widths (countsOf counts) ≤ length (now table))
         × Lifted (countsOf counts) (now table)
-        × Staged (now text) (now table) (now stage) (needed widths (countsOf counts) - 3 * counts .values) 0 ⌝ }
+        × Staged (now text) (now table) (now stage) (partBase (countsOf counts) values) 0
+        × Before (now stage) (counts .values) ⌝ }
     ensures { λ _. ⌜ now (table .exit) ≡ tableOf (now (text .entry)) ++ replicate (length (now (table .entry)) - length (tableOf (now (text .entry)))) 0 ⌝ }
 {
     let filling = table_layout::open_parts(table, counts_of(counts));
@@ -65,23 +63,24 @@ fn store(text: &[u8], table: &mut [u64], counts: Counts, stage: &[u64]) -> Store
         × Before (now stage) (counts .values) ⌝ }
     ensures { λ r. ⌜ (r ≡ storeAnswer (now (text .entry)) (length (now (table .entry)))) × (now (table .exit) ≡ tableAfterStoring (now (text .entry)) (length (now (table .entry))) r) ⌝ }
 {
-    let words = table_layout::words_needed(counts_of(counts));
+    let many = counts_of(counts);
+    let words = table_layout::words_needed(many);
     if table.len() < words {
         base::zero_all(table);
-        return StoreAnswer::Refused(18, 0);
+        return StoreAnswer::Refused(base::refusal::ROOM, 0);
     }
-    let lifted = WORDS * (counts.values as usize);
-    table_layout::lift(table, lifted, words - lifted);
+    let staged = table_layout::VALUE_WIDTH * (counts.values as usize);
+    let begin = table_layout::part_base(many, table_layout::VALUES);
+    table_layout::lift(table, staged, begin);
     fill(text, table, counts, stage);
     StoreAnswer::Stored(words)
 }
 
-// Room to stage matrices: nine words for each of at most 1,024 matrices. A function makes the
-// array, so that no proof has to look at all its words.
-fn stage_room() -> [u64; 9216]
-    ensures { λ r. ⌜ r ≡ replicate 9216 0 ⌝ }
+// Room to stage the matrices of a text. A function makes the array, so that no proof has to look at all its words.
+fn stage_room() -> [u64; store_base::STAGE_ROOM]
+    ensures { λ r. ⌜ r ≡ replicate stageRoom 0 ⌝ }
 {
-    [0; 9216]
+    [0; store_base::STAGE_ROOM]
 }
 
 // Rules 5 to 18 over a text and a lent table: either all records of the text are stored, or the table is zeroed.

@@ -1,40 +1,38 @@
 -- The list, the models with their paths and the pin maps of alike lines are the same except for lines and offsets.
 -- Assumes nothing.
 use mathlib.Core.Path.{_≡_, refl, sym, _∙_, ap, subst}
-use mathlib.Core.Bool.{Bool, true, false, not, true≢false}
+use mathlib.Core.Bool.{Bool, true, false, true≢false}
 use mathlib.Core.List.{List, [], _∷_, _++_, map}
 use Prim.Native.Nat.{ℕ, _+_, _-_}
 use native.Mathlib.Omega.{arith}
-use lib.ListN.{length, drop}
+use lib.ListN.{drop}
 use lib.Dec.{eqb}
-use borrow.Author.Tests.{eq-eqb, ne-eqb, eqb-true, eqb-false}
+use borrow.Author.Tests.{ne-eqb, eqb-true, eqb-false}
 use Rattle.base.specs.If.{if_then_else_, both, either}
 use Rattle.base.proofs.IfLaws.{if-true, if-false, by-cases, both-first, both-second, both-not-left, either-false}
 use Rattle.lex_line.specs.Words.{Word, wordsFrom, words, firstOf, secondOf, toEquals, rightOf}
-use Rattle.lex_keyword.specs.Names.{beginIcmModel, icmPinMap, beginIcmSection}
-use Rattle.lex_keyword.specs.Bracket.{bracketOf}
+use Rattle.lex_keyword.specs.Names.{beginIcmModel, icmPinMap}
 use Rattle.line_place.specs.Place.{isInFamily, isInModel, opensHeaderText}
 use Rattle.line_place.specs.Place as place
 use Rattle.line_head.specs.Head.{headLineOf, headNext, newHead}
 use Rattle.line_head.specs.declared.Head.{Head}
 use Rattle.line_head.specs.declared.HeadLine.{HeadLine}
-use Rattle.line_path.specs.Path.{sayingOf, isMult}
+use Rattle.line_path.specs.Path.{sayingOf}
 use Rattle.line_path.specs.Path as path
 use Rattle.line_map.specs.PinMap.{mapLineOf, mapNext, newMap}
 use Rattle.line_map.specs.declared.Map as pin_map
 use Rattle.line_map.specs.declared.MapLine.{MapLine}
-use Rattle.read_line.specs.Reading.{argumentFrom}
-use Rattle.doc.specs.Lines.{Line, plain, keyAt, argumentIn, keyOf, argumentOf, wordsOf, rightWordsOf, noWord, firstWord, secondWord, standsIn, gather, upTo}
-use Rattle.doc.specs.Document.{Named, Step, Model, Map, endKind, sectionKind, forkKind, endforkKind, sayingAt, amountOf, sideIn, stepOf, stepsIn, headIn, opensModel, inModel, modelOf, modelAt, listedAt, opensMap, inMap, gridIn, pinAt, mapOf, mapAt, inMatrix}
+use Rattle.doc.specs.Lines.{Line, plain, keyAt, keyOf, argumentOf, wordsOf, rightWordsOf, noWord, firstWord, secondWord, standsIn, gather, upTo}
+use Rattle.doc.specs.Document.{Map, sayingAt, sideIn, stepOf, stepsIn, headIn, opensModel, inModel, modelOf, modelAt, listedAt, opensMap, inMap, gridIn, pinAt, mapOf, mapAt, inMatrix}
 use Rattle.doc.specs.Holds.{Each}
 use Rattle.doc.specs.Holds.Each.{none as each-none, more as each-more}
-use Rattle.law_alike.specs.Alike.{takesText, SameSaying, SameLine, SameNumbers, AlikeLines}
+use Rattle.law_alike.specs.Alike.{takesText, SameLine, AlikeLines}
 use Rattle.law_alike.specs.Alike.AlikeLines.{none, line, matrix}
 use Rattle.law_alike.specs.Way.Same.{All2, SameNamed, SameStep, SameModel, SameMap}
 use Rattle.law_alike.specs.Way.Same.All2.{none as all2-none, more as all2-more}
-use Rattle.law_alike.proofs.SidesLaws.{bare, words-bare}
+use Rattle.law_alike.proofs.SidesLaws.{words-bare}
 use Rattle.law_alike.proofs.LineLaws.{SameSides, SamePlain, plain-same, head-same, map-same, SamePath, path-same, mult-same, amount-same, words-same, argument-same}
-use Rattle.law_alike.proofs.GatherLaws.{all2-append, all2-if, keys-same, stands-same, isDeep, opening-deep, body-deep, block-inside, body-place, other-opens, gather-alike, up-alike}
+use Rattle.law_alike.proofs.GatherLaws.{keys-same, stands-same, isDeep, opening-deep, body-deep, block-inside, other-opens, gather-alike, up-alike}
 
 -- ---- words with their offsets
 
@@ -143,9 +141,6 @@ module _ (l m : Line) (s : SameLine l m) where
 deep-silent : (l : Line) → isDeep l ≡ true → sayingAt l ≡ path.saysNothing
 unfolding sayingAt
 deep-silent l e = if-false _ _ (deep-stands l e place.path (λ (h : place.path ≡ place.section). omega arith) (λ (h : place.path ≡ place.matrix). omega arith))
-
-side-in : (l : Line) (ls : List Line) → sideIn (l ∷ ls) ≡ (if eqb (sayingAt l) path.saysSide then secondWord (wordsOf l) else noWord)
-side-in l ls = refl
 
 side-alike : {ls ms : List Line} → AlikeLines ls ms → sideIn ls .text ≡ sideIn ms .text
 side-alike none = refl

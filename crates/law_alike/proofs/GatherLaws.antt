@@ -1,22 +1,21 @@
 -- What is gathered from alike lines: lists of one length whose elements correspond. Matrices have their own laws.
 -- Assumes nothing.
 use mathlib.Core.Path.{_≡_, refl, sym, _∙_, ap, subst}
-use mathlib.Core.Bool.{Bool, true, false, not, true≢false}
+use mathlib.Core.Bool.{Bool, true, false, true≢false}
 use mathlib.Core.List.{List, [], _∷_, _++_}
 use Prim.Native.Nat.{ℕ, _-_}
-use native.Mathlib.Omega.{arith}
-use lib.ListN.{length}
 use lib.Dec.{eqb}
-use borrow.Author.Tests.{eq-eqb, ne-eqb, eqb-true, eqb-false}
+use borrow.Author.Tests.{eq-eqb, eqb-true}
 use Rattle.base.specs.If.{if_then_else_, both, either}
-use Rattle.base.proofs.IfLaws.{if-true, if-false, by-cases, both-first, both-second, both-true, both-not-left, both-not-right, either-left, either-right, either-false}
+use Rattle.base.proofs.IfLaws.{if-true, if-false, by-cases, both-first, both-second, either-right}
 use Rattle.line_place.specs.Place as place
 use Rattle.line_place.specs.Place.{opensMatrix, isRowOrBandwidth}
 use Rattle.doc.specs.Lines.{Line, plain, keyOf, standsIn, gather, upTo}
 use Rattle.doc.specs.Document.{opensMatrixAt, inMatrix, inSection}
 use Rattle.doc.specs.Holds.{Each}
 use Rattle.doc.specs.Holds.Each.{none as each-none, more as each-more}
-use Rattle.law_alike.specs.Alike.{SameSaying, SameLine, SameNumbers, AlikeLines}
+use Rattle.doc.proofs.GatherLaws.{up-in, up-none, up-out}
+use Rattle.law_alike.specs.Alike.{SameLine, SameNumbers, AlikeLines}
 use Rattle.law_alike.specs.Alike.AlikeLines.{none, line, matrix}
 use Rattle.law_alike.specs.Way.Same.{All2}
 use Rattle.law_alike.specs.Way.Same.All2.{none as all2-none, more as all2-more}
@@ -28,11 +27,6 @@ module _ {A B : Type 0} {Rel : A → B → Type 0} where
   pub all2-append : {xs ys : List A} {us vs : List B} → All2 Rel xs us → All2 Rel ys vs → All2 Rel (xs ++ ys) (us ++ vs)
   all2-append all2-none k = k
   all2-append (all2-more h hs) k = all2-more h (all2-append hs k)
-
-  pub all2-if : (b : Bool) (x : A) (y : B) → (b ≡ true → Rel x y) → All2 Rel (if b then x ∷ [] else []) (if b then y ∷ [] else [])
-  unfolding if_then_else_
-  all2-if true x y h = all2-more (h refl) all2-none
-  all2-if false x y h = all2-none
 
 -- ---- two lines that say the same
 
@@ -54,10 +48,6 @@ isDeep l = either (eqb (l .place) place.section) (eqb (l .place) place.matrix)
 pub opening-deep : (l : Line) → opensMatrixAt l ≡ true → isDeep l ≡ true
 unfolding opensMatrixAt isDeep
 opening-deep l e = both-first _ _ e
-
-pub opening-key : (l : Line) → opensMatrixAt l ≡ true → opensMatrix (keyOf l) ≡ true
-unfolding opensMatrixAt
-opening-key l e = both-second _ _ e
 
 pub body-place : (l : Line) → inMatrix l ≡ true → l .place ≡ place.matrix
 unfolding inMatrix
@@ -122,19 +112,6 @@ module _ (inside : Line → Bool) (same : (l m : Line) → SameLine l m → insi
   up-alike (matrix {l = l} {m = m} {ls = ls} {ms = ms} bs cs n p q a) =
       rw (if-false {A = List Line} (l ∷ upTo inside (bs ++ ls)) [] (outside l (opening-deep l (n .opens))), if-false {A = List Line} (m ∷ upTo inside (cs ++ ms)) [] (outside m (opening-deep m (other-opens l bs m cs n)))) none
 
-pub up-nothing : (inside : Line → Bool) → upTo inside [] ≡ []
-unfolding upTo
-up-nothing inside = refl
-
-module _ (inside : Line → Bool) (l : Line) (ls : List Line) where
-  pub up-on : inside l ≡ true → upTo inside (l ∷ ls) ≡ l ∷ upTo inside ls
-  unfolding upTo
-  up-on e = if-true _ _ e
-
-  pub up-off : inside l ≡ false → upTo inside (l ∷ ls) ≡ []
-  unfolding upTo
-  up-off e = if-false _ _ e
-
 -- a section's lines
 deep-inside : (l : Line) → isDeep l ≡ true → inSection l ≡ true
 unfolding inSection isDeep
@@ -182,10 +159,10 @@ block-kept (b ∷ bs) ls e =
     (λ (h : inMatrix b ≡ false). absurd (true≢false (ap isEmpty (sym (if-false _ _ h) ∙ e))))
 
 pub section-alike : {ls ms : List Line} → AlikeLines ls ms → AlikeLines (upTo inSection ls) (upTo inSection ms)
-section-alike none = rw (up-nothing inSection) none
+section-alike none = rw (up-none inSection) none
 section-alike (line {l = l} {m = m} {ls = ls} {ms = ms} s a) =
     by-cases _ (inSection l)
-    (λ (e : inSection l ≡ true). rw (up-on inSection l ls e, up-on inSection m ms (sym (section-same l m s) ∙ e)) (line s (section-alike a)))
-    (λ (e : inSection l ≡ false). rw (up-off inSection l ls e, up-off inSection m ms (sym (section-same l m s) ∙ e)) none)
+    (λ (e : inSection l ≡ true). rw (up-in inSection l ls e, up-in inSection m ms (sym (section-same l m s) ∙ e)) (line s (section-alike a)))
+    (λ (e : inSection l ≡ false). rw (up-out inSection l ls e, up-out inSection m ms (sym (section-same l m s) ∙ e)) none)
 section-alike (matrix {l = l} {m = m} {ls = ls} {ms = ms} bs cs n p q a) =
     rw (up-block l bs ls (n .opens) p, up-block m cs ms (other-opens l bs m cs n) q) (matrix bs cs n (block-kept bs ls p) (block-kept cs ms q) (section-alike a))

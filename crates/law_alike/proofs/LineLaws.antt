@@ -2,27 +2,24 @@
 -- same words, head, size or saying.
 -- Assumes nothing.
 use mathlib.Core.Path.{_≡_, refl, sym, _∙_, ap}
-use mathlib.Core.Bool.{Bool, true, false, not, true≢false}
+use mathlib.Core.Bool.{Bool, true, false, true≢false}
 use mathlib.Core.List.{List, [], _∷_}
 use Prim.Native.Nat.{ℕ}
 use native.Mathlib.Omega.{arith}
-use lib.ListN.{length}
 use lib.Dec.{eqb}
-use borrow.Author.Tests.{eq-eqb, ne-eqb, eqb-true}
+use borrow.Author.Tests.{ne-eqb}
 use Rattle.base.specs.If.{if_then_else_, both, either}
 use Rattle.base.specs.Bytes.{bytes, isBefore}
 use Rattle.base.specs.Runs.{same}
 use Rattle.base.proofs.IfLaws.{if-true, if-false, by-cases, both-first, both-second, both-not-left, either-false, either-rest}
 use Rattle.base.proofs.RunLaws.{same-equal}
-use Rattle.lex_line.specs.Words.{words, firstOf, secondOf, hasEquals, leftOf, rightOf}
-use Rattle.lex_number.specs.Number.{numberOf}
+use Rattle.lex_line.specs.Words.{words, firstOf, hasEquals, leftOf, rightOf}
 use Rattle.line_place.specs.Place as place
-use Rattle.line_head.specs.Head.{typeLine, sgrLine, impedanceLine, headLineOf}
+use Rattle.line_head.specs.Head.{impedanceLine, headLineOf}
 use Rattle.line_head.specs.Head as head
-use Rattle.line_head.specs.declared.HeadLine.{HeadLine}
 use Rattle.line_path.specs.Path.{sayingOf, isMult}
 use Rattle.line_path.specs.Path as path
-use Rattle.line_map.specs.PinMap.{orderLine, listLine, sizeLine, mapLineOf}
+use Rattle.line_map.specs.PinMap.{sizeLine, mapLineOf}
 use Rattle.line_map.specs.PinMap as pinMap
 use Rattle.line_map.specs.declared.MapLine.{MapLine}
 use Rattle.doc.specs.Lines.{plain, keyAt}

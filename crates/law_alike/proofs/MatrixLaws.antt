@@ -1,15 +1,17 @@
 -- The matrices and sections of alike lines: the same kinds, conductors and numbers at every row and column.
 -- Assumes nothing.
 use mathlib.Core.Path.{_≡_, refl, sym, _∙_, ap, subst}
-use mathlib.Core.Bool.{Bool, true, false, not, true≢false}
+use mathlib.Core.Bool.{true, false, not, true≢false}
 use mathlib.Core.List.{List, [], _∷_, _++_}
-use Prim.Native.Nat.{ℕ, _+_, _-_, _≤_, max}
+use Prim.Native.Nat.{ℕ, _+_, _-_, max}
 use native.Mathlib.Omega.{arith}
 use lib.ListN.{length}
 use lib.Dec.{eqb}
-use borrow.Author.Tests.{eq-eqb, ne-eqb, eqb-true, eqb-false, not-false, not-true}
+use borrow.Author.Tests.{eq-eqb, ne-eqb, eqb-true, eqb-false}
+use Rattle.table_record.specs.declared.Value.{Value}
+use Rattle.table_layout.specs.Codes.{diagonal, sparse}
 use Rattle.base.specs.If.{if_then_else_, both, either}
-use Rattle.base.proofs.IfLaws.{if-true, if-false, by-test, by-cases, both-first, both-second, both-not-left, both-not-right, either-right, either-false}
+use Rattle.base.proofs.IfLaws.{if-true, if-false, by-test, by-cases, both-second, both-not-left, both-not-right, either-right, either-false}
 use Rattle.lex_line.specs.Words.{words, firstOf, secondOf}
 use Rattle.lex_number.specs.Number.{numberOf}
 use Rattle.lex_number.specs.Integer.{wholeOf}
@@ -18,24 +20,25 @@ use Rattle.lex_keyword.specs.Names.{row, bandwidth, derivationMethod, resistanc
 use Rattle.line_place.specs.Place.{opensMatrix, isRowOrBandwidth, opensHeaderText}
 use Rattle.line_place.specs.Place as place
 use Rattle.line_argument.specs.Argument.{formOf, methodOf}
-use Rattle.line_matrix.specs.Matrix.{diagonal, sparse}
 use Rattle.line_keyword.specs.declared.Counts.{Counts}
 use Rattle.read_line.specs.Reading.{readingOf}
 use Rattle.read_line.specs.declared.Reading.the-variants.{Read}
-use Rattle.doc.specs.Lines.{Line, plain, keyAt, keyOf, argumentOf, gather, upTo}
-use Rattle.doc.specs.Document.{Value, Matrix, Section, wordIn, opensMatrixAt, inMatrix, givenBy, nextRow, numbersAt, sparseAt, valuesFrom, namedBy, greatestIn, conductorsIn, matrixOf, matrixAt, opensSection, inSection, methodIn, sectionOf, sectionAt, kindOf, documentIn, documentOf}
+use Rattle.doc.specs.Lines.{Line, plain, keyOf, argumentOf, gather, upTo}
+use Rattle.doc.specs.Document.{Matrix, Section, wordIn, opensMatrixAt, inMatrix, givenBy, numbersAt, sparseAt, valuesFrom, namedBy, greatestIn, conductorsIn, matrixOf, matrixAt, opensSection, inSection, methodIn, sectionOf, sectionAt, kindOf, documentIn, documentOf}
 use Rattle.doc.specs.Holds.{Each}
 use Rattle.doc.specs.Holds.Each.{none as each-none, more as each-more}
+use Rattle.doc.proofs.GatherLaws.{gather-none, up-in, up-none, up-out}
 use Rattle.law_alike.specs.Written.{isPlain, rowLines, numbersOf, wordOf, sparseWord, writtenAt}
-use Rattle.law_alike.specs.Alike.{takesText, SameSaying, SameLine, formAt, SameNumbers, AlikeLines, Alike}
+use Rattle.law_alike.specs.Alike.{takesText, SameLine, formAt, SameNumbers, AlikeLines, Alike}
 use Rattle.law_alike.specs.Alike.AlikeLines.{none, line, matrix}
 use Rattle.law_alike.specs.Way.Same.{All2, SameMatrix, SameSection, SameDocument}
 use Rattle.law_alike.specs.Way.Same.All2.{none as all2-none, more as all2-more}
 use Rattle.law_alike.proofs.LineLaws.{plain-same, words-same}
-use Rattle.law_alike.proofs.GatherLaws.{all2-append, keys-same, isDeep, opening-deep, opening-key, body-place, body-key, body-deep, block-inside, up-inside, other-opens, gather-alike, up-nothing, up-on, up-off, section-alike}
+use Rattle.law_alike.proofs.GatherLaws.{all2-append, keys-same, isDeep, opening-deep, body-place, body-key, body-deep, block-inside, up-inside, other-opens, section-alike}
 use Rattle.law_alike.proofs.FamilyLaws.{all2-choice, named-same, deep-place, listed-alike, models-alike, maps-alike}
 use Rattle.law_alike.proofs.WrittenLaws.{Found, EachOpening, text-openings}
 use Rattle.law_alike.proofs.WrittenLaws.EachOpening.{none as opening-none, more as opening-more}
+use Rattle.doc.proofs.SpanLaws.{opening-key}
 
 -- ---- lines of a matrix that say the same
 
@@ -140,11 +143,11 @@ module _ (form : ℕ) where
   plains-same l m s = ap (λ (k : ℕ). eqb k plain) (s .key)
 
   plain-up : {bs cs : List Line} → All2 SameBody bs cs → All2 SameBody (upTo isPlain bs) (upTo isPlain cs)
-  plain-up all2-none = rw (up-nothing isPlain) all2-none
+  plain-up all2-none = rw (up-none isPlain) all2-none
   plain-up (all2-more {x = l} {y = m} {xs = bs} {ys = cs} s a) =
       by-cases _ (isPlain l)
-      (λ (e : isPlain l ≡ true). rw (up-on isPlain l bs e, up-on isPlain m cs (sym (plains-same l m s) ∙ e)) (all2-more s (plain-up a)))
-      (λ (e : isPlain l ≡ false). rw (up-off isPlain l bs e, up-off isPlain m cs (sym (plains-same l m s) ∙ e)) all2-none)
+      (λ (e : isPlain l ≡ true). rw (up-in isPlain l bs e, up-in isPlain m cs (sym (plains-same l m s) ∙ e)) (all2-more s (plain-up a)))
+      (λ (e : isPlain l ≡ false). rw (up-out isPlain l bs e, up-out isPlain m cs (sym (plains-same l m s) ∙ e)) all2-none)
 
   opens-row : (l m : Line) → SameBody l m → (i : ℕ) → both (eqb (keyOf l) row) (eqb (givenBy l) i) ≡ both (eqb (keyOf m) row) (eqb (givenBy m) i)
   opens-row l m s i =
@@ -196,10 +199,6 @@ module _ (form : ℕ) where
 
 -- ---- matrices
 
-nothing-gathered : {A : Type 0} (here : Line → List Line → List A) → gather here [] ≡ []
-unfolding gather
-nothing-gathered here = refl
-
 gathered : {A : Type 0} (here : Line → List Line → List A) (l : Line) (ls : List Line) → gather here (l ∷ ls) ≡ here l ls ++ gather here ls
 unfolding gather
 gathered here l ls = refl
@@ -245,13 +244,13 @@ unfolding inMatrix
 in-matrix-same l m s = λ i. both (eqb (s .place i) place.matrix) (either (eqb (keys-same l m s i) plain) (isRowOrBandwidth (keys-same l m s i)))
 
 bodies-same : {ls ms : List Line} → AlikeLines ls ms → All2 SameBody (upTo inMatrix ls) (upTo inMatrix ms)
-bodies-same none = rw (up-nothing inMatrix) all2-none
+bodies-same none = rw (up-none inMatrix) all2-none
 bodies-same (line {l = l} {m = m} {ls = ls} {ms = ms} s a) =
     by-cases _ (inMatrix l)
-    (λ (e : inMatrix l ≡ true). rw (up-on inMatrix l ls e, up-on inMatrix m ms (sym (in-matrix-same l m s) ∙ e)) (all2-more (same-body l m s e) (bodies-same a)))
-    (λ (e : inMatrix l ≡ false). rw (up-off inMatrix l ls e, up-off inMatrix m ms (sym (in-matrix-same l m s) ∙ e)) all2-none)
+    (λ (e : inMatrix l ≡ true). rw (up-in inMatrix l ls e, up-in inMatrix m ms (sym (in-matrix-same l m s) ∙ e)) (all2-more (same-body l m s e) (bodies-same a)))
+    (λ (e : inMatrix l ≡ false). rw (up-out inMatrix l ls e, up-out inMatrix m ms (sym (in-matrix-same l m s) ∙ e)) all2-none)
 bodies-same (matrix {l = l} {m = m} {ls = ls} {ms = ms} bs cs n p q a) =
-    rw (up-off inMatrix l (bs ++ ls) (opening-out l (n .opens)), up-off inMatrix m (cs ++ ms) (opening-out m (other-opens l bs m cs n))) all2-none
+    rw (up-out inMatrix l (bs ++ ls) (opening-out l (n .opens)), up-out inMatrix m (cs ++ ms) (opening-out m (other-opens l bs m cs n))) all2-none
 
 opens-alike : (l m : Line) → SameLine l m → opensMatrixAt l ≡ opensMatrixAt m
 unfolding opensMatrixAt
@@ -304,7 +303,7 @@ openings-behind [] ls o = o
 openings-behind (b ∷ bs) ls (opening-more f o) = openings-behind bs ls o
 
 pub matrices-alike : {ls ms : List Line} → AlikeLines ls ms → EachOpening ls → EachOpening ms → All2 SameMatrix (gather matrixAt ls) (gather matrixAt ms)
-matrices-alike none o p = rw (nothing-gathered matrixAt) all2-none
+matrices-alike none o p = rw (gather-none matrixAt) all2-none
 matrices-alike (line {l = l} {m = m} {ls = ls} {ms = ms} s a) (opening-more f o) (opening-more g p) =
     rw (gathered matrixAt l ls, gathered matrixAt m ms) (all2-append (matrix-same l m ls ms s a f g) (matrices-alike a o p))
 matrices-alike (matrix {l = l} {m = m} {ls = ls} {ms = ms} bs cs n p q a) (opening-more f o) (opening-more g r) =
@@ -319,21 +318,21 @@ matrix-inside l e = either-right _ _ (either-right _ _ (eq-eqb _ _ (body-place l
 
 -- a matrix ends at the same line if the lines are cut at the end of the section
 matrix-cut : (ls : List Line) → upTo inMatrix (upTo inSection ls) ≡ upTo inMatrix ls
-matrix-cut [] = ap (upTo inMatrix) (up-nothing inSection)
+matrix-cut [] = ap (upTo inMatrix) (up-none inSection)
 matrix-cut (l ∷ ls) =
     by-cases _ (inMatrix l)
-    (λ (e : inMatrix l ≡ true). ap (upTo inMatrix) (up-on inSection l ls (matrix-inside l e)) ∙ up-on inMatrix l (upTo inSection ls) e ∙ ap (λ (xs : List Line). l ∷ xs) (matrix-cut ls) ∙ sym (up-on inMatrix l ls e))
+    (λ (e : inMatrix l ≡ true). ap (upTo inMatrix) (up-in inSection l ls (matrix-inside l e)) ∙ up-in inMatrix l (upTo inSection ls) e ∙ ap (λ (xs : List Line). l ∷ xs) (matrix-cut ls) ∙ sym (up-in inMatrix l ls e))
     (λ (e : inMatrix l ≡ false).
     by-cases _ (inSection l)
-    (λ (k : inSection l ≡ true). ap (upTo inMatrix) (up-on inSection l ls k) ∙ up-off inMatrix l (upTo inSection ls) e ∙ sym (up-off inMatrix l ls e))
-    (λ (k : inSection l ≡ false). ap (upTo inMatrix) (up-off inSection l ls k) ∙ up-nothing inMatrix ∙ sym (up-off inMatrix l ls e)))
+    (λ (k : inSection l ≡ true). ap (upTo inMatrix) (up-in inSection l ls k) ∙ up-out inMatrix l (upTo inSection ls) e ∙ sym (up-out inMatrix l ls e))
+    (λ (k : inSection l ≡ false). ap (upTo inMatrix) (up-out inSection l ls k) ∙ up-none inMatrix ∙ sym (up-out inMatrix l ls e)))
 
 openings-cut : {ls : List Line} → EachOpening ls → EachOpening (upTo inSection ls)
-openings-cut opening-none = rw (up-nothing inSection) opening-none
+openings-cut opening-none = rw (up-none inSection) opening-none
 openings-cut (opening-more {l = l} {ls = ls} f o) =
     by-cases _ (inSection l)
-    (λ (k : inSection l ≡ true). rw (up-on inSection l ls k) (opening-more (λ (e : opensMatrixAt l ≡ true). subst (Found (formAt l)) (sym (matrix-cut ls)) (f e)) (openings-cut o)))
-    (λ (k : inSection l ≡ false). rw (up-off inSection l ls k) opening-none)
+    (λ (k : inSection l ≡ true). rw (up-in inSection l ls k) (opening-more (λ (e : opensMatrixAt l ≡ true). subst (Found (formAt l)) (sym (matrix-cut ls)) (f e)) (openings-cut o)))
+    (λ (k : inSection l ≡ false). rw (up-out inSection l ls k) opening-none)
 
 -- the method is given by the first line that has one; no line of a matrix does
 methods-same : (l m : Line) → SameLine l m → keyOf l ≡ derivationMethod → methodOf (argumentOf l .text) ≡ methodOf (argumentOf m .text)
@@ -407,7 +406,7 @@ unfolding gather sectionAt
 section-block l bs ls o e = ap (λ (xs : List Section). xs ++ gather sectionAt (bs ++ ls)) (if-false _ _ (deep-after l (opening-deep l o))) ∙ section-body bs ls (block-inside bs ls e)
 
 pub sections-alike : {ls ms : List Line} → AlikeLines ls ms → EachOpening ls → EachOpening ms → All2 SameSection (gather sectionAt ls) (gather sectionAt ms)
-sections-alike none o p = rw (nothing-gathered sectionAt) all2-none
+sections-alike none o p = rw (gather-none sectionAt) all2-none
 sections-alike (line {l = l} {m = m} {ls = ls} {ms = ms} s a) (opening-more f o) (opening-more g p) =
     rw (gathered sectionAt l ls, gathered sectionAt m ms) (all2-append (one-section-same l m ls ms s a o p) (sections-alike a o p))
 sections-alike (matrix {l = l} {m = m} {ls = ls} {ms = ms} bs cs n p q a) (opening-more f o) (opening-more g r) =

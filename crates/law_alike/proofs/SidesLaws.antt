@@ -2,19 +2,17 @@
 -- Assumes nothing.
 use mathlib.Core.Path.{_≡_, refl, sym, _∙_, ap, subst}
 use mathlib.Core.Bool.{Bool, true, false, not, true≢false}
-use mathlib.Core.List.{List, [], _∷_, _++_, map}
-use Prim.Native.Nat.{ℕ, zero, suc, _+_, _≤_, _<_, suc-le-suc, zero-le}
+use mathlib.Core.List.{List, [], _∷_, map}
+use Prim.Native.Nat.{ℕ, zero, suc, _+_, _≤_, _<_, zero-le}
 use Prim.Native.Char.{code}
-use native.Mathlib.Nat.{le-of-suc-le-suc}
-use native.Mathlib.Numerals.{add-one}
 use native.Mathlib.Omega.{arith}
 use lib.ListN.{length, take, drop}
 use lib.Dec.{ltb, eqb}
-use borrow.Author.Tests.{lt-ltb, le-ltb, ltb-true, ltb-false, eqb-true, eqb-false, eq-eqb, ne-eqb}
+use borrow.Author.Tests.{lt-ltb, le-ltb, ltb-true, ltb-false, eqb-true}
 use Rattle.base.specs.If.{if_then_else_, either}
 use Rattle.base.specs.Bytes.{isBlank, space, tab, isBefore, isFilled}
 use Rattle.base.specs.Runs.{run, same}
-use Rattle.base.proofs.IfLaws.{if-true, if-false, by-cases, either-false, not-via, not-not-via}
+use Rattle.base.proofs.IfLaws.{if-true, if-false, by-cases}
 use Rattle.base.proofs.RunLaws.{run-goes, run-stops, run-nil, same-refl, same-equal}
 use Rattle.lex_line.specs.Words.{Word, wordGoesOn, grown, wordsFrom, words, firstOf, toEquals, hasEquals, leftOf, rightOf}
 
@@ -255,10 +253,6 @@ next-of (c ∷ s) e = record { byte = c; others = s; are = refl; filled-byte = n
     not-true-of : (h : Bool) → not h ≡ true → h ≡ false
     not-true-of true q = sym q
     not-true-of false q = refl
-
-left-none : cutLeft [] ≡ []
-unfolding cutLeft
-left-none = refl
 
 -- if a word does not go on, neither does the part before the sign
 before-ends : (s : List ℕ) → wordGoesOn s ≡ false → wordGoesOn (beforeSign s) ≡ false

@@ -4,13 +4,13 @@
 use mathlib.Core.Path.{_≡_, refl, sym, _∙_, ap, subst}
 use mathlib.Core.Bool.{Bool, true, false, not, true≢false}
 use mathlib.Core.List.{List, [], _∷_, _++_, map, map-append}
-use Prim.Native.Nat.{ℕ, zero, suc, _+_, _<_}
+use Prim.Native.Nat.{ℕ, suc, _+_, _<_}
 use Prim.Native.Char.{code}
 use native.Mathlib.Omega.{arith}
 use lib.ListN.{length, take, drop, length-append}
 use lib.Dec.{ltb, eqb}
 use borrow.Author.Tests.{eq-eqb, ne-eqb, eqb-true, eqb-false, lt-ltb}
-use Rattle.base.specs.If.{if_then_else_, both, either}
+use Rattle.base.specs.If.{if_then_else_, both}
 use Rattle.base.specs.Bytes.{bytes, isBlank, lineFeed, isBefore, isFilled, isContent}
 use Rattle.base.specs.Runs.{run, all}
 use Rattle.base.proofs.IfLaws.{if-true, if-false, by-cases, both-first, both-second}
@@ -25,7 +25,7 @@ use Rattle.doc.specs.Holds.{Each}
 use Rattle.doc.specs.Holds.Each.{none as each-none, more as each-more}
 use Rattle.doc.proofs.StandsLaws.{each-append}
 use Rattle.doc.proofs.Goes.{lines-blank, lines-said}
-use Rattle.law_alike.specs.Alike.{takesEquals, SameSaying, same-words, same-sides, same-argument, same-text, SameLine, SameNumbers, AlikeLines, Alike}
+use Rattle.law_alike.specs.Alike.{takesEquals, SameSaying, same-words, same-sides, same-argument, same-text, SameNumbers, AlikeLines, Alike}
 use Rattle.law_alike.specs.Alike.AlikeLines.{none, line, matrix}
 use Rattle.law_alike.proofs.SidesLaws.{bare, grow, isOther, words-bare, bare-blank}
 use Rattle.law_alike.proofs.LineLaws.{other-lists}

@@ -9,8 +9,10 @@ use native.Mathlib.Omega.{arith}
 use lib.ListN.{length}
 use lib.Dec.{eqb}
 use borrow.Author.Tests.{eq-eqb, ne-eqb, eqb-true, eqb-false}
+use Rattle.table_record.specs.declared.Value.{Value}
+use Rattle.table_layout.specs.Codes.{diagonal, banded, sparse}
 use Rattle.base.specs.If.{if_then_else_, either}
-use Rattle.base.proofs.IfLaws.{if-true, if-false, by-test, by-cases, both-true, both-first, both-second, both-not-left, both-not-right, either-rest}
+use Rattle.base.proofs.IfLaws.{if-true, if-false, by-test, by-cases, both-true, both-first, both-not-left, both-not-right, either-rest}
 use Rattle.lex_line.specs.Words.{words}
 use Rattle.lex_number.specs.Number.{numberOf}
 use Rattle.lex_number.specs.ValueWord.{zeroWord}
@@ -18,7 +20,7 @@ use Rattle.lex_keyword.specs.Names.{row, bandwidth}
 use Rattle.line_place.specs.Place.{opensMatrix, isRowOrBandwidth, done}
 use Rattle.line_place.specs.Place as place
 use Rattle.line_matrix.specs.declared.Matrix as forward
-use Rattle.line_matrix.specs.Matrix.{diagonal, banded, sparse, newMatrix, withRow, withColumn, withBandwidth, shapeConductors}
+use Rattle.line_matrix.specs.Matrix.{newMatrix, withRow, withColumn, withBandwidth, shapeConductors}
 use Rattle.line_keyword.specs.declared.State.{State}
 use Rattle.line_keyword.specs.declared.Counts.{Counts}
 use Rattle.line_keyword.specs.State.{startState}
@@ -27,27 +29,7 @@ use Rattle.line_keyword.proofs.InsideLaws.{opens-closes}
 use Rattle.read_line.specs.Reading.{lineRule, lineNext, readingOf}
 use Rattle.read_line.specs.declared.Reading.the-variants.{Read}
 use Rattle.doc.specs.Lines.{Line, plain, keyOf, argumentOf, gather, upTo, significant}
-use Rattle.doc.specs.Document.{
-  Value,
-  Matrix,
-  Section,
-  wordIn,
-  nextRow,
-  numbersAt,
-  sparseAt,
-  valuesFrom,
-  givenBy,
-  opensMatrixAt,
-  inMatrix,
-  matrixOf,
-  matrixAt,
-  opensSection,
-  inSection,
-  sectionOf,
-  sectionAt,
-  documentIn,
-  documentOf,
-}
+use Rattle.doc.specs.Document.{Matrix, Section, wordIn, nextRow, numbersAt, sparseAt, valuesFrom, givenBy, opensMatrixAt, inMatrix, matrixOf, matrixAt, opensSection, inSection, sectionOf, sectionAt, documentIn, documentOf}
 use Rattle.doc.specs.Holds.{Each}
 use Rattle.doc.proofs.RiseLaws.{
   numberAt,
@@ -64,21 +46,7 @@ use Rattle.doc.proofs.RiseLaws.{
 }
 use Rattle.doc.proofs.ShapeLaws.{Follows, Body, columnOf, data-body}
 use Rattle.doc.proofs.ShapeLaws.Body.{closes, numbers, pair, starts, widens}
-use Rattle.doc.proofs.SpanLaws.{
-  up-in,
-  up-out,
-  up-none,
-  gather-none,
-  gather-more,
-  matrix-plain,
-  matrix-kept,
-  matrix-left,
-  matrices-open,
-  plain-opens,
-  row-keeps,
-  width-keeps,
-  end-closes,
-}
+use Rattle.doc.proofs.SpanLaws.{matrix-plain, matrix-kept, matrix-left, matrices-open, plain-opens, row-keeps, width-keeps, end-closes, opening-key}
 use Rattle.doc.proofs.Goes.{Moves, Goes, Ends, idle-outside, text-ends}
 use Rattle.doc.proofs.Goes.Idle.{ended, waits}
 use Rattle.doc.proofs.Goes.Moves.{idle, plainly, keyed}
@@ -98,7 +66,8 @@ use Rattle.doc.proofs.BodyLaws.{
   matrix-key,
   matrix-leads,
 }
-use Rattle.doc.proofs.SectionLaws.{Written}
+use Rattle.doc.proofs.SectionLaws.{section-matrices, section-open, section-skip}
+use Rattle.doc.proofs.GatherLaws.{gather-more, gather-none, up-in, up-none, up-out}
 use Rattle.law_alike.specs.Written.{isPlain, rowLines, numbersOf, wordOf, sparseWord, writtenAt}
 use Rattle.law_alike.specs.Way.Found.{foundAt}
 use Rattle.law_alike.specs.Alike.{formAt}
@@ -427,13 +396,6 @@ matrix-values : (l : Line) (form : ℕ) (body : List Line) → matrixOf l form b
 unfolding matrixOf
 matrix-values l form body = refl
 
--- for a matrix of n conductors whose lines break no rule
-pub written-found :
-    (n : ℕ) (m : Matrix) (w : Written n m) (i j : ℕ) → 1 ≤ i → i ≤ j → writtenAt (w .form) (w .body) i j ≡ foundAt i j (m .values)
-written-found n m w i j low le =
-    body-found (w .known) n (w .last) (w .first) (w .form) (w .body) (w .read) i j low le
-    ∙ ap (foundAt i j) (sym (ap (λ (x : Matrix). x .values) (w .same) ∙ matrix-values (w .line) (w .form) (w .body)))
-
 -- ---- the lines from a line of a matrix on, in the forward reading
 
 record Rest (s : State) (ls : List Line) : Type 0 where
@@ -540,10 +502,6 @@ module _ (l : Line) (ls : List Line) (s e : State) (d : e .place ≡ done) (q : 
   unfolding opensMatrixAt
   opens-place h = both-first _ _ h
 
-  opens-key : opensMatrixAt l ≡ true → opensMatrix (keyOf l) ≡ true
-  unfolding opensMatrixAt
-  opens-key h = both-second _ _ h
-
   -- the state after it is that of a new matrix
   onward-found :
       (known : ℕ) → Onward (next l s) known (newMatrix (formAt l) (s .counts .values)) (s .counts .values) → Goes (next l s) ls e →
@@ -555,7 +513,7 @@ module _ (l : Line) (ls : List Line) (s e : State) (d : e .place ≡ done) (q : 
 
   keyed-found : opensMatrixAt l ≡ true → Goes (next l s) ls e → Found (formAt l) (upTo inMatrix ls)
   keyed-found h g =
-      let k : opensMatrix (keyOf l) ≡ true = opens-key h in
+      let k : opensMatrix (keyOf l) ≡ true = opening-key l h in
       by-cases (Found (formAt l) (upTo inMatrix ls)) (eqb (l .place) place.section)
       (λ (a : eqb (l .place) place.section ≡ true).
       onward-found _ (first-onward (keyOf l) k (argumentOf l .text) s (sym q ∙ eqb-true _ _ a)) g)
@@ -569,7 +527,7 @@ module _ (l : Line) (ls : List Line) (s e : State) (d : e .place ≡ done) (q : 
       (true≢false
       (sym (opens-place h)
       ∙ idle-outside (λ (x : ℕ). either (eqb x place.section) (eqb x place.matrix)) refl refl l s q i))
-  opening-found s' (plainly k kept) g h = absurd (true≢false (sym (opens-key h) ∙ plain-opens l k))
+  opening-found s' (plainly k kept) g h = absurd (true≢false (sym (opening-key l h) ∙ plain-opens l k))
   opening-found s' (keyed k kept) g h = keyed-found h g
 
 goes-openings : {s e : State} {ls : List Line} → Goes s ls e → e .place ≡ done → EachOpening ls
@@ -604,18 +562,6 @@ module _ (l : Line) (ls : List Line) where
   matrices-pass i h =
       ap (gather matrixAt) (up-in inSection l ls i) ∙ gather-more matrixAt l (upTo inSection ls)
       ∙ ap (λ (xs : List Matrix). xs ++ gather matrixAt (upTo inSection ls)) (if-false _ _ h)
-
-  section-matrices : sectionOf l ls .matrices ≡ gather matrixAt ls
-  unfolding sectionOf
-  section-matrices = refl
-
-  section-open : opensSection l ≡ true → sectionAt l ls ≡ sectionOf l (upTo inSection ls) ∷ []
-  unfolding sectionAt
-  section-open h = if-true _ _ h
-
-  section-pass : opensSection l ≡ false → sectionAt l ls ≡ []
-  unfolding sectionAt
-  section-pass h = if-false _ _ h
 
 -- one line more before
 module _ (t : List ℕ) (before : List Line) (l : Line) (ls : List Line) (here : significant t ≡ before ++ (l ∷ ls)) where
@@ -656,7 +602,7 @@ module _ (t : List ℕ) (before : List Line) (l : Line) (ls : List Line) (here :
       (λ (h : opensSection l ≡ true).
       let all : Each (FoundMatrix t) (sectionOf l (upTo inSection ls) .matrices) = rw (section-matrices l (upTo inSection ls)) inside in
       rw (gather-more sectionAt l ls, section-open l ls h) (Each.more all later))
-      (λ (h : opensSection l ≡ false). rw (gather-more sectionAt l ls, section-pass l ls h) later)
+      (λ (h : opensSection l ≡ false). rw (gather-more sectionAt l ls, section-skip l ls h) later)
 
 matrices-found :
     (t : List ℕ) (before ls : List Line) → significant t ≡ before ++ ls → EachOpening ls →

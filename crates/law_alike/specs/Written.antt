@@ -6,13 +6,13 @@ use mathlib.Core.Bool.{Bool}
 use mathlib.Core.List.{List, [], _∷_, _++_, map}
 use lib.ListN.{getD}
 use lib.Dec.{eqb}
+use Rattle.table_layout.specs.Codes.{diagonal, sparse}
 use Rattle.base.specs.If.{if_then_else_, both}
 use Rattle.lex_line.specs.Words.{words, firstOf, secondOf}
 use Rattle.lex_number.specs.Number.{numberOf}
 use Rattle.lex_number.specs.Integer.{wholeOf}
 use Rattle.lex_number.specs.ValueWord.{zeroWord}
 use Rattle.lex_keyword.specs.Names.{row}
-use Rattle.line_matrix.specs.Matrix.{diagonal, sparse}
 use Rattle.doc.specs.Lines.{Line, plain, keyOf, upTo}
 use Rattle.doc.specs.Document.{wordIn, givenBy}
 

@@ -1,14 +1,13 @@
 -- What is known of an accepted text: it has passed every stage of the intake.
 -- Assumes nothing.
 use mathlib.Core.Path.{_≡_, refl, sym, _∙_, ap}
-use mathlib.Core.Bool.{Bool, true, false, true≢false}
+use mathlib.Core.Bool.{true, false, true≢false}
 use mathlib.Core.List.{List}
 use Prim.Native.Nat.{ℕ, _≤_}
 use lib.ListN.{length}
 use lib.Dec.{ltb, eqb}
 use borrow.Author.Tests.{eqb-true, ltb-false}
-use Rattle.base.specs.If.{if_then_else_}
-use Rattle.base.proofs.IfLaws.{if-true, if-false, by-cases}
+use Rattle.base.proofs.IfLaws.{if-false, by-cases}
 use Rattle.lex_line.specs.ByteRules.{byteRules}
 use Rattle.lex_line.specs.declared.Checked.{Checked}
 use Rattle.lex_line.specs.declared.Checked.the-variants as bytes
@@ -20,9 +19,9 @@ use Rattle.doc.specs.Document.{documentOf}
 use Rattle.doc.specs.Records.{tableOf}
 use Rattle.intake.specs.Stored.{storeAnswer, afterReading}
 use Rattle.intake.specs.declared.store.StoreAnswer.{StoreAnswer}
-use Rattle.intake.specs.declared.store.StoreAnswer.the-variants.{Stored, Refused}
+use Rattle.intake.proofs.RoomLaws.{room-there, room-short}
 use Rattle.cross_rules.specs.Rules.{crossRule}
-use Rattle.intake.specs.Verdict.{Outcome, acceptedWith, refusedBy, crossed, afterStoring, afterBytes, verdictOf}
+use Rattle.intake.specs.Verdict.{Outcome, crossed, afterStoring, afterBytes, verdictOf}
 
 -- no rule of 1 to 4 and of 5 to 17 is broken, the table has room, and no rule of 19 to 27 is broken
 pub record Taken (t : List ℕ) (size : ℕ) : Type 0 where
@@ -39,11 +38,11 @@ module _ (t : List ℕ) (size : ℕ) (fine : byteRules t ≡ bytes.Fine) where
       (λ (e : eqb (crossRule (documentOf t) .rule) 0 ≡ true). record { counts = c; fine = fine; reads = r; room = l; kept = eqb-true _ _ e })
       (λ (e : eqb (crossRule (documentOf t) .rule) 0 ≡ false). absurd (true≢false (sym a ∙ ap (λ (o : Outcome). o .accepted) (if-false _ _ e))))
 
-  taken-room : (c : Counts) → readingOf t ≡ reading.Read c → afterStoring t (if ltb size (length (tableOf t)) then Refused 18 0 else Stored (length (tableOf t))) .accepted ≡ true → Taken t size
+  taken-room : (c : Counts) → readingOf t ≡ reading.Read c → afterStoring t (afterReading t size (reading.Read c)) .accepted ≡ true → Taken t size
   taken-room c r a =
       by-cases _ (ltb size (length (tableOf t)))
-      (λ (e : ltb size (length (tableOf t)) ≡ true). absurd (true≢false (sym a ∙ ap (λ (f : StoreAnswer). afterStoring t f .accepted) (if-true _ _ e))))
-      (λ (e : ltb size (length (tableOf t)) ≡ false). taken-crossed c r (ltb-false _ _ e) (ap (λ (f : StoreAnswer). afterStoring t f .accepted) (sym (if-false _ _ e)) ∙ a))
+      (λ (e : ltb size (length (tableOf t)) ≡ true). absurd (true≢false (sym a ∙ ap (λ (f : StoreAnswer). afterStoring t f .accepted) (room-short t size c e))))
+      (λ (e : ltb size (length (tableOf t)) ≡ false). taken-crossed c r (ltb-false _ _ e) (ap (λ (f : StoreAnswer). afterStoring t f .accepted) (sym (room-there t size c e)) ∙ a))
 
   taken-reading : (answer : Reading) → readingOf t ≡ answer → afterStoring t (afterReading t size answer) .accepted ≡ true → Taken t size
   taken-reading (reading.Read c) r a = taken-room c r a

@@ -2,18 +2,18 @@
 -- look that gives one is on the earliest line, line 0 last, and its rule is the lowest that is broken there.
 -- Assumes nothing.
 use mathlib.Core.Path.{_≡_, refl, sym, _∙_, ap}
-use mathlib.Core.Bool.{Bool, true, false, true≢false}
+use mathlib.Core.Bool.{true, false, true≢false}
 use mathlib.Core.List.{List, [], _∷_}
-use Prim.Native.Nat.{ℕ, zero, suc, _+_, _*_, _≤_, _<_, zero-le, suc-le-suc}
+use Prim.Native.Nat.{ℕ, zero, suc, _≤_, _<_}
 use native.Mathlib.Nat.{le-refl, le-trans, not-suc-le-zero, le-of-suc-le-suc}
 use native.Mathlib.Omega.{arith}
 use lib.ListN.{length, getD}
 use lib.Dec.{eqb}
 use borrow.Author.Tests.{eq-eqb, ne-eqb, eqb-true, eqb-false}
-use Rattle.base.specs.If.{if_then_else_, both}
-use Rattle.base.specs.Broken.{Rule, _when_, first, firstBroken}
+use Rattle.base.specs.If.{if_then_else_}
+use Rattle.base.specs.Broken.{Rule, firstBroken}
 use Rattle.base.proofs.IfLaws.{if-true, if-false, by-cases}
-use Rattle.base.proofs.BrokenLaws.{sound, Numbered, all-kept, none-broken, found-broken, first-broken, first-kept}
+use Rattle.base.proofs.BrokenLaws.{sound, Numbered, all-kept, found-broken, first-broken, first-kept}
 use Rattle.doc.specs.Holds.{Each}
 use Rattle.doc.specs.Holds.Each.{none, more}
 use Rattle.cross_rules.specs.Listed.{RulesAtLine, Among}

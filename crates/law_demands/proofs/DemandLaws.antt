@@ -2,12 +2,9 @@
 -- Assumes nothing.
 use mathlib.Core.Path.{_≡_, refl, sym, _∙_, ap}
 use mathlib.Core.Bool.{Bool, true, false, true≢false}
-use mathlib.Core.List.{List, _++_}
-use Prim.Native.Nat.{ℕ, _-_, _≤_}
-use native.Mathlib.Omega.{arith}
-use lib.ListN.{length, replicate}
-use Rattle.base.specs.If.{if_then_else_}
-use Rattle.base.proofs.IfLaws.{if-true, if-false}
+use mathlib.Core.List.{List}
+use Prim.Native.Nat.{ℕ, _-_}
+use lib.ListN.{length}
 use Rattle.doc.specs.Records.{tableOf}
 use Rattle.intake.specs.Verdict.{Outcome, acceptedWith, refusedBy, answerWords, verdictOf, tableFor}
 use Rattle.intake.specs.declared.Answer.{Answer}

@@ -1,20 +1,19 @@
 -- The groups of the rule book and the stages of the intake: each stage gives what the first look of its group with a broken rule gives.
 -- Assumes nothing.
 use mathlib.Core.Path.{_≡_, refl, sym, _∙_, ap}
-use mathlib.Core.Bool.{Bool, true, false, not, true≢false}
+use mathlib.Core.Bool.{Bool, true, false}
 use mathlib.Core.List.{List, [], _∷_}
-use Prim.Native.Nat.{ℕ, zero, suc, _+_, _*_, _≤_, _<_, zero-le}
-use native.Mathlib.Nat.{le-refl, le-trans}
+use Prim.Native.Nat.{ℕ, _+_, _<_, zero-le}
 use native.Mathlib.Omega.{arith}
-use lib.ListN.{length, getD}
-use lib.Dec.{leb, ltb, eqb}
-use borrow.Author.Tests.{eq-eqb, ne-eqb, eqb-true, eqb-false}
-use Rattle.base.specs.If.{if_then_else_, both, either}
-use Rattle.base.specs.Broken.{Rule, _when_, first, firstBroken}
+use lib.Dec.{eqb}
+use borrow.Author.Tests.{eq-eqb, eqb-true, eqb-false}
+use Rattle.base.specs.If.{if_then_else_, both}
+use Rattle.base.specs.Broken.{Rule, _when_, firstBroken}
+use Rattle.base.specs.Refusal as refusal
 use Rattle.base.proofs.IfLaws.{if-true, if-false, by-cases, by-test}
-use Rattle.lex_line.specs.Lines.{Raw, lines, contentOf, isBlankLine}
+use Rattle.lex_line.specs.Lines.{Raw, contentOf, isBlankLine}
 use Rattle.lex_line.specs.Words.{words, firstOf}
-use Rattle.lex_line.specs.ByteRules.{rawLineRule, linesRule, refusedOr}
+use Rattle.lex_line.specs.ByteRules.{characterRules, rawLineRule, linesRule, refusedOr, sizeRules}
 use Rattle.lex_line.specs.declared.Checked.{Checked}
 use Rattle.lex_line.specs.declared.Checked.the-variants as bytes
 use Rattle.lex_keyword.specs.Names.{beginHeader}
@@ -24,124 +23,44 @@ use Rattle.lex_keyword.specs.declared.Bracket.the-variants.{Plain, Indented, Ba
 use Rattle.line_place.specs.Place.{isText, before, done}
 use Rattle.line_place.specs.Place as place
 use Rattle.line_argument.specs.Argument.{isReserved}
-use Rattle.line_head.specs.Head.{headLineOf, headRule}
+use Rattle.line_head.specs.Head.{headLineOf, headRules}
 use Rattle.line_head.specs.declared.HeadLine.{HeadLine}
 use Rattle.line_head.specs.declared.Head.{Head}
-use Rattle.line_path.specs.Path.{pathLineOf, pathRule, openRule, closedRule, closed, saysSide}
+use Rattle.line_path.specs.Path.{pathLineOf, openRules, pathRules, closed, saysSide}
 use Rattle.line_path.specs.declared.PathLine.{PathLine}
 use Rattle.line_path.specs.declared.Path.{Path}
-use Rattle.line_map.specs.PinMap.{mapLineOf, mapRule, pinRule}
+use Rattle.line_map.specs.PinMap.{mapLineOf, mapRules, pinRules}
 use Rattle.line_map.specs.declared.MapLine.{MapLine}
 use Rattle.line_map.specs.declared.Map.{Map}
-use Rattle.line_matrix.specs.Matrix.{dataLineOf, dataRule}
+use Rattle.line_matrix.specs.Matrix.{dataLineOf, dataRules}
 use Rattle.line_matrix.specs.declared.DataLine.{DataLine}
 use Rattle.line_matrix.specs.declared.Matrix.{Matrix}
-use Rattle.line_keyword.specs.Keywords.{keywordRule}
+use Rattle.line_keyword.specs.Keywords.{keywordRules}
 use Rattle.line_keyword.specs.declared.Counts.{Counts}
 use Rattle.line_keyword.specs.declared.State.{State}
-use Rattle.read_line.specs.Reading as reading
-use Rattle.read_line.specs.Reading.{listRule, lineStep, keywordStep, bracketStep, beforeStep, lineResult, goes, breaks, atEnd, onward, readFrom, commentByte, argumentFrom}
+use Rattle.read_line.specs.Reading.{lineRules, RulesAndNext, bracketRulesAndNext, beforeRulesAndNext, rulesAndNext, goes, breaks, judged, lineResult, endOfTextRules, atEnd, onward, readFrom, commentByte, argumentFrom}
 use Rattle.read_line.specs.declared.LineResult.{LineResult}
 use Rattle.read_line.specs.declared.Reading.{Reading}
 use Rattle.read_line.specs.declared.Reading.the-variants.{Read, Refused}
 use Rattle.doc.specs.Holds.{Each}
 use Rattle.doc.specs.Holds.Each.{none, more}
 use Rattle.cross_rules.specs.Listed.{RulesAtLine}
-use Rattle.law_demands.specs.RuleBook.{sizeRules, characterRules, characterRulesAtLines, headRules, openRules, closedRules, pathRules, mapRules, pinRules, dataRules, listRules, lineRules, keywordRules, bracketRules, beforeRules, rulesOn, endOfTextRules, forwardRulesAtLines, roomRules, forward, rank}
+use Rattle.intake.specs.Stored.{roomRules}
+use Rattle.law_demands.specs.RuleBook.{characterRulesAtLines, rulesOn, forwardRulesAtLines, forward, rank}
 use Rattle.law_demands.proofs.BookLaws.{Ranked, Given, givenBy, given-later, given-here, Before, InOrder, last, followed, AllRanked}
 
 -- ---- the rules of a line are those of the reading
 
--- a choice between lists is a choice between what they give
-chosen : (b : Bool) (x y : List Rule) (m n : ℕ) → m ≡ firstBroken x → n ≡ firstBroken y → (if b then m else n) ≡ firstBroken (if b then x else y)
-unfolding if_then_else_
-chosen true x y m n e f = e
-chosen false x y m n e f = f
-
-path-given : (l : PathLine) (p : Path) (steps : ℕ) → pathRule l p steps ≡ firstBroken (pathRules l p steps)
-unfolding pathRule closedRule openRule first
-path-given l p steps = chosen (eqb (p .stage) closed) (closedRules l p) (openRules l p steps) _ _ (chosen (both (eqb (l .says) saysSide) (p .side)) _ _ _ _ refl refl) refl
-
-list-given : (content : List ℕ) → listRule content ≡ firstBroken (listRules content)
-unfolding listRule if_then_else_ first
-list-given content = by-bool (isReserved (firstOf (words content)))
-  where
-    by-bool : (b : Bool) → (if b then 11 else 0) ≡ first b 11 0
-    by-bool true = refl
-    by-bool false = refl
-
-line-given : (content : List ℕ) (s : State) → reading.lineRule content s ≡ firstBroken (lineRules content s)
-unfolding reading.lineRule dataRule pinRule mapRule headRule first
-line-given content s =
-    chosen (isText (s .place)) [] _ _ _ refl
-    (chosen (eqb (s .place) place.matrix) (dataRules (dataLineOf (s .matrix .form) content) (s .matrix) (s .counts .values)) _ _ _ refl
-    (chosen (eqb (s .place) place.path) (pathRules (pathLineOf content) (s .path) (s .counts .steps)) _ _ _ (path-given (pathLineOf content) (s .path) (s .counts .steps))
-    (chosen (eqb (s .place) place.pinList) (pinRules content (s .map) (s .counts .pins)) _ _ _ refl
-    (chosen (eqb (s .place) place.mapHead) (mapRules (mapLineOf content) (s .map)) _ _ _ refl
-    (chosen (eqb (s .place) place.head) (headRules (headLineOf content) (s .head)) _ _ _ refl
-    (chosen (eqb (s .place) place.list) (listRules content) (12 when true ∷ []) _ _ (list-given content) refl))))))
-
-keyword-given : (k : ℕ) (argument : List ℕ) (s : State) → keywordRule k argument s ≡ firstBroken (keywordRules k argument s)
-unfolding keywordRule
-keyword-given k argument s = refl
-
--- the rule of a line's result
-module _ (k : ℕ) (next s : State) where
-  judged-number : reading.judged k next s .rule ≡ k
-  unfolding reading.judged goes breaks
-  judged-number =
-      by-cases _ (eqb k 0)
-      (λ (e : eqb k 0 ≡ true). ap (λ (x : LineResult). x .rule) (if-true _ _ e) ∙ sym (eqb-true _ _ e))
-      (λ (e : eqb k 0 ≡ false). ap (λ (x : LineResult). x .rule) (if-false _ _ e))
-
-goes-none : (s : State) → goes s .rule ≡ 0
-unfolding goes
-goes-none s = refl
-
-breaks-number : (k : ℕ) (s : State) → breaks k s .rule ≡ k
-unfolding breaks
-breaks-number k s = refl
-
-line-number : (content : List ℕ) (s : State) → lineStep content s .rule ≡ firstBroken (lineRules content s)
-unfolding lineStep
-line-number content s = judged-number (reading.lineRule content s) _ s ∙ line-given content s
-
-keyword-number : (k : ℕ) (argument : List ℕ) (s : State) → keywordStep k argument s .rule ≡ firstBroken (keywordRules k argument s)
-unfolding keywordStep
-keyword-number k argument s = judged-number (keywordRule k argument s) _ s ∙ keyword-given k argument s
-
--- a choice between results is a choice between what their lists give
-step-chosen : (b : Bool) (x y : List Rule) (p q : LineResult) → p .rule ≡ firstBroken x → q .rule ≡ firstBroken y → (if b then p else q) .rule ≡ firstBroken (if b then x else y)
-unfolding if_then_else_
-step-chosen true x y p q e f = e
-step-chosen false x y p q e f = f
-
-broken-at : (k : ℕ) (s : State) → breaks k s .rule ≡ firstBroken (k when true ∷ [])
-unfolding breaks first
-broken-at k s = refl
-
-bracket-number : (b : Bracket) (content : List ℕ) (s : State) → bracketStep b content s .rule ≡ firstBroken (bracketRules b content s)
-bracket-number Plain content s = line-number content s
-bracket-number Indented content s = step-chosen (isText (s .place)) _ _ _ _ (line-number content s) (broken-at 6 s)
-bracket-number Bad content s = broken-at 6 s
-bracket-number Unknown content s = broken-at 7 s
-bracket-number Later content s = broken-at 8 s
-bracket-number (Keyword k start) content s = keyword-number k (argumentFrom content start) s
-
-before-number : (b : Bracket) (content : List ℕ) (s : State) → beforeStep b content s .rule ≡ firstBroken (beforeRules b content s)
-before-number Plain content s = goes-none s
-before-number Indented content s = goes-none s
-before-number Bad content s = goes-none s
-before-number Unknown content s = goes-none s
-before-number Later content s = goes-none s
-before-number (Keyword k start) content s = step-chosen (eqb k beginHeader) _ _ _ _ (keyword-number k (argumentFrom content start) s) (goes-none s)
+judged-number : (k : ℕ) (next s : State) → judged k next s .rule ≡ k
+unfolding judged goes breaks
+judged-number k next s =
+    by-cases _ (eqb k 0)
+    (λ (e : eqb k 0 ≡ true). ap (λ (x : LineResult). x .rule) (if-true _ _ e) ∙ sym (eqb-true _ _ e))
+    (λ (e : eqb k 0 ≡ false). ap (λ (x : LineResult). x .rule) (if-false _ _ e))
 
 pub step-number : (content : List ℕ) (s : State) → lineResult content s .rule ≡ firstBroken (rulesOn content s)
-unfolding lineResult rulesOn
-step-number content s =
-    step-chosen (isBlankLine content) _ _ _ _ (goes-none s)
-    (step-chosen (eqb (s .place) done) _ _ _ _ (goes-none s)
-    (step-chosen (eqb (s .place) before) _ _ _ _ (before-number (bracketOf content) content s) (bracket-number (bracketOf content) content s)))
+unfolding lineResult
+step-number content s = judged-number (firstBroken (rulesOn content s)) _ s
 
 -- ---- every list is in the order of refusal
 
@@ -160,13 +79,13 @@ room-ranked t size = record { numbered = (omega arith, tt); ascends = (omega ari
 none-ranked : (g : ℕ) → Ranked g []
 none-ranked g = record { numbered = tt; ascends = tt }
 
-twelve-ranked : (b : Bool) → Ranked forward (12 when b ∷ [])
+line-refused-ranked : (b : Bool) → Ranked forward (refusal.line when b ∷ [])
 unfolding rank if_then_else_ both
-twelve-ranked b = record { numbered = (omega arith, tt); ascends = (omega arith, tt) }
+line-refused-ranked b = record { numbered = (omega arith, tt); ascends = (omega arith, tt) }
 
-eleven-ranked : (b : Bool) → Ranked forward (11 when b ∷ [])
+argument-ranked : (b : Bool) → Ranked forward (refusal.argument when b ∷ [])
 unfolding rank if_then_else_ both
-eleven-ranked b = record { numbered = (omega arith, tt); ascends = (omega arith, tt) }
+argument-ranked b = record { numbered = (omega arith, tt); ascends = (omega arith, tt) }
 
 bracket-ranked : (k : ℕ) → 0 < k → (b : Bool) → Ranked forward (k when b ∷ [])
 bracket-ranked k h b = record { numbered = (h, tt); ascends = (zero-le, tt) }
@@ -213,7 +132,7 @@ either-ranked b x y h k = by-test (Ranked forward) b _ _ (λ e. h) (λ e. k)
 
 path-ranked : (l : PathLine) (p : Path) (steps : ℕ) → Ranked forward (pathRules l p steps)
 path-ranked l p steps =
-    either-ranked (eqb (p .stage) closed) _ _ (either-ranked (both (eqb (l .says) saysSide) (p .side)) _ _ (eleven-ranked _) (twelve-ranked true))
+    either-ranked (eqb (p .stage) closed) _ _ (either-ranked (both (eqb (l .says) saysSide) (p .side)) _ _ (argument-ranked _) (line-refused-ranked true))
     (open-ranked l p steps)
 
 line-ranked : (content : List ℕ) (s : State) → Ranked forward (lineRules content s)
@@ -224,39 +143,40 @@ line-ranked content s =
     (either-ranked (eqb (s .place) place.pinList) _ _ (pin-ranked content (s .map) (s .counts .pins))
     (either-ranked (eqb (s .place) place.mapHead) _ _ (map-ranked (mapLineOf content) (s .map))
     (either-ranked (eqb (s .place) place.head) _ _ (head-ranked (headLineOf content) (s .head))
-    (either-ranked (eqb (s .place) place.list) _ _ (eleven-ranked (isReserved (firstOf (words content)))) (twelve-ranked true)))))))
+    (either-ranked (eqb (s .place) place.list) _ _ (argument-ranked (isReserved (firstOf (words content)))) (line-refused-ranked true)))))))
 
-brackets-ranked : (b : Bracket) (content : List ℕ) (s : State) → Ranked forward (bracketRules b content s)
+-- the same for a line, by its rules
+abbrev LineRanked : RulesAndNext → Type 0
+LineRanked line = Ranked forward (line .rules)
+
+brackets-ranked : (b : Bracket) (content : List ℕ) (s : State) → LineRanked (bracketRulesAndNext b content s)
 brackets-ranked Plain content s = line-ranked content s
-brackets-ranked Indented content s = either-ranked (isText (s .place)) _ _ (line-ranked content s) (bracket-ranked 6 (omega arith) true)
-brackets-ranked Bad content s = bracket-ranked 6 (omega arith) true
-brackets-ranked Unknown content s = bracket-ranked 7 (omega arith) true
-brackets-ranked Later content s = bracket-ranked 8 (omega arith) true
+brackets-ranked Indented content s = by-test LineRanked (isText (s .place)) _ _ (λ e. line-ranked content s) (λ e. bracket-ranked refusal.keyword (omega arith) true)
+brackets-ranked Bad content s = bracket-ranked refusal.keyword (omega arith) true
+brackets-ranked Unknown content s = bracket-ranked refusal.unknown (omega arith) true
+brackets-ranked Later content s = bracket-ranked refusal.later (omega arith) true
 brackets-ranked (Keyword k start) content s = keyword-ranked k (argumentFrom content start) s
 
-before-ranked : (b : Bracket) (content : List ℕ) (s : State) → Ranked forward (beforeRules b content s)
+before-ranked : (b : Bracket) (content : List ℕ) (s : State) → LineRanked (beforeRulesAndNext b content s)
 before-ranked Plain content s = none-ranked forward
 before-ranked Indented content s = none-ranked forward
 before-ranked Bad content s = none-ranked forward
 before-ranked Unknown content s = none-ranked forward
 before-ranked Later content s = none-ranked forward
-before-ranked (Keyword k start) content s = either-ranked (eqb k beginHeader) _ _ (keyword-ranked k (argumentFrom content start) s) (none-ranked forward)
+before-ranked (Keyword k start) content s = by-test LineRanked (eqb k beginHeader) _ _ (λ e. keyword-ranked k (argumentFrom content start) s) (λ e. none-ranked forward)
 
 rules-ranked : (content : List ℕ) (s : State) → Ranked forward (rulesOn content s)
-unfolding rulesOn
+unfolding rulesAndNext
 rules-ranked content s =
-    either-ranked (isBlankLine content) _ _ (none-ranked forward)
-    (either-ranked (eqb (s .place) done) _ _ (none-ranked forward)
-    (either-ranked (eqb (s .place) before) _ _ (before-ranked (bracketOf content) content s) (brackets-ranked (bracketOf content) content s)))
+    by-test LineRanked (isBlankLine content) _ _ (λ e. none-ranked forward)
+    (λ e. by-test LineRanked (eqb (s .place) done) _ _ (λ f. none-ranked forward)
+    (λ f. by-test LineRanked (eqb (s .place) before) _ _ (λ g. before-ranked (bracketOf content) content s) (λ g. brackets-ranked (bracketOf content) content s)))
 
 -- ---- 2 to 4
 
 -- the result of the byte rules, from what the looks give
 abbrev pub checkedBy : Given → Checked
 checkedBy given = if eqb (given .rule) 0 then bytes.Fine else bytes.Refused (given .rule) (given .line)
-
-lookAt : ℕ → Raw → RulesAtLine
-lookAt n l = record { line = n; rules = characterRules l }
 
 pub characters-given : (n : ℕ) (ls : List Raw) → linesRule n ls ≡ checkedBy (givenBy (characterRulesAtLines n ls))
 unfolding linesRule refusedOr rawLineRule characterRulesAtLines givenBy
@@ -300,32 +220,14 @@ module _ (s : State) where
   unfolding givenBy
   alone = refl
 
-  end-first : firstBroken (endOfTextRules s) ≡ (if eqb (s .place) before then 5 else if eqb (s .place) done then 0 else 10)
-  unfolding first if_then_else_
-  end-first = by-bools (eqb (s .place) before) (eqb (s .place) done)
-    where
-      by-bools : (b d : Bool) → first b 5 (first (not d) 10 0) ≡ (if b then 5 else if d then 0 else 10)
-      by-bools true d = refl
-      by-bools false true = refl
-      by-bools false false = refl
-
   end-told : Told (atEnd s) (givenBy (endLook ∷ []))
   unfolding atEnd
   end-told =
-      by-cases _ (eqb (s .place) done)
-      (λ (d : eqb (s .place) done ≡ true).
-      let b : eqb (s .place) before ≡ false = ne-eqb _ _ (λ (e : s .place ≡ before). let p : s .place ≡ done = eqb-true _ _ d in omega arith) in
-      let z : firstBroken (endOfTextRules s) ≡ 0 = end-first ∙ if-false _ _ b ∙ if-true _ _ d in
-      rw (if-true {A = Reading} (Read (s .counts)) (if eqb (s .place) before then Refused 5 0 else Refused 10 0) d) (read-on (s .counts) (ap (λ (g : Given). g .rule) (alone ∙ if-true _ _ (eq-eqb _ _ z)))))
-      (λ (d : eqb (s .place) done ≡ false).
-      by-cases _ (eqb (s .place) before)
-      (λ (b : eqb (s .place) before ≡ true). told 5 (λ (e : 5 ≡ 0). omega arith) (if-false _ _ d ∙ if-true _ _ b) (end-first ∙ if-true _ _ b))
-      (λ (b : eqb (s .place) before ≡ false). told 10 (λ (e : 10 ≡ 0). omega arith) (if-false _ _ d ∙ if-false _ _ b) (end-first ∙ if-false _ _ b ∙ if-false _ _ d)))
-    where
-      told : (k : ℕ) → (k ≡ 0 → ⊥) → (if eqb (s .place) done then Read (s .counts) else (if eqb (s .place) before then Refused 5 0 else Refused 10 0)) ≡ Refused k 0 → firstBroken (endOfTextRules s) ≡ k → Told (if eqb (s .place) done then Read (s .counts) else (if eqb (s .place) before then Refused 5 0 else Refused 10 0)) (givenBy (endLook ∷ []))
-      told k n e f =
-          let g : givenBy (endLook ∷ []) ≡ record { rule = k; line = 0 } = alone ∙ if-false _ _ (ne-eqb _ _ (λ (z : firstBroken (endOfTextRules s) ≡ 0). n (sym f ∙ z))) ∙ ap (λ (m : ℕ). record { rule = m; line = 0 }) f in
-          rw (e, g) (refused-at k 0 n)
+      by-cases _ (eqb (firstBroken (endOfTextRules s)) 0)
+      (λ (e : eqb (firstBroken (endOfTextRules s)) 0 ≡ true).
+      rw (if-true {A = Reading} (Read (s .counts)) (Refused (firstBroken (endOfTextRules s)) 0) e) (read-on (s .counts) (ap (λ (g : Given). g .rule) (alone ∙ if-true _ _ e))))
+      (λ (e : eqb (firstBroken (endOfTextRules s)) 0 ≡ false).
+      rw (if-false {A = Reading} (Read (s .counts)) (Refused (firstBroken (endOfTextRules s)) 0) e, alone ∙ if-false _ _ e) (refused-at (firstBroken (endOfTextRules s)) 0 (eqb-false _ _ e)))
 
 module _ (step : LineResult) (n : ℕ) (more-lines : State → Reading) where
   on-kept : eqb (step .rule) 0 ≡ true → onward step n more-lines ≡ more-lines (step .state)

@@ -2,21 +2,23 @@
 -- the stated order puts first. The list of rules is the rule book, specs/RuleBook.antt.
 -- Assumes nothing.
 use mathlib.Core.Path.{_≡_, refl, sym, _∙_, ap}
-use mathlib.Core.Bool.{Bool, true, false, true≢false}
-use mathlib.Core.List.{List, [], _∷_, _++_}
+use mathlib.Core.Bool.{Bool, true, false}
+use mathlib.Core.List.{List, [], _∷_}
 use Prim.Native.Nat.{ℕ, zero, suc, _+_, _*_, _≤_, _<_}
 use native.Mathlib.Omega.{arith}
-use lib.ListN.{length, getD}
+use lib.ListN.{length}
 use lib.Dec.{ltb, eqb}
 use borrow.Author.Tests.{ne-eqb, eqb-true, eqb-false, ltb-true, ltb-false}
 use Rattle.base.specs.If.{if_then_else_, both}
-use Rattle.base.specs.Broken.{_when_, first, firstBroken}
+use Rattle.base.specs.Broken.{_when_, firstBroken}
+use Rattle.base.specs.Refusal as refusal
 use Rattle.base.proofs.BrokenLaws.{first-broken, first-kept}
 use Rattle.base.proofs.IfLaws.{if-true, if-false, by-cases}
 use Rattle.lex_line.specs.Lines.{lines}
-use Rattle.lex_line.specs.ByteRules.{mostBytes, linesRule, byteRules}
+use Rattle.lex_line.specs.ByteRules.{mostBytes, linesRule, sizeRules}
 use Rattle.lex_line.specs.declared.Checked.{Checked}
 use Rattle.lex_line.specs.declared.Checked.the-variants as bytes
+use Rattle.lex_line.proofs.ByteLaws.{size-refused, size-fine}
 use Rattle.line_keyword.specs.State.{startState}
 use Rattle.line_keyword.specs.declared.Counts.{Counts}
 use Rattle.read_line.specs.Reading.{readFrom, readingOf}
@@ -27,20 +29,20 @@ use Rattle.doc.specs.Records.{tableOf}
 use Rattle.doc.specs.Holds.{Each}
 use Rattle.doc.specs.Holds.Each.{none, more}
 use Rattle.doc.proofs.StandsLaws.{each-append}
-use Rattle.intake.specs.Stored.{storeAnswer, afterReading}
-use Rattle.intake.specs.declared.store.StoreAnswer.{StoreAnswer}
-use Rattle.intake.specs.declared.store.StoreAnswer.the-variants as filled
-use Rattle.cross_rules.specs.Rules.{findings, listFindings, modelFindings, mapFindings, sectionFindings, crossRule}
+use Rattle.intake.specs.Stored.{roomRules, storeAnswer, afterReading}
+use Rattle.intake.proofs.RoomLaws.{room-there, room-short}
+use Rattle.cross_rules.specs.Rules.{allRulesAtLines, crossRule}
+use Rattle.cross_rules.specs.Way.Findings.{findings, listFindings, modelFindings, mapFindings, sectionFindings}
 use Rattle.cross_rules.specs.declared.Finding.{Finding}
 use Rattle.cross_rules.proofs.OrderLaws.{in-order}
-use Rattle.cross_rules.specs.Listed.{RulesAtLine, allRulesAtLines, Among}
+use Rattle.cross_rules.specs.Listed.{RulesAtLine, Among}
 use Rattle.cross_rules.specs.Listed.Among.{front, further}
 use Rattle.cross_rules.proofs.RisingLaws.{all-least, each-one}
-use Rattle.cross_rules.proofs.FirstLaws.{Breaks, none-breaks, given-breaks, unbroken, lowest-line, lowest-rule, first-found}
+use Rattle.cross_rules.proofs.FirstLaws.{Breaks, none-breaks, given-breaks, lowest-line, lowest-rule, first-found}
 use Rattle.intake.specs.Verdict.{Outcome, acceptedWith, refusedBy, crossed, afterStoring, afterBytes, verdictOf}
-use Rattle.law_demands.specs.RuleBook.{BrokenIn, Broken, First, group, rank, sizeRules, roomRules, characterRulesAtLines, forwardRulesAtLines, forward}
+use Rattle.law_demands.specs.RuleBook.{BrokenIn, Broken, First, group, rank, characterRulesAtLines, forwardRulesAtLines}
 use Rattle.law_demands.proofs.BookLaws.{Given, givenBy, Found, InOrder, last, followed, AllRanked, empty-gives, given-later, given-here, given-none, given-first}
-use Rattle.law_demands.proofs.GroupLaws.{checkedBy, characters-given, characters-ranked, characters-ordered, Told, read-on, refused-at, forward-told, forward-ranked, forward-ordered, size-ranked, room-ranked}
+use Rattle.law_demands.proofs.GroupLaws.{characters-given, characters-ranked, characters-ordered, Told, read-on, refused-at, forward-told, forward-ranked, forward-ordered, size-ranked, room-ranked}
 
 -- ---- the cases of an answer
 
@@ -158,18 +160,18 @@ module _ (t : List ℕ) (size : ℕ) where
         given-here oneLook [] (λ (z : firstBroken (number when b ∷ []) ≡ 0). n (sym f ∙ z)) ∙ ap (λ (k : ℕ). record { rule = k; line = line }) f
 
   size-kept : ltb mostBytes (length t) ≡ false → Kept 1
-  size-kept e = group-kept 1 (sizeLook ∷ []) size-group (more (size-ranked t) none) (one-kept 1 0 (ltb mostBytes (length t)) e)
+  size-kept e = group-kept 1 (sizeLook ∷ []) size-group (more (size-ranked t) none) (one-kept refusal.size 0 (ltb mostBytes (length t)) e)
 
-  size-found : ltb mostBytes (length t) ≡ true → Found 1 (group t size 1) 1 0
-  size-found e = group-found 1 (sizeLook ∷ []) size-group (more (size-ranked t) none) (followed none last) 1 0 (λ (z : 1 ≡ 0). omega arith) (one-given 1 0 (ltb mostBytes (length t)) (λ (z : 1 ≡ 0). omega arith) e)
+  size-found : ltb mostBytes (length t) ≡ true → Found 1 (group t size 1) refusal.size 0
+  size-found e = group-found 1 (sizeLook ∷ []) size-group (more (size-ranked t) none) (followed none last) refusal.size 0 (λ (z : refusal.size ≡ 0). omega arith) (one-given refusal.size 0 (ltb mostBytes (length t)) (λ (z : refusal.size ≡ 0). omega arith) e)
 
   -- ---- 18
 
   room-kept : ltb size (length (tableOf t)) ≡ false → Kept 4
-  room-kept e = group-kept 4 (roomLook ∷ []) room-group (more (room-ranked t size) none) (one-kept 18 0 (ltb size (length (tableOf t))) e)
+  room-kept e = group-kept 4 (roomLook ∷ []) room-group (more (room-ranked t size) none) (one-kept refusal.room 0 (ltb size (length (tableOf t))) e)
 
-  room-found : ltb size (length (tableOf t)) ≡ true → Found 4 (group t size 4) 18 0
-  room-found e = group-found 4 (roomLook ∷ []) room-group (more (room-ranked t size) none) (followed none last) 18 0 (λ (z : 18 ≡ 0). omega arith) (one-given 18 0 (ltb size (length (tableOf t))) (λ (z : 18 ≡ 0). omega arith) e)
+  room-found : ltb size (length (tableOf t)) ≡ true → Found 4 (group t size 4) refusal.room 0
+  room-found e = group-found 4 (roomLook ∷ []) room-group (more (room-ranked t size) none) (followed none last) refusal.room 0 (λ (z : refusal.room ≡ 0). omega arith) (one-given refusal.room 0 (ltb size (length (tableOf t))) (λ (z : refusal.room ≡ 0). omega arith) e)
 
   -- ---- 2 to 4
 
@@ -273,14 +275,14 @@ module _ (t : List ℕ) (size : ℕ) where
       (λ (e : eqb (crossRule d .rule) 0 ≡ true). rw (if-true {A = Outcome} (acceptedWith (length (tableOf t))) (refusedBy (crossRule d .rule) (crossRule d .line)) e) (accepts (all-groups (below-more 5 kept (cross-kept (eqb-true _ _ e))))))
       (λ (e : eqb (crossRule d .rule) 0 ≡ false). rw (if-false {A = Outcome} (acceptedWith (length (tableOf t))) (refusedBy (crossRule d .rule) (crossRule d .line)) e) (refuses 5 _ _ (first-of 5 _ _ kept (cross-found (eqb-false _ _ e)))))
 
-  decide-room : ((h : ℕ) → h < 4 → Kept h) → Decided (afterStoring t (if ltb size (length (tableOf t)) then filled.Refused 18 0 else filled.Stored (length (tableOf t))))
-  decide-room kept =
+  decide-room : ((h : ℕ) → h < 4 → Kept h) → (c : Counts) → Decided (afterStoring t (afterReading t size (reading.Read c)))
+  decide-room kept c =
       by-cases _ (ltb size (length (tableOf t)))
-      (λ (e : ltb size (length (tableOf t)) ≡ true). rw (if-true {A = StoreAnswer} (filled.Refused 18 0) (filled.Stored (length (tableOf t))) e) (refuses 4 18 0 (first-of 4 18 0 kept (room-found e))))
-      (λ (e : ltb size (length (tableOf t)) ≡ false). rw (if-false {A = StoreAnswer} (filled.Refused 18 0) (filled.Stored (length (tableOf t))) e) (decide-crossed (below-more 4 kept (room-kept e))))
+      (λ (e : ltb size (length (tableOf t)) ≡ true). rw (room-short t size c e) (refuses 4 refusal.room 0 (first-of 4 refusal.room 0 kept (room-found e))))
+      (λ (e : ltb size (length (tableOf t)) ≡ false). rw (room-there t size c e) (decide-crossed (below-more 4 kept (room-kept e))))
 
   decide-reading : ((h : ℕ) → h < 3 → Kept h) → (answer : Reading) → readingOf t ≡ answer → Decided (afterStoring t (afterReading t size answer))
-  decide-reading kept (reading.Read c) e = decide-room (below-more 3 kept (forward-kept c e))
+  decide-reading kept (reading.Read c) e = decide-room (below-more 3 kept (forward-kept c e)) c
   decide-reading kept (reading.Refused number line) e = refuses 3 number line (first-of 3 number line kept (forward-found number line e))
 
   decide-filling : ((h : ℕ) → h < 3 → Kept h) → Decided (afterStoring t (storeAnswer t size))
@@ -292,8 +294,8 @@ module _ (t : List ℕ) (size : ℕ) where
   decide-lines kept (bytes.Refused number line) e = refuses 2 number line (first-of 2 number line kept (characters-found number line e))
 
   pub decided : Decided (verdictOf t size)
-  unfolding verdictOf byteRules
+  unfolding verdictOf
   decided =
       by-cases _ (ltb mostBytes (length t))
-      (λ (e : ltb mostBytes (length t) ≡ true). rw (if-true {A = Checked} (bytes.Refused 1 0) (linesRule 1 (lines t)) e) (refuses 1 1 0 (first-of 1 1 0 below-1 (size-found e))))
-      (λ (e : ltb mostBytes (length t) ≡ false). rw (if-false {A = Checked} (bytes.Refused 1 0) (linesRule 1 (lines t)) e) (decide-lines (below-more 1 below-1 (size-kept e)) (linesRule 1 (lines t)) refl))
+      (λ (e : ltb mostBytes (length t) ≡ true). rw (sym (size-refused t (ltb-true _ _ e))) (refuses 1 refusal.size 0 (first-of 1 refusal.size 0 below-1 (size-found e))))
+      (λ (e : ltb mostBytes (length t) ≡ false). rw (sym (size-fine t (ltb-false _ _ e))) (decide-lines (below-more 1 below-1 (size-kept e)) (linesRule 1 (lines t)) refl))

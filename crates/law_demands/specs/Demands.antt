@@ -1,9 +1,8 @@
 -- The first and the second demand on the intake, for whatever satisfies its contract: what the answer and the lent
 -- table must be, for every text and every table.
 -- Assumes nothing.
-use Prim.Native.Nat.{ℕ, _-_, _≤_}
+use Prim.Native.Nat.{ℕ, _-_}
 use mathlib.Core.Path.{_≡_}
-use mathlib.Core.Bool.{true, false}
 use mathlib.Core.List.{List, _++_}
 use lib.ListN.{length, replicate}
 use Rattle.doc.specs.Records.{tableOf}

@@ -5,8 +5,6 @@ use mathlib.Core.List.{List}
 use Prim.Native.Nat.{ℕ}
 use lib.ListN.{length, replicate, length-replicate}
 use Rattle.intake.specs.Verdict.{acceptedWith, verdictOf, tableFor}
-use Rattle.intake.specs.declared.Answer.the-variants.{Accepted}
-use Rattle.law_demands.specs.Demands.{Conforms}
 use Rattle.law_third.specs.Third.{AcceptedTable, SameAnswers, Third}
 use Rattle.law_third.proofs.ThirdLaws.{third}
 use Rattle.law_examples.proofs.ExampleLaws.{example, first, second, example-accepted, first-accepted, second-accepted, first-second}

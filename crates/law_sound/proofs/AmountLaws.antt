@@ -9,6 +9,8 @@ use native.Mathlib.Omega.{arith}
 use lib.ListN.{getD}
 use lib.Dec.{eqb, leb}
 use borrow.Author.Tests.{eq-eqb, eqb-true, eqb-false, not-false}
+use Rattle.table_layout.specs.Codes.{endKind, sectionKind, forkKind, endforkKind}
+use Rattle.table_layout.specs.Bounds.{mostSteps, mostMult}
 use Rattle.base.specs.If.{both}
 use Rattle.base.specs.Bytes.{within}
 use Rattle.base.specs.Broken.{Rule, _when_}
@@ -20,17 +22,17 @@ use Rattle.lex_number.specs.declared.Number.{Number}
 use Rattle.lex_number.specs.declared.Number.the-variants as number
 use Rattle.lex_number.proofs.NumberLaws.{number-word}
 use Rattle.line_place.specs.Place as place
-use Rattle.line_path.specs.Path.{plainLine, isMult, isSectionLine, amountFormed, amountBounded, sectionLine, lineSaying, pathLineOf, closed, mostSteps, isBadFork, isPathOutOfOrder, isStepLine, openRule, pathRule}
+use Rattle.line_path.specs.Path.{plainLine, isMult, isSectionLine, amountFormed, amountBounded, sectionLine, lineSaying, pathLineOf, closed, isBadFork, isPathOutOfOrder, isStepLine, openRule, pathRule}
 use Rattle.line_path.specs.Path as path
 use Rattle.line_path.specs.declared.Path.{Path}
 use Rattle.line_path.specs.declared.PathLine.{PathLine}
-use Rattle.line_path.proofs.RuleLaws.{closed-other}
+use Rattle.line_path.proofs.RuleLaws.{closed-other, path-closed, path-open}
 use Rattle.line_keyword.specs.declared.Counts.{Counts}
 use Rattle.line_keyword.specs.declared.State.{State}
 use Rattle.read_line.specs.Reading.{readingOf}
 use Rattle.read_line.specs.declared.Reading.the-variants.{Read}
 use Rattle.doc.specs.Lines.{Line, noWord, secondWord, wordsOf, rightWordsOf}
-use Rattle.doc.specs.Document.{Model, endKind, sectionKind, forkKind, endforkKind, wordIn, sayingAt, amountOf, sideIn, stepOf, stepsIn, opensModel, inModel, modelOf, modelAt, documentIn, documentOf}
+use Rattle.doc.specs.Document.{Model, wordIn, sayingAt, amountOf, sideIn, stepOf, stepsIn, opensModel, inModel, modelOf, modelAt, documentIn, documentOf}
 use Rattle.doc.specs.Holds.{Each}
 use Rattle.doc.specs.Holds.Each.{none, more}
 use Rattle.doc.proofs.Goes.{Goes, Moves, idle-outside, text-ends}
@@ -43,7 +45,7 @@ use Rattle.law_sound.proofs.Bounds.{RightStep}
 -- ---- the amount of a line that breaks no rule
 
 pub record Amount (content : List ℕ) : Type 0 where
-  pub mult : isMult content ≡ true → within 1 65_535 (amountOf content) ≡ true
+  pub mult : isMult content ≡ true → within 1 mostMult (amountOf content) ≡ true
   pub long : isMult content ≡ false → isLengthWord (amountOf content) ≡ true
 
 -- the value word of a number above zero is a value word above zero
@@ -59,7 +61,7 @@ amount-told :
 unfolding amountFormed amountBounded amountOf
 amount-told content f b =
     record {
-      mult = λ (m : isMult content ≡ true). ap (within 1 65_535) (if-true _ _ m) ∙ sym (if-true _ _ m) ∙ b;
+      mult = λ (m : isMult content ≡ true). ap (within 1 mostMult) (if-true _ _ m) ∙ sym (if-true _ _ m) ∙ b;
       long =
           λ (m : isMult content ≡ false).
           ap isLengthWord (if-false _ _ m)
@@ -82,13 +84,12 @@ section-told content r f b =
 module _ (l : PathLine) (p : Path) (steps : ℕ) (kept : pathRule l p steps ≡ 0) (says : l .says ≡ path.saysSection) where
   -- a closed path takes no Section
   open-kept : openRule l p steps ≡ 0
-  unfolding pathRule
   open-kept =
       by-cases _ (eqb (p .stage) closed)
       (λ (e : eqb (p .stage) closed ≡ true).
-      let z : 12 ≡ 0 = closed-other l p (λ (s : l .says ≡ path.saysSide). omega arith) ∙ sym (if-true _ _ e) ∙ kept in
+      let z : 12 ≡ 0 = closed-other l p (λ (s : l .says ≡ path.saysSide). omega arith) ∙ sym (path-closed l p steps e) ∙ kept in
       absurd (omega arith))
-      (λ (e : eqb (p .stage) closed ≡ false). sym (if-false _ _ e) ∙ kept)
+      (λ (e : eqb (p .stage) closed ≡ false). sym (path-open l p steps e) ∙ kept)
 
   abbrev tests : List Rule
   tests =

@@ -8,38 +8,24 @@ use native.Mathlib.Omega.{arith}
 use lib.ListN.{length}
 use lib.Dec.{eqb}
 use borrow.Author.Tests.{eq-eqb, ne-eqb, ltb-true, not-false}
+use Rattle.table_layout.specs.Codes.{endKind, sectionKind}
 use Rattle.base.proofs.IfLaws.{if-true, if-false, both-rest}
-use Rattle.doc.specs.Document.{Step, Model, Document, endKind, sectionKind}
+use Rattle.doc.specs.Document.{Step, Model, Document}
 use Rattle.doc.specs.Holds.{Each}
 use Rattle.doc.specs.Holds.Each.{none, more}
-use Rattle.cross_rules.specs.Rules.{
-  mapIndex,
-  sectionIndex,
-  hasMap,
-  hasSection,
-  endRule,
-  isWrongMethod,
-  sectionStepRule,
-  stepRule,
-  listFindings,
-  stepFindings,
-  modelFindings,
-  mapFindings,
-  sectionFindings,
-  findings,
-  crossRule,
-}
+use Rattle.cross_rules.specs.Rules.{mapIndex, sectionIndex, hasMap, hasSection, isWrongMethod, crossRule}
+use Rattle.cross_rules.specs.Way.Findings.{endRule, sectionStepRule, stepRule, listFindings, stepFindings, modelFindings, mapFindings, sectionFindings, findings}
 use Rattle.cross_rules.specs.declared.Finding.{Finding}
 use Rattle.cross_rules.proofs.FirstLaws.{end-judged, section-step-judged, all-kept}
 
 -- ---- parts of a list
 
 module _ {A : Type 0} {P : A → Type 0} where
-  each-front : (xs ys : List A) → Each P (xs ++ ys) → Each P xs
+  pub each-front : (xs ys : List A) → Each P (xs ++ ys) → Each P xs
   each-front [] ys h = none
   each-front (x ∷ xs) ys (more h hs) = more h (each-front xs ys hs)
 
-  each-behind : (xs ys : List A) → Each P (xs ++ ys) → Each P ys
+  pub each-behind : (xs ys : List A) → Each P (xs ++ ys) → Each P ys
   each-behind [] ys h = h
   each-behind (x ∷ xs) ys (more h hs) = each-behind xs ys hs
 

@@ -7,19 +7,22 @@ use Prim.Native.Nat.{ℕ, zero, suc, _+_, _-_, _*_}
 use native.Mathlib.Nat.{add-zero, zero-add}
 use native.Mathlib.Omega.{arith}
 use lib.ListN.{length, drop, getD, replicate, length-append}
-use lib.Seq.{drop-drop, getD-drop, drop-at}
+use lib.Seq.{drop-drop, drop-at}
+use Rattle.table_record.specs.Records.{recordsOf}
+use Rattle.table_layout.specs.Bounds.{bounds}
 use Rattle.base.proofs.IfLaws.{if-true, if-false, by-cases, both-true}
 use Rattle.table_layout.specs.Layout.{widths, joined, layout}
 use Rattle.table_layout.specs.Way.Parts.{AllLong, Wide}
 use Rattle.table_layout.proofs.LayoutLaws.{length-joined}
-use Rattle.table_layout.specs.View.{bounds, areWithin, endAt, noView, viewOf}
+use Rattle.table_layout.specs.View.{areWithin, endAt, noView, viewOf}
 use Rattle.table_layout.specs.declared.View.{View}
 use Rattle.doc.specs.Document.{documentOf}
-use Rattle.doc.specs.Records.{flatten, tableOf, recordsOf}
-use Rattle.doc.proofs.RecordLaws.{records-wide, records-back}
+use Rattle.doc.specs.Records.{flatten, tableOf}
+use Rattle.table_record.proofs.BackLaws.{records-wide, records-back}
 use Rattle.cross_rules.specs.Way.HoldsText.{HoldsText}
 use Rattle.cross_rules.proofs.TableLaws.{view-fits}
 use Rattle.ask_sound.specs.Sound.{every, areZeros}
+use Rattle.table_layout.proofs.LaidLaws.{count-here}
 
 -- ---- the end of a layout
 
@@ -33,10 +36,6 @@ part-behind w at records back t long e =
     rw n
     (sym (drop-drop (suc (length (joined records))) at t) ∙ ap (drop (suc (length (joined records)))) e
     ∙ drop-at (length records ∷ joined records) back (suc (length (joined records))) refl)
-
-count-here : (at n : ℕ) (back t : List ℕ) → drop at t ≡ n ∷ back → getD t at 0 ≡ n
-count-here at n back t e =
-    ap (λ (k : ℕ). getD t k 0) (sym (add-zero at)) ∙ sym (getD-drop at t 0 0) ∙ ap (λ (l : List ℕ). getD l 0 0) e
 
 end-laid :
     {ws : List ℕ} {parts : List (List (List ℕ))} (rest t : List ℕ) (at : ℕ) → Wide ws parts → drop at t ≡ layout parts ++ rest →

@@ -6,10 +6,11 @@ use mathlib.Core.List.{List, [], _∷_, _++_, map}
 use Prim.Native.Nat.{ℕ}
 use lib.ListN.{length, take}
 use lib.Seq.{take-at, drop-at}
+use Rattle.table_record.specs.Records.{range}
 use Rattle.base.proofs.IfLaws.{both-true, both-first, both-second}
 use Rattle.doc.specs.Holds.{Each}
 use Rattle.doc.specs.Holds.Each.{none, more}
-use Rattle.ask_sound.specs.Sound.{every, range}
+use Rattle.ask_sound.specs.Sound.{every}
 
 module _ {A : Type 0} (test : A → Bool) where
   pub every-none : every test [] ≡ true

@@ -4,7 +4,7 @@
 use mathlib.Core.Path.{_≡_, refl, sym, _∙_, ap}
 use mathlib.Core.Bool.{Bool, true, false, not, true≢false}
 use mathlib.Core.List.{List, [], _∷_}
-use Prim.Native.Nat.{ℕ, _-_, _≤_, _<_}
+use Prim.Native.Nat.{ℕ, _-_, _≤_, _<_, _+_}
 use native.Mathlib.Omega.{arith}
 use lib.ListN.{getD}
 use lib.Dec.{eqb, leb}
@@ -49,12 +49,14 @@ use Rattle.line_map.specs.declared.Map.{Map}
 use Rattle.line_map.specs.declared.MapLine.{MapLine}
 use Rattle.ask_sound.specs.Tests.{isGrid}
 use Rattle.law_sound.proofs.PartLaws.{within-is}
+use Rattle.table_layout.specs.Bounds.{mostMapPins}
+use Rattle.table_layout.specs.Codes.{mapOrders, unOrdered}
 
 -- ---- what a line gives
 
 record Told (l : MapLine) : Type 0 where
   order : l .says ≡ saysOrder → l .value ≤ 3
-  size : l .bounded ≡ true → l .value ≤ 256
+  size : l .bounded ≡ true → l .value ≤ mostMapPins
 
 -- a line that gives nothing
 nothing-told : (l : MapLine) → l .value ≡ 0 → Told l
@@ -64,7 +66,7 @@ wrong-told : (says : ℕ) → Told (wrongMapLine says)
 unfolding wrongMapLine
 wrong-told says = nothing-told _ refl
 
-order-most : (w : List ℕ) → orderOf w ≤ 3
+order-most : (w : List ℕ) → orderOf w ≤ mapOrders
 unfolding orderOf
 order-most w =
     by-test (λ (n : ℕ). n ≤ 3) _ _ _ (λ e. omega arith)
@@ -75,7 +77,7 @@ unfolding orderLine
 order-told ws =
     by-test Told _ _ _
     (λ e.
-    let h : orderOf (secondOf ws) ≤ 3 = order-most (secondOf ws) in
+    let h : orderOf (secondOf ws) ≤ mapOrders = order-most (secondOf ws) in
     record { order = λ s. h; size = λ b. omega arith })
     (λ e. wrong-told saysOrder)
 
@@ -90,7 +92,7 @@ size-told says content n =
     (λ e.
     record {
       order = λ (s : says ≡ saysOrder). absurd (n s);
-      size = λ (b : both (leb 1 (wholeOf (firstOf (rightOf content)) .value)) (leb (wholeOf (firstOf (rightOf content)) .value) 256) ≡ true). leb-true _ 256 (both-second _ _ b);
+      size = λ (b : both (leb 1 (wholeOf (firstOf (rightOf content)) .value)) (leb (wholeOf (firstOf (rightOf content)) .value) mostMapPins) ≡ true). leb-true _ mostMapPins (both-second _ _ b);
     })
     (λ e. wrong-told says)
 
@@ -124,8 +126,8 @@ pins-said content e =
 
 pub record Growing (m : Map) : Type 0 where
   pub order : m .order ≤ 3
-  pub rows : m .rows ≤ 256
-  pub columns : m .columns ≤ 256
+  pub rows : m .rows ≤ mostMapPins
+  pub columns : m .columns ≤ mostMapPins
   pub rowless : isOrdered m ≡ false → m .rows ≡ 0
   pub columnless : isOrdered m ≡ false → m .columns ≡ 0
   pub pins : m .pins ≡ 0
@@ -146,7 +148,7 @@ unordered : (m : Map) → m .order ≡ 0 → isOrdered m ≡ false
 unfolding isOrdered within both
 unordered m e = rw e
 
-third-unordered : (m : Map) → m .order ≡ 3 → isOrdered m ≡ false
+third-unordered : (m : Map) → m .order ≡ unOrdered + 1 → isOrdered m ≡ false
 unfolding isOrdered within both
 third-unordered m e = rw e
 
@@ -285,13 +287,13 @@ module _ (m : Map) (g : Growing m) (ready : either (eqb (m .order) 0) (both (isO
     some-columns : m .columns ≡ 0 → ⊥
     some-columns = eqb-false _ _ (either-none-second _ _ sizes-ready)
 
-    sizes-within : both (within 1 256 (m .rows)) (within 1 256 (m .columns)) ≡ true
+    sizes-within : both (within 1 mostMapPins (m .rows)) (within 1 mostMapPins (m .columns)) ≡ true
     sizes-within =
         let r : m .rows ≡ 0 → ⊥ = some-rows in
         let c : m .columns ≡ 0 → ⊥ = some-columns in
         let a : 1 ≤ m .rows = omega arith in
         let b : 1 ≤ m .columns = omega arith in
-        both-true _ _ (within-is 1 256 (m .rows) a (g .rows)) (within-is 1 256 (m .columns) b (g .columns))
+        both-true _ _ (within-is 1 mostMapPins (m .rows) a (g .rows)) (within-is 1 mostMapPins (m .columns) b (g .columns))
 
   ready-grid : Grid m
   unfolding isGrid
@@ -304,11 +306,11 @@ module _ (m : Map) (g : Growing m) (ready : either (eqb (m .order) 0) (both (isO
         grid =
             by-test (λ (b : Bool). b ≡ true) (eqb (m .order - 1) 2) _ _
             (λ (e : eqb (m .order - 1) 2 ≡ true).
-            let f : m .order - 1 ≡ 2 = eqb-true _ _ e in
-            let o : m .order ≡ 3 = omega arith in
+            let f : m .order - 1 ≡ unOrdered = eqb-true _ _ e in
+            let o : m .order ≡ unOrdered + 1 = omega arith in
             both-true _ _ (eq-eqb _ _ (g .rowless (third-unordered m o))) (eq-eqb _ _ (g .columnless (third-unordered m o))))
             (λ (e : eqb (m .order - 1) 2 ≡ false).
-            let f : m .order - 1 ≡ 2 → ⊥ = eqb-false _ _ e in
+            let f : m .order - 1 ≡ unOrdered → ⊥ = eqb-false _ _ e in
             let a : 1 ≤ m .order = omega arith in
             let b : m .order ≤ 2 = omega arith in
             sizes-within (ordered m a b));

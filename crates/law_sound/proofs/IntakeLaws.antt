@@ -1,4 +1,4 @@
--- The same by the contract of the intake: if it accepts a text, the lent table is sound and at least seven words are used.
+-- The same by the contract of the intake: if it accepts a text, the lent table is sound.
 -- Assumes nothing.
 use mathlib.Core.Path.{_≡_, sym, _∙_, ap}
 use mathlib.Core.Bool.{true}
@@ -15,7 +15,7 @@ use Rattle.intake.specs.declared.Answer.the-variants.{Accepted}
 use Rattle.law_demands.specs.Demands.{Conforms}
 use Rattle.law_demands.proofs.AcceptedLaws.{Taken, accepted-taken}
 use Rattle.law_demands.proofs.DemandLaws.{demanded}
-use Rattle.law_sound.proofs.SoundnessLaws.{accepted-sound, seven-words}
+use Rattle.law_sound.proofs.SoundnessLaws.{accepted-sound}
 
 -- a text that has passed every stage, and its table of `size` words
 module _ (t table : List ℕ) (size : ℕ) (taken : Taken t size) (holds : table ≡ tableOf t ++ replicate (size - length (tableOf t)) 0) where
@@ -43,9 +43,3 @@ module _ (t before : List ℕ) (answer : Answer) (after : List ℕ) (conforms : 
   pub intake-sound : isSound t after ≡ true
   intake-sound =
       taken-sound t after (length before) answer-taken (demanded t before answer after conforms .accepted-holds words accepted)
-
-  pub intake-seven : 7 ≤ words
-  intake-seven =
-      let e : words ≡ length (tableOf t) = demanded t before answer after conforms .words-used words accepted in
-      let n : 7 ≤ length (tableOf t) = seven-words t in
-      omega arith

@@ -15,7 +15,7 @@ use Rattle.base.specs.Runs.{same}
 use Rattle.base.proofs.IfLaws.{if-true, if-false, by-cases, both-true, both-first, both-second, both-not-left, both-not-right, either-left, either-right, either-false, either-rest, either-none-first, either-none-second}
 use Rattle.lex_line.specs.Words.{words, firstOf}
 use Rattle.lex_keyword.specs.Names.{icmPinMap}
-use Rattle.line_place.specs.Place.{moved, movedByLine, leadsInFamily, isText, isInModel, isInFamily, done}
+use Rattle.line_place.specs.Place.{moved, movedByLine, leadsInFamily, isInModel, isInFamily, done}
 use Rattle.line_place.specs.Place as place
 use Rattle.line_map.specs.PinMap.{mapLineOf, mapRule, mapNext, newMap, isOrdered, pinRule, withPin, pinsLack, isWrongGrid}
 use Rattle.line_map.specs.declared.Map as pin_map
@@ -27,16 +27,18 @@ use Rattle.line_keyword.specs.declared.Counts.{Counts}
 use Rattle.line_keyword.specs.declared.State.{State}
 use Rattle.read_line.specs.Reading.{lineRule, lineNext, readingOf}
 use Rattle.read_line.specs.declared.Reading.the-variants.{Read}
+use Rattle.read_line.proofs.ResultLaws.{rule-pins, rule-map}
 use Rattle.doc.specs.Lines.{Line, plain, significant, keyOf, argumentOf, standsIn, gather, upTo}
 use Rattle.doc.specs.Document.{Named, Map, opensMap, inMap, gridIn, pinAt, mapOf, mapAt, documentIn, documentOf}
 use Rattle.doc.specs.Holds.{Each}
 use Rattle.doc.proofs.Goes.{Idle, Moves, Goes, Ends, idle-outside, text-ends}
 use Rattle.doc.proofs.Goes.Idle.{ended, waits}
 use Rattle.doc.proofs.Goes.Moves.{idle, plainly, keyed}
-use Rattle.doc.proofs.BlockLaws.{gather-none, gather-more, up-to-in, up-to-out}
 use Rattle.doc.proofs.BodyLaws.{keyword-misplaced, keyword-shaped}
+use Rattle.doc.proofs.GatherLaws.{gather-more, gather-none, up-in, up-out}
 use Rattle.law_sound.proofs.Bounds.{RightMap}
 use Rattle.law_sound.proofs.GridLaws.{Growing, new-growing, Grid, next-growing, list-keeps, list-grid}
+use Rattle.table_layout.specs.Bounds.{mostMapPins}
 
 -- ---- what one line gives
 
@@ -88,8 +90,7 @@ module _ (l : Line) where
 module _ (content : List ℕ) (s : State) where
   module _ (p : s .place ≡ place.pinList) where
     pins-rule : lineRule content s ≡ pinRule content (s .map) (s .counts .pins)
-    unfolding lineRule isText either if_then_else_
-    pins-rule = rw p
+    pins-rule = rule-pins content s p
 
     pins-stay : lineNext content s .place ≡ place.pinList
     unfolding lineNext movedByLine if_then_else_
@@ -101,8 +102,7 @@ module _ (content : List ℕ) (s : State) where
 
   module _ (p : s .place ≡ place.mapHead) where
     head-rule : lineRule content s ≡ mapRule (mapLineOf content) (s .map)
-    unfolding lineRule isText either if_then_else_
-    head-rule = rw p
+    head-rule = rule-map content s p
 
     head-next : lineNext content s .map ≡ mapNext (mapLineOf content) (s .map)
     unfolding lineNext if_then_else_
@@ -142,11 +142,11 @@ module _ (k : ℕ) (argument : List ℕ) (s : State) (kept : keywordRule k argum
 -- the rest of a map that has been read as far as m
 record Pins (m : pin_map.Map) (ls : List Line) : Type 0 where
   grid : (g : pin_map.Map) → gridIn g (upTo inMap ls) ≡ g
-  few : m .pins + length (gather pinAt (upTo inMap ls)) ≤ 256
+  few : m .pins + length (gather pinAt (upTo inMap ls)) ≤ mostMapPins
   some : 1 ≤ m .pins + length (gather pinAt (upTo inMap ls))
   fits : isOrdered m ≡ true → m .pins + length (gather pinAt (upTo inMap ls)) ≤ m .rows * m .columns
 
-no-pins : (m : pin_map.Map) (ls : List Line) → m .pins ≤ 256 → Fits m → upTo inMap ls ≡ [] → Pins m ls
+no-pins : (m : pin_map.Map) (ls : List Line) → m .pins ≤ mostMapPins → Fits m → upTo inMap ls ≡ [] → Pins m ls
 no-pins m ls h fits e =
     let k : length (gather pinAt (upTo inMap ls)) ≡ 0 = ap (λ (xs : List Line). length (gather pinAt xs)) e ∙ ap length (gather-none pinAt) in
     let one : 1 ≤ m .pins = fits .some in
@@ -159,7 +159,7 @@ no-pins m ls h fits e =
           omega arith;
     }
 
-one-more : (m : pin_map.Map) → m .pins < 256 → withPin m .pins ≤ 256
+one-more : (m : pin_map.Map) → m .pins < mostMapPins → withPin m .pins ≤ mostMapPins
 unfolding withPin
 one-more m f = omega arith
 
@@ -167,11 +167,11 @@ module _ (l : Line) (ls : List Line) (s : State) (q : l .place ≡ place.pinList
   pins-plain : keyOf l ≡ plain → Pins (withPin (s .map)) ls → Pins (s .map) (l ∷ ls)
   unfolding withPin isOrdered
   pins-plain k r =
-      let up : upTo inMap (l ∷ ls) ≡ l ∷ upTo inMap ls = up-to-in inMap l ls (pins-inside l q k) in
+      let up : upTo inMap (l ∷ ls) ≡ l ∷ upTo inMap ls = up-in inMap l ls (pins-inside l q k) in
       let above : standsIn place.mapHead l ≡ false = stands-elsewhere l place.mapHead (λ (z : l .place ≡ place.mapHead). omega arith) in
       let n : length (gather pinAt (upTo inMap (l ∷ ls))) ≡ suc (length (gather pinAt (upTo inMap ls))) =
       ap (λ (xs : List Line). length (gather pinAt xs)) up ∙ pin-here l (upTo inMap ls) (stands-there l place.pinList q k) in
-      let f : s .map .pins + 1 + length (gather pinAt (upTo inMap ls)) ≤ 256 = r .few in
+      let f : s .map .pins + 1 + length (gather pinAt (upTo inMap ls)) ≤ mostMapPins = r .few in
       record {
         grid = λ (g : pin_map.Map). ap (gridIn g) up ∙ grid-skip g l (upTo inMap ls) above ∙ r .grid g;
         few = omega arith;
@@ -182,29 +182,29 @@ module _ (l : Line) (ls : List Line) (s : State) (q : l .place ≡ place.pinList
       }
 
   pins-step :
-      (s' : State) → Moves l s s' → s .map .pins ≤ 256 → (s' .place ≡ place.pinList → s' .map .pins ≤ 256 → Pins (s' .map) ls) →
+      (s' : State) → Moves l s s' → s .map .pins ≤ mostMapPins → (s' .place ≡ place.pinList → s' .map .pins ≤ mostMapPins → Pins (s' .map) ls) →
       Pins (s .map) (l ∷ ls)
   pins-step s' (idle (ended x)) h ih = absurd (omega arith)
   pins-step s' (idle (waits x k)) h ih = absurd (omega arith)
   pins-step s' (plainly k kept) h ih =
-      let f : s .map .pins < 256 = pin-fits (l .content) (s .map) (s .counts .pins) (sym (pins-rule (l .content) s p) ∙ kept) in
+      let f : s .map .pins < mostMapPins = pin-fits (l .content) (s .map) (s .counts .pins) (sym (pins-rule (l .content) s p) ∙ kept) in
       let n : lineNext (l .content) s .map ≡ withPin (s .map) = pins-next (l .content) s p in
-      let g : lineNext (l .content) s .map .pins ≤ 256 = rw n (one-more (s .map) f) in
+      let g : lineNext (l .content) s .map .pins ≤ mostMapPins = rw n (one-more (s .map) f) in
       pins-plain k (subst (λ (m : pin_map.Map). Pins m ls) n (ih (pins-stay (l .content) s p) g))
   pins-step s' (keyed k kept) h ih =
-      no-pins (s .map) (l ∷ ls) h (pins-fit (keyOf l) (argumentOf l .text) s kept p) (up-to-out inMap l ls (keyed-outside l k))
+      no-pins (s .map) (l ∷ ls) h (pins-fit (keyOf l) (argumentOf l .text) s kept p) (up-out inMap l ls (keyed-outside l k))
 
-pins-rest : {s e : State} {ls : List Line} → Goes s ls e → e .place ≡ done → s .place ≡ place.pinList → s .map .pins ≤ 256 → Pins (s .map) ls
+pins-rest : {s e : State} {ls : List Line} → Goes s ls e → e .place ≡ done → s .place ≡ place.pinList → s .map .pins ≤ mostMapPins → Pins (s .map) ls
 pins-rest Goes.none d p h = absurd (omega arith)
 pins-rest (Goes.more {s = s} {s' = s'} {l = l} {ls = ls} q blank mv g) d p h =
-    pins-step l ls s (q ∙ p) p s' mv h (λ (x : s' .place ≡ place.pinList) (f : s' .map .pins ≤ 256). pins-rest g d x f)
+    pins-step l ls s (q ∙ p) p s' mv h (λ (x : s' .place ≡ place.pinList) (f : s' .map .pins ≤ mostMapPins). pins-rest g d x f)
 
 -- ---- above Pin_list
 
 -- the rest of a map that has been read as far as m
 record Left (m : pin_map.Map) (ls : List Line) : Type 0 where
   grid : Grid (gridIn m (upTo inMap ls))
-  few : length (gather pinAt (upTo inMap ls)) ≤ 256
+  few : length (gather pinAt (upTo inMap ls)) ≤ mostMapPins
   some : 1 ≤ length (gather pinAt (upTo inMap ls))
   fits :
       isOrdered (gridIn m (upTo inMap ls)) ≡ true →
@@ -213,7 +213,7 @@ record Left (m : pin_map.Map) (ls : List Line) : Type 0 where
 module _ (l : Line) (ls : List Line) (s : State) (q : l .place ≡ place.mapHead) (p : s .place ≡ place.mapHead) where
   module _ (k : keyOf l ≡ plain) where
     up-here : upTo inMap (l ∷ ls) ≡ l ∷ upTo inMap ls
-    up-here = up-to-in inMap l ls (head-inside l q k)
+    up-here = up-in inMap l ls (head-inside l q k)
 
     grid-on : (m : pin_map.Map) → gridIn m (upTo inMap (l ∷ ls)) ≡ gridIn (mapNext (mapLineOf (l .content)) m) (upTo inMap ls)
     grid-on m = ap (gridIn m) up-here ∙ grid-here m l (upTo inMap ls) (stands-there l place.mapHead q k)
@@ -239,7 +239,7 @@ module _ (l : Line) (ls : List Line) (s : State) (q : l .place ≡ place.mapHead
         Left (s .map) (l ∷ ls)
     head-list g none same r =
         let e : gridIn (s .map) (upTo inMap (l ∷ ls)) ≡ s .map = grid-on (s .map) ∙ r .grid _ ∙ same in
-        let f : s .map .pins + length (gather pinAt (upTo inMap ls)) ≤ 256 = r .few in
+        let f : s .map .pins + length (gather pinAt (upTo inMap ls)) ≤ mostMapPins = r .few in
         let one : 1 ≤ s .map .pins + length (gather pinAt (upTo inMap ls)) = r .some in
         let n : length (gather pinAt (upTo inMap (l ∷ ls))) ≡ length (gather pinAt (upTo inMap ls)) = pins-on in
         let fit : isOrdered (s .map) ≡ true → length (gather pinAt (upTo inMap (l ∷ ls))) ≤ s .map .rows * s .map .columns =
@@ -261,7 +261,7 @@ module _ (l : Line) (ls : List Line) (s : State) (q : l .place ≡ place.mapHead
         (λ (b : same (firstOf (words (l .content))) (bytes "Pin_list") ≡ true).
         let keeps : mapNext (mapLineOf (l .content)) (s .map) ≡ s .map = list-keeps (l .content) (s .map) rule growing b in
         let none : lineNext (l .content) s .map .pins ≡ 0 = ap (λ (m : pin_map.Map). m .pins) (next ∙ keeps) ∙ growing .pins in
-        let few : lineNext (l .content) s .map .pins ≤ 256 = omega arith in
+        let few : lineNext (l .content) s .map .pins ≤ mostMapPins = omega arith in
         head-list k (list-grid (l .content) (s .map) rule growing b) (growing .pins) keeps
         (subst (λ (m : pin_map.Map). Pins m ls) (next ∙ keeps) (pins-rest g d (head-leads (l .content) s p b) few)))
         (λ (b : same (firstOf (words (l .content))) (bytes "Pin_list") ≡ false).

@@ -3,18 +3,22 @@
 use mathlib.Core.Path.{_≡_, refl, sym, _∙_, ap}
 use mathlib.Core.Bool.{Bool, true, false}
 use mathlib.Core.List.{List, [], _∷_, _++_, map, map-append, append-assoc}
-use Prim.Native.Nat.{ℕ, suc, _+_, _≤_, _<_}
+use Prim.Native.Nat.{ℕ, _+_, _≤_, _<_}
 use native.Mathlib.Nat.{le-trans}
 use native.Mathlib.Omega.{arith}
 use lib.ListN.{length, length-append, length-map}
 use lib.Dec.{eqb}
 use borrow.Author.Tests.{le-leb, lt-ltb, eq-eqb, leb-true, eqb-false}
+use Rattle.table_record.specs.Records.{range}
+use Rattle.table_record.specs.declared.Value.{Value}
+use Rattle.table_record.specs.declared.StepRecord.{StepRecord}
+use Rattle.table_layout.specs.Codes.{banded}
+use Rattle.table_layout.specs.Bounds.{mostConductors, longestName}
 use Rattle.base.specs.Bytes.{within}
 use Rattle.base.proofs.IfLaws.{by-test, both-true, both-first, both-second}
-use Rattle.line_matrix.specs.Matrix.{banded}
 use Rattle.lex_line.specs.Words.{Word}
-use Rattle.doc.specs.Document.{Named, Step, Model, Map, Value, Matrix, Section, conductorsOf}
-use Rattle.doc.specs.Records.{StepRecord, stepRecord, stepRecords, modelRecord, modelRecords, pinRecord, pinRecords, mapRecord, mapRecords, indexOfKind, sectionRecord, sectionRecords, matricesOf, matrixRecord, matrixRecords, valuesOf}
+use Rattle.doc.specs.Document.{Named, Step, Model, Map, Matrix, Section, conductorsOf}
+use Rattle.doc.specs.Records.{stepRecord, stepRecords, modelRecord, modelRecords, pinRecord, pinRecords, mapRecord, mapRecords, indexOfKind, sectionRecord, sectionRecords, matricesOf, matrixRecord, matrixRecords, valuesOf}
 use Rattle.doc.specs.Holds.{Each, isInUpperHalf, rises}
 use Rattle.doc.specs.Way.Holds.{IsName}
 use Rattle.doc.specs.Way.Holds as holds
@@ -25,22 +29,11 @@ use Rattle.doc.proofs.MatrixLaws.{RightValue, RightMatrix}
 use Rattle.doc.proofs.SectionLaws.{RightSection}
 use Rattle.cross_rules.proofs.RisingLaws.{each-by}
 use Rattle.ask_sound.specs.Tests.{isRange, isNameIn, isBandwidth}
-use Rattle.ask_sound.specs.Sound.{
-  every,
-  range,
-  depthHolds,
-  isModel,
-  isMap,
-  isPin,
-  areMatrices,
-  isSection,
-  isMatrix,
-  isValue,
-  recordKinds,
-}
+use Rattle.ask_sound.specs.Sound.{every, depthHolds, isModel, isMap, isPin, areMatrices, isSection, isMatrix, isValue, recordKinds}
 use Rattle.ask_sound.proofs.DepthLaws.{depth-same}
 use Rattle.law_sound.proofs.EveryLaws.{every-none, every-more, every-append, every-map, each-every, range-middle}
 use Rattle.law_sound.proofs.Bounds.{RightMap}
+use Rattle.doc.proofs.CountLaws.{matrices-long}
 
 -- ---- words
 
@@ -54,7 +47,7 @@ within-is low high n h k = both-true _ _ (le-leb _ _ h) (le-leb _ _ k)
 
 pub name-is : (t : List ℕ) (w : Word) → IsName t w → isNameIn (length t) (w .start) (length (w .text)) ≡ true
 unfolding isNameIn
-name-is t w n = both-true _ _ (within-is 1 120 _ (n .some) (n .few)) (range-is _ _ _ (n .stands .inside))
+name-is t w n = both-true _ _ (within-is 1 longestName _ (n .some) (n .few)) (range-is _ _ _ (n .stands .inside))
 
 -- ---- models
 
@@ -67,10 +60,6 @@ module _ (maps : List Map) (sections : List Section) where
   unfolding stepRecord
   kinds-same [] = refl
   kinds-same (s ∷ ss) = ap (λ (ns : List ℕ). s .kind ∷ ns) (kinds-same ss)
-
-  pub kinds-none : recordKinds (stepRecords maps sections []) ≡ []
-  unfolding recordKinds stepRecords
-  kinds-none = refl
 
   pub kinds-more : (m : Model) (ms : List Model) →
       recordKinds (stepRecords maps sections (m ∷ ms)) ≡ kinds (m .steps) ++ recordKinds (stepRecords maps sections ms)
@@ -184,15 +173,10 @@ place-is kind first all (m ∷ ms) h =
     let k : first + 1 + length ms ≤ all = omega arith in
     place-is kind (first + 1) all ms k)
 
-matrices-long : (first : ℕ) (ms : List Matrix) → length (matrixRecords first ms) ≡ length ms
-unfolding matrixRecords
-matrices-long first [] = refl
-matrices-long first (m ∷ ms) = ap suc (matrices-long (first + length (m .values)) ms)
-
 conductors-within :
-    (ms : List Matrix) → Each (RightMatrix (conductorsOf ms)) ms → 1 ≤ length ms → within 1 256 (conductorsOf ms) ≡ true
+    (ms : List Matrix) → Each (RightMatrix (conductorsOf ms)) ms → 1 ≤ length ms → within 1 mostConductors (conductorsOf ms) ≡ true
 conductors-within [] none h = absurd (omega arith)
-conductors-within (m ∷ ms) (more r rs) h = within-is 1 256 _ (r .some) (r .few)
+conductors-within (m ∷ ms) (more r rs) h = within-is 1 mostConductors _ (r .some) (r .few)
 
 module _ (t : List ℕ) where
   section-is :
@@ -248,14 +232,14 @@ matrices-right (more {x = s} r rs) =
     (r .matrices))
     (matrices-right rs)
 
-inside-wider : (n : ℕ) (v : Value) → n ≤ 256 → isInUpperHalf n v ≡ true → isInUpperHalf 256 v ≡ true
+inside-wider : (n : ℕ) (v : Value) → n ≤ mostConductors → isInUpperHalf n v ≡ true → isInUpperHalf mostConductors v ≡ true
 unfolding isInUpperHalf
 inside-wider n v h e =
     let k : v .column ≤ n = leb-true _ _ (both-second _ _ (both-second _ _ e)) in
     both-true _ _ (both-first _ _ e)
     (both-true _ _ (both-first _ _ (both-second _ _ e)) (le-leb _ _ (le-trans k h)))
 
-rises-wider : (n : ℕ) (vs : List Value) → n ≤ 256 → rises n vs ≡ true → rises 256 vs ≡ true
+rises-wider : (n : ℕ) (vs : List Value) → n ≤ mostConductors → rises n vs ≡ true → rises mostConductors vs ≡ true
 unfolding rises
 rises-wider n [] h e = refl
 rises-wider n (v ∷ []) h e = inside-wider n v h e
@@ -281,12 +265,12 @@ matrix-is m before after first s e =
     let f : m .form ≤ 3 = s .right .form in
     let g : m .form < 4 = omega arith in
     let c : m .conductors ≡ s .conductors = s .right .conductors in
-    let few : s .conductors ≤ 256 = s .right .few in
-    let k : m .conductors ≤ 256 = omega arith in
+    let few : s .conductors ≤ mostConductors = s .right .few in
+    let k : m .conductors ≤ mostConductors = omega arith in
     both-true _ _ (lt-ltb _ _ g)
     (both-true _ _ (bandwidth-is (s .conductors) m (s .right))
     (both-true _ _ (range-is _ _ _ inside)
-    (ap (rises 256) (range-middle before (m .values) after first (length (m .values)) e refl)
+    (ap (rises mostConductors) (range-middle before (m .values) after first (length (m .values)) e refl)
     ∙ rises-wider (m .conductors) (m .values) k (s .right .rising))))
 
 values-more : (m : Matrix) (ms : List Matrix) → valuesOf (m ∷ ms) ≡ m .values ++ valuesOf ms

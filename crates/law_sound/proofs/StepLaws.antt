@@ -9,30 +9,29 @@ use native.Mathlib.Omega.{arith}
 use lib.ListN.{length, getD, length-map}
 use lib.Dec.{eqb}
 use borrow.Author.Tests.{eq-eqb, ne-eqb, eqb-true, eqb-false, lt-ltb}
+use Rattle.table_record.specs.declared.StepRecord.{StepRecord}
+use Rattle.table_layout.specs.Codes.{endKind, sectionKind}
 use Rattle.base.proofs.IfLaws.{if-true, if-false, by-test, by-cases, both-true, either-left, either-right}
 use Rattle.lex_line.specs.Words.{Word}
 use Rattle.doc.specs.Lines.{noWord}
-use Rattle.doc.specs.Document.{Step, Model, Map, Section, Document, endKind, sectionKind}
-use Rattle.doc.specs.Records.{StepRecord, targetOf, stepRecord, stepRecords, mapRecords, sectionRecord, sectionRecords}
+use Rattle.doc.specs.Document.{Step, Model, Section, Document}
+use Rattle.doc.specs.Records.{targetOf, stepRecord, stepRecords, mapRecords, sectionRecord, sectionRecords}
 use Rattle.doc.specs.Holds.{Each}
 use Rattle.doc.specs.Way.Holds.{IsName}
 use Rattle.doc.specs.Holds.Each.{none, more}
 use Rattle.doc.proofs.NamedLaws.{StepNamed, ModelNamed}
 use Rattle.doc.proofs.SectionLaws.{RightSection}
-use Rattle.cross_rules.specs.Rules.{methodAt, mapIndex, sectionIndex, isWrongMethod, stepRule}
+use Rattle.cross_rules.specs.Rules.{methodAt, mapIndex, sectionIndex, isWrongMethod}
+use Rattle.cross_rules.specs.Way.Findings.{stepRule}
 use Rattle.ask_sound.specs.Tests.{hasNoSide, isSide, amountFits}
 use Rattle.ask_sound.specs.Sound.{every, isEnd, isSectionStep, isForkStep, isStep, methodsOf}
 use Rattle.law_sound.proofs.EveryLaws.{every-none, every-more, every-append}
 use Rattle.law_sound.proofs.Bounds.{RightStep}
 use Rattle.law_sound.proofs.PartLaws.{name-is}
 use Rattle.law_sound.proofs.CrossLaws.{end-found, section-found, method-right}
+use Rattle.doc.proofs.CountLaws.{maps-long}
 
 -- ---- the targets of steps
-
-pub maps-long : (first : ℕ) (ms : List Map) → length (mapRecords first ms) ≡ length ms
-unfolding mapRecords
-maps-long first [] = refl
-maps-long first (m ∷ ms) = ap suc (maps-long (first + length (m .pins)) ms)
 
 methods-same : (first : ℕ) (ss : List Section) → methodsOf (sectionRecords first ss) ≡ map (λ (s : Section). s .method) ss
 unfolding methodsOf sectionRecords sectionRecord

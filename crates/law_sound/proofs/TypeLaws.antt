@@ -16,8 +16,9 @@ use Rattle.doc.specs.Lines.{Line, significant, standsIn, upTo}
 use Rattle.doc.specs.Document.{Model, headIn, opensModel, inModel, modelOf, modelAt, documentIn, documentOf}
 use Rattle.doc.specs.Holds.{Each}
 use Rattle.doc.proofs.StandsLaws.{each-gather, each-if}
+use Rattle.table_layout.specs.Codes.{modelTypes}
 
-kind-most : (w : List ℕ) → modelTypeOf w ≤ 3
+kind-most : (w : List ℕ) → modelTypeOf w ≤ modelTypes
 unfolding modelTypeOf
 kind-most w =
     by-test (λ (n : ℕ). n ≤ 3) _ _ _ (λ e. omega arith)

@@ -6,24 +6,19 @@ use mathlib.Core.Bool.{true, false, not}
 use mathlib.Core.List.{List, [], _∷_, _++_}
 use native.Mathlib.Nat.{le-trans, min-le-left, le-max-left, le-min, max-le}
 use native.Mathlib.Omega.{arith}
-use lib.ListN.{length, getD, replicate}
+use lib.ListN.{length, getD}
+use Rattle.base.specs.Refusal as refusal
+use Rattle.table_record.specs.Records.{Records, noSection}
 use Rattle.base.specs.If.{if_then_else_}
 use Rattle.base.proofs.IfLaws.{if-true, if-false, by-test, not-via, not-not-via}
 use Rattle.doc.specs.Lines.{Line, keyOf, significant, upTo}
 use Rattle.doc.specs.Document.{Matrix, Section, documentOf, conductorsOf, kindOf, valuesFrom, opensMatrixAt, inMatrix}
 use Rattle.doc.specs.Document as document
-use Rattle.doc.specs.Records.{Records, tableOf, recordsOf, flatten}
+use Rattle.doc.specs.Records.{flatten}
 use Rattle.doc.specs.Holds.{Each}
-use Rattle.doc.proofs.RecordLaws.{records-back}
 use Rattle.cross_rules.proofs.RisingLaws.{each-at}
-use Rattle.ask_sound.specs.Sound.{isSound}
-use Rattle.intake.specs.Verdict.{Outcome}
-use Rattle.intake.specs.declared.Answer.the-variants.{Accepted}
-use Rattle.law_demands.proofs.AcceptedLaws.{accepted-taken}
 use Rattle.law_demands.proofs.AcceptedLaws as accepted
-use Rattle.law_demands.proofs.DemandLaws.{demanded}
-use Rattle.law_sound.proofs.IntakeLaws.{intake-sound}
-use Rattle.ask_entry.specs.Entry.{EntryWords, foundWith, entryRefused, noSection, matrixIndex, entryOf, isInRange, entryAnswer}
+use Rattle.ask_entry.specs.Entry.{EntryWords, foundWith, entryRefused, matrixIndex, entryOf, isInRange, entryAnswer}
 use Rattle.ask_entry.proofs.EntryLaws.{exchange}
 use Rattle.law_alike.specs.Written.{writtenAt}
 use Rattle.law_alike.specs.Way.Found.{foundAt}
@@ -32,36 +27,24 @@ use Rattle.law_alike.proofs.WrittenLaws.{Found, EachOpening, text-openings, Fou
 use Rattle.law_third.specs.Third.{AcceptedTable, WrittenBy, Entered}
 use Rattle.law_third.proofs.EntryRecordLaws.{givenAt, given-past, given-not, section-given, section-range}
 use Rattle.law_third.proofs.EntryOnceLaws.{Once, once-above, text-once}
+use Rattle.law_third.proofs.TakenLaws.{taken-passed, taken-records, taken-sound}
 
 -- ---- the question about the table of an accepted text
 
 -- the answer for the records of a sound table
 unfoldable pub answerOver : Records → ℕ → ℕ → ℕ → ℕ → EntryWords
 answerOver r section kind row column =
-    if not (isInRange r section kind row column) then entryRefused 31 else
+    if not (isInRange r section kind row column) then entryRefused refusal.noSuch else
     foundWith (entryOf r (matrixIndex (getD (r .sections) section noSection) kind) row column)
 
 module _ (t table : List ℕ) (taken : AcceptedTable t table) where
-  pub taken-kept : accepted.Taken t (length (taken .before))
-  taken-kept =
-      accepted-taken t (length (taken .before)) (ap (λ (o : Outcome). o .accepted) (sym (taken .conforms .answers)))
-
-  holds : table ≡ tableOf t ++ replicate (length (taken .before) - length (tableOf t)) 0
-  holds = demanded t (taken .before) (Accepted (taken .words)) table (taken .conforms) .accepted-holds (taken .words) refl
-
-  pub taken-records : recordsOf table ≡ flatten (documentOf t)
-  unfolding tableOf
-  taken-records = ap recordsOf holds ∙ records-back (flatten (documentOf t)) (length (taken .before) - length (tableOf t))
-
-  pub taken-sound : isSound t table ≡ true
-  taken-sound = intake-sound t (taken .before) (Accepted (taken .words)) table (taken .conforms) (taken .words) refl
-
   -- 30 is never the answer
   pub answer-over :
       (section kind row column : ℕ) → entryAnswer t table section kind row column ≡ answerOver (flatten (documentOf t)) section kind row column
   unfolding entryAnswer answerOver
   answer-over section kind row column =
-      if-false _ _ (not-not-via taken-sound) ∙ ap (λ (r : Records). answerOver r section kind row column) taken-records
+      if-false _ _ (not-not-via (taken-sound t table taken))
+      ∙ ap (λ (r : Records). answerOver r section kind row column) (taken-records t table taken)
 
 module _ (r : Records) (section kind row column : ℕ) where
   pub over-inside :
@@ -70,7 +53,7 @@ module _ (r : Records) (section kind row column : ℕ) where
   unfolding answerOver
   over-inside h = if-false _ _ (not-not-via h)
 
-  pub over-outside : isInRange r section kind row column ≡ false → answerOver r section kind row column ≡ entryRefused 31
+  pub over-outside : isInRange r section kind row column ≡ false → answerOver r section kind row column ≡ entryRefused refusal.noSuch
   unfolding answerOver
   over-outside h = if-true _ _ (not-via h)
 
@@ -130,7 +113,7 @@ module _
 
   once : Once (x .matrices)
   once =
-      let k : accepted.Taken t (length (taken .before)) = taken-kept t table taken in
+      let k : accepted.Taken t (length (taken .before)) = taken-passed t table taken in
       let all : Each (λ (y : Section). Once (y .matrices)) (before ++ (x ∷ behind)) = rw here at (text-once t (k .counts) (k .reads)) in
       each-at before behind x all
 
@@ -141,7 +124,7 @@ module _
       entryAnswer t table (length before) (kindOf (keyOf line)) row column
       ≡ foundWith (writtenAt (formAt line) (upTo inMatrix below-line) (min row column) (max row column))
   written above-line below-line line stands opens above below split row column low high left right =
-      let k : accepted.Taken t (length (taken .before)) = taken-kept t table taken in
+      let k : accepted.Taken t (length (taken .before)) = taken-passed t table taken in
       let body : List Line = upTo inMatrix below-line in
       let i : ℕ = min row column in
       let j : ℕ = max row column in
@@ -161,7 +144,7 @@ module _
 
   by-lines : (above below : List Matrix) (m : Matrix) → x .matrices ≡ above ++ (m ∷ below) → WrittenBy t m
   by-lines above below m split =
-      let k : accepted.Taken t (length (taken .before)) = taken-kept t table taken in
+      let k : accepted.Taken t (length (taken .before)) = taken-passed t table taken in
       let all : Each (λ (y : Section). Each (FoundMatrix t) (y .matrices)) (before ++ (x ∷ behind)) = rw here at (text-found t (k .counts) (k .reads)) in
       let its : Each (FoundMatrix t) (above ++ (m ∷ below)) = rw split at (each-at before behind x all) in
       let f : FoundMatrix t m = each-at above below m its in

@@ -10,19 +10,7 @@ use lib.Seq.{getD-set-same}
 use lib.Dec.{eqb}
 use borrow.Author.Tests.{eqb-true, ne-eqb}
 use Rattle.base.specs.If.{if_then_else_, either}
-use Rattle.base.proofs.IfLaws.{
-  if-true,
-  if-false,
-  by-test,
-  by-cases,
-  both-rest,
-  both-second,
-  either-left,
-  either-right,
-  either-rest,
-  either-none-first,
-  either-none-second,
-}
+use Rattle.base.proofs.IfLaws.{if-true, if-false, by-test, by-cases, both-rest, either-left, either-right, either-rest, either-none-first, either-none-second}
 use Rattle.lex_keyword.specs.Names.{
   resistanceMatrix,
   inductanceMatrix,
@@ -62,9 +50,11 @@ use Rattle.doc.specs.Holds.{Each}
 use Rattle.doc.proofs.Goes.{Moves, Goes, text-ends, idle-outside}
 use Rattle.doc.proofs.Goes.Moves.{idle, plainly, keyed}
 use Rattle.doc.proofs.BodyLaws.{keyword-misplaced, keyword-leads}
-use Rattle.doc.proofs.SpanLaws.{up-in, up-out, up-none, gather-none, gather-more, matrices-skip, matrices-open, plain-opens}
+use Rattle.doc.proofs.SpanLaws.{matrices-skip, matrices-open, plain-opens, opening-key}
+use Rattle.doc.proofs.GatherLaws.{gather-more, gather-none, up-in, up-none, up-out}
 use Rattle.cross_rules.proofs.RisingLaws.{each-by, each-at}
 use Rattle.law_alike.specs.Alike.{formAt}
+use Rattle.doc.proofs.SectionLaws.{section-matrices, section-open, section-skip}
 
 -- ---- lists of matrices
 
@@ -246,10 +236,6 @@ module _ (l : Line) (ls : List Line) where
   unfolding matrixOf
   matrix-kind form body = refl
 
-  opens-key : opensMatrixAt l ≡ true → opensMatrix (keyOf l) ≡ true
-  unfolding opensMatrixAt
-  opens-key h = both-second _ _ h
-
   matrices-pass :
       inSection l ≡ true → opensMatrixAt l ≡ false →
       gather matrixAt (upTo inSection (l ∷ ls)) ≡ gather matrixAt (upTo inSection ls)
@@ -277,7 +263,7 @@ module _ (l : Line) (ls : List Line) where
           by-cases (Fresh (s .seen) (gather matrixAt (upTo inSection (l ∷ ls)))) (opensMatrixAt l)
           (λ (h : opensMatrixAt l ≡ true).
           rw (matrices-open l ls i h)
-          (fresh-open (s .seen) (keyOf l) (opens-key h) long (not-repeated (keyOf l) (argumentOf l .text) s kept (opens-key h))
+          (fresh-open (s .seen) (keyOf l) (opening-key l h) long (not-repeated (keyOf l) (argumentOf l .text) s kept (opening-key l h))
           (matrixOf l (formAt l) (upTo inMatrix ls)) (gather matrixAt (upTo inSection ls)) (matrix-kind (formAt l) (upTo inMatrix ls)) f))
           (λ (h : opensMatrixAt l ≡ false).
           rw (matrices-pass i h)
@@ -289,7 +275,7 @@ module _ (l : Line) (ls : List Line) where
           Fresh (s .seen) (gather matrixAt (upTo inSection (l ∷ ls)))
       fresh-keeps keeps f =
           by-cases (Fresh (s .seen) (gather matrixAt (upTo inSection (l ∷ ls)))) (opensMatrixAt l)
-          (λ (h : opensMatrixAt l ≡ true). absurd (true≢false (sym keeps ∙ opens-closes (keyOf l) (opens-key h))))
+          (λ (h : opensMatrixAt l ≡ true). absurd (true≢false (sym keeps ∙ opens-closes (keyOf l) (opening-key l h))))
           (λ (h : opensMatrixAt l ≡ false). rw (matrices-pass i h) f)
 
       fresh-next :
@@ -326,19 +312,6 @@ goes-fresh {s = s} Goes.none long = rw (up-none inSection, gather-none matrixAt)
 goes-fresh (Goes.more {s = s} {s' = s'} {l = l} {ls = ls} q blank mv g) long =
     fresh-step l ls s s' q mv long (goes-fresh g (moves-long l s s' mv long))
 
-module _ (l : Line) (ls : List Line) where
-  section-matrices : sectionOf l ls .matrices ≡ gather matrixAt ls
-  unfolding sectionOf
-  section-matrices = refl
-
-  section-open : opensSection l ≡ true → sectionAt l ls ≡ sectionOf l (upTo inSection ls) ∷ []
-  unfolding sectionAt
-  section-open h = if-true _ _ h
-
-  section-pass : opensSection l ≡ false → sectionAt l ls ≡ []
-  unfolding sectionAt
-  section-pass h = if-false _ _ h
-
 sections-step :
     (l : Line) (ls : List Line) → Once (gather matrixAt (upTo inSection ls)) →
     Each (λ (x : Section). Once (x .matrices)) (gather sectionAt ls) →
@@ -348,7 +321,7 @@ sections-step l ls inside later =
     (λ (h : opensSection l ≡ true).
     let all : Once (sectionOf l (upTo inSection ls) .matrices) = rw (section-matrices l (upTo inSection ls)) inside in
     rw (gather-more sectionAt l ls, section-open l ls h) (Each.more all later))
-    (λ (h : opensSection l ≡ false). rw (gather-more sectionAt l ls, section-pass l ls h) later)
+    (λ (h : opensSection l ≡ false). rw (gather-more sectionAt l ls, section-skip l ls h) later)
 
 goes-once :
     {s e : State} {ls : List Line} → Goes s ls e → length (s .seen) ≡ 40 →

@@ -1,6 +1,6 @@
 -- The entry that the matrices of a section give; the records of the document give the same one.
 -- Assumes nothing.
-use Prim.Native.Nat.{ℕ, zero, suc, _+_, _-_, _≤_, _<_, min, max}
+use Prim.Native.Nat.{ℕ, suc, _+_, _-_, _≤_, _<_, min, max}
 use mathlib.Core.Path.{_≡_, refl, sym, _∙_, ap}
 use mathlib.Core.Bool.{true, false}
 use mathlib.Core.List.{List, [], _∷_, _++_, append-assoc}
@@ -9,19 +9,23 @@ use native.Mathlib.Omega.{arith}
 use lib.ListN.{length, getD, length-append}
 use lib.Dec.{eqb}
 use borrow.Author.Tests.{eq-eqb, ne-eqb, eqb-true, eqb-false, lt-ltb, le-leb}
+use Rattle.table_record.specs.Records.{noSection, noMatrix, range}
+use Rattle.table_record.specs.declared.Value.{Value}
+use Rattle.table_record.specs.declared.MatrixRecord.{MatrixRecord}
+use Rattle.table_record.specs.declared.SectionRecord.{SectionRecord}
 use Rattle.base.specs.If.{if_then_else_, both}
 use Rattle.base.specs.Bytes.{within}
 use Rattle.base.proofs.IfLaws.{if-true, if-false, by-cases, both-true}
 use Rattle.lex_number.specs.ValueWord.{zeroWord}
-use Rattle.doc.specs.Document.{Value, Matrix, Section, Document, conductorsOf}
-use Rattle.doc.specs.Records.{SectionRecord, MatrixRecord, indexOfKind, sectionRecord, sectionRecords, matricesOf, matrixRecord, matrixRecords, flatten}
+use Rattle.doc.specs.Document.{Matrix, Section, Document, conductorsOf}
+use Rattle.doc.specs.Records.{indexOfKind, sectionRecord, sectionRecords, matricesOf, matrixRecord, matrixRecords, flatten}
 use Rattle.doc.specs.Records as records
 use Rattle.doc.specs.Holds.{Each}
-use Rattle.ask_sound.specs.Sound.{range}
 use Rattle.law_sound.proofs.EveryLaws.{range-middle}
-use Rattle.ask_entry.specs.Entry.{noSection, noMatrix, matrixIndex, wordAt, entryOf, isInRange}
+use Rattle.ask_entry.specs.Entry.{matrixIndex, wordAt, entryOf, isInRange}
 use Rattle.ask_entry.specs.Entry as entry
 use Rattle.law_alike.specs.Way.Found.{foundAt}
+use Rattle.doc.proofs.CountLaws.{sections-long}
 
 -- ---- what matrices give
 
@@ -214,11 +218,6 @@ kind-place first x kind few =
     at k e = ap (λ (n : ℕ). indexOfKind n first (x .matrices)) e
 
 -- ---- one section of a document
-
-pub sections-long : (first : ℕ) (ss : List Section) → length (sectionRecords first ss) ≡ length ss
-unfolding sectionRecords
-sections-long first [] = refl
-sections-long first (s ∷ ss) = ap suc (sections-long (first + length (s .matrices)) ss)
 
 module _ (d : Document) (before behind : List Section) (x : Section) (here : d .sections ≡ before ++ (x ∷ behind)) where
   record-here : getD (flatten d .sections) (length before) noSection ≡ sectionRecord (0 + length (matricesOf before)) x

@@ -9,21 +9,25 @@ use native.Mathlib.Omega.{arith}
 use lib.ListN.{length, getD}
 use lib.Dec.{ltb, eqb}
 use borrow.Author.Tests.{ltb-true, leb-true, eqb-true, eqb-false}
+use Rattle.table_record.specs.Records.{noSection}
+use Rattle.table_record.specs.declared.SectionRecord.{SectionRecord}
 use Rattle.base.specs.If.{both}
 use Rattle.base.specs.Bytes.{within}
 use Rattle.base.proofs.IfLaws.{by-cases, both-first, both-second}
 use Rattle.doc.specs.Document.{Matrix, Section, Document, documentOf, conductorsOf}
-use Rattle.doc.specs.Records.{SectionRecord, sectionRecord, sectionRecords, flatten}
+use Rattle.doc.specs.Records.{sectionRecord, sectionRecords, flatten}
 use Rattle.doc.specs.Holds.{Each}
 use Rattle.doc.proofs.MatrixLaws.{RightMatrix}
 use Rattle.doc.proofs.SectionLaws.{RightSection, text-sections}
 use Rattle.cross_rules.proofs.RisingLaws.{each-at}
 use Rattle.law_demands.proofs.AcceptedLaws as accepted
-use Rattle.ask_entry.specs.Entry.{foundWith, noSection, matrixIndex, entryOf, isInRange, entryAnswer}
+use Rattle.ask_entry.specs.Entry.{foundWith, matrixIndex, entryOf, isInRange, entryAnswer}
 use Rattle.law_alike.specs.Way.Same.{All2, SameMatrix, SameSection, SameDocument}
 use Rattle.law_third.specs.Third.{AcceptedTable}
-use Rattle.law_third.proofs.EntryRecordLaws.{givenAt, given-here, given-later, flat-sections, sections-long, section-given, section-conductors}
-use Rattle.law_third.proofs.EntryLaws.{answerOver, taken-kept, answer-over, over-inside, over-outside, least, ordered, greatest}
+use Rattle.law_third.proofs.EntryRecordLaws.{givenAt, given-here, given-later, flat-sections, section-given, section-conductors}
+use Rattle.law_third.proofs.EntryLaws.{answerOver, answer-over, over-inside, over-outside, least, ordered, greatest}
+use Rattle.doc.proofs.CountLaws.{sections-long}
+use Rattle.law_third.proofs.TakenLaws.{taken-passed}
 
 -- ---- matrices and sections at the same index
 
@@ -228,7 +232,7 @@ pub entries-same :
     (t table u other : List ℕ) → AcceptedTable t table → AcceptedTable u other → SameDocument (documentOf t) (documentOf u) →
     (section kind row column : ℕ) → entryAnswer t table section kind row column ≡ entryAnswer u other section kind row column
 entries-same t table u other one two same section kind row column =
-    let k : accepted.Taken t (length (one .before)) = taken-kept t table one in
+    let k : accepted.Taken t (length (one .before)) = taken-passed t table one in
     answer-over t table one section kind row column
     ∙ over-same (documentOf t) (documentOf u) (same .sections) section kind row column (text-sections t (k .counts) (k .reads))
     ∙ sym (answer-over u other two section kind row column)

@@ -6,5 +6,5 @@ pub mod WalkLaws
 pub mod WalkNameLaws
 pub mod WalkRecordLaws
 pub mod WalkSameLaws
-pub mod WalkTakenLaws
+pub mod TakenLaws
 pub mod ThirdLaws

@@ -10,7 +10,7 @@ use Rattle.law_demands.proofs.AcceptedLaws as accepted
 use Rattle.law_third.specs.Third.{AcceptedTable, SameAnswers, Third}
 use Rattle.law_third.proofs.EntryLaws.{entries-shown}
 use Rattle.law_third.proofs.EntrySameLaws.{entries-same}
-use Rattle.law_third.proofs.WalkTakenLaws.{taken-passed}
+use Rattle.law_third.proofs.TakenLaws.{taken-passed}
 use Rattle.law_third.proofs.WalkLaws.{walks-shown}
 use Rattle.law_third.proofs.WalkSameLaws.{walks-same}
 

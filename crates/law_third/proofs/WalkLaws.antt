@@ -10,42 +10,29 @@ use native.Mathlib.Omega.{arith}
 use lib.ListN.{length, getD, take, length-append, length-map}
 use lib.Seq.{take-at, take-all}
 use borrow.Author.Tests.{eq-eqb, ne-eqb, eqb-true}
+use Rattle.table_record.specs.Records.{Records, recordsOf, noModel, noStep, range}
+use Rattle.table_record.specs.declared.StepRecord.{StepRecord}
+use Rattle.table_record.specs.declared.ModelRecord.{ModelRecord}
+use Rattle.table_layout.specs.Codes.{forkKind, endforkKind}
 use Rattle.base.proofs.IfLaws.{if-true, if-false, both-first, both-second, not-not-via}
-use Rattle.doc.specs.Document.{Step, Model, Document, documentOf, forkKind, endforkKind}
-use Rattle.doc.specs.Records.{ModelRecord, StepRecord, Records, stepRecord, stepRecords, modelRecord, recordsOf}
+use Rattle.doc.specs.Document.{Step, Model, Document, documentOf}
+use Rattle.doc.specs.Records.{stepRecord, stepRecords, modelRecord}
 use Rattle.doc.specs.Holds.{Each}
 use Rattle.doc.proofs.StandsLaws.{ModelStands, StepStands, all-stand}
 use Rattle.table_name.specs.Name.{nameAt}
-use Rattle.cross_rules.specs.Rules.{stepRule}
+use Rattle.cross_rules.specs.Way.Findings.{stepRule}
 use Rattle.cross_rules.proofs.RisingLaws.{each-at}
-use Rattle.ask_sound.specs.Sound.{range, depthAfter, depthHolds, isSound}
+use Rattle.ask_sound.specs.Sound.{depthAfter, depthHolds, isSound}
 use Rattle.ask_sound.specs.Sound as sound
 use Rattle.law_sound.proofs.CrossLaws.{all-steps-kept}
 use Rattle.ask_walk.specs.Walk as walk
-use Rattle.ask_walk.specs.Walk.{
-  WalkWords,
-  stepped,
-  doneAt,
-  noModel,
-  noRecord,
-  modelAtPlace,
-  stepAtPlace,
-  countKind,
-  isDepth,
-  kindsBefore,
-  isPlace,
-  shownWords,
-  nextOf,
-  walkOver,
-  walkOn,
-  walkFrom,
-}
+use Rattle.ask_walk.specs.Walk.{WalkWords, stepped, doneAt, modelAtPlace, stepAtPlace, countKind, isDepth, kindsBefore, isPlace, nextOf, walkOver, walkOn, walkFrom}
 use Rattle.ask_walk.specs.declared.Place.{Place}
 use Rattle.ask_walk.proofs.KindLaws.{Moves, moves}
 use Rattle.ask_walk.proofs.ReadyLaws.{right-model}
 use Rattle.ask_walk.proofs.WalkLaws.{first-place, next-place}
 use Rattle.law_third.specs.Third.{AcceptedTable, walkedTo, nameThrough, sideOf, Shown, stepKinds, WalkShown}
-use Rattle.law_third.proofs.WalkTakenLaws.{taken-kept, taken-sound, taken-records}
+use Rattle.law_third.proofs.TakenLaws.{taken-kept, taken-sound, taken-records}
 use Rattle.law_third.proofs.WalkRecordLaws.{its-model, its-place, its-step, its-kinds}
 use Rattle.law_third.proofs.WalkNameLaws.{all-nameless, name-shown, section-passed}
 
@@ -54,7 +41,7 @@ use Rattle.law_third.proofs.WalkNameLaws.{all-nameless, name-shown, sec
 module _ (t table : List ℕ) (is-sound : isSound t table ≡ true) (p : Place) (inside : isPlace (recordsOf table) p ≡ true) where
   pub answer-on :
       p .step < modelAtPlace (recordsOf table) p .steps →
-      walk.walkAnswer t table p ≡ stepped (shownWords (stepAtPlace (recordsOf table) p)) (nextOf p (stepAtPlace (recordsOf table) p .kind))
+      walk.walkAnswer t table p ≡ stepped (stepAtPlace (recordsOf table) p) (nextOf p (stepAtPlace (recordsOf table) p .kind))
   unfolding walk.walkAnswer walkFrom walkOn walkOver
   answer-on h =
       let n : p .step ≡ modelAtPlace (recordsOf table) p .steps → ⊥ = λ (e : p .step ≡ modelAtPlace (recordsOf table) p .steps). omega arith in
@@ -125,7 +112,7 @@ module _ (t table : List ℕ) (taken : AcceptedTable t table) (before behind : L
   come-on k p h c =
       let q : Place = record { model = i; step = k; depth = c .depth } in
       let l : k < getD (recordsOf table .models) i noModel .steps = rw many h in
-      let goes : walk.walkAnswer t table p ≡ stepped (shownWords (stepAtPlace (recordsOf table) q)) (nextOf q (stepAtPlace (recordsOf table) q .kind)) =
+      let goes : walk.walkAnswer t table p ≡ stepped (stepAtPlace (recordsOf table) q) (nextOf q (stepAtPlace (recordsOf table) q .kind)) =
       ap (walk.walkAnswer t table) (c .is) ∙ answer-on t table (taken-sound t table taken) q (c .inside) l in
       record {
         depth = depthAfter (c .depth) (stepAtPlace (recordsOf table) q .kind);
@@ -196,7 +183,7 @@ module _ (t table : List ℕ) (taken : AcceptedTable t table) (before behind : L
     step-there : (n : ℕ) → stepAtPlace (recordsOf table) (record { model = i; step = length above; depth = n }) ≡ stepRecord (d .maps) (d .sections) s
     unfolding stepAtPlace
     step-there n =
-        (λ j. getD (taken-records t table taken j .steps) (from j + length above) noRecord) ∙ its-step d before behind m stands above below s e
+        (λ j. getD (taken-records t table taken j .steps) (from j + length above) noStep) ∙ its-step d before behind m stands above below s e
 
     below-end : length above < length (m .steps)
     below-end =
@@ -206,19 +193,19 @@ module _ (t table : List ℕ) (taken : AcceptedTable t table) (before behind : L
     kept : stepRule d m s ≡ 0
     kept = each-of (m .steps) above below s e (each-of (d .models) before behind m stands (all-steps-kept d (taken-kept t table taken)))
 
-    name-there : nameThrough t (recordsOf table) (shownWords (stepRecord (d .maps) (d .sections) s)) ≡ s .name .text
+    name-there : nameThrough t (recordsOf table) (stepRecord (d .maps) (d .sections) s) ≡ s .name .text
     name-there =
         rw (taken-records t table taken)
         (name-shown t m s kept (each-of (m .steps) above below s e (each-of (d .models) before behind m stands (all-nameless t))))
 
-    side-there : sideOf t (shownWords (stepRecord (d .maps) (d .sections) s)) ≡ s .side .text
+    side-there : sideOf t (stepRecord (d .maps) (d .sections) s) ≡ s .side .text
     unfolding sideOf stepRecord nameAt
     side-there =
         let m-stands : ModelStands t m = each-of (d .models) before behind m stands (all-stand t .models) in
         let s-stands : StepStands t s = each-of (m .steps) above below s e (m-stands .steps) in
         s-stands .side .bytes
 
-    shown-by : (next : Place) → Shown t table s (stepped (shownWords (stepRecord (d .maps) (d .sections) s)) next)
+    shown-by : (next : Place) → Shown t table s (stepped (stepRecord (d .maps) (d .sections) s) next)
     unfolding stepRecord
     shown-by next =
         record {
@@ -237,9 +224,9 @@ module _ (t table : List ℕ) (taken : AcceptedTable t table) (before behind : L
         let l : length above < getD (recordsOf table .models) i noModel .steps = rw many below-end in
         let c : Comes table i (length above) (walkedTo t table i (length above)) = comes (length above) (omega (arith, below-end)) in
         let q : Place = record { model = i; step = length above; depth = c .depth } in
-        let goes : walk.walkAnswer t table (walkedTo t table i (length above)) ≡ stepped (shownWords (stepRecord (d .maps) (d .sections) s)) (nextOf q (stepAtPlace (recordsOf table) q .kind)) =
+        let goes : walk.walkAnswer t table (walkedTo t table i (length above)) ≡ stepped (stepRecord (d .maps) (d .sections) s) (nextOf q (stepAtPlace (recordsOf table) q .kind)) =
         ap (walk.walkAnswer t table) (c .is) ∙ answer-on t table (taken-sound t table taken) q (c .inside) l
-        ∙ ap (λ (x : StepRecord). stepped (shownWords x) (nextOf q (stepAtPlace (recordsOf table) q .kind))) (step-there (c .depth)) in
+        ∙ ap (λ (x : StepRecord). stepped x (nextOf q (stepAtPlace (recordsOf table) q .kind))) (step-there (c .depth)) in
         rw goes (shown-by (nextOf q (stepAtPlace (recordsOf table) q .kind)))
 
   -- the walk from the start of the model, as the demand states it

@@ -9,23 +9,25 @@ use native.Mathlib.Omega.{arith}
 use lib.ListN.{length, getD}
 use lib.Dec.{eqb}
 use borrow.Author.Tests.{eqb-true, eqb-false, eq-eqb, ne-eqb}
+use Rattle.table_record.specs.Records.{noSection, noMap}
+use Rattle.table_layout.specs.Codes.{endKind, sectionKind}
 use Rattle.base.specs.If.{if_then_else_}
 use Rattle.base.proofs.IfLaws.{if-true, if-false, by-test, by-cases, both-second}
 use Rattle.base.proofs.RunLaws.{same-equal}
 use Rattle.line_path.specs.Path as path
 use Rattle.doc.specs.Lines.{Line, noWord, significant, upTo}
-use Rattle.doc.specs.Document.{Step, Model, Map, Section, Document, endKind, sectionKind, sayingAt, stepOf, stepsIn, opensModel, inModel, modelOf, modelAt, documentIn, documentOf}
+use Rattle.doc.specs.Document.{Step, Model, Map, Section, Document, sayingAt, stepOf, stepsIn, opensModel, inModel, modelOf, modelAt, documentIn, documentOf}
 use Rattle.doc.specs.Records.{indexOf, isMapOf, isSectionOf, targetOf, stepRecord, mapRecord, mapRecords, sectionRecord, sectionRecords, flatten}
 use Rattle.doc.specs.Holds.{Each}
 use Rattle.doc.specs.Way.Holds.{Stands}
 use Rattle.doc.specs.Holds.Each.{none, more}
 use Rattle.doc.proofs.StandsLaws.{MapStands, all-stand, each-gather, each-if}
 use Rattle.table_name.specs.Name.{nameAt}
-use Rattle.cross_rules.specs.Rules.{mapIndex, sectionIndex, stepRule}
+use Rattle.cross_rules.specs.Rules.{mapIndex, sectionIndex}
+use Rattle.cross_rules.specs.Way.Findings.{stepRule}
 use Rattle.law_sound.proofs.CrossLaws.{end-found, section-found}
-use Rattle.ask_walk.specs.Walk.{shownWords}
 use Rattle.ask_entry.specs.Entry as entry
-use Rattle.law_third.specs.Third.{noMap, nameThrough, PassesSection}
+use Rattle.law_third.specs.Third.{nameThrough, PassesSection}
 
 -- ---- the first that passes a test
 
@@ -72,7 +74,7 @@ module _ (t : List ℕ) where
 
   pub section-name :
       {ss : List Section} → Each (λ (s : Section). Stands t (s .name)) ss → (first i : ℕ) →
-      nameAt t (getD (sectionRecords first ss) i entry.noSection .start) (getD (sectionRecords first ss) i entry.noSection .size)
+      nameAt t (getD (sectionRecords first ss) i noSection .start) (getD (sectionRecords first ss) i noSection .size)
       ≡ getD (map (λ (s : Section). s .name .text) ss) i []
   unfolding sectionRecords sectionRecord
   section-name none first i = no-name t
@@ -171,12 +173,12 @@ module _ (t : List ℕ) (m : Model) (s : Step) (kept : stepRule (documentOf t) m
 
   section-step-name :
       s .kind ≡ sectionKind →
-      nameAt t (getD (sectionRecords 0 (d .sections)) (sectionIndex d s) entry.noSection .start) (getD (sectionRecords 0 (d .sections)) (sectionIndex d s) entry.noSection .size) ≡ s .name .text
+      nameAt t (getD (sectionRecords 0 (d .sections)) (sectionIndex d s) noSection .start) (getD (sectionRecords 0 (d .sections)) (sectionIndex d s) noSection .size) ≡ s .name .text
   section-step-name k =
       section-name t (all-stand t .sections) 0 (sectionIndex d s)
       ∙ found-text (isSectionOf s) (λ (x : Section). x .name .text) (s .name .text) (section-named s) (d .sections) (section-found d m s kept k)
 
-  pub name-shown : nameThrough t (flatten d) (shownWords (stepRecord (d .maps) (d .sections) s)) ≡ s .name .text
+  pub name-shown : nameThrough t (flatten d) (stepRecord (d .maps) (d .sections) s) ≡ s .name .text
   unfolding nameThrough stepRecord targetOf flatten
   name-shown =
       by-test (λ (n : List ℕ). n ≡ s .name .text) (eqb (s .kind) endKind) _ _

@@ -2,24 +2,20 @@
 -- Assumes nothing.
 use mathlib.Core.Path.{_≡_, refl, sym, _∙_, ap}
 use mathlib.Core.List.{List, [], _∷_, _++_, map, map-append, append-assoc}
-use Prim.Native.Nat.{ℕ, suc, _+_, _<_}
+use Prim.Native.Nat.{ℕ, _+_, _<_}
 use native.Mathlib.Nat.{zero-add}
 use native.Mathlib.Omega.{arith}
 use lib.ListN.{length, getD, length-append, length-map}
 use lib.Seq.{getD-at, getD-append-add}
+use Rattle.table_record.specs.Records.{noModel, noStep, range}
+use Rattle.table_record.specs.declared.StepRecord.{StepRecord}
 use Rattle.doc.specs.Document.{Step, Model, Map, Section, Document}
-use Rattle.doc.specs.Records.{StepRecord, stepRecord, stepRecords, modelRecord, modelRecords, flatten}
-use Rattle.ask_sound.specs.Sound.{range}
+use Rattle.doc.specs.Records.{stepRecord, stepRecords, modelRecord, modelRecords, flatten}
 use Rattle.ask_sound.specs.Sound as sound
-use Rattle.ask_walk.specs.Walk.{noModel, noRecord}
 use Rattle.law_sound.proofs.EveryLaws.{range-middle}
 use Rattle.law_sound.proofs.PartLaws.{kinds-more}
 use Rattle.law_third.specs.Third.{stepKinds}
-
-pub models-long : (first : ℕ) (ms : List Model) → length (modelRecords first ms) ≡ length ms
-unfolding modelRecords
-models-long first [] = refl
-models-long first (m ∷ ms) = ap suc (models-long (first + length (m .steps)) ms)
+use Rattle.doc.proofs.CountLaws.{models-long}
 
 module _ (maps : List Map) (sections : List Section) where
   steps-append : (before ms : List Model) → stepRecords maps sections (before ++ ms) ≡ stepRecords maps sections before ++ stepRecords maps sections ms
@@ -88,12 +84,12 @@ module _ (d : Document) (before behind : List Model) (m : Model) (stands : d .mo
   -- each of its steps
   pub its-step :
       (above below : List Step) (s : Step) → m .steps ≡ above ++ (s ∷ below) →
-      getD (flatten d .steps) (length recordsBefore + length above) noRecord ≡ stepRecord (d .maps) (d .sections) s
+      getD (flatten d .steps) (length recordsBefore + length above) noStep ≡ stepRecord (d .maps) (d .sections) s
   its-step above below s e =
-      ap (λ (ss : List StepRecord). getD ss (length recordsBefore + length above) noRecord) its-steps
-      ∙ getD-append-add recordsBefore (own (m .steps) ++ recordsBehind) (length above) noRecord
-      ∙ ap (λ (ss : List StepRecord). getD ss (length above) noRecord) split
-      ∙ getD-at (own above) (stepRecord (d .maps) (d .sections) s) (own below ++ recordsBehind) noRecord (length above) (length-map above (stepRecord (d .maps) (d .sections)))
+      ap (λ (ss : List StepRecord). getD ss (length recordsBefore + length above) noStep) its-steps
+      ∙ getD-append-add recordsBefore (own (m .steps) ++ recordsBehind) (length above) noStep
+      ∙ ap (λ (ss : List StepRecord). getD ss (length above) noStep) split
+      ∙ getD-at (own above) (stepRecord (d .maps) (d .sections) s) (own below ++ recordsBehind) noStep (length above) (length-map above (stepRecord (d .maps) (d .sections)))
     where
       split : own (m .steps) ++ recordsBehind ≡ own above ++ (stepRecord (d .maps) (d .sections) s ∷ (own below ++ recordsBehind))
       split =

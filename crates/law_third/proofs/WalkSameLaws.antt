@@ -2,73 +2,44 @@
 -- Assumes nothing.
 use mathlib.Core.Path.{_≡_, refl, sym, _∙_, ap}
 use mathlib.Core.Bool.{Bool, true, false, not, true≢false}
-use mathlib.Core.List.{List, [], _∷_, _++_, map}
+use mathlib.Core.List.{List, [], _∷_, map}
 use Prim.Native.Nat.{ℕ, zero, suc, _+_, _≤_, _<_}
 use native.Mathlib.Nat.{not-suc-le-zero}
 use native.Mathlib.Omega.{arith}
 use lib.ListN.{length, getD, take}
 use lib.Dec.{ltb, leb, eqb}
 use borrow.Author.Tests.{eqb-true, lt-ltb, ltb-true, ltb-false}
+use Rattle.base.specs.Refusal as refusal
+use Rattle.table_record.specs.Records.{Records, recordsOf, noSection, noModel, noStep, noMap, range}
+use Rattle.table_record.specs.declared.StepRecord.{StepRecord}
+use Rattle.table_record.specs.declared.ModelRecord.{ModelRecord}
+use Rattle.table_layout.specs.Codes.{endKind, sectionKind}
 use Rattle.base.specs.If.{if_then_else_, both}
 use Rattle.base.specs.Runs.{same}
 use Rattle.base.proofs.IfLaws.{if-true, if-false, by-cases, both-true, both-first, both-second, either-none-first, either-none-second, not-not-via}
 use Rattle.base.proofs.RunLaws.{same-refl, same-equal}
-use Rattle.doc.specs.Document.{Step, Model, Map, Section, Document, documentOf, endKind, sectionKind}
-use Rattle.doc.specs.Records.{ModelRecord, StepRecord, Records, indexOf, isMapOf, isSectionOf, targetOf, stepRecord, stepRecords, modelRecord, modelRecords, flatten, recordsOf}
+use Rattle.doc.specs.Document.{Step, Model, Map, Section, Document, documentOf}
+use Rattle.doc.specs.Records.{indexOf, isMapOf, isSectionOf, targetOf, stepRecord, stepRecords, modelRecord, modelRecords, flatten}
 use Rattle.doc.specs.Holds.{Each}
 use Rattle.doc.specs.Holds.Each.{none, more}
 use Rattle.doc.proofs.StandsLaws.{StepStands, ModelStands, all-stand}
 use Rattle.table_name.specs.Name.{nameAt}
-use Rattle.cross_rules.specs.Rules.{
-  any,
-  sameWord,
-  isTwice,
-  mapName,
-  mapNameRule,
-  stepRule,
-  mapIndex,
-  sectionIndex,
-  listFindings,
-  modelFindings,
-  pinFindings,
-  mapFindings,
-  sectionFindings,
-  findings,
-  crossRule,
-}
+use Rattle.cross_rules.specs.Rules.{any, sameWord, isTwice, mapName, mapIndex, sectionIndex, crossRule}
+use Rattle.cross_rules.specs.Way.Findings.{mapNameRule, stepRule, listFindings, modelFindings, pinFindings, mapFindings, sectionFindings, findings}
 use Rattle.cross_rules.specs.declared.Finding.{Finding}
 use Rattle.cross_rules.proofs.RisingLaws.{each-by}
 use Rattle.cross_rules.proofs.FirstLaws.{map-judged, all-kept}
-use Rattle.ask_sound.specs.Sound.{range}
 use Rattle.ask_sound.specs.Sound as sound
-use Rattle.law_sound.proofs.CrossLaws.{all-steps-kept, end-found}
+use Rattle.law_sound.proofs.CrossLaws.{all-steps-kept, end-found, each-front, each-behind}
 use Rattle.ask_walk.specs.Walk as walk
-use Rattle.ask_walk.specs.Walk.{
-  WalkWords,
-  noStep,
-  stepped,
-  doneAt,
-  walkRefused,
-  noModel,
-  noRecord,
-  modelAtPlace,
-  stepAtPlace,
-  isDepth,
-  kindsBefore,
-  isPlace,
-  shownWords,
-  nextOf,
-  walkOver,
-  walkOn,
-  walkFrom,
-}
+use Rattle.ask_walk.specs.Walk.{WalkWords, stepped, doneAt, walkRefused, modelAtPlace, stepAtPlace, isDepth, kindsBefore, isPlace, nextOf, walkOver, walkOn, walkFrom}
 use Rattle.ask_walk.specs.declared.Place.{Place}
-use Rattle.ask_walk.specs.declared.StepWords.{StepWords}
+use Rattle.table_record.specs.declared.StepRecord.{StepRecord}
 use Rattle.ask_entry.specs.Entry as entry
 use Rattle.law_alike.specs.Way.Same.{All2, SameStep, SameModel, SameMap, SameSection, SameDocument}
 use Rattle.law_alike.proofs.GatherLaws.{all2-append}
-use Rattle.law_third.specs.Third.{AcceptedTable, noMap, nameThrough, sideOf, SameAnswer}
-use Rattle.law_third.proofs.WalkTakenLaws.{taken-kept, taken-sound, taken-records}
+use Rattle.law_third.specs.Third.{AcceptedTable, nameThrough, sideOf, SameAnswer}
+use Rattle.law_third.proofs.TakenLaws.{taken-kept, taken-sound, taken-records}
 use Rattle.law_third.proofs.WalkNameLaws.{index-here, index-later, map-name, section-name}
 
 -- ---- lists that are related one by one
@@ -168,15 +139,6 @@ module _ (s : Step) where
 
 -- ---- the maps do not break 19
 
-module _ {A : Type 0} {P : A → Type 0} where
-  each-front : (xs ys : List A) → Each P (xs ++ ys) → Each P xs
-  each-front [] ys h = none
-  each-front (x ∷ xs) ys (more h hs) = more h (each-front xs ys hs)
-
-  each-behind : (xs ys : List A) → Each P (xs ++ ys) → Each P ys
-  each-behind [] ys h = h
-  each-behind (x ∷ xs) ys (more h hs) = each-behind xs ys hs
-
 module _ (d : Document) where
   maps-kept : (ms : List Map) → Each (λ (f : Finding). f .rule ≡ 0) (mapFindings d ms) → Each (λ (m : Map). mapNameRule d m ≡ 0) ms
   unfolding mapFindings
@@ -203,7 +165,7 @@ record SameStepRecord (t u : List ℕ) (a b : StepRecord) : Type 0 where
   kind : a .kind ≡ b .kind
   target : a .target ≡ b .target
   amount : a .amount ≡ b .amount
-  side : nameAt t (a .side) (a .sideSize) ≡ nameAt u (b .side) (b .sideSize)
+  side : nameAt t (a .side) (a .«side_size») ≡ nameAt u (b .side) (b .«side_size»)
 
 same-models : (first other : ℕ) → first ≡ other → {ms ns : List Model} → All2 SameModel ms ns → All2 SameModelRecord (modelRecords first ms) (modelRecords other ns)
 unfolding modelRecords modelRecord
@@ -292,19 +254,19 @@ module _ (t u : List ℕ) (kept : crossRule (documentOf t) .rule ≡ 0) (also : 
 
   section-names :
       (i : ℕ) →
-      nameAt t (getD (flatten d .sections) i entry.noSection .start) (getD (flatten d .sections) i entry.noSection .size)
-      ≡ nameAt u (getD (flatten e .sections) i entry.noSection .start) (getD (flatten e .sections) i entry.noSection .size)
+      nameAt t (getD (flatten d .sections) i noSection .start) (getD (flatten d .sections) i noSection .size)
+      ≡ nameAt u (getD (flatten e .sections) i noSection .start) (getD (flatten e .sections) i noSection .size)
   unfolding flatten
   section-names i =
       section-name t (all-stand t .sections) 0 i
       ∙ ap (λ (ns : List (List ℕ)). getD ns i []) (all2-map (λ (s : Section). s .name .text) (λ (s : Section). s .name .text) (λ (x y : Section) (h : SameSection x y). h .name) (alike .sections))
       ∙ sym (section-name u (all-stand u .sections) 0 i)
 
-  same-name : (v w : StepWords) → v .kind ≡ w .kind → v .target ≡ w .target → nameThrough t (flatten d) v ≡ nameThrough u (flatten e) w
+  same-name : (v w : StepRecord) → v .kind ≡ w .kind → v .target ≡ w .target → nameThrough t (flatten d) v ≡ nameThrough u (flatten e) w
   unfolding nameThrough
   same-name v w k g =
       (λ j. if eqb (v .kind) endKind then map-names (v .target) j else if eqb (v .kind) sectionKind then section-names (v .target) j else [])
-      ∙ (λ j. if eqb (k j) endKind then nameAt u (getD (flatten e .maps) (g j) noMap .start) (getD (flatten e .maps) (g j) noMap .size) else if eqb (k j) sectionKind then nameAt u (getD (flatten e .sections) (g j) entry.noSection .start) (getD (flatten e .sections) (g j) entry.noSection .size) else [])
+      ∙ (λ j. if eqb (k j) endKind then nameAt u (getD (flatten e .maps) (g j) noMap .start) (getD (flatten e .maps) (g j) noMap .size) else if eqb (k j) sectionKind then nameAt u (getD (flatten e .sections) (g j) noSection .start) (getD (flatten e .sections) (g j) noSection .size) else [])
 
   -- ---- places
 
@@ -323,7 +285,7 @@ module _ (t u : List ℕ) (kept : crossRule (documentOf t) .rule ≡ 0) (also : 
         both (ltb (p .model) (all2-long models-alike j))
         (both (leb (p .step) (model-alike .steps j)) (isDepth (p .depth) (take (p .step) (range (model-alike .first j) (model-alike .steps j) (kinds-alike j)))))
 
-    no-sides : nameAt t (noRecord .side) (noRecord .sideSize) ≡ nameAt u (noRecord .side) (noRecord .sideSize)
+    no-sides : nameAt t (noStep .side) (noStep .«side_size») ≡ nameAt u (noStep .side) (noStep .«side_size»)
     unfolding nameAt
     no-sides = refl
 
@@ -331,7 +293,7 @@ module _ (t u : List ℕ) (kept : crossRule (documentOf t) .rule ≡ 0) (also : 
     unfolding stepAtPlace
     step-alike =
         rw (model-alike .first)
-        (all2-at steps-alike noRecord noRecord (record { kind = refl; target = refl; amount = refl; side = no-sides }) (modelAtPlace (flatten e) p .first + p .step))
+        (all2-at steps-alike noStep noStep (record { kind = refl; target = refl; amount = refl; side = no-sides }) (modelAtPlace (flatten e) p .first + p .step))
 
 -- ---- the answers
 
@@ -357,7 +319,7 @@ module _ (t table u other : List ℕ) (taken : AcceptedTable t table) (also : Ac
   abbrev q : Records
   q = flatten (documentOf u)
 
-  name-too : (v w : StepWords) → v .kind ≡ w .kind → v .target ≡ w .target → nameThrough t (recordsOf table) v ≡ nameThrough u (recordsOf other) w
+  name-too : (v w : StepRecord) → v .kind ≡ w .kind → v .target ≡ w .target → nameThrough t (recordsOf table) v ≡ nameThrough u (recordsOf other) w
   name-too v w k g =
       rw (taken-records t table taken, taken-records u other also)
       (same-name t u (taken-kept t table taken) (taken-kept u other also) alike v w k g)
@@ -388,12 +350,12 @@ module _ (t table u other : List ℕ) (taken : AcceptedTable t table) (also : Ac
     steps-here : SameStepRecord t u (stepAtPlace r p) (stepAtPlace q p)
     steps-here = step-alike t u (taken-kept t table taken) (taken-kept u other also) alike p
 
-    sides-here : sideOf t (shownWords (stepAtPlace r p)) ≡ sideOf u (shownWords (stepAtPlace q p))
+    sides-here : sideOf t (stepAtPlace r p) ≡ sideOf u (stepAtPlace q p)
     unfolding sideOf
     sides-here = steps-here .side
 
     -- with one
-    with-step : SameAnswer t table u other (stepped (shownWords (stepAtPlace r p)) (nextOf p (stepAtPlace r p .kind))) (stepped (shownWords (stepAtPlace q p)) (nextOf p (stepAtPlace q p .kind)))
+    with-step : SameAnswer t table u other (stepped (stepAtPlace r p) (nextOf p (stepAtPlace r p .kind))) (stepped (stepAtPlace q p) (nextOf p (stepAtPlace q p .kind)))
     with-step =
         record {
           answered = refl;
@@ -402,7 +364,7 @@ module _ (t table u other : List ℕ) (taken : AcceptedTable t table) (also : Ac
           kind = steps-here .kind;
           target = steps-here .target;
           amount = steps-here .amount;
-          name = name-too (shownWords (stepAtPlace r p)) (shownWords (stepAtPlace q p)) (steps-here .kind) (steps-here .target);
+          name = name-too (stepAtPlace r p) (stepAtPlace q p) (steps-here .kind) (steps-here .target);
           side = sides-here;
           next = ap (nextOf p) (steps-here .kind);
         }
@@ -422,7 +384,7 @@ module _ (t table u other : List ℕ) (taken : AcceptedTable t table) (also : Ac
     unfolding walkFrom
     from-same =
         by-two (not (isPlace r p)) (not (isPlace q p)) (ap not (place-alike t u (taken-kept t table taken) (taken-kept u other also) alike p))
-        (walkRefused walk.noSuch) _ (walkRefused walk.noSuch) _ (stepless false false walk.noSuch 0 (record { model = 0; step = 0; depth = 0 })) on-same
+        (walkRefused refusal.noSuch) _ (walkRefused refusal.noSuch) _ (stepless false false refusal.noSuch 0 (record { model = 0; step = 0; depth = 0 })) on-same
 
     pub walk-same : SameAnswer t table u other (walk.walkAnswer t table p) (walk.walkAnswer u other p)
     walk-same = rw (asked t table taken p, asked u other also p) from-same

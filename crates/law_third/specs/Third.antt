@@ -4,17 +4,18 @@
 -- Another accepted file that differs only in matrix forms giving the same numbers, comments, blank lines or blanks
 -- between words gives the same answers but for lines and offsets."
 -- Assumes nothing.
-use Prim.Native.Nat.{ℕ, zero, suc, _+_, _*_, _≤_, _<_, min, max}
+use Prim.Native.Nat.{ℕ, zero, suc, _+_, _≤_, _<_, min, max}
 use mathlib.Core.Path.{_≡_}
-use mathlib.Core.Bool.{Bool, true, false}
+use mathlib.Core.Bool.{true, false}
 use mathlib.Core.List.{List, [], _∷_, _++_, map}
 use lib.ListN.{length, getD}
 use lib.Dec.{eqb}
+use Rattle.table_record.specs.Records.{Records, recordsOf, noSection, noMap}
+use Rattle.table_layout.specs.Codes.{endKind, sectionKind, forkKind, endforkKind}
 use Rattle.base.specs.If.{if_then_else_}
 use Rattle.lex_number.specs.ValueWord.{zeroWord}
 use Rattle.doc.specs.Lines.{Line, keyOf, significant, upTo}
-use Rattle.doc.specs.Document.{Step, Model, Matrix, Section, documentOf, conductorsOf, kindOf, matrixOf, opensMatrixAt, inMatrix, endKind, sectionKind, forkKind, endforkKind}
-use Rattle.doc.specs.Records.{MapRecord, SectionRecord, Records, recordsOf}
+use Rattle.doc.specs.Document.{Step, Model, Matrix, Section, documentOf, conductorsOf, kindOf, matrixOf, opensMatrixAt, inMatrix}
 use Rattle.doc.specs.Holds.{Each}
 use Rattle.table_name.specs.Name.{nameAt}
 use Rattle.intake.specs.declared.Answer.the-variants.{Accepted}
@@ -22,9 +23,9 @@ use Rattle.law_demands.specs.Demands.{Conforms}
 use Rattle.ask_walk.specs.Walk as walk
 use Rattle.ask_walk.specs.Walk.{WalkWords, countKind}
 use Rattle.ask_walk.specs.declared.Place.{Place}
-use Rattle.ask_walk.specs.declared.StepWords.{StepWords}
+use Rattle.table_record.specs.declared.StepRecord.{StepRecord}
 use Rattle.ask_entry.specs.Entry as entry
-use Rattle.ask_entry.specs.Entry.{EntryWords, foundWith}
+use Rattle.ask_entry.specs.Entry.{foundWith}
 use Rattle.law_alike.specs.Written.{writtenAt}
 use Rattle.law_alike.specs.Alike.{formAt, Alike}
 
@@ -41,17 +42,14 @@ unfoldable pub walkedTo : List ℕ → List ℕ → ℕ → ℕ → Place
 walkedTo t table model zero = record { model = model; step = 0; depth = 0 }
 walkedTo t table model (suc k) = walk.walkAnswer t table (walkedTo t table model k) .next
 
-abbrev pub noMap : MapRecord
-noMap = record { start = 0; size = 0; order = 0; rows = 0; columns = 0; first = 0; pins = 0 }
-
 -- the bytes of the name that a step refers to by its target, a map or a section; forks have no name
-unfoldable pub nameThrough : List ℕ → Records → StepWords → List ℕ
+unfoldable pub nameThrough : List ℕ → Records → StepRecord → List ℕ
 nameThrough t r w =
     if eqb (w .kind) endKind then nameAt t (getD (r .maps) (w .target) noMap .start) (getD (r .maps) (w .target) noMap .size) else
-    if eqb (w .kind) sectionKind then nameAt t (getD (r .sections) (w .target) entry.noSection .start) (getD (r .sections) (w .target) entry.noSection .size) else []
+    if eqb (w .kind) sectionKind then nameAt t (getD (r .sections) (w .target) noSection .start) (getD (r .sections) (w .target) noSection .size) else []
 
 -- the bytes of the step's side
-unfoldable pub sideOf : List ℕ → StepWords → List ℕ
+unfoldable pub sideOf : List ℕ → StepRecord → List ℕ
 sideOf t w = nameAt t (w .side) (w .«side_size»)
 
 -- the target of a Section step is the index of a section of the document that has the step's name

@@ -1,8 +1,8 @@
 -- Laws of `all` for a loop over the bytes: go on, stop, past the end.
 -- Assumes nothing.
-use mathlib.Core.Path.{_≡_, refl, sym, _∙_}
+use mathlib.Core.Path.{_≡_, sym, _∙_}
 use mathlib.Core.Bool.{Bool, true, false, not}
-use mathlib.Core.List.{List, [], _∷_}
+use mathlib.Core.List.{List}
 use Prim.Native.Nat.{ℕ, suc, _+_, _≤_, _<_}
 use native.Mathlib.Numerals.{add-one}
 use lib.ListN.{length, drop, getD, drop-of-length-le}
@@ -11,14 +11,7 @@ use borrow.Author.Tests.{not-true, not-false}
 use Rattle.base.specs.If.{both}
 use Rattle.base.specs.Runs.{all}
 use Rattle.base.proofs.IfLaws.{both-rest, both-not-left}
-
-all-cons : (p : ℕ → Bool) (b : ℕ) (s : List ℕ) → all p (b ∷ s) ≡ both (p b) (all p s)
-unfolding all
-all-cons p b s = refl
-
-all-nil : (p : ℕ → Bool) → all p [] ≡ true
-unfolding all
-all-nil p = refl
+use Rattle.base.proofs.RunLaws.{all-cons, all-nil}
 
 -- t is the result of the test at i, `whole` that of the whole list
 module _ (p : ℕ → Bool) (s : List ℕ) (i : ℕ) (whole t : Bool) (inv : all p (drop i s) ≡ whole) (h : i < length s) (told : t ≡ p (getD s i 0)) where

@@ -5,7 +5,7 @@
 use mathlib.Core.Path.{_≡_, refl}
 use mathlib.Core.List.{List, [], _∷_, _++_, map}
 use Prim.Native.Nat.{ℕ}
-use Rattle.base.specs.If.{if_then_else_, both, either}
+use Rattle.base.specs.If.{both, either, if_then_else_}
 use Rattle.base.specs.Bytes.{bytes, tab, small, isCapital, isSmall, isLetter, isDigit, isBlank, within}
 use Rattle.base.specs.Runs.{run, all, same}
 use Rattle.lex_keyword.specs.Names.{folded, sameName, nameIndex, keywordOf, isLater, theEnd, row, icmVer, beginHeader, endHeader, manufacturer}

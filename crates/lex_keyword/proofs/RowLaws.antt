@@ -9,7 +9,7 @@ use native.Mathlib.Omega.{arith}
 use lib.ListN.{length, take, drop, getD}
 use lib.Seq.{drop-cons}
 use borrow.Author.Tests.{eqb-true, le-ltb}
-use Rattle.base.specs.If.{if_then_else_, both, either}
+use Rattle.base.specs.If.{both, either, if_then_else_}
 use Rattle.base.specs.Bytes.{isBlank, isLetter, isCapital, isSmall, isDigit, within, small, isBefore}
 use Rattle.base.specs.Way.Class.{runEnd}
 use Rattle.base.specs.Runs.{run, all, same}

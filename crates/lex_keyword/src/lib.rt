@@ -9,8 +9,10 @@ ghost use Rattle.base.specs.Way.Class.{runEnd};
 ghost use Rattle.base.specs.Runs.{all};
 ghost use Rattle.lex_keyword.specs.Names.{folded, names, sameName, keywordOf, isLater};
 ghost use Rattle.lex_keyword.specs.Way.Lookup.{letters, startOf, firstOfSize, standsAt};
-ghost use Rattle.lex_keyword.specs.Way.Reading.{isWordByte, closesAt, saysName, isRow};
+ghost use Rattle.lex_keyword.specs.Way.Reading.{isWordByte, closesAt, saysName};
 ghost use Rattle.lex_keyword.specs.Bracket.{isPlainByte, parted, isHyphenWord, isGoodWord, areGoodWords, isGoodName, namedAs, bracketOf};
+
+mod fast;
 
 pub enum Bracket {
     // The first byte of the line that is not blank is no `[`.
@@ -478,35 +480,12 @@ fn closes_at(content: &[u8], end: usize) -> bool
     base::in_class(Class::Blank, content[next])
 }
 
-// Whether a bracket in column 1 is `[Row]`, the most frequent keyword in its usual spelling: `Row]` after the first
-// byte, and then a blank or the end of the line.
-fn is_row(content: &[u8]) -> bool
-    ensures { λ r. ⌜ r ≡ isRow (now (content .entry)) ⌝ }
-{
-    if content.len() <= 4 {
-        return false;
-    }
-    if content[1] != b'R' {
-        return false;
-    }
-    if content[2] != b'o' {
-        return false;
-    }
-    if content[3] != b'w' {
-        return false;
-    }
-    if content[4] != b']' {
-        return false;
-    }
-    closes_at(content, 4)
-}
-
 // Reads a bracket in column 1. Most are `[Row]`, which needs no search.
 fn opened_bracket(content: &[u8]) -> Bracket
     requires { ⌜ (0 ≡ runEnd isBlank (now content) 0) × (91 ≡ getD (now content) 0 0) ⌝ }
     ensures { λ r. ⌜ r ≡ bracketOf (now (content .entry)) ⌝ }
 {
-    if is_row(content) {
+    if fast::is_row(content) {
         return Bracket::Keyword(ROW, base::past_blanks(content, 5));
     }
     let end = base::skip(Class::Before(b']'), content, 1);

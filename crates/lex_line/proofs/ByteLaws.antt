@@ -1,14 +1,14 @@
 -- Laws of rules 1 to 4: which rule a line breaks follows from its run of allowed bytes and the byte that ends the run.
 -- Assumes nothing.
 use mathlib.Core.Path.{_≡_, refl, sym, _∙_, ap, subst}
-use mathlib.Core.Bool.{Bool, true, false, not, true≢false}
+use mathlib.Core.Bool.{true, false, true≢false}
 use mathlib.Core.List.{List, [], _∷_, _++_}
 use Prim.Native.Nat.{ℕ, zero, suc, _+_, _-_, _≤_, _<_, zero-le, suc-le-suc}
-use native.Mathlib.Nat.{not-suc-le-zero, add-assoc, le-of-lt}
+use native.Mathlib.Nat.{add-assoc, le-of-lt}
 use native.Mathlib.Numerals.{add-one}
 use native.Mathlib.Omega.{arith}
 use lib.ListN.{length, take, drop, getD, length-drop, length-append, drop-of-length-le}
-use lib.Seq.{getD-drop, getD-take, length-take-le, take-suc, take-all, getD-append-seam}
+use lib.Seq.{getD-drop, getD-take, length-take-le, take-suc, getD-append-seam}
 use lib.Dec.{ltb, eqb}
 use borrow.Author.Tests.{eqb-true, eqb-false, eq-eqb, ne-eqb, lt-ltb, le-ltb, ltb-true, ltb-false, not-false}
 use borrow.Author.Count.{below-more}
@@ -16,15 +16,16 @@ use Rattle.base.specs.If.{if_then_else_, both, either}
 use Rattle.base.specs.Bytes.{lineFeed, carriageReturn, within, isPrinted, isBefore}
 use Rattle.base.specs.Runs.{run, all}
 use Rattle.base.specs.Way.Class.{runEnd}
-use Rattle.base.specs.Broken.{_when_, first, firstBroken}
+use Rattle.base.specs.Broken.{firstBroken}
+use Rattle.base.specs.Refusal as refusal
 use Rattle.base.proofs.IfLaws.{if-true, if-false, by-test, by-cases, both-true, both-not-left, both-not-right, both-rest, both-first, both-second, not-via, not-not-via}
-use Rattle.base.proofs.RunLaws.{run-stop, run-nil, run-goes, run-stops, run-le, run-all, run-end, run-is, run-wider, run-take, all-nil, all-cons, all-run, run-whole, run-short, all-take, run-append}
-use Rattle.base.proofs.BrokenLaws.{first-broken, first-kept, firsts}
+use Rattle.base.proofs.RunLaws.{run-stop, run-le, run-all, run-end, run-is, run-wider, run-take, all-nil, all-cons, run-short, all-take, run-append}
+use Rattle.base.proofs.BrokenLaws.{first-broken, first-kept}
 use Rattle.lex_line.specs.Lines.{Raw, lines}
 use Rattle.lex_line.specs.Way.LineEnds.{lineAt, terminatorAt}
 use Rattle.lex_line.specs.declared.Checked.{Checked}
 use Rattle.lex_line.specs.declared.Checked.the-variants.{Fine, Refused}
-use Rattle.lex_line.specs.ByteRules.{mostBytes, mostCharacters, withoutReturn, characters, rawLineRule, refusedOr, linesRule, byteRules}
+use Rattle.lex_line.specs.ByteRules.{mostBytes, mostCharacters, withoutReturn, characters, rawLineRule, refusedOr, linesRule, sizeRules, byteRules}
 use Rattle.lex_line.specs.Way.Resumes.{ResumesAfterLine}
 use Rattle.lex_line.proofs.LineLaws.{firstOf, lines-at, next-on, next-within, next-ended}
 
@@ -285,16 +286,16 @@ module _ (t : List ℕ) (at : ℕ) (h : at < length t) where
       }
 
 module _ (l : Raw) where
-  rule-bad : all isPrinted (characters l) ≡ false → rawLineRule l ≡ 2
+  rule-bad : all isPrinted (characters l) ≡ false → rawLineRule l ≡ refusal.byte
   unfolding rawLineRule
   rule-bad e = first-broken _ _ _ (not-via e)
 
   module _ (good : all isPrinted (characters l) ≡ true) where
-    rule-long : mostCharacters < length (characters l) → rawLineRule l ≡ 3
+    rule-long : mostCharacters < length (characters l) → rawLineRule l ≡ refusal.long
     unfolding rawLineRule
     rule-long h = first-kept _ _ _ _ (not-not-via good) (first-broken _ _ _ (lt-ltb _ _ h))
 
-    rule-unended : length (characters l) ≤ mostCharacters → l .ended ≡ false → rawLineRule l ≡ 4
+    rule-unended : length (characters l) ≤ mostCharacters → l .ended ≡ false → rawLineRule l ≡ refusal.unended
     unfolding rawLineRule
     rule-unended h e = first-kept _ _ _ _ (not-not-via good) (first-kept _ _ _ _ (le-ltb _ _ h) (first-broken _ _ _ (not-via e)))
 
@@ -342,9 +343,9 @@ module _ (t : List ℕ) (at stop terminator : ℕ) (h : at < length t) (run-is-s
       let p : suc (run (isBefore lineFeed) lineOf) ≡ stopOf lineOf + terminator = r .past in
       next-ended lineFeed t at h (r .ended ∙ lt-ltb _ _ w) ∙ omega arith
 
-  pub line-bad-byte : terminator ≡ 0 → stop < length t → ResumesAfterLine t at 2 (stop + terminator)
+  pub line-bad-byte : terminator ≡ 0 → stop < length t → ResumesAfterLine t at refusal.byte (stop + terminator)
   line-bad-byte e g =
-      judges t at h 2 (stop + terminator) (rule-bad (firstOf lineOf) (from terminator view e)) (λ (z : 2 ≡ 0). absurd (omega arith)) (omega arith)
+      judges t at h refusal.byte (stop + terminator) (rule-bad (firstOf lineOf) (from terminator view e)) (λ (z : refusal.byte ≡ 0). absurd (omega arith)) (omega arith)
     where
       l : length (drop at t) ≡ length t - at
       l = length-drop at t
@@ -365,26 +366,26 @@ module _ (t : List ℕ) (at stop terminator : ℕ) (h : at < length t) (run-is-s
         let k : length lineOf ≤ stopOf lineOf = omega arith in
         unended lineOf k
 
-    pub last-long : mostCharacters < stop - at → ResumesAfterLine t at 3 (stop + terminator)
+    pub last-long : mostCharacters < stop - at → ResumesAfterLine t at refusal.long (stop + terminator)
     last-long k =
         let c : length (characters (firstOf lineOf)) ≡ stopOf lineOf = whole .count in
         let w : stop ≤ length t = stop-within in
-        judges t at h 3 (stop + terminator) (rule-long (firstOf lineOf) (whole .good) (omega arith)) (λ (z : 3 ≡ 0). absurd (omega arith)) (omega arith)
+        judges t at h refusal.long (stop + terminator) (rule-long (firstOf lineOf) (whole .good) (omega arith)) (λ (z : refusal.long ≡ 0). absurd (omega arith)) (omega arith)
 
-    pub last-unended : stop - at ≤ mostCharacters → ResumesAfterLine t at 4 (stop + terminator)
+    pub last-unended : stop - at ≤ mostCharacters → ResumesAfterLine t at refusal.unended (stop + terminator)
     last-unended k =
         let c : length (characters (firstOf lineOf)) ≡ stopOf lineOf = whole .count in
         let w : stop ≤ length t = stop-within in
-        judges t at h 4 (stop + terminator) (rule-unended (firstOf lineOf) (whole .good) (omega arith) (whole .ended)) (λ (z : 4 ≡ 0). absurd (omega arith)) (omega arith)
+        judges t at h refusal.unended (stop + terminator) (rule-unended (firstOf lineOf) (whole .good) (omega arith) (whole .ended)) (λ (z : refusal.unended ≡ 0). absurd (omega arith)) (omega arith)
 
   module _ (e : terminator ≡ 0 → ⊥) where
     right-within : stop + terminator ≤ length t
     right-within = subst (λ (j : ℕ). j ≤ length t) (next-right e) (next-within lineFeed t at h)
 
-    pub line-long : mostCharacters < stop - at → ResumesAfterLine t at 3 (stop + terminator)
+    pub line-long : mostCharacters < stop - at → ResumesAfterLine t at refusal.long (stop + terminator)
     line-long k =
         let c : length (characters (firstOf lineOf)) ≡ stopOf lineOf = right e .count in
-        judges t at h 3 (stop + terminator) (rule-long (firstOf lineOf) (right e .good) (omega arith)) (λ (z : 3 ≡ 0). absurd (omega arith)) right-within
+        judges t at h refusal.long (stop + terminator) (rule-long (firstOf lineOf) (right e .good) (omega arith)) (λ (z : refusal.long ≡ 0). absurd (omega arith)) right-within
 
     pub line-fine : stop - at ≤ mostCharacters → ResumesAfterLine t at 0 (stop + terminator)
     line-fine k =
@@ -430,10 +431,15 @@ module _ (t : List ℕ) (at n : ℕ) (answer : Checked) (inv : linesRule n (line
     unfolding refusedOr
     check-on e = sym (if-true _ _ (eq-eqb _ _ e)) ∙ sym (j .same n) ∙ inv
 
-pub size-refused : (t : List ℕ) → mostBytes < length t → Refused 1 0 ≡ byteRules t
+-- the result of all rules, from that of rule 1
+size-gives : (t : List ℕ) (k : ℕ) → firstBroken (sizeRules t) ≡ k → refusedOr k 0 (linesRule 1 (lines t)) ≡ byteRules t
 unfolding byteRules
-size-refused t h = sym (if-true _ _ (lt-ltb _ _ h))
+size-gives t k e = ap (λ (j : ℕ). refusedOr j 0 (linesRule 1 (lines t))) (sym e)
+
+pub size-refused : (t : List ℕ) → mostBytes < length t → Refused refusal.size 0 ≡ byteRules t
+unfolding refusedOr if_then_else_
+size-refused t h = size-gives t refusal.size (first-broken _ _ _ (lt-ltb _ _ h))
 
 pub size-fine : (t : List ℕ) → length t ≤ mostBytes → linesRule 1 (lines (drop 0 t)) ≡ byteRules t
-unfolding byteRules
-size-fine t h = sym (if-false _ _ (le-ltb _ _ h))
+unfolding refusedOr if_then_else_
+size-fine t h = size-gives t 0 (first-kept _ _ _ _ (le-ltb _ _ h) refl)

@@ -2,15 +2,15 @@
 -- Assumes nothing.
 use mathlib.Core.Path.{_≡_, refl, sym, _∙_, ap}
 use mathlib.Core.Bool.{Bool, true, false, not}
-use mathlib.Core.List.{List, [], _∷_, _++_}
-use Prim.Native.Nat.{ℕ, zero, suc, _+_, _-_, _≤_, _<_, zero-le, suc-le-suc}
+use mathlib.Core.List.{List, [], _∷_}
+use Prim.Native.Nat.{ℕ, suc, _+_, _-_, _≤_, _<_, zero-le, suc-le-suc}
 use native.Mathlib.Nat.{not-suc-le-zero}
 use native.Mathlib.Omega.{arith}
 use lib.ListN.{length, take, drop, getD, length-drop, drop-of-length-le, List·getD-eq-default}
 use lib.Seq.{drop-drop, take-take}
 use lib.Dec.{ltb, eqb, leb·suc-suc}
 use borrow.Author.Tests.{not-true, ne-eqb, lt-ltb, le-ltb, ltb-true, ltb-false}
-use Rattle.base.specs.If.{if_then_else_, both}
+use Rattle.base.specs.If.{if_then_else_}
 use Rattle.base.specs.Bytes.{lineFeed, isBefore, isContent}
 use Rattle.base.specs.Runs.{run}
 use Rattle.base.specs.Way.Class.{runEnd}
@@ -18,7 +18,6 @@ use Rattle.base.proofs.IfLaws.{if-true, if-false, by-cases, both-first, both-se
 use Rattle.base.proofs.RunLaws.{run-nil, run-goes, run-stops, run-on, run-stop, run-past, run-le, run-through, run-wider, run-take}
 use Rattle.lex_line.specs.Lines.{Raw, pushed, lines, contentOf}
 use Rattle.lex_line.specs.Way.LineEnds.{pastFeed, lineAt}
-use Rattle.lex_line.specs.declared.Line.{Line}
 
 pub content-before-feed : (comment b : ℕ) → isContent comment b ≡ true → isBefore lineFeed b ≡ true
 unfolding isContent

@@ -12,13 +12,8 @@ use lib.Dec.{eqb}
 use borrow.Author.Tests.{not-true, not-false, eq-eqb}
 use Rattle.base.specs.If.{both}
 use Rattle.base.specs.Runs.{same}
-use Rattle.base.proofs.IfLaws.{both-rest, by-cases}
+use Rattle.base.proofs.IfLaws.{both-rest, by-cases, both-assoc}
 use Rattle.base.proofs.RunLaws.{same-equal}
-
-both-assoc : (a b c : Bool) → both (both a b) c ≡ both a (both b c)
-unfolding both
-both-assoc true b c = refl
-both-assoc false b c = refl
 
 both-last : (a : Bool) → a ≡ both a true
 unfolding both

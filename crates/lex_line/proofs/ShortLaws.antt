@@ -13,7 +13,7 @@ use lib.ListN.{length, take, drop, getD, length-drop}
 use lib.Seq.{drop-cons, drop-drop, take-suc, getD-drop, take-all}
 use lib.Dec.{eqb}
 use borrow.Author.Tests.{ne-eqb, eqb-true, eqb-false, not-false}
-use Rattle.base.specs.If.{if_then_else_, both, either}
+use Rattle.base.specs.If.{if_then_else_, both}
 use Rattle.base.specs.Runs.{run, all}
 use Rattle.base.specs.Way.Class.{runEnd}
 use Rattle.base.specs.Bytes.{isPrinted, isBefore}
@@ -27,7 +27,7 @@ use Rattle.lex_line.specs.declared.Checked.the-variants.{Refused}
 use Rattle.lex_line.specs.Way.LineFeeds.{lineFeedOf, lineFeeds, isLineByte, ResumesLines}
 use Rattle.lex_line.proofs.WordLaws.{back-zero, back-grows, back-ends}
 use Rattle.lex_line.proofs.ByteLaws.{is-feed, not-feed, feed-not-printed, terminator-feed, line-fine, check-on, check-stop, size-fine}
-use Rattle.lex_line.proofs.FeedLaws.{feed-one, feed-none, feeds-none, feeds-more, feeds-told}
+use Rattle.lex_line.proofs.FeedLaws.{feed-one, feed-none, feeds-none, feeds-more}
 
 usual-printed : (b : ℕ) → isLineByte b ≡ true → (b ≡ 10 → ⊥) → isPrinted b ≡ true
 unfolding isLineByte
@@ -221,12 +221,6 @@ module _ (u : List ℕ) (line : ℕ) where
   pub running-passes : (count mark here : ℕ) → Running count mark here →
       (mark ≤ length u) × ResumesLines u 0 line (mark - backRun (isBefore 10) u mark) count
   running-passes count mark here r = ending-passes count mark (r .ending)
-
-  pub running-bounds : (count mark here : ℕ) → Running count mark here → (here ≤ length u) × (count ≤ line + here)
-  running-bounds count mark here r =
-      let c : count ≤ line + (here - r .back) = r .amid .counted in
-      let l : r .back ≤ here = r .amid .low in
-      (r .amid .inside, omega arith)
 
   module _ (count mark here : ℕ) (r : Running count mark here) (room : 16 ≤ length u - here) (most : ℕ) (small : most ≤ 80)
       (apart : here - mark ≤ most) (usual : Bool) (told : usual ≡ all isLineByte (take 16 (drop here u))) (t : not usual ≡ false) (ends : ℕ)

@@ -3,8 +3,8 @@
 use mathlib.Core.Path.{_≡_, refl, sym, _∙_, ap}
 use mathlib.Core.Bool.{Bool, true, false, not}
 use mathlib.Core.List.{List, [], _∷_, map, reverse, reverse-append}
-use Prim.Native.Nat.{ℕ, zero, suc, _+_, _-_, _≤_, _<_, min, zero-le}
-use native.Mathlib.Nat.{not-suc-le-zero, add-zero, add-suc, suc-add, add-assoc}
+use Prim.Native.Nat.{ℕ, suc, _+_, _-_, _≤_, _<_, min, zero-le}
+use native.Mathlib.Nat.{not-suc-le-zero, add-zero, add-suc, suc-add}
 use native.Mathlib.Numerals.{add-one}
 use native.Mathlib.Omega.{arith}
 use lib.ListN.{length, take, drop, getD, length-drop, drop-of-length-le}
@@ -171,7 +171,7 @@ first-after s from =
     by-cases _ (ltb (wordSpan s from .start) (length s)) (λ (e : ltb (wordSpan s from .start) (length s) ≡ true). ap firstOf (after-at s from (ltb-true _ _ e)))
     (λ (e : ltb (wordSpan s from .start) (length s) ≡ false). ap firstOf (after-none s from (ltb-false _ _ e)) ∙ sym (part-none s from (ltb-false _ _ e)))
 
-start-on : (s : List ℕ) (from : ℕ) → from ≤ wordSpan s from .start
+pub start-on : (s : List ℕ) (from : ℕ) → from ≤ wordSpan s from .start
 unfolding wordSpan
 start-on s from = omega arith
 
@@ -229,11 +229,6 @@ module _ (s : List ℕ) (few : FirstTwo) (told : few ≡ firstTwoOf s) where
 
   pub second-marked : markedBy s (few .second) ≡ secondOf (words s)
   second-marked = rw told (few-second s)
-
--- the count of words is at most 3
-pub few-most : (s : List ℕ) → firstTwoOf s .count ≤ 3
-unfolding firstTwoOf
-few-most s = omega arith
 
 -- the count of words, by the first position at which no word is left
 module _ (s : List ℕ) (first second : Span) (third : ℕ) (one : first ≡ wordSpan s 0) (two : second ≡ wordSpan s (first .end)) (three : third ≡ runEnd isBlank s (second .end)) where

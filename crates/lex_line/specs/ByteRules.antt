@@ -8,7 +8,8 @@ use lib.Dec.{ltb, eqb}
 use Rattle.base.specs.If.{if_then_else_}
 use Rattle.base.specs.Bytes.{carriageReturn, isPrinted}
 use Rattle.base.specs.Runs.{all}
-use Rattle.base.specs.Broken.{_when_, firstBroken}
+use Rattle.base.specs.Broken.{Rule, _when_, firstBroken}
+use Rattle.base.specs.Refusal as refusal
 use Rattle.lex_line.specs.Lines.{Raw, lines}
 use Rattle.lex_line.specs.declared.Checked.{Checked}
 use Rattle.lex_line.specs.declared.Checked.the-variants.{Fine, Refused}
@@ -31,11 +32,16 @@ withoutReturn (b ∷ c ∷ s) = b ∷ withoutReturn (c ∷ s)
 unfoldable pub characters : Raw → List ℕ
 characters l = if l .ended then withoutReturn (l .bytes) else l .bytes
 
--- 2 for a byte that no line may contain, 3 for a long line, 4 for a last line without LF
+-- a byte that no line may contain, a long line, a last line without LF
+abbrev pub characterRules : Raw → List Rule
+characterRules l =
+    refusal.byte when not (all isPrinted (characters l))
+    ∷ refusal.long when ltb mostCharacters (length (characters l))
+    ∷ refusal.unended when not (l .ended)
+    ∷ []
+
 unfoldable pub rawLineRule : Raw → ℕ
-rawLineRule l =
-    firstBroken
-    (2 when not (all isPrinted (characters l)) ∷ 3 when ltb mostCharacters (length (characters l)) ∷ 4 when not (l .ended) ∷ [])
+rawLineRule l = firstBroken (characterRules l)
 
 -- refused with rule k at line n; if k is 0, the result of the later lines
 unfoldable pub refusedOr : ℕ → ℕ → Checked → Checked
@@ -46,6 +52,9 @@ unfoldable pub linesRule : ℕ → List Raw → Checked
 linesRule n [] = Fine
 linesRule n (l ∷ ls) = refusedOr (rawLineRule l) n (linesRule (n + 1) ls)
 
+abbrev pub sizeRules : List ℕ → List Rule
+sizeRules t = refusal.size when ltb mostBytes (length t) ∷ []
+
 -- rules 1 to 4: 1 first, at line 0
 unfoldable pub byteRules : List ℕ → Checked
-byteRules t = if ltb mostBytes (length t) then Refused 1 0 else linesRule 1 (lines t)
+byteRules t = refusedOr (firstBroken (sizeRules t)) 0 (linesRule 1 (lines t))

@@ -2,8 +2,8 @@
 ghost use mathlib.Core.Path.{_≡_};
 ghost use mathlib.Core.Bool.{true, false};
 ghost use Prim.Native.Nat.{_+_, _-_, _<_, _≤_};
-ghost use lib.ListN.{length, take, drop};
-ghost use Rattle.base.specs.Runs.{same, all};
+ghost use lib.ListN.{length};
+ghost use Rattle.base.specs.Runs.{same};
 ghost use Rattle.lex_line.specs.Way.LineEnds.{lineAt, terminatorAt};
 ghost use Rattle.base.specs.Way.Class.{inClass, runEnd};
 ghost use Rattle.base.specs.Bytes.{isBefore, isContent};
@@ -11,16 +11,9 @@ ghost use Rattle.lex_line.specs.Words.{backRun, words, firstOf, toEquals
 ghost use Rattle.lex_line.specs.Way.Spans.{wordSpan, lastWord, firstTwoOf, markedBy};
 ghost use Rattle.lex_line.specs.ByteRules.{byteRules};
 ghost use Rattle.lex_line.specs.Way.Resumes.{ResumesAfterLine};
-ghost use Rattle.lex_line.specs.Way.LineFeeds.{lineFeedOf, lineFeeds, isLineByte, ResumesLines};
-ghost use Rattle.base.specs.If.{if_then_else_};
-ghost use lib.Dec.{eqb};
 use base::Class;
 
-// How many bytes are tested together, of names and of lines.
-const BLOCK: usize = 16;
-
-// How many bytes of a line are read as one number.
-const EIGHT: usize = 8;
+pub mod fast;
 
 // "From `|` on, a line is comment".
 const BAR: u8 = 124;
@@ -32,9 +25,6 @@ const CARRIAGE_RETURN: u8 = 13;
 const MOST_BYTES: usize = 1048576;
 
 const MOST_CHARACTERS: usize = 120;
-
-// How many bytes a short line has at most.
-const SHORT: usize = 64;
 
 // A line: where its content ends, and where the next line starts.
 pub struct Line {
@@ -59,37 +49,6 @@ pub struct FirstTwo {
 pub enum Checked {
     Fine,
     Refused(u64, u64),
-}
-
-// How many of eight bytes, counted from the first, are surely content. The bytes are read as one number. In each byte,
-// the low seven bits plus 0x72 set the eighth bit from 14 on; plus 0x04 they set it from `|` on. A byte between the two
-// is content. Any other byte may or may not be.
-fn content_of_eight(text: &[u8], at: usize) -> usize
-    requires { ⌜ at + 8 ≤ length (now text) ⌝ }
-    ensures { λ r. ⌜ (r ≤ 8) × (all (isContent 124) (take r (drop at (now (text .entry)))) ≡ true) ⌝ }
-{
-    let low = base::eight_at(text, at) & 0x7f7f_7f7f_7f7f_7f7f;
-    let least = (low + 0x7272_7272_7272_7272) & 0x8080_8080_8080_8080;
-    let beyond = (low + 0x0404_0404_0404_0404) & 0x8080_8080_8080_8080;
-    let doubt = (0x8080_8080_8080_8080 - least) | beyond;
-    (u64::trailing_zeros(doubt) / 8) as usize
-}
-
-// Skips bytes that are surely content. Returns a position inside the content that starts at `from`, near its end: the
-// first byte that still has to be tested.
-fn skip_content(text: &[u8], from: usize) -> usize
-    requires { ⌜ from ≤ length (now text) ⌝ }
-    ensures { λ r. ⌜ runEnd (isContent 124) (now (text .entry)) r ≡ runEnd (isContent 124) (now (text .entry)) from ⌝ }
-{
-    let mut i = from;
-    while EIGHT <= text.len() - i {
-        let sure = content_of_eight(text, i);
-        if sure < EIGHT {
-            return i + sure;
-        }
-        i += EIGHT;
-    }
-    i
 }
 
 // Where the content that starts at `from` ends, found byte by byte.
@@ -119,7 +78,7 @@ fn past_content(text: &[u8], at: usize, comment: u8) -> usize
     if comment != BAR {
         return past_rest(text, at, comment);
     }
-    past_rest(text, skip_content(text, at), BAR)
+    past_rest(text, fast::skip_content(text, at), BAR)
 }
 
 // The position of the first LF at or after `from`, or the end of the text if there is none. The next byte is tested
@@ -136,7 +95,7 @@ fn feed_from(text: &[u8], from: usize) -> usize
     if base::byte_at(text, from + 1) == LINE_FEED {
         return from + 1;
     }
-    base::skip_far(Class::Before(LINE_FEED), text, from)
+    base::fast::skip_far(Class::Before(LINE_FEED), text, from)
 }
 
 // The line that starts at `at` and whose content ends at `content`.
@@ -207,60 +166,6 @@ pub fn last_word(s: &[u8]) -> Span
     }
 }
 
-// Whether two words have the same sixteen bytes from `from` on. The loop compares every byte, without an early exit, so
-// that a processor can compare them at once.
-fn same_block(a: &[u8], b: &[u8], from: usize) -> bool
-    requires { ⌜ (from + 16 ≤ length (now a)) × (length (now a) ≡ length (now b)) ⌝ }
-    ensures { λ r. ⌜ r ≡ same (take 16 (drop from (now (a .entry)))) (take 16 (drop from (now (b .entry)))) ⌝ }
-{
-    let end = from + BLOCK;
-    let mut whole = true;
-    let mut i = from;
-    while i < end {
-        whole = base::and(whole, a[i] == b[i]);
-        i += 1;
-    }
-    whole
-}
-
-// Compares two words of one length by blocks of sixteen bytes. Returns a position before which their bytes are the
-// same: the start of the first block that differs, or the end of the last whole block.
-fn same_blocks(a: &[u8], b: &[u8]) -> usize
-    requires { ⌜ length (now a) ≡ length (now b) ⌝ }
-    ensures { λ r. ⌜ (r ≤ length (now (a .entry))) × (same (drop r (now (a .entry))) (drop r (now (b .entry))) ≡ same (now (a .entry)) (now (b .entry))) ⌝ }
-{
-    if a.len() < BLOCK {
-        return 0;
-    }
-    let last = a.len() - BLOCK;
-    let mut i = 0;
-    while i <= last {
-        if !same_block(a, b, i) {
-            return i;
-        }
-        i += BLOCK;
-    }
-    i
-}
-
-// Whether two words of one length differ in one of their last three bytes. Numbered names, such as A101 and A102, do.
-fn has_other_end(a: &[u8], b: &[u8]) -> bool
-    requires { ⌜ length (now a) ≡ length (now b) ⌝ }
-    ensures { λ r. ⌜ (r ≡ true → same (now (a .entry)) (now (b .entry)) ≡ false) ⌝ }
-{
-    if a.len() < 3 {
-        return false;
-    }
-    let last = a.len() - 1;
-    if a[last] != b[last] {
-        return true;
-    }
-    if a[last - 1] != b[last - 1] {
-        return true;
-    }
-    a[last - 2] != b[last - 2]
-}
-
 // Whether two words have the same bytes.
 pub fn same_bytes(a: &[u8], b: &[u8]) -> bool
     ensures { λ r. ⌜ r ≡ same (now (a .entry)) (now (b .entry)) ⌝ }
@@ -268,10 +173,10 @@ pub fn same_bytes(a: &[u8], b: &[u8]) -> bool
     if a.len() != b.len() {
         return false;
     }
-    if has_other_end(a, b) {
+    if fast::has_other_end(a, b) {
         return false;
     }
-    let mut i = same_blocks(a, b);
+    let mut i = fast::same_blocks(a, b);
     while i < a.len() {
         if a[i] != b[i] {
             return false;
@@ -318,154 +223,35 @@ fn line_check(text: &[u8], at: usize) -> LineCheck
             next: at + 1,
         };
     }
-    let stop = base::skip_far(Class::Printed, text, at);
+    let stop = base::fast::skip_far(Class::Printed, text, at);
     let terminator = terminator_at(text, stop);
     let next = stop + terminator;
     let characters = stop - at;
     if terminator == 0 {
         if stop < text.len() {
-            return LineCheck { rule: 2, next };
+            return LineCheck {
+                rule: base::refusal::BYTE,
+                next,
+            };
         }
         if MOST_CHARACTERS < characters {
-            return LineCheck { rule: 3, next };
+            return LineCheck {
+                rule: base::refusal::LONG,
+                next,
+            };
         }
-        return LineCheck { rule: 4, next };
+        return LineCheck {
+            rule: base::refusal::UNENDED,
+            next,
+        };
     }
     if MOST_CHARACTERS < characters {
-        return LineCheck { rule: 3, next };
+        return LineCheck {
+            rule: base::refusal::LONG,
+            next,
+        };
     }
     LineCheck { rule: 0, next }
-}
-
-// ---- rules 2 to 4 for many short lines at once
-
-// 1 for an LF, 0 for any other byte.
-pub fn line_feed_of(b: u8) -> u8
-    ensures { λ r. ⌜ r ≡ lineFeedOf b ⌝ }
-{
-    if b == LINE_FEED {
-        return 1;
-    }
-    0
-}
-
-// How many of sixteen bytes are LFs. The loop tests every byte, so that a processor can test them at once.
-pub fn line_feeds_in(text: &[u8], from: usize) -> u8
-    requires { ⌜ from + 16 ≤ length (now text) ⌝ }
-    ensures { λ r. ⌜ r ≡ lineFeeds (take 16 (drop from (now (text .entry)))) ⌝ }
-{
-    let end = from + BLOCK;
-    let mut count = 0;
-    let mut i = from;
-    while i < end {
-        count += line_feed_of(text[i]);
-        i += 1;
-    }
-    count
-}
-
-// A byte that a line may contain, or an LF.
-fn is_line_byte(b: u8) -> bool
-    ensures { λ r. ⌜ r ≡ isLineByte b ⌝ }
-{
-    if b == LINE_FEED {
-        return true;
-    }
-    base::in_class(Class::Printed, b)
-}
-
-// Whether sixteen bytes are all line bytes. Again the loop tests every byte.
-fn are_line_bytes(text: &[u8], from: usize) -> bool
-    requires { ⌜ from + 16 ≤ length (now text) ⌝ }
-    ensures { λ r. ⌜ r ≡ all isLineByte (take 16 (drop from (now (text .entry)))) ⌝ }
-{
-    let end = from + BLOCK;
-    let mut whole = true;
-    let mut i = from;
-    while i < end {
-        whole = base::and(whole, is_line_byte(text[i]));
-        i += 1;
-    }
-    whole
-}
-
-// How far lines have been skipped: the position, and the number of the line there.
-struct Past {
-    at: usize,
-    line: u64,
-}
-
-// Where the last block with an LF ends: at `here` if the block just tested, which ends there, has one; else at `mark`.
-fn last_end(mark: usize, here: usize, ends: u8) -> usize
-    ensures { λ r. ⌜ r ≡ (if eqb ends 0 then mark else here) ⌝ }
-{
-    if ends == 0 {
-        return mark;
-    }
-    here
-}
-
-// Skips blocks of sixteen line bytes, and returns the end of the last block with an LF. So at most fifteen bytes of the
-// next line are skipped. Stops at a block with any other byte, or once more than `most` bytes have no LF. As `most` is
-// at most 80, no line that is skipped whole has over 120 characters.
-fn past_ends(text: &[u8], line: u64, most: usize) -> Past
-    requires { ⌜ (line + length (now text) ≤ 2_097_152) × (most ≤ 80) ⌝ }
-    ensures { λ r. ⌜ (r .at ≤ length (now (text .entry)))
-        × ResumesLines (now (text .entry)) 0 line (r .at - backRun (isBefore 10) (now (text .entry)) (r .at)) (r .line) ⌝ }
-{
-    let mut here = 0;
-    let mut mark = 0;
-    let mut count = line;
-    while BLOCK <= text.len() - here {
-        if !are_line_bytes(text, here) {
-            return Past {
-                at: mark,
-                line: count,
-            };
-        }
-        let ends = line_feeds_in(text, here);
-        count += ends as u64;
-        here += BLOCK;
-        mark = last_end(mark, here, ends);
-        if most < here - mark {
-            return Past {
-                at: mark,
-                line: count,
-            };
-        }
-    }
-    Past {
-        at: mark,
-        line: count,
-    }
-}
-
-// Skips lines that break no rule. Returns the start of the first line that still has to be checked.
-fn past_short(text: &[u8], line: u64, most: usize) -> Past
-    requires { ⌜ (line + length (now text) ≤ 2_097_152) × (most ≤ 80) ⌝ }
-    ensures { λ r. ⌜ ResumesLines (now (text .entry)) 0 line (r .at) (r .line) ⌝ }
-{
-    let past = past_ends(text, line, most);
-    Past {
-        at: skip_back(Class::Before(LINE_FEED), text, past.at),
-        line: past.line,
-    }
-}
-
-// Skips more lines after a line of `size` bytes. After a short line there are often more of about its size; after any
-// other line nothing is skipped.
-fn past_more(text: &[u8], at: usize, line: u64, size: usize) -> Past
-    requires { ⌜ (at ≤ length (now text)) × (line ≤ at + 1) × (length (now text) ≤ 1_048_576) ⌝ }
-    ensures { λ r. ⌜ ResumesLines (now (text .entry)) at line (r .at) (r .line) ⌝ }
-{
-    if SHORT < size {
-        return Past { at, line };
-    }
-    let past = past_short(&text[at..], line, size + BLOCK);
-    Past {
-        at: at + past.at,
-        line: past.line,
-    }
 }
 
 // Rules 1 to 4 for a whole text.
@@ -473,7 +259,7 @@ pub fn check_bytes(text: &[u8]) -> Checked
     ensures { λ r. ⌜ r ≡ byteRules (now (text .entry)) ⌝ }
 {
     if MOST_BYTES < text.len() {
-        return Checked::Refused(1, 0);
+        return Checked::Refused(base::refusal::SIZE, 0);
     }
     let mut at = 0;
     let mut line = 1;
@@ -482,7 +268,7 @@ pub fn check_bytes(text: &[u8]) -> Checked
         if check.rule != 0 {
             return Checked::Refused(check.rule, line);
         }
-        let past = past_more(text, check.next, line + 1, check.next - at);
+        let past = fast::past_more(text, check.next, line + 1, check.next - at);
         at = past.at;
         line = past.line;
     }

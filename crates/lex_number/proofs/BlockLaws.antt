@@ -16,7 +16,7 @@ use Rattle.base.specs.Runs.{run, all}
 use Rattle.base.specs.Way.Joined.{Joins}
 use Rattle.base.proofs.IfLaws.{both-first, both-second}
 use Rattle.base.proofs.RunLaws.{all-cons, run-block}
-use Rattle.lex_number.specs.declared.Run.{Run}
+use Rattle.lex_number.specs.declared.fast.Run.{Run}
 use Rattle.lex_number.specs.Integer.{valueOf}
 use Rattle.lex_number.specs.Way.Capped.{exponentCap}
 use Rattle.lex_number.specs.Way.At.{runFrom, weight, RunRead}

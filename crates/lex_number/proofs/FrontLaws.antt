@@ -22,9 +22,9 @@ use Rattle.lex_number.specs.declared.Digits.{Digits}
 use Rattle.lex_number.specs.declared.Exponent.{Exponent}
 use Rattle.lex_number.specs.declared.Scale.{Scale}
 use Rattle.lex_number.specs.declared.Number.{Number}
-use Rattle.lex_number.specs.declared.Plain.{Plain}
-use Rattle.lex_number.specs.declared.Reading.{Reading}
-use Rattle.lex_number.specs.declared.Parts.{Parts}
+use Rattle.lex_number.specs.declared.fast.Plain.{Plain}
+use Rattle.lex_number.specs.declared.fast.Reading.{Reading}
+use Rattle.lex_number.specs.declared.fast.Parts.{Parts}
 use Rattle.lex_number.specs.Number.{isSign, isMinus, isPoint, isE, pastSign, noDigits, digitsGoOn, withByte, scan, exponentAt, exponentOf, powerIn, scaleBy, scaleOf, raised, lowered, valueAs, wellFormed, numberFrom, digitsOf, exponentFrom, numberOf}
 use Rattle.lex_number.specs.Way.In.{isSpelling}
 use Rattle.lex_number.specs.Way.At.{plainAt, readingAt, partsAt, DigitsRead, ExponentRead, PartsRead, Says}

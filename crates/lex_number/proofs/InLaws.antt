@@ -20,8 +20,8 @@ use Rattle.base.proofs.RunLaws.{run-on, run-stop}
 use Rattle.lex_number.specs.declared.Number.{Number}
 use Rattle.lex_number.specs.declared.Number.the-variants.{Malformed}
 use Rattle.lex_number.specs.declared.NumberAt.{NumberAt}
-use Rattle.lex_number.specs.declared.ShortNumber.{ShortNumber}
-use Rattle.lex_number.specs.declared.Parts.{Parts}
+use Rattle.lex_number.specs.declared.fast.ShortNumber.{ShortNumber}
+use Rattle.lex_number.specs.declared.fast.Parts.{Parts}
 use Rattle.lex_number.specs.declared.Scale.{Scale}
 use Rattle.lex_number.specs.Number.{isSign, scaleOf, numberOf}
 use Rattle.lex_number.specs.Way.At.{PartsRead, Says}

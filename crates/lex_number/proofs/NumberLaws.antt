@@ -5,7 +5,7 @@ use mathlib.Core.Path.{_≡_, refl, sym, _∙_, ap}
 use mathlib.Core.Bool.{Bool, true, false}
 use mathlib.Core.List.{List, [], _∷_}
 use mathlib.Core.Logic.{_⊎_, inl, inr, ⊎-elim}
-use Prim.Native.Nat.{ℕ, zero, suc, _+_, _-_, _*_, _%_, _^_, _≤_, _<_}
+use Prim.Native.Nat.{ℕ, zero, suc, _+_, _-_, _*_, _%_, _^_, _≤_}
 use native.Mathlib.Nat.{mul-one, mul-assoc, pow-zero, pow-suc, add-zero, add-suc}
 use native.Mathlib.Numerals.{add-one}
 use native.Mathlib.Omega.{arith}
@@ -23,7 +23,7 @@ use Rattle.lex_number.specs.Way.Capped.{raising}
 use Rattle.lex_number.proofs.CappedLaws.{scan-goes, scan-stops, scan-ends}
 use Rattle.lex_number.proofs.DigitLaws.{digit-to}
 use Rattle.lex_number.proofs.ValueLaws.{Stands, stands-told, value-zero, value-inside, value-outside}
-use Rattle.lex_number.proofs.WordLaws.{decode-build, word-zero, word-written, word-below}
+use Rattle.lex_number.proofs.WordLaws.{decode-build, word-zero, word-written}
 
 -- m is `size`: the digits write m with `zeros` zeros after it, and m is 0 or does not end in 0
 pub record Shaped (d : Digits) : Type 0 where
@@ -141,9 +141,6 @@ value-told s w e =
 -- the word of a number that is read is a value word
 pub number-word : (s : List ℕ) (w : ℕ) → numberOf s ≡ Value w → isValueWord w ≡ true
 number-word s w e = value-is-word _ _ _ _ w (digits-shaped s .trimmed) (value-told s w e)
-
-pub number-below : (s : List ℕ) (w : ℕ) → numberOf s ≡ Value w → w < 2 ^ 58
-number-below s w e = word-below w (number-word s w e)
 
 -- the value word of a number that is not zero contains its sign, its m and its k
 pub number-decimal : (s : List ℕ) (w : ℕ) → numberOf s ≡ Value w → (digitsOf s .size ≡ 0 → ⊥) → decimalOf w ≡ record { negative = isMinus (getD s 0 0); size = digitsOf s .size; shifted = raised (digitsOf s) (exponentFrom s (digitsOf s)) (scaleIn s) + 64 - lowered (digitsOf s) (exponentFrom s (digitsOf s)) (scaleIn s) }

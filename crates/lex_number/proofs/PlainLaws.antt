@@ -22,9 +22,9 @@ use Rattle.base.proofs.IfLaws.{if-true, if-false, by-cases, by-test, both-true,
 use Rattle.base.proofs.RunLaws.{run-goes, run-stops, run-nil, run-end-at, run-on, run-stop, run-past}
 use Rattle.lex_number.specs.declared.Digits.{Digits}
 use Rattle.lex_number.specs.declared.Exponent.{Exponent}
-use Rattle.lex_number.specs.declared.Plain.{Plain}
-use Rattle.lex_number.specs.declared.Run.{Run}
-use Rattle.lex_number.specs.declared.Reading.{Reading}
+use Rattle.lex_number.specs.declared.fast.Plain.{Plain}
+use Rattle.lex_number.specs.declared.fast.Run.{Run}
+use Rattle.lex_number.specs.declared.fast.Reading.{Reading}
 use Rattle.lex_number.specs.Number.{isE, isSign, isMinus, isPoint, pastSign, noDigits, digitsGoOn, withPoint, withDigit, withByte, scan, noExponent, exponentAt, exponentOf}
 use Rattle.lex_number.specs.Way.At.{runFrom, plainAt, noReading, readingAt, weight, RunRead, DigitsRead, ExponentRead}
 use Rattle.lex_number.specs.Way.Capped.{exponentCap}

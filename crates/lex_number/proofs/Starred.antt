@@ -6,7 +6,7 @@ use mathlib.Core.Bool.{false}
 use mathlib.Core.List.{List, [], _∷_, map}
 use Prim.Native.Nat.{ℕ, _+_, _-_}
 use Prim.Native.String.{String}
-use Rattle.base.specs.If.{if_then_else_, both, either}
+use Rattle.base.specs.If.{both, either, if_then_else_}
 use Rattle.base.specs.Bytes.{bytes, within, isDigit, isCapital, isSmall, isLetter}
 use Rattle.base.specs.Runs.{run, all}
 use Rattle.lex_number.specs.declared.Number.{Number}

@@ -17,7 +17,7 @@ use Rattle.lex_number.specs.declared.Digits.{Digits}
 use Rattle.lex_number.specs.declared.Scale.{Scale}
 use Rattle.lex_number.specs.declared.Number.{Number}
 use Rattle.lex_number.specs.declared.Number.the-variants.{Value}
-use Rattle.lex_number.specs.declared.Parts.{Parts}
+use Rattle.lex_number.specs.declared.fast.Parts.{Parts}
 use Rattle.lex_number.specs.ValueWord.{zeroWord}
 use Rattle.lex_number.specs.Number.{raised, lowered, valueAs}
 use Rattle.lex_number.specs.Way.Capped.{raising, lowering}

@@ -1,8 +1,8 @@
 -- Document 01, "The table": the value word, "256 times m's size, plus 2(k+64), plus 1 if negative". `shifted` is k + 64.
 -- Assumes nothing.
 use Prim.Native.Nat.{ℕ, _+_, _*_, _/_, _%_}
-use mathlib.Core.Bool.{Bool, true, false, not}
-use lib.Dec.{leb, eqb}
+use mathlib.Core.Bool.{Bool, not}
+use lib.Dec.{eqb}
 use Rattle.base.specs.If.{if_then_else_, both, either}
 use Rattle.base.specs.Bytes.{within}
 use Rattle.lex_number.specs.declared.Decimal.{Decimal}

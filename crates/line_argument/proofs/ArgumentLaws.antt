@@ -4,7 +4,6 @@
 use mathlib.Core.Path.{_≡_, sym, _∙_, ap}
 use mathlib.Core.Bool.{Bool, true, false, not}
 use mathlib.Core.List.{List}
-use Prim.Native.Char.{code}
 use Prim.Native.Nat.{ℕ, _+_, _-_, _≤_, _<_}
 use native.Mathlib.Nat.{zero-add}
 use native.Mathlib.Omega.{arith}
@@ -12,7 +11,6 @@ use lib.ListN.{length, take, drop, getD, length-drop, List·getD-eq-default}
 use lib.Seq.{take-all}
 use lib.Dec.{eqb, ltb}
 use borrow.Author.Tests.{eq-eqb, ne-eqb, le-leb, lt-leb, lt-ltb, le-ltb, ltb-true, ltb-false, not-true, not-false}
-use Rattle.base.specs.If.{both}
 use Rattle.base.specs.Bytes.{within, isFilled}
 use Rattle.base.specs.Way.Class.{runEnd}
 use Rattle.base.specs.Runs.{run, all}
@@ -22,6 +20,7 @@ use Rattle.lex_number.specs.Integer.{wholeOf}
 use Rattle.lex_number.proofs.AllLaws.{all-run}
 use Rattle.line_place.specs.Place.{isRowOrBandwidth}
 use Rattle.line_argument.specs.Argument.{isOneWord, isName, isReserved, isFileByte, isExtension, isFileName, isBadInteger}
+use Rattle.table_layout.specs.Bounds.{mostConductors, mostBandwidth}
 
 -- every byte passes exactly when the run from the front goes to the end
 all-told : (p : ℕ → Bool) (s : List ℕ) (end : ℕ) → end ≡ runEnd p s 0 → eqb end (length s) ≡ all p s
@@ -98,10 +97,10 @@ module _ (s : List ℕ) (period there : ℕ) (told : period ≡ runEnd isFileByt
 
 -- the integer that is read is that of the argument
 module _ (s : List ℕ) (whole : Whole) (told : whole ≡ wholeOf s) where
-  pub off-rows : (t : Bool) → t ≡ within 1 256 (whole .value) → not t ≡ not (within 1 256 (wholeOf s .value))
+  pub off-rows : (t : Bool) → t ≡ within 1 mostConductors (whole .value) → not t ≡ not (within 1 mostConductors (wholeOf s .value))
   off-rows t e = rw (e, told)
 
-  pub wide-band : ltb 255 (whole .value) ≡ ltb 255 (wholeOf s .value)
+  pub wide-band : ltb mostBandwidth (whole .value) ≡ ltb mostBandwidth (wholeOf s .value)
   wide-band = rw told
 
 -- 13 for a keyword line; t says whether the keyword takes an integer

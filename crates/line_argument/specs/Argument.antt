@@ -3,8 +3,8 @@
 -- Assumes nothing.
 use Prim.Native.Nat.{ℕ, _+_}
 use Prim.Native.Char.{code}
-use mathlib.Core.Bool.{Bool, true, false, not}
-use mathlib.Core.List.{List, [], _∷_}
+use mathlib.Core.Bool.{Bool, false, not}
+use mathlib.Core.List.{List}
 use lib.ListN.{length, drop, getD}
 use lib.Dec.{ltb, eqb}
 use Rattle.base.specs.If.{if_then_else_, both, either}
@@ -35,6 +35,8 @@ use Rattle.lex_keyword.specs.Names.{
   treePathDescription,
 }
 use Rattle.line_place.specs.Place.{opensMatrix, isRowOrBandwidth}
+use Rattle.table_layout.specs.Bounds.{mostConductors, mostBandwidth}
+use Rattle.table_layout.specs.Codes.{diagonal, banded, sparse, full, matrixForms, lumped, distributed, sectionMethods}
 
 -- "names .. never POWER, GND, NC or NA"
 unfoldable pub isReserved : List ℕ → Bool
@@ -63,17 +65,18 @@ isFileName s =
     both (ltb 0 (run isFileByte s))
     (both (eqb (getD s (run isFileByte s) 0) (code ".")) (isExtension (drop (run isFileByte s + 1) s)))
 
--- "Diagonal_matrix", "Banded_matrix", "Sparse_matrix", "Full_matrix", by their numbers in the table; 4 for another word
+-- "Diagonal_matrix", "Banded_matrix", "Sparse_matrix", "Full_matrix", by their numbers in the table; `matrixForms` for
+-- another word
 unfoldable pub formOf : List ℕ → ℕ
 formOf s =
-    if same s (bytes "Diagonal_matrix") then 0 else
-    if same s (bytes "Banded_matrix") then 1 else
-    if same s (bytes "Sparse_matrix") then 2 else
-    if same s (bytes "Full_matrix") then 3 else 4
+    if same s (bytes "Diagonal_matrix") then diagonal else
+    if same s (bytes "Banded_matrix") then banded else
+    if same s (bytes "Sparse_matrix") then sparse else
+    if same s (bytes "Full_matrix") then full else matrixForms
 
--- "[Derivation Method] Lumped or Distributed", by their numbers in the table; 2 for another word
+-- "[Derivation Method] Lumped or Distributed", by their numbers in the table; `sectionMethods` for another word
 unfoldable pub methodOf : List ℕ → ℕ
-methodOf s = if same s (bytes "Lumped") then 0 else if same s (bytes "Distributed") then 1 else 2
+methodOf s = if same s (bytes "Lumped") then lumped else if same s (bytes "Distributed") then distributed else sectionMethods
 
 -- the keywords that take no argument
 unfoldable pub takesNothing : ℕ → Bool
@@ -97,13 +100,13 @@ isBadForm k s =
     if eqb k icmVer then not (same s (bytes "1.1")) else
     if eqb k fileName then not (isFileName s) else
     if eqb k date then not (within 1 40 (length s)) else
-    if eqb k derivationMethod then eqb (methodOf s) 2 else false
+    if eqb k derivationMethod then eqb (methodOf s) sectionMethods else false
 
 -- "11 ARGUMENT: argument missing, surplus or not allowed". A keyword that opens a text block takes any text, even none
 unfoldable pub isBadArgument : ℕ → List ℕ → Bool
 isBadArgument k s =
     if isRowOrBandwidth k then not (isOneWord s) else
-    if opensMatrix k then eqb (formOf s) 4 else
+    if opensMatrix k then eqb (formOf s) matrixForms else
     if takesNothing k then ltb 0 (length s) else
     if takesName k then not (isName s) else
     if takesFreeText k then eqb (length s) 0 else isBadForm k s
@@ -115,5 +118,5 @@ isBadInteger k s = both (isRowOrBandwidth k) (not (wholeOf s .formed))
 -- 14 for a keyword line: "[Row] .. 1 to 256; B 0 to 255"
 unfoldable pub isOutOfBounds : ℕ → List ℕ → Bool
 isOutOfBounds k s =
-    if eqb k row then not (within 1 256 (wholeOf s .value)) else
-    if eqb k bandwidth then ltb 255 (wholeOf s .value) else false
+    if eqb k row then not (within 1 mostConductors (wholeOf s .value)) else
+    if eqb k bandwidth then ltb mostBandwidth (wholeOf s .value) else false

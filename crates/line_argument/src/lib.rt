@@ -127,36 +127,36 @@ fn is_date(s: &[u8]) -> bool
     s.len() <= 40
 }
 
-// The form of a matrix by its number in the table; 4 for any other word.
+// The form of a matrix by its number in the table; FORMS for any other word.
 pub fn form_of(s: &[u8]) -> u64
     ensures { λ r. ⌜ r ≡ formOf (now (s .entry)) ⌝ }
 {
     if lex_line::same_bytes(s, b"Diagonal_matrix") {
-        return 0;
+        return table_layout::code::DIAGONAL;
     }
     if lex_line::same_bytes(s, b"Banded_matrix") {
-        return 1;
+        return table_layout::code::BANDED;
     }
     if lex_line::same_bytes(s, b"Sparse_matrix") {
-        return 2;
+        return table_layout::code::SPARSE;
     }
     if lex_line::same_bytes(s, b"Full_matrix") {
-        return 3;
+        return table_layout::code::FULL;
     }
-    4
+    table_layout::code::FORMS
 }
 
-// "[Derivation Method] Lumped or Distributed", by its number in the table; 2 for any other word.
+// "[Derivation Method] Lumped or Distributed", by its number in the table; METHODS for any other word.
 pub fn method_of(s: &[u8]) -> u64
     ensures { λ r. ⌜ r ≡ methodOf (now (s .entry)) ⌝ }
 {
     if lex_line::same_bytes(s, b"Lumped") {
-        return 0;
+        return table_layout::code::LUMPED;
     }
     if lex_line::same_bytes(s, b"Distributed") {
-        return 1;
+        return table_layout::code::DISTRIBUTED;
     }
-    2
+    table_layout::code::METHODS
 }
 
 // The keywords that take no argument.
@@ -230,7 +230,7 @@ fn is_bad_form(key: u64, argument: &[u8]) -> bool
         return !is_date(argument);
     }
     if key == lex_keyword::DERIVATION_METHOD {
-        return method_of(argument) == 2;
+        return method_of(argument) == table_layout::code::METHODS;
     }
     false
 }
@@ -243,7 +243,7 @@ pub fn is_bad_argument(key: u64, argument: &[u8]) -> bool
         return !is_one_word(argument);
     }
     if line_place::opens_matrix(key) {
-        return form_of(argument) == 4;
+        return form_of(argument) == table_layout::code::FORMS;
     }
     if takes_nothing(key) {
         return 0 < argument.len();
@@ -274,11 +274,11 @@ pub fn is_out_of_bounds(key: u64, argument: &[u8]) -> bool
 {
     if key == lex_keyword::ROW {
         let whole = lex_number::read_integer(argument);
-        return !lex_number::is_within(1, 256, whole.value);
+        return !lex_number::is_within(1, table_layout::bound::CONDUCTORS, whole.value);
     }
     if key == lex_keyword::BANDWIDTH {
         let whole = lex_number::read_integer(argument);
-        return 255 < whole.value;
+        return table_layout::bound::BANDWIDTH < whole.value;
     }
     false
 }

@@ -27,6 +27,7 @@ use Rattle.lex_number.specs.declared.Number.{Number}
 use Rattle.lex_number.specs.declared.Whole.{Whole}
 use Rattle.line_head.specs.Head.{saysNothing, saysModelType, saysRatio, saysImpedance, modelTypeOf, wrongHeadLine, typeLine, toColon, ratioOf, sgrLine, impedanceLine, headLineOf}
 use Rattle.line_head.specs.declared.HeadLine.{HeadLine}
+use Rattle.table_layout.specs.Bounds.{mostRatio}
 
 -- ---- ICM_model_type
 
@@ -95,7 +96,7 @@ module _ (content : List ℕ) (few : FirstTwo) (told : few ≡ firstTwoOf conten
       unfolding sgrLine
       sgr-wrong r e h = h ∙ sym (if-false _ _ (both-not-right _ _ (sym rest-is ∙ not-true t e)))
 
-      pub sgr-right : (ratio : Whole) (inside : Bool) → not t ≡ false → ratio ≡ wholeOf (take colon w) → inside ≡ within 1 65_535 (ratio .value) → record { says = saysRatio; right = true; formed = ratio .formed; bounded = inside; kind = 0 } ≡ sgrLine (words content)
+      pub sgr-right : (ratio : Whole) (inside : Bool) → not t ≡ false → ratio ≡ wholeOf (take colon w) → inside ≡ within 1 mostRatio (ratio .value) → record { says = saysRatio; right = true; formed = ratio .formed; bounded = inside; kind = 0 } ≡ sgrLine (words content)
       unfolding sgrLine
       sgr-right ratio inside e k h =
           let f : ratio ≡ ratioOf (secondOf (words content)) = colon-ratio w colon at ratio k ∙ ap ratioOf word-is in

@@ -1,6 +1,6 @@
 -- Document 01, "Model": the lines of a model before its first keyword.
 -- Assumes nothing.
-use Prim.Native.Nat.{ℕ}
+use Prim.Native.Nat.{ℕ, _+_}
 use Prim.Native.Char.{code}
 use mathlib.Core.Bool.{Bool, true, false, not}
 use mathlib.Core.List.{List, [], _∷_}
@@ -9,13 +9,16 @@ use lib.Dec.{eqb}
 use Rattle.base.specs.If.{if_then_else_, both, either}
 use Rattle.base.specs.Bytes.{bytes, within, isBefore}
 use Rattle.base.specs.Runs.{run, same}
-use Rattle.base.specs.Broken.{_when_, firstBroken}
+use Rattle.base.specs.Broken.{Rule, _when_, firstBroken}
+use Rattle.base.specs.Refusal as refusal
 use Rattle.lex_line.specs.Words.{words, firstOf, secondOf, hasEquals, leftOf, rightOf}
 use Rattle.lex_number.specs.Number.{numberOf, isFormed, isBounded}
 use Rattle.lex_number.specs.Integer.{wholeOf}
 use Rattle.lex_number.specs.declared.Whole.{Whole}
 use Rattle.line_head.specs.declared.Head.{Head}
 use Rattle.line_head.specs.declared.HeadLine.{HeadLine}
+use Rattle.table_layout.specs.Bounds.{mostRatio}
+use Rattle.table_layout.specs.Codes.{slmGeneral, slmQuiescent, mlm}
 
 -- what a line of the head says: which of the three it is, or none
 abbrev pub saysNothing : ℕ
@@ -33,9 +36,9 @@ saysImpedance = 3
 -- "SLM_general, SLM_quiescent, MLM": the number in the table plus 1; 0 for any other word
 unfoldable pub modelTypeOf : List ℕ → ℕ
 modelTypeOf w =
-    if same w (bytes "SLM_general") then 1 else
-    if same w (bytes "SLM_quiescent") then 2 else
-    if same w (bytes "MLM") then 3 else 0
+    if same w (bytes "SLM_general") then slmGeneral + 1 else
+    if same w (bytes "SLM_quiescent") then slmQuiescent + 1 else
+    if same w (bytes "MLM") then mlm + 1 else 0
 
 -- a line that is known by its first word but has a wrong rest
 unfoldable pub wrongHeadLine : ℕ → HeadLine
@@ -59,7 +62,7 @@ ratioOf w = wholeOf (take (toColon w) w)
 unfoldable pub sgrLine : List (List ℕ) → HeadLine
 sgrLine ws =
     if both (eqb (length ws) 2) (same (drop (toColon (secondOf ws)) (secondOf ws)) (bytes ":1"))
-    then record { says = saysRatio; right = true; formed = ratioOf (secondOf ws) .formed; bounded = within 1 65_535 (ratioOf (secondOf ws) .value); kind = 0 }
+    then record { says = saysRatio; right = true; formed = ratioOf (secondOf ws) .formed; bounded = within 1 mostRatio (ratioOf (secondOf ws) .value); kind = 0 }
     else wrongHeadLine saysRatio
 
 -- "`Ref_impedance=` a number"
@@ -85,10 +88,16 @@ isHeadOutOfOrder l h =
     if eqb (l .says) saysImpedance then h .impedance else true
 
 -- "A line its place takes with a wrong rest is 11, repeated or out of order 12"; any other line is 12
+abbrev pub headRules : HeadLine → Head → List Rule
+headRules l h =
+    refusal.argument when not (l .right)
+    ∷ refusal.line when isHeadOutOfOrder l h
+    ∷ refusal.number when not (l .formed)
+    ∷ refusal.range when not (l .bounded)
+    ∷ []
+
 unfoldable pub headRule : HeadLine → Head → ℕ
-headRule l h =
-    firstBroken
-    (11 when not (l .right) ∷ 12 when isHeadOutOfOrder l h ∷ 13 when not (l .formed) ∷ 14 when not (l .bounded) ∷ [])
+headRule l h = firstBroken (headRules l h)
 
 unfoldable pub headNext : HeadLine → Head → Head
 headNext l h =
@@ -103,4 +112,4 @@ newHead = record { kind = 0; sgr = false; impedance = false }
 
 -- "required for SLM_general .. before the model's first keyword, where one lacking is 9"
 unfoldable pub headLacks : Head → Bool
-headLacks h = either (eqb (h .kind) 0) (both (eqb (h .kind) 1) (not (h .sgr)))
+headLacks h = either (eqb (h .kind) 0) (both (eqb (h .kind) (slmGeneral + 1)) (not (h .sgr)))

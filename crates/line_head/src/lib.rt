@@ -18,11 +18,11 @@ const RATIO: u64 = 2;
 const IMPEDANCE: u64 = 3;
 
 // The types of a model: the number in the table plus 1; 0 means no type.
-const SLM_GENERAL: u64 = 1;
+const SLM_GENERAL: u64 = table_layout::code::SLM_GENERAL + 1;
 
-const SLM_QUIESCENT: u64 = 2;
+const SLM_QUIESCENT: u64 = table_layout::code::SLM_QUIESCENT + 1;
 
-const MLM: u64 = 3;
+const MLM: u64 = table_layout::code::MLM + 1;
 
 // What the lines of a head have given so far: the type, and whether SGR and Ref_impedance have been read.
 pub struct Head {
@@ -111,7 +111,7 @@ fn sgr_line(content: &[u8], few: FirstTwo) -> HeadLine
         says: RATIO,
         right: true,
         formed: ratio.formed,
-        bounded: lex_number::is_within(1, 65_535, ratio.value),
+        bounded: lex_number::is_within(1, table_layout::bound::RATIO, ratio.value),
         kind: 0,
     }
 }
@@ -202,16 +202,16 @@ pub fn head_rule(l: HeadLine, h: Head) -> u64
     ensures { λ r. ⌜ r ≡ headRule l h ⌝ }
 {
     if !l.right {
-        return 11;
+        return base::refusal::ARGUMENT;
     }
     if is_out_of_order(l, h) {
-        return 12;
+        return base::refusal::LINE;
     }
     if !l.formed {
-        return 13;
+        return base::refusal::NUMBER;
     }
     if !l.bounded {
-        return 14;
+        return base::refusal::RANGE;
     }
     0
 }

@@ -1,15 +1,15 @@
 -- Laws of keyword lines by which the code of this crate is proved.
 -- Assumes nothing.
-use mathlib.Core.Path.{_≡_, refl, sym, _∙_, ap}
-use mathlib.Core.Bool.{Bool, true, false, not}
-use mathlib.Core.List.{List, [], _∷_}
-use Prim.Native.Nat.{ℕ, _≤_, _<_}
+use mathlib.Core.Path.{_≡_, sym, _∙_, ap}
+use mathlib.Core.Bool.{Bool, true, false}
+use mathlib.Core.List.{List}
+use Prim.Native.Nat.{ℕ, _≤_}
 use native.Mathlib.Nat.{le-trans, le-of-eq}
 use native.Mathlib.Omega.{arith}
 use lib.Seq.{set-out}
 use lib.Dec.{ltb, eqb}
 use borrow.Author.Tests.{eq-eqb, ne-eqb, eqb-true, ltb-false}
-use lib.ListN.{length, getD, List·getD-eq-default}
+use lib.ListN.{length, List·getD-eq-default}
 use Rattle.line_keyword.specs.declared.State.{State}
 use Rattle.line_keyword.specs.declared.Counts.{Counts}
 use Rattle.line_keyword.specs.declared.Section.{Section}
@@ -28,7 +28,7 @@ use Rattle.line_keyword.specs.Keywords.{
   countsAfter,
   keywordNext,
 }
-use Rattle.line_keyword.specs.Way.Row.{matrixKeywordRule, matrixKeywordNext}
+use Rattle.line_keyword.specs.Way.Row.{matrixKeywordRules, matrixKeywordRule, matrixKeywordNext}
 use Rattle.line_head.specs.Head.{newHead}
 use Rattle.line_head.specs.declared.Head.{Head}
 use Rattle.line_path.specs.Path.{newPath}
@@ -36,16 +36,16 @@ use Rattle.line_path.specs.declared.Path.{Path}
 use Rattle.line_map.specs.PinMap.{newMap}
 use Rattle.line_map.specs.declared.Map.{Map}
 use Rattle.base.specs.If.{if_then_else_}
-use Rattle.base.specs.Broken.{Rule, _when_}
 use Rattle.base.proofs.IfLaws.{if-true, if-false, either-false, either-rest}
 use Rattle.base.proofs.BrokenLaws.{Numbered, all-kept}
 use Rattle.lex_keyword.specs.Names.{row, bandwidth, beginIcmModel, beginIcmSection, derivationMethod, icmPinMap}
 use Rattle.line_place.specs.Place.{moved, isRowOrBandwidth, opensMatrix}
-use Rattle.line_argument.specs.Argument.{isBadArgument, isBadInteger, isOutOfBounds, formOf, methodOf}
+use Rattle.line_argument.specs.Argument.{isOutOfBounds, formOf, methodOf}
 use Rattle.line_matrix.specs.Matrix.{newMatrix, withRow, withBandwidth}
 use Rattle.line_matrix.specs.declared.Matrix.{Matrix}
 use Rattle.lex_number.specs.Integer.{wholeOf}
 use Rattle.lex_number.specs.declared.Whole.{Whole}
+use Rattle.table_layout.specs.Bounds.{mostBandwidth}
 
 -- a number that belongs to no keyword has not been read
 pub unseen : (k : ℕ) (s : State) → length (s .seen) ≡ 40 → 40 ≤ k → false ≡ isSeen k s
@@ -97,33 +97,24 @@ module _ (k : ℕ) (argument : List ℕ) (s : State) where
         matrix-kept b = sym (if-false _ _ (sym told ∙ h) ∙ if-false _ _ (ne-eqb _ _ r) ∙ if-false _ _ (ne-eqb _ _ b))
 
 -- a bandwidth that is not out of bounds is at most 255
-pub bandwidth-small : (k : ℕ) (argument : List ℕ) → isOutOfBounds k argument ≡ false → (k ≡ row → ⊥) → k ≡ bandwidth → (w : Whole) → w ≡ wholeOf argument → w .value ≤ 255
+pub bandwidth-small : (k : ℕ) (argument : List ℕ) → isOutOfBounds k argument ≡ false → (k ≡ row → ⊥) → k ≡ bandwidth → (w : Whole) → w ≡ wholeOf argument → w .value ≤ mostBandwidth
 unfolding isOutOfBounds
 bandwidth-small k argument e r b w read =
-    let f : ltb 255 (wholeOf argument .value) ≡ false = sym (if-false _ _ (ne-eqb _ _ r) ∙ if-true _ _ (eq-eqb _ _ b)) ∙ e in
+    let f : ltb mostBandwidth (wholeOf argument .value) ≡ false = sym (if-false _ _ (ne-eqb _ _ r) ∙ if-true _ _ (eq-eqb _ _ b)) ∙ e in
     rw read (ltb-false _ _ f)
 
 -- ---- [Row] and [Bandwidth] in a matrix
 
 module _ (k : ℕ) (argument : List ℕ) (m : Matrix) where
-  -- the rules in their order
-  abbrev keptRules : List Rule
-  keptRules =
-      11 when isBadArgument k argument
-      ∷ 13 when isBadInteger k argument
-      ∷ 14 when isOutOfBounds k argument
-      ∷ 16 when isWrongInMatrix k (wholeOf argument .value) m
-      ∷ []
-
-  numbered : Numbered keptRules
+  numbered : Numbered (matrixKeywordRules k argument m)
   numbered = (omega arith, (omega arith, (omega arith, (omega arith, tt))))
 
   kept-bounds : matrixKeywordRule k argument m ≡ 0 → isOutOfBounds k argument ≡ false
   unfolding matrixKeywordRule
-  kept-bounds kept = all-kept keptRules numbered kept 2
+  kept-bounds kept = all-kept (matrixKeywordRules k argument m) numbered kept 2
 
   -- a keyword of the two that is not [Row] is [Bandwidth], and its argument is at most 255
-  pub kept-small : isRowOrBandwidth k ≡ true → matrixKeywordRule k argument m ≡ 0 → (k ≡ row → ⊥) → (w : Whole) → w ≡ wholeOf argument → w .value ≤ 255
+  pub kept-small : isRowOrBandwidth k ≡ true → matrixKeywordRule k argument m ≡ 0 → (k ≡ row → ⊥) → (w : Whole) → w ≡ wholeOf argument → w .value ≤ mostBandwidth
   unfolding isRowOrBandwidth
   kept-small keeps kept r w read =
       let b : k ≡ bandwidth = eqb-true k bandwidth (sym (either-rest _ _ (ne-eqb k row r)) ∙ keeps) in

@@ -7,7 +7,7 @@ use mathlib.Core.List.{List}
 use Prim.Native.Nat.{ℕ}
 use lib.Dec.{eqb}
 use borrow.Author.Tests.{eqb-true, ne-eqb}
-use Rattle.base.specs.If.{if_then_else_, both, either}
+use Rattle.base.specs.If.{both, either, if_then_else_}
 use Rattle.base.specs.Broken.{first}
 use Rattle.base.proofs.IfLaws.{by-cases, either-rest, either-false}
 use Rattle.lex_keyword.specs.Names.{row, bandwidth}

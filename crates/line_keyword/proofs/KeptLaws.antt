@@ -3,19 +3,19 @@
 -- Assumes nothing.
 use mathlib.Core.Path.{_≡_, sym, _∙_}
 use mathlib.Core.Bool.{Bool, true, false}
-use mathlib.Core.List.{List, [], _∷_}
+use mathlib.Core.List.{List}
 use Prim.Native.Nat.{ℕ, _+_, _^_, _≤_, _<_}
 use native.Mathlib.Nat.{le-trans, lt-of-le-of-lt}
 use native.Mathlib.Omega.{arith}
 use lib.Dec.{eqb}
 use borrow.Author.Tests.{eqb-true, ne-eqb, leb-false}
-use Rattle.base.specs.Broken.{Rule, _when_}
+use Rattle.table_layout.specs.Bounds.{mostModels, mostMaps, mostSections, deepest}
 use Rattle.base.proofs.IfLaws.{if-true, if-false, by-test, either-none-second}
 use Rattle.base.proofs.BrokenLaws.{Numbered, all-kept}
 use Rattle.lex_keyword.specs.Names.{beginIcmModel, icmPinMap, beginIcmSection, treePathDescription}
 use Rattle.line_place.specs.Place.{opensMatrix}
-use Rattle.line_argument.specs.Argument.{isBadArgument, isBadInteger, isOutOfBounds}
-use Rattle.line_path.specs.Path.{deepest, newPath}
+use Rattle.line_argument.specs.Argument.{isOutOfBounds}
+use Rattle.line_path.specs.Path.{newPath}
 use Rattle.line_path.specs.declared.Path.{Path}
 use Rattle.line_path.proofs.DepthLaws.{new-outside}
 use Rattle.line_map.specs.Way.Bounded.{BoundedMap}
@@ -25,22 +25,7 @@ use Rattle.line_keyword.specs.declared.Counts.{Counts}
 use Rattle.line_keyword.specs.declared.State.{State}
 use Rattle.line_keyword.specs.State.{startState, noCounts}
 use Rattle.line_keyword.specs.Way.Bounded.{Countable, BoundedState}
-use Rattle.line_keyword.specs.Keywords.{
-  mostModels,
-  mostMaps,
-  mostSections,
-  isForkOpen,
-  isMisplaced,
-  isShapeBroken,
-  isFull,
-  isPastBound,
-  keywordRule,
-  pathAfter,
-  mapAfter,
-  oneMoreIf,
-  countsAfter,
-  keywordNext,
-}
+use Rattle.line_keyword.specs.Keywords.{isFull, isPastBound, keywordRules, keywordRule, pathAfter, mapAfter, oneMoreIf, countsAfter, keywordNext}
 
 -- a new path is outside every fork block
 new-shallow : newPath .depth ≤ deepest
@@ -66,29 +51,17 @@ start-kept =
 -- ---- the rules of a keyword that breaks none
 
 module _ (k : ℕ) (argument : List ℕ) (s : State) where
-  -- the rules in their order
-  abbrev keywordRules : List Rule
-  keywordRules =
-      15 when isForkOpen s
-      ∷ 9 when isMisplaced k s
-      ∷ 11 when isBadArgument k argument
-      ∷ 13 when isBadInteger k argument
-      ∷ 14 when isOutOfBounds k argument
-      ∷ 16 when isShapeBroken k argument s
-      ∷ 17 when isPastBound k s
-      ∷ []
-
-  numbered : Numbered keywordRules
+  numbered : Numbered (keywordRules k argument s)
   numbered = (omega arith, (omega arith, (omega arith, (omega arith, (omega arith, (omega arith, (omega arith, tt)))))))
 
   module _ (kept : keywordRule k argument s ≡ 0) where
     pub keyword-bounds : isOutOfBounds k argument ≡ false
     unfolding keywordRule
-    keyword-bounds = all-kept keywordRules numbered kept 4
+    keyword-bounds = all-kept (keywordRules k argument s) numbered kept 4
 
     keyword-few : isPastBound k s ≡ false
     unfolding keywordRule
-    keyword-few = all-kept keywordRules numbered kept 6
+    keyword-few = all-kept (keywordRules k argument s) numbered kept 6
 
     keyword-room : isFull k (s .counts) ≡ false
     unfolding isPastBound

@@ -6,8 +6,10 @@ use mathlib.Core.Bool.{Bool, true, false, not}
 use mathlib.Core.List.{List, [], _∷_}
 use lib.ListN.{getD, set}
 use lib.Dec.{leb, eqb}
+use Rattle.table_layout.specs.Bounds.{mostModels, mostMaps, mostSections}
 use Rattle.base.specs.If.{if_then_else_, both, either}
-use Rattle.base.specs.Broken.{_when_, firstBroken}
+use Rattle.base.specs.Broken.{Rule, _when_, firstBroken}
+use Rattle.base.specs.Refusal as refusal
 use Rattle.lex_number.specs.Integer.{wholeOf}
 use Rattle.lex_keyword.specs.Names.{
   theEnd,
@@ -145,16 +147,6 @@ isShapeBroken k argument s =
     if eqb (s .place) place.matrix then isMatrixBroken k argument s else
     both (eqb (s .place) place.pinList) (isWrongGrid (s .map))
 
--- "64 models", "64 maps", "256 sections"
-abbrev pub mostModels : ℕ
-mostModels = 64
-
-abbrev pub mostMaps : ℕ
-mostMaps = 64
-
-abbrev pub mostSections : ℕ
-mostSections = 256
-
 -- a diagonal over 256, at the keyword that closes it
 unfoldable pub closesTooWide : ℕ → State → Bool
 closesTooWide k s =
@@ -171,17 +163,19 @@ isFull k c =
 unfoldable pub isPastBound : ℕ → State → Bool
 isPastBound k s = either (closesTooWide k s) (isFull k (s .counts))
 
+abbrev pub keywordRules : ℕ → List ℕ → State → List Rule
+keywordRules k argument s =
+    refusal.fork when isForkOpen s
+    ∷ refusal.place when isMisplaced k s
+    ∷ refusal.argument when isBadArgument k argument
+    ∷ refusal.number when isBadInteger k argument
+    ∷ refusal.range when isOutOfBounds k argument
+    ∷ refusal.shape when isShapeBroken k argument s
+    ∷ refusal.limit when isPastBound k s
+    ∷ []
+
 unfoldable pub keywordRule : ℕ → List ℕ → State → ℕ
-keywordRule k argument s =
-    firstBroken
-    (15 when isForkOpen s
-    ∷ 9 when isMisplaced k s
-    ∷ 11 when isBadArgument k argument
-    ∷ 13 when isBadInteger k argument
-    ∷ 14 when isOutOfBounds k argument
-    ∷ 16 when isShapeBroken k argument s
-    ∷ 17 when isPastBound k s
-    ∷ [])
+keywordRule k argument s = firstBroken (keywordRules k argument s)
 
 -- ---- what is remembered
 

@@ -1,7 +1,6 @@
 -- What the forward reading remembers between lines: the place, the keywords read, and what has been read of the open
 -- block. It contains no line number and no offset.
 -- Assumes nothing.
-use Prim.Native.Nat.{ℕ}
 use mathlib.Core.Bool.{Bool, false}
 use mathlib.Core.List.{List}
 use lib.ListN.{replicate}

@@ -15,14 +15,6 @@ use line_map::Map;
 use line_matrix::Matrix;
 use line_path::Path;
 
-const DISTRIBUTED: u64 = 1;
-
-const MOST_MODELS: u64 = 64;
-
-const MOST_MAPS: u64 = 64;
-
-const MOST_SECTIONS: u64 = 256;
-
 // How many records of each part have been read.
 pub struct Counts {
     pub models: u64,
@@ -116,7 +108,7 @@ fn kinds_lack(s: State) -> bool
         return true;
     }
     let section = s.section;
-    if section.method != DISTRIBUTED {
+    if section.method != table_layout::code::DISTRIBUTED {
         return false;
     }
     if !is_seen(lex_keyword::INDUCTANCE_MATRIX, s) {
@@ -302,13 +294,13 @@ fn is_full(key: u64, c: Counts) -> bool
     ensures { λ r. ⌜ r ≡ isFull key c ⌝ }
 {
     if key == lex_keyword::BEGIN_ICM_MODEL {
-        return MOST_MODELS <= c.models;
+        return table_layout::bound::MODELS <= c.models;
     }
     if key == lex_keyword::ICM_PIN_MAP {
-        return MOST_MAPS <= c.maps;
+        return table_layout::bound::MAPS <= c.maps;
     }
     if key == lex_keyword::BEGIN_ICM_SECTION {
-        return MOST_SECTIONS <= c.sections;
+        return table_layout::bound::SECTIONS <= c.sections;
     }
     false
 }
@@ -330,25 +322,25 @@ pub fn keyword_rule(key: u64, argument: &[u8], s: State) -> u64
     ensures { λ r. ⌜ r ≡ keywordRule key (now (argument .entry)) s ⌝ }
 {
     if is_fork_open(s) {
-        return 15;
+        return base::refusal::FORK;
     }
     if is_misplaced(key, s) {
-        return 9;
+        return base::refusal::PLACE;
     }
     if line_argument::is_bad_argument(key, argument) {
-        return 11;
+        return base::refusal::ARGUMENT;
     }
     if line_argument::is_bad_integer(key, argument) {
-        return 13;
+        return base::refusal::NUMBER;
     }
     if line_argument::is_out_of_bounds(key, argument) {
-        return 14;
+        return base::refusal::RANGE;
     }
     if is_shape_broken(key, argument, s) {
-        return 16;
+        return base::refusal::SHAPE;
     }
     if is_past_bound(key, s) {
-        return 17;
+        return base::refusal::LIMIT;
     }
     0
 }
@@ -523,16 +515,16 @@ pub fn matrix_keyword_rule(key: u64, argument: &[u8], m: Matrix) -> u64
     ensures { λ r. ⌜ r ≡ matrixKeywordRule key (now (argument .entry)) m ⌝ }
 {
     if line_argument::is_bad_argument(key, argument) {
-        return 11;
+        return base::refusal::ARGUMENT;
     }
     if line_argument::is_bad_integer(key, argument) {
-        return 13;
+        return base::refusal::NUMBER;
     }
     if line_argument::is_out_of_bounds(key, argument) {
-        return 14;
+        return base::refusal::RANGE;
     }
     if is_wrong_by(key, argument, m) {
-        return 16;
+        return base::refusal::SHAPE;
     }
     0
 }

@@ -7,13 +7,12 @@ use mathlib.Core.List.{List}
 use Prim.Native.Nat.{ℕ, _+_, _-_, _≤_, _<_, min}
 use native.Mathlib.Omega.{arith}
 use lib.ListN.{length, take, drop, length-drop}
-use lib.Seq.{take-all, length-take-le}
+use lib.Seq.{take-all}
 use lib.Dec.{eqb}
 use borrow.Author.Tests.{eq-eqb, ne-eqb, lt-ltb, le-ltb}
 use Rattle.base.specs.Bytes.{bytes, within}
 use Rattle.base.specs.Runs.{same}
 use Rattle.base.proofs.IfLaws.{if-true, if-false, both-true, both-rest, both-not-left, not-via, not-not-via}
-use Rattle.base.proofs.RunLaws.{run-le}
 use Rattle.lex_line.specs.declared.FirstTwo.{FirstTwo}
 use Rattle.lex_line.specs.Words.{words, firstOf, secondOf, toEquals, hasEquals, leftOf, rightOf}
 use Rattle.lex_line.specs.Way.Spans.{firstTwoOf, markedBy}
@@ -22,6 +21,8 @@ use Rattle.lex_number.specs.declared.Whole.{Whole}
 use Rattle.lex_number.specs.Integer.{wholeOf}
 use Rattle.line_map.specs.declared.MapLine.{MapLine}
 use Rattle.line_map.specs.PinMap.{saysNothing, saysOrder, saysColumns, saysRows, saysPinList, orderOf, wrongMapLine, orderLine, listLine, sizeLine, mapLineOf, isPinLine}
+use Rattle.table_layout.specs.Bounds.{mostMapPins}
+use Rattle.lex_line.proofs.FormLaws.{left-words}
 
 -- what follows for all words of a line from its first two words and a count that stops at 3
 module _ (s : List ℕ) (few : FirstTwo) (told : few ≡ firstTwoOf s) where
@@ -83,19 +84,9 @@ sized says whole fits = record { says = says; right = true; formed = whole .form
 
 -- the position of the sign
 module _ (content : List ℕ) (sign : ℕ) (told : sign ≡ toEquals content) where
-  pub sign-within : sign ≤ length content
-  sign-within = rw told (run-le _ content)
-
-  pub sign-cut : sign ≡ length (take sign content)
-  sign-cut = sym (length-take-le sign content sign-within)
-
-  left-is : words (take sign content) ≡ leftOf content
-  unfolding leftOf
-  left-is = rw told
-
   -- the first word before the sign
   pub left-told : (name : List ℕ) → name ≡ firstOf (words (take sign content)) → name ≡ firstOf (leftOf content)
-  left-told name e = e ∙ ap firstOf left-is
+  left-told name e = e ∙ ap firstOf (left-words content sign told)
 
   module _ (says : ℕ) where
     pub size-unsigned : (line : MapLine) → length content ≤ sign → line ≡ wrongMapLine says → line ≡ sizeLine says content
@@ -110,12 +101,12 @@ module _ (content : List ℕ) (sign : ℕ) (told : sign ≡ toEquals content) wh
       pub size-other : (line : MapLine) → (left .count ≡ 1 → ⊥) → line ≡ wrongMapLine says → line ≡ sizeLine says content
       unfolding sizeLine
       size-other line h e =
-          let n : eqb (length (leftOf content)) 1 ≡ false = ap (λ (ws : List (List ℕ)). eqb (length ws) 1) (sym left-is) ∙ not-one-word (take sign content) left told-left h in
+          let n : eqb (length (leftOf content)) 1 ≡ false = ap (λ (ws : List (List ℕ)). eqb (length ws) 1) (sym (left-words content sign told)) ∙ not-one-word (take sign content) left told-left h in
           e ∙ sym (if-false _ _ (both-rest _ _ has-sign ∙ both-not-left _ _ n))
 
       module _ (alone : left .count ≡ 1) (right : FirstTwo) (told-right : right ≡ firstTwoOf (take (length content - (sign + 1)) (drop (sign + 1) content))) where
         name-alone : eqb (length (leftOf content)) 1 ≡ true
-        name-alone = ap (λ (ws : List (List ℕ)). eqb (length ws) 1) (sym left-is) ∙ one-word (take sign content) left told-left alone
+        name-alone = ap (λ (ws : List (List ℕ)). eqb (length ws) 1) (sym (left-words content sign told)) ∙ one-word (take sign content) left told-left alone
 
         right-is : words (take (length content - (sign + 1)) (drop (sign + 1) content)) ≡ rightOf content
         unfolding rightOf
@@ -131,13 +122,13 @@ module _ (content : List ℕ) (sign : ℕ) (told : sign ≡ toEquals content) wh
             e ∙ sym (if-false _ _ (both-rest _ _ has-sign ∙ both-rest _ _ name-alone ∙ n))
 
         -- the integer after the sign
-        pub size-given : (word : List ℕ) (whole : Whole) (fits : Bool) → right .count ≡ 1 → word ≡ markedBy (take (length content - (sign + 1)) (drop (sign + 1) content)) (right .first) → whole ≡ wholeOf word → fits ≡ within 1 256 (whole .value) → sized says whole fits ≡ sizeLine says content
+        pub size-given : (word : List ℕ) (whole : Whole) (fits : Bool) → right .count ≡ 1 → word ≡ markedBy (take (length content - (sign + 1)) (drop (sign + 1) content)) (right .first) → whole ≡ wholeOf word → fits ≡ within 1 mostMapPins (whole .value) → sized says whole fits ≡ sizeLine says content
         unfolding sizeLine
         size-given word whole fits h first read bounds =
             let n : eqb (length (rightOf content)) 1 ≡ true = ap (λ (ws : List (List ℕ)). eqb (length ws) 1) (sym right-is) ∙ one-word _ right told-right h in
             let w : whole ≡ wholeOf (firstOf (rightOf content)) = read ∙ ap wholeOf (first-told _ right told-right word first ∙ ap firstOf right-is) in
-            let b : fits ≡ within 1 256 (wholeOf (firstOf (rightOf content)) .value) = bounds ∙ ap (λ (v : Whole). within 1 256 (v .value)) w in
-            let r : sized says whole fits ≡ sized says (wholeOf (firstOf (rightOf content))) (within 1 256 (wholeOf (firstOf (rightOf content)) .value)) = λ i. sized says (w i) (b i) in
+            let b : fits ≡ within 1 mostMapPins (wholeOf (firstOf (rightOf content)) .value) = bounds ∙ ap (λ (v : Whole). within 1 mostMapPins (v .value)) w in
+            let r : sized says whole fits ≡ sized says (wholeOf (firstOf (rightOf content))) (within 1 mostMapPins (wholeOf (firstOf (rightOf content)) .value)) = λ i. sized says (w i) (b i) in
             r ∙ sym (if-true _ _ (both-true _ _ has-sign (both-true _ _ name-alone n)))
 
 -- what the first word says; t is whether it is Pin_order, u whether it is Pin_list

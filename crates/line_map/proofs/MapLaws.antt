@@ -3,15 +3,15 @@
 -- Assumes nothing.
 use mathlib.Core.Path.{_≡_, sym, _∙_}
 use mathlib.Core.Bool.{Bool, true, false, not}
-use mathlib.Core.List.{List, [], _∷_}
+use mathlib.Core.List.{List}
 use Prim.Native.Nat.{ℕ, _*_, _≤_, _<_}
 use native.Mathlib.Nat.{mul-le-mul}
 use native.Mathlib.Omega.{arith}
 use lib.Dec.{eqb, leb}
 use borrow.Author.Tests.{not-false, leb-true, leb-false}
+use Rattle.table_layout.specs.Bounds.{mostPins, mostMapPins}
 use Rattle.base.specs.If.{if_then_else_, both, either}
 use Rattle.base.specs.Bytes.{bytes, within}
-use Rattle.base.specs.Broken.{_when_}
 use Rattle.base.specs.Runs.{same}
 use Rattle.base.proofs.IfLaws.{by-test, both-second, either-rest, either-left, either-none-first, not-via, not-not-via}
 use Rattle.base.proofs.BrokenLaws.{all-kept}
@@ -19,7 +19,7 @@ use Rattle.lex_line.specs.Words.{words, firstOf, secondOf, rightOf}
 use Rattle.lex_number.specs.Integer.{wholeOf}
 use Rattle.line_map.specs.declared.Map.{Map}
 use Rattle.line_map.specs.declared.MapLine.{MapLine}
-use Rattle.line_map.specs.PinMap.{saysOrder, saysColumns, saysRows, orderOf, wrongMapLine, orderLine, listLine, sizeLine, mapLineOf, newMap, isOrdered, isMapOutOfOrder, mapRule, mapNext, mostPins, mostMapPins, isPinLine, pinRule, withPin}
+use Rattle.line_map.specs.PinMap.{saysOrder, saysColumns, saysRows, orderOf, wrongMapLine, orderLine, listLine, sizeLine, mapLineOf, newMap, isOrdered, isMapOutOfOrder, mapRules, mapRule, mapNext, pinRules, pinRule, withPin}
 use Rattle.line_map.specs.Way.Bounded.{BoundedMap}
 
 -- t says whether the map is ordered
@@ -43,21 +43,21 @@ unfolding mapNext
 next-map l m o r k e f g = λ i. record { order = e i; rows = f i; columns = g i; pins = m .pins }
 
 -- a grid of at most 256 by 256
-pub grid-most : (m : Map) → BoundedMap m → m .rows * m .columns ≤ 65_536
+pub grid-most : (m : Map) → BoundedMap m → m .rows * m .columns ≤ mostMapPins * mostMapPins
 grid-most m b = mul-le-mul (b .few-rows) (b .few-columns)
 
 -- ---- what stays true from line to line
 
 -- no line gives more than 256
 abbrev Small : MapLine → Type 0
-Small l = l .bounded ≡ true → l .value ≤ 256
+Small l = l .bounded ≡ true → l .value ≤ mostMapPins
 
-order-most : (w : List ℕ) → orderOf w ≤ 256
+order-most : (w : List ℕ) → orderOf w ≤ mostMapPins
 unfolding orderOf
 order-most w =
-    by-test (λ (n : ℕ). n ≤ 256) (same w (bytes "Row_ordered")) _ _ (λ e. omega arith)
-    (λ e. by-test (λ (n : ℕ). n ≤ 256) (same w (bytes "Column_ordered")) _ _ (λ f. omega arith)
-    (λ f. by-test (λ (n : ℕ). n ≤ 256) (same w (bytes "Un_ordered")) _ _ (λ g. omega arith) (λ g. omega arith)))
+    by-test (λ (n : ℕ). n ≤ mostMapPins) (same w (bytes "Row_ordered")) _ _ (λ e. omega arith)
+    (λ e. by-test (λ (n : ℕ). n ≤ mostMapPins) (same w (bytes "Column_ordered")) _ _ (λ f. omega arith)
+    (λ f. by-test (λ (n : ℕ). n ≤ mostMapPins) (same w (bytes "Un_ordered")) _ _ (λ g. omega arith) (λ g. omega arith)))
 
 wrong-small : (says : ℕ) → Small (wrongMapLine says)
 unfolding wrongMapLine
@@ -73,7 +73,7 @@ list-small ws = by-test Small _ _ _ (λ e b. omega arith) (λ e. wrong-small _)
 
 size-small : (says : ℕ) (content : List ℕ) → Small (sizeLine says content)
 unfolding sizeLine within
-size-small says content = by-test Small _ _ _ (λ e (b : both (leb 1 (wholeOf (firstOf (rightOf content)) .value)) (leb (wholeOf (firstOf (rightOf content)) .value) 256) ≡ true). leb-true _ 256 (both-second _ _ b)) (λ e. wrong-small says)
+size-small says content = by-test Small _ _ _ (λ e (b : both (leb 1 (wholeOf (firstOf (rightOf content)) .value)) (leb (wholeOf (firstOf (rightOf content)) .value) mostMapPins) ≡ true). leb-true _ mostMapPins (both-second _ _ b)) (λ e. wrong-small says)
 
 line-small : (content : List ℕ) → Small (mapLineOf content)
 unfolding mapLineOf
@@ -86,7 +86,7 @@ line-small content =
 -- the number of a line that breaks no rule is within its bounds
 kept-bounded : (l : MapLine) (m : Map) → mapRule l m ≡ 0 → l .bounded ≡ true
 unfolding mapRule
-kept-bounded l m e = not-false (l .bounded) (all-kept (11 when not (l .right) ∷ 12 when isMapOutOfOrder l m ∷ 13 when not (l .formed) ∷ 14 when not (l .bounded) ∷ []) (omega arith, (omega arith, (omega arith, (omega arith, tt)))) e 3)
+kept-bounded l m e = not-false (l .bounded) (all-kept (mapRules l m) (omega arith, (omega arith, (omega arith, (omega arith, tt)))) e 3)
 
 pub new-bounded : BoundedMap newMap
 unfolding newMap
@@ -101,15 +101,15 @@ pub next-bounded : (content : List ℕ) (l : MapLine) (m : Map) → l ≡ mapLin
 unfolding mapNext
 next-bounded content l m told e b =
     let k : mapLineOf content .bounded ≡ true = rw told at (kept-bounded l m e) in
-    let h : l .value ≤ 256 = rw told (line-small content k) in
+    let h : l .value ≤ mostMapPins = rw told (line-small content k) in
     record {
-      few-rows = by-test (λ (n : ℕ). n ≤ 256) (eqb (l .says) saysRows) _ _ (λ f. h) (λ f. b .few-rows);
-      few-columns = by-test (λ (n : ℕ). n ≤ 256) (eqb (l .says) saysColumns) _ _ (λ f. h) (λ f. b .few-columns);
+      few-rows = by-test (λ (n : ℕ). n ≤ mostMapPins) (eqb (l .says) saysRows) _ _ (λ f. h) (λ f. b .few-rows);
+      few-columns = by-test (λ (n : ℕ). n ≤ mostMapPins) (eqb (l .says) saysColumns) _ _ (λ f. h) (λ f. b .few-columns);
     }
 
 -- a pin that breaks no rule is at most the 256th
-pub pin-fits : (content : List ℕ) (m : Map) (total : ℕ) → pinRule content m total ≡ 0 → m .pins < 256
+pub pin-fits : (content : List ℕ) (m : Map) (total : ℕ) → pinRule content m total ≡ 0 → m .pins < mostMapPins
 unfolding pinRule
 pin-fits content m total e =
-    let k : either (leb mostMapPins (m .pins)) (leb mostPins total) ≡ false = all-kept (11 when not (isPinLine (words content)) ∷ 17 when either (leb mostMapPins (m .pins)) (leb mostPins total) ∷ []) (omega arith, (omega arith, tt)) e 1 in
-    omega (arith, leb-false 256 (m .pins) (either-none-first _ _ k))
+    let k : either (leb mostMapPins (m .pins)) (leb mostPins total) ≡ false = all-kept (pinRules content m total) (omega arith, (omega arith, tt)) e 1 in
+    omega (arith, leb-false mostMapPins (m .pins) (either-none-first _ _ k))

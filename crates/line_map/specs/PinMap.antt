@@ -5,14 +5,17 @@ use mathlib.Core.Bool.{Bool, true, false, not}
 use mathlib.Core.List.{List, [], _∷_}
 use lib.ListN.{length}
 use lib.Dec.{leb, ltb, eqb}
+use Rattle.table_layout.specs.Bounds.{mostPins, mostMapPins}
 use Rattle.base.specs.If.{if_then_else_, both, either}
 use Rattle.base.specs.Bytes.{bytes, within}
 use Rattle.base.specs.Runs.{same}
-use Rattle.base.specs.Broken.{_when_, firstBroken}
+use Rattle.base.specs.Broken.{Rule, _when_, firstBroken}
+use Rattle.base.specs.Refusal as refusal
 use Rattle.lex_line.specs.Words.{words, firstOf, secondOf, hasEquals, leftOf, rightOf}
 use Rattle.lex_number.specs.Integer.{wholeOf}
 use Rattle.line_map.specs.declared.Map.{Map}
 use Rattle.line_map.specs.declared.MapLine.{MapLine}
+use Rattle.table_layout.specs.Codes.{rowOrdered, columnOrdered, unOrdered}
 
 -- what a line above Pin_list says
 abbrev pub saysNothing : ℕ
@@ -33,9 +36,9 @@ saysPinList = 4
 -- "Row_ordered, Column_ordered or Un_ordered": the number in the table plus 1; 0 for any other word
 unfoldable pub orderOf : List ℕ → ℕ
 orderOf w =
-    if same w (bytes "Row_ordered") then 1 else
-    if same w (bytes "Column_ordered") then 2 else
-    if same w (bytes "Un_ordered") then 3 else 0
+    if same w (bytes "Row_ordered") then rowOrdered + 1 else
+    if same w (bytes "Column_ordered") then columnOrdered + 1 else
+    if same w (bytes "Un_ordered") then unOrdered + 1 else 0
 
 unfoldable pub wrongMapLine : ℕ → MapLine
 wrongMapLine says = record { says = says; right = false; formed = true; bounded = true; value = 0 }
@@ -59,7 +62,7 @@ sizeLine says content =
       says = says;
       right = true;
       formed = wholeOf (firstOf (rightOf content)) .formed;
-      bounded = within 1 256 (wholeOf (firstOf (rightOf content)) .value);
+      bounded = within 1 mostMapPins (wholeOf (firstOf (rightOf content)) .value);
       value = wholeOf (firstOf (rightOf content)) .value;
     }
     else wrongMapLine says
@@ -77,7 +80,7 @@ newMap = record { order = 0; rows = 0; columns = 0; pins = 0 }
 
 -- Row_ordered or Column_ordered
 unfoldable pub isOrdered : Map → Bool
-isOrdered m = within 1 2 (m .order)
+isOrdered m = within (rowOrdered + 1) (columnOrdered + 1) (m .order)
 
 -- "`Pin_order` ..; for the ordered two `Num_of_columns = c` and `Num_of_rows = r`, either first; then `Pin_list`"
 unfoldable pub isMapOutOfOrder : MapLine → Map → Bool
@@ -87,10 +90,16 @@ isMapOutOfOrder l m =
     if eqb (l .says) saysRows then either (not (isOrdered m)) (not (eqb (m .rows) 0)) else
     if eqb (l .says) saysPinList then either (eqb (m .order) 0) (both (isOrdered m) (either (eqb (m .rows) 0) (eqb (m .columns) 0))) else true
 
+abbrev pub mapRules : MapLine → Map → List Rule
+mapRules l m =
+    refusal.argument when not (l .right)
+    ∷ refusal.line when isMapOutOfOrder l m
+    ∷ refusal.number when not (l .formed)
+    ∷ refusal.range when not (l .bounded)
+    ∷ []
+
 unfoldable pub mapRule : MapLine → Map → ℕ
-mapRule l m =
-    firstBroken
-    (11 when not (l .right) ∷ 12 when isMapOutOfOrder l m ∷ 13 when not (l .formed) ∷ 14 when not (l .bounded) ∷ [])
+mapRule l m = firstBroken (mapRules l m)
 
 unfoldable pub mapNext : MapLine → Map → Map
 mapNext l m =
@@ -101,21 +110,19 @@ mapNext l m =
       pins = m .pins;
     }
 
--- "4,096 pins (256 a map)"
-abbrev pub mostPins : ℕ
-mostPins = 4_096
-
-abbrev pub mostMapPins : ℕ
-mostMapPins = 256
-
 -- "at least one pin, one a line": the name of the pin, perhaps a signal name, which is not read, and no third word
 unfoldable pub isPinLine : List (List ℕ) → Bool
 isPinLine ws = ltb (length ws) 3
 
+-- `total` is how many pins all maps have before the line
+abbrev pub pinRules : List ℕ → Map → ℕ → List Rule
+pinRules content m total =
+    refusal.argument when not (isPinLine (words content))
+    ∷ refusal.limit when either (leb mostMapPins (m .pins)) (leb mostPins total)
+    ∷ []
+
 unfoldable pub pinRule : List ℕ → Map → ℕ → ℕ
-pinRule content m total =
-    firstBroken
-    (11 when not (isPinLine (words content)) ∷ 17 when either (leb mostMapPins (m .pins)) (leb mostPins total) ∷ [])
+pinRule content m total = firstBroken (pinRules content m total)
 
 unfoldable pub withPin : Map → Map
 withPin m = record { order = m .order; rows = m .rows; columns = m .columns; pins = m .pins + 1 }

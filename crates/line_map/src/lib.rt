@@ -55,23 +55,24 @@ const ROWS: u64 = 3;
 
 const PIN_LIST: u64 = 4;
 
-// "4,096 pins (256 a map)".
-const MOST_PINS: u64 = 4096;
-
-const MOST_MAP_PINS: u64 = 256;
-
 // "Row_ordered, Column_ordered or Un_ordered": the number in the table plus 1; 0 for any other word.
+const ROW_ORDERED: u64 = table_layout::code::ROW_ORDERED + 1;
+
+const COLUMN_ORDERED: u64 = table_layout::code::COLUMN_ORDERED + 1;
+
+const UN_ORDERED: u64 = table_layout::code::UN_ORDERED + 1;
+
 fn order_of(word: &[u8]) -> u64
     ensures { λ r. ⌜ r ≡ orderOf (now (word .entry)) ⌝ }
 {
     if lex_line::same_bytes(word, b"Row_ordered") {
-        return 1;
+        return ROW_ORDERED;
     }
     if lex_line::same_bytes(word, b"Column_ordered") {
-        return 2;
+        return COLUMN_ORDERED;
     }
     if lex_line::same_bytes(word, b"Un_ordered") {
-        return 3;
+        return UN_ORDERED;
     }
     0
 }
@@ -146,7 +147,7 @@ fn size_line(says: u64, content: &[u8]) -> MapLine
     }
     let first = right.first;
     let whole = lex_number::read_integer(lex_line::marked(rest, first));
-    let bounded = lex_number::is_within(1, 256, whole.value);
+    let bounded = lex_number::is_within(1, table_layout::bound::MAP_PINS, whole.value);
     MapLine {
         says,
         right: true,
@@ -199,10 +200,10 @@ pub fn new_map() -> Map
 fn is_ordered(m: Map) -> bool
     ensures { λ r. ⌜ r ≡ isOrdered m ⌝ }
 {
-    if m.order < 1 {
+    if m.order < ROW_ORDERED {
         return false;
     }
-    m.order <= 2
+    m.order <= COLUMN_ORDERED
 }
 
 // Whether a size line is out of order: sizes are "for the ordered two" only, and each is given once.
@@ -256,16 +257,16 @@ pub fn map_rule(l: MapLine, m: Map) -> u64
     ensures { λ r. ⌜ r ≡ mapRule l m ⌝ }
 {
     if !l.right {
-        return 11;
+        return base::refusal::ARGUMENT;
     }
     if is_out_of_order(l, m) {
-        return 12;
+        return base::refusal::LINE;
     }
     if !l.formed {
-        return 13;
+        return base::refusal::NUMBER;
     }
     if !l.bounded {
-        return 14;
+        return base::refusal::RANGE;
     }
     0
 }
@@ -302,13 +303,13 @@ pub fn pin_rule(content: &[u8], m: Map, total: u64) -> u64
 {
     let few = lex_line::first_two_words(content);
     if 2 < few.count {
-        return 11;
+        return base::refusal::ARGUMENT;
     }
-    if MOST_MAP_PINS <= m.pins {
-        return 17;
+    if table_layout::bound::MAP_PINS <= m.pins {
+        return base::refusal::LIMIT;
     }
-    if MOST_PINS <= total {
-        return 17;
+    if table_layout::bound::PINS <= total {
+        return base::refusal::LIMIT;
     }
     0
 }

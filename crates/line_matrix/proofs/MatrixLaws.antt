@@ -2,16 +2,17 @@
 -- Assumes nothing.
 use mathlib.Core.Path.{_≡_, refl, sym, _∙_, ap}
 use mathlib.Core.Bool.{Bool, true, false, not}
-use mathlib.Core.List.{List, [], _∷_, map}
+use mathlib.Core.List.{List, [], _∷_}
 use Prim.Native.Nat.{ℕ, suc, _+_, _-_, _≤_, _<_, min, max}
 use native.Mathlib.Omega.{arith}
 use lib.ListN.{length, drop}
 use lib.Dec.{leb, ltb, eqb}
 use borrow.Author.Tests.{eq-eqb, ne-eqb, eqb-true, eqb-false, lt-ltb, le-ltb, ltb-true, ltb-false}
-use Rattle.base.specs.If.{if_then_else_, both, either}
-use Rattle.base.proofs.IfLaws.{if-true, if-false, by-cases, either-left, either-rest, both-rest, not-via}
+use Rattle.table_layout.specs.Codes.{diagonal, sparse}
+use Rattle.table_layout.specs.Bounds.{mostValues}
+use Rattle.base.specs.If.{if_then_else_, both}
+use Rattle.base.proofs.IfLaws.{if-true, if-false, by-cases, either-left, either-rest, both-rest, not-via, both-assoc}
 use Rattle.line_matrix.specs.declared.Matrix.{Matrix}
-use Rattle.line_matrix.specs.declared.Rows.{Rows}
 use Rattle.line_matrix.specs.declared.DataLine.{DataLine}
 use Rattle.line_matrix.specs.declared.NumberCheck.{NumberCheck}
 use Rattle.base.specs.Bytes.{isBlank, isFilled}
@@ -28,24 +29,7 @@ use Rattle.lex_line.specs.declared.Span.{Span}
 use Rattle.lex_line.specs.declared.FirstTwo.{FirstTwo}
 use Rattle.lex_line.proofs.FormLaws.{counted, counted-not}
 use Rattle.lex_line.proofs.WordLaws.{wordsAfter, after-at, after-none, after-past, end-past, word-ordered, word-within, first-marked, second-marked, few-none, few-one, few-two, few-three}
-use Rattle.line_matrix.specs.Matrix.{
-  diagonal,
-  sparse,
-  isWrongRow,
-  inRow,
-  standsAbove,
-  stillFits,
-  withRow,
-  numberCheck,
-  areFormed,
-  areBounded,
-  numbersLine,
-  pairLine,
-  sparseLine,
-  mostValues,
-  areTooMany,
-  withColumn,
-}
+use Rattle.line_matrix.specs.Matrix.{isWrongRow, inRow, standsAbove, stillFits, withRow, numberCheck, areFormed, areBounded, numbersLine, pairLine, sparseLine, areTooMany, withColumn}
 
 -- ---- rows
 
@@ -117,11 +101,6 @@ formed-cons w ws = refl
 bounded-cons : (w : List ℕ) (ws : List (List ℕ)) → areBounded (w ∷ ws) ≡ both (numberCheck w .bounded) (areBounded ws)
 unfolding areBounded
 bounded-cons w ws = refl
-
-both-assoc : (a b c : Bool) → both (both a b) c ≡ both a (both b c)
-unfolding both
-both-assoc true b c = refl
-both-assoc false b c = refl
 
 both-whole : (a : Bool) → both a true ≡ a
 unfolding both

@@ -6,37 +6,19 @@ use mathlib.Core.Bool.{Bool, true, false, not}
 use mathlib.Core.List.{List, [], _∷_}
 use lib.ListN.{length}
 use lib.Dec.{leb, ltb, eqb}
+use Rattle.table_layout.specs.Codes.{diagonal, banded, sparse, full}
+use Rattle.table_layout.specs.Bounds.{mostValues, mostConductors}
 use Rattle.base.specs.If.{if_then_else_, both, either}
 use Rattle.base.specs.Bytes.{within}
-use Rattle.base.specs.Broken.{_when_, firstBroken}
+use Rattle.base.specs.Broken.{Rule, _when_, firstBroken}
+use Rattle.base.specs.Refusal as refusal
 use Rattle.lex_line.specs.Words.{words, firstOf, secondOf}
 use Rattle.lex_number.specs.Number.{numberOf, isFormed, isBounded}
 use Rattle.lex_number.specs.Integer.{wholeOf}
 use Rattle.lex_number.specs.declared.Whole.{Whole}
 use Rattle.line_matrix.specs.declared.Matrix.{Matrix}
-use Rattle.line_matrix.specs.declared.Rows.{Rows}
 use Rattle.line_matrix.specs.declared.DataLine.{DataLine}
 use Rattle.line_matrix.specs.declared.NumberCheck.{NumberCheck}
-
-abbrev pub diagonal : ℕ
-diagonal = 0
-
-abbrev pub banded : ℕ
-banded = 1
-
-abbrev pub sparse : ℕ
-sparse = 2
-
-abbrev pub full : ℕ
-full = 3
-
--- "65,536 values"
-abbrev pub mostValues : ℕ
-mostValues = 65_536
-
--- the most conductors of any form
-abbrev pub mostConductors : ℕ
-mostConductors = 256
 
 -- a matrix of this form before its first row and number. `band` is the most numbers that a row may have: B + 1 in a
 -- Banded_matrix, 0 before its [Bandwidth]; in a Full_matrix 256, so that it is no limit
@@ -122,7 +104,7 @@ pairLine column check =
       column = column .value;
       right = true;
       formed = both (column .formed) (check .formed);
-      bounded = both (within 1 256 (column .value)) (check .bounded);
+      bounded = both (within 1 mostConductors (column .value)) (check .bounded);
     }
 
 -- "lines `column value`": columns 1 to 256
@@ -143,14 +125,16 @@ isDataOutOfOrder l m = either (not (l .right)) (both (not (eqb (m .form) diagona
 unfoldable pub areTooMany : ℕ → ℕ → Bool
 areTooMany values numbers = ltb mostValues (values + numbers)
 
+abbrev pub dataRules : DataLine → Matrix → ℕ → List Rule
+dataRules l m values =
+    refusal.line when isDataOutOfOrder l m
+    ∷ refusal.number when not (l .formed)
+    ∷ refusal.range when not (l .bounded)
+    ∷ refusal.limit when areTooMany values (l .numbers)
+    ∷ []
+
 unfoldable pub dataRule : DataLine → Matrix → ℕ → ℕ
-dataRule l m values =
-    firstBroken
-    (12 when isDataOutOfOrder l m
-    ∷ 13 when not (l .formed)
-    ∷ 14 when not (l .bounded)
-    ∷ 17 when areTooMany values (l .numbers)
-    ∷ [])
+dataRule l m values = firstBroken (dataRules l m values)
 
 -- "columns rising and not below the row"
 unfoldable pub withColumn : ℕ → Matrix → Matrix

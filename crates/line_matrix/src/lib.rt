@@ -1,7 +1,8 @@
 // Document 01, "Sections and matrices": the rows and numbers of a matrix in its four forms, and its shape.
 ghost use mathlib.Core.Path.{_≡_};
-ghost use Prim.Native.Nat.{_-_, _<_, _≤_, min, max};
+ghost use Prim.Native.Nat.{_-_, _<_, _≤_};
 ghost use mathlib.Core.Bool.{true, false};
+ghost use Rattle.table_layout.specs.Bounds.{mostBandwidth};
 ghost use Rattle.lex_number.specs.Number.{isFormed, isBounded};
 ghost use Rattle.lex_line.specs.Words.{words};
 ghost use Rattle.line_matrix.specs.Matrix.{newMatrix, isWrongBandwidth, isWrongRow, withBandwidth, inRow, standsAbove, stillFits, withRow, numbersLine, pairLine, sparseLine, dataLineOf, isDataOutOfOrder, areTooMany, dataRule, withColumn, dataNext, shapeConductors, isShaped, isWrongShape, isTooWide};
@@ -9,18 +10,6 @@ use lex_number::Number;
 use lex_number::Whole;
 
 // The forms, by their numbers in the table.
-pub const DIAGONAL: u64 = 0;
-
-pub const BANDED: u64 = 1;
-
-pub const SPARSE: u64 = 2;
-
-pub const FULL: u64 = 3;
-
-const MOST_VALUES: u64 = 65536;
-
-const MOST_CONDUCTORS: u64 = 256;
-
 // What has been read of the rows of a matrix: the number of the last [Row], how many numbers the row above it has, how
 // many values the file has before it, the least column that may come next, the greatest row or column named, and
 // whether everything so far fits.
@@ -51,25 +40,6 @@ pub struct DataLine {
     pub bounded: bool,
 }
 
-fn lesser(a: u64, b: u64) -> u64
-    ensures { λ r. ⌜ r ≡ min a b ⌝ }
-{
-    if a < b { a } else { b }
-}
-
-fn greater(a: u64, b: u64) -> u64
-    ensures { λ r. ⌜ r ≡ max a b ⌝ }
-{
-    if a < b { b } else { a }
-}
-
-// a minus b, or 0 if b is greater.
-fn less(a: u64, b: u64) -> u64
-    ensures { λ r. ⌜ r ≡ a - b ⌝ }
-{
-    if a < b { 0 } else { a - b }
-}
-
 // A matrix of which only the keyword has been read.
 pub fn new_matrix(form: u64, values: u64) -> Matrix
     ensures { λ r. ⌜ r ≡ newMatrix form values ⌝ }
@@ -82,10 +52,10 @@ pub fn new_matrix(form: u64, values: u64) -> Matrix
         greatest: 0,
         fits: true,
     };
-    if form == FULL {
+    if form == table_layout::code::FULL {
         return Matrix {
             form,
-            band: MOST_CONDUCTORS,
+            band: table_layout::bound::CONDUCTORS,
             first: values,
             rows,
         };
@@ -102,7 +72,7 @@ pub fn new_matrix(form: u64, values: u64) -> Matrix
 pub fn is_wrong_bandwidth(m: Matrix) -> bool
     ensures { λ r. ⌜ r ≡ isWrongBandwidth m ⌝ }
 {
-    if m.form != BANDED {
+    if m.form != table_layout::code::BANDED {
         return true;
     }
     if m.band != 0 {
@@ -118,10 +88,10 @@ pub fn is_wrong_row(row: u64, m: Matrix) -> bool
     ensures { λ r. ⌜ r ≡ isWrongRow row m ⌝ }
 {
     let rows = m.rows;
-    if m.form == DIAGONAL {
+    if m.form == table_layout::code::DIAGONAL {
         return true;
     }
-    if m.form == SPARSE {
+    if m.form == table_layout::code::SPARSE {
         return row <= rows.row;
     }
     if m.band == 0 {
@@ -134,7 +104,7 @@ pub fn is_wrong_row(row: u64, m: Matrix) -> bool
 }
 
 pub fn with_bandwidth(b: u64, m: Matrix) -> Matrix
-    requires { ⌜ b ≤ 255 ⌝ }
+    requires { ⌜ b ≤ mostBandwidth ⌝ }
     ensures { λ r. ⌜ r ≡ withBandwidth b m ⌝ }
 {
     let rows = m.rows;
@@ -150,7 +120,7 @@ fn in_row(m: Matrix, values: u64) -> u64
     ensures { λ r. ⌜ r ≡ inRow m values ⌝ }
 {
     let rows = m.rows;
-    less(values, rows.from)
+    base::minus(values, rows.from)
 }
 
 // Whether the row above has one number more than the present row, or as many as the band allows.
@@ -176,7 +146,7 @@ fn still_fits(m: Matrix, values: u64) -> bool
     if !rows.fits {
         return false;
     }
-    if m.form == SPARSE {
+    if m.form == table_layout::code::SPARSE {
         return true;
     }
     stands_above(m, values)
@@ -191,7 +161,7 @@ pub fn with_row(row: u64, m: Matrix, values: u64) -> Matrix
         above: in_row(m, values),
         from: values,
         least: row,
-        greatest: greater(rows.greatest, row),
+        greatest: base::greater(rows.greatest, row),
         fits: still_fits(m, values),
     };
     Matrix {
@@ -274,7 +244,10 @@ fn pair_line(column: Whole, told: NumberCheck) -> DataLine
         column: column.value,
         right: true,
         formed: base::and(column.formed, told.formed),
-        bounded: base::and(lex_number::is_within(1, 256, column.value), told.bounded),
+        bounded: base::and(
+            lex_number::is_within(1, table_layout::bound::CONDUCTORS, column.value),
+            told.bounded,
+        ),
     }
 }
 
@@ -300,7 +273,7 @@ fn sparse_line(content: &[u8]) -> DataLine
 pub fn data_line(form: u64, content: &[u8]) -> DataLine
     ensures { λ r. ⌜ r ≡ dataLineOf form (now (content .entry)) ⌝ }
 {
-    if form == SPARSE {
+    if form == table_layout::code::SPARSE {
         return sparse_line(content);
     }
     numbers_line(content)
@@ -314,7 +287,7 @@ fn is_out_of_order(l: DataLine, m: Matrix) -> bool
     if !l.right {
         return true;
     }
-    if m.form == DIAGONAL {
+    if m.form == table_layout::code::DIAGONAL {
         return false;
     }
     rows.row == 0
@@ -324,26 +297,26 @@ fn is_out_of_order(l: DataLine, m: Matrix) -> bool
 fn are_too_many(values: u64, numbers: u64) -> bool
     ensures { λ r. ⌜ r ≡ areTooMany values numbers ⌝ }
 {
-    if MOST_VALUES < values {
+    if table_layout::bound::VALUES < values {
         return true;
     }
-    MOST_VALUES - values < numbers
+    table_layout::bound::VALUES - values < numbers
 }
 
 pub fn data_rule(l: DataLine, m: Matrix, values: u64) -> u64
     ensures { λ r. ⌜ r ≡ dataRule l m values ⌝ }
 {
     if is_out_of_order(l, m) {
-        return 12;
+        return base::refusal::LINE;
     }
     if !l.formed {
-        return 13;
+        return base::refusal::NUMBER;
     }
     if !l.bounded {
-        return 14;
+        return base::refusal::RANGE;
     }
     if are_too_many(values, l.numbers) {
-        return 17;
+        return base::refusal::LIMIT;
     }
     0
 }
@@ -359,7 +332,7 @@ fn with_column(column: u64, m: Matrix) -> Matrix
         above: rows.above,
         from: rows.from,
         least: column + 1,
-        greatest: greater(rows.greatest, column),
+        greatest: base::greater(rows.greatest, column),
         fits: base::and(rows.fits, rows.least <= column),
     };
     Matrix {
@@ -374,7 +347,7 @@ pub fn data_next(l: DataLine, m: Matrix) -> Matrix
     requires { ⌜ l .column < 4294967296 ⌝ }
     ensures { λ r. ⌜ r ≡ dataNext l m ⌝ }
 {
-    if m.form == SPARSE {
+    if m.form == table_layout::code::SPARSE {
         return with_column(l.column, m);
     }
     m
@@ -386,10 +359,10 @@ pub fn conductors_of(m: Matrix, values: u64) -> u64
     ensures { λ r. ⌜ r ≡ shapeConductors m values ⌝ }
 {
     let rows = m.rows;
-    if m.form == DIAGONAL {
-        return less(values, m.first);
+    if m.form == table_layout::code::DIAGONAL {
+        return base::minus(values, m.first);
     }
-    if m.form == SPARSE {
+    if m.form == table_layout::code::SPARSE {
         return rows.greatest;
     }
     rows.row
@@ -400,10 +373,10 @@ fn is_shaped(m: Matrix, values: u64) -> bool
     ensures { λ r. ⌜ r ≡ isShaped m values ⌝ }
 {
     let rows = m.rows;
-    if m.form == DIAGONAL {
+    if m.form == table_layout::code::DIAGONAL {
         return true;
     }
-    if m.form == SPARSE {
+    if m.form == table_layout::code::SPARSE {
         return rows.fits;
     }
     if !rows.fits {
@@ -436,8 +409,8 @@ pub fn is_wrong_shape(m: Matrix, known: u64, values: u64) -> bool
 pub fn is_too_wide(m: Matrix, values: u64) -> bool
     ensures { λ r. ⌜ r ≡ isTooWide m values ⌝ }
 {
-    if m.form != DIAGONAL {
+    if m.form != table_layout::code::DIAGONAL {
         return false;
     }
-    MOST_CONDUCTORS < conductors_of(m, values)
+    table_layout::bound::CONDUCTORS < conductors_of(m, values)
 }

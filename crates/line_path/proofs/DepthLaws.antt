@@ -7,12 +7,14 @@ use Prim.Native.Nat.{ℕ, _+_, _-_, _≤_, _<_}
 use native.Mathlib.Omega.{arith}
 use lib.Dec.{eqb}
 use borrow.Author.Tests.{eq-eqb, ne-eqb, eqb-true, eqb-false, leb-false}
+use Rattle.table_layout.specs.Bounds.{deepest}
+use Rattle.base.specs.Refusal as refusal
 use Rattle.base.proofs.IfLaws.{if-true, if-false, by-cases, by-test}
 use Rattle.base.proofs.BrokenLaws.{first-broken}
-use Rattle.line_path.specs.Path.{saysEnd, saysSide, saysSection, saysFork, saysEndfork, closed, starting, deepest, newPath, isBadFork, openRule, pathRule, withEnd, pathNext}
+use Rattle.line_path.specs.Path.{saysEnd, saysSide, saysSection, saysFork, saysEndfork, closed, starting, newPath, isBadFork, openRule, pathRule, withEnd, pathNext}
 use Rattle.line_path.specs.declared.Path.{Path}
 use Rattle.line_path.specs.declared.PathLine.{PathLine}
-use Rattle.line_path.proofs.RuleLaws.{bad-fork, bad-endfork, closed-other}
+use Rattle.line_path.proofs.RuleLaws.{bad-fork, bad-endfork, closed-other, path-closed, path-open}
 
 -- an end does not change the depth
 end-keeps : (p : Path) → withEnd p .depth ≡ p .depth
@@ -56,20 +58,19 @@ module _ (l : PathLine) (p : Path) where
   module _ (steps : ℕ) (kept : pathRule l p steps ≡ 0) where
     -- a closed path takes only a Side
     open-kept : (l .says ≡ saysSide → ⊥) → openRule l p steps ≡ 0
-    unfolding pathRule
     open-kept n =
         by-cases _ (eqb (p .stage) closed)
         (λ (e : eqb (p .stage) closed ≡ true).
-        let z : 12 ≡ 0 = closed-other l p n ∙ sym (if-true _ _ e) ∙ kept in
+        let z : refusal.line ≡ 0 = closed-other l p n ∙ sym (path-closed l p steps e) ∙ kept in
         absurd (omega arith))
-        (λ (e : eqb (p .stage) closed ≡ false). sym (if-false _ _ e) ∙ kept)
+        (λ (e : eqb (p .stage) closed ≡ false). sym (path-open l p steps e) ∙ kept)
 
     no-bad-fork : (l .says ≡ saysSide → ⊥) → isBadFork l p ≡ false
     unfolding openRule
     no-bad-fork n =
         by-cases _ (isBadFork l p)
         (λ (e : isBadFork l p ≡ true).
-        let z : 15 ≡ 0 = sym (first-broken _ _ _ e) ∙ open-kept n in
+        let z : refusal.fork ≡ 0 = sym (first-broken _ _ _ e) ∙ open-kept n in
         absurd (omega arith))
         (λ (e : isBadFork l p ≡ false). e)
 

@@ -6,11 +6,13 @@ use Prim.Native.Nat.{ℕ, _-_, _≤_, _<_}
 use native.Mathlib.Omega.{arith}
 use lib.Dec.{leb, ltb, eqb}
 use borrow.Author.Tests.{eq-eqb, ne-eqb, le-leb, lt-leb, lt-ltb, le-ltb, not-true, not-false}
+use Rattle.table_layout.specs.Bounds.{deepest, mostSteps}
 use Rattle.base.specs.If.{if_then_else_, both, either}
 use Rattle.base.specs.Broken.{first}
+use Rattle.base.specs.Refusal as refusal
 use Rattle.base.proofs.IfLaws.{if-true, if-false, both-true, both-rest, both-not-left, both-not-right, either-left, either-rest, either-comes, either-false, not-via, not-not-via}
-use Rattle.base.proofs.BrokenLaws.{gives-first, gives-later}
-use Rattle.line_path.specs.Path.{saysEnd, saysSide, saysSection, saysFork, saysEndfork, items, deepest, mostSteps, isBadFork, isStepLine, closedRule, pathNext}
+use Rattle.base.proofs.BrokenLaws.{gives-first, gives-later, lists-yes, lists-no}
+use Rattle.line_path.specs.Path.{saysEnd, saysSide, saysSection, saysFork, saysEndfork, items, closed, isBadFork, isStepLine, openRule, closedRule, pathRule, pathNext}
 use Rattle.line_path.specs.declared.Path.{Path}
 use Rattle.line_path.specs.declared.PathLine.{PathLine}
 
@@ -49,25 +51,25 @@ no-endfork false = refl
 -- ---- 17; t says whether the line is a step
 
 module _ (l : PathLine) (steps : ℕ) (t : Bool) (told : t ≡ isStepLine l) where
-  pub side-free : not t ≡ true → 0 ≡ first (both (isStepLine l) (leb mostSteps steps)) 17 0
+  pub side-free : not t ≡ true → 0 ≡ first (both (isStepLine l) (leb mostSteps steps)) refusal.limit 0
   side-free e = gives-later _ _ _ 0 (both-not-left _ _ (sym told ∙ not-true t e)) refl
 
-  pub step-over : not t ≡ false → mostSteps ≤ steps → 17 ≡ first (both (isStepLine l) (leb mostSteps steps)) 17 0
+  pub step-over : not t ≡ false → mostSteps ≤ steps → refusal.limit ≡ first (both (isStepLine l) (leb mostSteps steps)) refusal.limit 0
   step-over e h = gives-first _ _ _ (both-true _ _ (sym told ∙ not-false t e) (le-leb mostSteps steps h))
 
-  pub step-free : steps < mostSteps → 0 ≡ first (both (isStepLine l) (leb mostSteps steps)) 17 0
+  pub step-free : steps < mostSteps → 0 ≡ first (both (isStepLine l) (leb mostSteps steps)) refusal.limit 0
   step-free h = gives-later _ _ _ 0 (both-not-right _ _ (lt-leb mostSteps steps h)) refl
 
 -- ---- a closed path
 
 module _ (l : PathLine) (p : Path) where
-  pub closed-other : (l .says ≡ saysSide → ⊥) → 12 ≡ closedRule l p
-  unfolding closedRule
-  closed-other n = sym (if-false _ _ (both-not-left _ _ (ne-eqb _ _ n)))
+  pub closed-other : (l .says ≡ saysSide → ⊥) → refusal.line ≡ closedRule l p
+  unfolding closedRule first
+  closed-other n = sym (lists-no _ _ _ (both-not-left _ _ (ne-eqb _ _ n)))
 
-  pub closed-late : not (p .side) ≡ true → 12 ≡ closedRule l p
-  unfolding closedRule
-  closed-late e = sym (if-false _ _ (both-not-right _ _ (not-true _ e)))
+  pub closed-late : not (p .side) ≡ true → refusal.line ≡ closedRule l p
+  unfolding closedRule first
+  closed-late e = sym (lists-no _ _ _ (both-not-right _ _ (not-true _ e)))
 
   module _ (says : l .says ≡ saysSide) (next : not (p .side) ≡ false) where
     closed-side : both (eqb (l .says) saysSide) (p .side) ≡ true
@@ -75,11 +77,22 @@ module _ (l : PathLine) (p : Path) where
 
     pub closed-right : l .right ≡ true → 0 ≡ closedRule l p
     unfolding closedRule
-    closed-right e = gives-later _ _ _ 0 (not-not-via e) refl ∙ sym (if-true _ _ closed-side)
+    closed-right e = gives-later _ _ _ 0 (not-not-via e) refl ∙ sym (lists-yes _ _ _ closed-side)
 
-    pub closed-wrong : l .right ≡ false → 11 ≡ closedRule l p
+    pub closed-wrong : l .right ≡ false → refusal.argument ≡ closedRule l p
     unfolding closedRule
-    closed-wrong e = gives-first _ _ _ (not-via e) ∙ sym (if-true _ _ closed-side)
+    closed-wrong e = gives-first _ _ _ (not-via e) ∙ sym (lists-yes _ _ _ closed-side)
+
+-- ---- by the stage
+
+module _ (l : PathLine) (p : Path) (steps : ℕ) where
+  pub path-closed : eqb (p .stage) closed ≡ true → pathRule l p steps ≡ closedRule l p
+  unfolding pathRule closedRule
+  path-closed e = lists-yes _ _ _ e
+
+  pub path-open : eqb (p .stage) closed ≡ false → pathRule l p steps ≡ openRule l p steps
+  unfolding pathRule openRule
+  path-open e = lists-no _ _ _ e
 
 -- ---- one open block less
 

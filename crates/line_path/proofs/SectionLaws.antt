@@ -24,21 +24,22 @@ use Rattle.line_argument.specs.Argument.{isReserved}
 use Rattle.line_path.specs.Path.{saysSection, plainLine, isLength, isMult, isSectionLine, amountFormed, amountBounded, sectionLine}
 use Rattle.line_path.specs.Way.Section.{amountLine, unitLine, isParted, partsLine}
 use Rattle.line_path.specs.declared.PathLine.{PathLine}
+use Rattle.table_layout.specs.Bounds.{mostMult}
 
 -- ---- the amount
 
-pub amount-mult : (mult : Bool) (amount : List ℕ) (times : Whole) (inside : Bool) → mult ≡ true → times ≡ wholeOf amount → inside ≡ within 1 65_535 (times .value) → record { says = saysSection; right = true; formed = times .formed; bounded = inside } ≡ amountLine mult amount
+pub amount-mult : (mult : Bool) (amount : List ℕ) (times : Whole) (inside : Bool) → mult ≡ true → times ≡ wholeOf amount → inside ≡ within 1 mostMult (times .value) → record { says = saysSection; right = true; formed = times .formed; bounded = inside } ≡ amountLine mult amount
 unfolding amountLine amountFormed amountBounded
 amount-mult mult amount times inside e k h =
     let f : times .formed ≡ (if mult then wholeOf amount .formed else isFormed (numberOf amount)) = ap (λ (w : Whole). w .formed) k ∙ sym (if-true _ _ e) in
-    let b : inside ≡ (if mult then within 1 65_535 (wholeOf amount .value) else isLength (numberOf amount)) = h ∙ ap (λ (w : Whole). within 1 65_535 (w .value)) k ∙ sym (if-true _ _ e) in
+    let b : inside ≡ (if mult then within 1 mostMult (wholeOf amount .value) else isLength (numberOf amount)) = h ∙ ap (λ (w : Whole). within 1 mostMult (w .value)) k ∙ sym (if-true _ _ e) in
     λ i. record { says = saysSection; right = true; formed = f i; bounded = b i }
 
 pub amount-length : (mult : Bool) (amount : List ℕ) (n : Number) (formed bounded : Bool) → mult ≡ false → n ≡ numberOf amount → formed ≡ isFormed n → bounded ≡ isLength n → record { says = saysSection; right = true; formed = formed; bounded = bounded } ≡ amountLine mult amount
 unfolding amountLine amountFormed amountBounded
 amount-length mult amount n formed bounded e k f b =
     let g : formed ≡ (if mult then wholeOf amount .formed else isFormed (numberOf amount)) = f ∙ ap isFormed k ∙ sym (if-false _ _ e) in
-    let h : bounded ≡ (if mult then within 1 65_535 (wholeOf amount .value) else isLength (numberOf amount)) = b ∙ ap isLength k ∙ sym (if-false _ _ e) in
+    let h : bounded ≡ (if mult then within 1 mostMult (wholeOf amount .value) else isLength (numberOf amount)) = b ∙ ap isLength k ∙ sym (if-false _ _ e) in
     λ i. record { says = saysSection; right = true; formed = g i; bounded = h i }
 
 -- ---- the words before the sign and after it

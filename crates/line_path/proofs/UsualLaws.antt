@@ -4,28 +4,26 @@ use mathlib.Core.Path.{_≡_, refl, sym, _∙_, ap}
 use mathlib.Core.Bool.{Bool, true, false, not}
 use mathlib.Core.List.{List, [], _∷_, _++_}
 use Prim.Native.Nat.{ℕ, suc, _+_, _-_, _≤_, _<_, zero-le}
-use native.Mathlib.Nat.{add-zero, zero-add, not-suc-le-zero}
+use native.Mathlib.Nat.{zero-add, not-suc-le-zero}
 use native.Mathlib.Omega.{arith}
-use native.Mathlib.Numerals.{add-one}
 use lib.ListN.{length, take, drop, getD, length-drop, take-append-drop}
-use lib.Seq.{drop-cons, drop-drop, getD-drop, length-take-le, take-all}
-use lib.Dec.{eqb, ltb}
-use borrow.Author.Tests.{eqb-true, eqb-false, not-true, not-false, lt-ltb}
+use lib.Seq.{drop-drop, length-take-le, take-all}
+use lib.Dec.{eqb}
+use borrow.Author.Tests.{eqb-true, not-true, not-false, lt-ltb}
 use Rattle.base.specs.If.{if_then_else_, both, either}
 use Rattle.base.specs.Bytes.{bytes, isBlank, isFilled, isBefore}
 use Rattle.base.specs.Runs.{run, all, same}
 use Rattle.base.specs.Way.Class.{runEnd}
 use Rattle.base.specs.Way.Joined.{joined, isByte, Joins}
-use Rattle.base.proofs.IfLaws.{if-true, if-false, both-true, not-via, not-not-via}
-use Rattle.base.proofs.RunLaws.{run-nil, run-goes, run-stops, run-le, run-on, run-end-at, run-all, run-is}
+use Rattle.base.proofs.RunLaws.{run-le, run-on, run-end-at, run-all, run-is}
 use Rattle.base.proofs.JoinedLaws.{joined-same}
 use Rattle.lex_line.specs.Words.{wordsFrom, wordGoesOn, grown, words, firstOf, secondOf, leftOf, rightOf, hasEquals, toEquals}
-use Rattle.lex_line.specs.Way.Spans.{wordSpan, markedBy}
-use Rattle.lex_line.proofs.WordLaws.{after-at, after-none, after-past, wordsAfter}
+use Rattle.lex_line.specs.Way.Spans.{wordSpan}
+use Rattle.lex_line.proofs.WordLaws.{after-at, after-past, wordsAfter}
 use Rattle.lex_line.specs.declared.Span.{Span}
 use Rattle.lex_line.proofs.FormLaws.{part-from}
 use Rattle.line_argument.specs.Argument.{isReserved}
-use Rattle.line_path.specs.Path.{saysSection, saysFork, saysEndfork, sayingOf, plainLine, isMult, sectionLine, lineSaying, pathLineOf}
+use Rattle.line_path.specs.Path.{saysSection, saysFork, saysEndfork, sayingOf, plainLine, isMult, lineSaying, pathLineOf}
 use Rattle.line_path.specs.Way.Section.{amountLine, unitLine, isParted, partsLine}
 use Rattle.line_path.specs.Way.Usual.{multFront, OpensMult, Paired, UsualSection, UsualFork, forks, ends}
 use Rattle.line_path.specs.declared.PathLine.{PathLine}

@@ -5,10 +5,12 @@ use mathlib.Core.Bool.{Bool, true, false, not}
 use mathlib.Core.List.{List, [], _∷_}
 use lib.ListN.{length}
 use lib.Dec.{leb, ltb, eqb}
+use Rattle.table_layout.specs.Bounds.{deepest, mostSteps, mostMult}
 use Rattle.base.specs.If.{if_then_else_, both, either}
 use Rattle.base.specs.Bytes.{bytes, within}
 use Rattle.base.specs.Runs.{same}
-use Rattle.base.specs.Broken.{_when_, firstBroken}
+use Rattle.base.specs.Broken.{Rule, _when_, firstBroken}
+use Rattle.base.specs.Refusal as refusal
 use Rattle.lex_line.specs.Words.{words, firstOf, secondOf, hasEquals, leftOf, rightOf}
 use Rattle.lex_number.specs.Number.{numberOf, isFormed}
 use Rattle.lex_number.specs.Integer.{wholeOf}
@@ -74,7 +76,7 @@ unfoldable pub amountFormed : Bool → List ℕ → Bool
 amountFormed mult amount = if mult then wholeOf amount .formed else isFormed (numberOf amount)
 
 unfoldable pub amountBounded : Bool → List ℕ → Bool
-amountBounded mult amount = if mult then within 1 65_535 (wholeOf amount .value) else isLength (numberOf amount)
+amountBounded mult amount = if mult then within 1 mostMult (wholeOf amount .value) else isLength (numberOf amount)
 
 unfoldable pub sectionLine : List ℕ → PathLine
 sectionLine content =
@@ -107,14 +109,6 @@ closed = 3
 unfoldable pub newPath : Path
 newPath = record { stage = starting; depth = 0; ended = false; side = false }
 
--- "A block may hold further blocks, to a depth of 8"
-abbrev pub deepest : ℕ
-deepest = 8
-
--- "4,096 steps"
-abbrev pub mostSteps : ℕ
-mostSteps = 4_096
-
 -- "15 FORK: nesting over 8, Endfork with none open"
 unfoldable pub isBadFork : PathLine → Path → Bool
 isBadFork l p =
@@ -134,24 +128,34 @@ unfoldable pub isStepLine : PathLine → Bool
 isStepLine l = not (eqb (l .says) saysSide)
 
 -- "15 .. goes before 9, 11 and 12"
+abbrev pub openRules : PathLine → Path → ℕ → List Rule
+openRules l p steps =
+    refusal.fork when isBadFork l p
+    ∷ refusal.argument when not (l .right)
+    ∷ refusal.line when isPathOutOfOrder l p
+    ∷ refusal.number when not (l .formed)
+    ∷ refusal.range when not (l .bounded)
+    ∷ refusal.limit when both (isStepLine l) (leb mostSteps steps)
+    ∷ []
+
 unfoldable pub openRule : PathLine → Path → ℕ → ℕ
-openRule l p steps =
-    firstBroken
-    (15 when isBadFork l p
-    ∷ 11 when not (l .right)
-    ∷ 12 when isPathOutOfOrder l p
-    ∷ 13 when not (l .formed)
-    ∷ 14 when not (l .bounded)
-    ∷ 17 when both (isStepLine l) (leb mostSteps steps)
-    ∷ [])
+openRule l p steps = firstBroken (openRules l p steps)
 
 -- "The end at depth 0 closes the path": only its Side may follow
+abbrev pub closedRules : PathLine → Path → List Rule
+closedRules l p =
+    if both (eqb (l .says) saysSide) (p .side)
+    then refusal.argument when not (l .right) ∷ []
+    else refusal.line when true ∷ []
+
 unfoldable pub closedRule : PathLine → Path → ℕ
-closedRule l p =
-    if both (eqb (l .says) saysSide) (p .side) then firstBroken (11 when not (l .right) ∷ []) else 12
+closedRule l p = firstBroken (closedRules l p)
+
+abbrev pub pathRules : PathLine → Path → ℕ → List Rule
+pathRules l p steps = if eqb (p .stage) closed then closedRules l p else openRules l p steps
 
 unfoldable pub pathRule : PathLine → Path → ℕ → ℕ
-pathRule l p steps = if eqb (p .stage) closed then closedRule l p else openRule l p steps
+pathRule l p steps = firstBroken (pathRules l p steps)
 
 -- the path after an end: its first end, its closing end, or the end of a fork block
 unfoldable pub withEnd : Path → Path

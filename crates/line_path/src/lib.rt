@@ -3,15 +3,17 @@ ghost use mathlib.Core.Path.{_≡_};
 ghost use mathlib.Core.Bool.{true};
 ghost use Prim.Native.Nat.{_-_, _≤_};
 ghost use lib.Dec.{eqb};
+ghost use Rattle.table_layout.specs.Bounds.{deepest};
 ghost use Rattle.base.specs.If.{either};
 ghost use Rattle.lex_line.specs.Words.{words};
 ghost use Rattle.lex_line.specs.Way.Spans.{firstTwoOf};
 ghost use Rattle.lex_number.specs.declared.Number.the-variants.{Value};
-ghost use Rattle.line_path.specs.Path.{saysFork, saysEndfork, saysEnd, saysSide, deepest, sayingOf, plainLine, namesOne, isLength, sectionLine, lineSaying, pathLineOf, newPath, isBadFork, isPathOutOfOrder, isStepLine, openRule, closedRule, pathRule, withEnd, pathNext, pathOpen, pathLacks};
+ghost use Rattle.line_path.specs.Path.{saysFork, saysEndfork, saysEnd, saysSide, sayingOf, plainLine, namesOne, isLength, sectionLine, lineSaying, pathLineOf, newPath, isBadFork, isPathOutOfOrder, isStepLine, openRule, closedRule, pathRule, withEnd, pathNext, pathOpen, pathLacks};
 ghost use Rattle.line_path.specs.Way.Section.{amountLine, unitLine, partsLine};
-ghost use Rattle.line_path.specs.Way.Usual.{OpensMult, Paired, UsualSection, UsualFork};
 use lex_line::FirstTwo;
 use lex_number::Number;
+
+pub mod fast;
 
 // What a line of a path says. Model_pinmap is an end.
 const NOTHING: u64 = 0;
@@ -36,10 +38,6 @@ const ITEMS: u64 = 2;
 const CLOSED: u64 = 3;
 
 // "A block may hold further blocks, to a depth of 8".
-const DEEPEST: u64 = 8;
-
-const MOST_STEPS: u64 = 4_096;
-
 const ZERO_WORD: u64 = 128;
 
 // What has been read of a path: its stage, how many fork blocks are open, whether the end of the innermost block has
@@ -57,90 +55,6 @@ pub struct PathLine {
     pub right: bool,
     pub formed: bool,
     pub bounded: bool,
-}
-
-// The bytes of `Section `, `on Mult=`, `Fork`, `Endf` and `fork`, each as one number.
-const SECTION_BYTES: u64 = 2_336_927_755_366_786_387;
-
-const MULT_BYTES: u64 = 4_428_283_584_672_984_687;
-
-const FORK_BYTES: u64 = 1_802_661_702;
-
-const ENDF_BYTES: u64 = 1_717_857_861;
-
-const SMALL_FORK_BYTES: u64 = 1_802_661_734;
-
-// ---- lines in their usual form
-
-// Where the amount starts in a Section line of the usual form, `Section Mult=n name`.
-pub const AMOUNT_AT: usize = 13;
-
-// Whether a line starts with `Section Mult=`, written with one space.
-pub fn opens_mult(content: &[u8]) -> bool
-    ensures { λ r. ⌜ (r ≡ true → OpensMult (now (content .entry))) ⌝ }
-{
-    if content.len() < AMOUNT_AT {
-        return false;
-    }
-    if base::eight_at(content, 0) != SECTION_BYTES {
-        return false;
-    }
-    base::eight_at(content, 5) == MULT_BYTES
-}
-
-// If s is two words with one blank between them and no other blank, where the first word ends; else 0.
-fn pair_end(s: &[u8]) -> usize
-    ensures { λ r. ⌜ ((r ≡ 0 → ⊥) → Paired (now (s .entry)) r) ⌝ }
-{
-    let end = base::past_word(s, 0);
-    if s.len() <= end {
-        return 0;
-    }
-    let name = end + 1;
-    let stop = base::past_word(s, name);
-    if stop == name {
-        return 0;
-    }
-    if stop != s.len() {
-        return 0;
-    }
-    end
-}
-
-// Where the amount ends in a Section line of the usual form, `Section Mult=n name`; 0 for any other form.
-pub fn usual_amount(content: &[u8]) -> usize
-    ensures { λ r. ⌜ ((r ≡ 0 → ⊥) → UsualSection (now (content .entry)) r) ⌝ }
-{
-    if !opens_mult(content) {
-        return 0;
-    }
-    let end = pair_end(&content[AMOUNT_AT..]);
-    if end == 0 {
-        return 0;
-    }
-    AMOUNT_AT + end
-}
-
-// `Fork` or `Endfork` alone; NOTHING for any other form.
-pub fn usual_fork(content: &[u8]) -> u64
-    ensures { λ r. ⌜ ((r ≡ 0 → ⊥) → UsualFork (now (content .entry)) r) ⌝ }
-{
-    if content.len() == 4 {
-        if base::four_at(content, 0) == FORK_BYTES {
-            return FORK;
-        }
-        return NOTHING;
-    }
-    if content.len() != 7 {
-        return NOTHING;
-    }
-    if base::four_at(content, 0) != ENDF_BYTES {
-        return NOTHING;
-    }
-    if base::four_at(content, 3) != SMALL_FORK_BYTES {
-        return NOTHING;
-    }
-    ENDFORK
 }
 
 // ---- what a line says
@@ -223,7 +137,7 @@ fn amount_line(mult: bool, amount: &[u8]) -> PathLine
             says: SECTION,
             right: true,
             formed: times.formed,
-            bounded: lex_number::is_within(1, 65_535, times.value),
+            bounded: lex_number::is_within(1, table_layout::bound::MULT, times.value),
         };
     }
     let length = lex_number::read_number(amount);
@@ -318,18 +232,6 @@ fn line_saying(says: u64, content: &[u8], few: FirstTwo) -> PathLine
     plain_line(NOTHING, true)
 }
 
-// Reads a Section line of the usual form, whose amount ends at `end`.
-fn usual_line(content: &[u8], end: usize) -> PathLine
-    requires { ⌜ UsualSection (now content) end ⌝ }
-    ensures { λ r. ⌜ r ≡ pathLineOf (now (content .entry)) ⌝ }
-{
-    let name = end + 1;
-    if line_argument::is_reserved(&content[name..]) {
-        return plain_line(SECTION, false);
-    }
-    amount_line(true, &content[AMOUNT_AT..end])
-}
-
 // Reads a line of a path of any form, by its first word.
 fn general_line(content: &[u8]) -> PathLine
     ensures { λ r. ⌜ r ≡ pathLineOf (now (content .entry)) ⌝ }
@@ -344,11 +246,11 @@ fn general_line(content: &[u8]) -> PathLine
 pub fn path_line(content: &[u8]) -> PathLine
     ensures { λ r. ⌜ r ≡ pathLineOf (now (content .entry)) ⌝ }
 {
-    let end = usual_amount(content);
+    let end = fast::usual_amount(content);
     if end != 0 {
-        return usual_line(content, end);
+        return fast::usual_line(content, end);
     }
-    let fork = usual_fork(content);
+    let fork = fast::usual_fork(content);
     if fork != NOTHING {
         return plain_line(fork, true);
     }
@@ -372,7 +274,7 @@ fn is_bad_fork(l: PathLine, p: Path) -> bool
     ensures { λ r. ⌜ r ≡ isBadFork l p ⌝ }
 {
     if l.says == FORK {
-        return DEEPEST <= p.depth;
+        return table_layout::bound::DEPTH <= p.depth;
     }
     if l.says == ENDFORK {
         return p.depth == 0;
@@ -421,25 +323,25 @@ fn open_rule(l: PathLine, p: Path, steps: u64) -> u64
     ensures { λ r. ⌜ r ≡ openRule l p steps ⌝ }
 {
     if is_bad_fork(l, p) {
-        return 15;
+        return base::refusal::FORK;
     }
     if !l.right {
-        return 11;
+        return base::refusal::ARGUMENT;
     }
     if is_out_of_order(l, p) {
-        return 12;
+        return base::refusal::LINE;
     }
     if !l.formed {
-        return 13;
+        return base::refusal::NUMBER;
     }
     if !l.bounded {
-        return 14;
+        return base::refusal::RANGE;
     }
     if !is_step(l) {
         return 0;
     }
-    if MOST_STEPS <= steps {
-        return 17;
+    if table_layout::bound::STEPS <= steps {
+        return base::refusal::LIMIT;
     }
     0
 }
@@ -449,15 +351,15 @@ fn closed_rule(l: PathLine, p: Path) -> u64
     ensures { λ r. ⌜ r ≡ closedRule l p ⌝ }
 {
     if l.says != SIDE {
-        return 12;
+        return base::refusal::LINE;
     }
     if !p.side {
-        return 12;
+        return base::refusal::LINE;
     }
     if l.right {
         return 0;
     }
-    11
+    base::refusal::ARGUMENT
 }
 
 // The rule that a line breaks, 0 for none; `steps` is the count of steps before it.
@@ -498,16 +400,6 @@ fn with_end(p: Path) -> Path
     }
 }
 
-// One open block less. With no block open the line breaks rule 15, so the result does not matter.
-fn less(depth: u64) -> u64
-    ensures { λ r. ⌜ r ≡ depth - 1 ⌝ }
-{
-    if depth == 0 {
-        return 0;
-    }
-    depth - 1
-}
-
 // The path after a line that breaks no rule.
 pub fn path_next(l: PathLine, p: Path) -> Path
     requires { ⌜ p .depth ≤ deepest ⌝ }
@@ -535,7 +427,7 @@ pub fn path_next(l: PathLine, p: Path) -> Path
     if l.says == ENDFORK {
         return Path {
             stage: ITEMS,
-            depth: less(p.depth),
+            depth: base::minus(p.depth, 1),
             ended: false,
             side: false,
         };

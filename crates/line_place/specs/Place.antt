@@ -2,7 +2,7 @@
 -- rules play no part here. A keyword that a place does not take leads to `dead`, which no line leaves.
 -- Assumes nothing.
 use Prim.Native.Nat.{ℕ}
-use mathlib.Core.Bool.{Bool, true, false}
+use mathlib.Core.Bool.{Bool}
 use mathlib.Core.List.{List}
 use lib.Dec.{eqb}
 use Rattle.base.specs.If.{if_then_else_, either}

@@ -4,7 +4,7 @@ use mathlib.Core.Path.{_≡_, refl}
 use mathlib.Core.List.{List, [], _∷_, map}
 use Prim.Native.Nat.{ℕ}
 use lib.Ieee.{binary64, round, ofInt, toBits, mul, div, neg}
-use Rattle.base.specs.If.{if_then_else_, both, either}
+use Rattle.base.specs.If.{both, either, if_then_else_}
 use Rattle.base.specs.Bytes.{within}
 use Rattle.lex_number.specs.ValueWord.{decimalOf, isDecimal, isValueWord}
 use Rattle.out_double.specs.Double.{asDouble, scaled, signed, double, isDrawn, drawnOf}

@@ -7,8 +7,8 @@ use lib.Dec.{T, ltb}
 use lib.Ieee.{Float, nan, inf, fin, Format, binary64, prec, emax, low, odd, units, round, neg, fits}
 use lib.Ieee.Exact.{HasValue}
 use lib.Ieee.Fits.{neg-fits, round-is}
-use Rattle.base.specs.If.{if_then_else_}
 use Rattle.out_double.specs.Double.{signed}
+use Rattle.base.specs.If.{if_then_else_}
 
 neg-odd : (d q k l : ℕ) → neg (odd d false q k l) ≡ odd d true q k l
 unfolding neg odd

@@ -1,4 +1,4 @@
-pub mod FieldLaws
+pub mod ShownLaws
 pub mod TextLaws
 pub mod OwnerLaws
 pub mod LoopLaws

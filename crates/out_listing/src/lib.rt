@@ -4,118 +4,108 @@ ghost use mathlib.Core.Path.{_≡_};
 ghost use mathlib.Core.List.{_∷_, [], _++_};
 ghost use Prim.Native.Nat.{_+_};
 ghost use lib.Dec.{eqb};
+ghost use lib.ListN.{getD};
 ghost use Rattle.table_layout.specs.View.{viewOf};
-ghost use Rattle.out_text.specs.Printing.{lineOf, decimal, valueText};
+ghost use Rattle.table_record.specs.Records.{noModel, noStep, noMap, noSection, noMatrix, noValue};
+ghost use Rattle.table_name.specs.Name.{nameAt};
+ghost use Rattle.out_text.specs.Printing.{lineOf, decimal};
 ghost use Rattle.out_text.specs.Written.{Written};
-ghost use Rattle.table_layout.specs.Layout.{sections};
-ghost use Rattle.out_listing.specs.Fields.{partCount, fieldOf, kindIn, ownerOf, valuesIn};
-ghost use Rattle.out_listing.specs.Listing.{typeText, methodText, kindText, listedFrom, listedName, listedModel, listedSide, listedEnd, amountText, listedSectionStep, listedStep, listedMap, listedSection, listedValue, listedRecord, partText, matrixText, valuesText, allPartsText, listing, refusalText};
+ghost use Rattle.out_listing.specs.Shown.{shown, kindIn, ownerOf, valuesIn};
+ghost use Rattle.out_listing.specs.Listing.{typeText, methodText, kindText, listedFrom, listedModel, listedEnd, amountText, listedSectionStep, listedStep, listedMap, listedSection, listedValue, listedRecord, partText, matrixText, valuesText, allPartsText, listing, refusalText};
 use table_layout::View;
+use table_record::MapRecord;
+use table_record::MatrixRecord;
+use table_record::ModelRecord;
+use table_record::SectionRecord;
+use table_record::StepRecord;
+use table_record::Value;
 
-// The kinds of steps.
-const END: u64 = 0;
+// ---- records of any table, by their index
 
-const SECTION: u64 = 1;
-
-const FORK: u64 = 2;
-
-// How many records a part has. The table is a parameter only so that the contract can say whose view it is.
-pub fn count_of(table: &[u64], view: View, part: usize) -> u64
+pub fn model_of(table: &[u64], view: View, index: u64) -> ModelRecord
     requires { ⌜ view ≡ viewOf (now table) ⌝ }
-    ensures { λ r. ⌜ r ≡ partCount (now (table .entry)) part ⌝ }
+    ensures { λ r. ⌜ r ≡ getD (shown (now (table .entry)) .models) index noModel ⌝ }
 {
-    if table_layout::PARTS <= part {
-        return 0;
-    }
     let counts = view.counts;
-    counts[part]
+    if counts[table_layout::MODELS] <= index {
+        return table_record::no_model();
+    }
+    table_record::nth_model(table, view, index)
 }
 
-// A word of a record of a part; 0 if the part has no such record.
-pub fn field_of(table: &[u64], view: View, part: usize, index: u64, field: usize) -> u64
+pub fn step_of(table: &[u64], view: View, index: u64) -> StepRecord
     requires { ⌜ view ≡ viewOf (now table) ⌝ }
-    ensures { λ r. ⌜ r ≡ fieldOf (now (table .entry)) part index field ⌝ }
+    ensures { λ r. ⌜ r ≡ getD (shown (now (table .entry)) .steps) index noStep ⌝ }
 {
-    if table_layout::PARTS <= part {
-        return 0;
-    }
     let counts = view.counts;
-    if counts[part] <= index {
-        return 0;
+    if counts[table_layout::STEPS] <= index {
+        return table_record::no_step();
     }
-    let bases = view.bases;
-    let at = bases[part] + table_layout::WIDTHS[part] * (index as usize);
-    if table.len() - at <= field {
-        return 0;
+    table_record::nth_step(table, view, index)
+}
+
+pub fn map_of(table: &[u64], view: View, index: u64) -> MapRecord
+    requires { ⌜ view ≡ viewOf (now table) ⌝ }
+    ensures { λ r. ⌜ r ≡ getD (shown (now (table .entry)) .maps) index noMap ⌝ }
+{
+    let counts = view.counts;
+    if counts[table_layout::MAPS] <= index {
+        return table_record::no_map();
     }
-    table[at + field]
+    table_record::nth_map(table, view, index)
 }
 
-// Prints a word of a record as a number.
-fn put_number(
-    out: &mut [u8],
-    at: usize,
-    table: &[u64],
-    view: View,
-    part: usize,
-    index: u64,
-    field: usize,
-    after: u8,
-) -> usize
+pub fn section_of(table: &[u64], view: View, index: u64) -> SectionRecord
     requires { ⌜ view ≡ viewOf (now table) ⌝ }
-    ensures { λ r. ⌜ Written (now (out .entry)) (now (out .exit)) at r (decimal (fieldOf (now (table .entry)) part index field) ++ (after ∷ [])) ⌝ }
+    ensures { λ r. ⌜ r ≡ getD (shown (now (table .entry)) .sections) index noSection ⌝ }
 {
-    let n = field_of(table, view, part, index, field);
-    out_text::put_decimal(out, at, n, after)
+    let counts = view.counts;
+    if counts[table_layout::SECTIONS] <= index {
+        return table_record::no_section();
+    }
+    table_record::nth_section(table, view, index)
 }
 
-// Prints a word of a record as a value.
-fn put_word(
-    out: &mut [u8],
-    at: usize,
-    table: &[u64],
-    view: View,
-    part: usize,
-    index: u64,
-    field: usize,
-    after: u8,
-) -> usize
+pub fn matrix_of(table: &[u64], view: View, index: u64) -> MatrixRecord
     requires { ⌜ view ≡ viewOf (now table) ⌝ }
-    ensures { λ r. ⌜ Written (now (out .entry)) (now (out .exit)) at r (valueText (fieldOf (now (table .entry)) part index field) ++ (after ∷ [])) ⌝ }
+    ensures { λ r. ⌜ r ≡ getD (shown (now (table .entry)) .matrices) index noMatrix ⌝ }
 {
-    let word = field_of(table, view, part, index, field);
-    out_text::put_value(out, at, word, after)
+    let counts = view.counts;
+    if counts[table_layout::MATRICES] <= index {
+        return table_record::no_matrix();
+    }
+    table_record::nth_matrix(table, view, index)
 }
 
-// Prints the name of a record, whose first two words are the name's start and length.
-fn put_name(
-    out: &mut [u8],
-    at: usize,
-    text: &[u8],
-    table: &[u64],
-    view: View,
-    part: usize,
-    index: u64,
-    after: u8,
-) -> usize
+pub fn value_of(table: &[u64], view: View, index: u64) -> Value
     requires { ⌜ view ≡ viewOf (now table) ⌝ }
-    ensures { λ r. ⌜ Written (now (out .entry)) (now (out .exit)) at r (listedName (now (text .entry)) (now (table .entry)) part index ++ (after ∷ [])) ⌝ }
+    ensures { λ r. ⌜ r ≡ getD (shown (now (table .entry)) .values) index noValue ⌝ }
 {
-    let start = field_of(table, view, part, index, 0);
-    let size = field_of(table, view, part, index, 1);
+    let counts = view.counts;
+    if counts[table_layout::VALUES] <= index {
+        return table_record::no_value();
+    }
+    table_record::nth_value(table, view, index)
+}
+
+// ---- fields
+
+fn put_name(out: &mut [u8], at: usize, text: &[u8], start: u64, size: u64, after: u8) -> usize
+    ensures { λ r. ⌜ Written (now (out .entry)) (now (out .exit)) at r (nameAt (now (text .entry)) start size ++ (after ∷ [])) ⌝ }
+{
     out_text::put_field(out, at, table_name::name_at(text, start, size), after)
 }
 
 fn put_type(out: &mut [u8], at: usize, number: u64, after: u8) -> usize
     ensures { λ r. ⌜ Written (now (out .entry)) (now (out .exit)) at r (typeText number ++ (after ∷ [])) ⌝ }
 {
-    if number == 0 {
+    if number == table_layout::code::SLM_GENERAL {
         return out_text::put_field(out, at, b"SLM_general", after);
     }
-    if number == 1 {
+    if number == table_layout::code::SLM_QUIESCENT {
         return out_text::put_field(out, at, b"SLM_quiescent", after);
     }
-    if number == 2 {
+    if number == table_layout::code::MLM {
         return out_text::put_field(out, at, b"MLM", after);
     }
     out_text::put_byte(out, at, after)
@@ -124,10 +114,10 @@ fn put_type(out: &mut [u8], at: usize, number: u64, after: u8) -> usize
 fn put_method(out: &mut [u8], at: usize, number: u64, after: u8) -> usize
     ensures { λ r. ⌜ Written (now (out .entry)) (now (out .exit)) at r (methodText number ++ (after ∷ [])) ⌝ }
 {
-    if number == 0 {
+    if number == table_layout::code::LUMPED {
         return out_text::put_field(out, at, b"Lumped", after);
     }
-    if number == 1 {
+    if number == table_layout::code::DISTRIBUTED {
         return out_text::put_field(out, at, b"Distributed", after);
     }
     out_text::put_byte(out, at, after)
@@ -136,16 +126,16 @@ fn put_method(out: &mut [u8], at: usize, number: u64, after: u8) -> usize
 fn put_kind(out: &mut [u8], at: usize, kind: u64, after: u8) -> usize
     ensures { λ r. ⌜ Written (now (out .entry)) (now (out .exit)) at r (kindText kind ++ (after ∷ [])) ⌝ }
 {
-    if kind == 0 {
+    if kind == table_layout::code::RESISTANCE {
         return out_text::put_field(out, at, b"R", after);
     }
-    if kind == 1 {
+    if kind == table_layout::code::INDUCTANCE {
         return out_text::put_field(out, at, b"L", after);
     }
-    if kind == 2 {
+    if kind == table_layout::code::CONDUCTANCE {
         return out_text::put_field(out, at, b"G", after);
     }
-    if kind == 3 {
+    if kind == table_layout::code::CAPACITANCE {
         return out_text::put_field(out, at, b"C", after);
     }
     out_text::put_byte(out, at, after)
@@ -159,154 +149,60 @@ fn head_line(out: &mut [u8], at: usize, word: &[u8], n: u64) -> usize
     out_text::put_decimal(out, second, n, b'\n')
 }
 
-pub fn model_line(
+fn model_line(out: &mut [u8], at: usize, text: &[u8], model: ModelRecord) -> usize
+    ensures { λ r. ⌜ Written (now (out .entry)) (now (out .exit)) at r (listedModel (now (text .entry)) model) ⌝ }
+{
+    let second = put_name(out, at, text, model.start, model.size, b' ');
+    let third = put_type(out, second, model.kind, b' ');
+    out_text::put_decimal(out, third, model.steps, b'\n')
+}
+
+fn map_line(out: &mut [u8], at: usize, text: &[u8], map: MapRecord) -> usize
+    ensures { λ r. ⌜ Written (now (out .entry)) (now (out .exit)) at r (listedMap (now (text .entry)) map) ⌝ }
+{
+    let second = put_name(out, at, text, map.start, map.size, b' ');
+    out_text::put_decimal(out, second, map.pins, b'\n')
+}
+
+fn section_line(out: &mut [u8], at: usize, text: &[u8], section: SectionRecord) -> usize
+    ensures { λ r. ⌜ Written (now (out .entry)) (now (out .exit)) at r (listedSection (now (text .entry)) section) ⌝ }
+{
+    let second = put_name(out, at, text, section.start, section.size, b' ');
+    let third = put_method(out, second, section.method, b' ');
+    out_text::put_decimal(out, third, section.conductors, b'\n')
+}
+
+// ---- steps
+
+fn end_line(
     out: &mut [u8],
     at: usize,
     text: &[u8],
     table: &[u64],
     view: View,
-    index: u64,
+    step: StepRecord,
 ) -> usize
     requires { ⌜ view ≡ viewOf (now table) ⌝ }
-    ensures { λ r. ⌜ Written (now (out .entry)) (now (out .exit)) at r (listedModel (now (text .entry)) (now (table .entry)) index) ⌝ }
+    ensures { λ r. ⌜ Written (now (out .entry)) (now (out .exit)) at r (listedEnd (now (text .entry)) (shown (now (table .entry))) step) ⌝ }
 {
-    let model_type = field_of(table, view, table_layout::MODELS, index, 2);
-    let second = put_name(
-        out,
-        at,
-        text,
-        table,
-        view,
-        table_layout::MODELS,
-        index,
-        b' ',
-    );
-    let third = put_type(out, second, model_type, b' ');
-    put_number(
-        out,
-        third,
-        table,
-        view,
-        table_layout::MODELS,
-        index,
-        4,
-        b'\n',
-    )
-}
-
-pub fn map_line(
-    out: &mut [u8],
-    at: usize,
-    text: &[u8],
-    table: &[u64],
-    view: View,
-    index: u64,
-) -> usize
-    requires { ⌜ view ≡ viewOf (now table) ⌝ }
-    ensures { λ r. ⌜ Written (now (out .entry)) (now (out .exit)) at r (listedMap (now (text .entry)) (now (table .entry)) index) ⌝ }
-{
-    let second = put_name(out, at, text, table, view, table_layout::MAPS, index, b' ');
-    put_number(
-        out,
-        second,
-        table,
-        view,
-        table_layout::MAPS,
-        index,
-        6,
-        b'\n',
-    )
-}
-
-pub fn section_line(
-    out: &mut [u8],
-    at: usize,
-    text: &[u8],
-    table: &[u64],
-    view: View,
-    index: u64,
-) -> usize
-    requires { ⌜ view ≡ viewOf (now table) ⌝ }
-    ensures { λ r. ⌜ Written (now (out .entry)) (now (out .exit)) at r (listedSection (now (text .entry)) (now (table .entry)) index) ⌝ }
-{
-    let method = field_of(table, view, table_layout::SECTIONS, index, 2);
-    let second = put_name(
-        out,
-        at,
-        text,
-        table,
-        view,
-        table_layout::SECTIONS,
-        index,
-        b' ',
-    );
-    let third = put_method(out, second, method, b' ');
-    put_number(
-        out,
-        third,
-        table,
-        view,
-        table_layout::SECTIONS,
-        index,
-        3,
-        b'\n',
-    )
-}
-
-// Prints the Side of an end.
-fn put_side(out: &mut [u8], at: usize, text: &[u8], table: &[u64], view: View, index: u64) -> usize
-    requires { ⌜ view ≡ viewOf (now table) ⌝ }
-    ensures { λ r. ⌜ Written (now (out .entry)) (now (out .exit)) at r (listedSide (now (text .entry)) (now (table .entry)) index ++ (10 ∷ [])) ⌝ }
-{
-    let start = field_of(table, view, table_layout::STEPS, index, 3);
-    let size = field_of(table, view, table_layout::STEPS, index, 4);
-    out_text::put_field(out, at, table_name::name_at(text, start, size), b'\n')
-}
-
-fn end_line(out: &mut [u8], at: usize, text: &[u8], table: &[u64], view: View, index: u64) -> usize
-    requires { ⌜ view ≡ viewOf (now table) ⌝ }
-    ensures { λ r. ⌜ Written (now (out .entry)) (now (out .exit)) at r (listedEnd (now (text .entry)) (now (table .entry)) index) ⌝ }
-{
-    let map = field_of(table, view, table_layout::STEPS, index, 1);
-    let size = field_of(table, view, table_layout::STEPS, index, 4);
+    let map = map_of(table, view, step.target);
     let second = out_text::put_field(out, at, b"end", b' ');
-    let third = put_number(
-        out,
-        second,
-        table,
-        view,
-        table_layout::STEPS,
-        index,
-        5,
-        b' ',
-    );
-    if size == 0 {
-        return put_name(
-            out,
-            third,
-            text,
-            table,
-            view,
-            table_layout::MAPS,
-            map,
-            b'\n',
-        );
+    let third = out_text::put_decimal(out, second, step.line, b' ');
+    if step.side_size == 0 {
+        return put_name(out, third, text, map.start, map.size, b'\n');
     }
-    let fourth = put_name(out, third, text, table, view, table_layout::MAPS, map, b' ');
-    put_side(out, fourth, text, table, view, index)
+    let fourth = put_name(out, third, text, map.start, map.size, b' ');
+    put_name(out, fourth, text, step.side, step.side_size, b'\n')
 }
 
-// Prints the amount of a Section step: a Mult if the section is Lumped, else a Len.
-fn put_amount(out: &mut [u8], at: usize, table: &[u64], view: View, index: u64) -> usize
-    requires { ⌜ view ≡ viewOf (now table) ⌝ }
-    ensures { λ r. ⌜ Written (now (out .entry)) (now (out .exit)) at r (amountText (now (table .entry)) index ++ (10 ∷ [])) ⌝ }
+// Prints the amount of a step over this section: a Mult if the section is Lumped, else a Len.
+fn put_amount(out: &mut [u8], at: usize, method: u64, amount: u64) -> usize
+    ensures { λ r. ⌜ Written (now (out .entry)) (now (out .exit)) at r (amountText method amount ++ (10 ∷ [])) ⌝ }
 {
-    let section = field_of(table, view, table_layout::STEPS, index, 1);
-    let method = field_of(table, view, table_layout::SECTIONS, section, 2);
-    if method == 0 {
-        return put_number(out, at, table, view, table_layout::STEPS, index, 2, b'\n');
+    if method == table_layout::code::LUMPED {
+        return out_text::put_decimal(out, at, amount, b'\n');
     }
-    put_word(out, at, table, view, table_layout::STEPS, index, 2, b'\n')
+    out_text::put_value(out, at, amount, b'\n')
 }
 
 fn section_step_line(
@@ -315,34 +211,16 @@ fn section_step_line(
     text: &[u8],
     table: &[u64],
     view: View,
-    index: u64,
+    step: StepRecord,
 ) -> usize
     requires { ⌜ view ≡ viewOf (now table) ⌝ }
-    ensures { λ r. ⌜ Written (now (out .entry)) (now (out .exit)) at r (listedSectionStep (now (text .entry)) (now (table .entry)) index) ⌝ }
+    ensures { λ r. ⌜ Written (now (out .entry)) (now (out .exit)) at r (listedSectionStep (now (text .entry)) (shown (now (table .entry))) step) ⌝ }
 {
-    let section = field_of(table, view, table_layout::STEPS, index, 1);
+    let section = section_of(table, view, step.target);
     let second = out_text::put_field(out, at, b"section", b' ');
-    let third = put_number(
-        out,
-        second,
-        table,
-        view,
-        table_layout::STEPS,
-        index,
-        5,
-        b' ',
-    );
-    let fourth = put_name(
-        out,
-        third,
-        text,
-        table,
-        view,
-        table_layout::SECTIONS,
-        section,
-        b' ',
-    );
-    put_amount(out, fourth, table, view, index)
+    let third = out_text::put_decimal(out, second, step.line, b' ');
+    let fourth = put_name(out, third, text, section.start, section.size, b' ');
+    put_amount(out, fourth, section.method, step.amount)
 }
 
 pub fn step_line(
@@ -351,26 +229,26 @@ pub fn step_line(
     text: &[u8],
     table: &[u64],
     view: View,
-    index: u64,
+    step: StepRecord,
 ) -> usize
     requires { ⌜ view ≡ viewOf (now table) ⌝ }
-    ensures { λ r. ⌜ Written (now (out .entry)) (now (out .exit)) at r (listedStep (now (text .entry)) (now (table .entry)) index) ⌝ }
+    ensures { λ r. ⌜ Written (now (out .entry)) (now (out .exit)) at r (listedStep (now (text .entry)) (shown (now (table .entry))) step) ⌝ }
 {
-    let kind = field_of(table, view, table_layout::STEPS, index, 0);
-    if kind == END {
-        return end_line(out, at, text, table, view, index);
+    if step.kind == table_layout::code::END {
+        return end_line(out, at, text, table, view, step);
     }
-    if kind == SECTION {
-        return section_step_line(out, at, text, table, view, index);
+    if step.kind == table_layout::code::SECTION {
+        return section_step_line(out, at, text, table, view, step);
     }
-    let line = field_of(table, view, table_layout::STEPS, index, 5);
-    if kind == FORK {
-        return head_line(out, at, b"fork", line);
+    if step.kind == table_layout::code::FORK {
+        return head_line(out, at, b"fork", step.line);
     }
-    head_line(out, at, b"endfork", line)
+    head_line(out, at, b"endfork", step.line)
 }
 
-// The line of a record of any part but the values.
+// ---- parts
+
+// The line of a record of models, steps, maps or sections.
 fn record_line(
     out: &mut [u8],
     at: usize,
@@ -381,18 +259,18 @@ fn record_line(
     index: u64,
 ) -> usize
     requires { ⌜ view ≡ viewOf (now table) ⌝ }
-    ensures { λ r. ⌜ Written (now (out .entry)) (now (out .exit)) at r (listedRecord (now (text .entry)) (now (table .entry)) part index) ⌝ }
+    ensures { λ r. ⌜ Written (now (out .entry)) (now (out .exit)) at r (listedRecord (now (text .entry)) (shown (now (table .entry))) part index) ⌝ }
 {
     if part == table_layout::MODELS {
-        return model_line(out, at, text, table, view, index);
+        return model_line(out, at, text, model_of(table, view, index));
     }
     if part == table_layout::STEPS {
-        return step_line(out, at, text, table, view, index);
+        return step_line(out, at, text, table, view, step_of(table, view, index));
     }
     if part == table_layout::MAPS {
-        return map_line(out, at, text, table, view, index);
+        return map_line(out, at, text, map_of(table, view, index));
     }
-    section_line(out, at, text, table, view, index)
+    section_line(out, at, text, section_of(table, view, index))
 }
 
 fn part_lines(
@@ -405,7 +283,7 @@ fn part_lines(
     count: u64,
 ) -> usize
     requires { ⌜ view ≡ viewOf (now table) ⌝ }
-    ensures { λ r. ⌜ Written (now (out .entry)) (now (out .exit)) at r (listedFrom (listedRecord (now (text .entry)) (now (table .entry)) part) count 0) ⌝ }
+    ensures { λ r. ⌜ Written (now (out .entry)) (now (out .exit)) at r (listedFrom (listedRecord (now (text .entry)) (shown (now (table .entry))) part) count 0) ⌝ }
 {
     let mut next = out_text::lesser(at, out.len());
     let mut i = 0;
@@ -427,11 +305,11 @@ fn put_part(
     view: View,
     name: &[u8],
     part: usize,
+    count: u64,
 ) -> usize
     requires { ⌜ view ≡ viewOf (now table) ⌝ }
-    ensures { λ r. ⌜ Written (now (out .entry)) (now (out .exit)) at r (partText (now (text .entry)) (now (table .entry)) (now (name .entry)) part) ⌝ }
+    ensures { λ r. ⌜ Written (now (out .entry)) (now (out .exit)) at r (partText (now (text .entry)) (shown (now (table .entry))) (now (name .entry)) part count) ⌝ }
 {
-    let count = count_of(table, view, part);
     let lines = head_line(out, at, name, count);
     part_lines(out, lines, text, table, view, part, count)
 }
@@ -439,11 +317,39 @@ fn put_part(
 // Models, steps, maps and sections.
 fn put_parts(out: &mut [u8], at: usize, text: &[u8], table: &[u64], view: View) -> usize
     requires { ⌜ view ≡ viewOf (now table) ⌝ }
-    ensures { λ r. ⌜ Written (now (out .entry)) (now (out .exit)) at r (allPartsText (now (text .entry)) (now (table .entry))) ⌝ }
+    ensures { λ r. ⌜ Written (now (out .entry)) (now (out .exit)) at r (allPartsText (now (text .entry)) (shown (now (table .entry)))) ⌝ }
 {
-    let steps = put_part(out, at, text, table, view, b"models", table_layout::MODELS);
-    let maps = put_part(out, steps, text, table, view, b"steps", table_layout::STEPS);
-    let sections = put_part(out, maps, text, table, view, b"maps", table_layout::MAPS);
+    let counts = view.counts;
+    let steps = put_part(
+        out,
+        at,
+        text,
+        table,
+        view,
+        b"models",
+        table_layout::MODELS,
+        counts[table_layout::MODELS],
+    );
+    let maps = put_part(
+        out,
+        steps,
+        text,
+        table,
+        view,
+        b"steps",
+        table_layout::STEPS,
+        counts[table_layout::STEPS],
+    );
+    let sections = put_part(
+        out,
+        maps,
+        text,
+        table,
+        view,
+        b"maps",
+        table_layout::MAPS,
+        counts[table_layout::MAPS],
+    );
     put_part(
         out,
         sections,
@@ -452,51 +358,52 @@ fn put_parts(out: &mut [u8], at: usize, text: &[u8], table: &[u64], view: View) 
         view,
         b"sections",
         table_layout::SECTIONS,
+        counts[table_layout::SECTIONS],
     )
 }
 
-// Whether a word of a section's record refers to the matrix: "matrix index plus 1 or 0".
-fn has_matrix(table: &[u64], view: View, index: u64, field: usize, matrix: u64) -> bool
-    requires { ⌜ view ≡ viewOf (now table) ⌝ }
-    ensures { λ r. ⌜ r ≡ eqb (fieldOf (now (table .entry)) sections index field) (matrix + 1) ⌝ }
+// ---- values
+
+// Whether a word refers to the matrix: "matrix index plus 1 or 0".
+fn has_matrix(word: u64, matrix: u64) -> bool
+    ensures { λ r. ⌜ r ≡ eqb word (matrix + 1) ⌝ }
 {
-    let word = field_of(table, view, table_layout::SECTIONS, index, field);
     if word == 0 {
         return false;
     }
     word - 1 == matrix
 }
 
-// The kind of a matrix in a section: 0 to 3 for R, L, G, C, or 4 if the section does not have it.
-fn kind_in(table: &[u64], view: View, matrix: u64, index: u64) -> u64
-    requires { ⌜ view ≡ viewOf (now table) ⌝ }
-    ensures { λ r. ⌜ r ≡ kindIn (now (table .entry)) matrix index ⌝ }
+// The kind of a matrix in a section: R, L, G, C, or none of them if the section does not have it.
+fn kind_in(section: SectionRecord, matrix: u64) -> u64
+    ensures { λ r. ⌜ r ≡ kindIn matrix section ⌝ }
 {
-    if has_matrix(table, view, index, 4, matrix) {
-        return 0;
+    if has_matrix(section.resistance, matrix) {
+        return table_layout::code::RESISTANCE;
     }
-    if has_matrix(table, view, index, 5, matrix) {
-        return 1;
+    if has_matrix(section.inductance, matrix) {
+        return table_layout::code::INDUCTANCE;
     }
-    if has_matrix(table, view, index, 6, matrix) {
-        return 2;
+    if has_matrix(section.conductance, matrix) {
+        return table_layout::code::CONDUCTANCE;
     }
-    if has_matrix(table, view, index, 7, matrix) {
-        return 3;
+    if has_matrix(section.capacitance, matrix) {
+        return table_layout::code::CAPACITANCE;
     }
-    4
+    table_layout::code::MATRIX_KINDS
 }
 
 // The first section that has a matrix; the number of sections if none has.
 fn owner_of(table: &[u64], view: View, matrix: u64) -> u64
     requires { ⌜ view ≡ viewOf (now table) ⌝ }
-    ensures { λ r. ⌜ r ≡ ownerOf (now (table .entry)) matrix ⌝ }
+    ensures { λ r. ⌜ r ≡ ownerOf (shown (now (table .entry))) matrix ⌝ }
 {
-    let count = count_of(table, view, table_layout::SECTIONS);
+    let counts = view.counts;
+    let count = counts[table_layout::SECTIONS];
     let mut i = 0;
     while i < count {
-        let kind = kind_in(table, view, matrix, i);
-        if kind < 4 {
+        let kind = kind_in(section_of(table, view, i), matrix);
+        if kind < table_layout::code::MATRIX_KINDS {
             return i;
         }
         i += 1;
@@ -505,76 +412,32 @@ fn owner_of(table: &[u64], view: View, matrix: u64) -> u64
 }
 
 // How many values a matrix has inside the table.
-fn values_in(table: &[u64], view: View, matrix: u64) -> u64
+fn values_in(table: &[u64], view: View, matrix: MatrixRecord) -> u64
     requires { ⌜ view ≡ viewOf (now table) ⌝ }
-    ensures { λ r. ⌜ r ≡ valuesIn (now (table .entry)) matrix ⌝ }
+    ensures { λ r. ⌜ r ≡ valuesIn (shown (now (table .entry))) matrix ⌝ }
 {
-    let first = field_of(table, view, table_layout::MATRICES, matrix, 2);
-    let count = field_of(table, view, table_layout::MATRICES, matrix, 3);
-    let all = count_of(table, view, table_layout::VALUES);
-    if all <= first {
-        return 0;
-    }
-    if count < all - first {
-        return count;
-    }
-    all - first
+    let counts = view.counts;
+    base::lesser(
+        matrix.values,
+        base::minus(counts[table_layout::VALUES], matrix.first),
+    )
 }
 
 fn value_line(
     out: &mut [u8],
     at: usize,
     text: &[u8],
-    table: &[u64],
-    view: View,
-    section: u64,
+    section: SectionRecord,
     kind: u64,
-    value: u64,
+    value: Value,
 ) -> usize
-    requires { ⌜ view ≡ viewOf (now table) ⌝ }
-    ensures { λ r. ⌜ Written (now (out .entry)) (now (out .exit)) at r (listedValue (now (text .entry)) (now (table .entry)) section kind value) ⌝ }
+    ensures { λ r. ⌜ Written (now (out .entry)) (now (out .exit)) at r (listedValue (now (text .entry)) section kind value) ⌝ }
 {
-    let second = put_name(
-        out,
-        at,
-        text,
-        table,
-        view,
-        table_layout::SECTIONS,
-        section,
-        b' ',
-    );
+    let second = put_name(out, at, text, section.start, section.size, b' ');
     let third = put_kind(out, second, kind, b' ');
-    let fourth = put_number(
-        out,
-        third,
-        table,
-        view,
-        table_layout::VALUES,
-        value,
-        0,
-        b' ',
-    );
-    let fifth = put_number(
-        out,
-        fourth,
-        table,
-        view,
-        table_layout::VALUES,
-        value,
-        1,
-        b' ',
-    );
-    put_word(
-        out,
-        fifth,
-        table,
-        view,
-        table_layout::VALUES,
-        value,
-        2,
-        b'\n',
-    )
+    let fourth = out_text::put_decimal(out, third, value.row, b' ');
+    let fifth = out_text::put_decimal(out, fourth, value.column, b' ');
+    out_text::put_value(out, fifth, value.word, b'\n')
 }
 
 fn matrix_lines(
@@ -583,18 +446,19 @@ fn matrix_lines(
     text: &[u8],
     table: &[u64],
     view: View,
-    matrix: u64,
+    index: u64,
 ) -> usize
     requires { ⌜ view ≡ viewOf (now table) ⌝ }
-    ensures { λ r. ⌜ Written (now (out .entry)) (now (out .exit)) at r (matrixText (now (text .entry)) (now (table .entry)) matrix) ⌝ }
+    ensures { λ r. ⌜ Written (now (out .entry)) (now (out .exit)) at r (matrixText (now (text .entry)) (shown (now (table .entry))) index) ⌝ }
 {
-    let section = owner_of(table, view, matrix);
-    let kind = kind_in(table, view, matrix, section);
-    let mut value = field_of(table, view, table_layout::MATRICES, matrix, 2);
+    let section = section_of(table, view, owner_of(table, view, index));
+    let kind = kind_in(section, index);
+    let matrix = matrix_of(table, view, index);
+    let mut value = matrix.first;
     let mut left = values_in(table, view, matrix);
     let mut next = out_text::lesser(at, out.len());
     while 0 < left {
-        next = value_line(out, next, text, table, view, section, kind, value);
+        next = value_line(out, next, text, section, kind, value_of(table, view, value));
         value += 1;
         left -= 1;
     }
@@ -610,7 +474,7 @@ fn all_matrix_lines(
     count: u64,
 ) -> usize
     requires { ⌜ view ≡ viewOf (now table) ⌝ }
-    ensures { λ r. ⌜ Written (now (out .entry)) (now (out .exit)) at r (listedFrom (matrixText (now (text .entry)) (now (table .entry))) count 0) ⌝ }
+    ensures { λ r. ⌜ Written (now (out .entry)) (now (out .exit)) at r (listedFrom (matrixText (now (text .entry)) (shown (now (table .entry)))) count 0) ⌝ }
 {
     let mut next = out_text::lesser(at, out.len());
     let mut i = 0;
@@ -626,13 +490,21 @@ fn all_matrix_lines(
 // The number of values, then the values of all matrices.
 fn put_values(out: &mut [u8], at: usize, text: &[u8], table: &[u64], view: View) -> usize
     requires { ⌜ view ≡ viewOf (now table) ⌝ }
-    ensures { λ r. ⌜ Written (now (out .entry)) (now (out .exit)) at r (valuesText (now (text .entry)) (now (table .entry))) ⌝ }
+    ensures { λ r. ⌜ Written (now (out .entry)) (now (out .exit)) at r (valuesText (now (text .entry)) (shown (now (table .entry)))) ⌝ }
 {
-    let count = count_of(table, view, table_layout::VALUES);
-    let matrices = count_of(table, view, table_layout::MATRICES);
-    let lines = head_line(out, at, b"values", count);
-    all_matrix_lines(out, lines, text, table, view, matrices)
+    let counts = view.counts;
+    let lines = head_line(out, at, b"values", counts[table_layout::VALUES]);
+    all_matrix_lines(
+        out,
+        lines,
+        text,
+        table,
+        view,
+        counts[table_layout::MATRICES],
+    )
 }
+
+// ---- the whole
 
 // What icm-list prints for an accepted file; `words` is the number of words used.
 pub fn write_listing(text: &[u8], table: &[u64], words: usize, out: &mut [u8]) -> usize

@@ -5,23 +5,18 @@ use mathlib.Core.Path.{_≡_, refl, sym, _∙_, ap}
 use mathlib.Core.Bool.{true, false}
 use mathlib.Core.List.{List, [], _∷_, _++_}
 use Prim.Native.Nat.{ℕ, suc, _+_, _≤_, _<_, min}
-use native.Mathlib.Nat.{add-zero, min-eq-left, le-of-lt}
+use native.Mathlib.Nat.{min-eq-left, le-of-lt}
 use native.Mathlib.Numerals.{add-one}
 use native.Mathlib.Omega.{arith}
-use lib.ListN.{take, take-append-drop, length, drop, getD, set, length-append, drop-of-length-le}
-use lib.Seq.{length-take-le, sets-eq, take-append-seam, take-all, sets, length-sets, set-out, drop-cons}
+use lib.ListN.{take, length, drop, getD, set, length-append, drop-of-length-le}
+use lib.Seq.{sets-eq, take-append-seam, sets, length-sets, set-out, drop-cons}
 use lib.Dec.{leb}
 use borrow.Author.Tests.{leb-true, leb-false}
 use Rattle.base.proofs.IfLaws.{by-cases}
 use Rattle.out_text.specs.Written.{Written}
+use Rattle.base.proofs.StoreLaws.{sets-append}
 
 -- ---- runs of stores
-
-pub sets-append : (l : List ℕ) (at : ℕ) (xs ys : List ℕ) → sets l at (xs ++ ys) ≡ sets (sets l at xs) (at + length xs) ys
-sets-append l at [] ys = ap (λ (k : ℕ). sets l k ys) (sym (add-zero at))
-sets-append l at (x ∷ xs) ys =
-    let e : suc at + length xs ≡ at + suc (length xs) = omega arith in
-    sets-append (set l at x) (suc at) xs ys ∙ ap (λ (k : ℕ). sets (sets (set l at x) (suc at) xs) k ys) e
 
 -- past the end nothing is stored
 sets-out : (l : List ℕ) (at : ℕ) (xs : List ℕ) → length l ≤ at → sets l at xs ≡ l
@@ -153,9 +148,6 @@ module _ (out₀ : List ℕ) (at : ℕ) (bytes out : List ℕ) (next i : ℕ) (r
 -- ---- what a program prints: the part that was written
 
 module _ (a b : List ℕ) (next : ℕ) (bytes : List ℕ) (written : Written a b 0 next bytes) where
-  pub written-part : next ≡ length (take next b)
-  written-part = sym (length-take-le next b (written-inside a b 0 next bytes written))
-
   -- all bytes, if there is room
   pub written-whole : length bytes ≤ length a → take next b ≡ bytes
   written-whole h =
@@ -166,26 +158,3 @@ module _ (a b : List ℕ) (next : ℕ) (bytes : List ℕ) (written : Written a b
     where
       front : take (length bytes) ((take 0 a ++ bytes) ++ drop (0 + length bytes) a) ≡ bytes
       front = take-append-seam bytes (drop (0 + length bytes) a)
-
--- otherwise as many as there is room for
-pub written-cut : (a b : List ℕ) (next : ℕ) (bytes : List ℕ) → Written a b 0 next bytes → take next b ≡ take (length a) bytes
-written-cut a b next bytes written =
-    by-cases _ (leb (length bytes) (length a))
-    (λ (e : leb (length bytes) (length a) ≡ true). short (leb-true (length bytes) (length a) e))
-    (λ (e : leb (length bytes) (length a) ≡ false). long (leb-false (length bytes) (length a) e))
-  where
-    short : length bytes ≤ length a → take next b ≡ take (length a) bytes
-    short h = written-whole a b next bytes written h ∙ sym (take-all (length a) bytes h)
-
-    long : length a < length bytes → take next b ≡ take (length a) bytes
-    long h =
-        let n : length (take (length a) bytes) ≡ length a = length-take-le (length a) bytes (le-of-lt h) in
-        let m : length a ≤ 0 + length (take (length a) bytes) = omega arith in
-        let l : length (sets a 0 (take (length a) bytes)) ≡ length a = length-sets a 0 (take (length a) bytes) in
-        let o : length (sets a 0 (take (length a) bytes)) ≤ 0 + length (take (length a) bytes) = omega arith in
-        let i : sets a 0 bytes ≡ sets a 0 (take (length a) bytes) =
-        ap (sets a 0) (sym (take-append-drop (length a) bytes))
-        ∙ sets-append a 0 (take (length a) bytes) (drop (length a) bytes)
-        ∙ sets-out (sets a 0 (take (length a) bytes)) (0 + length (take (length a) bytes)) (drop (length a) bytes) o in
-        let e : next ≡ min (0 + length bytes) (length a) = written .place in
-        written-whole a b next (take (length a) bytes) (record { image = written .image ∙ i; place = omega arith }) (omega arith)

@@ -14,7 +14,7 @@ use Rattle.line_path.specs.declared.Path.{Path}
 use Rattle.line_keyword.specs.Way.Bounded.{BoundedState}
 use Rattle.line_keyword.specs.declared.State.{State}
 use Rattle.read_line.specs.Reading.{readFrom}
-use Rattle.read_line.specs.Way.Walk.{resume, Rises, ResumesPart, HoldsPart, Stepping, NoProgressMeansBracket, withPath, Blocked}
+use Rattle.read_line.specs.Way.Walk.{resume, HoldsPart, withPath, Blocked}
 use Rattle.read_line.specs.declared.PathWalk.{PathWalk}
 
 module _ (t : List ℕ) (at line : ℕ) (p : Path) (n : ℕ) (w : PathWalk) (first : Blocked t at line p n w) (whole : w .part .rule ≡ 0) where

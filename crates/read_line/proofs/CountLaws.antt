@@ -79,6 +79,7 @@ use Rattle.read_line.specs.declared.Reading.the-variants.{Read}
 use Rattle.read_line.proofs.WalkLaws.{step-kept}
 use Rattle.read_line.proofs.ReadingLaws.{reads-only, reads-when, reads-done}
 use Rattle.read_line.proofs.OutsideLaws.{along-counted, along, Met, step-holds, keyword-placed}
+use Rattle.table_layout.specs.Bounds.{mostModels, mostSteps, mostMaps, mostPins, mostSections, mostValues, mostMatrices}
 
 pub read-kept : (t : List ℕ) (c : Counts) → readingOf t ≡ Read c → BoundedState (1 + length (lines t)) (stateAfter 1 (lines t) startState)
 read-kept t c e =
@@ -94,12 +95,12 @@ reads-counts t c e = same-counts _ _ (sym e ∙ reads-when t (reads-only t c e) 
 
 -- "64 models", "4,096 steps", "64 maps", "4,096 pins", "256 sections", "65,536 values"
 pub record Within (c : Counts) : Type 0 where
-  pub models : c .models ≤ 64
-  pub steps : c .steps ≤ 4_096
-  pub maps : c .maps ≤ 64
-  pub pins : c .pins ≤ 4_096
-  pub sections : c .sections ≤ 256
-  pub values : c .values ≤ 65_536
+  pub models : c .models ≤ mostModels
+  pub steps : c .steps ≤ mostSteps
+  pub maps : c .maps ≤ mostMaps
+  pub pins : c .pins ≤ mostPins
+  pub sections : c .sections ≤ mostSections
+  pub values : c .values ≤ mostValues
 
 kept-within : (n : ℕ) (s : State) → BoundedState n s → Within (s .counts)
 kept-within n s h =
@@ -205,7 +206,7 @@ kinds-same seen k a e =
     omega arith
 
 -- a keyword that is forgotten counts as not read, whatever is forgotten after it
-forgotten : (seen : List Bool) (k : ℕ) → getD (set seen k false) k false ≡ false
+pub forgotten : (seen : List Bool) (k : ℕ) → getD (set seen k false) k false ≡ false
 forgotten [] k = refl
 forgotten (b ∷ seen) zero = refl
 forgotten (b ∷ seen) (suc k) = forgotten seen k
@@ -264,15 +265,6 @@ module _ (k : ℕ) (seen : List Bool) where
       ∙ length-set (set seen resistanceMatrix false) inductanceMatrix false
       ∙ length-set seen resistanceMatrix false)
       (λ (f : eqb k beginIcmSection ≡ false). length-set seen k true)))
-
-  -- a section starts with none of them
-  kinds-section : eqb k beginIcmSection ≡ true → kinds (seenAfter k seen) ≡ 0
-  unfolding seenAfter
-  kinds-section e =
-      let f : k ≡ beginIcmSection = eqb-true k beginIcmSection e in
-      let n : eqb k beginIcmModel ≡ false = ne-eqb k beginIcmModel (λ (g : k ≡ beginIcmModel). omega arith) in
-      let o : isRowOrBandwidth k ≡ false = rw f section-keeps in
-      ap kinds (if-false _ _ o ∙ if-false _ _ n ∙ if-true _ _ e) ∙ kinds-forgotten seen _ _ _ _ refl refl refl refl
 
   kinds-matrix : eqb k beginIcmModel ≡ false → eqb k beginIcmSection ≡ false → length seen ≡ 40 → opensMatrix k ≡ true → getD seen k false ≡ false → kinds (seenAfter k seen) ≡ kinds seen + 1
   unfolding seenAfter
@@ -667,8 +659,8 @@ read-fours t c e =
     rw (reads-counts t c e) f
 
 -- so no rule needs to count the matrices
-pub read-matrices : (t : List ℕ) (c : Counts) → readingOf t ≡ Read c → c .matrices ≤ 1_024
+pub read-matrices : (t : List ℕ) (c : Counts) → readingOf t ≡ Read c → c .matrices ≤ mostMatrices
 read-matrices t c e =
     let f : c .matrices ≤ 4 * c .sections = read-fours t c e in
-    let g : c .sections ≤ 256 = read-within t c e .sections in
+    let g : c .sections ≤ mostSections = read-within t c e .sections in
     omega arith

@@ -2,58 +2,40 @@
 -- count that such a line raises. And what each update requires: the sizes that it adds to are small.
 -- Assumes nothing.
 use mathlib.Core.Path.{_≡_, refl, sym, _∙_}
-use mathlib.Core.Bool.{true, false, not}
-use mathlib.Core.List.{List, [], _∷_}
+use mathlib.Core.Bool.{true, false}
+use mathlib.Core.List.{List}
 use Prim.Native.Nat.{ℕ, _+_, _≤_, _<_}
 use native.Mathlib.Omega.{arith}
 use lib.Dec.{leb, eqb}
 use borrow.Author.Tests.{eqb-true, eqb-false, leb-false, ltb-false, not-true}
-use Rattle.base.specs.If.{if_then_else_, both, either}
-use Rattle.base.specs.Broken.{_when_}
-use Rattle.base.proofs.IfLaws.{if-true, if-false, by-test, by-cases, both-first, both-second, both-rest, either-none-second}
+use Rattle.table_layout.specs.Codes.{sparse}
+use Rattle.table_layout.specs.Bounds.{mostPins, mostValues, deepest, mostSteps}
+use Rattle.base.specs.If.{both}
+use Rattle.base.specs.Refusal as refusal
+use Rattle.base.proofs.IfLaws.{by-test, by-cases, both-first, both-second, both-rest, either-none-second}
 use Rattle.base.proofs.BrokenLaws.{all-kept}
 use Rattle.lex_line.specs.Words.{words, firstOf}
 use Rattle.lex_number.specs.Integer.{valueOf, isInteger, wholeOf}
 use Rattle.lex_number.specs.declared.Whole.{Whole}
 use Rattle.lex_number.proofs.IntegerLaws.{integer-below}
-use Rattle.line_place.specs.Place.{isText}
 use Rattle.line_place.specs.Place as place
-use Rattle.line_path.specs.Path.{saysSide, closed, deepest, mostSteps, pathLineOf, isBadFork, isPathOutOfOrder, isStepLine, openRule, pathRule}
+use Rattle.line_path.specs.Path.{saysSide, closed, pathLineOf, isStepLine, openRules, openRule, pathRule}
 use Rattle.line_path.specs.declared.Path.{Path}
 use Rattle.line_path.specs.declared.PathLine.{PathLine}
-use Rattle.line_path.proofs.RuleLaws.{closed-other}
+use Rattle.line_path.proofs.RuleLaws.{closed-other, path-closed, path-open}
 use Rattle.line_path.proofs.DepthLaws.{depth-within}
-use Rattle.line_map.specs.PinMap.{mostPins, mostMapPins, isPinLine, mapLineOf, mapRule, pinRule}
+use Rattle.line_map.specs.PinMap.{mapLineOf, pinRules, pinRule}
 use Rattle.line_map.specs.Way.Bounded.{BoundedMap}
 use Rattle.line_map.specs.declared.Map.{Map}
 use Rattle.line_map.proofs.MapLaws.{next-bounded, pin-bounded}
-use Rattle.line_matrix.specs.Matrix.{sparse, mostValues, sparseLine, numbersLine, dataLineOf, areTooMany, dataRule}
-use Rattle.line_matrix.specs.Matrix as matrix
+use Rattle.line_matrix.specs.Matrix.{sparseLine, numbersLine, dataLineOf, areTooMany, dataRules, dataRule}
 use Rattle.line_matrix.specs.declared.Matrix.{Matrix}
 use Rattle.line_matrix.specs.declared.DataLine.{DataLine}
 use Rattle.line_keyword.specs.Way.Bounded.{BoundedState}
 use Rattle.line_keyword.specs.declared.State.{State}
 use Rattle.line_keyword.proofs.KeptLaws.{more-within}
 use Rattle.read_line.specs.Reading.{lineRule, countsAfterLine, lineNext}
-
--- ---- the rule of a place
-
-module _ (content : List ℕ) (s : State) where
-  matrix-rule : s .place ≡ place.matrix → lineRule content s ≡ dataRule (dataLineOf (s .matrix .form) content) (s .matrix) (s .counts .values)
-  unfolding lineRule isText either if_then_else_
-  matrix-rule e = rw e
-
-  path-rule : s .place ≡ place.path → lineRule content s ≡ pathRule (pathLineOf content) (s .path) (s .counts .steps)
-  unfolding lineRule isText either if_then_else_
-  path-rule e = rw e
-
-  pins-rule : s .place ≡ place.pinList → lineRule content s ≡ pinRule content (s .map) (s .counts .pins)
-  unfolding lineRule isText either if_then_else_
-  pins-rule e = rw e
-
-  head-rule : s .place ≡ place.mapHead → lineRule content s ≡ mapRule (mapLineOf content) (s .map)
-  unfolding lineRule isText either if_then_else_
-  head-rule e = rw e
+use Rattle.read_line.proofs.ResultLaws.{rule-matrix, rule-path, rule-pins, rule-map}
 
 -- ---- 17 in each place
 
@@ -63,7 +45,7 @@ unfolding dataRule areTooMany
 data-fits l m values kept =
     ltb-false mostValues (values + l .numbers)
     (all-kept
-    (12 when matrix.isDataOutOfOrder l m ∷ 13 when not (l .formed) ∷ 14 when not (l .bounded) ∷ 17 when areTooMany values (l .numbers) ∷ [])
+    (dataRules l m values)
     (omega arith, (omega arith, (omega arith, (omega arith, tt)))) kept 3)
 
 -- before a pin line that breaks nothing there is room for one pin more
@@ -72,7 +54,7 @@ unfolding pinRule
 pin-total content m total kept =
     leb-false mostPins total
     (either-none-second _ _
-    (all-kept (11 when not (isPinLine (words content)) ∷ 17 when either (leb mostMapPins (m .pins)) (leb mostPins total) ∷ [])
+    (all-kept (pinRules content m total)
     (omega arith, (omega arith, tt)) kept 1))
 
 module _ (l : PathLine) (p : Path) (steps : ℕ) where
@@ -80,13 +62,7 @@ module _ (l : PathLine) (p : Path) (steps : ℕ) where
   unfolding openRule
   no-over kept =
       all-kept
-      (15 when isBadFork l p
-      ∷ 11 when not (l .right)
-      ∷ 12 when isPathOutOfOrder l p
-      ∷ 13 when not (l .formed)
-      ∷ 14 when not (l .bounded)
-      ∷ 17 when both (isStepLine l) (leb mostSteps steps)
-      ∷ [])
+      (openRules l p steps)
       (omega arith, (omega arith, (omega arith, (omega arith, (omega arith, (omega arith, tt)))))) kept 5
 
   open-room : openRule l p steps ≡ 0 → isStepLine l ≡ true → steps < mostSteps
@@ -98,13 +74,12 @@ module _ (l : PathLine) (p : Path) (steps : ℕ) where
 
   -- the same for a step that breaks nothing; a closed path takes none
   pub step-room : pathRule l p steps ≡ 0 → isStepLine l ≡ true → steps < mostSteps
-  unfolding pathRule
   step-room kept step =
       by-cases _ (eqb (p .stage) closed)
       (λ (e : eqb (p .stage) closed ≡ true).
-      let z : 12 ≡ 0 = closed-other l p (step-other step) ∙ sym (if-true _ _ e) ∙ kept in
+      let z : refusal.line ≡ 0 = closed-other l p (step-other step) ∙ sym (path-closed l p steps e) ∙ kept in
       absurd (omega arith))
-      (λ (e : eqb (p .stage) closed ≡ false). open-room (sym (if-false _ _ e) ∙ kept) step)
+      (λ (e : eqb (p .stage) closed ≡ false). open-room (sym (path-open l p steps e) ∙ kept) step)
 
 -- ---- what the updates require, and the room of each count
 
@@ -113,13 +88,13 @@ grid-bounded n s h = h .grid
 
 module _ (content : List ℕ) (s : State) where
   pins-room : s .place ≡ place.pinList → lineRule content s ≡ 0 → s .counts .pins < mostPins
-  pins-room e kept = pin-total content (s .map) (s .counts .pins) (sym (pins-rule content s e) ∙ kept)
+  pins-room e kept = pin-total content (s .map) (s .counts .pins) (sym (rule-pins content s e) ∙ kept)
 
   steps-room : s .place ≡ place.path → lineRule content s ≡ 0 → isStepLine (pathLineOf content) ≡ true → s .counts .steps < mostSteps
-  steps-room e kept step = step-room (pathLineOf content) (s .path) (s .counts .steps) (sym (path-rule content s e) ∙ kept) step
+  steps-room e kept step = step-room (pathLineOf content) (s .path) (s .counts .steps) (sym (rule-path content s e) ∙ kept) step
 
-  values-fit : s .place ≡ place.matrix → lineRule content s ≡ 0 → s .counts .values + dataLineOf (s .matrix .form) content .numbers ≤ 65_536
-  values-fit e kept = data-fits (dataLineOf (s .matrix .form) content) (s .matrix) (s .counts .values) (sym (matrix-rule content s e) ∙ kept)
+  values-fit : s .place ≡ place.matrix → lineRule content s ≡ 0 → s .counts .values + dataLineOf (s .matrix .form) content .numbers ≤ mostValues
+  values-fit e kept = data-fits (dataLineOf (s .matrix .form) content) (s .matrix) (s .counts .values) (sym (rule-matrix content s e) ∙ kept)
 
 -- an integer has at most 9 digits
 pub whole-most : (w : List ℕ) → wholeOf w .value ≤ 999_999_999
@@ -178,7 +153,7 @@ module _ (n : ℕ) (content : List ℕ) (s : State) (h : BoundedState n s) (kept
   depth-kept =
       by-test (λ (p : Path). p .depth ≤ deepest) (eqb (s .place) place.path) _ _
       (λ (b : eqb (s .place) place.path ≡ true).
-      depth-within (pathLineOf content) (s .path) (s .counts .steps) (sym (path-rule content s (eqb-true (s .place) place.path b)) ∙ kept) (h .depth))
+      depth-within (pathLineOf content) (s .path) (s .counts .steps) (sym (rule-path content s (eqb-true (s .place) place.path b)) ∙ kept) (h .depth))
       (λ (b : eqb (s .place) place.path ≡ false). h .depth)
 
   grid-kept : BoundedMap (lineNext content s .map)
@@ -186,7 +161,7 @@ module _ (n : ℕ) (content : List ℕ) (s : State) (h : BoundedState n s) (kept
   grid-kept =
       by-test (λ (m : Map). BoundedMap m) (eqb (s .place) place.mapHead) _ _
       (λ (b : eqb (s .place) place.mapHead ≡ true).
-      next-bounded content (mapLineOf content) (s .map) refl (sym (head-rule content s (eqb-true (s .place) place.mapHead b)) ∙ kept) (h .grid))
+      next-bounded content (mapLineOf content) (s .map) refl (sym (rule-map content s (eqb-true (s .place) place.mapHead b)) ∙ kept) (h .grid))
       (λ (b : eqb (s .place) place.mapHead ≡ false).
       by-test (λ (m : Map). BoundedMap m) (eqb (s .place) place.pinList) _ _
       (λ (c : eqb (s .place) place.pinList ≡ true). pin-bounded (s .map) (h .grid))

@@ -1,3 +1,4 @@
+pub mod ResultLaws
 pub mod StepLaws
 pub mod KeptLaws
 pub mod WalkLaws

@@ -1,15 +1,14 @@
 -- Laws of lines of the model list by their first byte: that byte starts the first word, so no bracket comes before it.
 -- Assumes nothing.
 use mathlib.Core.Path.{_≡_, refl, sym, _∙_, ap}
-use mathlib.Core.Bool.{Bool, true, false, not, true≢false}
+use mathlib.Core.Bool.{Bool, true, false}
 use mathlib.Core.List.{List, [], _∷_, map}
-use Prim.Native.Nat.{ℕ, _+_, _<_}
+use Prim.Native.Nat.{ℕ, _<_}
 use native.Mathlib.Omega.{arith}
 use lib.ListN.{getD}
-use lib.Dec.{ltb, eqb}
 use borrow.Author.Tests.{ne-eqb, eqb-false, ltb-true, not-true}
-use Rattle.base.specs.If.{if_then_else_, both, either}
-use Rattle.base.specs.Bytes.{isBlank, bytes}
+use Rattle.base.specs.If.{if_then_else_}
+use Rattle.base.specs.Bytes.{isBlank}
 use Rattle.base.specs.Runs.{run, same}
 use Rattle.base.specs.Way.Class.{runEnd}
 use Rattle.base.proofs.IfLaws.{if-false, by-test, both-first, both-second, both-not-left, either-false}

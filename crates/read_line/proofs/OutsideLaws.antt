@@ -10,7 +10,7 @@ use lib.ListN.{length}
 use lib.Dec.{eqb}
 use borrow.Author.Tests.{ne-eqb, eqb-true, eqb-false, ltb-false}
 use Rattle.base.specs.If.{if_then_else_}
-use Rattle.base.specs.Broken.{Rule, _when_}
+use Rattle.base.specs.Refusal as refusal
 use Rattle.base.proofs.IfLaws.{if-true, if-false, by-test, by-cases, both-rest}
 use Rattle.base.proofs.BrokenLaws.{Numbered, all-kept}
 use Rattle.lex_line.specs.Lines.{Raw, isBlankLine}
@@ -21,11 +21,10 @@ use Rattle.lex_keyword.specs.declared.Bracket.{Bracket}
 use Rattle.lex_keyword.specs.declared.Bracket.the-variants.{Plain, Indented, Bad, Unknown, Later, Keyword}
 use Rattle.line_place.specs.Place.{isText, before, done, movedByLine}
 use Rattle.line_place.specs.Place as place
-use Rattle.line_argument.specs.Argument.{isBadArgument, isBadInteger, isOutOfBounds}
 use Rattle.line_path.specs.Path.{pathOpen, newPath}
 use Rattle.line_path.specs.declared.Path.{Path}
 use Rattle.line_path.proofs.DepthLaws.{new-outside}
-use Rattle.line_keyword.specs.Keywords.{isForkOpen, isMisplaced, isShapeBroken, isPastBound, pathAfter, keywordRule, keywordNext}
+use Rattle.line_keyword.specs.Keywords.{isForkOpen, isMisplaced, pathAfter, keywordRules, keywordRule, keywordNext}
 use Rattle.line_keyword.specs.State.{startState}
 use Rattle.line_keyword.specs.declared.State.{State}
 use Rattle.read_line.specs.Reading.{
@@ -34,15 +33,13 @@ use Rattle.read_line.specs.Reading.{
   judged,
   lineRule,
   lineNext,
-  lineStep,
-  keywordStep,
   argumentFrom,
-  bracketStep,
-  beforeStep,
   lineResult,
 }
+use Rattle.read_line.specs.Way.Steps.{lineStep, keywordStep, bracketStep, beforeStep}
 use Rattle.read_line.specs.Way.Trace.{brokenAt, afterwards, meetingOf, meetings, stateAfter, AllGo}
 use Rattle.read_line.specs.declared.LineResult.{LineResult}
+use Rattle.read_line.proofs.ResultLaws.{result-steps}
 use Rattle.read_line.proofs.ReadingLaws.{meet-goes, meet-stops, by-broken, head-goes, tail-goes}
 
 -- ---- what lines with and without a keyword preserve, every line preserves
@@ -89,10 +86,10 @@ module _ (P : State → Type 0) where
 
     holds-bracket : (b : Bracket) (content : List ℕ) (s : State) → ((k : ℕ) → Met k s) → P s → Holds (bracketStep b content s)
     holds-bracket Plain content s met h = holds-line content s h
-    holds-bracket Indented content s met h = holds-if (isText (s .place)) _ _ (holds-line content s h) (holds-breaks 6 s (omega arith))
-    holds-bracket Bad content s met h = holds-breaks 6 s (omega arith)
-    holds-bracket Unknown content s met h = holds-breaks 7 s (omega arith)
-    holds-bracket Later content s met h = holds-breaks 8 s (omega arith)
+    holds-bracket Indented content s met h = holds-if (isText (s .place)) _ _ (holds-line content s h) (holds-breaks refusal.keyword s (omega arith))
+    holds-bracket Bad content s met h = holds-breaks refusal.keyword s (omega arith)
+    holds-bracket Unknown content s met h = holds-breaks refusal.unknown s (omega arith)
+    holds-bracket Later content s met h = holds-breaks refusal.later s (omega arith)
     holds-bracket (Keyword key start) content s met h = holds-keyword key (argumentFrom content start) s (met key) h
 
     holds-before : (b : Bracket) (content : List ℕ) (s : State) → (s .place ≡ done → ⊥) → P s → Holds (beforeStep b content s)
@@ -108,9 +105,9 @@ module _ (P : State → Type 0) where
         (λ (e : eqb key beginHeader ≡ false). holds-goes s h)
 
     pub step-holds : (content : List ℕ) (s : State) → P s → lineResult content s .rule ≡ 0 → P (lineResult content s .state)
-    unfolding lineResult
     step-holds content s h =
-        holds-if (isBlankLine content) _ _ (holds-goes s h)
+        rw (result-steps content s)
+        (holds-if (isBlankLine content) _ _ (holds-goes s h)
         (by-test (λ (x : LineResult). Holds x) (eqb (s .place) done) _ _
         (λ (d : eqb (s .place) done ≡ true). holds-goes s h)
         (λ (d : eqb (s .place) done ≡ false).
@@ -118,7 +115,7 @@ module _ (P : State → Type 0) where
         (λ (b : eqb (s .place) before ≡ true). holds-before (bracketOf content) content s (eqb-false _ _ d) h)
         (λ (b : eqb (s .place) before ≡ false).
         holds-bracket (bracketOf content) content s
-        (λ (k : ℕ). record { on = eqb-false _ _ d; first = λ (e : s .place ≡ before). absurd (eqb-false _ _ b e) }) h)))
+        (λ (k : ℕ). record { on = eqb-false _ _ d; first = λ (e : s .place ≡ before). absurd (eqb-false _ _ b e) }) h))))
 
 -- ---- what every line preserves holds after all lines
 
@@ -145,29 +142,17 @@ along P step n ls s h a = along-counted (λ (m : ℕ) (r : State). P r) (λ (m :
 -- ---- the first two rules of a keyword that breaks none
 
 module _ (k : ℕ) (argument : List ℕ) (s : State) where
-  -- the rules in their order
-  abbrev keywordRules : List Rule
-  keywordRules =
-      15 when isForkOpen s
-      ∷ 9 when isMisplaced k s
-      ∷ 11 when isBadArgument k argument
-      ∷ 13 when isBadInteger k argument
-      ∷ 14 when isOutOfBounds k argument
-      ∷ 16 when isShapeBroken k argument s
-      ∷ 17 when isPastBound k s
-      ∷ []
-
-  numbered : Numbered keywordRules
+  numbered : Numbered (keywordRules k argument s)
   numbered = (omega arith, (omega arith, (omega arith, (omega arith, (omega arith, (omega arith, (omega arith, tt)))))))
 
   module _ (kept : keywordRule k argument s ≡ 0) where
     pub keyword-closed : isForkOpen s ≡ false
     unfolding keywordRule
-    keyword-closed = all-kept keywordRules numbered kept 0
+    keyword-closed = all-kept (keywordRules k argument s) numbered kept 0
 
     pub keyword-placed : isMisplaced k s ≡ false
     unfolding keywordRule
-    keyword-placed = all-kept keywordRules numbered kept 1
+    keyword-placed = all-kept (keywordRules k argument s) numbered kept 1
 
 -- ---- outside a path no fork is open
 

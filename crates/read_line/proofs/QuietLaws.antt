@@ -25,22 +25,22 @@ use Rattle.lex_keyword.proofs.BracketLaws.{reads-plain}
 use Rattle.line_place.specs.Place as place
 use Rattle.line_argument.specs.Argument.{isReserved}
 use Rattle.line_keyword.specs.declared.State.{State}
-use Rattle.read_line.specs.Reading.{goes, breaks, lineStep, bracketStep, lineResult}
+use Rattle.read_line.specs.Reading.{goes, breaks, lineResult}
+use Rattle.read_line.specs.Way.Steps.{lineStep, bracketStep}
 use Rattle.read_line.specs.Way.Walk.{Opens, Decides, Fronted}
 use Rattle.read_line.specs.declared.Front.{Front}
 use Rattle.read_line.specs.declared.Front.the-variants.{Blanks, Words, Opening}
+use Rattle.read_line.proofs.ResultLaws.{result-steps}
 use Rattle.read_line.proofs.StepLaws.{list-goes, blank-told}
 
 -- ---- blank lines, and those without a bracket
 
 pub quiet-blank : (content : List ℕ) (b : Bool) → b ≡ isBlankLine content → b ≡ true → (s : State) → lineResult content s ≡ goes s
-unfolding lineResult
-quiet-blank content b told e s = if-true _ _ (sym told ∙ e)
+quiet-blank content b told e s = result-steps content s ∙ if-true _ _ (sym told ∙ e)
 
 plain-step : (content : List ℕ) → isBlankLine content ≡ false → bracketOf content ≡ Plain → (s : State) → (s .place ≡ place.done → ⊥) → (s .place ≡ place.before → ⊥) → lineResult content s ≡ lineStep content s
-unfolding lineResult
 plain-step content filled plain s d b =
-    if-false _ _ filled ∙ if-false _ _ (ne-eqb _ _ d) ∙ if-false _ _ (ne-eqb _ _ b) ∙ ap (λ (x : Bracket). bracketStep x content s) plain
+    result-steps content s ∙ if-false _ _ filled ∙ if-false _ _ (ne-eqb _ _ d) ∙ if-false _ _ (ne-eqb _ _ b) ∙ ap (λ (x : Bracket). bracketStep x content s) plain
 
 -- ---- lines with a bracket
 

@@ -3,27 +3,24 @@
 -- list; and what holds in every state on the way.
 -- Assumes nothing.
 use mathlib.Core.Path.{_≡_, refl, sym, _∙_, ap, subst}
-use mathlib.Core.Bool.{Bool, true, false}
+use mathlib.Core.Bool.{true, false}
 use mathlib.Core.List.{List, [], _∷_}
-use Prim.Native.Nat.{ℕ, zero, suc, _+_, _≤_, _<_, zero-le, suc-le-suc}
-use native.Mathlib.Nat.{le-refl}
+use Prim.Native.Nat.{ℕ, _+_, _<_}
 use native.Mathlib.Omega.{arith}
 use lib.Dec.{eqb}
 use borrow.Author.Tests.{eq-eqb, ne-eqb, eqb-true, eqb-false}
 use Rattle.base.specs.If.{if_then_else_}
+use Rattle.base.specs.Broken.{firstBroken}
 use Rattle.base.proofs.IfLaws.{if-true, if-false, by-cases}
 use Rattle.lex_line.specs.Lines.{Raw, lines}
-use Rattle.line_keyword.specs.Way.Bounded.{BoundedState}
 use Rattle.line_keyword.specs.State.{startState}
 use Rattle.line_keyword.specs.declared.Counts.{Counts}
 use Rattle.line_keyword.specs.declared.State.{State}
-use Rattle.line_keyword.proofs.KeptLaws.{start-kept}
-use Rattle.line_place.specs.Place.{before, done}
-use Rattle.read_line.specs.Reading.{commentByte, lineResult, onward, readFrom, atEnd, readingOf}
+use Rattle.line_place.specs.Place.{done}
+use Rattle.read_line.specs.Reading.{onward, readFrom, endOfTextRules, atEnd, readingOf}
 use Rattle.read_line.specs.Way.Trace.{Meeting, brokenAt, afterwards, meetingOf, meetings, stateAfter, AllGo, none, more, FirstBroken, here, later}
-use Rattle.read_line.specs.declared.Reading.{Reading}
 use Rattle.read_line.specs.declared.Reading.the-variants.{Read, Refused}
-use Rattle.read_line.proofs.WalkLaws.{step-kept}
+use Rattle.read_line.proofs.ResultLaws.{refused-not-read, end-read, end-done}
 
 -- ---- the reading, line by line
 
@@ -56,30 +53,16 @@ tail-goes m ms (more e rest) = rest
 
 -- ---- the answers told apart
 
-refused-not-read : (k n : ℕ) (c : Counts) → Refused k n ≡ Read c → ⊥
-refused-not-read k n c e =
-    let z : _≡_ {A = ℕ} 0 1 = cc in
-    omega arith
-
 -- a refusal at the end of the text has line 0
 end-not-line : (s : State) (k m : ℕ) → 0 < m → atEnd s ≡ Refused k m → ⊥
 unfolding atEnd
 end-not-line s k m h e =
-    by-cases ⊥ (eqb (s .place) done)
-    (λ (d : eqb (s .place) done ≡ true). refused-not-read k m (s .counts) (sym e ∙ if-true _ _ d))
-    (λ (d : eqb (s .place) done ≡ false).
-    by-cases ⊥ (eqb (s .place) before)
-    (λ (b : eqb (s .place) before ≡ true). let r : Refused 5 0 ≡ Refused k m = sym (if-false _ _ d ∙ if-true _ _ b) ∙ e in let z : 0 ≡ m = cc in omega arith)
-    (λ (b : eqb (s .place) before ≡ false). let r : Refused 10 0 ≡ Refused k m = sym (if-false _ _ d ∙ if-false _ _ b) ∙ e in let z : 0 ≡ m = cc in omega arith))
-
-end-done : (s : State) (c : Counts) → atEnd s ≡ Read c → s .place ≡ done
-unfolding atEnd
-end-done s c e =
-    by-cases (s .place ≡ done) (eqb (s .place) done) (λ (d : eqb (s .place) done ≡ true). eqb-true _ _ d)
-    (λ (d : eqb (s .place) done ≡ false).
-    by-cases (s .place ≡ done) (eqb (s .place) before)
-    (λ (b : eqb (s .place) before ≡ true). absurd (refused-not-read 5 0 c (sym (if-false _ _ d ∙ if-true _ _ b) ∙ e)))
-    (λ (b : eqb (s .place) before ≡ false). absurd (refused-not-read 10 0 c (sym (if-false _ _ d ∙ if-false _ _ b) ∙ e))))
+    by-cases ⊥ (eqb (firstBroken (endOfTextRules s)) 0)
+    (λ (d : eqb (firstBroken (endOfTextRules s)) 0 ≡ true). refused-not-read k m (s .counts) (sym e ∙ if-true _ _ d))
+    (λ (d : eqb (firstBroken (endOfTextRules s)) 0 ≡ false).
+    let r : Refused (firstBroken (endOfTextRules s)) 0 ≡ Refused k m = sym (if-false _ _ d) ∙ e in
+    let z : 0 ≡ m = cc in
+    omega arith)
 
 refused-here : (m : Meeting) (k n : ℕ) → (brokenAt m ≡ 0 → ⊥) → Refused (brokenAt m) (m .line) ≡ Refused k n → FirstBroken k n (m ∷ [])
 refused-here m k n z e =
@@ -158,8 +141,8 @@ first-refused n (l ∷ ls) s k m f =
 
 -- it reads to its end exactly when no line that is reached breaks a rule and the last place is after [End]
 pub reads-when : (t : List ℕ) → AllGo (meetings 1 (lines t) startState) → stateAfter 1 (lines t) startState .place ≡ done → readingOf t ≡ Read (stateAfter 1 (lines t) startState .counts)
-unfolding readingOf atEnd
-reads-when t a p = all-read 1 (lines t) startState a ∙ if-true _ _ (eq-eqb _ _ p)
+unfolding readingOf
+reads-when t a p = all-read 1 (lines t) startState a ∙ sym (end-read (stateAfter 1 (lines t) startState) p)
 
 pub reads-only : (t : List ℕ) (c : Counts) → readingOf t ≡ Read c → AllGo (meetings 1 (lines t) startState)
 unfolding readingOf
@@ -167,4 +150,4 @@ reads-only t c e = read-goes 1 (lines t) startState c e
 
 pub reads-done : (t : List ℕ) (c : Counts) → readingOf t ≡ Read c → stateAfter 1 (lines t) startState .place ≡ done
 unfolding readingOf
-reads-done t c e = end-done (stateAfter 1 (lines t) startState) c (sym (all-read 1 (lines t) startState (reads-only t c e)) ∙ e)
+reads-done t c e = end-done (stateAfter 1 (lines t) startState) c (sym (all-read 1 (lines t) startState (reads-only t c e)) ∙ e) .0

@@ -6,9 +6,13 @@ use mathlib.Core.List.{List, [], _∷_}
 use Prim.Native.Nat.{ℕ, _+_, _-_, _^_, _≤_, _<_}
 use native.Mathlib.Omega.{arith}
 use lib.Dec.{eqb}
-use borrow.Author.Tests.{eq-eqb, ne-eqb, eqb-true, eqb-false, ltb-false}
+use borrow.Author.Tests.{eq-eqb, ne-eqb, eqb-true, eqb-false}
+use Rattle.table_layout.specs.Bounds.{mostPins, mostValues, mostSteps, mostMapPins}
 use Rattle.base.specs.If.{if_then_else_, both, either}
+use Rattle.base.specs.Broken.{_when_, first, firstBroken}
+use Rattle.base.specs.Refusal as refusal
 use Rattle.base.proofs.IfLaws.{if-true, if-false, by-cases, either-rest}
+use Rattle.base.proofs.BrokenLaws.{first-broken, first-kept, lists-yes, lists-no}
 use Rattle.lex_line.specs.Words.{words, firstOf, lastEnd}
 use Rattle.lex_line.specs.Way.Spans.{lastWord}
 use Rattle.line_place.specs.Place.{movedByLine, isText}
@@ -17,16 +21,17 @@ use Rattle.line_argument.specs.Argument.{isReserved, isOutOfBounds}
 use Rattle.line_head.specs.Head.{headLineOf, headRule, headNext}
 use Rattle.line_head.specs.declared.Head.{Head}
 use Rattle.line_head.specs.declared.HeadLine.{HeadLine}
-use Rattle.line_path.specs.Path.{mostSteps, pathLineOf, pathRule, pathNext, isStepLine}
+use Rattle.line_path.specs.Path.{pathLineOf, pathRule, pathNext, isStepLine}
 use Rattle.line_path.proofs.DepthLaws.{depth-within}
 use Rattle.line_path.specs.declared.Path.{Path}
 use Rattle.line_path.specs.declared.PathLine.{PathLine}
-use Rattle.line_map.specs.PinMap.{mostPins, mapLineOf, mapRule, mapNext, pinRule, withPin}
+use Rattle.line_map.specs.PinMap.{mapLineOf, mapRule, mapNext, pinRule, withPin}
 use Rattle.line_map.specs.declared.Map.{Map}
 use Rattle.line_map.specs.declared.MapLine.{MapLine}
-use Rattle.line_matrix.specs.Matrix.{dataLineOf, dataRule, dataNext, mostValues}
+use Rattle.line_matrix.specs.Matrix.{dataLineOf, dataRule, dataNext}
 use Rattle.line_map.proofs.MapLaws.{pin-fits}
 use Rattle.read_line.proofs.KeptLaws.{data-fits, pin-total, step-room}
+use Rattle.read_line.proofs.ResultLaws.{rule-matrix, rule-path, rule-pins, rule-map, rule-head, rule-list}
 use Rattle.line_matrix.specs.declared.Matrix.{Matrix}
 use Rattle.line_matrix.specs.declared.DataLine.{DataLine}
 use Rattle.line_keyword.specs.Keywords.{oneMoreIf, keywordRule, keywordNext}
@@ -44,7 +49,8 @@ use lib.ListN.{length, take, drop}
 use native.Mathlib.Nat.{zero-add}
 use Rattle.line_keyword.specs.declared.State.{State}
 use Rattle.read_line.specs.declared.LineResult.{LineResult}
-use Rattle.read_line.specs.Reading.{listRule, lineRule, countsAfterLine, lineNext, goes, breaks, judged, lineStep, keywordStep, argumentFrom, bracketStep, beforeStep}
+use Rattle.read_line.specs.Reading.{lineRule, countsAfterLine, lineNext, goes, breaks, judged, argumentFrom}
+use Rattle.read_line.specs.Way.Steps.{lineStep, keywordStep, bracketStep, beforeStep}
 use Rattle.read_line.specs.Way.Walk.{Decides, Stepping, ReadLineByLine, withPath, withPinned, withMatrix}
 
 -- ---- a line judged
@@ -66,33 +72,6 @@ module _ (content : List ℕ) (s : State) (k : ℕ) (rule : k ≡ lineRule conte
   line-goes : k ≡ 0 → (next : State) → next ≡ lineNext content s → goes next ≡ lineStep content s
   unfolding lineStep
   line-goes h next e = ap goes e ∙ judged-goes k (lineNext content s) s h ∙ ap (λ (n : ℕ). judged n (lineNext content s) s) rule
-
--- ---- the rule of each place
-
-module _ (content : List ℕ) (s : State) where
-  rule-matrix : s .place ≡ place.matrix → lineRule content s ≡ dataRule (dataLineOf (s .matrix .form) content) (s .matrix) (s .counts .values)
-  unfolding lineRule isText either if_then_else_
-  rule-matrix e = rw e
-
-  rule-path : s .place ≡ place.path → lineRule content s ≡ pathRule (pathLineOf content) (s .path) (s .counts .steps)
-  unfolding lineRule isText either if_then_else_
-  rule-path e = rw e
-
-  rule-pins : s .place ≡ place.pinList → lineRule content s ≡ pinRule content (s .map) (s .counts .pins)
-  unfolding lineRule isText either if_then_else_
-  rule-pins e = rw e
-
-  rule-map : s .place ≡ place.mapHead → lineRule content s ≡ mapRule (mapLineOf content) (s .map)
-  unfolding lineRule isText either if_then_else_
-  rule-map e = rw e
-
-  rule-head : s .place ≡ place.head → lineRule content s ≡ headRule (headLineOf content) (s .head)
-  unfolding lineRule isText either if_then_else_
-  rule-head e = rw e
-
-  rule-list : s .place ≡ place.list → lineRule content s ≡ listRule content
-  unfolding lineRule isText either if_then_else_
-  rule-list e = rw e
 
 -- ---- the next state of each place
 
@@ -186,26 +165,25 @@ module _ (content : List ℕ) (s : State) (r : LineResult) where
         e ∙ line-goes content s k map-rule h (withMap s p next) ((λ i. withMap s (q i) (m i)) ∙ next-map content s here)
 
   module _ (here : s .place ≡ place.list) (first : List ℕ) (word : first ≡ firstOf (words content)) (b : Bool) (told : b ≡ isReserved first) where
-    list-rule : (k : ℕ) → (if b then 11 else 0) ≡ k → k ≡ lineRule content s
-    unfolding listRule
-    list-rule k e = sym (rule-list content s here ∙ ap (λ (x : Bool). if x then 11 else 0) (sym (told ∙ ap isReserved word)) ∙ e)
+    list-rule : (k : ℕ) → firstBroken (refusal.argument when b ∷ []) ≡ k → k ≡ lineRule content s
+    list-rule k e = sym (rule-list content s here ∙ ap (λ (x : Bool). firstBroken (refusal.argument when x ∷ [])) (sym (told ∙ ap isReserved word)) ∙ e)
 
-    pub list-stops : b ≡ true → r ≡ breaks 11 s → r ≡ lineStep content s
-    list-stops h e = e ∙ line-stops content s 11 (list-rule 11 (if-true _ _ h)) (λ (z : 11 ≡ 0). omega arith)
+    pub list-stops : b ≡ true → r ≡ breaks refusal.argument s → r ≡ lineStep content s
+    list-stops h e = e ∙ line-stops content s refusal.argument (list-rule refusal.argument (first-broken _ _ _ h)) (λ (z : refusal.argument ≡ 0). omega arith)
 
     pub list-goes : b ≡ false → r ≡ goes s → r ≡ lineStep content s
-    list-goes h e = e ∙ line-goes content s 0 (list-rule 0 (if-false _ _ h)) refl s (next-same content s place.list here (next-list content s here))
+    list-goes h e = e ∙ line-goes content s 0 (list-rule 0 (first-kept _ _ _ _ h refl)) refl s (next-same content s place.list here (next-list content s here))
 
   pub text-goes : (b : Bool) → b ≡ isText (s .place) → b ≡ true → r ≡ goes s → r ≡ lineStep content s
   unfolding lineRule
-  text-goes b told h e = e ∙ line-goes content s 0 (sym (if-true _ _ (sym told ∙ h))) refl s (next-text content s (sym told ∙ h))
+  text-goes b told h e = e ∙ line-goes content s 0 (sym (lists-yes _ _ _ (sym told ∙ h))) refl s (next-text content s (sym told ∙ h))
 
-  pub other-stops : ReadLineByLine (s .place) → (s .place ≡ place.list → ⊥) → (s .place ≡ place.mapHead → ⊥) → (s .place ≡ place.head → ⊥) → (b : Bool) → b ≡ isText (s .place) → b ≡ false → r ≡ breaks 12 s → r ≡ lineStep content s
-  unfolding lineRule
+  pub other-stops : ReadLineByLine (s .place) → (s .place ≡ place.list → ⊥) → (s .place ≡ place.mapHead → ⊥) → (s .place ≡ place.head → ⊥) → (b : Bool) → b ≡ isText (s .place) → b ≡ false → r ≡ breaks refusal.line s → r ≡ lineStep content s
+  unfolding lineRule first
   other-stops o l d h b told f e =
-      e ∙ line-stops content s 12
-      (sym (if-false _ _ (sym told ∙ f) ∙ if-false _ _ (ne-eqb _ _ (o .matrix)) ∙ if-false _ _ (ne-eqb _ _ (o .path)) ∙ if-false _ _ (ne-eqb _ _ (o .pins)) ∙ if-false _ _ (ne-eqb _ _ d) ∙ if-false _ _ (ne-eqb _ _ h) ∙ if-false _ _ (ne-eqb _ _ l)))
-      (λ (z : 12 ≡ 0). omega arith)
+      e ∙ line-stops content s refusal.line
+      (sym (lists-no _ _ _ (sym told ∙ f) ∙ lists-no _ _ _ (ne-eqb _ _ (o .matrix)) ∙ lists-no _ _ _ (ne-eqb _ _ (o .path)) ∙ lists-no _ _ _ (ne-eqb _ _ (o .pins)) ∙ lists-no _ _ _ (ne-eqb _ _ d) ∙ lists-no _ _ _ (ne-eqb _ _ h) ∙ lists-no _ _ _ (ne-eqb _ _ l)))
+      (λ (z : refusal.line ≡ 0). omega arith)
 
 -- a text block is none of the places whose lines are read together
 text-matrix : isText place.matrix ≡ false
@@ -281,7 +259,7 @@ module _ (content : List ℕ) (m : Matrix) (values : ℕ) (l : DataLine) (read :
 
 pub pins-small : (content : List ℕ) (m : Map) (total k : ℕ) → k ≡ pinRule content m total → k ≡ 0 → m .pins < 4_294_967_296
 pins-small content m total k rule e =
-    let h : m .pins < 256 = pin-fits content m total (sym rule ∙ e) in
+    let h : m .pins < mostMapPins = pin-fits content m total (sym rule ∙ e) in
     omega arith
 
 pub pins-room : (content : List ℕ) (m : Map) (total k : ℕ) → k ≡ pinRule content m total → k ≡ 0 → total < mostPins

@@ -11,6 +11,7 @@ use lib.Dec.{eqb}
 use borrow.Author.Tests.{eq-eqb, ne-eqb, eqb-true, eqb-false}
 use Rattle.base.specs.Runs.{run as run′}
 use Rattle.base.specs.If.{if_then_else_}
+use Rattle.base.specs.Refusal as refusal
 use Rattle.base.specs.Bytes.{isContent}
 use Rattle.base.proofs.IfLaws.{if-true, if-false, by-cases}
 use Rattle.base.proofs.RunLaws.{run-le}
@@ -38,23 +39,21 @@ use Rattle.read_line.specs.Reading.{
   lineRule,
   countsAfterLine,
   lineNext,
-  lineStep,
-  keywordStep,
   argumentFrom,
-  bracketStep,
-  beforeStep,
   lineResult,
   onward,
   readFrom,
   atEnd,
   readingOf,
 }
+use Rattle.read_line.specs.Way.Steps.{lineStep, keywordStep, bracketStep, beforeStep}
 use Rattle.read_line.specs.Way.Walk.{resume, Onward, Rises, ResumesText}
 use Rattle.read_line.specs.declared.LineResult.{LineResult}
 use Rattle.read_line.specs.declared.Walk.{Walk}
 use Rattle.read_line.specs.declared.Reading.{Reading}
 use Rattle.read_line.specs.declared.Reading.the-variants.{Refused}
 use Rattle.read_line.proofs.KeptLaws.{line-kept}
+use Rattle.read_line.proofs.ResultLaws.{result-steps}
 
 -- ---- what a line that breaks nothing preserves
 
@@ -93,10 +92,10 @@ keeps-if n false x y h k = k
 
 keeps-bracket : (n : ℕ) (b : Bracket) (content : List ℕ) (s : State) → BoundedState n s → Keeps n (bracketStep b content s)
 keeps-bracket n Plain content s k = keeps-line n content s k
-keeps-bracket n Indented content s k = keeps-if n (isText (s .place)) _ _ (keeps-line n content s k) (keeps-breaks n 6 s (omega arith))
-keeps-bracket n Bad content s k = keeps-breaks n 6 s (omega arith)
-keeps-bracket n Unknown content s k = keeps-breaks n 7 s (omega arith)
-keeps-bracket n Later content s k = keeps-breaks n 8 s (omega arith)
+keeps-bracket n Indented content s k = keeps-if n (isText (s .place)) _ _ (keeps-line n content s k) (keeps-breaks n refusal.keyword s (omega arith))
+keeps-bracket n Bad content s k = keeps-breaks n refusal.keyword s (omega arith)
+keeps-bracket n Unknown content s k = keeps-breaks n refusal.unknown s (omega arith)
+keeps-bracket n Later content s k = keeps-breaks n refusal.later s (omega arith)
 keeps-bracket n (Keyword key start) content s k = keeps-keyword n key (argumentFrom content start) s k
 
 keeps-before : (n : ℕ) (b : Bracket) (content : List ℕ) (s : State) → BoundedState n s → Keeps n (beforeStep b content s)
@@ -108,11 +107,11 @@ keeps-before n Later content s k = keeps-goes n s k
 keeps-before n (Keyword key start) content s k = keeps-if n (eqb key beginHeader) _ _ (keeps-keyword n key (argumentFrom content start) s k) (keeps-goes n s k)
 
 pub step-kept : (n : ℕ) (content : List ℕ) (s : State) → BoundedState n s → Keeps n (lineResult content s)
-unfolding lineResult
 step-kept n content s k =
-    keeps-if n (isBlankLine content) _ _ (keeps-goes n s k)
+    rw (result-steps content s)
+    (keeps-if n (isBlankLine content) _ _ (keeps-goes n s k)
     (keeps-if n (eqb (s .place) done) _ _ (keeps-goes n s k)
-    (keeps-if n (eqb (s .place) before) _ _ (keeps-before n (bracketOf content) content s k) (keeps-bracket n (bracketOf content) content s k)))
+    (keeps-if n (eqb (s .place) before) _ _ (keeps-before n (bracketOf content) content s k) (keeps-bracket n (bracketOf content) content s k))))
 
 -- ---- the count of values never falls
 
@@ -157,10 +156,10 @@ raises-keyword k argument s = raises-judged (keywordRule k argument s) (keywordN
 
 raises-bracket : (b : Bracket) (content : List ℕ) (s : State) → Raises s (bracketStep b content s)
 raises-bracket Plain content s = raises-line content s
-raises-bracket Indented content s = raises-if s (isText (s .place)) _ _ (raises-line content s) (raises-breaks 6 s)
-raises-bracket Bad content s = raises-breaks 6 s
-raises-bracket Unknown content s = raises-breaks 7 s
-raises-bracket Later content s = raises-breaks 8 s
+raises-bracket Indented content s = raises-if s (isText (s .place)) _ _ (raises-line content s) (raises-breaks refusal.keyword s)
+raises-bracket Bad content s = raises-breaks refusal.keyword s
+raises-bracket Unknown content s = raises-breaks refusal.unknown s
+raises-bracket Later content s = raises-breaks refusal.later s
 raises-bracket (Keyword key start) content s = raises-keyword key (argumentFrom content start) s
 
 raises-before : (b : Bracket) (content : List ℕ) (s : State) → Raises s (beforeStep b content s)
@@ -172,11 +171,11 @@ raises-before Later content s = raises-goes s
 raises-before (Keyword key start) content s = raises-if s (eqb key beginHeader) _ _ (raises-keyword key (argumentFrom content start) s) (raises-goes s)
 
 pub step-raises : (content : List ℕ) (s : State) → Raises s (lineResult content s)
-unfolding lineResult
 step-raises content s =
-    raises-if s (isBlankLine content) _ _ (raises-goes s)
+    rw (result-steps content s)
+    (raises-if s (isBlankLine content) _ _ (raises-goes s)
     (raises-if s (eqb (s .place) done) _ _ (raises-goes s)
-    (raises-if s (eqb (s .place) before) _ _ (raises-before (bracketOf content) content s) (raises-bracket (bracketOf content) content s)))
+    (raises-if s (eqb (s .place) before) _ _ (raises-before (bracketOf content) content s) (raises-bracket (bracketOf content) content s))))
 
 -- ---- one line
 

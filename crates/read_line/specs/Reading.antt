@@ -2,11 +2,13 @@
 -- Assumes nothing.
 use Prim.Native.Nat.{ℕ, _+_, _-_}
 use Prim.Native.Char.{code}
-use mathlib.Core.Bool.{Bool, true, false, not}
+use mathlib.Core.Bool.{true, not}
 use mathlib.Core.List.{List, [], _∷_}
-use lib.ListN.{length, take, drop}
+use lib.ListN.{take, drop}
 use lib.Dec.{eqb}
 use Rattle.base.specs.If.{if_then_else_, both}
+use Rattle.base.specs.Broken.{Rule, _when_, firstBroken}
+use Rattle.base.specs.Refusal as refusal
 use Rattle.lex_line.specs.Lines.{Raw, lines, contentOf, isBlankLine}
 use Rattle.lex_line.specs.Words.{words, firstOf, lastEnd}
 use Rattle.lex_keyword.specs.Names.{beginHeader}
@@ -15,12 +17,12 @@ use Rattle.lex_keyword.specs.declared.Bracket.{Bracket}
 use Rattle.lex_keyword.specs.declared.Bracket.the-variants.{Plain, Indented, Bad, Unknown, Later, Keyword}
 use Rattle.line_place.specs.Place.{movedByLine, isText, before, done}
 use Rattle.line_place.specs.Place as place
-use Rattle.line_argument.specs.Argument.{isReserved, isBadArgument}
-use Rattle.line_head.specs.Head.{headLineOf, headRule, headNext}
-use Rattle.line_path.specs.Path.{pathLineOf, pathRule, pathNext, isStepLine}
-use Rattle.line_map.specs.PinMap.{mapLineOf, mapRule, mapNext, pinRule, withPin}
-use Rattle.line_matrix.specs.Matrix.{dataLineOf, dataRule, dataNext}
-use Rattle.line_keyword.specs.Keywords.{keywordRule, keywordNext, oneMoreIf}
+use Rattle.line_argument.specs.Argument.{isReserved}
+use Rattle.line_head.specs.Head.{headLineOf, headRules, headNext}
+use Rattle.line_path.specs.Path.{pathLineOf, pathRules, pathNext, isStepLine}
+use Rattle.line_map.specs.PinMap.{mapLineOf, mapRules, mapNext, pinRules, withPin}
+use Rattle.line_matrix.specs.Matrix.{dataLineOf, dataRules, dataNext}
+use Rattle.line_keyword.specs.Keywords.{keywordRules, keywordNext, oneMoreIf}
 use Rattle.line_keyword.specs.State.{startState}
 use Rattle.line_keyword.specs.declared.Counts.{Counts}
 use Rattle.line_keyword.specs.declared.State.{State}
@@ -31,19 +33,22 @@ use Rattle.read_line.specs.declared.Reading.the-variants.{Read, Refused}
 -- ---- lines without a keyword
 
 -- "one model per line, first word the name", which is never a reserved word
-unfoldable pub listRule : List ℕ → ℕ
-listRule content = if isReserved (firstOf (words content)) then 11 else 0
+abbrev pub listRules : List ℕ → List Rule
+listRules content = refusal.argument when isReserved (firstOf (words content)) ∷ []
 
 -- "12 LINE: other line that its place does not take"; a text block takes any line
+abbrev pub lineRules : List ℕ → State → List Rule
+lineRules content s =
+    if isText (s .place) then [] else
+    if eqb (s .place) place.matrix then dataRules (dataLineOf (s .matrix .form) content) (s .matrix) (s .counts .values) else
+    if eqb (s .place) place.path then pathRules (pathLineOf content) (s .path) (s .counts .steps) else
+    if eqb (s .place) place.pinList then pinRules content (s .map) (s .counts .pins) else
+    if eqb (s .place) place.mapHead then mapRules (mapLineOf content) (s .map) else
+    if eqb (s .place) place.head then headRules (headLineOf content) (s .head) else
+    if eqb (s .place) place.list then listRules content else refusal.line when true ∷ []
+
 unfoldable pub lineRule : List ℕ → State → ℕ
-lineRule content s =
-    if isText (s .place) then 0 else
-    if eqb (s .place) place.matrix then dataRule (dataLineOf (s .matrix .form) content) (s .matrix) (s .counts .values) else
-    if eqb (s .place) place.path then pathRule (pathLineOf content) (s .path) (s .counts .steps) else
-    if eqb (s .place) place.pinList then pinRule content (s .map) (s .counts .pins) else
-    if eqb (s .place) place.mapHead then mapRule (mapLineOf content) (s .map) else
-    if eqb (s .place) place.head then headRule (headLineOf content) (s .head) else
-    if eqb (s .place) place.list then listRule content else 12
+lineRule content s = firstBroken (lineRules content s)
 
 -- the counts after a line without a keyword
 unfoldable pub countsAfterLine : List ℕ → State → Counts
@@ -80,6 +85,50 @@ lineNext content s =
 unfoldable pub argumentFrom : List ℕ → ℕ → List ℕ
 argumentFrom content start = take (lastEnd content - start) (drop start content)
 
+-- the rules that a line is checked for, and the state after it if it breaks none of them
+pub record RulesAndNext : Type 0 where
+  pub rules : List Rule
+  pub next : State
+
+-- a line that is checked for no rule and changes nothing
+abbrev pub passedOver : State → RulesAndNext
+passedOver s = record { rules = []; next = s }
+
+-- a line that breaks rule k in every state
+abbrev pub alwaysBreaks : ℕ → State → RulesAndNext
+alwaysBreaks k s = record { rules = k when true ∷ []; next = s }
+
+abbrev pub plainRulesAndNext : List ℕ → State → RulesAndNext
+plainRulesAndNext content s = record { rules = lineRules content s; next = lineNext content s }
+
+abbrev pub keywordRulesAndNext : ℕ → List ℕ → State → RulesAndNext
+keywordRulesAndNext k argument s = record { rules = keywordRules k argument s; next = keywordNext k argument s }
+
+-- a bad bracket is 6, a keyword not of 000 is 7, a later keyword is 8; these come before every other rule of the line
+abbrev pub bracketRulesAndNext : Bracket → List ℕ → State → RulesAndNext
+bracketRulesAndNext Plain content s = plainRulesAndNext content s
+bracketRulesAndNext Indented content s = if isText (s .place) then plainRulesAndNext content s else alwaysBreaks refusal.keyword s
+bracketRulesAndNext Bad content s = alwaysBreaks refusal.keyword s
+bracketRulesAndNext Unknown content s = alwaysBreaks refusal.unknown s
+bracketRulesAndNext Later content s = alwaysBreaks refusal.later s
+bracketRulesAndNext (Keyword k start) content s = keywordRulesAndNext k (argumentFrom content start) s
+
+-- "Lines before [Begin Header] .. are read only for 2, 3, 4": only that keyword, well formed and in column 1, counts
+abbrev pub beforeRulesAndNext : Bracket → List ℕ → State → RulesAndNext
+beforeRulesAndNext Plain content s = passedOver s
+beforeRulesAndNext Indented content s = passedOver s
+beforeRulesAndNext Bad content s = passedOver s
+beforeRulesAndNext Unknown content s = passedOver s
+beforeRulesAndNext Later content s = passedOver s
+beforeRulesAndNext (Keyword k start) content s = if eqb k beginHeader then keywordRulesAndNext k (argumentFrom content start) s else passedOver s
+
+-- "lines left blank are skipped"; a line after [End] breaks none of these rules
+unfoldable pub rulesAndNext : List ℕ → State → RulesAndNext
+rulesAndNext content s =
+    if isBlankLine content then passedOver s else
+    if eqb (s .place) done then passedOver s else
+    if eqb (s .place) before then beforeRulesAndNext (bracketOf content) content s else bracketRulesAndNext (bracketOf content) content s
+
 -- the line breaks no rule; s is the state after it
 unfoldable pub goes : State → LineResult
 goes s = record { rule = 0; state = s }
@@ -92,36 +141,8 @@ breaks k s = record { rule = k; state = s }
 unfoldable pub judged : ℕ → State → State → LineResult
 judged k next s = if eqb k 0 then goes next else breaks k s
 
-unfoldable pub lineStep : List ℕ → State → LineResult
-lineStep content s = judged (lineRule content s) (lineNext content s) s
-
-unfoldable pub keywordStep : ℕ → List ℕ → State → LineResult
-keywordStep k argument s = judged (keywordRule k argument s) (keywordNext k argument s) s
-
--- a bad bracket is 6, a keyword not of 000 is 7, a later keyword is 8; these come before every other rule of the line
-abbrev pub bracketStep : Bracket → List ℕ → State → LineResult
-bracketStep Plain content s = lineStep content s
-bracketStep Indented content s = if isText (s .place) then lineStep content s else breaks 6 s
-bracketStep Bad content s = breaks 6 s
-bracketStep Unknown content s = breaks 7 s
-bracketStep Later content s = breaks 8 s
-bracketStep (Keyword k start) content s = keywordStep k (argumentFrom content start) s
-
--- "Lines before [Begin Header] .. are read only for 2, 3, 4": only that keyword, well formed and in column 1, counts
-abbrev pub beforeStep : Bracket → List ℕ → State → LineResult
-beforeStep Plain content s = goes s
-beforeStep Indented content s = goes s
-beforeStep Bad content s = goes s
-beforeStep Unknown content s = goes s
-beforeStep Later content s = goes s
-beforeStep (Keyword k start) content s = if eqb k beginHeader then keywordStep k (argumentFrom content start) s else goes s
-
--- "lines left blank are skipped"; a line after [End] breaks none of these rules
 unfoldable pub lineResult : List ℕ → State → LineResult
-lineResult content s =
-    if isBlankLine content then goes s else
-    if eqb (s .place) done then goes s else
-    if eqb (s .place) before then beforeStep (bracketOf content) content s else bracketStep (bracketOf content) content s
+lineResult content s = judged (firstBroken (rulesAndNext content s .rules)) (rulesAndNext content s .next) s
 
 -- ---- the whole text
 
@@ -130,10 +151,11 @@ abbrev pub commentByte : ℕ
 commentByte = code "|"
 
 -- "5 HEADER: no [Begin Header] line (line 0)", "10 END: text stops before [End] (line 0)"
+abbrev pub endOfTextRules : State → List Rule
+endOfTextRules s = refusal.header when eqb (s .place) before ∷ refusal.end when not (eqb (s .place) done) ∷ []
+
 unfoldable pub atEnd : State → Reading
-atEnd s =
-    if eqb (s .place) done then Read (s .counts) else
-    if eqb (s .place) before then Refused 5 0 else Refused 10 0
+atEnd s = if eqb (firstBroken (endOfTextRules s)) 0 then Read (s .counts) else Refused (firstBroken (endOfTextRules s)) 0
 
 -- "5 to 17 reading forward .. the earliest line counts"
 unfoldable pub onward : LineResult → ℕ → (State → Reading) → Reading

@@ -1,3 +1,4 @@
 pub mod Listed
+pub mod Steps
 pub mod Trace
 pub mod Walk

@@ -6,20 +6,20 @@ ghost use Prim.Native.Nat.{_+_, _≤_, _<_};
 ghost use lib.ListN.{length};
 ghost use Rattle.line_place.specs.Place as place;
 ghost use Rattle.line_keyword.specs.Way.Bounded.{BoundedState, mostLines};
-ghost use Rattle.read_line.specs.Reading.{goes, breaks, lineStep, keywordStep, argumentFrom, bracketStep, beforeStep, lineResult, atEnd};
-ghost use Rattle.read_line.specs.Way.Listed.{isFree};
+ghost use Rattle.read_line.specs.Reading.{goes, breaks, argumentFrom, lineResult, atEnd};
+ghost use Rattle.read_line.specs.Way.Steps.{lineStep, keywordStep, bracketStep, beforeStep};
 ghost use Rattle.lex_line.specs.Lines.{isBlankLine};
-ghost use Rattle.lex_line.specs.Words.{words, firstOf};
-ghost use Rattle.line_argument.specs.Argument.{isReserved};
 ghost use Rattle.line_keyword.specs.declared.State.{State};
 ghost use Rattle.lex_keyword.specs.Bracket.{bracketOf};
 ghost use Rattle.lex_keyword.specs.declared.Bracket.the-variants.{Plain, Indented, Keyword};
-ghost use Rattle.read_line.specs.Way.Walk.{ResumesText, Onward, ResumesIdle, ResumesPart, HoldsPart, Decides, Fronted, Stepping, Opens, ReadLineByLine, BracketOrLineByLine, contentAt, NoProgressMeansBracket, Blocked, withPath, withPinned};
+ghost use Rattle.read_line.specs.Way.Walk.{ResumesText, Onward, ResumesPart, HoldsPart, Decides, Fronted, Stepping, Opens, ReadLineByLine, BracketOrLineByLine, contentAt, NoProgressMeansBracket, Blocked, withPath, withPinned};
 use lex_keyword::Bracket;
 use line_keyword::Counts;
 use line_keyword::State;
 use line_map::Map;
 use line_path::Path;
+
+pub mod fast;
 
 // "From `|` on, a line is comment".
 const COMMENT: u8 = b'|';
@@ -27,9 +27,6 @@ const COMMENT: u8 = b'|';
 const OPENING: u8 = b'[';
 
 const LINE_FEED: u8 = 10;
-
-// "A block may hold further blocks, to a depth of 8".
-const DEEPEST: u64 = 8;
 
 const CARRIAGE_RETURN: u8 = 13;
 
@@ -73,7 +70,7 @@ fn list_step(content: &[u8], s: State) -> LineResult
     ensures { λ r. ⌜ r ≡ lineStep (now (content .entry)) s ⌝ }
 {
     if line_argument::is_reserved(lex_line::first_word(content)) {
-        return stops(11, s);
+        return stops(base::refusal::ARGUMENT, s);
     }
     goes_on(s)
 }
@@ -128,7 +125,7 @@ fn line_step(content: &[u8], s: State) -> LineResult
     if line_place::is_text(s.place) {
         return goes_on(s);
     }
-    stops(12, s)
+    stops(base::refusal::LINE, s)
 }
 
 // ---- one line
@@ -171,7 +168,7 @@ fn indented_step(content: &[u8], s: State) -> LineResult
     if line_place::is_text(s.place) {
         return line_step(content, s);
     }
-    stops(6, s)
+    stops(base::refusal::KEYWORD, s)
 }
 
 fn bracket_step(content: &[u8], s: State) -> LineResult
@@ -181,9 +178,9 @@ fn bracket_step(content: &[u8], s: State) -> LineResult
     match lex_keyword::read_bracket(content) {
         Bracket::Plain => line_step(content, s),
         Bracket::Indented => indented_step(content, s),
-        Bracket::Bad => stops(6, s),
-        Bracket::Unknown => stops(7, s),
-        Bracket::Later => stops(8, s),
+        Bracket::Bad => stops(base::refusal::KEYWORD, s),
+        Bracket::Unknown => stops(base::refusal::UNKNOWN, s),
+        Bracket::Later => stops(base::refusal::LATER, s),
         Bracket::Keyword(key, start) => named_step(key, start, content, s),
     }
 }
@@ -234,116 +231,6 @@ fn take_line(content: &[u8], s: State) -> LineResult
         return before_step(content, s);
     }
     bracket_step(content, s)
-}
-
-// ---- lines that change nothing
-
-// Where the lines that change nothing end: the offset of the next line, and which line that is.
-pub struct Passing {
-    pub at: usize,
-    pub line: u64,
-}
-
-// If a line starts with such a byte, it has no bracket at its front and its first word is not reserved.
-fn is_free(b: u8) -> bool
-    ensures { λ r. ⌜ r ≡ isFree b ⌝ }
-{
-    if b <= b' ' {
-        return false;
-    }
-    if b == OPENING {
-        return false;
-    }
-    if b == b'P' {
-        return false;
-    }
-    if b == b'G' {
-        return false;
-    }
-    b != b'N'
-}
-
-// A line of the model list that breaks no rule.
-fn reads_listed(content: &[u8]) -> bool
-    ensures { λ r. ⌜ (r ≡ true → (bracketOf (now (content .entry)) ≡ Plain) × (isReserved (firstOf (words (now (content .entry)))) ≡ false)) ⌝ }
-{
-    match lex_keyword::read_bracket(content) {
-        Bracket::Plain => !line_argument::is_reserved(lex_line::first_word(content)),
-        Bracket::Indented => false,
-        Bracket::Bad => false,
-        Bracket::Unknown => false,
-        Bracket::Later => false,
-        Bracket::Keyword(_, _) => false,
-    }
-}
-
-// The same test. For most lines the first byte decides it.
-fn is_listed(content: &[u8]) -> bool
-    ensures { λ r. ⌜ (r ≡ true → (bracketOf (now (content .entry)) ≡ Plain) × (isReserved (firstOf (words (now (content .entry)))) ≡ false)) ⌝ }
-{
-    if is_free(base::byte_at(content, 0)) {
-        return true;
-    }
-    reads_listed(content)
-}
-
-fn is_idle_line(content: &[u8], place: u64) -> bool
-    ensures { λ r. ⌜ (r ≡ true → (s : State) → s .place ≡ place → lineResult (now (content .entry)) s ≡ goes s) ⌝ }
-{
-    if is_blank_line(content) {
-        return true;
-    }
-    if place == line_place::LIST {
-        return is_listed(content);
-    }
-    false
-}
-
-// A cheap test before `is_idle_line`: the lines of the model list mostly change nothing; elsewhere the
-// first byte must show an empty line or a comment.
-fn may_be_idle(text: &[u8], at: usize, place: u64) -> bool {
-    if place == line_place::LIST {
-        return true;
-    }
-    let first = base::byte_at(text, at);
-    if first == LINE_FEED {
-        return true;
-    }
-    if first == CARRIAGE_RETURN {
-        return true;
-    }
-    first == COMMENT
-}
-
-// Skips lines that change nothing. Of the state only the place is needed.
-pub fn skip_idle_lines(text: &[u8], at: usize, line: u64, place: u64) -> Passing
-    requires { ⌜ (at ≤ length (now text)) × (line ≤ at + 1) ⌝ }
-    ensures { λ r. ⌜ ResumesIdle (now (text .entry)) at line place (r .at) (r .line) ⌝ }
-{
-    let mut here = at;
-    let mut line_here = line;
-    while here < text.len() {
-        if !may_be_idle(text, here, place) {
-            return Passing {
-                at: here,
-                line: line_here,
-            };
-        }
-        let found = lex_line::line_at(text, here, COMMENT);
-        let content = found.content;
-        if !is_idle_line(&text[here..content], place) {
-            return Passing {
-                at: here,
-                line: line_here,
-            };
-        }
-        here = found.next;
-        line_here += 1;
-    }
-    Passing {
-        at: here,
-        line: line_here,
-    }
 }
 
 // ---- lines that change one part
@@ -669,7 +556,14 @@ pub fn read_path(text: &[u8], at: usize, line: u64, s: State) -> Walk
 {
     let path = s.path;
     let mut counts = s.counts;
-    let walk = pass_block(text, at, line, path, counts.steps, DEEPEST);
+    let walk = pass_block(
+        text,
+        at,
+        line,
+        path,
+        counts.steps,
+        table_layout::bound::DEPTH,
+    );
     if at < walk.at {
         let part = walk.part;
         let reached = part.path;
@@ -695,7 +589,7 @@ pub fn at_end(s: State) -> Reading
         return Reading::Read(counts);
     }
     if s.place == line_place::BEFORE {
-        return Reading::Refused(5, 0);
+        return Reading::Refused(base::refusal::HEADER, 0);
     }
-    Reading::Refused(10, 0)
+    Reading::Refused(base::refusal::END, 0)
 }

@@ -3,33 +3,35 @@
 -- Assumes nothing.
 use mathlib.Core.Path.{_≡_, refl, sym, _∙_, ap}
 use mathlib.Core.Bool.{Bool, true, false, true≢false}
-use mathlib.Core.List.{List, [], _∷_, _++_, map, append-assoc}
+use mathlib.Core.List.{List, [], _∷_, _++_}
 use Prim.Native.Nat.{ℕ, _+_, _-_, _*_, _≤_, _<_, max}
 use native.Mathlib.Nat.{le-refl, le-trans, add-zero}
 use native.Mathlib.Omega.{arith}
-use lib.ListN.{length, take, drop, length-append}
-use lib.Seq.{sets, take-take, sets-eq, drop-append-add, take-append-seam, length-take-le}
+use lib.ListN.{length, take, drop}
+use lib.Seq.{sets, take-take}
+use Rattle.table_record.specs.declared.Value.{Value}
 use Rattle.base.specs.If.{both}
 use Rattle.base.proofs.IfLaws.{by-cases, both-first, both-second}
 use Rattle.lex_line.specs.Lines.{isBlankLine}
 use Rattle.lex_line.specs.Way.LineEnds.{lineAt}
 use Rattle.lex_line.specs.declared.Line as text
 use Rattle.line_place.specs.Place as place
-use Rattle.table_layout.specs.Layout.{joined}
+use Rattle.table_layout.specs.Layout.{joined, valueWidth}
+use Rattle.table_layout.proofs.BehindLaws.{run-stored}
 use Rattle.line_matrix.specs.declared.Matrix.{Matrix}
 use Rattle.line_keyword.specs.declared.State.{State}
 use Rattle.read_line.specs.Reading.{commentByte, breaks, lineResult}
 use Rattle.read_line.specs.Way.Walk.{HoldsPart, withMatrix}
 use Rattle.read_line.proofs.CrossLaws.{crossed-none, crossed-on, crossed-stops, stays-opens, stays-moved, stays-ended}
 use Rattle.doc.specs.Lines.{Line, keyOf, placeAfter, linesAt, upTo}
-use Rattle.doc.specs.Document.{Value, inMatrix, valuesFrom, bandwidthIn, greatestIn}
-use Rattle.doc.specs.Records.{valueWords}
+use Rattle.doc.specs.Document.{inMatrix, valuesFrom, bandwidthIn, greatestIn}
 use Rattle.doc.proofs.FoundLaws.{pass-over, stop-here, nothing-left}
+use Rattle.doc.proofs.GatherLaws.{up-in, up-none, up-out}
 use Rattle.store_base.specs.Way.Stores.{Placed}
-use Rattle.store_base.specs.Way.Stage.{bodyLines, valuesWords, StagedMatrix, Tells, wordsOf}
-use Rattle.store_base.proofs.LineLaws.{up-on, up-stops, up-none}
+use Rattle.store_base.specs.Way.Stage.{bodyLines, valuesWords, Tells, wordsOf}
 use Rattle.store_matrices.specs.Way.Told.{toldOr}
 use Rattle.store_matrices.proofs.MatrixLaws.{matrix-stays, told-untold}
+use Rattle.store_matrices.proofs.StageLaws.{values-long}
 use Rattle.read_numbers.specs.declared.Staging as stages
 use Rattle.read_numbers.specs.Way.Staging.{Adds}
 use Rattle.read_matrix.specs.declared.Data.{Data}
@@ -54,7 +56,7 @@ module _ (t : List ℕ) (n₀ at₀ form : ℕ) (table₀ : List ℕ) (values₀
   -- one line less is left
   module _ (l : Line) (lines : linesAt t n at place.matrix ≡ l ∷ linesAt t n' at' place.matrix) (inside : inMatrix l ≡ true) (left : Left t n₀ at₀ form table₀ values₀ n at table values a) where
     body-on : bodyLines t n at ≡ l ∷ bodyLines t n' at'
-    body-on = ap (upTo inMatrix) lines ∙ up-on inMatrix l (linesAt t n' at' place.matrix) inside
+    body-on = ap (upTo inMatrix) lines ∙ up-in inMatrix l (linesAt t n' at' place.matrix) inside
 
     left-on : (table' : List ℕ) (values' : ℕ) (b : stages.Staging) → Adds form l table values a table' values' b → Left t n₀ at₀ form table₀ values₀ n' at' table' values' b
     left-on table' values' b adds =
@@ -75,25 +77,6 @@ inside-stays content n at e = matrix-stays content (both-second _ _ e)
 
 -- ---- what is staged when no line is left
 
-words-long : (vs : List Value) → length (valuesWords vs) ≡ 3 * length vs
-unfolding valuesWords joined
-words-long [] = refl
-words-long (v ∷ vs) =
-    let h : length (valuesWords vs) ≡ 3 * length vs = words-long vs in
-    let e : length (valueWords v ++ joined (map valueWords vs)) ≡ 3 + length (joined (map valueWords vs)) = length-append (valueWords v) (joined (map valueWords vs)) in
-    omega arith
-
-stored-words : (table : List ℕ) (p : ℕ) (ws : List ℕ) → p + length ws ≤ length table → take (length ws) (drop p (sets table p ws)) ≡ ws
-stored-words table p ws h =
-    let l : length (take p table) ≡ p = length-take-le p table (omega arith) in
-    let rest : List ℕ = drop (p + length ws) table in
-    let z : p ≡ length (take p table) + 0 = omega arith in
-    let d : drop p (take p table ++ (ws ++ rest)) ≡ ws ++ rest =
-    ap (λ (i : ℕ). drop i (take p table ++ (ws ++ rest))) z ∙ drop-append-add (take p table) (ws ++ rest) 0 in
-    ap (λ (x : List ℕ). take (length ws) (drop p x)) (sets-eq ws table p h ∙ append-assoc (take p table) ws rest)
-    ∙ ap (take (length ws)) d
-    ∙ take-append-seam ws rest
-
 module _ (t : List ℕ) (n₀ at₀ form : ℕ) (table₀ : List ℕ) (values₀ n at : ℕ) (table : List ℕ) (values : ℕ) (a : stages.Staging)
     (left : Left t n₀ at₀ form table₀ values₀ n at table values a) (none : bodyLines t n at ≡ []) (long : length table ≡ length table₀) where
   abbrev all : List Value
@@ -103,23 +86,23 @@ module _ (t : List ℕ) (n₀ at₀ form : ℕ) (table₀ : List ℕ) (values₀
   unfolding valuesFrom
   count-told = sym (add-zero values) ∙ rw none at (left .count)
 
-  table-told : table ≡ sets table₀ (3 * values₀) (valuesWords all)
+  table-told : table ≡ sets table₀ (valueWidth * values₀) (valuesWords all)
   unfolding valuesFrom valuesWords joined
   table-told = rw none at (left .image)
 
-  words-told : take (3 * (values - values₀)) (drop (0 + 3 * values₀) table) ≡ valuesWords all
+  words-told : take (valueWidth * (values - values₀)) (drop (0 + valueWidth * values₀) table) ≡ valuesWords all
   words-told =
       let c : values ≡ values₀ + length all = count-told in
-      let w : length (valuesWords all) ≡ 3 * length all = words-long all in
-      let r : 3 * values ≤ length table = left .room in
-      let k : 3 * (values - values₀) ≡ length (valuesWords all) = omega arith in
-      let z : 0 + 3 * values₀ ≡ 3 * values₀ = omega arith in
-      let room : 3 * values₀ + length (valuesWords all) ≤ length table₀ = omega arith in
-      (λ i. take (k i) (drop (z i) (table-told i))) ∙ stored-words table₀ (3 * values₀) (valuesWords all) room
+      let w : length (valuesWords all) ≡ valueWidth * length all = values-long all in
+      let r : valueWidth * values ≤ length table = left .room in
+      let k : valueWidth * (values - values₀) ≡ length (valuesWords all) = omega arith in
+      let z : 0 + valueWidth * values₀ ≡ valueWidth * values₀ = omega arith in
+      let room : valueWidth * values₀ + length (valuesWords all) ≤ length table₀ = omega arith in
+      (λ i. take (k i) (drop (z i) (table-told i))) ∙ run-stored table₀ (valueWidth * values₀) (valuesWords all) room
 
   left-told : Placed t n at → at₀ ≤ at →
       Tells t (record { at = at₀; line = n₀; form = form; first = values₀; further = at; next = n; bandwidth = toldOr (a .bandwidth) 0; greatest = a .greatest; count = values - values₀ })
-      (take (3 * (values - values₀)) (drop (0 + 3 * values₀) table))
+      (take (valueWidth * (values - values₀)) (drop (0 + valueWidth * values₀) table))
   unfolding bandwidthIn greatestIn
   left-told placed onward =
       let c : values ≡ values₀ + length all = count-told in
@@ -136,7 +119,7 @@ module _ (t : List ℕ) (n₀ at₀ form : ℕ) (table₀ : List ℕ) (values₀
 
 -- ---- lines that are read
 
-pub gone-start : (t : List ℕ) (at line : ℕ) (m : Matrix) (values : ℕ) (table : List ℕ) (b : Bool) → at ≤ length t → (b ≡ true → 3 * values ≤ length table) → (n : stages.Staging) → n ≡ newStaging b →
+pub gone-start : (t : List ℕ) (at line : ℕ) (m : Matrix) (values : ℕ) (table : List ℕ) (b : Bool) → at ≤ length t → (b ≡ true → valueWidth * values ≤ length table) → (n : stages.Staging) → n ≡ newStaging b →
     Gone t at line m values table at line (record { taken = true; ends = false; rule = 0; matrix = m; values = values; staging = n }) table
 gone-start t at line m values table b h room n told =
     rw told
@@ -162,7 +145,7 @@ pub behind-on : (v w : ℕ) (a b c : List ℕ) → v ≤ w → Behind v a b → 
 behind-on v w a b c h p q =
     record {
       long = q .long ∙ p .long;
-      same = sym (take-take (3 * v) (3 * w) c (omega arith)) ∙ ap (take (3 * v)) (q .same) ∙ take-take (3 * v) (3 * w) b (omega arith) ∙ p .same;
+      same = sym (take-take (valueWidth * v) (valueWidth * w) c (omega arith)) ∙ ap (take (valueWidth * v)) (q .same) ∙ take-take (valueWidth * v) (valueWidth * w) b (omega arith) ∙ p .same;
     }
 
 module _ (t : List ℕ) (at line : ℕ) (m : Matrix) (values : ℕ) (table₀ : List ℕ) (here number : ℕ) (part : Data) (table : List ℕ) (gone : Gone t at line m values table₀ here number part table) where
@@ -203,7 +186,7 @@ module _ (t : List ℕ) (at line : ℕ) (m : Matrix) (values : ℕ) (table₀ : 
     l = record { line = number; at = here; place = place.matrix; content = take (found .content - here) (drop here t) }
 
     stops-here : Ends content → bodyLines t number here ≡ []
-    stops-here ends = ap (upTo inMatrix) (stop-here t here h number found is-found (ends .filled) place.matrix) ∙ up-stops inMatrix l _ (ends .outside l refl)
+    stops-here ends = ap (upTo inMatrix) (stop-here t here h number found is-found (ends .filled) place.matrix) ∙ up-out inMatrix l _ (ends .outside l refl)
 
     pub gone-leaves : next .taken ≡ false → (staged : Bool) → staged ≡ both (next .ends) (part .staging .whole) →
         ResumesMatrix t at line m values table₀ (record { at = here; line = number; part = part; staged = staged }) table'

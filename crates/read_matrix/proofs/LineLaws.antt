@@ -11,6 +11,9 @@ use lib.ListN.{length}
 use lib.Seq.{sets}
 use lib.Dec.{eqb}
 use borrow.Author.Tests.{eq-eqb, ne-eqb, eqb-true, not-true}
+use Rattle.table_record.specs.declared.Value.{Value}
+use Rattle.table_layout.specs.Layout.{valueWidth}
+use Rattle.table_layout.specs.Codes.{sparse}
 use Rattle.base.proofs.IfLaws.{if-true, if-false, by-cases, both-true, both-not-right, either-left, either-right, either-false, either-rest}
 use Rattle.lex_line.specs.Lines.{isBlankLine}
 use Rattle.lex_number.specs.Integer.{wholeOf}
@@ -21,21 +24,24 @@ use Rattle.lex_keyword.specs.declared.Bracket.{Bracket}
 use Rattle.lex_keyword.specs.declared.Bracket.the-variants.{Plain, Indented, Bad, Unknown, Later, Keyword}
 use Rattle.line_place.specs.Place.{isRowOrBandwidth}
 use Rattle.line_place.specs.Place as place
-use Rattle.line_matrix.specs.Matrix.{sparse, dataLineOf, dataRule, dataNext, withColumn, withRow, withBandwidth}
+use Rattle.line_matrix.specs.Matrix.{dataLineOf, dataRule, dataNext, withColumn, withRow, withBandwidth}
 use Rattle.line_matrix.specs.declared.Matrix.{Matrix}
 use Rattle.line_matrix.specs.declared.DataLine.{DataLine}
 use Rattle.line_keyword.specs.Keywords.{keywordRule}
 use Rattle.line_keyword.specs.Way.Row.{matrixKeywordRule, matrixKeywordNext}
 use Rattle.line_keyword.specs.declared.State.{State}
 use Rattle.line_keyword.proofs.InsideLaws.{matrix-keyword-rule-is, matrix-keyword-next-is}
-use Rattle.read_line.specs.Reading.{argumentFrom, goes, breaks, bracketStep, keywordStep, lineResult}
+use Rattle.read_line.specs.Reading.{argumentFrom, goes, breaks, lineResult}
+use Rattle.read_line.specs.Way.Steps.{bracketStep, keywordStep}
+use Rattle.read_line.proofs.ResultLaws.{result-steps}
 use Rattle.read_line.specs.Way.Walk.{Decides, Opens, withMatrix}
 use Rattle.read_line.specs.declared.Front.the-variants.{Words}
 use Rattle.read_line.proofs.StepLaws.{data-stops, data-goes, keyword-stops, keyword-goes}
 use Rattle.read_line.proofs.QuietLaws.{words-decide, quiet-blank}
 use Rattle.doc.specs.Lines.{Line, plain, keyIn, keyAt, keyOf, argumentIn, argumentOf}
-use Rattle.doc.specs.Document.{Value, inMatrix, givenBy, bandwidthIn, greatestIn}
+use Rattle.doc.specs.Document.{inMatrix, givenBy, bandwidthIn, greatestIn}
 use Rattle.store_base.specs.Way.Stage.{valuesWords}
+use Rattle.store_matrices.specs.Way.Numbers.{mostGiven}
 use Rattle.store_matrices.specs.Way.Told.{firstTold, toldOr}
 use Rattle.store_matrices.specs.declared.First.{First}
 use Rattle.store_matrices.proofs.BodyLaws.{told-first, whole-below, most-of, row-values, row-bandwidth, row-greatest, bandwidth-values, bandwidth-told, bandwidth-greatest}
@@ -231,7 +237,7 @@ kept-form k argument m values =
     (λ (e : eqb k row ≡ false). ap (λ (x : Matrix). x .form) (if-false _ _ e))
 
 -- rows and columns stay within their bounds
-kept-bounded : (k value : ℕ) (a : Staging) (values : ℕ) → value < 1_000_000_000 → BoundedStaging a values → BoundedStaging (keywordStaging k value a) values
+kept-bounded : (k value : ℕ) (a : Staging) (values : ℕ) → value < mostGiven → BoundedStaging a values → BoundedStaging (keywordStaging k value a) values
 unfolding keywordStaging
 kept-bounded k value a values small bound =
     by-cases _ (eqb k row)
@@ -258,7 +264,7 @@ module _ (k : ℕ) (argument : List ℕ) (m : Matrix) (values : ℕ) (a : Stagin
   unfolding goes breaks
   keeps-go z whole whole-is next next-is b b-is =
       let v : whole .value ≡ wholeOf argument .value = ap (λ (x : Whole). x .value) whole-is in
-      let small : whole .value < 1_000_000_000 = rw v (whole-below argument) in
+      let small : whole .value < mostGiven = rw v (whole-below argument) in
       record {
         taken = refl;
         decides = λ (s : State) (p : s .place ≡ place.matrix).
@@ -290,12 +296,12 @@ kept-adds form k l table values a keeps key whole bound =
         rw f
         (record {
           whole = whole;
-          image = λ (ls : List Line). ap (λ (vs : List Value). sets table (3 * values) (valuesWords vs)) (sym (row-values form l ls is-row (a .row) (a .column)));
+          image = λ (ls : List Line). ap (λ (vs : List Value). sets table (valueWidth * values) (valuesWords vs)) (sym (row-values form l ls is-row (a .row) (a .column)));
           count = λ (ls : List Line). ap (λ (vs : List Value). values + length vs) (sym (row-values form l ls is-row (a .row) (a .column)));
           bandwidth = λ (ls : List Line). ap (toldOr (a .bandwidth)) (sym (row-bandwidth form l ls is-row));
           greatest = λ (ls : List Line). most-of (a .greatest) (givenBy l) _ _ (greatestIn form ls) (row-greatest form l ls is-row) refl;
           bounded = rw f at bound;
-          room = λ (h : 3 * values ≤ length table). h;
+          room = λ (h : valueWidth * values ≤ length table). h;
         })
 
     on-bandwidth : eqb k row ≡ false → Adds form l table values a table values (keywordStaging k (givenBy l) a)
@@ -305,12 +311,12 @@ kept-adds form k l table values a keeps key whole bound =
         rw f
         (record {
           whole = whole;
-          image = λ (ls : List Line). ap (λ (vs : List Value). sets table (3 * values) (valuesWords vs)) (sym (bandwidth-values form l ls is (a .row) (a .column)));
+          image = λ (ls : List Line). ap (λ (vs : List Value). sets table (valueWidth * values) (valuesWords vs)) (sym (bandwidth-values form l ls is (a .row) (a .column)));
           count = λ (ls : List Line). ap (λ (vs : List Value). values + length vs) (sym (bandwidth-values form l ls is (a .row) (a .column)));
           bandwidth = λ (ls : List Line). told-first (a .bandwidth) (givenBy l) (bandwidthIn ls) ∙ ap (toldOr (a .bandwidth)) (sym (bandwidth-told form l ls is));
           greatest = λ (ls : List Line). most-of (a .greatest) 0 (a .greatest) _ (greatestIn form ls) (bandwidth-greatest form l ls is) (omega arith);
           bounded = rw f at bound;
-          room = λ (h : 3 * values ≤ length table). h;
+          room = λ (h : valueWidth * values ≤ length table). h;
         })
 
 kept-whole : (k value : ℕ) (a : Staging) → keywordStaging k value a .whole ≡ true → a .whole ≡ true
@@ -322,9 +328,8 @@ kept-whole k value a w =
 
 module _ (content : List ℕ) (filled : isBlankLine content ≡ false) (k start : ℕ) (is : bracketOf content ≡ Keyword k start) (m : Matrix) (values : ℕ) (a : Staging) where
   step-keyed : (s : State) → (s .place ≡ place.done → ⊥) → (s .place ≡ place.before → ⊥) → lineResult content s ≡ keywordStep k (argumentFrom content start) s
-  unfolding lineResult
   step-keyed s d b =
-      if-false _ _ filled ∙ if-false _ _ (ne-eqb _ _ d) ∙ if-false _ _ (ne-eqb _ _ b) ∙ ap (λ (x : Bracket). bracketStep x content s) is
+      result-steps content s ∙ if-false _ _ filled ∙ if-false _ _ (ne-eqb _ _ d) ∙ if-false _ _ (ne-eqb _ _ b) ∙ ap (λ (x : Bracket). bracketStep x content s) is
 
   keyed-inside : isRowOrBandwidth k ≡ true → (l : Line) → l .place ≡ place.matrix → l .content ≡ content → inMatrix l ≡ true
   unfolding inMatrix

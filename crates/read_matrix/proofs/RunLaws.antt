@@ -11,8 +11,10 @@ use native.Mathlib.Omega.{arith}
 use lib.ListN.{length, take, drop}
 use lib.Dec.{eqb, leb}
 use borrow.Author.Tests.{eq-eqb, ne-eqb, not-true, not-false, le-ltb}
+use Rattle.table_layout.specs.Codes.{diagonal, sparse}
+use Rattle.table_layout.specs.Bounds.{mostValues}
 use Rattle.base.specs.If.{both}
-use Rattle.base.proofs.IfLaws.{if-true, if-false, both-first, both-second, both-not-left, both-not-right, either-false, not-not-via}
+use Rattle.base.proofs.IfLaws.{if-true, if-false, both-not-left, both-not-right, either-false, not-not-via}
 use Rattle.base.proofs.BrokenLaws.{gives-later}
 use Rattle.base.specs.Bytes.{lineFeed, isBefore, isContent}
 use Rattle.base.specs.Way.Class.{runEnd}
@@ -23,8 +25,7 @@ use Rattle.lex_line.specs.declared.Line as text
 use Rattle.lex_line.proofs.LineLaws.{next-on, content-before-feed}
 use Rattle.lex_keyword.specs.Bracket.{bracketOf}
 use Rattle.lex_keyword.specs.declared.Bracket.the-variants.{Plain}
-use Rattle.line_place.specs.Place as place
-use Rattle.line_matrix.specs.Matrix.{sparse, mostValues, dataLineOf, isDataOutOfOrder, areTooMany, dataRule, withColumn, dataNext}
+use Rattle.line_matrix.specs.Matrix.{dataLineOf, isDataOutOfOrder, areTooMany, dataRule, withColumn, dataNext}
 use Rattle.line_matrix.specs.declared.Matrix.{Matrix}
 use Rattle.line_matrix.specs.declared.DataLine.{DataLine}
 use Rattle.read_line.specs.Reading.{commentByte}
@@ -48,7 +49,7 @@ use Rattle.read_matrix.proofs.BodyLaws.{behind-on, gone-ends, gone-leav
 -- ---- a line that breaks no rule
 
 module _ (m : Matrix) where
-  pub diagonal-ordered : m .form ≡ 0 → true ≡ true → Ordered m
+  pub diagonal-ordered : m .form ≡ diagonal → true ≡ true → Ordered m
   diagonal-ordered e w = both-not-left _ _ (not-not-via (eq-eqb _ _ e))
 
   pub rowed-ordered : not (eqb (m .rows .row) 0) ≡ true → Ordered m
@@ -454,7 +455,7 @@ module _ (t : List ℕ) (at line : ℕ) (part : Data) (table₀ : List ℕ) wher
       module _ (left : not (next .taken) ≡ false) where
         -- no sum wraps after the line
         pub pairs-values : Fits w64 (values + 1)
-        pairs-values = let few : values < 65536 = takes .few (not-false (next .taken) left) in omega arith
+        pairs-values = let few : values < mostValues = takes .few (not-false (next .taken) left) in omega arith
 
         pub pairs-column : Fits w64 (next .column + 1)
         pairs-column = let narrow : next .column < 4_294_967_296 = takes .narrow (not-false (next .taken) left) in omega arith
@@ -472,8 +473,8 @@ module _ (t : List ℕ) (at line : ℕ) (part : Data) (table₀ : List ℕ) wher
         unfolding pairsPart pairsMatrix withColumn
         moved form-is ordered h =
             let taken : next .taken ≡ true = not-false (next .taken) left in
-            let few : values < 65536 = takes .few taken in
-            let more : values + 1 ≤ 65536 = omega arith in
+            let few : values < mostValues = takes .few taken in
+            let more : values + 1 ≤ mostValues = omega arith in
             rw (takes .onward taken)
             (on-next t at line part table₀ here number _ table on h (lineAt commentByte t here) refl _ table'
             (takes .takes taken (pairsMatrix (part .matrix) least greatest fits) form-is ordered (reachedPairs values least greatest fits named

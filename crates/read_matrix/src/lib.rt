@@ -2,8 +2,11 @@
 // are judged, so that they are never read again.
 ghost use mathlib.Core.Path.{_≡_};
 ghost use mathlib.Core.Bool.{true, false};
-ghost use Prim.Native.Nat.{_+_, _*_, _≤_, _<_, max};
+ghost use Prim.Native.Nat.{_+_, _*_, _≤_, _<_};
 ghost use lib.ListN.{length};
+ghost use Rattle.table_layout.specs.Layout.{valueWidth};
+ghost use Rattle.table_layout.specs.Codes.{sparse};
+ghost use Rattle.table_layout.specs.Bounds.{mostValues};
 ghost use Rattle.lex_line.specs.Lines.{isBlankLine};
 ghost use Rattle.lex_line.specs.Way.LineEnds.{lineAt};
 ghost use Rattle.lex_keyword.specs.Bracket.{bracketOf};
@@ -11,7 +14,6 @@ ghost use Rattle.lex_keyword.specs.declared.Bracket.the-variants.{Plain, Keywor
 ghost use Rattle.line_place.specs.Place.{isRowOrBandwidth};
 ghost use Rattle.read_line.specs.Reading.{commentByte};
 ghost use Rattle.read_line.specs.Way.Walk.{Opens, Fronted, contentAt};
-ghost use Rattle.line_matrix.specs.Matrix.{sparse, mostValues};
 ghost use Rattle.store_matrices.specs.Way.Numbers.{mostGiven};
 ghost use Rattle.read_numbers.specs.declared.Staging as stages;
 ghost use Rattle.read_numbers.specs.Way.Staging.{BoundedStaging};
@@ -28,8 +30,6 @@ use store_matrices::First;
 const COMMENT: u8 = b'|';
 
 const OPENING: u8 = b'[';
-
-const MOST_VALUES: u64 = 65536;
 
 // The result of a line of a matrix, with only the part of the state that such a line changes: whether it is
 // taken here; if not, whether it is a keyword that ends the matrix; the rule that it breaks; and the
@@ -87,12 +87,6 @@ fn data_line(content: &[u8], matrix: Matrix, values: u64) -> Data
     }
 }
 
-fn greater(a: u64, b: u64) -> u64
-    ensures { λ r. ⌜ r ≡ max a b ⌝ }
-{
-    if a < b { b } else { a }
-}
-
 // [Row] i: the next number belongs at (i, i). Of several [Bandwidth] the first counts.
 fn keyword_staging(key: u64, value: u64, staging: Staging) -> Staging
     ensures { λ r. ⌜ r ≡ keywordStaging key value staging ⌝ }
@@ -104,7 +98,7 @@ fn keyword_staging(key: u64, value: u64, staging: Staging) -> Staging
             row: value,
             column: value,
             bandwidth: before,
-            greatest: greater(staging.greatest, value),
+            greatest: base::greater(staging.greatest, value),
         };
     }
     Staging {
@@ -232,12 +226,12 @@ pub struct BodyWalk {
 
 // Whether the table has room for `values` values.
 fn has_room(values: u64, words: usize) -> bool
-    ensures { λ r. ⌜ (r ≡ true → 3 * values ≤ words) ⌝ }
+    ensures { λ r. ⌜ (r ≡ true → valueWidth * values ≤ words) ⌝ }
 {
-    if MOST_VALUES < values {
+    if table_layout::bound::VALUES < values {
         return false;
     }
-    3 * values <= (words as u64)
+    table_layout::VALUE_WIDTH * (values as usize) <= words
 }
 
 // ---- runs of plain lines: while a run lasts, local variables hold what it changes; any other line is left to take_data
@@ -314,7 +308,7 @@ fn plain_numbers(
     if !numbers.staged {
         return left_numbers(false, values, row, column);
     }
-    if MOST_VALUES - values < numbers.count {
+    if table_layout::bound::VALUES - values < numbers.count {
         return left_numbers(false, values, row, column);
     }
     TakenNumbers {
@@ -435,7 +429,7 @@ fn plain_pair(text: &[u8], here: usize, values: u64, table: &mut [u64], row: u64
         ∗ ⌜ row ≤ mostGiven + values ⌝ }
     ensures { λ r. ⌜ TakesPair (now (text .entry)) here values row (now (table .entry)) r (now (table .exit)) ⌝ }
 {
-    if MOST_VALUES <= values {
+    if table_layout::bound::VALUES <= values {
         return left_pair(true);
     }
     let pair = read_numbers::read_pair(text, here, values, table, row);
@@ -544,8 +538,8 @@ fn pass_pairs(text: &[u8], at: usize, line: u64, part: Data, table: &mut [u64]) 
         values += 1;
         fits = base::and(fits, least <= next.column);
         least = next.column + 1;
-        greatest = greater(greatest, next.column);
-        named = greater(named, next.column);
+        greatest = base::greater(greatest, next.column);
+        named = base::greater(named, next.column);
     }
     let reached = pairs_matrix(matrix, least, greatest, fits);
     pairs_passed(here, line_here, part, true, values, reached, named)
@@ -555,7 +549,7 @@ fn pass_pairs(text: &[u8], at: usize, line: u64, part: Data, table: &mut [u64]) 
 fn is_ordered(matrix: Matrix) -> bool
     ensures { λ r. ⌜ (r ≡ true → Ordered matrix) ⌝ }
 {
-    if matrix.form == line_matrix::DIAGONAL {
+    if matrix.form == table_layout::code::DIAGONAL {
         return true;
     }
     let rows = matrix.rows;
@@ -571,14 +565,14 @@ fn pass_run(text: &[u8], at: usize, line: u64, part: Data, table: &mut [u64]) ->
     if !staging.whole {
         return Run { at, line, part };
     }
-    if MOST_VALUES < part.values {
+    if table_layout::bound::VALUES < part.values {
         return Run { at, line, part };
     }
     let matrix = part.matrix;
     if !is_ordered(matrix) {
         return Run { at, line, part };
     }
-    if matrix.form == line_matrix::SPARSE {
+    if matrix.form == table_layout::code::SPARSE {
         return pass_pairs(text, at, line, part, table);
     }
     pass_numbers(text, at, line, part, table)

@@ -4,17 +4,17 @@ use mathlib.Core.Path.{_≡_, refl, sym, _∙_, ap}
 use mathlib.Core.Bool.{Bool, true, false, true≢false}
 use mathlib.Core.List.{List, [], _∷_, map}
 use Prim.Native.Nat.{ℕ, zero, suc, _+_, _-_, _≤_, _<_}
-use native.Mathlib.Nat.{le-of-suc-le-suc, not-suc-le-zero, zero-add, add-zero, suc-add}
+use native.Mathlib.Nat.{not-suc-le-zero}
 use native.Mathlib.Omega.{arith}
 use lib.ListN.{length, take, drop, getD, length-drop}
 use lib.Seq.{drop-drop, getD-drop, getD-take, length-take-le, take-take}
 use lib.Dec.{ltb, eqb}
 use borrow.Author.Tests.{ltb-true, ltb-false, lt-ltb, eqb-true}
 use Rattle.base.specs.If.{if_then_else_, both}
-use Rattle.base.specs.Bytes.{isBlank, lineFeed, carriageReturn, isBefore, isFilled, isContent}
+use Rattle.base.specs.Bytes.{isBlank, isBefore, isFilled, isContent}
 use Rattle.base.specs.Runs.{run}
 use Rattle.base.specs.Way.Class.{runEnd}
-use Rattle.base.proofs.IfLaws.{if-true, if-false, by-cases, both-true, both-first, both-second, both-not-left, both-not-right, both-rest, either-rest, not-via}
+use Rattle.base.proofs.IfLaws.{by-cases, both-true, both-first, both-second, both-not-left, both-not-right, either-rest, not-via}
 use Rattle.base.proofs.RunLaws.{run-nil, run-goes, run-stops, run-le, run-all, run-end, run-wider, run-take, run-on}
 use Rattle.lex_line.specs.Way.LineEnds.{lineAt}
 use Rattle.lex_line.specs.Words.{Word, wordGoesOn, grown, wordsFrom, words}

@@ -2,14 +2,17 @@
 -- Assumes nothing.
 use mathlib.Core.Path.{_≡_, refl, sym, _∙_, ap}
 use mathlib.Core.Bool.{Bool, true, false, not, true≢false}
-use mathlib.Core.List.{List, [], _∷_, _++_}
+use mathlib.Core.List.{List, [], _∷_, _++_, append-assoc}
 use Prim.Native.Nat.{ℕ, suc, _+_, _-_, _*_, _^_, _≤_, _<_, max}
-use native.Mathlib.Nat.{add-zero}
 use native.Mathlib.Omega.{arith}
 use lib.ListN.{length, take, drop, getD, set, length-append}
 use lib.Seq.{sets, length-sets, take-set-le}
 use lib.Dec.{ltb, leb, eqb}
 use borrow.Author.Tests.{eq-eqb, ne-eqb, eqb-true, leb-true, ltb-true, not-true, not-false}
+use Rattle.table_record.specs.Records.{valueWords}
+use Rattle.table_record.specs.declared.Value.{Value}
+use Rattle.table_layout.specs.Codes.{sparse}
+use Rattle.table_layout.specs.Bounds.{mostValues, mostConductors}
 use Rattle.base.specs.If.{both, either}
 use Rattle.base.specs.Bytes.{isBlank, isDigit, isCapital, isSmall, isLetter, within}
 use Rattle.base.specs.Runs.{run}
@@ -22,21 +25,22 @@ use Rattle.lex_number.specs.Number.{isSign, numberOf, isFormed, isBounded}
 use Rattle.lex_number.specs.Integer.{wholeOf}
 use Rattle.lex_number.specs.Way.In.{isWord, isSpelling, isGoodNumber, numberIn}
 use Rattle.lex_number.specs.declared.Number.{Number}
-use Rattle.lex_number.specs.declared.Number.the-variants.{Value, Malformed, Range}
+use Rattle.lex_number.specs.declared.Number.the-variants as number
 use Rattle.lex_number.specs.declared.NumberAt.{NumberAt}
 use Rattle.lex_number.specs.declared.Whole.{Whole}
-use Rattle.line_matrix.specs.Matrix.{sparse, mostValues, numberCheck, areFormed, areBounded, numbersLine, sparseLine, dataLineOf}
+use Rattle.line_matrix.specs.Matrix.{numberCheck, areFormed, areBounded, numbersLine, sparseLine, dataLineOf}
 use Rattle.read_line.specs.Reading.{commentByte}
 use Rattle.read_line.specs.Way.Walk.{contentAt}
-use Rattle.table_layout.specs.Layout.{joined}
+use Rattle.table_layout.specs.Layout.{valueWidth, joined}
+use Rattle.base.proofs.StoreLaws.{sets-append}
 use Rattle.doc.specs.Lines.{Line, plain, keyOf}
-use Rattle.doc.specs.Document as document
 use Rattle.doc.specs.Document.{wordIn, nextRow, numbersAt, sparseAt, valuesFrom, bandwidthIn, greatestIn}
 use Rattle.store_base.specs.Way.Stage.{valuesWords}
 use Rattle.store_matrices.specs.declared.Cursor.{Cursor}
 use Rattle.store_matrices.specs.declared.First.{First}
 use Rattle.store_matrices.specs.Way.Told.{toldOr}
-use Rattle.store_matrices.specs.Way.Numbers.{mostGiven, rowAfter, nextCursor, Roomy}
+use Rattle.store_matrices.specs.Way.Numbers.{mostGiven, valueOf, rowAfter, nextCursor, Roomy}
+use Rattle.store_matrices.proofs.StageLaws.{values-long}
 use Rattle.store_matrices.proofs.NumberLaws.{row-on, row-same, row-most}
 use Rattle.store_matrices.proofs.BodyLaws.{
   plain-bandwidth,
@@ -56,12 +60,6 @@ use Rattle.read_numbers.proofs.InTextLaws.{ends-here, no-words, one-wor
 
 -- ---- the words of values, stored one after another
 
-sets-append : (l : List ℕ) (at : ℕ) (xs ys : List ℕ) → sets l at (xs ++ ys) ≡ sets (sets l at xs) (at + length xs) ys
-sets-append l at [] ys = ap (λ (k : ℕ). sets l k ys) (sym (add-zero at))
-sets-append l at (x ∷ xs) ys =
-    let e : suc at + length xs ≡ at + suc (length xs) = omega arith in
-    sets-append (set l at x) (suc at) xs ys ∙ ap (λ (k : ℕ). sets (sets (set l at x) (suc at) xs) k ys) e
-
 -- words before the position do not change
 take-sets : (n : ℕ) (l : List ℕ) (at : ℕ) (xs : List ℕ) → n ≤ at → take n (sets l at xs) ≡ take n l
 take-sets n l at [] h = refl
@@ -71,48 +69,35 @@ no-values : valuesWords [] ≡ []
 unfolding valuesWords joined
 no-values = refl
 
-words-cons : (v : document.Value) (vs : List document.Value) → valuesWords (v ∷ vs) ≡ (v .row ∷ v .column ∷ v .word ∷ []) ++ valuesWords vs
+words-cons : (v : Value) (vs : List Value) → valuesWords (v ∷ vs) ≡ valueWords v ++ valuesWords vs
 unfolding valuesWords joined
 words-cons v vs = refl
 
-words-one : (v : document.Value) → valuesWords (v ∷ []) ≡ v .row ∷ v .column ∷ v .word ∷ []
-unfolding valuesWords joined
-words-one v = refl
-
-words-append : (vs ws : List document.Value) → valuesWords (vs ++ ws) ≡ valuesWords vs ++ valuesWords ws
+words-append : (vs ws : List Value) → valuesWords (vs ++ ws) ≡ valuesWords vs ++ valuesWords ws
 words-append [] ws = rw no-values
 words-append (v ∷ vs) ws =
-    words-cons v (vs ++ ws) ∙ ap (λ (xs : List ℕ). v .row ∷ v .column ∷ v .word ∷ xs) (words-append vs ws)
+    words-cons v (vs ++ ws) ∙ ap (λ (xs : List ℕ). valueWords v ++ xs) (words-append vs ws)
+    ∙ sym (append-assoc (valueWords v) (valuesWords vs) (valuesWords ws))
     ∙ ap (λ (xs : List ℕ). xs ++ valuesWords ws) (sym (words-cons v vs))
 
-words-length : (vs : List document.Value) → length (valuesWords vs) ≡ 3 * length vs
-words-length [] = rw no-values
-words-length (v ∷ vs) =
-    let h : length (valuesWords vs) ≡ 3 * length vs = words-length vs in
-    let e : length (valuesWords (v ∷ vs)) ≡ suc (suc (suc (length (valuesWords vs)))) = ap length (words-cons v vs) in
-    omega arith
-
 -- values stored after values that are stored already
-stored-on : (table : List ℕ) (values : ℕ) (vs ws : List document.Value) (n : ℕ) → n ≡ length vs →
-    sets (sets table (3 * values) (valuesWords vs)) (3 * (values + n)) (valuesWords ws) ≡ sets table (3 * values) (valuesWords (vs ++ ws))
+stored-on : (table : List ℕ) (values : ℕ) (vs ws : List Value) (n : ℕ) → n ≡ length vs →
+    sets (sets table (valueWidth * values) (valuesWords vs)) (valueWidth * (values + n)) (valuesWords ws) ≡ sets table (valueWidth * values) (valuesWords (vs ++ ws))
 stored-on table values vs ws n e =
-    let l : length (valuesWords vs) ≡ 3 * length vs = words-length vs in
-    let k : 3 * (values + n) ≡ 3 * values + length (valuesWords vs) = omega arith in
-    ap (λ (p : ℕ). sets (sets table (3 * values) (valuesWords vs)) p (valuesWords ws)) k
-    ∙ sym (sets-append table (3 * values) (valuesWords vs) (valuesWords ws))
-    ∙ ap (sets table (3 * values)) (sym (words-append vs ws))
+    let l : length (valuesWords vs) ≡ valueWidth * length vs = values-long vs in
+    let k : valueWidth * (values + n) ≡ valueWidth * values + length (valuesWords vs) = omega arith in
+    ap (λ (p : ℕ). sets (sets table (valueWidth * values) (valuesWords vs)) p (valuesWords ws)) k
+    ∙ sym (sets-append table (valueWidth * values) (valuesWords vs) (valuesWords ws))
+    ∙ ap (sets table (valueWidth * values)) (sym (words-append vs ws))
 
 -- ---- a line that adds these values, and leads on to the values of the next lines
 
-module _ (table : List ℕ) (values : ℕ) (table' : List ℕ) (vs : List document.Value) (stored : table' ≡ sets table (3 * values) (valuesWords vs)) where
+module _ (table : List ℕ) (values : ℕ) (table' : List ℕ) (vs : List Value) (stored : table' ≡ sets table (valueWidth * values) (valuesWords vs)) where
   long-kept : length table' ≡ length table
-  long-kept = ap length stored ∙ length-sets table (3 * values) (valuesWords vs)
-
-  front-kept : take (3 * values) table' ≡ take (3 * values) table
-  front-kept = ap (take (3 * values)) stored ∙ take-sets (3 * values) table (3 * values) (valuesWords vs) (omega arith)
+  long-kept = ap length stored ∙ length-sets table (valueWidth * values) (valuesWords vs)
 
   module _ (form : ℕ) (a b : Staging) (count : ℕ) (many : count ≡ length vs) (told : b .bandwidth ≡ a .bandwidth) (bounded : BoundedStaging b (values + count))
-      (room : 3 * values ≤ length table → 3 * (values + count) ≤ length table) where
+      (room : valueWidth * values ≤ length table → valueWidth * (values + count) ≤ length table) where
     added : (l : Line) → keyOf l ≡ plain → a .whole ≡ true →
         ((ls : List Line) → valuesFrom form (a .row) (a .column) (l ∷ ls) ≡ vs ++ valuesFrom form (b .row) (b .column) ls) →
         ((ls : List Line) → max (b .greatest) (greatestIn form ls) ≡ max (a .greatest) (greatestIn form (l ∷ ls))) →
@@ -121,15 +106,15 @@ module _ (table : List ℕ) (values : ℕ) (table' : List ℕ) (vs : List docume
         record {
           whole = whole;
           image = λ (ls : List Line).
-              ap (λ (t : List ℕ). sets t (3 * (values + count)) (valuesWords (valuesFrom form (b .row) (b .column) ls))) stored
+              ap (λ (t : List ℕ). sets t (valueWidth * (values + count)) (valuesWords (valuesFrom form (b .row) (b .column) ls))) stored
               ∙ stored-on table values vs (valuesFrom form (b .row) (b .column) ls) count many
-              ∙ ap (λ (ws : List document.Value). sets table (3 * values) (valuesWords ws)) (sym (more ls));
+              ∙ ap (λ (ws : List Value). sets table (valueWidth * values) (valuesWords ws)) (sym (more ls));
           count = λ (ls : List Line). counted ls;
           bandwidth = λ (ls : List Line). ap (λ (f : First). toldOr f (bandwidthIn ls)) told
               ∙ ap (toldOr (a .bandwidth)) (sym (plain-bandwidth form l ls is-plain));
           greatest = greatest;
           bounded = bounded;
-          room = λ (h : 3 * values ≤ length table). rw long-kept (room h);
+          room = λ (h : valueWidth * values ≤ length table). rw long-kept (room h);
         }
       where
         counted : (ls : List Line) →
@@ -140,14 +125,14 @@ module _ (table : List ℕ) (values : ℕ) (table' : List ℕ) (vs : List docume
             omega arith
 
 step-stored : (form row column place : ℕ) (table : List ℕ) (w : List ℕ) (ws : List (List ℕ)) (number : Number) → number ≡ numberOf w →
-    sets (sets table place (row ∷ column ∷ wordIn number ∷ [])) (place + 3) (valuesWords (numbersAt form (nextRow form row) (column + 1) ws))
+    sets (sets table place (valueWords (valueOf row column number))) (place + valueWidth) (valuesWords (numbersAt form (nextRow form row) (column + 1) ws))
     ≡ sets table place (valuesWords (numbersAt form row column (w ∷ ws)))
 unfolding numbersAt
 step-stored form row column place table w ws number e =
-    let rest : List document.Value = numbersAt form (nextRow form row) (column + 1) ws in
-    sym (sets-append table place (row ∷ column ∷ wordIn number ∷ []) (valuesWords rest))
-    ∙ ap (sets table place) (sym (words-cons (record { row = row; column = column; word = wordIn number }) rest))
-    ∙ ap (λ (x : Number). sets table place (valuesWords (record { row = row; column = column; word = wordIn x } ∷ rest))) e
+    let rest : List Value = numbersAt form (nextRow form row) (column + 1) ws in
+    sym (sets-append table place (valueWords (valueOf row column number)) (valuesWords rest))
+    ∙ ap (sets table place) (sym (words-cons (valueOf row column number) rest))
+    ∙ ap (λ (x : Number). sets table place (valuesWords (valueOf row column x ∷ rest))) e
 
 none-left : (form row column : ℕ) → valuesWords (numbersAt form row column []) ≡ []
 unfolding numbersAt
@@ -165,11 +150,11 @@ pipe-spells-nothing = refl
 
 -- ---- room
 
-pub no-room : (place words : ℕ) → false ≡ true → place + 3 ≤ words
+pub no-room : (place words : ℕ) → false ≡ true → place + valueWidth ≤ words
 no-room place words e = absurd (true≢false (sym e))
 
-pub some-room : (place words : ℕ) → place ≤ words → leb 3 (words - place) ≡ true → place + 3 ≤ words
-some-room place words h e = let k : 3 ≤ words - place = leb-true 3 (words - place) e in omega arith
+pub some-room : (place words : ℕ) → place ≤ words → leb valueWidth (words - place) ≡ true → place + valueWidth ≤ words
+some-room place words h e = let k : valueWidth ≤ words - place = leb-true valueWidth (words - place) e in omega arith
 
 -- ---- the numbers of a line, one after another
 
@@ -190,14 +175,14 @@ unfolding areBounded
 none-bounded = refl
 
 value-formed : (n : Number) → isGoodNumber n ≡ true → isFormed n ≡ true
-value-formed (Value w) e = refl
-value-formed Malformed e = e
-value-formed Range e = refl
+value-formed (number.Value w) e = refl
+value-formed number.Malformed e = e
+value-formed number.Range e = refl
 
 value-bounded : (n : Number) → isGoodNumber n ≡ true → isBounded n ≡ true
-value-bounded (Value w) e = refl
-value-bounded Malformed e = refl
-value-bounded Range e = e
+value-bounded (number.Value w) e = refl
+value-bounded number.Malformed e = refl
+value-bounded number.Range e = e
 
 -- the loop's invariant: the numbers that are left give what all of them give
 pub record Left (form : ℕ) (t : List ℕ) (from : ℕ) (table₀ : List ℕ) (values row₀ column₀ at : ℕ) (c : Cursor) (table : List ℕ) : Type 0 where
@@ -205,18 +190,18 @@ pub record Left (form : ℕ) (t : List ℕ) (from : ℕ) (table₀ : List ℕ) (
   pub formed : areFormed (words (contentAt t at)) ≡ areFormed (words (contentAt t from))
   pub bounded : areBounded (words (contentAt t at)) ≡ areBounded (words (contentAt t from))
   pub image : sets table (c .place) (valuesWords (numbersAt form (c .row) (c .column) (words (contentAt t at))))
-      ≡ sets table₀ (3 * values) (valuesWords (numbersAt form row₀ column₀ (words (contentAt t from))))
+      ≡ sets table₀ (valueWidth * values) (valuesWords (numbersAt form row₀ column₀ (words (contentAt t from))))
   pub row : rowAfter form (c .row) (length (words (contentAt t at))) ≡ rowAfter form row₀ (length (words (contentAt t from)))
   pub row-few : c .row ≤ row₀ + c .count
   pub column : c .column ≡ column₀ + c .count
-  pub place : c .place ≡ 3 * (values + c .count)
+  pub place : c .place ≡ valueWidth * (values + c .count)
   pub long : length table ≡ length table₀
-  pub front : take (3 * values) table ≡ take (3 * values) table₀
-  pub room : 3 * values ≤ length table₀ → 3 * (values + c .count) ≤ length table₀
+  pub front : take (valueWidth * values) table ≡ take (valueWidth * values) table₀
+  pub room : valueWidth * values ≤ length table₀ → valueWidth * (values + c .count) ≤ length table₀
   pub ends : lineAt commentByte t at .content ≡ lineAt commentByte t from .content
 
 pub left-start : (form : ℕ) (t : List ℕ) (from : ℕ) (table : List ℕ) (values row column : ℕ) →
-    Left form t from table values row column from (record { row = row; column = column; count = 0; place = 3 * values }) table
+    Left form t from table values row column from (record { row = row; column = column; count = 0; place = valueWidth * values }) table
 left-start form t from table values row column =
     record {
       counted = omega arith;
@@ -229,7 +214,7 @@ left-start form t from table values row column =
       place = omega arith;
       long = refl;
       front = refl;
-      room = λ (h : 3 * values ≤ length table). omega arith;
+      room = λ (h : valueWidth * values ≤ length table). omega arith;
       ends = refl;
     }
 
@@ -249,16 +234,16 @@ module _ (form : ℕ) (t : List ℕ) (from : ℕ) (table₀ : List ℕ) (values 
 
   -- a number can be stored wherever there is room for it, and no sum wraps
   pub left-roomy : row ≤ mostGiven + values → column ≤ mostGiven + values → values ≤ mostValues → length table₀ * 8 < 2 ^ 63 → (free : Bool) →
-      (free ≡ true → c .place + 3 ≤ length table) → not free ≡ false → Roomy (length table) c
+      (free ≡ true → c .place + valueWidth ≤ length table) → not free ≡ false → Roomy (length table) c
   left-roomy row-few column-few few small free has tested =
-      let h : c .place + 3 ≤ length table = has (not-false free tested) in
+      let h : c .place + valueWidth ≤ length table = has (not-false free tested) in
       let g : c .row ≤ row + c .count = left .row-few in
       let k : c .column ≡ column + c .count = left .column in
-      let p : c .place ≡ 3 * (values + c .count) = left .place in
+      let p : c .place ≡ valueWidth * (values + c .count) = left .place in
       let l : length table ≡ length table₀ = left .long in
-      let r : row ≤ 1_000_000_000 + values = row-few in
-      let s : column ≤ 1_000_000_000 + values = column-few in
-      let v : values ≤ 65536 = few in
+      let r : row ≤ mostGiven + values = row-few in
+      let s : column ≤ mostGiven + values = column-few in
+      let v : values ≤ mostValues = few in
       record { room = h; row-few = omega arith; column-few = omega arith; count-few = omega arith }
 
   module _ (start : ℕ) (begins : start ≡ runEnd isBlank t at) (there : Bool)
@@ -280,7 +265,7 @@ module _ (form : ℕ) (t : List ℕ) (from : ℕ) (table₀ : List ℕ) (values 
           let z : length (words (contentAt t at)) ≡ 0 = none-length in
           omega arith
 
-      all-stored : table ≡ sets table₀ (3 * values) (valuesWords (numbersAt form row column (words (contentAt t from))))
+      all-stored : table ≡ sets table₀ (valueWidth * values) (valuesWords (numbersAt form row column (words (contentAt t from))))
       all-stored =
           let z : valuesWords (numbersAt form (c .row) (c .column) (words (contentAt t at))) ≡ [] =
           ap (λ (ws : List (List ℕ)). valuesWords (numbersAt form (c .row) (c .column) ws)) none-words ∙ none-left form (c .row) (c .column) in
@@ -348,14 +333,14 @@ module _ (form : ℕ) (t : List ℕ) (from : ℕ) (table₀ : List ℕ) (values 
         is-value : isGoodNumber (read .number) ≡ true
         is-value = sym value-told ∙ not-false value fine
 
-        module _ (table' : List ℕ) (stored : table' ≡ sets table (c .place) (c .row ∷ c .column ∷ wordIn (read .number) ∷ []))
-            (free : Bool) (has : free ≡ true → c .place + 3 ≤ length table) (tested-room : not free ≡ false) where
-          room-here : c .place + 3 ≤ length table
+        module _ (table' : List ℕ) (stored : table' ≡ sets table (c .place) (valueWords (valueOf (c .row) (c .column) (read .number))))
+            (free : Bool) (has : free ≡ true → c .place + valueWidth ≤ length table) (tested-room : not free ≡ false) where
+          room-here : c .place + valueWidth ≤ length table
           room-here = has (not-false free tested-room)
 
           image-here :
-              sets table' (c .place + 3) (valuesWords (numbersAt form (nextRow form (c .row)) (c .column + 1) (words (contentAt t (read .end)))))
-              ≡ sets table₀ (3 * values) (valuesWords (numbersAt form row column (words (contentAt t from))))
+              sets table' (c .place + valueWidth) (valuesWords (numbersAt form (nextRow form (c .row)) (c .column + 1) (words (contentAt t (read .end)))))
+              ≡ sets table₀ (valueWidth * values) (valuesWords (numbersAt form row column (words (contentAt t from))))
           image-here =
               rw stored
               (step-stored form (c .row) (c .column) (c .place) table word (words (contentAt t (read .end))) (read .number) number-is
@@ -368,11 +353,11 @@ module _ (form : ℕ) (t : List ℕ) (from : ℕ) (table₀ : List ℕ) (values 
               let f : c .row ≤ row + c .count = left .row-few in
               let g : nextRow form (c .row) ≤ c .row + 1 = row-most form (c .row) in
               let h : c .column ≡ column + c .count = left .column in
-              let k : c .place ≡ 3 * (values + c .count) = left .place in
+              let k : c .place ≡ valueWidth * (values + c .count) = left .place in
               let n : length (words (contentAt t at)) ≡ suc (length (words (contentAt t (read .end)))) = ap length here in
               let m : c .count + length (words (contentAt t at)) ≡ length (words (contentAt t from)) = left .counted in
               let l : length table ≡ length table₀ = left .long in
-              let o : c .place + 3 ≤ length table = room-here in
+              let o : c .place + valueWidth ≤ length table = room-here in
               record {
                 counted = omega arith;
                 formed =
@@ -386,11 +371,11 @@ module _ (form : ℕ) (t : List ℕ) (from : ℕ) (table₀ : List ℕ) (values 
                 row-few = omega arith;
                 column = omega arith;
                 place = omega arith;
-                long = ap length stored ∙ length-sets table (c .place) (c .row ∷ c .column ∷ wordIn (read .number) ∷ []) ∙ left .long;
+                long = ap length stored ∙ length-sets table (c .place) (valueWords (valueOf (c .row) (c .column) (read .number))) ∙ left .long;
                 front =
-                    ap (take (3 * values)) stored
-                    ∙ take-sets (3 * values) table (c .place) (c .row ∷ c .column ∷ wordIn (read .number) ∷ []) (omega arith) ∙ left .front;
-                room = λ (h : 3 * values ≤ length table₀). omega arith;
+                    ap (take (valueWidth * values)) stored
+                    ∙ take-sets (valueWidth * values) table (c .place) (valueWords (valueOf (c .row) (c .column) (read .number))) (omega arith) ∙ left .front;
+                room = λ (h : valueWidth * values ≤ length table₀). omega arith;
                 ends = same-end t at start begins stands (read .end) end-is ∙ left .ends;
               }
 
@@ -432,14 +417,14 @@ module _ (form : ℕ) (t : List ℕ) (here : ℕ) (table : List ℕ) (values row
         let f : r .row ≤ row + r .count = told .row-few in
         let g : r .column ≡ column + length (words content) = told .column-is in
         let h : r .count ≡ length (words content) = told .counted in
-        let p : row ≤ 1_000_000_000 + values = row-few in
-        let q : column ≤ 1_000_000_000 + values = column-few in
+        let p : row ≤ mostGiven + values = row-few in
+        let q : column ≤ mostGiven + values = column-few in
         record { row = omega arith; column = omega arith }
 
     adds-after : (a : Staging) → a .whole ≡ true → a .row ≡ row → a .column ≡ column → (l : Line) → l .content ≡ content → keyOf l ≡ plain →
         Adds form l table values a table' (values + r .count) (movedTo (r .row) (r .column) a)
     adds-after a whole row-is column-is l same is-plain =
-        let vs : List document.Value = numbersAt form row column (words content) in
+        let vs : List Value = numbersAt form row column (words content) in
         let many : r .count ≡ length vs = told .counted ∙ sym (numbers-length form row column (words content)) in
         added table values table' vs (told .stored) form a (movedTo (r .row) (r .column) a) (r .count) many refl (bounded-after a) (told .room) l
         is-plain whole
@@ -502,7 +487,7 @@ module _ (t : List ℕ) (here start : ℕ) (begins : start ≡ runEnd isBlank t 
 
   module _ (part : List ℕ) (cut : part ≡ take (end - start) (drop start t)) (column : Whole) (is-column : column ≡ wholeOf part) where
     pub column-few : (values : ℕ) → column .value ≤ mostGiven + values
-    column-few values = let h : column .value < 1_000_000_000 = rw is-column (whole-below part) in omega arith
+    column-few values = let h : column .value < mostGiven = rw is-column (whole-below part) in omega arith
 
     module _ (table : List ℕ) (values row : ℕ) (table' : List ℕ) (n : Numbers)
         (stores : Stores sparse t end table values row (column .value) table' n) where
@@ -538,19 +523,19 @@ module _ (t : List ℕ) (here start : ℕ) (begins : start ≡ runEnd isBlank t 
         unfolding numbersAt sparseAt
         pair-value = rw (single, two) (λ i. record { row = row; column = is-column i .value; word = wordIn (numberOf value) } ∷ [])
 
-        pair-stored : table' ≡ sets table (3 * values) (valuesWords (sparseAt row (words (contentAt t here)) ∷ []))
-        pair-stored = behind .stored ∙ ap (λ (vs : List document.Value). sets table (3 * values) (valuesWords vs)) pair-value
+        pair-stored : table' ≡ sets table (valueWidth * values) (valuesWords (sparseAt row (words (contentAt t here)) ∷ []))
+        pair-stored = behind .stored ∙ ap (λ (vs : List Value). sets table (valueWidth * values) (valuesWords vs)) pair-value
 
         named-here : column .value ≡ wholeOf (firstOf (words (contentAt t here))) .value
         named-here = rw two (ap (λ (w : Whole). w .value) is-column)
 
         pair-bounded : (a : Staging) → BoundedStaging a values → BoundedStaging (namedTo (column .value) a) (values + 1)
         pair-bounded a bound =
-            let f : a .row ≤ 1_000_000_000 + values = bound .row in
-            let g : a .column ≤ 1_000_000_000 + values = bound .column in
+            let f : a .row ≤ mostGiven + values = bound .row in
+            let g : a .column ≤ mostGiven + values = bound .column in
             record { row = omega arith; column = omega arith }
 
-        pair-room : 3 * values ≤ length table → 3 * (values + 1) ≤ length table
+        pair-room : valueWidth * values ≤ length table → valueWidth * (values + 1) ≤ length table
         pair-room h = rw one at (behind .room h)
 
         pair-adds : (a : Staging) → a .whole ≡ true → BoundedStaging a values → a .row ≡ row → (l : Line) → l .content ≡ contentAt t here → keyOf l ≡ plain →
@@ -563,7 +548,7 @@ module _ (t : List ℕ) (here start : ℕ) (begins : start ≡ runEnd isBlank t 
             most-of (a .greatest) (column .value) _ _ (greatestIn sparse ls)
             (rw (named-here, sym same) (sparse-greatest sparse l ls is-plain refl)) refl)
 
-        module _ (formed : column .formed ≡ true) (bounded : within 1 256 (column .value) ≡ true) where
+        module _ (formed : column .formed ≡ true) (bounded : within 1 mostConductors (column .value) ≡ true) where
           pair-line : record { numbers = 1; column = column .value; right = true; formed = true; bounded = true } ≡ dataLineOf sparse (contentAt t here)
           unfolding dataLineOf sparseLine
           pair-line =
@@ -601,7 +586,7 @@ module _ (t : List ℕ) (here start : ℕ) (begins : start ≡ runEnd isBlank t 
             adds = λ (w : false ≡ true). absurd (true≢false (sym w));
           }
 
-      pub pair-stages : not (column .formed) ≡ false → (fits : Bool) → fits ≡ within 1 256 (column .value) → not fits ≡ false → (r : Pair) →
+      pub pair-stages : not (column .formed) ≡ false → (fits : Bool) → fits ≡ within 1 mostConductors (column .value) → not fits ≡ false → (r : Pair) →
           r ≡ pairOf (column .value) n → StagesPair t here table values row table' r
       unfolding pairOf
       pair-stages formed fits told tested r e =

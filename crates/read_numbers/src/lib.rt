@@ -4,8 +4,9 @@
 ghost use mathlib.Core.Path.{_≡_};
 ghost use mathlib.Core.Bool.{true, false};
 ghost use Prim.Native.Nat.{_+_, _≤_};
-ghost use Rattle.line_matrix.specs.Matrix.{sparse, mostValues};
-ghost use Rattle.read_line.specs.Way.Walk.{contentAt};
+ghost use Rattle.table_layout.specs.Layout.{valueWidth};
+ghost use Rattle.table_layout.specs.Codes.{sparse};
+ghost use Rattle.table_layout.specs.Bounds.{mostValues};
 ghost use Rattle.store_matrices.specs.Way.Numbers.{mostGiven};
 ghost use Rattle.read_numbers.specs.Way.Staging.{StagesNumbers, StagesPair};
 ghost use Rattle.read_numbers.specs.Way.Steps.{Stores, numbersResult, pairOf};
@@ -14,9 +15,6 @@ use store_matrices::First;
 
 // "From `|` on, a line is comment".
 const COMMENT: u8 = b'|';
-
-// How many words a value has.
-const WORDS: usize = 3;
 
 // What the lines of a matrix have given so far: whether all their numbers are staged, the row and column of the next
 // number, the bandwidth, and the greatest row or column that is named.
@@ -48,12 +46,12 @@ pub struct Pair {
 
 // Whether a table of `words` words has room for a value at position `place`.
 fn has_room(place: usize, words: usize) -> bool
-    ensures { λ r. ⌜ (r ≡ true → place + 3 ≤ words) ⌝ }
+    ensures { λ r. ⌜ (r ≡ true → place + valueWidth ≤ words) ⌝ }
 {
     if words < place {
         return false;
     }
-    WORDS <= words - place
+    table_layout::VALUE_WIDTH <= words - place
 }
 
 fn numbers_of(staged: bool, cursor: Cursor, end: usize) -> Numbers
@@ -87,7 +85,7 @@ fn store_numbers(
         row,
         column,
         count: 0,
-        place: WORDS * (values as usize),
+        place: table_layout::VALUE_WIDTH * (values as usize),
     };
     loop {
         let start = base::past_blanks(text, at);
@@ -164,13 +162,13 @@ pub fn read_pair(text: &[u8], here: usize, values: u64, table: &mut [u64], row: 
     if !column.formed {
         return no_pair(start);
     }
-    if !lex_number::is_within(1, 256, column.value) {
+    if !lex_number::is_within(1, table_layout::bound::CONDUCTORS, column.value) {
         return no_pair(start);
     }
     let numbers = store_numbers(
         text,
         end,
-        line_matrix::SPARSE,
+        table_layout::code::SPARSE,
         values,
         table,
         row,

@@ -11,8 +11,10 @@ use lib.ListN.{length, take, drop, getD, set, replicate, length-set, length-repl
 use lib.Seq.{sets, take-take, take-nil, getD-set-same, getD-set-other}
 use lib.Dec.{eqb, ltb}
 use borrow.Author.Tests.{eq-eqb, ne-eqb, eqb-true, eqb-false, lt-ltb, le-ltb, ltb-true, ltb-false}
+use Rattle.table_layout.specs.Layout.{valueWidth}
+use Rattle.table_layout.specs.Bounds.{mostMatrices}
 use Rattle.base.proofs.IfLaws.{by-test, by-cases, if-true, if-false}
-use Rattle.line_place.specs.Place.{before, done}
+use Rattle.line_place.specs.Place.{before}
 use Rattle.line_matrix.specs.declared.Matrix.{Matrix}
 use Rattle.line_keyword.specs.declared.Counts.{Counts}
 use Rattle.line_keyword.specs.declared.State.{State}
@@ -21,15 +23,16 @@ use Rattle.read_line.specs.Way.Walk.{ResumesText}
 use Rattle.read_line.specs.declared.Walk.{Walk}
 use Rattle.read_line.specs.declared.Reading.{Reading}
 use Rattle.read_line.specs.declared.Reading.the-variants.{Read, Refused}
-use Rattle.store_base.specs.Way.Stage.{StagedMatrix, stagedAt, stagedSize, Tells, wordsOf, Made}
+use Rattle.read_line.proofs.ResultLaws.{refused-not-read, end-done}
+use Rattle.store_base.specs.Way.Stage.{StagedMatrix, stagedAt, stagedWidth, Tells, wordsOf, Made}
 use Rattle.store_matrices.specs.Way.Told.{toldOr}
 use Rattle.read_matrix.specs.declared.BodyWalk.{BodyWalk}
 use Rattle.read_matrix.specs.Way.Body.{Behind, ResumesMatrix, stagedOf}
-use Rattle.read_text.specs.Way.Forward.{Carries, mostMatrices, stagedWords, stageAfter, stageBehind}
+use Rattle.read_text.specs.Way.Forward.{Carries, stagedWords, stageAfter, stageBehind}
 
 -- ---- none at the start
 
-zeros-at : (n i : ℕ) → getD {A = ℕ} (replicate n 0) i 0 ≡ 0
+pub zeros-at : (n i : ℕ) → getD {A = ℕ} (replicate n 0) i 0 ≡ 0
 zeros-at n i =
     by-cases (getD {A = ℕ} (replicate n 0) i 0 ≡ 0) (ltb i n)
     (λ (h : ltb i n ≡ true). getD-replicate n i 0 0 (ltb-true i n h))
@@ -46,10 +49,10 @@ carries-start t table stage v e =
       before = record { before = λ (i : ℕ) (made : Made (stagedAt stage i)). absurd (none i made) };
     }
   where
-    none : (i : ℕ) → 0 < getD stage (stagedSize * i + 4) 0 → ⊥
+    none : (i : ℕ) → 0 < getD stage (stagedWidth * i + 4) 0 → ⊥
     none i made =
-        let z : getD stage (stagedSize * i + 4) 0 ≡ 0 =
-        ap (λ (u : List ℕ). getD u (stagedSize * i + 4) 0) e ∙ zeros-at (length stage) (stagedSize * i + 4) in
+        let z : getD stage (stagedWidth * i + 4) 0 ≡ 0 =
+        ap (λ (u : List ℕ). getD u (stagedWidth * i + 4) 0) e ∙ zeros-at (length stage) (stagedWidth * i + 4) in
         omega arith
 
 -- ---- more values, and a table that changes only after them
@@ -84,8 +87,8 @@ carries-behind t table table' stage v c behind = record { staged = record { tell
     told i made from =
         let n : StagedMatrix = stagedAt stage i in
         let b : n .first + n .count ≤ v = c .before .before i made in
-        let h : 0 + 3 * n .first + 3 * n .count ≤ 3 * v = omega arith in
-        let e : wordsOf table' 0 n ≡ wordsOf table 0 n = part-same (0 + 3 * n .first) (3 * n .count) (3 * v) table table' h (behind .same) in
+        let h : 0 + valueWidth * n .first + valueWidth * n .count ≤ valueWidth * v = omega arith in
+        let e : wordsOf table' 0 n ≡ wordsOf table 0 n = part-same (0 + valueWidth * n .first) (valueWidth * n .count) (valueWidth * v) table table' h (behind .same) in
         rw e (c .staged .tells i made from)
 
 -- ---- one staged matrix more
@@ -116,19 +119,19 @@ module _ (d : ℕ) where
       let m : length (set l i a) ≡ length l = length-set l i a in
       ap (λ (j : ℕ). getD (sets (set l i a) (suc i) vs) j d) e ∙ getD-sets-in vs (set l i a) (suc i) k (omega arith) (omega arith)
 
--- a staged matrix with these nine words
-staged-is : (stage : List ℕ) (i : ℕ) (n : StagedMatrix) → ((k : ℕ) → k < 9 → getD stage (stagedSize * i + k) 0 ≡ getD (stagedWords n) k 0) → stagedAt stage i ≡ n
+-- a staged matrix with these words
+staged-is : (stage : List ℕ) (i : ℕ) (n : StagedMatrix) → ((k : ℕ) → k < stagedWidth → getD stage (stagedWidth * i + k) 0 ≡ getD (stagedWords n) k 0) → stagedAt stage i ≡ n
 unfolding stagedAt
 staged-is stage i n e =
-    let z : getD stage (stagedSize * i) 0 ≡ n .at = ap (λ (k : ℕ). getD stage k 0) (sym (add-zero (stagedSize * i))) ∙ e 0 (omega arith) in
-    let word : (k : ℕ) → k < 9 → getD stage (stagedSize * i + k) 0 ≡ getD (stagedWords n) k 0 = e in
+    let z : getD stage (stagedWidth * i) 0 ≡ n .at = ap (λ (k : ℕ). getD stage k 0) (sym (add-zero (stagedWidth * i))) ∙ e 0 (omega arith) in
+    let word : (k : ℕ) → k < stagedWidth → getD stage (stagedWidth * i + k) 0 ≡ getD (stagedWords n) k 0 = e in
     rw (z, word 1 (omega arith), word 2 (omega arith), word 3 (omega arith), word 4 (omega arith)) (
     rw (word 5 (omega arith), word 6 (omega arith), word 7 (omega arith), word 8 (omega arith)) refl)
 
--- each of the nine words of a staged matrix
-word-of : (stage : List ℕ) (j k : ℕ) → k < 9 → getD stage (stagedSize * j + k) 0 ≡ getD (stagedWords (stagedAt stage j)) k 0
+-- each word of a staged matrix
+word-of : (stage : List ℕ) (j k : ℕ) → k < stagedWidth → getD stage (stagedWidth * j + k) 0 ≡ getD (stagedWords (stagedAt stage j)) k 0
 unfolding stagedAt
-word-of stage j zero h = ap (λ (x : ℕ). getD stage x 0) (add-zero (stagedSize * j))
+word-of stage j zero h = ap (λ (x : ℕ). getD stage x 0) (add-zero (stagedWidth * j))
 word-of stage j (suc zero) h = refl
 word-of stage j (suc (suc zero)) h = refl
 word-of stage j (suc (suc (suc zero))) h = refl
@@ -139,29 +142,29 @@ word-of stage j (suc (suc (suc (suc (suc (suc (suc zero))))))) h = refl
 word-of stage j (suc (suc (suc (suc (suc (suc (suc (suc zero)))))))) h = refl
 word-of stage j (suc (suc (suc (suc (suc (suc (suc (suc (suc k))))))))) h = absurd (omega arith)
 
-module _ (stage : List ℕ) (i : ℕ) (n : StagedMatrix) (room : stagedSize * i + stagedSize ≤ length stage) where
-  staged-same : stagedAt (sets stage (stagedSize * i) (stagedWords n)) i ≡ n
+module _ (stage : List ℕ) (i : ℕ) (n : StagedMatrix) (room : stagedWidth * i + stagedWidth ≤ length stage) where
+  staged-same : stagedAt (sets stage (stagedWidth * i) (stagedWords n)) i ≡ n
   staged-same =
-      staged-is (sets stage (stagedSize * i) (stagedWords n)) i n (λ (k : ℕ) (h : k < 9). getD-sets-in 0 (stagedWords n) stage (stagedSize * i) k h room)
+      staged-is (sets stage (stagedWidth * i) (stagedWords n)) i n (λ (k : ℕ) (h : k < stagedWidth). getD-sets-in 0 (stagedWords n) stage (stagedWidth * i) k h room)
 
-  other-word : (j k : ℕ) → k < 9 → (i ≡ j → ⊥) → getD (sets stage (stagedSize * i) (stagedWords n)) (stagedSize * j + k) 0 ≡ getD stage (stagedSize * j + k) 0
+  other-word : (j k : ℕ) → k < stagedWidth → (i ≡ j → ⊥) → getD (sets stage (stagedWidth * i) (stagedWords n)) (stagedWidth * j + k) 0 ≡ getD stage (stagedWidth * j + k) 0
   other-word j k h differ =
-      by-cases (getD (sets stage (stagedSize * i) (stagedWords n)) (stagedSize * j + k) 0 ≡ getD stage (stagedSize * j + k) 0) (ltb j i)
+      by-cases (getD (sets stage (stagedWidth * i) (stagedWords n)) (stagedWidth * j + k) 0 ≡ getD stage (stagedWidth * j + k) 0) (ltb j i)
       (λ (e : ltb j i ≡ true).
       let l : j < i = ltb-true j i e in
-      getD-sets-before 0 (stagedWords n) stage (stagedSize * i) (stagedSize * j + k) (omega arith))
+      getD-sets-before 0 (stagedWords n) stage (stagedWidth * i) (stagedWidth * j + k) (omega arith))
       (λ (e : ltb j i ≡ false).
       let l : i ≤ j = ltb-false j i e in
       let m : i < j = by-less i j l differ in
-      getD-sets-behind 0 (stagedWords n) stage (stagedSize * i) (stagedSize * j + k) (omega arith))
+      getD-sets-behind 0 (stagedWords n) stage (stagedWidth * i) (stagedWidth * j + k) (omega arith))
     where
       by-less : (a b : ℕ) → a ≤ b → (a ≡ b → ⊥) → a < b
       by-less a b l d = omega (arith, l, d)
 
-  staged-other : (j : ℕ) → (i ≡ j → ⊥) → stagedAt (sets stage (stagedSize * i) (stagedWords n)) j ≡ stagedAt stage j
-  staged-other j differ = staged-is (sets stage (stagedSize * i) (stagedWords n)) j (stagedAt stage j) words-at
+  staged-other : (j : ℕ) → (i ≡ j → ⊥) → stagedAt (sets stage (stagedWidth * i) (stagedWords n)) j ≡ stagedAt stage j
+  staged-other j differ = staged-is (sets stage (stagedWidth * i) (stagedWords n)) j (stagedAt stage j) words-at
     where
-      words-at : (k : ℕ) → k < 9 → getD (sets stage (stagedSize * i) (stagedWords n)) (stagedSize * j + k) 0 ≡ getD (stagedWords (stagedAt stage j)) k 0
+      words-at : (k : ℕ) → k < stagedWidth → getD (sets stage (stagedWidth * i) (stagedWords n)) (stagedWidth * j + k) 0 ≡ getD (stagedWords (stagedAt stage j)) k 0
       words-at k h = other-word j k h differ ∙ word-of stage j k h
 
 -- what holds of the matrix that is staged now and of those staged before holds of all afterwards
@@ -173,18 +176,18 @@ staged-after P matrices n stage j old new =
     (λ (e : ltb matrices 1 ≡ false).
     by-test (λ (u : List ℕ). P (stagedAt u j)) (ltb mostMatrices matrices) _ _ (λ (f : ltb mostMatrices matrices ≡ true). old)
     (λ (f : ltb mostMatrices matrices ≡ false).
-    by-test (λ (u : List ℕ). P (stagedAt u j)) (ltb (length stage) (stagedSize * (matrices - 1) + stagedSize)) _ _
-    (λ (g : ltb (length stage) (stagedSize * (matrices - 1) + stagedSize) ≡ true). old)
-    (λ (g : ltb (length stage) (stagedSize * (matrices - 1) + stagedSize) ≡ false). stored (ltb-false _ _ g))))
+    by-test (λ (u : List ℕ). P (stagedAt u j)) (ltb (length stage) (stagedWidth * (matrices - 1) + stagedWidth)) _ _
+    (λ (g : ltb (length stage) (stagedWidth * (matrices - 1) + stagedWidth) ≡ true). old)
+    (λ (g : ltb (length stage) (stagedWidth * (matrices - 1) + stagedWidth) ≡ false). stored (ltb-false _ _ g))))
   where
     i : ℕ
     i = matrices - 1
 
-    stored : stagedSize * i + stagedSize ≤ length stage → P (stagedAt (sets stage (stagedSize * i) (stagedWords n)) j)
+    stored : stagedWidth * i + stagedWidth ≤ length stage → P (stagedAt (sets stage (stagedWidth * i) (stagedWords n)) j)
     stored room =
-        by-cases (P (stagedAt (sets stage (stagedSize * i) (stagedWords n)) j)) (eqb i j)
+        by-cases (P (stagedAt (sets stage (stagedWidth * i) (stagedWords n)) j)) (eqb i j)
         (λ (e : eqb i j ≡ true).
-        subst (λ (k : ℕ). P (stagedAt (sets stage (stagedSize * i) (stagedWords n)) k)) (eqb-true i j e) (subst P (sym (staged-same stage i n room)) new))
+        subst (λ (k : ℕ). P (stagedAt (sets stage (stagedWidth * i) (stagedWords n)) k)) (eqb-true i j e) (subst P (sym (staged-same stage i n room)) new))
         (λ (e : eqb i j ≡ false). subst P (sym (staged-other stage i n room j (eqb-false i j e))) old)
 
 pub carries-staged : (t table stage : List ℕ) (v matrices : ℕ) (n : StagedMatrix) → Carries t table stage v → Tells t n (wordsOf table 0 n) →
@@ -238,12 +241,12 @@ module _ (matrices : ℕ) (words stage : List ℕ) where
     after-many h = sym (if-false _ _ (le-ltb _ _ one) ∙ if-true _ _ (lt-ltb _ _ h))
 
     module _ (most : matrices ≤ mostMatrices) where
-      pub after-short : length stage < stagedSize * (matrices - 1) + stagedSize → stage ≡ stageAfter matrices words stage
+      pub after-short : length stage < stagedWidth * (matrices - 1) + stagedWidth → stage ≡ stageAfter matrices words stage
       unfolding stageAfter
       after-short h = sym (if-false _ _ (le-ltb _ _ one) ∙ if-false _ _ (le-ltb _ _ most) ∙ if-true _ _ (lt-ltb _ _ h))
 
-      pub after-stored : stagedSize * (matrices - 1) + stagedSize ≤ length stage →
-          (stage' : List ℕ) → stage' ≡ sets stage (stagedSize * (matrices - 1)) words → stage' ≡ stageAfter matrices words stage
+      pub after-stored : stagedWidth * (matrices - 1) + stagedWidth ≤ length stage →
+          (stage' : List ℕ) → stage' ≡ sets stage (stagedWidth * (matrices - 1)) words → stage' ≡ stageAfter matrices words stage
       unfolding stageAfter
       after-stored h stage' e = e ∙ sym (if-false _ _ (le-ltb _ _ one) ∙ if-false _ _ (le-ltb _ _ most) ∙ if-false _ _ (le-ltb _ _ h))
 
@@ -269,28 +272,10 @@ module _ (at line : ℕ) (m : Matrix) (values matrices : ℕ) (w : BodyWalk) (st
 abbrev CarriesRead : List ℕ → List ℕ → List ℕ → Reading → Type 0
 CarriesRead t table stage r = (c : Counts) → r ≡ Read c → Carries t table stage (c .values)
 
-refused-not-read : (k n : ℕ) (c : Counts) → Refused k n ≡ Read c → ⊥
-refused-not-read k n c e =
-    let z : _≡_ {A = ℕ} 0 1 = cc in
-    omega arith
-
 pub carries-refused : (t table stage : List ℕ) (k n : ℕ) → CarriesRead t table stage (Refused k n)
 carries-refused t table stage k n c e = absurd (refused-not-read k n c e)
 
 pub carries-end : (t table stage : List ℕ) (s : State) (r : Reading) → Carries t table stage (s .counts .values) → r ≡ atEnd s →
     CarriesRead t table stage r
-unfolding atEnd
-carries-end t table stage s r carried e = subst (CarriesRead t table stage) (sym e) ended
-  where
-    read-same : (a b : Counts) → Read a ≡ Read b → a ≡ b
-    read-same a b h = cc
-
-    ended : CarriesRead t table stage (atEnd s)
-    ended =
-        by-test (CarriesRead t table stage) (eqb (s .place) done) _ _
-        (λ (d : eqb (s .place) done ≡ true) (c : Counts) (h : Read (s .counts) ≡ Read c).
-        subst (λ (x : Counts). Carries t table stage (x .values)) (read-same (s .counts) c h) carried)
-        (λ (d : eqb (s .place) done ≡ false).
-        by-test (CarriesRead t table stage) (eqb (s .place) before) _ _
-        (λ (b : eqb (s .place) before ≡ true). carries-refused t table stage 5 0)
-        (λ (b : eqb (s .place) before ≡ false). carries-refused t table stage 10 0))
+carries-end t table stage s r carried e c h =
+    subst (λ (x : Counts). Carries t table stage (x .values)) (end-done s c (sym e ∙ h) .1) carried

@@ -8,6 +8,7 @@ ghost use Rattle.line_keyword.specs.declared.Counts.{Counts};
 ghost use Rattle.read_line.specs.Reading.{readingOf};
 ghost use Rattle.read_line.specs.declared.Reading.the-variants.{Read};
 ghost use Rattle.read_line.specs.Way.Walk.{ResumesText, Onward};
+ghost use Rattle.store_base.specs.Way.Stage.{stagedWidth};
 ghost use Rattle.read_text.specs.Way.Forward.{Carries, stageAfter, stageBehind};
 use line_keyword::State;
 use line_matrix::Matrix;
@@ -15,26 +16,20 @@ use read_line::Reading;
 use read_line::Walk;
 use read_matrix::BodyWalk;
 
-// How many words describe a staged matrix.
-const STAGED: usize = 9;
-
-// An accepted text has at most this many matrices.
-const MOST_MATRICES: u64 = 1024;
-
 // Stores the words of a staged matrix at the index of the matrix that was opened last. Nothing
 // is stored if there is no such matrix or no room.
 fn put_staged(stage: &mut [u64], matrices: u64, words: &[u64])
-    requires { ⌜ length (now words) ≡ 9 ⌝ }
+    requires { ⌜ length (now words) ≡ stagedWidth ⌝ }
     ensures { λ _. ⌜ now (stage .exit) ≡ stageAfter matrices (now (words .entry)) (now (stage .entry)) ⌝ }
 {
     if matrices < 1 {
         return;
     }
-    if MOST_MATRICES < matrices {
+    if table_layout::bound::MATRICES < matrices {
         return;
     }
-    let at = STAGED * ((matrices - 1) as usize);
-    if stage.len() < at + STAGED {
+    let at = store_base::STAGED_WIDTH * ((matrices - 1) as usize);
+    if stage.len() < at + store_base::STAGED_WIDTH {
         return;
     }
     base::put_words(stage, at, words);
@@ -141,7 +136,7 @@ fn read_line(
     if s.place == line_place::PIN_LIST {
         return read_line::read_pins(text, at, line, s);
     }
-    let passing = read_line::skip_idle_lines(text, at, line, s.place);
+    let passing = read_line::fast::skip_idle_lines(text, at, line, s.place);
     if at < passing.at {
         return Walk {
             rule: 0,

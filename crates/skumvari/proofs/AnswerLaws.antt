@@ -18,7 +18,8 @@ use Rattle.ask_entry.specs.declared.Answer as entry
 use Rattle.ask_entry.specs.declared.Answer.the-variants as found
 use Rattle.ask_walk.specs.Walk as walks
 use Rattle.ask_walk.specs.declared.Place.{Place}
-use Rattle.ask_walk.specs.declared.StepWords.{StepWords}
+use Rattle.table_record.specs.declared.StepRecord.{StepRecord}
+use Rattle.table_record.specs.Records.{noStep}
 use Rattle.ask_walk.specs.declared.Walked.{Walked}
 use Rattle.ask_walk.specs.declared.Walked.the-variants as walked
 use Rattle.ask_entry.specs.WholeMatrix as matrices
@@ -112,14 +113,14 @@ module _ (lent after : List ℕ) where
         ((λ i. flag-false i ∷ number ∷ 0 ∷ 0 ∷ []) ∙ (λ i. entryLayout (entries.entryWords (sym e i))) ∙ ap entryLayout is) h
 
   module _ (answer : Walked) (words : walks.WalkWords) (is : walks.walkWords answer ≡ words) where
-    pub walk-stepped : (step : StepWords) (next : Place) → answer ≡ walked.Step step next → after ≡ answered (1 ∷ 0 ∷ 0 ∷ 0 ∷ stepLayout step next) lent →
+    pub walk-stepped : (step : StepRecord) (next : Place) → answer ≡ walked.Step step next → after ≡ answered (1 ∷ 0 ∷ 0 ∷ 0 ∷ stepLayout step next) lent →
         after ≡ answered (walkLayout words) lent
     unfolding walkLayout
     walk-stepped step next e h =
         answer-same _ _ lent after
         ((λ i. flag-true i ∷ 0 ∷ 0 ∷ flag-false i ∷ stepLayout step next) ∙ (λ i. walkLayout (walks.walkWords (sym e i))) ∙ ap walkLayout is) h
 
-    module _ (none : StepWords) (is-none : none ≡ walks.noStep) where
+    module _ (none : StepRecord) (is-none : none ≡ noStep) where
       pub walk-done : (place : Place) → answer ≡ walked.Done place → after ≡ answered (1 ∷ 0 ∷ 0 ∷ 1 ∷ stepLayout none place) lent →
           after ≡ answered (walkLayout words) lent
       unfolding walkLayout

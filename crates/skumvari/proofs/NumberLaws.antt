@@ -4,11 +4,11 @@ use mathlib.Core.Path.{_≡_, refl}
 use mathlib.Core.Bool.{Bool, true, false}
 use mathlib.Core.List.{List, [], _∷_, map}
 use Prim.Native.Nat.{ℕ, _+_}
-use lib.ListN.{length}
-use lib.Dec.{eqb, ltb}
+use lib.Dec.{eqb}
 use borrow.Author.Tests.{eqb-false}
+use Rattle.base.specs.Refusal as refusal
 use Rattle.base.specs.If.{if_then_else_}
-use Rattle.base.specs.Broken.{first}
+use Rattle.base.specs.Broken.{Rule, first, firstBroken}
 use Rattle.base.proofs.IfLaws.{by-test}
 use Rattle.lex_line.specs.Lines.{Raw, lines, contentOf, isBlankLine}
 use Rattle.lex_line.specs.ByteRules as text
@@ -20,14 +20,12 @@ use Rattle.lex_keyword.specs.Bracket.{bracketOf}
 use Rattle.lex_keyword.specs.declared.Bracket.{Bracket}
 use Rattle.lex_keyword.specs.declared.Bracket.the-variants.{Plain, Indented, Bad, Unknown, Later, Keyword}
 use Rattle.line_place.specs.Place.{isText, before, done}
-use Rattle.line_head.specs.Head.{headRule}
-use Rattle.line_path.specs.Path.{openRule, closedRule, pathRule}
-use Rattle.line_map.specs.PinMap.{mapRule, pinRule}
-use Rattle.line_matrix.specs.Matrix.{dataRule}
 use Rattle.line_keyword.specs.Keywords.{keywordRule}
 use Rattle.line_keyword.specs.State.{startState}
 use Rattle.line_keyword.specs.declared.State.{State}
-use Rattle.read_line.specs.Reading.{listRule, lineRule, goes, breaks, judged, lineStep, keywordStep, bracketStep, beforeStep, lineResult, commentByte, argumentFrom, atEnd, onward, readFrom, readingOf}
+use Rattle.read_line.specs.Reading.{lineRule, goes, breaks, judged, lineResult, commentByte, argumentFrom, endOfTextRules, atEnd, onward, readFrom, readingOf}
+use Rattle.read_line.specs.Way.Steps.{lineStep, keywordStep, bracketStep, beforeStep}
+use Rattle.read_line.proofs.ResultLaws.{result-steps}
 use Rattle.read_line.specs.declared.LineResult.{LineResult}
 use Rattle.read_line.specs.declared.Reading.{Reading}
 use Rattle.read_line.specs.declared.Reading.the-variants.{Read, Refused}
@@ -35,18 +33,20 @@ use Rattle.doc.specs.Document.{Named, Step as PathStep, Model, Map, Section, Do
 use Rattle.doc.specs.Holds.{Each}
 use Rattle.doc.specs.Holds.Each.{none, more}
 use Rattle.doc.proofs.StandsLaws.{each-append}
-use Rattle.cross_rules.specs.Rules as rules
-use Rattle.cross_rules.specs.Rules.{listFindings, stepFindings, modelFindings, pinFindings, mapFindings, sectionFindings, findings, noFinding, earliest, crossRule}
+use Rattle.cross_rules.specs.Rules.{noFinding, earliest, crossRule}
+use Rattle.cross_rules.specs.Way.Findings as rules
+use Rattle.cross_rules.specs.Way.Findings.{listFindings, stepFindings, modelFindings, pinFindings, mapFindings, sectionFindings, findings}
 use Rattle.cross_rules.specs.declared.Finding.{Finding}
+use Rattle.cross_rules.proofs.FindingLaws.{cross-findings}
 use Rattle.cross_rules.proofs.KindLaws.{earlier-one}
 
 pub record Other (number : ℕ) : Type 0 where
-  pub apart : number ≡ 18 → ⊥
+  pub apart : number ≡ refusal.room → ⊥
 
 -- ---- a list of rules gives the number of one of them, or 0
 
-pub other : (n : ℕ) → eqb n 18 ≡ false → Other n
-other n e = record { apart = eqb-false n 18 e }
+pub other : (n : ℕ) → eqb n refusal.room ≡ false → Other n
+other n e = record { apart = eqb-false n refusal.room e }
 
 kept : Other 0
 kept = other 0 refl
@@ -56,11 +56,14 @@ unfolding first
 by-broken true n later h k = h
 by-broken false n later h k = k
 
-rule : (n : ℕ) → eqb n 18 ≡ false → (b : Bool) (later : ℕ) → Other later → Other (first b n later)
+rule : (n : ℕ) → eqb n refusal.room ≡ false → (b : Bool) (later : ℕ) → Other later → Other (first b n later)
 rule n e b later h = by-broken b n later (other n e) h
 
 one-of : (b : Bool) (m n : ℕ) → Other m → Other n → Other (if b then m else n)
 one-of b m n h k = by-test Other b m n (λ e. h) (λ e. k)
+
+one-list : (b : Bool) (x y : List Rule) → Other (firstBroken x) → Other (firstBroken y) → Other (firstBroken (if b then x else y))
+one-list b x y h k = by-test (λ (rs : List Rule). Other (firstBroken rs)) b x y (λ e. h) (λ e. k)
 
 -- ---- 1 to 4
 
@@ -78,21 +81,21 @@ lines-other n [] = tt
 lines-other n (l ∷ ls) = by-test OtherBytes (eqb (text.rawLineRule l) 0) _ _ (λ e. lines-other (n + 1) ls) (λ e. characters-other l)
 
 pub bytes-other : (t : List ℕ) → OtherBytes (byteRules t)
-unfolding byteRules
-bytes-other t = by-test OtherBytes (ltb text.mostBytes (length t)) _ _ (λ e. other 1 refl) (λ e. lines-other 1 (lines t))
+unfolding byteRules text.refusedOr
+bytes-other t = by-test OtherBytes (eqb (firstBroken (text.sizeRules t)) 0) _ _ (λ e. lines-other 1 (lines t)) (λ e. rule 1 refl _ _ kept)
 
 -- ---- 5 to 17
 
 line-other : (content : List ℕ) (s : State) → Other (lineRule content s)
-unfolding lineRule dataRule pathRule openRule closedRule pinRule mapRule headRule listRule
+unfolding lineRule
 line-other content s =
-    one-of _ _ _ kept
-    (one-of _ _ _ (rule 12 refl _ _ (rule 13 refl _ _ (rule 14 refl _ _ (rule 17 refl _ _ kept))))
-    (one-of _ _ _ (one-of _ _ _ (one-of _ _ _ (rule 11 refl _ _ kept) (other 12 refl)) (rule 15 refl _ _ (rule 11 refl _ _ (rule 12 refl _ _ (rule 13 refl _ _ (rule 14 refl _ _ (rule 17 refl _ _ kept)))))))
-    (one-of _ _ _ (rule 11 refl _ _ (rule 17 refl _ _ kept))
-    (one-of _ _ _ (rule 11 refl _ _ (rule 12 refl _ _ (rule 13 refl _ _ (rule 14 refl _ _ kept))))
-    (one-of _ _ _ (rule 11 refl _ _ (rule 12 refl _ _ (rule 13 refl _ _ (rule 14 refl _ _ kept))))
-    (one-of _ _ _ (one-of _ _ _ (other 11 refl) kept) (other 12 refl)))))))
+    one-list _ _ _ kept
+    (one-list _ _ _ (rule 12 refl _ _ (rule 13 refl _ _ (rule 14 refl _ _ (rule 17 refl _ _ kept))))
+    (one-list _ _ _ (one-list _ _ _ (one-list _ _ _ (rule 11 refl _ _ kept) (rule 12 refl _ _ kept)) (rule 15 refl _ _ (rule 11 refl _ _ (rule 12 refl _ _ (rule 13 refl _ _ (rule 14 refl _ _ (rule 17 refl _ _ kept)))))))
+    (one-list _ _ _ (rule 11 refl _ _ (rule 17 refl _ _ kept))
+    (one-list _ _ _ (rule 11 refl _ _ (rule 12 refl _ _ (rule 13 refl _ _ (rule 14 refl _ _ kept))))
+    (one-list _ _ _ (rule 11 refl _ _ (rule 12 refl _ _ (rule 13 refl _ _ (rule 14 refl _ _ kept))))
+    (one-list _ _ _ (rule 11 refl _ _ kept) (rule 12 refl _ _ kept)))))))
 
 keyword-other : (k : ℕ) (argument : List ℕ) (s : State) → Other (keywordRule k argument s)
 unfolding keywordRule
@@ -138,11 +141,11 @@ before-step Later content s = goes-other s
 before-step (Keyword k start) content s = by-test OtherStep (eqb k beginHeader) _ _ (λ e. keyword-step k (argumentFrom content start) s) (λ e. goes-other s)
 
 step-other : (content : List ℕ) (s : State) → OtherStep (lineResult content s)
-unfolding lineResult
 step-other content s =
-    by-test OtherStep (isBlankLine content) _ _ (λ e. goes-other s)
+    rw (result-steps content s)
+    (by-test OtherStep (isBlankLine content) _ _ (λ e. goes-other s)
     (λ e. by-test OtherStep (eqb (s .place) done) _ _ (λ f. goes-other s)
-    (λ f. by-test OtherStep (eqb (s .place) before) _ _ (λ g. before-step (bracketOf content) content s) (λ g. bracket-step (bracketOf content) content s)))
+    (λ f. by-test OtherStep (eqb (s .place) before) _ _ (λ g. before-step (bracketOf content) content s) (λ g. bracket-step (bracketOf content) content s))))
 
 abbrev pub OtherReading : Reading → Type 0
 OtherReading (Read counts) = Unit {0}
@@ -151,8 +154,7 @@ OtherReading (Refused number line) = Other number
 run-other : (n : ℕ) (ls : List Raw) (s : State) → OtherReading (readFrom n ls s)
 unfolding readFrom onward atEnd
 run-other n [] s =
-    by-test OtherReading (eqb (s .place) done) _ _ (λ e. tt)
-    (λ e. by-test OtherReading (eqb (s .place) before) _ _ (λ f. other 5 refl) (λ f. other 10 refl))
+    by-test OtherReading (eqb (firstBroken (endOfTextRules s)) 0) _ _ (λ e. tt) (λ e. rule 5 refl _ _ (rule 10 refl _ _ kept))
 run-other n (l ∷ ls) s =
     by-test OtherReading (eqb (lineResult (contentOf commentByte (l .bytes)) s .rule) 0) _ _
     (λ e. run-other (n + 1) ls (lineResult (contentOf commentByte (l .bytes)) s .state)) (λ e. step-other (contentOf commentByte (l .bytes)) s)
@@ -208,7 +210,8 @@ module _ (d : Document) where
   section-others i (s ∷ ss) = more (rule 19 refl _ _ (rule 27 refl _ _ kept)) (section-others (i + 1) ss)
 
   pub cross-other : Other (crossRule d .rule)
-  unfolding crossRule findings
+  unfolding findings
   cross-other =
-      earliest-other
-      (each-append list-others (each-append (model-others (d .models)) (each-append (map-others (d .maps)) (section-others 0 (d .sections)))))
+      rw (cross-findings d)
+      (earliest-other
+      (each-append list-others (each-append (model-others (d .models)) (each-append (map-others (d .maps)) (section-others 0 (d .sections))))))

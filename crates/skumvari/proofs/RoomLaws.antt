@@ -2,55 +2,51 @@
 -- Assumes nothing.
 use mathlib.Core.Path.{_≡_, refl, sym, _∙_, ap}
 use mathlib.Core.List.{List}
-use Prim.Native.Nat.{ℕ, _+_, _*_, _≤_}
+use Prim.Native.Nat.{ℕ, _≤_}
 use native.Mathlib.Nat.{le-refl}
 use native.Mathlib.Omega.{arith}
 use lib.ListN.{length}
 use lib.Dec.{eqb}
 use borrow.Author.Tests.{le-ltb}
-use Rattle.base.proofs.IfLaws.{if-false, by-test}
+use Rattle.base.specs.Refusal as refusal
+use Rattle.base.proofs.IfLaws.{by-test}
 use Rattle.lex_line.specs.ByteRules.{byteRules}
 use Rattle.lex_line.specs.declared.Checked.{Checked}
 use Rattle.lex_line.specs.declared.Checked.the-variants as bytes
-use Rattle.table_layout.specs.Layout.{widths}
-use Rattle.table_layout.specs.Way.Parts.{needed}
+use Rattle.table_layout.specs.Layout.{widths, needed}
 use Rattle.line_keyword.specs.declared.Counts.{Counts}
 use Rattle.read_line.specs.Reading.{readingOf}
 use Rattle.read_line.specs.declared.Reading.{Reading}
 use Rattle.read_line.specs.declared.Reading.the-variants as reading
-use Rattle.read_line.proofs.CountLaws.{Within, read-within, read-matrices}
 use Rattle.doc.specs.Document.{documentOf}
 use Rattle.doc.specs.Records.{tableOf}
 use Rattle.doc.specs.Way.Holds.{countsOf}
 use Rattle.intake.specs.Stored.{afterReading, storeAnswer}
 use Rattle.intake.specs.declared.store.StoreAnswer.the-variants.{Stored, Refused}
+use Rattle.intake.proofs.RoomLaws.{room-there}
 use Rattle.intake.proofs.ReadyLaws.{needed-is}
 use Rattle.cross_rules.specs.Rules.{crossRule}
 use Rattle.intake.specs.Verdict.{Outcome, crossed, afterStoring, afterBytes, verdictOf}
 use Rattle.skumvari.specs.Room.{mostWords}
 use Rattle.skumvari.proofs.NumberLaws.{Other, other, OtherBytes, bytes-other, OtherReading, reading-other, cross-other}
-
--- the words that the records of all parts need, by their counts
-words-for : (c : Counts) →
-    needed widths (countsOf c) ≡ 7 + 5 * c .models + 6 * c .steps + 7 * c .maps + 2 * c .pins + 8 * c .sections + 5 * c .matrices + 3 * c .values
-unfolding needed countsOf
-words-for c = omega arith
+use Rattle.table_layout.specs.Bounds.{bounds}
+use Rattle.doc.proofs.CountLaws.{counts-bounded, counts-parts}
+use Rattle.table_layout.proofs.StoreLaws.{needed-more}
 
 module _ (t : List ℕ) where
   words-fit : (c : Counts) → readingOf t ≡ reading.Read c → length (tableOf t) ≤ mostWords
   unfolding mostWords
   words-fit c e =
       let n : needed widths (countsOf c) ≡ length (tableOf t) = needed-is t c e in
-      let w : Within c = read-within t c e in
-      let m : c .matrices ≤ 1_024 = read-matrices t c e in
-      omega (arith, words-for c, w .models, w .steps, w .maps, w .pins, w .sections, w .values)
+      let m : needed widths (countsOf c) ≤ needed widths bounds = needed-more widths (countsOf c) bounds (counts-parts c) (counts-bounded t c e) in
+      omega arith
 
   module _ (size : ℕ) (enough : mostWords ≤ size) where
     read-stored : (c : Counts) → readingOf t ≡ reading.Read c → afterReading t size (reading.Read c) ≡ Stored (length (tableOf t))
     read-stored c e =
         let f : length (tableOf t) ≤ mostWords = words-fit c e in
         let l : length (tableOf t) ≤ size = omega arith in
-        if-false _ _ (le-ltb size (length (tableOf t)) l)
+        room-there t size c (le-ltb size (length (tableOf t)) l)
 
   filled-alike : (answer : Reading) → readingOf t ≡ answer → (size : ℕ) → mostWords ≤ size → afterReading t size answer ≡ afterReading t mostWords answer
   filled-alike (reading.Read c) e size enough = read-stored size enough c e ∙ sym (read-stored mostWords (le-refl _) c e)
@@ -90,6 +86,6 @@ unfolding verdictOf
 suffices t size enough = bytes-alike t (byteRules t) size enough
 
 -- and "18 ROOM: table shorter than the words needed" is not given
-pub never-short : (t : List ℕ) (size : ℕ) → mostWords ≤ size → verdictOf t size .rule ≡ 18 → ⊥
+pub never-short : (t : List ℕ) (size : ℕ) → mostWords ≤ size → verdictOf t size .rule ≡ refusal.room → ⊥
 unfolding verdictOf
 never-short t size enough = bytes-number t size enough (byteRules t) (bytes-other t) .apart

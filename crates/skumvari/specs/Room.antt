@@ -1,7 +1,8 @@
--- How long a table must be to suffice for every text: the seven counts, and as many records of each part as the paper's
--- bounds allow. A section has at most four matrices.
+-- How long a table must be to suffice for every text: it has as many records of each part as the paper's bounds allow.
 -- Assumes nothing.
-use Prim.Native.Nat.{ℕ, _+_, _*_}
+use Prim.Native.Nat.{ℕ}
+use Rattle.table_layout.specs.Layout.{widths, needed}
+use Rattle.table_layout.specs.Bounds.{bounds}
 
 unfoldable pub mostWords : ℕ
-mostWords = 7 + 64 * 5 + 4_096 * 6 + 64 * 7 + 4_096 * 2 + 256 * 8 + 256 * 4 * 5 + 65_536 * 3
+mostWords = needed widths bounds

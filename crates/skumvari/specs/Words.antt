@@ -13,7 +13,7 @@ use Rattle.intake.specs.Verdict.{Outcome}
 use Rattle.ask_entry.specs.Entry.{EntryWords}
 use Rattle.ask_walk.specs.Walk.{WalkWords}
 use Rattle.ask_walk.specs.declared.Place.{Place}
-use Rattle.ask_walk.specs.declared.StepWords.{StepWords}
+use Rattle.table_record.specs.declared.StepRecord.{StepRecord}
 use Rattle.ask_entry.specs.WholeMatrix.{MatrixWords}
 use Rattle.out_double.specs.declared.Drawn.{Drawn}
 use Rattle.out_double.specs.declared.Drawn.the-variants as drawn
@@ -32,7 +32,7 @@ unfoldable pub entryLayout : EntryWords → List ℕ
 entryLayout e = flag (e .found) ∷ e .rule ∷ e .line ∷ e .word ∷ []
 
 -- a step and the next place: kind, target, amount, side start, side length, line; model, step, depth
-unfoldable pub stepLayout : StepWords → Place → List ℕ
+unfoldable pub stepLayout : StepRecord → Place → List ℕ
 stepLayout s p =
     s .kind ∷ s .target ∷ s .amount ∷ s .side ∷ s .«side_size» ∷ s .line ∷ p .model ∷ p .step ∷ p .depth ∷ []
 

@@ -14,12 +14,10 @@ ghost use Rattle.skumvari.specs.Room.{mostWords};
 use ask_entry::Answer;
 use ask_entry::WholeAnswer;
 use ask_walk::Place;
-use ask_walk::StepWords;
 use ask_walk::Walked;
 use out_double::Drawn;
 use out_double::DrawnPair;
-
-const TABLE_WORDS: usize = 237_319;
+use table_record::StepRecord;
 
 // How many words an answer has: that of the intake, an entry, a whole matrix or a double; that of a pair of doubles; that of a walk.
 const ANSWER_WORDS: usize = 4;
@@ -55,7 +53,7 @@ fn put_walk(
     given: u64,
     rule: u64,
     done: u64,
-    step: StepWords,
+    step: StepRecord,
     next: Place,
 ) -> bool
     ensures { λ r. ⌜ (r ≡ isRoom 13 (now (answer .entry))) × (now (answer .exit) ≡ answered (given ∷ rule ∷ 0 ∷ done ∷ stepLayout step next) (now (answer .entry))) ⌝ }
@@ -85,19 +83,6 @@ fn put_walk(
     true
 }
 
-fn no_step() -> StepWords
-    ensures { λ r. ⌜ r ≡ walks.noStep ⌝ }
-{
-    StepWords {
-        kind: 0,
-        target: 0,
-        amount: 0,
-        side: 0,
-        side_size: 0,
-        line: 0,
-    }
-}
-
 // ---- what hosts call
 
 // How many words a table needs to be long enough for every text.
@@ -105,7 +90,7 @@ fn no_step() -> StepWords
 pub extern "C" fn skumvari_table_words() -> usize
     ensures { λ r. ⌜ r ≡ mostWords ⌝ }
 {
-    TABLE_WORDS
+    table_layout::most_words()
 }
 
 // The intake of a text into a lent table. If there are too few words for the answer, the table is zeroed, as for a refusal.
@@ -169,14 +154,14 @@ pub extern "C" fn skumvari_walk(
     let place = Place { model, step, depth };
     match place.step(text, table) {
         Walked::Step(words, next) => put_walk(answer, 1, 0, 0, words, next),
-        Walked::Done(here) => put_walk(answer, 1, 0, 1, no_step(), here),
+        Walked::Done(here) => put_walk(answer, 1, 0, 1, table_record::no_step(), here),
         Walked::Refused(rule) => {
             let nowhere = Place {
                 model: 0,
                 step: 0,
                 depth: 0,
             };
-            put_walk(answer, 0, rule, 0, no_step(), nowhere)
+            put_walk(answer, 0, rule, 0, table_record::no_step(), nowhere)
         }
     }
 }

@@ -3,22 +3,9 @@
 use mathlib.Core.Path.{_≡_, refl, sym, _∙_, ap}
 use mathlib.Core.Bool.{Bool, true, false}
 use mathlib.Core.List.{List, [], _∷_, _++_, append-assoc, append-nil}
-use Prim.Native.Nat.{ℕ}
-use Rattle.base.proofs.IfLaws.{if-true, if-false, by-cases}
+use Rattle.base.proofs.IfLaws.{by-cases}
 use Rattle.doc.specs.Lines.{Line, gather, upTo}
-
-module _ (inside : Line → Bool) (l : Line) (ls : List Line) where
-  pub up-on : inside l ≡ true → upTo inside (l ∷ ls) ≡ l ∷ upTo inside ls
-  unfolding upTo
-  up-on e = if-true _ _ e
-
-  pub up-stops : inside l ≡ false → upTo inside (l ∷ ls) ≡ []
-  unfolding upTo
-  up-stops e = if-false _ _ e
-
-pub up-none : (inside : Line → Bool) → upTo inside [] ≡ []
-unfolding upTo
-up-none inside = refl
+use Rattle.doc.proofs.GatherLaws.{up-in, up-none, up-out, gather-quiet}
 
 -- the lines of ls₀ before `ls`: they all pass the test
 pub record Skipped (inside : Line → Bool) (ls₀ ls : List Line) : Type 0 where
@@ -36,7 +23,7 @@ module _ (inside : Line → Bool) (ls₀ ls : List Line) (s : Skipped inside ls�
         before = s .before ++ (l ∷ []);
         all = s .all ∙ ap (λ (x : List Line). s .before ++ x) e ∙ sym (append-assoc (s .before) (l ∷ []) more);
         inner =
-            s .inner ∙ ap (λ (x : List Line). s .before ++ upTo inside x) e ∙ ap (λ (x : List Line). s .before ++ x) (up-on inside l more h)
+            s .inner ∙ ap (λ (x : List Line). s .before ++ upTo inside x) e ∙ ap (λ (x : List Line). s .before ++ x) (up-in inside l more h)
             ∙ sym (append-assoc (s .before) (l ∷ []) (upTo inside more));
       }
 
@@ -48,22 +35,10 @@ module _ (inside : Line → Bool) (ls₀ ls : List Line) (s : Skipped inside ls�
 -- ---- what lines give
 
 module _ {A : Type 0} (here : Line → List Line → List A) where
-  pub gather-none : gather here [] ≡ []
-  unfolding gather
-  gather-none = refl
-
-  pub gather-on : (l : Line) (ls : List Line) → gather here (l ∷ ls) ≡ here l ls ++ gather here ls
-  unfolding gather
-  gather-on l ls = refl
-
-  pub gather-quiet : (l : Line) (ls : List Line) → here l ls ≡ [] → gather here (l ∷ ls) ≡ gather here ls
-  unfolding gather
-  gather-quiet l ls e = ap (λ (x : List A). x ++ gather here ls) e
-
   -- lines that give nothing may be skipped
   pub quiet : (inside : Line → Bool) → ((l : Line) (ls : List Line) → inside l ≡ true → here l ls ≡ []) → (ls rest : List Line) → gather here (upTo inside ls ++ rest) ≡ gather here rest
   quiet inside silent [] rest = rw (up-none inside)
   quiet inside silent (l ∷ ls) rest =
       by-cases (gather here (upTo inside (l ∷ ls) ++ rest) ≡ gather here rest) (inside l)
-      (λ (e : inside l ≡ true). rw (up-on inside l ls e) (gather-quiet l (upTo inside ls ++ rest) (silent l _ e) ∙ quiet inside silent ls rest))
-      (λ (e : inside l ≡ false). rw (up-stops inside l ls e))
+      (λ (e : inside l ≡ true). rw (up-in inside l ls e) (gather-quiet here l (upTo inside ls ++ rest) (silent l _ e) ∙ quiet inside silent ls rest))
+      (λ (e : inside l ≡ false). rw (up-out inside l ls e))

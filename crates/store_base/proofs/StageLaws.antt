@@ -8,7 +8,7 @@ use native.Mathlib.Nat.{zero-add}
 use native.Mathlib.Omega.{arith}
 use lib.ListN.{length, take, drop, getD, replicate, length-drop, length-replicate, take-append-drop}
 use lib.Seq.{sets, length-take-le, take-append-le, drop-append-le, drop-append-add, drop-drop}
-use Rattle.table_layout.specs.Layout.{values}
+use Rattle.table_layout.specs.Layout.{values, partCount, valueWidth}
 use Rattle.table_layout.specs.Way.Filling.{Write, partOf, widthOf, position, fillingAfter, Fits}
 use Rattle.table_layout.specs.declared.Filling.{Filling}
 use Rattle.table_layout.proofs.LiftLaws.{sets-zeros}
@@ -43,19 +43,19 @@ words-moved table a b m up h room =
     ∙ ap (λ (u : List ℕ). take b (drop a u)) (take-append-drop m table)
 
 -- the words of all staged matrices, moved up from the front of the table
-pub stage-lifted : (t table stage : List ℕ) (v up : ℕ) → Staged t table stage 0 0 → Before stage v → up + 3 * v ≤ length table →
-    Staged t (sets (replicate (length table) 0) up (take (3 * v) table)) stage up 0
+pub stage-lifted : (t table stage : List ℕ) (v up : ℕ) → Staged t table stage 0 0 → Before stage v → up + valueWidth * v ≤ length table →
+    Staged t (sets (replicate (length table) 0) up (take (valueWidth * v) table)) stage up 0
 stage-lifted t table stage v up staged before room = record { tells = told }
   where
     told : (i : ℕ) → Made (stagedAt stage i) → 0 ≤ stagedAt stage i .first →
-        Tells t (stagedAt stage i) (wordsOf (sets (replicate (length table) 0) up (take (3 * v) table)) up (stagedAt stage i))
+        Tells t (stagedAt stage i) (wordsOf (sets (replicate (length table) 0) up (take (valueWidth * v) table)) up (stagedAt stage i))
     told i made from =
         let n : StagedMatrix = stagedAt stage i in
         let b : n .first + n .count ≤ v = before .before i made in
-        let h : 3 * n .first + 3 * n .count ≤ 3 * v = omega arith in
-        let e : wordsOf (sets (replicate (length table) 0) up (take (3 * v) table)) up n ≡ take (3 * n .count) (drop (3 * n .first) table) =
-        words-moved table (3 * n .first) (3 * n .count) (3 * v) up h room in
-        let w : Tells t n (take (3 * n .count) (drop (3 * n .first) table)) = rw (zero-add (3 * n .first)) at (staged .tells i made from) in
+        let h : valueWidth * n .first + valueWidth * n .count ≤ valueWidth * v = omega arith in
+        let e : wordsOf (sets (replicate (length table) 0) up (take (valueWidth * v) table)) up n ≡ take (valueWidth * n .count) (drop (valueWidth * n .first) table) =
+        words-moved table (valueWidth * n .first) (valueWidth * n .count) (valueWidth * v) up h room in
+        let w : Tells t n (take (valueWidth * n .count) (drop (valueWidth * n .first) table)) = rw (zero-add (valueWidth * n .first)) at (staged .tells i made from) in
         rw e w
 
 -- ---- while records are stored
@@ -69,10 +69,10 @@ drop-later m n u v h e =
     a ∙ ap (drop (n - m)) e ∙ sym b
 
 pub stage-kept : (t table stage table' : List ℕ) (f f' : Filling) (ws : List Write) → Stores f table ws f' table' → Fits (length table) f ws →
-    length (f .counts) ≡ 7 → Staged t table stage (getD (f .bases) values 0) (getD (f .counts) values 0) →
+    length (f .counts) ≡ partCount → Staged t table stage (getD (f .bases) values 0) (getD (f .counts) values 0) →
     Staged t table' stage (getD (f' .bases) values 0) (getD (f' .counts) values 0)
 unfolding position widthOf
-stage-kept t table stage table' f f' ws stores fits seven staged = record { tells = told }
+stage-kept t table stage table' f f' ws stores fits parts staged = record { tells = told }
   where
     told : (i : ℕ) → Made (stagedAt stage i) → getD (f' .counts) values 0 ≤ stagedAt stage i .first →
         Tells t (stagedAt stage i) (wordsOf table' (getD (f' .bases) values 0) (stagedAt stage i))
@@ -84,13 +84,13 @@ stage-kept t table stage table' f f' ws stores fits seven staged = record { tell
         let l : values < length (f .counts) = omega arith in
         let k : getD (f' .counts) values 0 ≡ getD (f .counts) values 0 + length (partOf values ws) =
         ap (λ (g : Filling). getD (g .counts) values 0) (stores .filled) ∙ count-after values ws f l in
-        let p : position (fillingAfter ws f) values ≡ base + 3 * getD (f' .counts) values 0 =
-        ap (λ (g : Filling). position g values) (sym (stores .filled)) ∙ ap (λ (x : ℕ). x + 3 * getD (f' .counts) values 0) b in
+        let p : position (fillingAfter ws f) values ≡ base + valueWidth * getD (f' .counts) values 0 =
+        ap (λ (g : Filling). position g values) (sym (stores .filled)) ∙ ap (λ (x : ℕ). x + valueWidth * getD (f' .counts) values 0) b in
         let s : drop (position (fillingAfter ws f) values) table' ≡ drop (position (fillingAfter ws f) values) table =
-        ap (drop (position (fillingAfter ws f) values)) (stores .stored) ∙ kept-behind (length table) f ws table fits seven in
-        let h : position (fillingAfter ws f) values ≤ base + 3 * n .first = omega arith in
-        let d : drop (base + 3 * n .first) table' ≡ drop (base + 3 * n .first) table =
-        drop-later (position (fillingAfter ws f) values) (base + 3 * n .first) table' table h s in
+        ap (drop (position (fillingAfter ws f) values)) (stores .stored) ∙ kept-behind (length table) f ws table fits parts in
+        let h : position (fillingAfter ws f) values ≤ base + valueWidth * n .first = omega arith in
+        let d : drop (base + valueWidth * n .first) table' ≡ drop (base + valueWidth * n .first) table =
+        drop-later (position (fillingAfter ws f) values) (base + valueWidth * n .first) table' table h s in
         let e : wordsOf table' (getD (f' .bases) values 0) n ≡ wordsOf table base n =
-        ap (λ (x : ℕ). wordsOf table' x n) b ∙ ap (take (3 * n .count)) d in
+        ap (λ (x : ℕ). wordsOf table' x n) b ∙ ap (take (valueWidth * n .count)) d in
         rw e (staged .tells i made (omega arith))

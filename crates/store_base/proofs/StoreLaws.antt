@@ -1,9 +1,9 @@
 -- Laws of records stored one after another: storing what is left gives what storing all of it gives.
 -- Assumes nothing.
 use mathlib.Core.Path.{_≡_, refl, sym, _∙_, ap}
-use mathlib.Core.List.{List, [], _∷_, _++_, append-nil}
+use mathlib.Core.List.{List, [], _∷_, _++_}
 use mathlib.Core.Bool.{true, false}
-use Prim.Native.Nat.{ℕ, suc, _+_, _≤_, _<_}
+use Prim.Native.Nat.{ℕ, suc, _+_, _<_}
 use native.Mathlib.Nat.{add-zero}
 use native.Mathlib.Omega.{arith}
 use lib.ListN.{length, drop, getD, set, length-set}
@@ -11,26 +11,16 @@ use lib.Seq.{sets, getD-set-same, getD-set-other}
 use lib.Dec.{eqb}
 use borrow.Author.Tests.{eq-eqb, ne-eqb, eqb-true, eqb-false}
 use Rattle.base.proofs.IfLaws.{if-true, if-false, by-cases}
-use Rattle.table_layout.specs.Layout.{widths}
-use Rattle.table_layout.specs.Way.Filling.{Write, partOf, widthOf, position, counted, tableStored, fillingAfter, Fits}
+use Rattle.table_layout.specs.Way.Filling.{Write, partOf, position, counted, tableStored, fillingAfter, Fits}
 use Rattle.table_layout.specs.declared.Filling.{Filling}
-use Rattle.table_layout.proofs.FillingLaws.{after-append, filling-append, length-after, fits-first, fits-rest, fits-part, fits-width, fits-room, fits-next, kept-above}
+use Rattle.table_layout.proofs.FillingLaws.{after-append, filling-append, length-after, fits-first, fits-rest, kept-above}
 use Rattle.store_base.specs.Way.Stores.{Stores}
 
 -- ---- one record
 
-module _ (f : Filling) (t : List ℕ) (w : Write) where
-  pub put-asked : (size part : ℕ) (words : List ℕ) → Fits size f (w ∷ []) → part ≡ w .part → words ≡ w .words → (part < length widths) × (length words ≡ widthOf part) × (position f part + widthOf part ≤ size)
-  put-asked size part words h p e =
-      rw (p, e) (fits-part size f w [] h, fits-width size f w [] h, fits-room size f w [] h)
-
-  pub put-stored : (part : ℕ) (words : List ℕ) (r : Filling) (t' : List ℕ) → part ≡ w .part → words ≡ w .words → r ≡ counted f part → t' ≡ sets t (position f part) words → Stores f t (w ∷ []) r t'
-  unfolding tableStored fillingAfter
-  put-stored part words r t' p e k h =
-      record {
-        stored = h ∙ (λ i. sets t (position f (p i)) (e i));
-        filled = k ∙ ap (counted f) p;
-      }
+pub put-stored : (f : Filling) (t : List ℕ) (w : Write) (r : Filling) (t' : List ℕ) → r ≡ counted f (w .part) → t' ≡ sets t (position f (w .part)) (w .words) → Stores f t (w ∷ []) r t'
+unfolding tableStored fillingAfter
+put-stored f t w r t' k h = record { stored = h; filled = k }
 
 -- ---- records one after another
 

@@ -1,49 +1,27 @@
 -- Laws of the writes of a document: for each part they are the document's records of that part, every write goes to a
--- part that exists, and how many records of a part are stored after them.
+-- part that is not behind the values, and how many records of a part are stored after them.
 -- Assumes nothing.
 use mathlib.Core.Path.{_≡_, refl, sym, _∙_, ap}
 use mathlib.Core.Bool.{true, false}
 use mathlib.Core.List.{List, [], _∷_, _++_, map, append-assoc, append-nil, map-append, map-map}
-use Prim.Native.Nat.{ℕ, zero, suc, _+_, _≤_, _<_}
+use Prim.Native.Nat.{ℕ, zero, suc, _+_, _<_}
 use native.Mathlib.Nat.{add-zero, add-assoc}
 use native.Mathlib.Omega.{arith}
-use lib.ListN.{length, getD, length-append, length-map, length-set}
-use lib.Seq.{getD-set-same, getD-set-other}
+use lib.ListN.{length, getD, length-append, length-map}
 use lib.Dec.{eqb}
-use borrow.Author.Tests.{ne-eqb, eqb-true, eqb-false}
-use Rattle.base.proofs.IfLaws.{if-true, if-false, by-cases}
+use borrow.Author.Tests.{ne-eqb}
+use Rattle.table_record.specs.Records.{modelWords, stepWords, mapWords, pinWords, sectionWords, matrixWords, valueWords, partsOf}
+use Rattle.table_record.specs.declared.Value.{Value}
+use Rattle.base.proofs.IfLaws.{if-true, if-false}
 use Rattle.table_layout.specs.Layout.{models, steps, maps, pins, sections, matrices, values, widths}
-use Rattle.table_layout.specs.Way.Filling.{Write, partOf, counted, fillingAfter}
+use Rattle.table_layout.specs.Way.Filling.{Write, partOf, fillingAfter}
 use Rattle.table_layout.specs.declared.Filling.{Filling}
 use Rattle.table_layout.proofs.FillingLaws.{Below, Known}
-use Rattle.doc.specs.Document.{Named, Step, Model, Map, Value, Matrix, Section, Document}
+use Rattle.doc.specs.Document.{Named, Step, Model, Map, Matrix, Section, Document}
 use Rattle.doc.specs.Holds.{Each}
 use Rattle.doc.specs.Holds.Each.{none, more}
-use Rattle.doc.specs.Records.{
-  stepRecord,
-  stepRecords,
-  modelRecord,
-  modelRecords,
-  pinRecord,
-  pinRecords,
-  mapRecord,
-  mapRecords,
-  sectionRecord,
-  sectionRecords,
-  matricesOf,
-  matrixRecord,
-  matrixRecords,
-  valuesOf,
-  flatten,
-  modelWords,
-  stepWords,
-  mapWords,
-  pinWords,
-  sectionWords,
-  matrixWords,
-  valueWords,
-  partsOf,
-}
+use Rattle.doc.specs.Records.{stepRecord, stepRecords, modelRecord, modelRecords, pinRecord, pinRecords, mapRecord, mapRecords, sectionRecord, sectionRecords, matricesOf, matrixRecord, matrixRecords, valuesOf, flatten}
+use Rattle.store_base.proofs.StoreLaws.{count-after, part-append}
 use Rattle.store_base.specs.Way.Writes.{
   pinWrite,
   mapWrite,
@@ -64,6 +42,7 @@ use Rattle.store_base.specs.Way.Writes.{
   blocksWrites,
   writesOf,
 }
+use Rattle.doc.proofs.CountLaws.{matrices-long}
 
 -- ---- which parts are written
 
@@ -108,7 +87,7 @@ module _ (P : ℕ → Type 0) where
       (in-append (map (stepWrite ms ss) (x .steps)) _ (in-map (stepWrite ms ss) (λ (y : Step). s) (x .steps)) (more m none))
       (in-models s m ms ss _ xs)
 
-  in-all : ((k : ℕ) → k < length widths → P k) → (d : Document) → Writes (writesOf d)
+  in-all : ((k : ℕ) → k < suc values → P k) → (d : Document) → Writes (writesOf d)
   unfolding writesOf blocksWrites
   in-all h d =
       in-append _ _
@@ -121,23 +100,13 @@ all-below q [] none = Below.none
 all-below q (w ∷ ws) (more h hs) = Below.more h (all-below q ws hs)
 
 pub writes-known : (d : Document) → Known (writesOf d)
-writes-known d = all-below _ _ (in-all (λ (k : ℕ). k < length widths) (λ (k : ℕ) (h : k < length widths). h) d)
+writes-known d = all-below _ _ (in-all (λ (k : ℕ). k < suc values) (λ (k : ℕ) (h : k < suc values). h) d)
 
--- models and their steps are the first two parts
-pub models-below : (ms : List Map) (ss : List Section) (step : ℕ) (xs : List Model) → Below 2 (modelsWrites ms ss step xs)
-models-below ms ss step xs = all-below 2 _ (in-models (λ (k : ℕ). k < 2) (omega arith) (omega arith) ms ss step xs)
+-- models and their steps stand before the maps
+pub models-below : (ms : List Map) (ss : List Section) (step : ℕ) (xs : List Model) → Below maps (modelsWrites ms ss step xs)
+models-below ms ss step xs = all-below maps _ (in-models (λ (k : ℕ). k < maps) (omega arith) (omega arith) ms ss step xs)
 
 -- ---- the records of one part
-
-pub part-append : (p : ℕ) (ws vs : List Write) → partOf p (ws ++ vs) ≡ partOf p ws ++ partOf p vs
-unfolding partOf
-part-append p [] vs = refl
-part-append p (w ∷ ws) vs =
-    by-cases _ (eqb (w .part) p)
-    (λ (e : eqb (w .part) p ≡ true). if-true _ _ e ∙ ap (λ (l : List (List ℕ)). w .words ∷ l) (part-append p ws vs)
-    ∙ ap (λ (l : List (List ℕ)). l ++ partOf p vs) (sym (if-true (w .words ∷ partOf p ws) (partOf p ws) e)))
-    (λ (e : eqb (w .part) p ≡ false). if-false _ _ e ∙ part-append p ws vs
-    ∙ ap (λ (l : List (List ℕ)). l ++ partOf p vs) (sym (if-false (w .words ∷ partOf p ws) (partOf p ws) e)))
 
 -- none, if every write goes to another part
 part-none : (p : ℕ) (ws : List Write) → Writes (λ (k : ℕ). eqb k p ≡ false) ws → partOf p ws ≡ []
@@ -387,10 +356,10 @@ module _ (d : Document) (p : ℕ) where
   by-models : (l : List (List ℕ)) → mapsPart ≡ [] → sectionsPart ≡ [] → modelsPart ≡ l → partOf p (writesOf d) ≡ l
   by-models l e f g = all-parts ∙ (λ i. e i ++ f i ++ g i)
 
-  -- there are no more parts
-  no-more : length widths ≤ p → partOf p (writesOf d) ≡ []
+  -- nothing is written behind the values
+  no-more : values < p → partOf p (writesOf d) ≡ []
   no-more h =
-      part-none p _ (in-all (λ (k : ℕ). eqb k p ≡ false) (λ (k : ℕ) (l : k < length widths). ne-eqb k p (λ (e : k ≡ p). omega arith)) d)
+      part-none p _ (in-all (λ (k : ℕ). eqb k p ≡ false) (λ (k : ℕ) (l : k < suc values). ne-eqb k p (λ (e : k ≡ p). omega arith)) d)
 
 -- the records of each part, in their order
 pub writes-told : (d : Document) (p : ℕ) → partOf p (writesOf d) ≡ getD (partsOf (flatten d)) p []
@@ -417,53 +386,15 @@ writes-told d (suc (suc (suc (suc (suc (suc (suc p))))))) = no-more d _ (omega a
 abbrev pub stored : Filling → ℕ → ℕ
 stored f p = getD (f .counts) p 0
 
-module _ (p q : ℕ) (f : Filling) where
-  one-counted : p < length (f .counts) → eqb q p ≡ true → stored (counted f q) p ≡ stored f p + 1
-  unfolding counted
-  one-counted h e =
-      let same : q ≡ p = eqb-true q p e in
-      rw same (getD-set-same (f .counts) p (stored f p + 1) 0 h)
-
-  none-counted : eqb q p ≡ false → stored (counted f q) p ≡ stored f p
-  unfolding counted
-  none-counted e = getD-set-other (f .counts) q p (stored f q + 1) 0 (λ (same : p ≡ q). eqb-false q p e (sym same))
-
-  counts-long : length (counted f q .counts) ≡ length (f .counts)
-  unfolding counted
-  counts-long = length-set (f .counts) q (stored f q + 1)
-
--- these writes add as many records to a part as they have for it
-pub part-counted : (p : ℕ) (ws : List Write) (f : Filling) → p < length (f .counts) →
-    stored (fillingAfter ws f) p ≡ stored f p + length (partOf p ws)
-unfolding fillingAfter partOf
-part-counted p [] f h = sym (add-zero (stored f p))
-part-counted p (w ∷ ws) f h =
-    let r : stored (fillingAfter ws (counted f (w .part))) p ≡ stored (counted f (w .part)) p + length (partOf p ws) =
-    part-counted p ws (counted f (w .part)) (rw (counts-long p (w .part) f) h) in
-    by-cases _ (eqb (w .part) p)
-    (λ (e : eqb (w .part) p ≡ true).
-    let c : stored (counted f (w .part)) p ≡ stored f p + 1 = one-counted p (w .part) f h e in
-    let l : length (partOf p (w ∷ ws)) ≡ suc (length (partOf p ws)) = ap length (if-true (w .words ∷ partOf p ws) (partOf p ws) e) in
-    omega arith)
-    (λ (e : eqb (w .part) p ≡ false).
-    let c : stored (counted f (w .part)) p ≡ stored f p = none-counted p (w .part) f e in
-    let l : length (partOf p (w ∷ ws)) ≡ length (partOf p ws) = ap length (if-false (w .words ∷ partOf p ws) (partOf p ws) e) in
-    omega arith)
-
 length-values : (ms : List Matrix) → length (valuesOf ms) ≡ valuesCount ms
 unfolding valuesOf valuesCount
 length-values [] = refl
 length-values (m ∷ ms) = length-append (m .values) (valuesOf ms) ∙ ap (λ (n : ℕ). length (m .values) + n) (length-values ms)
 
-length-matrices : (first : ℕ) (ms : List Matrix) → length (matrixRecords first ms) ≡ length ms
-unfolding matrixRecords
-length-matrices first [] = refl
-length-matrices first (m ∷ ms) = ap suc (length-matrices (first + length (m .values)) ms)
-
 module _ (f : Filling) (all : length (f .counts) ≡ length widths) where
   -- given what they have for the part
   by-part : (p n : ℕ) (ws : List Write) → p < length widths → length (partOf p ws) ≡ n → stored (fillingAfter ws f) p ≡ stored f p + n
-  by-part p n ws h e = part-counted p ws f (rw all h) ∙ ap (λ (k : ℕ). stored f p + k) e
+  by-part p n ws h e = count-after p ws f (rw all h) ∙ ap (λ (k : ℕ). stored f p + k) e
 
   pub pins-stored : (ps : List Named) → stored (fillingAfter (map pinWrite ps) f) pins ≡ stored f pins + length ps
   unfolding pinWrite
@@ -486,16 +417,11 @@ module _ (f : Filling) (all : length (f .counts) ≡ length widths) where
     pub matrix-counted : stored (fillingAfter (matrixWrites value m) f) matrices ≡ stored f matrices + 1
     matrix-counted = by-part matrices 1 (matrixWrites value m) (omega arith) (ap length (matrix-own value m))
 
-    pub matrix-values-counted : stored (fillingAfter (matrixWrites value m) f) values ≡ stored f values + length (m .values)
-    matrix-values-counted =
-        by-part values (length (m .values)) (matrixWrites value m) (omega arith)
-        (ap length (matrix-values value m) ∙ length-map (m .values) valueWords)
-
   module _ (value : ℕ) (ms : List Matrix) where
     pub matrices-counted : stored (fillingAfter (matricesWrites value ms) f) matrices ≡ stored f matrices + length ms
     matrices-counted =
         by-part matrices (length ms) (matricesWrites value ms) (omega arith)
-        (ap length (matrices-held value ms) ∙ length-map (matrixRecords value ms) matrixWords ∙ length-matrices value ms)
+        (ap length (matrices-held value ms) ∙ length-map (matrixRecords value ms) matrixWords ∙ matrices-long value ms)
 
     pub values-counted : stored (fillingAfter (matricesWrites value ms) f) values ≡ stored f values + valuesCount ms
     values-counted =
@@ -508,7 +434,7 @@ module _ (f : Filling) (all : length (f .counts) ≡ length widths) where
     section-matrices-counted =
         by-part matrices (length (s .matrices)) (sectionWrites matrix value s) (omega arith)
         (ap length (section-held matrix value s matrices refl ∙ matrices-held value (s .matrices))
-        ∙ length-map (matrixRecords value (s .matrices)) matrixWords ∙ length-matrices value (s .matrices))
+        ∙ length-map (matrixRecords value (s .matrices)) matrixWords ∙ matrices-long value (s .matrices))
 
     pub section-values-counted :
         stored (fillingAfter (sectionWrites matrix value s) f) values ≡ stored f values + valuesCount (s .matrices)

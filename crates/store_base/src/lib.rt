@@ -1,6 +1,5 @@
-// What the functions that store the parts share: how far the lines have been read, and where the next records go.
-ghost use mathlib.Core.Path.{_≡_};
-ghost use Prim.Native.Nat.{_-_};
+// What the functions that store the parts share: how far the lines have been read, where the next records go, and how
+// much room staged matrices take.
 use table_layout::Filling;
 
 // How far the lines have been read: the offset, line and place where to go on; and where the next records go.
@@ -11,12 +10,7 @@ pub struct Walk {
     pub filling: Filling,
 }
 
-// One less than a count that starts at 1; 0 stays 0.
-pub fn one_less(n: u64) -> u64
-    ensures { λ r. ⌜ r ≡ n - 1 ⌝ }
-{
-    if n == 0 {
-        return 0;
-    }
-    n - 1
-}
+// How many words describe a staged matrix, and all that a text may have.
+pub const STAGED_WIDTH: usize = 9;
+
+pub const STAGE_ROOM: usize = STAGED_WIDTH * (table_layout::bound::MATRICES as usize);

@@ -8,24 +8,26 @@ use native.Mathlib.Nat.{le-refl}
 use native.Mathlib.Omega.{arith}
 use lib.ListN.{length, getD}
 use lib.Dec.{eqb}
-use borrow.Author.Tests.{eq-eqb, ne-eqb, eqb-true, not-false}
+use borrow.Author.Tests.{ne-eqb, eqb-true, not-false}
 use Rattle.base.specs.If.{if_then_else_, both, either}
-use Rattle.base.proofs.IfLaws.{if-true, if-false, by-cases, both-first, both-second, both-not-left, both-not-right, either-rest}
-use Rattle.lex_keyword.specs.Names.{icmPinMap, beginIcmSection}
+use Rattle.base.proofs.IfLaws.{if-true, if-false, by-cases, both-first, both-second, both-not-left, either-rest}
+use Rattle.lex_keyword.specs.Names.{icmPinMap}
 use Rattle.line_place.specs.Place.{isInFamily, isInModel, moved, leadsInFamily}
 use Rattle.line_place.specs.Place as place
-use Rattle.table_layout.specs.Way.Filling.{Write, Fits}
+use Rattle.table_layout.specs.Layout.{partCount, pins}
+use Rattle.table_layout.specs.Way.Filling.{Fits}
 use Rattle.table_layout.specs.declared.Filling.{Filling}
 use Rattle.doc.specs.Lines.{Line, plain, keyAt, keyOf, placeAfter, linesAt, significant, gather, upTo, argumentOf}
-use Rattle.doc.specs.Document.{Map, inMap, opensMap, mapOf, mapAt, opensSection, sectionAt, documentOf, documentIn}
+use Rattle.doc.specs.Document.{inMap, opensMap, mapOf, mapAt, opensSection, sectionAt, documentOf, documentIn}
 use Rattle.doc.specs.Way.Found.{contentIn, lineIn, linesBehind, Located, IsPlain, Plainly, FindsKeyed}
 use Rattle.doc.specs.declared.Found.{Found}
 use Rattle.doc.proofs.PlainLaws.{plain-map, plain-section, plainly-quiet}
 use Rattle.store_base.specs.Way.Writes.{mapWrites, mapsWrites}
-use Rattle.store_base.specs.Way.Stores.{Stores, Placed, Passes, Ready}
+use Rattle.store_base.specs.Way.Stores.{Ready}
 use Rattle.store_base.specs.declared.Walk.{Walk}
 use Rattle.store_base.proofs.StoreLaws.{stores-none}
-use Rattle.store_base.proofs.LineLaws.{gather-quiet, quiet}
+use Rattle.store_base.proofs.LineLaws.{quiet}
+use Rattle.doc.proofs.GatherLaws.{gather-quiet}
 use Rattle.store_base.proofs.LateLaws.{late-quiet, late-map}
 use Rattle.store_base.proofs.BlockLaws.{BlocksLeft, blocks-start, blocks-done, blocks-end, block-fits, blocks-on, blocks-less}
 use Rattle.store_maps.specs.Way.Maps.{mapLines, mapBelow, FillsMap, mapsOf, PassesMap, FillsMaps}
@@ -37,18 +39,18 @@ use Rattle.store_maps.proofs.MapLaws.{maps-none, maps-storable}
 leads-from : (p q : ℕ) → eqb p q ≡ true → moved q icmPinMap ≡ place.mapHead → moved p icmPinMap ≡ place.mapHead
 leads-from p q e h = ap (λ (x : ℕ). moved x icmPinMap) (eqb-true p q e) ∙ h
 
-leads-family : (moved 5 icmPinMap ≡ place.mapHead) × (moved 6 icmPinMap ≡ place.mapHead) × (moved 7 icmPinMap ≡ place.mapHead) × (moved 11 icmPinMap ≡ place.mapHead) × (moved 12 icmPinMap ≡ place.mapHead)
+leads-family : (moved place.family icmPinMap ≡ place.mapHead) × (moved place.familyText icmPinMap ≡ place.mapHead) × (moved place.list icmPinMap ≡ place.mapHead) × (moved place.mapHead icmPinMap ≡ place.mapHead) × (moved place.pinList icmPinMap ≡ place.mapHead)
 unfolding moved leadsInFamily isInFamily isInModel if_then_else_ either
 leads-family = (refl, refl, refl, refl, refl)
 
 leads-in : (p : ℕ) → isInFamily p ≡ true → moved p icmPinMap ≡ place.mapHead
 unfolding isInFamily
 leads-in p h =
-    by-cases _ (eqb p 5) (λ (a : eqb p 5 ≡ true). leads-from p 5 a (leads-family .0)) (λ (a : eqb p 5 ≡ false).
-    by-cases _ (eqb p 6) (λ (b : eqb p 6 ≡ true). leads-from p 6 b (leads-family .1)) (λ (b : eqb p 6 ≡ false).
-    by-cases _ (eqb p 7) (λ (c : eqb p 7 ≡ true). leads-from p 7 c (leads-family .2)) (λ (c : eqb p 7 ≡ false).
-    by-cases _ (eqb p 11) (λ (d : eqb p 11 ≡ true). leads-from p 11 d (leads-family .3)) (λ (d : eqb p 11 ≡ false).
-    leads-from p 12 (sym (either-rest _ _ a ∙ either-rest _ _ b ∙ either-rest _ _ c ∙ either-rest _ _ d) ∙ h) (leads-family .4)))))
+    by-cases _ (eqb p place.family) (λ (a : eqb p place.family ≡ true). leads-from p place.family a (leads-family .0)) (λ (a : eqb p place.family ≡ false).
+    by-cases _ (eqb p place.familyText) (λ (b : eqb p place.familyText ≡ true). leads-from p place.familyText b (leads-family .1)) (λ (b : eqb p place.familyText ≡ false).
+    by-cases _ (eqb p place.list) (λ (c : eqb p place.list ≡ true). leads-from p place.list c (leads-family .2)) (λ (c : eqb p place.list ≡ false).
+    by-cases _ (eqb p place.mapHead) (λ (d : eqb p place.mapHead ≡ true). leads-from p place.mapHead d (leads-family .3)) (λ (d : eqb p place.mapHead ≡ false).
+    leads-from p place.pinList (sym (either-rest _ _ a ∙ either-rest _ _ b ∙ either-rest _ _ c ∙ either-rest _ _ d) ∙ h) (leads-family .4)))))
 
 -- lines of a map open neither a map nor a section
 map-quiet : (l : Line) (ls : List Line) → inMap l ≡ true → mapAt l ls ≡ []
@@ -113,7 +115,7 @@ module _ (t : List ℕ) (line : Found) (w : Walk) (table : List ℕ) (ready : Re
           let b : both (isInFamily (w .place)) (eqb (line .key) icmPinMap) ≡ true = sym told ∙ h in
           let k : line .key ≡ icmPinMap = eqb-true _ _ (both-second _ _ b) in
           let a : keyAt (contentIn t line) ≡ icmPinMap = key-here ∙ k in
-          if-false _ _ (ne-eqb _ _ (λ (x : keyAt (contentIn t line) ≡ plain). let z : _≡_ {A = ℕ} 14 41 = sym a ∙ x in omega arith))
+          if-false _ _ (ne-eqb _ _ (λ (x : keyAt (contentIn t line) ≡ plain). let z : icmPinMap ≡ plain = sym a ∙ x in omega arith))
           ∙ ap (moved (w .place)) a ∙ leads-in (w .place) (both-first _ _ b)
 
       behind-is : behind ≡ linesAt t (line .line + 1) (line .next) place.mapHead
@@ -123,12 +125,12 @@ module _ (t : List ℕ) (line : Found) (w : Walk) (table : List ℕ) (ready : Re
       unfolding mapAt mapOf argumentOf
       one-here = if-true _ _ (opens-here ∙ h) ∙ ap (λ (ls : List Line). mapOf opening (upTo inMap ls) ∷ []) behind-is
 
-      writes-here : mapsOf (w .filling) (mapAt opening behind) ≡ mapWrites (getD (w .filling .counts) 3 0) (mapBelow t line)
+      writes-here : mapsOf (w .filling) (mapAt opening behind) ≡ mapWrites (getD (w .filling .counts) pins 0) (mapBelow t line)
       unfolding mapsWrites
-      writes-here = ap (mapsOf (w .filling)) one-here ∙ append-nil (mapWrites (getD (w .filling .counts) 3 0) (mapBelow t line))
+      writes-here = ap (mapsOf (w .filling)) one-here ∙ append-nil (mapWrites (getD (w .filling .counts) pins 0) (mapBelow t line))
 
-      pub map-ready : Located t line × (length (w .filling .counts) ≡ 7) × Fits (length table) (w .filling) (mapWrites (getD (w .filling .counts) 3 0) (mapBelow t line))
-      map-ready = (ready .0 .located, ready .0 .seven, rw writes-here at (ready .0 .fits))
+      pub map-ready : Located t line × (length (w .filling .counts) ≡ partCount) × Fits (length table) (w .filling) (mapWrites (getD (w .filling .counts) pins 0) (mapBelow t line))
+      map-ready = (ready .0 .located, ready .0 .parts, rw writes-here at (ready .0 .fits))
 
       module _ (m : MapWalk) (table' : List ℕ) (fills : FillsMap t line (w .filling) table m table') where
         rest-is : behind ≡ mapLines t (line .line + 1) (line .next) place.mapHead ++ linesAt t (m .line) (m .at) (m .place)
@@ -154,11 +156,11 @@ pub record FamilyLeft (t : List ℕ) (f₀ : Filling) (table₀ : List ℕ) (w :
   pub left : BlocksLeft mapAt mapsOf (length table₀) t f₀ table₀ (documentOf t .maps) w table
   pub sections : documentOf t .sections ≡ gather sectionAt (linesAt t (w .line) (w .at) (w .place))
 
-pub family-starts : (t : List ℕ) (f : Filling) (table : List ℕ) → (length (f .counts) ≡ 7) × Fits (length table) f (mapsOf f (documentOf t .maps)) → FamilyLeft t f table (record { at = 0; line = 1; place = 0; filling = f }) table
+pub family-starts : (t : List ℕ) (f : Filling) (table : List ℕ) → (length (f .counts) ≡ partCount) × Fits (length table) f (mapsOf f (documentOf t .maps)) → FamilyLeft t f table (record { at = 0; line = 1; place = place.before; filling = f }) table
 unfolding documentOf documentIn significant
-family-starts t f table (seven, fits) =
+family-starts t f table (parts, fits) =
     record {
-      left = blocks-start mapAt mapsOf (length table) t f table (documentOf t .maps) 0 1 0 seven fits refl (record { within = zero-le; counted = omega arith });
+      left = blocks-start mapAt mapsOf (length table) t f table (documentOf t .maps) 0 1 place.before parts fits refl (record { within = zero-le; counted = omega arith });
       sections = refl;
     }
 
@@ -192,7 +194,7 @@ module _ (t : List ℕ) (f₀ : Filling) (table₀ : List ℕ) (w : Walk) (table
       family-ready h = (
         record {
           located = meets .located (not-false (line .there) there);
-          seven = family .left .seven;
+          parts = family .left .parts;
           fits = rw family-long (block-fits mapAt mapsOf maps-storable (length table₀) t f₀ table₀ (documentOf t .maps) w table (family .left) line meets there);
         },
         h,

@@ -1,7 +1,7 @@
 -- Laws of the lines of a map: a pin's record, and what the lines above the pins say.
 -- Assumes nothing.
 use mathlib.Core.Path.{_≡_, refl, sym, _∙_, ap}
-use mathlib.Core.Bool.{Bool, true, false, not}
+use mathlib.Core.Bool.{true, false, not}
 use mathlib.Core.List.{List, [], _∷_, _++_, map, append-nil, map-append}
 use Prim.Native.Nat.{ℕ, _+_, _-_, _≤_, _<_}
 use native.Mathlib.Nat.{le-refl}
@@ -20,41 +20,44 @@ use Rattle.line_place.specs.Place as place
 use Rattle.line_map.specs.PinMap.{mapLineOf, mapNext, newMap}
 use Rattle.line_map.specs.declared.Map as pin_map
 use Rattle.line_map.specs.declared.MapLine.{MapLine}
-use Rattle.table_layout.specs.Layout.{widths}
-use Rattle.table_layout.specs.Way.Filling.{Write, widthOf, position, counted, Fits}
+use Rattle.table_layout.specs.Layout.{pins, pinWidth}
+use Rattle.table_record.specs.Records.{pinWords}
+use Rattle.table_record.specs.declared.PinRecord.{PinRecord}
+use Rattle.table_layout.specs.Way.Filling.{widthOf, position, counted, Fits}
 use Rattle.table_layout.specs.declared.Filling.{Filling}
-use Rattle.table_layout.proofs.FillingLaws.{fits-first}
+use Rattle.table_layout.proofs.FillingLaws.{fits-first, fits-room}
 use Rattle.doc.specs.Lines.{Line, plain, keyAt, keyOf, placeAfter, linesAt, standsIn, gather, upTo, wordsOf, firstWord}
 use Rattle.doc.specs.Records.{pinRecord}
 use Rattle.doc.specs.Document.{Named, inMap, pinAt, gridIn}
 use Rattle.doc.specs.Way.Found.{extentOf, contentIn, lineIn, linesBehind, Located, FindsLine}
 use Rattle.doc.specs.declared.Found.{Found}
 use Rattle.doc.specs.declared.Extent.{Extent}
+use Rattle.doc.proofs.GatherLaws.{up-in, up-none, up-out}
 use Rattle.store_base.specs.Way.Writes.{pinWrite}
 use Rattle.store_base.specs.Way.Stores.{Stores, Placed}
 use Rattle.store_maps.specs.Way.Maps.{mapLines, mapLine, pinWrites, TakesMap, TakenMap, ReadsMap}
 use Rattle.store_maps.specs.declared.MapWalk.{MapWalk}
-use Rattle.store_base.proofs.StoreLaws.{put-asked, put-stored, stores-none, Pending, pending-start, pending-step, pending-done, pending-same}
-use Rattle.store_base.proofs.LineLaws.{up-on, up-stops, up-none, Skipped, skipped-start, skipped-on, skipped-done, gather-none, gather-on}
+use Rattle.store_base.proofs.StoreLaws.{put-stored, stores-none, Pending, pending-start, pending-step, pending-done, pending-same}
+use Rattle.store_base.proofs.LineLaws.{Skipped, skipped-start, skipped-on, skipped-done}
 
 abbrev namedBy : List ℕ → Found → Named
 namedBy t line = record { name = firstWord (wordsOf (lineIn t line 0)); line = line .line }
 
 module _ (t : List ℕ) (line : Found) (mark : Extent) (is-mark : mark ≡ extentOf (firstWord (wordsFrom (line .at) (contentIn t line)))) where
-  pin-words : _≡_ {A = List ℕ} (mark .start ∷ mark .size ∷ []) (pinWrite (namedBy t line) .words)
-  unfolding pinWrite pinRecord wordsOf extentOf
-  pin-words = λ i. is-mark i .start ∷ is-mark i .size ∷ []
+  abbrev pin : PinRecord
+  pin = record { start = mark .start; size = mark .size }
 
-  pin-part : 3 ≡ pinWrite (namedBy t line) .part
+  pin-is : pin ≡ pinRecord (namedBy t line)
+  unfolding pinRecord wordsOf extentOf
+  pin-is = λ i. record { start = is-mark i .start; size = is-mark i .size }
+
+  pub pin-stored : (f r : Filling) (table table' : List ℕ) → r ≡ counted f pins → table' ≡ sets table (position f pins) (pinWords pin) → Stores f table (pinWrite (namedBy t line) ∷ []) r table'
   unfolding pinWrite
-  pin-part = refl
+  pin-stored f r table table' k h = put-stored f table (pinWrite (namedBy t line)) r table' k (h ∙ ap (λ (x : PinRecord). sets table (position f pins) (pinWords x)) pin-is)
 
-  pub pin-stored : (f r : Filling) (table table' : List ℕ) → r ≡ counted f 3 → table' ≡ sets table (position f 3) (mark .start ∷ mark .size ∷ []) → Stores f table (pinWrite (namedBy t line) ∷ []) r table'
-  pin-stored f r table table' k h = put-stored f table (pinWrite (namedBy t line)) 3 (mark .start ∷ mark .size ∷ []) r table' pin-part pin-words k h
-
-pub pin-asked : (p : Named) (f : Filling) (size : ℕ) → Fits size f (pinWrite p ∷ []) → (3 < length widths) × (_≡_ {A = ℕ} 2 (widthOf 3)) × (position f 3 + widthOf 3 ≤ size)
-unfolding pinWrite
-pin-asked p f size h = put-asked f [] (pinWrite p) size 3 (pinWrite p .words) h refl refl
+pub pin-asked : (p : Named) (f : Filling) (size : ℕ) → Fits size f (pinWrite p ∷ []) → position f pins + pinWidth ≤ size
+unfolding pinWrite widthOf
+pin-asked p f size h = fits-room size f (pinWrite p) [] h
 
 -- ---- one line of a map
 
@@ -90,7 +93,7 @@ module _ (l : Line) (inside : inMap l ≡ true) where
     line-pin = ap (λ (x : List Named). map pinWrite (x ++ [])) (if-true _ _ (stands-is place.pinList l here map-plain))
 
     not-head : standsIn place.mapHead l ≡ false
-    not-head = stands-not place.mapHead l (λ (h : l .place ≡ place.mapHead). let z : _≡_ {A = ℕ} 12 11 = sym here ∙ h in omega arith)
+    not-head = stands-not place.mapHead l (λ (h : l .place ≡ place.mapHead). let z : place.pinList ≡ place.mapHead = sym here ∙ h in omega arith)
 
     pub pin-grid : (m : pin_map.Map) → m ≡ gridIn m (l ∷ [])
     unfolding gridIn
@@ -123,7 +126,7 @@ module _ (t : List ℕ) (line : Found) (table : List ℕ) (w : MapWalk) (takes :
   unfolding wordsOf
   pin-room h = rw (line-pin (mapLine t line w) (takes .inside) h) at (takes .fits)
 
-  pub taken-pin : w .place ≡ place.pinList → (f : Filling) (table' : List ℕ) → Stores (w .filling) table (pinWrite (namedBy t line) ∷ []) f table' → TakenMap t line table w (record { at = line .next; line = line .line + 1; place = 12; map = w .map; filling = f }) table'
+  pub taken-pin : w .place ≡ place.pinList → (f : Filling) (table' : List ℕ) → Stores (w .filling) table (pinWrite (namedBy t line) ∷ []) f table' → TakenMap t line table w (record { at = line .next; line = line .line + 1; place = place.pinList; map = w .map; filling = f }) table'
   unfolding wordsOf keyOf
   taken-pin h f table' s =
       record {
@@ -157,7 +160,7 @@ pub record MapLeft (t : List ℕ) (n₀ at₀ : ℕ) (f₀ : Filling) (table₀ 
   pub onward : at₀ ≤ w .at
   pub opened : either (eqb (w .place) place.mapHead) (eqb (w .place) place.pinList) ≡ true
 
-pub map-starts : (t : List ℕ) (n at : ℕ) (f : Filling) (table : List ℕ) → Placed t n at × Fits (length table) f (pinWrites (mapLines t n at place.mapHead)) → (m : pin_map.Map) → m ≡ newMap → MapLeft t n at f table (record { at = at; line = n; place = 11; map = m; filling = f }) table
+pub map-starts : (t : List ℕ) (n at : ℕ) (f : Filling) (table : List ℕ) → Placed t n at × Fits (length table) f (pinWrites (mapLines t n at place.mapHead)) → (m : pin_map.Map) → m ≡ newMap → MapLeft t n at f table (record { at = at; line = n; place = place.mapHead; map = m; filling = f }) table
 map-starts t n at f table (placed, fits) m e =
     record {
       pending = pending-start (length table) f table (pinWrites (mapLines t n at place.mapHead)) fits;
@@ -168,8 +171,8 @@ map-starts t n at f table (placed, fits) m e =
       opened = map-open;
     }
   where
-    map-open : either (eqb 11 11) (eqb 11 12) ≡ true
-    map-open = either-left _ _ (eq-eqb 11 11 refl)
+    map-open : either (eqb place.mapHead place.mapHead) (eqb place.mapHead place.pinList) ≡ true
+    map-open = either-left _ _ (eq-eqb place.mapHead place.mapHead refl)
 
 -- where a line stands in an open map and has no keyword
 inside-map : (l : Line) → either (eqb (l .place) place.mapHead) (eqb (l .place) place.pinList) ≡ true → eqb (keyOf l) plain ≡ true → inMap l ≡ true
@@ -247,21 +250,21 @@ module _ (t : List ℕ) (n₀ at₀ : ℕ) (f₀ : Filling) (table₀ : List ℕ
     unfolding keyOf
     key-here = sym (found .key-is)
 
-    pub map-closes : (line .key ≡ 41 → ⊥) → ReadsMap t n₀ at₀ f₀ table₀ w table
-    map-closes h = ends-map (ap (upTo inMap) here ∙ up-stops inMap _ _ (outside-map (mapLine t line w) (λ (e : keyOf (mapLine t line w) ≡ plain). h (sym key-here ∙ e))))
+    pub map-closes : (line .key ≡ plain → ⊥) → ReadsMap t n₀ at₀ f₀ table₀ w table
+    map-closes h = ends-map (ap (upTo inMap) here ∙ up-out inMap _ _ (outside-map (mapLine t line w) (λ (e : keyOf (mapLine t line w) ≡ plain). h (sym key-here ∙ e))))
 
-    module _ (k : (line .key ≡ 41 → ⊥) → ⊥) where
+    module _ (k : (line .key ≡ plain → ⊥) → ⊥) where
       plain-here : eqb (keyOf (mapLine t line w)) plain ≡ true
       plain-here =
           by-cases (eqb (keyOf (mapLine t line w)) plain ≡ true) (eqb (keyOf (mapLine t line w)) plain)
           (λ (e : eqb (keyOf (mapLine t line w)) plain ≡ true). e)
-          (λ (e : eqb (keyOf (mapLine t line w)) plain ≡ false). absurd (k (λ (x : line .key ≡ 41). eqb-false _ _ e (key-here ∙ x))))
+          (λ (e : eqb (keyOf (mapLine t line w)) plain ≡ false). absurd (k (λ (x : line .key ≡ plain). eqb-false _ _ e (key-here ∙ x))))
 
       inside : inMap (mapLine t line w) ≡ true
       inside = inside-map (mapLine t line w) (left .opened) plain-here
 
       body-on : mapLines t (w .line) (w .at) (w .place) ≡ mapLine t line w ∷ upTo inMap (linesBehind t line (w .place))
-      body-on = ap (upTo inMap) here ∙ up-on inMap _ _ inside
+      body-on = ap (upTo inMap) here ∙ up-in inMap _ _ inside
 
       writes-on : pinWrites (mapLines t (w .line) (w .at) (w .place)) ≡ pinWrites (mapLine t line w ∷ []) ++ pinWrites (upTo inMap (linesBehind t line (w .place)))
       writes-on = ap pinWrites body-on ∙ pins-split (mapLine t line w) (upTo inMap (linesBehind t line (w .place)))

@@ -1,14 +1,14 @@
 // The maps of a text and their pins, stored in a table.
 ghost use mathlib.Core.Path.{_≡_};
 ghost use mathlib.Core.List.{[], _∷_};
-ghost use Prim.Native.Nat.{_+_, _-_, _≤_};
+ghost use Prim.Native.Nat.{_+_, _-_};
 ghost use lib.ListN.{length, getD};
 ghost use lib.Dec.{eqb};
 ghost use Rattle.base.specs.If.{both};
 ghost use Rattle.lex_keyword.specs.Names.{icmPinMap};
 ghost use Rattle.line_place.specs.Place.{isInFamily};
 ghost use Rattle.line_place.specs.Place as place;
-ghost use Rattle.table_layout.specs.Layout.{pins};
+ghost use Rattle.table_layout.specs.Layout.{pins, partCount};
 ghost use Rattle.table_layout.specs.Way.Filling.{Fits};
 ghost use Rattle.doc.specs.Way.Found.{Located, lineIn};
 ghost use Rattle.doc.specs.Lines.{wordsOf, firstWord};
@@ -20,6 +20,8 @@ use doc::Found;
 use line_map::Map;
 use store_base::Walk;
 use table_layout::Filling;
+use table_record::MapRecord;
+use table_record::PinRecord;
 
 // How far the lines of a map have been read: where to go on, and what its lines have said.
 pub struct MapWalk {
@@ -38,8 +40,11 @@ fn put_pin(text: &[u8], line: Found, table: &mut [u64], filling: Filling) -> Fil
     let at = line.at;
     let end = line.end;
     let mark = doc::first_extent(&text[at..end], at);
-    let words = [mark.start as u64, mark.size as u64];
-    table_layout::put_record(table, filling, table_layout::PINS, &words)
+    let pin = PinRecord {
+        start: mark.start as u64,
+        size: mark.size as u64,
+    };
+    table_record::put_pin(table, filling, pin)
 }
 
 // One line of a map: a pin below its Pin_list, else what it says of the grid.
@@ -103,7 +108,7 @@ fn fill_pins(
 
 // A map: its pins, and behind them its own record.
 fn fill_map(text: &[u8], line: Found, table: &mut [u64], filling: Filling) -> MapWalk
-    requires { ⌜ Located (now text) line × (length (filling .counts) ≡ 7) × Fits (length (now table)) filling (mapWrites (getD (filling .counts) pins 0) (mapBelow (now text) line)) ⌝ }
+    requires { ⌜ Located (now text) line × (length (filling .counts) ≡ partCount) × Fits (length (now table)) filling (mapWrites (getD (filling .counts) pins 0) (mapBelow (now text) line)) ⌝ }
     ensures { λ r. ⌜ FillsMap (now (text .entry)) line filling (now (table .entry)) r (now (table .exit)) ⌝ }
 {
     let before = filling.counts;
@@ -113,21 +118,21 @@ fn fill_map(text: &[u8], line: Found, table: &mut [u64], filling: Filling) -> Ma
     let filled = walk.filling;
     let after = filled.counts;
     let mark = doc::argument_extent(text, line);
-    let words = [
-        mark.start as u64,
-        mark.size as u64,
-        store_base::one_less(map.order),
-        map.rows,
-        map.columns,
+    let own = MapRecord {
+        start: mark.start as u64,
+        size: mark.size as u64,
+        order: base::minus(map.order, 1),
+        rows: map.rows,
+        columns: map.columns,
         first,
-        after[table_layout::PINS] - first,
-    ];
+        pins: after[table_layout::PINS] - first,
+    };
     MapWalk {
         at: walk.at,
         line: walk.line,
         place: walk.place,
         map,
-        filling: table_layout::put_record(table, filled, table_layout::MAPS, &words),
+        filling: table_record::put_map(table, filled, own),
     }
 }
 
@@ -167,7 +172,7 @@ fn pass_map(text: &[u8], line: Found, table: &mut [u64], walk: Walk) -> Walk
 
 // All maps with their pins, in the order of the text.
 pub fn fill_maps(text: &[u8], table: &mut [u64], filling: Filling) -> Walk
-    requires { ⌜ (length (filling .counts) ≡ 7) × Fits (length (now table)) filling (mapsOf filling (documentOf (now text) .maps)) ⌝ }
+    requires { ⌜ (length (filling .counts) ≡ partCount) × Fits (length (now table)) filling (mapsOf filling (documentOf (now text) .maps)) ⌝ }
     ensures { λ r. ⌜ FillsMaps (now (text .entry)) filling (now (table .entry)) r (now (table .exit)) ⌝ }
 {
     let mut walk = Walk {

@@ -8,6 +8,9 @@ use native.Mathlib.Omega.{arith}
 use lib.ListN.{length, getD}
 use lib.Dec.{eqb}
 use borrow.Author.Tests.{eq-eqb, ne-eqb, eqb-true, eqb-false}
+use Rattle.table_record.specs.declared.Value.{Value}
+use Rattle.table_layout.specs.Layout.{values}
+use Rattle.table_layout.specs.Codes.{sparse}
 use Rattle.base.specs.If.{either}
 use Rattle.base.proofs.IfLaws.{
   if-true,
@@ -28,13 +31,12 @@ use Rattle.lex_number.specs.declared.Whole.{Whole}
 use Rattle.lex_number.proofs.IntegerLaws.{integer-below}
 use Rattle.lex_keyword.specs.Names.{row, bandwidth}
 use Rattle.line_place.specs.Place.{isRowOrBandwidth}
-use Rattle.line_matrix.specs.Matrix.{sparse}
 use Rattle.read_line.specs.Reading.{argumentFrom}
 use Rattle.table_layout.specs.Way.Filling.{Write, Fits}
 use Rattle.table_layout.specs.declared.Filling.{Filling}
 use Rattle.table_layout.proofs.FillingLaws.{fits-first}
 use Rattle.doc.specs.Lines.{Line, plain, keyOf, argumentOf}
-use Rattle.doc.specs.Document.{Value, inMatrix, givenBy, bandwidthIn, numbersAt, sparseAt, valuesFrom, namedBy, greatestIn}
+use Rattle.doc.specs.Document.{inMatrix, givenBy, bandwidthIn, numbersAt, sparseAt, valuesFrom, namedBy, greatestIn}
 use Rattle.doc.specs.Way.Found.{contentIn, lineIn, Located}
 use Rattle.doc.specs.declared.Found.{Found}
 use Rattle.store_base.specs.Way.Writes.{valueWrite}
@@ -44,7 +46,7 @@ use Rattle.store_matrices.specs.declared.Spot.{Spot}
 use Rattle.store_matrices.specs.declared.Placing.{Placing}
 use Rattle.store_matrices.specs.declared.MatrixWalk.{MatrixWalk}
 use Rattle.store_matrices.specs.Way.Told.{firstTold, toldOr}
-use Rattle.store_matrices.specs.Way.Numbers.{valueWrites, rowAfter, PutsNumbers, FillsNumbers, PutsSparse, FillsSparse}
+use Rattle.store_matrices.specs.Way.Numbers.{mostGiven, valueWrites, rowAfter, PutsNumbers, FillsNumbers, PutsSparse, FillsSparse}
 use Rattle.store_matrices.proofs.NumberLaws.{counted-on}
 use Rattle.store_matrices.specs.Way.Matrices.{matrixLine, bodyWrites, withRow, withBandwidth, TakesLine, TakesData, TakenLine}
 
@@ -58,14 +60,14 @@ told-first f n m =
 
 -- ---- integers
 
-pub whole-below : (s : List ℕ) → wholeOf s .value < 1_000_000_000
+pub whole-below : (s : List ℕ) → wholeOf s .value < mostGiven
 unfolding wholeOf
 whole-below s =
     by-cases _ (isInteger s)
     (λ (e : isInteger s ≡ true). rw (if-true {A = Whole} _ _ e) (integer-below s e))
     (λ (e : isInteger s ≡ false). rw (if-false {A = Whole} _ _ e) (omega arith))
 
-given-below : (l : Line) → givenBy l < 1_000_000_000
+given-below : (l : Line) → givenBy l < mostGiven
 unfolding givenBy
 given-below l = whole-below (argumentOf l .text)
 
@@ -248,7 +250,7 @@ inside-plain l e h k =
 -- ---- what the code has to show for one line
 
 module _ (t : List ℕ) (line : Found) (form : ℕ) (table : List ℕ) (w : MatrixWalk) (takes : TakesLine t line form table w) where
-  module _ (is-row : line .key ≡ 1) where
+  module _ (is-row : line .key ≡ row) where
     abbrev given : ℕ
     given = givenBy (lineIn t line 0)
 
@@ -262,8 +264,8 @@ module _ (t : List ℕ) (line : Found) (form : ℕ) (table : List ℕ) (w : Matr
         on ls = row-values form (matrixLine t line) ls key-row (w .spot .row) (w .spot .column)
             ∙ ap (λ (n : ℕ). valuesFrom form n n ls) (sym (given-same t line (takes .located)))
 
-        small : given ≤ 1_000_000_000 + getD (w .spot .filling .counts) 6 0
-        small = let h : given < 1_000_000_000 = given-below (lineIn t line 0) in omega arith
+        small : given ≤ mostGiven + getD (w .spot .filling .counts) values 0
+        small = let h : given < mostGiven = given-below (lineIn t line 0) in omega arith
 
         taken : TakenLine t line form table w (withRow given line w) table
         taken =
@@ -277,12 +279,12 @@ module _ (t : List ℕ) (line : Found) (form : ℕ) (table : List ℕ) (w : Matr
                   most-of (w .greatest) given _ _ (greatestIn form ls)
                   (row-greatest form (matrixLine t line) ls key-row
                   ∙ ap (λ (n : ℕ). max n (greatestIn form ls)) (sym (given-same t line (takes .located)))) refl;
-              counted = record { seven = takes .counted .seven; row = small; column = small };
+              counted = record { parts = takes .counted .parts; row = small; column = small };
               at-is = refl;
               line-is = refl;
             }
 
-  module _ (is-bandwidth : line .key ≡ 10) where
+  module _ (is-bandwidth : line .key ≡ bandwidth) where
     key-bandwidth : keyOf (matrixLine t line) ≡ bandwidth
     key-bandwidth = key-told t line (takes .located) bandwidth is-bandwidth
 
@@ -313,7 +315,7 @@ module _ (t : List ℕ) (line : Found) (form : ℕ) (table : List ℕ) (w : Matr
             }
 
   -- a line of a matrix that is neither
-  pub data-takes : (line .key ≡ 1 → ⊥) → (line .key ≡ 10 → ⊥) → TakesData t line form table w
+  pub data-takes : (line .key ≡ row → ⊥) → (line .key ≡ bandwidth → ⊥) → TakesData t line form table w
   unfolding keyOf
   data-takes h k =
       record {
@@ -336,7 +338,7 @@ module _ (t : List ℕ) (line : Found) (form : ℕ) (table : List ℕ) (w : Matr
   abbrev numbersHere : List Value
   numbersHere = numbersAt form (w .spot .row) (w .spot .column) (words (contentIn t line))
 
-  module _ (is-sparse : form ≡ 2) where
+  module _ (is-sparse : form ≡ sparse) where
     sparse-on : (v : Spot) → v .row ≡ w .spot .row → v .column ≡ w .spot .column → (ls : List Line) →
         valuesFrom form (w .spot .row) (w .spot .column) (matrixLine t line ∷ ls) ≡ sparseHere ++ valuesFrom form (v .row) (v .column) ls
     sparse-on v e f ls = rw (e, f) (sparse-values form (matrixLine t line) ls key-data is-sparse (w .spot .row) (w .spot .column))
@@ -376,7 +378,7 @@ module _ (t : List ℕ) (line : Found) (form : ℕ) (table : List ℕ) (w : Matr
           line-is = refl;
         }
 
-  module _ (not-sparse : form ≡ 2 → ⊥) where
+  module _ (not-sparse : form ≡ sparse → ⊥) where
     numbers-on :
         (v : Spot) → v .row ≡ rowAfter form (w .spot .row) (length (words (contentIn t line))) →
         v .column ≡ w .spot .column + length (words (contentIn t line)) → (ls : List Line) →

@@ -10,26 +10,29 @@ use lib.ListN.{length, getD}
 use lib.Dec.{eqb}
 use lib.Seq.{sets}
 use borrow.Author.Tests.{eq-eqb, not-true, not-false}
+use Rattle.table_layout.specs.Codes.{diagonal}
 use Rattle.base.specs.If.{if_then_else_, either}
 use Rattle.base.proofs.IfLaws.{if-true, if-false, by-cases, both-true, both-not-right, either-rest}
 use Rattle.line_place.specs.Place.{isRowOrBandwidth, moved, movedByLine}
 use Rattle.line_place.specs.Place as place
-use Rattle.line_matrix.specs.Matrix.{diagonal}
 use Rattle.line_argument.specs.Argument.{formOf}
 use Rattle.read_line.specs.Reading.{argumentFrom}
-use Rattle.table_layout.specs.Layout.{widths}
+use Rattle.table_layout.specs.Layout.{matrices, values, matrixWidth}
+use Rattle.table_record.specs.Records.{matrixWords}
+use Rattle.table_record.specs.declared.MatrixRecord.{MatrixRecord}
 use Rattle.table_layout.specs.Way.Filling.{widthOf, position, counted, Fits}
 use Rattle.table_layout.specs.declared.Filling.{Filling}
-use Rattle.table_layout.proofs.FillingLaws.{fits-first, fits-rest, length-after}
+use Rattle.table_layout.proofs.FillingLaws.{fits-first, fits-room, fits-rest, length-after}
 use Rattle.doc.specs.Lines.{Line, plain, keyAt, keyOf, argumentOf, placeAfter, linesAt, upTo}
 use Rattle.doc.specs.Document.{Matrix, inMatrix, valuesFrom, bandwidthIn, greatestIn, conductorsIn, matrixOf}
 use Rattle.doc.specs.Records.{matrixRecord}
 use Rattle.doc.specs.Way.Found.{contentIn, lineIn, linesBehind, Located, FindsLine}
 use Rattle.doc.specs.declared.Found.{Found}
+use Rattle.doc.proofs.GatherLaws.{up-in, up-none, up-out}
 use Rattle.store_base.specs.Way.Writes.{matrixWrite, matrixWrites}
 use Rattle.store_base.specs.Way.Stores.{Placed}
-use Rattle.store_base.proofs.StoreLaws.{put-asked, put-stored, stores-join, Pending, pending-start, pending-step, pending-done, pending-same}
-use Rattle.store_base.proofs.LineLaws.{up-on, up-stops, up-none, Skipped, skipped-start, skipped-on, skipped-done}
+use Rattle.store_base.proofs.StoreLaws.{put-stored, stores-join, Pending, pending-start, pending-step, pending-done, pending-same}
+use Rattle.store_base.proofs.LineLaws.{Skipped, skipped-start, skipped-on, skipped-done}
 use Rattle.store_base.proofs.WriteLaws.{values-stored}
 use Rattle.store_matrices.specs.declared.MatrixWalk.{MatrixWalk}
 use Rattle.store_matrices.specs.Way.Told.{untold, toldOr}
@@ -99,7 +102,7 @@ values-start t n at form table f puts =
       pending = pending-start (length table) f table (valuesWrites form (matrixLines t n at)) (puts .fits);
       bandwidth = told-untold _;
       greatest = omega arith;
-      counted = record { seven = puts .seven; row = omega arith; column = omega arith };
+      counted = record { parts = puts .parts; row = omega arith; column = omega arith };
       skipped = skipped-start inMatrix (linesAt t n at place.matrix);
       placed = puts .placed;
       onward = le-refl at;
@@ -136,7 +139,7 @@ module _ (t : List ℕ) (n₀ at₀ form : ℕ) (table₀ : List ℕ) (f₀ : Fi
 
     pub values-close : not stays ≡ true → FillsValues t n₀ at₀ form table₀ f₀ w table
     unfolding inMatrix keyOf
-    values-close h = values-done (ap (upTo inMatrix) here ∙ up-stops inMatrix _ _ (both-not-right _ _ (stays-here ∙ not-true stays h)))
+    values-close h = values-done (ap (upTo inMatrix) here ∙ up-out inMatrix _ _ (both-not-right _ _ (stays-here ∙ not-true stays h)))
 
     module _ (k : not stays ≡ false) where
       inside : inMatrix (matrixLine t line) ≡ true
@@ -148,7 +151,7 @@ module _ (t : List ℕ) (n₀ at₀ form : ℕ) (table₀ : List ℕ) (f₀ : Fi
 
       body-on : matrixLines t (w .line) (w .at) ≡ matrixLine t line ∷ matrixLines t (line .line + 1) (line .next)
       body-on =
-          ap (upTo inMatrix) here ∙ up-on inMatrix _ _ inside ∙ ap (λ (ls : List Line). matrixLine t line ∷ upTo inMatrix ls) lines-behind
+          ap (upTo inMatrix) here ∙ up-in inMatrix _ _ inside ∙ ap (λ (ls : List Line). matrixLine t line ∷ upTo inMatrix ls) lines-behind
 
       pub values-takes : TakesLine t line form table w
       values-takes =
@@ -220,7 +223,7 @@ module _ (t : List ℕ) (line : Found) (table : List ℕ) (f : Filling) (puts : 
   below = matrixBelow t line
 
   abbrev first : ℕ
-  first = getD (f .counts) 6 0
+  first = getD (f .counts) values 0
 
   pub values-puts : PutsValues t (line .line + 1) (line .next) form table f
   unfolding matrixWrites matrixOf
@@ -229,7 +232,7 @@ module _ (t : List ℕ) (line : Found) (table : List ℕ) (f : Filling) (puts : 
       let b : line .at < line .next = puts .located .further in
       record {
         placed = record { within = puts .located .next-within; counted = omega arith };
-        seven = puts .seven;
+        parts = puts .parts;
         fits = rw is-form (fits-first (length table) f _ _ (puts .fits));
       }
 
@@ -237,48 +240,55 @@ module _ (t : List ℕ) (line : Found) (table : List ℕ) (f : Filling) (puts : 
     filled : FillsValues t (line .line + 1) (line .next) (formBelow t line) table f w table'
     filled = rw is-form at fills
 
-    pub values-counted : getD (w .spot .filling .counts) 6 0 ≡ getD (f .counts) 6 0 + length (matrixBelow t line .values)
+    values-counted : getD (w .spot .filling .counts) values 0 ≡ getD (f .counts) values 0 + length (matrixBelow t line .values)
     unfolding matrixOf
     values-counted =
-        ap (λ (x : Filling). getD (x .counts) 6 0) (filled .stores .filled)
-        ∙ values-stored f (puts .seven) (valuesFrom (formBelow t line) 1 1 (linesBelow t line))
+        ap (λ (x : Filling). getD (x .counts) values 0) (filled .stores .filled)
+        ∙ values-stored f (puts .parts) (valuesFrom (formBelow t line) 1 1 (linesBelow t line))
 
-    pub matrix-asked : (5 < length widths) × (_≡_ {A = ℕ} 5 (widthOf 5)) × (position (w .spot .filling) 5 + widthOf 5 ≤ length table')
-    unfolding matrixWrites matrixWrite matrixOf
+    pub values-more : getD (f .counts) values 0 ≤ getD (w .spot .filling .counts) values 0
+    values-more = omega (arith, values-counted)
+
+    pub matrix-asked : position (w .spot .filling) matrices + matrixWidth ≤ length table'
+    unfolding matrixWrites matrixWrite matrixOf widthOf
     matrix-asked =
         let g : Fits (length table) (w .spot .filling) (matrixWrite first below ∷ []) =
         rw (filled .stores .filled) (fits-rest (length table) f _ _ (puts .fits)) in
         let l : length table' ≡ length table = ap length (filled .stores .stored) ∙ length-after _ f table in
-        rw l (put-asked (w .spot .filling) [] (matrixWrite first below) (length table) 5 _ g refl refl)
+        rw l (fits-room (length table) (w .spot .filling) (matrixWrite first below) [] g)
 
-    module _ (b : ℕ) (is-b : b ≡ toldOr (w .bandwidth) 0) (values : ℕ)
-        (is-values : values ≡ getD (w .spot .filling .counts) 6 0 - getD (f .counts) 6 0) where
-      values-many : values ≡ length (below .values)
+    module _ (b : ℕ) (is-b : b ≡ toldOr (w .bandwidth) 0) (many : ℕ)
+        (is-many : many ≡ getD (w .spot .filling .counts) values 0 - getD (f .counts) values 0) where
+      values-many : many ≡ length (below .values)
       values-many =
-          let c : getD (w .spot .filling .counts) 6 0 ≡ first + length (below .values) = values-counted in
+          let c : getD (w .spot .filling .counts) values 0 ≡ first + length (below .values) = values-counted in
           omega arith
 
-      matrix-words : _≡_ {A = List ℕ} (form ∷ b ∷ first ∷ values ∷ line .line ∷ []) (matrixWrite first below .words)
-      unfolding matrixWrite matrixRecord matrixOf
-      matrix-words =
-          let e : b ≡ bandwidthIn (linesBelow t line) = is-b ∙ filled .bandwidth in
-          λ i. is-form i ∷ e i ∷ first ∷ values-many i ∷ line .line ∷ []
+      abbrev own : MatrixRecord
+      own = record { form = form; bandwidth = b; first = getD (f .counts) values 0; values = many; line = line .line }
 
-      conductors-told : (n : ℕ) → n ≡ (if eqb form diagonal then values else w .greatest) → n ≡ below .conductors
+      own-is : own ≡ matrixRecord first below
+      unfolding matrixRecord matrixOf
+      own-is =
+          let e : b ≡ bandwidthIn (linesBelow t line) = is-b ∙ filled .bandwidth in
+          λ i. record { form = is-form i; bandwidth = e i; first = first; values = values-many i; line = line .line }
+
+      conductors-told : (n : ℕ) → n ≡ (if eqb form diagonal then many else w .greatest) → n ≡ below .conductors
       unfolding matrixOf conductorsIn
       conductors-told n e = e ∙ (λ i. if eqb (is-form i) diagonal then values-many i else filled .greatest i)
 
       pub matrix-filled :
-          (n : ℕ) → n ≡ (if eqb form diagonal then values else w .greatest) → (r : Filling) (table'' : List ℕ) →
-          r ≡ counted (w .spot .filling) 5 →
-          table'' ≡ sets table' (position (w .spot .filling) 5) (form ∷ b ∷ getD (f .counts) 6 0 ∷ values ∷ line .line ∷ []) →
+          (n : ℕ) → n ≡ (if eqb form diagonal then many else w .greatest) → (r : Filling) (table'' : List ℕ) →
+          r ≡ counted (w .spot .filling) matrices →
+          table'' ≡ sets table' (position (w .spot .filling) matrices) (matrixWords own) →
           FillsMatrix t line table f (record { at = w .at; line = w .line; conductors = n; filling = r }) table''
       unfolding matrixWrites matrixWrite matrixOf
       matrix-filled n e r table'' k h =
           record {
             stores =
                 stores-join f (w .spot .filling) r table table' table'' _ (matrixWrite first below ∷ []) (filled .stores)
-                (put-stored (w .spot .filling) table' (matrixWrite first below) 5 _ r table'' refl matrix-words k h);
+                (put-stored (w .spot .filling) table' (matrixWrite first below) r table'' k
+                (h ∙ ap (λ (x : MatrixRecord). sets table' (position (w .spot .filling) matrices) (matrixWords x)) own-is));
             conductors = conductors-told n e;
             rest = filled .rest;
             placed = filled .placed;

@@ -10,6 +10,9 @@ use mir.Val as val
 use lib.ListN.{length, getD, set}
 use lib.Dec.{eqb}
 use lib.Seq.{sets, set-getD, getD-set-same}
+use Rattle.table_record.specs.Records.{valueWords}
+use Rattle.table_record.specs.declared.Value.{Value}
+use Rattle.table_layout.specs.Codes.{diagonal}
 use Rattle.base.specs.If.{if_then_else_}
 use Rattle.base.proofs.IfLaws.{if-true, if-false, by-cases}
 use Rattle.base.specs.Bytes.{isBlank}
@@ -24,17 +27,15 @@ use Rattle.lex_number.specs.Way.At.{numberAt}
 use Rattle.lex_number.specs.declared.Number.{Number}
 use Rattle.lex_number.specs.declared.NumberAt.{NumberAt}
 use Rattle.lex_number.specs.declared.Whole.{Whole}
-use Rattle.line_matrix.specs.Matrix.{diagonal}
 use Rattle.line_matrix.proofs.MatrixLaws.{placed-found, placed-number, marked-number, second-ends}
-use Rattle.table_layout.specs.Layout.{widths}
+use Rattle.table_layout.specs.Layout.{values, partCount, valueWidth}
 use Rattle.table_layout.specs.Way.Filling.{partOf, widthOf, position, counted, Fits}
 use Rattle.table_layout.specs.declared.Filling.{Filling}
-use Rattle.table_layout.proofs.FillingLaws.{fits-first}
-use Rattle.doc.specs.Document.{Value, wordIn, nextRow, numbersAt, sparseAt}
+use Rattle.table_layout.proofs.FillingLaws.{fits-first, fits-room}
+use Rattle.doc.specs.Document.{wordIn, nextRow, numbersAt, sparseAt}
 use Rattle.store_base.specs.Way.Writes.{valueWrite}
 use Rattle.store_base.specs.Way.Stores.{Stores}
 use Rattle.store_base.proofs.StoreLaws.{
-  put-asked,
   put-stored,
   counts-kept,
   count-after,
@@ -47,6 +48,8 @@ use Rattle.store_base.proofs.StoreLaws.{
 use Rattle.store_matrices.specs.declared.Spot.{Spot}
 use Rattle.store_matrices.specs.declared.Cursor.{Cursor}
 use Rattle.store_matrices.specs.Way.Numbers.{
+  mostGiven,
+  valueOf,
   Counted,
   numberHere,
   cursorOf,
@@ -65,61 +68,62 @@ use Rattle.store_matrices.specs.Way.Numbers.{
 
 -- ---- one value
 
-pub value-asked : (v : Value) (f : Filling) (size : ℕ) → Fits size f (valueWrite v ∷ []) →
-    (6 < length widths) × (_≡_ {A = ℕ} 3 (widthOf 6)) × (position f 6 + widthOf 6 ≤ size)
-unfolding valueWrite
-value-asked v f size h = put-asked f [] (valueWrite v) size 6 (valueWrite v .words) h refl refl
+pub value-asked : (v : Value) (f : Filling) (size : ℕ) → Fits size f (valueWrite v ∷ []) → position f values + valueWidth ≤ size
+unfolding valueWrite widthOf
+value-asked v f size h = fits-room size f (valueWrite v) [] h
 
-module _ (row column : ℕ) (number : Number) (value : ℕ) (is-value : value ≡ wordIn number) where
-  value-words : _≡_ {A = List ℕ} (row ∷ column ∷ value ∷ [])
-      (valueWrite (record { row = row; column = column; word = wordIn number }) .words)
-  unfolding valueWrite
-  value-words = ap (λ (n : ℕ). row ∷ column ∷ n ∷ []) is-value
-
+-- where the word of a number is given, as the code has it
+module _ (row column : ℕ) (number : Number) (word : ℕ) (is-word : word ≡ wordIn number) where
   pub value-stored :
-      (f r : Filling) (table table' : List ℕ) → r ≡ counted f 6 → table' ≡ sets table (position f 6) (row ∷ column ∷ value ∷ []) →
-      Stores f table (valueWrite (record { row = row; column = column; word = wordIn number }) ∷ []) r table'
+      (f r : Filling) (table table' : List ℕ) → r ≡ counted f values →
+      table' ≡ sets table (position f values) (valueWords (record { row = row; column = column; word = word })) →
+      Stores f table (valueWrite (valueOf row column number) ∷ []) r table'
   unfolding valueWrite
   value-stored f r table table' k h =
-      put-stored f table (valueWrite (record { row = row; column = column; word = wordIn number })) 6
-      (row ∷ column ∷ value ∷ []) r table' refl value-words k h
+      put-stored f table (valueWrite (valueOf row column number)) r table' k
+      (h ∙ ap (λ (x : ℕ). sets table (position f values) (valueWords (record { row = row; column = column; word = x }))) is-word)
+
+  pub value-there : (table : List ℕ) (at : ℕ) (table' : List ℕ) →
+      table' ≡ sets table at (valueWords (record { row = row; column = column; word = word })) →
+      table' ≡ sets table at (valueWords (valueOf row column number))
+  value-there table at table' h =
+      h ∙ ap (λ (x : ℕ). sets table at (valueWords (record { row = row; column = column; word = x }))) is-word
 
 -- ---- rows and columns
 
 -- a value that fits leaves room for the sums
 module _ (word table : List ℕ) (s : Spot) (puts : PutsNumber word table s) where
-  pub values-few : 3 * getD (s .filling .counts) 6 0 + 3 ≤ length table
+  pub values-few : valueWidth * getD (s .filling .counts) values 0 + valueWidth ≤ length table
   unfolding position widthOf
   values-few =
-      let p : (6 < length widths) × (_≡_ {A = ℕ} 3 (widthOf 6)) × (position (s .filling) 6 + widthOf 6 ≤ length table) =
+      let q : getD (s .filling .bases) values 0 + valueWidth * getD (s .filling .counts) values 0 + valueWidth ≤ length table =
       value-asked (numberHere word s) (s .filling) (length table) (puts .fits) in
-      let q : getD (s .filling .bases) 6 0 + 3 * getD (s .filling .counts) 6 0 + 3 ≤ length table = p .2 in
       omega arith
 
-value-part : (v : Value) → length (partOf 6 (valueWrite v ∷ [])) ≡ 1
+value-part : (v : Value) → length (partOf values (valueWrite v ∷ [])) ≡ 1
 unfolding partOf valueWrite if_then_else_
 value-part v = refl
 
 -- a value more
 value-counted : (s : Spot) (v : Value) (f : Filling) (table table' : List ℕ) → Counted s →
     Stores (s .filling) table (valueWrite v ∷ []) f table' →
-    (length (f .counts) ≡ 7) × (getD (f .counts) 6 0 ≡ getD (s .filling .counts) 6 0 + 1)
+    (length (f .counts) ≡ partCount) × (getD (f .counts) values 0 ≡ getD (s .filling .counts) values 0 + 1)
 value-counted s v f table table' counted stores =
-    let h : 6 < length (s .filling .counts) = rw (counted .seven) (omega arith) in (
-      ap (λ (x : Filling). length (x .counts)) (stores .filled) ∙ counts-kept (valueWrite v ∷ []) (s .filling) ∙ counted .seven,
-      ap (λ (x : Filling). getD (x .counts) 6 0) (stores .filled) ∙ count-after 6 (valueWrite v ∷ []) (s .filling) h
-          ∙ ap (λ (n : ℕ). getD (s .filling .counts) 6 0 + n) (value-part v),
+    let h : values < length (s .filling .counts) = rw (counted .parts) (omega arith) in (
+      ap (λ (x : Filling). length (x .counts)) (stores .filled) ∙ counts-kept (valueWrite v ∷ []) (s .filling) ∙ counted .parts,
+      ap (λ (x : Filling). getD (x .counts) values 0) (stores .filled) ∙ count-after values (valueWrite v ∷ []) (s .filling) h
+          ∙ ap (λ (n : ℕ). getD (s .filling .counts) values 0 + n) (value-part v),
     )
 
 pub counted-on : (s r : Spot) (v : Value) (table table' : List ℕ) → Counted s →
     Stores (s .filling) table (valueWrite v ∷ []) (r .filling) table' → r .row ≤ s .row + 1 → r .column ≤ s .column + 1 → Counted r
 counted-on s r v table table' counted stores e f =
-    let n : (length (r .filling .counts) ≡ 7) × (getD (r .filling .counts) 6 0 ≡ getD (s .filling .counts) 6 0 + 1) =
+    let n : (length (r .filling .counts) ≡ partCount) × (getD (r .filling .counts) values 0 ≡ getD (s .filling .counts) values 0 + 1) =
     value-counted s v (r .filling) table table' counted stores in
-    let a : s .row ≤ 1_000_000_000 + getD (s .filling .counts) 6 0 = counted .row in
-    let b : s .column ≤ 1_000_000_000 + getD (s .filling .counts) 6 0 = counted .column in
-    let m : getD (r .filling .counts) 6 0 ≡ getD (s .filling .counts) 6 0 + 1 = n .1 in
-    record { seven = n .0; row = omega arith; column = omega arith }
+    let a : s .row ≤ mostGiven + getD (s .filling .counts) values 0 = counted .row in
+    let b : s .column ≤ mostGiven + getD (s .filling .counts) values 0 = counted .column in
+    let m : getD (r .filling .counts) values 0 ≡ getD (s .filling .counts) values 0 + 1 = n .1 in
+    record { parts = n .0; row = omega arith; column = omega arith }
 
 -- ---- the numbers of a line
 
@@ -246,45 +250,39 @@ set-twice [] i a b = refl
 set-twice (x ∷ l) zero a b = refl
 set-twice (x ∷ l) (suc i) a b = ap (λ (r : List ℕ). x ∷ r) (set-twice l i a b)
 
-pub stored-three : (t : List ℕ) (p a b v w : ℕ) → v ≡ w → set (set (set t p a) (p + 1) b) (p + 2) v ≡ sets t p (a ∷ b ∷ w ∷ [])
-stored-three t p a b v w is =
-    let e : p + 1 ≡ suc p = omega arith in
-    let f : p + 2 ≡ suc (suc p) = omega arith in
-    rw (is, e, f)
-
-module _ (f : Filling) (c : Cursor) (seven : length (f .counts) ≡ 7) where
-  count-in : getD (spotOf f c .filling .counts) 6 0 ≡ c .count
+module _ (f : Filling) (c : Cursor) (parts : length (f .counts) ≡ partCount) where
+  count-in : getD (spotOf f c .filling .counts) values 0 ≡ c .count
   unfolding spotOf
-  count-in = getD-set-same (f .counts) 6 (c .count) 0 (rw seven (omega arith))
+  count-in = getD-set-same (f .counts) values (c .count) 0 (rw parts (omega arith))
 
-  position-in : position (spotOf f c .filling) 6 ≡ getD (f .bases) 6 0 + 3 * c .count
+  position-in : position (spotOf f c .filling) values ≡ getD (f .bases) values 0 + valueWidth * c .count
   unfolding position widthOf spotOf
-  position-in = rw (getD-set-same (f .counts) 6 (c .count) 0 (rw seven (omega arith)))
+  position-in = rw (getD-set-same (f .counts) values (c .count) 0 (rw parts (omega arith)))
 
-  filling-next : (form : ℕ) → spotOf f (nextCursor form c) .filling ≡ counted (spotOf f c .filling) 6
+  filling-next : (form : ℕ) → spotOf f (nextCursor form c) .filling ≡ counted (spotOf f c .filling) values
   unfolding counted spotOf nextCursor
-  filling-next form = rw (getD-set-same (f .counts) 6 (c .count) 0 (rw seven (omega arith)), set-twice (f .counts) 6 (c .count) (c .count + 1))
+  filling-next form = rw (getD-set-same (f .counts) values (c .count) 0 (rw parts (omega arith)), set-twice (f .counts) values (c .count) (c .count + 1))
 
 spot-same : (s : Spot) → spotOf (s .filling) (cursorOf s) ≡ s
 unfolding spotOf cursorOf
-spot-same s = rw (set-getD (s .filling .counts) 6 0)
+spot-same s = rw (set-getD (s .filling .counts) values 0)
 
 -- what the loop has: the numbers that are left, and the place of the next
 pub record CursorLeft (form : ℕ) (content : List ℕ) (s₀ : Spot) (table₀ : List ℕ) (at : ℕ) (c : Cursor) (table : List ℕ) : Type 0 where
   pub left : NumbersLeft form content s₀ table₀ at (spotOf (s₀ .filling) c) table
-  pub place-is : c .place ≡ position (spotOf (s₀ .filling) c .filling) 6
-  pub seven : length (s₀ .filling .counts) ≡ 7
+  pub place-is : c .place ≡ position (spotOf (s₀ .filling) c .filling) values
+  pub parts : length (s₀ .filling .counts) ≡ partCount
 
 module _ (form : ℕ) (content table : List ℕ) (s : Spot) (puts : PutsNumbers form content table s) where
   pub cursor-start : (c : Cursor) → c ≡ cursorOf s → CursorLeft form content s table 0 c table
   unfolding cursorOf
   cursor-start c e =
       let k : spotOf (s .filling) c ≡ s = ap (spotOf (s .filling)) e ∙ spot-same s in
-      let p : c .place ≡ position (s .filling) 6 = ap (λ (x : Cursor). x .place) e in
+      let p : c .place ≡ position (s .filling) values = ap (λ (x : Cursor). x .place) e in
       record {
         left = rw k (numbers-start form content table s puts);
         place-is = rw k p;
-        seven = puts .counted .seven;
+        parts = puts .counted .parts;
       }
 
   module _ (start : ℕ) (begins : start ≡ runEnd isBlank content 0) where
@@ -295,13 +293,12 @@ module _ (form : ℕ) (content table : List ℕ) (s : Spot) (puts : PutsNumbers 
     pub numbers-nothing : length content ≤ start → FillsNumbers form content table s s table
     numbers-nothing h = numbers-end form content s table 0 s table (numbers-start form content table s puts) (wordSpan content 0) refl (rw start-is h)
 
-    pub cursor-below : length table * 8 < 2 ^ 63 → start < length content → position (s .filling) 6 < 9_223_372_036_854_775_808
+    pub cursor-below : length table * 8 < 2 ^ 63 → start < length content → position (s .filling) values < 9_223_372_036_854_775_808
     unfolding widthOf
     cursor-below b h =
         let p : PutsNumber (markedBy content (wordSpan content 0)) table s = numbers-puts form content s table 0 s table (numbers-start form content table s puts) (wordSpan content 0) refl (rw start-is h) (markedBy content (wordSpan content 0)) refl in
-        let q : (6 < length widths) × (_≡_ {A = ℕ} 3 (widthOf 6)) × (position (s .filling) 6 + widthOf 6 ≤ length table) =
+        let r : position (s .filling) values + valueWidth ≤ length table =
         value-asked (numberHere (markedBy content (wordSpan content 0)) s) (s .filling) (length table) (p .fits) in
-        let r : position (s .filling) 6 + 3 ≤ length table = q .2 in
         omega arith
 
 row-next : (f : Filling) (form : ℕ) (c : Cursor) → spotOf f (nextCursor form c) .row ≡ nextRow form (spotOf f c .row)
@@ -312,14 +309,14 @@ column-next : (f : Filling) (form : ℕ) (c : Cursor) → spotOf f (nextCursor f
 unfolding spotOf nextCursor
 column-next f form c = refl
 
-here-stored : (form : ℕ) (f : Filling) (c : Cursor) (number : Number) (table table' : List ℕ) → length (f .counts) ≡ 7 →
-    c .place ≡ position (spotOf f c .filling) 6 → table' ≡ sets table (c .place) (c .row ∷ c .column ∷ wordIn number ∷ []) →
-    Stores (spotOf f c .filling) table (valueWrite (record { row = spotOf f c .row; column = spotOf f c .column; word = wordIn number }) ∷ [])
+here-stored : (form : ℕ) (f : Filling) (c : Cursor) (number : Number) (table table' : List ℕ) → length (f .counts) ≡ partCount →
+    c .place ≡ position (spotOf f c .filling) values → table' ≡ sets table (c .place) (valueWords (valueOf (c .row) (c .column) number)) →
+    Stores (spotOf f c .filling) table (valueWrite (valueOf (spotOf f c .row) (spotOf f c .column) number) ∷ [])
     (spotOf f (nextCursor form c) .filling) table'
 unfolding spotOf
-here-stored form f c number table table' seven place stored =
+here-stored form f c number table table' parts place stored =
     value-stored (c .row) (c .column) number (wordIn number) refl (spotOf f c .filling) (spotOf f (nextCursor form c) .filling) table table'
-    (filling-next f c seven form) (rw place at stored)
+    (filling-next f c parts form) (rw place at stored)
 
 module _ (form : ℕ) (content : List ℕ) (s₀ : Spot) (table₀ : List ℕ) (at : ℕ) (c : Cursor) (table : List ℕ)
     (inv : CursorLeft form content s₀ table₀ at c table) where
@@ -342,14 +339,13 @@ module _ (form : ℕ) (content : List ℕ) (s₀ : Spot) (table₀ : List ℕ) (
       cursor-roomy b =
           let g : length table ≡ length table₀ = inv .left .pending .long in
           let p : PutsNumber (markedBy content (wordSpan content at)) table (spotOf (s₀ .filling) c) = first-puts in
-          let q : (6 < length widths) × (_≡_ {A = ℕ} 3 (widthOf 6)) × (position (spotOf (s₀ .filling) c .filling) 6 + widthOf 6 ≤ length table) =
+          let r : position (spotOf (s₀ .filling) c .filling) values + valueWidth ≤ length table =
           value-asked (numberHere (markedBy content (wordSpan content at)) (spotOf (s₀ .filling) c)) (spotOf (s₀ .filling) c .filling) (length table) (p .fits) in
-          let r : position (spotOf (s₀ .filling) c .filling) 6 + 3 ≤ length table = q .2 in
-          let l : c .place ≡ position (spotOf (s₀ .filling) c .filling) 6 = inv .place-is in
-          let m : position (spotOf (s₀ .filling) c .filling) 6 ≡ getD (s₀ .filling .bases) 6 0 + 3 * c .count = position-in (s₀ .filling) c (inv .seven) in
-          let n : getD (spotOf (s₀ .filling) c .filling .counts) 6 0 ≡ c .count = count-in (s₀ .filling) c (inv .seven) in
-          let x : c .row ≤ 1_000_000_000 + getD (spotOf (s₀ .filling) c .filling .counts) 6 0 = p .counted .row in
-          let y : c .column ≤ 1_000_000_000 + getD (spotOf (s₀ .filling) c .filling .counts) 6 0 = p .counted .column in
+          let l : c .place ≡ position (spotOf (s₀ .filling) c .filling) values = inv .place-is in
+          let m : position (spotOf (s₀ .filling) c .filling) values ≡ getD (s₀ .filling .bases) values 0 + valueWidth * c .count = position-in (s₀ .filling) c (inv .parts) in
+          let n : getD (spotOf (s₀ .filling) c .filling .counts) values 0 ≡ c .count = count-in (s₀ .filling) c (inv .parts) in
+          let x : c .row ≤ mostGiven + getD (spotOf (s₀ .filling) c .filling .counts) values 0 = p .counted .row in
+          let y : c .column ≤ mostGiven + getD (spotOf (s₀ .filling) c .filling .counts) values 0 = p .counted .column in
           record { room = omega arith; row-few = omega arith; column-few = omega arith; count-few = omega arith }
 
       module _ (read : NumberAt) (told : read ≡ numberAt content start) where
@@ -363,12 +359,12 @@ module _ (form : ℕ) (content : List ℕ) (s₀ : Spot) (table₀ : List ℕ) (
         cursor-less h = numbers-less form content s₀ table₀ at (spotOf (s₀ .filling) c) table (inv .left) here is-here there h
 
         module _ (next : Cursor) (table' : List ℕ) (goes : next ≡ nextCursor form c)
-            (stored : table' ≡ sets table (c .place) (c .row ∷ c .column ∷ wordIn (read .number) ∷ [])) where
+            (stored : table' ≡ sets table (c .place) (valueWords (valueOf (c .row) (c .column) (read .number)))) where
           number-fills : FillsNumber form (markedBy content here) table (spotOf (s₀ .filling) c) (spotOf (s₀ .filling) (nextCursor form c)) table'
           number-fills =
               let n : read .number ≡ numberOf (markedBy content here) = placed-number content at start read begins told in
               record {
-                stores = rw (← n) (here-stored form (s₀ .filling) c (read .number) table table' (inv .seven) (inv .place-is) stored);
+                stores = rw (← n) (here-stored form (s₀ .filling) c (read .number) table table' (inv .parts) (inv .place-is) stored);
                 row-is = row-next (s₀ .filling) form c;
                 column-is = column-next (s₀ .filling) form c;
               }
@@ -376,15 +372,15 @@ module _ (form : ℕ) (content : List ℕ) (s₀ : Spot) (table₀ : List ℕ) (
           pub cursor-on : CursorLeft form content s₀ table₀ (read .end) next table'
           unfolding nextCursor
           cursor-on =
-              let l : c .place ≡ position (spotOf (s₀ .filling) c .filling) 6 = inv .place-is in
-              let m : position (spotOf (s₀ .filling) c .filling) 6 ≡ getD (s₀ .filling .bases) 6 0 + 3 * c .count = position-in (s₀ .filling) c (inv .seven) in
-              let n : position (spotOf (s₀ .filling) (nextCursor form c) .filling) 6 ≡ getD (s₀ .filling .bases) 6 0 + 3 * (c .count + 1) = position-in (s₀ .filling) (nextCursor form c) (inv .seven) in
-              let p : c .place + 3 ≡ position (spotOf (s₀ .filling) (nextCursor form c) .filling) 6 = omega arith in
+              let l : c .place ≡ position (spotOf (s₀ .filling) c .filling) values = inv .place-is in
+              let m : position (spotOf (s₀ .filling) c .filling) values ≡ getD (s₀ .filling .bases) values 0 + valueWidth * c .count = position-in (s₀ .filling) c (inv .parts) in
+              let n : position (spotOf (s₀ .filling) (nextCursor form c) .filling) values ≡ getD (s₀ .filling .bases) values 0 + valueWidth * (c .count + 1) = position-in (s₀ .filling) (nextCursor form c) (inv .parts) in
+              let p : c .place + valueWidth ≡ position (spotOf (s₀ .filling) (nextCursor form c) .filling) values = omega arith in
               rw goes
               (record {
                 left = numbers-on form content s₀ table₀ at (spotOf (s₀ .filling) c) table (inv .left) here is-here there (markedBy content here) refl (spotOf (s₀ .filling) (nextCursor form c)) table' number-fills;
                 place-is = p;
-                seven = inv .seven;
+                parts = inv .parts;
               })
 
 -- ---- a line of a Sparse_matrix
@@ -403,19 +399,18 @@ module _ (content : List ℕ) (row : ℕ) (word : Span) (is-word : word ≡ word
   pub column-told : whole .value ≡ wholeOf (firstOf (words content)) .value
   column-told = ap (λ (x : Whole). x .value) (is-whole ∙ ap wholeOf (first-is ∙ first-marked content (firstTwoOf content) refl))
 
-  pub sparse-value : _≡_ {A = Value} (record { row = row; column = whole .value; word = wordIn (read .number) })
-      (sparseAt row (words content))
+  pub sparse-value : valueOf row (whole .value) (read .number) ≡ sparseAt row (words content)
   unfolding sparseAt
   sparse-value =
       let s : read .number ≡ numberOf (secondOf (words content)) = marked-number content (firstTwoOf content .second) read (second-ends content (firstTwoOf content) refl) read-is ∙ ap numberOf (second-marked content (firstTwoOf content) refl) in
       λ i. record { row = row; column = column-told i; word = wordIn (s i) }
 
   pub sparse-puts : (table : List ℕ) (f : Filling) → PutsSparse content row table f →
-      Fits (length table) f (valueWrite (record { row = row; column = whole .value; word = wordIn (read .number) }) ∷ [])
+      Fits (length table) f (valueWrite (valueOf row (whole .value) (read .number)) ∷ [])
   sparse-puts table f puts = rw sparse-value (puts .fits)
 
   pub sparse-fills : (table : List ℕ) (f r : Filling) (table' : List ℕ) →
-      Stores f table (valueWrite (record { row = row; column = whole .value; word = wordIn (read .number) }) ∷ []) r table' →
+      Stores f table (valueWrite (valueOf row (whole .value) (read .number)) ∷ []) r table' →
       FillsSparse content row table f (record { column = whole .value; filling = r }) table'
   sparse-fills table f r table' s =
       record {
@@ -426,23 +421,23 @@ module _ (content : List ℕ) (row : ℕ) (word : Span) (is-word : word ≡ word
 -- ---- in the words that the code about cursors has
 
 -- below a place that a table may have no sum wraps
-module _ (s : Spot) (h : position (s .filling) 6 < 9_223_372_036_854_775_808) where
-  pub place-times : val.Fits w64 (3 * getD (s .filling .counts) 6 0)
+module _ (s : Spot) (h : position (s .filling) values < 9_223_372_036_854_775_808) where
+  pub place-times : val.Fits w64 (valueWidth * getD (s .filling .counts) values 0)
   unfolding position widthOf
   place-times = omega arith
 
-  pub place-adds : val.Fits w64 (getD (s .filling .bases) 6 0 + 3 * getD (s .filling .counts) 6 0)
+  pub place-adds : val.Fits w64 (getD (s .filling .bases) values 0 + valueWidth * getD (s .filling .counts) values 0)
   unfolding position widthOf
   place-adds = omega arith
 
-pub cursor-told : (s : Spot) → record { row = s .row; column = s .column; count = getD (s .filling .counts) 6 0; place = getD (s .filling .bases) 6 0 + 3 * getD (s .filling .counts) 6 0 } ≡ cursorOf s
+pub cursor-told : (s : Spot) → record { row = s .row; column = s .column; count = getD (s .filling .counts) values 0; place = getD (s .filling .bases) values 0 + valueWidth * getD (s .filling .counts) values 0 } ≡ cursorOf s
 unfolding cursorOf position widthOf
 cursor-told s = refl
 
-pub spot-told : (s : Spot) (c : Cursor) → record { row = c .row; column = c .column; filling = record { bases = s .filling .bases; counts = set (s .filling .counts) 6 (c .count) } } ≡ spotOf (s .filling) c
+pub spot-told : (s : Spot) (c : Cursor) → record { row = c .row; column = c .column; filling = record { bases = s .filling .bases; counts = set (s .filling .counts) values (c .count) } } ≡ spotOf (s .filling) c
 unfolding spotOf
 spot-told s c = refl
 
-pub cursor-goes : (form row : ℕ) (c : Cursor) → row ≡ nextRow form (c .row) → record { row = row; column = c .column + 1; count = c .count + 1; place = c .place + 3 } ≡ nextCursor form c
+pub cursor-goes : (form row : ℕ) (c : Cursor) → row ≡ nextRow form (c .row) → record { row = row; column = c .column + 1; count = c .count + 1; place = c .place + valueWidth } ≡ nextCursor form c
 unfolding nextCursor
 cursor-goes form row c e = rw e

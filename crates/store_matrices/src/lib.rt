@@ -1,28 +1,32 @@
 // Stores the matrices of a section, with their values, in a table.
 ghost use mathlib.Core.Path.{_≡_};
 ghost use mathlib.Core.List.{[], _∷_};
-ghost use Prim.Native.Nat.{_+_, _*_, _^_, _≤_, _<_, max};
+ghost use Prim.Native.Nat.{_+_, _*_, _^_, _≤_, _<_};
 ghost use lib.ListN.{length, getD};
 ghost use lib.Dec.{eqb};
 ghost use lib.Seq.{sets};
+ghost use Rattle.table_layout.specs.Codes.{diagonal};
 ghost use Rattle.base.specs.If.{if_then_else_, either};
 ghost use Rattle.line_place.specs.Place.{isRowOrBandwidth};
 ghost use Rattle.line_argument.specs.Argument.{formOf};
-ghost use Rattle.line_matrix.specs.Matrix.{diagonal};
+ghost use Rattle.table_layout.specs.Layout.{values};
 ghost use Rattle.table_layout.specs.Way.Filling.{position, Fits};
+ghost use Rattle.table_record.specs.Records.{valueWords};
 ghost use Rattle.doc.specs.Lines.{plain, argumentOf};
 ghost use Rattle.doc.specs.Way.Found.{Located, lineIn};
-ghost use Rattle.doc.specs.Document.{wordIn, nextRow, givenBy};
+ghost use Rattle.doc.specs.Document.{nextRow, givenBy};
 ghost use Rattle.store_base.specs.Way.Writes.{valueWrite};
 ghost use Rattle.store_base.specs.Way.Stores.{Stores};
-ghost use Rattle.store_base.specs.Way.Stage.{stagedAt, Staged};
+ghost use Rattle.store_base.specs.Way.Stage.{stagedWidth, stagedAt, Staged};
 ghost use Rattle.store_matrices.specs.Way.Staged.{stagedIn, isOf, stagedWalk};
 ghost use Rattle.store_matrices.specs.Way.Told.{firstTold, toldOr};
-ghost use Rattle.store_matrices.specs.Way.Numbers.{Roomy, cursorOf, spotOf, nextCursor, PutsNumbers, FillsNumbers, PutsSparse, FillsSparse};
+ghost use Rattle.store_matrices.specs.Way.Numbers.{valueOf, Roomy, cursorOf, spotOf, nextCursor, PutsNumbers, FillsNumbers, PutsSparse, FillsSparse};
 ghost use Rattle.store_matrices.specs.Way.Matrices.{withRow, withBandwidth, TakesLine, TakesData, TakenLine, PutsValues, FillsValues, PutsMatrix, FillsMatrix};
 use doc::Found;
 use lex_number::Number;
 use table_layout::Filling;
+use table_record::MatrixRecord;
+use table_record::Value;
 
 // A value of which only the first one given counts: whether one is given yet, and which.
 pub struct First {
@@ -103,30 +107,17 @@ pub fn told_in(first: First) -> u64
     0
 }
 
-pub fn greater(a: u64, b: u64) -> u64
-    ensures { λ r. ⌜ r ≡ max a b ⌝ }
-{
-    if a < b { b } else { a }
-}
-
-// The value word of a number.
-fn value_in(number: Number) -> u64
-    ensures { λ r. ⌜ r ≡ wordIn number ⌝ }
-{
-    match number {
-        Number::Value(word) => word,
-        Number::Malformed => 0,
-        Number::Range => 0,
-    }
-}
-
 // A number of a matrix, at its row and column.
 fn put_value(number: Number, row: u64, column: u64, table: &mut [u64], filling: Filling) -> Filling
-    requires { ⌜ Fits (length (now table)) filling (valueWrite (record { row = row; column = column; word = wordIn number }) ∷ []) ⌝ }
-    ensures { λ r. ⌜ Stores filling (now (table .entry)) (valueWrite (record { row = row; column = column; word = wordIn number }) ∷ []) r (now (table .exit)) ⌝ }
+    requires { ⌜ Fits (length (now table)) filling (valueWrite (valueOf row column number) ∷ []) ⌝ }
+    ensures { λ r. ⌜ Stores filling (now (table .entry)) (valueWrite (valueOf row column number) ∷ []) r (now (table .exit)) ⌝ }
 {
-    let words = [row, column, value_in(number)];
-    table_layout::put_record(table, filling, table_layout::VALUES, &words)
+    let value = Value {
+        row,
+        column,
+        word: doc::word_in(number),
+    };
+    table_record::put_value(table, filling, value)
 }
 
 // The row of the next number: down the diagonal, else the same row.
@@ -134,7 +125,7 @@ fn next_row(form: u64, row: u64) -> u64
     requires { ⌜ row < 18_446_744_073_709_551_615 ⌝ }
     ensures { λ r. ⌜ r ≡ nextRow form row ⌝ }
 {
-    if form == line_matrix::DIAGONAL {
+    if form == table_layout::code::DIAGONAL {
         return row + 1;
     }
     row
@@ -142,14 +133,14 @@ fn next_row(form: u64, row: u64) -> u64
 
 // Where the first number of a line goes.
 fn cursor_at(spot: Spot) -> Cursor
-    requires { ⌜ position (spot .filling) 6 < 9_223_372_036_854_775_808 ⌝ }
+    requires { ⌜ position (spot .filling) values < 9_223_372_036_854_775_808 ⌝ }
     ensures { λ r. ⌜ r ≡ cursorOf spot ⌝ }
 {
     let filling = spot.filling;
     let bases = filling.bases;
     let counts = filling.counts;
     let count = counts[table_layout::VALUES];
-    let place = bases[table_layout::VALUES] + 3 * (count as usize);
+    let place = bases[table_layout::VALUES] + table_layout::VALUE_WIDTH * (count as usize);
     Cursor {
         row: spot.row,
         column: spot.column,
@@ -177,19 +168,22 @@ fn spot_at(spot: Spot, cursor: Cursor) -> Spot
 // Stores a number where the cursor is, and moves the cursor on.
 pub fn put_number(number: Number, form: u64, table: &mut [u64], cursor: Cursor) -> Cursor
     requires { ⌜ Roomy (length (now table)) cursor ⌝ }
-    ensures { λ r. ⌜ (r ≡ nextCursor form cursor) × (now (table .exit) ≡ sets (now (table .entry)) (cursor .place) (cursor .row ∷ cursor .column ∷ wordIn number ∷ [])) ⌝ }
+    ensures { λ r. ⌜ (r ≡ nextCursor form cursor) × (now (table .exit) ≡ sets (now (table .entry)) (cursor .place) (valueWords (valueOf (cursor .row) (cursor .column) number))) ⌝ }
 {
     let place = cursor.place;
     let row = cursor.row;
     let column = cursor.column;
-    table[place] = row;
-    table[place + 1] = column;
-    table[place + 2] = value_in(number);
+    let value = Value {
+        row,
+        column,
+        word: doc::word_in(number),
+    };
+    table_record::put_value_at(table, place, value);
     Cursor {
         row: next_row(form, row),
         column: column + 1,
         count: cursor.count + 1,
-        place: place + 3,
+        place: place + table_layout::VALUE_WIDTH,
     }
 }
 
@@ -260,7 +254,7 @@ fn take_row(text: &[u8], line: Found, walk: MatrixWalk) -> MatrixWalk
         at: line.next,
         line: line.line + 1,
         bandwidth,
-        greatest: greater(walk.greatest, row),
+        greatest: base::greater(walk.greatest, row),
         spot: next,
     }
 }
@@ -291,7 +285,7 @@ fn take_data(text: &[u8], line: Found, form: u64, table: &mut [u64], walk: Matri
     let end = line.end;
     let spot = walk.spot;
     let bandwidth = walk.bandwidth;
-    if form == line_matrix::SPARSE {
+    if form == table_layout::code::SPARSE {
         let filling = spot.filling;
         let placing = fill_sparse(&text[at..end], spot.row, table, filling);
         let filled = placing.filling;
@@ -304,7 +298,7 @@ fn take_data(text: &[u8], line: Found, form: u64, table: &mut [u64], walk: Matri
             at: line.next,
             line: line.line + 1,
             bandwidth,
-            greatest: greater(walk.greatest, placing.column),
+            greatest: base::greater(walk.greatest, placing.column),
             spot: next,
         };
     }
@@ -384,10 +378,10 @@ fn fill_values(
 
 // The i-th staged matrix.
 pub fn staged_at(stage: &[u64], i: usize) -> StagedWords
-    requires { ⌜ 9 * i + 9 ≤ length (now stage) ⌝ }
+    requires { ⌜ stagedWidth * i + stagedWidth ≤ length (now stage) ⌝ }
     ensures { λ r. ⌜ r ≡ stagedIn (stagedAt (now (stage .entry)) i) ⌝ }
 {
-    let from = 9 * i;
+    let from = store_base::STAGED_WIDTH * i;
     StagedWords {
         at: stage[from],
         line: stage[from + 1],
@@ -459,13 +453,13 @@ fn staged_values(
     stage: &[u64],
 ) -> MatrixWalk
     requires { ⌜ PutsValues (now text) line at form (now table) filling
-        × Staged (now text) (now table) (now stage) (getD (filling .bases) 6 0) (getD (filling .counts) 6 0) ⌝ }
+        × Staged (now text) (now table) (now stage) (getD (filling .bases) values 0) (getD (filling .counts) values 0) ⌝ }
     ensures { λ r. ⌜ FillsValues (now (text .entry)) line at form (now (table .entry)) filling r (now (table .exit)) ⌝ }
 {
     let counts = filling.counts;
     let first = counts[table_layout::VALUES];
     let index = counts[table_layout::MATRICES] as usize;
-    if stage.len() / 9 <= index {
+    if stage.len() / store_base::STAGED_WIDTH <= index {
         return fill_values(text, at, line, form, table, filling);
     }
     let staged = staged_at(stage, index);
@@ -489,7 +483,7 @@ fn form_at(text: &[u8], line: Found) -> u64
 fn conductors_in(form: u64, values: u64, greatest: u64) -> u64
     ensures { λ r. ⌜ r ≡ (if eqb form diagonal then values else greatest) ⌝ }
 {
-    if form == line_matrix::DIAGONAL {
+    if form == table_layout::code::DIAGONAL {
         return values;
     }
     greatest
@@ -504,7 +498,7 @@ pub fn fill_matrix(
     stage: &[u64],
 ) -> Stored
     requires { ⌜ PutsMatrix (now text) line (now table) filling
-        × Staged (now text) (now table) (now stage) (getD (filling .bases) 6 0) (getD (filling .counts) 6 0) ⌝ }
+        × Staged (now text) (now table) (now stage) (getD (filling .bases) values 0) (getD (filling .counts) values 0) ⌝ }
     ensures { λ r. ⌜ FillsMatrix (now (text .entry)) line (now (table .entry)) filling r (now (table .exit)) ⌝ }
 {
     let before = filling.counts;
@@ -516,11 +510,17 @@ pub fn fill_matrix(
     let filled = spot.filling;
     let after = filled.counts;
     let values = after[table_layout::VALUES] - first;
-    let words = [form, told_in(bandwidth), first, values, line.line];
+    let own = MatrixRecord {
+        form,
+        bandwidth: told_in(bandwidth),
+        first,
+        values,
+        line: line.line,
+    };
     Stored {
         at: walk.at,
         line: walk.line,
         conductors: conductors_in(form, values, walk.greatest),
-        filling: table_layout::put_record(table, filled, table_layout::MATRICES, &words),
+        filling: table_record::put_matrix(table, filled, own),
     }
 }

@@ -16,7 +16,7 @@ use Rattle.line_place.specs.Place as place
 use Rattle.line_head.specs.Head.{headLineOf, headNext}
 use Rattle.line_head.specs.declared.Head.{Head}
 use Rattle.line_head.specs.declared.HeadLine.{HeadLine}
-use Rattle.line_path.specs.Path.{sayingOf}
+use Rattle.line_path.specs.Path.{saysNothing, saysEnd, saysSide, saysSection, saysFork, saysEndfork, sayingOf}
 use Rattle.line_path.specs.Path as path
 use Rattle.table_layout.specs.Way.Filling.{fillingAfter, Fits}
 use Rattle.table_layout.specs.declared.Filling.{Filling}
@@ -26,12 +26,12 @@ use Rattle.doc.specs.Document.{Step, headIn, sayingAt, sideIn, stepOf, stepsIn,
 use Rattle.doc.specs.Way.Found.{contentIn, lineIn, linesBehind, Located}
 use Rattle.doc.specs.declared.Found.{Found}
 use Rattle.doc.proofs.OrderLaws.{maps-behind}
+use Rattle.doc.proofs.GatherLaws.{gather-more, up-in, up-none, up-out}
 use Rattle.store_steps.specs.Way.Steps.{stepIn, stepWrites, lowOf, stepsAt, Told}
 use Rattle.store_steps.proofs.StepLaws.{path-stays}
-use Rattle.store_steps.proofs.AimLaws.{bases-kept, low-same, steps-below, aims-kept}
+use Rattle.store_steps.proofs.AimLaws.{low-same, steps-below, aims-kept}
 use Rattle.store_base.specs.Way.Stores.{Stores}
-use Rattle.store_base.proofs.StoreLaws.{stores-none}
-use Rattle.store_base.proofs.LineLaws.{up-on, up-stops, up-none, gather-on}
+use Rattle.store_base.proofs.StoreLaws.{stores-none, bases-kept}
 use Rattle.store_models.specs.Way.Models.{modelLines, modelSteps, linesLeft, Open, Next, OnPath, Taken, Reached}
 use Rattle.store_models.specs.declared.ModelWalk.{ModelWalk}
 
@@ -43,16 +43,16 @@ module _ (l : Line) where
   unfolding sayingAt
   silent e = if-false _ _ e
 
-  says-not : standsIn place.path l ≡ false → (n : ℕ) → (_≡_ {A = ℕ} 0 n → ⊥) → eqb (sayingAt l) n ≡ false
+  says-not : standsIn place.path l ≡ false → (n : ℕ) → (saysNothing ≡ n → ⊥) → eqb (sayingAt l) n ≡ false
   says-not e n h = ne-eqb _ n (λ (k : sayingAt l ≡ n). h (sym (silent e) ∙ k))
 
   no-step : standsIn place.path l ≡ false → (ls : List Line) → stepOf l ls ≡ []
   unfolding stepOf
   no-step e ls =
-      if-false _ _ (says-not e 1 (λ (k : _≡_ {A = ℕ} 0 1). omega arith))
-      ∙ if-false _ _ (says-not e 3 (λ (k : _≡_ {A = ℕ} 0 3). omega arith))
-      ∙ if-false _ _ (says-not e 4 (λ (k : _≡_ {A = ℕ} 0 4). omega arith))
-      ∙ if-false _ _ (says-not e 5 (λ (k : _≡_ {A = ℕ} 0 5). omega arith))
+      if-false _ _ (says-not e saysEnd (λ (k : saysNothing ≡ saysEnd). omega arith))
+      ∙ if-false _ _ (says-not e saysSection (λ (k : saysNothing ≡ saysSection). omega arith))
+      ∙ if-false _ _ (says-not e saysFork (λ (k : saysNothing ≡ saysFork). omega arith))
+      ∙ if-false _ _ (says-not e saysEndfork (λ (k : saysNothing ≡ saysEndfork). omega arith))
 
   outside-path : inModel l ≡ false → standsIn place.path l ≡ false
   unfolding inModel isInModel standsIn
@@ -63,9 +63,9 @@ side-cut : (ls : List Line) → sideIn (upTo inModel ls) ≡ sideIn ls
 side-cut [] = ap sideIn (up-none inModel)
 side-cut (l ∷ ls) =
     by-cases (sideIn (upTo inModel (l ∷ ls)) ≡ sideIn (l ∷ ls)) (inModel l)
-    (λ (e : inModel l ≡ true). ap sideIn (up-on inModel l ls e))
+    (λ (e : inModel l ≡ true). ap sideIn (up-in inModel l ls e))
     (λ (e : inModel l ≡ false).
-    ap sideIn (up-stops inModel l ls e) ∙ sym (if-false _ _ (says-not l (outside-path l e) 2 (λ (k : _≡_ {A = ℕ} 0 2). omega arith))))
+    ap sideIn (up-out inModel l ls e) ∙ sym (if-false _ _ (says-not l (outside-path l e) saysSide (λ (k : saysNothing ≡ saysSide). omega arith))))
 
 step-side : (l : Line) (ls ms : List Line) → sideIn ls ≡ sideIn ms → stepOf l ls ≡ stepOf l ms
 unfolding stepOf
@@ -76,8 +76,8 @@ steps-on : (t : List ℕ) (l : Line) (ls : List Line) → inModel l ≡ true →
     modelSteps t (l ∷ ls) ≡ stepWrites t (stepOf l ls) ++ modelSteps t ls
 unfolding stepsIn
 steps-on t l ls e =
-    ap (λ (x : List Line). stepWrites t (gather stepOf x)) (up-on inModel l ls e)
-    ∙ ap (stepWrites t) (gather-on stepOf l (upTo inModel ls))
+    ap (λ (x : List Line). stepWrites t (gather stepOf x)) (up-in inModel l ls e)
+    ∙ ap (stepWrites t) (gather-more stepOf l (upTo inModel ls))
     ∙ ap (λ (x : List Step). stepWrites t (x ++ gather stepOf (upTo inModel ls))) (step-side l _ ls (side-cut ls))
     ∙ map-append (stepIn t) (stepOf l ls) (gather stepOf (upTo inModel ls))
 
@@ -96,16 +96,16 @@ module _ (t : List ℕ) (line : Found) (located : Located t line) (p : ℕ) wher
   unfolding standsIn
   stands-told block is told = ap (λ (k : ℕ). both (eqb p block) (eqb k plain)) key-here ∙ sym told
 
-  module _ (is : Bool) (told : is ≡ both (eqb p 8) (eqb (line .key) plain)) (head : Head) where
+  module _ (is : Bool) (told : is ≡ both (eqb p place.head) (eqb (line .key) plain)) (head : Head) where
     pub head-kept : not is ≡ true → head ≡ headIn head (lineIn t line p ∷ [])
     unfolding headIn
-    head-kept h = sym (if-false _ _ (stands-told 8 is told ∙ not-true is h))
+    head-kept h = sym (if-false _ _ (stands-told place.head is told ∙ not-true is h))
 
     pub head-said : not is ≡ false → (said : HeadLine) → said ≡ headLineOf (contentIn t line) → (r : Head) → r ≡ headNext said head →
         r ≡ headIn head (lineIn t line p ∷ [])
     unfolding headIn
     head-said h said is-said r e =
-        e ∙ ap (λ (x : HeadLine). headNext x head) is-said ∙ sym (if-true _ _ (stands-told 8 is told ∙ not-false is h))
+        e ∙ ap (λ (x : HeadLine). headNext x head) is-said ∙ sym (if-true _ _ (stands-told place.head is told ∙ not-false is h))
 
 -- ---- a line of the path
 
@@ -116,10 +116,10 @@ module _ (t : List ℕ) (line : Found) (table : List ℕ) (w : ModelWalk) (on : 
 
   no-head : standsIn place.head (lineIn t line (w .place)) ≡ false
   unfolding standsIn
-  no-head = both-not-left _ _ (ne-eqb _ _ (λ (e : w .place ≡ 8). let z : _≡_ {A = ℕ} 9 8 = sym (on .place-is) ∙ e in omega arith))
+  no-head = both-not-left _ _ (ne-eqb _ _ (λ (e : w .place ≡ place.head). let z : place.path ≡ place.head = sym (on .place-is) ∙ e in omega arith))
 
   pub step-taken : (f : Filling) (table' : List ℕ) → Stores (w .filling) table (stepWrites t (stepsAt t line)) f table' →
-      Taken t line w table (record { at = line .next; line = line .line + 1; place = 9; head = w .head; filling = f }) table'
+      Taken t line w table (record { at = line .next; line = line .line + 1; place = place.path; head = w .head; filling = f }) table'
   unfolding headIn
   step-taken f table' s =
       record {
@@ -161,11 +161,11 @@ module _ (t : List ℕ) (line : Found) (w : ModelWalk) (table : List ℕ) (next 
   fits-here : Fits (lowOf (w .filling)) (w .filling) (stepWrites t (stepOf here behind) ++ modelSteps t behind)
   fits-here = rw steps-here at (next .opened .fits)
 
-  module _ (is : Bool) (told : is ≡ both (eqb (w .place) 9) (eqb (line .key) plain)) where
+  module _ (is : Bool) (told : is ≡ both (eqb (w .place) place.path) (eqb (line .key) plain)) where
     pub next-says : is ≡ true → OnPath t line w table
     next-says h =
-        let b : both (eqb (w .place) 9) (eqb (line .key) plain) ≡ true = sym told ∙ h in
-        let p : w .place ≡ 9 = eqb-true _ _ (both-first _ _ b) in
+        let b : both (eqb (w .place) place.path) (eqb (line .key) plain) ≡ true = sym told ∙ h in
+        let p : w .place ≡ place.path = eqb-true _ _ (both-first _ _ b) in
         let k : line .key ≡ plain = eqb-true _ _ (both-second _ _ b) in
         let fits : Fits (lowOf (w .filling)) (w .filling) (stepWrites t (stepOf here behind)) =
         fits-first (lowOf (w .filling)) (w .filling) _ _ fits-here in
@@ -192,7 +192,7 @@ module _ (t : List ℕ) (line : Found) (w : ModelWalk) (table : List ℕ) (next 
         Taken t line w table (passed p head) table
     other-taken h p is-place head is-head =
         record {
-          steps = rw (no-step here (stands-told t line next-located (w .place) 9 is told ∙ h) behind) (stores-none (w .filling) table);
+          steps = rw (no-step here (stands-told t line next-located (w .place) place.path is told ∙ h) behind) (stores-none (w .filling) table);
           head = is-head;
           place-is = is-place;
           at-is = refl;
@@ -243,7 +243,7 @@ module _ (t : List ℕ) (line : Found) (w : ModelWalk) (table : List ℕ) (next 
                 over = here ∷ [];
                 all = lines-here ∙ ap (λ (ls : List Line). here ∷ ls) lines-next;
                 inner =
-                    ap modelLines lines-here ∙ up-on inModel here behind inside-here
+                    ap modelLines lines-here ∙ up-in inModel here behind inside-here
                     ∙ ap (λ (ls : List Line). here ∷ modelLines ls) lines-next;
                 written = stepWrites t (stepOf here behind);
                 steps = steps-here ∙ ap (λ (ls : List Line). stepWrites t (stepOf here behind) ++ modelSteps t ls) lines-next;
@@ -251,14 +251,14 @@ module _ (t : List ℕ) (line : Found) (w : ModelWalk) (table : List ℕ) (next 
                 head =
                     ap (λ (ls : List Line). headIn (v .head) (modelLines ls)) (sym lines-next)
                     ∙ head-next (v .head) (w .head) here (modelLines behind) (taken .head)
-                    ∙ sym (ap (headIn (w .head)) (ap modelLines lines-here ∙ up-on inModel here behind inside-here));
+                    ∙ sym (ap (headIn (w .head)) (ap modelLines lines-here ∙ up-in inModel here behind inside-here));
                 onward = omega arith;
                 opened = open-next;
               };
           further = omega arith;
         }
 
-  module _ (is : Bool) (told : is ≡ both (eqb (w .place) 9) (eqb (line .key) plain)) (h : is ≡ false) where
+  module _ (is : Bool) (told : is ≡ both (eqb (w .place) place.path) (eqb (line .key) plain)) (h : is ≡ false) where
     pub other-reached : (p : ℕ) → p ≡ placeAfter (w .place) (contentIn t line) → (head : Head) →
         head ≡ headIn (w .head) (lineIn t line (w .place) ∷ []) →
         Reached t w table (passed p head) table

@@ -9,10 +9,12 @@ use lib.Seq.{sets}
 use Rattle.line_place.specs.Place as place
 use Rattle.line_head.specs.Head.{newHead}
 use Rattle.line_head.specs.declared.Head.{Head}
-use Rattle.table_layout.specs.Layout.{widths}
+use Rattle.table_layout.specs.Layout.{models, steps, partCount, modelWidth}
+use Rattle.table_record.specs.Records.{modelWords}
+use Rattle.table_record.specs.declared.ModelRecord.{ModelRecord}
 use Rattle.table_layout.specs.Way.Filling.{Write, widthOf, position, counted, fillingAfter, Fits}
 use Rattle.table_layout.specs.declared.Filling.{Filling}
-use Rattle.table_layout.proofs.FillingLaws.{fits-first, fits-rest, length-after, filling-append}
+use Rattle.table_layout.proofs.FillingLaws.{fits-first, fits-room, fits-rest, length-after, filling-append}
 use Rattle.doc.specs.Lines.{linesAt, argumentOf}
 use Rattle.doc.specs.Document.{Model, documentOf, headIn, stepsIn, modelOf, modelAt}
 use Rattle.doc.specs.Records.{modelRecord}
@@ -22,7 +24,7 @@ use Rattle.doc.specs.declared.Extent.{Extent}
 use Rattle.store_steps.specs.Way.Steps.{lowOf}
 use Rattle.doc.proofs.PlainLaws.{plain-model}
 use Rattle.store_base.specs.Way.Writes.{modelWrite, modelWrites, modelsWrites}
-use Rattle.store_base.proofs.StoreLaws.{put-asked, put-stored, stores-join, counts-kept}
+use Rattle.store_base.proofs.StoreLaws.{put-stored, stores-join, counts-kept}
 use Rattle.store_base.proofs.WriteLaws.{steps-stored, steps-counted}
 use Rattle.store_base.proofs.BlockLaws.{Storable}
 use Rattle.store_models.specs.Way.Models.{modelsOf, modelLines, modelSteps, Open, ReadsModel, modelBelow, modelIn, FitsModel, FillsModel}
@@ -32,7 +34,7 @@ use Rattle.store_models.specs.declared.ModelWalk.{ModelWalk}
 
 -- its own record
 abbrev own : List ℕ → Found → Filling → Write
-own t line f = modelWrite (getD (f .counts) 1 0) (modelBelow t line)
+own t line f = modelWrite (getD (f .counts) steps 0) (modelBelow t line)
 
 module _ (t : List ℕ) (line : Found) (f : Filling) (table : List ℕ) (fits : FitsModel t line f table) where
   fits-all : Fits (lowOf f) f (modelSteps t (linesAt t (line .line + 1) (line .next) place.head) ++ (own t line f ∷ []))
@@ -51,38 +53,52 @@ module _ (t : List ℕ) (line : Found) (f : Filling) (table : List ℕ) (fits : 
       }
 
   module _ (w : ModelWalk) (table' : List ℕ) (reads : ReadsModel t (line .line + 1) (line .next) f table w table') where
-    pub model-counted : getD (w .filling .counts) 1 0 ≡ getD (f .counts) 1 0 + length (modelBelow t line .steps)
+    model-counted : getD (w .filling .counts) steps 0 ≡ getD (f .counts) steps 0 + length (modelBelow t line .steps)
     unfolding modelOf
     model-counted =
-        ap (λ (x : Filling). getD (x .counts) 1 0) (reads .steps .filled)
-        ∙ steps-stored f (fits .seven) (documentOf t .maps) (documentOf t .sections)
+        ap (λ (x : Filling). getD (x .counts) steps 0) (reads .steps .filled)
+        ∙ steps-stored f (fits .parts) (documentOf t .maps) (documentOf t .sections)
         (stepsIn (modelLines (linesAt t (line .line + 1) (line .next) place.head)))
 
-    pub model-asked : (0 < length widths) × (_≡_ {A = ℕ} 5 (widthOf 0)) × (position (w .filling) 0 + widthOf 0 ≤ length table')
-    unfolding modelWrite lowOf
+    pub steps-more : getD (f .counts) steps 0 ≤ getD (w .filling .counts) steps 0
+    steps-more = omega (arith, model-counted)
+
+    pub model-asked : position (w .filling) models + modelWidth ≤ length table'
+    unfolding modelWrite lowOf widthOf
     model-asked =
         let g : Fits (lowOf f) (w .filling) (own t line f ∷ []) = rw (reads .steps .filled) (fits-rest (lowOf f) f _ _ fits-all) in
         let l : length table' ≡ length table = ap length (reads .steps .stored) ∙ length-after _ f table in
-        let asked : (0 < length widths) × (_≡_ {A = ℕ} 5 (widthOf 0)) × (position (w .filling) 0 + widthOf 0 ≤ lowOf f) =
-        put-asked (w .filling) [] (own t line f) (lowOf f) 0 (own t line f .words) g refl refl in
-        (asked .0, asked .1, omega (arith, asked .2, fits .aims .maps-room))
+        omega (arith, fits-room (lowOf f) (w .filling) (own t line f) [] g, fits .aims .maps-room)
 
-    module _ (mark : Extent) (is-mark : mark ≡ extentOf (argumentOf (lineIn t line 0))) (type : ℕ) (is-type : type ≡ w .head .kind - 1) where
-      model-words : _≡_ {A = List ℕ}
-          (mark .start ∷ mark .size ∷ type ∷ getD (f .counts) 1 0 ∷ (getD (w .filling .counts) 1 0 - getD (f .counts) 1 0) ∷ [])
-          (own t line f .words)
-      unfolding modelWrite modelRecord modelOf extentOf
-      model-words =
-          let c : getD (w .filling .counts) 1 0 ≡ getD (f .counts) 1 0 + length (modelBelow t line .steps) = model-counted in
-          let n : getD (w .filling .counts) 1 0 - getD (f .counts) 1 0 ≡ length (modelBelow t line .steps) = omega arith in
-          let k : type ≡ headIn newHead (modelLines (linesAt t (line .line + 1) (line .next) place.head)) .kind - 1 =
-          is-type ∙ ap (λ (h : Head). h .kind - 1) (reads .head) in
-          λ i. is-mark i .start ∷ is-mark i .size ∷ k i ∷ getD (f .counts) 1 0 ∷ n i ∷ []
+    module _ (mark : Extent) (is-mark : mark ≡ extentOf (argumentOf (lineIn t line 0))) (kind : ℕ) (is-kind : kind ≡ w .head .kind - 1) where
+      abbrev model : ModelRecord
+      model =
+          record {
+            start = mark .start;
+            size = mark .size;
+            kind = kind;
+            first = getD (f .counts) steps 0;
+            steps = getD (w .filling .counts) steps 0 - getD (f .counts) steps 0;
+          }
+
+      model-is : model ≡ modelRecord (getD (f .counts) steps 0) (modelBelow t line)
+      unfolding modelRecord modelOf extentOf
+      model-is =
+          let c : getD (w .filling .counts) steps 0 ≡ getD (f .counts) steps 0 + length (modelBelow t line .steps) = model-counted in
+          let n : getD (w .filling .counts) steps 0 - getD (f .counts) steps 0 ≡ length (modelBelow t line .steps) = omega arith in
+          let k : kind ≡ headIn newHead (modelLines (linesAt t (line .line + 1) (line .next) place.head)) .kind - 1 =
+          is-kind ∙ ap (λ (h : Head). h .kind - 1) (reads .head) in
+          λ i. record {
+            start = is-mark i .start;
+            size = is-mark i .size;
+            kind = k i;
+            first = getD (f .counts) steps 0;
+            steps = n i;
+          }
 
       pub model-filled :
-          (r : Filling) (table'' : List ℕ) → r ≡ counted (w .filling) 0 →
-          table'' ≡ sets table' (position (w .filling) 0)
-          (mark .start ∷ mark .size ∷ type ∷ getD (f .counts) 1 0 ∷ (getD (w .filling .counts) 1 0 - getD (f .counts) 1 0) ∷ []) →
+          (r : Filling) (table'' : List ℕ) → r ≡ counted (w .filling) models →
+          table'' ≡ sets table' (position (w .filling) models) (modelWords model) →
           FillsModel t line f table
           (record { at = w .at; line = w .line; place = w .place; head = w .head; filling = r }) table''
       unfolding modelWrites modelWrite modelOf
@@ -90,7 +106,8 @@ module _ (t : List ℕ) (line : Found) (f : Filling) (table : List ℕ) (fits : 
           record {
             model =
                 stores-join f (w .filling) r table table' table'' _ (own t line f ∷ []) (reads .steps)
-                (put-stored (w .filling) table' (own t line f) 0 _ r table'' refl model-words k h);
+                (put-stored (w .filling) table' (own t line f) r table'' k
+                (h ∙ ap (λ (x : ModelRecord). sets table' (position (w .filling) models) (modelWords x)) model-is));
             rest = reads .rest;
             placed = reads .placed;
             onward = reads .onward;
@@ -103,7 +120,7 @@ module _ (t : List ℕ) where
   abbrev after : Filling → Model → Filling
   after f m = fillingAfter (modelIn t f m) f
 
-  models-next : (f : Filling) (m : Model) (ms ns : List Model) → getD (after f m .counts) 1 0 ≡ getD (f .counts) 1 0 + length (m .steps) →
+  models-next : (f : Filling) (m : Model) (ms ns : List Model) → getD (after f m .counts) steps 0 ≡ getD (f .counts) steps 0 + length (m .steps) →
       modelsOf t (after f m) (ms ++ ns)
       ≡ modelsOf t (after f m) ms ++ modelsOf t (fillingAfter (modelsOf t (after f m) ms) (after f m)) ns →
       modelsOf t f (m ∷ (ms ++ ns)) ≡ modelsOf t f (m ∷ ms) ++ modelsOf t (fillingAfter (modelsOf t f (m ∷ ms)) f) ns
@@ -118,13 +135,13 @@ module _ (t : List ℕ) where
   unfolding modelsWrites
   models-none f = refl
 
-  models-split : (f : Filling) (ms ns : List Model) → length (f .counts) ≡ 7 →
+  models-split : (f : Filling) (ms ns : List Model) → length (f .counts) ≡ partCount →
       modelsOf t f (ms ++ ns) ≡ modelsOf t f ms ++ modelsOf t (fillingAfter (modelsOf t f ms) f) ns
   unfolding modelsWrites fillingAfter
-  models-split f [] ns seven = refl
-  models-split f (m ∷ ms) ns seven =
-      models-next f m ms ns (steps-counted f seven (documentOf t .maps) (documentOf t .sections) (getD (f .counts) 1 0) m)
-      (models-split (after f m) ms ns (counts-kept (modelIn t f m) f ∙ seven))
+  models-split f [] ns parts = refl
+  models-split f (m ∷ ms) ns parts =
+      models-next f m ms ns (steps-counted f parts (documentOf t .maps) (documentOf t .sections) (getD (f .counts) steps 0) m)
+      (models-split (after f m) ms ns (counts-kept (modelIn t f m) f ∙ parts))
 
   pub models-storable : Storable modelAt (modelsOf t)
   models-storable = record { quiet = plain-model; none = models-none; split = models-split }

@@ -14,19 +14,19 @@ use Rattle.base.proofs.IfLaws.{if-true, if-false, by-cases, both-first, both-se
 use Rattle.lex_keyword.specs.Names.{beginIcmModel}
 use Rattle.line_place.specs.Place.{isInFamily, isInModel, moved, leadsInFamily}
 use Rattle.line_place.specs.Place as place
-use Rattle.table_layout.specs.Way.Filling.{widthOf, Fits}
+use Rattle.table_layout.specs.Layout.{partCount, steps}
+use Rattle.table_layout.specs.Way.Filling.{Fits}
 use Rattle.table_layout.specs.declared.Filling.{Filling}
-use Rattle.table_layout.proofs.FillingLaws.{fits-wider}
 use Rattle.doc.specs.Lines.{Line, plain, keyAt, keyOf, placeAfter, linesAt, significant, gather, argumentOf}
 use Rattle.doc.specs.Document.{inModel, opensModel, modelOf, modelAt, documentOf, documentIn}
 use Rattle.doc.specs.Way.Found.{contentIn, lineIn, linesBehind, Plainly, FindsKeyed}
 use Rattle.doc.specs.declared.Found.{Found}
 use Rattle.store_steps.specs.Way.Steps.{lowOf, Aims}
-use Rattle.store_steps.proofs.AimLaws.{bases-kept, low-same, aims-kept}
+use Rattle.store_steps.proofs.AimLaws.{low-same, aims-kept}
 use Rattle.store_base.specs.Way.Writes.{modelsWrites}
 use Rattle.store_base.specs.Way.Stores.{Stores}
 use Rattle.store_base.specs.declared.Walk.{Walk}
-use Rattle.store_base.proofs.StoreLaws.{stores-none}
+use Rattle.store_base.proofs.StoreLaws.{stores-none, bases-kept}
 use Rattle.store_base.proofs.LineLaws.{quiet}
 use Rattle.store_base.proofs.LateLaws.{late-quiet, late-model}
 use Rattle.store_base.proofs.WriteLaws.{models-below}
@@ -51,18 +51,18 @@ family-from : (k p q : ℕ) → eqb p q ≡ true → moved q k ≡ leadsInFamily
 family-from k p q e h = ap (λ (x : ℕ). moved x k) (eqb-true p q e) ∙ h
 
 family-places : (k : ℕ) →
-    (moved 5 k ≡ leadsInFamily k) × (moved 6 k ≡ leadsInFamily k) × (moved 7 k ≡ leadsInFamily k) × (moved 11 k ≡ leadsInFamily k) × (moved 12 k ≡ leadsInFamily k)
+    (moved place.family k ≡ leadsInFamily k) × (moved place.familyText k ≡ leadsInFamily k) × (moved place.list k ≡ leadsInFamily k) × (moved place.mapHead k ≡ leadsInFamily k) × (moved place.pinList k ≡ leadsInFamily k)
 unfolding moved isInFamily isInModel if_then_else_ either
 family-places k = (refl, refl, refl, refl, refl)
 
 family-leads : (k p : ℕ) → isInFamily p ≡ true → moved p k ≡ leadsInFamily k
 unfolding isInFamily
 family-leads k p h =
-    by-cases _ (eqb p 5) (λ (a : eqb p 5 ≡ true). family-from k p 5 a (family-places k .0)) (λ (a : eqb p 5 ≡ false).
-    by-cases _ (eqb p 6) (λ (b : eqb p 6 ≡ true). family-from k p 6 b (family-places k .1)) (λ (b : eqb p 6 ≡ false).
-    by-cases _ (eqb p 7) (λ (c : eqb p 7 ≡ true). family-from k p 7 c (family-places k .2)) (λ (c : eqb p 7 ≡ false).
-    by-cases _ (eqb p 11) (λ (d : eqb p 11 ≡ true). family-from k p 11 d (family-places k .3)) (λ (d : eqb p 11 ≡ false).
-    family-from k p 12 (sym (either-rest _ _ a ∙ either-rest _ _ b ∙ either-rest _ _ c ∙ either-rest _ _ d) ∙ h) (family-places k .4)))))
+    by-cases _ (eqb p place.family) (λ (a : eqb p place.family ≡ true). family-from k p place.family a (family-places k .0)) (λ (a : eqb p place.family ≡ false).
+    by-cases _ (eqb p place.familyText) (λ (b : eqb p place.familyText ≡ true). family-from k p place.familyText b (family-places k .1)) (λ (b : eqb p place.familyText ≡ false).
+    by-cases _ (eqb p place.list) (λ (c : eqb p place.list ≡ true). family-from k p place.list c (family-places k .2)) (λ (c : eqb p place.list ≡ false).
+    by-cases _ (eqb p place.mapHead) (λ (d : eqb p place.mapHead ≡ true). family-from k p place.mapHead d (family-places k .3)) (λ (d : eqb p place.mapHead ≡ false).
+    family-from k p place.pinList (sym (either-rest _ _ a ∙ either-rest _ _ b ∙ either-rest _ _ c ∙ either-rest _ _ d) ∙ h) (family-places k .4)))))
 
 -- [Begin ICM Model] into a model
 leads-in : (p : ℕ) → isInFamily p ≡ true → moved p beginIcmModel ≡ place.head
@@ -73,16 +73,16 @@ leads-in p h = family-leads beginIcmModel p h
 not-family : (p q : ℕ) → eqb p q ≡ true → isInFamily q ≡ false → isInFamily p ≡ false
 not-family p q e h = ap isInFamily (eqb-true p q e) ∙ h
 
-model-places : (isInFamily 8 ≡ false) × (isInFamily 9 ≡ false) × (isInFamily 10 ≡ false)
+model-places : (isInFamily place.head ≡ false) × (isInFamily place.path ≡ false) × (isInFamily place.modelText ≡ false)
 unfolding isInFamily either
 model-places = (refl, refl, refl)
 
 in-model : (p : ℕ) → isInModel p ≡ true → isInFamily p ≡ false
 unfolding isInModel
 in-model p h =
-    by-cases _ (eqb p 8) (λ (a : eqb p 8 ≡ true). not-family p 8 a (model-places .0)) (λ (a : eqb p 8 ≡ false).
-    by-cases _ (eqb p 9) (λ (b : eqb p 9 ≡ true). not-family p 9 b (model-places .1)) (λ (b : eqb p 9 ≡ false).
-    not-family p 10 (sym (either-rest _ _ a ∙ either-rest _ _ b) ∙ h) (model-places .2)))
+    by-cases _ (eqb p place.head) (λ (a : eqb p place.head ≡ true). not-family p place.head a (model-places .0)) (λ (a : eqb p place.head ≡ false).
+    by-cases _ (eqb p place.path) (λ (b : eqb p place.path ≡ true). not-family p place.path b (model-places .1)) (λ (b : eqb p place.path ≡ false).
+    not-family p place.modelText (sym (either-rest _ _ a ∙ either-rest _ _ b) ∙ h) (model-places .2)))
 
 model-quiet : (l : Line) (ls : List Line) → inModel l ≡ true → modelAt l ls ≡ []
 unfolding modelAt opensModel inModel
@@ -137,7 +137,7 @@ module _ (t : List ℕ) (line : Found) (w : Walk) (table : List ℕ) (ready : Re
           let b : both (isInFamily (w .place)) (eqb (line .key) beginIcmModel) ≡ true = sym told ∙ h in
           let k : line .key ≡ beginIcmModel = eqb-true _ _ (both-second _ _ b) in
           let a : keyAt (contentIn t line) ≡ beginIcmModel = key-here ∙ k in
-          if-false _ _ (ne-eqb _ _ (λ (x : keyAt (contentIn t line) ≡ plain). let z : _≡_ {A = ℕ} 23 41 = sym a ∙ x in omega arith))
+          if-false _ _ (ne-eqb _ _ (λ (x : keyAt (contentIn t line) ≡ plain). let z : beginIcmModel ≡ plain = sym a ∙ x in omega arith))
           ∙ ap (moved (w .place)) a ∙ leads-in (w .place) (both-first _ _ b)
 
       behind-is : behind ≡ linesAt t (line .line + 1) (line .next) place.head
@@ -155,7 +155,7 @@ module _ (t : List ℕ) (line : Found) (w : Walk) (table : List ℕ) (ready : Re
       model-fits =
           record {
             located = ready .located;
-            seven = ready .seven;
+            parts = ready .parts;
             last = rw behind-is at (ready .last);
             aims = ready .aims;
             fits = rw writes-here at (ready .fits);
@@ -198,13 +198,13 @@ pub record ModelsLeft (t : List ℕ) (f₀ : Filling) (table₀ : List ℕ) (w :
 
 pub models-start :
     (t : List ℕ) (f : Filling) (table : List ℕ) →
-    (length (f .counts) ≡ 7) × Aims t f table × Fits (lowOf f) f (modelsOf t f (documentOf t .models)) →
-    ModelsLeft t f table (record { at = 0; line = 1; place = 0; filling = f }) table
+    (length (f .counts) ≡ partCount) × Aims t f table × Fits (lowOf f) f (modelsOf t f (documentOf t .models)) →
+    ModelsLeft t f table (record { at = 0; line = 1; place = place.before; filling = f }) table
 unfolding documentOf documentIn significant
-models-start t f table (seven, aims, fits) =
+models-start t f table (parts, aims, fits) =
     record {
       left =
-          blocks-start modelAt (modelsOf t) (lowOf f) t f table (documentOf t .models) 0 1 0 seven fits refl
+          blocks-start modelAt (modelsOf t) (lowOf f) t f table (documentOf t .models) 0 1 place.before parts fits refl
           (record { within = zero-le; counted = omega arith });
       last = record { before = []; all = refl };
       aims = aims;
@@ -245,7 +245,7 @@ module _ (t : List ℕ) (f₀ : Filling) (table₀ : List ℕ) (w : Walk) (table
       models-ready =
           record {
             located = meets .located (not-false (line .there) there);
-            seven = models .left .seven;
+            parts = models .left .parts;
             last =
                 record {
                   before = models .last .before ++ (over .before ++ (first ∷ []));
@@ -269,7 +269,7 @@ module _ (t : List ℕ) (f₀ : Filling) (table₀ : List ℕ) (w : Walk) (table
               last = passes .last;
               aims =
                   aims-kept t (w .filling) table _
-                  (models-below (documentOf t .maps) (documentOf t .sections) (getD (w .filling .counts) 1 0) _) (models-ready .fits)
+                  (models-below (documentOf t .maps) (documentOf t .sections) (getD (w .filling .counts) steps 0) _) (models-ready .fits)
                   (v .filling) table' (passes .passes .stores) (models .aims);
             }
 

@@ -2,13 +2,12 @@
 -- Assumes nothing.
 use mathlib.Core.Path.{_≡_, refl, sym, _∙_, ap}
 use mathlib.Core.Bool.{true, false}
-use mathlib.Core.List.{List, [], _∷_, _++_}
-use Prim.Native.Nat.{ℕ, _+_, _-_, _≤_, _<_}
-use native.Mathlib.Omega.{arith}
-use lib.ListN.{length, take, drop, getD, set}
+use mathlib.Core.List.{List, _++_}
+use Prim.Native.Nat.{ℕ, _+_, _-_, _<_}
+use lib.ListN.{length, drop, getD, set}
 use lib.Dec.{eqb}
 use borrow.Author.Tests.{eq-eqb}
-use Rattle.base.specs.If.{if_then_else_, both, either}
+use Rattle.base.specs.If.{both, either, if_then_else_}
 use Rattle.base.specs.Bytes.{isBlank}
 use Rattle.base.specs.Runs.{run, all}
 use Rattle.base.proofs.IfLaws.{both-true}
@@ -17,22 +16,18 @@ use Rattle.lex_line.specs.Way.LineEnds.{lineAt}
 use Rattle.lex_line.specs.declared.Line as text
 use Rattle.lex_line.specs.Words.{words, firstOf}
 use Rattle.lex_keyword.specs.Bracket.{bracketOf, isOpen}
-use Rattle.lex_keyword.specs.declared.Bracket.{Bracket}
 use Rattle.lex_keyword.specs.declared.Bracket.the-variants.{Plain}
 use Rattle.line_place.specs.Place.{isInModel}
 use Rattle.line_place.specs.Place as place
-use Rattle.line_path.specs.Path.{sayingOf}
-use Rattle.line_path.specs.Way.Usual.{multFront, UsualSection, UsualFork, forks, ends}
+use Rattle.line_path.specs.Way.Usual.{multFront, UsualFork, forks, ends}
+use Rattle.table_layout.specs.Layout.{steps}
 use Rattle.table_layout.specs.Way.Filling.{counted}
-use Rattle.table_layout.specs.declared.Filling.{Filling}
-use Rattle.doc.specs.Lines.{plain, linesAt}
+use Rattle.doc.specs.Lines.{plain}
 use Rattle.doc.specs.Way.Found.{contentIn, FindsLine}
 use Rattle.doc.specs.declared.Found.{Found}
 use Rattle.doc.proofs.FoundLaws.{search-starts, search-finds, content-ordered, content-inside, search-less}
-use Rattle.store_base.specs.Way.Stores.{Stores}
-use Rattle.store_steps.specs.Way.Steps.{stepWrites, stepsAt}
 use Rattle.store_steps.specs.Way.Usual.{Usual, single, pair, Usable, Put, Puts}
-use Rattle.store_models.specs.Way.Models.{movedTo, Open, Next, OnPath, Taken, Continued, Reached}
+use Rattle.store_models.specs.Way.Models.{movedTo, Next, OnPath, Taken, Continued}
 use Rattle.store_models.specs.declared.ModelWalk.{ModelWalk}
 use Rattle.store_models.proofs.LineLaws.{next-says, step-taken, taken-reached}
 use Rattle.store_models.proofs.WalkLaws.{walk-joins, walk-long}
@@ -68,7 +63,7 @@ usual-plain c (pair end u) = ap bracketOf (u .opens .front) ∙ front-plain (dro
 -- ---- it is found where it stands
 
 abbrev foundAt : ℕ → ℕ → text.Line → Found
-foundAt at n found = record { there = true; line = n; at = at; end = found .content; next = found .next; key = 41; argument = 0 }
+foundAt at n found = record { there = true; line = n; at = at; end = found .content; next = found .next; key = plain; argument = 0 }
 
 module _ (t : List ℕ) (start : ModelWalk) (table₀ : List ℕ) (is-path : start .place ≡ place.path) (at n : ℕ) (counts table : List ℕ)
     (on : Continued t start table₀ (movedTo start at n counts) table) (h : at < length t) (found : text.Line)
@@ -82,7 +77,7 @@ module _ (t : List ℕ) (start : ModelWalk) (table₀ : List ℕ) (is-path : sta
   usual-finds : Usual (contentIn t line) → FindsLine t n at line
   usual-finds u =
       search-finds t n at n at (search-starts t n at (on .opened .placed .within) (on .opened .placed .counted)) h found told false
-      (sym (usual-filled (contentIn t line) u)) refl Plain (sym (usual-plain (contentIn t line) u)) 41 refl 0 refl
+      (sym (usual-filled (contentIn t line) u)) refl Plain (sym (usual-plain (contentIn t line) u)) plain refl 0 refl
 
   inside : isInModel (start .place) ≡ true
   unfolding isInModel either if_then_else_
@@ -91,8 +86,8 @@ module _ (t : List ℕ) (start : ModelWalk) (table₀ : List ℕ) (is-path : sta
   usual-next : Usual (contentIn t line) → Next t line walk table
   usual-next u = record { opened = on .opened; finds = usual-finds u; there = refl; inside = inside }
 
-  path-here : both (eqb (start .place) 9) (eqb 41 plain) ≡ true
-  path-here = both-true _ _ (eq-eqb _ _ is-path) (eq-eqb 41 41 refl)
+  path-here : both (eqb (start .place) place.path) (eqb plain plain) ≡ true
+  path-here = both-true _ _ (eq-eqb _ _ is-path) (eq-eqb plain plain refl)
 
   usual-on : Usual (contentIn t line) → OnPath t line walk table
   usual-on u = next-says t line walk table (usual-next u) true (sym path-here) refl
@@ -111,9 +106,9 @@ module _ (t : List ℕ) (start : ModelWalk) (table₀ : List ℕ) (is-path : sta
     usual-taken : Taken t line walk table (movedTo start (found .next) (n + 1) (set counts 1 (getD counts 1 0 + 1))) table'
     unfolding counted
     usual-taken =
-        let taken : Taken t line walk table (record { at = found .next; line = n + 1; place = 9; head = start .head; filling = counted (record { bases = start .filling .bases; counts = counts }) 1 }) table' =
+        let taken : Taken t line walk table (record { at = found .next; line = n + 1; place = place.path; head = start .head; filling = counted (record { bases = start .filling .bases; counts = counts }) steps }) table' =
         step-taken t line table walk (usual-on (put .usual)) (firstOf (words (contentIn t line))) refl _ refl
-        (counted (record { bases = start .filling .bases; counts = counts }) 1) table' (put .stores) in
+        (counted (record { bases = start .filling .bases; counts = counts }) steps) table' (put .stores) in
         record {
           steps = taken .steps;
           head = taken .head;
@@ -122,7 +117,7 @@ module _ (t : List ℕ) (start : ModelWalk) (table₀ : List ℕ) (is-path : sta
           line-is = refl;
         }
 
-    pub usual-joins : Continued t start table₀ (movedTo start (found .next) (n + 1) (set counts 1 next)) table'
+    pub usual-joins : Continued t start table₀ (movedTo start (found .next) (n + 1) (set counts steps next)) table'
     usual-joins =
         rw (put .count)
         (walk-joins t start table₀ walk table on _ table'
@@ -130,7 +125,7 @@ module _ (t : List ℕ) (start : ModelWalk) (table₀ : List ℕ) (is-path : sta
 
   -- what the search for the next of them comes to
   module _ (table' : List ℕ) (next : ℕ) (puts : Puts t line (record { bases = start .filling .bases; counts = counts }) table next table') where
-    pub usual-again : (next ≡ 0 → ⊥) → Continued t start table₀ (movedTo start (found .next) (n + 1) (set counts 1 next)) table'
+    pub usual-again : (next ≡ 0 → ⊥) → Continued t start table₀ (movedTo start (found .next) (n + 1) (set counts steps next)) table'
     usual-again e = usual-joins table' next (puts .done e)
 
     pub usual-stops : next ≡ 0 → (v : ModelWalk) → v ≡ movedTo start at n counts → Continued t start table₀ v table'

@@ -19,9 +19,9 @@ use Rattle.doc.specs.Lines.{Line, linesAt, gather}
 use Rattle.doc.specs.Document.{headIn, stepOf, stepsIn, inModel}
 use Rattle.doc.specs.Way.Found.{lineIn, linesBehind, FindsLine}
 use Rattle.doc.specs.declared.Found.{Found}
+use Rattle.doc.proofs.GatherLaws.{up-none, up-out}
 use Rattle.store_steps.specs.Way.Steps.{stepWrites}
 use Rattle.store_base.proofs.StoreLaws.{stores-none, stores-join}
-use Rattle.store_base.proofs.LineLaws.{up-none, up-stops}
 use Rattle.store_models.specs.Way.Models.{modelLines, modelSteps, linesLeft, Open, Next, Continued, Reached, ReadsModel}
 use Rattle.store_models.specs.declared.ModelWalk.{ModelWalk}
 
@@ -66,10 +66,6 @@ module _ (t : List ℕ) where
 
   -- ---- a block
 
-  pub walk-starts : (s : ModelWalk) (table : List ℕ) (w : ModelWalk) (table' : List ℕ) → Reached t s table w table' →
-      Continued t w table' w table'
-  walk-starts s table w table' r = continued-start w table' (r .continued .opened)
-
   pub walk-ends : (s : ModelWalk) (table : List ℕ) (w : ModelWalk) (table' : List ℕ) (v : ModelWalk) (table'' : List ℕ) →
       Reached t s table w table' → Continued t w table' v table'' → Reached t s table v table''
   walk-ends s table w table' v table'' r c =
@@ -94,10 +90,6 @@ module _ (t : List ℕ) where
           inside = sym told ∙ not-false is h;
         }
 
-  pub block-long : (s : ModelWalk) (table : List ℕ) (w : ModelWalk) (table' : List ℕ) (v : ModelWalk) (table'' : List ℕ) →
-      Reached t s table w table' → Continued t w table' v table'' → length table'' ≡ length table
-  block-long s table w table' v table'' r c = walk-long w table' v table'' c ∙ walk-long s table w table' (r .continued)
-
   pub walk-less : (w : ModelWalk) (table : List ℕ) (v : ModelWalk) (table' : List ℕ) → Reached t w table v table' →
       length t - v .at < length t - w .at
   walk-less w table v table' r =
@@ -109,7 +101,7 @@ module _ (t : List ℕ) where
 
 module _ (t : List ℕ) (n at : ℕ) (f : Filling) (table : List ℕ) (head : Head) (new : head ≡ newHead) where
   abbrev start : ModelWalk
-  start = record { at = at; line = n; place = 8; head = head; filling = f }
+  start = record { at = at; line = n; place = place.head; head = head; filling = f }
 
   pub model-starts : Open t n at place.head f table → Continued t start table start table
   model-starts o = continued-start t start table o
@@ -147,4 +139,4 @@ module _ (t : List ℕ) (n at : ℕ) (f : Filling) (table : List ℕ) (head : He
       model-closes there is told h =
           ends
           (ap modelLines (finds .same-there (not-false (line .there) there) (w .place))
-          ∙ up-stops inModel (lineIn t line (w .place)) (linesBehind t line (w .place)) (outside (sym told ∙ not-true is h)))
+          ∙ up-out inModel (lineIn t line (w .place)) (linesBehind t line (w .place)) (outside (sym told ∙ not-true is h)))

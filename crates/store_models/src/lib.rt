@@ -7,6 +7,7 @@ ghost use Rattle.base.specs.If.{both};
 ghost use Rattle.lex_keyword.specs.Names.{beginIcmModel};
 ghost use Rattle.line_place.specs.Place.{isInFamily};
 ghost use Rattle.line_place.specs.Place as place;
+ghost use Rattle.table_layout.specs.Layout.{partCount};
 ghost use Rattle.table_layout.specs.Way.Filling.{Fits};
 ghost use Rattle.doc.specs.Lines.{plain};
 ghost use Rattle.doc.specs.Document.{documentOf, headIn};
@@ -18,6 +19,7 @@ use doc::Found;
 use line_head::Head;
 use store_base::Walk;
 use table_layout::Filling;
+use table_record::ModelRecord;
 
 // "From `|` on, a line is comment".
 const COMMENT: u8 = b'|';
@@ -97,7 +99,7 @@ fn take_line(text: &[u8], line: Found, table: &mut [u64], walk: ModelWalk) -> Mo
 // ---- all lines of a model
 
 // The walk come to a line, with so many records stored.
-fn walk_at(walk: ModelWalk, at: usize, line: u64, counts: [u64; 7]) -> ModelWalk
+fn walk_at(walk: ModelWalk, at: usize, line: u64, counts: [u64; table_layout::PARTS]) -> ModelWalk
     ensures { λ r. ⌜ r ≡ movedTo walk at line counts ⌝ }
 {
     let head = walk.head;
@@ -201,19 +203,19 @@ fn fill_model(text: &[u8], line: Found, table: &mut [u64], filling: Filling) -> 
     let filled = walk.filling;
     let after = filled.counts;
     let mark = doc::argument_extent(text, line);
-    let words = [
-        mark.start as u64,
-        mark.size as u64,
-        store_base::one_less(head.kind),
+    let own = ModelRecord {
+        start: mark.start as u64,
+        size: mark.size as u64,
+        kind: base::minus(head.kind, 1),
         first,
-        after[table_layout::STEPS] - first,
-    ];
+        steps: after[table_layout::STEPS] - first,
+    };
     ModelWalk {
         at: walk.at,
         line: walk.line,
         place: walk.place,
         head,
-        filling: table_layout::put_record(table, filled, table_layout::MODELS, &words),
+        filling: table_record::put_model(table, filled, own),
     }
 }
 
@@ -253,7 +255,7 @@ fn pass_model(text: &[u8], line: Found, table: &mut [u64], walk: Walk) -> Walk
 
 // All models. Their records lie below those that their steps point at.
 pub fn fill_models(text: &[u8], table: &mut [u64], filling: Filling) -> Filling
-    requires { ⌜ (length (filling .counts) ≡ 7) × Aims (now text) filling (now table) × Fits (lowOf filling) filling (modelsOf (now text) filling (documentOf (now text) .models)) ⌝ }
+    requires { ⌜ (length (filling .counts) ≡ partCount) × Aims (now text) filling (now table) × Fits (lowOf filling) filling (modelsOf (now text) filling (documentOf (now text) .models)) ⌝ }
     ensures { λ r. ⌜ Stores filling (now (table .entry)) (modelsOf (now (text .entry)) filling (documentOf (now (text .entry)) .models)) r (now (table .exit)) ⌝ }
 {
     let mut walk = Walk {

@@ -17,15 +17,17 @@ use Rattle.line_place.specs.Place.{opensMatrix, isRowOrBandwidth, moved}
 use Rattle.line_place.specs.Place as place
 use Rattle.line_argument.specs.Argument.{methodOf}
 use Rattle.read_line.specs.Reading.{argumentFrom}
+use Rattle.table_layout.specs.Codes.{matrixKinds}
+use Rattle.table_layout.specs.Layout.{partCount, values, matrices}
 use Rattle.table_layout.specs.declared.Filling.{Filling}
 use Rattle.doc.specs.Lines.{Line, plain, keyAt, keyOf, argumentOf, placeAfter, linesAt, upTo}
 use Rattle.doc.specs.Document.{Matrix, conductorsOf, kindOf, inMatrix, opensMatrixAt, matrixOf, matrixAt, methodIn}
 use Rattle.doc.specs.Records.{indexOfKind}
 use Rattle.doc.specs.Way.Found.{contentIn, lineIn, linesBehind, Located}
 use Rattle.doc.specs.declared.Found.{Found}
+use Rattle.doc.proofs.GatherLaws.{up-none}
 use Rattle.store_base.specs.Way.Writes.{matrixWrites, matricesWrites}
 use Rattle.store_base.proofs.StoreLaws.{stores-none, counts-kept}
-use Rattle.store_base.proofs.LineLaws.{up-none}
 use Rattle.store_base.proofs.WriteLaws.{matrix-counted}
 use Rattle.store_matrices.specs.Way.Told.{firstTold, toldOr}
 use Rattle.store_matrices.specs.declared.First.{First}
@@ -48,17 +50,17 @@ use Rattle.store_sections.specs.Way.Section.{
 
 -- ---- kinds
 
-kind-small : (key : ℕ) → kindOf key < 4
+kind-small : (key : ℕ) → kindOf key < matrixKinds
 unfolding kindOf
 kind-small key =
-    by-test (λ (n : ℕ). n < 4) (eqb key resistanceMatrix) _ _ (λ (e : eqb key resistanceMatrix ≡ true). omega arith)
+    by-test (λ (n : ℕ). n < matrixKinds) (eqb key resistanceMatrix) _ _ (λ (e : eqb key resistanceMatrix ≡ true). omega arith)
     (λ (e : eqb key resistanceMatrix ≡ false).
-    by-test (λ (n : ℕ). n < 4) (eqb key inductanceMatrix) _ _ (λ (f : eqb key inductanceMatrix ≡ true). omega arith)
+    by-test (λ (n : ℕ). n < matrixKinds) (eqb key inductanceMatrix) _ _ (λ (f : eqb key inductanceMatrix ≡ true). omega arith)
     (λ (f : eqb key inductanceMatrix ≡ false).
-    by-test (λ (n : ℕ). n < 4) (eqb key conductanceMatrix) _ _ (λ (g : eqb key conductanceMatrix ≡ true). omega arith)
+    by-test (λ (n : ℕ). n < matrixKinds) (eqb key conductanceMatrix) _ _ (λ (g : eqb key conductanceMatrix ≡ true). omega arith)
     (λ (g : eqb key conductanceMatrix ≡ false). omega arith)))
 
-pub kind-told : (key kind : ℕ) → kind ≡ kindOf key → kind < 4
+pub kind-told : (key kind : ℕ) → kind ≡ kindOf key → kind < matrixKinds
 kind-told key kind e = rw e (kind-small key)
 
 module _ (kinds : List ℕ) (kind index : ℕ) where
@@ -134,12 +136,12 @@ module _ (t : List ℕ) (line : Found) (located : Located t line) where
       (told-first (w .method) (methodAt t line) (methodIn ls)))
       (λ (e : eqb (line .key) derivationMethod ≡ false). rw (if-false {A = First} _ _ e, if-false {A = ℕ} _ _ e)))
 
-pub method-new : (t : List ℕ) (line : Found) (f : First) → line .key ≡ 27 → (method : ℕ) → method ≡ methodAt t line → (r : First) →
+pub method-new : (t : List ℕ) (line : Found) (f : First) → line .key ≡ derivationMethod → (method : ℕ) → method ≡ methodAt t line → (r : First) →
     r ≡ firstTold f method → r ≡ methodAfter t line f
 unfolding methodAfter
 method-new t line f e method is-method r h = h ∙ ap (firstTold f) is-method ∙ sym (if-true _ _ (eq-eqb _ _ e))
 
-pub method-old : (t : List ℕ) (line : Found) (f : First) → (line .key ≡ 27 → ⊥) → f ≡ methodAfter t line f
+pub method-old : (t : List ℕ) (line : Found) (f : First) → (line .key ≡ derivationMethod → ⊥) → f ≡ methodAfter t line f
 unfolding methodAfter
 method-old t line f h = sym (if-false _ _ (ne-eqb _ _ h))
 
@@ -198,7 +200,7 @@ module _ (t : List ℕ) (line : Found) (w : SectionWalk) (opens : opensMatrixAt 
       ∙ ap (λ (ls : List Line). matrixOf (sectionLine t line w) (formBelow t line) (upTo inMatrix ls) ∷ []) behind-opening
 
   -- what is stored of it
-  writes-here : (f : Filling) → matricesFrom f (matrixHere t line w) ≡ matrixWrites (getD (f .counts) 6 0) (matrixBelow t line)
+  writes-here : (f : Filling) → matricesFrom f (matrixHere t line w) ≡ matrixWrites (getD (f .counts) values 0) (matrixBelow t line)
   unfolding matricesWrites
   writes-here f = ap (matricesFrom f) matrix-here ∙ append-nil _
 
@@ -207,21 +209,21 @@ module _ (t : List ℕ) (line : Found) (table : List ℕ) (w : SectionWalk) (tak
   matrix-puts =
       record {
         located = takes .takes .located;
-        seven = takes .takes .seven;
+        parts = takes .takes .parts;
         fits = rw (writes-here t line w (takes .opens) (w .filling)) at (takes .takes .fits);
       }
 
   module _ (s : Stored) (table' : List ℕ) (fills : FillsMatrix t line table (w .filling) s table') where
-    matrices-counted : getD (s .filling .counts) 5 0 ≡ getD (w .filling .counts) 5 0 + 1
+    matrices-counted : getD (s .filling .counts) matrices 0 ≡ getD (w .filling .counts) matrices 0 + 1
     matrices-counted =
-        ap (λ (f : Filling). getD (f .counts) 5 0) (fills .stores .filled)
-        ∙ matrix-counted (w .filling) (takes .takes .seven) (getD (w .filling .counts) 6 0) (matrixBelow t line)
+        ap (λ (f : Filling). getD (f .counts) matrices 0) (fills .stores .filled)
+        ∙ matrix-counted (w .filling) (takes .takes .parts) (getD (w .filling .counts) values 0) (matrixBelow t line)
 
-    counts-seven : length (s .filling .counts) ≡ 7
-    counts-seven = ap (λ (f : Filling). length (f .counts)) (fills .stores .filled) ∙ counts-kept _ (w .filling) ∙ takes .takes .seven
+    counts-parts : length (s .filling .counts) ≡ partCount
+    counts-parts = ap (λ (f : Filling). length (f .counts)) (fills .stores .filled) ∙ counts-kept _ (w .filling) ∙ takes .takes .parts
 
     module _ (c : First) (is-c : c ≡ firstTold (w .conductors) (s .conductors)) (kind : ℕ) (is-kind : kind ≡ kindOf (line .key))
-        (kinds : List ℕ) (is-kinds : kinds ≡ kindsWith (w .kinds) kind (getD (s .filling .counts) 5 0)) where
+        (kinds : List ℕ) (is-kinds : kinds ≡ kindsWith (w .kinds) kind (getD (s .filling .counts) matrices 0)) where
       kind-below : kind ≡ matrixBelow t line .kind
       unfolding matrixOf keyOf
       kind-below = is-kind ∙ ap kindOf (takes .takes .located .key-is)
@@ -237,25 +239,25 @@ module _ (t : List ℕ) (line : Found) (table : List ℕ) (w : SectionWalk) (tak
           ∙ ap (toldOr (w .conductors))
           (fills .conductors ∙ ap (λ (ns : List Matrix). conductorsOf (ns ++ ms)) (sym (matrix-here t line w (takes .opens))))
 
-      kinds-are : kinds ≡ kindsWith (w .kinds) (matrixBelow t line .kind) (getD (w .filling .counts) 5 0 + 1)
+      kinds-are : kinds ≡ kindsWith (w .kinds) (matrixBelow t line .kind) (getD (w .filling .counts) matrices 0 + 1)
       kinds-are = is-kinds ∙ (λ i. kindsWith (w .kinds) (kind-below i) (matrices-counted i))
 
       kind-inside : matrixBelow t line .kind < length (w .kinds)
-      kind-inside = rw (takes .takes .four, sym kind-below) (kind-told (line .key) kind is-kind)
+      kind-inside = rw (takes .takes .all-kinds, sym kind-below) (kind-told (line .key) kind is-kind)
 
       kept-more :
-          (k : ℕ) → k < 4 → (ms : List Matrix) →
-          keptOr (getD kinds k 0) (indexOfKind k (getD (s .filling .counts) 5 0) ms)
-          ≡ keptOr (getD (w .kinds) k 0) (indexOfKind k (getD (w .filling .counts) 5 0) (matrixHere t line w ++ ms))
+          (k : ℕ) → k < matrixKinds → (ms : List Matrix) →
+          keptOr (getD kinds k 0) (indexOfKind k (getD (s .filling .counts) matrices 0) ms)
+          ≡ keptOr (getD (w .kinds) k 0) (indexOfKind k (getD (w .filling .counts) matrices 0) (matrixHere t line w ++ ms))
       kept-more k h ms =
           rw (kinds-are, matrices-counted, matrix-here t line w (takes .opens))
-          (kinds-more (w .kinds) (matrixBelow t line) ms (getD (w .filling .counts) 5 0) kind-inside k)
+          (kinds-more (w .kinds) (matrixBelow t line) ms (getD (w .filling .counts) matrices 0) kind-inside k)
 
       pub matrix-taken : TakenLine t line table w
           (record {
             at = s .at;
             line = s .line;
-            place = 16;
+            place = place.matrix;
             method = w .method;
             conductors = c;
             kinds = kinds;
@@ -271,8 +273,8 @@ module _ (t : List ℕ) (line : Found) (table : List ℕ) (w : SectionWalk) (tak
             method-on = λ (ls : List Line). ap (toldOr (w .method)) (method-none ls);
             conductors-on = conductors-more;
             kinds-on = kept-more;
-            seven = counts-seven;
-            four = ap length is-kinds ∙ kinds-long (w .kinds) kind _ ∙ takes .takes .four;
+            parts = counts-parts;
+            all-kinds = ap length is-kinds ∙ kinds-long (w .kinds) kind _ ∙ takes .takes .all-kinds;
             placed = fills .placed;
             onward = fills .onward;
           }
@@ -325,11 +327,11 @@ module _ (t : List ℕ) (line : Found) (table : List ℕ) (w : SectionWalk) (tak
           conductors-on =
               λ (ms : List Matrix). ap (λ (ns : List Matrix). toldOr (w .conductors) (conductorsOf (ns ++ ms))) (sym none-here);
           kinds-on =
-              λ (k : ℕ) (h : k < 4) (ms : List Matrix).
-              ap (λ (ns : List Matrix). keptOr (getD (w .kinds) k 0) (indexOfKind k (getD (w .filling .counts) 5 0) (ns ++ ms)))
+              λ (k : ℕ) (h : k < matrixKinds) (ms : List Matrix).
+              ap (λ (ns : List Matrix). keptOr (getD (w .kinds) k 0) (indexOfKind k (getD (w .filling .counts) matrices 0) (ns ++ ms)))
               (sym none-here);
-          seven = takes .seven;
-          four = takes .four;
+          parts = takes .parts;
+          all-kinds = takes .all-kinds;
           placed = record { within = takes .located .next-within; counted = omega arith };
           onward = le-refl (line .next);
         }

@@ -14,6 +14,7 @@ use Rattle.base.proofs.IfLaws.{if-true, if-false, both-first, both-second}
 use Rattle.lex_keyword.specs.Names.{beginIcmSection}
 use Rattle.line_place.specs.Place.{moved, leadsAfterFamily}
 use Rattle.line_place.specs.Place as place
+use Rattle.table_layout.specs.Layout.{partCount, values, matrices}
 use Rattle.table_layout.specs.Way.Filling.{Write, fillingAfter}
 use Rattle.table_layout.specs.declared.Filling.{Filling}
 use Rattle.table_layout.proofs.FillingLaws.{filling-append}
@@ -39,36 +40,36 @@ use Rattle.store_sections.proofs.SectionLaws.{StagedOf}
 
 -- of one section, starting from a filling
 abbrev sectionFrom : Filling → Section → List Write
-sectionFrom f s = sectionWrites (getD (f .counts) 5 0) (getD (f .counts) 6 0) s
+sectionFrom f s = sectionWrites (getD (f .counts) matrices 0) (getD (f .counts) values 0) s
 
 -- the filling after it
 abbrev behindOne : Filling → Section → Filling
 behindOne f s = fillingAfter (sectionFrom f s) f
 
-sections-more : (f : Filling) (s : Section) (ss : List Section) → length (f .counts) ≡ 7 →
+sections-more : (f : Filling) (s : Section) (ss : List Section) → length (f .counts) ≡ partCount →
     sectionsOf f (s ∷ ss) ≡ sectionFrom f s ++ sectionsOf (behindOne f s) ss
 unfolding sectionsWrites
-sections-more f s ss seven =
-    let m : getD (behindOne f s .counts) 5 0 ≡ getD (f .counts) 5 0 + length (s .matrices) = section-matrices-counted f seven _ _ s in
-    let v : getD (behindOne f s .counts) 6 0 ≡ getD (f .counts) 6 0 + valuesCount (s .matrices) = section-values-counted f seven _ _ s in
+sections-more f s ss parts =
+    let m : getD (behindOne f s .counts) matrices 0 ≡ getD (f .counts) matrices 0 + length (s .matrices) = section-matrices-counted f parts _ _ s in
+    let v : getD (behindOne f s .counts) values 0 ≡ getD (f .counts) values 0 + valuesCount (s .matrices) = section-values-counted f parts _ _ s in
     λ i. sectionFrom f s ++ sectionsWrites (sym m i) (sym v i) ss
 
 sections-none : (f : Filling) → sectionsOf f [] ≡ []
 unfolding sectionsWrites
 sections-none f = refl
 
-sections-split : (f : Filling) (ss ts : List Section) → length (f .counts) ≡ 7 →
+sections-split : (f : Filling) (ss ts : List Section) → length (f .counts) ≡ partCount →
     sectionsOf f (ss ++ ts) ≡ sectionsOf f ss ++ sectionsOf (fillingAfter (sectionsOf f ss) f) ts
 unfolding fillingAfter
-sections-split f [] ts seven = rw (sections-none f)
-sections-split f (s ∷ ss) ts seven =
-    let k : length (behindOne f s .counts) ≡ 7 = counts-kept (sectionFrom f s) f ∙ seven in
-    sections-more f s (ss ++ ts) seven
+sections-split f [] ts parts = rw (sections-none f)
+sections-split f (s ∷ ss) ts parts =
+    let k : length (behindOne f s .counts) ≡ partCount = counts-kept (sectionFrom f s) f ∙ parts in
+    sections-more f s (ss ++ ts) parts
     ∙ ap (λ (x : List Write). sectionFrom f s ++ x) (sections-split (behindOne f s) ss ts k)
     ∙ sym (append-assoc (sectionFrom f s) _ _)
-    ∙ (λ i. sym (sections-more f s ss seven) i
+    ∙ (λ i. sym (sections-more f s ss parts) i
     ++ sectionsOf (sym (filling-append (sectionFrom f s) (sectionsOf (behindOne f s) ss) f) i) ts)
-    ∙ ap (λ (x : List Write). sectionsOf f (s ∷ ss) ++ sectionsOf (fillingAfter x f) ts) (sym (sections-more f s ss seven))
+    ∙ ap (λ (x : List Write). sectionsOf f (s ∷ ss) ++ sectionsOf (fillingAfter x f) ts) (sym (sections-more f s ss parts))
 
 pub sections-storable : Storable sectionAt sectionsOf
 sections-storable = record { quiet = plain-section; none = sections-none; split = sections-split }
@@ -83,7 +84,7 @@ pub section-ready :
 section-ready t f₀ table₀ ss w table left line meets there =
     record {
       located = meets .located (not-false (line .there) there);
-      seven = left .seven;
+      parts = left .parts;
       fits = rw (left .pending .long)
           (block-fits sectionAt sectionsOf sections-storable (length table₀) t f₀ table₀ ss w table left line meets there);
     }
@@ -97,7 +98,7 @@ pub section-staged :
     StagedOf t table' stage (v .filling)
 section-staged t f₀ table₀ ss w table left line meets there v table' passes stage staged =
     let ready : Ready sectionAt sectionsOf t line w table = section-ready t f₀ table₀ ss w table left line meets there in
-    stage-kept t table stage table' (w .filling) (v .filling) _ (passes .stores) (ready .fits) (ready .seven) staged
+    stage-kept t table stage table' (w .filling) (v .filling) _ (passes .stores) (ready .fits) (ready .parts) staged
 
 -- a line that opens a section leads to the section's head
 opening-leads : (content : List ℕ) → keyAt content ≡ beginIcmSection → placeAfter place.after content ≡ place.sectionHead
@@ -137,7 +138,7 @@ module _ (t : List ℕ) (line : Found) (table : List ℕ) (w : Walk) (ready : Re
     section-puts =
         record {
           located = ready .located;
-          seven = ready .seven;
+          parts = ready .parts;
           fits = rw writes-here at (ready .fits);
         }
 

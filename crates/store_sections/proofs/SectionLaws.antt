@@ -15,10 +15,13 @@ use Rattle.base.proofs.IfLaws.{if-true, if-false, by-cases, both-first, both-se
 use Rattle.lex_keyword.specs.Names.{row, bandwidth, derivationMethod}
 use Rattle.line_place.specs.Place.{opensMatrix, isRowOrBandwidth}
 use Rattle.line_place.specs.Place as place
-use Rattle.table_layout.specs.Layout.{widths}
+use Rattle.table_layout.specs.Layout.{sections, matrices, values, partCount, sectionWidth}
+use Rattle.table_layout.specs.Codes.{resistanceKind, inductanceKind, conductanceKind, capacitanceKind, matrixKinds}
+use Rattle.table_record.specs.Records.{sectionWords}
+use Rattle.table_record.specs.declared.SectionRecord.{SectionRecord}
 use Rattle.table_layout.specs.Way.Filling.{Write, widthOf, position, counted, fillingAfter, Fits}
 use Rattle.table_layout.specs.declared.Filling.{Filling}
-use Rattle.table_layout.proofs.FillingLaws.{fits-first, fits-rest, length-after}
+use Rattle.table_layout.proofs.FillingLaws.{fits-first, fits-room, fits-rest, length-after}
 use Rattle.doc.specs.Lines.{Line, plain, keyOf, argumentOf, linesAt, gather, upTo}
 use Rattle.doc.specs.Document.{Matrix, Section, conductorsOf, inMatrix, opensMatrixAt, matrixAt, inSection, methodIn, sectionOf}
 use Rattle.doc.specs.Records.{indexOfKind, sectionRecord}
@@ -26,11 +29,12 @@ use Rattle.doc.specs.Way.Found.{extentOf, lineIn, linesBehind, Located, FindsLi
 use Rattle.doc.specs.declared.Found.{Found}
 use Rattle.doc.specs.declared.Extent.{Extent}
 use Rattle.doc.proofs.PassLaws.{section-blocks}
+use Rattle.doc.proofs.GatherLaws.{gather-more, up-in, up-none, up-out}
 use Rattle.store_base.specs.Way.Writes.{valuesCount, matrixWrites, matricesWrites, sectionWrite, sectionWrites}
 use Rattle.store_base.specs.Way.Stores.{Placed}
 use Rattle.store_base.specs.Way.Stage.{Staged}
-use Rattle.store_base.proofs.StoreLaws.{put-asked, put-stored, stores-join, Pending, pending-start, pending-step, pending-done, pending-same}
-use Rattle.store_base.proofs.LineLaws.{up-on, up-stops, up-none, Skipped, skipped-start, skipped-on, skipped-done, gather-on, quiet}
+use Rattle.store_base.proofs.StoreLaws.{put-stored, stores-join, Pending, pending-start, pending-step, pending-done, pending-same}
+use Rattle.store_base.proofs.LineLaws.{Skipped, skipped-start, skipped-on, skipped-done, quiet}
 use Rattle.store_base.proofs.StageLaws.{stage-kept}
 use Rattle.store_base.proofs.WriteLaws.{values-counted}
 use Rattle.store_matrices.specs.Way.Told.{toldOr}
@@ -55,7 +59,7 @@ use Rattle.store_sections.specs.Way.Section.{
 
 -- the staged matrices whose values come next in a filling, or later
 abbrev pub StagedOf : List ℕ → List ℕ → List ℕ → Filling → Type 0
-StagedOf t table stage f = Staged t table stage (getD (f .bases) 6 0) (getD (f .counts) 6 0)
+StagedOf t table stage f = Staged t table stage (getD (f .bases) values 0) (getD (f .counts) values 0)
 
 -- ---- the lines of a matrix, within a section
 
@@ -93,16 +97,16 @@ up-through [] rest = rw (up-none inMatrix)
 up-through (l ∷ from) rest =
     by-cases _ (inMatrix l)
     (λ (e : inMatrix l ≡ true).
-    rw (up-on inMatrix l from e)
-    (up-on inSection l (upTo inMatrix from ++ rest) (in-section l e) ∙ ap (λ (ls : List Line). l ∷ ls) (up-through from rest)))
-    (λ (e : inMatrix l ≡ false). rw (up-stops inMatrix l from e))
+    rw (up-in inMatrix l from e)
+    (up-in inSection l (upTo inMatrix from ++ rest) (in-section l e) ∙ ap (λ (ls : List Line). l ∷ ls) (up-through from rest)))
+    (λ (e : inMatrix l ≡ false). rw (up-out inMatrix l from e))
 
 method-through : (from rest : List Line) → methodIn (upTo inMatrix from ++ rest) ≡ methodIn rest
 method-through [] rest = rw (up-none inMatrix)
 method-through (l ∷ from) rest =
     by-cases _ (inMatrix l)
-    (λ (e : inMatrix l ≡ true). rw (up-on inMatrix l from e) (no-method l e (upTo inMatrix from ++ rest) ∙ method-through from rest))
-    (λ (e : inMatrix l ≡ false). rw (up-stops inMatrix l from e))
+    (λ (e : inMatrix l ≡ true). rw (up-in inMatrix l from e) (no-method l e (upTo inMatrix from ++ rest) ∙ method-through from rest))
+    (λ (e : inMatrix l ≡ false). rw (up-out inMatrix l from e))
 
 module _ (lines rest : List Line) (passed : Passed lines rest) where
   up-passed : upTo inSection lines ≡ upTo inMatrix (passed .from) ++ upTo inSection rest
@@ -140,12 +144,12 @@ matrices-append value (m ∷ ms) ns =
     (add-assoc value (length (m .values)) (valuesCount ms)))
     ∙ sym (append-assoc (matrixWrites value m) _ _)
 
-matrices-split : (f g : Filling) (ms ns : List Matrix) → length (f .counts) ≡ 7 → g ≡ fillingAfter (matricesFrom f ms) f →
+matrices-split : (f g : Filling) (ms ns : List Matrix) → length (f .counts) ≡ partCount → g ≡ fillingAfter (matricesFrom f ms) f →
     matricesFrom f (ms ++ ns) ≡ matricesFrom f ms ++ matricesFrom g ns
-matrices-split f g ms ns seven e =
-    let c : getD (g .counts) 6 0 ≡ getD (f .counts) 6 0 + valuesCount ms =
-    ap (λ (x : Filling). getD (x .counts) 6 0) e ∙ values-counted f seven (getD (f .counts) 6 0) ms in
-    matrices-append (getD (f .counts) 6 0) ms ns ∙ ap (λ (n : ℕ). matricesFrom f ms ++ matricesWrites n ns) (sym c)
+matrices-split f g ms ns parts e =
+    let c : getD (g .counts) values 0 ≡ getD (f .counts) values 0 + valuesCount ms =
+    ap (λ (x : Filling). getD (x .counts) values 0) e ∙ values-counted f parts (getD (f .counts) values 0) ms in
+    matrices-append (getD (f .counts) values 0) ms ns ∙ ap (λ (n : ℕ). matricesFrom f ms ++ matricesWrites n ns) (sym c)
 
 -- ---- the lines of a section
 
@@ -158,12 +162,12 @@ pub record LinesLeft (t : List ℕ) (n₀ at₀ : ℕ) (table₀ : List ℕ) (f�
   pub conductors : toldOr (w .conductors) (conductorsOf (matricesIn (sectionLines t (w .line) (w .at) (w .place))))
       ≡ conductorsOf (matricesIn (sectionLines t n₀ at₀ place.sectionHead))
   pub kinds :
-      (k : ℕ) → k < 4 →
+      (k : ℕ) → k < matrixKinds →
       keptOr (getD (w .kinds) k 0)
-      (indexOfKind k (getD (w .filling .counts) 5 0) (matricesIn (sectionLines t (w .line) (w .at) (w .place))))
-      ≡ indexOfKind k (getD (f₀ .counts) 5 0) (matricesIn (sectionLines t n₀ at₀ place.sectionHead))
-  pub seven : length (w .filling .counts) ≡ 7
-  pub four : length (w .kinds) ≡ 4
+      (indexOfKind k (getD (w .filling .counts) matrices 0) (matricesIn (sectionLines t (w .line) (w .at) (w .place))))
+      ≡ indexOfKind k (getD (f₀ .counts) matrices 0) (matricesIn (sectionLines t n₀ at₀ place.sectionHead))
+  pub parts : length (w .filling .counts) ≡ partCount
+  pub all-kinds : length (w .kinds) ≡ matrixKinds
   pub skipped : Skipped inSection (linesAt t n₀ at₀ place.sectionHead) (linesAt t (w .line) (w .at) (w .place))
   pub placed : Placed t (w .line) (w .at)
   pub onward : at₀ ≤ w .at
@@ -172,9 +176,9 @@ none-told : (n : ℕ) → toldOr (record { told = false; value = 0 }) n ≡ n
 unfolding toldOr
 none-told n = if-false 0 n refl
 
-none-kept : (k n : ℕ) → k < 4 → keptOr (getD (replicate 4 0) k 0) n ≡ n
+none-kept : (k n : ℕ) → k < matrixKinds → keptOr (getD (replicate matrixKinds 0) k 0) n ≡ n
 unfolding keptOr
-none-kept k n h = if-true _ _ (eq-eqb _ _ (getD-replicate 4 k 0 0 h))
+none-kept k n h = if-true _ _ (eq-eqb _ _ (getD-replicate matrixKinds k 0 0 h))
 
 kept-none : (n : ℕ) → keptOr n 0 ≡ n
 unfolding keptOr
@@ -189,10 +193,10 @@ pub lines-start :
     (record {
       at = at;
       line = n;
-      place = 14;
+      place = place.sectionHead;
       method = record { told = false; value = 0 };
       conductors = record { told = false; value = 0 };
-      kinds = replicate 4 0;
+      kinds = replicate matrixKinds 0;
       filling = f;
     }) table
 lines-start t n at table f puts =
@@ -200,9 +204,9 @@ lines-start t n at table f puts =
       pending = pending-start (length table) f table _ (puts .fits);
       method = none-told _;
       conductors = none-told _;
-      kinds = λ (k : ℕ) (h : k < 4). none-kept k _ h;
-      seven = puts .seven;
-      four = refl;
+      kinds = λ (k : ℕ) (h : k < matrixKinds). none-kept k _ h;
+      parts = puts .parts;
+      all-kinds = refl;
       skipped = skipped-start inSection (linesAt t n at place.sectionHead);
       placed = puts .placed;
       onward = le-refl at;
@@ -217,8 +221,8 @@ module _ (t : List ℕ) (n₀ at₀ : ℕ) (table₀ : List ℕ) (f₀ : Filling
         stores = pending-done (length table₀) f₀ table₀ _ (w .filling) table (rw e at (left .pending));
         method = rw e at (left .method);
         conductors = rw e at (left .conductors);
-        kinds = λ (k : ℕ) (h : k < 4). sym (kept-none (getD (w .kinds) k 0)) ∙ rw e at (left .kinds k h);
-        four = left .four;
+        kinds = λ (k : ℕ) (h : k < matrixKinds). sym (kept-none (getD (w .kinds) k 0)) ∙ rw e at (left .kinds k h);
+        all-kinds = left .all-kinds;
         rest = skipped-done inSection _ _ (left .skipped) e;
         placed = left .placed;
         onward = left .onward;
@@ -241,16 +245,16 @@ module _ (t : List ℕ) (n₀ at₀ : ℕ) (table₀ : List ℕ) (f₀ : Filling
     inside-told = sym is-inside
 
     pub lines-close : not inside ≡ true → FillsLines t n₀ at₀ table₀ f₀ w table
-    lines-close h = lines-done (ap (upTo inSection) here ∙ up-stops inSection _ _ (inside-told ∙ not-true inside h))
+    lines-close h = lines-done (ap (upTo inSection) here ∙ up-out inSection _ _ (inside-told ∙ not-true inside h))
 
     module _ (k : not inside ≡ false) where
       body-on : sectionLines t (w .line) (w .at) (w .place) ≡ sectionLine t line w ∷ upTo inSection (linesBehind t line (w .place))
-      body-on = ap (upTo inSection) here ∙ up-on inSection _ _ (inside-told ∙ not-false inside k)
+      body-on = ap (upTo inSection) here ∙ up-in inSection _ _ (inside-told ∙ not-false inside k)
 
       matrices-on : matricesIn (sectionLines t (w .line) (w .at) (w .place))
           ≡ matrixHere t line w ++ matricesIn (upTo inSection (linesBehind t line (w .place)))
       matrices-on =
-          ap matricesIn body-on ∙ gather-on matrixAt _ _
+          ap matricesIn body-on ∙ gather-more matrixAt _ _
           ∙ ap (λ (ms : List Matrix). ms ++ matricesIn (upTo inSection (linesBehind t line (w .place))))
           (section-blocks .cut (sectionLine t line w) (linesBehind t line (w .place)))
 
@@ -258,13 +262,13 @@ module _ (t : List ℕ) (n₀ at₀ : ℕ) (table₀ : List ℕ) (f₀ : Filling
       lines-takes =
           record {
             located = found;
-            seven = left .seven;
-            four = left .four;
+            parts = left .parts;
+            all-kinds = left .all-kinds;
             fits =
                 rw (left .pending .long)
                 (fits-first (length table₀) (w .filling) (matricesFrom (w .filling) (matrixHere t line w)) _
                 (rw (ap (matricesFrom (w .filling)) matrices-on
-                ∙ matrices-split (w .filling) _ (matrixHere t line w) _ (left .seven) refl) at (left .pending .fits)));
+                ∙ matrices-split (w .filling) _ (matrixHere t line w) _ (left .parts) refl) at (left .pending .fits)));
           }
 
       module _ (v : SectionWalk) (table' : List ℕ) (taken : TakenLine t line table w v table') where
@@ -298,7 +302,7 @@ module _ (t : List ℕ) (n₀ at₀ : ℕ) (table₀ : List ℕ) (f₀ : Filling
                   (matricesFrom (w .filling) (matrixHere t line w)) _ (v .filling) table'
                   (pending-same (length table₀) f₀ table₀ _ (w .filling) table _ _
                   (ap (matricesFrom (w .filling)) matrices-next
-                  ∙ matrices-split (w .filling) (v .filling) (matrixHere t line w) (matricesIn (upTo inSection rest)) (left .seven)
+                  ∙ matrices-split (w .filling) (v .filling) (matrixHere t line w) (matricesIn (upTo inSection rest)) (left .parts)
                   (taken .stores .filled)) (left .pending))
                   (taken .stores);
               method =
@@ -308,11 +312,11 @@ module _ (t : List ℕ) (n₀ at₀ : ℕ) (table₀ : List ℕ) (f₀ : Filling
                   taken .conductors-on (matricesIn (upTo inSection rest))
                   ∙ ap (λ (ms : List Matrix). toldOr (w .conductors) (conductorsOf ms)) (sym matrices-next) ∙ left .conductors;
               kinds =
-                  λ (k : ℕ) (h : k < 4). taken .kinds-on k h (matricesIn (upTo inSection rest))
-                  ∙ ap (λ (ms : List Matrix). keptOr (getD (w .kinds) k 0) (indexOfKind k (getD (w .filling .counts) 5 0) ms))
+                  λ (k : ℕ) (h : k < matrixKinds). taken .kinds-on k h (matricesIn (upTo inSection rest))
+                  ∙ ap (λ (ms : List Matrix). keptOr (getD (w .kinds) k 0) (indexOfKind k (getD (w .filling .counts) matrices 0) ms))
                   (sym matrices-next) ∙ left .kinds k h;
-              seven = taken .seven;
-              four = taken .four;
+              parts = taken .parts;
+              all-kinds = taken .all-kinds;
               skipped =
                   skipped-passed behind rest (taken .passed) _
                   (skipped-on inSection _ _ (left .skipped) (sectionLine t line w) behind here (inside-told ∙ not-false inside k));
@@ -323,20 +327,29 @@ module _ (t : List ℕ) (n₀ at₀ : ℕ) (table₀ : List ℕ) (f₀ : Filling
         -- the staged matrices after it stay right
         pub lines-staged : (stage : List ℕ) → StagedOf t table stage (w .filling) → StagedOf t table' stage (v .filling)
         lines-staged stage staged =
-            stage-kept t table stage table' (w .filling) (v .filling) _ (taken .stores) (lines-takes .fits) (left .seven) staged
+            stage-kept t table stage table' (w .filling) (v .filling) _ (taken .stores) (lines-takes .fits) (left .parts) staged
 
 -- ---- a section's own record
 
-abbrev recordWords : Extent → ℕ → ℕ → List ℕ → List ℕ
-recordWords mark method n kinds =
-    mark .start ∷ mark .size ∷ method ∷ n ∷ getD kinds 0 0 ∷ getD kinds 1 0 ∷ getD kinds 2 0 ∷ getD kinds 3 0 ∷ []
+abbrev recordWith : Extent → ℕ → ℕ → List ℕ → SectionRecord
+recordWith mark method n kinds =
+    record {
+      start = mark .start;
+      size = mark .size;
+      method = method;
+      conductors = n;
+      resistance = getD kinds resistanceKind 0;
+      inductance = getD kinds inductanceKind 0;
+      conductance = getD kinds conductanceKind 0;
+      capacitance = getD kinds capacitanceKind 0;
+    }
 
 module _ (t : List ℕ) (line : Found) (table : List ℕ) (f : Filling) (puts : PutsSection t line table f) where
   abbrev below : Section
   below = sectionBelow t line
 
   abbrev own : Write
-  own = sectionWrite (getD (f .counts) 5 0) below
+  own = sectionWrite (getD (f .counts) matrices 0) below
 
   pub lines-puts : PutsLines t (line .line + 1) (line .next) table f
   unfolding sectionWrites sectionOf
@@ -345,38 +358,46 @@ module _ (t : List ℕ) (line : Found) (table : List ℕ) (f : Filling) (puts : 
       let b : line .at < line .next = puts .located .further in
       record {
         placed = record { within = puts .located .next-within; counted = omega arith };
-        seven = puts .seven;
+        parts = puts .parts;
         fits = fits-first (length table) f _ _ (puts .fits);
       }
 
   module _ (w : SectionWalk) (table' : List ℕ) (fills : FillsLines t (line .line + 1) (line .next) table f w table') where
-    pub section-asked : (4 < length widths) × (_≡_ {A = ℕ} 8 (widthOf 4)) × (position (w .filling) 4 + widthOf 4 ≤ length table')
-    unfolding sectionWrites sectionWrite sectionOf
+    pub section-asked : position (w .filling) sections + sectionWidth ≤ length table'
+    unfolding sectionWrites sectionWrite sectionOf widthOf
     section-asked =
         let g : Fits (length table) (w .filling) (own ∷ []) = rw (fills .stores .filled) (fits-rest (length table) f _ _ (puts .fits)) in
         let l : length table' ≡ length table = ap length (fills .stores .stored) ∙ length-after _ f table in
-        rw l (put-asked (w .filling) [] own (length table) 4 _ g refl refl)
+        rw l (fits-room (length table) (w .filling) own [] g)
 
     module _ (mark : Extent) (is-mark : mark ≡ extentOf (argumentOf (lineIn t line 0))) (method : ℕ)
         (is-method : method ≡ toldOr (w .method) 0) (n : ℕ) (is-n : n ≡ toldOr (w .conductors) 0) where
-      section-words : recordWords mark method n (w .kinds) ≡ own .words
-      unfolding sectionWrite sectionRecord sectionOf extentOf
-      section-words =
+      section-is : recordWith mark method n (w .kinds) ≡ sectionRecord (getD (f .counts) matrices 0) below
+      unfolding sectionRecord sectionOf extentOf
+      section-is =
           let m : method ≡ methodIn (linesBelow t line) = is-method ∙ fills .method in
           let c : n ≡ conductorsOf (matricesIn (linesBelow t line)) = is-n ∙ fills .conductors in
-          λ i. is-mark i .start ∷ is-mark i .size ∷ m i ∷ c i ∷ fills .kinds 0 (omega arith) i ∷ fills .kinds 1 (omega arith) i
-          ∷ fills .kinds 2 (omega arith) i ∷ fills .kinds 3 (omega arith) i ∷ []
+          λ i. record {
+            start = is-mark i .start;
+            size = is-mark i .size;
+            method = m i;
+            conductors = c i;
+            resistance = fills .kinds resistanceKind (omega arith) i;
+            inductance = fills .kinds inductanceKind (omega arith) i;
+            conductance = fills .kinds conductanceKind (omega arith) i;
+            capacitance = fills .kinds capacitanceKind (omega arith) i;
+          }
 
       pub section-filled :
-          (r : Filling) (table'' : List ℕ) → r ≡ counted (w .filling) 4 →
-          table'' ≡ sets table' (position (w .filling) 4)
-          (recordWords mark method n (w .kinds)) →
+          (r : Filling) (table'' : List ℕ) → r ≡ counted (w .filling) sections →
+          table'' ≡ sets table' (position (w .filling) sections) (sectionWords (recordWith mark method n (w .kinds))) →
           FillsSection t line table f (record { at = w .at; line = w .line; place = w .place; filling = r }) table''
       unfolding sectionWrites sectionWrite sectionOf
       section-filled r table'' k h =
           record {
             stores = stores-join f (w .filling) r table table' table'' _ (own ∷ []) (fills .stores)
-                (put-stored (w .filling) table' own 4 _ r table'' refl section-words k h);
+                (put-stored (w .filling) table' own r table'' k
+                (h ∙ ap (λ (x : SectionRecord). sets table' (position (w .filling) sections) (sectionWords x)) section-is));
             rest = fills .rest;
             placed = fills .placed;
             onward = fills .onward;

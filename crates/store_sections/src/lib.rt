@@ -7,6 +7,8 @@ ghost use Rattle.base.specs.If.{both, either};
 ghost use Rattle.lex_keyword.specs.Names.{beginIcmSection};
 ghost use Rattle.line_place.specs.Place.{opensMatrix};
 ghost use Rattle.line_place.specs.Place as places;
+ghost use Rattle.table_layout.specs.Layout.{values, partCount};
+ghost use Rattle.table_layout.specs.Codes.{matrixKinds};
 ghost use Rattle.table_layout.specs.Way.Filling.{Fits};
 ghost use Rattle.doc.specs.Document.{kindOf, sectionAt};
 ghost use Rattle.doc.specs.Way.Found.{Located};
@@ -18,6 +20,10 @@ use doc::Found;
 use store_base::Walk;
 use store_matrices::First;
 use table_layout::Filling;
+use table_record::SectionRecord;
+
+// How many kinds of matrices there are.
+const KINDS: usize = table_layout::code::MATRIX_KINDS as usize;
 
 // How far the lines of a section have been read: the offset, line and place where to go on, and what
 // the lines have given. The first method counts. N is that of the first matrix. Of each kind the
@@ -28,29 +34,29 @@ pub struct SectionWalk {
     pub place: u64,
     pub method: First,
     pub conductors: First,
-    pub kinds: [u64; 4],
+    pub kinds: [u64; KINDS],
     pub filling: Filling,
 }
 
 // "R L G C".
-fn kind_of(key: u64) -> usize
+fn kind_of(key: u64) -> u64
     ensures { λ r. ⌜ r ≡ kindOf key ⌝ }
 {
     if key == lex_keyword::RESISTANCE_MATRIX {
-        return 0;
+        return table_layout::code::RESISTANCE;
     }
     if key == lex_keyword::INDUCTANCE_MATRIX {
-        return 1;
+        return table_layout::code::INDUCTANCE;
     }
     if key == lex_keyword::CONDUCTANCE_MATRIX {
-        return 2;
+        return table_layout::code::CONDUCTANCE;
     }
-    3
+    table_layout::code::CAPACITANCE
 }
 
 // Adds a matrix to the kinds if it is the first of its kind.
-fn with_kind(kinds: [u64; 4], kind: usize, index: u64) -> [u64; 4]
-    requires { ⌜ kind < 4 ⌝ }
+fn with_kind(kinds: [u64; KINDS], kind: usize, index: u64) -> [u64; KINDS]
+    requires { ⌜ kind < matrixKinds ⌝ }
     ensures { λ r. ⌜ r ≡ kindsWith kinds kind index ⌝ }
 {
     if kinds[kind] == 0 {
@@ -121,7 +127,7 @@ fn take_matrix(
     stage: &[u64],
 ) -> SectionWalk
     requires { ⌜ TakesMatrix (now text) line (now table) walk
-        × Staged (now text) (now table) (now stage) (getD (walk .filling .bases) 6 0) (getD (walk .filling .counts) 6 0) ⌝ }
+        × Staged (now text) (now table) (now stage) (getD (walk .filling .bases) values 0) (getD (walk .filling .counts) values 0) ⌝ }
     ensures { λ r. ⌜ TakenLine (now (text .entry)) line (now (table .entry)) walk r (now (table .exit)) ⌝ }
 {
     let filling = walk.filling;
@@ -132,7 +138,8 @@ fn take_matrix(
     let filled = stored.filling;
     let counts = filled.counts;
     let conductors = store_matrices::first_told(before, stored.conductors);
-    let kinds = with_kind(kept, kind_of(line.key), counts[table_layout::MATRICES]);
+    let kind = kind_of(line.key);
+    let kinds = with_kind(kept, kind as usize, counts[table_layout::MATRICES]);
     SectionWalk {
         at: stored.at,
         line: stored.line,
@@ -153,7 +160,7 @@ fn take_line(
     stage: &[u64],
 ) -> SectionWalk
     requires { ⌜ TakesLine (now text) line (now table) walk
-        × Staged (now text) (now table) (now stage) (getD (walk .filling .bases) 6 0) (getD (walk .filling .counts) 6 0) ⌝ }
+        × Staged (now text) (now table) (now stage) (getD (walk .filling .bases) values 0) (getD (walk .filling .counts) values 0) ⌝ }
     ensures { λ r. ⌜ TakenLine (now (text .entry)) line (now (table .entry)) walk r (now (table .exit)) ⌝ }
 {
     if opens_matrix(walk.place, line.key) {
@@ -185,7 +192,7 @@ fn fill_lines(
     stage: &[u64],
 ) -> SectionWalk
     requires { ⌜ PutsLines (now text) «first_line» at (now table) filling
-        × Staged (now text) (now table) (now stage) (getD (filling .bases) 6 0) (getD (filling .counts) 6 0) ⌝ }
+        × Staged (now text) (now table) (now stage) (getD (filling .bases) values 0) (getD (filling .counts) values 0) ⌝ }
     ensures { λ r. ⌜ FillsLines (now (text .entry)) «first_line» at (now (table .entry)) filling r (now (table .exit)) ⌝ }
 {
     let untold = First {
@@ -198,7 +205,7 @@ fn fill_lines(
         place: line_place::SECTION_HEAD,
         method: untold,
         conductors: untold,
-        kinds: [0; 4],
+        kinds: [0; KINDS],
         filling,
     };
     loop {
@@ -222,7 +229,7 @@ fn fill_section(
     stage: &[u64],
 ) -> Walk
     requires { ⌜ PutsSection (now text) line (now table) filling
-        × Staged (now text) (now table) (now stage) (getD (filling .bases) 6 0) (getD (filling .counts) 6 0) ⌝ }
+        × Staged (now text) (now table) (now stage) (getD (filling .bases) values 0) (getD (filling .counts) values 0) ⌝ }
     ensures { λ r. ⌜ FillsSection (now (text .entry)) line (now (table .entry)) filling r (now (table .exit)) ⌝ }
 {
     let walk = fill_lines(text, line.next, line.line + 1, table, filling, stage);
@@ -231,21 +238,21 @@ fn fill_section(
     let conductors = walk.conductors;
     let kinds = walk.kinds;
     let mark = doc::argument_extent(text, line);
-    let words = [
-        mark.start as u64,
-        mark.size as u64,
-        store_matrices::told_in(method),
-        store_matrices::told_in(conductors),
-        kinds[0],
-        kinds[1],
-        kinds[2],
-        kinds[3],
-    ];
+    let own = SectionRecord {
+        start: mark.start as u64,
+        size: mark.size as u64,
+        method: store_matrices::told_in(method),
+        conductors: store_matrices::told_in(conductors),
+        resistance: kinds[table_layout::code::RESISTANCE as usize],
+        inductance: kinds[table_layout::code::INDUCTANCE as usize],
+        conductance: kinds[table_layout::code::CONDUCTANCE as usize],
+        capacitance: kinds[table_layout::code::CAPACITANCE as usize],
+    };
     Walk {
         at: walk.at,
         line: walk.line,
         place: walk.place,
-        filling: table_layout::put_record(table, filled, table_layout::SECTIONS, &words),
+        filling: table_record::put_section(table, filled, own),
     }
 }
 
@@ -262,7 +269,7 @@ fn opens_section(place: u64, key: u64) -> bool
 // A line, with the section that it opens, if any.
 fn pass_section(text: &[u8], line: Found, table: &mut [u64], walk: Walk, stage: &[u64]) -> Walk
     requires { ⌜ Ready sectionAt sectionsOf (now text) line walk (now table)
-        × Staged (now text) (now table) (now stage) (getD (walk .filling .bases) 6 0) (getD (walk .filling .counts) 6 0) ⌝ }
+        × Staged (now text) (now table) (now stage) (getD (walk .filling .bases) values 0) (getD (walk .filling .counts) values 0) ⌝ }
     ensures { λ r. ⌜ Passes sectionAt sectionsOf (now (text .entry)) line walk (now (table .entry)) r (now (table .exit)) ⌝ }
 {
     let filling = walk.filling;
@@ -280,9 +287,9 @@ fn pass_section(text: &[u8], line: Found, table: &mut [u64], walk: Walk, stage: 
 // Stores all sections from where the walk goes on. The lines of a staged matrix are not read again.
 pub fn fill_sections(text: &[u8], table: &mut [u64], walk: Walk, stage: &[u64]) -> Filling
     requires { ⌜ Placed (now text) (walk .line) (walk .at)
-        × (length (walk .filling .counts) ≡ 7)
+        × (length (walk .filling .counts) ≡ partCount)
         × Fits (length (now table)) (walk .filling) (sectionsOf (walk .filling) (sectionsLeft (now text) walk))
-        × Staged (now text) (now table) (now stage) (getD (walk .filling .bases) 6 0) (getD (walk .filling .counts) 6 0) ⌝ }
+        × Staged (now text) (now table) (now stage) (getD (walk .filling .bases) values 0) (getD (walk .filling .counts) values 0) ⌝ }
     ensures { λ r. ⌜ Stores (walk .filling) (now (table .entry)) (sectionsOf (walk .filling) (sectionsLeft (now (text .entry)) walk)) r (now (table .exit)) ⌝ }
 {
     let mut next = walk;

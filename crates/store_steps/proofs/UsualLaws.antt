@@ -1,6 +1,7 @@
 -- Laws of lines in their usual form: the name and the amount that such a line says, and its step stored.
 -- Assumes nothing.
 use mathlib.Core.Path.{_≡_, refl, sym, _∙_, ap}
+use mathlib.Core.Bool.{true, false}
 use mathlib.Core.List.{List, [], _∷_}
 use mathlib.Core.Logic.{_⊎_, inl, inr, ⊎-elim}
 use Prim.Native.Nat.{ℕ, _+_, _-_, _*_, _≤_, _<_}
@@ -8,26 +9,30 @@ use native.Mathlib.Nat.{add-zero}
 use native.Mathlib.Omega.{arith}
 use lib.ListN.{length, take, drop, getD, length-drop}
 use lib.Seq.{sets, drop-drop}
-use Rattle.base.proofs.IfLaws.{if-true}
-use Rattle.base.specs.Bytes.{bytes}
-use Rattle.lex_line.specs.Words.{Word, wordsFrom, words, firstOf, toEquals, rightOf}
+use lib.Dec.{eqb}
+use borrow.Author.Tests.{eq-eqb, ne-eqb}
+use Rattle.base.proofs.IfLaws.{if-true, if-false, by-test}
+use Rattle.lex_line.specs.Words.{Word, wordsFrom, firstOf}
 use Rattle.lex_line.specs.Way.Spans.{wordSpan}
 use Rattle.lex_line.proofs.WordLaws.{words-at}
 use Rattle.lex_number.specs.Integer.{wholeOf}
 use Rattle.lex_number.specs.declared.Whole.{Whole}
-use Rattle.line_path.specs.Path.{sayingOf, isMult}
+use Rattle.line_path.specs.Path.{saysEnd, saysSection, saysFork, saysEndfork}
 use Rattle.line_path.specs.Way.Usual.{Paired, UsualSection, UsualFork, forks, ends}
 use Rattle.line_path.proofs.UsualLaws.{opens-says, opens-equals, opens-is-mult, usual-right, usual-within, fork-says}
-use Rattle.table_layout.specs.Way.Filling.{widthOf, position, counted}
+use Rattle.table_layout.specs.Layout.{steps, sections, stepWidth, sectionWidth}
+use Rattle.table_layout.specs.Codes.{sectionKind}
+use Rattle.table_layout.specs.Way.Filling.{position, counted}
+use Rattle.table_record.specs.Records.{stepWords}
+use Rattle.table_record.specs.declared.StepRecord.{StepRecord}
 use Rattle.table_layout.specs.declared.Filling.{Filling}
 use Rattle.doc.specs.Lines.{rightWordsOf, secondWord}
 use Rattle.doc.specs.Document.{amountOf}
 use Rattle.doc.specs.Way.Found.{contentIn}
 use Rattle.doc.specs.declared.Found.{Found}
 use Rattle.table_name.specs.Way.Search.{findIn}
-use Rattle.store_base.specs.Way.Stores.{Stores}
-use Rattle.store_steps.specs.Way.Steps.{pathLine, sectionStep, forkStep, targetIn, stepWrites, Says, Told, stepsAt}
-use Rattle.store_steps.specs.Way.Usual.{Usual, single, pair, Usable, Put, Puts, Forking, Pairing}
+use Rattle.store_steps.specs.Way.Steps.{pathLine, sectionStep, sectionRecord, forkStep, forkRecord, Says, Told, stepsAt}
+use Rattle.store_steps.specs.Way.Usual.{single, pair, Usable, Put, Puts, kindOf, Forking, Pairing}
 use Rattle.store_steps.proofs.StepLaws.{
   section-named,
   step-asked,
@@ -75,7 +80,14 @@ module _ (t : List ℕ) (line : Found) (end : ℕ) (u : UsualSection (contentIn 
 
 -- ---- its step stored
 
-fork-kind : (c : List ℕ) (says : ℕ) → UsualFork c says → (says ≡ 4) ⊎ (says ≡ 5)
+-- forks and endforks are the kinds behind a section
+kind-above : (says : ℕ) → sectionKind < kindOf says
+unfolding kindOf
+kind-above says =
+    by-test (λ (n : ℕ). sectionKind < n) (eqb says saysFork) _ _ (λ (e : eqb says saysFork ≡ true). omega arith)
+    (λ (e : eqb says saysFork ≡ false). omega arith)
+
+fork-kind : (c : List ℕ) (says : ℕ) → UsualFork c says → (says ≡ saysFork) ⊎ (says ≡ saysEndfork)
 fork-kind c says forks = inl refl
 fork-kind c says ends = inr refl
 
@@ -87,37 +99,35 @@ module _ (t : List ℕ) (line : Found) (says : ℕ) (f : Filling) (table : List 
   fork-told : Told t line says f table
   fork-told = record { key = asked .usable .key; word = fork-says (contentIn t line) says (asked .form); ready = says-fork }
 
-  fork-steps : stepsAt t line ≡ forkStep (says - 2) line ∷ []
+  fork-steps : stepsAt t line ≡ forkStep (kindOf says) line ∷ []
+  unfolding kindOf
   fork-steps =
       ⊎-elim
-      (λ (e : says ≡ 4).
-      fork-here t line says f table fork-told (λ (k : says ≡ 1). omega arith) (λ (k : says ≡ 3). omega arith) e
-      ∙ ap (λ (n : ℕ). forkStep (n - 2) line ∷ []) (sym e))
-      (λ (e : says ≡ 5).
-      endfork-here t line says f table fork-told (λ (k : says ≡ 1). omega arith) (λ (k : says ≡ 3). omega arith)
-      (λ (k : says ≡ 4). omega arith) e
-      ∙ ap (λ (n : ℕ). forkStep (n - 2) line ∷ []) (sym e))
+      (λ (e : says ≡ saysFork).
+      fork-here t line says f table fork-told (λ (k : says ≡ saysEnd). omega arith) (λ (k : says ≡ saysSection). omega arith) e
+      ∙ ap (λ (n : ℕ). forkStep n line ∷ []) (sym (if-true _ _ (eq-eqb _ _ e))))
+      (λ (e : says ≡ saysEndfork).
+      endfork-here t line says f table fork-told (λ (k : says ≡ saysEnd). omega arith) (λ (k : says ≡ saysSection). omega arith)
+      (λ (k : says ≡ saysFork). omega arith) e
+      ∙ ap (λ (n : ℕ). forkStep n line ∷ []) (sym (if-false _ _ (ne-eqb _ _ (λ (k : says ≡ saysFork). omega arith)))))
       (fork-kind (contentIn t line) says (asked .form))
 
-  pub fork-above : 4 ≤ says
-  fork-above = ⊎-elim (λ (e : says ≡ 4). omega arith) (λ (e : says ≡ 5). omega arith) (fork-kind (contentIn t line) says (asked .form))
-
-  fork-said : Says t line f table (forkStep (says - 2) line ∷ [])
+  fork-said : Says t line f table (forkStep (kindOf says) line ∷ [])
   fork-said = rw fork-steps at says-fork
 
-  fork-position : position f 1 + widthOf 1 ≤ length table
-  fork-position = step-asked t line f table (forkStep (says - 2) line) fork-said .2
+  pub fork-room : position f steps + stepWidth ≤ length table
+  fork-room = step-asked t line f table (forkStep (kindOf says) line) fork-said
 
-  pub fork-room : (_≡_ {A = ℕ} 6 6) × (position f 1 + widthOf 1 ≤ length table)
-  fork-room = (refl, fork-position)
-
-  pub fork-puts : (n : ℕ) → n ≡ getD (f .counts) 1 0 + 1 → (table' : List ℕ) → table' ≡ sets table (position f 1) ((says - 2) ∷ 0 ∷ 0 ∷ 0 ∷ 0 ∷ line .line ∷ []) → Put t line f table n table'
-  fork-puts n is-n table' h =
-      let above : 4 ≤ says = fork-above in
+  pub fork-puts : (n : ℕ) → n ≡ getD (f .counts) steps 0 + 1 → (kind : ℕ) → kind ≡ kindOf says →
+      (x : StepRecord) → x ≡ forkRecord kind (line .line) → (table' : List ℕ) → table' ≡ sets table (position f steps) (stepWords x) →
+      Put t line f table n table'
+  fork-puts n is-n kind is-kind x is-x table' h =
       record {
         usual = single says (asked .form);
         count = is-n;
-        stores = rw fork-steps (fork-stored t line f table (counted f 1) table' refl (says - 2) (omega arith, fork-said) h);
+        stores =
+            rw fork-steps
+            (fork-stored t line f table (counted f steps) table' refl (kindOf says) (kind-above says, fork-said) x (rw is-kind at is-x) h);
       }
 
 -- a Section
@@ -125,40 +135,38 @@ module _ (t : List ℕ) (line : Found) (end : ℕ) (f : Filling) (table : List �
   says-pair : Says t line f table (stepsAt t line)
   says-pair = asked .usable .says (pair end (asked .form))
 
-  section-told : Told t line 3 f table
+  section-told : Told t line saysSection f table
   section-told = record { key = asked .usable .key; word = opens-says (contentIn t line) (asked .form .opens); ready = says-pair }
 
   section-steps : stepsAt t line ≡ sectionStep t line ∷ []
-  section-steps = section-here t line 3 f table section-told (λ (k : _≡_ {A = ℕ} 3 1). omega arith) refl
+  section-steps = section-here t line saysSection f table section-told (λ (k : saysSection ≡ saysEnd). omega arith) refl
 
   section-said : Says t line f table (sectionStep t line ∷ [])
   section-said = rw section-steps at says-pair
 
-  section-position : position f 1 + widthOf 1 ≤ length table
-  section-position = step-asked t line f table (sectionStep t line) section-said .2
+  pub section-room : position f steps + stepWidth ≤ length table
+  section-room = step-asked t line f table (sectionStep t line) section-said
 
-  pub section-room : (_≡_ {A = ℕ} 6 6) × (position f 1 + widthOf 1 ≤ length table)
-  section-room = (refl, section-position)
-
-  pub section-table : getD (f .bases) 4 0 + 8 * getD (f .counts) 4 0 ≤ length table
+  pub section-table : getD (f .bases) sections 0 + sectionWidth * getD (f .counts) sections 0 ≤ length table
   section-table = says-pair .aimed .aims .sections-room
 
   pub section-within : end + 1 < length (contentIn t line)
   section-within = usual-within (contentIn t line) end (asked .form)
 
-  pub section-puts : (n : ℕ) → n ≡ getD (f .counts) 1 0 + 1 → (target : ℕ) →
-      target ≡ findIn t table (getD (f .bases) 4 0) 8 (getD (f .counts) 4 0) (take (length (contentIn t line) - (end + 1)) (drop (end + 1) (contentIn t line))) 0 →
-      (times : Whole) → times ≡ wholeOf (take (end - 13) (drop 13 (contentIn t line))) → (table' : List ℕ) →
-      table' ≡ sets table (position f 1) (1 ∷ target ∷ times .value ∷ 0 ∷ 0 ∷ line .line ∷ []) → Put t line f table n table'
-  section-puts n is-n target is-target times is-times table' h =
+  pub section-puts : (n : ℕ) → n ≡ getD (f .counts) steps 0 + 1 → (target : ℕ) →
+      target ≡ findIn t table (getD (f .bases) sections 0) sectionWidth (getD (f .counts) sections 0) (take (length (contentIn t line) - (end + 1)) (drop (end + 1) (contentIn t line))) 0 →
+      (times : Whole) → times ≡ wholeOf (take (end - 13) (drop 13 (contentIn t line))) →
+      (x : StepRecord) → x ≡ sectionRecord target (times .value) (line .line) → (table' : List ℕ) →
+      table' ≡ sets table (position f steps) (stepWords x) → Put t line f table n table'
+  section-puts n is-n target is-target times is-times x is-x table' h =
       record {
         usual = pair end (asked .form);
         count = is-n;
         stores =
             rw section-steps
-            (section-stored t line f table (counted f 1) table' refl target
+            (section-stored t line f table (counted f steps) table' refl target
             (section-named t line f table (says-pair .aimed) _ (sym (usual-name t line end (asked .form))) target is-target) (times .value)
-            (usual-amount t line end (asked .form) times is-times) h);
+            (usual-amount t line end (asked .form) times is-times) x is-x h);
       }
 
 -- ---- what the functions that store them ask for
@@ -175,7 +183,7 @@ pub puts-done : (t : List ℕ) (line : Found) (f : Filling) (table : List ℕ) (
 puts-done t line f table n table' p =
     record {
       done = λ (e : n ≡ 0 → ⊥). p;
-      kept = λ (e : n ≡ 0). absurd (let k : n ≡ getD (f .counts) 1 0 + 1 = p .count in omega arith);
+      kept = λ (e : n ≡ 0). absurd (let k : n ≡ getD (f .counts) steps 0 + 1 = p .count in omega arith);
     }
 
 pub puts-none : (t : List ℕ) (line : Found) (f : Filling) (table : List ℕ) → Puts t line f table 0 table

@@ -31,7 +31,7 @@ use Rattle.lex_number.specs.Integer.{isInteger, wholeOf}
 use Rattle.lex_number.specs.declared.Number.{Number}
 use Rattle.lex_number.specs.declared.Whole.{Whole}
 use Rattle.line_place.specs.Place as place
-use Rattle.line_path.specs.Path.{sayingOf, isMult}
+use Rattle.line_path.specs.Path.{saysNothing, saysSide, sayingOf, isMult}
 use Rattle.line_path.specs.Path as path
 use Rattle.doc.specs.Lines.{plain, keyOf, linesAt, wordsOf, rightWordsOf, noWord, secondWord, standsIn}
 use Rattle.doc.specs.Document.{wordIn, sayingAt, amountOf, sideIn}
@@ -123,7 +123,7 @@ module _ (t : List ℕ) (line : Found) (sign : ℕ) (at : sign ≡ toEquals (con
 module _ (t : List ℕ) (line : Found) (located : Located t line) where
   pub path-says : line .key ≡ plain → sayingAt (pathLine t line) ≡ sayingOf (firstOf (words (contentIn t line)))
   unfolding sayingAt standsIn keyOf
-  path-says k = if-true _ _ (both-true _ _ (eq-eqb 9 9 refl) (eq-eqb _ _ (sym (located .key-is) ∙ k)))
+  path-says k = if-true _ _ (both-true _ _ (eq-eqb place.path place.path refl) (eq-eqb _ _ (sym (located .key-is) ∙ k)))
 
   keyed-says : (line .key ≡ plain → ⊥) → sayingAt (pathLine t line) ≡ path.saysNothing
   unfolding sayingAt standsIn keyOf
@@ -133,21 +133,21 @@ module _ (t : List ℕ) (line : Found) (located : Located t line) where
       record { start = 0; size = 0 } ≡ extentOf (sideIn (pathLine t line ∷ []))
   no-side n e h = no-mark ∙ ap extentOf (sym (if-false _ _ (ne-eqb _ _ (λ (k : sayingAt (pathLine t line) ≡ path.saysSide). h (sym e ∙ k)))))
 
-  pub side-keyed : (line .key ≡ 41 → ⊥) → record { start = 0; size = 0 } ≡ extentOf (sideIn (pathLine t line ∷ []))
-  side-keyed k = no-side 0 (keyed-says k) (λ (e : _≡_ {A = ℕ} 0 2). omega arith)
+  pub side-keyed : (line .key ≡ plain → ⊥) → record { start = 0; size = 0 } ≡ extentOf (sideIn (pathLine t line ∷ []))
+  side-keyed k = no-side saysNothing (keyed-says k) (λ (e : saysNothing ≡ saysSide). omega arith)
 
-  module _ (k : (line .key ≡ 41 → ⊥) → ⊥) (word : List ℕ) (is-word : word ≡ firstOf (words (contentIn t line))) (says : ℕ)
+  module _ (k : (line .key ≡ plain → ⊥) → ⊥) (word : List ℕ) (is-word : word ≡ firstOf (words (contentIn t line))) (says : ℕ)
       (told : says ≡ sayingOf word) where
     says-here : sayingAt (pathLine t line) ≡ says
-    says-here = path-says (eq-of-not-not (line .key) 41 k) ∙ sym (told ∙ ap sayingOf is-word)
+    says-here = path-says (eq-of-not-not (line .key) plain k) ∙ sym (told ∙ ap sayingOf is-word)
 
-    pub side-other : (says ≡ 2 → ⊥) → record { start = 0; size = 0 } ≡ extentOf (sideIn (pathLine t line ∷ []))
+    pub side-other : (says ≡ saysSide → ⊥) → record { start = 0; size = 0 } ≡ extentOf (sideIn (pathLine t line ∷ []))
     side-other h = no-side says says-here h
 
-    pub side-told : ((says ≡ 2 → ⊥) → ⊥) → (r : Extent) → r ≡ extentOf (secondWord (wordsFrom (line .at) (contentIn t line))) →
+    pub side-told : ((says ≡ saysSide → ⊥) → ⊥) → (r : Extent) → r ≡ extentOf (secondWord (wordsFrom (line .at) (contentIn t line))) →
         r ≡ extentOf (sideIn (pathLine t line ∷ []))
     unfolding wordsOf
-    side-told h r e = e ∙ ap extentOf (sym (if-true _ _ (eq-eqb _ _ (says-here ∙ eq-of-not-not says 2 h))))
+    side-told h r e = e ∙ ap extentOf (sym (if-true _ _ (eq-eqb _ _ (says-here ∙ eq-of-not-not says saysSide h))))
 
 -- the next line that says something
 module _ (t : List ℕ) (n at : ℕ) (line : Found) (finds : FindsLine t n at line) where

@@ -11,48 +11,24 @@ ghost use Rattle.lex_line.specs.Words.{words, secondOf};
 ghost use Rattle.lex_number.specs.Number.{numberOf};
 ghost use Rattle.lex_number.specs.Integer.{wholeOf};
 ghost use Rattle.line_place.specs.Place as place;
-ghost use Rattle.table_layout.specs.Way.Filling.{widthOf, position};
+ghost use Rattle.table_layout.specs.Layout.{steps, partCount, stepWidth, nameWidth};
+ghost use Rattle.table_layout.specs.Codes.{sectionKind};
+ghost use Rattle.table_layout.specs.Way.Filling.{position};
+ghost use Rattle.table_record.specs.Records.{stepWords};
 ghost use Rattle.doc.specs.Lines.{linesAt, rightWordsOf, secondWord};
 ghost use Rattle.doc.specs.Document.{wordIn, amountOf, sideIn};
 ghost use Rattle.doc.specs.Way.Found.{Located, extentOf};
 ghost use Rattle.table_name.specs.Name.{nameAt};
 ghost use Rattle.table_name.specs.Way.Search.{findIn};
 ghost use Rattle.store_base.specs.Way.Stores.{Stores, Placed};
-ghost use Rattle.store_steps.specs.Way.Usual.{Usable, Put, Puts, Forking, Pairing};
-ghost use Rattle.store_steps.specs.Way.Steps.{pathLine, endStep, sectionStep, forkStep, targetIn, stepWrites, Aimed, Says, Told, stepsAt};
+ghost use Rattle.store_steps.specs.Way.Usual.{Usable, Put, Puts, kindOf, Forking, Pairing};
+ghost use Rattle.store_steps.specs.Way.Steps.{pathLine, endStep, sectionStep, stepWith, sectionRecord, forkStep, forkRecord, targetIn, stepWrites, Aimed, Says, Told, stepsAt};
 use doc::Extent;
 use doc::Found;
-use lex_number::Number;
 use table_layout::Filling;
-
-// "kind 0 end 1 section 2 fork 3 endfork".
-const END: u64 = 0;
-
-const SECTION: u64 = 1;
-
-const FORK: u64 = 2;
-
-const ENDFORK: u64 = 3;
-
-// How many words a record of a map has, and one of a section.
-const MAP_WORDS: usize = 7;
-
-const SECTION_WORDS: usize = 8;
-
-const STEP_WORDS: usize = 6;
+use table_record::StepRecord;
 
 // ---- what a line says of its step
-
-// The value word that a number writes; 0 where it writes none.
-fn word_in(n: Number) -> u64
-    ensures { λ r. ⌜ r ≡ wordIn n ⌝ }
-{
-    match n {
-        Number::Value(word) => word,
-        Number::Malformed => 0,
-        Number::Range => 0,
-    }
-}
 
 fn amount_in(mult: bool, amount: &[u8]) -> u64
     ensures { λ r. ⌜ r ≡ (if mult then wholeOf (now (amount .entry)) .value else wordIn (numberOf (now (amount .entry)))) ⌝ }
@@ -61,7 +37,7 @@ fn amount_in(mult: bool, amount: &[u8]) -> u64
         let times = lex_number::read_integer(amount);
         return times.value;
     }
-    word_in(lex_number::read_number(amount))
+    doc::word_in(lex_number::read_number(amount))
 }
 
 // Whether Mult is the unit that stands before the sign.
@@ -142,7 +118,7 @@ fn find_marked(
     mark: Extent,
     after: usize,
 ) -> u64
-    requires { ⌜ (part < 7) × (2 ≤ width) × (getD (filling .bases) part 0 + width * getD (filling .counts) part 0 ≤ length (now table)) ⌝ }
+    requires { ⌜ (part < partCount) × (nameWidth ≤ width) × (getD (filling .bases) part 0 + width * getD (filling .counts) part 0 ≤ length (now table)) ⌝ }
     ensures { λ r. ⌜ r ≡ findIn (now (text .entry)) (now (table .entry)) (getD (filling .bases) part 0) width (getD (filling .counts) part 0) (nameAt (now (text .entry)) (mark .start) (mark .size)) after ⌝ }
 {
     let bases = filling.bases;
@@ -164,7 +140,7 @@ fn end_target(text: &[u8], line: Found, table: &[u64], filling: Filling) -> u64
         table,
         filling,
         table_layout::MAPS,
-        MAP_WORDS,
+        table_layout::MAP_WIDTH,
         mark,
         line.next,
     )
@@ -181,7 +157,7 @@ fn section_target(text: &[u8], line: Found, table: &[u64], filling: Filling) -> 
         table,
         filling,
         table_layout::SECTIONS,
-        SECTION_WORDS,
+        table_layout::SECTION_WIDTH,
         mark,
         0,
     )
@@ -189,21 +165,43 @@ fn section_target(text: &[u8], line: Found, table: &[u64], filling: Filling) -> 
 
 // ---- steps stored
 
+// The record of a step of any kind.
+fn step_record(kind: u64, target: u64, amount: u64, side: Extent, line: u64) -> StepRecord
+    ensures { λ r. ⌜ r ≡ stepWith kind target amount side line ⌝ }
+{
+    StepRecord {
+        kind,
+        target,
+        amount,
+        side: side.start as u64,
+        side_size: side.size as u64,
+        line,
+    }
+}
+
+fn section_record(target: u64, amount: u64, line: u64) -> StepRecord
+    ensures { λ r. ⌜ r ≡ sectionRecord target amount line ⌝ }
+{
+    let side = Extent { start: 0, size: 0 };
+    step_record(table_layout::code::SECTION, target, amount, side, line)
+}
+
+// A fork or an endfork, by its kind: it points at nothing.
+fn fork_record(kind: u64, line: u64) -> StepRecord
+    ensures { λ r. ⌜ r ≡ forkRecord kind line ⌝ }
+{
+    let side = Extent { start: 0, size: 0 };
+    step_record(kind, 0, 0, side, line)
+}
+
 fn put_end(text: &[u8], line: Found, table: &mut [u64], filling: Filling) -> Filling
     requires { ⌜ Says (now text) line filling (now table) (endStep (now text) line ∷ []) ⌝ }
     ensures { λ r. ⌜ Stores filling (now (table .entry)) (stepWrites (now (text .entry)) (endStep (now (text .entry)) line ∷ [])) r (now (table .exit)) ⌝ }
 {
     let target = end_target(text, line, table, filling);
     let side = side_after(text, line.next, line.line + 1);
-    let words = [
-        END,
-        target,
-        0,
-        side.start as u64,
-        side.size as u64,
-        line.line,
-    ];
-    table_layout::put_record(table, filling, table_layout::STEPS, &words)
+    let step = step_record(table_layout::code::END, target, 0, side, line.line);
+    table_record::put_step(table, filling, step)
 }
 
 fn put_section(text: &[u8], line: Found, table: &mut [u64], filling: Filling) -> Filling
@@ -214,17 +212,16 @@ fn put_section(text: &[u8], line: Found, table: &mut [u64], filling: Filling) ->
     let end = line.end;
     let target = section_target(text, line, table, filling);
     let amount = amount_of(&text[at..end]);
-    let words = [SECTION, target, amount, 0, 0, line.line];
-    table_layout::put_record(table, filling, table_layout::STEPS, &words)
+    let step = section_record(target, amount, line.line);
+    table_record::put_step(table, filling, step)
 }
 
-// A fork or an endfork, by its kind: it points at nothing.
 fn put_fork(text: &[u8], line: Found, kind: u64, table: &mut [u64], filling: Filling) -> Filling
-    requires { ⌜ (1 < kind) × Says (now text) line filling (now table) (forkStep kind line ∷ []) ⌝ }
+    requires { ⌜ (sectionKind < kind) × Says (now text) line filling (now table) (forkStep kind line ∷ []) ⌝ }
     ensures { λ r. ⌜ Stores filling (now (table .entry)) (stepWrites (now (text .entry)) (forkStep kind line ∷ [])) r (now (table .exit)) ⌝ }
 {
-    let words = [kind, 0, 0, 0, 0, line.line];
-    table_layout::put_record(table, filling, table_layout::STEPS, &words)
+    let step = fork_record(kind, line.line);
+    table_record::put_step(table, filling, step)
 }
 
 // The step of a line of a path, by what the line says; a Side is part of the step above it.
@@ -239,31 +236,33 @@ pub fn put_step(text: &[u8], line: Found, says: u64, table: &mut [u64], filling:
         return put_section(text, line, table, filling);
     }
     if says == line_path::FORK {
-        return put_fork(text, line, FORK, table, filling);
+        return put_fork(text, line, table_layout::code::FORK, table, filling);
     }
     if says == line_path::ENDFORK {
-        return put_fork(text, line, ENDFORK, table, filling);
+        return put_fork(text, line, table_layout::code::ENDFORK, table, filling);
     }
     filling
 }
 
 // ---- lines as they are mostly written
 
-// The words of a step stored behind those of the steps that are stored already: how many there are then.
-fn store_step(table: &mut [u64], filling: Filling, words: &[u64]) -> u64
-    requires { ⌜ (length (now words) ≡ 6) × (position filling 1 + widthOf 1 ≤ length (now table)) ⌝ }
-    ensures { λ r. ⌜ (r ≡ getD (filling .counts) 1 0 + 1) × (now (table .exit) ≡ sets (now (table .entry)) (position filling 1) (now (words .entry))) ⌝ }
+// A step stored: how many there are then.
+fn store_step(table: &mut [u64], filling: Filling, step: StepRecord) -> u64
+    requires { ⌜ position filling steps + stepWidth ≤ length (now table) ⌝ }
+    ensures { λ r. ⌜ (r ≡ getD (filling .counts) steps 0 + 1) × (now (table .exit) ≡ sets (now (table .entry)) (position filling steps) (stepWords step)) ⌝ }
 {
-    let bases = filling.bases;
-    let counts = filling.counts;
-    let stored = counts[table_layout::STEPS];
-    let next = stored + 1;
-    base::put_words(
-        table,
-        bases[table_layout::STEPS] + STEP_WORDS * (stored as usize),
-        words,
-    );
-    next
+    let filled = table_record::put_step(table, filling, step);
+    let counts = filled.counts;
+    counts[table_layout::STEPS]
+}
+
+fn kind_of(says: u64) -> u64
+    ensures { λ r. ⌜ r ≡ kindOf says ⌝ }
+{
+    if says == line_path::FORK {
+        return table_layout::code::FORK;
+    }
+    table_layout::code::ENDFORK
 }
 
 // A line that says Fork or Endfork alone.
@@ -271,8 +270,8 @@ fn store_fork(text: &[u8], line: Found, says: u64, table: &mut [u64], filling: F
     requires { ⌜ Forking (now text) line says filling (now table) ⌝ }
     ensures { λ r. ⌜ Put (now (text .entry)) line filling (now (table .entry)) r (now (table .exit)) ⌝ }
 {
-    let words = [says - 2, 0, 0, 0, 0, line.line];
-    store_step(table, filling, &words)
+    let step = fork_record(kind_of(says), line.line);
+    store_step(table, filling, step)
 }
 
 // `Section Mult=n name`: where the amount ends tells where the name starts.
@@ -290,14 +289,14 @@ fn store_section(text: &[u8], line: Found, end: usize, table: &mut [u64], fillin
         text,
         table,
         bases[table_layout::SECTIONS],
-        SECTION_WORDS,
+        table_layout::SECTION_WIDTH,
         counts[table_layout::SECTIONS],
         &content[name..],
         0,
     );
-    let times = lex_number::read_integer(&content[line_path::AMOUNT_AT..end]);
-    let words = [SECTION, target, times.value, 0, 0, line.line];
-    store_step(table, filling, &words)
+    let times = lex_number::read_integer(&content[line_path::fast::AMOUNT_AT..end]);
+    let step = section_record(target, times.value, line.line);
+    store_step(table, filling, step)
 }
 
 // The step of a line in a usual form is stored: how many there are then, or 0 where the form is another and nothing is stored.
@@ -307,11 +306,11 @@ pub fn put_usual(text: &[u8], line: Found, table: &mut [u64], filling: Filling) 
 {
     let at = line.at;
     let end = line.end;
-    let says = line_path::usual_fork(&text[at..end]);
+    let says = line_path::fast::usual_fork(&text[at..end]);
     if says != 0 {
         return store_fork(text, line, says, table, filling);
     }
-    let amount = line_path::usual_amount(&text[at..end]);
+    let amount = line_path::fast::usual_amount(&text[at..end]);
     if amount != 0 {
         return store_section(text, line, amount, table, filling);
     }

@@ -12,8 +12,8 @@ use lib.Dec.{eqb}
 use borrow.Author.Tests.{eq-eqb, eqb-true, eqb-false}
 use Rattle.base.proofs.IfLaws.{if-true, if-false, by-cases}
 use Rattle.table_layout.specs.declared.Filling.{Filling}
-use Rattle.table_layout.specs.Layout.{widths, values, layout}
-use Rattle.table_layout.specs.Way.Parts.{needed, AllLong, Wide}
+use Rattle.table_layout.specs.Layout.{widths, values, layout, needed}
+use Rattle.table_layout.specs.Way.Parts.{AllLong, Wide}
 use Rattle.table_layout.specs.Way.Filling.{Write, partOf, widthOf, position, counted, tableStored, fillingAfter, Fits, Apart, basesFrom, startFilling, headed}
 use Rattle.table_layout.proofs.PartlyLaws.{grown, partly, bare, bare-headed, bare-wide, bare-at, all-laid, store-partly}
 
@@ -50,17 +50,8 @@ fits-rest size f (w ∷ ws) vs (Fits.more part width room apart next) = fits-res
 
 -- what the first write requires
 module _ (size : ℕ) (f : Filling) (w : Write) (ws : List Write) where
-  pub fits-part : Fits size f (w ∷ ws) → w .part < length widths
-  fits-part (Fits.more part width room apart next) = part
-
-  pub fits-width : Fits size f (w ∷ ws) → length (w .words) ≡ widthOf (w .part)
-  fits-width (Fits.more part width room apart next) = width
-
   pub fits-room : Fits size f (w ∷ ws) → position f (w .part) + widthOf (w .part) ≤ size
   fits-room (Fits.more part width room apart next) = room
-
-  pub fits-apart : Fits size f (w ∷ ws) → Apart f (w .part)
-  fits-apart (Fits.more part width room apart next) = apart
 
   pub fits-next : Fits size f (w ∷ ws) → Fits size (counted f (w .part)) ws
   fits-next (Fits.more part width room apart next) = next
@@ -107,7 +98,7 @@ abbrev pub end : ℕ → List ℕ → List ℕ → ℕ → ℕ
 end at ws counts p = begin at ws counts p + getD ws p 0 * getD counts p 0
 
 -- no part ends after the words that all parts need
-ends-within : (at : ℕ) (ws counts : List ℕ) (p : ℕ) → end at ws counts p ≤ at + needed ws counts
+pub ends-within : (at : ℕ) (ws counts : List ℕ) (p : ℕ) → end at ws counts p ≤ at + needed ws counts
 unfolding basesFrom needed
 ends-within at [] counts p = rw (zero-mul (getD counts p 0)) (omega arith)
 ends-within at (w ∷ ws) [] p = rw (mul-zero (getD (w ∷ ws) p 0)) (omega arith)
@@ -115,17 +106,6 @@ ends-within at (w ∷ ws) (c ∷ counts) zero = omega arith
 ends-within at (w ∷ ws) (c ∷ counts) (suc p) =
     let next : ℕ = at + 1 + w * c in
     let h : end next ws counts p ≤ next + needed ws counts = ends-within next ws counts p in
-    omega arith
-
--- the last part ends with the words that all parts need
-pub ends-last : (at w : ℕ) (ws counts : List ℕ) → length counts ≡ suc (length ws) → end at (w ∷ ws) counts (length ws) ≡ at + needed (w ∷ ws) counts
-unfolding basesFrom needed
-ends-last at w ws [] e = absurd (omega arith)
-ends-last at w [] (c ∷ counts) e = omega arith
-ends-last at w (v ∷ ws) (c ∷ counts) e =
-    let next : ℕ = at + 1 + w * c in
-    let l : length counts ≡ suc (length ws) = omega arith in
-    let h : end next (v ∷ ws) counts (length ws) ≡ next + needed (v ∷ ws) counts = ends-last next v ws counts l in
     omega arith
 
 begins-behind : (at : ℕ) (ws counts : List ℕ) (p : ℕ) → length counts ≡ length ws → p < length ws → at < begin at ws counts p
@@ -185,7 +165,7 @@ lengths-set [] p records = refl
 lengths-set (old ∷ parts) zero records = refl
 lengths-set (old ∷ parts) (suc p) records = ap (λ (l : List ℕ). length old ∷ l) (lengths-set parts p records)
 
-lengths-at : (parts : List (List (List ℕ))) (p : ℕ) → getD (map length parts) p 0 ≡ length (getD parts p [])
+pub lengths-at : (parts : List (List (List ℕ))) (p : ℕ) → getD (map length parts) p 0 ≡ length (getD parts p [])
 lengths-at parts p = List·getD-map length parts p []
 
 -- ---- the writes of all records
@@ -195,15 +175,19 @@ pub data Below (q : ℕ) : List Write → Type 0 where
   none : Below q []
   more : {w : Write} {ws : List Write} → w .part < q → Below q ws → Below q (w ∷ ws)
 
--- every write goes to a part that exists
+-- no write goes to a part behind the values
 abbrev pub Known : List Write → Type 0
-Known ws = Below (length widths) ws
+Known ws = Below (suc values) ws
 
-below-first : (q : ℕ) (w : Write) (ws : List Write) → Below q (w ∷ ws) → w .part < q
-below-first q w ws (Below.more h below) = h
+module _ (w : Write) (ws : List Write) where
+  known-value : Known (w ∷ ws) → w .part ≤ values
+  known-value (Below.more h below) = omega arith
 
-below-rest : (q : ℕ) (w : Write) (ws : List Write) → Below q (w ∷ ws) → Below q ws
-below-rest q w ws (Below.more h below) = below
+  known-part : Known (w ∷ ws) → w .part < length widths
+  known-part (Below.more h below) = omega arith
+
+  known-rest : Known (w ∷ ws) → Known ws
+  known-rest (Below.more h below) = below
 
 pub part-here : (w : Write) (ws : List Write) (p : ℕ) → eqb (w .part) p ≡ true → partOf p (w ∷ ws) ≡ w .words ∷ partOf p ws
 unfolding partOf
@@ -274,7 +258,7 @@ module _ (parts done : List (List (List ℕ))) (w : Write) (ws : List Write) (st
       here e =
           let same : p ≡ q = eqb-true p q e in
           let l : length done ≡ length widths = wide-length widths done (stage .wide) in
-          let h : p < length done = rw l (below-first (length widths) w ws (stage .known)) in
+          let h : p < length done = rw l (known-part w ws (stage .known)) in
           rw (← same, getD-set-same done p now-stored [] h) next-record
 
       there : eqb p q ≡ false → getD (grown done p (w .words)) q [] ++ partOf q ws ≡ getD parts q []
@@ -287,7 +271,7 @@ module _ (parts done : List (List (List ℕ))) (w : Write) (ws : List Write) (st
     whole = stage .whole;
     wide = wide-set widths done p now-stored (stage .wide) next-long;
     left = next-left;
-    known = below-rest (length widths) w ws (stage .known);
+    known = known-rest w ws (stage .known);
   }
 
   next-filling : counted (filling parts done) p ≡ filling parts (grown done p (w .words))
@@ -315,7 +299,7 @@ module _ (parts done : List (List (List ℕ))) (w : Write) (ws : List Write) (st
   unfolding widthOf
   next-table rest =
       let l : length (map length parts) ≡ length widths = length-map parts length ∙ wide-length widths parts (stage .whole) in
-      let k : p < length widths = below-first (length widths) w ws (stage .known) in
+      let k : p < length widths = known-part w ws (stage .known) in
       let n : length stored < getD (map length parts) p 0 = rw (lengths-at parts p) next-room in
       rw next-position (store-partly [] widths (map length parts) done rest (w .words) p (stage .wide) l k next-width stored-room n)
 
@@ -330,9 +314,11 @@ filled-from parts done (w ∷ ws) rest stage =
     rw (next-table parts done w ws stage rest, next-filling parts done w ws stage)
     (filled-from parts (grown done (w .part) (w .words)) ws rest (next-stage parts done w ws stage))
 
--- a record of a part before the values ends before them
+-- a record that is no value ends before the values begin
 next-apart : (parts done : List (List (List ℕ))) (w : Write) (ws : List Write) → Stage parts done (w ∷ ws) → Apart (filling parts done) (w .part)
-next-apart parts done w ws stage below =
+next-apart parts done w ws stage other =
+    let v : w .part ≤ values = known-value w ws (stage .known) in
+    let below : w .part < values = omega arith in
     let l : length (map length parts) ≡ length widths = length-map parts length ∙ wide-length widths parts (stage .whole) in
     let e : end 0 widths (map length parts) (w .part) < begin 0 widths (map length parts) values =
     ends-below 0 widths (map length parts) (w .part) values l below (omega arith) in
@@ -346,7 +332,7 @@ fits-from size q parts done (w ∷ ws) stage (Below.more h below) ends =
     let n : Fits size (counted (filling parts done) (w .part)) ws =
     rw (next-filling parts done w ws stage)
     (fits-from size q parts (grown done (w .part) (w .words)) ws (next-stage parts done w ws stage) below ends) in
-    Fits.more (below-first (length widths) w ws (stage .known)) (next-width parts done w ws stage) r (next-apart parts done w ws stage) n
+    Fits.more (known-part w ws (stage .known)) (next-width parts done w ws stage) r (next-apart parts done w ws stage) n
 
 -- the writes that come after others
 fits-later : (size q : ℕ) (parts done : List (List (List ℕ))) (ws vs : List Write) → Stage parts done (ws ++ vs) → Below q vs →
@@ -381,8 +367,8 @@ module _ (parts : List (List (List ℕ))) (wide : Wide widths parts) where
       Fits (needed widths (map length parts)) (startFilling (map length parts)) ws
   fits ws each known =
       rw (start-filling parts)
-      (fits-from (needed widths (map length parts)) (length widths) parts (bare widths) ws (start-stage ws each known) known
-      (λ (p : ℕ) (h : p < length widths). rw zero-add at (ends-within 0 widths (map length parts) p)))
+      (fits-from (needed widths (map length parts)) (suc values) parts (bare widths) ws (start-stage ws each known) known
+      (λ (p : ℕ) (h : p < suc values). rw zero-add at (ends-within 0 widths (map length parts) p)))
 
   -- the records of the parts before q lie below q's count
   pub fits-below : (ws vs : List Write) (q : ℕ) → ((p : ℕ) → partOf p (ws ++ vs) ≡ getD parts p []) → Known (ws ++ vs) →

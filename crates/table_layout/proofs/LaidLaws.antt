@@ -2,21 +2,20 @@
 -- Assumes nothing.
 use mathlib.Core.Path.{_≡_, refl, sym, _∙_, ap}
 use mathlib.Core.Bool.{true}
-use mathlib.Core.List.{List, [], _∷_, _++_, map, append-assoc}
-use Prim.Native.Nat.{ℕ, zero, suc, _+_, _-_, _*_, _≤_, _<_}
+use mathlib.Core.List.{List, [], _∷_, _++_, append-assoc}
+use Prim.Native.Nat.{ℕ, suc, _+_, _-_, _*_, _≤_, zero}
 use native.Mathlib.Nat.{add-zero}
 use native.Mathlib.Omega.{arith}
 use lib.ListN.{length, drop, getD, length-append, length-drop}
-use lib.Seq.{drop-drop, getD-drop, drop-append-le}
-use lib.Dec.{leb}
+use lib.Seq.{drop-drop, getD-drop}
 use borrow.Author.Tests.{le-leb}
-use Rattle.base.specs.If.{both}
+use Rattle.table_layout.specs.Bounds.{bounds}
 use Rattle.base.proofs.IfLaws.{both-true, if-true}
 use Rattle.table_layout.specs.Layout.{widths, joined, layout}
 use Rattle.table_layout.specs.Way.Parts.{AllLong, Wide}
 use Rattle.table_layout.specs.Way.Parts as parts
 use Rattle.table_layout.proofs.LayoutLaws.{length-joined}
-use Rattle.table_layout.specs.View.{bounds, areWithin, viewOf}
+use Rattle.table_layout.specs.View.{areWithin, viewOf}
 use Rattle.table_layout.specs.declared.View.{View}
 
 -- no part has more records than its bound
@@ -35,7 +34,7 @@ part-behind w at records back t long e =
     drop-front [] behind = refl
     drop-front (x ∷ front) behind = drop-front front behind
 
-count-here : (at n : ℕ) (back t : List ℕ) → drop at t ≡ n ∷ back → getD t at 0 ≡ n
+pub count-here : (at n : ℕ) (back t : List ℕ) → drop at t ≡ n ∷ back → getD t at 0 ≡ n
 count-here at n back t e = ap (λ (k : ℕ). getD t k 0) (sym (add-zero at)) ∙ sym (getD-drop at t 0 0) ∙ ap (λ (l : List ℕ). getD l 0 0) e
 
 room-behind : (w at : ℕ) (records : List (List ℕ)) (back t : List ℕ) → AllLong w records → drop at t ≡ (length records ∷ joined records) ++ back → at ≤ length t → at + 1 + w * length records ≤ length t
@@ -55,6 +54,15 @@ laid-within rest t at (parts.Wide.more {w} {ws} {records} {parts} long wide) (Al
     let k : at + 1 + w * length records ≤ length t = room-behind w at records (layout parts ++ rest) t long f h in
     let g : getD t at 0 ≤ b = rw c few in
     both-true _ _ (le-leb _ _ g) (rw c (laid-within rest t (at + 1 + w * length records) wide fews k d))
+
+-- by their lengths, one after another
+pub all-few : (bs : List ℕ) (parts : List (List (List ℕ))) → length bs ≡ length parts → ((p : ℕ) → length (getD parts p []) ≤ getD bs p 0) → AllFew bs parts
+all-few [] [] e h = AllFew.none
+all-few [] (records ∷ parts) e h = absurd (omega arith)
+all-few (b ∷ bs) [] e h = absurd (omega arith)
+all-few (b ∷ bs) (records ∷ parts) e h =
+    let l : length bs ≡ length parts = omega arith in
+    AllFew.more (h zero) (all-few bs parts l (λ (p : ℕ). h (suc p)))
 
 pub laid-view : (parts : List (List (List ℕ))) (rest : List ℕ) → Wide widths parts → AllFew bounds parts → viewOf (layout parts ++ rest) .fits ≡ true
 unfolding viewOf

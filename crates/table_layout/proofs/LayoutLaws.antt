@@ -4,13 +4,13 @@
 use mathlib.Core.Path.{_≡_, refl, sym, _∙_, ap}
 use mathlib.Core.List.{List, [], _∷_, _++_, map, append-assoc}
 use Prim.Native.Nat.{ℕ, zero, suc, _+_, _-_, _*_, _≤_, _<_}
-use native.Mathlib.Nat.{zero-add, add-comm, add-assoc, mul-zero, mul-suc, le-of-suc-le-suc, not-suc-le-zero}
+use native.Mathlib.Nat.{zero-add, mul-zero, mul-suc, le-of-suc-le-suc, not-suc-le-zero}
 use native.Mathlib.Numerals.{one-add}
 use native.Mathlib.Omega.{arith}
-use lib.ListN.{length, take, drop, getD, replicate, length-append}
-use lib.Seq.{drop-drop, take-at, drop-at, getD-drop, getD-take}
-use Rattle.table_layout.specs.Layout.{joined, layout, chopped, partsIn}
-use Rattle.table_layout.specs.Way.Parts.{needed, AllLong, Wide, countAt, beginsIn}
+use lib.ListN.{length, drop, getD, replicate, length-append}
+use lib.Seq.{drop-drop, take-at, drop-at, getD-drop}
+use Rattle.table_layout.specs.Layout.{joined, layout, chopped, partsIn, needed}
+use Rattle.table_layout.specs.Way.Parts.{AllLong, Wide, countAt, beginsIn}
 use Rattle.table_layout.specs.Way.Filling.{basesFrom}
 
 -- ---- how long
@@ -65,20 +65,12 @@ apart (w ∷ ws) (records ∷ parts) rest (Wide.more h wide) =
 pub taken-apart : (ws : List ℕ) (parts : List (List (List ℕ))) (z : ℕ) → Wide ws parts → partsIn ws (layout parts ++ replicate z 0) ≡ parts
 taken-apart ws parts z wide = apart ws parts (replicate z 0) wide
 
--- ---- where a record is
+-- ---- where a part is
 
 pub length-chopped : (w n : ℕ) (t : List ℕ) → length (chopped w n t) ≡ n
 unfolding chopped
 length-chopped w zero t = refl
 length-chopped w (suc n) t = ap suc (length-chopped w n (drop w t))
-
-chopped-at : (w n i : ℕ) (t : List ℕ) → i < n → getD (chopped w n t) i [] ≡ take w (drop (w * i) t)
-unfolding chopped
-chopped-at w zero i t h = absurd (not-suc-le-zero h)
-chopped-at w (suc n) zero t h = rw (mul-zero w)
-chopped-at w (suc n) (suc i) t h =
-    let e : w * suc i ≡ w + w * i = mul-suc w i ∙ add-comm (w * i) w in
-    rw (e, ← drop-drop (w * i) w t) (chopped-at w n i (drop w t) (le-of-suc-le-suc h))
 
 -- the words before the second part
 abbrev behind : ℕ → List ℕ → ℕ
@@ -103,27 +95,6 @@ part-long (w ∷ ws) t zero h = length-chopped w (getD t 0 0) (drop 1 t)
 part-long (w ∷ ws) t (suc p) h =
     rw (count-later w ws t p, ← getD-drop (behind w t) t (countAt ws (drop (behind w t) t) p) 0)
     (part-long ws (drop (behind w t) t) p (le-of-suc-le-suc h))
-
-pub record-in : (ws t : List ℕ) (p i : ℕ) → i < getD t (countAt ws t p) 0 →
-    getD (getD (partsIn ws t) p []) i [] ≡ take (getD ws p 0) (drop (beginsIn ws t p + getD ws p 0 * i) t)
-unfolding partsIn countAt beginsIn
-record-in [] t p i h = refl
-record-in (w ∷ ws) t zero i h = chopped-at w (getD t 0 0) i (drop 1 t) h ∙ ap (take w) (drop-drop (w * i) 1 t)
-record-in (w ∷ ws) t (suc p) i h =
-    let g : i < getD (drop (behind w t) t) (countAt ws (drop (behind w t) t) p) 0 =
-    rw (getD-drop (behind w t) t (countAt ws (drop (behind w t) t) p) 0) (rw (count-later w ws t p) at h) in
-    rw (
-      begins-later w ws t p,
-      add-assoc (behind w t) (beginsIn ws (drop (behind w t) t) p) (getD ws p 0 * i),
-      ← drop-drop (beginsIn ws (drop (behind w t) t) p + getD ws p 0 * i) (behind w t) t,
-    )
-    (record-in ws (drop (behind w t) t) p i g)
-
-pub word-in : (ws t : List ℕ) (p i f : ℕ) → i < getD t (countAt ws t p) 0 → f < getD ws p 0 →
-    getD (getD (getD (partsIn ws t) p []) i []) f 0 ≡ getD t (beginsIn ws t p + getD ws p 0 * i + f) 0
-word-in ws t p i f h g =
-    rw (record-in ws t p i h, getD-take (getD ws p 0) (drop (beginsIn ws t p + getD ws p 0 * i) t) f 0 g)
-    (getD-drop (beginsIn ws t p + getD ws p 0 * i) t f 0)
 
 -- ---- where the parts of a layout are
 

@@ -3,21 +3,16 @@
 use mathlib.Core.Path.{_≡_, sym, _∙_, ap}
 use mathlib.Core.List.{List, [], _∷_, _++_, append-assoc}
 use Prim.Native.Nat.{ℕ, suc, _+_, _-_, _≤_, _<_}
-use native.Mathlib.Nat.{add-zero, zero-add}
+use native.Mathlib.Nat.{zero-add}
 use native.Mathlib.Numerals.{add-one}
 use native.Mathlib.Omega.{arith}
 use lib.ListN.{length, take, drop, getD, set, replicate, length-append, length-replicate, replicate-append-replicate}
 use lib.Seq.{sets, sets-eq, length-sets, take-suc, take-set-le, length-take-le, take-at, drop-at}
 use Rattle.table_layout.proofs.PartlyLaws.{sets-over}
+use Rattle.base.proofs.StoreLaws.{sets-append}
 use Rattle.table_layout.proofs.BehindLaws.{sets-apart}
 
 -- ---- moved up, the last word first
-
-sets-append : (t : List ℕ) (i : ℕ) (vs ws : List ℕ) → sets t i (vs ++ ws) ≡ sets (sets t i vs) (i + length vs) ws
-sets-append t i [] ws = rw (add-zero i)
-sets-append t i (v ∷ vs) ws =
-    let n : suc i + length vs ≡ i + suc (length vs) = omega arith in
-    rw n at (sets-append (set t i v) (suc i) vs ws)
 
 -- the last of the words that are left is moved
 pub move-on : (t entry : List ℕ) (up i count : ℕ) → 0 < i → i ≤ count → length t ≡ length entry → up + count ≤ length entry →

@@ -9,18 +9,17 @@ use native.Mathlib.Nat.{not-suc-le-zero, le-of-suc-le-suc, add-zero}
 use native.Mathlib.Omega.{arith}
 use lib.ListN.{length, drop, getD}
 use lib.Seq.{drop-drop, getD-drop}
-use lib.Dec.{leb}
 use borrow.Author.Tests.{leb-true}
-use Rattle.base.specs.If.{if_then_else_, both}
+use Rattle.table_layout.specs.Bounds.{bounds}
 use Rattle.base.proofs.IfLaws.{if-true, if-false, by-cases, both-first, both-second}
-use Rattle.table_layout.specs.Layout.{widths, chopped, partsIn}
-use Rattle.table_layout.specs.View.{bounds, areWithin, basesAt, countsAt, endAt, noView, viewOf}
+use Rattle.table_layout.specs.Layout.{widths, chopped, partsIn, partCount}
+use Rattle.table_layout.specs.View.{areWithin, basesAt, countsAt, endAt, noView, viewOf}
 use Rattle.table_layout.specs.declared.View.{View}
 
 pub record Viewed (t : List ℕ) (v : View) : Type 0 where
-  pub records : (p : ℕ) → p < 7 → chopped (getD widths p 0) (getD (v .counts) p 0) (drop (getD (v .bases) p 0) t) ≡ getD (partsIn widths t) p []
-  pub inside : (p : ℕ) → p < 7 → getD (v .bases) p 0 + getD widths p 0 * getD (v .counts) p 0 ≤ length t
-  pub few : (p : ℕ) → p < 7 → getD (v .counts) p 0 ≤ getD bounds p 0
+  pub records : (p : ℕ) → p < partCount → chopped (getD widths p 0) (getD (v .counts) p 0) (drop (getD (v .bases) p 0) t) ≡ getD (partsIn widths t) p []
+  pub inside : (p : ℕ) → p < partCount → getD (v .bases) p 0 + getD widths p 0 * getD (v .counts) p 0 ≤ length t
+  pub few : (p : ℕ) → p < partCount → getD (v .counts) p 0 ≤ getD bounds p 0
   pub ends : v .end ≤ length t
 
 parts-at : (ws t : List ℕ) (at p : ℕ) → p < length ws → chopped (getD ws p 0) (getD (countsAt ws t at) p 0) (drop (getD (basesAt ws t at) p 0) t) ≡ getD (partsIn ws (drop at t)) p []
@@ -70,16 +69,16 @@ ends-at (w ∷ ws) (b ∷ bs) t at e = ends-at ws bs t (at + 1 + w * getD t at 0
 abbrev fitsOf : View → Bool
 fitsOf v = v .fits
 
-no-fit : fitsOf noView ≡ false
+pub no-view-fits : fitsOf noView ≡ false
 unfolding noView
-no-fit = refl
+no-view-fits = refl
 
 view-within : (t : List ℕ) → viewOf t .fits ≡ true → areWithin widths bounds t 0 ≡ true
 unfolding viewOf
 view-within t e =
     by-cases _ (areWithin widths bounds t 0)
     (λ (h : areWithin widths bounds t 0 ≡ true). h)
-    (λ (h : areWithin widths bounds t 0 ≡ false). absurd (true≢false (sym e ∙ ap fitsOf (if-false _ _ h) ∙ no-fit)))
+    (λ (h : areWithin widths bounds t 0 ≡ false). absurd (true≢false (sym e ∙ ap fitsOf (if-false _ _ h) ∙ no-view-fits)))
 
 pub viewed : (t : List ℕ) → viewOf t .fits ≡ true → Viewed t (viewOf t)
 unfolding viewOf

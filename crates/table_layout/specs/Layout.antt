@@ -27,9 +27,37 @@ matrices = 5
 abbrev pub values : ℕ
 values = 6
 
+abbrev pub partCount : ℕ
+partCount = 7
+
 -- how many words a record of each part has
+abbrev pub modelWidth : ℕ
+modelWidth = 5
+
+abbrev pub stepWidth : ℕ
+stepWidth = 6
+
+abbrev pub mapWidth : ℕ
+mapWidth = 7
+
+abbrev pub pinWidth : ℕ
+pinWidth = 2
+
+abbrev pub sectionWidth : ℕ
+sectionWidth = 8
+
+abbrev pub matrixWidth : ℕ
+matrixWidth = 5
+
+abbrev pub valueWidth : ℕ
+valueWidth = 3
+
+-- a record that has a name begins with it: where it starts in the text, and its length
+abbrev pub nameWidth : ℕ
+nameWidth = 2
+
 abbrev pub widths : List ℕ
-widths = 5 ∷ 6 ∷ 7 ∷ 2 ∷ 8 ∷ 5 ∷ 3 ∷ []
+widths = modelWidth ∷ stepWidth ∷ mapWidth ∷ pinWidth ∷ sectionWidth ∷ matrixWidth ∷ valueWidth ∷ []
 
 unfoldable pub joined : List (List ℕ) → List ℕ
 joined [] = []
@@ -39,6 +67,12 @@ joined (r ∷ rs) = r ++ joined rs
 unfoldable pub layout : List (List (List ℕ)) → List ℕ
 layout [] = []
 layout (records ∷ parts) = (length records ∷ joined records) ++ layout parts
+
+-- the words that parts of these widths need, given how many records each has
+unfoldable pub needed : List ℕ → List ℕ → ℕ
+needed [] counts = 0
+needed (w ∷ ws) [] = 0
+needed (w ∷ ws) (c ∷ cs) = 1 + w * c + needed ws cs
 
 -- ---- a table taken apart
 

@@ -1,3 +1,5 @@
 pub mod Layout
+pub mod Bounds
+pub mod Codes
 pub mod View
 pub mod Way

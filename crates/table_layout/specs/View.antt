@@ -7,12 +7,9 @@ use mathlib.Core.List.{List, [], _∷_}
 use lib.ListN.{length, getD, replicate}
 use lib.Dec.{leb}
 use Rattle.base.specs.If.{if_then_else_, both}
-use Rattle.table_layout.specs.Layout.{widths}
+use Rattle.table_layout.specs.Layout.{partCount, widths}
+use Rattle.table_layout.specs.Bounds.{bounds}
 use Rattle.table_layout.specs.declared.View.{View}
-
--- "64 models, 4,096 steps, 64 maps, 4,096 pins .. 256 sections, 65,536 values", "matrices 1,024"
-abbrev pub bounds : List ℕ
-bounds = 64 ∷ 4_096 ∷ 64 ∷ 4_096 ∷ 256 ∷ 1_024 ∷ 65_536 ∷ []
 
 -- from the part on whose count is at `at`: each count is within its bound, and the last record lies inside the table
 unfoldable pub areWithin : List ℕ → List ℕ → List ℕ → ℕ → Bool
@@ -36,7 +33,7 @@ endAt [] t at = at
 endAt (w ∷ ws) t at = endAt ws t (at + 1 + w * getD t at 0)
 
 unfoldable pub noView : View
-noView = record { fits = false; bases = replicate 7 0; counts = replicate 7 0; end = 0 }
+noView = record { fits = false; bases = replicate partCount 0; counts = replicate partCount 0; end = 0 }
 
 unfoldable pub viewOf : List ℕ → View
 viewOf t =

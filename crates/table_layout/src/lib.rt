@@ -1,14 +1,18 @@
 // The parts of a table: how many words they need, where each begins, how one record is
 // stored, and where the parts of a given table are.
 ghost use mathlib.Core.Path.{_≡_};
-ghost use Prim.Native.Nat.{ℕ, _+_, _≤_, _<_};
+ghost use Prim.Native.Nat.{_+_, _≤_, _<_};
 ghost use lib.ListN.{length, take, replicate, getD};
 ghost use lib.Seq.{sets};
-ghost use Rattle.table_layout.specs.Layout.{widths};
-ghost use Rattle.table_layout.specs.Way.Parts.{needed};
-ghost use Rattle.table_layout.specs.Way.Filling.{widthOf, position, counted, startFilling, openedTable, BoundedCounts};
+ghost use Rattle.table_layout.specs.Layout.{widths, partCount, needed};
+ghost use Rattle.table_layout.specs.Bounds.{bounds};
+ghost use Rattle.table_layout.specs.Way.Filling.{widthOf, position, counted, partBase, startFilling, openedTable, BoundedCounts};
 ghost use Rattle.table_layout.specs.View.{viewOf, noView};
 
+pub mod bound;
+pub mod code;
+
+// The parts of a table, in the paper's order.
 pub const MODELS: usize = 0;
 
 pub const STEPS: usize = 1;
@@ -26,26 +30,87 @@ pub const VALUES: usize = 6;
 pub const PARTS: usize = 7;
 
 // How many words a record of each part has.
-pub const WIDTHS: [usize; 7] = [5, 6, 7, 2, 8, 5, 3];
+pub const MODEL_WIDTH: usize = 5;
+
+pub const STEP_WIDTH: usize = 6;
+
+pub const MAP_WIDTH: usize = 7;
+
+pub const PIN_WIDTH: usize = 2;
+
+pub const SECTION_WIDTH: usize = 8;
+
+pub const MATRIX_WIDTH: usize = 5;
+
+pub const VALUE_WIDTH: usize = 3;
+
+// A record that has a name begins with it: where it starts in the text, and its length.
+pub const NAME_WIDTH: usize = 2;
+
+pub const WIDTHS: [usize; PARTS] = [
+    MODEL_WIDTH,
+    STEP_WIDTH,
+    MAP_WIDTH,
+    PIN_WIDTH,
+    SECTION_WIDTH,
+    MATRIX_WIDTH,
+    VALUE_WIDTH,
+];
+
+// The most records that each part may have.
+const BOUNDS: [u64; PARTS] = [
+    bound::MODELS,
+    bound::STEPS,
+    bound::MAPS,
+    bound::PINS,
+    bound::SECTIONS,
+    bound::MATRICES,
+    bound::VALUES,
+];
 
 // Where the records of each part begin, and how many of them are stored.
 pub struct Filling {
-    pub bases: [usize; 7],
-    pub counts: [u64; 7],
+    pub bases: [usize; PARTS],
+    pub counts: [u64; PARTS],
 }
 
-// The words that all parts need, given how many records each has.
-pub fn words_needed(counts: [u64; 7]) -> usize
+// ---- a table that is filled, given how many records each part has
+
+// The words of the parts before this one.
+fn words_before(counts: [u64; PARTS], part: usize) -> usize
+    requires { ⌜ BoundedCounts counts × (part ≤ partCount) ⌝ }
+    ensures { λ r. ⌜ r ≡ needed (take part widths) (take part counts) ⌝ }
+{
+    let mut words = 0;
+    let mut next = 0;
+    while next < part {
+        words = words + 1 + WIDTHS[next] * (counts[next] as usize);
+        next += 1;
+    }
+    words
+}
+
+// The words that all parts need.
+pub fn words_needed(counts: [u64; PARTS]) -> usize
     requires { ⌜ BoundedCounts counts ⌝ }
     ensures { λ r. ⌜ r ≡ needed widths counts ⌝ }
 {
-    let mut words = 0;
-    let mut part = 0;
-    while part < PARTS {
-        words = words + 1 + WIDTHS[part] * (counts[part] as usize);
-        part += 1;
-    }
-    words
+    words_before(counts, PARTS)
+}
+
+// The words of a table with as many records of each part as its bound allows.
+pub fn most_words() -> usize
+    ensures { λ r. ⌜ r ≡ needed widths bounds ⌝ }
+{
+    words_needed(BOUNDS)
+}
+
+// Where the records of a part begin.
+pub fn part_base(counts: [u64; PARTS], part: usize) -> usize
+    requires { ⌜ BoundedCounts counts × (part < partCount) ⌝ }
+    ensures { λ r. ⌜ r ≡ partBase counts part ⌝ }
+{
+    words_before(counts, part) + 1
 }
 
 // Moves the first words of the table up, the last word first, so that no word is overwritten before it is moved.
@@ -84,11 +149,11 @@ pub fn lift(table: &mut [u64], count: usize, up: usize)
 }
 
 // Stores the count of each part where the part begins.
-pub fn open_parts(table: &mut [u64], counts: [u64; 7]) -> Filling
+pub fn open_parts(table: &mut [u64], counts: [u64; PARTS]) -> Filling
     requires { ⌜ BoundedCounts counts × (needed widths counts ≤ length (now table)) ⌝ }
     ensures { λ r. ⌜ (r ≡ startFilling counts) × (now (table .exit) ≡ openedTable 0 widths counts (now (table .entry))) ⌝ }
 {
-    let mut bases = [0; 7];
+    let mut bases = [0; PARTS];
     let mut at = 0;
     let mut part = 0;
     while part < PARTS {
@@ -101,7 +166,7 @@ pub fn open_parts(table: &mut [u64], counts: [u64; 7]) -> Filling
     }
     Filling {
         bases,
-        counts: [0; 7],
+        counts: [0; PARTS],
     }
 }
 
@@ -121,25 +186,23 @@ pub fn put_record(table: &mut [u64], filling: Filling, part: usize, words: &[u64
 
 // ---- where the parts of a table are, by the counts that the table itself gives
 
-// The most records that each part may have.
-const BOUNDS: [u64; 7] = [64, 4096, 64, 4096, 256, 1024, 65536];
-
 // Where the records of each part begin, how many there are, and where the last one ends. It fits if no count is above its bound and all
 // records lie inside the table.
 pub struct View {
     pub fits: bool,
-    pub bases: [usize; 7],
-    pub counts: [u64; 7],
+    pub bases: [usize; PARTS],
+    pub counts: [u64; PARTS],
     pub end: usize,
 }
 
-fn no_view() -> View
+// The view of a table that does not fit.
+pub fn no_view() -> View
     ensures { λ r. ⌜ r ≡ noView ⌝ }
 {
     View {
         fits: false,
-        bases: [0; 7],
-        counts: [0; 7],
+        bases: [0; PARTS],
+        counts: [0; PARTS],
         end: 0,
     }
 }
@@ -158,8 +221,8 @@ fn word_at(table: &[u64], at: usize) -> u64
 pub fn view_of(table: &[u64]) -> View
     ensures { λ r. ⌜ r ≡ viewOf (now (table .entry)) ⌝ }
 {
-    let mut bases = [0; 7];
-    let mut counts = [0; 7];
+    let mut bases = [0; PARTS];
+    let mut counts = [0; PARTS];
     let mut at = 0;
     let mut part = 0;
     while part < PARTS {

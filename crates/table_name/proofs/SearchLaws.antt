@@ -3,19 +3,24 @@
 use mathlib.Core.Path.{_≡_, sym, _∙_, ap}
 use mathlib.Core.Bool.{Bool, true, false}
 use mathlib.Core.List.{List, [], _∷_}
-use Prim.Native.Nat.{ℕ, suc, _+_, _-_, _*_, _≤_, _<_}
+use Prim.Native.Nat.{ℕ, suc, _+_, _-_, _*_, _^_, _≤_, _<_}
 use native.Mathlib.Nat.{add-zero, zero-add, mul-zero, mul-suc, sub-zero, mul-le-mul-left}
 use native.Mathlib.Numerals.{add-one}
 use native.Mathlib.Omega.{arith}
-use lib.ListN.{length, take, drop, getD, length-drop, drop-of-length-le}
-use lib.Seq.{take-all, take-nil, drop-drop, getD-take, getD-drop}
+use mir.Syntax.{w64}
+use mir.Val.{Fits}
+use lib.ListN.{length, take, drop, length-drop, drop-of-length-le}
+use lib.Seq.{take-all, take-nil, drop-drop}
 use borrow.Author.Tests.{le-leb, lt-leb}
 use Rattle.base.specs.Runs.{same}
-use Rattle.base.proofs.IfLaws.{if-true, if-false, both-true, both-not-left, both-not-right}
-use Rattle.table_layout.specs.Layout.{chopped}
+use Rattle.base.proofs.IfLaws.{if-true, if-false, both-rest, both-not-left}
+use Rattle.table_layout.specs.Layout.{nameWidth, chopped}
+use Rattle.table_record.specs.Way.Standing.{nameRecordAt}
+use Rattle.table_record.specs.declared.NameRecord.{NameRecord}
+use Rattle.table_record.proofs.RecordLaws.{name-here}
 use Rattle.doc.specs.Records.{indexOf}
 use Rattle.table_name.specs.Name.{nameAt}
-use Rattle.table_name.specs.Way.Search.{isNamed, findIn}
+use Rattle.table_name.specs.Way.Search.{hasName, isNamed, findIn}
 
 -- ---- the bytes of a name
 
@@ -36,6 +41,17 @@ module _ (t : List ℕ) (start size : ℕ) where
   name-whole =
       let e : start + size - start ≡ size = omega arith in
       rw e
+
+-- ---- the name of a record
+
+module _ (t name : List ℕ) (after : ℕ) (r : NameRecord) where
+  pub name-before : r .start < after → false ≡ hasName t name after r
+  unfolding hasName
+  name-before l = sym (both-not-left _ _ (lt-leb _ _ l))
+
+  pub name-told : after ≤ r .start → (is : Bool) → is ≡ same name (nameAt t (r .start) (r .size)) → is ≡ hasName t name after r
+  unfolding hasName
+  name-told l is e = e ∙ sym (both-rest _ _ (le-leb _ _ l))
 
 -- ---- the search
 
@@ -74,19 +90,19 @@ module _ (t table : List ℕ) (base width count : ℕ) (name : List ℕ) (after 
         s .same in
         omega arith
 
-    module _ (room : base + width * count ≤ length table) (wide : 2 ≤ width) (h : i < count) where
-      pub record-inside : at + width ≤ length table
+    module _ (room : base + width * count ≤ length table) (wide : nameWidth ≤ width) (h : i < count) where
+      record-inside : at + width ≤ length table
       record-inside =
           let m : width * suc i ≤ width * count = mul-le-mul-left width h in
           let k : width * suc i ≡ width * i + width = mul-suc width i in
           let p : at ≡ base + width * i = s .place in
           omega arith
 
-      word-first : getD (recordAt table width at) 0 0 ≡ getD table at 0
-      word-first = getD-take width (drop at table) 0 0 (omega arith) ∙ getD-drop at table 0 0 ∙ ap (λ (n : ℕ). getD table n 0) (add-zero at)
+      pub name-inside : at + nameWidth ≤ length table
+      name-inside = omega (arith, record-inside)
 
-      word-second : getD (recordAt table width at) 1 0 ≡ getD table (at + 1) 0
-      word-second = getD-take width (drop at table) 1 0 (omega arith) ∙ getD-drop at table 1 0
+      pub place-fits : length table * 8 < 2 ^ 63 → Fits w64 (at + width)
+      place-fits l = omega (arith, record-inside)
 
       -- the records that are left, the next one taken off
       one-off : chopped width (count - i) (drop at table)
@@ -96,36 +112,24 @@ module _ (t table : List ℕ) (base width count : ℕ) (name : List ℕ) (after 
           let e : count - i ≡ suc (count - (i + 1)) = omega arith in
           rw (e, ← drop-drop width at table)
 
-      pub not-behind : getD table at 0 < after → isNamed t name after (recordAt table width at) ≡ false
-      unfolding isNamed
-      not-behind l = both-not-left _ _ (rw word-first (lt-leb after (getD table at 0) l))
+      -- the next one
+      module _ (own : NameRecord) (here : own ≡ nameRecordAt table at) (is : Bool) (told : is ≡ hasName t name after own) where
+        told-here : is ≡ isNamed t name after (recordAt table width at)
+        told-here = told ∙ ap (hasName t name after) (here ∙ sym (name-here table width at wide))
 
-      module _ (is : Bool) (is-same : is ≡ same name (nameAt t (getD table at 0) (getD table (at + 1) 0))) where
-        name-same : is ≡ same name (nameAt t (getD (recordAt table width at) 0 0) (getD (recordAt table width at) 1 0))
-        name-same = is-same ∙ ap (same name) (λ j. nameAt t (sym word-first j) (sym word-second j))
-
-        pub not-named : is ≡ false → isNamed t name after (recordAt table width at) ≡ false
-        unfolding isNamed
-        not-named e = both-not-right _ _ (sym name-same ∙ e)
-
-        pub search-finds : after ≤ getD table at 0 → is ≡ true → i ≡ findIn t table base width count name after
-        unfolding isNamed indexOf
-        search-finds l e =
-            let b : isNamed t name after (recordAt table width at) ≡ true =
-            both-true _ _ (rw word-first (le-leb after (getD table at 0) l)) (sym name-same ∙ e) in
-            let z : foundIn t table width count name after i at ≡ 0 = rw one-off (if-true _ _ b) in
-            let k : i + foundIn t table width count name after i at ≡ findIn t table base width count name after =
-            s .same in
+        pub search-finds : is ≡ true → i ≡ findIn t table base width count name after
+        unfolding indexOf
+        search-finds e =
+            let z : foundIn t table width count name after i at ≡ 0 = rw one-off (if-true _ _ (sym told-here ∙ e)) in
+            let k : i + foundIn t table width count name after i at ≡ findIn t table base width count name after = s .same in
             omega arith
 
-      pub search-on : isNamed t name after (recordAt table width at) ≡ false →
-          Searching t table base width count name after (i + 1) (at + width)
-      unfolding indexOf
-      search-on b =
-          let z : foundIn t table width count name after i at ≡ suc (foundIn t table width count name after (i + 1) (at + width)) =
-          rw one-off (if-false _ _ b) in
-          let k : i + foundIn t table width count name after i at ≡ findIn t table base width count name after =
-          s .same in
-          let m : width * (i + 1) ≡ width * i + width = rw (add-one i) (mul-suc width i) in
-          let p : at ≡ base + width * i = s .place in
-          record { within = omega arith; place = omega arith; same = omega arith }
+        pub search-on : is ≡ false → Searching t table base width count name after (i + 1) (at + width)
+        unfolding indexOf
+        search-on e =
+            let z : foundIn t table width count name after i at ≡ suc (foundIn t table width count name after (i + 1) (at + width)) =
+            rw one-off (if-false _ _ (sym told-here ∙ e)) in
+            let k : i + foundIn t table width count name after i at ≡ findIn t table base width count name after = s .same in
+            let m : width * (i + 1) ≡ width * i + width = rw (add-one i) (mul-suc width i) in
+            let p : at ≡ base + width * i = s .place in
+            record { within = omega arith; place = omega arith; same = omega arith }

@@ -1,15 +1,15 @@
 -- Laws of names by their ends: if the last bytes at an offset differ from those of a name, the name is not there.
 -- Assumes nothing.
-use mathlib.Core.Path.{_≡_, refl, sym, _∙_, ap}
-use mathlib.Core.Bool.{Bool, true, false, not, true≢false}
+use mathlib.Core.Path.{_≡_, sym, _∙_, ap}
+use mathlib.Core.Bool.{Bool, true, false, not}
 use mathlib.Core.List.{List, [], _∷_}
 use Prim.Native.Nat.{ℕ, zero, suc, _+_, _-_, _≤_, _<_}
 use native.Mathlib.Nat.{sub-zero}
 use native.Mathlib.Omega.{arith}
-use lib.ListN.{length, take, drop, getD, length-take, length-drop}
+use lib.ListN.{length, take, drop, getD, length-take}
 use lib.Seq.{drop-drop, take-take, take-nil, getD-take, getD-drop}
 use lib.Dec.{eqb}
-use borrow.Author.Tests.{eq-eqb, eqb-false, not-true}
+use borrow.Author.Tests.{eqb-false, not-true}
 use Rattle.base.specs.Runs.{same}
 use Rattle.base.specs.Way.Joined.{joined, Joins}
 use Rattle.base.proofs.IfLaws.{by-cases}

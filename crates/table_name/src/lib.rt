@@ -1,20 +1,21 @@
 // Names in the records of a table: their bytes in the text, the first record of a name, and marks (hashes) of names.
 ghost use mathlib.Core.Path.{_≡_};
-ghost use mathlib.Core.Bool.{true, false};
-ghost use Prim.Native.Nat.{ℕ, _+_, _*_, _≤_, _<_};
+ghost use mathlib.Core.Bool.{false};
+ghost use Prim.Native.Nat.{_+_, _*_, _≤_, _<_};
 ghost use lib.ListN.{length};
-ghost use Rattle.base.specs.Runs.{same};
+ghost use Rattle.table_layout.specs.Layout.{nameWidth};
 ghost use Rattle.table_name.specs.Name.{nameAt};
-ghost use Rattle.table_name.specs.Way.Search.{findIn, Tails};
+ghost use Rattle.table_name.specs.Way.Search.{hasName, findIn, Tails};
 ghost use Rattle.table_name.specs.Way.Hash.{hashOf};
+use table_record::NameRecord;
 
-// How many bytes at the end of a name are looked at together.
-const TAIL: usize = 4;
+mod fast;
 
-// How many marks there are: 64 for what has no name, then four for each of the most names that are marked at a time.
-const BARE_MARKS: usize = 64;
+// How many marks there are: one for each map, for what has no name, then four for each of the most names that are marked
+// at a time, the Sides of the ends of a model.
+const BARE_MARKS: usize = table_layout::bound::MAPS as usize;
 
-const NAME_MARKS: usize = 16384;
+const NAME_MARKS: usize = 4 * table_layout::bound::STEPS as usize;
 
 pub const MARKS: usize = BARE_MARKS + NAME_MARKS;
 
@@ -33,48 +34,19 @@ pub fn name_at(text: &[u8], start: u64, size: u64) -> &[u8]
     &text[from..from + long]
 }
 
-// The last four bytes of a name as one number; 0 if it has fewer.
-fn tail_of(name: &[u8]) -> u64
-    ensures { λ r. ⌜ Tails (now (name .entry)) r ⌝ }
-{
-    if name.len() < TAIL {
-        return 0;
-    }
-    base::four_at(name, name.len() - TAIL)
-}
-
-// Whether the bytes at offset `start` are certainly not this name, because their last bytes differ.
-// So most names are told apart by one comparison.
-fn ends_otherwise(text: &[u8], start: u64, name: &[u8], tail: u64) -> bool
+// Whether a record has this name, and has it at offset `after` of the text or later.
+fn has_name(text: &[u8], own: NameRecord, name: &[u8], tail: u64, after: usize) -> bool
     requires { ⌜ Tails (now name) tail ⌝ }
-    ensures { λ r. ⌜ (r ≡ true → (size : ℕ) → same (now (name .entry)) (nameAt (now (text .entry)) start size) ≡ false) ⌝ }
+    ensures { λ r. ⌜ r ≡ hasName (now (text .entry)) (now (name .entry)) after own ⌝ }
 {
-    let from = start as usize;
-    let long = name.len();
-    if text.len() < long {
+    let start = own.start;
+    if start < after as u64 {
         return false;
     }
-    if text.len() - long < from {
+    if fast::ends_otherwise(text, start, name, tail) {
         return false;
     }
-    if TAIL <= long {
-        return base::four_at(text, from + (long - TAIL)) != tail;
-    }
-    if long < 1 {
-        return false;
-    }
-    text[from + (long - 1)] != name[long - 1]
-}
-
-// Whether the name of `size` bytes at offset `start` is this one.
-fn is_name(text: &[u8], start: u64, size: u64, name: &[u8], tail: u64) -> bool
-    requires { ⌜ Tails (now name) tail ⌝ }
-    ensures { λ r. ⌜ r ≡ same (now (name .entry)) (nameAt (now (text .entry)) start size) ⌝ }
-{
-    if ends_otherwise(text, start, name, tail) {
-        return false;
-    }
-    lex_line::same_bytes(name, name_at(text, start, size))
+    lex_line::same_bytes(name, name_at(text, start, own.size))
 }
 
 // The index of the first of `count` records that has this name at offset `after` of the text or later; `count` if there
@@ -88,19 +60,16 @@ pub fn find_name(
     name: &[u8],
     after: usize,
 ) -> u64
-    requires { ⌜ (base + width * count ≤ length (now table)) × (2 ≤ width) ⌝ }
+    requires { ⌜ (base + width * count ≤ length (now table)) × (nameWidth ≤ width) ⌝ }
     ensures { λ r. ⌜ r ≡ findIn (now (text .entry)) (now (table .entry)) base width count (now (name .entry)) after ⌝ }
 {
-    let tail = tail_of(name);
+    let tail = fast::tail_of(name);
     let mut i = 0;
     let mut at = base;
     while i < count {
-        let start = table[at];
-        if after as u64 <= start {
-            let size = table[at + 1];
-            if is_name(text, start, size, name, tail) {
-                return i;
-            }
+        let own = table_record::name_at(table, at);
+        if has_name(text, own, name, tail, after) {
+            return i;
         }
         i += 1;
         at += width;

@@ -20,10 +20,10 @@
 ghost use Prim.Native.Nat.{_≤_};
 ghost use lib.ListN.{length};
 use ask_walk::Place;
-use ask_walk::StepWords;
 use ask_walk::Walked;
 use base::Class;
 use intake::Answer;
+use table_record::StepRecord;
 
 // The longest text, and the longest table.
 const MOST: usize = 65536;
@@ -171,7 +171,7 @@ fn print_place(place: Place) {
     io::write_all(1, b"\n");
 }
 
-fn print_step(step: StepWords) {
+fn print_step(step: StepRecord) {
     io::write_all(1, b"walk step");
     print_number(step.kind);
     print_number(step.target);

@@ -14,23 +14,8 @@ returns c = search range-no-section
 returns-2 : tie.Need-returns-2
 returns-2 c = search range-no-kind
 
-array-read-conductors : tie.Need-array-read-conductors
-array-read-conductors c = search needs
-
-mul-conductors : tie.Need-mul-conductors
-mul-conductors c = search needs
-
-add-conductors : tie.Need-add-conductors
-add-conductors c = search needs
-
-add-conductors-2 : tie.Need-add-conductors-2
-add-conductors-2 c = search needs
-
-mul-conductors-2 : tie.Need-mul-conductors-2
-mul-conductors-2 c = search needs
-
-shared-slice-read-conductors : tie.Need-shared-slice-read-conductors
-shared-slice-read-conductors c = search needs
+nth-section-requires : tie.Need-nth-section-requires
+nth-section-requires c κs = search needs
 
 is-within-requires : tie.Need-is-within-requires
 is-within-requires c κs = search needs
@@ -51,12 +36,7 @@ is-in-range-spec =
     array-read-if1
     returns
     returns-2
-    array-read-conductors
-    mul-conductors
-    add-conductors
-    add-conductors-2
-    mul-conductors-2
-    shared-slice-read-conductors
+    nth-section-requires
     is-within-requires
     returns-3
     is-within-requires-2

@@ -2,7 +2,7 @@
 -- Assumes nothing.
 use borrow.Author.Needs.{needs}
 use Prim.Native.Nat.{_+_, _-_}
-use Rattle.doc.specs.Records.{recordsOf}
+use Rattle.table_record.specs.Records.{recordsOf}
 use Rattle.ask_entry.proofs.RowLaws.{RowLeft, row-starts, row-on, row-done, row-room}
 use Rattle.ask_entry.proofs.put_row.Statement.{statement}
 use Rattle.ask_entry.proofs.put_row.Tie as tie

@@ -2,7 +2,7 @@
 -- Assumes nothing.
 use borrow.Author.Needs.{needs}
 use Prim.Native.Nat.{_+_, _-_}
-use Rattle.doc.specs.Records.{recordsOf}
+use Rattle.table_record.specs.Records.{recordsOf}
 use Rattle.ask_entry.proofs.RowLaws.{RowsLeft, rows-start, rows-room, rows-on, rows-done}
 use Rattle.ask_entry.proofs.put_rows.Statement.{statement}
 use Rattle.ask_entry.proofs.put_rows.Tie as tie

@@ -27,6 +27,9 @@ mul-at c = search needs
 add-at : tie.Need-add-at Inv-loop μ-loop
 add-at c = search needs
 
+value-at-requires : tie.Need-value-at-requires Inv-loop μ-loop
+value-at-requires c κs = search needs
+
 is-before-requires : tie.Need-is-before-requires Inv-loop μ-loop
 is-before-requires c κs = search needs
 
@@ -46,19 +49,10 @@ loop-less-2 : tie.Need-loop-less-2 Inv-loop μ-loop
 loop-less-2 c = search needs
 
 loop-again-2 : tie.Need-loop-again-2 Inv-loop μ-loop
-loop-again-2 c = lies-front _ _ _ _ _ _ _ (c .before .before .before .before .before .loop .inv) (c .before .before .before .before .loop-test .taken) _ (c .before .before .before .is-before .ensures) (c .before .before .if1 .left) _ (c .before .is-behind .ensures) (c .if2 .taken)
-
-add-result : tie.Need-add-result Inv-loop μ-loop
-add-result c = search needs
-
-mul-result : tie.Need-mul-result Inv-loop μ-loop
-mul-result c = search needs
-
-shared-slice-read-result : tie.Need-shared-slice-read-result Inv-loop μ-loop
-shared-slice-read-result c = search needs
+loop-again-2 c = search lies-front
 
 returns : tie.Need-returns Inv-loop μ-loop
-returns c = lies-here _ _ _ _ _ _ _ (c .before .before .before .before .before .before .loop .inv) (c .before .before .before .before .before .loop-test .taken) _ (c .before .before .before .before .is-before .ensures) (c .before .before .before .if1 .left) _ (c .before .before .is-behind .ensures) (c .before .if2 .left)
+returns c = search lies-here
 
 returns-2 : tie.Need-returns-2 Inv-loop μ-loop
 returns-2 c = search lies-nowhere
@@ -74,6 +68,7 @@ word-at-spec =
     add-middle
     mul-at
     add-at
+    value-at-requires
     is-before-requires
     add-low
     loop-less
@@ -81,8 +76,5 @@ word-at-spec =
     is-behind-requires
     loop-less-2
     loop-again-2
-    add-result
-    mul-result
-    shared-slice-read-result
     returns
     returns-2)

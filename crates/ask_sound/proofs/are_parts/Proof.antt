@@ -5,12 +5,13 @@ use borrow.Author.Needs.{needs}
 use Rattle.ask_sound.proofs.LoopLaws.{PartsLeft, parts-start, parts-end, parts-refused, parts-on}
 use Rattle.ask_sound.proofs.are_parts.Statement.{statement}
 use Rattle.ask_sound.proofs.are_parts.Tie as tie
+use Rattle.table_layout.specs.Layout.{partCount}
 
 abbrev Inv-loop : tie.InvT-loop
 Inv-loop bytes table blocks view part₀ part = PartsLeft bytes table view part
 
 abbrev μ-loop : tie.MeasureT-loop
-μ-loop bytes table blocks view part₀ part = 7 - part
+μ-loop bytes table blocks view part₀ part = partCount - part
 
 loop-holds : tie.Need-loop-holds Inv-loop μ-loop
 loop-holds c = search parts-start

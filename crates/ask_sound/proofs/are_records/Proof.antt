@@ -2,7 +2,7 @@
 -- Assumes nothing.
 use Prim.Native.Nat.{_-_}
 use borrow.Author.Needs.{needs}
-use Rattle.ask_sound.specs.Way.Standing.{countOf}
+use Rattle.table_record.specs.Way.Standing.{countOf}
 use Rattle.ask_sound.proofs.LoopLaws.{PartLeft, part-starts, part-ends, record-room, place-fits, index-fits, part-refused, part-on}
 use Rattle.ask_sound.proofs.are_records.Statement.{statement}
 use Rattle.ask_sound.proofs.are_records.Tie as tie

@@ -15,11 +15,8 @@ abbrev μ-loop : tie.MeasureT-loop
 loop-holds : tie.Need-loop-holds Inv-loop μ-loop
 loop-holds c = search depth-starts
 
-mul-kind : tie.Need-mul-kind Inv-loop μ-loop
-mul-kind c = search needs
-
-shared-slice-read-kind : tie.Need-shared-slice-read-kind Inv-loop μ-loop
-shared-slice-read-kind c = search needs
+step-at-requires : tie.Need-step-at-requires Inv-loop μ-loop
+step-at-requires c κs = search needs
 
 depth-stays-requires : tie.Need-depth-stays-requires Inv-loop μ-loop
 depth-stays-requires c κs = search needs
@@ -52,8 +49,7 @@ depth-holds-spec =
     Inv-loop
     μ-loop
     loop-holds
-    mul-kind
-    shared-slice-read-kind
+    step-at-requires
     depth-stays-requires
     returns
     depth-after-requires

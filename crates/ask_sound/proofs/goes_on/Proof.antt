@@ -5,6 +5,9 @@ use borrow.Author.Needs.{needs}
 use Rattle.ask_sound.proofs.goes_on.Statement.{statement}
 use Rattle.ask_sound.proofs.goes_on.Tie as tie
 
+value-at-requires : tie.Need-value-at-requires
+value-at-requires c κs = search needs
+
 is-inside-requires : tie.Need-is-inside-requires
 is-inside-requires c κs = search needs
 
@@ -14,8 +17,11 @@ returns c = search goes-outside
 returns-2 : tie.Need-returns-2
 returns-2 c = search goes-last
 
-add-comes-before : tie.Need-add-comes-before
-add-comes-before c = search needs
+add-value-at : tie.Need-add-value-at
+add-value-at c = search needs
+
+value-at-requires-2 : tie.Need-value-at-requires-2
+value-at-requires-2 c κs = search needs
 
 comes-before-requires : tie.Need-comes-before-requires
 comes-before-requires c κs = search needs
@@ -27,9 +33,11 @@ pub goes-on-spec : {M : Type 1} → statement M
 goes-on-spec =
     tie.close
     (tie.spec
+    value-at-requires
     is-inside-requires
     returns
     returns-2
-    add-comes-before
+    add-value-at
+    value-at-requires-2
     comes-before-requires
     returns-3)

@@ -2,24 +2,8 @@
 -- Assumes nothing.
 use Rattle.base.proofs.IfLaws.{chain}
 use Rattle.doc.specs.Holds.{isInUpperHalf}
-use borrow.Author.Needs.{needs}
 use Rattle.ask_sound.proofs.is_inside.Statement.{statement}
 use Rattle.ask_sound.proofs.is_inside.Tie as tie
-
-mul-row : tie.Need-mul-row
-mul-row c = search needs
-
-shared-slice-read-row : tie.Need-shared-slice-read-row
-shared-slice-read-row c = search needs
-
-add-column : tie.Need-add-column
-add-column c = search needs
-
-mul-column : tie.Need-mul-column
-mul-column c = search needs
-
-shared-slice-read-column : tie.Need-shared-slice-read-column
-shared-slice-read-column c = search needs
 
 returns : tie.Need-returns
 unfolding isInUpperHalf
@@ -34,14 +18,4 @@ unfolding isInUpperHalf
 returns-3 c = search chain
 
 pub is-inside-spec : {M : Type 1} → statement M
-is-inside-spec =
-    tie.close
-    (tie.spec
-    mul-row
-    shared-slice-read-row
-    add-column
-    mul-column
-    shared-slice-read-column
-    returns
-    returns-2
-    returns-3)
+is-inside-spec = tie.close (tie.spec returns returns-2 returns-3)

@@ -6,12 +6,6 @@ use borrow.Author.Needs.{needs}
 use Rattle.ask_sound.proofs.is_step.Statement.{statement}
 use Rattle.ask_sound.proofs.is_step.Tie as tie
 
-mul-kind : tie.Need-mul-kind
-mul-kind c = search needs
-
-shared-slice-read-kind : tie.Need-shared-slice-read-kind
-shared-slice-read-kind c = search needs
-
 array-read-is-end : tie.Need-array-read-is-end
 array-read-is-end c = search needs
 
@@ -44,8 +38,6 @@ pub is-step-spec : {M : Type 1} → statement M
 is-step-spec =
     tie.close
     (tie.spec
-    mul-kind
-    shared-slice-read-kind
     array-read-is-end
     is-end-requires
     returns

@@ -6,15 +6,6 @@ use borrow.Author.Needs.{needs}
 use Rattle.ask_sound.proofs.is_value.Statement.{statement}
 use Rattle.ask_sound.proofs.is_value.Tie as tie
 
-add-is-value-word : tie.Need-add-is-value-word
-add-is-value-word c = search needs
-
-mul-is-value-word : tie.Need-mul-is-value-word
-mul-is-value-word c = search needs
-
-shared-slice-read-is-value-word : tie.Need-shared-slice-read-is-value-word
-shared-slice-read-is-value-word c = search needs
-
 is-value-word-requires : tie.Need-is-value-word-requires
 is-value-word-requires c κs = search needs
 
@@ -23,11 +14,4 @@ unfolding isValue
 returns c = search chain
 
 pub is-value-spec : {M : Type 1} → statement M
-is-value-spec =
-    tie.close
-    (tie.spec
-    add-is-value-word
-    mul-is-value-word
-    shared-slice-read-is-value-word
-    is-value-word-requires
-    returns)
+is-value-spec = tie.close (tie.spec is-value-word-requires returns)

@@ -1,8 +1,8 @@
 -- `ask_walk::walk_in` meets its contract.
 -- Assumes nothing.
-use Rattle.ask_walk.proofs.PlaceLaws.{stands}
 use Rattle.ask_walk.proofs.StepLaws.{from-none, from-place}
 use borrow.Author.Needs.{needs}
+use Rattle.ask_walk.proofs.StepLaws.{in-place}
 use Rattle.ask_walk.proofs.walk_in.Statement.{statement}
 use Rattle.ask_walk.proofs.walk_in.Tie as tie
 
@@ -13,7 +13,7 @@ returns : tie.Need-returns
 returns c = search from-none
 
 walk-on-requires : tie.Need-walk-on-requires
-walk-on-requires c κs = search stands
+walk-on-requires c κs = search (needs, in-place)
 
 returns-2 : tie.Need-returns-2
 returns-2 c = search from-place

@@ -20,9 +20,6 @@ is-filled-requires c κs = search needs
 enum-told-3 : tie.Need-enum-told-3
 enum-told-3 c = search needs
 
-is-named-requires : tie.Need-is-named-requires
-is-named-requires c κs = search needs
-
 enum-told-4 : tie.Need-enum-told-4
 enum-told-4 c = search needs
 
@@ -34,9 +31,6 @@ enum-told-5 c = search needs
 
 is-letter-requires : tie.Need-is-letter-requires
 is-letter-requires c κs = search needs
-
-enum-told-6 : tie.Need-enum-told-6
-enum-told-6 c = search needs
 
 is-printed-requires : tie.Need-is-printed-requires
 is-printed-requires c κs = search needs
@@ -66,14 +60,11 @@ returns-5 : tie.Need-returns-5
 returns-5 c = cc
 
 returns-6 : tie.Need-returns-6
+unfolding isBefore
 returns-6 c = cc
 
 returns-7 : tie.Need-returns-7
-unfolding isBefore
 returns-7 c = cc
-
-returns-8 : tie.Need-returns-8
-returns-8 c = cc
 
 pub in-class-spec : {M : Type 1} → statement M
 in-class-spec =
@@ -84,12 +75,10 @@ in-class-spec =
     enum-told-2
     is-filled-requires
     enum-told-3
-    is-named-requires
-    enum-told-4
     is-digit-requires
-    enum-told-5
+    enum-told-4
     is-letter-requires
-    enum-told-6
+    enum-told-5
     is-printed-requires
     enum-known-class
     enum-known-class-2
@@ -100,5 +89,4 @@ in-class-spec =
     returns-4
     returns-5
     returns-6
-    returns-7
-    returns-8)
+    returns-7)

@@ -2,27 +2,28 @@
 -- Assumes nothing.
 use borrow.Author.Needs.{needs}
 use Prim.Native.Nat.{ℕ, _-_}
-use native.Mathlib.Omega.{arith}
 use lib.ListN.{length-replicate}
+use Rattle.table_layout.specs.Bounds.{mostModels}
 use Rattle.table_name.specs.Way.Hash.{marksMany}
-use Rattle.cross_models.proofs.WalkLaws.{ModelsLeft, models-start, models-end, asks-model, model-breaks, asks-steps, steps-break, models-on}
+use Rattle.cross_rules.proofs.TableLaws.{text-rooms}
+use Rattle.cross_models.proofs.WalkLaws.{ModelsLeft, models-start, models-end, index-fits, model-breaks, awaits-here, steps-break, models-on}
 use Rattle.cross_models.proofs.model_finding.Statement.{statement}
 use Rattle.cross_models.proofs.model_finding.Tie as tie
 
 abbrev Inv-loop : tie.InvT-loop
-Inv-loop text table view listed count at₀ number₀ marks₀ i₀ at number marks i = ModelsLeft text at number marks i
+Inv-loop text table view listed count at₀ line₀ marks₀ i₀ at line marks i = ModelsLeft text at line marks i
 
 abbrev μ-loop : tie.MeasureT-loop
-μ-loop text table view listed count at₀ number₀ marks₀ i₀ at number marks i = count - i
+μ-loop text table view listed count at₀ line₀ marks₀ i₀ at line marks i = count - i
 
 array-read-count : tie.Need-array-read-count Inv-loop μ-loop
 array-read-count c = search needs
 
 loop-holds : tie.Need-loop-holds Inv-loop μ-loop
-loop-holds c = models-start _ _ (length-replicate {A = ℕ} marksMany 64)
+loop-holds c = models-start _ _ (length-replicate {A = ℕ} marksMany mostModels)
 
 model-rule-requires : tie.Need-model-rule-requires Inv-loop μ-loop
-model-rule-requires c κs = search asks-model
+model-rule-requires c κs = search (needs, text-rooms)
 
 nth-line-requires : tie.Need-nth-line-requires Inv-loop μ-loop
 nth-line-requires c κs = search needs
@@ -31,14 +32,13 @@ returns : tie.Need-returns Inv-loop μ-loop
 returns c = search model-breaks
 
 steps-finding-requires : tie.Need-steps-finding-requires Inv-loop μ-loop
-steps-finding-requires c κs =
-    asks-steps _ _ (c .before .before .before .before .before .before .before .before .pre .0) _ (c .before .before .before .before .before .before .before .before .pre .1) _ _ _ _ (c .before .before .before .before .loop .inv) (c .before .before .before .loop-test .taken) _ (c .before .before .before .before .before .before .before .before .pre .2) _ (c .before .before .model-rule .ensures) (c .before .if1 .left)
+steps-finding-requires c κs = search (needs, awaits-here)
 
 returns-2 : tie.Need-returns-2 Inv-loop μ-loop
 returns-2 c = search steps-break
 
 add-i : tie.Need-add-i Inv-loop μ-loop
-add-i c = omega (arith, asks-model _ _ (c .before .before .before .before .before .before .before .before .before .before .before .pre .0) _ (c .before .before .before .before .before .before .before .before .before .before .before .pre .1) _ _ _ _ (c .before .before .before .before .before .before .before .loop .inv) (c .before .before .before .before .before .before .loop-test .taken) .few)
+add-i c = search index-fits
 
 loop-less : tie.Need-loop-less Inv-loop μ-loop
 loop-less c = search needs

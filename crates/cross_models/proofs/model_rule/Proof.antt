@@ -30,4 +30,10 @@ returns-3 c = search rules
 pub model-rule-spec : {M : Type 1} → statement M
 model-rule-spec =
     tie.close
-    (tie.spec array-read-is-repeated-name is-repeated-name-requires returns array-read-if2 returns-2 returns-3)
+    (tie.spec
+    array-read-is-repeated-name
+    is-repeated-name-requires
+    returns
+    array-read-if2
+    returns-2
+    returns-3)

@@ -2,15 +2,17 @@
 -- Assumes nothing.
 use borrow.Author.Needs.{needs}
 use Prim.Native.Nat.{_-_}
-use Rattle.cross_models.proofs.StepsLaws.{StepsLeft, room-asked, steps-start, steps-end, asks-line, asks-rule, step-breaks, steps-on}
+use Rattle.cross_models.proofs.StepsLaws.{StepsLeft, room-asked, steps-start, steps-end, place-fits, line-low, below-here, step-breaks, steps-on}
+use Rattle.cross_steps.proofs.JoinLaws.{step-rooms}
+use Rattle.cross_rules.proofs.TableLaws.{text-rooms}
 use Rattle.cross_models.proofs.steps_finding.Statement.{statement}
 use Rattle.cross_models.proofs.steps_finding.Tie as tie
 
 abbrev Inv-loop : tie.InvT-loop
-Inv-loop text table view marks₀ index at number owner count own₀ here₀ next₀ i₀ marks own here next i = StepsLeft text table view marks index owner count own here next i
+Inv-loop text table view marks₀ index at first-line owner count here₀ next₀ i₀ marks here next i = StepsLeft text table view marks index owner count here next i
 
 abbrev μ-loop : tie.MeasureT-loop
-μ-loop text table view marks₀ index at number owner count own₀ here₀ next₀ i₀ marks own here next i = count - i
+μ-loop text table view marks₀ index at first-line owner count here₀ next₀ i₀ marks here next i = count - i
 
 owner-of-requires : tie.Need-owner-of-requires Inv-loop μ-loop
 owner-of-requires c κs = search room-asked
@@ -18,26 +20,20 @@ owner-of-requires c κs = search room-asked
 loop-holds : tie.Need-loop-holds Inv-loop μ-loop
 loop-holds c = search steps-start
 
-add-line : tie.Need-add-line Inv-loop μ-loop
-add-line c = search needs
+add-nth-step : tie.Need-add-nth-step Inv-loop μ-loop
+add-nth-step c = search place-fits
 
-mul-line : tie.Need-mul-line Inv-loop μ-loop
-mul-line c = search needs
-
-shared-slice-read-line : tie.Need-shared-slice-read-line Inv-loop μ-loop
-shared-slice-read-line c = search needs
+nth-step-requires : tie.Need-nth-step-requires Inv-loop μ-loop
+nth-step-requires c κs = search (needs, text-rooms)
 
 tell-step-requires : tie.Need-tell-step-requires Inv-loop μ-loop
-tell-step-requires c κs = asks-line _ _ (c .before .before .before .before .before .before .pre .0) _ (c .before .before .before .before .before .before .pre .1) _ _ _ _ _ _ _ _ (c .before .before .loop .inv) (c .before .loop-test .taken)
+tell-step-requires c κs = search (needs, line-low)
 
 step-rule-requires : tie.Need-step-rule-requires Inv-loop μ-loop
-step-rule-requires c κs = asks-rule _ _ (c .before .before .before .before .before .before .before .before .pre .0) _ (c .before .before .before .before .before .before .before .before .pre .1) _ _ _ _ _ _ _ _ (c .before .before .before .before .loop .inv) (c .before .before .before .loop-test .taken)
+step-rule-requires c κs = search (step-rooms, below-here)
 
 returns : tie.Need-returns Inv-loop μ-loop
 returns c = (search step-breaks, λ z. c .before .step-rule .ensures .marked z .whole)
-
-add-own : tie.Need-add-own Inv-loop μ-loop
-add-own c = search needs
 
 add-i : tie.Need-add-i Inv-loop μ-loop
 add-i c = search needs
@@ -59,13 +55,11 @@ steps-finding-spec =
     μ-loop
     owner-of-requires
     loop-holds
-    add-line
-    mul-line
-    shared-slice-read-line
+    add-nth-step
+    nth-step-requires
     tell-step-requires
     step-rule-requires
     returns
-    add-own
     add-i
     loop-less
     loop-again

@@ -3,17 +3,17 @@
 -- Assumes nothing.
 use Prim.Native.Nat.{ℕ, _+_, _-_, _≤_, _<_}
 use mathlib.Core.Path.{_≡_}
-use mathlib.Core.Bool.{Bool, true, false}
 use mathlib.Core.List.{List, [], _∷_}
-use lib.ListN.{length, getD, take, drop}
+use lib.ListN.{length, take, drop}
 use lib.Dec.{ltb}
+use Rattle.table_layout.specs.Codes.{sectionKind}
 use Rattle.base.specs.If.{if_then_else_}
 use Rattle.line_place.specs.Place as place
 use Rattle.lex_line.specs.Way.LineEnds.{lineAt}
 use Rattle.line_path.specs.Path.{isMult}
 use Rattle.line_path.specs.Way.Usual.{OpensMult}
+use Rattle.table_record.specs.declared.StepRecord.{StepRecord}
 use Rattle.doc.specs.Lines.{Line, linesAt, significant}
-use Rattle.doc.specs.Document.{sectionKind}
 use Rattle.cross_models.specs.declared.Told.{Told}
 
 -- what the line of a number says; that of the next line where there is none
@@ -33,11 +33,11 @@ pub record Tells (t : List ℕ) (wanted : ℕ) (r : Told) : Type 0 where
   pub cursor : Cursor t (r .at) (r .line)
   pub low : r .line ≤ wanted + 1
 
--- the same of the step whose record stands at `own`, where it is one over a section
-pub record TellsStep (t table : List ℕ) (own : ℕ) (r : Told) : Type 0 where
-  pub mult : getD table own 0 ≡ sectionKind → r .mult ≡ isMult (contentAt (getD table (own + 5) 0) (significant t))
+-- the same of a step, where it is one over a section
+pub record TellsStep (t : List ℕ) (own : StepRecord) (r : Told) : Type 0 where
+  pub mult : own .kind ≡ sectionKind → r .mult ≡ isMult (contentAt (own .line) (significant t))
   pub cursor : Cursor t (r .at) (r .line)
-  pub low : r .line ≤ getD table (own + 5) 0 + 1
+  pub low : r .line ≤ own .line + 1
 
 -- lines below the one that is wanted are passed over
 pub record Seeks (t : List ℕ) (wanted at n : ℕ) : Type 0 where

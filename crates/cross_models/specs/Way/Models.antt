@@ -1,55 +1,54 @@
 -- What is asked of the record of a model, and what the steps of a model give.
 -- Assumes nothing.
-use Prim.Native.Nat.{ℕ, _+_, _*_, _≤_, _<_}
+use Prim.Native.Nat.{ℕ, _+_, _≤_, _<_}
 use mathlib.Core.Path.{_≡_}
 use mathlib.Core.Bool.{Bool, false, not}
 use mathlib.Core.List.{List, [], _∷_, _++_}
 use lib.ListN.{length, drop, getD}
+use Rattle.cross_rules.specs.Way.Findings.{stepFindings, modelFindings}
 use Rattle.base.specs.Broken.{_when_, firstBroken}
-use Rattle.table_layout.specs.Layout.{models, steps, maps, chopped}
+use Rattle.base.specs.Refusal as refusal
+use Rattle.table_layout.specs.Layout.{models, steps, modelWidth}
 use Rattle.table_layout.specs.declared.View.{View}
+use Rattle.table_record.specs.Records.{Records, recordsOf, range, noModel}
+use Rattle.table_record.specs.Way.Standing.{baseOf, countOf, Rooms}
+use Rattle.table_record.specs.declared.ModelRecord.{ModelRecord}
 use Rattle.doc.specs.Document.{Model, Document, documentOf}
 use Rattle.doc.specs.Holds.{Each}
-use Rattle.table_name.specs.Name.{nameAt}
-use Rattle.cross_rules.specs.Rules.{stepFindings, modelFindings}
 use Rattle.cross_rules.specs.Way.First.{firstIn}
+use Rattle.cross_rules.specs.Way.Repeated.{isRepeated}
 use Rattle.cross_rules.specs.declared.Finding.{Finding}
-use Rattle.cross_rules.specs.Way.Repeated.{hasAbove}
 use Rattle.cross_steps.specs.Way.StepWords.{firstTarget}
 use Rattle.cross_steps.specs.declared.Owner.{Owner}
 use Rattle.cross_models.specs.Way.Cursor.{Cursor}
 use Rattle.cross_models.specs.declared.StepsFinding.{StepsFinding}
 
--- ---- by the words of the table
+-- ---- by the records of the table
 
--- where the record of a model stands, and where its steps' records begin
-abbrev pub modelAt : View → ℕ → ℕ
-modelAt v i = getD (v .bases) models 0 + 5 * i
+abbrev pub modelOf : Records → ℕ → ModelRecord
+modelOf r i = getD (r .models) i noModel
 
-abbrev pub stepsAt : List ℕ → View → ℕ → ℕ
-stepsAt table v i = getD (v .bases) steps 0 + 6 * getD table (modelAt v i + 3) 0
-
--- the records lie inside the table
+-- the records of the model and of its steps are there
 pub record ModelRoom (table : List ℕ) (v : View) (i : ℕ) : Type 0 where
-  pub few : i < 64
-  pub inside : modelAt v i + 5 ≤ length table
-  pub room : stepsAt table v i + 6 * getD table (modelAt v i + 4) 0 ≤ length table
+  pub rooms : Rooms table v
+  pub there : i < countOf v models
+  pub inside : modelOf (recordsOf table) i .first + modelOf (recordsOf table) i .steps ≤ countOf v steps
 
-unfoldable pub ownerAt : List ℕ → View → ℕ → Owner
-ownerAt table v i =
+unfoldable pub ownerAt : Records → ℕ → Owner
+ownerAt r i =
     record {
-      kind = getD table (modelAt v i + 2) 0;
-      from = stepsAt table v i;
-      many = getD table (modelAt v i + 4) 0;
-      first = firstTarget table (getD (v .counts) maps 0) (stepsAt table v i) (getD table (modelAt v i + 4) 0);
+      kind = modelOf r i .kind;
+      from = modelOf r i .first;
+      many = modelOf r i .steps;
+      first = firstTarget (length (r .maps)) (range (modelOf r i .first) (modelOf r i .steps) (r .steps));
       stamp = i;
     }
 
 unfoldable pub modelRuleAt : List ℕ → List ℕ → View → List Bool → ℕ → ℕ
 modelRuleAt t table v listed i =
     firstBroken
-    (19 when hasAbove t (nameAt t (getD table (modelAt v i) 0) (getD table (modelAt v i + 1) 0)) (chopped 5 i (drop (getD (v .bases) models 0) table))
-    ∷ 20 when not (getD listed i false)
+    (refusal.twice when isRepeated t table (baseOf v models) modelWidth i
+    ∷ refusal.list when not (getD listed i false)
     ∷ [])
 
 -- ---- by the document

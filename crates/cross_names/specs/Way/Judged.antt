@@ -1,15 +1,18 @@
 -- The rule that a list line breaks, by the model that its name finds in the table and the flags that earlier lines have set.
 -- Assumes nothing.
-use Prim.Native.Nat.{ℕ, _+_, _*_, _≤_}
+use Prim.Native.Nat.{ℕ}
 use mathlib.Core.Path.{_≡_}
 use mathlib.Core.Bool.{Bool, true, false}
 use mathlib.Core.List.{List, [], _∷_}
-use lib.ListN.{length, getD}
+use lib.ListN.{getD}
 use lib.Dec.{leb, eqb}
 use Rattle.base.specs.If.{if_then_else_, both}
+use Rattle.base.specs.Refusal as refusal
 use Rattle.line_place.specs.Place as place
-use Rattle.table_layout.specs.Layout.{models}
+use Rattle.table_layout.specs.Layout.{models, modelWidth}
+use Rattle.table_layout.specs.Bounds.{mostModels}
 use Rattle.table_layout.specs.declared.View.{View}
+use Rattle.table_record.specs.Way.Standing.{baseOf, countOf}
 use Rattle.doc.specs.Lines.{plain, linesAt, gather, wordsOf, firstWord}
 use Rattle.doc.specs.Document.{listedAt}
 use Rattle.doc.specs.Way.Found.{lineIn, linesBehind, FindsKeyed}
@@ -17,28 +20,23 @@ use Rattle.doc.specs.declared.Found.{Found}
 use Rattle.table_name.specs.Way.Search.{findIn}
 use Rattle.cross_names.specs.declared.list.Judged.{Judged}
 
--- the records of the models lie inside the table, and there are at most 64
-pub record ModelsIn (table : List ℕ) (v : View) : Type 0 where
-  pub inside : getD (v .bases) models 0 + 5 * getD (v .counts) models 0 ≤ length table
-  pub few : getD (v .counts) models 0 ≤ 64
-
 -- the index of the first model whose name is the first word of the line
 unfoldable pub modelFound : List ℕ → List ℕ → View → Found → ℕ
 modelFound t table v line =
-    findIn t table (getD (v .bases) models 0) 5 (getD (v .counts) models 0) (firstWord (wordsOf (lineIn t line 0)) .text) 0
+    findIn t table (baseOf v models) modelWidth (countOf v models) (firstWord (wordsOf (lineIn t line 0)) .text) 0
 
 -- the flag after those of the models
 abbrev pub noSlot : ℕ
-noSlot = 64
+noSlot = mostModels
 
 -- a name finds model `index`; there are `count` models, and it finds none if `index` is not below `count`
 unfoldable pub judgedBy : ℕ → ℕ → List Bool → Judged
 judgedBy count index listed =
-    if leb count index then record { rule = 20; slot = noSlot } else
-    if getD listed index false then record { rule = 19; slot = index } else record { rule = 0; slot = index }
+    if leb count index then record { rule = refusal.list; slot = noSlot } else
+    if getD listed index false then record { rule = refusal.twice; slot = index } else record { rule = 0; slot = index }
 
 unfoldable pub nameJudged : List ℕ → List ℕ → View → Found → List Bool → Judged
-nameJudged t table v line listed = judgedBy (getD (v .counts) models 0) (modelFound t table v line) listed
+nameJudged t table v line listed = judgedBy (countOf v models) (modelFound t table v line) listed
 
 -- a line outside the list breaks no rule and names no model
 unfoldable pub lineJudged : List ℕ → List ℕ → View → ℕ → Found → List Bool → Judged

@@ -6,29 +6,17 @@ use borrow.Author.Needs.{needs}
 use Rattle.cross_rules.proofs.is_repeated_marked.Statement.{statement}
 use Rattle.cross_rules.proofs.is_repeated_marked.Tie as tie
 
-mul-at : tie.Need-mul-at
-mul-at c = search needs
-
-add-at : tie.Need-add-at
-add-at c = search needs
-
 mul-name-at : tie.Need-mul-name-at
 mul-name-at c = search needs
-
-shared-slice-read-name-at : tie.Need-shared-slice-read-name-at
-shared-slice-read-name-at c = search needs
 
 add-name-at : tie.Need-add-name-at
 add-name-at c = search needs
 
-mul-name-at-2 : tie.Need-mul-name-at-2
-mul-name-at-2 c = search needs
-
-shared-slice-read-name-at-2 : tie.Need-shared-slice-read-name-at-2
-shared-slice-read-name-at-2 c = search needs
-
 name-at-requires : tie.Need-name-at-requires
 name-at-requires c κs = search needs
+
+name-at-requires-2 : tie.Need-name-at-requires-2
+name-at-requires-2 c κs = search needs
 
 hash-of-requires : tie.Need-hash-of-requires
 hash-of-requires c κs = search needs
@@ -52,14 +40,10 @@ pub is-repeated-marked-spec : {M : Type 1} → statement M
 is-repeated-marked-spec =
     tie.close
     (tie.spec
-    mul-at
-    add-at
     mul-name-at
-    shared-slice-read-name-at
     add-name-at
-    mul-name-at-2
-    shared-slice-read-name-at-2
     name-at-requires
+    name-at-requires-2
     hash-of-requires
     element-copy-out-met
     element-write-marks

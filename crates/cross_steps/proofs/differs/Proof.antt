@@ -11,11 +11,11 @@ array-read-if1 c = search needs
 returns : tie.Need-returns
 returns c = search differs-none
 
-pins-of-requires : tie.Need-pins-of-requires
-pins-of-requires c κs = search needs
+nth-map-requires : tie.Need-nth-map-requires
+nth-map-requires c κs = search needs
 
 returns-2 : tie.Need-returns-2
 returns-2 c = search differs-some
 
 pub differs-spec : {M : Type 1} → statement M
-differs-spec = tie.close (tie.spec array-read-if1 returns pins-of-requires returns-2)
+differs-spec = tie.close (tie.spec array-read-if1 returns nth-map-requires returns-2)

@@ -1,6 +1,6 @@
 -- `cross_steps::first_matrix` meets its contract.
 -- Assumes nothing.
-use Rattle.cross_steps.proofs.RuleLaws.{first-behind, first-zero, first-least}
+use Rattle.cross_steps.proofs.RuleLaws.{first-behind, first-least}
 use borrow.Author.Needs.{needs}
 use Rattle.cross_steps.proofs.first_matrix.Statement.{statement}
 use Rattle.cross_steps.proofs.first_matrix.Tie as tie
@@ -14,26 +14,17 @@ array-read-result c = search needs
 returns : tie.Need-returns
 returns c = search first-behind
 
-array-read-least : tie.Need-array-read-least
-array-read-least c = search needs
-
-mul-least : tie.Need-mul-least
-mul-least c = search needs
-
-add-least : tie.Need-add-least
-add-least c = search needs
+nth-section-requires : tie.Need-nth-section-requires
+nth-section-requires c κs = search needs
 
 least-requires : tie.Need-least-requires
 least-requires c κs = search needs
 
+minus-requires : tie.Need-minus-requires
+minus-requires c κs = search needs
+
 returns-2 : tie.Need-returns-2
-returns-2 c = search first-zero
-
-sub-result : tie.Need-sub-result
-sub-result c = search needs
-
-returns-3 : tie.Need-returns-3
-returns-3 c = search first-least
+returns-2 c = search first-least
 
 pub first-matrix-spec : {M : Type 1} → statement M
 first-matrix-spec =
@@ -42,10 +33,7 @@ first-matrix-spec =
     array-read-if1
     array-read-result
     returns
-    array-read-least
-    mul-least
-    add-least
+    nth-section-requires
     least-requires
-    returns-2
-    sub-result
-    returns-3)
+    minus-requires
+    returns-2)

@@ -1,6 +1,5 @@
 -- `cross_steps::has_other_form` meets its contract.
 -- Assumes nothing.
-use native.Mathlib.Omega.{arith}
 use Rattle.cross_steps.proofs.RuleLaws.{forms-ordered, forms-room, forms-told}
 use borrow.Author.Needs.{needs}
 use Rattle.cross_steps.proofs.has_other_form.Statement.{statement}
@@ -15,20 +14,11 @@ add-first-matrix c = search needs
 first-matrix-requires-2 : tie.Need-first-matrix-requires-2
 first-matrix-requires-2 c κs = search needs
 
-array-read-is-other-in : tie.Need-array-read-is-other-in
-array-read-is-other-in c = search needs
-
-mul-is-other-in : tie.Need-mul-is-other-in
-mul-is-other-in c = omega (arith, forms-room _ _ (c .before .before .before .before .pre .0) _ (c .before .before .before .before .pre .1) _ (c .before .first-matrix .ensures) _ (c .first-matrix2 .ensures))
-
-add-is-other-in : tie.Need-add-is-other-in
-add-is-other-in c = omega (arith, forms-room _ _ (c .before .before .before .before .pre .0) _ (c .before .before .before .before .pre .1) _ (c .before .first-matrix .ensures) _ (c .first-matrix2 .ensures))
-
 sub-is-other-in : tie.Need-sub-is-other-in
 sub-is-other-in c = search forms-ordered
 
 is-other-in-requires : tie.Need-is-other-in-requires
-is-other-in-requires c κs = search forms-room
+is-other-in-requires c κs = search (needs, forms-room)
 
 returns : tie.Need-returns
 returns c = search forms-told
@@ -40,9 +30,6 @@ has-other-form-spec =
     first-matrix-requires
     add-first-matrix
     first-matrix-requires-2
-    array-read-is-other-in
-    mul-is-other-in
-    add-is-other-in
     sub-is-other-in
     is-other-in-requires
     returns)

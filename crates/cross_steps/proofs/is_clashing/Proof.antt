@@ -3,27 +3,31 @@
 use borrow.Author.Needs.{needs}
 use Prim.Native.Nat.{_-_}
 use Rattle.cross_steps.specs.Way.StepWords.{meetsAbove}
-use Rattle.cross_steps.proofs.WordLaws.{Left, left-starts, meets-ends, meets-found, meets-on}
+use Rattle.cross_steps.proofs.RangeLaws.{Left, left-starts, meets-ends, meets-found, meets-on}
+use Rattle.table_record.specs.Records.{recordsOf, range}
 use Rattle.cross_steps.proofs.is_clashing.Statement.{statement}
 use Rattle.cross_steps.proofs.is_clashing.Tie as tie
 
 abbrev Inv-loop : tie.InvT-loop
-Inv-loop text table own from above at₀ i₀ at i = Left 6 (meetsAbove text table own) from above at i
+Inv-loop text table view own from above i₀ i = Left (meetsAbove text own) (range from above (recordsOf table .steps)) i
 
 abbrev μ-loop : tie.MeasureT-loop
-μ-loop text table own from above at₀ i₀ at i = above - i
+μ-loop text table view own from above i₀ i = above - i
 
 loop-holds : tie.Need-loop-holds Inv-loop μ-loop
 loop-holds c = search left-starts
+
+add-nth-step : tie.Need-add-nth-step Inv-loop μ-loop
+add-nth-step c = search needs
+
+nth-step-requires : tie.Need-nth-step-requires Inv-loop μ-loop
+nth-step-requires c κs = search needs
 
 meets-requires : tie.Need-meets-requires Inv-loop μ-loop
 meets-requires c κs = search needs
 
 returns : tie.Need-returns Inv-loop μ-loop
 returns c = search meets-found
-
-add-at : tie.Need-add-at Inv-loop μ-loop
-add-at c = search needs
 
 add-i : tie.Need-add-i Inv-loop μ-loop
 add-i c = search needs
@@ -44,9 +48,10 @@ is-clashing-spec =
     Inv-loop
     μ-loop
     loop-holds
+    add-nth-step
+    nth-step-requires
     meets-requires
     returns
-    add-at
     add-i
     loop-less
     loop-again

@@ -1,18 +1,19 @@
 -- `cross_steps::is_met` meets its contract.
 -- Assumes nothing.
 use borrow.Author.Needs.{needs}
-use Rattle.cross_steps.proofs.MarkLaws.{at-inside, end-marked, none-told}
+use Rattle.cross_steps.proofs.MarkLaws.{end-marked, none-told}
+use Rattle.cross_steps.proofs.MarkLaws.{mark-inside}
 use Rattle.cross_steps.proofs.is_met.Statement.{statement}
 use Rattle.cross_steps.proofs.is_met.Tie as tie
 
-mark-at-requires : tie.Need-mark-at-requires
-mark-at-requires c κs = search needs
+mark-of-requires : tie.Need-mark-of-requires
+mark-of-requires c κs = search needs
 
 is-marked-requires : tie.Need-is-marked-requires
 is-marked-requires c κs = search needs
 
 element-write-marks : tie.Need-element-write-marks
-element-write-marks c = search at-inside
+element-write-marks c = search mark-inside
 
 returns : tie.Need-returns
 returns c = (search none-told, search end-marked)
@@ -27,7 +28,7 @@ pub is-met-spec : {M : Type 1} → statement M
 is-met-spec =
     tie.close
     (tie.spec
-    mark-at-requires
+    mark-of-requires
     is-marked-requires
     element-write-marks
     returns

@@ -3,30 +3,28 @@
 use borrow.Author.Needs.{needs}
 use Prim.Native.Nat.{_-_}
 use Rattle.cross_steps.specs.Way.StepWords.{otherIn}
-use Rattle.cross_steps.proofs.WordLaws.{Left, left-starts, other-ends, other-found, other-on}
+use Rattle.cross_steps.proofs.RangeLaws.{Left, left-starts, other-ends, other-found, other-on}
+use Rattle.table_record.specs.Records.{recordsOf, range}
 use Rattle.cross_steps.proofs.is_other_in.Statement.{statement}
 use Rattle.cross_steps.proofs.is_other_in.Tie as tie
 
 abbrev Inv-loop : tie.InvT-loop
-Inv-loop table from count at₀ i₀ at i = Left 5 (otherIn table) from count at i
+Inv-loop table view from count i₀ i = Left otherIn (range from count (recordsOf table .matrices)) i
 
 abbrev μ-loop : tie.MeasureT-loop
-μ-loop table from count at₀ i₀ at i = count - i
+μ-loop table view from count i₀ i = count - i
 
 loop-holds : tie.Need-loop-holds Inv-loop μ-loop
 loop-holds c = search left-starts
 
-mul-if1 : tie.Need-mul-if1 Inv-loop μ-loop
-mul-if1 c = search needs
+add-nth-matrix : tie.Need-add-nth-matrix Inv-loop μ-loop
+add-nth-matrix c = search needs
 
-shared-slice-read-if1 : tie.Need-shared-slice-read-if1 Inv-loop μ-loop
-shared-slice-read-if1 c = search needs
+nth-matrix-requires : tie.Need-nth-matrix-requires Inv-loop μ-loop
+nth-matrix-requires c κs = search needs
 
 returns : tie.Need-returns Inv-loop μ-loop
 returns c = search other-found
-
-add-at : tie.Need-add-at Inv-loop μ-loop
-add-at c = search needs
 
 add-i : tie.Need-add-i Inv-loop μ-loop
 add-i c = search needs
@@ -47,10 +45,9 @@ is-other-in-spec =
     Inv-loop
     μ-loop
     loop-holds
-    mul-if1
-    shared-slice-read-if1
+    add-nth-matrix
+    nth-matrix-requires
     returns
-    add-at
     add-i
     loop-less
     loop-again

@@ -7,12 +7,6 @@ use borrow.Author.Needs.{needs}
 use Rattle.cross_steps.proofs.step_rule.Statement.{statement}
 use Rattle.cross_steps.proofs.step_rule.Tie as tie
 
-mul-kind : tie.Need-mul-kind
-mul-kind c = search needs
-
-shared-slice-read-kind : tie.Need-shared-slice-read-kind
-shared-slice-read-kind c = search needs
-
 end-rule-requires : tie.Need-end-rule-requires
 end-rule-requires c κs = search needs
 
@@ -33,12 +27,4 @@ returns-3 c = record { told = search chain; marked = search other-marked }
 
 pub step-rule-spec : {M : Type 1} → statement M
 step-rule-spec =
-    tie.close
-    (tie.spec
-    mul-kind
-    shared-slice-read-kind
-    end-rule-requires
-    returns
-    section-rule-requires
-    returns-2
-    returns-3)
+    tie.close (tie.spec end-rule-requires returns section-rule-requires returns-2 returns-3)

@@ -1,134 +1,126 @@
--- Rules 21 to 26 of a step by the words of the table: the step's own record, those of the earlier steps of its model,
+-- Rules 21 to 26 of a step by the records of the table: the step's own record, those of the earlier steps of its model,
 -- and those of the maps, sections and matrices that they refer to.
 -- Assumes nothing.
-use Prim.Native.Nat.{ℕ, zero, suc, _+_, _-_, _*_, _≤_, _<_}
-use mathlib.Core.Bool.{Bool, true, false, not}
+use Prim.Native.Nat.{ℕ, _+_, _-_, _≤_, _<_}
+use mathlib.Core.Bool.{Bool, not}
 use mathlib.Core.List.{List, [], _∷_}
 use lib.ListN.{length, getD}
 use lib.Dec.{ltb, eqb}
 use Rattle.base.specs.If.{if_then_else_, both, either}
 use Rattle.base.specs.Runs.{same}
 use Rattle.base.specs.Broken.{_when_, firstBroken}
-use Rattle.line_matrix.specs.Matrix.{diagonal}
-use Rattle.table_layout.specs.Layout.{maps, sections, matrices}
+use Rattle.base.specs.Refusal as refusal
+use Rattle.table_layout.specs.Codes.{diagonal, endKind, sectionKind, mlm, lumped, distributed}
+use Rattle.table_layout.specs.Layout.{sections, matrices}
 use Rattle.table_layout.specs.declared.View.{View}
-use Rattle.doc.specs.Document.{endKind, sectionKind}
+use Rattle.table_record.specs.Records.{Records, recordsOf, range, noMap, noSection}
+use Rattle.table_record.specs.Way.Standing.{countOf, Rooms}
+use Rattle.table_record.specs.declared.StepRecord.{StepRecord}
+use Rattle.table_record.specs.declared.MapRecord.{MapRecord}
+use Rattle.table_record.specs.declared.SectionRecord.{SectionRecord}
+use Rattle.table_record.specs.declared.MatrixRecord.{MatrixRecord}
 use Rattle.table_name.specs.Name.{nameAt}
+use Rattle.cross_rules.specs.Rules.{any}
 use Rattle.cross_steps.specs.declared.Owner.{Owner}
 
--- ---- "22 SIDE": the records of two ends begin at the words `other` and `own`
+-- ---- "22 SIDE": two ends
 
-unfoldable pub sideAt : List ℕ → List ℕ → ℕ → List ℕ
-sideAt t table at = nameAt t (getD table (at + 3) 0) (getD table (at + 4) 0)
+unfoldable pub sideOf : List ℕ → StepRecord → List ℕ
+sideOf t s = nameAt t (s .side) (s .«side_size»)
 
-unfoldable pub clashAt : List ℕ → List ℕ → ℕ → ℕ → Bool
-clashAt t table other own =
-    either (eqb (getD table (other + 4) 0) 0)
-    (either (eqb (getD table (own + 4) 0) 0) (same (sideAt t table other) (sideAt t table own)))
+unfoldable pub clashing : List ℕ → StepRecord → StepRecord → Bool
+clashing t other own =
+    either (eqb (other .«side_size») 0) (either (eqb (own .«side_size») 0) (same (sideOf t other) (sideOf t own)))
 
 -- `other` is an end on the same map, and the Sides clash
-unfoldable pub meetsAt : List ℕ → List ℕ → ℕ → ℕ → Bool
-meetsAt t table other own =
-    both (eqb (getD table other 0) endKind)
-    (both (eqb (getD table (other + 1) 0) (getD table (own + 1) 0)) (clashAt t table other own))
+unfoldable pub meeting : List ℕ → StepRecord → StepRecord → Bool
+meeting t other own = both (eqb (other .kind) endKind) (both (eqb (other .target) (own .target)) (clashing t other own))
 
--- one of the steps clashes; the record of the first begins at word `from`, the last argument is their number
-unfoldable pub meetsAbove : List ℕ → List ℕ → ℕ → ℕ → ℕ → Bool
-meetsAbove t table own from zero = false
-meetsAbove t table own from (suc n) = either (meetsAt t table from own) (meetsAbove t table own (from + 6) n)
+-- one of the steps clashes with the end
+unfoldable pub meetsAbove : List ℕ → StepRecord → List StepRecord → Bool
+meetsAbove t own above = any (λ (other : StepRecord). meeting t other own) above
 
 -- ---- "26 COUNT"
 
 -- the target of the first end among the steps; `none` if there is no end
-unfoldable pub firstTarget : List ℕ → ℕ → ℕ → ℕ → ℕ
-firstTarget table none from zero = none
-firstTarget table none from (suc n) =
-    if eqb (getD table from 0) endKind then getD table (from + 1) 0 else firstTarget table none (from + 6) n
+unfoldable pub firstTarget : ℕ → List StepRecord → ℕ
+firstTarget none [] = none
+firstTarget none (s ∷ ss) = if eqb (s .kind) endKind then s .target else firstTarget none ss
 
-unfoldable pub pinsOf : List ℕ → View → ℕ → ℕ
-pinsOf table v i = getD table (getD (v .bases) maps 0 + 7 * i + 6) 0
+abbrev pub mapOf : Records → ℕ → MapRecord
+mapOf r i = getD (r .maps) i noMap
 
-unfoldable pub differsFrom : List ℕ → View → ℕ → ℕ → Bool
-differsFrom table v first many = both (ltb first (getD (v .counts) maps 0)) (not (eqb many (pinsOf table v first)))
+unfoldable pub differsFrom : Records → ℕ → ℕ → Bool
+differsFrom r first many = both (ltb first (length (r .maps))) (not (eqb many (mapOf r first .pins)))
 
 -- ---- "25 KIND"
 
--- the lesser of two numbers, where 0 means none
-unfoldable pub lesserOf : ℕ → ℕ → ℕ
-lesserOf a b = if eqb a 0 then b else if eqb b 0 then a else if ltb b a then b else a
+-- the lesser of two numbers, where 0 says that none is given
+unfoldable pub lesserGiven : ℕ → ℕ → ℕ
+lesserGiven a b = if eqb a 0 then b else if eqb b 0 then a else if ltb b a then b else a
 
 -- of "R L G C each matrix index plus 1 or 0"
-unfoldable pub leastAt : List ℕ → ℕ → ℕ
-leastAt table at =
-    lesserOf (lesserOf (getD table (at + 4) 0) (getD table (at + 5) 0)) (lesserOf (getD table (at + 6) 0) (getD table (at + 7) 0))
+unfoldable pub leastOf : SectionRecord → ℕ
+leastOf s = lesserGiven (lesserGiven (s .resistance) (s .inductance)) (lesserGiven (s .conductance) (s .capacitance))
 
--- the word where the record of section i begins
-abbrev pub sectionAt : View → ℕ → ℕ
-sectionAt v i = getD (v .bases) sections 0 + 8 * i
+abbrev pub sectionOf : Records → ℕ → SectionRecord
+sectionOf r i = getD (r .sections) i noSection
 
 -- the index of the first matrix of section i; after the last section, the number of matrices
-unfoldable pub firstMatrix : List ℕ → View → ℕ → ℕ
-firstMatrix table v i = if ltb i (getD (v .counts) sections 0) then leastAt table (sectionAt v i) - 1 else getD (v .counts) matrices 0
+unfoldable pub firstMatrix : Records → ℕ → ℕ
+firstMatrix r i = if ltb i (length (r .sections)) then leastOf (sectionOf r i) - 1 else length (r .matrices)
 
 -- one of the matrices is not a Diagonal_matrix
-unfoldable pub otherIn : List ℕ → ℕ → ℕ → Bool
-otherIn table from zero = false
-otherIn table from (suc n) = either (not (eqb (getD table from 0) diagonal)) (otherIn table (from + 5) n)
+unfoldable pub otherIn : List MatrixRecord → Bool
+otherIn ms = any (λ (m : MatrixRecord). not (eqb (m .form) diagonal)) ms
 
-unfoldable pub otherForm : List ℕ → View → ℕ → Bool
-otherForm table v i =
-    otherIn table (getD (v .bases) matrices 0 + 5 * firstMatrix table v i) (firstMatrix table v (i + 1) - firstMatrix table v i)
+unfoldable pub otherForm : Records → ℕ → Bool
+otherForm r i = otherIn (range (firstMatrix r i) (firstMatrix r (i + 1) - firstMatrix r i) (r .matrices))
 
 -- of an SLM model
-unfoldable pub kindBroken : List ℕ → View → ℕ → ℕ → Bool
-kindBroken table v kind i = both (ltb kind 2) (otherForm table v i)
+unfoldable pub kindBroken : Records → ℕ → ℕ → Bool
+kindBroken r kind i = both (ltb kind mlm) (otherForm r i)
 
 -- ---- "24 METHOD"
 
 unfoldable pub wrongMethod : Bool → ℕ → Bool
-wrongMethod mult method = if mult then eqb method 1 else eqb method 0
+wrongMethod mult method = if mult then eqb method distributed else eqb method lumped
 
--- ---- all of them
+-- ---- all of them, of the step `own`, with `above` steps before it in its model
 
--- the target of the step whose record begins at word `own`
-abbrev pub targetAt : List ℕ → ℕ → ℕ
-targetAt table own = getD table (own + 1) 0
+abbrev pub pointsAtMap : Records → StepRecord → Bool
+pointsAtMap r own = ltb (own .target) (length (r .maps))
 
-abbrev pub pointsAtMap : List ℕ → View → ℕ → Bool
-pointsAtMap table v own = ltb (targetAt table own) (getD (v .counts) maps 0)
+abbrev pub pointsAtSection : Records → StepRecord → Bool
+pointsAtSection r own = ltb (own .target) (length (r .sections))
 
-abbrev pub pointsAtSection : List ℕ → View → ℕ → Bool
-pointsAtSection table v own = ltb (targetAt table own) (getD (v .counts) sections 0)
-
-unfoldable pub endRuleAt : List ℕ → List ℕ → View → Owner → ℕ → ℕ → ℕ
-endRuleAt t table v o own above =
+unfoldable pub endRuleAt : List ℕ → Records → Owner → StepRecord → ℕ → ℕ
+endRuleAt t r o own above =
     firstBroken
-    (21 when not (pointsAtMap table v own)
-    ∷ 22 when both (pointsAtMap table v own) (meetsAbove t table own (o .from) above)
-    ∷ 26 when both (pointsAtMap table v own) (differsFrom table v (o .first) (pinsOf table v (targetAt table own)))
+    (refusal.noMap when not (pointsAtMap r own)
+    ∷ refusal.side when both (pointsAtMap r own) (meetsAbove t own (range (o .from) above (r .steps)))
+    ∷ refusal.count when both (pointsAtMap r own) (differsFrom r (o .first) (mapOf r (own .target) .pins))
     ∷ [])
 
-unfoldable pub sectionRuleAt : List ℕ → View → Owner → ℕ → Bool → ℕ
-sectionRuleAt table v o own mult =
+unfoldable pub sectionRuleAt : Records → Owner → StepRecord → Bool → ℕ
+sectionRuleAt r o own mult =
     firstBroken
-    (23 when not (pointsAtSection table v own)
-    ∷ 24 when both (pointsAtSection table v own) (wrongMethod mult (getD table (sectionAt v (targetAt table own) + 2) 0))
-    ∷ 25 when both (pointsAtSection table v own) (kindBroken table v (o .kind) (targetAt table own))
-    ∷ 26 when both (pointsAtSection table v own) (differsFrom table v (o .first) (getD table (sectionAt v (targetAt table own) + 3) 0))
+    (refusal.noSection when not (pointsAtSection r own)
+    ∷ refusal.method when both (pointsAtSection r own) (wrongMethod mult (sectionOf r (own .target) .method))
+    ∷ refusal.kind when both (pointsAtSection r own) (kindBroken r (o .kind) (own .target))
+    ∷ refusal.count when both (pointsAtSection r own) (differsFrom r (o .first) (sectionOf r (own .target) .conductors))
     ∷ [])
 
 -- a Fork or an Endfork breaks no rule
-unfoldable pub stepRuleAt : List ℕ → List ℕ → View → Owner → ℕ → ℕ → Bool → ℕ
-stepRuleAt t table v o own above mult =
-    if eqb (getD table own 0) endKind then endRuleAt t table v o own above else
-    if eqb (getD table own 0) sectionKind then sectionRuleAt table v o own mult else 0
+unfoldable pub stepRuleAt : List ℕ → Records → Owner → StepRecord → ℕ → Bool → ℕ
+stepRuleAt t r o own above mult =
+    if eqb (own .kind) endKind then endRuleAt t r o own above else
+    if eqb (own .kind) sectionKind then sectionRuleAt r o own mult else 0
 
 -- ---- what the code requires of the table
 
--- the records of the parts lie inside it, and the matrices of a section come before those of the next
+-- there is room for its records, and the matrices of a section come before those of the next
 pub record StepRooms (table : List ℕ) (v : View) : Type 0 where
-  pub map-room : getD (v .bases) maps 0 + 7 * getD (v .counts) maps 0 ≤ length table
-  pub section-room : getD (v .bases) sections 0 + 8 * getD (v .counts) sections 0 ≤ length table
-  pub matrix-room : getD (v .bases) matrices 0 + 5 * getD (v .counts) matrices 0 ≤ length table
-  pub ordered : (i : ℕ) → i < getD (v .counts) sections 0 → firstMatrix table v i ≤ firstMatrix table v (i + 1)
-  pub bounded : (i : ℕ) → i < getD (v .counts) sections 0 → firstMatrix table v (i + 1) ≤ getD (v .counts) matrices 0
+  pub rooms : Rooms table v
+  pub ordered : (i : ℕ) → i < countOf v sections → firstMatrix (recordsOf table) i ≤ firstMatrix (recordsOf table) (i + 1)
+  pub bounded : (i : ℕ) → i < countOf v sections → firstMatrix (recordsOf table) (i + 1) ≤ countOf v matrices

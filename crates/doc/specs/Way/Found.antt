@@ -2,7 +2,7 @@
 -- Assumes nothing.
 use Prim.Native.Nat.{ℕ, _+_, _-_, _≤_, _<_}
 use mathlib.Core.Path.{_≡_}
-use mathlib.Core.Bool.{Bool, true, false}
+use mathlib.Core.Bool.{true, false}
 use mathlib.Core.List.{List, [], _∷_, _++_}
 use Prim.Native.Char.{code}
 use lib.ListN.{length, take, drop, getD}
@@ -18,7 +18,7 @@ use Rattle.doc.specs.Lines.{Line, plain, keyOf, linesAt, placeAfter, key
 use Rattle.doc.specs.Holds.{Each}
 use Rattle.doc.specs.declared.Found.{Found}
 use Rattle.doc.specs.declared.Extent.{Extent}
-use Rattle.doc.specs.declared.Passed.{Passed}
+use Rattle.doc.specs.declared.fast.Passed.{Passed}
 
 -- the offset and size of a word
 unfoldable pub extentOf : Word → Extent

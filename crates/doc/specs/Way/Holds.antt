@@ -7,11 +7,12 @@ use mathlib.Core.Bool.{Bool}
 use mathlib.Core.List.{List, [], _∷_}
 use lib.ListN.{length, take, drop}
 use lib.Dec.{ltb, eqb}
+use Rattle.table_layout.specs.Codes.{forkKind, endforkKind}
+use Rattle.table_layout.specs.Bounds.{deepest, longestName}
 use Rattle.base.specs.If.{if_then_else_, both}
 use Rattle.lex_line.specs.Words.{Word}
-use Rattle.line_path.specs.Path.{deepest}
 use Rattle.line_keyword.specs.declared.Counts.{Counts}
-use Rattle.doc.specs.Document.{Step, forkKind, endforkKind}
+use Rattle.doc.specs.Document.{Step}
 
 -- the counts of the forward reading, in the order of the parts
 unfoldable pub countsOf : Counts → List ℕ
@@ -32,4 +33,4 @@ pub record Stands (t : List ℕ) (w : Word) : Type 0 where
 pub record IsName (t : List ℕ) (w : Word) : Type 0 where
   pub stands : Stands t w
   pub some : 1 ≤ length (w .text)
-  pub few : length (w .text) ≤ 120
+  pub few : length (w .text) ≤ longestName

@@ -5,10 +5,10 @@ use Rattle.icm_walk.proofs.walk_from.Statement.{statement}
 use Rattle.icm_walk.proofs.walk_from.Tie as tie
 
 abbrev Inv-loop : tie.InvT-loop
-Inv-loop text table first model place₀ left₀ place left = Unit {0}
+Inv-loop text table model place₀ left₀ place left = Unit {0}
 
 abbrev μ-loop : tie.MeasureT-loop
-μ-loop text table first model place₀ left₀ place left = left
+μ-loop text table model place₀ left₀ place left = left
 
 loop-holds : tie.Need-loop-holds Inv-loop μ-loop
 loop-holds c = search needs

@@ -6,9 +6,8 @@ use mathlib.Core.Path.{_≡_}
 use mathlib.Core.List.{List, _++_}
 use lib.ListN.{length, getD, replicate}
 use lib.Seq.{sets}
-use Rattle.table_layout.specs.Layout.{widths, values}
-use Rattle.table_layout.specs.Way.Parts.{needed}
-use Rattle.read_line.specs.declared.Reading.the-variants as reading
+use Rattle.table_layout.specs.Layout.{values, valueWidth}
+use Rattle.table_layout.specs.Way.Filling.{partBase}
 use Rattle.doc.specs.Records.{tableOf}
 use Rattle.intake.specs.declared.store.StoreAnswer.{StoreAnswer}
 use Rattle.intake.specs.declared.store.StoreAnswer.the-variants.{Stored, Refused}
@@ -21,5 +20,5 @@ tableAfterStoring t size (Refused rule line) = replicate size 0
 -- a table of zeros, except for words in the part of the values; `counts` are the counts of all parts
 pub record Lifted (counts table : List ℕ) : Type 0 where
   pub words : List ℕ
-  pub long : length words ≡ 3 * getD counts values 0
-  pub image : table ≡ sets (replicate (length table) 0) (needed widths counts - length words) words
+  pub long : length words ≡ valueWidth * getD counts values 0
+  pub image : table ≡ sets (replicate (length table) 0) (partBase counts values) words

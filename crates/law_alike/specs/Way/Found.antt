@@ -3,10 +3,10 @@
 use Prim.Native.Nat.{ℕ}
 use mathlib.Core.List.{List, [], _∷_}
 use lib.Dec.{eqb}
+use Rattle.table_record.specs.declared.Value.{Value}
 use Rattle.base.specs.If.{if_then_else_, both}
 use Rattle.lex_number.specs.ValueWord.{zeroWord}
 use Rattle.lex_keyword.specs.Names.{row}
-use Rattle.doc.specs.Document.{Value}
 
 -- the word of the first value with this row and this column; zero if there is none
 unfoldable pub foundAt : ℕ → ℕ → List Value → ℕ

@@ -1,12 +1,12 @@
 -- `lex_keyword::first_of` meets its contract: the table is what the rule lists, which the checker computes.
 -- Assumes nothing.
 use mathlib.Core.Path.{_∙_}
-use Rattle.base.specs.If.{if_then_else_}
 use Rattle.base.proofs.TableLaws.{listed-at}
 use Rattle.lex_keyword.specs.Way.Lookup.{shorter, firstOfSize}
 use borrow.Author.Needs.{needs}
 use Rattle.lex_keyword.proofs.first_of.Statement.{statement}
 use Rattle.lex_keyword.proofs.first_of.Tie as tie
+use Rattle.base.specs.If.{if_then_else_}
 
 array-read-from-byte : tie.Need-array-read-from-byte
 array-read-from-byte c = search needs

@@ -1,7 +1,7 @@
 -- `lex_keyword::is_hyphen_word` meets its contract: the letters are those of the word, which the checker computes.
 -- Assumes nothing.
 use mathlib.Core.Path.{refl}
-use Rattle.base.specs.If.{if_then_else_, both}
+use Rattle.base.specs.If.{both, if_then_else_}
 use Rattle.base.specs.Bytes.{small, isCapital, within}
 use Rattle.lex_keyword.specs.Names.{folded}
 use Rattle.lex_keyword.proofs.WordLaws.{not-hyphen, hyphen-stands}

@@ -6,7 +6,7 @@ use borrow.Author.Needs.{needs}
 use Rattle.lex_line.proofs.feed_from.Statement.{statement}
 use Rattle.lex_line.proofs.feed_from.Tie as tie
 use Rattle.base.proofs.byte_at.Reads as byte-at-reads
-use Rattle.base.proofs.skip_far.Reads as skip-far-reads
+use Rattle.base.proofs.fast.skip_far.Reads as skip-far-reads
 
 returns : tie.Need-returns
 returns c = search feed-ended

@@ -8,7 +8,7 @@ use Rattle.lex_line.proofs.ByteLaws.{line-empty, line-bad-byte, last-lo
 use borrow.Author.Needs.{needs}
 use Rattle.lex_line.proofs.line_check.Statement.{statement}
 use Rattle.lex_line.proofs.line_check.Tie as tie
-use Rattle.base.proofs.skip_far.Reads as skip-far-reads
+use Rattle.base.proofs.fast.skip_far.Reads as skip-far-reads
 use Rattle.lex_line.proofs.terminator_at.Reads as terminator-at-reads
 
 shared-slice-read-if1 : tie.Need-shared-slice-read-if1

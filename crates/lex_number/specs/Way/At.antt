@@ -17,10 +17,10 @@ use Rattle.lex_number.specs.declared.Exponent.{Exponent}
 use Rattle.lex_number.specs.declared.Scale.{Scale}
 use Rattle.lex_number.specs.declared.Number.{Number}
 use Rattle.lex_number.specs.declared.NumberAt.{NumberAt}
-use Rattle.lex_number.specs.declared.Run.{Run}
-use Rattle.lex_number.specs.declared.Plain.{Plain}
-use Rattle.lex_number.specs.declared.Reading.{Reading}
-use Rattle.lex_number.specs.declared.Parts.{Parts}
+use Rattle.lex_number.specs.declared.fast.Run.{Run}
+use Rattle.lex_number.specs.declared.fast.Plain.{Plain}
+use Rattle.lex_number.specs.declared.fast.Reading.{Reading}
+use Rattle.lex_number.specs.declared.fast.Parts.{Parts}
 
 -- the word that starts at `from`; empty if there is a blank
 unfoldable pub wordFrom : List ℕ → ℕ → List ℕ

@@ -15,7 +15,7 @@ use Rattle.lex_number.specs.Number.{isSign, numberOf}
 use Rattle.lex_number.specs.declared.Number.{Number}
 use Rattle.lex_number.specs.declared.Number.the-variants.{Value, Malformed, Range}
 use Rattle.lex_number.specs.declared.NumberAt.{NumberAt}
-use Rattle.lex_number.specs.declared.ShortNumber.{ShortNumber}
+use Rattle.lex_number.specs.declared.fast.ShortNumber.{ShortNumber}
 
 -- a byte of a word: content that is not blank
 unfoldable pub isWord : ℕ → ℕ → Bool

@@ -2,11 +2,8 @@
 -- wrap. n is how many lines have been read. No rule bounds the matrices, but each takes a line, so there are at most n.
 -- Assumes nothing.
 use Prim.Native.Nat.{ℕ, _^_, _≤_, _<_}
-use Rattle.line_path.specs.Path.{deepest, mostSteps}
-use Rattle.line_map.specs.PinMap.{mostPins}
+use Rattle.table_layout.specs.Bounds.{mostModels, mostMaps, mostSections, mostPins, mostValues, deepest, mostSteps}
 use Rattle.line_map.specs.Way.Bounded.{BoundedMap}
-use Rattle.line_matrix.specs.Matrix.{mostValues}
-use Rattle.line_keyword.specs.Keywords.{mostModels, mostMaps, mostSections}
 use Rattle.line_keyword.specs.declared.Counts.{Counts}
 use Rattle.line_keyword.specs.declared.State.{State}
 

@@ -5,24 +5,26 @@ use Prim.Native.Nat.{ℕ}
 use mathlib.Core.List.{List, [], _∷_}
 use lib.Dec.{eqb}
 use Rattle.base.specs.If.{if_then_else_}
-use Rattle.base.specs.Broken.{_when_, firstBroken}
+use Rattle.base.specs.Broken.{Rule, _when_, firstBroken}
+use Rattle.base.specs.Refusal as refusal
 use Rattle.lex_number.specs.Integer.{wholeOf}
 use Rattle.lex_keyword.specs.Names.{row}
-use Rattle.line_place.specs.Place as place
 use Rattle.line_argument.specs.Argument.{isBadArgument, isBadInteger, isOutOfBounds}
 use Rattle.line_matrix.specs.Matrix.{withRow, withBandwidth}
 use Rattle.line_matrix.specs.declared.Matrix.{Matrix}
 use Rattle.line_keyword.specs.Keywords.{isWrongInMatrix}
 
--- the first rule that a [Row] or [Bandwidth] in a matrix breaks
+-- the rules that a [Row] or [Bandwidth] in a matrix can break
+abbrev pub matrixKeywordRules : ℕ → List ℕ → Matrix → List Rule
+matrixKeywordRules k argument m =
+    refusal.argument when isBadArgument k argument
+    ∷ refusal.number when isBadInteger k argument
+    ∷ refusal.range when isOutOfBounds k argument
+    ∷ refusal.shape when isWrongInMatrix k (wholeOf argument .value) m
+    ∷ []
+
 unfoldable pub matrixKeywordRule : ℕ → List ℕ → Matrix → ℕ
-matrixKeywordRule k argument m =
-    firstBroken
-    (11 when isBadArgument k argument
-    ∷ 13 when isBadInteger k argument
-    ∷ 14 when isOutOfBounds k argument
-    ∷ 16 when isWrongInMatrix k (wholeOf argument .value) m
-    ∷ [])
+matrixKeywordRule k argument m = firstBroken (matrixKeywordRules k argument m)
 
 -- the matrix after a [Row] or [Bandwidth]
 unfoldable pub matrixKeywordNext : ℕ → List ℕ → Matrix → ℕ → Matrix

@@ -1,9 +1,10 @@
 -- `line_map::map_line` meets its contract: each `return` by the names that the first word, or the word before the sign, was compared with.
 -- Assumes nothing.
-use Rattle.line_map.proofs.LineLaws.{sign-cut, says-order, says-list, says-columns, says-rows, says-nothing}
+use Rattle.line_map.proofs.LineLaws.{says-order, says-list, says-columns, says-rows, says-nothing}
 use borrow.Author.Needs.{needs}
 use Rattle.line_map.proofs.map_line.Statement.{statement}
 use Rattle.line_map.proofs.map_line.Tie as tie
+use Rattle.lex_line.proofs.FormLaws.{sign-taken}
 
 first-word-requires : tie.Need-first-word-requires
 first-word-requires c κs = search needs
@@ -36,7 +37,7 @@ equals-at-requires : tie.Need-equals-at-requires
 equals-at-requires c κs = search needs
 
 slice-aggregate-first-word : tie.Need-slice-aggregate-first-word
-slice-aggregate-first-word c = search sign-cut
+slice-aggregate-first-word c = search sign-taken
 
 first-word-requires-2 : tie.Need-first-word-requires-2
 first-word-requires-2 c κs = search needs

@@ -1,10 +1,11 @@
 -- `line_map::size_line` meets its contract: each `return` by where the sign stands and how many words are on either side.
 -- Assumes nothing.
 use Rattle.lex_line.proofs.WordLaws.{first-ordered, first-within}
-use Rattle.line_map.proofs.LineLaws.{sign-cut, size-unsigned, size-other, size-surplus, size-given}
+use Rattle.line_map.proofs.LineLaws.{size-unsigned, size-other, size-surplus, size-given}
 use borrow.Author.Needs.{needs}
 use Rattle.line_map.proofs.size_line.Statement.{statement}
 use Rattle.line_map.proofs.size_line.Tie as tie
+use Rattle.lex_line.proofs.FormLaws.{sign-taken}
 
 equals-at-requires : tie.Need-equals-at-requires
 equals-at-requires c κs = search needs
@@ -16,7 +17,7 @@ returns : tie.Need-returns
 returns c = search size-unsigned
 
 slice-aggregate-first-two-words : tie.Need-slice-aggregate-first-two-words
-slice-aggregate-first-two-words c = search sign-cut
+slice-aggregate-first-two-words c = search sign-taken
 
 first-two-words-requires : tie.Need-first-two-words-requires
 first-two-words-requires c κs = search needs

@@ -6,8 +6,8 @@ use borrow.Author.Needs.{needs}
 use Rattle.line_matrix.proofs.conductors_of.Statement.{statement}
 use Rattle.line_matrix.proofs.conductors_of.Tie as tie
 
-less-requires : tie.Need-less-requires
-less-requires c κs = search needs
+minus-requires : tie.Need-minus-requires
+minus-requires c κs = search needs
 
 returns : tie.Need-returns
 unfolding shapeConductors
@@ -22,4 +22,4 @@ unfolding shapeConductors
 returns-3 c = search chain depth 12
 
 pub conductors-of-spec : {M : Type 1} → statement M
-conductors-of-spec = tie.close (tie.spec less-requires returns returns-2 returns-3)
+conductors-of-spec = tie.close (tie.spec minus-requires returns returns-2 returns-3)

@@ -5,12 +5,12 @@ use borrow.Author.Needs.{needs}
 use Rattle.line_matrix.proofs.in_row.Statement.{statement}
 use Rattle.line_matrix.proofs.in_row.Tie as tie
 
-less-requires : tie.Need-less-requires
-less-requires c κs = search needs
+minus-requires : tie.Need-minus-requires
+minus-requires c κs = search needs
 
 returns : tie.Need-returns
 unfolding inRow
 returns c = cc
 
 pub in-row-spec : {M : Type 1} → statement M
-in-row-spec = tie.close (tie.spec less-requires returns)
+in-row-spec = tie.close (tie.spec minus-requires returns)

@@ -2,8 +2,9 @@
 -- Assumes nothing.
 use mathlib.Core.Path.{ap}
 use lib.Dec.{ltb}
+use Rattle.table_layout.specs.Bounds.{mostConductors}
 use Rattle.base.proofs.IfLaws.{chain}
-use Rattle.line_matrix.specs.Matrix.{isTooWide, mostConductors}
+use Rattle.line_matrix.specs.Matrix.{isTooWide}
 use borrow.Author.Needs.{needs}
 use Rattle.line_matrix.proofs.is_too_wide.Statement.{statement}
 use Rattle.line_matrix.proofs.is_too_wide.Tie as tie

@@ -1,8 +1,7 @@
 -- `line_matrix::numbers_line` meets its contract. The loop's invariant: what was read of the line and what its words from here on add.
 -- Assumes nothing.
 use borrow.Author.Needs.{needs}
-use Prim.Native.Nat.{_-_, _≤_, _<_}
-use native.Mathlib.Omega.{arith}
+use Prim.Native.Nat.{_-_, _≤_}
 use lib.ListN.{length}
 use Rattle.line_matrix.proofs.MatrixLaws.{Pending, line-starts, line-past, line-blank, line-number, line-less, placed-within}
 use Rattle.line_matrix.proofs.numbers_line.Statement.{statement}

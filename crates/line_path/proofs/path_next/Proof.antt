@@ -25,8 +25,8 @@ returns-3 : tie.Need-returns-3
 unfolding pathNext
 returns-3 c = search chain depth 12
 
-less-requires : tie.Need-less-requires
-less-requires c κs = search needs
+minus-requires : tie.Need-minus-requires
+minus-requires c κs = search needs
 
 returns-4 : tie.Need-returns-4
 returns-4 c = search next-endfork
@@ -44,6 +44,6 @@ path-next-spec =
     returns-2
     add-t4
     returns-3
-    less-requires
+    minus-requires
     returns-4
     returns-5)

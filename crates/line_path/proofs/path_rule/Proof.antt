@@ -1,7 +1,7 @@
 -- `line_path::path_rule` meets its contract: a closed path has its own rule.
 -- Assumes nothing.
-use Rattle.base.proofs.IfLaws.{chain}
-use Rattle.line_path.specs.Path.{pathRule}
+use Rattle.base.proofs.BrokenLaws.{rules}
+use Rattle.line_path.specs.Path.{pathRule, closedRule, openRule}
 use borrow.Author.Needs.{needs}
 use Rattle.line_path.proofs.path_rule.Statement.{statement}
 use Rattle.line_path.proofs.path_rule.Tie as tie
@@ -10,15 +10,15 @@ closed-rule-requires : tie.Need-closed-rule-requires
 closed-rule-requires c κs = search needs
 
 returns : tie.Need-returns
-unfolding pathRule
-returns c = search chain depth 12
+unfolding pathRule closedRule
+returns c = search rules depth 12
 
 open-rule-requires : tie.Need-open-rule-requires
 open-rule-requires c κs = search needs
 
 returns-2 : tie.Need-returns-2
-unfolding pathRule
-returns-2 c = search chain depth 12
+unfolding pathRule openRule
+returns-2 c = search rules depth 12
 
 pub path-rule-spec : {M : Type 1} → statement M
 path-rule-spec = tie.close (tie.spec closed-rule-requires returns open-rule-requires returns-2)

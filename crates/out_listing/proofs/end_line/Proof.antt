@@ -5,11 +5,8 @@ use borrow.Author.Needs.{needs}
 use Rattle.out_listing.proofs.end_line.Statement.{statement}
 use Rattle.out_listing.proofs.end_line.Tie as tie
 
-field-of-requires : tie.Need-field-of-requires
-field-of-requires c κs = search needs
-
-field-of-requires-2 : tie.Need-field-of-requires-2
-field-of-requires-2 c κs = search needs
+map-of-requires : tie.Need-map-of-requires
+map-of-requires c κs = search needs
 
 slice-aggregate-put-field : tie.Need-slice-aggregate-put-field
 slice-aggregate-put-field c = search needs
@@ -17,8 +14,8 @@ slice-aggregate-put-field c = search needs
 put-field-requires : tie.Need-put-field-requires
 put-field-requires c κs = search needs
 
-put-number-requires : tie.Need-put-number-requires
-put-number-requires c κs = search needs
+put-decimal-requires : tie.Need-put-decimal-requires
+put-decimal-requires c κs = search needs
 
 put-name-requires : tie.Need-put-name-requires
 put-name-requires c κs = search needs
@@ -32,8 +29,8 @@ returns c = search end-written
 put-name-requires-2 : tie.Need-put-name-requires-2
 put-name-requires-2 c κs = search needs
 
-put-side-requires : tie.Need-put-side-requires
-put-side-requires c κs = search needs
+put-name-requires-3 : tie.Need-put-name-requires-3
+put-name-requires-3 c κs = search needs
 
 same-length-2 : tie.Need-same-length-2
 same-length-2 c = search needs
@@ -45,15 +42,14 @@ pub end-line-spec : {M : Type 1} → statement M
 end-line-spec =
     tie.close
     (tie.spec
-    field-of-requires
-    field-of-requires-2
+    map-of-requires
     slice-aggregate-put-field
     put-field-requires
-    put-number-requires
+    put-decimal-requires
     put-name-requires
     same-length
     returns
     put-name-requires-2
-    put-side-requires
+    put-name-requires-3
     same-length-2
     returns-2)

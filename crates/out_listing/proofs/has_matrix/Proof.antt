@@ -5,9 +5,6 @@ use borrow.Author.Needs.{needs}
 use Rattle.out_listing.proofs.has_matrix.Statement.{statement}
 use Rattle.out_listing.proofs.has_matrix.Tie as tie
 
-field-of-requires : tie.Need-field-of-requires
-field-of-requires c κs = search needs
-
 returns : tie.Need-returns
 returns c = search matrix-none
 
@@ -18,4 +15,4 @@ returns-2 : tie.Need-returns-2
 returns-2 c = search matrix-is
 
 pub has-matrix-spec : {M : Type 1} → statement M
-has-matrix-spec = tie.close (tie.spec field-of-requires returns sub-result returns-2)
+has-matrix-spec = tie.close (tie.spec returns sub-result returns-2)

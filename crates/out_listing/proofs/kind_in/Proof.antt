@@ -1,7 +1,7 @@
 -- `out_listing::kind_in` meets its contract: each `return` by the words compared so far.
 -- Assumes nothing.
 use Rattle.base.proofs.IfLaws.{chain}
-use Rattle.out_listing.specs.Fields.{kindIn}
+use Rattle.out_listing.specs.Shown.{kindIn}
 use borrow.Author.Needs.{needs}
 use Rattle.out_listing.proofs.kind_in.Statement.{statement}
 use Rattle.out_listing.proofs.kind_in.Tie as tie

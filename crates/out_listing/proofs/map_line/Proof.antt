@@ -9,8 +9,8 @@ use Rattle.out_listing.proofs.map_line.Tie as tie
 put-name-requires : tie.Need-put-name-requires
 put-name-requires c κs = search needs
 
-put-number-requires : tie.Need-put-number-requires
-put-number-requires c κs = search needs
+put-decimal-requires : tie.Need-put-decimal-requires
+put-decimal-requires c κs = search needs
 
 same-length : tie.Need-same-length
 same-length c = search needs
@@ -20,4 +20,4 @@ unfolding listedMap
 returns c = search line-two
 
 pub map-line-spec : {M : Type 1} → statement M
-map-line-spec = tie.close (tie.spec put-name-requires put-number-requires same-length returns)
+map-line-spec = tie.close (tie.spec put-name-requires put-decimal-requires same-length returns)

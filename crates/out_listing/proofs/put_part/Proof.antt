@@ -5,9 +5,6 @@ use borrow.Author.Needs.{needs}
 use Rattle.out_listing.proofs.put_part.Statement.{statement}
 use Rattle.out_listing.proofs.put_part.Tie as tie
 
-count-of-requires : tie.Need-count-of-requires
-count-of-requires c κs = search needs
-
 head-line-requires : tie.Need-head-line-requires
 head-line-requires c κs = search needs
 
@@ -21,6 +18,4 @@ returns : tie.Need-returns
 returns c = search part-written
 
 pub put-part-spec : {M : Type 1} → statement M
-put-part-spec =
-    tie.close
-    (tie.spec count-of-requires head-line-requires part-lines-requires same-length returns)
+put-part-spec = tie.close (tie.spec head-line-requires part-lines-requires same-length returns)

@@ -5,8 +5,8 @@ use borrow.Author.Needs.{needs}
 use Rattle.out_listing.proofs.section_step_line.Statement.{statement}
 use Rattle.out_listing.proofs.section_step_line.Tie as tie
 
-field-of-requires : tie.Need-field-of-requires
-field-of-requires c κs = search needs
+section-of-requires : tie.Need-section-of-requires
+section-of-requires c κs = search needs
 
 slice-aggregate-put-field : tie.Need-slice-aggregate-put-field
 slice-aggregate-put-field c = search needs
@@ -14,8 +14,8 @@ slice-aggregate-put-field c = search needs
 put-field-requires : tie.Need-put-field-requires
 put-field-requires c κs = search needs
 
-put-number-requires : tie.Need-put-number-requires
-put-number-requires c κs = search needs
+put-decimal-requires : tie.Need-put-decimal-requires
+put-decimal-requires c κs = search needs
 
 put-name-requires : tie.Need-put-name-requires
 put-name-requires c κs = search needs
@@ -33,10 +33,10 @@ pub section-step-line-spec : {M : Type 1} → statement M
 section-step-line-spec =
     tie.close
     (tie.spec
-    field-of-requires
+    section-of-requires
     slice-aggregate-put-field
     put-field-requires
-    put-number-requires
+    put-decimal-requires
     put-name-requires
     put-amount-requires
     same-length

@@ -2,13 +2,10 @@
 -- Assumes nothing.
 use Rattle.base.proofs.IfLaws.{tests}
 use Rattle.out_listing.specs.Listing.{listedStep}
-use Rattle.out_listing.proofs.TextLaws.{line-yes, line-no, head-told}
+use Rattle.out_listing.proofs.TextLaws.{line-yes, line-no}
 use borrow.Author.Needs.{needs}
 use Rattle.out_listing.proofs.step_line.Statement.{statement}
 use Rattle.out_listing.proofs.step_line.Tie as tie
-
-field-of-requires : tie.Need-field-of-requires
-field-of-requires c κs = search needs
 
 end-line-requires : tie.Need-end-line-requires
 end-line-requires c κs = search needs
@@ -30,9 +27,6 @@ returns-2 : tie.Need-returns-2
 unfolding listedStep
 returns-2 c = search (line-yes, line-no, tests) depth 12
 
-field-of-requires-2 : tie.Need-field-of-requires-2
-field-of-requires-2 c κs = search needs
-
 slice-aggregate-head-line : tie.Need-slice-aggregate-head-line
 slice-aggregate-head-line c = search needs
 
@@ -44,7 +38,7 @@ same-length-3 c = search needs
 
 returns-3 : tie.Need-returns-3
 unfolding listedStep
-returns-3 c = search (line-yes, line-no, head-told, tests) depth 12
+returns-3 c = search (line-yes, line-no, tests) depth 12
 
 slice-aggregate-head-line-2 : tie.Need-slice-aggregate-head-line-2
 slice-aggregate-head-line-2 c = search needs
@@ -57,20 +51,18 @@ same-length-4 c = search needs
 
 returns-4 : tie.Need-returns-4
 unfolding listedStep
-returns-4 c = search (line-yes, line-no, head-told, tests) depth 12
+returns-4 c = search (line-yes, line-no, tests) depth 12
 
 pub step-line-spec : {M : Type 1} → statement M
 step-line-spec =
     tie.close
     (tie.spec
-    field-of-requires
     end-line-requires
     same-length
     returns
     section-step-line-requires
     same-length-2
     returns-2
-    field-of-requires-2
     slice-aggregate-head-line
     head-line-requires
     same-length-3

@@ -1,46 +1,21 @@
 -- `out_listing::values_in` meets its contract.
 -- Assumes nothing.
-use Rattle.out_listing.specs.Fields.{valuesIn}
 use borrow.Author.Needs.{needs}
+use Rattle.out_listing.proofs.ShownLaws.{values-told}
 use Rattle.out_listing.proofs.values_in.Statement.{statement}
 use Rattle.out_listing.proofs.values_in.Tie as tie
 
-field-of-requires : tie.Need-field-of-requires
-field-of-requires c κs = search needs
+array-read-minus : tie.Need-array-read-minus
+array-read-minus c = search needs
 
-field-of-requires-2 : tie.Need-field-of-requires-2
-field-of-requires-2 c κs = search needs
+minus-requires : tie.Need-minus-requires
+minus-requires c κs = search needs
 
-count-of-requires : tie.Need-count-of-requires
-count-of-requires c κs = search needs
+lesser-requires : tie.Need-lesser-requires
+lesser-requires c κs = search needs
 
 returns : tie.Need-returns
-unfolding valuesIn
-returns c = search needs
-
-sub-if2 : tie.Need-sub-if2
-sub-if2 c = search needs
-
-returns-2 : tie.Need-returns-2
-unfolding valuesIn
-returns-2 c = search needs
-
-sub-result : tie.Need-sub-result
-sub-result c = search needs
-
-returns-3 : tie.Need-returns-3
-unfolding valuesIn
-returns-3 c = search needs
+returns c = search values-told
 
 pub values-in-spec : {M : Type 1} → statement M
-values-in-spec =
-    tie.close
-    (tie.spec
-    field-of-requires
-    field-of-requires-2
-    count-of-requires
-    returns
-    sub-if2
-    returns-2
-    sub-result
-    returns-3)
+values-in-spec = tie.close (tie.spec array-read-minus minus-requires lesser-requires returns)

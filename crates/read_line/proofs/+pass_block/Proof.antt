@@ -2,7 +2,6 @@
 -- first on are gone over, up to where the walk has come.
 -- Assumes nothing.
 use borrow.Author.Needs.{needs}
-use native.Mathlib.Omega.{arith}
 use lib.ListN.{length}
 use Rattle.read_line.specs.Way.Walk.{Blocked}
 use Rattle.read_line.proofs.BlockLaws.{block-counted, block-joins, block-rest, block-less, inner-counted}

@@ -3,7 +3,7 @@
 use Prim.Native.Nat.{_<_}
 use native.Mathlib.Omega.{arith}
 use mathlib.Core.Path.{refl}
-use Rattle.line_map.specs.PinMap.{mostPins}
+use Rattle.table_layout.specs.Bounds.{mostPins}
 use Rattle.read_line.proofs.StepLaws.{pin-stops, pin-goes, pins-small, pins-room}
 use borrow.Author.Needs.{needs}
 use Rattle.read_line.proofs.pin_line.Statement.{statement}

@@ -2,7 +2,7 @@
 -- Assumes nothing.
 use mathlib.Core.Path.{sym, _∙_}
 use Rattle.base.proofs.IfLaws.{chain}
-use Rattle.read_line.specs.Reading.{lineResult}
+use Rattle.read_line.proofs.ResultLaws.{by-steps}
 use borrow.Author.Needs.{needs}
 use Rattle.read_line.proofs.take_line.Statement.{statement}
 use Rattle.read_line.proofs.take_line.Tie as tie
@@ -14,29 +14,25 @@ goes-on-requires : tie.Need-goes-on-requires
 goes-on-requires c κs = search needs
 
 returns : tie.Need-returns
-unfolding lineResult
-returns c = search chain depth 10
+returns c = by-steps _ _ _ (search chain depth 10)
 
 goes-on-requires-2 : tie.Need-goes-on-requires-2
 goes-on-requires-2 c κs = search needs
 
 returns-2 : tie.Need-returns-2
-unfolding lineResult
-returns-2 c = search chain depth 10
+returns-2 c = by-steps _ _ _ (search chain depth 10)
 
 before-step-requires : tie.Need-before-step-requires
 before-step-requires c κs = search needs
 
 returns-3 : tie.Need-returns-3
-unfolding lineResult
-returns-3 c = search chain depth 10
+returns-3 c = by-steps _ _ _ (search chain depth 10)
 
 bracket-step-requires : tie.Need-bracket-step-requires
 bracket-step-requires c κs = (search needs, c .before .before .before .before .before .before .before .pre .1 (sym (c .before .before .before .before .before .is-blank-line .ensures) ∙ c .before .before .before .before .if1 .left))
 
 returns-4 : tie.Need-returns-4
-unfolding lineResult
-returns-4 c = search chain depth 10
+returns-4 c = by-steps _ _ _ (search chain depth 10)
 
 pub take-line-spec : {M : Type 1} → statement M
 take-line-spec =

@@ -7,13 +7,13 @@ use mathlib.Core.Bool.{true, false}
 use mathlib.Core.List.{List}
 use lib.ListN.{length, take, drop}
 use lib.Dec.{eqb}
+use Rattle.table_layout.specs.Bounds.{deepest, mostSteps}
 use Rattle.base.specs.If.{if_then_else_}
 use Rattle.lex_line.specs.Lines.{lines, isBlankLine}
 use Rattle.lex_line.specs.Way.LineEnds.{lineAt}
 use Rattle.lex_keyword.specs.Bracket.{bracketOf}
 use Rattle.lex_keyword.specs.declared.Bracket.the-variants.{Plain}
 use Rattle.line_place.specs.Place as place
-use Rattle.line_path.specs.Path.{deepest, mostSteps}
 use Rattle.line_path.specs.declared.Path.{Path}
 use Rattle.line_map.specs.declared.Map.{Map}
 use Rattle.line_matrix.specs.declared.Matrix.{Matrix}

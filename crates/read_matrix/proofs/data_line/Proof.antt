@@ -2,17 +2,13 @@
 -- Assumes nothing.
 use Prim.Native.Nat.{_+_, _≤_}
 use native.Mathlib.Omega.{arith}
-use Rattle.line_matrix.specs.Matrix.{mostValues}
+use Rattle.table_layout.specs.Bounds.{mostValues}
 use Rattle.read_line.proofs.StepLaws.{values-small}
 use Rattle.read_line.proofs.KeptLaws.{column-small}
 use Rattle.read_matrix.proofs.LineLaws.{judged-stops, judged-goes}
 use borrow.Author.Needs.{needs}
 use Rattle.read_matrix.proofs.data_line.Statement.{statement}
 use Rattle.read_matrix.proofs.data_line.Tie as tie
-use Rattle.read_matrix.proofs.new_staging.Reads as new-staging-reads
-use Rattle.line_matrix.proofs.data_line.Reads as data-line-reads
-use Rattle.line_matrix.proofs.data_next.Reads as data-next-reads
-use Rattle.line_matrix.proofs.data_rule.Reads as data-rule-reads
 
 data-line-requires : tie.Need-data-line-requires
 data-line-requires c κs = search needs

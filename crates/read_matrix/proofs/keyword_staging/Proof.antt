@@ -4,8 +4,6 @@ use Rattle.read_matrix.proofs.LineLaws.{row-staged, bandwidth-staged}
 use borrow.Author.Needs.{needs}
 use Rattle.read_matrix.proofs.keyword_staging.Statement.{statement}
 use Rattle.read_matrix.proofs.keyword_staging.Tie as tie
-use Rattle.read_matrix.proofs.greater.Reads as greater-reads
-use Rattle.store_matrices.proofs.first_told.Reads as first-told-reads
 
 greater-requires : tie.Need-greater-requires
 greater-requires c κs = search needs

@@ -4,10 +4,6 @@ use Rattle.read_matrix.proofs.LineLaws.{keeps-stop, keeps-go}
 use borrow.Author.Needs.{needs}
 use Rattle.read_matrix.proofs.matrix_keyword_line.Statement.{statement}
 use Rattle.read_matrix.proofs.matrix_keyword_line.Tie as tie
-use Rattle.line_keyword.proofs.matrix_keyword_next.Reads as matrix-keyword-next-reads
-use Rattle.line_keyword.proofs.matrix_keyword_rule.Reads as matrix-keyword-rule-reads
-use Rattle.read_matrix.proofs.keyword_staging.Reads as keyword-staging-reads
-use Rattle.lex_number.proofs.read_integer.Reads as read-integer-reads
 
 matrix-keyword-rule-requires : tie.Need-matrix-keyword-rule-requires
 matrix-keyword-rule-requires c κs = search needs

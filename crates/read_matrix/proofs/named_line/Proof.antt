@@ -5,10 +5,6 @@ use Rattle.read_matrix.proofs.LineLaws.{keeps-takes, leaves-takes}
 use borrow.Author.Needs.{needs}
 use Rattle.read_matrix.proofs.named_line.Statement.{statement}
 use Rattle.read_matrix.proofs.named_line.Tie as tie
-use Rattle.read_matrix.proofs.matrix_keyword_line.Reads as matrix-keyword-line-reads
-use Rattle.read_matrix.proofs.left_line.Reads as left-line-reads
-use Rattle.line_place.proofs.is_row_or_bandwidth.Reads as is-row-or-bandwidth-reads
-use Rattle.read_line.proofs.argument_of.Reads as argument-of-reads
 
 is-row-or-bandwidth-requires : tie.Need-is-row-or-bandwidth-requires
 is-row-or-bandwidth-requires c κs = search needs

@@ -6,9 +6,6 @@ use Rattle.read_matrix.proofs.LineLaws.{left-takes, bracket-told}
 use borrow.Author.Needs.{needs}
 use Rattle.read_matrix.proofs.opened_line.Statement.{statement}
 use Rattle.read_matrix.proofs.opened_line.Tie as tie
-use Rattle.read_matrix.proofs.left_line.Reads as left-line-reads
-use Rattle.read_matrix.proofs.named_line.Reads as named-line-reads
-use Rattle.lex_keyword.proofs.read_bracket.Reads as read-bracket-reads
 
 read-bracket-requires : tie.Need-read-bracket-requires
 read-bracket-requires c κs = search needs

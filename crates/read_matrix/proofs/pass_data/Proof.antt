@@ -11,12 +11,6 @@ use Rattle.read_matrix.proofs.RunLaws.{gone-counted, run-gone, run-boun
 use borrow.Author.Needs.{needs}
 use Rattle.read_matrix.proofs.pass_data.Statement.{statement}
 use Rattle.read_matrix.proofs.pass_data.Tie as tie
-use Rattle.base.proofs.and.Reads as and-reads
-use Rattle.read_matrix.proofs.has_room.Reads as has-room-reads
-use Rattle.read_matrix.proofs.new_staging.Reads as new-staging-reads
-use Rattle.read_matrix.proofs.pass_run.Reads as pass-run-reads
-use Rattle.read_matrix.proofs.take_data.Reads as take-data-reads
-use Rattle.lex_line.proofs.line_at.Reads as line-at-reads
 
 abbrev Inv-loop : tie.InvT-loop
 Inv-loop text at line values table₀ here₀ number₀ part₀ table here number part = (line ≤ at + 1) × Gone text at line (part₀ .matrix) values table₀

@@ -4,9 +4,6 @@ use Rattle.read_matrix.proofs.RunLaws.{runs-now}
 use borrow.Author.Needs.{needs}
 use Rattle.read_matrix.proofs.pass_run.Statement.{statement}
 use Rattle.read_matrix.proofs.pass_run.Tie as tie
-use Rattle.read_matrix.proofs.is_ordered.Reads as is-ordered-reads
-use Rattle.read_matrix.proofs.pass_numbers.Reads as pass-numbers-reads
-use Rattle.read_matrix.proofs.pass_pairs.Reads as pass-pairs-reads
 
 returns : tie.Need-returns
 returns c = search needs

@@ -5,9 +5,6 @@ use Rattle.read_matrix.proofs.LineLaws.{blank-takes}
 use borrow.Author.Needs.{needs}
 use Rattle.read_matrix.proofs.take_data.Statement.{statement}
 use Rattle.read_matrix.proofs.take_data.Tie as tie
-use Rattle.read_matrix.proofs.data_line.Reads as data-line-reads
-use Rattle.read_matrix.proofs.opened_line.Reads as opened-line-reads
-use Rattle.read_line.proofs.front_of.Reads as front-of-reads
 
 front-of-requires : tie.Need-front-of-requires
 front-of-requires c κs = search needs

@@ -11,9 +11,11 @@ use Rattle.base.specs.If.{if_then_else_}
 use Rattle.lex_line.specs.Lines.{isBlankLine}
 use Rattle.lex_number.specs.Integer.{wholeOf}
 use Rattle.lex_keyword.specs.Names.{row}
+use Rattle.table_layout.specs.Layout.{valueWidth}
 use Rattle.line_place.specs.Place as place
 use Rattle.line_matrix.specs.declared.Matrix.{Matrix}
-use Rattle.read_line.specs.Reading.{keywordStep, lineResult}
+use Rattle.read_line.specs.Reading.{lineResult}
+use Rattle.read_line.specs.Way.Steps.{keywordStep}
 use Rattle.read_line.specs.Way.Walk.{ResumesPart, HoldsPart, Decides, Opens, NoProgressMeansBracket, withMatrix}
 use Rattle.doc.specs.Lines.{Line}
 use Rattle.doc.specs.Document.{inMatrix}
@@ -47,7 +49,7 @@ pub record TakesKeyword (key : ℕ) (argument : List ℕ) (m : Matrix) (values :
 -- the table is changed only after its first `values` values
 pub record Behind (values : ℕ) (table table' : List ℕ) : Type 0 where
   pub long : length table' ≡ length table
-  pub same : take (3 * values) table' ≡ take (3 * values) table
+  pub same : take (valueWidth * values) table' ≡ take (valueWidth * values) table
 
 -- what a line with this content adds to the staging; a blank line adds nothing
 pub record Extends (content : List ℕ) (form : ℕ) (table : List ℕ) (values : ℕ) (a : stages.Staging) (table' : List ℕ) (values' : ℕ) (b : stages.Staging) : Type 0 where

@@ -8,10 +8,13 @@ use mathlib.Core.List.{List, _++_}
 use lib.ListN.{length}
 use lib.Seq.{sets}
 use lib.Dec.{eqb}
+use Rattle.table_layout.specs.Layout.{valueWidth}
+use Rattle.table_layout.specs.Codes.{diagonal, sparse}
+use Rattle.table_layout.specs.Bounds.{mostValues}
 use Rattle.base.specs.If.{both}
 use Rattle.lex_line.specs.Way.LineEnds.{lineAt}
 use Rattle.line_place.specs.Place as place
-use Rattle.line_matrix.specs.Matrix.{diagonal, sparse, mostValues, withColumn}
+use Rattle.line_matrix.specs.Matrix.{withColumn}
 use Rattle.line_matrix.specs.declared.Matrix.{Matrix}
 use Rattle.read_line.specs.Reading.{commentByte}
 use Rattle.read_line.specs.Way.Walk.{ResumesPart, HoldsPart, withMatrix, contentAt}
@@ -30,14 +33,14 @@ use Rattle.read_matrix.specs.Way.Body.{Behind, Takes}
 -- staging the lines that are left of a matrix, after those staged already, gives what all of them give
 pub record Left (t : List ℕ) (n₀ at₀ form : ℕ) (table₀ : List ℕ) (values₀ n at : ℕ) (table : List ℕ) (values : ℕ) (a : Staging) : Type 0 where
   pub image :
-      sets table (3 * values) (valuesWords (valuesFrom form (a .row) (a .column) (bodyLines t n at)))
-      ≡ sets table₀ (3 * values₀) (valuesWords (valuesFrom form 1 1 (bodyLines t n₀ at₀)))
+      sets table (valueWidth * values) (valuesWords (valuesFrom form (a .row) (a .column) (bodyLines t n at)))
+      ≡ sets table₀ (valueWidth * values₀) (valuesWords (valuesFrom form 1 1 (bodyLines t n₀ at₀)))
   pub count : values + length (valuesFrom form (a .row) (a .column) (bodyLines t n at)) ≡ values₀ + length (valuesFrom form 1 1 (bodyLines t n₀ at₀))
   pub bandwidth : toldOr (a .bandwidth) (bandwidthIn (bodyLines t n at)) ≡ bandwidthIn (bodyLines t n₀ at₀)
   pub greatest : max (a .greatest) (greatestIn form (bodyLines t n at)) ≡ greatestIn form (bodyLines t n₀ at₀)
   -- what follows the lines that are left follows all of them
   pub rest : (ls : List Line) → linesAt t n at place.matrix ≡ bodyLines t n at ++ ls → linesAt t n₀ at₀ place.matrix ≡ bodyLines t n₀ at₀ ++ ls
-  pub room : 3 * values ≤ length table
+  pub room : valueWidth * values ≤ length table
 
 -- how far the lines of a matrix are read, no rule being broken
 pub record Gone (t : List ℕ) (at line : ℕ) (m : Matrix) (values : ℕ) (table₀ : List ℕ) (here lineHere : ℕ) (part : Data) (table : List ℕ) : Type 0 where

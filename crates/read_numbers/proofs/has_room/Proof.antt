@@ -1,6 +1,5 @@
 -- `read_numbers::has_room` meets its contract.
 -- Assumes nothing.
-use native.Mathlib.Omega.{arith}
 use Rattle.read_numbers.proofs.StagingLaws.{no-room, some-room}
 use Rattle.read_numbers.proofs.has_room.Statement.{statement}
 use Rattle.read_numbers.proofs.has_room.Tie as tie

@@ -7,8 +7,10 @@ use mathlib.Core.Bool.{true}
 use mathlib.Core.List.{List, _∷_}
 use lib.ListN.{length, take}
 use lib.Seq.{sets}
+use Rattle.table_layout.specs.Layout.{valueWidth}
+use Rattle.table_layout.specs.Codes.{sparse}
 use Rattle.lex_line.specs.Way.LineEnds.{lineAt}
-use Rattle.line_matrix.specs.Matrix.{sparse, dataLineOf}
+use Rattle.line_matrix.specs.Matrix.{dataLineOf}
 use Rattle.read_line.specs.Reading.{commentByte}
 use Rattle.read_line.specs.Way.Walk.{contentAt}
 use Rattle.doc.specs.Lines.{Line, plain, keyOf}
@@ -29,15 +31,15 @@ pub record BoundedStaging (n : Staging) (values : ℕ) : Type 0 where
 pub record Adds (form : ℕ) (l : Line) (table : List ℕ) (values : ℕ) (a : Staging) (table' : List ℕ) (values' : ℕ) (b : Staging) : Type 0 where
   pub whole : a .whole ≡ true
   pub image : (ls : List Line) →
-      sets table' (3 * values') (valuesWords (valuesFrom form (b .row) (b .column) ls))
-      ≡ sets table (3 * values) (valuesWords (valuesFrom form (a .row) (a .column) (l ∷ ls)))
+      sets table' (valueWidth * values') (valuesWords (valuesFrom form (b .row) (b .column) ls))
+      ≡ sets table (valueWidth * values) (valuesWords (valuesFrom form (a .row) (a .column) (l ∷ ls)))
   pub count : (ls : List Line) →
       values' + length (valuesFrom form (b .row) (b .column) ls) ≡ values + length (valuesFrom form (a .row) (a .column) (l ∷ ls))
   pub bandwidth : (ls : List Line) → toldOr (b .bandwidth) (bandwidthIn ls) ≡ toldOr (a .bandwidth) (bandwidthIn (l ∷ ls))
   pub greatest : (ls : List Line) → max (b .greatest) (greatestIn form ls) ≡ max (a .greatest) (greatestIn form (l ∷ ls))
   pub bounded : BoundedStaging b values'
   -- values are counted only where there is room for them
-  pub room : 3 * values ≤ length table → 3 * values' ≤ length table'
+  pub room : valueWidth * values ≤ length table → valueWidth * values' ≤ length table'
 
 -- ---- one line, whatever the staging
 
@@ -48,7 +50,7 @@ movedTo row column a = record { whole = true; row = row; column = column; bandwi
 -- the line at `here` is a line of numbers, the first of them at this row and column; `adds` holds for any such staging
 pub record StagesNumbers (form : ℕ) (t : List ℕ) (here : ℕ) (table : List ℕ) (values row column : ℕ) (table' : List ℕ) (r : Numbers) : Type 0 where
   pub long : length table' ≡ length table
-  pub front : take (3 * values) table' ≡ take (3 * values) table
+  pub front : take (valueWidth * values) table' ≡ take (valueWidth * values) table
   pub ends : r .staged ≡ true → r .end ≡ lineAt commentByte t here .content
   pub line-is : r .staged ≡ true →
       record { numbers = r .count; column = 0; right = true; formed = true; bounded = true } ≡ dataLineOf form (contentAt t here)
@@ -62,7 +64,7 @@ namedTo column a = record { whole = true; row = a .row; column = a .column; band
 -- the line at `here` is one of a Sparse_matrix, in this row; `adds` holds for any such staging
 pub record StagesPair (t : List ℕ) (here : ℕ) (table : List ℕ) (values row : ℕ) (table' : List ℕ) (r : Pair) : Type 0 where
   pub long : length table' ≡ length table
-  pub front : take (3 * values) table' ≡ take (3 * values) table
+  pub front : take (valueWidth * values) table' ≡ take (valueWidth * values) table
   pub ends : r .staged ≡ true → r .end ≡ lineAt commentByte t here .content
   pub line-is : r .staged ≡ true →
       record { numbers = 1; column = r .column; right = true; formed = true; bounded = true } ≡ dataLineOf sparse (contentAt t here)

@@ -10,6 +10,7 @@ use lib.Dec.{eqb}
 use Rattle.base.specs.If.{if_then_else_, both}
 use Rattle.lex_line.specs.Way.LineEnds.{lineAt}
 use Rattle.lex_line.specs.Words.{words}
+use Rattle.table_layout.specs.Layout.{valueWidth}
 use Rattle.line_matrix.specs.Matrix.{areFormed, areBounded}
 use Rattle.read_line.specs.Reading.{commentByte}
 use Rattle.read_line.specs.Way.Walk.{contentAt}
@@ -29,16 +30,16 @@ pub record Stored (form : ℕ) (ws : List (List ℕ)) (table : List ℕ) (values
   pub counted : r .count ≡ length ws
   pub formed : areFormed ws ≡ true
   pub bounded : areBounded ws ≡ true
-  pub stored : table' ≡ sets table (3 * values) (valuesWords (numbersAt form row column ws))
+  pub stored : table' ≡ sets table (valueWidth * values) (valuesWords (numbersAt form row column ws))
   pub row-is : r .row ≡ rowAfter form row (length ws)
   pub column-is : r .column ≡ column + length ws
   pub row-few : r .row ≤ row + r .count
-  pub room : 3 * values ≤ length table → 3 * (values + r .count) ≤ length table
+  pub room : valueWidth * values ≤ length table → valueWidth * (values + r .count) ≤ length table
 
 -- the numbers from offset `from` to the end of the line
 pub record Stores (form : ℕ) (t : List ℕ) (from : ℕ) (table : List ℕ) (values row column : ℕ) (table' : List ℕ) (r : Numbers) : Type 0 where
   pub long : length table' ≡ length table
-  pub front : take (3 * values) table' ≡ take (3 * values) table
+  pub front : take (valueWidth * values) table' ≡ take (valueWidth * values) table
   pub ends : r .staged ≡ true → r .end ≡ lineAt commentByte t from .content
   pub told : r .staged ≡ true → Stored form (words (contentAt t from)) table values row column table' r
 

@@ -1,5 +1,5 @@
 -- A staged matrix: its numbers are stored while its lines are judged, so that they are read only once. The words of its
--- values are at the front of the lent table, or later in their own part. Nine more words, beside the table, tell which
+-- values are at the front of the lent table, or later in their own part. Further words, beside the table, tell which
 -- lines the values are from and where these lines end. They depend on the text alone: code that finds a staged matrix
 -- for the lines at hand may use it instead of reading those lines.
 -- Assumes nothing.
@@ -7,11 +7,13 @@ use Prim.Native.Nat.{ℕ, _+_, _*_, _≤_, _<_}
 use mathlib.Core.Path.{_≡_}
 use mathlib.Core.List.{List, _++_, map}
 use lib.ListN.{length, take, drop, getD}
+use Rattle.table_record.specs.Records.{valueWords}
+use Rattle.table_record.specs.declared.Value.{Value}
 use Rattle.line_place.specs.Place as place
-use Rattle.table_layout.specs.Layout.{joined}
+use Rattle.table_layout.specs.Bounds.{mostMatrices}
+use Rattle.table_layout.specs.Layout.{joined, valueWidth}
 use Rattle.doc.specs.Lines.{Line, linesAt, upTo}
-use Rattle.doc.specs.Document.{Value, inMatrix, valuesFrom, bandwidthIn, greatestIn}
-use Rattle.doc.specs.Records.{valueWords}
+use Rattle.doc.specs.Document.{inMatrix, valuesFrom, bandwidthIn, greatestIn}
 use Rattle.store_base.specs.Way.Stores.{Placed}
 
 -- the lines of a matrix, from the line below its keyword on
@@ -36,23 +38,26 @@ pub record StagedMatrix : Type 0 where
   pub greatest : ℕ
   pub count : ℕ
 
--- how many words describe a staged matrix
-abbrev pub stagedSize : ℕ
-stagedSize = 9
+-- how many words describe a staged matrix, and all that a text may have
+abbrev pub stagedWidth : ℕ
+stagedWidth = 9
+
+abbrev pub stageRoom : ℕ
+stageRoom = stagedWidth * mostMatrices
 
 -- the i-th staged matrix of a list of such words
 unfoldable pub stagedAt : List ℕ → ℕ → StagedMatrix
 stagedAt stage i =
     record {
-      at = getD stage (stagedSize * i) 0;
-      line = getD stage (stagedSize * i + 1) 0;
-      form = getD stage (stagedSize * i + 2) 0;
-      first = getD stage (stagedSize * i + 3) 0;
-      further = getD stage (stagedSize * i + 4) 0;
-      next = getD stage (stagedSize * i + 5) 0;
-      bandwidth = getD stage (stagedSize * i + 6) 0;
-      greatest = getD stage (stagedSize * i + 7) 0;
-      count = getD stage (stagedSize * i + 8) 0;
+      at = getD stage (stagedWidth * i) 0;
+      line = getD stage (stagedWidth * i + 1) 0;
+      form = getD stage (stagedWidth * i + 2) 0;
+      first = getD stage (stagedWidth * i + 3) 0;
+      further = getD stage (stagedWidth * i + 4) 0;
+      next = getD stage (stagedWidth * i + 5) 0;
+      bandwidth = getD stage (stagedWidth * i + 6) 0;
+      greatest = getD stage (stagedWidth * i + 7) 0;
+      count = getD stage (stagedWidth * i + 8) 0;
     }
 
 -- the values that the lines of a staged matrix write
@@ -71,7 +76,7 @@ pub record Tells (t : List ℕ) (n : StagedMatrix) (words : List ℕ) : Type 0 w
 
 -- the words of a staged matrix's values in a table, where the first value of all is at `base`
 abbrev pub wordsOf : List ℕ → ℕ → StagedMatrix → List ℕ
-wordsOf table base n = take (3 * n .count) (drop (base + 3 * n .first) table)
+wordsOf table base n = take (valueWidth * n .count) (drop (base + valueWidth * n .first) table)
 
 -- the entry is in use: its lines end after the text's first byte
 abbrev pub Made : StagedMatrix → Type 0

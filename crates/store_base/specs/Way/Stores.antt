@@ -4,6 +4,7 @@ use Prim.Native.Nat.{ℕ, _+_, _≤_}
 use mathlib.Core.Path.{_≡_}
 use mathlib.Core.List.{List}
 use lib.ListN.{length}
+use Rattle.table_layout.specs.Layout.{partCount}
 use Rattle.table_layout.specs.Way.Filling.{Write, tableStored, fillingAfter, Fits}
 use Rattle.table_layout.specs.declared.Filling.{Filling}
 use Rattle.doc.specs.Lines.{Line, linesAt, gather}
@@ -34,5 +35,5 @@ pub record Passes {B : Type 0} (block : Line → List Line → List B) (writes :
 -- what has to hold before that: the block fits
 pub record Ready {B : Type 0} (block : Line → List Line → List B) (writes : Filling → List B → List Write) (t : List ℕ) (line : Found) (w : Walk) (table : List ℕ) : Type 0 where
   pub located : Located t line
-  pub seven : length (w .filling .counts) ≡ 7
+  pub parts : length (w .filling .counts) ≡ partCount
   pub fits : Fits (length table) (w .filling) (writes (w .filling) (block (lineIn t line (w .place)) (linesBehind t line (w .place))))

@@ -4,24 +4,12 @@
 use Prim.Native.Nat.{ℕ, _+_}
 use mathlib.Core.List.{List, [], _∷_, _++_, map}
 use lib.ListN.{length}
+use Rattle.table_record.specs.Records.{modelWords, stepWords, mapWords, pinWords, sectionWords, matrixWords, valueWords}
+use Rattle.table_record.specs.declared.Value.{Value}
 use Rattle.table_layout.specs.Layout.{models, steps, maps, pins, sections, matrices, values}
 use Rattle.table_layout.specs.Way.Filling.{Write}
-use Rattle.doc.specs.Document.{Named, Step, Model, Map, Value, Matrix, Section, Document}
-use Rattle.doc.specs.Records.{
-  modelRecord,
-  stepRecord,
-  mapRecord,
-  pinRecord,
-  sectionRecord,
-  matrixRecord,
-  modelWords,
-  stepWords,
-  mapWords,
-  pinWords,
-  sectionWords,
-  matrixWords,
-  valueWords,
-}
+use Rattle.doc.specs.Document.{Named, Step, Model, Map, Matrix, Section, Document}
+use Rattle.doc.specs.Records.{modelRecord, stepRecord, mapRecord, pinRecord, sectionRecord, matrixRecord}
 
 -- ---- maps; `pin` is the index of the first pin
 

@@ -1,7 +1,6 @@
 -- `store_maps::fill_map` meets its contract: the pins, then the map's own record.
 -- Assumes nothing.
-use native.Mathlib.Omega.{arith}
-use Rattle.store_maps.proofs.MapLaws.{map-fits-pins, pins-counted, map-asked, map-filled}
+use Rattle.store_maps.proofs.MapLaws.{map-fits-pins, pins-more, map-asked, map-filled}
 use borrow.Author.Needs.{needs}
 use Rattle.store_maps.proofs.fill_map.Statement.{statement}
 use Rattle.store_maps.proofs.fill_map.Tie as tie
@@ -18,26 +17,23 @@ fill-pins-requires c κs = search (needs, map-fits-pins)
 argument-extent-requires : tie.Need-argument-extent-requires
 argument-extent-requires c κs = search needs
 
-one-less-requires : tie.Need-one-less-requires
-one-less-requires c κs = search needs
+minus-requires : tie.Need-minus-requires
+minus-requires c κs = search needs
 
 array-read-t22 : tie.Need-array-read-t22
 array-read-t22 c = search needs
 
 sub-t23 : tie.Need-sub-t23
-sub-t23 c = omega (arith, pins-counted _ (c .before .before .before .before .before .before .before .before .before .before .before .before .before .args .line) (c .before .before .before .before .before .before .before .before .before .before .before .before .before .args .filling) (c .before .before .before .before .before .before .before .before .before .before .before .before .before .pre .1) _ _ _ (c .before .before .before .before .before .before .before .fill-pins .ensures))
+sub-t23 c = search pins-more
 
-slice-aggregate-put-record : tie.Need-slice-aggregate-put-record
-slice-aggregate-put-record c = search needs
-
-put-record-requires : tie.Need-put-record-requires
-put-record-requires c κs = map-asked _ (c .before .before .before .before .before .before .before .before .before .before .before .before .before .before .before .args .line) (c .before .before .before .before .before .before .before .before .before .before .before .before .before .before .before .args .filling) (c .before .before .before .before .before .before .before .before .before .before .before .before .before .before .before .pre .1) _ _ _ (c .before .before .before .before .before .before .before .before .before .fill-pins .ensures) (c .before .before .before .before .before .before .before .before .before .before .before .before .before .before .before .pre .2)
+put-map-requires : tie.Need-put-map-requires
+put-map-requires c κs = search map-asked
 
 same-length : tie.Need-same-length
 same-length c = search needs
 
 returns : tie.Need-returns
-returns c = map-filled _ (c .before .before .before .before .before .before .before .before .before .before .before .before .before .before .before .before .before .before .args .line) (c .before .before .before .before .before .before .before .before .before .before .before .before .before .before .before .before .before .before .args .filling) (c .before .before .before .before .before .before .before .before .before .before .before .before .before .before .before .before .before .before .pre .1) _ _ _ (c .before .before .before .before .before .before .before .before .before .before .before .before .fill-pins .ensures) _ (c .before .before .before .before .before .before .argument-extent .ensures) _ (c .before .before .before .before .before .one-less .ensures) _ _ (c .before .before .put-record .ensures .0) (c .before .before .put-record .ensures .1)
+returns c = search map-filled
 
 pub fill-map-spec : {M : Type 1} → statement M
 fill-map-spec =
@@ -47,10 +43,9 @@ fill-map-spec =
     add-fill-pins
     fill-pins-requires
     argument-extent-requires
-    one-less-requires
+    minus-requires
     array-read-t22
     sub-t23
-    slice-aggregate-put-record
-    put-record-requires
+    put-map-requires
     same-length
     returns)

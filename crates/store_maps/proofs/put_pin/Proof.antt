@@ -17,11 +17,8 @@ part-first-extent-end c = search needs
 first-extent-requires : tie.Need-first-extent-requires
 first-extent-requires c κs = search needs
 
-slice-aggregate-put-record : tie.Need-slice-aggregate-put-record
-slice-aggregate-put-record c = search needs
-
-put-record-requires : tie.Need-put-record-requires
-put-record-requires c κs = search pin-asked
+put-pin-requires : tie.Need-put-pin-requires
+put-pin-requires c κs = search pin-asked
 
 same-length : tie.Need-same-length
 same-length c = search needs
@@ -37,7 +34,6 @@ put-pin-spec =
     part-first-extent-start
     part-first-extent-end
     first-extent-requires
-    slice-aggregate-put-record
-    put-record-requires
+    put-pin-requires
     same-length
     returns)

@@ -1,8 +1,6 @@
 -- `store_matrices::fill_matrix` meets its contract: the values, then the matrix' own record.
 -- Assumes nothing.
-use native.Mathlib.Omega.{arith}
-use mathlib.Core.Path.{refl}
-use Rattle.store_matrices.proofs.MatrixLaws.{values-puts, values-counted, matrix-asked, matrix-filled}
+use Rattle.store_matrices.proofs.MatrixLaws.{values-puts, values-more, matrix-asked, matrix-filled}
 use borrow.Author.Needs.{needs}
 use Rattle.store_matrices.proofs.fill_matrix.Statement.{statement}
 use Rattle.store_matrices.proofs.fill_matrix.Tie as tie
@@ -23,14 +21,7 @@ array-read-values : tie.Need-array-read-values
 array-read-values c = search needs
 
 sub-values : tie.Need-sub-values
-sub-values c =
-    omega (
-      arith,
-      values-counted _ _ _ _
-          (c .before .before .before .before .before .before .before .before .before .before .before .before .before .before .pre .0) _
-          (c .before .before .before .before .before .before .before .before .before .form-at .ensures) _ _
-          (c .before .before .before .before .before .before .staged-values .ensures),
-    )
+sub-values c = search values-more
 
 told-in-requires : tie.Need-told-in-requires
 told-in-requires c κs = search needs
@@ -38,28 +29,14 @@ told-in-requires c κs = search needs
 conductors-in-requires : tie.Need-conductors-in-requires
 conductors-in-requires c κs = search needs
 
-slice-aggregate-put-record : tie.Need-slice-aggregate-put-record
-slice-aggregate-put-record c = search needs
-
-put-record-requires : tie.Need-put-record-requires
-put-record-requires c κs =
-    matrix-asked _ _ _ _
-    (c .before .before .before .before .before .before .before .before .before .before .before .before .before .before .before .before .before .before .pre .0) _
-    (c .before .before .before .before .before .before .before .before .before .before .before .before .before .form-at .ensures) _ _
-    (c .before .before .before .before .before .before .before .before .before .before .staged-values .ensures)
+put-matrix-requires : tie.Need-put-matrix-requires
+put-matrix-requires c κs = search matrix-asked
 
 same-length : tie.Need-same-length
 same-length c = search needs
 
 returns : tie.Need-returns
-returns c =
-    matrix-filled _ _ _ _
-    (c .before .before .before .before .before .before .before .before .before .before .before .before .before .before .before .before .before .before .before .before .before .pre .0) _
-    (c .before .before .before .before .before .before .before .before .before .before .before .before .before .before .before .before .form-at .ensures) _ _
-    (c .before .before .before .before .before .before .before .before .before .before .before .before .before .staged-values .ensures)
-    _ (c .before .before .before .before .before .before .told-in .ensures) _ refl _
-    (c .before .before .before .before .before .conductors-in .ensures) _ _ (c .before .before .put-record .ensures .0)
-    (c .before .before .put-record .ensures .1)
+returns c = search (matrix-filled, c .before .before .before .before .before .before .before .before .before .before .before .before .before .before .before .before .before .before .before .before .pre .0)
 
 pub fill-matrix-spec : {M : Type 1} → statement M
 fill-matrix-spec =
@@ -73,7 +50,6 @@ fill-matrix-spec =
     sub-values
     told-in-requires
     conductors-in-requires
-    slice-aggregate-put-record
-    put-record-requires
+    put-matrix-requires
     same-length
     returns)

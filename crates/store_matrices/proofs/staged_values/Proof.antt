@@ -4,10 +4,6 @@ use Rattle.store_matrices.proofs.StageLaws.{staged-few, stage-fills}
 use borrow.Author.Needs.{needs}
 use Rattle.store_matrices.proofs.staged_values.Statement.{statement}
 use Rattle.store_matrices.proofs.staged_values.Tie as tie
-use Rattle.store_matrices.proofs.fill_values.Reads as fill-values-reads
-use Rattle.store_matrices.proofs.is_of.Reads as is-of-reads
-use Rattle.store_matrices.proofs.staged_at.Reads as staged-at-reads
-use Rattle.store_matrices.proofs.staged_walk.Reads as staged-walk-reads
 
 array-read-first : tie.Need-array-read-first
 array-read-first c = search needs

@@ -7,7 +7,7 @@ use mathlib.Core.List.{List, [], _∷_, _++_}
 use lib.ListN.{length, getD}
 use Rattle.line_place.specs.Place as place
 use Rattle.line_argument.specs.Argument.{formOf}
-use Rattle.table_layout.specs.Layout.{values}
+use Rattle.table_layout.specs.Layout.{values, partCount}
 use Rattle.table_layout.specs.Way.Filling.{Write, Fits}
 use Rattle.table_layout.specs.declared.Filling.{Filling}
 use Rattle.doc.specs.Lines.{Line, plain, argumentOf, linesAt, upTo}
@@ -91,7 +91,7 @@ valuesWrites form body = valueWrites (valuesFrom form 1 1 body)
 
 pub record PutsValues (t : List ℕ) (n at form : ℕ) (table : List ℕ) (f : Filling) : Type 0 where
   pub placed : Placed t n at
-  pub seven : length (f .counts) ≡ 7
+  pub parts : length (f .counts) ≡ partCount
   pub fits : Fits (length table) f (valuesWrites form (matrixLines t n at))
 
 pub record FillsValues (t : List ℕ) (n at form : ℕ) (table : List ℕ) (f : Filling) (w : MatrixWalk) (table' : List ℕ) : Type 0 where
@@ -116,7 +116,7 @@ matrixBelow t line = matrixOf (lineIn t line 0) (formBelow t line) (linesBelow t
 
 pub record PutsMatrix (t : List ℕ) (line : Found) (table : List ℕ) (f : Filling) : Type 0 where
   pub located : Located t line
-  pub seven : length (f .counts) ≡ 7
+  pub parts : length (f .counts) ≡ partCount
   pub fits : Fits (length table) f (matrixWrites (getD (f .counts) values 0) (matrixBelow t line))
 
 -- it is stored, and the walk goes on after its lines

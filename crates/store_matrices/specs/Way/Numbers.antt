@@ -5,15 +5,17 @@ use mathlib.Core.Path.{_≡_}
 use mathlib.Core.List.{List, [], _∷_, map}
 use lib.ListN.{length, getD, set}
 use lib.Dec.{eqb}
+use Rattle.table_record.specs.declared.Value.{Value}
+use Rattle.table_layout.specs.Codes.{diagonal}
 use Rattle.base.specs.If.{if_then_else_}
 use Rattle.lex_line.specs.Words.{words, firstOf}
 use Rattle.lex_number.specs.Number.{numberOf}
 use Rattle.lex_number.specs.Integer.{wholeOf}
-use Rattle.line_matrix.specs.Matrix.{diagonal}
-use Rattle.table_layout.specs.Layout.{values}
+use Rattle.lex_number.specs.declared.Number.{Number}
+use Rattle.table_layout.specs.Layout.{values, partCount, valueWidth}
 use Rattle.table_layout.specs.Way.Filling.{Write, position, Fits}
 use Rattle.table_layout.specs.declared.Filling.{Filling}
-use Rattle.doc.specs.Document.{Value, wordIn, nextRow, numbersAt, sparseAt}
+use Rattle.doc.specs.Document.{wordIn, nextRow, numbersAt, sparseAt}
 use Rattle.store_base.specs.Way.Writes.{valueWrite}
 use Rattle.store_base.specs.Way.Stores.{Stores}
 use Rattle.store_matrices.specs.declared.Spot.{Spot}
@@ -32,13 +34,17 @@ mostGiven = 1_000_000_000
 
 -- rows and columns are given by integers, and rise by one only with a value that is stored: a table has room for so few that no sum wraps
 pub record Counted (s : Spot) : Type 0 where
-  pub seven : length (s .filling .counts) ≡ 7
+  pub parts : length (s .filling .counts) ≡ partCount
   pub row : s .row ≤ mostGiven + getD (s .filling .counts) values 0
   pub column : s .column ≤ mostGiven + getD (s .filling .counts) values 0
 
+-- a number at a row and a column
+abbrev pub valueOf : ℕ → ℕ → Number → Value
+valueOf row column number = record { row = row; column = column; word = wordIn number }
+
 -- the number that a word writes at a spot
 abbrev pub numberHere : List ℕ → Spot → Value
-numberHere word s = record { row = s .row; column = s .column; word = wordIn (numberOf word) }
+numberHere word s = valueOf (s .row) (s .column) (numberOf word)
 
 pub record PutsNumber (word table : List ℕ) (s : Spot) : Type 0 where
   pub counted : Counted s
@@ -59,11 +65,11 @@ spotOf f c = record { row = c .row; column = c .column; filling = record { bases
 
 -- the cursor after one number
 unfoldable pub nextCursor : ℕ → Cursor → Cursor
-nextCursor form c = record { row = nextRow form (c .row); column = c .column + 1; count = c .count + 1; place = c .place + 3 }
+nextCursor form c = record { row = nextRow form (c .row); column = c .column + 1; count = c .count + 1; place = c .place + valueWidth }
 
 -- the table has room for a number there, and no sum wraps
 pub record Roomy (size : ℕ) (c : Cursor) : Type 0 where
-  pub room : c .place + 3 ≤ size
+  pub room : c .place + valueWidth ≤ size
   pub row-few : c .row < 18_446_744_073_709_551_615
   pub column-few : c .column < 18_446_744_073_709_551_615
   pub count-few : c .count < 18_446_744_073_709_551_615

@@ -1,7 +1,6 @@
 -- `store_models::fill_model` meets its contract: the steps, then the model's own record.
 -- Assumes nothing.
-use native.Mathlib.Omega.{arith}
-use Rattle.store_models.proofs.ModelLaws.{model-open, model-counted, model-asked, model-filled}
+use Rattle.store_models.proofs.ModelLaws.{model-open, steps-more, model-asked, model-filled}
 use borrow.Author.Needs.{needs}
 use Rattle.store_models.proofs.fill_model.Statement.{statement}
 use Rattle.store_models.proofs.fill_model.Tie as tie
@@ -18,31 +17,17 @@ fill-steps-requires c κs = search model-open
 argument-extent-requires : tie.Need-argument-extent-requires
 argument-extent-requires c κs = search needs
 
-one-less-requires : tie.Need-one-less-requires
-one-less-requires c κs = search needs
+minus-requires : tie.Need-minus-requires
+minus-requires c κs = search needs
 
 array-read-t22 : tie.Need-array-read-t22
 array-read-t22 c = search needs
 
 sub-t23 : tie.Need-sub-t23
-sub-t23 c =
-    omega (
-      arith,
-      model-counted _
-          (c .before .before .before .before .before .before .before .before .before .before .before .before .before .args .line) _ _
-          (c .before .before .before .before .before .before .before .before .before .before .before .before .before .pre) _ _
-          (c .before .before .before .before .before .before .before .fill-steps .ensures),
-    )
+sub-t23 c = search steps-more
 
-slice-aggregate-put-record : tie.Need-slice-aggregate-put-record
-slice-aggregate-put-record c = search needs
-
-put-record-requires : tie.Need-put-record-requires
-put-record-requires c κs =
-    model-asked _
-    (c .before .before .before .before .before .before .before .before .before .before .before .before .before .before .before .args .line)
-    _ _ (c .before .before .before .before .before .before .before .before .before .before .before .before .before .before .before .pre)
-    _ _ (c .before .before .before .before .before .before .before .before .before .fill-steps .ensures)
+put-model-requires : tie.Need-put-model-requires
+put-model-requires c κs = search model-asked
 
 same-length : tie.Need-same-length
 same-length c = search needs
@@ -58,10 +43,9 @@ fill-model-spec =
     add-fill-steps
     fill-steps-requires
     argument-extent-requires
-    one-less-requires
+    minus-requires
     array-read-t22
     sub-t23
-    slice-aggregate-put-record
-    put-record-requires
+    put-model-requires
     same-length
     returns)

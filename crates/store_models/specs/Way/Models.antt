@@ -1,19 +1,18 @@
 -- What the functions that store models promise, in the words of the document. Steps point at maps and sections, which are stored already.
 -- Assumes nothing.
-use Prim.Native.Nat.{ℕ, _+_, _*_, _≤_, _<_}
+use Prim.Native.Nat.{ℕ, _+_, _≤_, _<_}
 use mathlib.Core.Path.{_≡_}
 use mathlib.Core.Bool.{true}
-use mathlib.Core.List.{List, [], _∷_, _++_, map}
-use lib.ListN.{length, getD, drop}
+use mathlib.Core.List.{List, [], _∷_, _++_}
+use lib.ListN.{length, getD}
 use Rattle.line_place.specs.Place.{isInModel}
 use Rattle.line_place.specs.Place as place
 use Rattle.line_head.specs.Head.{newHead}
-use Rattle.table_layout.specs.Layout.{steps, maps, sections, chopped}
-use Rattle.table_layout.specs.Way.Filling.{Write, widthOf, Fits}
+use Rattle.table_layout.specs.Layout.{steps, partCount}
+use Rattle.table_layout.specs.Way.Filling.{Write, Fits}
 use Rattle.table_layout.specs.declared.Filling.{Filling}
 use Rattle.doc.specs.Lines.{Line, plain, significant, linesAt, placeAfter, upTo}
 use Rattle.doc.specs.Document.{Model, documentOf, headIn, stepOf, stepsIn, inModel, modelOf, modelAt}
-use Rattle.doc.specs.Records.{mapRecords, sectionRecords, mapWords, sectionWords}
 use Rattle.doc.specs.Way.Found.{Located, FindsLine, contentIn, lineIn, linesBehind}
 use Rattle.doc.specs.declared.Found.{Found}
 use Rattle.store_base.specs.Way.Writes.{modelWrites, modelsWrites}
@@ -121,7 +120,7 @@ modelIn t f m = modelWrites (documentOf t .maps) (documentOf t .sections) (getD 
 
 pub record FitsModel (t : List ℕ) (line : Found) (f : Filling) (table : List ℕ) : Type 0 where
   pub located : Located t line
-  pub seven : length (f .counts) ≡ 7
+  pub parts : length (f .counts) ≡ partCount
   pub last : Last t (linesAt t (line .line + 1) (line .next) place.head)
   pub aims : Aims t f table
   pub fits : Fits (lowOf f) f (modelIn t f (modelBelow t line))
@@ -137,7 +136,7 @@ pub record FillsModel (t : List ℕ) (line : Found) (f : Filling) (table : List 
 -- a line of the text, and room for the model that it opens if it opens one
 pub record ReadyModel (t : List ℕ) (line : Found) (w : Walk) (table : List ℕ) : Type 0 where
   pub located : Located t line
-  pub seven : length (w .filling .counts) ≡ 7
+  pub parts : length (w .filling .counts) ≡ partCount
   pub last : Last t (linesBehind t line (w .place))
   pub aims : Aims t (w .filling) table
   pub fits : Fits (lowOf (w .filling)) (w .filling)

@@ -20,39 +20,38 @@ told-in-requires c κs = search needs
 told-in-requires-2 : tie.Need-told-in-requires-2
 told-in-requires-2 c κs = search needs
 
-array-read-t21 : tie.Need-array-read-t21
-array-read-t21 c = search needs
+mul-t20 : tie.Need-mul-t20
+mul-t20 c = search needs
 
-array-read-t24 : tie.Need-array-read-t24
-array-read-t24 c = search needs
+array-read-t23 : tie.Need-array-read-t23
+array-read-t23 c = search needs
 
-array-read-t27 : tie.Need-array-read-t27
-array-read-t27 c = search needs
+mul-t25 : tie.Need-mul-t25
+mul-t25 c = search needs
 
-array-read-t30 : tie.Need-array-read-t30
-array-read-t30 c = search needs
+array-read-t28 : tie.Need-array-read-t28
+array-read-t28 c = search needs
 
-slice-aggregate-put-record : tie.Need-slice-aggregate-put-record
-slice-aggregate-put-record c = search needs
+mul-t30 : tie.Need-mul-t30
+mul-t30 c = search needs
 
-put-record-requires : tie.Need-put-record-requires
-put-record-requires c κs =
-    section-asked _ _ _ _
-    (c .before .before .before .before .before .before .before .before .before .before .before .before .before .before .before .before .before .pre .0) _ _
-    (c .before .before .before .before .before .before .before .before .before .before .before .fill-lines .ensures)
+array-read-t33 : tie.Need-array-read-t33
+array-read-t33 c = search needs
+
+mul-t35 : tie.Need-mul-t35
+mul-t35 c = search needs
+
+array-read-t38 : tie.Need-array-read-t38
+array-read-t38 c = search needs
+
+put-section-requires : tie.Need-put-section-requires
+put-section-requires c κs = search section-asked
 
 same-length : tie.Need-same-length
 same-length c = search needs
 
 returns : tie.Need-returns
-returns c =
-    section-filled _ _ _ _
-    (c .before .before .before .before .before .before .before .before .before .before .before .before .before .before .before .before .before .before .before .before .pre .0) _ _
-    (c .before .before .before .before .before .before .before .before .before .before .before .before .before .before .fill-lines .ensures) _
-    (c .before .before .before .before .before .before .before .argument-extent .ensures)
-    _ (c .before .before .before .before .before .before .told-in .ensures) _
-    (c .before .before .before .before .before .told-in2 .ensures) _ _ (c .before .before .put-record .ensures .0)
-    (c .before .before .put-record .ensures .1)
+returns c = search section-filled
 
 pub fill-section-spec : {M : Type 1} → statement M
 fill-section-spec =
@@ -63,11 +62,14 @@ fill-section-spec =
     argument-extent-requires
     told-in-requires
     told-in-requires-2
-    array-read-t21
-    array-read-t24
-    array-read-t27
-    array-read-t30
-    slice-aggregate-put-record
-    put-record-requires
+    mul-t20
+    array-read-t23
+    mul-t25
+    array-read-t28
+    mul-t30
+    array-read-t33
+    mul-t35
+    array-read-t38
+    put-section-requires
     same-length
     returns)

@@ -10,7 +10,8 @@ use Rattle.base.specs.If.{if_then_else_}
 use Rattle.lex_keyword.specs.Names.{derivationMethod}
 use Rattle.line_place.specs.Place as place
 use Rattle.line_argument.specs.Argument.{methodOf}
-use Rattle.table_layout.specs.Layout.{matrices, values}
+use Rattle.table_layout.specs.Codes.{matrixKinds}
+use Rattle.table_layout.specs.Layout.{matrices, values, partCount}
 use Rattle.table_layout.specs.Way.Filling.{Write, Fits}
 use Rattle.table_layout.specs.declared.Filling.{Filling}
 use Rattle.doc.specs.Lines.{Line, argumentOf, linesAt, gather, upTo}
@@ -57,8 +58,8 @@ matrixHere t line w = matrixAt (sectionLine t line w) (linesBehind t line (w .pl
 -- a line of a section, whose matrix fits
 pub record TakesLine (t : List ℕ) (line : Found) (table : List ℕ) (w : SectionWalk) : Type 0 where
   pub located : Located t line
-  pub seven : length (w .filling .counts) ≡ 7
-  pub four : length (w .kinds) ≡ 4
+  pub parts : length (w .filling .counts) ≡ partCount
+  pub all-kinds : length (w .kinds) ≡ matrixKinds
   pub fits : Fits (length table) (w .filling) (matricesFrom (w .filling) (matrixHere t line w))
 
 pub record TakesMatrix (t : List ℕ) (line : Found) (table : List ℕ) (w : SectionWalk) : Type 0 where
@@ -78,11 +79,11 @@ pub record TakenLine (t : List ℕ) (line : Found) (table : List ℕ) (w v : Sec
   pub conductors-on : (ms : List Matrix) →
       toldOr (v .conductors) (conductorsOf ms) ≡ toldOr (w .conductors) (conductorsOf (matrixHere t line w ++ ms))
   pub kinds-on :
-      (k : ℕ) → k < 4 → (ms : List Matrix) →
+      (k : ℕ) → k < matrixKinds → (ms : List Matrix) →
       keptOr (getD (v .kinds) k 0) (indexOfKind k (getD (v .filling .counts) matrices 0) ms)
       ≡ keptOr (getD (w .kinds) k 0) (indexOfKind k (getD (w .filling .counts) matrices 0) (matrixHere t line w ++ ms))
-  pub seven : length (v .filling .counts) ≡ 7
-  pub four : length (v .kinds) ≡ 4
+  pub parts : length (v .filling .counts) ≡ partCount
+  pub all-kinds : length (v .kinds) ≡ matrixKinds
   pub placed : Placed t (v .line) (v .at)
   pub onward : line .next ≤ v .at
 
@@ -97,7 +98,7 @@ matricesIn body = gather matrixAt body
 
 pub record PutsLines (t : List ℕ) (n at : ℕ) (table : List ℕ) (f : Filling) : Type 0 where
   pub placed : Placed t n at
-  pub seven : length (f .counts) ≡ 7
+  pub parts : length (f .counts) ≡ partCount
   pub fits : Fits (length table) f (matricesFrom f (matricesIn (sectionLines t n at place.sectionHead)))
 
 -- the matrices are stored, and everything that the section's record needs is known
@@ -105,9 +106,9 @@ pub record FillsLines (t : List ℕ) (n at : ℕ) (table : List ℕ) (f : Fillin
   pub stores : Stores f table (matricesFrom f (matricesIn (sectionLines t n at place.sectionHead))) (w .filling) table'
   pub method : toldOr (w .method) 0 ≡ methodIn (sectionLines t n at place.sectionHead)
   pub conductors : toldOr (w .conductors) 0 ≡ conductorsOf (matricesIn (sectionLines t n at place.sectionHead))
-  pub kinds : (k : ℕ) → k < 4 →
+  pub kinds : (k : ℕ) → k < matrixKinds →
       getD (w .kinds) k 0 ≡ indexOfKind k (getD (f .counts) matrices 0) (matricesIn (sectionLines t n at place.sectionHead))
-  pub four : length (w .kinds) ≡ 4
+  pub all-kinds : length (w .kinds) ≡ matrixKinds
   pub rest : linesAt t n at place.sectionHead ≡ sectionLines t n at place.sectionHead ++ linesAt t (w .line) (w .at) (w .place)
   pub placed : Placed t (w .line) (w .at)
   pub onward : at ≤ w .at
@@ -123,7 +124,7 @@ sectionBelow t line = sectionOf (lineIn t line 0) (linesBelow t line)
 
 pub record PutsSection (t : List ℕ) (line : Found) (table : List ℕ) (f : Filling) : Type 0 where
   pub located : Located t line
-  pub seven : length (f .counts) ≡ 7
+  pub parts : length (f .counts) ≡ partCount
   pub fits : Fits (length table) f (sectionWrites (getD (f .counts) matrices 0) (getD (f .counts) values 0) (sectionBelow t line))
 
 -- it is stored, and the walk goes on after its lines

@@ -14,11 +14,11 @@ add-side-after c = search needs
 side-after-requires : tie.Need-side-after-requires
 side-after-requires c κs = search needs
 
-slice-aggregate-put-record : tie.Need-slice-aggregate-put-record
-slice-aggregate-put-record c = search needs
+step-record-requires : tie.Need-step-record-requires
+step-record-requires c κs = search needs
 
-put-record-requires : tie.Need-put-record-requires
-put-record-requires c κs = search step-asked
+put-step-requires : tie.Need-put-step-requires
+put-step-requires c κs = search step-asked
 
 same-length : tie.Need-same-length
 same-length c = search needs
@@ -33,7 +33,7 @@ put-end-spec =
     end-target-requires
     add-side-after
     side-after-requires
-    slice-aggregate-put-record
-    put-record-requires
+    step-record-requires
+    put-step-requires
     same-length
     returns)

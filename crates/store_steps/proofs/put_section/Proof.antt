@@ -20,11 +20,11 @@ part-amount-of-end c = search needs
 amount-of-requires : tie.Need-amount-of-requires
 amount-of-requires c κs = search needs
 
-slice-aggregate-put-record : tie.Need-slice-aggregate-put-record
-slice-aggregate-put-record c = search needs
+section-record-requires : tie.Need-section-record-requires
+section-record-requires c κs = search needs
 
-put-record-requires : tie.Need-put-record-requires
-put-record-requires c κs = search step-asked
+put-step-requires : tie.Need-put-step-requires
+put-step-requires c κs = search step-asked
 
 same-length : tie.Need-same-length
 same-length c = search needs
@@ -41,7 +41,7 @@ put-section-spec =
     part-amount-of-start
     part-amount-of-end
     amount-of-requires
-    slice-aggregate-put-record
-    put-record-requires
+    section-record-requires
+    put-step-requires
     same-length
     returns)

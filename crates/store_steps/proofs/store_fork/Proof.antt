@@ -1,16 +1,15 @@
 -- `store_steps::store_fork` meets its contract.
 -- Assumes nothing.
-use native.Mathlib.Omega.{arith}
-use Rattle.store_steps.proofs.UsualLaws.{fork-above, fork-room, fork-puts}
+use Rattle.store_steps.proofs.UsualLaws.{fork-room, fork-puts}
 use borrow.Author.Needs.{needs}
 use Rattle.store_steps.proofs.store_fork.Statement.{statement}
 use Rattle.store_steps.proofs.store_fork.Tie as tie
 
-sub-t7 : tie.Need-sub-t7
-sub-t7 c = omega (arith, fork-above)
+kind-of-requires : tie.Need-kind-of-requires
+kind-of-requires c κs = search needs
 
-slice-aggregate-store-step : tie.Need-slice-aggregate-store-step
-slice-aggregate-store-step c = search needs
+fork-record-requires : tie.Need-fork-record-requires
+fork-record-requires c κs = search needs
 
 store-step-requires : tie.Need-store-step-requires
 store-step-requires c κs = search fork-room
@@ -23,4 +22,5 @@ returns c = search fork-puts
 
 pub store-fork-spec : {M : Type 1} → statement M
 store-fork-spec =
-    tie.close (tie.spec sub-t7 slice-aggregate-store-step store-step-requires same-length returns)
+    tie.close
+    (tie.spec kind-of-requires fork-record-requires store-step-requires same-length returns)

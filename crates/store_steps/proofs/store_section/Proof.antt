@@ -48,8 +48,8 @@ part-read-integer-end c = omega (arith, section-within)
 read-integer-requires : tie.Need-read-integer-requires
 read-integer-requires c κs = search needs
 
-slice-aggregate-store-step : tie.Need-slice-aggregate-store-step
-slice-aggregate-store-step c = search needs
+section-record-requires : tie.Need-section-record-requires
+section-record-requires c κs = search needs
 
 store-step-requires : tie.Need-store-step-requires
 store-step-requires c κs = search section-room
@@ -78,7 +78,7 @@ store-section-spec =
     part-read-integer-start
     part-read-integer-end
     read-integer-requires
-    slice-aggregate-store-step
+    section-record-requires
     store-step-requires
     same-length
     returns)

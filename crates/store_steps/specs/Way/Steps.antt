@@ -7,17 +7,21 @@ use mathlib.Core.Bool.{false}
 use mathlib.Core.List.{List, map}
 use lib.ListN.{length, getD, drop}
 use lib.Dec.{leb, ltb}
+use Rattle.table_record.specs.Records.{mapWords, sectionWords}
+use Rattle.table_record.specs.declared.StepRecord.{StepRecord}
+use Rattle.table_layout.specs.Codes.{endKind, sectionKind}
 use Rattle.lex_line.specs.Words.{words, firstOf}
 use Rattle.line_place.specs.Place as place
 use Rattle.line_path.specs.Path.{sayingOf, isMult}
-use Rattle.table_layout.specs.Layout.{maps, sections, chopped}
+use Rattle.table_layout.specs.Layout.{maps, sections, chopped, mapWidth, sectionWidth}
 use Rattle.table_layout.specs.Way.Filling.{Write, Fits}
 use Rattle.table_layout.specs.declared.Filling.{Filling}
 use Rattle.doc.specs.Lines.{Line, plain, linesAt, wordsOf, rightWordsOf, noWord, secondWord}
-use Rattle.doc.specs.Document.{Step, Map, documentOf, endKind, sectionKind, amountOf, sideIn, stepOf}
-use Rattle.doc.specs.Records.{mapRecords, sectionRecords, mapWords, sectionWords, targetOf}
+use Rattle.doc.specs.Document.{Step, Map, documentOf, amountOf, sideIn, stepOf}
+use Rattle.doc.specs.Records.{mapRecords, sectionRecords, targetOf}
 use Rattle.doc.specs.Holds.{Each}
 use Rattle.doc.specs.Way.Found.{Located, contentIn, lineIn, linesBehind}
+use Rattle.doc.specs.declared.Extent.{Extent}
 use Rattle.doc.specs.declared.Found.{Found}
 use Rattle.store_base.specs.Way.Writes.{stepWrite}
 
@@ -56,6 +60,21 @@ sectionStep t line =
 abbrev pub forkStep : ℕ → Found → Step
 forkStep kind line = record { kind = kind; name = noWord; mult = false; amount = 0; side = noWord; line = line .line }
 
+-- the record of a step of any kind, by what is known of it
+abbrev pub stepWith : ℕ → ℕ → ℕ → Extent → ℕ → StepRecord
+stepWith kind target amount side line =
+    record { kind = kind; target = target; amount = amount; side = side .start; «side_size» = side .size; line = line }
+
+-- the records of the two that have no side
+abbrev pub noSide : Extent
+noSide = record { start = 0; size = 0 }
+
+abbrev pub sectionRecord : ℕ → ℕ → ℕ → StepRecord
+sectionRecord target amount line = stepWith sectionKind target amount noSide line
+
+abbrev pub forkRecord : ℕ → ℕ → StepRecord
+forkRecord kind line = stepWith kind 0 0 noSide line
+
 -- ---- what is stored of them
 
 -- a step points at the maps and the sections of the text
@@ -74,12 +93,12 @@ lowOf f = min (getD (f .bases) maps 0) (getD (f .bases) sections 0)
 
 -- the table holds the maps and the sections of the text
 pub record Aims (t : List ℕ) (f : Filling) (table : List ℕ) : Type 0 where
-  pub maps-there : chopped 7 (getD (f .counts) maps 0) (drop (getD (f .bases) maps 0) table)
+  pub maps-there : chopped mapWidth (getD (f .counts) maps 0) (drop (getD (f .bases) maps 0) table)
       ≡ map mapWords (mapRecords 0 (documentOf t .maps))
-  pub sections-there : chopped 8 (getD (f .counts) sections 0) (drop (getD (f .bases) sections 0) table)
+  pub sections-there : chopped sectionWidth (getD (f .counts) sections 0) (drop (getD (f .bases) sections 0) table)
       ≡ map sectionWords (sectionRecords 0 (documentOf t .sections))
-  pub maps-room : getD (f .bases) maps 0 + 7 * getD (f .counts) maps 0 ≤ length table
-  pub sections-room : getD (f .bases) sections 0 + 8 * getD (f .counts) sections 0 ≤ length table
+  pub maps-room : getD (f .bases) maps 0 + mapWidth * getD (f .counts) maps 0 ≤ length table
+  pub sections-room : getD (f .bases) sections 0 + sectionWidth * getD (f .counts) sections 0 ≤ length table
 
 -- a line at which a step is looked for: the maps below it are those whose names stand behind it
 pub record Aimed (t : List ℕ) (line : Found) (f : Filling) (table : List ℕ) : Type 0 where

@@ -6,8 +6,7 @@ use Prim.Native.Nat.{_+_, _-_, _≤_}
 use native.Mathlib.Nat.{zero-add}
 use lib.ListN.{length, drop}
 use lib.Seq.{sets}
-use Rattle.table_layout.specs.Layout.{widths}
-use Rattle.table_layout.specs.Way.Parts.{needed}
+use Rattle.table_layout.specs.Layout.{widths, partCount, needed}
 use Rattle.table_layout.specs.Way.Filling.{basesFrom, openedTable}
 use Rattle.table_layout.proofs.StoreLaws.{part-on, place-within, place-fits, first-fits, part-fits, sum-fits, bases-start, bases-on, bases-done}
 use Rattle.table_layout.proofs.OpenLaws.{opened-on, opened-done}
@@ -16,12 +15,12 @@ use Rattle.table_layout.proofs.open_parts.Tie as tie
 
 abbrev Inv-loop : tie.InvT-loop
 Inv-loop table₀ counts bases₀ at₀ part₀ table bases at part =
-    (part ≤ 7) × (length counts ≡ 7) × (length table ≡ length table₀) × (at + needed (drop part widths) (drop part counts) ≡ needed widths counts)
+    (part ≤ partCount) × (length counts ≡ partCount) × (length table ≡ length table₀) × (at + needed (drop part widths) (drop part counts) ≡ needed widths counts)
     × (sets bases part (basesFrom at (drop part widths) (drop part counts)) ≡ basesFrom 0 widths counts)
     × (openedTable at (drop part widths) (drop part counts) table ≡ openedTable 0 widths counts table₀)
 
 abbrev μ-loop : tie.MeasureT-loop
-μ-loop table₀ counts bases₀ at₀ part₀ table bases at part = 7 - part
+μ-loop table₀ counts bases₀ at₀ part₀ table bases at part = partCount - part
 
 loop-holds : tie.Need-loop-holds Inv-loop μ-loop
 loop-holds c = search (needs, zero-add, bases-start)

@@ -2,6 +2,7 @@
 -- Assumes nothing.
 use borrow.Author.Needs.{needs}
 use Prim.Native.Nat.{_-_}
+use Rattle.table_layout.specs.Layout.{partCount}
 use Rattle.table_layout.proofs.ViewLaws.{ViewLeft, view-starts, view-fails, view-short, view-done, first-fits, part-fits, sum-fits, view-on}
 use Rattle.table_layout.proofs.view_of.Statement.{statement}
 use Rattle.table_layout.proofs.view_of.Tie as tie
@@ -10,7 +11,7 @@ abbrev Inv-loop : tie.InvT-loop
 Inv-loop table bases₀ counts₀ at₀ part₀ bases counts at part = ViewLeft table bases counts at part
 
 abbrev μ-loop : tie.MeasureT-loop
-μ-loop table bases₀ counts₀ at₀ part₀ bases counts at part = 7 - part
+μ-loop table bases₀ counts₀ at₀ part₀ bases counts at part = partCount - part
 
 loop-holds : tie.Need-loop-holds Inv-loop μ-loop
 loop-holds c = search view-starts

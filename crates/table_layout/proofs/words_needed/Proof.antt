@@ -1,75 +1,15 @@
--- `table_layout::words_needed` meets its contract. The loop's invariant: the words counted so far and those of the
--- parts that are left are all the words needed.
+-- `table_layout::words_needed` meets its contract: all parts come before the end.
 -- Assumes nothing.
 use borrow.Author.Needs.{needs}
-use mathlib.Core.Path.{_≡_}
-use Prim.Native.Nat.{_+_, _-_, _≤_}
-use native.Mathlib.Nat.{zero-add}
-use lib.ListN.{length, drop}
-use Rattle.table_layout.specs.Layout.{widths}
-use Rattle.table_layout.specs.Way.Parts.{needed}
-use Rattle.table_layout.proofs.StoreLaws.{part-on, parts-done, first-fits, part-fits, sum-fits}
+use Rattle.table_layout.proofs.StoreLaws.{words-whole}
 use Rattle.table_layout.proofs.words_needed.Statement.{statement}
 use Rattle.table_layout.proofs.words_needed.Tie as tie
 
-abbrev Inv-loop : tie.InvT-loop
-Inv-loop counts words₀ part₀ words part =
-    (part ≤ 7) × (length counts ≡ 7) × (words + needed (drop part widths) (drop part counts) ≡ needed widths counts)
+words-before-requires : tie.Need-words-before-requires
+words-before-requires c κs = search needs
 
-abbrev μ-loop : tie.MeasureT-loop
-μ-loop counts words₀ part₀ words part = 7 - part
-
-loop-holds : tie.Need-loop-holds Inv-loop μ-loop
-loop-holds c = search (needs, zero-add)
-
-add-words : tie.Need-add-words Inv-loop μ-loop
-add-words c = search first-fits
-
-mul-words : tie.Need-mul-words Inv-loop μ-loop
-mul-words c = search needs
-
-array-read-words : tie.Need-array-read-words Inv-loop μ-loop
-array-read-words c = search needs
-
-mul-words-2 : tie.Need-mul-words-2 Inv-loop μ-loop
-mul-words-2 c = search needs
-
-array-read-words-2 : tie.Need-array-read-words-2 Inv-loop μ-loop
-array-read-words-2 c = search needs
-
-mul-words-3 : tie.Need-mul-words-3 Inv-loop μ-loop
-mul-words-3 c = search part-fits
-
-add-words-2 : tie.Need-add-words-2 Inv-loop μ-loop
-add-words-2 c = search sum-fits
-
-add-part : tie.Need-add-part Inv-loop μ-loop
-add-part c = search needs
-
-loop-less : tie.Need-loop-less Inv-loop μ-loop
-loop-less c = search needs
-
-loop-again : tie.Need-loop-again Inv-loop μ-loop
-loop-again c = search (needs, part-on)
-
-returns : tie.Need-returns Inv-loop μ-loop
-returns c = search parts-done
+returns : tie.Need-returns
+returns c = search (needs, words-whole)
 
 pub words-needed-spec : {M : Type 1} → statement M
-words-needed-spec =
-    tie.close
-    (tie.spec
-    Inv-loop
-    μ-loop
-    loop-holds
-    add-words
-    mul-words
-    array-read-words
-    mul-words-2
-    array-read-words-2
-    mul-words-3
-    add-words-2
-    add-part
-    loop-less
-    loop-again
-    returns)
+words-needed-spec = tie.close (tie.spec words-before-requires returns)

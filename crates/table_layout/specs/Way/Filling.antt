@@ -1,15 +1,15 @@
 -- How a table is filled: records are stored one by one, each after those of its part that are stored already. The
 -- counts are in the table from the start, so that it is known where each part begins.
 -- Assumes nothing.
-use Prim.Native.Nat.{ℕ, suc, _+_, _*_, _≤_, _<_}
+use Prim.Native.Nat.{ℕ, _+_, _*_, _≤_, _<_}
 use mathlib.Core.Path.{_≡_}
-use mathlib.Core.Bool.{Bool}
 use mathlib.Core.List.{List, [], _∷_, _++_}
 use lib.ListN.{length, getD, set, replicate}
 use lib.Seq.{sets}
 use lib.Dec.{eqb}
 use Rattle.base.specs.If.{if_then_else_}
 use Rattle.table_layout.specs.Layout.{widths, values}
+use Rattle.table_layout.specs.Bounds.{mostValues}
 use Rattle.table_layout.specs.declared.Filling.{Filling}
 
 -- a record to store: its part and its words
@@ -43,9 +43,11 @@ unfoldable pub fillingAfter : List Write → Filling → Filling
 fillingAfter [] f = f
 fillingAfter (w ∷ ws) f = fillingAfter ws (counted f (w .part))
 
--- records of the parts before the values end before the values begin, since values may be there already
+-- a record that is no value ends before the values begin, since values may be there already. So no record is stored in a
+-- part behind the values. One that is would have to begin where the values end, and it would have to be known that what is
+-- staged ends there, too: `Staged` says nothing of where a staged matrix ends.
 abbrev pub Apart : Filling → ℕ → Type 0
-Apart f p = p < values → position f p + widthOf p ≤ getD (f .bases) values 0
+Apart f p = (p ≡ values → ⊥) → position f p + widthOf p ≤ getD (f .bases) values 0
 
 -- each record is as wide as its part requires, ends at or before `size`, and, if it is no value, ends before the values
 pub data Fits (size : ℕ) : Filling → List Write → Type 0 where
@@ -60,7 +62,11 @@ basesFrom at [] counts = []
 basesFrom at (w ∷ ws) [] = []
 basesFrom at (w ∷ ws) (c ∷ cs) = (at + 1) ∷ basesFrom (at + 1 + w * c) ws cs
 
--- nothing stored yet, for these counts of records
+-- where the records of a part begin, for these counts of records
+abbrev pub partBase : List ℕ → ℕ → ℕ
+partBase counts p = getD (basesFrom 0 widths counts) p 0
+
+-- nothing stored yet
 unfoldable pub startFilling : List ℕ → Filling
 startFilling counts = record { bases = basesFrom 0 widths counts; counts = replicate (length widths) 0 }
 
@@ -78,4 +84,4 @@ openedTable at (w ∷ ws) (c ∷ cs) t = openedTable (at + 1 + w * c) ws cs (set
 
 -- "65,536 values" is the greatest of the bounds: no count is above it, so no sum of counts wraps
 pub record BoundedCounts (counts : List ℕ) : Type 0 where
-  pub few : (p : ℕ) → getD counts p 0 ≤ 65_536
+  pub few : (p : ℕ) → getD counts p 0 ≤ mostValues

@@ -5,12 +5,6 @@ use mathlib.Core.Path.{_≡_}
 use mathlib.Core.List.{List, [], _∷_}
 use lib.ListN.{length, getD}
 
--- the words needed, given how many records each part has
-unfoldable pub needed : List ℕ → List ℕ → ℕ
-needed [] counts = 0
-needed (w ∷ ws) [] = 0
-needed (w ∷ ws) (c ∷ cs) = 1 + w * c + needed ws cs
-
 -- every record has as many words as the records of its part have
 pub data AllLong (w : ℕ) : List (List ℕ) → Type 0 where
   none : AllLong w []

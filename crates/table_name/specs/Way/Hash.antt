@@ -2,16 +2,17 @@
 -- Assumes nothing.
 use Prim.Native.Nat.{ℕ, _+_, _*_, _%_}
 use mathlib.Core.List.{List, [], _∷_}
+use Rattle.table_layout.specs.Bounds.{mostMaps, mostSteps}
 
 -- how many marks there are: first those for what has no name, then those for names
 abbrev pub bareMarks : ℕ
-bareMarks = 64
+bareMarks = mostMaps
 
 abbrev pub nameMarks : ℕ
-nameMarks = 16384
+nameMarks = 4 * mostSteps
 
 abbrev pub marksMany : ℕ
-marksMany = 16448
+marksMany = bareMarks + nameMarks
 
 -- the mark after more bytes
 unfoldable pub markFrom : ℕ → List ℕ → ℕ

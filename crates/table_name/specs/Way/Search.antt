@@ -3,18 +3,24 @@
 use Prim.Native.Nat.{ℕ, _-_, _≤_}
 use mathlib.Core.Bool.{Bool}
 use mathlib.Core.List.{List}
-use lib.ListN.{length, take, drop, getD}
+use lib.ListN.{length, take, drop}
 use lib.Dec.{leb}
 use Rattle.base.specs.If.{both}
 use Rattle.base.specs.Runs.{same}
 use Rattle.base.specs.Way.Joined.{Joins}
 use Rattle.table_layout.specs.Layout.{chopped}
+use Rattle.table_record.specs.Way.Standing.{nameRecordAt}
+use Rattle.table_record.specs.declared.NameRecord.{NameRecord}
 use Rattle.doc.specs.Records.{indexOf}
 use Rattle.table_name.specs.Name.{nameAt}
 
--- the record starts with the start and length of this name, and the name is at offset `after` or later
-unfoldable pub isNamed : List ℕ → List ℕ → ℕ → List ℕ → Bool
-isNamed t name after r = both (leb after (getD r 0 0)) (same name (nameAt t (getD r 0 0) (getD r 1 0)))
+-- the record has this name, and has it at offset `after` or later
+unfoldable pub hasName : List ℕ → List ℕ → ℕ → NameRecord → Bool
+hasName t name after r = both (leb after (r .start)) (same name (nameAt t (r .start) (r .size)))
+
+-- the same of a record that is given by its words
+abbrev pub isNamed : List ℕ → List ℕ → ℕ → List ℕ → Bool
+isNamed t name after words = hasName t name after (nameRecordAt words 0)
 
 -- the index of the first such of `count` records, the first of which is at `base`; `count` if there is none
 unfoldable pub findIn : List ℕ → List ℕ → ℕ → ℕ → ℕ → List ℕ → ℕ → ℕ

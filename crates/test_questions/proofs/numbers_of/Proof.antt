@@ -2,7 +2,6 @@
 -- Assumes nothing.
 use borrow.Author.Needs.{needs}
 use Prim.Native.Nat.{_-_, _≤_}
-use lib.ListN.{length}
 use Rattle.test_questions.proofs.numbers_of.Statement.{statement}
 use Rattle.test_questions.proofs.numbers_of.Tie as tie
 

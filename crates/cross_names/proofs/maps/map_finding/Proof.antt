@@ -3,33 +3,31 @@
 use borrow.Author.Needs.{needs}
 use Prim.Native.Nat.{ℕ, _-_}
 use mathlib.Core.Path.{_≡_}
-use native.Mathlib.Omega.{arith}
 use lib.ListN.{length, length-replicate}
 use Rattle.table_name.specs.Way.Hash.{marksMany}
-use Rattle.cross_names.proofs.MapLaws.{MapsLeft, maps-start, maps-end, asks-map, asks-pins, map-breaks, pins-break, maps-on}
+use Rattle.cross_rules.proofs.TableLaws.{text-rooms}
+use Rattle.cross_names.proofs.MapLaws.{MapsLeft, maps-start, maps-end, name-room, stamp-fits, index-fits, map-breaks, pins-room, pins-break, maps-on}
+use Rattle.table_layout.specs.Bounds.{mostMaps}
 use Rattle.cross_names.proofs.maps.map_finding.Statement.{statement}
 use Rattle.cross_names.proofs.maps.map_finding.Tie as tie
 
 abbrev Inv-loop : tie.InvT-loop
-Inv-loop text table maps pins count marks₀ i₀ marks i = MapsLeft text i × (length marks ≡ marksMany)
+Inv-loop text table view base count marks₀ i₀ marks i = MapsLeft text i × (length marks ≡ marksMany)
 
 abbrev μ-loop : tie.MeasureT-loop
-μ-loop text table maps pins count marks₀ i₀ marks i = count - i
+μ-loop text table view base count marks₀ i₀ marks i = count - i
 
-array-read-maps : tie.Need-array-read-maps Inv-loop μ-loop
-array-read-maps c = search needs
-
-array-read-pins : tie.Need-array-read-pins Inv-loop μ-loop
-array-read-pins c = search needs
+array-read-base : tie.Need-array-read-base Inv-loop μ-loop
+array-read-base c = search needs
 
 array-read-count : tie.Need-array-read-count Inv-loop μ-loop
 array-read-count c = search needs
 
 loop-holds : tie.Need-loop-holds Inv-loop μ-loop
-loop-holds c = (search maps-start, length-replicate {A = ℕ} marksMany 64)
+loop-holds c = (search maps-start, length-replicate {A = ℕ} marksMany mostMaps)
 
 is-repeated-name-requires : tie.Need-is-repeated-name-requires Inv-loop μ-loop
-is-repeated-name-requires c κs = asks-map _ _ (c .before .before .before .before .before .before .args .view) (c .before .before .before .before .before .before .pre) _ (c .before .loop .inv .0) (c .loop-test .taken)
+is-repeated-name-requires c κs = search (needs, name-room)
 
 nth-line-requires : tie.Need-nth-line-requires Inv-loop μ-loop
 nth-line-requires c κs = search needs
@@ -37,23 +35,29 @@ nth-line-requires c κs = search needs
 returns : tie.Need-returns Inv-loop μ-loop
 returns c = search map-breaks
 
+nth-map-requires : tie.Need-nth-map-requires Inv-loop μ-loop
+nth-map-requires c κs = search (needs, text-rooms)
+
+cast-own-finding : tie.Need-cast-own-finding Inv-loop μ-loop
+cast-own-finding c = search stamp-fits
+
 own-finding-requires : tie.Need-own-finding-requires Inv-loop μ-loop
-own-finding-requires c κs = (search asks-pins, search needs)
+own-finding-requires c κs = search (needs, text-rooms, pins-room)
 
 returns-2 : tie.Need-returns-2 Inv-loop μ-loop
 returns-2 c = search pins-break
 
 add-i : tie.Need-add-i Inv-loop μ-loop
-add-i c = omega (arith, asks-pins _ _ (c .before .before .before .before .before .before .before .before .before .before .before .before .args .view) (c .before .before .before .before .before .before .before .before .before .before .before .before .pre) _ (c .before .before .before .before .before .before .before .loop .inv .0) (c .before .before .before .before .before .before .loop-test .taken) .inside)
+add-i c = search index-fits
 
 loop-less : tie.Need-loop-less Inv-loop μ-loop
 loop-less c = search needs
 
 loop-again : tie.Need-loop-again Inv-loop μ-loop
-loop-again c = (maps-on _ _ (c .before .before .before .before .before .before .before .before .before .before .before .before .args .view) (c .before .before .before .before .before .before .before .before .before .before .before .before .pre) _ (c .before .before .before .before .before .before .before .loop .inv .0) (c .before .before .before .before .before .before .loop-test .taken) _ (c .before .before .before .before .before .is-repeated-name .ensures) (c .before .before .before .before .if1 .left) _ (c .before .before .own-finding .ensures .0) (c .if2 .left), c .before .before .own-finding .ensures .1)
+loop-again c = (maps-on _ _ (c .before .before .before .before .before .before .before .before .before .before .before .before .before .pre .0) _ (c .before .before .before .before .before .before .before .before .before .before .before .before .before .pre .1) _ (search needs) (search needs) _ (c .before .before .before .before .before .before .is-repeated-name .ensures) (search needs) _ (c .before .before .before .before .nth-map .ensures) _ (c .before .before .own-finding .ensures .0) (search needs), search needs)
 
 returns-3 : tie.Need-returns-3 Inv-loop μ-loop
-returns-3 c = maps-end _ _ (c .before .before .before .before .before .before .args .view) (c .before .before .before .before .before .before .pre) _ (c .before .loop .inv .0) (c .loop-test .left)
+returns-3 c = search maps-end
 
 pub map-finding-spec : {M : Type 1} → statement M
 map-finding-spec =
@@ -61,13 +65,14 @@ map-finding-spec =
     (tie.spec
     Inv-loop
     μ-loop
-    array-read-maps
-    array-read-pins
+    array-read-base
     array-read-count
     loop-holds
     is-repeated-name-requires
     nth-line-requires
     returns
+    nth-map-requires
+    cast-own-finding
     own-finding-requires
     returns-2
     add-i

@@ -2,6 +2,7 @@
 -- Assumes nothing.
 use borrow.Author.Needs.{needs}
 use Prim.Native.Nat.{_-_}
+use Rattle.table_layout.specs.Layout.{pinWidth}
 use Rattle.cross_rules.specs.Way.Repeated.{MarkedNames}
 use Rattle.cross_rules.proofs.MarkedLaws.{marked-none}
 use Rattle.cross_names.proofs.PinLaws.{PinsLeft, pins-start, pins-end, pin-breaks, pins-on}
@@ -9,7 +10,7 @@ use Rattle.cross_names.proofs.maps.pin_finding.Statement.{statement}
 use Rattle.cross_names.proofs.maps.pin_finding.Tie as tie
 
 abbrev Inv-loop : tie.InvT-loop
-Inv-loop text table marks₀ stamp base first count i₀ marks i = PinsLeft text table base first count i × MarkedNames text table marks stamp base 2 i
+Inv-loop text table marks₀ stamp base first count i₀ marks i = PinsLeft text table base first count i × MarkedNames text table marks stamp base pinWidth i
 
 abbrev μ-loop : tie.MeasureT-loop
 μ-loop text table marks₀ stamp base first count i₀ marks i = count - i

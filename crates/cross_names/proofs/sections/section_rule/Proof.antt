@@ -6,6 +6,9 @@ use borrow.Author.Needs.{needs}
 use Rattle.cross_names.proofs.sections.section_rule.Statement.{statement}
 use Rattle.cross_names.proofs.sections.section_rule.Tie as tie
 
+array-read-is-repeated-name : tie.Need-array-read-is-repeated-name
+array-read-is-repeated-name c = search needs
+
 is-repeated-name-requires : tie.Need-is-repeated-name-requires
 is-repeated-name-requires c κs = search needs
 
@@ -26,4 +29,11 @@ returns-3 c = search rules
 
 pub section-rule-spec : {M : Type 1} → statement M
 section-rule-spec =
-    tie.close (tie.spec is-repeated-name-requires returns array-read-if2 returns-2 returns-3)
+    tie.close
+    (tie.spec
+    array-read-is-repeated-name
+    is-repeated-name-requires
+    returns
+    array-read-if2
+    returns-2
+    returns-3)

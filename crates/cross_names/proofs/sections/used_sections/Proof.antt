@@ -2,42 +2,31 @@
 -- Assumes nothing.
 use borrow.Author.Needs.{needs}
 use Prim.Native.Nat.{_-_}
+use Rattle.table_record.specs.Records.{recordsOf}
 use Rattle.cross_names.proofs.UsedLaws.{Raised, raised-start, slot-in, raised-on, raised-done}
 use Rattle.cross_names.proofs.sections.used_sections.Statement.{statement}
 use Rattle.cross_names.proofs.sections.used_sections.Tie as tie
 
 abbrev Inv-loop : tie.InvT-loop
-Inv-loop table base count used₀ at₀ i₀ used at i = Raised table base count used at i
+Inv-loop table view count used₀ i₀ used i = Raised (recordsOf table .steps) used i
 
 abbrev μ-loop : tie.MeasureT-loop
-μ-loop table base count used₀ at₀ i₀ used at i = count - i
+μ-loop table view count used₀ i₀ used i = count - i
+
+array-read-count : tie.Need-array-read-count Inv-loop μ-loop
+array-read-count c = search needs
 
 loop-holds : tie.Need-loop-holds Inv-loop μ-loop
 loop-holds c = search raised-start
 
-mul-kind : tie.Need-mul-kind Inv-loop μ-loop
-mul-kind c = search needs
-
-shared-slice-read-kind : tie.Need-shared-slice-read-kind Inv-loop μ-loop
-shared-slice-read-kind c = search needs
-
-add-target : tie.Need-add-target Inv-loop μ-loop
-add-target c = search needs
-
-mul-target : tie.Need-mul-target Inv-loop μ-loop
-mul-target c = search needs
-
-shared-slice-read-target : tie.Need-shared-slice-read-target Inv-loop μ-loop
-shared-slice-read-target c = search needs
+nth-step-requires : tie.Need-nth-step-requires Inv-loop μ-loop
+nth-step-requires c κs = search needs
 
 slot-of-requires : tie.Need-slot-of-requires Inv-loop μ-loop
 slot-of-requires c κs = search needs
 
 array-write-used : tie.Need-array-write-used Inv-loop μ-loop
 array-write-used c = search slot-in
-
-add-at : tie.Need-add-at Inv-loop μ-loop
-add-at c = search needs
 
 add-i : tie.Need-add-i Inv-loop μ-loop
 add-i c = search needs
@@ -57,15 +46,11 @@ used-sections-spec =
     (tie.spec
     Inv-loop
     μ-loop
+    array-read-count
     loop-holds
-    mul-kind
-    shared-slice-read-kind
-    add-target
-    mul-target
-    shared-slice-read-target
+    nth-step-requires
     slot-of-requires
     array-write-used
-    add-at
     add-i
     loop-less
     loop-again

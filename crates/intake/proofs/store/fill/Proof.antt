@@ -15,7 +15,7 @@ fill-maps-requires : tie.Need-fill-maps-requires
 fill-maps-requires c κs = maps-ready _ (c .before .before .before .before .before .before .before .before .before .args .counts) (c .before .before .before .before .before .before .before .before .before .pre .0) _ (c .before .before .before .before .before .before .before .before .before .pre .1) (c .before .before .before .before .before .before .before .before .before .pre .2) _ (opened-filling _ (c .before .before .before .before .before .before .before .before .before .args .counts) (c .before .before .before .before .before .before .before .before .before .pre .0) _ (c .before .before .before .before .counts-of .ensures) _ (c .before .before .before .open-parts .ensures .0)) _ (opened-table _ (c .before .before .before .before .before .before .before .before .before .args .counts) (c .before .before .before .before .before .before .before .before .before .pre .0) _ (c .before .before .before .before .counts-of .ensures) _ _ (c .before .before .before .open-parts .ensures .1))
 
 fill-sections-requires : tie.Need-fill-sections-requires
-fill-sections-requires c κs = sections-ready _ (c .before .before .before .before .before .before .before .before .before .before .before .before .before .args .counts) (c .before .before .before .before .before .before .before .before .before .before .before .before .before .pre .0) _ (c .before .before .before .before .before .before .before .before .before .before .before .before .before .pre .1) (c .before .before .before .before .before .before .before .before .before .before .before .before .before .pre .2) _ (opened-filling _ (c .before .before .before .before .before .before .before .before .before .before .before .before .before .args .counts) (c .before .before .before .before .before .before .before .before .before .before .before .before .before .pre .0) _ (c .before .before .before .before .before .before .before .before .counts-of .ensures) _ (c .before .before .before .before .before .before .before .open-parts .ensures .0)) _ (opened-table _ (c .before .before .before .before .before .before .before .before .before .before .before .before .before .args .counts) (c .before .before .before .before .before .before .before .before .before .before .before .before .before .pre .0) _ (c .before .before .before .before .before .before .before .before .counts-of .ensures) _ _ (c .before .before .before .before .before .before .before .open-parts .ensures .1)) _ _ (c .before .before .before .fill-maps .ensures) _ (c .before .before .before .before .before .before .before .before .before .before .before .before .before .pre .3)
+fill-sections-requires c κs = sections-ready _ (c .before .before .before .before .before .before .before .before .before .before .before .before .before .args .counts) (c .before .before .before .before .before .before .before .before .before .before .before .before .before .pre .0) _ (c .before .before .before .before .before .before .before .before .before .before .before .before .before .pre .1) (c .before .before .before .before .before .before .before .before .before .before .before .before .before .pre .2) _ (opened-filling _ (c .before .before .before .before .before .before .before .before .before .before .before .before .before .args .counts) (c .before .before .before .before .before .before .before .before .before .before .before .before .before .pre .0) _ (c .before .before .before .before .before .before .before .before .counts-of .ensures) _ (c .before .before .before .before .before .before .before .open-parts .ensures .0)) _ (opened-table _ (c .before .before .before .before .before .before .before .before .before .before .before .before .before .args .counts) (c .before .before .before .before .before .before .before .before .before .before .before .before .before .pre .0) _ (c .before .before .before .before .before .before .before .before .counts-of .ensures) _ _ (c .before .before .before .before .before .before .before .open-parts .ensures .1)) _ _ (c .before .before .before .fill-maps .ensures) _ (c .before .before .before .before .before .before .before .before .before .before .before .before .before .pre .3) (c .before .before .before .before .before .before .before .before .before .before .before .before .before .pre .4)
 
 fill-models-requires : tie.Need-fill-models-requires
 fill-models-requires c κs = models-ready _ (c .before .before .before .before .before .before .before .before .before .before .before .before .before .before .before .before .before .args .counts) (c .before .before .before .before .before .before .before .before .before .before .before .before .before .before .before .before .before .pre .0) _ (c .before .before .before .before .before .before .before .before .before .before .before .before .before .before .before .before .before .pre .1) (c .before .before .before .before .before .before .before .before .before .before .before .before .before .before .before .before .before .pre .2) _ (opened-filling _ (c .before .before .before .before .before .before .before .before .before .before .before .before .before .before .before .before .before .args .counts) (c .before .before .before .before .before .before .before .before .before .before .before .before .before .before .before .before .before .pre .0) _ (c .before .before .before .before .before .before .before .before .before .before .before .before .counts-of .ensures) _ (c .before .before .before .before .before .before .before .before .before .before .before .open-parts .ensures .0)) _ (opened-table _ (c .before .before .before .before .before .before .before .before .before .before .before .before .before .before .before .before .before .args .counts) (c .before .before .before .before .before .before .before .before .before .before .before .before .before .before .before .before .before .pre .0) _ (c .before .before .before .before .before .before .before .before .before .before .before .before .counts-of .ensures) _ _ (c .before .before .before .before .before .before .before .before .before .before .before .open-parts .ensures .1)) _ _ (c .before .before .before .before .before .before .before .fill-maps .ensures) _ _ (c .before .before .before .fill-sections .ensures)

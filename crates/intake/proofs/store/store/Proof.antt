@@ -1,7 +1,6 @@
 -- `intake::store::store` meets its contract: no room, or the text's table.
 -- Assumes nothing.
-use denote.Ref.{now}
-use Rattle.intake.proofs.ReadyLaws.{many-few, store-refused, lift-fits, lift-within, lift-ready, fill-ready, store-filled}
+use Rattle.intake.proofs.ReadyLaws.{many-few, store-refused, store-stored, lift-fits, lift-ready, fill-room, moved-lifted, moved-staged, store-filled}
 use borrow.Author.Needs.{needs}
 use Rattle.intake.proofs.store.store.Statement.{statement}
 use Rattle.intake.proofs.store.store.Tie as tie
@@ -19,25 +18,25 @@ same-length : tie.Need-same-length
 same-length c = search needs
 
 returns : tie.Need-returns
-returns c = store-refused _ (c .before .before .before .before .before .before .before .before .before .before .args .counts) (c .before .before .before .before .before .before .before .before .before .before .pre .0) (now (c .before .before .before .before .before .before .before .before .before .before .args .table)) _ (c .before .before .before .before .before .before .counts-of .ensures) _ (c .before .before .before .before .before .words-needed .ensures) (c .before .before .before .before .if1 .taken) _ (c .before .before .zero-all .ensures)
+returns c = (search store-refused, search needs)
 
-mul-lifted : tie.Need-mul-lifted
-mul-lifted c = search lift-fits
+mul-staged : tie.Need-mul-staged
+mul-staged c = search lift-fits
 
-sub-lift : tie.Need-sub-lift
-sub-lift c = search lift-within
+part-base-requires : tie.Need-part-base-requires
+part-base-requires c κs = (search many-few, search needs)
 
 lift-requires : tie.Need-lift-requires
 lift-requires c κs = search lift-ready
 
 fill-requires : tie.Need-fill-requires
-fill-requires c κs = fill-ready _ (c .before .before .before .before .before .before .before .before .before .before .before .args .counts) (c .before .before .before .before .before .before .before .before .before .before .before .pre .0) (now (c .before .before .before .before .before .before .before .before .before .before .before .args .table)) _ (c .before .before .before .before .before .before .before .counts-of .ensures) _ (c .before .before .before .before .before .before .words-needed .ensures) (c .before .before .before .before .before .if1 .left) _ (c .before .before .before .lift .ensures) _ (c .before .before .before .before .before .before .before .before .before .before .before .pre .1) (c .before .before .before .before .before .before .before .before .before .before .before .pre .2)
+fill-requires c κs = (search needs, search fill-room, search moved-lifted, search moved-staged, search needs)
 
 same-length-2 : tie.Need-same-length-2
 same-length-2 c = search needs
 
 returns-2 : tie.Need-returns-2
-returns-2 c = store-filled _ (c .before .before .before .before .before .before .before .before .before .before .before .before .before .before .args .counts) (c .before .before .before .before .before .before .before .before .before .before .before .before .before .before .pre .0) (now (c .before .before .before .before .before .before .before .before .before .before .before .before .before .before .args .table)) _ (c .before .before .before .before .before .before .before .before .before .before .counts-of .ensures) _ (c .before .before .before .before .before .before .before .before .before .words-needed .ensures) (c .before .before .before .before .before .before .before .before .if1 .left) _ (c .before .before .before .before .before .before .lift .ensures) _ (c .before .before .fill .ensures)
+returns-2 c = (search store-stored, search store-filled)
 
 pub store-spec : {M : Type 1} → statement M
 store-spec =
@@ -48,8 +47,8 @@ store-spec =
     zero-all-requires
     same-length
     returns
-    mul-lifted
-    sub-lift
+    mul-staged
+    part-base-requires
     lift-requires
     fill-requires
     same-length-2
