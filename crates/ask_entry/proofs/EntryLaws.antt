@@ -8,7 +8,7 @@ use native.Mathlib.Nat.{min-comm, max-comm}
 use lib.ListN.{length, getD}
 use lib.Dec.{eqb, ltb}
 use borrow.Author.Tests.{not-true, not-false}
-use Rattle.table_record.specs.Way.Standing.{countOf}
+use Rattle.table_record.specs.Way.Standing.{countOf, Rooms}
 use Rattle.table_record.specs.Records.{Records, recordsOf, noSection, noMatrix}
 use Rattle.base.specs.If.{if_then_else_, both}
 use Rattle.base.specs.Refusal as refusal
@@ -20,8 +20,9 @@ use Rattle.lex_number.specs.ValueWord.{zeroWord}
 use Rattle.table_layout.specs.Layout.{sections, matrices}
 use Rattle.table_layout.specs.declared.View.{View}
 use Rattle.ask_sound.specs.Sound.{isSound, soundView}
-use Rattle.ask_sound.proofs.SoundLaws.{told-unsound, told-sound, told-rooms, told-records}
-use Rattle.ask_entry.specs.Entry.{EntryWords, foundWith, entryRefused, entryWords, matrixIndex, wordAt, matrixValues, entryOf, isInRange, entryAnswer}
+use Rattle.ask_sound.specs.Way.Judged.{SoundRecords}
+use Rattle.ask_sound.proofs.SoundLaws.{told-unsound, told-sound}
+use Rattle.ask_entry.specs.Entry.{EntryWords, foundWith, entryRefused, entryWords, matrixIndex, wordAt, matrixValues, entryOf, isInRange, entryFrom, entryAnswer}
 use Rattle.ask_entry.specs.declared.Answer.{Answer}
 use Rattle.ask_entry.specs.declared.Answer.the-variants.{Found, Refused}
 use Rattle.ask_entry.proofs.ReadyLaws.{range-section, matrix-few, conductors-few}
@@ -48,13 +49,17 @@ unfolding isInRange
 range-exchange r section kind row column =
     ap (λ (b : Bool). both (ltb section (length (r .sections))) (both (ltb kind matrixKinds) b)) (both-swap _ _)
 
+from-exchange : (r : Records) (section kind row column : ℕ) → entryFrom r section kind row column ≡ entryFrom r section kind column row
+unfolding entryFrom
+from-exchange r section kind row column =
+    λ i.
+    if not (range-exchange r section kind row column i) then entryRefused refusal.noSuch else
+    foundWith (entry-exchange r (matrixIndex (getD (r .sections) section noSection) kind) row column i)
+
 pub exchange : (t table : List ℕ) (section kind row column : ℕ) → entryAnswer t table section kind row column ≡ entryAnswer t table section kind column row
 unfolding entryAnswer
 exchange t table section kind row column =
-    λ i.
-    if not (isSound t table) then entryRefused refusal.table else
-    if not (range-exchange (recordsOf table) section kind row column i) then entryRefused refusal.noSuch else
-    foundWith (entry-exchange (recordsOf table) (matrixIndex (getD (recordsOf table .sections) section noSection) kind) row column i)
+    λ i. if not (isSound t table) then entryRefused refusal.table else from-exchange (recordsOf table) section kind row column i
 
 -- ---- one answer
 
@@ -71,32 +76,40 @@ unique t table section kind row column a b e f = one-answer a b (e ∙ sym f)
 
 -- ---- what is known at each `return`
 
-module _ (t table : List ℕ) (section kind row column : ℕ) (v : View) (is : v ≡ soundView t table) where
-  pub answer-unsound : not (v .fits) ≡ true → entryWords (Refused refusal.table) ≡ entryAnswer t table section kind row column
+module _ (table : List ℕ) (section kind row column : ℕ) (inside : Bool) (is-inside : inside ≡ isInRange (recordsOf table) section kind row column) where
+  pub from-no-such : not inside ≡ true → entryWords (Refused refusal.noSuch) ≡ entryFrom (recordsOf table) section kind row column
+  unfolding entryFrom
+  from-no-such e = sym (if-true _ _ (not-via (sym is-inside ∙ not-true inside e)))
+
+  module _ (there : not inside ≡ false) (s : SectionRecord) (here : s ≡ getD (recordsOf table .sections) section noSection) (index : ℕ) (is-index : index ≡ matrixIndex s kind) where
+    pub from-found : (word : ℕ) → word ≡ entryOf (recordsOf table) index row column → entryWords (Found word) ≡ entryFrom (recordsOf table) section kind row column
+    unfolding entryFrom
+    from-found word e =
+        ap foundWith (e ∙ ap (λ (n : ℕ). entryOf (recordsOf table) n row column) (is-index ∙ ap (λ (x : SectionRecord). matrixIndex x kind) here))
+        ∙ sym (if-false _ _ (not-not-via (sym is-inside ∙ not-false inside there)))
+
+module _ (t table : List ℕ) (section kind row column : ℕ) where
+  pub answer-known : isSound t table ≡ true → (a : Answer) → entryWords a ≡ entryFrom (recordsOf table) section kind row column → entryWords a ≡ entryAnswer t table section kind row column
   unfolding entryAnswer
-  answer-unsound e = sym (if-true _ _ (not-via (told-unsound t table v is e)))
+  answer-known sound a e = e ∙ sym (if-false _ _ (not-not-via sound))
 
-  module _ (fits : not (v .fits) ≡ false) (inside : Bool) (is-inside : inside ≡ isInRange (recordsOf table) section kind row column) where
-    pub answer-no-such : not inside ≡ true → entryWords (Refused refusal.noSuch) ≡ entryAnswer t table section kind row column
+  module _ (v : View) (is : v ≡ soundView t table) where
+    pub answer-unsound : not (v .fits) ≡ true → entryWords (Refused refusal.table) ≡ entryAnswer t table section kind row column
     unfolding entryAnswer
-    answer-no-such e = sym (if-false _ _ (not-not-via (told-sound t table v is fits)) ∙ if-true _ _ (not-via (sym is-inside ∙ not-true inside e)))
+    answer-unsound e = sym (if-true _ _ (not-via (told-unsound t table v is e)))
 
-    module _ (there : not inside ≡ false) (s : SectionRecord) (here : s ≡ getD (recordsOf table .sections) section noSection) (index : ℕ) (is-index : index ≡ matrixIndex s kind) where
-      pub answer-found : (word : ℕ) → word ≡ entryOf (recordsOf table) index row column → entryWords (Found word) ≡ entryAnswer t table section kind row column
-      unfolding entryAnswer
-      answer-found word e =
-          ap foundWith (e ∙ ap (λ (n : ℕ). entryOf (recordsOf table) n row column) (is-index ∙ ap (λ (x : SectionRecord). matrixIndex x kind) here))
-          ∙ sym (if-false _ _ (not-not-via (told-sound t table v is fits)) ∙ if-false _ _ (not-not-via (sym is-inside ∙ not-false inside there)))
+    pub answer-sound : not (v .fits) ≡ false → (a : Answer) → entryWords a ≡ entryFrom (recordsOf table) section kind row column → entryWords a ≡ entryAnswer t table section kind row column
+    answer-sound fits = answer-known (told-sound t table v is fits)
 
 -- what the functions below ask for
-module _ (t table : List ℕ) (v : View) (is : v ≡ soundView t table) (fits : not (v .fits) ≡ false) (section kind row column : ℕ)
+module _ (table : List ℕ) (v : View) (rooms : Rooms table v) (records : SoundRecords table) (section kind row column : ℕ)
     (inside : Bool) (is-inside : inside ≡ isInRange (recordsOf table) section kind row column) (there : not inside ≡ false) where
-  pub answer-section : section < countOf v sections
-  answer-section = range-section table v (told-rooms t table v is fits) section kind row column inside is-inside there
+  pub from-section : section < countOf v sections
+  from-section = range-section table v rooms section kind row column inside is-inside there
 
   module _ (s : SectionRecord) (here : s ≡ getD (recordsOf table .sections) section noSection) where
-    pub answer-matrix : (other index : ℕ) → index ≡ matrixIndex s other → index ≤ countOf v matrices
-    answer-matrix = matrix-few table v (told-rooms t table v is fits) section (told-records t table v is fits) answer-section s here
+    pub from-matrix : (other index : ℕ) → index ≡ matrixIndex s other → index ≤ countOf v matrices
+    from-matrix = matrix-few table v rooms section records from-section s here
 
-    pub answer-few : s .conductors ≤ mostConductors
-    answer-few = conductors-few table v (told-rooms t table v is fits) section (told-records t table v is fits) answer-section s here
+    pub from-few : s .conductors ≤ mostConductors
+    from-few = conductors-few table v rooms section records from-section s here

@@ -9,8 +9,9 @@ use native.Mathlib.Nat.{not-suc-le-zero}
 use native.Mathlib.Omega.{arith}
 use lib.Dec.{ltb}
 use borrow.Author.Tests.{ltb-true}
+use Rattle.base.specs.Refusal as refusal
 use Rattle.base.proofs.IfLaws.{by-test}
-use Rattle.ask_entry.specs.WholeMatrix.{MatrixWords, wholeWords, matrixAnswer}
+use Rattle.ask_entry.specs.WholeMatrix.{MatrixWords, wholeWords, matrixFrom, matrixAnswer}
 use Rattle.ask_entry.specs.declared.WholeAnswer.{WholeAnswer}
 use Rattle.ask_entry.specs.declared.WholeAnswer.the-variants.{Found, Short, Refused}
 
@@ -24,10 +25,10 @@ short-clear room zero e z = not-suc-le-zero (ltb-true room 0 e)
 short-clear room (suc n) e z = omega arith
 
 answer-clear : (t table : List ℕ) (section kind room : ℕ) → Clear (matrixAnswer t table section kind room)
-unfolding matrixAnswer
+unfolding matrixAnswer matrixFrom
 answer-clear t table section kind room =
-    by-test Clear _ _ _ (λ u f (z : 30 ≡ 0) n. omega arith)
-    (λ u. by-test Clear _ _ _ (λ v f (z : 31 ≡ 0) n. omega arith)
+    by-test Clear _ _ _ (λ u f (z : refusal.table ≡ 0) n. omega arith)
+    (λ u. by-test Clear _ _ _ (λ v f (z : refusal.noSuch ≡ 0) n. omega arith)
     (λ v. by-test Clear _ _ _ (λ e f z n. short-clear room _ e n) (λ e f z n. absurd (true≢false f))))
 
 one-of : (w : MatrixWords) → Clear w → (a b : WholeAnswer) → wholeWords a ≡ w → wholeWords b ≡ w → a ≡ b

@@ -13,11 +13,13 @@ use borrow.Author.Tests.{le-leb}
 use Rattle.table_record.specs.Records.{Records, recordsOf, noSection}
 use Rattle.base.specs.If.{if_then_else_, both}
 use Rattle.base.specs.Bytes.{within}
+use Rattle.base.specs.Refusal as refusal
+use Rattle.table_layout.specs.Codes.{matrixKinds}
 use Rattle.base.proofs.IfLaws.{if-true, if-false, both-true, both-first, both-second, not-via, not-not-via, by-cases}
 use Rattle.ask_sound.specs.Sound.{isSound}
-use Rattle.ask_entry.specs.Entry.{foundWith, matrixIndex, entryOf, isInRange, entryAnswer}
+use Rattle.ask_entry.specs.Entry.{foundWith, matrixIndex, entryOf, isInRange, entryFrom, entryAnswer}
 use Rattle.ask_entry.proofs.RowLaws.{row-long}
-use Rattle.ask_entry.specs.WholeMatrix.{MatrixWords, foundOf, shortOf, matrixRefused, rowFrom, rowsFrom, squareOf, sectionConductors, matrixAnswer}
+use Rattle.ask_entry.specs.WholeMatrix.{MatrixWords, foundOf, shortOf, matrixRefused, rowFrom, rowsFrom, squareOf, sectionConductors, matrixFrom, matrixAnswer}
 
 module _ (r : Records) (index : ℕ) where
   row-at : (row column many k : ℕ) → k < many → getD (rowFrom r index row column many) k 0 ≡ entryOf r index row (column + k)
@@ -75,10 +77,10 @@ module _ (t table : List ℕ) (section kind room conductors : ℕ) (found : matr
       (λ (e : isSound t table ≡ true). e)
       (λ (e : isSound t table ≡ false). absurd (true≢false (sym (ap (λ (w : MatrixWords). w .found) found) ∙ ap (λ (w : MatrixWords). w .found) (if-true _ _ (not-via e)))))
 
-  past-sound : (if not (isInRange (recordsOf table) section kind 1 1) then matrixRefused 31 else
+  past-sound : (if not (isInRange (recordsOf table) section kind 1 1) then matrixRefused refusal.noSuch else
       if ltb room (sectionConductors (recordsOf table) section * sectionConductors (recordsOf table) section) then shortOf (sectionConductors (recordsOf table) section)
       else foundOf (sectionConductors (recordsOf table) section)) ≡ foundOf conductors
-  unfolding matrixAnswer
+  unfolding matrixAnswer matrixFrom
   past-sound = sym (if-false _ _ (not-not-via sound-first)) ∙ found
 
   range-then : isInRange (recordsOf table) section kind 1 1 ≡ true
@@ -100,7 +102,7 @@ module _ (t table : List ℕ) (section kind room conductors : ℕ) (found : matr
   in-range : (row column : ℕ) → 1 ≤ row → row ≤ conductors → 1 ≤ column → column ≤ conductors → isInRange (recordsOf table) section kind row column ≡ true
   unfolding isInRange sectionConductors
   in-range row column a b c d =
-      let rest : both (ltb kind 4) (both (within 1 (sectionConductors (recordsOf table) section) 1) (within 1 (sectionConductors (recordsOf table) section) 1)) ≡ true = both-second _ _ range-then in
+      let rest : both (ltb kind matrixKinds) (both (within 1 (sectionConductors (recordsOf table) section) 1) (within 1 (sectionConductors (recordsOf table) section) 1)) ≡ true = both-second _ _ range-then in
       both-true _ _ (both-first _ _ range-then)
       (both-true _ _ (both-first _ _ rest)
       (rw conductors-told (both-true _ _ (inside 1 conductors row a b) (inside 1 conductors column c d))))
@@ -109,7 +111,7 @@ module _ (t table : List ℕ) (section kind room conductors : ℕ) (found : matr
   pub square-entry : (row column : ℕ) → 1 ≤ row → row ≤ conductors → 1 ≤ column → column ≤ conductors →
       entryAnswer t table section kind row column
       ≡ foundWith (getD (squareOf (recordsOf table) (matrixIndex (getD (recordsOf table .sections) section noSection) kind) conductors) ((row - 1) * conductors + (column - 1)) 0)
-  unfolding entryAnswer
+  unfolding entryAnswer entryFrom
   square-entry row column a b c d =
       if-false _ _ (not-not-via sound-first)
       ∙ if-false _ _ (not-not-via (in-range row column a b c d))

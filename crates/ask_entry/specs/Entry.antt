@@ -68,9 +68,13 @@ isInRange r section kind row column =
     (both (within 1 (getD (r .sections) section noSection .conductors) row)
     (within 1 (getD (r .sections) section noSection .conductors) column)))
 
--- "30 TABLE: question over an unsound table", "31 NOSUCH: section, kind, row, column (1 to N) .. out of range"
+-- "31 NOSUCH: section, kind, row, column (1 to N) .. out of range"; for the records of a sound table
+unfoldable pub entryFrom : Records → ℕ → ℕ → ℕ → ℕ → EntryWords
+entryFrom r section kind row column =
+    if not (isInRange r section kind row column) then entryRefused refusal.noSuch else
+    foundWith (entryOf r (matrixIndex (getD (r .sections) section noSection) kind) row column)
+
+-- "30 TABLE: question over an unsound table"
 unfoldable pub entryAnswer : List ℕ → List ℕ → ℕ → ℕ → ℕ → ℕ → EntryWords
 entryAnswer t table section kind row column =
-    if not (isSound t table) then entryRefused refusal.table else
-    if not (isInRange (recordsOf table) section kind row column) then entryRefused refusal.noSuch else
-    foundWith (entryOf (recordsOf table) (matrixIndex (getD (recordsOf table .sections) section noSection) kind) row column)
+    if not (isSound t table) then entryRefused refusal.table else entryFrom (recordsOf table) section kind row column

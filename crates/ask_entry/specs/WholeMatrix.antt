@@ -61,15 +61,18 @@ squareOf r index conductors = rowsFrom r index conductors 1 conductors
 unfoldable pub sectionConductors : Records → ℕ → ℕ
 sectionConductors r section = getD (r .sections) section noSection .conductors
 
--- "30 TABLE: question over an unsound table", "31 NOSUCH: section, kind .. out of range": every section of a sound
--- table has a row 1 and a column 1. Then whether `room` words are enough.
+-- "31 NOSUCH: section, kind .. out of range": every section of a sound table has a row 1 and a column 1. Then whether
+-- `room` words are enough. For the records of a sound table
+unfoldable pub matrixFrom : Records → ℕ → ℕ → ℕ → MatrixWords
+matrixFrom r section kind room =
+    if not (isInRange r section kind 1 1) then matrixRefused refusal.noSuch else
+    if ltb room (sectionConductors r section * sectionConductors r section) then shortOf (sectionConductors r section)
+    else foundOf (sectionConductors r section)
+
+-- "30 TABLE: question over an unsound table"
 unfoldable pub matrixAnswer : List ℕ → List ℕ → ℕ → ℕ → ℕ → MatrixWords
 matrixAnswer t table section kind room =
-    if not (isSound t table) then matrixRefused refusal.table else
-    if not (isInRange (recordsOf table) section kind 1 1) then matrixRefused refusal.noSuch else
-    if ltb room (sectionConductors (recordsOf table) section * sectionConductors (recordsOf table) section) then
-    shortOf (sectionConductors (recordsOf table) section)
-    else foundOf (sectionConductors (recordsOf table) section)
+    if not (isSound t table) then matrixRefused refusal.table else matrixFrom (recordsOf table) section kind room
 
 -- the room after an answer: the entries from its start on if the matrix was found, else unchanged
 unfoldable pub roomAfter : List ℕ → ℕ → ℕ → MatrixWords → List ℕ → List ℕ

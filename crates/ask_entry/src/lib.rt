@@ -1,6 +1,6 @@
 // Document 01: the question "entry", one entry of a section's matrix as a value word. "Entries not written, and kinds
-// not given, are zero; entry (j,i) is entry (i,j)." A caller that has the view of a sound table can use
-// `entry_in`, which does not judge the table again. `whole_matrix` gives all entries of a matrix at once.
+// not given, are zero; entry (j,i) is entry (i,j)." `whole_matrix` gives all entries of a matrix at once. A caller that
+// knows the table to be sound asks by `entry_unjudged` and `whole_matrix_unjudged`, which do not judge it again.
 ghost use mathlib.Core.Path.{_≡_};
 ghost use mathlib.Core.Bool.{true};
 ghost use Prim.Native.Nat.{_+_, _*_, _≤_, _<_};
@@ -11,10 +11,11 @@ ghost use Rattle.table_layout.specs.Bounds.{mostConductors};
 ghost use Rattle.table_record.specs.Records.{recordsOf};
 ghost use Rattle.table_record.specs.Way.Standing.{countOf, valuesFrom, Rooms};
 ghost use Rattle.doc.specs.Holds.{comesBefore, rises};
+ghost use Rattle.ask_sound.specs.Sound.{isSound};
 ghost use Rattle.ask_sound.specs.Way.Judged.{SoundRecords};
-ghost use Rattle.ask_entry.specs.Entry.{entryWords, matrixIndex, wordAt, entryOf, isInRange, entryAnswer};
+ghost use Rattle.ask_entry.specs.Entry.{entryWords, matrixIndex, wordAt, entryOf, isInRange, entryFrom, entryAnswer};
 ghost use Rattle.ask_entry.specs.Way.Asked.{asked};
-ghost use Rattle.ask_entry.specs.WholeMatrix.{wholeWords, rowFrom, squareOf, matrixAnswer, roomAfter};
+ghost use Rattle.ask_entry.specs.WholeMatrix.{wholeWords, rowFrom, squareOf, matrixFrom, matrixAnswer, roomAfter};
 use table_layout::View;
 use table_record::SectionRecord;
 use table_record::Value;
@@ -84,7 +85,7 @@ fn word_at(table: &[u64], from: usize, many: u64, row: u64, column: u64) -> u64
 // ---- one entry
 
 // The entry of a matrix, given the matrix's index plus 1; 0 means that the kind is not given.
-pub fn entry_in(table: &[u64], view: View, index: u64, row: u64, column: u64) -> u64
+fn entry_in(table: &[u64], view: View, index: u64, row: u64, column: u64) -> u64
     requires { ⌜ Rooms (now table) view × SoundRecords (now table) × (index ≤ countOf view matrices) ⌝ }
     ensures { λ r. ⌜ r ≡ entryOf (recordsOf (now (table .entry))) index row column ⌝ }
 {
@@ -100,14 +101,7 @@ pub fn entry_in(table: &[u64], view: View, index: u64, row: u64, column: u64) ->
 }
 
 // Whether the section and the kind exist, and row and column are 1 to N.
-pub fn is_in_range(
-    table: &[u64],
-    view: View,
-    section: u64,
-    kind: u64,
-    row: u64,
-    column: u64,
-) -> bool
+fn is_in_range(table: &[u64], view: View, section: u64, kind: u64, row: u64, column: u64) -> bool
     requires { ⌜ Rooms (now table) view ⌝ }
     ensures { λ r. ⌜ r ≡ isInRange (recordsOf (now (table .entry))) section kind row column ⌝ }
 {
@@ -126,7 +120,7 @@ pub fn is_in_range(
 }
 
 // The index plus 1 of a section's matrix of a kind; 0 if the kind is not given.
-pub fn matrix_index(section: SectionRecord, kind: u64) -> u64
+fn matrix_index(section: SectionRecord, kind: u64) -> u64
     ensures { λ r. ⌜ r ≡ matrixIndex section kind ⌝ }
 {
     if kind == table_layout::code::RESISTANCE {
@@ -141,6 +135,19 @@ pub fn matrix_index(section: SectionRecord, kind: u64) -> u64
     section.capacitance
 }
 
+// The answer in a sound table.
+fn entry_from(table: &[u64], view: View, section: u64, kind: u64, row: u64, column: u64) -> Answer
+    requires { ⌜ Rooms (now table) view × SoundRecords (now table) ⌝ }
+    ensures { λ r. ⌜ entryWords r ≡ entryFrom (recordsOf (now (table .entry))) section kind row column ⌝ }
+{
+    if !is_in_range(table, view, section, kind, row, column) {
+        return Answer::Refused(base::refusal::NOSUCH);
+    }
+    let record = table_record::nth_section(table, view, section);
+    let index = matrix_index(record, kind);
+    Answer::Found(entry_in(table, view, index, row, column))
+}
+
 // One entry of a section's matrix, as a value word.
 pub fn entry(text: &[u8], table: &[u64], section: u64, kind: u64, row: u64, column: u64) -> Answer
     ensures { λ r. ⌜ entryWords r ≡ entryAnswer (now (text .entry)) (now (table .entry)) section kind row column ⌝ }
@@ -149,12 +156,24 @@ pub fn entry(text: &[u8], table: &[u64], section: u64, kind: u64, row: u64, colu
     if !view.fits {
         return Answer::Refused(base::refusal::TABLE);
     }
-    if !is_in_range(table, view, section, kind, row, column) {
-        return Answer::Refused(base::refusal::NOSUCH);
-    }
-    let record = table_record::nth_section(table, view, section);
-    let index = matrix_index(record, kind);
-    Answer::Found(entry_in(table, view, index, row, column))
+    entry_from(table, view, section, kind, row, column)
+}
+
+// The same answer, for a caller that knows the table to be sound for the text. The table is not judged: if it is not
+// sound, nothing is promised, not even that only its words are read.
+pub fn entry_unjudged(
+    text: &[u8],
+    table: &[u64],
+    section: u64,
+    kind: u64,
+    row: u64,
+    column: u64,
+) -> Answer
+    requires { ⌜ isSound (now text) (now table) ≡ true ⌝ }
+    ensures { λ r. ⌜ entryWords r ≡ entryAnswer (now (text .entry)) (now (table .entry)) section kind row column ⌝ }
+{
+    let view = ask_sound::view_unjudged(text, table);
+    entry_from(table, view, section, kind, row, column)
 }
 
 // ---- a whole matrix, row by row, into lent room for N times N words; the table is judged once
@@ -202,6 +221,30 @@ fn put_rows(table: &[u64], view: View, index: u64, conductors: u64, values: &mut
     }
 }
 
+// The answer in a sound table.
+fn matrix_from(
+    table: &[u64],
+    view: View,
+    section: u64,
+    kind: u64,
+    values: &mut [u64],
+) -> WholeAnswer
+    requires { ⌜ Rooms (now table) view × SoundRecords (now table) ⌝ }
+    ensures { λ r. ⌜ (wholeWords r ≡ matrixFrom (recordsOf (now (table .entry))) section kind (length (now (values .entry)))) × (now (values .exit) ≡ roomAfter (now (table .entry)) section kind (wholeWords r) (now (values .entry))) ⌝ }
+{
+    if !is_in_range(table, view, section, kind, 1, 1) {
+        return WholeAnswer::Refused(base::refusal::NOSUCH);
+    }
+    let record = table_record::nth_section(table, view, section);
+    let conductors = record.conductors;
+    if values.len() < (conductors as usize) * (conductors as usize) {
+        return WholeAnswer::Short(conductors);
+    }
+    let index = matrix_index(record, kind);
+    put_rows(table, view, index, conductors, values);
+    WholeAnswer::Found(conductors)
+}
+
 // Stores every entry of a section's matrix. If the answer is not Found, the room is left unchanged.
 pub fn whole_matrix(
     text: &[u8],
@@ -216,15 +259,20 @@ pub fn whole_matrix(
     if !view.fits {
         return WholeAnswer::Refused(base::refusal::TABLE);
     }
-    if !is_in_range(table, view, section, kind, 1, 1) {
-        return WholeAnswer::Refused(base::refusal::NOSUCH);
-    }
-    let record = table_record::nth_section(table, view, section);
-    let conductors = record.conductors;
-    if values.len() < (conductors as usize) * (conductors as usize) {
-        return WholeAnswer::Short(conductors);
-    }
-    let index = matrix_index(record, kind);
-    put_rows(table, view, index, conductors, values);
-    WholeAnswer::Found(conductors)
+    matrix_from(table, view, section, kind, values)
+}
+
+// The same answer, for a caller that knows the table to be sound for the text.
+pub fn whole_matrix_unjudged(
+    text: &[u8],
+    table: &[u64],
+    section: u64,
+    kind: u64,
+    values: &mut [u64],
+) -> WholeAnswer
+    requires { ⌜ isSound (now text) (now table) ≡ true ⌝ }
+    ensures { λ r. ⌜ (wholeWords r ≡ matrixAnswer (now (text .entry)) (now (table .entry)) section kind (length (now (values .entry)))) × (now (values .exit) ≡ roomAfter (now (table .entry)) section kind (wholeWords r) (now (values .entry))) ⌝ }
+{
+    let view = ask_sound::view_unjudged(text, table);
+    matrix_from(table, view, section, kind, values)
 }

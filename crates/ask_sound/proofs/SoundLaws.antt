@@ -11,7 +11,7 @@ use Rattle.ask_sound.specs.Way.Judging.{isRecord, areRecords, areParts}
 use Rattle.table_record.specs.Way.Standing.{modelAt, stepAt, mapAt, pinAt, sectionAt, matrixAt, valueAt, baseOf, countOf, placesOf, kindsAt, methodsAt, valuesAt, recordsAt, Rooms}
 use Rattle.table_record.specs.Records.{Records}
 use Rattle.base.specs.If.{if_then_else_, both}
-use Rattle.base.proofs.IfLaws.{if-true, if-false, by-test, both-rest, both-first, both-second, both-not-left}
+use Rattle.base.proofs.IfLaws.{if-true, if-false, by-test, both-rest, both-first, both-second, both-not-left, not-not-via}
 use Rattle.table_layout.specs.Layout.{models, steps, maps, pins, sections, matrices, values, partCount, valueWidth}
 use Rattle.table_layout.specs.Bounds.{mostValues}
 use Rattle.table_layout.specs.View.{viewOf, noView}
@@ -132,6 +132,23 @@ module _ (t table : List ℕ) (v : View) (is : v ≡ soundView t table) where
     pub told-records : SoundRecords table
     unfolding isSound
     told-records = record { bytes = length t; sound = both-second _ _ (both-second _ _ told-sound) }
+
+-- ---- the same for a table that is known to be sound
+
+module _ (t table : List ℕ) (sound : isSound t table ≡ true) (v : View) where
+  pub known-view : v ≡ viewOf table → v ≡ soundView t table
+  unfolding soundView
+  known-view e = e ∙ sym (if-true _ _ sound)
+
+  module _ (is : v ≡ soundView t table) where
+    known-fits : not (v .fits) ≡ false
+    known-fits = not-not-via (told-fits t table v is ∙ sound)
+
+    pub known-rooms : Rooms table v
+    known-rooms = told-rooms t table v is known-fits
+
+    pub known-records : SoundRecords table
+    known-records = told-records t table v is known-fits
 
 -- ---- what is known at each `return`; v is the view of the table
 

@@ -481,6 +481,15 @@ pub fn sound_view(text: &[u8], table: &[u64]) -> View
     view
 }
 
+// The view of a table that the caller knows to be sound for the text: the table is not judged. If it is not sound,
+// nothing is promised.
+pub fn view_unjudged(text: &[u8], table: &[u64]) -> View
+    requires { ⌜ isSound (now text) (now table) ≡ true ⌝ }
+    ensures { λ r. ⌜ r ≡ soundView (now (text .entry)) (now (table .entry)) ⌝ }
+{
+    table_layout::view_of(table)
+}
+
 // Whether a table is sound for a text.
 pub fn is_sound(text: &[u8], table: &[u64]) -> bool
     ensures { λ r. ⌜ r ≡ isSound (now (text .entry)) (now (table .entry)) ⌝ }

@@ -12,7 +12,7 @@ use Rattle.table_layout.specs.declared.View.{View}
 use Rattle.table_record.specs.declared.StepRecord.{StepRecord}
 use Rattle.table_record.specs.declared.ModelRecord.{ModelRecord}
 use Rattle.table_record.specs.Records.{Records, recordsOf, noStep}
-use Rattle.ask_sound.specs.Sound.{depthAfter, soundView}
+use Rattle.ask_sound.specs.Sound.{depthAfter, isSound, soundView}
 use Rattle.ask_sound.proofs.SoundLaws.{told-unsound, told-sound}
 use Rattle.ask_walk.specs.declared.Place.{Place}
 use Rattle.ask_walk.specs.Walk.{WalkWords, stepped, doneAt, walkRefused, modelAtPlace, stepAtPlace, isPlace, nextOf, walkOver, walkOn, walkFrom, walkAnswer}
@@ -53,6 +53,12 @@ module _ (r : Records) (p : Place) (is : Bool) (told : is ≡ isPlace r p) where
   pub from-place : not is ≡ false → (answer : WalkWords) → answer ≡ walkOn r p → answer ≡ walkFrom r p
   unfolding walkFrom
   from-place e answer f = f ∙ sym (if-false _ _ (ap not (sym told) ∙ e))
+
+-- where the table is known to be sound and the place to be in range
+pub walk-known : (t table : List ℕ) (p : Place) → isSound t table ≡ true → isPlace (recordsOf table) p ≡ true →
+    (answer : WalkWords) → answer ≡ walkOn (recordsOf table) p → answer ≡ walkAnswer t table p
+unfolding walkAnswer walkFrom
+walk-known t table p sound there answer f = f ∙ sym (if-false _ _ (not-not-via sound) ∙ if-false _ _ (not-not-via there))
 
 module _ (t table : List ℕ) (p : Place) (v : View) (told : v ≡ soundView t table) where
   pub walk-unsound : not (v .fits) ≡ true → walkRefused refusal.table ≡ walkAnswer t table p

@@ -9,6 +9,7 @@ ghost use Rattle.table_layout.specs.Layout.{stepWidth};
 ghost use Rattle.table_layout.specs.Bounds.{deepest, mostSteps};
 ghost use Rattle.table_record.specs.Records.{recordsOf};
 ghost use Rattle.table_record.specs.Way.Standing.{kindsFrom, Rooms};
+ghost use Rattle.ask_sound.specs.Sound.{isSound};
 ghost use Rattle.ask_sound.specs.Way.Judged.{SoundRecords};
 ghost use Rattle.ask_walk.specs.Walk.{walkWords, isDepth, isPlace, nextOf, walkOver, walkOn, walkFrom, walkAnswer};
 use table_layout::View;
@@ -118,8 +119,8 @@ fn walk_on(table: &[u64], view: View, place: Place) -> Walked
     walk_over(table_record::nth_step(table, view, index), place)
 }
 
-// One step in a table that is known to be sound, for callers that ask more than once.
-pub fn walk_in(table: &[u64], view: View, place: Place) -> Walked
+// One step in a sound table, from any place.
+fn walk_in(table: &[u64], view: View, place: Place) -> Walked
     requires { ⌜ Rooms (now table) view × SoundRecords (now table) ⌝ }
     ensures { λ r. ⌜ walkWords r ≡ walkFrom (recordsOf (now (table .entry))) place ⌝ }
 {
@@ -139,5 +140,16 @@ impl Place {
             return Walked::Refused(base::refusal::TABLE);
         }
         walk_in(table, view, self)
+    }
+
+    // The same answer, for a caller that knows the table to be sound for the text and this place to be in range, as the
+    // start of a model is, and each place that a step answers with. Neither is judged: if one does not hold, nothing is
+    // promised, not even that only words of the table are read.
+    pub fn step_unjudged(self, text: &[u8], table: &[u64]) -> Walked
+        requires { ⌜ (isSound (now text) (now table) ≡ true) × (isPlace (recordsOf (now table)) self ≡ true) ⌝ }
+        ensures { λ r. ⌜ walkWords r ≡ walkAnswer (now (text .entry)) (now (table .entry)) self ⌝ }
+    {
+        let view = ask_sound::view_unjudged(text, table);
+        walk_on(table, view, self)
     }
 }

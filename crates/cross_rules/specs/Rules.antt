@@ -6,7 +6,7 @@ use mathlib.Core.Bool.{Bool, false, not}
 use mathlib.Core.List.{List, [], _∷_, _++_, map}
 use lib.ListN.{length}
 use lib.Dec.{ltb, eqb}
-use Rattle.table_layout.specs.Codes.{diagonal, endKind, sectionKind}
+use Rattle.table_layout.specs.Codes.{diagonal, endKind, sectionKind, lumped, distributed, mlm}
 use Rattle.base.specs.If.{if_then_else_, both, either}
 use Rattle.base.specs.Runs.{same}
 use Rattle.base.specs.Broken.{Rule, _when_, firstBroken}
@@ -154,13 +154,13 @@ endStepRules d m s =
     ∷ refusal.count when both (hasMap d s) (differs d (firstEnd (m .steps)) (pinsAt (d .maps) (mapIndex d s)))
     ∷ []
 
--- "24 METHOD: Mult with Distributed, Len with Lumped"; method 0 is Lumped, 1 is Distributed
+-- "24 METHOD: Mult with Distributed, Len with Lumped"
 unfoldable pub isWrongMethod : Document → Step → Bool
-isWrongMethod d s = if s .mult then eqb (methodAt (d .sections) (sectionIndex d s)) 1 else eqb (methodAt (d .sections) (sectionIndex d s)) 0
+isWrongMethod d s = if s .mult then eqb (methodAt (d .sections) (sectionIndex d s)) distributed else eqb (methodAt (d .sections) (sectionIndex d s)) lumped
 
--- "SLM_general, SLM_quiescent": an SLM model has type 0 or 1
+-- SLM_general or SLM_quiescent: their numbers come before that of MLM
 unfoldable pub isSingleLine : Model → Bool
-isSingleLine m = ltb (m .type) 2
+isSingleLine m = ltb (m .type) mlm
 
 abbrev pub sectionStepRules : Document → Model → Step → List Rule
 sectionStepRules d m s =

@@ -18,7 +18,7 @@ use Rattle.doc.specs.Records.{flatten}
 use Rattle.doc.specs.Holds.{Each}
 use Rattle.cross_rules.proofs.RisingLaws.{each-at}
 use Rattle.law_demands.proofs.AcceptedLaws as accepted
-use Rattle.ask_entry.specs.Entry.{EntryWords, foundWith, entryRefused, matrixIndex, entryOf, isInRange, entryAnswer}
+use Rattle.ask_entry.specs.Entry.{EntryWords, foundWith, entryRefused, matrixIndex, entryOf, isInRange, entryFrom, entryAnswer}
 use Rattle.ask_entry.proofs.EntryLaws.{exchange}
 use Rattle.law_alike.specs.Written.{writtenAt}
 use Rattle.law_alike.specs.Way.Found.{foundAt}
@@ -31,30 +31,24 @@ use Rattle.law_third.proofs.TakenLaws.{taken-passed, taken-records, tak
 
 -- ---- the question about the table of an accepted text
 
--- the answer for the records of a sound table
-unfoldable pub answerOver : Records → ℕ → ℕ → ℕ → ℕ → EntryWords
-answerOver r section kind row column =
-    if not (isInRange r section kind row column) then entryRefused refusal.noSuch else
-    foundWith (entryOf r (matrixIndex (getD (r .sections) section noSection) kind) row column)
-
 module _ (t table : List ℕ) (taken : AcceptedTable t table) where
   -- 30 is never the answer
   pub answer-over :
-      (section kind row column : ℕ) → entryAnswer t table section kind row column ≡ answerOver (flatten (documentOf t)) section kind row column
-  unfolding entryAnswer answerOver
+      (section kind row column : ℕ) → entryAnswer t table section kind row column ≡ entryFrom (flatten (documentOf t)) section kind row column
+  unfolding entryAnswer
   answer-over section kind row column =
       if-false _ _ (not-not-via (taken-sound t table taken))
-      ∙ ap (λ (r : Records). answerOver r section kind row column) (taken-records t table taken)
+      ∙ ap (λ (r : Records). entryFrom r section kind row column) (taken-records t table taken)
 
 module _ (r : Records) (section kind row column : ℕ) where
   pub over-inside :
       isInRange r section kind row column ≡ true →
-      answerOver r section kind row column ≡ foundWith (entryOf r (matrixIndex (getD (r .sections) section noSection) kind) row column)
-  unfolding answerOver
+      entryFrom r section kind row column ≡ foundWith (entryOf r (matrixIndex (getD (r .sections) section noSection) kind) row column)
+  unfolding entryFrom
   over-inside h = if-false _ _ (not-not-via h)
 
-  pub over-outside : isInRange r section kind row column ≡ false → answerOver r section kind row column ≡ entryRefused refusal.noSuch
-  unfolding answerOver
+  pub over-outside : isInRange r section kind row column ≡ false → entryFrom r section kind row column ≡ entryRefused refusal.noSuch
+  unfolding entryFrom
   over-outside h = if-true _ _ (not-via h)
 
 -- ---- what matrices write

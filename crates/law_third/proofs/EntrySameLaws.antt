@@ -21,11 +21,11 @@ use Rattle.doc.proofs.MatrixLaws.{RightMatrix}
 use Rattle.doc.proofs.SectionLaws.{RightSection, text-sections}
 use Rattle.cross_rules.proofs.RisingLaws.{each-at}
 use Rattle.law_demands.proofs.AcceptedLaws as accepted
-use Rattle.ask_entry.specs.Entry.{foundWith, matrixIndex, entryOf, isInRange, entryAnswer}
+use Rattle.ask_entry.specs.Entry.{foundWith, matrixIndex, entryOf, isInRange, entryFrom, entryAnswer}
 use Rattle.law_alike.specs.Way.Same.{All2, SameMatrix, SameSection, SameDocument}
 use Rattle.law_third.specs.Third.{AcceptedTable}
 use Rattle.law_third.proofs.EntryRecordLaws.{givenAt, given-here, given-later, flat-sections, section-given, section-conductors}
-use Rattle.law_third.proofs.EntryLaws.{answerOver, answer-over, over-inside, over-outside, least, ordered, greatest}
+use Rattle.law_third.proofs.EntryLaws.{answer-over, over-inside, over-outside, least, ordered, greatest}
 use Rattle.doc.proofs.CountLaws.{sections-long}
 use Rattle.law_third.proofs.TakenLaws.{taken-passed}
 
@@ -212,14 +212,14 @@ module _ (d e : Document) (same : All2 SameSection (d .sections) (e .sections)) 
           given-same kind i j (conductorsOf (p .one .matrices)) (least row column wide a b c f) (ordered row column wide a b c f) k
           (one-right .matrices) (p .same .matrices)
 
-      found-same : answerOver (flatten d) section kind row column ≡ answerOver (flatten e) section kind row column
+      found-same : entryFrom (flatten d) section kind row column ≡ entryFrom (flatten e) section kind row column
       found-same =
           over-inside (flatten d) section kind row column inside ∙ ap foundWith (one-given ∙ both-given ∙ sym other-given)
           ∙ sym (over-inside (flatten e) section kind row column (sym range-same ∙ inside))
 
-  pub over-same : Each RightSection (d .sections) → answerOver (flatten d) section kind row column ≡ answerOver (flatten e) section kind row column
+  pub over-same : Each RightSection (d .sections) → entryFrom (flatten d) section kind row column ≡ entryFrom (flatten e) section kind row column
   over-same right =
-      by-cases (answerOver (flatten d) section kind row column ≡ answerOver (flatten e) section kind row column)
+      by-cases (entryFrom (flatten d) section kind row column ≡ entryFrom (flatten e) section kind row column)
       (isInRange (flatten d) section kind row column)
       (λ (h : isInRange (flatten d) section kind row column ≡ true). found-same h right (pair-at same section (section-few h)))
       (λ (h : isInRange (flatten d) section kind row column ≡ false).

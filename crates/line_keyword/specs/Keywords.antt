@@ -59,6 +59,7 @@ use Rattle.line_keyword.specs.State.{newSection}
 use Rattle.line_keyword.specs.declared.Counts.{Counts}
 use Rattle.line_keyword.specs.declared.Section.{Section}
 use Rattle.line_keyword.specs.declared.State.{State}
+use Rattle.table_layout.specs.Codes.{distributed}
 
 unfoldable pub isSeen : ℕ → State → Bool
 isSeen k s = getD (s .seen) k false
@@ -85,7 +86,7 @@ hasNoKind s =
 unfoldable pub kindsLack : State → Bool
 kindsLack s =
     either (hasNoKind s)
-    (both (eqb (s .section .method) 1) (either (not (isSeen inductanceMatrix s)) (not (isSeen capacitanceMatrix s))))
+    (both (eqb (s .section .method) distributed) (either (not (isSeen inductanceMatrix s)) (not (isSeen capacitanceMatrix s))))
 
 -- "[File Name] and [File Rev] are required"
 unfoldable pub headerLacks : State → Bool

@@ -22,7 +22,7 @@ use table_record::Value;
 
 // ---- records of any table, by their index
 
-pub fn model_of(table: &[u64], view: View, index: u64) -> ModelRecord
+fn model_of(table: &[u64], view: View, index: u64) -> ModelRecord
     requires { ⌜ view ≡ viewOf (now table) ⌝ }
     ensures { λ r. ⌜ r ≡ getD (shown (now (table .entry)) .models) index noModel ⌝ }
 {
@@ -33,7 +33,7 @@ pub fn model_of(table: &[u64], view: View, index: u64) -> ModelRecord
     table_record::nth_model(table, view, index)
 }
 
-pub fn step_of(table: &[u64], view: View, index: u64) -> StepRecord
+fn step_of(table: &[u64], view: View, index: u64) -> StepRecord
     requires { ⌜ view ≡ viewOf (now table) ⌝ }
     ensures { λ r. ⌜ r ≡ getD (shown (now (table .entry)) .steps) index noStep ⌝ }
 {
@@ -44,7 +44,7 @@ pub fn step_of(table: &[u64], view: View, index: u64) -> StepRecord
     table_record::nth_step(table, view, index)
 }
 
-pub fn map_of(table: &[u64], view: View, index: u64) -> MapRecord
+fn map_of(table: &[u64], view: View, index: u64) -> MapRecord
     requires { ⌜ view ≡ viewOf (now table) ⌝ }
     ensures { λ r. ⌜ r ≡ getD (shown (now (table .entry)) .maps) index noMap ⌝ }
 {
@@ -55,7 +55,7 @@ pub fn map_of(table: &[u64], view: View, index: u64) -> MapRecord
     table_record::nth_map(table, view, index)
 }
 
-pub fn section_of(table: &[u64], view: View, index: u64) -> SectionRecord
+fn section_of(table: &[u64], view: View, index: u64) -> SectionRecord
     requires { ⌜ view ≡ viewOf (now table) ⌝ }
     ensures { λ r. ⌜ r ≡ getD (shown (now (table .entry)) .sections) index noSection ⌝ }
 {
@@ -66,7 +66,7 @@ pub fn section_of(table: &[u64], view: View, index: u64) -> SectionRecord
     table_record::nth_section(table, view, index)
 }
 
-pub fn matrix_of(table: &[u64], view: View, index: u64) -> MatrixRecord
+fn matrix_of(table: &[u64], view: View, index: u64) -> MatrixRecord
     requires { ⌜ view ≡ viewOf (now table) ⌝ }
     ensures { λ r. ⌜ r ≡ getD (shown (now (table .entry)) .matrices) index noMatrix ⌝ }
 {
@@ -77,7 +77,7 @@ pub fn matrix_of(table: &[u64], view: View, index: u64) -> MatrixRecord
     table_record::nth_matrix(table, view, index)
 }
 
-pub fn value_of(table: &[u64], view: View, index: u64) -> Value
+fn value_of(table: &[u64], view: View, index: u64) -> Value
     requires { ⌜ view ≡ viewOf (now table) ⌝ }
     ensures { λ r. ⌜ r ≡ getD (shown (now (table .entry)) .values) index noValue ⌝ }
 {
@@ -223,7 +223,7 @@ fn section_step_line(
     put_amount(out, fourth, section.method, step.amount)
 }
 
-pub fn step_line(
+fn step_line(
     out: &mut [u8],
     at: usize,
     text: &[u8],

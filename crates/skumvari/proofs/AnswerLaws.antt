@@ -99,62 +99,66 @@ module _ (lent after : List ℕ) where
         answer-same _ _ lent after
         ((λ i. flag-false i ∷ number ∷ line ∷ 0 ∷ []) ∙ (λ i. intakeLayout (verdicts.answerWords (sym e i))) ∙ ap intakeLayout is) h
 
-  module _ (answer : entry.Answer) (words : entries.EntryWords) (is : entries.entryWords answer ≡ words) where
-    pub entry-found : (word : ℕ) → answer ≡ found.Found word → after ≡ answered (1 ∷ 0 ∷ 0 ∷ word ∷ []) lent → after ≡ answered (entryLayout words) lent
+  module _ (answer : entry.Answer) where
+    pub entry-found : (word : ℕ) → answer ≡ found.Found word → after ≡ answered (1 ∷ 0 ∷ 0 ∷ word ∷ []) lent → after ≡ answered (entryLayout (entries.entryWords answer)) lent
     unfolding entryLayout
     entry-found word e h =
-        answer-same _ _ lent after
-        ((λ i. flag-true i ∷ 0 ∷ 0 ∷ word ∷ []) ∙ (λ i. entryLayout (entries.entryWords (sym e i))) ∙ ap entryLayout is) h
+        answer-same _ _ lent after ((λ i. flag-true i ∷ 0 ∷ 0 ∷ word ∷ []) ∙ (λ i. entryLayout (entries.entryWords (sym e i)))) h
 
-    pub entry-refused : (number : ℕ) → answer ≡ found.Refused number → after ≡ answered (0 ∷ number ∷ 0 ∷ 0 ∷ []) lent → after ≡ answered (entryLayout words) lent
+    pub entry-refused : (number : ℕ) → answer ≡ found.Refused number → after ≡ answered (0 ∷ number ∷ 0 ∷ 0 ∷ []) lent → after ≡ answered (entryLayout (entries.entryWords answer)) lent
     unfolding entryLayout
     entry-refused number e h =
-        answer-same _ _ lent after
-        ((λ i. flag-false i ∷ number ∷ 0 ∷ 0 ∷ []) ∙ (λ i. entryLayout (entries.entryWords (sym e i))) ∙ ap entryLayout is) h
+        answer-same _ _ lent after ((λ i. flag-false i ∷ number ∷ 0 ∷ 0 ∷ []) ∙ (λ i. entryLayout (entries.entryWords (sym e i)))) h
 
-  module _ (answer : Walked) (words : walks.WalkWords) (is : walks.walkWords answer ≡ words) where
+    pub entry-said : (words : entries.EntryWords) → entries.entryWords answer ≡ words → after ≡ answered (entryLayout (entries.entryWords answer)) lent → after ≡ answered (entryLayout words) lent
+    entry-said words is h = answer-same _ _ lent after (ap entryLayout is) h
+
+  module _ (answer : Walked) where
     pub walk-stepped : (step : StepRecord) (next : Place) → answer ≡ walked.Step step next → after ≡ answered (1 ∷ 0 ∷ 0 ∷ 0 ∷ stepLayout step next) lent →
-        after ≡ answered (walkLayout words) lent
+        after ≡ answered (walkLayout (walks.walkWords answer)) lent
     unfolding walkLayout
     walk-stepped step next e h =
         answer-same _ _ lent after
-        ((λ i. flag-true i ∷ 0 ∷ 0 ∷ flag-false i ∷ stepLayout step next) ∙ (λ i. walkLayout (walks.walkWords (sym e i))) ∙ ap walkLayout is) h
+        ((λ i. flag-true i ∷ 0 ∷ 0 ∷ flag-false i ∷ stepLayout step next) ∙ (λ i. walkLayout (walks.walkWords (sym e i)))) h
 
     module _ (none : StepRecord) (is-none : none ≡ noStep) where
       pub walk-done : (place : Place) → answer ≡ walked.Done place → after ≡ answered (1 ∷ 0 ∷ 0 ∷ 1 ∷ stepLayout none place) lent →
-          after ≡ answered (walkLayout words) lent
+          after ≡ answered (walkLayout (walks.walkWords answer)) lent
       unfolding walkLayout
       walk-done place e h =
           answer-same _ _ lent after
-          ((λ i. flag-true i ∷ 0 ∷ 0 ∷ flag-true i ∷ stepLayout (is-none i) place) ∙ (λ i. walkLayout (walks.walkWords (sym e i))) ∙ ap walkLayout is) h
+          ((λ i. flag-true i ∷ 0 ∷ 0 ∷ flag-true i ∷ stepLayout (is-none i) place) ∙ (λ i. walkLayout (walks.walkWords (sym e i)))) h
 
       pub walk-refused : (number : ℕ) → answer ≡ walked.Refused number →
           after ≡ answered (0 ∷ number ∷ 0 ∷ 0 ∷ stepLayout none (record { model = 0; step = 0; depth = 0 })) lent →
-          after ≡ answered (walkLayout words) lent
+          after ≡ answered (walkLayout (walks.walkWords answer)) lent
       unfolding walkLayout
       walk-refused number e h =
           answer-same _ _ lent after
           ((λ i. flag-false i ∷ number ∷ 0 ∷ flag-false i ∷ stepLayout (is-none i) (record { model = 0; step = 0; depth = 0 }))
-          ∙ (λ i. walkLayout (walks.walkWords (sym e i))) ∙ ap walkLayout is) h
+          ∙ (λ i. walkLayout (walks.walkWords (sym e i)))) h
 
-  module _ (answer : WholeAnswer) (words : matrices.MatrixWords) (is : matrices.wholeWords answer ≡ words) where
-    pub matrix-found : (conductors : ℕ) → answer ≡ whole.Found conductors → after ≡ answered (1 ∷ 0 ∷ 0 ∷ conductors ∷ []) lent → after ≡ answered (matrixLayout words) lent
+    pub walk-said : (words : walks.WalkWords) → walks.walkWords answer ≡ words → after ≡ answered (walkLayout (walks.walkWords answer)) lent → after ≡ answered (walkLayout words) lent
+    walk-said words is h = answer-same _ _ lent after (ap walkLayout is) h
+
+  module _ (answer : WholeAnswer) where
+    pub matrix-found : (conductors : ℕ) → answer ≡ whole.Found conductors → after ≡ answered (1 ∷ 0 ∷ 0 ∷ conductors ∷ []) lent → after ≡ answered (matrixLayout (matrices.wholeWords answer)) lent
     unfolding matrixLayout
     matrix-found conductors e h =
-        answer-same _ _ lent after
-        ((λ i. flag-true i ∷ 0 ∷ 0 ∷ conductors ∷ []) ∙ (λ i. matrixLayout (matrices.wholeWords (sym e i))) ∙ ap matrixLayout is) h
+        answer-same _ _ lent after ((λ i. flag-true i ∷ 0 ∷ 0 ∷ conductors ∷ []) ∙ (λ i. matrixLayout (matrices.wholeWords (sym e i)))) h
 
-    pub matrix-short : (conductors : ℕ) → answer ≡ whole.Short conductors → after ≡ answered (0 ∷ 0 ∷ 0 ∷ conductors ∷ []) lent → after ≡ answered (matrixLayout words) lent
+    pub matrix-short : (conductors : ℕ) → answer ≡ whole.Short conductors → after ≡ answered (0 ∷ 0 ∷ 0 ∷ conductors ∷ []) lent → after ≡ answered (matrixLayout (matrices.wholeWords answer)) lent
     unfolding matrixLayout
     matrix-short conductors e h =
-        answer-same _ _ lent after
-        ((λ i. flag-false i ∷ 0 ∷ 0 ∷ conductors ∷ []) ∙ (λ i. matrixLayout (matrices.wholeWords (sym e i))) ∙ ap matrixLayout is) h
+        answer-same _ _ lent after ((λ i. flag-false i ∷ 0 ∷ 0 ∷ conductors ∷ []) ∙ (λ i. matrixLayout (matrices.wholeWords (sym e i)))) h
 
-    pub matrix-refused : (number : ℕ) → answer ≡ whole.Refused number → after ≡ answered (0 ∷ number ∷ 0 ∷ 0 ∷ []) lent → after ≡ answered (matrixLayout words) lent
+    pub matrix-refused : (number : ℕ) → answer ≡ whole.Refused number → after ≡ answered (0 ∷ number ∷ 0 ∷ 0 ∷ []) lent → after ≡ answered (matrixLayout (matrices.wholeWords answer)) lent
     unfolding matrixLayout
     matrix-refused number e h =
-        answer-same _ _ lent after
-        ((λ i. flag-false i ∷ number ∷ 0 ∷ 0 ∷ []) ∙ (λ i. matrixLayout (matrices.wholeWords (sym e i))) ∙ ap matrixLayout is) h
+        answer-same _ _ lent after ((λ i. flag-false i ∷ number ∷ 0 ∷ 0 ∷ []) ∙ (λ i. matrixLayout (matrices.wholeWords (sym e i)))) h
+
+    pub matrix-said : (words : matrices.MatrixWords) → matrices.wholeWords answer ≡ words → after ≡ answered (matrixLayout (matrices.wholeWords answer)) lent → after ≡ answered (matrixLayout words) lent
+    matrix-said words is h = answer-same _ _ lent after (ap matrixLayout is) h
 
   module _ (answer told : Drawn) (is : answer ≡ told) where
     pub double-drawn : (x : Float) → answer ≡ drawn.Value x → after ≡ answered (1 ∷ 0 ∷ 0 ∷ toBits binary64 x ∷ []) lent → after ≡ answered (doubleLayout told) lent
