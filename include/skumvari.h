@@ -1,11 +1,14 @@
 /* skumvari.h: the proved intake of ICM 1.1 interconnect models and its questions, for C and everything that can call C.
  *
- * Link target/staticlib/libskumvari.a, which `rt staticlib skumvari` writes (x86-64 Linux).
+ * Link target/staticlib/libskumvari.a, which hosts/archive makes for the machine at hand (x86-64 or Arm Linux).
  *
  * Every slice is a pointer and a length in elements. A pointer is never null and is aligned for its element, for a length of 0 too; slices
  * that a function writes overlap no other slice of the call, and nobody else touches a slice while the call runs. That is all that a caller
  * owes: every text, every table and every number is taken, and what is wrong with them is told in the answer. No function keeps a pointer,
  * allocates, or has state of its own, so calls on different slices may run at the same time.
+ *
+ * Only the three functions at the end, skumvari_.._unjudged, ask for more: a table that is known to be sound. They are
+ * fast, and not for every caller; read what stands above them.
  *
  * An answer is written into the words that the caller lends, in the layout told at each function. A function returns false, and writes
  * no answer, where these are too few; more are left as they were. The numbers of refusal are those of enum skumvari_number below. */
@@ -139,6 +142,37 @@ bool skumvari_double(uint64_t word, uint64_t *answer, size_t answer_length);
 /* The doubles of two value words, a frequency and a value. Answer: drawn, 0, 0, and the bits of each (enum skumvari_pair_answer). All words of the answer
  * are 0 if either is outside. */
 bool skumvari_pair(uint64_t frequency, uint64_t value, uint64_t *answer, size_t answer_length);
+
+/* The listing of an accepted text and its table, as bytes; `words` is the words used that the intake answered with.
+ * From the start of `out` as much of it is written as there is room for, and the number of these bytes is returned.
+ * Where it is `out_length` the listing may be longer: then the caller lends more. What is behind the bytes is left as it
+ * was, and no zero is put there. Every text and table is taken: no word is trusted, and a table whose counts do not fit
+ * shows no records. */
+size_t skumvari_list(const uint8_t *text, size_t text_length, const uint64_t *table, size_t table_length, size_t words, uint8_t *out,
+                     size_t out_length);
+
+/* ---- Questions without judging ----
+ *
+ * skumvari_entry, skumvari_walk and skumvari_matrix judge the whole table in every call, and a walk counts its depth
+ * from the start of the model in every step. The three functions below answer the same, word for word, and do neither:
+ * an entry is a search in its matrix, and a step takes the same time at every place, whatever the length of the table.
+ *
+ * The caller has to know what they do not look at:
+ *   - The table is sound for the text: skumvari_sound is true of the two. The table that an accepted skumvari_intake
+ *     left is sound for the text that was read, which is proved, as long as nobody has changed a byte of the one or a
+ *     word of the other. So are its words used, without the zeros behind them.
+ *   - Of a walk, the place is in range: a model that is there with step 0 and depth 0, or the place that a step over
+ *     the same text and table has answered with.
+ * Where this does not hold nothing is promised, not even that only the lent slices are read and written. So they are no
+ * entry points in the sense of the first promise, which takes every table: ask them over a text and a table that are
+ * kept together, where nobody else can write, and never over a table that comes from outside. Section, kind, row and
+ * column are judged here too: what is not there is refused by 31. */
+bool skumvari_entry_unjudged(const uint8_t *text, size_t text_length, const uint64_t *table, size_t table_length, uint64_t section,
+                             uint64_t kind, uint64_t row, uint64_t column, uint64_t *answer, size_t answer_length);
+bool skumvari_walk_unjudged(const uint8_t *text, size_t text_length, const uint64_t *table, size_t table_length, uint64_t model,
+                            uint64_t step, uint64_t depth, uint64_t *answer, size_t answer_length);
+bool skumvari_matrix_unjudged(const uint8_t *text, size_t text_length, const uint64_t *table, size_t table_length, uint64_t section,
+                              uint64_t kind, uint64_t *values, size_t values_length, uint64_t *answer, size_t answer_length);
 
 /* The double that has these bits. */
 static inline double skumvari_double_of_bits(uint64_t bits)

@@ -1,11 +1,17 @@
-// main.rs: measures the proved intake beside the plain reading of the same paper, in one run and in turns, and prints plain text.
-// Before anything is timed both must give the same answer and the same table; if not, that is told and the exit status is 1.
+// main.rs: measures the proved intake beside the plain reading of the same paper, in one run and in turns, and questions
+// that judge their table beside the same ones that do not; prints plain text. Before anything is timed both must answer
+// the same; if not, that is told and the exit status is 1. With `--against THIS OTHER`, two shared libraries, their
+// intakes are measured instead.
 mod adversarial;
+mod against;
 mod clock;
 mod file;
 mod kinds;
+mod library;
 mod proved;
+mod questions;
 
+use std::env;
 use std::hint::black_box;
 use std::process::exit;
 use std::time::{Duration, Instant};
@@ -27,7 +33,7 @@ struct Times {
 
 impl Times {
     fn megabytes_a_second(&self, time: Duration) -> f64 {
-        self.bytes as f64 / time.as_secs_f64() / 1e6
+        megabytes_a_second(self.bytes, time)
     }
 
     fn nanoseconds_a_byte(&self, time: Duration) -> f64 {
@@ -39,18 +45,44 @@ impl Times {
     }
 
     fn told(&self) -> String {
-        match self.answer {
-            Answer::Accepted(_) => "accepted".to_string(),
-            Answer::Refused(number, line) => format!("refused {number} {line}"),
-        }
+        told(self.answer)
+    }
+}
+
+fn megabytes_a_second(bytes: usize, time: Duration) -> f64 {
+    bytes as f64 / time.as_secs_f64() / 1e6
+}
+
+fn told(answer: Answer) -> String {
+    match answer {
+        Answer::Accepted(_) => "accepted".to_string(),
+        Answer::Refused(number, line) => format!("refused {number} {line}"),
     }
 }
 
 fn main() {
+    let arguments: Vec<String> = env::args().skip(1).collect();
+    match &arguments.iter().map(String::as_str).collect::<Vec<_>>()[..] {
+        [] => beside_plain(),
+        ["--against", this, other] => {
+            if let Err(error) = against::compare(this, other) {
+                eprintln!("bench: {error}");
+                exit(1);
+            }
+        }
+        _ => {
+            eprintln!("usage: bench [--against THIS OTHER]");
+            exit(2);
+        }
+    }
+}
+
+fn beside_plain() {
     println!("Best processor times of at least {ROUNDS} rounds, proved and plain in turns; tables of the words needed; MB: a million bytes\n");
     let whole = speeds();
     growth();
     adversarial(&whole);
+    questions::measure();
 }
 
 /// The answer of both, and the table's length that the text needs; 8,192 words where it is refused.

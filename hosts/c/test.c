@@ -228,6 +228,82 @@ static void check_walk(void)
     check(steps(table, UINT64_MAX, UINT64_MAX, UINT64_MAX, nosuch), "no greatest place");
 }
 
+/* Asks the same entry without judging, and tells whether both answers are the same words. */
+static bool enters_alike(uint64_t section, uint64_t kind, uint64_t row, uint64_t column)
+{
+    uint64_t judged[SKUMVARI_ANSWER_WORDS + 1], unjudged[SKUMVARI_ANSWER_WORDS + 1];
+    fill(judged, SKUMVARI_ANSWER_WORDS + 1, GUARD);
+    fill(unjudged, SKUMVARI_ANSWER_WORDS + 1, GUARD);
+    return skumvari_entry(bytes(example), example_length, table, USED, section, kind, row, column, judged, SKUMVARI_ANSWER_WORDS)
+        && skumvari_entry_unjudged(bytes(example), example_length, table, USED, section, kind, row, column, unjudged,
+                                   SKUMVARI_ANSWER_WORDS)
+        && memcmp(judged, unjudged, sizeof judged) == 0;
+}
+
+/* The same of a whole matrix and its values. */
+static bool fills_alike(uint64_t section, uint64_t kind, size_t count)
+{
+    uint64_t judged[SKUMVARI_ANSWER_WORDS + 1], unjudged[SKUMVARI_ANSWER_WORDS + 1], values[6], others[6];
+    fill(judged, SKUMVARI_ANSWER_WORDS + 1, GUARD);
+    fill(unjudged, SKUMVARI_ANSWER_WORDS + 1, GUARD);
+    fill(values, 6, GUARD);
+    fill(others, 6, GUARD);
+    return skumvari_matrix(bytes(example), example_length, table, USED, section, kind, values, count, judged, SKUMVARI_ANSWER_WORDS)
+        && skumvari_matrix_unjudged(bytes(example), example_length, table, USED, section, kind, others, count, unjudged,
+                                    SKUMVARI_ANSWER_WORDS)
+        && memcmp(judged, unjudged, sizeof judged) == 0 && memcmp(values, others, sizeof values) == 0;
+}
+
+/* The same of a step from a place in range; hands on the next place. */
+static bool steps_alike(uint64_t place[3])
+{
+    uint64_t judged[SKUMVARI_WALK_WORDS + 1], unjudged[SKUMVARI_WALK_WORDS + 1];
+    fill(judged, SKUMVARI_WALK_WORDS + 1, GUARD);
+    fill(unjudged, SKUMVARI_WALK_WORDS + 1, GUARD);
+    bool alike = skumvari_walk(bytes(example), example_length, table, USED, place[0], place[1], place[2], judged, SKUMVARI_WALK_WORDS)
+        && skumvari_walk_unjudged(bytes(example), example_length, table, USED, place[0], place[1], place[2], unjudged,
+                                  SKUMVARI_WALK_WORDS)
+        && memcmp(judged, unjudged, sizeof judged) == 0;
+    memcpy(place, unjudged + SKUMVARI_NEXT_MODEL, 3 * sizeof *place);
+    return alike;
+}
+
+/* The table is what the intake left for the example, so the questions may be asked without judging it. */
+static void check_unjudged(void)
+{
+    for (uint64_t section = 0; section < 2; section++)
+        for (uint64_t kind = 0; kind < 5; kind++) {
+            for (uint64_t row = 0; row < 4; row++)
+                for (uint64_t column = 0; column < 4; column++)
+                    check(enters_alike(section, kind, row, column), "an entry without judging is the entry");
+            for (size_t count = 0; count <= 6; count++)
+                check(fills_alike(section, kind, count), "a matrix without judging is the matrix");
+        }
+    check(enters_alike(UINT64_MAX, UINT64_MAX, UINT64_MAX, UINT64_MAX), "no greatest entry without judging");
+    uint64_t place[3] = { 0, 0, 0 };
+    for (int i = 0; i < 7; i++)
+        check(steps_alike(place), "a step without judging is the step");
+    check(place[0] == 0 && place[1] == 6 && place[2] == 0, "a walk without judging comes to its end and stays");
+}
+
+static void check_list(void)
+{
+    static const char listing[] =
+        "accepted 92\n" "models 1\n" "A MLM 6\n" "steps 6\n" "end 13 P\n" "section 14 S 2\n" "fork 15\n" "section 16 S 1\n"
+        "endfork 17\n" "end 18 Q\n" "maps 2\n" "P 2\n" "Q 2\n" "sections 1\n" "S Lumped 2\n" "values 3\n" "S L 1 1 45e-10\n"
+        "S L 1 2 8e-10\n" "S L 2 2 45e-10\n";
+    const size_t length = sizeof listing - 1;
+    uint8_t out[sizeof listing + 8], guard[sizeof out];
+    memset(guard, 0xA5, sizeof guard);
+    for (size_t room = 0; room <= length + 7; room++) {
+        size_t written = room < length ? room : length;
+        memset(out, 0xA5, sizeof out);
+        check(skumvari_list(bytes(example), example_length, table, USED, USED, out, room) == written, "the bytes of a listing");
+        check(memcmp(out, listing, written) == 0, "the listing is the paper's, as far as there is room");
+        check(memcmp(out + written, guard, sizeof out - written) == 0, "what is behind a listing is left as it was");
+    }
+}
+
 static uint64_t value_word(bool negative, uint64_t size, int exponent)
 {
     return 256 * size + 2 * (uint64_t)(exponent + 64) + negative;
@@ -345,12 +421,19 @@ static void check_short_answers(void)
               "entry with a short answer is false");
         check(!skumvari_matrix(bytes(example), example_length, table, USED, 0, SKUMVARI_L, values, 4, answer, room),
               "matrix with a short answer is false");
+        check(!skumvari_entry_unjudged(bytes(example), example_length, table, USED, 0, SKUMVARI_L, 1, 1, answer, room),
+              "entry without judging with a short answer is false");
+        check(!skumvari_matrix_unjudged(bytes(example), example_length, table, USED, 0, SKUMVARI_L, values, 4, answer, room),
+              "matrix without judging with a short answer is false");
         check(!skumvari_double(128, answer, room), "double with a short answer is false");
     }
     for (size_t room = 0; room < SKUMVARI_PAIR_WORDS; room++)
         check(!skumvari_pair(128, 128, answer, room), "pair with a short answer is false");
-    for (size_t room = 0; room < SKUMVARI_WALK_WORDS; room++)
+    for (size_t room = 0; room < SKUMVARI_WALK_WORDS; room++) {
         check(!skumvari_walk(bytes(example), example_length, table, USED, 0, 0, 0, answer, room), "walk with a short answer is false");
+        check(!skumvari_walk_unjudged(bytes(example), example_length, table, USED, 0, 0, 0, answer, room),
+              "walk without judging with a short answer is false");
+    }
     check(all(answer, SKUMVARI_WALK_WORDS, GUARD) && all(values, 4, GUARD), "a short answer is not written");
 }
 
@@ -386,6 +469,8 @@ int main(void)
     check_entries();
     check_matrix();
     check_walk();
+    check_unjudged();
+    check_list();
     check_doubles();
     check_many_doubles();
     check_short_answers();

@@ -1,7 +1,10 @@
-"""Checks that a Python program gets from skumvari.py what it and the header promise; run it with `python3 test_skumvari.py`."""
+"""Checks that a Python program gets from the package what it and the header promise; `hosts/test python` installs it
+and runs this."""
 
+import copy
 import ctypes
 import decimal
+import inspect
 import pickle
 import re
 import struct
@@ -140,6 +143,43 @@ class Example(unittest.TestCase):
         self.assertIn("\nend 18 Q left\n", file.listing())
 
 
+class Kept(unittest.TestCase):
+    """Text and table stay as the intake left them, since questions do not judge the table again."""
+
+    def setUp(self):
+        self.file = skumvari.reads(example())
+
+    def assert_whole(self, file):
+        self.assertEqual(file.listing(), LISTING)
+        self.assertEqual(file.entry("S", "L", 2, 1), Decimal("8e-10"))
+        self.assertEqual(len(list(file.walk("A"))), 6)
+
+    def test_nothing_can_be_set(self):
+        for name in "text", "words_used":
+            with self.assertRaises(AttributeError):
+                setattr(self.file, name, b"")
+        text = bytearray(example())
+        file = skumvari.reads(text)
+        text[:] = bytes(len(text))
+        self.assert_whole(file)
+
+    def test_lists_that_are_handed_out_are_not_asked(self):
+        self.file.models.insert(0, self.file.models[0]._replace(name="B"))
+        self.file.sections.clear()
+        with self.assertRaisesRegex(LookupError, "no model named B"):
+            self.file.walk("B")
+        self.assertEqual(len(list(self.file.walk("A"))), 6)
+        self.file._kept.words[0] = 99
+        with self.assertRaises(IndexError):
+            next(self.file._kept.walk(1))
+
+    def test_copies(self):
+        section = self.file.section("S")
+        for made in copy.copy, copy.deepcopy, lambda file: pickle.loads(pickle.dumps(file)):
+            self.assert_whole(made(self.file))
+            self.assertEqual(made(section).entry("L", 1, 1), Decimal("45e-10"))
+
+
 class Refusals(unittest.TestCase):
     def refused(self, text, message):
         with self.assertRaises(skumvari.Refused) as caught:
@@ -224,10 +264,30 @@ class Doubles(unittest.TestCase):
             self.assertEqual("outside" if number is None else bits(number), wanted, word)
             if number is not None:
                 drawn += 1
-                self.assertEqual(number, float(skumvari.value_text(int(word))), word)
+                self.assertEqual(number, float(skumvari.value(int(word))), word)
                 self.assertEqual(skumvari.double_of(skumvari.value(int(word))), number, word)
         self.assertGreater(drawn, 100)
         self.assertGreater(len(lines) - drawn, 100)
+
+
+class Typed(unittest.TestCase):
+    def test_package(self):
+        self.assertTrue(Path(skumvari.__file__).with_name("py.typed").is_file())
+
+    def test_annotations(self):
+        """Every function and method of the package tells its types, the private ones too."""
+        classes = [item for item in vars(skumvari).values() if inspect.isclass(item) and item.__module__ == "skumvari"]
+        items = [item for holder in (skumvari, *classes) for item in vars(holder).values()]
+        # of a property, cached or not, the function that tells it
+        told = (getattr(item, "func", None) or getattr(item, "fget", None) or item for item in items)
+        functions = filter(inspect.isfunction, told)
+        own = [function for function in functions if function.__code__.co_filename == skumvari.__file__]
+        self.assertGreater(len(own), 40)
+        for function in own:
+            signature = inspect.signature(function)
+            self.assertIsNot(signature.return_annotation, signature.empty, function)
+            for name, parameter in signature.parameters.items():
+                self.assertTrue(name == "self" or parameter.annotation is not signature.empty, (function, name))
 
 
 class Slices(unittest.TestCase):
@@ -250,11 +310,13 @@ class Slices(unittest.TestCase):
     def test_short_answers(self):
         for room in range(13):
             self.assertFalse(self.ask("walk", 0, 0, 0, self.answer, room))
+            self.assertFalse(self.ask("walk_unjudged", 0, 0, 0, self.answer, room))
             if room < 5:
                 self.assertFalse(library().skumvari_pair(128, 128, self.answer, room))
             if room < 4:
-                self.assertFalse(self.ask("entry", 0, 1, 1, 1, self.answer, room))
-                self.assertFalse(self.ask("matrix", 0, 1, self.values, 4, self.answer, room))
+                for judged in "", "_unjudged":
+                    self.assertFalse(self.ask("entry" + judged, 0, 1, 1, 1, self.answer, room))
+                    self.assertFalse(self.ask("matrix" + judged, 0, 1, self.values, 4, self.answer, room))
                 self.assertFalse(library().skumvari_double(128, self.answer, room))
                 other = new_words(93)
                 ctypes.memset(other, 0xA5, ctypes.sizeof(other))
@@ -275,6 +337,13 @@ class Slices(unittest.TestCase):
             self.assertEqual(self.values[:], [GUARD] * 6)
         self.assertTrue(self.ask("matrix", 0, 1, self.values, 5, self.answer, 4))
         self.assertEqual(self.values[:], [11628, 2156, 2156, 11628, GUARD, GUARD])
+
+    def test_listings(self):
+        for room in range(len(LISTING) + 3):
+            out = ctypes.create_string_buffer(b"~" * room, room)
+            length = min(room, len(LISTING))
+            self.assertEqual(self.ask("list", 92, out, room), length)
+            self.assertEqual(out.raw.decode(), LISTING[:length].ljust(room, "~"))
 
     def test_bent_tables(self):
         self.assertTrue(self.ask("sound"))
@@ -308,6 +377,39 @@ class Vectors(unittest.TestCase):
                 with self.subTest(name):
                     self.assertTrue(skumvari.read(VECTORS / "data" / f"{name}.icm").listing() == wanted, name)
         self.assertGreater(compared, 0)
+
+    def test_questions(self):
+        """What a file answers without judging is what the questions answer that judge."""
+        asked = 0
+        for path in sorted((VECTORS / "data").glob("*.icm")):
+            try:
+                file = skumvari.read(path)
+            except skumvari.Refused:
+                continue
+            if file.words_used < 2000:  # each question that judges goes over the whole table
+                asked += 1
+                self.assert_judged(file, path.name)
+        self.assertGreater(asked, 50)
+
+    def assert_judged(self, file, name):
+        table, answer = new_words(file.words_used), new_words(13)
+        table[:] = file._kept.words
+        lent = file.text, len(file.text), table, len(table)
+        for index, section in enumerate(file.sections):
+            for number, kind in enumerate("RLGC"):
+                values = new_words(section.conductors**2)
+                self.assertTrue(library().skumvari_matrix(*lent, index, number, values, len(values), answer, 13))
+                wanted = [skumvari.value(word) for word in values]
+                self.assertEqual([entry for row in section.matrix(kind) for entry in row], wanted, name)
+                self.assertTrue(library().skumvari_entry(*lent, index, number, section.conductors, 1, answer, 13))
+                self.assertEqual(section.entry(kind, section.conductors, 1), skumvari.value(answer[3]), name)
+        for index, model in enumerate(file.models):
+            place, walked = [index, 0, 0], []
+            while library().skumvari_walk(*lent, *place, answer, 13) and not answer[3]:
+                walked.append((file._step(*answer[4:10]), place[2]))
+                place = answer[10:13]
+            self.assertEqual(list(file.walk(model.name)), walked, name)
+            self.assertEqual([step for step, _ in walked], model.path, name)
 
     def test_refusals(self):
         names = [line.removesuffix(".icm") for line in self.asked if " " not in line]

@@ -1,5 +1,6 @@
-// build.rs: links the proved archive libskumvari.a into this package.
-// Its folder is named by the environment variable SKUMVARI_ARCHIVE; without it, it is target/staticlib of the repository.
+// build.rs: links the archive libskumvari.a into this package, that of the machine at hand, which hosts/archive makes.
+// Its folder is named by the environment variable SKUMVARI_ARCHIVE; without it, it is target/staticlib of the
+// repository.
 use std::env;
 use std::path::PathBuf;
 
@@ -12,7 +13,8 @@ fn main() {
     let archive = folder.join("libskumvari.a");
     // A warning and not an error: `cargo check` and `cargo doc` do well without the archive.
     if !archive.is_file() {
-        println!("cargo:warning=no archive at {}: make it, or name its folder in SKUMVARI_ARCHIVE", archive.display());
+        let place = archive.display();
+        println!("cargo:warning=no {place}: make it with hosts/archive, or name its folder in SKUMVARI_ARCHIVE");
     }
     println!("cargo:rerun-if-env-changed=SKUMVARI_ARCHIVE");
     println!("cargo:rerun-if-changed={}", archive.display());

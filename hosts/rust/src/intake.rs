@@ -1,57 +1,58 @@
-// intake.rs: an accepted file: its text and the table that the intake made of it, kept together and never changed.
-// Everything that is read or asked later rests on this: the table is what the intake left for this text, so it is sound.
+// intake.rs: an accepted file: what its table holds, and what can be asked about it.
+// Everything here rests on text and table being kept together and never changed (kept.rs).
 use std::fmt;
 use std::fs::File;
 use std::io::Read;
 use std::path::Path;
 
+use crate::kept::Kept;
 use crate::records::{Model, Part, PinMap, Record, Section};
-use crate::{raw, Error, Kind, Listing, QuestionError, Refusal, Value, Walk};
-
-/// The bytes that a text may have; a longer one is refused whatever it holds.
-const TEXT_MOST: u64 = 1_048_576;
+use crate::{Error, Kind, QuestionError, Refusal, Value, Walk};
 
 /// An accepted ICM file.
 #[derive(Clone)]
 pub struct Intake {
-    text: Vec<u8>,
-    table: Vec<u64>,
+    kept: Kept,
     /// Where each part's count stands in the table.
     starts: [usize; Part::ALL.len()],
 }
 
 impl Intake {
+    /// The bytes that a text may have; a longer one is refused whatever it holds.
+    pub const TEXT_MOST: usize = 1_048_576;
+
     /// Reads a text. It is kept, since the table names places in it.
     pub fn read(text: impl Into<Vec<u8>>) -> Result<Intake, Refusal> {
-        let text = text.into();
-        let mut table = vec![0; raw::table_words()];
-        let used = raw::intake(&text, &mut table)?;
-        table.truncate(used);
-        table.shrink_to_fit();
-        let starts = starts(&table);
-        Ok(Intake { text, table, starts })
+        let kept = Kept::read(text.into())?;
+        let starts = starts(kept.table());
+        Ok(Intake { kept, starts })
     }
 
     /// Reads the file of a name. Of a file that is too long no more is read than it takes to refuse it.
     pub fn open(path: impl AsRef<Path>) -> Result<Intake, Error> {
         let mut text = Vec::new();
-        File::open(path)?.take(TEXT_MOST + 1).read_to_end(&mut text)?;
+        File::open(path)?.take(Intake::TEXT_MOST as u64 + 1).read_to_end(&mut text)?;
         Ok(Intake::read(text)?)
     }
 
     /// The text that was read.
     pub fn text(&self) -> &[u8] {
-        &self.text
+        self.kept.text()
     }
 
-    /// The words of the table that are used, for the functions of [`raw`].
+    /// The words of the table that are used, for the functions of [`raw`](crate::raw).
     pub fn table(&self) -> &[u64] {
-        &self.table
+        self.kept.table()
     }
 
     /// How many words of a table the file needs.
     pub fn words_used(&self) -> usize {
-        self.table.len()
+        self.table().len()
+    }
+
+    /// Text and table, for questions.
+    pub(crate) fn kept(&self) -> &Kept {
+        &self.kept
     }
 
     /// The models, in the order of the text.
@@ -91,29 +92,25 @@ impl Intake {
         section.entry(kind, row, column)
     }
 
-    /// Walks along a model's path, asking the proved walk step by step.
-    ///
-    /// Each step judges the whole table anew, so a long walk over a huge file costs; [`Model::steps`] reads the same steps from the table
-    /// and is cheap.
+    /// Walks along a model's path, asking the proved walk step by step. Each step takes the same short time.
     pub fn walk(&self, model: &str) -> Result<Walk<'_>, QuestionError> {
-        let index = self.models().position(|known| known.name() == model);
-        index.map(|index| Walk::new(self, index)).ok_or_else(|| QuestionError::NoModel(model.to_string()))
+        self.model(model).map(Model::walk).ok_or_else(|| QuestionError::NoModel(model.to_string()))
     }
 
-    /// The listing of the whole file, which `to_string` or `{}` writes.
-    pub fn listing(&self) -> Listing<'_> {
-        Listing::new(self)
+    /// The listing of the whole file, as the proved function writes it.
+    pub fn listing(&self) -> String {
+        self.kept.listing()
     }
 
     /// How many records a part has.
     pub(crate) fn count(&self, part: Part) -> usize {
-        self.table[self.starts[part as usize]] as usize
+        self.table()[self.starts[part as usize]] as usize
     }
 
     /// The words of a record.
     pub(crate) fn words(&self, part: Part, index: usize) -> &[u64] {
         let start = self.starts[part as usize] + 1 + index * part.width();
-        &self.table[start..start + part.width()]
+        &self.table()[start..start + part.width()]
     }
 
     /// The records of a part.
@@ -123,7 +120,7 @@ impl Intake {
 
     /// The bytes of a name.
     pub(crate) fn name(&self, start: u64, length: u64) -> &str {
-        let bytes = &self.text[start as usize..][..length as usize];
+        let bytes = &self.text()[start as usize..][..length as usize];
         std::str::from_utf8(bytes).expect("the intake accepts only printable ASCII in names")
     }
 }
@@ -131,7 +128,7 @@ impl Intake {
 /// Tells the sizes and not every byte and word.
 impl fmt::Debug for Intake {
     fn fmt(&self, out: &mut fmt::Formatter<'_>) -> fmt::Result {
-        write!(out, "Intake {{ bytes: {}, words: {} }}", self.text.len(), self.table.len())
+        write!(out, "Intake {{ bytes: {}, words: {} }}", self.text().len(), self.words_used())
     }
 }
 

@@ -122,3 +122,15 @@ impl Form {
         [Form::Diagonal, Form::Banded { bandwidth }, Form::Sparse, Form::Full][number]
     }
 }
+
+/// Writes the form as in a file.
+impl fmt::Display for Form {
+    fn fmt(&self, out: &mut fmt::Formatter<'_>) -> fmt::Result {
+        out.write_str(match self {
+            Form::Diagonal => "Diagonal_matrix",
+            Form::Banded { .. } => "Banded_matrix",
+            Form::Sparse => "Sparse_matrix",
+            Form::Full => "Full_matrix",
+        })
+    }
+}

@@ -24,15 +24,15 @@
 //! assert_eq!(refusal.to_string(), "refused 5 HEADER: no [Begin Header] line");
 //! ```
 //!
-//! [`Intake`] keeps text and table together, so what it tells is always of an accepted file. [`raw`] has the proved functions for texts and
-//! tables that are kept elsewhere.
+//! [`Intake`] keeps text and table together and unchanged, so what it tells is always of an accepted file, and no
+//! question judges the table again. [`raw`] has the proved functions for texts and tables that are kept elsewhere.
 #![deny(unsafe_code)]
 #![deny(unsafe_op_in_unsafe_fn)]
 #![warn(missing_docs)]
 
 mod intake;
+mod kept;
 mod kinds;
-mod listing;
 pub mod raw;
 mod records;
 mod refusal;
@@ -43,7 +43,6 @@ mod walk;
 
 pub use intake::Intake;
 pub use kinds::{Form, Kind, Method, ModelType, PinOrder};
-pub use listing::Listing;
 pub use records::{Amount, Matrix, Model, Number, PinMap, Section, Step, Written};
 pub use refusal::{Error, QuestionError, Refusal};
 pub use value::Value;

@@ -1,6 +1,9 @@
 //! The proved functions themselves, for people who keep texts and tables of their own.
 //! Every text, every table and every number is taken; what is wrong with them is told in the answer.
 //!
+//! Only the three functions `.._unjudged` are otherwise. They do not judge the table, ask the caller to know that it is
+//! sound, and are unsafe: over a table that is not sound for its text they may do anything.
+//!
 //! The layout of a table is told in `include/skumvari.h`. Sections, kinds and models are asked for by their index from 0 (a
 //! [`Kind`](crate::Kind) as `kind as u64`), rows and columns from 1.
 use std::fmt;
@@ -35,7 +38,32 @@ pub fn sound(text: &[u8], table: &[u64]) -> bool {
 pub fn entry(text: &[u8], table: &[u64], section: u64, kind: u64, row: u64, column: u64) -> Result<Value, Refusal> {
     let mut answer = [0; ANSWER_WORDS];
     let lent = sys::entry(text, table, [section, kind, row, column], &mut answer);
-    given(lent, &answer)?;
+    told_entry(lent, &answer)
+}
+
+/// What [`entry`] answers, of a table that is known to be sound and is not judged again.
+///
+/// # Safety
+///
+/// The table is sound for the text, as [`sound`] tells it. The table that an accepted [`intake`] left is, while neither
+/// it nor the text has changed, and so are its words that are used.
+#[allow(unsafe_code)]
+pub unsafe fn entry_unjudged(
+    text: &[u8],
+    table: &[u64],
+    section: u64,
+    kind: u64,
+    row: u64,
+    column: u64,
+) -> Result<Value, Refusal> {
+    let mut answer = [0; ANSWER_WORDS];
+    // SAFETY: the caller answers for the table.
+    let lent = unsafe { sys::entry_unjudged(text, table, [section, kind, row, column], &mut answer) };
+    told_entry(lent, &answer)
+}
+
+fn told_entry(lent: bool, answer: &[u64; ANSWER_WORDS]) -> Result<Value, Refusal> {
+    given(lent, answer)?;
     Ok(Value::from_word(answer[3]).expect("an entry that is given is a value word"))
 }
 
@@ -60,11 +88,30 @@ impl Place {
     pub fn step(self, text: &[u8], table: &[u64]) -> Result<Option<(StepWords, Place)>, Refusal> {
         let mut answer = [0; WALK_WORDS];
         let lent = sys::walk(text, table, [self.model, self.step, self.depth], &mut answer);
-        given(lent, &answer)?;
-        let done = answer[3] == 1;
-        let next = Place { model: answer[10], step: answer[11], depth: answer[12] };
-        Ok((!done).then(|| (StepWords::new(&answer[4..10]), next)))
+        told_step(lent, &answer)
     }
+
+    /// What [`step`](Place::step) answers, of a table that is known to be sound and a place that is known to be in
+    /// range. Neither is judged again, so every step takes the same time.
+    ///
+    /// # Safety
+    ///
+    /// The table is sound for the text, as in [`entry_unjudged`]. The place is in range: the start of a model that is
+    /// there, or a place that a step over the same text and table has handed back.
+    #[allow(unsafe_code)]
+    pub unsafe fn step_unjudged(self, text: &[u8], table: &[u64]) -> Result<Option<(StepWords, Place)>, Refusal> {
+        let mut answer = [0; WALK_WORDS];
+        // SAFETY: the caller answers for the table and the place.
+        let lent = unsafe { sys::walk_unjudged(text, table, [self.model, self.step, self.depth], &mut answer) };
+        told_step(lent, &answer)
+    }
+}
+
+fn told_step(lent: bool, answer: &[u64; WALK_WORDS]) -> Result<Option<(StepWords, Place)>, Refusal> {
+    given(lent, answer)?;
+    let done = answer[3] == 1;
+    let next = Place { model: answer[10], step: answer[11], depth: answer[12] };
+    Ok((!done).then(|| (StepWords::new(&answer[4..10]), next)))
 }
 
 /// One step from a place in a model's path and the next place; `None` at the end of the path.
@@ -108,7 +155,30 @@ impl StepWords {
 pub fn matrix(text: &[u8], table: &[u64], section: u64, kind: u64, values: &mut [u64]) -> Result<usize, MatrixError> {
     let mut answer = [0; ANSWER_WORDS];
     let lent = sys::matrix(text, table, [section, kind], values, &mut answer);
-    given(lent, &answer).map_err(|refusal| match refusal.number {
+    told_matrix(lent, &answer)
+}
+
+/// What [`matrix`] answers and writes, of a table that is known to be sound and is not judged again.
+///
+/// # Safety
+///
+/// The table is sound for the text, as in [`entry_unjudged`].
+#[allow(unsafe_code)]
+pub unsafe fn matrix_unjudged(
+    text: &[u8],
+    table: &[u64],
+    section: u64,
+    kind: u64,
+    values: &mut [u64],
+) -> Result<usize, MatrixError> {
+    let mut answer = [0; ANSWER_WORDS];
+    // SAFETY: the caller answers for the table.
+    let lent = unsafe { sys::matrix_unjudged(text, table, [section, kind], values, &mut answer) };
+    told_matrix(lent, &answer)
+}
+
+fn told_matrix(lent: bool, answer: &[u64; ANSWER_WORDS]) -> Result<usize, MatrixError> {
+    given(lent, answer).map_err(|refusal| match refusal.number {
         0 => MatrixError::TooFewValues { conductors: answer[3] as usize },
         _ => MatrixError::Refused(refusal),
     })?;
@@ -153,6 +223,12 @@ pub fn pair(frequency: u64, value: u64) -> Option<(f64, f64)> {
     let mut answer = [0; PAIR_WORDS];
     let lent = sys::pair(frequency, value, &mut answer);
     is_given(lent, &answer).then(|| (f64::from_bits(answer[3]), f64::from_bits(answer[4])))
+}
+
+/// Writes the listing of an accepted text and its table, as much of it as there is room for, and tells how many bytes
+/// were written. Where these are all of `out`, it may go on. `words` is the words used that the intake told.
+pub fn list(text: &[u8], table: &[u64], words: usize, out: &mut [u8]) -> usize {
+    sys::list(text, table, words, out)
 }
 
 /// The first three words of every answer: given, number, line.

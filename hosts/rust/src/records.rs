@@ -3,8 +3,8 @@
 use std::fmt;
 
 use crate::kinds::{Form, Kind, Method, ModelType, PinOrder};
-use crate::raw::{self, StepWords};
-use crate::{Intake, QuestionError, Value};
+use crate::raw::StepWords;
+use crate::{Intake, QuestionError, Value, Walk};
 
 /// The parts of a table, in its order.
 #[derive(Clone, Copy, Debug, PartialEq, Eq)]
@@ -87,9 +87,15 @@ impl<'a> Model<'a> {
         ModelType::ALL[self.0.number(2)]
     }
 
-    /// The steps of the path, in the order of the text, read from the table: cheap, unlike [`Intake::walk`].
+    /// The steps of the path, in the order of the text, read from the table.
     pub fn steps(self) -> impl ExactSizeIterator<Item = Step<'a>> + DoubleEndedIterator + 'a {
         self.0.range(Part::Steps, 3).map(Step::from_record)
+    }
+
+    /// The same steps by the proved walk, each with its depth, as [`Intake::walk`] gives them.
+    pub fn walk(self) -> Walk<'a> {
+        let Record { intake, index, .. } = self.0;
+        Walk::new(intake, intake.kept().path(index).expect("the model is there"))
     }
 }
 
@@ -185,6 +191,19 @@ impl<'a> Step<'a> {
     }
 }
 
+/// Writes the step as a line of the listing, such as `section 14 S 2`.
+impl fmt::Display for Step<'_> {
+    fn fmt(&self, out: &mut fmt::Formatter<'_>) -> fmt::Result {
+        match self {
+            Step::End { line, map, side: None } => write!(out, "end {line} {}", map.name()),
+            Step::End { line, map, side: Some(side) } => write!(out, "end {line} {} {side}", map.name()),
+            Step::Section { line, section, amount } => write!(out, "section {line} {} {amount}", section.name()),
+            Step::Fork { line } => write!(out, "fork {line}"),
+            Step::Endfork { line } => write!(out, "endfork {line}"),
+        }
+    }
+}
+
 impl Amount {
     fn new(method: Method, word: u64) -> Amount {
         match method {
@@ -249,14 +268,16 @@ impl<'a> Section<'a> {
     /// One entry of a matrix, as [`Intake::entry`] gives it.
     pub fn entry(self, kind: Kind, row: usize, column: usize) -> Result<Value, QuestionError> {
         let Record { intake, index, .. } = self.0;
-        Ok(raw::entry(intake.text(), intake.table(), index as u64, kind as u64, row as u64, column as u64)?)
+        Ok(intake.kept().entry(index, kind, row, column)?)
     }
 
     /// Every entry of a matrix from one question. A kind that is not given has zeros.
     pub fn matrix(self, kind: Kind) -> Matrix {
         let Record { intake, index, .. } = self.0;
         let mut words = vec![0; self.conductors() * self.conductors()];
-        let conductors = raw::matrix(intake.text(), intake.table(), index as u64, kind as u64, &mut words)
+        let conductors = intake
+            .kept()
+            .matrix(index, kind, &mut words)
             .expect("a section of an accepted file has every kind of matrix, and the words are N times N");
         Matrix { conductors, values: words.into_iter().map(value).collect() }
     }

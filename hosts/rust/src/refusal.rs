@@ -36,6 +36,9 @@ const NUMBERS: [(u64, &str, &str); 29] = [
     (31, "NOSUCH", "section, kind, row, column or walk place out of range"),
 ];
 
+/// The number of a question about what is not there.
+const NOSUCH: u64 = 31;
+
 /// A refusal of the intake or of a question.
 #[derive(Clone, Copy, Debug, PartialEq, Eq, Hash)]
 #[non_exhaustive]
@@ -88,6 +91,16 @@ pub enum QuestionError {
     NoSection(String),
     /// The question is refused: over an accepted file 31, for a row or a column out of range.
     Refused(Refusal),
+}
+
+impl QuestionError {
+    /// The refusal that the paper has for it: 31 of what is not there, also where it was asked for by its name.
+    pub fn refusal(&self) -> Refusal {
+        match self {
+            QuestionError::NoModel(_) | QuestionError::NoSection(_) => Refusal::new(NOSUCH, 0),
+            QuestionError::Refused(refusal) => *refusal,
+        }
+    }
 }
 
 impl fmt::Display for QuestionError {
@@ -167,6 +180,14 @@ mod tests {
     }
 
     #[test]
+    fn what_is_not_there_is_refused_31() {
+        let told = |error: QuestionError| (error.refusal().number, error.refusal().name, error.refusal().line);
+        assert_eq!(told(QuestionError::NoModel("A".to_string())), (31, "NOSUCH", 0));
+        assert_eq!(told(QuestionError::NoSection("A".to_string())), (31, "NOSUCH", 0));
+        assert_eq!(told(QuestionError::Refused(Refusal::new(30, 0))), (30, "TABLE", 0));
+    }
+
+    #[test]
     fn the_numbers_are_those_of_the_header() {
         let header = include_str!("../../../include/skumvari.h");
         let lines = header.lines().filter_map(|line| line.trim().strip_prefix("SKUMVARI_NUMBER_"));
@@ -174,6 +195,21 @@ mod tests {
             let mut words = line.split([' ', ',']);
             let name = words.next().expect("a name");
             (words.nth(1).expect("a number").parse().expect("a number"), name)
+        });
+        assert!(numbers.eq(NUMBERS.iter().map(|(number, name, _)| (*number, *name))));
+    }
+
+    /// Rows of numbers that are not given have no name, or say so.
+    #[test]
+    fn the_numbers_are_those_of_the_document() {
+        let document = include_str!("../../../docs/USING.md");
+        let (_, table) = document.split_once("### The numbers").expect("the part about numbers");
+        let rows =
+            table.lines().skip_while(|line| !line.starts_with("|---")).skip(1).take_while(|line| !line.is_empty());
+        let numbers = rows.filter_map(|row| {
+            let mut cells = row.split('|').map(str::trim).skip(1);
+            let (number, name, meaning) = (cells.next()?.parse().ok()?, cells.next()?, cells.next()?);
+            (!name.is_empty() && !meaning.starts_with("Gone")).then_some((number, name))
         });
         assert!(numbers.eq(NUMBERS.iter().map(|(number, name, _)| (*number, *name))));
     }

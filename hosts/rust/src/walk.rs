@@ -1,5 +1,8 @@
 // walk.rs: a walk along a model's path by the proved question, as an iterator.
 // The place is handed in and handed back by value, so a walk holds nothing but where it is.
+use std::fmt;
+
+use crate::kept::Path;
 use crate::raw::Place;
 use crate::{Intake, Step};
 
@@ -13,20 +16,20 @@ pub struct Walked<'a> {
 }
 
 /// A walk along a model's path, from [`Intake::walk`]; ends after the path's last step.
-#[derive(Clone, Debug)]
+#[derive(Clone)]
 pub struct Walk<'a> {
     intake: &'a Intake,
-    place: Place,
+    path: Path<'a>,
 }
 
 impl<'a> Walk<'a> {
-    pub(crate) fn new(intake: &'a Intake, model: usize) -> Walk<'a> {
-        Walk { intake, place: Place::start(model as u64) }
+    pub(crate) fn new(intake: &'a Intake, path: Path<'a>) -> Walk<'a> {
+        Walk { intake, path }
     }
 
     /// The place where the walk is now.
     pub fn place(&self) -> Place {
-        self.place
+        self.path.place()
     }
 }
 
@@ -34,12 +37,17 @@ impl<'a> Iterator for Walk<'a> {
     type Item = Walked<'a>;
 
     fn next(&mut self) -> Option<Walked<'a>> {
-        let depth = self.place.depth as usize;
-        let answer = self.place.step(self.intake.text(), self.intake.table());
-        let (words, next) = answer.expect("a walk from the start of a model of an accepted file is never refused")?;
-        self.place = next;
+        let depth = self.place().depth as usize;
+        let words = self.path.step()?;
         Some(Walked { step: Step::new(self.intake, words), depth })
     }
 }
 
 impl std::iter::FusedIterator for Walk<'_> {}
+
+/// Tells the place.
+impl fmt::Debug for Walk<'_> {
+    fn fmt(&self, out: &mut fmt::Formatter<'_>) -> fmt::Result {
+        write!(out, "Walk {{ place: {:?} }}", self.place())
+    }
+}

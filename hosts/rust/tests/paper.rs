@@ -36,7 +36,7 @@ fn edited(from: &str, to: &str) -> String {
 
 #[test]
 fn the_listing_is_the_papers() {
-    assert_eq!(paper().listing().to_string(), LISTING);
+    assert_eq!(paper().listing(), LISTING);
 }
 
 #[test]

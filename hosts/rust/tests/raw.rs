@@ -102,3 +102,67 @@ fn a_walk_goes_from_place_to_place() {
     assert_eq!(kinds, [0, 1, 2, 1, 3, 0]);
     assert_eq!(place, Place { model: 0, step: 6, depth: 0 });
 }
+
+const LISTING: &str = "accepted 92
+models 1
+A MLM 6
+steps 6
+end 13 P
+section 14 S 2
+fork 15
+section 16 S 1
+endfork 17
+end 18 Q
+maps 2
+P 2
+Q 2
+sections 1
+S Lumped 2
+values 3
+S L 1 1 45e-10
+S L 1 2 8e-10
+S L 2 2 45e-10
+";
+
+#[test]
+fn a_listing_is_written_as_far_as_there_is_room() {
+    let table = table();
+    for length in 0..=LISTING.len() + 2 {
+        let mut room = vec![b'~'; length];
+        let written = raw::list(TEXT, &table, USED, &mut room);
+        assert_eq!(written, length.min(LISTING.len()));
+        assert_eq!(room[..written], LISTING.as_bytes()[..written]);
+        assert!(room[written..].iter().all(|byte| *byte == b'~'));
+    }
+}
+
+/// No word of a table is trusted: one whose counts do not fit shows no records.
+#[test]
+fn every_table_is_listed() {
+    let mut room = vec![0; 100];
+    let length = raw::list(TEXT, &[u64::MAX; 100], 7, &mut room);
+    assert_eq!(&room[..length], b"accepted 7\nmodels 0\nsteps 0\nmaps 0\nsections 0\nvalues 0\n");
+}
+
+#[test]
+fn without_judging_the_answers_are_the_same() {
+    let table = table();
+    for [section, kind, row, column] in
+        [[0, L, 1, 1], [0, L, 2, 1], [0, 0, 2, 2], [0, L, 3, 1], [1, L, 1, 1], [0, 4, 1, 1]]
+    {
+        // SAFETY: the table is what the intake left for the text.
+        let unjudged = unsafe { raw::entry_unjudged(TEXT, &table, section, kind, row, column) };
+        assert_eq!(unjudged, raw::entry(TEXT, &table, section, kind, row, column));
+    }
+    let mut values = [7; 5];
+    // SAFETY: the table is what the intake left for the text.
+    assert_eq!(unsafe { raw::matrix_unjudged(TEXT, &table, 0, L, &mut values) }, Ok(2));
+    assert_eq!(values, [11628, 2156, 2156, 11628, 7]);
+    let mut place = Place::start(0);
+    // SAFETY: the table is what the intake left for the text, and the place a start or handed back.
+    while let Some((words, next)) = unsafe { place.step_unjudged(TEXT, &table) }.expect("a place of model A") {
+        assert_eq!(Ok(Some((words, next))), place.step(TEXT, &table));
+        place = next;
+    }
+    assert_eq!(place, Place { model: 0, step: 6, depth: 0 });
+}

@@ -1,7 +1,9 @@
 // compare.rs: asks the proved library and the plain reading the same, and tells the first thing in which their answers differ.
 // An answer is compared whole: numbers, lines, places, and every word of a table or a matrix, also those that must stay as they were.
+// The questions without judging are asked besides, wherever the plain reading has told that they may be.
 use plain::Answer;
-use skumvari::raw::{self, MatrixError, Place};
+use skumvari::raw::{self, MatrixError, Place, StepWords};
+use skumvari::{Refusal, Value};
 
 use crate::layout::Layout;
 use crate::random::Random;
@@ -51,28 +53,44 @@ pub fn sound(text: &[u8], table: &[u64]) -> Outcome<bool> {
     Ok(sound)
 }
 
+/// Number and line of a refused question.
+type Refused = (u64, u64);
+
+/// A question that is refused by this number is asked over an unsound table.
+const UNSOUND: Refused = (30, 0);
+
+fn refused(refusal: Refusal) -> Refused {
+    (refusal.number, refusal.line)
+}
+
 pub fn entry(text: &[u8], table: &[u64], [section, kind, row, column]: [u64; 4]) -> Outcome {
-    let proved = raw::entry(text, table, section, kind, row, column);
-    let proved = proved.map(|value| value.word()).map_err(|refusal| (refusal.number, refusal.line));
+    let told = |answer: Result<Value, Refusal>| answer.map(Value::word).map_err(refused);
+    let what = || format!("entry {section} {kind} {row} {column}");
     let plain = plain::entry(text, table, section, kind, row, column).map_err(|number| (number, 0));
-    same(|| format!("entry {section} {kind} {row} {column}"), proved, plain)
+    same(what, told(raw::entry(text, table, section, kind, row, column)), plain)?;
+    if plain == Err(UNSOUND) {
+        return Ok(());
+    }
+    // SAFETY: the table is sound for the text, or the question would be refused by 30.
+    let unjudged = unsafe { raw::entry_unjudged(text, table, section, kind, row, column) };
+    same(|| format!("unjudged {}", what()), told(unjudged), plain)
 }
 
 /// The words of a step and the next place; nothing where the walk is done.
 type Stepped = Option<([u64; 6], [u64; 3])>;
 
+fn stepped(answer: Result<Option<(StepWords, Place)>, Refusal>) -> Result<Stepped, Refused> {
+    let words = |(words, next): (StepWords, Place)| {
+        let record = [words.kind, words.target, words.amount, words.side_start, words.side_length, words.line];
+        (record, [next.model, next.step, next.depth])
+    };
+    answer.map(|step| step.map(words)).map_err(refused)
+}
+
 /// One step, and the next place if there is one.
 pub fn step(text: &[u8], table: &[u64], place: [u64; 3]) -> Outcome<Option<[u64; 3]>> {
     let [model, step, depth] = place;
-    let proved = raw::step(text, table, Place { model, step, depth });
-    let proved: Result<Stepped, _> = proved
-        .map(|stepped| {
-            stepped.map(|(words, next)| {
-                let record = [words.kind, words.target, words.amount, words.side_start, words.side_length, words.line];
-                (record, [next.model, next.step, next.depth])
-            })
-        })
-        .map_err(|refusal| (refusal.number, refusal.line));
+    let asked = Place { model, step, depth };
     let plain: Result<Stepped, _> = plain::step(text, table, model, step, depth)
         .map(|walked| {
             let record =
@@ -80,8 +98,13 @@ pub fn step(text: &[u8], table: &[u64], place: [u64; 3]) -> Outcome<Option<[u64;
             (!walked.done).then_some((record, [walked.next.model, walked.next.step, walked.next.depth]))
         })
         .map_err(|number| (number, 0));
-    same(|| format!("step {place:?}"), proved, plain)?;
-    Ok(proved.ok().flatten().map(|(_, next)| next))
+    same(|| format!("step {place:?}"), stepped(asked.step(text, table)), plain)?;
+    if plain.is_ok() {
+        // SAFETY: the table is sound for the text and the place is in range, or the question would be refused.
+        let unjudged = unsafe { asked.step_unjudged(text, table) };
+        same(|| format!("unjudged step {place:?}"), stepped(unjudged), plain)?;
+    }
+    Ok(plain.ok().flatten().map(|(_, next)| next))
 }
 
 /// A whole matrix against what the table's records say, and at some places, or all if they are few, against the plain reading's entries.
@@ -91,12 +114,14 @@ pub fn matrix(text: &[u8], table: &[u64], section: u64, kind: u64, random: &mut 
     let layout = first.is_ok().then(|| Layout::of(table).expect("a sound table has its parts"));
     let size = layout.as_ref().map_or(0, |layout| layout.section(section)[3] as usize);
     let length = (size * size).saturating_add_signed(*random.pick(&[0, 0, 0, 3, -1]));
+    let told = |answer: Result<usize, MatrixError>| {
+        answer.map_err(|error| match error {
+            MatrixError::Refused(refusal) => refused(refusal),
+            _ => (0, 0),
+        })
+    };
     let mut values = vec![UNTOUCHED; length];
-    let proved = raw::matrix(text, table, section, kind, &mut values);
-    let proved = proved.map_err(|error| match error {
-        MatrixError::Refused(refusal) => (refusal.number, refusal.line),
-        _ => (0, 0),
-    });
+    let proved = told(raw::matrix(text, table, section, kind, &mut values));
     let what = || format!("matrix {section} {kind} into {length} words");
     let plain = match first {
         Err(number) => Err((number, 0)),
@@ -109,6 +134,13 @@ pub fn matrix(text: &[u8], table: &[u64], section: u64, kind: u64, random: &mut 
         layout.fill_matrix(section, kind, &mut wanted[..size * size]);
     }
     same_words(what, &values, &wanted)?;
+    if plain != Err(UNSOUND) {
+        let mut values = vec![UNTOUCHED; length];
+        // SAFETY: the table is sound for the text, or the question would be refused by 30.
+        let unjudged = unsafe { raw::matrix_unjudged(text, table, section, kind, &mut values) };
+        same(|| format!("unjudged {}", what()), told(unjudged), plain)?;
+        same_words(|| format!("unjudged {}", what()), &values, &wanted)?;
+    }
     if plain.is_err() {
         return Ok(());
     }
@@ -122,6 +154,16 @@ pub fn matrix(text: &[u8], table: &[u64], section: u64, kind: u64, random: &mut 
         )?;
     }
     Ok(())
+}
+
+/// The listing of an accepted text, whose table has the words that are used and no more.
+pub fn listing(text: &[u8], table: &[u64]) -> Outcome {
+    let plain = plain::listing(text, table);
+    let mut proved = vec![0; plain.len() + 1];
+    let length = raw::list(text, table, table.len(), &mut proved);
+    let differs = plain.iter().zip(&proved).position(|(left, right)| left != right);
+    same(|| "bytes of the listing".to_string(), length, plain.len())?;
+    same(|| "the first byte of the listing that differs".to_string(), differs, None)
 }
 
 /// The double of a word, told as its bits.

@@ -29,6 +29,7 @@ pub fn of_accepted(text: &[u8], table: &[u64], random: &mut Random) -> Outcome {
     if !compare::sound(text, table)? {
         return Err("the table of an accepted file is not sound".to_string());
     }
+    compare::listing(text, table)?;
     let layout = Layout::of(table).expect("a sound table has its parts");
     if table.len() > LONG_TABLE {
         compare::entry(text, table, address(&layout, random))?;

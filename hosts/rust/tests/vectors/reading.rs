@@ -65,7 +65,7 @@ pub mod proved {
         }
 
         fn listing(text: &[u8], _: &[u64]) -> String {
-            Intake::read(text).expect("accepted").listing().to_string()
+            Intake::read(text).expect("accepted").listing()
         }
 
         /// As a number of the paper's example, since the archive reads whole files.

@@ -1,13 +1,10 @@
-// requests.rs: the files of hosts/vectors, made for the change requests. Each has an answer after each landing; those hold that are told for the
-// landing that was last. The README there tells what the tables hold.
+// requests.rs: the files of hosts/vectors, made for the change requests. Each has an answer after each landing; those
+// hold that are told for the landing that was last. The README there tells what the tables hold.
 use std::collections::{BTreeMap, BTreeSet};
 use std::fs;
 
 use crate::reading::{spelled, Reading, LISTING_WORDS};
 use crate::{bytes_of, hash, path, text_of};
-
-/// The request that landed last, of those that the tables of answers have a column for.
-const LANDED: &str = "2";
 
 /// The requests whose landing changes what a question is asked or answered.
 const ASKED_ANEW: [&str; 3] = ["9", "7", "4"];
@@ -16,6 +13,11 @@ const ASKED_ANEW: [&str; 3] = ["9", "7", "4"];
 const WORDS: usize = 524_288;
 
 const LEVELS: &str = "hosts/vectors/levels.txt";
+
+/// The request that landed last, of those that the tables of answers have a column for.
+fn landed() -> String {
+    text_of("hosts/vectors/landed.txt").trim_end().to_owned()
+}
 
 fn file(name: &str) -> Vec<u8> {
     bytes_of(&format!("hosts/vectors/{name}.icm"))
@@ -49,7 +51,7 @@ fn column(name: &str, landing: &str) -> Vec<(String, String)> {
 }
 
 pub fn answers<R: Reading>() {
-    let files = column(LEVELS, LANDED);
+    let files = column(LEVELS, &landed());
     for (name, wanted) in &files {
         let text = file(name);
         let (answer, table) = R::take_in(&text, WORDS);
@@ -66,20 +68,21 @@ pub fn answers<R: Reading>() {
 }
 
 pub fn hashes<R: Reading>() {
-    for (name, wanted) in column("hosts/vectors/hashes.txt", LANDED) {
+    for (name, wanted) in column("hosts/vectors/hashes.txt", &landed()) {
         let (answer, table) = R::take_in(&file(&name), WORDS);
         let told = answer.map_or("-".to_owned(), |used| hash(&table[..used]));
         assert_eq!(told, wanted, "{name}");
     }
 }
 
-/// Tables of other lengths, told for some landings only. Those of the next one told hold already for a file whose answer stays till then, since the
-/// table it needs stays too.
+/// Tables of other lengths, told for some landings only. Those of the next one told hold already for a file whose answer
+/// stays till then, since the table it needs stays too.
 fn rooms<R: Reading>() {
     let rooms = records("hosts/vectors/rooms.txt");
-    let told = rooms.iter().map(|room| &room[1]).filter(|landing| before(landing) >= before(LANDED));
+    let landed = landed();
+    let told = rooms.iter().map(|room| &room[1]).filter(|landing| before(landing) >= before(&landed));
     let next = told.min_by_key(|landing| before(landing)).expect("a landing");
-    let (now, then) = (column(LEVELS, LANDED), column(LEVELS, next));
+    let (now, then) = (column(LEVELS, &landed), column(LEVELS, next));
     let stays: BTreeSet<_> = now.iter().zip(&then).filter(|(now, then)| now == then).map(|(file, _)| &file.0).collect();
     let mut asked = 0;
     for room in rooms.iter().filter(|room| &room[1] == next && stays.contains(&room[0])) {
@@ -93,8 +96,9 @@ fn rooms<R: Reading>() {
 /// Listings are told from the landing on that adds a line to all of them, so before it there are none here.
 pub fn rooms_and_listings<R: Reading>() {
     rooms::<R>();
+    let suffix = format!(".{}.out", landed());
     for listing in names("hosts/vectors/listings") {
-        if let Some(name) = listing.strip_suffix(&format!(".{LANDED}.out")) {
+        if let Some(name) = listing.strip_suffix(&suffix) {
             assert_eq!(R::list(&file(name)), text_of(&format!("hosts/vectors/listings/{listing}")), "{name}");
         }
     }
@@ -105,7 +109,7 @@ pub fn changes_of_the_base<R: Reading>() {
     let mut latest = BTreeMap::new();
     for record in records("hosts/vectors/base-changes.txt") {
         let landing = before(&record[1]);
-        if landing <= before(LANDED) {
+        if landing <= before(&landed()) {
             let held = latest.entry(record[0].clone()).or_insert((landing, String::new()));
             *held = held.clone().max((landing, record[2..].join(" ")));
         }
@@ -118,7 +122,8 @@ pub fn changes_of_the_base<R: Reading>() {
 }
 
 pub fn questions<R: Reading>() {
-    let asked = ASKED_ANEW.iter().rev().find(|request| before(request) <= before(LANDED)).expect("a landing");
+    let last = before(&landed());
+    let asked = ASKED_ANEW.iter().rev().find(|request| before(request) <= last).expect("a landing");
     let mut files = 0;
     for name in names("hosts/vectors/questions") {
         let text = text_of(&format!("hosts/vectors/questions/{name}"));
