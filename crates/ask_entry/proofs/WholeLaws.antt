@@ -8,7 +8,7 @@ use native.Mathlib.Nat.{mul-le-mul}
 use native.Mathlib.Omega.{arith}
 use mir.Syntax.{w64}
 use mir.Val.{Fits}
-use lib.ListN.{length, getD}
+use lib.ListN.{getD}
 use lib.Seq.{sets}
 use borrow.Author.Tests.{lt-ltb, le-ltb, not-true, not-false}
 use Rattle.base.specs.Refusal as refusal

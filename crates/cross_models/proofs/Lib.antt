@@ -1,4 +1,3 @@
-pub mod CursorLaws
 pub mod ModelLaws
 pub mod StepsLaws
 pub mod WalkLaws

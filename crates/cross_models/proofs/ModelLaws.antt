@@ -28,6 +28,8 @@ use Rattle.table_record.specs.declared.StepRecord.{StepRecord}
 use Rattle.table_record.proofs.RecordLaws.{maps-long}
 use Rattle.doc.specs.Document.{Named, Model, Map, Section, Document, documentOf}
 use Rattle.doc.specs.Records.{indexOf, stepRecord, stepRecords, modelRecord, modelRecords, flatten}
+use Rattle.doc.proofs.BlockLaws.{joined}
+use Rattle.doc.proofs.PassLaws.{steps-joined}
 use Rattle.cross_rules.specs.Rules.{any, sameWord, isTwice, isThere, modelName}
 use Rattle.cross_rules.specs.Way.HoldsText.{HoldsText}
 use Rattle.cross_rules.specs.Way.Repeated.{isRepeated}
@@ -182,6 +184,13 @@ module _ (d : Document) (before : List Model) (m : Model) (behind : List Model) 
             ap (firstTarget (length (flatten d .maps)))
             ((λ j. range (first-is-here j) (many-is-here j) (flatten d .steps)) ∙ steps-here);
       }
+
+  -- its first step stands behind those of the models before it
+  pub owner-from : ownerAt (flatten d) (length before) .from ≡ length (joined (λ (x : Model). x .steps) before)
+  unfolding ownerAt
+  owner-from =
+      first-is-here ∙ ap length (steps-joined (d .maps) (d .sections) before)
+      ∙ length-map (joined (λ (x : Model). x .steps) before) (stepRecord (d .maps) (d .sections))
 
   pub owner-many : ownerAt (flatten d) (length before) .many ≡ length (m .steps)
   unfolding ownerAt

@@ -1,37 +1,42 @@
 -- Laws of the steps of a model gone over: what is left of them, with the models behind, gives what all that is left breaks first.
 -- Assumes nothing.
 use mathlib.Core.Path.{_≡_, refl, sym, _∙_, ap, subst}
-use mathlib.Core.Bool.{Bool}
-use mathlib.Core.List.{List, [], _∷_, _++_, map, map-append, append-assoc}
-use Prim.Native.Nat.{ℕ, zero, suc, _+_, _-_, _≤_, _<_}
+use mathlib.Core.Bool.{Bool, true, false}
+use mathlib.Core.List.{List, [], _∷_, _++_, map, append-assoc}
+use Prim.Native.Nat.{ℕ, zero, suc, _+_, _*_, _≤_, _<_}
 use native.Mathlib.Nat.{not-suc-le-zero, le-of-suc-le-suc}
 use native.Mathlib.Omega.{arith}
 use mir.Syntax.{w64}
 use mir.Val.{Fits}
 use lib.ListN.{length, drop, getD, length-append}
 use lib.Seq.{drop-at}
+use lib.Dec.{eqb}
 use Rattle.cross_rules.specs.Way.Findings.{modelRule, stepRule, stepFindings, modelFindings}
 use Rattle.table_layout.specs.Codes.{sectionKind}
-use Rattle.line_path.specs.Path.{isMult}
+use Rattle.table_layout.specs.Bounds.{mostSteps}
 use Rattle.table_layout.specs.Layout.{models, steps}
 use Rattle.table_layout.specs.View.{viewOf}
 use Rattle.table_layout.specs.declared.View.{View}
 use Rattle.table_record.specs.Records.{recordsOf, range, noStep}
 use Rattle.table_record.specs.Way.Standing.{countOf}
+use Rattle.table_record.specs.Way.Stage.{stagedStepWidth, stagedStepAt}
 use Rattle.table_record.specs.declared.StepRecord.{StepRecord}
-use Rattle.doc.specs.Lines.{significant}
-use Rattle.doc.specs.Document.{Step, Model, Document, documentOf}
+use Rattle.table_record.specs.declared.stage.StagedStep.{StagedStep}
+use Rattle.doc.specs.Lines.{significant, gather}
+use Rattle.doc.specs.Document.{Step, Model, Document, stepOf, documentOf}
+use Rattle.doc.specs.Way.Staged.{multWord, stagedStep, StepsStaged}
 use Rattle.doc.specs.Records.{stepRecord, flatten}
 use Rattle.doc.specs.Holds.{Each}
-use Rattle.doc.specs.Holds.Each.{more}
 use Rattle.doc.proofs.StandsLaws.{ModelStands, all-stand}
 use Rattle.doc.proofs.SectionLaws.{RightSection, text-sections}
+use Rattle.doc.proofs.BlockLaws.{joined, joined-append}
+use Rattle.doc.proofs.PassLaws.{steps-of-text}
+use Rattle.doc.proofs.StagedLaws.{step-staged}
 use Rattle.cross_rules.specs.Way.First.{firstIn}
 use Rattle.cross_rules.specs.Way.HoldsText.{HoldsText}
 use Rattle.cross_rules.specs.declared.Finding.{Finding}
-use Rattle.cross_rules.proofs.RisingLaws.{Rising, rising-wider, rising-behind, all-least, each-at}
-use Rattle.cross_rules.proofs.RisingLaws.Rising.{flat, rise}
-use Rattle.cross_rules.proofs.OrderLaws.{findingLines, in-order}
+use Rattle.cross_rules.proofs.RisingLaws.{each-at}
+use Rattle.cross_rules.proofs.OrderLaws.{in-order}
 use Rattle.cross_rules.proofs.KindLaws.{first-here, first-later}
 use Rattle.cross_rules.proofs.TableLaws.{text-records, text-rooms, many-models}
 use Rattle.cross_names.specs.Way.Listed.{Listed}
@@ -41,11 +46,8 @@ use Rattle.cross_steps.specs.Way.Marks.{MarkedEnds, Below, Judged}
 use Rattle.cross_steps.specs.declared.Owner.{Owner}
 use Rattle.cross_steps.proofs.MarkLaws.{marked-starts}
 use Rattle.cross_steps.proofs.JoinLaws.{Owns, record-here, step-is}
-use Rattle.cross_models.specs.Way.Cursor.{contentAt, Cursor, TellsStep}
-use Rattle.cross_models.specs.Way.Models.{ModelRoom, ownerAt, modelRuleAt, belowFirst, Awaits, StepsTold}
-use Rattle.cross_models.specs.declared.Told.{Told}
-use Rattle.cross_models.proofs.CursorLaws.{MultSaid, all-said}
-use Rattle.cross_models.proofs.ModelLaws.{room-here, owns-here, owner-many, rule-here}
+use Rattle.cross_models.specs.Way.Models.{ModelRoom, multAt, ownerAt, modelRuleAt, belowFirst, StepsTold}
+use Rattle.cross_models.proofs.ModelLaws.{room-here, owns-here, owner-from, owner-many, rule-here}
 
 -- ---- lists
 
@@ -104,44 +106,21 @@ stepFinding d m s = record { rule = stepRule d m s; line = s .line }
 abbrev rest : Document → Model → List Step → List Model → List Finding
 rest d m below behind = map (stepFinding d m) below ++ modelFindings d behind
 
-findings-append : (d : Document) (xs ys : List Model) → modelFindings d (xs ++ ys) ≡ modelFindings d xs ++ modelFindings d ys
-unfolding modelFindings
-findings-append d [] ys = refl
-findings-append d (x ∷ xs) ys =
-    ap (λ (fs : List Finding). record { rule = modelRule d x; line = x .line } ∷ fs)
-    (ap (λ (fs : List Finding). stepFindings d x ++ fs) (findings-append d xs ys)
-    ∙ sym (append-assoc (stepFindings d x) (modelFindings d xs) (modelFindings d ys)))
+-- a word of 1 or 0 tells it
+mult-back : (b : Bool) → eqb (multWord b) 1 ≡ b
+mult-back true = refl
+mult-back false = refl
 
--- numbers that rise, all from one on
-raised : {least low : ℕ} (fs : List Finding) → Rising least (findingLines fs) → Each (λ (f : Finding). low ≤ f .line) fs → Rising low (findingLines fs)
-raised [] h e = flat
-raised (f ∷ fs) (rise h later) (more e es) = rise e later
-
-rising-rest : {least n : ℕ} {ns : List ℕ} → Rising least (n ∷ ns) → Rising (n + 1) ns
-rising-rest (rise h later) = later
-
-rising-first : {least n : ℕ} {ns : List ℕ} → Rising least (n ∷ ns) → least ≤ n
-rising-first (rise h later) = h
-
-module _ (t : List ℕ) (before : List Model) (m : Model) (behind : List Model) (all : documentOf t .models ≡ before ++ (m ∷ behind)) where
-  abbrev d : Document
-  d = documentOf t
-
-  -- the lines of a model's steps and of the models behind it stand below the model's own
-  pub below-rising : Rising (m .line + 1) (findingLines (belowFirst d (m ∷ behind)))
-  unfolding modelFindings belowFirst
-  below-rising =
-      let e : findingLines (modelFindings d (d .models)) ≡ findingLines (modelFindings d before) ++ findingLines (modelFindings d (m ∷ behind)) =
-      ap (λ (ms : List Model). findingLines (modelFindings d ms)) all
-      ∙ ap findingLines (findings-append d before (m ∷ behind))
-      ∙ map-append (λ (f : Finding). f .line) (modelFindings d before) (modelFindings d (m ∷ behind)) in
-      rising-rest (rising-behind (findingLines (modelFindings d before)) _ (subst (Rising 1) e (in-order t .in-models)))
+pub mult-told : (stage : List ℕ) (index : ℕ) (step : StagedStep) → step ≡ stagedStepAt stage (stagedStepWidth * index) → eqb (step .mult) 1 ≡ multAt stage index
+unfolding multAt
+mult-told stage index step e = ap (λ (s : StagedStep). eqb (s .mult) 1) e
 
 -- ---- the steps of a model
 
-pub record StepsLeft (t table : List ℕ) (v : View) (marks : List ℕ) (index : ℕ) (o : Owner) (count here next i : ℕ) : Type 0 where
+pub record StepsLeft (t table : List ℕ) (v : View) (marks : List ℕ) (index : ℕ) (o : Owner) (count i : ℕ) : Type 0 where
   pub split : Split (documentOf t .models) index
   pub owns : Owns (documentOf t) o (split .one)
+  pub from-is : o .from ≡ length (joined (λ (x : Model). x .steps) (split .before))
   pub count-is : count ≡ length (split .one .steps)
   pub room : o .from + count ≤ countOf v steps
   pub above : List Step
@@ -151,8 +130,6 @@ pub record StepsLeft (t table : List ℕ) (v : View) (marks : List ℕ) (index :
   pub marked : MarkedEnds t marks (o .stamp) (range (o .from) i (recordsOf table .steps))
   pub same :
       firstIn (rest (documentOf t) (split .one) below (split .behind)) ≡ firstIn (belowFirst (documentOf t) (drop index (documentOf t .models)))
-  pub cursor : Cursor t here next
-  pub rising : Rising next (findingLines (rest (documentOf t) (split .one) below (split .behind)))
 
 module _ (t table : List ℕ) (filled : HoldsText t table) (v : View) (is-view : v ≡ viewOf table) where
   abbrev doc : Document
@@ -178,6 +155,11 @@ module _ (t table : List ℕ) (filled : HoldsText t table) (v : View) (is-view :
         subst (λ (k : ℕ). Owns doc (ownerAt (recordsOf table) k) (model-here .one)) (sym (model-here .place))
         (rw records-are (owns-here doc (model-here .before) (model-here .one) (model-here .behind) (model-here .all)))
 
+    from-there : ownerAt (recordsOf table) index .from ≡ length (joined (λ (x : Model). x .steps) (model-here .before))
+    from-there =
+        subst (λ (k : ℕ). ownerAt (recordsOf table) k .from ≡ length (joined (λ (x : Model). x .steps) (model-here .before))) (sym (model-here .place))
+        (rw records-are (owner-from doc (model-here .before) (model-here .one) (model-here .behind) (model-here .all)))
+
     many-there : ownerAt (recordsOf table) index .many ≡ length (model-here .one .steps)
     many-there =
         subst (λ (k : ℕ). ownerAt (recordsOf table) k .many ≡ length (model-here .one .steps)) (sym (model-here .place))
@@ -196,37 +178,27 @@ module _ (t table : List ℕ) (filled : HoldsText t table) (v : View) (is-view :
     unfolding belowFirst stepFindings
     below-there = ap (belowFirst (documentOf t)) (drop-to (documentOf t .models) index model-here)
 
-    lines-there : Rising (model-here .one .line + 1) (findingLines (rest (documentOf t) (model-here .one) (model-here .one .steps) (model-here .behind)))
-    unfolding belowFirst stepFindings
-    lines-there = below-rising t (model-here .before) (model-here .one) (model-here .behind) (model-here .all)
+    first-left : (marks : List ℕ) → length marks ≡ marksMany →
+        StepsLeft t table v marks index (ownerAt (recordsOf table) index) (ownerAt (recordsOf table) index .many) 0
+    first-left marks whole =
+        record {
+          split = model-here;
+          owns = owns-there;
+          from-is = from-there;
+          count-is = many-there;
+          room = room-within;
+          above = [];
+          below = model-here .one .steps;
+          all-steps = refl;
+          place = refl;
+          marked = marked-starts t marks _ whole;
+          same = ap firstIn (sym below-there);
+        }
 
-    module _ (marks : List ℕ) (whole : length marks ≡ marksMany) (at number : ℕ) (cursor : Cursor t at number) (low : Each (λ (f : Finding). number ≤ f .line) (belowFirst (documentOf t) (drop index (documentOf t .models)))) where
-      first-left : StepsLeft t table v marks index (ownerAt (recordsOf table) index) (ownerAt (recordsOf table) index .many) at number 0
-      first-left =
-          record {
-            split = model-here;
-            owns = owns-there;
-            count-is = many-there;
-            room = room-within;
-            above = [];
-            below = model-here .one .steps;
-            all-steps = refl;
-            place = refl;
-            marked = marked-starts t marks _ whole;
-            same = ap firstIn (sym below-there);
-            cursor = cursor;
-            rising = raised _ lines-there (rw below-there at (low));
-          }
+    pub steps-start : (marks : List ℕ) → length marks ≡ marksMany → (o : Owner) → o ≡ ownerAt (recordsOf table) index → StepsLeft t table v marks index o (o .many) 0
+    steps-start marks whole o is = rw is (first-left marks whole)
 
-  pub room-asked : (index at number : ℕ) → Awaits t index at number → ModelRoom table v index
-  room-asked index at number awaits = room-there index (awaits .there)
-
-  pub steps-start :
-      (index at number : ℕ) → Awaits t index at number → (marks : List ℕ) → length marks ≡ marksMany → (o : Owner) → o ≡ ownerAt (recordsOf table) index →
-      StepsLeft t table v marks index o (o .many) at number 0
-  steps-start index at number awaits marks whole o is = rw is (first-left index (awaits .there) marks whole at number (awaits .cursor) (awaits .low))
-
-  module _ (marks : List ℕ) (index : ℕ) (o : Owner) (count here next i : ℕ) (left : StepsLeft t table v marks index o count here next i) where
+  module _ (marks : List ℕ) (index : ℕ) (o : Owner) (count i : ℕ) (left : StepsLeft t table v marks index o count i) where
     abbrev m : Model
     m = left .split .one
 
@@ -241,15 +213,13 @@ module _ (t table : List ℕ) (filled : HoldsText t table) (v : View) (is-view :
         let p : i ≡ length (left .above) = left .place in
         empty-list (left .below) (omega arith)
 
-    pub steps-end : count ≤ i → StepsTold t index (record { rule = 0; line = 0; at = here; next = next })
+    pub steps-end : count ≤ i → StepsTold t index (record { rule = 0; line = 0 })
     steps-end h =
         let e : left .below ≡ [] = none-left h in
         let p : drop (index + 1) (documentOf t .models) ≡ behind = drop-past (documentOf t .models) index (left .split) in
         record {
           broken = λ (n : _≡_ {A = ℕ} 0 0 → ⊥). absurd (n refl);
           kept = λ (z : _≡_ {A = ℕ} 0 0). rw p (rw e at (left .same));
-          cursor = left .cursor;
-          low = λ (z : _≡_ {A = ℕ} 0 0). rw p (all-least (λ (f : Finding). f .line) (modelFindings (documentOf t) behind) (rw e at (left .rising)));
         }
 
     module _ (h : i < count) where
@@ -278,8 +248,44 @@ module _ (t table : List ℕ) (filled : HoldsText t table) (v : View) (is-view :
       rest-here : rest (documentOf t) m (left .below) behind ≡ stepFinding (documentOf t) m s ∷ rest (documentOf t) m (front .others) behind
       rest-here = ap (λ (ss : List Step). rest (documentOf t) m ss behind) (front .all)
 
-      rising-here : Rising next (s .line ∷ findingLines (rest (documentOf t) m (front .others) behind))
-      rising-here = subst (λ (fs : List Finding). Rising next (findingLines fs)) rest-here (left .rising)
+      -- all steps of the text, this one among them
+      steps-split : gather stepOf (significant t)
+          ≡ (joined (λ (x : Model). x .steps) (left .split .before) ++ left .above) ++ (s ∷ (front .others ++ joined (λ (x : Model). x .steps) behind))
+      unfolding joined
+      steps-split =
+          let pre : List Step = joined (λ (x : Model). x .steps) (left .split .before) in
+          let post : List Step = joined (λ (x : Model). x .steps) behind in
+          sym (steps-of-text t)
+          ∙ ap (joined (λ (x : Model). x .steps)) (left .split .all)
+          ∙ joined-append (λ (x : Model). x .steps) (left .split .before) (m ∷ behind)
+          ∙ ap (λ (ss : List Step). pre ++ (ss ++ post)) steps-here
+          ∙ ap (λ (ss : List Step). pre ++ ss) (append-assoc (left .above) (s ∷ front .others) post)
+          ∙ sym (append-assoc pre (left .above) (s ∷ (front .others ++ post)))
+
+      index-is : o .from + i ≡ length (joined (λ (x : Model). x .steps) (left .split .before) ++ left .above)
+      index-is =
+          let pre : List Step = joined (λ (x : Model). x .steps) (left .split .before) in
+          let l : length (pre ++ left .above) ≡ length pre + length (left .above) = length-append pre (left .above) in
+          let p : i ≡ length (left .above) = left .place in
+          let f : o .from ≡ length pre = left .from-is in
+          omega arith
+
+      module _ (stage : List ℕ) (staged : StepsStaged t stage) where
+        pub staged-inside : stagedStepWidth * (o .from + i) + stagedStepWidth ≤ length stage
+        staged-inside =
+            let n : o .from + count ≤ countOf v steps = left .room in
+            let k : countOf v steps ≤ mostSteps = text-rooms t table filled v is-view .few-steps in
+            let r : stagedStepWidth * mostSteps ≤ length stage = staged .room in
+            omega arith
+
+        mult-is : multAt stage (o .from + i) ≡ s .mult
+        unfolding multAt stagedStep
+        mult-is =
+            ap (λ (k : ℕ). eqb (stagedStepAt stage (stagedStepWidth * k) .mult) 1) index-is
+            ∙ ap (λ (x : StagedStep). eqb (x .mult) 1)
+            (step-staged t (filled .counts) (filled .reads) stage staged (joined (λ (x : Model). x .steps) (left .split .before) ++ left .above)
+            (front .others ++ joined (λ (x : Model). x .steps) behind) s steps-split)
+            ∙ mult-back (s .mult)
 
       -- the record of the step
       module _ (own : StepRecord) (is-own : own ≡ getD (recordsOf table .steps) (o .from + i) noStep) where
@@ -294,55 +300,38 @@ module _ (t table : List ℕ) (filled : HoldsText t table) (v : View) (is-view :
         unfolding stepRecord
         line-is = ap (λ (x : StepRecord). x .line) own-is
 
-        kind-is : own .kind ≡ s .kind
-        unfolding stepRecord
-        kind-is = ap (λ (x : StepRecord). x .kind) own-is
-
-        pub line-low : next ≤ own .line
-        line-low = rw line-is (rising-first rising-here)
-
         pub below-here : Below t table v marks o own i
         below-here = record { inside = omega (arith, left .room); here = is-own; marked = left .marked }
 
-        module _ (told : Told) (is-told : TellsStep t own told) (after : List ℕ) (rule : ℕ)
-            (judged : Judged t table after o i (stepRuleAt t (recordsOf table) o own i (told .mult)) rule) where
-          mult-is : s .kind ≡ sectionKind → told .mult ≡ s .mult
-          mult-is k =
-              let said : Each (MultSaid t) (left .above ++ (s ∷ front .others)) =
-              rw steps-here at (each-at (left .split .before) behind m (rw (left .split .all) at (all-said t))) in
-              is-told .mult (kind-is ∙ k) ∙ ap (λ (n : ℕ). isMult (contentAt n (significant t))) line-is ∙ each-at (left .above) (front .others) s said k
-
+        module _ (stage : List ℕ) (staged : StepsStaged t stage) (mult : Bool) (told : mult ≡ multAt stage (o .from + i)) (after : List ℕ) (rule : ℕ)
+            (judged : Judged t table after o i (stepRuleAt t (recordsOf table) o own i mult) rule) where
           rule-is : rule ≡ stepRule doc m s
           rule-is =
               judged .told
-              ∙ (λ j. stepRuleAt t (records-are j) o (own-is j) (left .place j) (told .mult))
+              ∙ (λ j. stepRuleAt t (records-are j) o (own-is j) (left .place j) mult)
               ∙ step-is t doc right (in-order t) (left .split .before) behind m (left .split .all) (model-stands .steps) o (left .owns)
-              (left .above) (front .others) s steps-here (told .mult) mult-is
+              (left .above) (front .others) s steps-here mult (λ (k : s .kind ≡ sectionKind). told ∙ mult-is stage staged)
 
           same-here : firstIn (stepFinding (documentOf t) m s ∷ rest (documentOf t) m (front .others) behind) ≡ firstIn (belowFirst (documentOf t) (drop index (documentOf t .models)))
           same-here = ap firstIn (sym rest-here) ∙ left .same
 
-          pub step-breaks :
-              (rule ≡ 0 → ⊥) →
-              StepsTold t index (record { rule = rule; line = own .line; at = told .at; next = told .line })
+          pub step-breaks : (rule ≡ 0 → ⊥) → StepsTold t index (record { rule = rule; line = own .line })
           step-breaks n =
               let f : record { rule = rule; line = own .line } ≡ stepFinding (documentOf t) m s =
               λ j. record { rule = rule-is j; line = line-is j } in
               record {
                 broken = λ (k : rule ≡ 0 → ⊥). f ∙ sym (first-here _ _ (λ (z : stepRule (documentOf t) m s ≡ 0). n (rule-is ∙ z))) ∙ same-here;
                 kept = λ (z : rule ≡ 0). absurd (n z);
-                cursor = is-told .cursor;
-                low = λ (z : rule ≡ 0). absurd (n z);
               }
 
-          pub steps-on : rule ≡ 0 → StepsLeft t table v after index o count (told .at) (told .line) (i + 1)
+          pub steps-on : rule ≡ 0 → StepsLeft t table v after index o count (i + 1)
           steps-on z =
-              let low : told .line ≤ s .line + 1 = rw line-is at (is-told .low) in
               let l : length (left .above ++ (s ∷ [])) ≡ length (left .above) + 1 = length-append (left .above) (s ∷ []) in
               let p : i ≡ length (left .above) = left .place in
               record {
                 split = left .split;
                 owns = left .owns;
+                from-is = left .from-is;
                 count-is = left .count-is;
                 room = left .room;
                 above = left .above ++ (s ∷ []);
@@ -351,6 +340,4 @@ module _ (t table : List ℕ) (filled : HoldsText t table) (v : View) (is-view :
                 place = omega arith;
                 marked = judged .marked z;
                 same = sym (first-later _ _ (sym rule-is ∙ z)) ∙ same-here;
-                cursor = is-told .cursor;
-                rising = rising-wider (omega arith) (rising-rest rising-here);
               }

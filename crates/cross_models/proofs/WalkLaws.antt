@@ -15,47 +15,29 @@ use Rattle.table_layout.specs.declared.View.{View}
 use Rattle.table_record.specs.Way.Standing.{countOf}
 use Rattle.doc.specs.Lines.{significant}
 use Rattle.doc.specs.Document.{Model, Document, documentOf}
-use Rattle.doc.specs.Holds.{Each}
-use Rattle.doc.specs.Holds.Each.{more}
 use Rattle.cross_rules.specs.Rules.{noFinding}
 use Rattle.cross_rules.specs.Way.First.{firstIn}
 use Rattle.cross_rules.specs.Way.HoldsText.{HoldsText}
 use Rattle.cross_rules.specs.Way.Nth.{nthLine}
 use Rattle.cross_rules.specs.declared.Finding.{Finding}
-use Rattle.cross_rules.proofs.RisingLaws.{all-least}
-use Rattle.cross_rules.proofs.OrderLaws.{in-order}
 use Rattle.cross_rules.proofs.KindLaws.{first-here, first-later}
 use Rattle.cross_rules.proofs.NthLaws.{model-line}
 use Rattle.cross_rules.proofs.NamesLaws.{mapped-here}
 use Rattle.cross_rules.proofs.TableLaws.{text-rooms, many-models}
 use Rattle.cross_names.specs.Way.Listed.{Listed}
 use Rattle.table_name.specs.Way.Hash.{marksMany}
-use Rattle.cross_models.specs.Way.Cursor.{Cursor}
-use Rattle.cross_models.specs.Way.Models.{modelRuleAt, belowFirst, Awaits, StepsTold}
-use Rattle.cross_models.specs.declared.StepsFinding.{StepsFinding}
-use Rattle.cross_models.proofs.CursorLaws.{cursor-starts}
+use Rattle.cross_models.specs.Way.Models.{modelRuleAt, belowFirst, StepsTold}
 use Rattle.cross_models.proofs.StepsLaws.{Split, drop-to, model-here, rule-there}
 
-pub record ModelsLeft (t : List ℕ) (at number : ℕ) (marks : List ℕ) (i : ℕ) : Type 0 where
+pub record ModelsLeft (t marks : List ℕ) (i : ℕ) : Type 0 where
   pub same :
       firstIn (modelFindings (documentOf t) (drop i (documentOf t .models))) ≡ firstIn (modelFindings (documentOf t) (documentOf t .models))
-  pub cursor : Cursor t at number
-  pub low : Each (λ (f : Finding). number ≤ f .line) (modelFindings (documentOf t) (drop i (documentOf t .models)))
   pub whole : length marks ≡ marksMany
 
-pub models-start : (t marks : List ℕ) → length marks ≡ marksMany → ModelsLeft t 0 1 marks 0
-models-start t marks whole =
-    record {
-      same = refl;
-      cursor = cursor-starts t;
-      low = all-least (λ (f : Finding). f .line) (modelFindings (documentOf t) (documentOf t .models)) (in-order t .in-models);
-      whole = whole;
-    }
+pub models-start : (t marks : List ℕ) → length marks ≡ marksMany → ModelsLeft t marks 0
+models-start t marks whole = record { same = refl; whole = whole }
 
-each-rest : {A : Type 0} {P : A → Type 0} {x : A} {xs : List A} → Each P (x ∷ xs) → Each P xs
-each-rest (more h hs) = hs
-
-module _ (t table : List ℕ) (filled : HoldsText t table) (v : View) (is-view : v ≡ viewOf table) (at number : ℕ) (marks : List ℕ) (i : ℕ) (left : ModelsLeft t at number marks i) where
+module _ (t table : List ℕ) (filled : HoldsText t table) (v : View) (is-view : v ≡ viewOf table) (marks : List ℕ) (i : ℕ) (left : ModelsLeft t marks i) where
   abbrev d : Document
   d = documentOf t
 
@@ -67,7 +49,7 @@ module _ (t table : List ℕ) (filled : HoldsText t table) (v : View) (is-view :
       rw e at (left .same)
 
   module _ (h : i < countOf v models) where
-    there : i < length (d .models)
+    pub there : i < length (d .models)
     there = rw (many-models t table filled v is-view) at h
 
     abbrev here : Split (d .models) i
@@ -105,12 +87,9 @@ module _ (t table : List ℕ) (filled : HoldsText t table) (v : View) (is-view :
         below-same : firstIn (belowFirst d (drop i (d .models))) ≡ firstIn (modelFindings d (d .models))
         below-same = sym (first-later own _ (sym rule-is ∙ kept)) ∙ same-here
 
-        pub awaits-here : Awaits t i at number
-        awaits-here = record { there = there; cursor = left .cursor; low = each-rest (rw findings-here at (left .low)) }
-
-        module _ (found : StepsFinding) (told : StepsTold t i found) where
-          pub steps-break : (found .rule ≡ 0 → ⊥) → record { rule = found .rule; line = found .line } ≡ firstIn (modelFindings d (d .models))
+        module _ (found : Finding) (told : StepsTold t i found) where
+          pub steps-break : (found .rule ≡ 0 → ⊥) → found ≡ firstIn (modelFindings d (d .models))
           steps-break n = told .broken n ∙ below-same
 
-          pub models-on : found .rule ≡ 0 → (after : List ℕ) → (found .rule ≡ 0 → length after ≡ marksMany) → ModelsLeft t (found .at) (found .next) after (i + 1)
-          models-on z after whole = record { same = told .kept z ∙ below-same; cursor = told .cursor; low = told .low z; whole = whole z }
+          pub models-on : found .rule ≡ 0 → (after : List ℕ) → (found .rule ≡ 0 → length after ≡ marksMany) → ModelsLeft t after (i + 1)
+          models-on z after whole = record { same = told .kept z ∙ below-same; whole = whole z }

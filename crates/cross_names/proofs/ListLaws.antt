@@ -4,16 +4,16 @@
 use mathlib.Core.Path.{_≡_, refl, sym, _∙_, ap}
 use mathlib.Core.Bool.{Bool, true, false, not}
 use mathlib.Core.List.{List, [], _∷_, _++_, map, map-append, append-assoc, append-nil}
-use Prim.Native.Nat.{ℕ, _+_, _-_, _≤_, _<_, zero-le}
+use Prim.Native.Nat.{ℕ, _+_, _-_, _≤_, _<_}
 use native.Mathlib.Nat.{le-refl}
 use native.Mathlib.Omega.{arith}
 use lib.ListN.{length, getD, set, replicate, length-set, getD-replicate}
 use lib.Seq.{getD-set-same, getD-set-other}
 use lib.Dec.{leb, eqb}
-use borrow.Author.Tests.{lt-ltb, le-ltb, ne-eqb, eqb-true, eqb-false, leb-true, leb-false, not-true, not-false}
+use borrow.Author.Tests.{lt-ltb, le-ltb, eqb-true, eqb-false, leb-true, leb-false, not-true, not-false}
 use Rattle.cross_rules.specs.Way.Findings.{listNameRule, listFindings}
 use Rattle.base.specs.If.{if_then_else_, both, either}
-use Rattle.base.proofs.IfLaws.{if-true, if-false, by-cases, both-not-left, either-left, either-rest, not-via, not-not-via}
+use Rattle.base.proofs.IfLaws.{if-true, if-false, by-cases, either-left, either-rest, not-via, not-not-via}
 use Rattle.base.proofs.BrokenLaws.{first-broken, first-kept}
 use Rattle.lex_keyword.specs.Names.{beginIcmModel}
 use Rattle.line_place.specs.Place.{isInFamily}
@@ -24,14 +24,15 @@ use Rattle.table_layout.specs.Bounds.{mostModels}
 use Rattle.table_layout.specs.View.{viewOf}
 use Rattle.table_layout.specs.declared.View.{View}
 use Rattle.table_record.specs.Way.Standing.{countOf, Rooms}
-use Rattle.doc.specs.Lines.{Line, plain, keyOf, placeAfter, linesAt, significant, gather, upTo, standsIn, wordsOf, firstWord}
+use Rattle.doc.specs.Lines.{Line, plain, keyOf, linesAt, significant, gather, upTo, standsIn, wordsOf, firstWord}
 use Rattle.doc.specs.Document.{Named, Model, Document, listedAt, opensModel, modelOf, modelAt, inModel, documentIn, documentOf}
-use Rattle.doc.specs.Way.Found.{contentIn, lineIn, linesBehind, Located, FindsLine, IsPlain, Plainly, FindsKeyed}
+use Rattle.doc.specs.Way.Found.{lineIn, linesBehind, Located, FindsLine, cursorPast}
+use Rattle.doc.specs.Way.Staged.{ListsFrom}
 use Rattle.doc.specs.declared.Found.{Found}
+use Rattle.doc.specs.declared.Cursor.{Cursor}
 use Rattle.doc.specs.Holds.{Each}
 use Rattle.doc.specs.Holds.Each.{none, more}
 use Rattle.doc.proofs.StandsLaws.{each-append, each-gather, each-if}
-use Rattle.doc.proofs.PlainLaws.{plainly-quiet, meets-found}
 use Rattle.doc.proofs.GatherLaws.{gather-more, gather-none}
 use Rattle.cross_rules.specs.Rules.{any, isTwice, isThere, noFinding}
 use Rattle.cross_rules.specs.Way.First.{firstIn}
@@ -47,7 +48,7 @@ use Rattle.cross_rules.proofs.TwiceLaws.{listed-twice}
 use Rattle.cross_rules.proofs.KindLaws.{first-here, first-later}
 use Rattle.cross_rules.proofs.TableLaws.{text-rooms, many-models}
 use Rattle.cross_names.specs.Way.Listed.{modelNamed, isListed, Listed}
-use Rattle.cross_names.specs.Way.Judged.{noSlot, modelFound, judgedBy, nameJudged, lineJudged, FindsListed}
+use Rattle.cross_names.specs.Way.Judged.{noSlot, modelFound, judgedBy, nameJudged, lineJudged}
 use Rattle.cross_names.specs.declared.list.Judged.{Judged}
 use Rattle.cross_names.proofs.NamedLaws.{above-found, above-none, there-found, model-is}
 
@@ -108,58 +109,38 @@ either-swap true true c = refl
 either-swap true false c = refl
 either-swap false b c = refl
 
--- ---- the line found next
-
-module _ (t : List ℕ) (n at p : ℕ) (f : Found) where
-  pub near-listed : FindsLine t n at f → FindsListed t n at p f
-  near-listed finds =
-      record {
-        meets = meets-found t n at p f finds;
-        names-there = λ (e : f .there ≡ true). ap (gather listedAt) (finds .same-there e p);
-        names-none = λ (e : f .there ≡ false). ap (gather listedAt) (finds .same-none e p) ∙ gather-none listedAt;
-      }
-
-  module _ (other : p ≡ place.list → ⊥) where
-    not-listed : (l : Line) (ls : List Line) → IsPlain p l → listedAt l ls ≡ []
-    unfolding listedAt standsIn
-    not-listed l ls h = if-false _ _ (both-not-left _ _ (ne-eqb _ _ (λ (e : l .place ≡ place.list). other (sym (h .place-is) ∙ e))))
-
-    pub near-keyed : FindsKeyed t n at p f → FindsListed t n at p f
-    near-keyed meets =
-        record {
-          meets = meets;
-          names-there = λ (e : f .there ≡ true). plainly-quiet p listedAt not-listed _ _ (meets .same-there e);
-          names-none = λ (e : f .there ≡ false). plainly-quiet p listedAt not-listed _ _ (meets .same-none e) ∙ gather-none listedAt;
-        }
-
 -- ---- the rest of the lines
 
-pub record ListLeft (t : List ℕ) (listed : List Bool) (at n p : ℕ) : Type 0 where
+-- the lines from a cursor on
+abbrev from : List ℕ → Cursor → List Line
+from t c = linesAt t (c .line) (c .at) (c .place)
+
+pub record ListLeft (t : List ℕ) (listed : List Bool) (c : Cursor) : Type 0 where
   pub passed : List Line
-  pub all : significant t ≡ passed ++ linesAt t n at p
+  pub all : significant t ≡ passed ++ from t c
   pub above : List Named
-  pub rest : documentOf t .listed ≡ above ++ gather listedAt (linesAt t n at p)
-  pub same : firstIn (map (finding (documentOf t)) (gather listedAt (linesAt t n at p))) ≡ firstIn (listFindings (documentOf t))
+  pub rest : documentOf t .listed ≡ above ++ gather listedAt (from t c)
+  pub same : firstIn (map (finding (documentOf t)) (gather listedAt (from t c))) ≡ firstIn (listFindings (documentOf t))
   pub have : Each (λ (a : Named). modelNamed (documentOf t) a < length (documentOf t .models)) above
   pub long : length listed ≡ mostModels + 1
   pub told : (i : ℕ) → i < mostModels → getD listed i false ≡ raised (documentOf t) above i
-  pub within : at ≤ length t
-  pub counted : n ≤ at + 1
+  pub within : c .at ≤ length t
+  pub counted : c .line ≤ c .at + 1
 
-pub list-starts : (t : List ℕ) → ListLeft t (replicate (mostModels + 1) false) 0 1 0
-unfolding significant documentOf documentIn listFindings any
-list-starts t =
+pub list-starts : (t : List ℕ) (c : Cursor) → ListsFrom t c → ListLeft t (replicate (mostModels + 1) false) c
+unfolding listFindings any
+list-starts t c lists =
     record {
-      passed = [];
-      all = refl;
+      passed = lists .passed;
+      all = lists .all;
       above = [];
-      rest = refl;
-      same = refl;
+      rest = lists .listed;
+      same = ap (λ (ns : List Named). firstIn (map (finding (documentOf t)) ns)) (sym (lists .listed));
       have = none;
       long = refl;
       told = λ (i : ℕ) (h : i < mostModels). getD-replicate (mostModels + 1) i false false (omega arith);
-      within = zero-le;
-      counted = omega arith;
+      within = lists .within;
+      counted = lists .counted;
     }
 
 -- ---- no list line comes after a line that opens a model
@@ -298,9 +279,12 @@ abbrev pub Gives : List ℕ → ℕ → ℕ → List Bool → Type 0
 Gives t number line listed =
     (record { rule = number; line = line } ≡ firstIn (listFindings (documentOf t))) × (number ≡ 0 → Listed (documentOf t) listed)
 
-module _ (t : List ℕ) (listed : List Bool) (at n p : ℕ) (left : ListLeft t listed at n p) where
+module _ (t : List ℕ) (listed : List Bool) (c : Cursor) (left : ListLeft t listed c) where
+  abbrev p : ℕ
+  p = c .place
+
   -- no list line is left
-  list-done : gather listedAt (linesAt t n at p) ≡ [] → Gives t 0 0 listed
+  list-done : gather listedAt (from t c) ≡ [] → Gives t 0 0 listed
   unfolding firstIn noFinding isListed
   list-done e =
       let all : documentOf t .listed ≡ left .above = left .rest ∙ ap (λ (ns : List Named). left .above ++ ns) e ∙ append-nil (left .above) in (
@@ -312,19 +296,17 @@ module _ (t : List ℕ) (listed : List Bool) (at n p : ℕ) (left : ListLeft t l
             },
       )
 
-  module _ (line : Found) (nears : FindsListed t n at p line) where
+  module _ (line : Found) (finds : FindsLine t (c .line) (c .at) line) where
     pub list-ends : not (line .there) ≡ true → Gives t 0 0 listed
-    list-ends h = list-done (nears .names-none (not-true (line .there) h))
+    list-ends h = list-done (ap (gather listedAt) (finds .same-none (not-true (line .there) h) p) ∙ gather-none listedAt)
 
     module _ (there : not (line .there) ≡ false) where
       pub found : Located t line
-      found = nears .meets .located (not-false (line .there) there)
+      found = finds .located (not-false (line .there) there)
 
-      pub number-small : line .line ≤ length t
-      number-small = omega (arith, found .counted, found .further, found .next-within)
-
-      pub list-less : length t - line .next < length t - at
-      list-less = omega (arith, nears .meets .behind (not-false (line .there) there), found .further, found .next-within)
+      pub list-less : (next : Cursor) → next ≡ cursorPast t c line → length t - next .at < length t - c .at
+      unfolding cursorPast
+      list-less next is-next = rw is-next (omega (arith, finds .behind (not-false (line .there) there), found .further, found .next-within))
 
       abbrev l : Line
       l = lineIn t line p
@@ -332,21 +314,16 @@ module _ (t : List ℕ) (listed : List Bool) (at n p : ℕ) (left : ListLeft t l
       abbrev ls : List Line
       ls = linesBehind t line p
 
-      -- the lines skipped before it, which name no model
-      over : Plainly p (linesAt t n at p) (l ∷ ls)
-      over = nears .meets .same-there (not-false (line .there) there)
+      lines-here : from t c ≡ l ∷ ls
+      lines-here = finds .same-there (not-false (line .there) there) p
 
-      abbrev passed : List Line
-      passed = left .passed ++ over .before
+      all-here : significant t ≡ left .passed ++ (l ∷ ls)
+      all-here = left .all ∙ ap (λ (x : List Line). left .passed ++ x) lines-here
 
-      all-here : significant t ≡ passed ++ (l ∷ ls)
-      all-here =
-          left .all ∙ ap (λ (x : List Line). left .passed ++ x) (over .all) ∙ sym (append-assoc (left .passed) (over .before) (l ∷ ls))
+      here : gather listedAt (from t c) ≡ gather listedAt (l ∷ ls)
+      here = ap (gather listedAt) lines-here
 
-      here : gather listedAt (linesAt t n at p) ≡ gather listedAt (l ∷ ls)
-      here = nears .names-there (not-false (line .there) there)
-
-      names-here : gather listedAt (linesAt t n at p) ≡ listedAt l ls ++ gather listedAt ls
+      names-here : gather listedAt (from t c) ≡ listedAt l ls ++ gather listedAt ls
       names-here = here ∙ gather-more listedAt l ls
 
       rest-here : documentOf t .listed ≡ left .above ++ (listedAt l ls ++ gather listedAt ls)
@@ -422,9 +399,9 @@ module _ (t : List ℕ) (listed : List Bool) (at n p : ℕ) (left : ListLeft t l
           list-stops =
               let below : Each (λ (a : Named). Each (λ (m : Model). a .line < m .line) (documentOf t .models)) (documentOf t .listed) =
               models-below t (filled .counts) (filled .reads) in
-              let lower : Each (λ (a : Named). Each (λ (m : Model). a .line < m .line) (documentOf t .models)) (gather listedAt (linesAt t n at p)) =
+              let lower : Each (λ (a : Named). Each (λ (m : Model). a .line < m .line) (documentOf t .models)) (gather listedAt (from t c)) =
               each-behind (left .above) (rw (left .rest) at below) in
-              list-done (here ∙ none-between t passed l ls all-here opened (rw here at lower))
+              list-done (here ∙ none-between t (left .passed) l ls all-here opened (rw here at lower))
 
         module _ (judged : Judged) (is-judged : judged ≡ lineJudged t table v p line listed) where
           outcome : Outcome (documentOf t) l ls judged
@@ -436,15 +413,16 @@ module _ (t : List ℕ) (listed : List Bool) (at n p : ℕ) (left : ListLeft t l
           pub list-breaks : (judged .rule ≡ 0 → ⊥) → Gives t (judged .rule) (line .line) listed
           list-breaks n = (breaks-by (gather listedAt ls) outcome same-here n, λ (z : judged .rule ≡ 0). absurd (n z))
 
-          pub list-on : judged .rule ≡ 0 → (q : ℕ) → q ≡ placeAfter p (contentIn t line) → ListLeft t (set listed (judged .slot) true) (line .next) (line .line + 1) q
-          list-on z q is-place =
+          pub list-on : judged .rule ≡ 0 → (next : Cursor) → next ≡ cursorPast t c line → ListLeft t (set listed (judged .slot) true) next
+          unfolding cursorPast
+          list-on z next is-next =
               let k : line .line ≤ line .at + 1 = found .counted in
               let f : line .at < line .next = found .further in
               let g : Kept t listed l ls judged = kept-by few outcome z rest-here same-here (left .have) (left .long) (left .told) in
-              rw is-place
+              rw is-next
               (record {
-                passed = passed ++ (l ∷ []);
-                all = all-here ∙ sym (append-assoc passed (l ∷ []) ls);
+                passed = left .passed ++ (l ∷ []);
+                all = all-here ∙ sym (append-assoc (left .passed) (l ∷ []) ls);
                 above = g .above;
                 rest = g .rest;
                 same = g .same;

@@ -1,7 +1,5 @@
 // Rules 19 and 20 of the model list.
 ghost use mathlib.Core.Path.{_≡_};
-ghost use Prim.Native.Nat.{_+_, _≤_};
-ghost use lib.ListN.{length};
 ghost use lib.Dec.{eqb};
 ghost use Rattle.base.specs.If.{both};
 ghost use Rattle.lex_keyword.specs.Names.{beginIcmModel};
@@ -9,13 +7,15 @@ ghost use Rattle.line_place.specs.Place.{isInFamily, list};
 ghost use Rattle.doc.specs.Lines.{plain};
 ghost use Rattle.doc.specs.Document.{documentOf};
 ghost use Rattle.doc.specs.Way.Found.{Located};
+ghost use Rattle.doc.specs.Way.Staged.{ListsFrom};
 ghost use Rattle.cross_rules.specs.Way.Findings.{listFindings};
 ghost use Rattle.cross_rules.specs.Way.First.{firstIn};
 ghost use Rattle.cross_rules.specs.Way.HoldsText.{HoldsText};
 ghost use Rattle.table_layout.specs.View.{viewOf};
 ghost use Rattle.table_record.specs.Way.Standing.{Rooms};
 ghost use Rattle.cross_names.specs.Way.Listed.{Listed};
-ghost use Rattle.cross_names.specs.Way.Judged.{modelFound, nameJudged, lineJudged, FindsListed};
+ghost use Rattle.cross_names.specs.Way.Judged.{modelFound, nameJudged, lineJudged};
+use doc::Cursor;
 use doc::Found;
 use table_layout::View;
 
@@ -56,17 +56,6 @@ fn opens_model(place: u64, key: u64) -> bool
         return false;
     }
     key == lex_keyword::BEGIN_ICM_MODEL
-}
-
-// The next line that matters for the list: inside the list any line, elsewhere only a line with a keyword.
-fn next_list_line(text: &[u8], at: usize, line: u64, place: u64) -> Found
-    requires { ⌜ (at ≤ length (now text)) × (line ≤ at + 1) ⌝ }
-    ensures { λ r. ⌜ FindsListed (now (text .entry)) line at place r ⌝ }
-{
-    if place == line_place::LIST {
-        return doc::next_line(text, at, line);
-    }
-    doc::next_keyed(text, at, line, place)
 }
 
 // The index of the first model whose name is the first word of the line; the number of models if there is none.
@@ -135,18 +124,16 @@ fn judge_line(
     judge_name(text, table, view, line, listed)
 }
 
-// Goes through the list lines up to the first that breaks a rule. Each line before it sets the flag of another model, so no
-// more than FLAGS lines are judged.
-pub fn list_finding(text: &[u8], table: &[u64], view: View) -> ListFinding
-    requires { ⌜ HoldsText (now text) (now table) × (view ≡ viewOf (now table)) ⌝ }
+// Goes through the list lines from `start` on, up to the first that breaks a rule. Each line before it sets the flag of
+// another model, so no more than FLAGS lines are judged.
+pub fn list_finding(text: &[u8], table: &[u64], view: View, start: Cursor) -> ListFinding
+    requires { ⌜ HoldsText (now text) (now table) × (view ≡ viewOf (now table)) × ListsFrom (now text) start ⌝ }
     ensures { λ r. ⌜ (record { rule = r .rule; line = r .line } ≡ firstIn (listFindings (documentOf (now (text .entry))))) × (r .rule ≡ 0 → Listed (documentOf (now (text .entry))) (r .listed)) ⌝ }
 {
     let mut listed = [false; FLAGS];
-    let mut at = 0;
-    let mut line_here = 1;
-    let mut place = line_place::BEFORE;
+    let mut cursor = start;
     loop {
-        let line = next_list_line(text, at, line_here, place);
+        let line = doc::next_line(text, cursor.at, cursor.line);
         if !line.there {
             return ListFinding {
                 rule: 0,
@@ -154,14 +141,14 @@ pub fn list_finding(text: &[u8], table: &[u64], view: View) -> ListFinding
                 listed,
             };
         }
-        if opens_model(place, line.key) {
+        if opens_model(cursor.place, line.key) {
             return ListFinding {
                 rule: 0,
                 line: 0,
                 listed,
             };
         }
-        let judged = judge_line(text, table, view, place, line, listed);
+        let judged = judge_line(text, table, view, cursor.place, line, listed);
         if judged.rule != 0 {
             return ListFinding {
                 rule: judged.rule,
@@ -171,8 +158,6 @@ pub fn list_finding(text: &[u8], table: &[u64], view: View) -> ListFinding
         }
         let slot = judged.slot;
         listed[slot] = true;
-        place = doc::place_after(place, text, line);
-        at = line.next;
-        line_here = line.line + 1;
+        cursor = doc::past(text, cursor, line);
     }
 }

@@ -12,21 +12,22 @@ use Rattle.base.specs.If.{if_then_else_, both}
 use Rattle.base.proofs.IfLaws.{if-true, if-false, by-cases, both-first, both-second, both-rest}
 use Rattle.line_place.specs.Place as place
 use Rattle.table_layout.specs.Layout.{models, maps, pins, sections}
-use Rattle.doc.specs.Lines.{Line, keyOf, placeAfter, linesAt, significant, gather, upTo, standsIn, firstWord, wordsOf}
+use Rattle.doc.specs.Lines.{Line, keyOf, linesAt, significant, gather, upTo, standsIn, firstWord, wordsOf}
 use Rattle.doc.specs.Document.{Named, Model, Map, Section, opensModel, inModel, modelOf, modelAt, opensMap, inMap, mapOf, mapAt, pinAt, opensSection, inSection, sectionOf, sectionAt, documentIn, documentOf}
-use Rattle.doc.specs.Way.Found.{contentIn, lineIn, linesBehind, Located, FindsLine}
+use Rattle.doc.specs.Way.Found.{lineIn, linesBehind, Located, FindsLine, cursorStart, cursorPast}
 use Rattle.doc.specs.declared.Found.{Found}
+use Rattle.doc.specs.declared.Cursor.{Cursor}
 use Rattle.cross_rules.specs.Way.Nth.{writesAt, writesPart, nthLine}
 
 -- the loop's invariant: skipping `left` records from position `at` on leads to the same line as skipping `index` records from the start
-pub record CountLeft (t : List ℕ) (part index : ℕ) (left at n p : ℕ) : Type 0 where
-  pub same : nthLine part left (linesAt t n at p) ≡ nthLine part index (significant t)
-  pub within : at ≤ length t
-  pub counted : n ≤ at + 1
+pub record CountLeft (t : List ℕ) (part index left : ℕ) (c : Cursor) : Type 0 where
+  pub same : nthLine part left (linesAt t (c .line) (c .at) (c .place)) ≡ nthLine part index (significant t)
+  pub within : c .at ≤ length t
+  pub counted : c .line ≤ c .at + 1
 
-pub count-starts : (t : List ℕ) (part index : ℕ) → CountLeft t part index index 0 1 0
-unfolding significant
-count-starts t part index = record { same = refl; within = zero-le; counted = omega arith }
+pub count-starts : (t : List ℕ) (part index : ℕ) (c : Cursor) → c ≡ cursorStart → CountLeft t part index index c
+unfolding significant cursorStart
+count-starts t part index c e = rw e (record { same = refl; within = zero-le; counted = omega arith })
 
 module _ (part i : ℕ) (l : Line) (ls : List Line) where
   nth-found : both (writesPart part l) (eqb i 0) ≡ true → nthLine part i (l ∷ ls) ≡ l .line
@@ -44,7 +45,10 @@ nth-none : (part i : ℕ) → nthLine part i [] ≡ 0
 unfolding nthLine
 nth-none part i = refl
 
-module _ (t : List ℕ) (part index left at n p : ℕ) (inv : CountLeft t part index left at n p) (line : Found) (finds : FindsLine t n at line) where
+module _ (t : List ℕ) (part index left : ℕ) (c : Cursor) (inv : CountLeft t part index left c) (line : Found) (finds : FindsLine t (c .line) (c .at) line) where
+  abbrev p : ℕ
+  p = c .place
+
   pub count-ends : not (line .there) ≡ true → 0 ≡ nthLine part index (significant t)
   count-ends h = sym (nth-none part left) ∙ ap (nthLine part left) (sym (finds .same-none (not-true (line .there) h) p)) ∙ inv .same
 
@@ -52,7 +56,7 @@ module _ (t : List ℕ) (part index left at n p : ℕ) (inv : CountLeft t part i
     pub found : Located t line
     found = finds .located (not-false (line .there) there)
 
-    here : linesAt t n at p ≡ lineIn t line p ∷ linesBehind t line p
+    here : linesAt t (c .line) (c .at) p ≡ lineIn t line p ∷ linesBehind t line p
     here = finds .same-there (not-false (line .there) there) p
 
     module _ (writes : Bool) (is-writes : writes ≡ writesAt part p (line .key)) (last : Bool) (is-last : last ≡ both writes (eqb left 0)) where
@@ -65,31 +69,27 @@ module _ (t : List ℕ) (part index left at n p : ℕ) (inv : CountLeft t part i
           let b : both (writesPart part (lineIn t line p)) (eqb left 0) ≡ true = ap (λ (w : Bool). both w (eqb left 0)) writes-here ∙ sym is-last ∙ h in
           sym (nth-found part left (lineIn t line p) (linesBehind t line p) b) ∙ ap (nthLine part left) (sym here) ∙ inv .same
 
-      pub count-on : last ≡ false → (less : ℕ) → less ≡ (if writes then left - 1 else left) → (q : ℕ) → q ≡ placeAfter p (contentIn t line) → CountLeft t part index less (line .next) (line .line + 1) q
-      count-on h less is-less q is-place =
+      pub count-on : last ≡ false → (less : ℕ) → less ≡ (if writes then left - 1 else left) → (next : Cursor) → next ≡ cursorPast t c line → CountLeft t part index less next
+      unfolding cursorPast
+      count-on h less is-less next is-next =
           let b : both (writesPart part (lineIn t line p)) (eqb left 0) ≡ false = ap (λ (w : Bool). both w (eqb left 0)) writes-here ∙ sym is-last ∙ h in
           let m : less ≡ (if writesPart part (lineIn t line p) then left - 1 else left) = is-less ∙ ap (λ (w : Bool). if w then left - 1 else left) (sym writes-here) in
           let k : line .line ≤ line .at + 1 = found .counted in
           let f : line .at < line .next = found .further in
-          record {
-            same = (λ i. nthLine part (m i) (linesAt t (line .line + 1) (line .next) (is-place i))) ∙ sym (nth-on part left (lineIn t line p) (linesBehind t line p) b) ∙ ap (nthLine part left) (sym here) ∙ inv .same;
+          rw is-next
+          (record {
+            same = (λ i. nthLine part (m i) (linesBehind t line p)) ∙ sym (nth-on part left (lineIn t line p) (linesBehind t line p) b) ∙ ap (nthLine part left) (sym here) ∙ inv .same;
             within = found .next-within;
             counted = omega arith;
-          }
+          })
 
-    pub number-small : line .line ≤ length t
-    number-small =
-        let b : line .line ≤ line .at + 1 = found .counted in
-        let c : line .at < line .next = found .further in
+    pub count-less : (next : Cursor) → next ≡ cursorPast t c line → length t - next .at < length t - c .at
+    unfolding cursorPast
+    count-less next is-next =
+        let b : c .at ≤ line .at = finds .behind (not-false (line .there) there) in
+        let e : line .at < line .next = found .further in
         let d : line .next ≤ length t = found .next-within in
-        omega arith
-
-    pub count-less : length t - line .next < length t - at
-    count-less =
-        let b : at ≤ line .at = finds .behind (not-false (line .there) there) in
-        let c : line .at < line .next = found .further in
-        let d : line .next ≤ length t = found .next-within in
-        omega arith
+        rw is-next (omega arith)
 
 -- ---- the lines of the document's records
 

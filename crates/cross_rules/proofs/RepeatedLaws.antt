@@ -6,7 +6,7 @@ use mathlib.Core.List.{List, [], _∷_}
 use Prim.Native.Nat.{ℕ, zero, suc, _+_, _*_, _≤_, zero-le, suc-le-suc}
 use lib.ListN.{length, take, drop}
 use lib.Seq.{drop-drop}
-use lib.Dec.{leb, ltb, leb·suc-suc}
+use lib.Dec.{ltb, leb·suc-suc}
 use borrow.Author.Tests.{le-leb, lt-ltb}
 use Rattle.base.specs.If.{if_then_else_}
 use Rattle.base.specs.Runs.{same}

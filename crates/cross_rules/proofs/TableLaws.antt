@@ -4,7 +4,7 @@ use mathlib.Core.Path.{_≡_, sym, _∙_, ap, refl}
 use mathlib.Core.Bool.{true}
 use mathlib.Core.List.{List, [], map}
 use Prim.Native.Nat.{ℕ, _-_}
-use lib.ListN.{length, getD, replicate}
+use lib.ListN.{length, getD, replicate, List·getD-map}
 use Rattle.table_layout.specs.Bounds.{bounds}
 use Rattle.table_record.specs.Records.{Records, partsOf, recordsOf}
 use Rattle.table_record.specs.Way.Standing.{places, modelAt, stepAt, mapAt, pinAt, sectionAt, matrixAt, baseOf, countOf, placesOf, recordsAt, Rooms}
@@ -21,7 +21,6 @@ use Rattle.table_layout.specs.View.{viewOf}
 use Rattle.table_layout.specs.declared.View.{View}
 use Rattle.table_layout.proofs.LaidLaws.{AllFew, all-few, laid-view}
 use Rattle.cross_rules.specs.Way.HoldsText.{HoldsText}
-use Rattle.table_layout.proofs.FillingLaws.{lengths-at}
 
 module _ (t table : List ℕ) (filled : HoldsText t table) where
   abbrev parts : List (List (List ℕ))
@@ -34,7 +33,7 @@ module _ (t table : List ℕ) (filled : HoldsText t table) where
   counts-are = counts-agree t c (filled .reads)
 
   part-count : (p : ℕ) → length (getD parts p []) ≡ getD (countsOf c) p 0
-  part-count p = sym (lengths-at parts p) ∙ ap (λ (ns : List ℕ). getD ns p 0) counts-are
+  part-count p = sym (List·getD-map length parts p []) ∙ ap (λ (ns : List ℕ). getD ns p 0) counts-are
 
   parts-few : AllFew bounds parts
   unfolding partsOf

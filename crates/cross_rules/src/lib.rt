@@ -68,22 +68,18 @@ pub fn nth_line(text: &[u8], part: usize, index: u64) -> u64
     ensures { λ r. ⌜ r ≡ nthLine part index (significant (now (text .entry))) ⌝ }
 {
     let mut left = index;
-    let mut at = 0;
-    let mut line_here = 1;
-    let mut place = line_place::BEFORE;
+    let mut cursor = doc::start();
     loop {
-        let line = doc::next_line(text, at, line_here);
+        let line = doc::next_line(text, cursor.at, cursor.line);
         if !line.there {
             return 0;
         }
-        let writes = writes_at(part, place, line.key);
+        let writes = writes_at(part, cursor.place, line.key);
         if is_last(writes, left) {
             return line.line;
         }
         left = less_if(writes, left);
-        place = doc::place_after(place, text, line);
-        at = line.next;
-        line_here = line.line + 1;
+        cursor = doc::past(text, cursor, line);
     }
 }
 

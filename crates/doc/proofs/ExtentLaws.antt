@@ -19,9 +19,8 @@ use Rattle.lex_keyword.specs.Bracket.{bracketOf}
 use Rattle.lex_keyword.specs.declared.Bracket.{Bracket}
 use Rattle.lex_keyword.specs.declared.Bracket.the-variants.{Plain, Indented, Bad, Unknown, Later, Keyword}
 use Rattle.lex_keyword.proofs.AnswerLaws.{keyword-known}
-use Rattle.read_line.specs.Reading.{argumentFrom}
-use Rattle.doc.specs.Lines.{argumentIn, argumentOf, noWord, firstWord, secondWord}
-use Rattle.doc.specs.Way.Found.{extentOf, extentAt, contentIn, lineIn, Located}
+use Rattle.doc.specs.Lines.{argumentIn, noWord, firstWord, secondWord}
+use Rattle.doc.specs.Way.Found.{extentOf, extentAt, contentIn, Located}
 use Rattle.doc.specs.declared.Found.{Found}
 use Rattle.doc.specs.declared.Extent.{Extent}
 
@@ -108,10 +107,3 @@ module _ (t : List ℕ) (f : Found) (located : Located t f) where
       let w : f .end ≤ length t = located .within in
       let o : f .at ≤ f .end = located .ordered in
       omega arith
-
-  pub argument-told : (argument : List ℕ) → argument ≡ argumentFrom (contentIn t f) (f .argument) → record { start = f .at + f .argument; size = length argument } ≡ extentOf (argumentOf (lineIn t f 0))
-  unfolding extentOf argumentOf
-  argument-told argument e =
-      let a : f .argument ≡ argumentIn (bracketOf (contentIn t f)) = located .argument-is in
-      let m : length argument ≡ length (argumentFrom (contentIn t f) (argumentIn (bracketOf (contentIn t f)))) = ap length (e ∙ ap (argumentFrom (contentIn t f)) a) in
-      λ i. record { start = f .at + a i; size = m i }

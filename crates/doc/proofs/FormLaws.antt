@@ -15,7 +15,7 @@ use Rattle.table_record.specs.declared.Value.{Value}
 use Rattle.table_layout.specs.Codes.{diagonal, banded, sparse}
 use Rattle.base.proofs.IfLaws.{if-true, if-false, by-cases, both-true, both-not-left, both-not-right, both-first, both-second}
 use Rattle.lex_line.specs.Words.{words, secondOf}
-use Rattle.lex_number.specs.Number.{numberOf, isFormed, isBounded}
+use Rattle.lex_number.specs.Number.{numberOf, isFormed, isBounded, wordIn}
 use Rattle.lex_number.specs.ValueWord.{isValueWord}
 use Rattle.lex_number.specs.declared.Number.{Number}
 use Rattle.lex_number.specs.declared.Number.the-variants as number
@@ -24,7 +24,7 @@ use Rattle.lex_keyword.specs.Names.{row, bandwidth}
 use Rattle.line_matrix.specs.declared.Matrix.{Matrix}
 use Rattle.line_matrix.specs.Matrix.{withBandwidth, stillFits, withRow, numberCheck, areFormed, areBounded, withColumn}
 use Rattle.doc.specs.Lines.{Line, plain, keyOf}
-use Rattle.doc.specs.Document.{wordIn, nextRow, numbersAt, sparseAt, valuesFrom, givenBy, bandwidthIn, namedBy, greatestIn}
+use Rattle.doc.specs.Document.{nextRow, numbersAt, sparseAt, valuesFrom, givenBy, bandwidthIn, namedBy, greatestIn}
 use Rattle.doc.specs.Holds.{Each}
 use Rattle.doc.proofs.RiseLaws.{
   From,

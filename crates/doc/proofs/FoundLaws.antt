@@ -22,7 +22,8 @@ use Rattle.lex_keyword.specs.Bracket.{bracketOf}
 use Rattle.lex_keyword.specs.declared.Bracket.{Bracket}
 use Rattle.read_line.specs.Reading.{commentByte}
 use Rattle.doc.specs.Lines.{Line, plain, linesFrom, linesAt, placeAfter, keyIn, argumentIn, keyAt}
-use Rattle.doc.specs.Way.Found.{contentIn, Located, FindsLine}
+use Rattle.doc.specs.Way.Found.{contentIn, Located, FindsLine, cursorPast}
+use Rattle.doc.specs.declared.Cursor.{Cursor}
 use Rattle.doc.specs.declared.Found.{Found}
 use Rattle.doc.proofs.Goes.{lines-blank, lines-said, lines-none}
 
@@ -165,3 +166,8 @@ module _ (t : List ℕ) (f : Found) (located : Located t f) (p : ℕ) where
   pub place-keyed : (f .key ≡ plain → ⊥) → (r : ℕ) → r ≡ moved p (f .key) → r ≡ placeAfter p (contentIn t f)
   unfolding placeAfter
   place-keyed k r e = e ∙ ap (moved p) (located .key-is) ∙ sym (if-false _ _ (ne-eqb _ _ (λ (x : keyAt (contentIn t f) ≡ plain). k (located .key-is ∙ x))))
+
+pub past-is : (t : List ℕ) (c : Cursor) (f : Found) (place : ℕ) → place ≡ placeAfter (c .place) (contentIn t f) →
+    record { at = f .next; line = f .line + 1; place = place } ≡ cursorPast t c f
+unfolding cursorPast
+past-is t c f place e = λ i. record { at = f .next; line = f .line + 1; place = e i }

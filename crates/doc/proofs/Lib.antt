@@ -21,3 +21,4 @@ pub mod StandsLaws
 pub mod OrderLaws
 pub mod NamedLaws
 pub mod PlainLaws
+pub mod StagedLaws

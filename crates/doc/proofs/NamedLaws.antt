@@ -9,7 +9,7 @@ use native.Mathlib.Nat.{add-zero, le-trans}
 use native.Mathlib.Omega.{arith}
 use lib.ListN.{length, drop, length-take, length-drop, length-map}
 use lib.Dec.{ltb, leb, eqb}
-use borrow.Author.Tests.{eqb-true, eqb-false, eq-eqb, ltb-true, ltb-false, not-false}
+use borrow.Author.Tests.{eqb-true, eqb-false, eq-eqb, ltb-true, ltb-false, leb-true, leb-false, not-false}
 use Rattle.table_layout.specs.Codes.{endKind, sectionKind, forkKind, endforkKind}
 use Rattle.table_layout.specs.Bounds.{mostSteps}
 use Rattle.base.specs.If.{if_then_else_, both, either}
@@ -34,6 +34,9 @@ use Rattle.lex_line.specs.Lines.{Raw, lines, contentOf, isBlankLine}
 use Rattle.lex_line.specs.Words.{Word, wordGoesOn, grown, wordsFrom, words, firstOf, lastEnd, toEquals, rightOf}
 use Rattle.lex_line.specs.ByteRules.{sizeRules, mostCharacters, withoutReturn, characters, refusedOr, linesRule, byteRules, rawLineRule as rawRule}
 use Rattle.lex_line.specs.declared.Checked.{Checked}
+use Rattle.lex_line.specs.declared.Span.{Span}
+use Rattle.lex_line.specs.Way.Spans.{wordSpan}
+use Rattle.lex_line.proofs.WordLaws.{start-on, end-past, word-ordered}
 use Rattle.lex_line.specs.declared.Checked.the-variants.{Fine, Refused}
 use Rattle.lex_keyword.specs.Names.{icmPinMap, beginIcmModel, beginIcmSection}
 use Rattle.lex_keyword.specs.Bracket.{bracketOf}
@@ -74,7 +77,10 @@ use Rattle.doc.specs.Holds.Each.{none, more}
 use Rattle.doc.proofs.Goes.{Goes, Moves, lines-blank, lines-said, lines-none, text-ends}
 use Rattle.doc.proofs.Goes.Idle.{ended, waits}
 use Rattle.doc.proofs.Goes.Moves.{idle, plainly, keyed}
-use Rattle.doc.proofs.StandsLaws.{each-join, each-gather, each-if, each-up, LineStands, words-stand, argument-stands, lines-stand}
+use Rattle.doc.specs.Way.Found.{extentOf, extentAt}
+use Rattle.doc.specs.declared.Extent.{Extent}
+use Rattle.doc.proofs.ExtentLaws.{mark-none, mark-some, second-marked}
+use Rattle.doc.proofs.StandsLaws.{each-map, each-join, each-gather, each-if, each-up, LineStands, words-stand, argument-stands, lines-stand}
 
 -- ---- no line is too long
 
@@ -420,22 +426,29 @@ says-in l k some e =
     let z : 0 ≡ k = sym (if-false _ _ b) ∙ eqb-true _ _ e in
     absurd (omega arith))
 
-module _ (t : List ℕ) (l : Line) (h : Written t l) where
+module _ (l : Line) (h : Kept l) where
   said-right : (k : ℕ) → Says l k → lineSaying k (l .content) .right ≡ true
   unfolding pathLineOf
-  said-right k s = ap (λ (n : ℕ). lineSaying n (l .content) .right) (sym (s .says)) ∙ h .kept .right (s .inside) (s .keyless)
+  said-right k s = ap (λ (n : ℕ). lineSaying n (l .content) .right) (sym (s .says)) ∙ h .right (s .inside) (s .keyless)
 
   names-two : namesOne (words (l .content)) ≡ true → length (words (l .content)) ≡ 2
   unfolding namesOne
   names-two e = eqb-true _ _ (both-first _ _ e)
 
-  end-named : eqb (sayingAt l) path.saysEnd ≡ true → IsName t (secondWord (wordsOf l))
+  end-two : eqb (sayingAt l) path.saysEnd ≡ true → length (words (l .content)) ≡ 2
   unfolding lineSaying plainLine if_then_else_ either
-  end-named e = second-named t l h (names-two (said-right path.saysEnd (says-in l path.saysEnd (omega arith) e)))
+  end-two e = names-two (said-right path.saysEnd (says-in l path.saysEnd (omega arith) e))
+
+  side-two : eqb (sayingAt l) path.saysSide ≡ true → length (words (l .content)) ≡ 2
+  unfolding lineSaying plainLine if_then_else_ either
+  side-two e = names-two (said-right path.saysSide (says-in l path.saysSide (omega arith) e))
+
+module _ (t : List ℕ) (l : Line) (h : Written t l) where
+  end-named : eqb (sayingAt l) path.saysEnd ≡ true → IsName t (secondWord (wordsOf l))
+  end-named e = second-named t l h (end-two l (h .kept) e)
 
   side-named : eqb (sayingAt l) path.saysSide ≡ true → IsName t (secondWord (wordsOf l))
-  unfolding lineSaying plainLine if_then_else_ either
-  side-named e = second-named t l h (names-two (said-right path.saysSide (says-in l path.saysSide (omega arith) e)))
+  side-named e = second-named t l h (side-two l (h .kept) e)
 
   section-right : sectionLine (l .content) .right ≡ true → length (rightOf (l .content)) ≡ 2
   unfolding sectionLine plainLine isSectionLine
@@ -448,7 +461,7 @@ module _ (t : List ℕ) (l : Line) (h : Written t l) where
 
   section-named : eqb (sayingAt l) path.saysSection ≡ true → IsName t (secondWord (rightWordsOf l))
   unfolding lineSaying if_then_else_
-  section-named e = right-named t l h (section-right (said-right path.saysSection (says-in l path.saysSection (omega arith) e)))
+  section-named e = right-named t l h (section-right (said-right l (h .kept) path.saysSection (says-in l path.saysSection (omega arith) e)))
 
 -- ---- the names of the document
 
@@ -586,3 +599,60 @@ module _ (t : List ℕ) where
         maps = each-gather (Written t) mapAt map-named lines;
         sections = each-gather (Written t) sectionAt sections-named lines;
       }
+
+-- ---- where the name of an end stands
+
+-- a second word stands in its list, behind the first byte
+module _ (at : ℕ) (s : List ℕ) where
+  abbrev second : Span
+  second = wordSpan s (wordSpan s 0 .end)
+
+  second-is-at : second .start < length s → secondWord (wordsFrom at s) .start ≡ at + second .start
+  unfolding extentOf
+  second-is-at h =
+      ap (λ (e : Extent). e .start)
+      (sym (second-marked s at (wordSpan s 0) refl (extentAt s at second) second refl refl) ∙ sym (mark-some s at second h))
+
+  second-there : 1 ≤ length (secondWord (wordsFrom at s) .text) → second .start < length s
+  unfolding extentOf
+  second-there some =
+      by-cases (second .start < length s) (leb (length s) (second .start))
+      (λ (e : leb (length s) (second .start) ≡ true).
+      let z : length (secondWord (wordsFrom at s) .text) ≡ 0 =
+      ap (λ (x : Extent). x .size)
+      (sym (second-marked s at (wordSpan s 0) refl (extentAt s at second) second refl refl) ∙ sym (mark-none s at second (leb-true _ _ e))) in
+      absurd (omega arith))
+      (λ (e : leb (length s) (second .start) ≡ false). leb-false _ _ e)
+
+  second-past : second .start < length s → 0 < second .start
+  second-past h =
+      let a : wordSpan s 0 .end ≤ second .start = start-on s (wordSpan s 0 .end) in
+      let b : wordSpan s 0 .start ≤ wordSpan s 0 .end = word-ordered s 0 (wordSpan s 0) refl in
+      let c : 0 < wordSpan s 0 .end = end-past s 0 (wordSpan s 0) refl (omega arith) in
+      omega arith
+
+-- a line that says something in a path has no keyword
+pub says-plain : (l : Line) (k : ℕ) → 0 < k → eqb (sayingAt l) k ≡ true → keyOf l ≡ plain
+says-plain l k some e = says-in l k some e .keyless
+
+-- an offset in a line, behind its first byte
+pub record Inside (l : Line) (x : ℕ) : Type 0 where
+  pub past : l .at < x
+  pub within : x ≤ l .at + length (l .content)
+
+end-inside : (l : Line) → Kept l → eqb (sayingAt l) path.saysEnd ≡ true → Inside l (secondWord (wordsOf l) .start)
+unfolding wordsOf
+end-inside l kept e =
+    let c : length (words (l .content)) ≡ length (wordsFrom 0 (l .content)) = length-map (wordsFrom 0 (l .content)) (λ (w : Word). w .text) in
+    let two : length (wordsFrom (l .at) (l .content)) ≡ 2 = words-count (l .at) 0 (l .content) ∙ sym c ∙ end-two l kept e in
+    let some : 1 ≤ length (secondWord (wordsFrom (l .at) (l .content)) .text) =
+    second-is {P = Sized (length (l .content))} (wordsFrom (l .at) (l .content)) two (words-sized (l .at) (l .content)) .some in
+    let there : second (l .at) (l .content) .start < length (l .content) = second-there (l .at) (l .content) some in
+    let is : secondWord (wordsFrom (l .at) (l .content)) .start ≡ l .at + second (l .at) (l .content) .start = second-is-at (l .at) (l .content) there in
+    let past : 0 < second (l .at) (l .content) .start = second-past (l .at) (l .content) there in
+    record { past = omega arith; within = omega arith }
+
+-- the name of every end of a text that reads to its end stands in its line
+pub ends-inside : (t : List ℕ) (c : Counts) → readingOf t ≡ Read c →
+    Each (λ (l : Line). eqb (sayingAt l) path.saysEnd ≡ true → Inside l (secondWord (wordsOf l) .start)) (significant t)
+ends-inside t c read = each-map end-inside (goes-kept (text-ends t c read .goes))

@@ -1,27 +1,31 @@
--- Laws of the order of lines: of two significant lines the earlier ends before the later starts. So the maps below a
--- line are those whose names are after it in the text.
+-- Laws of the order of lines: of two significant lines the earlier ends before the later starts. So the maps below an
+-- end are those whose names are behind its own in the text.
 -- Assumes nothing.
-use mathlib.Core.Path.{_≡_, refl, sym, _∙_, ap}
-use mathlib.Core.Bool.{true}
-use mathlib.Core.List.{List, [], _∷_, _++_}
+use mathlib.Core.Path.{_≡_, refl, sym, _∙_}
+use mathlib.Core.Bool.{true, false}
+use mathlib.Core.List.{List, [], _∷_, _++_, append-assoc}
 use Prim.Native.Nat.{ℕ, _+_, _≤_, _<_}
 use native.Mathlib.Nat.{le-refl, le-trans}
 use native.Mathlib.Omega.{arith}
 use lib.ListN.{length}
-use lib.Dec.{ltb, leb}
+use lib.Dec.{ltb, leb, eqb}
 use borrow.Author.Tests.{eqb-true, le-leb, lt-leb, lt-ltb, le-ltb}
-use Rattle.base.proofs.IfLaws.{both-second}
+use Rattle.table_layout.specs.Codes.{endKind, sectionKind, forkKind, endforkKind}
+use Rattle.base.proofs.IfLaws.{both-second, by-test}
 use Rattle.lex_keyword.specs.Names.{icmPinMap}
 use Rattle.lex_keyword.specs.Bracket.{bracketOf}
 use Rattle.line_place.specs.Place as place
-use Rattle.doc.specs.Lines.{Line, plain, argumentIn, linesAt, significant, keyOf, argumentOf}
-use Rattle.doc.specs.Document.{Map, opensMap, mapOf, mapAt, documentIn, documentOf}
+use Rattle.line_path.specs.Path as path
+use Rattle.line_keyword.specs.declared.Counts.{Counts}
+use Rattle.read_line.specs.Reading.{readingOf}
+use Rattle.read_line.specs.declared.Reading.the-variants.{Read}
+use Rattle.doc.specs.Lines.{Line, plain, argumentIn, significant, keyOf, argumentOf, wordsOf, secondWord, gather}
+use Rattle.doc.specs.Document.{Step, Map, sayingAt, stepOf, opensMap, mapOf, mapAt, documentIn, documentOf}
 use Rattle.doc.specs.Holds.{Each}
 use Rattle.doc.specs.Holds.Each.{none, more}
-use Rattle.doc.specs.Way.Found.{lineIn, linesBehind, Located, FindsLine}
-use Rattle.doc.specs.declared.Found.{Found}
 use Rattle.doc.proofs.ExtentLaws.{argument-in-line}
-use Rattle.doc.proofs.StandsLaws.{each-append, each-gather, each-if, Laid, laid}
+use Rattle.doc.proofs.NamedLaws.{says-plain, Inside, ends-inside}
+use Rattle.doc.proofs.StandsLaws.{each-map, each-append, each-gather, each-if, Laid, laid}
 use Rattle.doc.proofs.StandsLaws.Laid.{ended, onward}
 
 -- ---- lines one after the other
@@ -81,10 +85,6 @@ lines-sorted t before after l e =
 abbrev Tells : ℕ → ℕ → Line → Type 0
 Tells n next k = keyOf k ≡ icmPinMap → leb next (argumentOf k .start) ≡ ltb n (k .line)
 
-each-tells : {P : Line → Type 0} (n next : ℕ) → ((k : Line) → P k → Tells n next k) → {ls : List Line} → Each P ls → Each (Tells n next) ls
-each-tells n next gives none = none
-each-tells n next gives (more {x = k} h hs) = more (gives k h) (each-tells n next gives hs)
-
 module _ (n at next : ℕ) (k : Line) where
   before-tells : at < next → Before n at k → Tells n next k
   unfolding argumentOf
@@ -94,11 +94,11 @@ module _ (n at next : ℕ) (k : Line) where
       let m : k .at + length (k .content) ≤ at = b .ends in
       lt-leb next (k .at + argumentIn (bracketOf (k .content))) (omega arith) ∙ sym (le-ltb n (k .line) (omega arith))
 
-  behind-tells : Behind (n + 1) next k → Tells n next k
+  behind-tells : next ≤ at → Behind (n + 1) at k → Tells n next k
   unfolding argumentOf
-  behind-tells b e =
+  behind-tells h b e =
       let l : n + 1 ≤ k .line = b .higher in
-      let m : next ≤ k .at = b .starts in
+      let m : at ≤ k .at = b .starts in
       le-leb next (k .at + argumentIn (bracketOf (k .content))) (omega arith) ∙ sym (lt-ltb n (k .line) (omega arith))
 
 map-told : (n next : ℕ) (k : Line) (ls : List Line) → Tells n next k → Each (Tells n next) ls →
@@ -106,22 +106,59 @@ map-told : (n next : ℕ) (k : Line) (ls : List Line) → Tells n next k → Eac
 unfolding mapAt mapOf opensMap
 map-told n next k ls h hs = each-if (opensMap k) _ (λ (e : opensMap k ≡ true). h (eqb-true _ _ (both-second _ _ e)))
 
--- for a line that was found, and has no keyword
-module _ (t : List ℕ) (before : List Line) (n at p : ℕ) (line : Found) (finds : FindsLine t n at line) (there : line .there ≡ true) where
-  pub maps-behind : significant t ≡ before ++ linesAt t n at p → line .key ≡ plain →
-      Each (λ (m : Map). leb (line .next) (m .name .start) ≡ ltb (line .line) (m .line)) (documentOf t .maps)
-  unfolding documentOf documentIn keyOf linesAt
-  maps-behind e key =
-      let located : Located t line = finds .located there in
-      let split : significant t ≡ before ++ (lineIn t line p ∷ linesBehind t line p) =
-      e ∙ ap (λ (ls : List Line). before ++ ls) (finds .same-there there p) in
-      let earlier : Each (Tells (line .line) (line .next)) before =
-      each-tells (line .line) (line .next) (λ (k : Line). before-tells (line .line) (line .at) (line .next) k (located .further))
-      (lines-sorted t before (linesBehind t line p) (lineIn t line p) split .earlier) in
-      let own : Tells (line .line) (line .next) (lineIn t line p) =
-      λ (k : keyOf (lineIn t line p) ≡ icmPinMap). let z : _≡_ {A = ℕ} 41 14 = sym key ∙ located .key-is ∙ k in absurd (omega arith) in
-      let later : Each (Tells (line .line) (line .next)) (linesBehind t line p) =
-      each-tells (line .line) (line .next) (behind-tells (line .line) (line .at) (line .next))
-      (laid-behind (line .line + 1) (line .next) (le-refl _) (le-refl _) (laid t (line .line + 1) (line .next) _)) in
-      let all : Each (Tells (line .line) (line .next)) (significant t) = rw split (each-append earlier (more own later)) in
-      each-gather (Tells (line .line) (line .next)) mapAt (map-told (line .line) (line .next)) all
+-- for a line without a keyword, and an offset in it behind its first byte
+maps-past : (t : List ℕ) (before after : List Line) (l : Line) → significant t ≡ before ++ (l ∷ after) → keyOf l ≡ plain → (x : ℕ) → Inside l x →
+    Each (λ (m : Map). leb x (m .name .start) ≡ ltb (l .line) (m .line)) (documentOf t .maps)
+unfolding documentOf documentIn
+maps-past t before after l split key x inside =
+    let sorted : Sorted before l after = lines-sorted t before after l split in
+    let earlier : Each (Tells (l .line) x) before =
+    each-map (λ (k : Line). before-tells (l .line) (l .at) x k (inside .past)) (sorted .earlier) in
+    let own : Tells (l .line) x l = λ (k : keyOf l ≡ icmPinMap). let z : _≡_ {A = ℕ} 41 14 = sym key ∙ k in absurd (omega arith) in
+    let later : Each (Tells (l .line) x) after =
+    each-map (λ (k : Line). behind-tells (l .line) (l .at + length (l .content)) x k (inside .within)) (sorted .later) in
+    let all : Each (Tells (l .line) x) (significant t) = rw split (each-append earlier (more own later)) in
+    each-gather (Tells (l .line) x) mapAt (map-told (l .line) x) all
+
+-- ---- the maps below the ends of a text
+
+-- of an end, a map is below its line exactly if the map's name is behind its own
+abbrev pub EndOrdered : List Map → Step → Type 0
+EndOrdered maps s = s .kind ≡ endKind → Each (λ (m : Map). leb (s .name .start) (m .name .start) ≡ ltb (s .line) (m .line)) maps
+
+abbrev EndInside : Line → Type 0
+EndInside l = eqb (sayingAt l) path.saysEnd ≡ true → Inside l (secondWord (wordsOf l) .start)
+
+module _ (t : List ℕ) where
+  abbrev maps : List Map
+  maps = documentOf t .maps
+
+  step-ordered : (before after : List Line) (l : Line) → significant t ≡ before ++ (l ∷ after) → EndInside l → Each (EndOrdered maps) (stepOf l after)
+  unfolding stepOf
+  step-ordered before after l split inside =
+      by-test (Each (EndOrdered maps)) (eqb (sayingAt l) path.saysEnd) _ _
+      (λ (e : eqb (sayingAt l) path.saysEnd ≡ true).
+      more (λ (k : endKind ≡ endKind). maps-past t before after l split (end-plain l e) (secondWord (wordsOf l) .start) (inside e)) none)
+      (λ (e : eqb (sayingAt l) path.saysEnd ≡ false).
+      by-test (Each (EndOrdered maps)) (eqb (sayingAt l) path.saysSection) _ _
+      (λ (f : eqb (sayingAt l) path.saysSection ≡ true). more (λ (k : sectionKind ≡ endKind). absurd (omega arith)) none)
+      (λ (f : eqb (sayingAt l) path.saysSection ≡ false).
+      by-test (Each (EndOrdered maps)) (eqb (sayingAt l) path.saysFork) _ _
+      (λ (g : eqb (sayingAt l) path.saysFork ≡ true). more (λ (k : forkKind ≡ endKind). absurd (omega arith)) none)
+      (λ (g : eqb (sayingAt l) path.saysFork ≡ false).
+      by-test (Each (EndOrdered maps)) (eqb (sayingAt l) path.saysEndfork) _ _
+      (λ (h : eqb (sayingAt l) path.saysEndfork ≡ true). more (λ (k : endforkKind ≡ endKind). absurd (omega arith)) none)
+      (λ (h : eqb (sayingAt l) path.saysEndfork ≡ false). none))))
+    where
+      end-plain : (l : Line) → eqb (sayingAt l) path.saysEnd ≡ true → keyOf l ≡ plain
+      end-plain l e = says-plain l path.saysEnd (omega arith) e
+
+  steps-ordered : (before ls : List Line) → significant t ≡ before ++ ls → Each EndInside ls → Each (EndOrdered maps) (gather stepOf ls)
+  unfolding gather
+  steps-ordered before [] split none = none
+  steps-ordered before (l ∷ ls) split (more h hs) =
+      each-append (step-ordered before ls l split h)
+      (steps-ordered (before ++ (l ∷ [])) ls (split ∙ sym (append-assoc before (l ∷ []) ls)) hs)
+
+  pub ends-ordered : (c : Counts) → readingOf t ≡ Read c → Each (EndOrdered maps) (gather stepOf (significant t))
+  ends-ordered c read = steps-ordered [] (significant t) refl (ends-inside t c read)

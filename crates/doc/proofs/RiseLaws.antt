@@ -14,10 +14,10 @@ use Rattle.table_layout.specs.Codes.{diagonal, sparse}
 use Rattle.base.specs.If.{if_then_else_}
 use Rattle.base.proofs.IfLaws.{if-true, if-false, both-true, either-left, either-right}
 use Rattle.lex_line.specs.Words.{words}
-use Rattle.lex_number.specs.Number.{numberOf}
+use Rattle.lex_number.specs.Number.{numberOf, wordIn}
 use Rattle.lex_keyword.specs.Names.{row, bandwidth}
 use Rattle.doc.specs.Lines.{Line, plain, keyOf}
-use Rattle.doc.specs.Document.{wordIn, nextRow, numbersAt, sparseAt, valuesFrom, givenBy}
+use Rattle.doc.specs.Document.{nextRow, numbersAt, sparseAt, valuesFrom, givenBy}
 use Rattle.doc.specs.Holds.{Each, comesBefore, isInUpperHalf, rises}
 
 -- ---- values that rise

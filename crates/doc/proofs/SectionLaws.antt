@@ -67,6 +67,7 @@ use Rattle.doc.specs.Document.{
   documentOf,
 }
 use Rattle.doc.specs.Holds.{Each}
+use Rattle.doc.proofs.StandsLaws.{each-map}
 use Rattle.doc.proofs.Goes.{Idle, Moves, Goes, Ends, text-ends}
 use Rattle.doc.proofs.Goes.Idle.{ended, waits}
 use Rattle.doc.proofs.Goes.Moves.{idle, plainly, keyed}
@@ -587,10 +588,6 @@ unfolding documentOf documentIn
 text-written t c h =
     let e : Ends startState (significant t) c = text-ends t c h in
     sections-written (e .goes) (e .done)
-
-each-map : {A : Type 0} {P Q : A → Type 0} {xs : List A} → ((x : A) → P x → Q x) → Each P xs → Each Q xs
-each-map f Each.none = Each.none
-each-map f (Each.more h hs) = Each.more (f _ h) (each-map f hs)
 
 written-right : (n : ℕ) (m : Matrix) → Written n m → RightMatrix n m
 written-right n m w = rw (w .same) (new-right (w .known) n (w .last) (w .first) (w .body) (w .form) (w .read) (w .line) (w .formed))

@@ -78,6 +78,10 @@ use Rattle.doc.proofs.ExtentLaws.{argument-in-line}
 
 -- ---- every one of a list
 
+pub each-map : {A : Type 0} {P Q : A → Type 0} {xs : List A} → ((x : A) → P x → Q x) → Each P xs → Each Q xs
+each-map f none = none
+each-map f (more h hs) = more (f _ h) (each-map f hs)
+
 pub each-join : {A : Type 0} {P Q R : A → Type 0} → ((x : A) → P x → Q x → R x) → {xs : List A} → Each P xs → Each Q xs → Each R xs
 each-join f none none = none
 each-join f (more {x = x} h hs) (more k ks) = more (f x h k) (each-join f hs ks)
@@ -326,6 +330,9 @@ module _ (t : List ℕ) where
       (λ (e : eqb (sayingAt l) path.saysFork ≡ false).
       each-if (eqb (sayingAt l) path.saysEndfork) _
       (λ (e : eqb (sayingAt l) path.saysEndfork ≡ true). record { name = no-word-stands t; side = no-word-stands t }))))
+
+  pub steps-stand : Each (StepStands t) (gather stepOf (significant t))
+  steps-stand = each-gather (LineStands t) stepOf step-stands (lines-stand t)
 
   model-stands : (l : Line) (ls : List Line) → LineStands t l → Each (LineStands t) ls → Each (ModelStands t) (modelAt l ls)
   unfolding modelAt modelOf stepsIn

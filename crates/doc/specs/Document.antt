@@ -9,11 +9,9 @@ use lib.Dec.{eqb}
 use Rattle.table_record.specs.declared.Value.{Value}
 use Rattle.table_layout.specs.Codes.{diagonal, sparse, endKind, sectionKind, forkKind, endforkKind, resistanceKind, inductanceKind, conductanceKind, capacitanceKind}
 use Rattle.base.specs.If.{if_then_else_, both, either}
-use Rattle.lex_line.specs.Words.{Word, words, firstOf, secondOf, rightOf}
-use Rattle.lex_number.specs.Number.{numberOf}
+use Rattle.lex_line.specs.Words.{Word, words, firstOf, secondOf}
+use Rattle.lex_number.specs.Number.{numberOf, wordIn}
 use Rattle.lex_number.specs.Integer.{wholeOf}
-use Rattle.lex_number.specs.declared.Number.{Number}
-use Rattle.lex_number.specs.declared.Number.the-variants as number
 use Rattle.lex_keyword.specs.Names.{
   row,
   bandwidth,
@@ -30,7 +28,7 @@ use Rattle.line_place.specs.Place as place
 use Rattle.line_argument.specs.Argument.{formOf, methodOf}
 use Rattle.line_head.specs.Head.{headLineOf, headNext, newHead}
 use Rattle.line_head.specs.declared.Head.{Head}
-use Rattle.line_path.specs.Path.{sayingOf, isMult}
+use Rattle.line_path.specs.Path.{sayingOf, isMult, amountOf}
 use Rattle.line_path.specs.Path as path
 use Rattle.line_map.specs.PinMap.{mapLineOf, mapNext, newMap}
 use Rattle.line_map.specs.declared.Map as pinMap
@@ -102,20 +100,9 @@ pub record Document : Type 0 where
 
 -- ---- paths
 
--- the value word of a number, 0 if it is malformed or out of range
-abbrev pub wordIn : Number → ℕ
-wordIn (number.Value w) = w
-wordIn number.Malformed = 0
-wordIn number.Range = 0
-
 -- what a line of a path says; a line that is in no path says nothing
 unfoldable pub sayingAt : Line → ℕ
 sayingAt l = if standsIn place.path l then sayingOf (firstOf (words (l .content))) else path.saysNothing
-
--- "amount: Mult, the Len value word"
-unfoldable pub amountOf : List ℕ → ℕ
-amountOf content =
-    if isMult content then wholeOf (firstOf (rightOf content)) .value else wordIn (numberOf (firstOf (rightOf content)))
 
 -- "perhaps with `Side name` as the next line read"
 abbrev pub sideIn : List Line → Word

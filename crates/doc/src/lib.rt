@@ -4,22 +4,13 @@ ghost use Prim.Native.Nat.{_+_, _≤_};
 ghost use lib.ListN.{length};
 ghost use Rattle.lex_line.specs.Words.{wordsFrom};
 ghost use Rattle.line_keyword.specs.Way.Bounded.{mostLines};
-ghost use Rattle.doc.specs.Document.{wordIn};
-ghost use Rattle.doc.specs.Lines.{keyIn, argumentIn, firstWord, secondWord, placeAfter, argumentOf};
-ghost use Rattle.doc.specs.Way.Found.{extentOf, extentAt, FindsLine, Located, contentIn, lineIn, FindsKeyed};
+ghost use Rattle.doc.specs.Lines.{keyIn, argumentIn, firstWord, secondWord, placeAfter};
+ghost use Rattle.doc.specs.Way.Found.{extentOf, extentAt, FindsLine, Located, contentIn, cursorStart, cursorPast};
 use lex_keyword::Bracket;
 use lex_line::Span;
-use lex_number::Number;
-
-pub mod fast;
 
 // "From `|` on, a line is comment".
 const COMMENT: u8 = b'|';
-
-// What a keyword opens with, and what a line ends with.
-const OPEN: u8 = b'[';
-
-const LINE_FEED: u8 = 10;
 
 // The number that is used as the keyword of a line without one.
 pub const PLAIN: u64 = 41;
@@ -36,6 +27,13 @@ pub struct Found {
     pub argument: usize,
 }
 
+// Where a walk over the lines goes on: the offset and the number of the next line, and the place in which it is read.
+pub struct Cursor {
+    pub at: usize,
+    pub line: u64,
+    pub place: u64,
+}
+
 // A word of the text: where it starts, and how many bytes it has.
 pub struct Extent {
     pub start: usize,
@@ -43,7 +41,7 @@ pub struct Extent {
 }
 
 // The keyword in a bracket.
-fn key_in(bracket: Bracket) -> u64
+pub fn key_in(bracket: Bracket) -> u64
     ensures { λ r. ⌜ r ≡ keyIn bracket ⌝ }
 {
     match bracket {
@@ -57,7 +55,7 @@ fn key_in(bracket: Bracket) -> u64
 }
 
 // Where the argument after a bracket starts.
-fn argument_in(bracket: Bracket) -> usize
+pub fn argument_in(bracket: Bracket) -> usize
     ensures { λ r. ⌜ r ≡ argumentIn bracket ⌝ }
 {
     match bracket {
@@ -106,22 +104,9 @@ pub fn next_line(text: &[u8], at: usize, line: u64) -> Found
     }
 }
 
-// The next line, for a search that needs only lines with a keyword: lines without one are skipped. In the head of a map
-// such a line can lead to another place too, so there none is skipped.
-pub fn next_keyed(text: &[u8], at: usize, line: u64, place: u64) -> Found
-    requires { ⌜ (at ≤ length (now text)) × (line ≤ at + 1) ⌝ }
-    ensures { λ r. ⌜ FindsKeyed (now (text .entry)) line at place r ⌝ }
-{
-    if place == line_place::MAP_HEAD {
-        return next_line(text, at, line);
-    }
-    let passed = fast::past_plain(text, at, line);
-    next_line(text, passed.at, passed.line)
-}
-
 // The place after a line. A line without a keyword leads to another place only in the head
 // of a map: elsewhere its words are not looked at.
-pub fn place_after(place: u64, text: &[u8], line: Found) -> u64
+fn place_after(place: u64, text: &[u8], line: Found) -> u64
     requires { ⌜ Located (now text) line ⌝ }
     ensures { λ r. ⌜ r ≡ placeAfter place (contentIn (now (text .entry)) line) ⌝ }
 {
@@ -134,6 +119,29 @@ pub fn place_after(place: u64, text: &[u8], line: Found) -> u64
         return line_place::moved_by_line(place, lex_line::first_word(&text[at..end]));
     }
     line_place::moved(place, line.key)
+}
+
+// The cursor at the first line.
+pub fn start() -> Cursor
+    ensures { λ r. ⌜ r ≡ cursorStart ⌝ }
+{
+    Cursor {
+        at: 0,
+        line: 1,
+        place: line_place::BEFORE,
+    }
+}
+
+// The cursor behind a line that was found from it on.
+pub fn past(text: &[u8], cursor: Cursor, line: Found) -> Cursor
+    requires { ⌜ Located (now text) line ⌝ }
+    ensures { λ r. ⌜ r ≡ cursorPast (now (text .entry)) cursor line ⌝ }
+{
+    Cursor {
+        at: line.next,
+        line: line.line + 1,
+        place: place_after(cursor.place, text, line),
+    }
 }
 
 // The offset and size of a word, in a part of the text that starts at `offset`; they are 0 0 if there is no word.
@@ -167,29 +175,4 @@ pub fn second_extent(s: &[u8], offset: usize) -> Extent
     let first = lex_line::word_at(s, 0);
     let word = lex_line::word_at(s, first.end);
     extent_of(s, offset, word)
-}
-
-// The argument of a line's keyword.
-pub fn argument_extent(text: &[u8], line: Found) -> Extent
-    requires { ⌜ Located (now text) line ⌝ }
-    ensures { λ r. ⌜ r ≡ extentOf (argumentOf (lineIn (now (text .entry)) line 0)) ⌝ }
-{
-    let at = line.at;
-    let end = line.end;
-    let argument = read_line::argument_of(&text[at..end], line.argument);
-    Extent {
-        start: at + line.argument,
-        size: argument.len(),
-    }
-}
-
-// The value word that a number writes; 0 where it writes none.
-pub fn word_in(number: Number) -> u64
-    ensures { λ r. ⌜ r ≡ wordIn number ⌝ }
-{
-    match number {
-        Number::Value(word) => word,
-        Number::Malformed => 0,
-        Number::Range => 0,
-    }
 }

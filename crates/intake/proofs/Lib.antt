@@ -1,6 +1,5 @@
 pub mod RoomLaws
 pub mod IntakeLaws
-pub mod FillLaws
+mod ReadLaws
 pub mod ReadyLaws
-pub mod StageLaws
 pub mod CrossLaws

@@ -6,7 +6,7 @@ use mathlib.Core.List.{List, [], _∷_, _++_}
 use Prim.Native.Nat.{ℕ, _-_}
 use lib.Dec.{eqb}
 use borrow.Author.Tests.{eq-eqb, eqb-true}
-use Rattle.base.specs.If.{if_then_else_, both, either}
+use Rattle.base.specs.If.{both, either}
 use Rattle.base.proofs.IfLaws.{if-true, if-false, by-cases, both-first, both-second, either-right}
 use Rattle.line_place.specs.Place as place
 use Rattle.line_place.specs.Place.{opensMatrix, isRowOrBandwidth}

@@ -17,13 +17,12 @@ use Rattle.lex_line.specs.Words.{words, firstOf, hasEquals, leftOf, rightOf}
 use Rattle.line_place.specs.Place as place
 use Rattle.line_head.specs.Head.{impedanceLine, headLineOf}
 use Rattle.line_head.specs.Head as head
-use Rattle.line_path.specs.Path.{sayingOf, isMult}
+use Rattle.line_path.specs.Path.{sayingOf, isMult, amountOf}
 use Rattle.line_path.specs.Path as path
 use Rattle.line_map.specs.PinMap.{sizeLine, mapLineOf}
 use Rattle.line_map.specs.PinMap as pinMap
 use Rattle.line_map.specs.declared.MapLine.{MapLine}
 use Rattle.doc.specs.Lines.{plain, keyAt}
-use Rattle.doc.specs.Document.{amountOf}
 use Rattle.law_alike.specs.Alike.{takesEquals, takesText, argumentText, SameSaying, same-words, same-sides, same-argument, same-text}
 use Rattle.law_alike.proofs.SidesLaws.{hasSign, same-signs, same-left, same-right, other-first}
 

@@ -13,7 +13,7 @@ use Rattle.table_layout.specs.Codes.{diagonal, sparse}
 use Rattle.base.specs.If.{if_then_else_, both, either}
 use Rattle.base.proofs.IfLaws.{if-true, if-false, by-test, by-cases, both-second, both-not-left, both-not-right, either-right, either-false}
 use Rattle.lex_line.specs.Words.{words, firstOf, secondOf}
-use Rattle.lex_number.specs.Number.{numberOf}
+use Rattle.lex_number.specs.Number.{numberOf, wordIn}
 use Rattle.lex_number.specs.Integer.{wholeOf}
 use Rattle.lex_number.specs.ValueWord.{zeroWord}
 use Rattle.lex_keyword.specs.Names.{row, bandwidth, derivationMethod, resistanceMatrix, inductanceMatrix, conductanceMatrix, capacitanceMatrix, beginIcmSection}
@@ -24,7 +24,7 @@ use Rattle.line_keyword.specs.declared.Counts.{Counts}
 use Rattle.read_line.specs.Reading.{readingOf}
 use Rattle.read_line.specs.declared.Reading.the-variants.{Read}
 use Rattle.doc.specs.Lines.{Line, plain, keyOf, argumentOf, gather, upTo}
-use Rattle.doc.specs.Document.{Matrix, Section, wordIn, opensMatrixAt, inMatrix, givenBy, numbersAt, sparseAt, valuesFrom, namedBy, greatestIn, conductorsIn, matrixOf, matrixAt, opensSection, inSection, methodIn, sectionOf, sectionAt, kindOf, documentIn, documentOf}
+use Rattle.doc.specs.Document.{Matrix, Section, opensMatrixAt, inMatrix, givenBy, numbersAt, sparseAt, valuesFrom, namedBy, greatestIn, conductorsIn, matrixOf, matrixAt, opensSection, inSection, methodIn, sectionOf, sectionAt, kindOf, documentIn, documentOf}
 use Rattle.doc.specs.Holds.{Each}
 use Rattle.doc.specs.Holds.Each.{none as each-none, more as each-more}
 use Rattle.doc.proofs.GatherLaws.{gather-none, up-in, up-none, up-out}

@@ -14,7 +14,7 @@ use Rattle.table_layout.specs.Codes.{diagonal, banded, sparse}
 use Rattle.base.specs.If.{if_then_else_, either}
 use Rattle.base.proofs.IfLaws.{if-true, if-false, by-test, by-cases, both-true, both-first, both-not-left, both-not-right, either-rest}
 use Rattle.lex_line.specs.Words.{words}
-use Rattle.lex_number.specs.Number.{numberOf}
+use Rattle.lex_number.specs.Number.{numberOf, wordIn}
 use Rattle.lex_number.specs.ValueWord.{zeroWord}
 use Rattle.lex_keyword.specs.Names.{row, bandwidth}
 use Rattle.line_place.specs.Place.{opensMatrix, isRowOrBandwidth, done}
@@ -29,7 +29,7 @@ use Rattle.line_keyword.proofs.InsideLaws.{opens-closes}
 use Rattle.read_line.specs.Reading.{lineRule, lineNext, readingOf}
 use Rattle.read_line.specs.declared.Reading.the-variants.{Read}
 use Rattle.doc.specs.Lines.{Line, plain, keyOf, argumentOf, gather, upTo, significant}
-use Rattle.doc.specs.Document.{Matrix, Section, wordIn, nextRow, numbersAt, sparseAt, valuesFrom, givenBy, opensMatrixAt, inMatrix, matrixOf, matrixAt, opensSection, inSection, sectionOf, sectionAt, documentIn, documentOf}
+use Rattle.doc.specs.Document.{Matrix, Section, nextRow, numbersAt, sparseAt, valuesFrom, givenBy, opensMatrixAt, inMatrix, matrixOf, matrixAt, opensSection, inSection, sectionOf, sectionAt, documentIn, documentOf}
 use Rattle.doc.specs.Holds.{Each}
 use Rattle.doc.proofs.RiseLaws.{
   numberAt,

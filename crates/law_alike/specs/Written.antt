@@ -9,12 +9,12 @@ use lib.Dec.{eqb}
 use Rattle.table_layout.specs.Codes.{diagonal, sparse}
 use Rattle.base.specs.If.{if_then_else_, both}
 use Rattle.lex_line.specs.Words.{words, firstOf, secondOf}
-use Rattle.lex_number.specs.Number.{numberOf}
+use Rattle.lex_number.specs.Number.{numberOf, wordIn}
 use Rattle.lex_number.specs.Integer.{wholeOf}
 use Rattle.lex_number.specs.ValueWord.{zeroWord}
 use Rattle.lex_keyword.specs.Names.{row}
 use Rattle.doc.specs.Lines.{Line, plain, keyOf, upTo}
-use Rattle.doc.specs.Document.{wordIn, givenBy}
+use Rattle.doc.specs.Document.{givenBy}
 
 unfoldable pub isPlain : Line → Bool
 isPlain l = eqb (keyOf l) plain

@@ -17,12 +17,12 @@ use Rattle.base.specs.Broken.{Rule, _when_}
 use Rattle.base.proofs.IfLaws.{if-true, if-false, by-test, by-cases, both-true}
 use Rattle.base.proofs.BrokenLaws.{sound, all-kept}
 use Rattle.lex_line.specs.Words.{firstOf, rightOf}
-use Rattle.lex_number.specs.Number.{numberOf, isFormed}
+use Rattle.lex_number.specs.Number.{numberOf, isFormed, wordIn}
 use Rattle.lex_number.specs.declared.Number.{Number}
 use Rattle.lex_number.specs.declared.Number.the-variants as number
 use Rattle.lex_number.proofs.NumberLaws.{number-word}
 use Rattle.line_place.specs.Place as place
-use Rattle.line_path.specs.Path.{plainLine, isMult, isSectionLine, amountFormed, amountBounded, sectionLine, lineSaying, pathLineOf, closed, isBadFork, isPathOutOfOrder, isStepLine, openRule, pathRule}
+use Rattle.line_path.specs.Path.{plainLine, isMult, isSectionLine, amountFormed, amountBounded, sectionLine, lineSaying, pathLineOf, closed, isBadFork, isPathOutOfOrder, isStepLine, openRule, pathRule, amountOf}
 use Rattle.line_path.specs.Path as path
 use Rattle.line_path.specs.declared.Path.{Path}
 use Rattle.line_path.specs.declared.PathLine.{PathLine}
@@ -32,7 +32,7 @@ use Rattle.line_keyword.specs.declared.State.{State}
 use Rattle.read_line.specs.Reading.{readingOf}
 use Rattle.read_line.specs.declared.Reading.the-variants.{Read}
 use Rattle.doc.specs.Lines.{Line, noWord, secondWord, wordsOf, rightWordsOf}
-use Rattle.doc.specs.Document.{Model, wordIn, sayingAt, amountOf, sideIn, stepOf, stepsIn, opensModel, inModel, modelOf, modelAt, documentIn, documentOf}
+use Rattle.doc.specs.Document.{Model, sayingAt, sideIn, stepOf, stepsIn, opensModel, inModel, modelOf, modelAt, documentIn, documentOf}
 use Rattle.doc.specs.Holds.{Each}
 use Rattle.doc.specs.Holds.Each.{none, more}
 use Rattle.doc.proofs.Goes.{Goes, Moves, idle-outside, text-ends}

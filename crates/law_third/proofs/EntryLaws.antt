@@ -2,14 +2,13 @@
 -- Assumes nothing.
 use Prim.Native.Nat.{ℕ, _-_, _≤_, _<_, min, max}
 use mathlib.Core.Path.{_≡_, refl, sym, _∙_, ap}
-use mathlib.Core.Bool.{true, false, not}
+use mathlib.Core.Bool.{true, false}
 use mathlib.Core.List.{List, [], _∷_, _++_}
 use native.Mathlib.Nat.{le-trans, min-le-left, le-max-left, le-min, max-le}
 use native.Mathlib.Omega.{arith}
 use lib.ListN.{length, getD}
 use Rattle.base.specs.Refusal as refusal
 use Rattle.table_record.specs.Records.{Records, noSection}
-use Rattle.base.specs.If.{if_then_else_}
 use Rattle.base.proofs.IfLaws.{if-true, if-false, by-test, not-via, not-not-via}
 use Rattle.doc.specs.Lines.{Line, keyOf, significant, upTo}
 use Rattle.doc.specs.Document.{Matrix, Section, documentOf, conductorsOf, kindOf, valuesFrom, opensMatrixAt, inMatrix}

@@ -7,7 +7,7 @@ use Prim.Native.Nat.{ℕ, suc, _+_, _-_, _≤_, _<_}
 use native.Mathlib.Nat.{zero-add}
 use native.Mathlib.Numerals.{add-one}
 use native.Mathlib.Omega.{arith}
-use lib.ListN.{length, take, drop, getD, length-take}
+use lib.ListN.{length, take, drop, getD}
 use lib.Seq.{drop-cons}
 use lib.Dec.{eqb}
 use borrow.Author.Tests.{eq-eqb, ne-eqb, eqb-true, eqb-false}
@@ -38,15 +38,6 @@ feeds-none = refl
 pub feeds-more : (b : ℕ) (s : List ℕ) → lineFeeds (b ∷ s) ≡ lineFeedOf b + lineFeeds s
 unfolding lineFeeds
 feeds-more b s = refl
-
-feeds-few : (s : List ℕ) → lineFeeds s ≤ length s
-feeds-few [] = omega (arith, feeds-none)
-feeds-few (b ∷ s) = omega (arith, feeds-more b s, feed-small b, feeds-few s)
-
-pub feeds-told : (t : List ℕ) (from f : ℕ) → f ≡ lineFeeds (take 16 (drop from t)) → f ≤ 16
-feeds-told t from f e =
-    let s : length (take 16 (drop from t)) ≤ 16 = rw (length-take 16 (drop from t)) (omega arith) in
-    omega (arith, feeds-few (take 16 (drop from t)))
 
 -- ---- the loop that counts the LFs of some bytes: what it has counted plus the LFs of the rest is the whole count
 

@@ -10,7 +10,7 @@ use native.Mathlib.Omega.{arith}
 use lib.ListN.{length, drop, getD, length-drop, List·getD-eq-default}
 use lib.Dec.{eqb, leb}
 use borrow.Author.Tests.{leb-true, leb-false, not-true, not-false}
-use Rattle.base.specs.If.{if_then_else_, either}
+use Rattle.base.specs.If.{either}
 use Rattle.base.specs.Bytes.{isDigit}
 use Rattle.base.specs.Runs.{run}
 use Rattle.base.proofs.IfLaws.{if-true, if-false, by-cases, by-test}

@@ -175,3 +175,9 @@ abbrev pub isBounded : Number → Bool
 isBounded (Value w) = true
 isBounded Malformed = true
 isBounded Range = false
+
+-- the value word of a number, 0 if it is malformed or out of range
+abbrev pub wordIn : Number → ℕ
+wordIn (Value w) = w
+wordIn Malformed = 0
+wordIn Range = 0

@@ -9,7 +9,7 @@ ghost use Rattle.base.specs.Bytes.{within};
 ghost use Rattle.base.specs.Runs.{all};
 ghost use Rattle.base.specs.Way.Class.{runEnd};
 ghost use lib.Dec.{ltb};
-ghost use Rattle.lex_number.specs.Number.{isSign, isMinus, isE, pastSign, digitsGoOn, noDigits, withPoint, withDigit, withByte, scan, noExponent, exponentOf, scalings, powerIn, aboveZero, scaleOf, raised, lowered, valueAs, wellFormed, numberOf, isFormed, isBounded};
+ghost use Rattle.lex_number.specs.Number.{isSign, isMinus, isE, pastSign, digitsGoOn, noDigits, withPoint, withDigit, withByte, scan, noExponent, exponentOf, scalings, powerIn, aboveZero, scaleOf, raised, lowered, valueAs, wellFormed, numberOf, isFormed, isBounded, wordIn};
 ghost use Rattle.lex_number.specs.Integer.{wholeOf};
 ghost use Rattle.lex_number.specs.ValueWord.{valueWord, decimalOf, isDecimal, isValueWord};
 ghost use Rattle.lex_number.specs.Way.Capped.{exponentCap, countCap, cappedDigits, cappedExponent, sizeAt, raising, lowering, CutDigits, BoundedNumber};
@@ -619,6 +619,17 @@ pub fn is_value(n: Number) -> bool
         Number::Value(_) => true,
         Number::Malformed => false,
         Number::Range => false,
+    }
+}
+
+// The value word that a number writes; 0 where it writes none.
+pub fn word_in(number: Number) -> u64
+    ensures { λ r. ⌜ r ≡ wordIn number ⌝ }
+{
+    match number {
+        Number::Value(word) => word,
+        Number::Malformed => 0,
+        Number::Range => 0,
     }
 }
 

@@ -35,7 +35,6 @@ use Rattle.line_path.specs.Path.{newPath}
 use Rattle.line_path.specs.declared.Path.{Path}
 use Rattle.line_map.specs.PinMap.{newMap}
 use Rattle.line_map.specs.declared.Map.{Map}
-use Rattle.base.specs.If.{if_then_else_}
 use Rattle.base.proofs.IfLaws.{if-true, if-false, either-false, either-rest}
 use Rattle.base.proofs.BrokenLaws.{Numbered, all-kept}
 use Rattle.lex_keyword.specs.Names.{row, bandwidth, beginIcmModel, beginIcmSection, derivationMethod, icmPinMap}

@@ -10,7 +10,7 @@ use lib.Dec.{leb, ltb, eqb}
 use borrow.Author.Tests.{eq-eqb, ne-eqb, eqb-true, eqb-false, lt-ltb, le-ltb, ltb-true, ltb-false}
 use Rattle.table_layout.specs.Codes.{diagonal, sparse}
 use Rattle.table_layout.specs.Bounds.{mostValues}
-use Rattle.base.specs.If.{if_then_else_, both}
+use Rattle.base.specs.If.{both}
 use Rattle.base.proofs.IfLaws.{if-true, if-false, by-cases, either-left, either-rest, both-rest, not-via, both-assoc}
 use Rattle.line_matrix.specs.declared.Matrix.{Matrix}
 use Rattle.line_matrix.specs.declared.DataLine.{DataLine}
@@ -73,18 +73,6 @@ row-added row m values above greatest fits a g f =
     λ i. record { form = m .form; band = m .band; first = m .first; rows = record { row = row; above = a i; from = values; least = row; greatest = g i; fits = f i } }
 
 -- ---- data lines
-
--- the result of the number reader
-module _ (s : List ℕ) (word : Span) (read : NumberAt) (ends : word .end ≡ runEnd isFilled s (word .start)) (answer : read ≡ numberAt s (word .start)) where
-  pub marked-number : read .number ≡ numberOf (markedBy s word)
-  unfolding numberAt wordFrom
-  marked-number =
-      let n : word .end - word .start ≡ run isFilled (drop (word .start) s) = omega arith in
-      rw n (ap (λ (r : NumberAt). r .number) answer)
-
-pub second-ends : (s : List ℕ) (few : FirstTwo) → few ≡ firstTwoOf s → few .second .end ≡ runEnd isFilled s (few .second .start)
-unfolding firstTwoOf wordSpan
-second-ends s few e = rw e
 
 formed-nil : areFormed [] ≡ true
 unfolding areFormed

@@ -57,7 +57,7 @@ module _ (l : PathLine) (p : Path) where
 
   module _ (steps : ℕ) (kept : pathRule l p steps ≡ 0) where
     -- a closed path takes only a Side
-    open-kept : (l .says ≡ saysSide → ⊥) → openRule l p steps ≡ 0
+    pub open-kept : (l .says ≡ saysSide → ⊥) → openRule l p steps ≡ 0
     open-kept n =
         by-cases _ (eqb (p .stage) closed)
         (λ (e : eqb (p .stage) closed ≡ true).

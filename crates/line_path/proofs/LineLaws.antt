@@ -15,8 +15,10 @@ use Rattle.lex_line.specs.declared.FirstTwo.{FirstTwo}
 use Rattle.lex_line.proofs.WordLaws.{first-marked, second-marked}
 use Rattle.lex_line.proofs.FormLaws.{counted, counted-not, count-tells}
 use Rattle.line_argument.specs.Argument.{isReserved}
-use Rattle.line_path.specs.Path.{saysNothing, saysEnd, saysSide, saysSection, saysFork, saysEndfork, sayingOf, plainLine, namesOne, lineSaying, pathLineOf}
-use Rattle.line_path.specs.declared.PathLine.{PathLine}
+use Rattle.line_path.specs.Path.{saysNothing, saysEnd, saysSide, saysSection, saysFork, saysEndfork, sayingOf, plainLine, namesOne}
+use Rattle.line_path.specs.Way.Section.{plainParts}
+use Rattle.line_path.specs.Way.Parts.{namedParts, saidParts, partsOf}
+use Rattle.line_path.specs.declared.PathParts.{PathParts}
 
 module _ (content : List ℕ) (few : FirstTwo) (told : few ≡ firstTwoOf content) where
   -- ---- a name
@@ -32,22 +34,27 @@ module _ (content : List ℕ) (few : FirstTwo) (told : few ≡ firstTwoOf conten
 
   -- ---- a line by what it says
 
+  pub named-told : (says : ℕ) (right : Bool) → right ≡ namesOne (words content) →
+      record { line = record { says = says; right = right; formed = true; bounded = true }; name = few .second; amount = 0; mult = false } ≡ namedParts says content
+  unfolding namedParts plainLine
+  named-told says right k =
+      λ i. record { line = record { says = says; right = k i; formed = true; bounded = true }; name = told i .second; amount = 0; mult = false }
+
   module _ (says : ℕ) (n : says ≡ saysSection → ⊥) (a : Bool) (alone : a ≡ either (eqb says saysFork) (eqb says saysEndfork)) where
-    pub says-alone : (r : PathLine) → a ≡ true → r ≡ plainLine says (eqb (few .count) 1) → r ≡ lineSaying says content
-    unfolding lineSaying
+    pub says-alone : (r : PathParts) → a ≡ true → r ≡ plainParts says (eqb (few .count) 1) → r ≡ saidParts says content
+    unfolding saidParts
     says-alone r e h =
-        h ∙ ap (plainLine says) (count-tells content few told 1 (omega arith)) ∙ sym (if-false _ _ (ne-eqb says saysSection n) ∙ if-true _ _ (sym alone ∙ e))
+        h ∙ ap (plainParts says) (count-tells content few told 1 (omega arith)) ∙ sym (if-false _ _ (ne-eqb says saysSection n) ∙ if-true _ _ (sym alone ∙ e))
 
     module _ (other : a ≡ false) (b : Bool) (named : b ≡ either (eqb says saysEnd) (eqb says saysSide)) where
-      pub says-name : (right : Bool) (r : PathLine) → b ≡ true → right ≡ namesOne (words content) → r ≡ plainLine says right → r ≡ lineSaying says content
-      unfolding lineSaying
-      says-name right r e k h =
-          h ∙ ap (plainLine says) k ∙ sym (if-false _ _ (ne-eqb says saysSection n) ∙ if-false _ _ (sym alone ∙ other) ∙ if-true _ _ (sym named ∙ e))
+      pub says-name : (r : PathParts) → b ≡ true → r ≡ namedParts says content → r ≡ saidParts says content
+      unfolding saidParts
+      says-name r e h = h ∙ sym (if-false _ _ (ne-eqb says saysSection n) ∙ if-false _ _ (sym alone ∙ other) ∙ if-true _ _ (sym named ∙ e))
 
-      pub says-nothing : (r : PathLine) → b ≡ false → r ≡ plainLine saysNothing true → r ≡ lineSaying says content
-      unfolding lineSaying
+      pub says-nothing : (r : PathParts) → b ≡ false → r ≡ plainParts saysNothing true → r ≡ saidParts says content
+      unfolding saidParts
       says-nothing r e h = h ∙ sym (if-false _ _ (ne-eqb says saysSection n) ∙ if-false _ _ (sym alone ∙ other) ∙ if-false _ _ (sym named ∙ e))
 
-  pub line-told : (w : List ℕ) (says : ℕ) (r : PathLine) → w ≡ markedBy content (few .first) → says ≡ sayingOf w → r ≡ lineSaying says content → r ≡ pathLineOf content
-  unfolding pathLineOf
-  line-told w says r there k h = h ∙ ap (λ (n : ℕ). lineSaying n content) (k ∙ ap sayingOf (there ∙ first-marked content few told))
+  pub line-told : (w : List ℕ) (says : ℕ) (r : PathParts) → w ≡ markedBy content (few .first) → says ≡ sayingOf w → r ≡ saidParts says content → r ≡ partsOf content
+  unfolding partsOf
+  line-told w says r there k h = h ∙ ap (λ (n : ℕ). saidParts n content) (k ∙ ap sayingOf (there ∙ first-marked content few told))

@@ -15,19 +15,21 @@ use Rattle.base.specs.Bytes.{bytes, isBlank, isFilled, isBefore}
 use Rattle.base.specs.Runs.{run, all, same}
 use Rattle.base.specs.Way.Class.{runEnd}
 use Rattle.base.specs.Way.Joined.{joined, isByte, Joins}
+use Rattle.base.proofs.IfLaws.{if-true}
 use Rattle.base.proofs.RunLaws.{run-le, run-on, run-end-at, run-all, run-is}
 use Rattle.base.proofs.JoinedLaws.{joined-same}
-use Rattle.lex_line.specs.Words.{wordsFrom, wordGoesOn, grown, words, firstOf, secondOf, leftOf, rightOf, hasEquals, toEquals}
-use Rattle.lex_line.specs.Way.Spans.{wordSpan}
+use Rattle.lex_line.specs.Words.{wordsFrom, wordGoesOn, grown, words, firstOf, leftOf, rightOf, hasEquals, toEquals}
+use Rattle.lex_line.specs.Way.Spans.{wordSpan, firstTwoOf}
 use Rattle.lex_line.proofs.WordLaws.{after-at, after-past, wordsAfter}
 use Rattle.lex_line.specs.declared.Span.{Span}
 use Rattle.lex_line.proofs.FormLaws.{part-from}
 use Rattle.line_argument.specs.Argument.{isReserved}
-use Rattle.line_path.specs.Path.{saysSection, saysFork, saysEndfork, sayingOf, plainLine, isMult, lineSaying, pathLineOf}
-use Rattle.line_path.specs.Way.Section.{amountLine, unitLine, isParted, partsLine}
+use Rattle.line_path.specs.Path.{saysSection, saysFork, saysEndfork, sayingOf}
+use Rattle.line_path.specs.Way.Section.{spanFrom, plainParts, wrongSection, amountLine, unitLine, isParted, partsLine, nameRight, sectionParts}
+use Rattle.line_path.specs.Way.Parts.{saidParts, partsOf, ParsesLine}
 use Rattle.line_path.specs.Way.Usual.{multFront, OpensMult, Paired, UsualSection, UsualFork, forks, ends}
-use Rattle.line_path.specs.declared.PathLine.{PathLine}
-use Rattle.line_path.proofs.SectionLaws.{parts-are}
+use Rattle.line_path.specs.declared.PathParts.{PathParts}
+use Rattle.line_path.proofs.PartLaws.{parses}
 
 -- ---- bytes recognized by the number that they make
 
@@ -143,10 +145,6 @@ front-equals : (rest : List ℕ) → toEquals (multFront ++ rest) ≡ 12
 unfolding run isBefore if_then_else_
 front-equals rest = refl
 
-unit-mult : (c : List ℕ) → leftOf c ≡ bytes "Section" ∷ bytes "Mult" ∷ [] → isMult c ≡ true
-unfolding isMult same both if_then_else_
-unit-mult c e = ap (λ (ws : List (List ℕ)). same (secondOf ws) (bytes "Mult")) e
-
 module _ (c : List ℕ) (o : OpensMult c) where
   pub opens-says : saysSection ≡ sayingOf (firstOf (words c))
   opens-says = sym (ap (λ (s : List ℕ). sayingOf (firstOf (words s))) (o .front) ∙ front-says (drop 13 c))
@@ -160,9 +158,6 @@ module _ (c : List ℕ) (o : OpensMult c) where
   pub opens-equals : toEquals c ≡ 12
   opens-equals = ap (λ (s : List ℕ). toEquals s) (o .front) ∙ front-equals (drop 13 c)
 
-  pub opens-is-mult : isMult c ≡ true
-  opens-is-mult = unit-mult c opens-left
-
   opens-has : hasEquals c ≡ true
   unfolding hasEquals
   opens-has =
@@ -172,13 +167,13 @@ module _ (c : List ℕ) (o : OpensMult c) where
 
 -- ---- a Section line
 
-parts-reserved : (a n : List ℕ) → isReserved n ≡ true → partsLine (bytes "Section" ∷ bytes "Mult" ∷ []) (a ∷ n ∷ []) ≡ plainLine saysSection false
+parts-reserved : (a n : List ℕ) (name : Span) → isReserved n ≡ true → partsLine (bytes "Section" ∷ bytes "Mult" ∷ []) (a ∷ n ∷ []) name ≡ wrongSection
 unfolding partsLine isParted both if_then_else_
-parts-reserved a n e = ap (λ (b : Bool). if not b then unitLine (bytes "Mult") a else plainLine saysSection false) e
+parts-reserved a n name e = ap (λ (b : Bool). if not b then unitLine (bytes "Mult") a name else wrongSection) e
 
-parts-kept : (a n : List ℕ) → isReserved n ≡ false → partsLine (bytes "Section" ∷ bytes "Mult" ∷ []) (a ∷ n ∷ []) ≡ amountLine true a
+parts-kept : (a n : List ℕ) (name : Span) → isReserved n ≡ false → partsLine (bytes "Section" ∷ bytes "Mult" ∷ []) (a ∷ n ∷ []) name ≡ amountLine true a name
 unfolding partsLine isParted unitLine same both if_then_else_
-parts-kept a n e = ap (λ (b : Bool). if not b then unitLine (bytes "Mult") a else plainLine saysSection false) e
+parts-kept a n name e = ap (λ (b : Bool). if not b then unitLine (bytes "Mult") a name else wrongSection) e
 
 module _ (c : List ℕ) (end : ℕ) (u : UsualSection c end) where
   -- the words after the sign: its amount and its name
@@ -195,18 +190,36 @@ module _ (c : List ℕ) (end : ℕ) (u : UsualSection c end) where
   pub usual-right : rightOf c ≡ take (end - 13) (drop 13 c) ∷ take (length c - (end + 1)) (drop (end + 1) c) ∷ []
   usual-right = opens-right c (u .opens) ∙ usual-words
 
-  line-parts : partsLine (bytes "Section" ∷ bytes "Mult" ∷ []) (take (end - 13) (drop 13 c) ∷ take (length c - (end + 1)) (drop (end + 1) c) ∷ []) ≡ pathLineOf c
-  unfolding pathLineOf lineSaying if_then_else_
+  -- the name goes from the blank behind the amount to the end of the line
+  abbrev name-span : Span
+  name-span = record { start = end + 1; end = length c }
+
+  usual-second : firstTwoOf (drop 13 c) .second ≡ record { start = end - 13 + 1; end = length (drop 13 c) }
+  unfolding firstTwoOf
+  usual-second = ap (λ (w : Span). wordSpan (drop 13 c) (w .end)) (u .pair .first) ∙ u .pair .second
+
+  usual-name : nameRight c ≡ name-span
+  usual-name =
+      let g : 13 < end = u .above in
+      let long : length (drop 13 c) ≡ length c - 13 = length-drop 13 c in
+      let wide : 13 ≤ length c = u .opens .long in
+      ap (λ (n : ℕ). spanFrom (n + 1) (firstTwoOf (drop (n + 1) c) .second)) (opens-equals c (u .opens))
+      ∙ ap (spanFrom 13) usual-second
+      ∙ span _ _ (end + 1) (length c) (omega arith) (omega arith)
+
+  line-parts : partsLine (bytes "Section" ∷ bytes "Mult" ∷ []) (take (end - 13) (drop 13 c) ∷ take (length c - (end + 1)) (drop (end + 1) c) ∷ []) name-span ≡ partsOf c
+  unfolding partsOf saidParts sectionParts if_then_else_
   line-parts =
-      ap (λ (ws : List (List ℕ)). partsLine ws (take (end - 13) (drop 13 c) ∷ take (length c - (end + 1)) (drop (end + 1) c) ∷ [])) (sym (opens-left c (u .opens)))
-      ∙ ap (partsLine (leftOf c)) (sym usual-right) ∙ parts-are c (opens-has c (u .opens)) ∙ ap (λ (n : ℕ). lineSaying n c) (opens-says c (u .opens))
+      (λ i. partsLine (sym (opens-left c (u .opens)) i) (sym usual-right i) (sym usual-name i))
+      ∙ sym (if-true _ _ (opens-has c (u .opens)))
+      ∙ ap (λ (n : ℕ). saidParts n c) (opens-says c (u .opens))
 
-  module _ (t : Bool) (tested : t ≡ isReserved (take (length c - (end + 1)) (drop (end + 1) c))) (r : PathLine) where
-    pub usual-reserved : t ≡ true → r ≡ plainLine saysSection false → r ≡ pathLineOf c
-    usual-reserved e h = h ∙ sym (parts-reserved _ _ (sym tested ∙ e)) ∙ line-parts
+  module _ (t : Bool) (tested : t ≡ isReserved (take (length c - (end + 1)) (drop (end + 1) c))) (r : PathParts) where
+    pub usual-reserved : t ≡ true → r ≡ wrongSection → r ≡ partsOf c
+    usual-reserved e h = h ∙ sym (parts-reserved _ _ name-span (sym tested ∙ e)) ∙ line-parts
 
-    pub usual-kept : t ≡ false → r ≡ amountLine true (take (end - 13) (drop 13 c)) → r ≡ pathLineOf c
-    usual-kept e h = h ∙ sym (parts-kept _ _ (sym tested ∙ e)) ∙ line-parts
+    pub usual-kept : t ≡ false → r ≡ amountLine true (take (end - 13) (drop 13 c)) name-span → r ≡ partsOf c
+    usual-kept e h = h ∙ sym (parts-kept _ _ name-span (sym tested ∙ e)) ∙ line-parts
 
 pub usual-told : (c : List ℕ) (t : Bool) (e : ℕ) → (t ≡ true → OpensMult c) → not t ≡ false → ((e ≡ 0 → ⊥) → Paired (take (length c - 13) (drop 13 c)) e) →
     (e ≡ 0 → ⊥) → UsualSection c (13 + e)
@@ -262,20 +275,15 @@ endfork-told c a b long one e two g =
     (endfork-whole c long (known _ _ a (four-long c 0 (omega arith)) endf-bytes one (e ∙ sym endf-joined))
     (known _ _ b (four-long c 3 (omega arith)) small-bytes two (g ∙ sym small-joined))) ends
 
-pub fork-says : (c : List ℕ) (says : ℕ) → UsualFork c says → says ≡ sayingOf (firstOf (words c))
-unfolding sayingOf same wordsFrom isBlank wordGoesOn isFilled grown both either if_then_else_
-fork-says c says forks = refl
-fork-says c says ends = refl
-
-pub fork-line : (c : List ℕ) (says : ℕ) (r : PathLine) → UsualFork c says → r ≡ plainLine says true → r ≡ pathLineOf c
-unfolding pathLineOf lineSaying sayingOf same wordsFrom isBlank wordGoesOn isFilled grown both either if_then_else_
+fork-line : (c : List ℕ) (says : ℕ) (r : PathParts) → UsualFork c says → r ≡ plainParts says true → r ≡ partsOf c
+unfolding partsOf saidParts sayingOf same wordsFrom isBlank wordGoesOn isFilled grown both either if_then_else_
 fork-line c says r forks h = h
 fork-line c says r ends h = h
 
 -- ---- what the readers of these lines need
 
-pub fork-line-in : (c : List ℕ) (says : ℕ) (r : PathLine) → ((says ≡ 0 → ⊥) → UsualFork c says) → (says ≡ 0 → ⊥) → r ≡ plainLine says true → r ≡ pathLineOf c
-fork-line-in c says r told n h = fork-line c says r (told n) h
+pub fork-parsed : (c : List ℕ) (says : ℕ) (r : PathParts) → ((says ≡ 0 → ⊥) → UsualFork c says) → (says ≡ 0 → ⊥) → r ≡ plainParts says true → ParsesLine c r
+fork-parsed c says r told n h = parses c r (fork-line c says r (told n) h)
 
 pub opens-long : (c : List ℕ) (t : Bool) → (t ≡ true → OpensMult c) → not t ≡ false → 13 ≤ length c
 opens-long c t opens g = opens (not-false t g) .long
@@ -293,9 +301,6 @@ usual-within c end u =
     let g : end - 13 + 1 < length (drop 13 c) = u .pair .inside in
     let h : 13 < end = u .above in
     omega arith
-
-pub usual-above : (c : List ℕ) (end : ℕ) → UsualSection c end → 13 < end
-usual-above c end u = u .above
 
 pub usual-in : (c : List ℕ) (end : ℕ) → ((end ≡ 0 → ⊥) → UsualSection c end) → (end ≡ 0 → ⊥) → UsualSection c end
 usual-in c end told n = told n

@@ -12,7 +12,7 @@ use Rattle.base.specs.Runs.{same}
 use Rattle.base.specs.Broken.{Rule, _when_, firstBroken}
 use Rattle.base.specs.Refusal as refusal
 use Rattle.lex_line.specs.Words.{words, firstOf, secondOf, hasEquals, leftOf, rightOf}
-use Rattle.lex_number.specs.Number.{numberOf, isFormed}
+use Rattle.lex_number.specs.Number.{numberOf, isFormed, wordIn}
 use Rattle.lex_number.specs.Integer.{wholeOf}
 use Rattle.lex_number.specs.ValueWord.{zeroWord}
 use Rattle.lex_number.specs.declared.Number.{Number}
@@ -65,6 +65,11 @@ isLength Range = false
 -- "`Section Mult=n name`, `Section Len=v name`"
 unfoldable pub isMult : List ℕ → Bool
 isMult content = same (secondOf (leftOf content)) (bytes "Mult")
+
+-- "amount: Mult, the Len value word"
+unfoldable pub amountOf : List ℕ → ℕ
+amountOf content =
+    if isMult content then wholeOf (firstOf (rightOf content)) .value else wordIn (numberOf (firstOf (rightOf content)))
 
 unfoldable pub isSectionLine : List ℕ → Bool
 isSectionLine content =

@@ -3,9 +3,10 @@
 ghost use mathlib.Core.Path.{_≡_};
 ghost use mathlib.Core.Bool.{true};
 ghost use Prim.Native.Nat.{_-_};
-ghost use Rattle.line_path.specs.Path.{pathLineOf};
+ghost use Rattle.line_path.specs.Way.Parts.{partsOf};
 ghost use Rattle.line_path.specs.Way.Usual.{OpensMult, Paired, UsualSection, UsualFork};
-use crate::PathLine;
+use crate::PathParts;
+use lex_line::Span;
 
 // The bytes of `Section `, `on Mult=`, `Fork`, `Endf` and `fork`, each as one number.
 const SECTION_BYTES: u64 = 2_336_927_755_366_786_387;
@@ -89,14 +90,18 @@ pub fn usual_fork(content: &[u8]) -> u64
     crate::ENDFORK
 }
 
-// Reads a Section line of the usual form, whose amount ends at `end`.
-pub fn usual_line(content: &[u8], end: usize) -> PathLine
+// Reads a Section line of the usual form, whose amount ends at `end`. The name goes to the end of the line.
+pub fn usual_line(content: &[u8], end: usize) -> PathParts
     requires { ⌜ UsualSection (now content) end ⌝ }
-    ensures { λ r. ⌜ r ≡ pathLineOf (now (content .entry)) ⌝ }
+    ensures { λ r. ⌜ r ≡ partsOf (now (content .entry)) ⌝ }
 {
     let name = end + 1;
     if line_argument::is_reserved(&content[name..]) {
         return crate::plain_line(crate::SECTION, false);
     }
-    crate::amount_line(true, &content[AMOUNT_AT..end])
+    let span = Span {
+        start: name,
+        end: content.len(),
+    };
+    crate::amount_line(true, &content[AMOUNT_AT..end], span)
 }

@@ -1,16 +1,19 @@
 // Document 01, "Paths": "End, items, end", line by line.
 ghost use mathlib.Core.Path.{_≡_};
 ghost use mathlib.Core.Bool.{true};
-ghost use Prim.Native.Nat.{_-_, _≤_};
+ghost use Prim.Native.Nat.{_+_, _-_, _^_, _≤_, _<_};
+ghost use lib.ListN.{length};
 ghost use lib.Dec.{eqb};
 ghost use Rattle.table_layout.specs.Bounds.{deepest};
 ghost use Rattle.base.specs.If.{either};
 ghost use Rattle.lex_line.specs.Words.{words};
 ghost use Rattle.lex_line.specs.Way.Spans.{firstTwoOf};
 ghost use Rattle.lex_number.specs.declared.Number.the-variants.{Value};
-ghost use Rattle.line_path.specs.Path.{saysFork, saysEndfork, saysEnd, saysSide, sayingOf, plainLine, namesOne, isLength, sectionLine, lineSaying, pathLineOf, newPath, isBadFork, isPathOutOfOrder, isStepLine, openRule, closedRule, pathRule, withEnd, pathNext, pathOpen, pathLacks};
-ghost use Rattle.line_path.specs.Way.Section.{amountLine, unitLine, partsLine};
+ghost use Rattle.line_path.specs.Path.{saysFork, saysEndfork, saysEnd, saysSide, sayingOf, namesOne, isLength, newPath, isBadFork, isPathOutOfOrder, isStepLine, openRule, closedRule, pathRule, withEnd, pathNext, pathOpen, pathLacks};
+ghost use Rattle.line_path.specs.Way.Section.{spanFrom, plainParts, amountLine, unitLine, partsLine, sectionParts};
+ghost use Rattle.line_path.specs.Way.Parts.{namedParts, saidParts, partsOf, ParsesLine};
 use lex_line::FirstTwo;
+use lex_line::Span;
 use lex_number::Number;
 
 pub mod fast;
@@ -57,6 +60,15 @@ pub struct PathLine {
     pub bounded: bool,
 }
 
+// A line with its parts, each read once: the name as a span of the line, the amount, and whether that is a Mult. The
+// parts are told of a line whose rest is right.
+pub struct PathParts {
+    pub line: PathLine,
+    pub name: Span,
+    pub amount: u64,
+    pub mult: bool,
+}
+
 // ---- what a line says
 
 // What a line says, by its first word.
@@ -81,15 +93,20 @@ pub fn saying_of(word: &[u8]) -> u64
     NOTHING
 }
 
-// A line without a number.
-fn plain_line(says: u64, right: bool) -> PathLine
-    ensures { λ r. ⌜ r ≡ plainLine says right ⌝ }
+// A line of which no part is told.
+fn plain_line(says: u64, right: bool) -> PathParts
+    ensures { λ r. ⌜ r ≡ plainParts says right ⌝ }
 {
-    PathLine {
-        says: says,
-        right: right,
-        formed: true,
-        bounded: true,
+    PathParts {
+        line: PathLine {
+            says: says,
+            right: right,
+            formed: true,
+            bounded: true,
+        },
+        name: Span { start: 0, end: 0 },
+        amount: 0,
+        mult: false,
     }
 }
 
@@ -127,43 +144,55 @@ fn is_length(n: Number) -> bool
     }
 }
 
-// Mult is an integer from 1 to 65,535, Len a number above zero.
-fn amount_line(mult: bool, amount: &[u8]) -> PathLine
-    ensures { λ r. ⌜ r ≡ amountLine mult (now (amount .entry)) ⌝ }
+// Mult is an integer from 1 to 65,535, Len a number above zero. Either is read once.
+fn amount_line(mult: bool, amount: &[u8], name: Span) -> PathParts
+    ensures { λ r. ⌜ r ≡ amountLine mult (now (amount .entry)) name ⌝ }
 {
     if mult {
         let times = lex_number::read_integer(amount);
-        return PathLine {
-            says: SECTION,
-            right: true,
-            formed: times.formed,
-            bounded: lex_number::is_within(1, table_layout::bound::MULT, times.value),
+        return PathParts {
+            line: PathLine {
+                says: SECTION,
+                right: true,
+                formed: times.formed,
+                bounded: lex_number::is_within(1, table_layout::bound::MULT, times.value),
+            },
+            name,
+            amount: times.value,
+            mult,
         };
     }
     let length = lex_number::read_number(amount);
-    PathLine {
-        says: SECTION,
-        right: true,
-        formed: lex_number::is_formed(length),
-        bounded: is_length(length),
+    PathParts {
+        line: PathLine {
+            says: SECTION,
+            right: true,
+            formed: lex_number::is_formed(length),
+            bounded: is_length(length),
+        },
+        name,
+        amount: lex_number::word_in(length),
+        mult,
     }
 }
 
-fn unit_line(unit: &[u8], amount: &[u8]) -> PathLine
-    ensures { λ r. ⌜ r ≡ unitLine (now (unit .entry)) (now (amount .entry)) ⌝ }
+fn unit_line(unit: &[u8], amount: &[u8], name: Span) -> PathParts
+    ensures { λ r. ⌜ r ≡ unitLine (now (unit .entry)) (now (amount .entry)) name ⌝ }
 {
     if lex_line::same_bytes(unit, b"Mult") {
-        return amount_line(true, amount);
+        return amount_line(true, amount, name);
     }
     if lex_line::same_bytes(unit, b"Len") {
-        return amount_line(false, amount);
+        return amount_line(false, amount, name);
     }
     plain_line(SECTION, false)
 }
 
 // Reads a Section line from its two sides: before the sign Section and the unit, after it the amount and the name.
-fn parts_line(left: &[u8], right: &[u8]) -> PathLine
-    ensures { λ r. ⌜ r ≡ partsLine (words (now (left .entry))) (words (now (right .entry))) ⌝ }
+// `from` is where the right side starts.
+fn parts_line(left: &[u8], right: &[u8], from: usize) -> PathParts
+    requires { ⌜ from + length (now right) < 2 ^ 63 ⌝ }
+    ensures { λ r. ⌜ r ≡ partsLine (words (now (left .entry))) (words (now (right .entry))) (spanFrom from (firstTwoOf (now (right .entry)) .second)) ⌝ }
 {
     let before = lex_line::first_two_words(left);
     if before.count != 2 {
@@ -182,18 +211,23 @@ fn parts_line(left: &[u8], right: &[u8]) -> PathLine
     unit_line(
         lex_line::marked(left, unit),
         lex_line::marked(right, amount),
+        Span {
+            start: from + name.start,
+            end: from + name.end,
+        },
     )
 }
 
 // "`Section Mult=n name`, `Section Len=v name`".
-fn section_line(content: &[u8]) -> PathLine
-    ensures { λ r. ⌜ r ≡ sectionLine (now (content .entry)) ⌝ }
+fn section_line(content: &[u8]) -> PathParts
+    ensures { λ r. ⌜ r ≡ sectionParts (now (content .entry)) ⌝ }
 {
     let sign = lex_line::equals_at(content);
     if content.len() <= sign {
         return plain_line(SECTION, false);
     }
-    parts_line(&content[..sign], &content[sign + 1..])
+    let from = sign + 1;
+    parts_line(&content[..sign], &content[from..], from)
 }
 
 // Fork and Endfork have no other word.
@@ -216,9 +250,28 @@ fn takes_name(says: u64) -> bool
     says == SIDE
 }
 
-fn line_saying(says: u64, content: &[u8], few: FirstTwo) -> PathLine
+// A line with a name; it is right if the name is its only other word.
+fn named_line(says: u64, content: &[u8], few: FirstTwo) -> PathParts
     requires { ⌜ few ≡ firstTwoOf (now content) ⌝ }
-    ensures { λ r. ⌜ r ≡ lineSaying says (now (content .entry)) ⌝ }
+    ensures { λ r. ⌜ r ≡ namedParts says (now (content .entry)) ⌝ }
+{
+    let name = few.second;
+    PathParts {
+        line: PathLine {
+            says: says,
+            right: names_one(content, few),
+            formed: true,
+            bounded: true,
+        },
+        name,
+        amount: 0,
+        mult: false,
+    }
+}
+
+fn line_saying(says: u64, content: &[u8], few: FirstTwo) -> PathParts
+    requires { ⌜ few ≡ firstTwoOf (now content) ⌝ }
+    ensures { λ r. ⌜ r ≡ saidParts says (now (content .entry)) ⌝ }
 {
     if says == SECTION {
         return section_line(content);
@@ -227,14 +280,14 @@ fn line_saying(says: u64, content: &[u8], few: FirstTwo) -> PathLine
         return plain_line(says, few.count == 1);
     }
     if takes_name(says) {
-        return plain_line(says, names_one(content, few));
+        return named_line(says, content, few);
     }
     plain_line(NOTHING, true)
 }
 
 // Reads a line of a path of any form, by its first word.
-fn general_line(content: &[u8]) -> PathLine
-    ensures { λ r. ⌜ r ≡ pathLineOf (now (content .entry)) ⌝ }
+fn general_line(content: &[u8]) -> PathParts
+    ensures { λ r. ⌜ r ≡ partsOf (now (content .entry)) ⌝ }
 {
     let few = lex_line::first_two_words(content);
     let first = few.first;
@@ -242,9 +295,9 @@ fn general_line(content: &[u8]) -> PathLine
     line_saying(says, content, few)
 }
 
-// Reads a line of a path. The usual forms are tried first.
-pub fn path_line(content: &[u8]) -> PathLine
-    ensures { λ r. ⌜ r ≡ pathLineOf (now (content .entry)) ⌝ }
+// Reads a line of a path, with its parts. The usual forms are tried first.
+pub fn path_line(content: &[u8]) -> PathParts
+    ensures { λ r. ⌜ ParsesLine (now (content .entry)) r ⌝ }
 {
     let end = fast::usual_amount(content);
     if end != 0 {

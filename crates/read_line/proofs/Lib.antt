@@ -7,5 +7,4 @@ pub mod OutsideLaws
 pub mod CountLaws
 pub mod CrossLaws
 pub mod QuietLaws
-pub mod BlockLaws
 mod ListedLaws

@@ -7,7 +7,6 @@ use Prim.Native.Nat.{ℕ, _<_}
 use native.Mathlib.Omega.{arith}
 use lib.ListN.{getD}
 use borrow.Author.Tests.{ne-eqb, eqb-false, ltb-true, not-true}
-use Rattle.base.specs.If.{if_then_else_}
 use Rattle.base.specs.Bytes.{isBlank}
 use Rattle.base.specs.Runs.{run, same}
 use Rattle.base.specs.Way.Class.{runEnd}

@@ -270,9 +270,6 @@ steps-small p n h =
     let k : n ≤ mostSteps = h .steps in
     omega arith
 
-pub stepping-kept : (n : ℕ) (s : State) → BoundedState n s → Stepping (s .path) (s .counts .steps)
-stepping-kept n s kept = record { depth = kept .depth; steps = kept .steps }
-
 pub stepping-on : (l : PathLine) (p : Path) (n k : ℕ) → k ≡ pathRule l p n → k ≡ 0 → Stepping p n → (b : Bool) → b ≡ isStepLine l → (more : ℕ) → more ≡ oneMoreIf b n → (next : Path) → next ≡ pathNext l p → Stepping next more
 stepping-on l p n k rule e h b step more count next told =
     record {

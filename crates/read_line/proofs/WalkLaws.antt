@@ -6,7 +6,7 @@ use mathlib.Core.List.{List, _∷_}
 use Prim.Native.Nat.{ℕ, _+_, _-_, _≤_, _<_, zero-le}
 use native.Mathlib.Nat.{le-refl}
 use native.Mathlib.Omega.{arith}
-use lib.ListN.{length, take, drop, length-drop, drop-of-length-le}
+use lib.ListN.{length, take, drop, length-drop}
 use lib.Dec.{eqb}
 use borrow.Author.Tests.{eq-eqb, ne-eqb, eqb-true, eqb-false}
 use Rattle.base.specs.Runs.{run as run′}
@@ -43,15 +43,11 @@ use Rattle.read_line.specs.Reading.{
   lineResult,
   onward,
   readFrom,
-  atEnd,
   readingOf,
 }
 use Rattle.read_line.specs.Way.Steps.{lineStep, keywordStep, bracketStep, beforeStep}
-use Rattle.read_line.specs.Way.Walk.{resume, Onward, Rises, ResumesText}
+use Rattle.read_line.specs.Way.Walk.{resume, Onward, Rises, ResumesText, ReadsLine}
 use Rattle.read_line.specs.declared.LineResult.{LineResult}
-use Rattle.read_line.specs.declared.Walk.{Walk}
-use Rattle.read_line.specs.declared.Reading.{Reading}
-use Rattle.read_line.specs.declared.Reading.the-variants.{Refused}
 use Rattle.read_line.proofs.KeptLaws.{line-kept}
 use Rattle.read_line.proofs.ResultLaws.{result-steps}
 
@@ -237,6 +233,20 @@ module _ (t : List ℕ) (at line : ℕ) (s : State) (h : at < length t) (on : On
         (λ (e : eqb (step .rule) 0 ≡ true). rw (count ∙ if-true _ _ e) (line-taken (eqb-true _ _ e)))
         (λ (e : eqb (step .rule) 0 ≡ false). rw (count ∙ if-false _ _ e) (line-broken (eqb-false _ _ e)))
 
+    -- and the line itself is the one that is there
+    pub line-read : (after : ℕ) → after ≡ oneMoreIf (eqb (step .rule) 0) line → (bracket : Bracket) → bracket ≡ bracketOf (take (here .content - at) (drop at t)) →
+        ReadsLine t at line s (record { rule = step .rule; at = here .next; line = after; state = step .state; end = here .content; bracket = bracket })
+    unfolding oneMoreIf
+    line-read after count bracket is-bracket =
+        record {
+          resumes = line-reached after count;
+          result = taken ∙ ap (λ (l : Line). lineResult (take (l .content - at) (drop at t)) s) found;
+          next-is = ap (λ (l : Line). l .next) found;
+          line-is = λ (z : step .rule ≡ 0). count ∙ if-true _ _ (eq-eqb _ _ z);
+          end-is = ap (λ (l : Line). l .content) found;
+          bracket-is = is-bracket ∙ ap (λ (l : Line). bracketOf (take (l .content - at) (drop at t))) found;
+        }
+
 -- ---- the part of the text that is a line's content
 
 module _ (t : List ℕ) (at : ℕ) (here : Line) (found : here ≡ lineAt commentByte t at) where
@@ -259,24 +269,3 @@ reading-starts t s e = record { within = zero-le; counted = omega arith; kept = 
 pub reading-whole : (t : List ℕ) (s : State) → s ≡ startState → readFrom 1 (lines (drop 0 t)) s ≡ readingOf t
 unfolding readingOf
 reading-whole t s e = ap (readFrom 1 (lines t)) e
-
-module _ (t : List ℕ) (at line : ℕ) (s : State) (answer : Reading) (rest : readFrom line (lines (drop at t)) s ≡ answer) where
-  pub reading-ends : length t ≤ at → (r : Reading) → r ≡ atEnd s → r ≡ answer
-  unfolding readFrom lines
-  reading-ends h r e = e ∙ rw (drop-of-length-le t h) at rest
-
-  module _ (w : Walk) (reached : ResumesText t at line s w) where
-    pub reading-stops : (w .rule ≡ 0 → ⊥) → Refused (w .rule) (w .line) ≡ answer
-    unfolding resume
-    reading-stops z = sym (if-false _ _ (ne-eqb _ _ z)) ∙ reached .same ∙ rest
-
-    module _ (z : w .rule ≡ 0) where
-      pub reading-on : readFrom (w .line) (lines (drop (w .at) t)) (w .state) ≡ answer
-      unfolding resume
-      reading-on = sym (if-true _ _ (eq-eqb _ _ z)) ∙ reached .same ∙ rest
-
-      pub reading-onward : Onward t (w .at) (w .line) (w .state)
-      reading-onward = reached .onward z
-
-      pub reading-further : at < w .at
-      reading-further = reached .further z

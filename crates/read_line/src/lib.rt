@@ -1,8 +1,7 @@
-// Rules 5 to 17, line by line: the result of one line in its place, and of several lines that are read together.
-// `read_text` builds the walk over a whole text from these functions.
+// Rules 5 to 17 for one line: its result in its place.
+// `read_family` and `read_sections` build the walk over a whole text from these functions.
 ghost use mathlib.Core.Path.{_≡_};
-ghost use mathlib.Core.Bool.{true, false};
-ghost use Prim.Native.Nat.{_+_, _≤_, _<_};
+ghost use Prim.Native.Nat.{_<_};
 ghost use lib.ListN.{length};
 ghost use Rattle.line_place.specs.Place as place;
 ghost use Rattle.line_keyword.specs.Way.Bounded.{BoundedState, mostLines};
@@ -12,12 +11,10 @@ ghost use Rattle.lex_line.specs.Lines.{isBlankLine};
 ghost use Rattle.line_keyword.specs.declared.State.{State};
 ghost use Rattle.lex_keyword.specs.Bracket.{bracketOf};
 ghost use Rattle.lex_keyword.specs.declared.Bracket.the-variants.{Plain, Indented, Keyword};
-ghost use Rattle.read_line.specs.Way.Walk.{ResumesText, Onward, ResumesPart, HoldsPart, Decides, Fronted, Stepping, Opens, ReadLineByLine, BracketOrLineByLine, contentAt, NoProgressMeansBracket, Blocked, withPath, withPinned};
+ghost use Rattle.read_line.specs.Way.Walk.{Onward, Fronted, ReadLineByLine, BracketOrLineByLine, contentAt, ReadsLine};
 use lex_keyword::Bracket;
 use line_keyword::Counts;
 use line_keyword::State;
-use line_map::Map;
-use line_path::Path;
 
 pub mod fast;
 
@@ -48,6 +45,16 @@ pub struct Walk {
     pub at: usize,
     pub line: u64,
     pub state: State,
+}
+
+// A single line that is read: as in a walk, with the offset where its content ends and the bracket at its front.
+pub struct LineRead {
+    pub rule: u64,
+    pub at: usize,
+    pub line: u64,
+    pub state: State,
+    pub end: usize,
+    pub bracket: Bracket,
 }
 
 fn goes_on(s: State) -> LineResult
@@ -171,11 +178,11 @@ fn indented_step(content: &[u8], s: State) -> LineResult
     stops(base::refusal::KEYWORD, s)
 }
 
-fn bracket_step(content: &[u8], s: State) -> LineResult
-    requires { ⌜ BoundedState mostLines s × (bracketOf (now content) ≡ Plain → ReadLineByLine (s .place)) ⌝ }
+fn bracket_step(content: &[u8], bracket: Bracket, s: State) -> LineResult
+    requires { ⌜ BoundedState mostLines s × (bracket ≡ bracketOf (now content)) × (bracket ≡ Plain → ReadLineByLine (s .place)) ⌝ }
     ensures { λ r. ⌜ r ≡ bracketStep (bracketOf (now (content .entry))) (now (content .entry)) s ⌝ }
 {
-    match lex_keyword::read_bracket(content) {
+    match bracket {
         Bracket::Plain => line_step(content, s),
         Bracket::Indented => indented_step(content, s),
         Bracket::Bad => stops(base::refusal::KEYWORD, s),
@@ -196,11 +203,11 @@ fn opening_step(key: u64, start: usize, content: &[u8], s: State) -> LineResult
     goes_on(s)
 }
 
-fn before_step(content: &[u8], s: State) -> LineResult
-    requires { ⌜ BoundedState mostLines s ⌝ }
+fn before_step(content: &[u8], bracket: Bracket, s: State) -> LineResult
+    requires { ⌜ BoundedState mostLines s × (bracket ≡ bracketOf (now content)) ⌝ }
     ensures { λ r. ⌜ r ≡ beforeStep (bracketOf (now (content .entry))) (now (content .entry)) s ⌝ }
 {
-    match lex_keyword::read_bracket(content) {
+    match bracket {
         Bracket::Plain => goes_on(s),
         Bracket::Indented => goes_on(s),
         Bracket::Bad => goes_on(s),
@@ -216,9 +223,9 @@ pub fn is_blank_line(content: &[u8]) -> bool
     base::past_blanks(content, 0) == content.len()
 }
 
-// One line, given by its content.
-fn take_line(content: &[u8], s: State) -> LineResult
-    requires { ⌜ BoundedState mostLines s × BracketOrLineByLine (now content) (s .place) ⌝ }
+// One line, given by its content and the bracket at its front.
+fn take_line(content: &[u8], bracket: Bracket, s: State) -> LineResult
+    requires { ⌜ BoundedState mostLines s × (bracket ≡ bracketOf (now content)) × BracketOrLineByLine (now content) (s .place) ⌝ }
     ensures { λ r. ⌜ r ≡ lineResult (now (content .entry)) s ⌝ }
 {
     if is_blank_line(content) {
@@ -228,9 +235,9 @@ fn take_line(content: &[u8], s: State) -> LineResult
         return goes_on(s);
     }
     if s.place == line_place::BEFORE {
-        return before_step(content, s);
+        return before_step(content, bracket, s);
     }
-    bracket_step(content, s)
+    bracket_step(content, bracket, s)
 }
 
 // ---- lines that change one part
@@ -255,330 +262,26 @@ pub fn front_of(content: &[u8]) -> Front
     Front::Words
 }
 
-// The result of a line of a pin list, with only the part of the state that such a line changes. A line with a bracket
-// is not taken here. For a line that is taken: the rule that it breaks, and the map and the count of pins after it.
-struct Pinned {
-    taken: bool,
-    rule: u64,
-    map: Map,
-    pins: u64,
-}
-
-fn pin_line(content: &[u8], map: Map, pins: u64) -> Pinned
-    ensures { λ r. ⌜ (r .taken ≡ true)
-        × Decides place.pinList (withPinned map pins) (lineStep (now (content .entry))) (r .rule) (withPinned (r .map) (r .pins)) ⌝ }
-{
-    let rule = line_map::pin_rule(content, map, pins);
-    if rule != 0 {
-        return Pinned {
-            taken: true,
-            rule,
-            map,
-            pins,
-        };
-    }
-    Pinned {
-        taken: true,
-        rule: 0,
-        map: line_map::with_pin(map),
-        pins: pins + 1,
-    }
-}
-
-// A line of a pin list; one with a bracket is not taken.
-fn take_pin(content: &[u8], map: Map, pins: u64) -> Pinned
-    ensures { λ r. ⌜ (r .taken ≡ true → Decides place.pinList (withPinned map pins) (lineResult (now (content .entry))) (r .rule) (withPinned (r .map) (r .pins)))
-        × (r .taken ≡ false → Opens (now (content .entry))) ⌝ }
-{
-    match front_of(content) {
-        Front::Blanks => Pinned {
-            taken: true,
-            rule: 0,
-            map,
-            pins,
-        },
-        Front::Words => pin_line(content, map, pins),
-        Front::Opening => Pinned {
-            taken: false,
-            rule: 0,
-            map,
-            pins,
-        },
-    }
-}
-
-// Where the lines of a pin list end, or the line that breaks a rule, and the result up to there.
-struct PinWalk {
-    at: usize,
-    line: u64,
-    part: Pinned,
-}
-
-// Reads the lines of a pin list, up to one with a bracket or one that breaks a rule.
-fn pass_pins(text: &[u8], at: usize, line: u64, map: Map, pins: u64) -> PinWalk
-    requires { ⌜ (at ≤ length (now text)) × (line ≤ at + 1) ⌝ }
-    ensures { λ r. ⌜ ResumesPart (now (text .entry)) at line (HoldsPart place.pinList (withPinned map pins)) (withPinned (r .part .map) (r .part .pins)) (r .part .rule) (r .at) (r .line)
-        × NoProgressMeansBracket (now (text .entry)) at (r .at) ⌝ }
-{
-    let mut here = at;
-    let mut line_here = line;
-    let mut part = Pinned {
-        taken: true,
-        rule: 0,
-        map,
-        pins,
-    };
-    while here < text.len() {
-        let found = lex_line::line_at(text, here, COMMENT);
-        let content = found.content;
-        let next = take_pin(&text[here..content], part.map, part.pins);
-        if !next.taken {
-            return PinWalk {
-                at: here,
-                line: line_here,
-                part,
-            };
-        }
-        here = found.next;
-        part = next;
-        if part.rule != 0 {
-            return PinWalk {
-                at: here,
-                line: line_here,
-                part,
-            };
-        }
-        line_here += 1;
-    }
-    PinWalk {
-        at: here,
-        line: line_here,
-        part,
-    }
-}
-
-// The result of a line of a path, with only the part of the state that such a line changes. A line with a bracket is
-// not taken here. For a line that is taken: the rule that it breaks, and the path and the count of steps after it.
-pub struct Stepped {
-    pub taken: bool,
-    pub rule: u64,
-    pub path: Path,
-    pub steps: u64,
-}
-
-fn path_line(content: &[u8], path: Path, steps: u64) -> Stepped
-    requires { ⌜ Stepping path steps ⌝ }
-    ensures { λ r. ⌜ (r .taken ≡ true)
-        × Decides place.path (withPath path steps) (lineStep (now (content .entry))) (r .rule) (withPath (r .path) (r .steps)) × Stepping (r .path) (r .steps) ⌝ }
-{
-    let line = line_path::path_line(content);
-    let rule = line_path::path_rule(line, path, steps);
-    if rule != 0 {
-        return Stepped {
-            taken: true,
-            rule,
-            path,
-            steps,
-        };
-    }
-    Stepped {
-        taken: true,
-        rule: 0,
-        path: line_path::path_next(line, path),
-        steps: line_keyword::one_more_if(line_path::is_step(line), steps),
-    }
-}
-
-// A line of a path; one with a bracket is not taken.
-fn take_step(content: &[u8], path: Path, steps: u64) -> Stepped
-    requires { ⌜ Stepping path steps ⌝ }
-    ensures { λ r. ⌜ (r .taken ≡ true → Decides place.path (withPath path steps) (lineResult (now (content .entry))) (r .rule) (withPath (r .path) (r .steps)))
-        × Stepping (r .path) (r .steps) × (r .taken ≡ false → Opens (now (content .entry))) ⌝ }
-{
-    match front_of(content) {
-        Front::Blanks => Stepped {
-            taken: true,
-            rule: 0,
-            path,
-            steps,
-        },
-        Front::Words => path_line(content, path, steps),
-        Front::Opening => Stepped {
-            taken: false,
-            rule: 0,
-            path,
-            steps,
-        },
-    }
-}
-
-// Where the lines of a path end, or the line that breaks a rule, and the result up to there.
-pub struct PathWalk {
-    pub at: usize,
-    pub line: u64,
-    pub part: Stepped,
-}
-
-// Reads lines of a path. It stops after a line that opens or closes a fork block or breaks a rule, or before a bracket.
-fn pass_path(text: &[u8], at: usize, line: u64, path: Path, steps: u64) -> PathWalk
-    requires { ⌜ (at ≤ length (now text)) × (line ≤ at + 1) × Stepping path steps ⌝ }
-    ensures { λ r. ⌜ Blocked (now (text .entry)) at line path steps r ⌝ }
-{
-    let depth = path.depth;
-    let mut here = at;
-    let mut line_here = line;
-    let mut part = Stepped {
-        taken: true,
-        rule: 0,
-        path,
-        steps,
-    };
-    while here < text.len() {
-        let found = lex_line::line_at(text, here, COMMENT);
-        let content = found.content;
-        let next = take_step(&text[here..content], part.path, part.steps);
-        if !next.taken {
-            return PathWalk {
-                at: here,
-                line: line_here,
-                part,
-            };
-        }
-        here = found.next;
-        part = next;
-        if part.rule != 0 {
-            return PathWalk {
-                at: here,
-                line: line_here,
-                part,
-            };
-        }
-        line_here += 1;
-        let reached = part.path;
-        if reached.depth != depth {
-            return PathWalk {
-                at: here,
-                line: line_here,
-                part,
-            };
-        }
-    }
-    PathWalk {
-        at: here,
-        line: line_here,
-        part,
-    }
-}
-
-// Reads the lines of a fork block, up to and including the line that closes it. The function calls itself for an inner
-// block, and the depth still left falls. The path itself is the outermost block.
-fn pass_block(text: &[u8], at: usize, line: u64, path: Path, steps: u64, left: u64) -> PathWalk
-    requires { ⌜ (at ≤ length (now text)) × (line ≤ at + 1) × Stepping path steps ⌝ }
-    ensures { λ r. ⌜ Blocked (now (text .entry)) at line path steps r ⌝ }
-{
-    let mut walk = pass_path(text, at, line, path, steps);
-    loop {
-        let part = walk.part;
-        let reached = part.path;
-        if part.rule != 0 {
-            return walk;
-        }
-        if reached.depth <= path.depth {
-            return walk;
-        }
-        if left == 0 {
-            return walk;
-        }
-        let here = walk.at;
-        let inner = pass_block(text, here, walk.line, reached, part.steps, left - 1);
-        let inside = inner.part;
-        let closed = inside.path;
-        if inside.rule != 0 {
-            return inner;
-        }
-        let rest = pass_path(text, inner.at, inner.line, closed, inside.steps);
-        if rest.at <= here {
-            return rest;
-        }
-        walk = rest;
-    }
-}
-
-// ---- parts of the walk over a text
+// ---- a line of a text
 
 // Reads the line at offset `at`. Each byte is looked at a bounded number of times.
-pub fn read_one(text: &[u8], at: usize, line: u64, s: State) -> Walk
+pub fn read_single(text: &[u8], at: usize, line: u64, s: State) -> LineRead
     requires { ⌜ (at < length (now text)) × Onward (now text) at line s × BracketOrLineByLine (contentAt (now text) at) (s .place) ⌝ }
-    ensures { λ r. ⌜ ResumesText (now (text .entry)) at line s r ⌝ }
+    ensures { λ r. ⌜ ReadsLine (now (text .entry)) at line s r ⌝ }
 {
     let here = lex_line::line_at(text, at, COMMENT);
     let content = here.content;
-    let taken = take_line(&text[at..content], s);
+    let bracket = lex_keyword::read_bracket(&text[at..content]);
+    let taken = take_line(&text[at..content], bracket, s);
     let state = taken.state;
-    Walk {
+    LineRead {
         rule: taken.rule,
         at: here.next,
         line: line_keyword::one_more_if(taken.rule == 0, line),
         state,
+        end: content,
+        bracket,
     }
-}
-
-// Reads the lines of a pin list up to the next line with a bracket. If that line comes first, it is read instead.
-pub fn read_pins(text: &[u8], at: usize, line: u64, s: State) -> Walk
-    requires { ⌜ (at < length (now text)) × Onward (now text) at line s × (s .place ≡ place.pinList) ⌝ }
-    ensures { λ r. ⌜ ResumesText (now (text .entry)) at line s r ⌝ }
-{
-    let map = s.map;
-    let mut counts = s.counts;
-    let walk = pass_pins(text, at, line, map, counts.pins);
-    if at < walk.at {
-        let part = walk.part;
-        let reached = part.map;
-        counts.pins = part.pins;
-        let mut state = s;
-        state.map = reached;
-        state.counts = counts;
-        return Walk {
-            rule: part.rule,
-            at: walk.at,
-            line: walk.line,
-            state,
-        };
-    }
-    read_one(text, at, line, s)
-}
-
-// Reads the lines of a path, fork blocks included, up to the next line with a bracket. If that line comes first, it is
-// read instead.
-pub fn read_path(text: &[u8], at: usize, line: u64, s: State) -> Walk
-    requires { ⌜ (at < length (now text)) × Onward (now text) at line s × (s .place ≡ place.path) ⌝ }
-    ensures { λ r. ⌜ ResumesText (now (text .entry)) at line s r ⌝ }
-{
-    let path = s.path;
-    let mut counts = s.counts;
-    let walk = pass_block(
-        text,
-        at,
-        line,
-        path,
-        counts.steps,
-        table_layout::bound::DEPTH,
-    );
-    if at < walk.at {
-        let part = walk.part;
-        let reached = part.path;
-        counts.steps = part.steps;
-        let mut state = s;
-        state.path = reached;
-        state.counts = counts;
-        return Walk {
-            rule: part.rule,
-            at: walk.at,
-            line: walk.line,
-            state,
-        };
-    }
-    read_one(text, at, line, s)
 }
 
 pub fn at_end(s: State) -> Reading

@@ -2,19 +2,19 @@
 -- ends the matrix.
 -- Assumes nothing.
 use mathlib.Core.Path.{_≡_, refl, sym, _∙_, ap}
-use mathlib.Core.Bool.{Bool, true, false, not, true≢false}
-use mathlib.Core.List.{List}
-use Prim.Native.Nat.{ℕ, _+_, _*_, _≤_, _<_, max}
-use native.Mathlib.Nat.{le-refl}
+use mathlib.Core.Bool.{Bool, true, false, true≢false}
+use mathlib.Core.List.{List, _∷_, _++_}
+use Prim.Native.Nat.{ℕ, _+_, _≤_, _<_, max}
 use native.Mathlib.Omega.{arith}
-use lib.ListN.{length}
-use lib.Seq.{sets}
 use lib.Dec.{eqb}
-use borrow.Author.Tests.{eq-eqb, ne-eqb, eqb-true, not-true}
+use borrow.Author.Tests.{eq-eqb, ne-eqb, eqb-true}
+use Rattle.table_record.specs.Records.{valueWords}
 use Rattle.table_record.specs.declared.Value.{Value}
+use Rattle.table_record.proofs.StageLaws.{held-same}
 use Rattle.table_layout.specs.Layout.{valueWidth}
 use Rattle.table_layout.specs.Codes.{sparse}
-use Rattle.base.proofs.IfLaws.{if-true, if-false, by-cases, both-true, both-not-right, either-left, either-right, either-false, either-rest}
+use Rattle.table_layout.specs.Bounds.{mostValues}
+use Rattle.base.proofs.IfLaws.{if-true, if-false, by-cases, both-true, either-left, either-right, either-rest}
 use Rattle.lex_line.specs.Lines.{isBlankLine}
 use Rattle.lex_number.specs.Integer.{wholeOf}
 use Rattle.lex_number.specs.declared.Whole.{Whole}
@@ -39,24 +39,18 @@ use Rattle.read_line.specs.declared.Front.the-variants.{Words}
 use Rattle.read_line.proofs.StepLaws.{data-stops, data-goes, keyword-stops, keyword-goes}
 use Rattle.read_line.proofs.QuietLaws.{words-decide, quiet-blank}
 use Rattle.doc.specs.Lines.{Line, plain, keyIn, keyAt, keyOf, argumentIn, argumentOf}
-use Rattle.doc.specs.Document.{inMatrix, givenBy, bandwidthIn, greatestIn}
-use Rattle.store_base.specs.Way.Stage.{valuesWords}
-use Rattle.store_matrices.specs.Way.Numbers.{mostGiven}
-use Rattle.store_matrices.specs.Way.Told.{firstTold, toldOr}
-use Rattle.store_matrices.specs.declared.First.{First}
-use Rattle.store_matrices.proofs.BodyLaws.{told-first, whole-below, most-of, row-values, row-bandwidth, row-greatest, bandwidth-values, bandwidth-told, bandwidth-greatest}
+use Rattle.doc.specs.Document.{inMatrix, givenBy, bandwidthIn, greatestIn, valuesFrom}
+use Rattle.read_numbers.specs.Way.Numbers.{mostGiven}
+use Rattle.read_numbers.specs.Way.Told.{firstTold, toldOr}
+use Rattle.read_numbers.specs.declared.First.{First}
 use Rattle.read_numbers.specs.declared.Staging.{Staging}
-use Rattle.read_numbers.specs.Way.Staging.{BoundedStaging, Adds}
+use Rattle.read_numbers.specs.Way.Staging.{HeldValues, BoundedStaging, Adds}
+use Rattle.read_numbers.proofs.GivenLaws.{told-first, whole-below, most-of, row-values, row-bandwidth, row-greatest, bandwidth-values, bandwidth-told, bandwidth-greatest}
 use Rattle.read_matrix.specs.declared.Data.{Data}
-use Rattle.read_matrix.specs.Way.Body.{newStaging, keywordStaging, TakesKeyword, Behind, Extends, Ends, Takes}
+use Rattle.read_matrix.specs.Way.Body.{newStaging, keywordStaging, TakesKeyword, IsData, BrokenLine, Extends, Ends, Takes, TakesAlone}
 
--- ---- stagings
-
-pub no-bounded : (values : ℕ) (b : Bool) → BoundedStaging (newStaging b) values
-no-bounded values b = record { row = omega arith; column = omega arith }
-
-pub behind-same : (values : ℕ) (table : List ℕ) → Behind values table table
-behind-same values table = record { long = refl; same = refl }
+pub no-bounded : (values : ℕ) → BoundedStaging newStaging values
+no-bounded values = record { row = omega arith; column = omega arith }
 
 -- ---- a line of numbers
 
@@ -94,44 +88,26 @@ module _ (content : List ℕ) (filled : isBlankLine content ≡ false) (plainly 
   form-on : (next : Matrix) → next ≡ dataNext line m → next .form ≡ m .form
   form-on next next-is = ap (λ (x : Matrix). x .form) next-is ∙ next-form line m
 
-  -- a line that is judged but not staged
-  module _ (n : Staging) (none : n ≡ newStaging false) (a : Staging) (table : List ℕ) where
-    untold-here : n .whole ≡ true → ⊥
-    untold-here w = true≢false (sym w ∙ ap (λ (x : Staging). x .whole) none)
-
-    pub judged-stops : (k ≡ 0 → ⊥) →
-        Takes content m values a table (record { taken = true; ends = false; rule = k; matrix = m; values = values; staging = n }) table
-    judged-stops h =
-        record {
-          decides = λ (e : true ≡ true). steps-not h;
-          opens = λ (e : true ≡ false). absurd (true≢false e);
-          ends = λ (e : true ≡ false) (f : false ≡ true). absurd (true≢false e);
-          kept = λ (e : true ≡ false). refl;
-          form = refl;
-          behind = behind-same values table;
-          rises = le-refl values;
-          bounded = rw none (no-bounded values false);
-          extends = λ (e : true ≡ true) (z : k ≡ 0) (w : n .whole ≡ true). absurd (h z);
-        }
-
-    pub judged-goes : k ≡ 0 → (next : Matrix) → next ≡ dataNext line m →
-        Takes content m values a table
-        (record { taken = true; ends = false; rule = 0; matrix = next; values = values + line .numbers; staging = n }) table
-    judged-goes z next next-is =
-        record {
-          decides = λ (e : true ≡ true). steps-on z next next-is;
-          opens = λ (e : true ≡ false). absurd (true≢false e);
-          ends = λ (e : true ≡ false) (f : false ≡ true). absurd (true≢false e);
-          kept = λ (e : true ≡ false). refl;
-          form = form-on next next-is;
-          behind = behind-same values table;
-          rises = omega arith;
-          bounded = rw none (no-bounded (values + line .numbers) false);
-          extends = λ (e : true ≡ true) (y : _≡_ {A = ℕ} 0 0) (w : n .whole ≡ true). absurd (untold-here w);
-        }
+  -- a line that breaks a rule
+  pub data-broken : BrokenLine content m values → (a : Staging) → BoundedStaging a values →
+      TakesAlone content m values a (record { taken = true; rule = k; matrix = m; values = values; staging = a })
+  data-broken broken a bound =
+      let h : k ≡ 0 → ⊥ = λ (z : k ≡ 0). broken (filled, plainly) (ap (λ (l : DataLine). dataRule l m values) (sym read) ∙ sym rule ∙ z) in
+      record {
+        takes = λ (table : List ℕ).
+            record {
+              decides = λ (e : true ≡ true). steps-not h;
+              ends = λ (e : true ≡ false). absurd (true≢false e);
+              form = refl;
+              few = λ (f : values ≤ mostValues). f;
+              bounded = bound;
+              extends = λ (e : true ≡ true) (z : k ≡ 0). absurd (h z);
+            };
+        other = λ (z : k ≡ 0) (d : IsData content). absurd (h z);
+      }
 
   -- a line that is staged
-  module _ (a b : Staging) (table table' : List ℕ) (behind : Behind values table table')
+  module _ (a b : Staging) (table table' : List ℕ) (few : values + line .numbers ≤ mostValues)
       (adds : (l : Line) → l .content ≡ content → keyOf l ≡ plain → Adds (m .form) l table values a table' (values + line .numbers) b) where
     -- some line with these words, wherever it is
     abbrev here : Line
@@ -147,59 +123,77 @@ module _ (content : List ℕ) (filled : isBlankLine content ≡ false) (plainly 
 
     pub stage-goes : k ≡ 0 → (next : Matrix) → next ≡ dataNext line m →
         Takes content m values a table
-        (record { taken = true; ends = false; rule = 0; matrix = next; values = values + line .numbers; staging = b }) table'
+        (record { taken = true; rule = 0; matrix = next; values = values + line .numbers; staging = b }) table'
     stage-goes z next next-is =
         record {
           decides = λ (e : true ≡ true). steps-on z next next-is;
-          opens = λ (e : true ≡ false). absurd (true≢false e);
-          ends = λ (e : true ≡ false) (f : false ≡ true). absurd (true≢false e);
-          kept = λ (e : true ≡ false). absurd (true≢false e);
+          ends = λ (e : true ≡ false). absurd (true≢false e);
           form = form-on next next-is;
-          behind = behind;
-          rises = omega arith;
+          few = λ (f : values ≤ mostValues). few;
           bounded = adds here refl (plain-key content plainly here refl) .bounded;
-          extends = λ (e : true ≡ true) (y : _≡_ {A = ℕ} 0 0) (w : b .whole ≡ true). extended;
+          extends = λ (e : true ≡ true) (y : _≡_ {A = ℕ} 0 0). extended;
         }
 
 -- ---- a blank line
 
-pub blank-takes : (content : List ℕ) (m : Matrix) (values : ℕ) (a : Staging) (table : List ℕ) → isBlankLine content ≡ true → BoundedStaging a values →
-    Takes content m values a table (record { taken = true; ends = false; rule = 0; matrix = m; values = values; staging = a }) table
+pub blank-takes : (content : List ℕ) (m : Matrix) (values : ℕ) (a : Staging) → isBlankLine content ≡ true → BoundedStaging a values →
+    TakesAlone content m values a (record { taken = true; rule = 0; matrix = m; values = values; staging = a })
 unfolding breaks goes
-blank-takes content m values a table blank bound =
+blank-takes content m values a blank bound =
     record {
-      decides = λ (e : true ≡ true) (s : State) (p : s .place ≡ place.matrix). quiet-blank content true (sym blank) refl (withMatrix m values s);
-      opens = λ (e : true ≡ false). absurd (true≢false e);
-      ends = λ (e : true ≡ false) (f : false ≡ true). absurd (true≢false e);
-      kept = λ (e : true ≡ false). refl;
-      form = refl;
-      behind = behind-same values table;
-      rises = le-refl values;
-      bounded = bound;
-      extends = λ (e : true ≡ true) (z : _≡_ {A = ℕ} 0 0) (w : a .whole ≡ true).
+      takes = λ (table : List ℕ).
           record {
-            blank = λ (b : isBlankLine content ≡ true). (refl, refl, refl);
-            filled = λ (f : isBlankLine content ≡ false). absurd (true≢false (sym blank ∙ f));
+            decides = λ (e : true ≡ true) (s : State) (p : s .place ≡ place.matrix). quiet-blank content true (sym blank) refl (withMatrix m values s);
+            ends = λ (e : true ≡ false). absurd (true≢false e);
+            form = refl;
+            few = λ (f : values ≤ mostValues). f;
+            bounded = bound;
+            extends = λ (e : true ≡ true) (z : _≡_ {A = ℕ} 0 0).
+                record {
+                  blank = λ (b : isBlankLine content ≡ true). (refl, refl, refl);
+                  filled = λ (f : isBlankLine content ≡ false). absurd (true≢false (sym blank ∙ f));
+                };
           };
+      other = λ (z : _≡_ {A = ℕ} 0 0) (d : IsData content). true≢false (sym blank ∙ d .0);
     }
 
 -- ---- a line that is not taken
 
-pub left-takes : (content : List ℕ) (m : Matrix) (values : ℕ) (a : Staging) (table : List ℕ) (b : Bool) → Opens content → (b ≡ true → Ends content) → BoundedStaging a values → (r : Data) →
-    r ≡ record { taken = false; ends = b; rule = 0; matrix = m; values = values; staging = a } → Takes content m values a table r table
-left-takes content m values a table b opens ends bound r told =
+left-takes : (content : List ℕ) (m : Matrix) (values : ℕ) (a : Staging) → Ends content → BoundedStaging a values → (r : Data) →
+    r ≡ record { taken = false; rule = 0; matrix = m; values = values; staging = a } → TakesAlone content m values a r
+left-takes content m values a ends bound r told =
     rw told
     (record {
-      decides = λ (e : false ≡ true). absurd (true≢false (sym e));
-      opens = λ (e : false ≡ false). opens;
-      ends = λ (e : false ≡ false) (f : b ≡ true). ends f;
-      kept = λ (e : false ≡ false). refl;
-      form = refl;
-      behind = behind-same values table;
-      rises = le-refl values;
-      bounded = bound;
-      extends = λ (e : false ≡ true). absurd (true≢false (sym e));
+      takes = λ (table : List ℕ).
+          record {
+            decides = λ (e : false ≡ true). absurd (true≢false (sym e));
+            ends = λ (e : false ≡ false). ends;
+            form = refl;
+            few = λ (f : values ≤ mostValues). f;
+            bounded = bound;
+            extends = λ (e : false ≡ true). absurd (true≢false (sym e));
+          };
+      other = λ (z : _≡_ {A = ℕ} 0 0) (d : IsData content). ends .opens (d .1);
     })
+
+-- a bracket without a keyword that is known
+abbrev isNamed : Bracket → Bool
+isNamed Plain = false
+isNamed Indented = false
+isNamed Bad = false
+isNamed Unknown = false
+isNamed Later = false
+isNamed (Keyword k start) = true
+
+pub unnamed-takes : (content : List ℕ) (m : Matrix) (values : ℕ) (a : Staging) → isBlankLine content ≡ false → Opens content → BoundedStaging a values → (b c : Bracket) →
+    b ≡ bracketOf content → b ≡ c → isNamed c ≡ false → (r : Data) → r ≡ record { taken = false; rule = 0; matrix = m; values = values; staging = a } → TakesAlone content m values a r
+unnamed-takes content m values a filled opens bound b c told same unnamed r is =
+    left-takes content m values a
+    (record {
+      filled = filled;
+      opens = opens;
+      leaves = λ (k start : ℕ) (e : bracketOf content ≡ Keyword k start). absurd (true≢false (ap isNamed (sym (told ∙ e) ∙ same) ∙ unnamed));
+    }) bound r is
 
 -- ---- keywords
 
@@ -248,7 +242,7 @@ module _ (k : ℕ) (argument : List ℕ) (m : Matrix) (values : ℕ) (a : Stagin
   rule-here : (s : State) → s .place ≡ place.matrix → n ≡ keywordRule k argument (withMatrix m values s)
   rule-here s p = rule ∙ sym (matrix-keyword-rule-is argument (withMatrix m values s) p k keeps)
 
-  pub keeps-stop : (n ≡ 0 → ⊥) → TakesKeyword k argument m values a (record { taken = true; ends = false; rule = n; matrix = m; values = values; staging = a })
+  pub keeps-stop : (n ≡ 0 → ⊥) → TakesKeyword k argument m values a (record { taken = true; rule = n; matrix = m; values = values; staging = a })
   keeps-stop h =
       record {
         taken = refl;
@@ -260,7 +254,7 @@ module _ (k : ℕ) (argument : List ℕ) (m : Matrix) (values : ℕ) (a : Stagin
       }
 
   pub keeps-go : n ≡ 0 → (whole : Whole) → whole ≡ wholeOf argument → (next : Matrix) → next ≡ matrixKeywordNext k argument m values → (b : Staging) → b ≡ keywordStaging k (whole .value) a →
-      TakesKeyword k argument m values a (record { taken = true; ends = false; rule = 0; matrix = next; values = values; staging = b })
+      TakesKeyword k argument m values a (record { taken = true; rule = 0; matrix = next; values = values; staging = b })
   unfolding goes breaks
   keeps-go z whole whole-is next next-is b b-is =
       let v : whole .value ≡ wholeOf argument .value = ap (λ (x : Whole). x .value) whole-is in
@@ -277,16 +271,16 @@ module _ (k : ℕ) (argument : List ℕ) (m : Matrix) (values : ℕ) (a : Stagin
       }
 
 abbrev rowed : Staging → ℕ → Staging
-rowed a n = record { whole = a .whole; row = n; column = n; bandwidth = a .bandwidth; greatest = max (a .greatest) n }
+rowed a n = record { row = n; column = n; bandwidth = a .bandwidth; greatest = max (a .greatest) n }
 
 abbrev banded : Staging → ℕ → Staging
-banded a n = record { whole = a .whole; row = a .row; column = a .column; bandwidth = firstTold (a .bandwidth) n; greatest = a .greatest }
+banded a n = record { row = a .row; column = a .column; bandwidth = firstTold (a .bandwidth) n; greatest = a .greatest }
 
 -- what [Row] or [Bandwidth] adds
-kept-adds : (form : ℕ) (k : ℕ) (l : Line) (table : List ℕ) (values : ℕ) (a : Staging) → isRowOrBandwidth k ≡ true → keyOf l ≡ k → a .whole ≡ true → BoundedStaging (keywordStaging k (givenBy l) a) values →
+kept-adds : (form : ℕ) (k : ℕ) (l : Line) (table : List ℕ) (values : ℕ) (a : Staging) → isRowOrBandwidth k ≡ true → keyOf l ≡ k → BoundedStaging (keywordStaging k (givenBy l) a) values →
     Adds form l table values a table values (keywordStaging k (givenBy l) a)
 unfolding keywordStaging isRowOrBandwidth
-kept-adds form k l table values a keeps key whole bound =
+kept-adds form k l table values a keeps key bound =
     by-cases _ (eqb k row) on-row on-bandwidth
   where
     on-row : eqb k row ≡ true → Adds form l table values a table values (keywordStaging k (givenBy l) a)
@@ -295,13 +289,11 @@ kept-adds form k l table values a keeps key whole bound =
         let f : keywordStaging k (givenBy l) a ≡ rowed a (givenBy l) = if-true {A = Staging} (rowed a (givenBy l)) (banded a (givenBy l)) e in
         rw f
         (record {
-          whole = whole;
-          image = λ (ls : List Line). ap (λ (vs : List Value). sets table (valueWidth * values) (valuesWords vs)) (sym (row-values form l ls is-row (a .row) (a .column)));
-          count = λ (ls : List Line). ap (λ (vs : List Value). values + length vs) (sym (row-values form l ls is-row (a .row) (a .column)));
+          held = λ (ls : List Line) (whole rest : List Value) (h : HeldValues whole table values (valuesFrom form (a .row) (a .column) (l ∷ ls) ++ rest)).
+              held-same valueWords valueWidth whole table values _ h _ (ap (λ (vs : List Value). vs ++ rest) (row-values form l ls is-row (a .row) (a .column)));
           bandwidth = λ (ls : List Line). ap (toldOr (a .bandwidth)) (sym (row-bandwidth form l ls is-row));
           greatest = λ (ls : List Line). most-of (a .greatest) (givenBy l) _ _ (greatestIn form ls) (row-greatest form l ls is-row) refl;
           bounded = rw f at bound;
-          room = λ (h : valueWidth * values ≤ length table). h;
         })
 
     on-bandwidth : eqb k row ≡ false → Adds form l table values a table values (keywordStaging k (givenBy l) a)
@@ -310,21 +302,12 @@ kept-adds form k l table values a keeps key whole bound =
         let f : keywordStaging k (givenBy l) a ≡ banded a (givenBy l) = if-false {A = Staging} (rowed a (givenBy l)) (banded a (givenBy l)) e in
         rw f
         (record {
-          whole = whole;
-          image = λ (ls : List Line). ap (λ (vs : List Value). sets table (valueWidth * values) (valuesWords vs)) (sym (bandwidth-values form l ls is (a .row) (a .column)));
-          count = λ (ls : List Line). ap (λ (vs : List Value). values + length vs) (sym (bandwidth-values form l ls is (a .row) (a .column)));
+          held = λ (ls : List Line) (whole rest : List Value) (h : HeldValues whole table values (valuesFrom form (a .row) (a .column) (l ∷ ls) ++ rest)).
+              held-same valueWords valueWidth whole table values _ h _ (ap (λ (vs : List Value). vs ++ rest) (bandwidth-values form l ls is (a .row) (a .column)));
           bandwidth = λ (ls : List Line). told-first (a .bandwidth) (givenBy l) (bandwidthIn ls) ∙ ap (toldOr (a .bandwidth)) (sym (bandwidth-told form l ls is));
           greatest = λ (ls : List Line). most-of (a .greatest) 0 (a .greatest) _ (greatestIn form ls) (bandwidth-greatest form l ls is) (omega arith);
           bounded = rw f at bound;
-          room = λ (h : valueWidth * values ≤ length table). h;
         })
-
-kept-whole : (k value : ℕ) (a : Staging) → keywordStaging k value a .whole ≡ true → a .whole ≡ true
-unfolding keywordStaging
-kept-whole k value a w =
-    by-cases _ (eqb k row)
-    (λ (e : eqb k row ≡ true). sym (ap (λ (x : Staging). x .whole) (if-true {A = Staging} _ _ e)) ∙ w)
-    (λ (e : eqb k row ≡ false). sym (ap (λ (x : Staging). x .whole) (if-false {A = Staging} _ _ e)) ∙ w)
 
 module _ (content : List ℕ) (filled : isBlankLine content ≡ false) (k start : ℕ) (is : bracketOf content ≡ Keyword k start) (m : Matrix) (values : ℕ) (a : Staging) where
   step-keyed : (s : State) → (s .place ≡ place.done → ⊥) → (s .place ≡ place.before → ⊥) → lineResult content s ≡ keywordStep k (argumentFrom content start) s
@@ -336,60 +319,62 @@ module _ (content : List ℕ) (filled : isBlankLine content ≡ false) (k start 
   keyed-inside keeps l p e = both-true _ _ (eq-eqb _ _ p) (either-right _ _ (ap isRowOrBandwidth (keyed content k start is l e) ∙ keeps))
 
   -- one that keeps the matrix open
-  pub keeps-takes : isRowOrBandwidth k ≡ true → (argument : List ℕ) → argument ≡ argumentFrom content start → (r : Data) → TakesKeyword k argument m values a r → (table : List ℕ) → Takes content m values a table r table
-  keeps-takes keeps argument argument-is r kept table =
-      record {
-        decides = λ (e : r .taken ≡ true) (s : State) (p : s .place ≡ place.matrix).
-            step-keyed (withMatrix m values s) (λ (z : s .place ≡ place.done). apart place.done (λ (y : place.matrix ≡ place.done). omega arith) s p z)
-            (λ (z : s .place ≡ place.before). apart place.before (λ (y : place.matrix ≡ place.before). omega arith) s p z)
-            ∙ ap (λ (x : List ℕ). keywordStep k x (withMatrix m values s)) (sym argument-is) ∙ kept .decides s p;
-        opens = λ (e : r .taken ≡ false). absurd (true≢false (sym (kept .taken) ∙ e));
-        ends = λ (e : r .taken ≡ false) (f : r .ends ≡ true). absurd (true≢false (sym (kept .taken) ∙ e));
-        kept = λ (e : r .taken ≡ false). refl;
-        form = kept .form;
-        behind = behind-same values table;
-        rises = let s : r .values ≡ values = kept .same in omega arith;
-        bounded = rw (kept .same) (kept .bounded);
-        extends = λ (e : r .taken ≡ true) (z : r .rule ≡ 0) (w : r .staging .whole ≡ true).
-            record {
-              blank = λ (b : isBlankLine content ≡ true). absurd (true≢false (sym b ∙ filled));
-              filled = λ (b : isBlankLine content ≡ false) (l : Line) (p : l .place ≡ place.matrix) (c : l .content ≡ content). (keyed-inside keeps l p c, added z w l c);
-            };
-      }
+  pub keeps-takes : isRowOrBandwidth k ≡ true → (argument : List ℕ) → argument ≡ argumentFrom content start → (r : Data) → TakesKeyword k argument m values a r → TakesAlone content m values a r
+  keeps-takes keeps argument argument-is r kept =
+      record { takes = taken; other = λ (z : r .rule ≡ 0) (d : IsData content). keyed-opens content k start is (d .1) }
     where
       apart : (other : ℕ) → (place.matrix ≡ other → ⊥) → (s : State) → s .place ≡ place.matrix → s .place ≡ other → ⊥
       apart other h s p z = h (sym p ∙ z)
 
-      added : r .rule ≡ 0 → r .staging .whole ≡ true → (l : Line) → l .content ≡ content → Adds (m .form) l table values a table (r .values) (r .staging)
-      added z w l c =
+      added : (table : List ℕ) → r .rule ≡ 0 → (l : Line) → l .content ≡ content → Adds (m .form) l table values a table (r .values) (r .staging)
+      added table z l c =
           let g : wholeOf argument .value ≡ givenBy l = ap (λ (x : List ℕ). wholeOf x .value) argument-is ∙ sym (given content k start is l c) in
           let n : r .staging ≡ keywordStaging k (givenBy l) a = kept .staging z ∙ ap (λ (x : ℕ). keywordStaging k x a) g in
           let b : BoundedStaging (keywordStaging k (givenBy l) a) values = rw n at (kept .bounded) in
           rw (kept .same, n)
-          (kept-adds (m .form) k l table values a keeps (keyed content k start is l c) (kept-whole k (givenBy l) a (ap (λ (x : Staging). x .whole) (sym n) ∙ w)) b)
+          (kept-adds (m .form) k l table values a keeps (keyed content k start is l c) b)
+
+      taken : (table : List ℕ) → Takes content m values a table r table
+      taken table =
+          record {
+            decides = λ (e : r .taken ≡ true) (s : State) (p : s .place ≡ place.matrix).
+                step-keyed (withMatrix m values s) (λ (z : s .place ≡ place.done). apart place.done (λ (y : place.matrix ≡ place.done). omega arith) s p z)
+                (λ (z : s .place ≡ place.before). apart place.before (λ (y : place.matrix ≡ place.before). omega arith) s p z)
+                ∙ ap (λ (x : List ℕ). keywordStep k x (withMatrix m values s)) (sym argument-is) ∙ kept .decides s p;
+            ends = λ (e : r .taken ≡ false). absurd (true≢false (sym (kept .taken) ∙ e));
+            form = kept .form;
+            few = λ (f : values ≤ mostValues). rw (kept .same) f;
+            bounded = rw (kept .same) (kept .bounded);
+            extends = λ (e : r .taken ≡ true) (z : r .rule ≡ 0).
+                record {
+                  blank = λ (b : isBlankLine content ≡ true). absurd (true≢false (sym b ∙ filled));
+                  filled = λ (b : isBlankLine content ≡ false) (l : Line) (p : l .place ≡ place.matrix) (c : l .content ≡ content). (keyed-inside keeps l p c, added table z l c);
+                };
+          }
 
   -- one that ends it
-  outside : isRowOrBandwidth k ≡ false → eqb k plain ≡ false → (l : Line) → l .content ≡ content → inMatrix l ≡ false
-  unfolding inMatrix
-  outside leaves other l e =
-      let key : keyOf l ≡ k = keyed content k start is l e in
-      both-not-right _ _ (either-false _ _ (ap (λ (x : ℕ). eqb x plain) key ∙ other) (ap isRowOrBandwidth key ∙ leaves))
-
   pub leaves-takes : (b : Bool) → b ≡ isRowOrBandwidth k → b ≡ false → BoundedStaging a values → (r : Data) →
-      r ≡ record { taken = false; ends = not (eqb k plain); rule = 0; matrix = m; values = values; staging = a } → (table : List ℕ) → Takes content m values a table r table
-  leaves-takes b keeps leaves bound r told table =
-      left-takes content m values a table (not (eqb k plain)) (keyed-opens content k start is)
-      (λ (e : not (eqb k plain) ≡ true). record { filled = filled; outside = outside (sym keeps ∙ leaves) (not-true _ e) }) bound r told
+      r ≡ record { taken = false; rule = 0; matrix = m; values = values; staging = a } → TakesAlone content m values a r
+  leaves-takes b keeps leaves bound r told =
+      left-takes content m values a
+      (record {
+        filled = filled;
+        opens = keyed-opens content k start is;
+        leaves = λ (j at : ℕ) (e : bracketOf content ≡ Keyword j at). ap isRowOrBandwidth (same-key (sym e ∙ is)) ∙ sym keeps ∙ leaves;
+      }) bound r told
+    where
+      same-key : {i j a b : ℕ} → Keyword i a ≡ Keyword j b → i ≡ j
+      same-key e = ap keyIn e
 
 -- how the code changes a staging at [Row] and at [Bandwidth]
 module _ (k value : ℕ) (a : Staging) where
-  pub row-staged : (g : ℕ) → g ≡ max (a .greatest) value → k ≡ 1 → record { whole = a .whole; row = value; column = value; bandwidth = a .bandwidth; greatest = g } ≡ keywordStaging k value a
+  pub row-staged : (g : ℕ) → g ≡ max (a .greatest) value → k ≡ 1 → record { row = value; column = value; bandwidth = a .bandwidth; greatest = g } ≡ keywordStaging k value a
   unfolding keywordStaging
-  row-staged g told e = ap (λ (x : ℕ). record { whole = a .whole; row = value; column = value; bandwidth = a .bandwidth; greatest = x }) told ∙ sym (if-true {A = Staging} _ _ (eq-eqb _ _ e))
+  row-staged g told e = ap (λ (x : ℕ). record { row = value; column = value; bandwidth = a .bandwidth; greatest = x }) told ∙ sym (if-true {A = Staging} _ _ (eq-eqb _ _ e))
 
-  pub bandwidth-staged : (b : First) → b ≡ firstTold (a .bandwidth) value → (k ≡ 1 → ⊥) → record { whole = a .whole; row = a .row; column = a .column; bandwidth = b; greatest = a .greatest } ≡ keywordStaging k value a
+  pub bandwidth-staged : (b : First) → b ≡ firstTold (a .bandwidth) value → (k ≡ 1 → ⊥) → record { row = a .row; column = a .column; bandwidth = b; greatest = a .greatest } ≡ keywordStaging k value a
   unfolding keywordStaging
-  bandwidth-staged b told h = ap (λ (x : First). record { whole = a .whole; row = a .row; column = a .column; bandwidth = x; greatest = a .greatest }) told ∙ sym (if-false {A = Staging} _ _ (ne-eqb _ _ h))
+  bandwidth-staged b told h = ap (λ (x : First). record { row = a .row; column = a .column; bandwidth = x; greatest = a .greatest }) told ∙ sym (if-false {A = Staging} _ _ (ne-eqb _ _ h))
 
 -- what was read of a bracket
 pub bracket-told : (content : List ℕ) (b c : Bracket) → b ≡ bracketOf content → b ≡ c → bracketOf content ≡ c

@@ -2,9 +2,8 @@
 // are judged, so that they are never read again.
 ghost use mathlib.Core.Path.{_≡_};
 ghost use mathlib.Core.Bool.{true, false};
-ghost use Prim.Native.Nat.{_+_, _*_, _≤_, _<_};
+ghost use Prim.Native.Nat.{_+_, _≤_};
 ghost use lib.ListN.{length};
-ghost use Rattle.table_layout.specs.Layout.{valueWidth};
 ghost use Rattle.table_layout.specs.Codes.{sparse};
 ghost use Rattle.table_layout.specs.Bounds.{mostValues};
 ghost use Rattle.lex_line.specs.Lines.{isBlankLine};
@@ -14,45 +13,41 @@ ghost use Rattle.lex_keyword.specs.declared.Bracket.the-variants.{Plain, Keywor
 ghost use Rattle.line_place.specs.Place.{isRowOrBandwidth};
 ghost use Rattle.read_line.specs.Reading.{commentByte};
 ghost use Rattle.read_line.specs.Way.Walk.{Opens, Fronted, contentAt};
-ghost use Rattle.store_matrices.specs.Way.Numbers.{mostGiven};
-ghost use Rattle.read_numbers.specs.declared.Staging as stages;
+ghost use Rattle.read_numbers.specs.Way.Numbers.{mostGiven};
 ghost use Rattle.read_numbers.specs.Way.Staging.{BoundedStaging};
-ghost use Rattle.read_matrix.specs.Way.Body.{newStaging, keywordStaging, TakesKeyword, TakesAlone, ResumesMatrix};
-ghost use Rattle.read_matrix.specs.Way.Run.{ResumesRun, Ordered, Runs, numbersPart, TakesNumbers, pairsMatrix, pairsPart, TakesPair};
+ghost use Rattle.read_matrix.specs.Way.Body.{newStaging, keywordStaging, BrokenLine, TakesKeyword, TakesAlone, ResumesMatrix};
+ghost use Rattle.read_matrix.specs.Way.Run.{ResumesRun, isOrdered, Runs, numbersPart, TakesNumbers, pairsMatrix, pairsPart, TakesPair};
 use lex_keyword::Bracket;
 use line_matrix::Matrix;
 use line_matrix::Rows;
 use read_line::Front;
+use read_numbers::First;
 use read_numbers::Staging;
-use store_matrices::First;
 
 // "From `|` on, a line is comment".
 const COMMENT: u8 = b'|';
 
 const OPENING: u8 = b'[';
 
-// The result of a line of a matrix, with only the part of the state that such a line changes: whether it is
-// taken here; if not, whether it is a keyword that ends the matrix; the rule that it breaks; and the
-// matrix, the count of values and the staging after it.
+// The result of a line of a matrix, with only the part of the state that such a line changes: whether it is taken here,
+// the rule that it breaks, and the matrix, the count of values and the staging after it.
 pub struct Data {
     pub taken: bool,
-    pub ends: bool,
     pub rule: u64,
     pub matrix: Matrix,
     pub values: u64,
     pub staging: Staging,
 }
 
-// An empty staging: before the first line is staged, or not whole, for lines that are only judged.
-fn new_staging(whole: bool) -> Staging
-    ensures { λ r. ⌜ r ≡ newStaging whole ⌝ }
+// What is staged before the first line of a matrix.
+fn new_staging() -> Staging
+    ensures { λ r. ⌜ r ≡ newStaging ⌝ }
 {
     let bandwidth = First {
         told: false,
         value: 0,
     };
     Staging {
-        whole,
         row: 1,
         column: 1,
         bandwidth,
@@ -60,30 +55,19 @@ fn new_staging(whole: bool) -> Staging
     }
 }
 
-// A line of numbers that is judged but not staged: after it the staging is not whole.
-fn data_line(content: &[u8], matrix: Matrix, values: u64) -> Data
-    requires { ⌜ (isBlankLine (now content) ≡ false) × (bracketOf (now content) ≡ Plain) ⌝ }
-    ensures { λ r. ⌜ ((staging : stages.Staging) → TakesAlone (now (content .entry)) matrix values staging r) ⌝ }
+// A line of numbers that is not part of a run breaks a rule: it is only asked which.
+fn data_line(content: &[u8], matrix: Matrix, values: u64, staging: Staging) -> Data
+    requires { ⌜ (isBlankLine (now content) ≡ false) × (bracketOf (now content) ≡ Plain) × BrokenLine (now content) matrix values
+        × BoundedStaging staging values ⌝ }
+    ensures { λ r. ⌜ TakesAlone (now (content .entry)) matrix values staging r ⌝ }
 {
     let line = line_matrix::data_line(matrix.form, content);
-    let rule = line_matrix::data_rule(line, matrix, values);
-    if rule != 0 {
-        return Data {
-            taken: true,
-            ends: false,
-            rule,
-            matrix,
-            values,
-            staging: new_staging(false),
-        };
-    }
     Data {
         taken: true,
-        ends: false,
-        rule: 0,
-        matrix: line_matrix::data_next(line, matrix),
-        values: values + line.numbers,
-        staging: new_staging(false),
+        rule: line_matrix::data_rule(line, matrix, values),
+        matrix,
+        values,
+        staging,
     }
 }
 
@@ -94,7 +78,6 @@ fn keyword_staging(key: u64, value: u64, staging: Staging) -> Staging
     let before = staging.bandwidth;
     if key == lex_keyword::ROW {
         return Staging {
-            whole: staging.whole,
             row: value,
             column: value,
             bandwidth: before,
@@ -102,10 +85,9 @@ fn keyword_staging(key: u64, value: u64, staging: Staging) -> Staging
         };
     }
     Staging {
-        whole: staging.whole,
         row: staging.row,
         column: staging.column,
-        bandwidth: store_matrices::first_told(before, value),
+        bandwidth: read_numbers::first_told(before, value),
         greatest: staging.greatest,
     }
 }
@@ -125,7 +107,6 @@ fn matrix_keyword_line(
     if rule != 0 {
         return Data {
             taken: true,
-            ends: false,
             rule,
             matrix,
             values,
@@ -135,7 +116,6 @@ fn matrix_keyword_line(
     let whole = lex_number::read_integer(argument);
     Data {
         taken: true,
-        ends: false,
         rule: 0,
         matrix: line_keyword::matrix_keyword_next(key, argument, matrix, values),
         values,
@@ -144,12 +124,11 @@ fn matrix_keyword_line(
 }
 
 // A line that is not taken here.
-fn left_line(ends: bool, matrix: Matrix, values: u64, staging: Staging) -> Data
-    ensures { λ r. ⌜ r ≡ record { taken = false; ends = ends; rule = 0; matrix = matrix; values = values; staging = staging } ⌝ }
+fn left_line(matrix: Matrix, values: u64, staging: Staging) -> Data
+    ensures { λ r. ⌜ r ≡ record { taken = false; rule = 0; matrix = matrix; values = values; staging = staging } ⌝ }
 {
     Data {
         taken: false,
-        ends,
         rule: 0,
         matrix,
         values,
@@ -178,7 +157,7 @@ fn named_line(
             staging,
         );
     }
-    left_line(key != doc::PLAIN, matrix, values, staging)
+    left_line(matrix, values, staging)
 }
 
 // A line with a bracket at its front.
@@ -187,61 +166,41 @@ fn opened_line(content: &[u8], matrix: Matrix, values: u64, staging: Staging) ->
     ensures { λ r. ⌜ TakesAlone (now (content .entry)) matrix values staging r ⌝ }
 {
     match lex_keyword::read_bracket(content) {
-        Bracket::Plain => left_line(false, matrix, values, staging),
-        Bracket::Indented => left_line(false, matrix, values, staging),
-        Bracket::Bad => left_line(false, matrix, values, staging),
-        Bracket::Unknown => left_line(false, matrix, values, staging),
-        Bracket::Later => left_line(false, matrix, values, staging),
+        Bracket::Plain => left_line(matrix, values, staging),
+        Bracket::Indented => left_line(matrix, values, staging),
+        Bracket::Bad => left_line(matrix, values, staging),
+        Bracket::Unknown => left_line(matrix, values, staging),
+        Bracket::Later => left_line(matrix, values, staging),
         Bracket::Keyword(key, start) => named_line(key, start, content, matrix, values, staging),
     }
 }
 
 // A line of a matrix that is not part of a run.
 fn take_data(content: &[u8], matrix: Matrix, values: u64, staging: Staging) -> Data
-    requires { ⌜ BoundedStaging staging values ⌝ }
+    requires { ⌜ BoundedStaging staging values × BrokenLine (now content) matrix values ⌝ }
     ensures { λ r. ⌜ TakesAlone (now (content .entry)) matrix values staging r ⌝ }
 {
     match read_line::front_of(content) {
         Front::Blanks => Data {
             taken: true,
-            ends: false,
             rule: 0,
             matrix,
             values,
             staging,
         },
-        Front::Words => data_line(content, matrix, values),
+        Front::Words => data_line(content, matrix, values, staging),
         Front::Opening => opened_line(content, matrix, values, staging),
     }
 }
 
-// Where the lines of a matrix end, or the line that breaks a rule; the result up to there; whether all numbers are
-// staged.
+// How far the lines of a matrix are read, or the line that breaks a rule, and the result up to there.
 pub struct BodyWalk {
     pub at: usize,
     pub line: u64,
     pub part: Data,
-    pub staged: bool,
 }
 
-// Whether the table has room for `values` values.
-fn has_room(values: u64, words: usize) -> bool
-    ensures { λ r. ⌜ (r ≡ true → valueWidth * values ≤ words) ⌝ }
-{
-    if table_layout::bound::VALUES < values {
-        return false;
-    }
-    table_layout::VALUE_WIDTH * (values as usize) <= words
-}
-
-// ---- runs of plain lines: while a run lasts, local variables hold what it changes; any other line is left to take_data
-
-// Where a run of lines ends, and the result of the matrix up to there.
-struct Run {
-    at: usize,
-    line: u64,
-    part: Data,
-}
+// ---- runs of plain lines: while a run lasts, local variables hold what it changes; other lines are left to take_data
 
 // What is at the front of the line that starts at offset `here`. The answer is that of `read_line::front_of` for the
 // line's content, but the line's end is not looked for.
@@ -266,24 +225,22 @@ fn next_line(text: &[u8], end: usize) -> usize
     line.next
 }
 
-// The result of a line of numbers: whether it is taken; whether the staging is still whole; and for a line that is
-// taken the count of values, the row and column of the next number, and where the next line starts.
+// The result of a line of numbers: whether it is taken; if so, the count of values, the row and column of the next
+// number, and where the next line starts.
 struct TakenNumbers {
     taken: bool,
-    whole: bool,
     values: u64,
     row: u64,
     column: u64,
     next: usize,
 }
 
-// A line that is not part of the run. If it may have stored numbers, the staging is no longer whole.
-fn left_numbers(whole: bool, values: u64, row: u64, column: u64) -> TakenNumbers
-    ensures { λ r. ⌜ r ≡ record { taken = false; whole = whole; values = values; row = row; column = column; next = 0 } ⌝ }
+// A line that is not part of the run.
+fn left_numbers(values: u64, row: u64, column: u64) -> TakenNumbers
+    ensures { λ r. ⌜ r ≡ record { taken = false; values = values; row = row; column = column; next = 0 } ⌝ }
 {
     TakenNumbers {
         taken: false,
-        whole,
         values,
         row,
         column,
@@ -306,14 +263,13 @@ fn plain_numbers(
 {
     let numbers = read_numbers::read_numbers(text, here, form, values, table, row, column);
     if !numbers.staged {
-        return left_numbers(false, values, row, column);
+        return left_numbers(values, row, column);
     }
     if table_layout::bound::VALUES - values < numbers.count {
-        return left_numbers(false, values, row, column);
+        return left_numbers(values, row, column);
     }
     TakenNumbers {
         taken: true,
-        whole: true,
         values: values + numbers.count,
         row: numbers.row,
         column: numbers.column,
@@ -334,28 +290,19 @@ fn take_numbers(
     ensures { λ r. ⌜ TakesNumbers (now (text .entry)) here form values row column (now (table .entry)) r (now (table .exit)) ⌝ }
 {
     match front_at(text, here) {
-        Front::Blanks => left_numbers(true, values, row, column),
+        Front::Blanks => left_numbers(values, row, column),
         Front::Words => plain_numbers(text, here, form, values, table, row, column),
-        Front::Opening => left_numbers(true, values, row, column),
+        Front::Opening => left_numbers(values, row, column),
     }
 }
 
-fn numbers_passed(
-    at: usize,
-    line: u64,
-    part: Data,
-    whole: bool,
-    values: u64,
-    row: u64,
-    column: u64,
-) -> Run
-    ensures { λ r. ⌜ r ≡ record { at = at; line = line; part = numbersPart part whole values row column } ⌝ }
+fn numbers_passed(at: usize, line: u64, part: Data, values: u64, row: u64, column: u64) -> BodyWalk
+    ensures { λ r. ⌜ r ≡ record { at = at; line = line; part = numbersPart part values row column } ⌝ }
 {
     let matrix = part.matrix;
     let before = part.staging;
     let bandwidth = before.bandwidth;
     let staging = Staging {
-        whole,
         row,
         column,
         bandwidth,
@@ -363,13 +310,12 @@ fn numbers_passed(
     };
     let reached = Data {
         taken: true,
-        ends: false,
         rule: 0,
         matrix,
         values,
         staging,
     };
-    Run {
+    BodyWalk {
         at,
         line,
         part: reached,
@@ -377,7 +323,7 @@ fn numbers_passed(
 }
 
 // A run of lines of numbers.
-fn pass_numbers(text: &[u8], at: usize, line: u64, part: Data, table: &mut [u64]) -> Run
+fn pass_numbers(text: &[u8], at: usize, line: u64, part: Data, table: &mut [u64]) -> BodyWalk
     requires { ⌜ Runs (now text) at line part ⌝ ∗ ⌜ (part .matrix .form ≡ sparse → ⊥) ⌝ }
     ensures { λ r. ⌜ ResumesRun (now (text .entry)) at line part (now (table .entry)) r (now (table .exit)) ⌝ }
 {
@@ -392,7 +338,7 @@ fn pass_numbers(text: &[u8], at: usize, line: u64, part: Data, table: &mut [u64]
     while here < text.len() {
         let next = take_numbers(text, here, form, values, table, row, column);
         if !next.taken {
-            return numbers_passed(here, line_here, part, next.whole, values, row, column);
+            return numbers_passed(here, line_here, part, values, row, column);
         }
         here = next.next;
         line_here += 1;
@@ -400,25 +346,22 @@ fn pass_numbers(text: &[u8], at: usize, line: u64, part: Data, table: &mut [u64]
         row = next.row;
         column = next.column;
     }
-    numbers_passed(here, line_here, part, true, values, row, column)
+    numbers_passed(here, line_here, part, values, row, column)
 }
 
-// The result of a line of a Sparse_matrix: whether it is taken; whether the staging is still whole; and for a line that
-// is taken its column, and where the next line starts.
+// The result of a line of a Sparse_matrix: whether it is taken; if so, its column, and where the next line starts.
 struct TakenPair {
     taken: bool,
-    whole: bool,
     column: u64,
     next: usize,
 }
 
 // A line that is not part of the run.
-fn left_pair(whole: bool) -> TakenPair
-    ensures { λ r. ⌜ r ≡ record { taken = false; whole = whole; column = 0; next = 0 } ⌝ }
+fn left_pair() -> TakenPair
+    ensures { λ r. ⌜ r ≡ record { taken = false; column = 0; next = 0 } ⌝ }
 {
     TakenPair {
         taken: false,
-        whole,
         column: 0,
         next: 0,
     }
@@ -430,15 +373,14 @@ fn plain_pair(text: &[u8], here: usize, values: u64, table: &mut [u64], row: u64
     ensures { λ r. ⌜ TakesPair (now (text .entry)) here values row (now (table .entry)) r (now (table .exit)) ⌝ }
 {
     if table_layout::bound::VALUES <= values {
-        return left_pair(true);
+        return left_pair();
     }
     let pair = read_numbers::read_pair(text, here, values, table, row);
     if !pair.staged {
-        return left_pair(false);
+        return left_pair();
     }
     TakenPair {
         taken: true,
-        whole: true,
         column: pair.column,
         next: next_line(text, pair.end),
     }
@@ -449,9 +391,9 @@ fn take_pair(text: &[u8], here: usize, values: u64, table: &mut [u64], row: u64)
     ensures { λ r. ⌜ TakesPair (now (text .entry)) here values row (now (table .entry)) r (now (table .exit)) ⌝ }
 {
     match front_at(text, here) {
-        Front::Blanks => left_pair(true),
+        Front::Blanks => left_pair(),
         Front::Words => plain_pair(text, here, values, table, row),
-        Front::Opening => left_pair(true),
+        Front::Opening => left_pair(),
     }
 }
 
@@ -480,17 +422,15 @@ fn pairs_passed(
     at: usize,
     line: u64,
     part: Data,
-    whole: bool,
     values: u64,
     matrix: Matrix,
     named: u64,
-) -> Run
-    ensures { λ r. ⌜ r ≡ record { at = at; line = line; part = pairsPart part whole values matrix named } ⌝ }
+) -> BodyWalk
+    ensures { λ r. ⌜ r ≡ record { at = at; line = line; part = pairsPart part values matrix named } ⌝ }
 {
     let before = part.staging;
     let bandwidth = before.bandwidth;
     let staging = Staging {
-        whole,
         row: before.row,
         column: before.column,
         bandwidth,
@@ -498,13 +438,12 @@ fn pairs_passed(
     };
     let reached = Data {
         taken: true,
-        ends: false,
         rule: 0,
         matrix,
         values,
         staging,
     };
-    Run {
+    BodyWalk {
         at,
         line,
         part: reached,
@@ -512,7 +451,7 @@ fn pairs_passed(
 }
 
 // A run of lines of a Sparse_matrix.
-fn pass_pairs(text: &[u8], at: usize, line: u64, part: Data, table: &mut [u64]) -> Run
+fn pass_pairs(text: &[u8], at: usize, line: u64, part: Data, table: &mut [u64]) -> BodyWalk
     requires { ⌜ Runs (now text) at line part ⌝ ∗ ⌜ part .matrix .form ≡ sparse ⌝ }
     ensures { λ r. ⌜ ResumesRun (now (text .entry)) at line part (now (table .entry)) r (now (table .exit)) ⌝ }
 {
@@ -531,7 +470,7 @@ fn pass_pairs(text: &[u8], at: usize, line: u64, part: Data, table: &mut [u64]) 
         let next = take_pair(text, here, values, table, row);
         if !next.taken {
             let reached = pairs_matrix(matrix, least, greatest, fits);
-            return pairs_passed(here, line_here, part, next.whole, values, reached, named);
+            return pairs_passed(here, line_here, part, values, reached, named);
         }
         here = next.next;
         line_here += 1;
@@ -542,12 +481,12 @@ fn pass_pairs(text: &[u8], at: usize, line: u64, part: Data, table: &mut [u64]) 
         named = base::greater(named, next.column);
     }
     let reached = pairs_matrix(matrix, least, greatest, fits);
-    pairs_passed(here, line_here, part, true, values, reached, named)
+    pairs_passed(here, line_here, part, values, reached, named)
 }
 
 // Whether a data line is allowed here: a form with rows must have had a [Row].
 fn is_ordered(matrix: Matrix) -> bool
-    ensures { λ r. ⌜ (r ≡ true → Ordered matrix) ⌝ }
+    ensures { λ r. ⌜ r ≡ isOrdered matrix ⌝ }
 {
     if matrix.form == table_layout::code::DIAGONAL {
         return true;
@@ -557,20 +496,14 @@ fn is_ordered(matrix: Matrix) -> bool
 }
 
 // A run of plain lines, perhaps empty.
-fn pass_run(text: &[u8], at: usize, line: u64, part: Data, table: &mut [u64]) -> Run
-    requires { ⌜ at ≤ length (now text) ⌝ ∗ ⌜ line ≤ at + 1 ⌝ ∗ ⌜ BoundedStaging (part .staging) (part .values) ⌝ }
+fn pass_run(text: &[u8], at: usize, line: u64, part: Data, table: &mut [u64]) -> BodyWalk
+    requires { ⌜ at ≤ length (now text) ⌝ ∗ ⌜ line ≤ at + 1 ⌝ ∗ ⌜ BoundedStaging (part .staging) (part .values) ⌝
+        ∗ ⌜ part .values ≤ mostValues ⌝ }
     ensures { λ r. ⌜ ResumesRun (now (text .entry)) at line part (now (table .entry)) r (now (table .exit)) ⌝ }
 {
-    let staging = part.staging;
-    if !staging.whole {
-        return Run { at, line, part };
-    }
-    if table_layout::bound::VALUES < part.values {
-        return Run { at, line, part };
-    }
     let matrix = part.matrix;
     if !is_ordered(matrix) {
-        return Run { at, line, part };
+        return BodyWalk { at, line, part };
     }
     if matrix.form == table_layout::code::SPARSE {
         return pass_pairs(text, at, line, part, table);
@@ -588,18 +521,17 @@ pub fn pass_data(
     values: u64,
     table: &mut [u64],
 ) -> BodyWalk
-    requires { ⌜ (at ≤ length (now text)) × (line ≤ at + 1) ⌝ }
+    requires { ⌜ (at ≤ length (now text)) × (line ≤ at + 1) × (values ≤ mostValues) ⌝ }
     ensures { λ r. ⌜ ResumesMatrix (now (text .entry)) at line matrix values (now (table .entry)) r (now (table .exit)) ⌝ }
 {
     let mut here = at;
     let mut line_here = line;
     let mut part = Data {
         taken: true,
-        ends: false,
         rule: 0,
         matrix,
         values,
-        staging: new_staging(has_room(values, table.len())),
+        staging: new_staging(),
     };
     while here < text.len() {
         let run = pass_run(text, here, line_here, part, table);
@@ -607,24 +539,20 @@ pub fn pass_data(
         line_here = run.line;
         part = run.part;
         if text.len() <= here {
-            let staging = part.staging;
             return BodyWalk {
                 at: here,
                 line: line_here,
                 part,
-                staged: staging.whole,
             };
         }
         let found = lex_line::line_at(text, here, COMMENT);
         let content = found.content;
         let next = take_data(&text[here..content], part.matrix, part.values, part.staging);
         if !next.taken {
-            let staging = part.staging;
             return BodyWalk {
                 at: here,
                 line: line_here,
                 part,
-                staged: base::and(next.ends, staging.whole),
             };
         }
         here = found.next;
@@ -634,16 +562,13 @@ pub fn pass_data(
                 at: here,
                 line: line_here,
                 part,
-                staged: false,
             };
         }
         line_here += 1;
     }
-    let staging = part.staging;
     BodyWalk {
         at: here,
         line: line_here,
         part,
-        staged: staging.whole,
     }
 }

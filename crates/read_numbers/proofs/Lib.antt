@@ -1,2 +1,3 @@
 pub mod InTextLaws
+pub mod GivenLaws
 pub mod StagingLaws

@@ -4,24 +4,30 @@ use mathlib.Core.Path.{_≡_, refl, sym, _∙_, ap}
 use mathlib.Core.Bool.{Bool, true, false, not, true≢false}
 use mathlib.Core.List.{List, [], _∷_, _++_, append-assoc}
 use Prim.Native.Nat.{ℕ, suc, _+_, _-_, _*_, _^_, _≤_, _<_, max}
+use mir.Syntax.{w64}
+use mir.Val.{Fits}
+use native.Mathlib.Nat.{add-assoc}
 use native.Mathlib.Omega.{arith}
-use lib.ListN.{length, take, drop, getD, set, length-append}
-use lib.Seq.{sets, length-sets, take-set-le}
+use lib.ListN.{length, take, drop, getD}
+use lib.Seq.{sets, length-sets}
 use lib.Dec.{ltb, leb, eqb}
-use borrow.Author.Tests.{eq-eqb, ne-eqb, eqb-true, leb-true, ltb-true, not-true, not-false}
+use borrow.Author.Tests.{eq-eqb, ne-eqb, eqb-true, leb-true, leb-false, le-leb, lt-leb, ltb-true, not-true, not-false}
 use Rattle.table_record.specs.Records.{valueWords}
+use Rattle.table_record.specs.Way.Stage.{putAt}
 use Rattle.table_record.specs.declared.Value.{Value}
+use Rattle.table_record.proofs.StageLaws.{held-same, held-one}
 use Rattle.table_layout.specs.Codes.{sparse}
+use Rattle.table_layout.specs.Layout.{valueWidth}
 use Rattle.table_layout.specs.Bounds.{mostValues, mostConductors}
 use Rattle.base.specs.If.{both, either}
 use Rattle.base.specs.Bytes.{isBlank, isDigit, isCapital, isSmall, isLetter, within}
 use Rattle.base.specs.Runs.{run}
 use Rattle.base.specs.Way.Class.{runEnd}
-use Rattle.base.proofs.IfLaws.{if-true, if-false, by-test, both-true, both-first, both-second, both-not-left, both-not-right}
+use Rattle.base.proofs.IfLaws.{if-true, if-false, by-cases, by-test, both-true, both-first, both-second, both-not-left, both-not-right}
 use Rattle.base.proofs.RunLaws.{run-ends}
 use Rattle.lex_line.specs.Way.LineEnds.{lineAt}
-use Rattle.lex_line.specs.Words.{words, firstOf}
-use Rattle.lex_number.specs.Number.{isSign, numberOf, isFormed, isBounded}
+use Rattle.lex_line.specs.Words.{words, firstOf, secondOf}
+use Rattle.lex_number.specs.Number.{isSign, numberOf, isFormed, isBounded, wordIn}
 use Rattle.lex_number.specs.Integer.{wholeOf}
 use Rattle.lex_number.specs.Way.In.{isWord, isSpelling, isGoodNumber, numberIn}
 use Rattle.lex_number.specs.declared.Number.{Number}
@@ -29,20 +35,25 @@ use Rattle.lex_number.specs.declared.Number.the-variants as number
 use Rattle.lex_number.specs.declared.NumberAt.{NumberAt}
 use Rattle.lex_number.specs.declared.Whole.{Whole}
 use Rattle.line_matrix.specs.Matrix.{numberCheck, areFormed, areBounded, numbersLine, sparseLine, dataLineOf}
+use Rattle.line_matrix.specs.declared.DataLine.{DataLine}
 use Rattle.read_line.specs.Reading.{commentByte}
 use Rattle.read_line.specs.Way.Walk.{contentAt}
-use Rattle.table_layout.specs.Layout.{valueWidth, joined}
-use Rattle.base.proofs.StoreLaws.{sets-append}
 use Rattle.doc.specs.Lines.{Line, plain, keyOf}
-use Rattle.doc.specs.Document.{wordIn, nextRow, numbersAt, sparseAt, valuesFrom, bandwidthIn, greatestIn}
-use Rattle.store_base.specs.Way.Stage.{valuesWords}
-use Rattle.store_matrices.specs.declared.Cursor.{Cursor}
-use Rattle.store_matrices.specs.declared.First.{First}
-use Rattle.store_matrices.specs.Way.Told.{toldOr}
-use Rattle.store_matrices.specs.Way.Numbers.{mostGiven, valueOf, rowAfter, nextCursor, Roomy}
-use Rattle.store_matrices.proofs.StageLaws.{values-long}
-use Rattle.store_matrices.proofs.NumberLaws.{row-on, row-same, row-most}
-use Rattle.store_matrices.proofs.BodyLaws.{
+use Rattle.doc.specs.Document.{nextRow, numbersAt, sparseAt, valuesFrom, bandwidthIn, greatestIn}
+use Rattle.read_numbers.specs.declared.Cursor.{Cursor}
+use Rattle.read_numbers.specs.declared.First.{First}
+use Rattle.read_numbers.specs.declared.Staging.{Staging}
+use Rattle.read_numbers.specs.declared.Numbers.{Numbers}
+use Rattle.read_numbers.specs.declared.Pair.{Pair}
+use Rattle.read_numbers.specs.Way.Told.{toldOr}
+use Rattle.read_numbers.specs.Way.Numbers.{mostGiven, valueOf, rowAfter, Points, PutsValue, Movable, PutsNumber}
+use Rattle.read_numbers.specs.Way.Staging.{HeldValues, BoundedStaging, Adds, BrokenData, movedTo, namedTo, StagesNumbers, StagesPair}
+use Rattle.read_numbers.specs.Way.Steps.{numbersResult, Stored, Stores, pairOf}
+use Rattle.read_numbers.proofs.InTextLaws.{ends-here, no-words, one-word, same-end, word-on}
+use Rattle.read_numbers.proofs.GivenLaws.{
+  row-on,
+  row-same,
+  row-most,
   plain-bandwidth,
   sparse-values,
   sparse-greatest,
@@ -51,97 +62,87 @@ use Rattle.store_matrices.proofs.BodyLaws.{
   most-of,
   whole-below,
 }
-use Rattle.read_numbers.specs.declared.Staging.{Staging}
-use Rattle.read_numbers.specs.declared.Numbers.{Numbers}
-use Rattle.read_numbers.specs.declared.Pair.{Pair}
-use Rattle.read_numbers.specs.Way.Staging.{BoundedStaging, Adds, movedTo, namedTo, StagesNumbers, StagesPair}
-use Rattle.read_numbers.specs.Way.Steps.{numbersResult, Stored, Stores, pairOf}
-use Rattle.read_numbers.proofs.InTextLaws.{ends-here, no-words, one-word, same-end, word-on}
 
--- ---- the words of values, stored one after another
+-- ---- a line that gives these values, and leads on to the values of the next lines
 
--- words before the position do not change
-take-sets : (n : ℕ) (l : List ℕ) (at : ℕ) (xs : List ℕ) → n ≤ at → take n (sets l at xs) ≡ take n l
-take-sets n l at [] h = refl
-take-sets n l at (x ∷ xs) h = take-sets n (set l at x) (suc at) xs (omega arith) ∙ take-set-le n l at x h
+module _ (table : List ℕ) (values : ℕ) (table' : List ℕ) (vs : List Value) (count : ℕ)
+    (stored : (whole rest : List Value) → HeldValues whole table values (vs ++ rest) → HeldValues whole table' (values + count) rest)
+    (form : ℕ) (a b : Staging) (told : b .bandwidth ≡ a .bandwidth) (bounded : BoundedStaging b (values + count)) where
+  added : (l : Line) → keyOf l ≡ plain →
+      ((ls : List Line) → valuesFrom form (a .row) (a .column) (l ∷ ls) ≡ vs ++ valuesFrom form (b .row) (b .column) ls) →
+      ((ls : List Line) → max (b .greatest) (greatestIn form ls) ≡ max (a .greatest) (greatestIn form (l ∷ ls))) →
+      Adds form l table values a table' (values + count) b
+  added l is-plain more greatest =
+      record {
+        held = λ (ls : List Line) (whole rest : List Value) (h : HeldValues whole table values (valuesFrom form (a .row) (a .column) (l ∷ ls) ++ rest)).
+            stored whole (valuesFrom form (b .row) (b .column) ls ++ rest)
+            (held-same valueWords valueWidth whole table values _ h _
+            (ap (λ (x : List Value). x ++ rest) (more ls) ∙ append-assoc vs (valuesFrom form (b .row) (b .column) ls) rest));
+        bandwidth = λ (ls : List Line). ap (λ (f : First). toldOr f (bandwidthIn ls)) told
+            ∙ ap (toldOr (a .bandwidth)) (sym (plain-bandwidth form l ls is-plain));
+        greatest = greatest;
+        bounded = bounded;
+      }
 
-no-values : valuesWords [] ≡ []
-unfolding valuesWords joined
-no-values = refl
+-- ---- one value
 
-words-cons : (v : Value) (vs : List Value) → valuesWords (v ∷ vs) ≡ valueWords v ++ valuesWords vs
-unfolding valuesWords joined
-words-cons v vs = refl
+value-wide : (v : Value) → length (valueWords v) ≡ valueWidth
+value-wide v = refl
 
-words-append : (vs ws : List Value) → valuesWords (vs ++ ws) ≡ valuesWords vs ++ valuesWords ws
-words-append [] ws = rw no-values
-words-append (v ∷ vs) ws =
-    words-cons v (vs ++ ws) ∙ ap (λ (xs : List ℕ). valueWords v ++ xs) (words-append vs ws)
-    ∙ sym (append-assoc (valueWords v) (valuesWords vs) (valuesWords ws))
-    ∙ ap (λ (xs : List ℕ). xs ++ valuesWords ws) (sym (words-cons v vs))
+-- no room
+pub value-none : (place : ℕ) (v : Value) (table : List ℕ) (free : Bool) → free ≡ leb (place + valueWidth) (length table) → not free ≡ true →
+    PutsValue place v table place table
+unfolding putAt
+value-none place v table free told tested =
+    let h : length table < place + valueWidth = leb-false (place + valueWidth) (length table) (sym told ∙ not-true free tested) in
+    record {
+      long = refl;
+      stored = λ (n : ℕ) (p : Points (length table) n place).
+          let f : place ≤ valueWidth * n = p .few in
+          sym (if-false _ _ (lt-leb (valueWidth * n + valueWidth) (length table) (omega arith)));
+      points = λ (n : ℕ) (p : Points (length table) n place).
+          let f : place ≤ valueWidth * n = p .few in
+          record { few = omega arith; exact = λ (r : place + valueWidth ≤ length table). absurd (omega arith) };
+    }
 
--- values stored after values that are stored already
-stored-on : (table : List ℕ) (values : ℕ) (vs ws : List Value) (n : ℕ) → n ≡ length vs →
-    sets (sets table (valueWidth * values) (valuesWords vs)) (valueWidth * (values + n)) (valuesWords ws) ≡ sets table (valueWidth * values) (valuesWords (vs ++ ws))
-stored-on table values vs ws n e =
-    let l : length (valuesWords vs) ≡ valueWidth * length vs = values-long vs in
-    let k : valueWidth * (values + n) ≡ valueWidth * values + length (valuesWords vs) = omega arith in
-    ap (λ (p : ℕ). sets (sets table (valueWidth * values) (valuesWords vs)) p (valuesWords ws)) k
-    ∙ sym (sets-append table (valueWidth * values) (valuesWords vs) (valuesWords ws))
-    ∙ ap (sets table (valueWidth * values)) (sym (words-append vs ws))
+module _ (place : ℕ) (table : List ℕ) (free : Bool) (told : free ≡ leb (place + valueWidth) (length table)) (tested : not free ≡ false) where
+  pub value-room : place + valueWidth ≤ length table
+  value-room = leb-true (place + valueWidth) (length table) (sym told ∙ not-false free tested)
 
--- ---- a line that adds these values, and leads on to the values of the next lines
+  pub value-fits : length table * 8 < 2 ^ 63 → Fits w64 (place + valueWidth)
+  value-fits small = let h : place + valueWidth ≤ length table = value-room in omega arith
 
-module _ (table : List ℕ) (values : ℕ) (table' : List ℕ) (vs : List Value) (stored : table' ≡ sets table (valueWidth * values) (valuesWords vs)) where
-  long-kept : length table' ≡ length table
-  long-kept = ap length stored ∙ length-sets table (valueWidth * values) (valuesWords vs)
+  pub value-some : (v : Value) (table' : List ℕ) → table' ≡ sets table place (valueWords v) → PutsValue place v table (place + valueWidth) table'
+  unfolding putAt
+  value-some v table' stored =
+      let h : place + valueWidth ≤ length table = value-room in
+      record {
+        long = ap length stored ∙ length-sets table place (valueWords v);
+        stored = λ (n : ℕ) (p : Points (length table) n place).
+            let e : place ≡ valueWidth * n = p .exact h in
+            stored ∙ ap (λ (k : ℕ). sets table k (valueWords v)) e
+            ∙ sym (if-true _ _ (le-leb (valueWidth * n + valueWidth) (length table) (omega arith)));
+        points = λ (n : ℕ) (p : Points (length table) n place).
+            let e : place ≡ valueWidth * n = p .exact h in
+            record { few = omega arith; exact = λ (r : place + valueWidth + valueWidth ≤ length table). omega arith };
+      }
 
-  module _ (form : ℕ) (a b : Staging) (count : ℕ) (many : count ≡ length vs) (told : b .bandwidth ≡ a .bandwidth) (bounded : BoundedStaging b (values + count))
-      (room : valueWidth * values ≤ length table → valueWidth * (values + count) ≤ length table) where
-    added : (l : Line) → keyOf l ≡ plain → a .whole ≡ true →
-        ((ls : List Line) → valuesFrom form (a .row) (a .column) (l ∷ ls) ≡ vs ++ valuesFrom form (b .row) (b .column) ls) →
-        ((ls : List Line) → max (b .greatest) (greatestIn form ls) ≡ max (a .greatest) (greatestIn form (l ∷ ls))) →
-        Adds form l table values a table' (values + count) b
-    added l is-plain whole more greatest =
-        record {
-          whole = whole;
-          image = λ (ls : List Line).
-              ap (λ (t : List ℕ). sets t (valueWidth * (values + count)) (valuesWords (valuesFrom form (b .row) (b .column) ls))) stored
-              ∙ stored-on table values vs (valuesFrom form (b .row) (b .column) ls) count many
-              ∙ ap (λ (ws : List Value). sets table (valueWidth * values) (valuesWords ws)) (sym (more ls));
-          count = λ (ls : List Line). counted ls;
-          bandwidth = λ (ls : List Line). ap (λ (f : First). toldOr f (bandwidthIn ls)) told
-              ∙ ap (toldOr (a .bandwidth)) (sym (plain-bandwidth form l ls is-plain));
-          greatest = greatest;
-          bounded = bounded;
-          room = λ (h : valueWidth * values ≤ length table). rw long-kept (room h);
-        }
-      where
-        counted : (ls : List Line) →
-            values + count + length (valuesFrom form (b .row) (b .column) ls) ≡ values + length (valuesFrom form (a .row) (a .column) (l ∷ ls))
-        counted ls =
-            let e : length (valuesFrom form (a .row) (a .column) (l ∷ ls)) ≡ length vs + length (valuesFrom form (b .row) (b .column) ls) =
-            ap length (more ls) ∙ length-append vs (valuesFrom form (b .row) (b .column) ls) in
-            omega arith
+-- ---- one number
 
-step-stored : (form row column place : ℕ) (table : List ℕ) (w : List ℕ) (ws : List (List ℕ)) (number : Number) → number ≡ numberOf w →
-    sets (sets table place (valueWords (valueOf row column number))) (place + valueWidth) (valuesWords (numbersAt form (nextRow form row) (column + 1) ws))
-    ≡ sets table place (valuesWords (numbersAt form row column (w ∷ ws)))
+module _ (form : ℕ) (number : Number) (table : List ℕ) (c : Cursor) (word : ℕ) (is-word : word ≡ wordIn number) where
+  pub number-put : (place : ℕ) (table' : List ℕ) → PutsValue (c .place) (record { row = c .row; column = c .column; word = word }) table place table' → (row : ℕ) → row ≡ nextRow form (c .row) →
+      PutsNumber form number table c (record { row = row; column = c .column + 1; count = c .count + 1; place = place }) table'
+  number-put place table' puts row is-row = record { row-is = is-row; column-is = refl; count-is = refl; puts = rw is-word at puts }
+
+step-left : (form row column : ℕ) (w : List ℕ) (ws : List (List ℕ)) (rest : List Value) (number : Number) → number ≡ numberOf w →
+    numbersAt form row column (w ∷ ws) ++ rest ≡ valueOf row column number ∷ (numbersAt form (nextRow form row) (column + 1) ws ++ rest)
 unfolding numbersAt
-step-stored form row column place table w ws number e =
-    let rest : List Value = numbersAt form (nextRow form row) (column + 1) ws in
-    sym (sets-append table place (valueWords (valueOf row column number)) (valuesWords rest))
-    ∙ ap (sets table place) (sym (words-cons (valueOf row column number) rest))
-    ∙ ap (λ (x : Number). sets table place (valuesWords (valueOf row column x ∷ rest))) e
+step-left form row column w ws rest number e =
+    ap (λ (x : Number). valueOf row column x ∷ (numbersAt form (nextRow form row) (column + 1) ws ++ rest)) (sym e)
 
-none-left : (form row column : ℕ) → valuesWords (numbersAt form row column []) ≡ []
+none-left : (form row column : ℕ) (rest : List Value) → numbersAt form row column [] ++ rest ≡ rest
 unfolding numbersAt
-none-left form row column = no-values
-
-numbers-length : (form row column : ℕ) (ws : List (List ℕ)) → length (numbersAt form row column ws) ≡ length ws
-unfolding numbersAt
-numbers-length form row column [] = refl
-numbers-length form row column (w ∷ ws) = ap suc (numbers-length form (nextRow form row) (column + 1) ws)
+none-left form row column rest = refl
 
 -- no number is written with the comment byte
 pub pipe-spells-nothing : isSpelling commentByte ≡ false
@@ -150,11 +151,18 @@ pipe-spells-nothing = refl
 
 -- ---- room
 
-pub no-room : (place words : ℕ) → false ≡ true → place + valueWidth ≤ words
-no-room place words e = absurd (true≢false (sym e))
+pub no-room : (place words : ℕ) → words < place → false ≡ leb (place + valueWidth) words
+no-room place words h = sym (lt-leb (place + valueWidth) words (omega arith))
 
-pub some-room : (place words : ℕ) → place ≤ words → leb valueWidth (words - place) ≡ true → place + valueWidth ≤ words
-some-room place words h e = let k : valueWidth ≤ words - place = leb-true valueWidth (words - place) e in omega arith
+pub some-room : (place words : ℕ) → place ≤ words → leb valueWidth (words - place) ≡ leb (place + valueWidth) words
+some-room place words h =
+    by-cases _ (leb valueWidth (words - place))
+    (λ (e : leb valueWidth (words - place) ≡ true).
+    let k : valueWidth ≤ words - place = leb-true valueWidth (words - place) e in
+    e ∙ sym (le-leb (place + valueWidth) words (omega arith)))
+    (λ (e : leb valueWidth (words - place) ≡ false).
+    let k : words - place < valueWidth = leb-false valueWidth (words - place) e in
+    e ∙ sym (lt-leb (place + valueWidth) words (omega arith)))
 
 -- ---- the numbers of a line, one after another
 
@@ -184,68 +192,61 @@ value-bounded (number.Value w) e = refl
 value-bounded number.Malformed e = refl
 value-bounded number.Range e = e
 
+-- a word that is no value: the line is not formed, or not within its bounds
+not-value : (n : Number) → isGoodNumber n ≡ false → both (isFormed n) (isBounded n) ≡ false
+unfolding both
+not-value (number.Value w) e = absurd (true≢false e)
+not-value number.Malformed e = refl
+not-value number.Range e = refl
+
+both-down : (a b c d : Bool) → both a c ≡ false → both (both a b) (both c d) ≡ false
+unfolding both
+both-down true b true d e = absurd (true≢false e)
+both-down true b false d e = both-not-right b false refl
+both-down false b c d e = refl
+
+not-formed-on : (w : List ℕ) (ws : List (List ℕ)) → both (isFormed (numberOf w)) (isBounded (numberOf w)) ≡ false →
+    both (areFormed (w ∷ ws)) (areBounded (w ∷ ws)) ≡ false
+unfolding areFormed areBounded numberCheck
+not-formed-on w ws e = both-down (isFormed (numberOf w)) (areFormed ws) (isBounded (numberOf w)) (areBounded ws) e
+
 -- the loop's invariant: the numbers that are left give what all of them give
 pub record Left (form : ℕ) (t : List ℕ) (from : ℕ) (table₀ : List ℕ) (values row₀ column₀ at : ℕ) (c : Cursor) (table : List ℕ) : Type 0 where
   pub counted : c .count + length (words (contentAt t at)) ≡ length (words (contentAt t from))
   pub formed : areFormed (words (contentAt t at)) ≡ areFormed (words (contentAt t from))
   pub bounded : areBounded (words (contentAt t at)) ≡ areBounded (words (contentAt t from))
-  pub image : sets table (c .place) (valuesWords (numbersAt form (c .row) (c .column) (words (contentAt t at))))
-      ≡ sets table₀ (valueWidth * values) (valuesWords (numbersAt form row₀ column₀ (words (contentAt t from))))
+  pub held : (whole rest : List Value) →
+      HeldValues whole table₀ values (numbersAt form row₀ column₀ (words (contentAt t from)) ++ rest) →
+      HeldValues whole table (values + c .count) (numbersAt form (c .row) (c .column) (words (contentAt t at)) ++ rest)
   pub row : rowAfter form (c .row) (length (words (contentAt t at))) ≡ rowAfter form row₀ (length (words (contentAt t from)))
   pub row-few : c .row ≤ row₀ + c .count
   pub column : c .column ≡ column₀ + c .count
-  pub place : c .place ≡ valueWidth * (values + c .count)
+  pub points : Points (length table) (values + c .count) (c .place)
   pub long : length table ≡ length table₀
-  pub front : take (valueWidth * values) table ≡ take (valueWidth * values) table₀
-  pub room : valueWidth * values ≤ length table₀ → valueWidth * (values + c .count) ≤ length table₀
+  -- each number takes a byte, so that no count wraps
+  pub taken : c .count + from ≤ at
   pub ends : lineAt commentByte t at .content ≡ lineAt commentByte t from .content
 
 pub left-start : (form : ℕ) (t : List ℕ) (from : ℕ) (table : List ℕ) (values row column : ℕ) →
     Left form t from table values row column from (record { row = row; column = column; count = 0; place = valueWidth * values }) table
 left-start form t from table values row column =
+    let z : values + 0 ≡ values = omega arith in
     record {
       counted = omega arith;
       formed = refl;
       bounded = refl;
-      image = refl;
+      held = λ (whole rest : List Value) (h : HeldValues whole table values (numbersAt form row column (words (contentAt t from)) ++ rest)). rw z h;
       row = refl;
       row-few = omega arith;
       column = omega arith;
-      place = omega arith;
+      points = record { few = omega arith; exact = λ (r : valueWidth * values + valueWidth ≤ length table). omega arith };
       long = refl;
-      front = refl;
-      room = λ (h : valueWidth * values ≤ length table). omega arith;
+      taken = omega arith;
       ends = refl;
     }
 
 module _ (form : ℕ) (t : List ℕ) (from : ℕ) (table₀ : List ℕ) (values row column at : ℕ) (c : Cursor) (table : List ℕ)
     (left : Left form t from table₀ values row column at c table) where
-  -- if they are not staged, the front of the table is unchanged
-  pub left-unstaged : (end : ℕ) (r : Numbers) → r ≡ numbersResult false c end → Stores form t from table₀ values row column table r
-  unfolding numbersResult
-  left-unstaged end r e =
-      rw e
-      (record {
-        long = left .long;
-        front = left .front;
-        ends = λ (w : false ≡ true). absurd (true≢false (sym w));
-        told = λ (w : false ≡ true). absurd (true≢false (sym w));
-      })
-
-  -- a number can be stored wherever there is room for it, and no sum wraps
-  pub left-roomy : row ≤ mostGiven + values → column ≤ mostGiven + values → values ≤ mostValues → length table₀ * 8 < 2 ^ 63 → (free : Bool) →
-      (free ≡ true → c .place + valueWidth ≤ length table) → not free ≡ false → Roomy (length table) c
-  left-roomy row-few column-few few small free has tested =
-      let h : c .place + valueWidth ≤ length table = has (not-false free tested) in
-      let g : c .row ≤ row + c .count = left .row-few in
-      let k : c .column ≡ column + c .count = left .column in
-      let p : c .place ≡ valueWidth * (values + c .count) = left .place in
-      let l : length table ≡ length table₀ = left .long in
-      let r : row ≤ mostGiven + values = row-few in
-      let s : column ≤ mostGiven + values = column-few in
-      let v : values ≤ mostValues = few in
-      record { room = h; row-few = omega arith; column-few = omega arith; count-few = omega arith }
-
   module _ (start : ℕ) (begins : start ≡ runEnd isBlank t at) (there : Bool)
       (told-there : there ≡ both (ltb start (length t)) (isWord commentByte (getD t start 0))) where
     -- the line ends here
@@ -265,11 +266,11 @@ module _ (form : ℕ) (t : List ℕ) (from : ℕ) (table₀ : List ℕ) (values 
           let z : length (words (contentAt t at)) ≡ 0 = none-length in
           omega arith
 
-      all-stored : table ≡ sets table₀ (valueWidth * values) (valuesWords (numbersAt form row column (words (contentAt t from))))
-      all-stored =
-          let z : valuesWords (numbersAt form (c .row) (c .column) (words (contentAt t at))) ≡ [] =
-          ap (λ (ws : List (List ℕ)). valuesWords (numbersAt form (c .row) (c .column) ws)) none-words ∙ none-left form (c .row) (c .column) in
-          sym (ap (sets table (c .place)) z) ∙ left .image
+      all-held : (whole rest : List Value) → HeldValues whole table₀ values (numbersAt form row column (words (contentAt t from)) ++ rest) →
+          HeldValues whole table (values + c .count) rest
+      all-held whole rest h =
+          held-same valueWords valueWidth whole table (values + c .count) _ (left .held whole rest h) rest
+          (ap (λ (ws : List (List ℕ)). numbersAt form (c .row) (c .column) ws ++ rest) none-words ∙ none-left form (c .row) (c .column) rest)
 
       all-told : Stored form (words (contentAt t from)) table₀ values row column table (record {
         staged = true;
@@ -283,11 +284,10 @@ module _ (form : ℕ) (t : List ℕ) (from : ℕ) (table₀ : List ℕ) (values 
             counted = all-counted;
             formed = sym (left .formed) ∙ ap areFormed none-words ∙ none-formed;
             bounded = sym (left .bounded) ∙ ap areBounded none-words ∙ none-bounded;
-            stored = all-stored;
+            held = all-held;
             row-is = sym (row-same form (c .row) _ none-length) ∙ left .row;
             column-is = left .column ∙ ap (λ (k : ℕ). column + k) all-counted;
             row-few = left .row-few;
-            room = left .room;
           }
 
       pub left-done : (r : Numbers) → r ≡ numbersResult true c start → Stores form t from table₀ values row column table r
@@ -296,9 +296,9 @@ module _ (form : ℕ) (t : List ℕ) (from : ℕ) (table₀ : List ℕ) (values 
           rw e
           (record {
             long = left .long;
-            front = left .front;
             ends = λ (w : true ≡ true). ends-here t at start begins none ∙ left .ends;
             told = λ (w : true ≡ true). all-told;
+            broken = λ (w : true ≡ false). absurd (true≢false w);
           })
 
     -- one number more
@@ -329,35 +329,58 @@ module _ (form : ℕ) (t : List ℕ) (from : ℕ) (table₀ : List ℕ) (values 
           let g : start < length t = ltb-true start (length t) (both-first _ _ stands) in
           omega arith
 
-      module _ (value : Bool) (value-told : value ≡ isGoodNumber (read .number)) (fine : not value ≡ false) where
-        is-value : isGoodNumber (read .number) ≡ true
-        is-value = sym value-told ∙ not-false value fine
+      -- no sum wraps
+      pub left-movable : row ≤ mostGiven + values → column ≤ mostGiven + values → values ≤ mostValues → length t * 1 < 2 ^ 63 → Movable c
+      left-movable row-few column-few few small =
+          let f : start < length t = ltb-true start (length t) (both-first _ _ stands) in
+          let g : c .row ≤ row + c .count = left .row-few in
+          let k : c .column ≡ column + c .count = left .column in
+          let p : c .count + from ≤ at = left .taken in
+          record { row-few = omega arith; column-few = omega arith; count-few = omega arith }
 
-        module _ (table' : List ℕ) (stored : table' ≡ sets table (c .place) (valueWords (valueOf (c .row) (c .column) (read .number))))
-            (free : Bool) (has : free ≡ true → c .place + valueWidth ≤ length table) (tested-room : not free ≡ false) where
-          room-here : c .place + valueWidth ≤ length table
-          room-here = has (not-false free tested-room)
+      module _ (value : Bool) (value-told : value ≡ isGoodNumber (read .number)) where
+        -- a word that is no value
+        pub left-broken : not value ≡ true → (r : Numbers) → r ≡ numbersResult false c start → Stores form t from table₀ values row column table r
+        unfolding numbersResult
+        left-broken bad r e =
+            rw e
+            (record {
+              long = left .long;
+              ends = λ (w : false ≡ true). absurd (true≢false (sym w));
+              told = λ (w : false ≡ true). absurd (true≢false (sym w));
+              broken = λ (w : false ≡ false).
+                  rw (sym (left .formed), sym (left .bounded), here)
+                  (not-formed-on word (words (contentAt t (read .end)))
+                  (rw number-is at (not-value (read .number) (sym value-told ∙ not-true value bad))));
+            })
 
-          image-here :
-              sets table' (c .place + valueWidth) (valuesWords (numbersAt form (nextRow form (c .row)) (c .column + 1) (words (contentAt t (read .end)))))
-              ≡ sets table₀ (valueWidth * values) (valuesWords (numbersAt form row column (words (contentAt t from))))
-          image-here =
-              rw stored
-              (step-stored form (c .row) (c .column) (c .place) table word (words (contentAt t (read .end))) (read .number) number-is
-              ∙ ap (λ (ws : List (List ℕ)). sets table (c .place) (valuesWords (numbersAt form (c .row) (c .column) ws))) (sym here)
-              ∙ left .image)
+        module _ (fine : not value ≡ false) (c' : Cursor) (table' : List ℕ) (put : PutsNumber form (read .number) table c c' table') where
+          is-value : isGoodNumber (read .number) ≡ true
+          is-value = sym value-told ∙ not-false value fine
 
-          step-on : Left form t from table₀ values row column (read .end) (nextCursor form c) table'
-          unfolding nextCursor
-          step-on =
+          one-held : (whole rest : List Value) →
+              HeldValues whole table₀ values (numbersAt form row column (words (contentAt t from)) ++ rest) →
+              HeldValues whole table' (values + (c .count + 1)) (numbersAt form (nextRow form (c .row)) (c .column + 1) (words (contentAt t (read .end))) ++ rest)
+          one-held whole rest h =
+              rw (sym (add-assoc values (c .count) 1))
+              (held-one valueWords valueWidth whole table (values + c .count) _ (left .held whole rest h) value-wide
+              (valueOf (c .row) (c .column) (read .number)) _
+              (ap (λ (ws : List (List ℕ)). numbersAt form (c .row) (c .column) ws ++ rest) here
+              ∙ step-left form (c .row) (c .column) word (words (contentAt t (read .end))) rest (read .number) number-is)
+              table' (put .puts .stored (values + c .count) (left .points)))
+
+          pub left-on : Left form t from table₀ values row column (read .end) c' table'
+          left-on =
               let f : c .row ≤ row + c .count = left .row-few in
               let g : nextRow form (c .row) ≤ c .row + 1 = row-most form (c .row) in
               let h : c .column ≡ column + c .count = left .column in
-              let k : c .place ≡ valueWidth * (values + c .count) = left .place in
               let n : length (words (contentAt t at)) ≡ suc (length (words (contentAt t (read .end)))) = ap length here in
               let m : c .count + length (words (contentAt t at)) ≡ length (words (contentAt t from)) = left .counted in
-              let l : length table ≡ length table₀ = left .long in
-              let o : c .place + valueWidth ≤ length table = room-here in
+              let o : at < read .end = word-on t at start begins stands (read .end) end-is in
+              let p : c .count + from ≤ at = left .taken in
+              let x : c' .row ≡ nextRow form (c .row) = put .row-is in
+              let y : c' .column ≡ c .column + 1 = put .column-is in
+              let z : c' .count ≡ c .count + 1 = put .count-is in
               record {
                 counted = omega arith;
                 formed =
@@ -366,21 +389,16 @@ module _ (form : ℕ) (t : List ℕ) (from : ℕ) (table₀ : List ℕ) (values 
                 bounded =
                     sym (bounded-on word (words (contentAt t (read .end))) (rw number-is at (value-bounded (read .number) is-value)))
                     ∙ sym (ap areBounded here) ∙ left .bounded;
-                image = image-here;
-                row = row-on form (c .row) _ ∙ ap (rowAfter form (c .row)) (sym n) ∙ left .row;
+                held = rw (x, y, z) one-held;
+                row = ap (λ (k : ℕ). rowAfter form k (length (words (contentAt t (read .end))))) x ∙ row-on form (c .row) _
+                    ∙ ap (rowAfter form (c .row)) (sym n) ∙ left .row;
                 row-few = omega arith;
                 column = omega arith;
-                place = omega arith;
-                long = ap length stored ∙ length-sets table (c .place) (valueWords (valueOf (c .row) (c .column) (read .number))) ∙ left .long;
-                front =
-                    ap (take (valueWidth * values)) stored
-                    ∙ take-sets (valueWidth * values) table (c .place) (valueWords (valueOf (c .row) (c .column) (read .number))) (omega arith) ∙ left .front;
-                room = λ (h : valueWidth * values ≤ length table₀). omega arith;
+                points = rw (put .puts .long, z, sym (add-assoc values (c .count) 1)) (put .puts .points (values + c .count) (left .points));
+                long = put .puts .long ∙ left .long;
+                taken = omega arith;
                 ends = same-end t at start begins stands (read .end) end-is ∙ left .ends;
               }
-
-          pub left-on : (c' : Cursor) → c' ≡ nextCursor form c → Left form t from table₀ values row column (read .end) c' table'
-          left-on c' goes = rw goes step-on
 
 -- ---- a line of numbers
 
@@ -421,26 +439,28 @@ module _ (form : ℕ) (t : List ℕ) (here : ℕ) (table : List ℕ) (values row
         let q : column ≤ mostGiven + values = column-few in
         record { row = omega arith; column = omega arith }
 
-    adds-after : (a : Staging) → a .whole ≡ true → a .row ≡ row → a .column ≡ column → (l : Line) → l .content ≡ content → keyOf l ≡ plain →
+    adds-after : (a : Staging) → a .row ≡ row → a .column ≡ column → (l : Line) → l .content ≡ content → keyOf l ≡ plain →
         Adds form l table values a table' (values + r .count) (movedTo (r .row) (r .column) a)
-    adds-after a whole row-is column-is l same is-plain =
-        let vs : List Value = numbersAt form row column (words content) in
-        let many : r .count ≡ length vs = told .counted ∙ sym (numbers-length form row column (words content)) in
-        added table values table' vs (told .stored) form a (movedTo (r .row) (r .column) a) (r .count) many refl (bounded-after a) (told .room) l
-        is-plain whole
+    adds-after a row-is column-is l same is-plain =
+        added table values table' (numbersAt form row column (words content)) (r .count) (told .held) form a (movedTo (r .row) (r .column) a) refl
+        (bounded-after a) l is-plain
         (λ (ls : List Line). rw (row-is, column-is) (more-after l same is-plain ls))
         (λ (ls : List Line).
         most-of (a .greatest) 0 (a .greatest) _ (greatestIn form ls) (numbers-greatest form l ls is-plain not-sparse) (omega arith))
+
+  line-broken : (form ≡ sparse → ⊥) → r .staged ≡ false → BrokenData (dataLineOf form (contentAt t here))
+  unfolding dataLineOf numbersLine
+  line-broken not-sparse unstaged = rw (if-false {A = DataLine} _ _ (ne-eqb form sparse not-sparse)) (both-not-right true _ (stores .broken unstaged))
 
   pub numbers-staged : row ≤ mostGiven + values → column ≤ mostGiven + values → (form ≡ sparse → ⊥) →
       StagesNumbers form t here table values row column table' r
   numbers-staged row-few column-few not-sparse =
       record {
         long = stores .long;
-        front = stores .front;
         ends = stores .ends;
         line-is = line-told row-few column-few not-sparse;
         adds = adds-after row-few column-few not-sparse;
+        broken = line-broken not-sparse;
       }
 
 -- ---- a line of a Sparse_matrix
@@ -459,17 +479,54 @@ pub pair-told : (column : ℕ) (n : Numbers) → not (n .staged) ≡ false → n
 unfolding pairOf
 pair-told column n e f = sym (if-true _ _ (both-true _ _ (not-false (n .staged) e) (eq-eqb _ _ f)))
 
-pub pair-unstaged : (t : List ℕ) (here : ℕ) (table : List ℕ) (values row end : ℕ) (r : Pair) → r ≡ record { staged = false; column = 0; end = end } →
-    StagesPair t here table values row table r
-pair-unstaged t here table values row end r e =
-    rw e
-    (record {
-      long = refl;
-      front = refl;
+-- a line that is not staged
+unstaged : (t : List ℕ) (here : ℕ) (table : List ℕ) (values row : ℕ) (table' : List ℕ) → length table' ≡ length table → BrokenData (dataLineOf sparse (contentAt t here)) →
+    (end : ℕ) → StagesPair t here table values row table' (record { staged = false; column = 0; end = end })
+unstaged t here table values row table' long broken end =
+    record {
+      long = long;
       ends = λ (w : false ≡ true). absurd (true≢false (sym w));
       line-is = λ (w : false ≡ true). absurd (true≢false (sym w));
       adds = λ (w : false ≡ true). absurd (true≢false (sym w));
-    })
+      broken = λ (w : false ≡ false). broken;
+    }
+
+-- it breaks a rule: it has not two words, or one of the two is no number within its bounds
+line-bad :
+    (content : List ℕ) (ws : List (List ℕ)) → words content ≡ ws →
+    (length ws ≡ 2 →
+    both (both (wholeOf (firstOf ws) .formed) (numberCheck (secondOf ws) .formed)) (both (within 1 mostConductors (wholeOf (firstOf ws) .value)) (numberCheck (secondOf ws) .bounded)) ≡ false) →
+    BrokenData (dataLineOf sparse content)
+unfolding dataLineOf sparseLine
+line-bad content ws are bad =
+    rw (if-true {A = DataLine} _ _ (eq-eqb sparse sparse refl), are)
+    (by-test BrokenData (eqb (length ws) 2) _ _
+    (λ (e : eqb (length ws) 2 ≡ true). both-not-right true _ (bad (eqb-true (length ws) 2 e)))
+    (λ (e : eqb (length ws) 2 ≡ false). both-not-left false _ refl))
+
+pub pair-blank :
+    (t : List ℕ) (here : ℕ) (table : List ℕ) (values row start : ℕ) → start ≡ runEnd isBlank t here → (there : Bool) →
+    there ≡ both (ltb start (length t)) (isWord commentByte (getD t start 0)) → not there ≡ true → (end : ℕ) (r : Pair) →
+    r ≡ record { staged = false; column = 0; end = end } → StagesPair t here table values row table r
+pair-blank t here table values row start begins there told tested end r e =
+    rw e
+    (unstaged t here table values row table refl
+    (line-bad (contentAt t here) [] (no-words t here start begins (sym told ∙ not-true there tested)) (λ (z : _≡_ {A = ℕ} 0 2). absurd (omega arith))) end)
+
+both-last : (a b c d : Bool) → both (both b true) (both d true) ≡ false → both (both a b) (both c d) ≡ false
+unfolding both
+both-last false b c d e = refl
+both-last true false c d e = refl
+both-last true true false d e = refl
+both-last true true true false e = refl
+both-last true true true true e = absurd (true≢false e)
+
+last-bad : (column : Whole) (ws : List (List ℕ)) → suc (length ws) ≡ 2 → (length ws ≡ 1 → both (areFormed ws) (areBounded ws) ≡ false) →
+    both (both (column .formed) (numberCheck (firstOf ws) .formed)) (both (within 1 mostConductors (column .value)) (numberCheck (firstOf ws) .bounded)) ≡ false
+unfolding areFormed areBounded
+last-bad column [] e b = absurd (let z : 1 ≡ 2 = e in omega arith)
+last-bad column (w ∷ []) e b = both-last _ (numberCheck w .formed) _ (numberCheck w .bounded) (b refl)
+last-bad column (w ∷ v ∷ ws) e b = absurd (let z : suc (suc (suc (length ws))) ≡ 2 = e in omega arith)
 
 module _ (t : List ℕ) (here start : ℕ) (begins : start ≡ runEnd isBlank t here) (there : Bool)
     (told-there : there ≡ both (ltb start (length t)) (isWord commentByte (getD t start 0))) (tested : not there ≡ false) (end : ℕ)
@@ -489,6 +546,25 @@ module _ (t : List ℕ) (here start : ℕ) (begins : start ≡ runEnd isBlank t 
     pub column-few : (values : ℕ) → column .value ≤ mostGiven + values
     column-few values = let h : column .value < mostGiven = rw is-column (whole-below part) in omega arith
 
+    -- its first word is the column
+    behind-column : words (contentAt t here) ≡ part ∷ words (contentAt t end)
+    behind-column = one-word t here start begins stands-there end ends ∙ ap (λ (w : List ℕ). w ∷ words (contentAt t end)) (sym cut)
+
+    column-bad : both (column .formed) (within 1 mostConductors (column .value)) ≡ false → BrokenData (dataLineOf sparse (contentAt t here))
+    column-bad bad =
+        line-bad (contentAt t here) (part ∷ words (contentAt t end)) behind-column
+        (λ (e : length (part ∷ words (contentAt t end)) ≡ 2). rw (sym is-column) (both-down (column .formed) _ (within 1 mostConductors (column .value)) _ bad))
+
+    pub column-unformed : not (column .formed) ≡ true → (table : List ℕ) (values row stop : ℕ) (r : Pair) → r ≡ record { staged = false; column = 0; end = stop } →
+        StagesPair t here table values row table r
+    column-unformed bad table values row stop r e =
+        rw e (unstaged t here table values row table refl (column-bad (both-not-left _ _ (not-true (column .formed) bad))) stop)
+
+    pub column-unbounded : (fits : Bool) → fits ≡ within 1 mostConductors (column .value) → not fits ≡ true → (table : List ℕ) (values row stop : ℕ) (r : Pair) →
+        r ≡ record { staged = false; column = 0; end = stop } → StagesPair t here table values row table r
+    column-unbounded fits told bad table values row stop r e =
+        rw e (unstaged t here table values row table refl (column-bad (both-not-right _ _ (sym told ∙ not-true fits bad))) stop)
+
     module _ (table : List ℕ) (values row : ℕ) (table' : List ℕ) (n : Numbers)
         (stores : Stores sparse t end table values row (column .value) table' n) where
       module _ (staged : n .staged ≡ true) (one : n .count ≡ 1) where
@@ -507,9 +583,7 @@ module _ (t : List ℕ) (here start : ℕ) (begins : start ≡ runEnd isBlank t 
         value = firstOf (words (contentAt t end))
 
         two : words (contentAt t here) ≡ part ∷ value ∷ []
-        two =
-            one-word t here start begins stands-there end ends ∙ ap (λ (w : List ℕ). w ∷ words (contentAt t end)) (sym cut)
-            ∙ ap (λ (ws : List (List ℕ)). part ∷ ws) single
+        two = behind-column ∙ ap (λ (ws : List (List ℕ)). part ∷ ws) single
 
         value-formed-here : numberCheck value .formed ≡ true
         unfolding areFormed
@@ -523,8 +597,11 @@ module _ (t : List ℕ) (here start : ℕ) (begins : start ≡ runEnd isBlank t 
         unfolding numbersAt sparseAt
         pair-value = rw (single, two) (λ i. record { row = row; column = is-column i .value; word = wordIn (numberOf value) } ∷ [])
 
-        pair-stored : table' ≡ sets table (valueWidth * values) (valuesWords (sparseAt row (words (contentAt t here)) ∷ []))
-        pair-stored = behind .stored ∙ ap (λ (vs : List Value). sets table (valueWidth * values) (valuesWords vs)) pair-value
+        pair-held : (whole rest : List Value) → HeldValues whole table values ((sparseAt row (words (contentAt t here)) ∷ []) ++ rest) →
+            HeldValues whole table' (values + 1) rest
+        pair-held whole rest h =
+            rw one at
+            (behind .held whole rest (held-same valueWords valueWidth whole table values _ h _ (ap (λ (vs : List Value). vs ++ rest) (sym pair-value))))
 
         named-here : column .value ≡ wholeOf (firstOf (words (contentAt t here))) .value
         named-here = rw two (ap (λ (w : Whole). w .value) is-column)
@@ -535,14 +612,11 @@ module _ (t : List ℕ) (here start : ℕ) (begins : start ≡ runEnd isBlank t 
             let g : a .column ≤ mostGiven + values = bound .column in
             record { row = omega arith; column = omega arith }
 
-        pair-room : valueWidth * values ≤ length table → valueWidth * (values + 1) ≤ length table
-        pair-room h = rw one at (behind .room h)
-
-        pair-adds : (a : Staging) → a .whole ≡ true → BoundedStaging a values → a .row ≡ row → (l : Line) → l .content ≡ contentAt t here → keyOf l ≡ plain →
+        pair-adds : (a : Staging) → BoundedStaging a values → a .row ≡ row → (l : Line) → l .content ≡ contentAt t here → keyOf l ≡ plain →
             Adds sparse l table values a table' (values + 1) (namedTo (column .value) a)
-        pair-adds a whole bound row-is l same is-plain =
-            added table values table' (sparseAt row (words (contentAt t here)) ∷ []) pair-stored sparse a (namedTo (column .value) a) 1 refl refl
-            (pair-bounded a bound) pair-room l is-plain whole
+        pair-adds a bound row-is l same is-plain =
+            added table values table' (sparseAt row (words (contentAt t here)) ∷ []) 1 pair-held sparse a (namedTo (column .value) a) refl
+            (pair-bounded a bound) l is-plain
             (λ (ls : List Line). rw (sym row-is, sym same) (sparse-values sparse l ls is-plain refl (a .row) (a .column)))
             (λ (ls : List Line).
             most-of (a .greatest) (column .value) _ _ (greatestIn sparse ls)
@@ -570,21 +644,27 @@ module _ (t : List ℕ) (here start : ℕ) (begins : start ≡ runEnd isBlank t 
           pair-staged =
               record {
                 long = stores .long;
-                front = stores .front;
                 ends = λ (w : true ≡ true). stores .ends staged ∙ same-end t here start begins stands-there end ends;
                 line-is = λ (w : true ≡ true). pair-line;
                 adds = λ (w : true ≡ true). pair-adds;
+                broken = λ (w : true ≡ false). absurd (true≢false w);
               }
 
-      pair-lost : StagesPair t here table values row table' (record { staged = false; column = 0; end = n .end })
-      pair-lost =
-          record {
-            long = stores .long;
-            front = stores .front;
-            ends = λ (w : false ≡ true). absurd (true≢false (sym w));
-            line-is = λ (w : false ≡ true). absurd (true≢false (sym w));
-            adds = λ (w : false ≡ true). absurd (true≢false (sym w));
-          }
+      -- the words behind the column are not one value
+      value-bad : (length (words (contentAt t end)) ≡ 1 → both (areFormed (words (contentAt t end))) (areBounded (words (contentAt t end))) ≡ false) →
+          StagesPair t here table values row table' (record { staged = false; column = 0; end = n .end })
+      value-bad bad =
+          unstaged t here table values row table' (stores .long)
+          (line-bad (contentAt t here) (part ∷ words (contentAt t end)) behind-column
+          (λ (e : suc (length (words (contentAt t end))) ≡ 2). last-bad (wholeOf part) (words (contentAt t end)) e bad)) (n .end)
+
+      pair-lost : both (n .staged) (eqb (n .count) 1) ≡ false → StagesPair t here table values row table' (record { staged = false; column = 0; end = n .end })
+      pair-lost lost =
+          by-cases _ (n .staged)
+          (λ (w : n .staged ≡ true).
+          value-bad (λ (e : length (words (contentAt t end)) ≡ 1).
+          absurd (true≢false (sym (both-true _ _ w (eq-eqb _ _ (stores .told w .counted ∙ e))) ∙ lost))))
+          (λ (w : n .staged ≡ false). value-bad (λ (e : length (words (contentAt t end)) ≡ 1). stores .broken w))
 
       pub pair-stages : not (column .formed) ≡ false → (fits : Bool) → fits ≡ within 1 mostConductors (column .value) → not fits ≡ false → (r : Pair) →
           r ≡ pairOf (column .value) n → StagesPair t here table values row table' r
@@ -594,4 +674,4 @@ module _ (t : List ℕ) (here start : ℕ) (begins : start ≡ runEnd isBlank t 
           (by-test (λ (x : Pair). StagesPair t here table values row table' x) (both (n .staged) (eqb (n .count) 1)) _ _
           (λ (w : both (n .staged) (eqb (n .count) 1) ≡ true).
           pair-staged (both-first _ _ w) (eqb-true _ _ (both-second _ _ w)) (not-false (column .formed) formed) (sym told ∙ not-false fits tested))
-          (λ (w : both (n .staged) (eqb (n .count) 1) ≡ false). pair-lost))
+          (λ (w : both (n .staged) (eqb (n .count) 1) ≡ false). pair-lost w))

@@ -1,2 +1,4 @@
+pub mod Told
+pub mod Numbers
 pub mod Staging
 pub mod Steps

@@ -1,33 +1,50 @@
 // Judges and stages a line of numbers in one pass: each number is read directly from the text, and its row, column and
 // value word are stored at the front of the lent table, after the values that were read before it. A line is read once:
-// its end is found as its last number is read.
+// its end is found as its last number is read. A number that finds no room is left out.
 ghost use mathlib.Core.Path.{_≡_};
 ghost use mathlib.Core.Bool.{true, false};
-ghost use Prim.Native.Nat.{_+_, _≤_};
+ghost use Prim.Native.Nat.{_+_, _≤_, _<_};
+ghost use lib.Dec.{leb};
 ghost use Rattle.table_layout.specs.Layout.{valueWidth};
 ghost use Rattle.table_layout.specs.Codes.{sparse};
 ghost use Rattle.table_layout.specs.Bounds.{mostValues};
-ghost use Rattle.store_matrices.specs.Way.Numbers.{mostGiven};
+ghost use Rattle.doc.specs.Document.{nextRow};
+ghost use Rattle.read_numbers.specs.Way.Told.{firstTold, toldOr};
+ghost use Rattle.read_numbers.specs.Way.Numbers.{mostGiven, PutsValue, Movable, PutsNumber};
 ghost use Rattle.read_numbers.specs.Way.Staging.{StagesNumbers, StagesPair};
 ghost use Rattle.read_numbers.specs.Way.Steps.{Stores, numbersResult, pairOf};
-use store_matrices::Cursor;
-use store_matrices::First;
+use lex_number::Number;
+use table_record::Value;
 
 // "From `|` on, a line is comment".
 const COMMENT: u8 = b'|';
 
-// What the lines of a matrix have given so far: whether all their numbers are staged, the row and column of the next
-// number, the bandwidth, and the greatest row or column that is named.
+// A value of which only the first one given counts: whether one is given yet, and which.
+pub struct First {
+    pub told: bool,
+    pub value: u64,
+}
+
+// Where the next number of a line goes: its row, its column, how many of the line come before it, and its position in
+// the table.
+pub struct Cursor {
+    pub row: u64,
+    pub column: u64,
+    pub count: u64,
+    pub place: usize,
+}
+
+// What the lines of a matrix have given so far: the row and column of the next number, the bandwidth, and the greatest
+// row or column that is named.
 pub struct Staging {
-    pub whole: bool,
     pub row: u64,
     pub column: u64,
     pub bandwidth: First,
     pub greatest: u64,
 }
 
-// The result of a line of numbers: whether all its words are numbers within their bounds and are staged. If so: how
-// many they are, the row and column of the next number, and where the line's content ends.
+// The result of a line of numbers: whether all its words are numbers within their bounds. If so: how many they are, the
+// row and column of the next number, and where the line's content ends.
 pub struct Numbers {
     pub staged: bool,
     pub count: u64,
@@ -36,7 +53,7 @@ pub struct Numbers {
     pub end: usize,
 }
 
-// The result of a line of a Sparse_matrix: whether column and value are within their bounds and staged. If so: the
+// The result of a line of a Sparse_matrix: whether it is a column and a value, both within their bounds. If so: the
 // column, and where the line's content ends.
 pub struct Pair {
     pub staged: bool,
@@ -44,14 +61,77 @@ pub struct Pair {
     pub end: usize,
 }
 
+// One more value is given: it counts only if none was given before.
+pub fn first_told(first: First, value: u64) -> First
+    ensures { λ r. ⌜ r ≡ firstTold first value ⌝ }
+{
+    if first.told {
+        return first;
+    }
+    First { told: true, value }
+}
+
+// The value given, 0 if there is none.
+pub fn told_in(first: First) -> u64
+    ensures { λ r. ⌜ r ≡ toldOr first 0 ⌝ }
+{
+    if first.told {
+        return first.value;
+    }
+    0
+}
+
 // Whether a table of `words` words has room for a value at position `place`.
 fn has_room(place: usize, words: usize) -> bool
-    ensures { λ r. ⌜ (r ≡ true → place + valueWidth ≤ words) ⌝ }
+    ensures { λ r. ⌜ r ≡ leb (place + valueWidth) words ⌝ }
 {
     if words < place {
         return false;
     }
     table_layout::VALUE_WIDTH <= words - place
+}
+
+// Stores a value at a position, if there is room. The result is the position of the next value.
+fn put_value(table: &mut [u64], place: usize, value: Value) -> usize
+    ensures { λ r. ⌜ PutsValue place value (now (table .entry)) r (now (table .exit)) ⌝ }
+{
+    if !has_room(place, table.len()) {
+        return place;
+    }
+    table_record::put_value_at(table, place, value);
+    place + table_layout::VALUE_WIDTH
+}
+
+// The row of the next number: down the diagonal, else the same row.
+fn next_row(form: u64, row: u64) -> u64
+    requires { ⌜ row < 18_446_744_073_709_551_615 ⌝ }
+    ensures { λ r. ⌜ r ≡ nextRow form row ⌝ }
+{
+    if form == table_layout::code::DIAGONAL {
+        return row + 1;
+    }
+    row
+}
+
+// Stores a number where the cursor is, and moves the cursor on.
+fn put_number(number: Number, form: u64, table: &mut [u64], cursor: Cursor) -> Cursor
+    requires { ⌜ Movable cursor ⌝ }
+    ensures { λ r. ⌜ PutsNumber form number (now (table .entry)) cursor r (now (table .exit)) ⌝ }
+{
+    let row = cursor.row;
+    let column = cursor.column;
+    let value = Value {
+        row,
+        column,
+        word: lex_number::word_in(number),
+    };
+    let place = put_value(table, cursor.place, value);
+    Cursor {
+        row: next_row(form, row),
+        column: column + 1,
+        count: cursor.count + 1,
+        place,
+    }
 }
 
 fn numbers_of(staged: bool, cursor: Cursor, end: usize) -> Numbers
@@ -67,7 +147,7 @@ fn numbers_of(staged: bool, cursor: Cursor, end: usize) -> Numbers
 }
 
 // Reads and stores the numbers from offset `from` to the end of the line; the first belongs at this row and column. If
-// a word is no number or out of its bounds, or if there is no room, the line is not staged.
+// a word is no number or out of its bounds, the line is not staged.
 fn store_numbers(
     text: &[u8],
     from: usize,
@@ -92,15 +172,12 @@ fn store_numbers(
         if !lex_number::is_word_at(text, start, COMMENT) {
             return numbers_of(true, cursor, start);
         }
-        if !has_room(cursor.place, table.len()) {
-            return numbers_of(false, cursor, start);
-        }
         let read = lex_number::number_in(text, start, COMMENT);
         let number = read.number;
         if !lex_number::is_value(number) {
             return numbers_of(false, cursor, start);
         }
-        cursor = store_matrices::put_number(number, form, table, cursor);
+        cursor = put_number(number, form, table, cursor);
         at = read.end;
     }
 }

@@ -11,7 +11,7 @@ use lib.ListN.{length, drop, getD, replicate, length-append}
 use lib.Seq.{drop-drop, take-at, drop-at, getD-drop}
 use Rattle.table_layout.specs.Layout.{joined, layout, chopped, partsIn, needed}
 use Rattle.table_layout.specs.Way.Parts.{AllLong, Wide, countAt, beginsIn}
-use Rattle.table_layout.specs.Way.Filling.{basesFrom}
+use Rattle.table_layout.specs.Way.Bases.{basesFrom}
 
 -- ---- how long
 
@@ -34,7 +34,7 @@ length-layout (w ∷ ws) (records ∷ parts) (Wide.more h wide) =
 
 -- ---- taken apart
 
-chopped-joined : {w : ℕ} {records : List (List ℕ)} → AllLong w records → (rest : List ℕ) →
+pub chopped-joined : {w : ℕ} {records : List (List ℕ)} → AllLong w records → (rest : List ℕ) →
     chopped w (length records) (joined records ++ rest) ≡ records
 unfolding joined chopped
 chopped-joined AllLong.none rest = refl

@@ -1,10 +1,5 @@
 pub mod LayoutLaws
-pub mod PartlyLaws
-pub mod FillingLaws
 pub mod StoreLaws
-pub mod BehindLaws
-pub mod OpenLaws
-pub mod LiftLaws
 pub mod ViewLaws
 pub mod PartLaws
 pub mod LaidLaws

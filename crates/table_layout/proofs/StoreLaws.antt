@@ -1,26 +1,24 @@
--- Laws by which the code meets its contracts: a loop over the parts, the counts and bases
--- that it stores, and the position of one record.
+-- Laws by which the code meets its contracts: a loop over the parts, and the counts and bases of the parts.
 -- Assumes nothing.
 use mathlib.Core.Path.{_≡_, refl, sym, _∙_, ap}
 use mathlib.Core.Bool.{Bool, true}
-use mathlib.Core.List.{List, [], _∷_, append-nil}
-use Prim.Native.Nat.{ℕ, zero, suc, _+_, _*_, _^_, _≤_, _<_}
+use mathlib.Core.List.{List, [], _∷_}
+use Prim.Native.Nat.{ℕ, zero, suc, _+_, _*_, _≤_, _<_}
 use mir.Syntax.{w64}
 use mir.Val.{Fits}
-use native.Mathlib.Nat.{not-suc-le-zero, le-of-suc-le-suc, mul-le-mul, mul-suc, mul-comm, le-mul-of-pos-right, le-refl}
+use native.Mathlib.Nat.{not-suc-le-zero, le-of-suc-le-suc, mul-le-mul, le-refl}
 use native.Mathlib.Numerals.{add-one}
 use native.Mathlib.Omega.{arith}
-use lib.ListN.{length, take, drop, getD, set, replicate, drop-of-length-le}
-use lib.Seq.{sets, drop-cons, sets-eq, take-all}
-use lib.Dec.{leb, ltb}
-use borrow.Author.Tests.{leb-true, ltb-true}
+use lib.ListN.{length, take, drop, getD}
+use lib.Seq.{drop-cons, take-all}
+use lib.Dec.{ltb, leb}
+use borrow.Author.Tests.{ltb-true, leb-true}
 use Rattle.base.specs.If.{both}
 use Rattle.base.specs.Runs.{all}
 use Rattle.base.proofs.IfLaws.{both-first, both-second}
-use Rattle.table_layout.specs.declared.Filling.{Filling}
 use Rattle.table_layout.specs.Layout.{widths, partCount, needed}
 use Rattle.table_layout.specs.Bounds.{bounds, mostValues}
-use Rattle.table_layout.specs.Way.Filling.{basesFrom, partBase, startFilling, BoundedCounts, position, widthOf}
+use Rattle.table_layout.specs.Way.Bases.{basesFrom, partBase, BoundedCounts}
 
 -- ---- a loop over the parts: the words before a part, and what it and those after it need
 
@@ -45,10 +43,6 @@ module _ (counts : List ℕ) (part at : ℕ) (long : length counts ≡ partCount
   part-within : part < partCount → at + 1 + getD widths part 0 * getD counts part 0 ≤ needed widths counts
   part-within h =
       omega (arith, part-on h)
-
-  -- so its count lies inside a table that has the room
-  pub place-within : (table entry : List ℕ) → part < partCount → length table ≡ length entry → needed widths counts ≤ length entry → at < length table
-  place-within table entry h e room = omega (arith, part-within h)
 
 -- ---- the words before a part
 
@@ -111,12 +105,6 @@ each-at test [] p h z = z
 each-at test (n ∷ ns) zero h z = both-first _ _ h
 each-at test (n ∷ ns) (suc p) h z = each-at test ns p (both-second _ _ h) z
 
-each-in : (test : ℕ → Bool) (ns : List ℕ) (p : ℕ) → all test ns ≡ true → p < length ns → test (getD ns p 0) ≡ true
-unfolding all
-each-in test [] p h l = absurd (not-suc-le-zero l)
-each-in test (n ∷ ns) zero h l = both-first _ _ h
-each-in test (n ∷ ns) (suc p) h l = each-in test ns p (both-second _ _ h) (le-of-suc-le-suc l)
-
 pub widths-small : (p : ℕ) → getD widths p 0 ≤ widest
 unfolding all both
 widths-small p = leb-true _ _ (each-at (λ (w : ℕ). leb w widest) widths p refl refl)
@@ -168,53 +156,14 @@ module _ (counts : List ℕ) (part at : ℕ) (long : length counts ≡ partCount
   pub sum-fits : Fits w64 (at + 1 + getD widths part 0 * getD counts part 0)
   sum-fits = omega (arith, part-within counts part at long inv h, needed-few counts few)
 
--- ---- the position of one record
+-- ---- every record has at least one word
+
+each-in : (test : ℕ → Bool) (ns : List ℕ) (p : ℕ) → all test ns ≡ true → p < length ns → test (getD ns p 0) ≡ true
+unfolding all
+each-in test [] p h l = absurd (not-suc-le-zero l)
+each-in test (n ∷ ns) zero h l = both-first _ _ h
+each-in test (n ∷ ns) (suc p) h l = each-in test ns p (both-second _ _ h) (le-of-suc-le-suc l)
 
 pub widths-some : (p : ℕ) → p < length widths → 0 < getD widths p 0
 unfolding all both
 widths-some p h = ltb-true _ _ (each-in (λ (w : ℕ). ltb 0 w) widths p refl h)
-
--- every record has at least one word, so a table that holds records has at least as many words as records
-records-words : (w n : ℕ) → 0 < w → suc n ≤ w * n + w
-records-words w n h = rw (← mul-suc w n, mul-comm w (suc n)) (le-mul-of-pos-right (suc n) h)
-
-pub count-fits : (f : Filling) (p : ℕ) (table : List ℕ) → p < length widths → position f p + widthOf p ≤ length table →
-    length table * 8 < 2 ^ 63 → Fits w64 (getD (f .counts) p 0 + 1)
-unfolding position widthOf
-count-fits f p table h room small = omega (arith, records-words (getD widths p 0) (getD (f .counts) p 0) (widths-some p h))
-
--- ---- where the records begin, stored one part after the other
-
-length-bases : (at : ℕ) (ws counts : List ℕ) → length counts ≡ length ws → length (basesFrom at ws counts) ≡ length ws
-unfolding basesFrom
-length-bases at [] counts e = refl
-length-bases at (w ∷ ws) [] e = absurd (omega arith)
-length-bases at (w ∷ ws) (c ∷ counts) e =
-    let l : length counts ≡ length ws = omega arith in
-    ap suc (length-bases (at + 1 + w * c) ws counts l)
-
-sets-whole : (old new : List ℕ) → length old ≡ length new → sets old 0 new ≡ new
-sets-whole old new e =
-    let h : 0 + length new ≤ length old = omega arith in
-    let k : length old ≤ 0 + length new = omega arith in
-    sets-eq new old 0 h ∙ rw (drop-of-length-le old k, append-nil new)
-
-pub bases-start : (counts : List ℕ) → length counts ≡ partCount → sets (replicate partCount 0) 0 (basesFrom 0 widths counts) ≡ basesFrom 0 widths counts
-bases-start counts long = sets-whole (replicate partCount 0) (basesFrom 0 widths counts) (sym (length-bases 0 widths counts long))
-
-pub bases-on : (counts bases : List ℕ) (at part : ℕ) (goal : List ℕ) → length counts ≡ partCount → part < partCount →
-    sets bases part (basesFrom at (drop part widths) (drop part counts)) ≡ goal →
-    sets (set bases part (at + 1)) (part + 1)
-    (basesFrom (at + 1 + getD widths part 0 * getD counts part 0) (drop (part + 1) widths) (drop (part + 1) counts)) ≡ goal
-unfolding basesFrom
-bases-on counts bases at part goal long h e =
-    let k : part < length counts = omega arith in
-    rw (add-one part) (rw (drop-cons widths part 0 h, drop-cons counts part 0 k) at e)
-
-pub bases-done : (counts bases : List ℕ) (at part : ℕ) → partCount ≤ part →
-    sets bases part (basesFrom at (drop part widths) (drop part counts)) ≡ basesFrom 0 widths counts →
-    record { bases = bases; counts = replicate partCount 0 } ≡ startFilling counts
-unfolding basesFrom startFilling
-bases-done counts bases at part h e =
-    let n : bases ≡ basesFrom 0 widths counts = rw (drop-of-length-le widths h) at e in
-    rw n

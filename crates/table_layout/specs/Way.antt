@@ -1,2 +1,2 @@
-pub mod Filling
+pub mod Bases
 pub mod Parts

@@ -1,12 +1,10 @@
-// The parts of a table: how many words they need, where each begins, how one record is
-// stored, and where the parts of a given table are.
+// The parts of a table: how many words they need, where each begins, and where the parts of a given table are.
 ghost use mathlib.Core.Path.{_≡_};
 ghost use Prim.Native.Nat.{_+_, _≤_, _<_};
-ghost use lib.ListN.{length, take, replicate, getD};
-ghost use lib.Seq.{sets};
+ghost use lib.ListN.{take, getD};
 ghost use Rattle.table_layout.specs.Layout.{widths, partCount, needed};
 ghost use Rattle.table_layout.specs.Bounds.{bounds};
-ghost use Rattle.table_layout.specs.Way.Filling.{widthOf, position, counted, partBase, startFilling, openedTable, BoundedCounts};
+ghost use Rattle.table_layout.specs.Way.Bases.{partBase, BoundedCounts};
 ghost use Rattle.table_layout.specs.View.{viewOf, noView};
 
 pub mod bound;
@@ -68,13 +66,7 @@ const BOUNDS: [u64; PARTS] = [
     bound::VALUES,
 ];
 
-// Where the records of each part begin, and how many of them are stored.
-pub struct Filling {
-    pub bases: [usize; PARTS],
-    pub counts: [u64; PARTS],
-}
-
-// ---- a table that is filled, given how many records each part has
+// ---- where the parts of a table are, given how many records each has
 
 // The words of the parts before this one.
 fn words_before(counts: [u64; PARTS], part: usize) -> usize
@@ -111,77 +103,6 @@ pub fn part_base(counts: [u64; PARTS], part: usize) -> usize
     ensures { λ r. ⌜ r ≡ partBase counts part ⌝ }
 {
     words_before(counts, part) + 1
-}
-
-// Moves the first words of the table up, the last word first, so that no word is overwritten before it is moved.
-fn move_up(table: &mut [u64], count: usize, up: usize)
-    requires { ⌜ up + count ≤ length (now table) ⌝ }
-    ensures { λ _. ⌜ now (table .exit) ≡ sets (now (table .entry)) up (take count (now (table .entry))) ⌝ }
-{
-    let mut i = count;
-    while 0 < i {
-        let next = i - 1;
-        table[up + next] = table[next];
-        i = next;
-    }
-}
-
-// Sets the first words to zero.
-fn zero_front(table: &mut [u64], count: usize)
-    requires { ⌜ count ≤ length (now table) ⌝ }
-    ensures { λ _. ⌜ now (table .exit) ≡ sets (now (table .entry)) 0 (replicate count 0) ⌝ }
-{
-    let mut i = 0;
-    while i < count {
-        table[i] = 0;
-        i += 1;
-    }
-}
-
-// Moves the first words, which are the staged values, up to their part. All words before and after them become zero.
-pub fn lift(table: &mut [u64], count: usize, up: usize)
-    requires { ⌜ up + count ≤ length (now table) ⌝ }
-    ensures { λ _. ⌜ now (table .exit) ≡ sets (replicate (length (now (table .entry))) 0) up (take count (now (table .entry))) ⌝ }
-{
-    move_up(table, count, up);
-    zero_front(table, up);
-    base::zero_from(table, up + count);
-}
-
-// Stores the count of each part where the part begins.
-pub fn open_parts(table: &mut [u64], counts: [u64; PARTS]) -> Filling
-    requires { ⌜ BoundedCounts counts × (needed widths counts ≤ length (now table)) ⌝ }
-    ensures { λ r. ⌜ (r ≡ startFilling counts) × (now (table .exit) ≡ openedTable 0 widths counts (now (table .entry))) ⌝ }
-{
-    let mut bases = [0; PARTS];
-    let mut at = 0;
-    let mut part = 0;
-    while part < PARTS {
-        let count = counts[part];
-        let first = at + 1;
-        table[at] = count;
-        bases[part] = first;
-        at = first + WIDTHS[part] * (count as usize);
-        part += 1;
-    }
-    Filling {
-        bases,
-        counts: [0; PARTS],
-    }
-}
-
-// Stores one record after those of its part.
-pub fn put_record(table: &mut [u64], filling: Filling, part: usize, words: &[u64]) -> Filling
-    requires { ⌜ (part < length widths) × (length (now words) ≡ widthOf part) × (position filling part + widthOf part ≤ length (now table)) ⌝ }
-    ensures { λ r. ⌜ (r ≡ counted filling part) × (now (table .exit) ≡ sets (now (table .entry)) (position filling part) (now (words .entry))) ⌝ }
-{
-    let bases = filling.bases;
-    let mut counts = filling.counts;
-    let stored = counts[part];
-    let next = stored + 1;
-    base::put_words(table, bases[part] + WIDTHS[part] * (stored as usize), words);
-    counts[part] = next;
-    Filling { bases, counts }
 }
 
 // ---- where the parts of a table are, by the counts that the table itself gives

@@ -2,10 +2,10 @@
 -- name, and the records are in the table where their part begins.
 -- Assumes nothing.
 use mathlib.Core.Path.{_≡_, refl, _∙_, ap}
-use mathlib.Core.List.{List, [], _∷_, _++_, map}
-use Prim.Native.Nat.{ℕ, suc, _+_, _≤_, _<_}
+use mathlib.Core.List.{List, [], _∷_, map}
+use Prim.Native.Nat.{ℕ, suc, _+_}
 use native.Mathlib.Omega.{arith}
-use lib.ListN.{length, drop, getD}
+use lib.ListN.{length, getD}
 use lib.Dec.{leb, ltb}
 use borrow.Author.Tests.{le-leb}
 use Rattle.table_record.specs.Records.{mapWords, sectionWords, Records, partsOf}
@@ -13,15 +13,13 @@ use Rattle.base.specs.If.{if_then_else_, both}
 use Rattle.base.specs.Runs.{same}
 use Rattle.base.proofs.IfLaws.{both-rest}
 use Rattle.lex_line.specs.Words.{Word}
-use Rattle.table_layout.specs.Layout.{widths, layout, chopped}
-use Rattle.table_layout.specs.Way.Filling.{basesFrom}
-use Rattle.table_layout.proofs.LayoutLaws.{part-stands}
+use Rattle.table_layout.specs.Layout.{widths}
+use Rattle.table_layout.specs.Way.Bases.{basesFrom}
 use Rattle.doc.specs.Document.{Step, Map, Section}
 use Rattle.doc.specs.Records.{indexOf, isMapOf, isSectionOf, mapRecord, mapRecords, sectionRecord, sectionRecords}
 use Rattle.doc.specs.Holds.{Each}
 use Rattle.doc.specs.Way.Holds.{Stands}
 use Rattle.doc.specs.Holds.Each.{none, more}
-use Rattle.table_record.proofs.BackLaws.{records-wide}
 use Rattle.table_name.specs.Name.{nameAt}
 use Rattle.table_name.specs.Way.Search.{hasName, isNamed}
 
@@ -67,9 +65,3 @@ module _ (t : List ℕ) (s : Step) where
 -- where the records of a part begin
 abbrev pub baseOf : Records → ℕ → ℕ
 baseOf r p = getD (basesFrom 0 widths (map length (partsOf r))) p 0
-
--- a table that holds the records from some word on, at or before the first of a part
-pub records-at : (r : Records) (rest table : List ℕ) (m p : ℕ) → p < length widths → m ≤ baseOf r p →
-    drop m table ≡ drop m (layout (partsOf r) ++ rest) →
-    chopped (getD widths p 0) (length (getD (partsOf r) p [])) (drop (baseOf r p) table) ≡ getD (partsOf r) p []
-records-at r rest table m p h k e = part-stands widths (partsOf r) rest p (records-wide r) h table m k e

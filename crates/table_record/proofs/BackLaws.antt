@@ -19,7 +19,7 @@ use Rattle.table_record.specs.declared.Value.{Value}
 -- ---- records of any one kind
 
 module _ {A : Type 0} (words : A → List ℕ) where
-  all-wide : (w : ℕ) → ((x : A) → length (words x) ≡ w) → (xs : List A) → AllLong w (map words xs)
+  pub all-wide : (w : ℕ) → ((x : A) → length (words x) ≡ w) → (xs : List A) → AllLong w (map words xs)
   all-wide w wide [] = AllLong.none
   all-wide w wide (x ∷ xs) = AllLong.more (wide x) (all-wide w wide xs)
 

@@ -2,3 +2,4 @@ pub mod PlaceLaws
 pub mod RecordLaws
 pub mod StoreLaws
 pub mod BackLaws
+pub mod StageLaws

@@ -5,11 +5,11 @@ ghost use Prim.Native.Nat.{_+_, _≤_, _<_};
 ghost use lib.ListN.{length, getD};
 ghost use lib.Seq.{sets};
 ghost use Rattle.table_layout.specs.Layout.{models, steps, maps, pins, sections, matrices, values, modelWidth, stepWidth, mapWidth, pinWidth, sectionWidth, matrixWidth, valueWidth, nameWidth};
-ghost use Rattle.table_layout.specs.Way.Filling.{position, counted};
 ghost use Rattle.table_record.specs.Records.{modelWords, stepWords, mapWords, pinWords, sectionWords, matrixWords, valueWords, recordsOf, noModel, noStep, noMap, noSection, noMatrix, noValue};
 ghost use Rattle.table_record.specs.Way.Standing.{nameRecordAt, modelAt, stepAt, mapAt, pinAt, sectionAt, matrixAt, valueAt, countOf, Rooms};
-use table_layout::Filling;
 use table_layout::View;
+
+pub mod stage;
 
 // "models (name start, length, type, first step, steps)". The type is its `kind`.
 pub struct ModelRecord {
@@ -320,25 +320,11 @@ pub fn no_value() -> Value
     }
 }
 
-// ---- a record stored after those of its part
+// ---- a record stored at a word of a table
 
-pub fn put_model(table: &mut [u64], filling: Filling, model: ModelRecord) -> Filling
-    requires { ⌜ position filling models + modelWidth ≤ length (now table) ⌝ }
-    ensures { λ r. ⌜ (r ≡ counted filling models) × (now (table .exit) ≡ sets (now (table .entry)) (position filling models) (modelWords model)) ⌝ }
-{
-    let words = [
-        model.start,
-        model.size,
-        model.kind,
-        model.first,
-        model.steps,
-    ];
-    table_layout::put_record(table, filling, table_layout::MODELS, &words)
-}
-
-pub fn put_step(table: &mut [u64], filling: Filling, step: StepRecord) -> Filling
-    requires { ⌜ position filling steps + stepWidth ≤ length (now table) ⌝ }
-    ensures { λ r. ⌜ (r ≡ counted filling steps) × (now (table .exit) ≡ sets (now (table .entry)) (position filling steps) (stepWords step)) ⌝ }
+pub fn put_step_at(table: &mut [u64], at: usize, step: StepRecord)
+    requires { ⌜ at + stepWidth ≤ length (now table) ⌝ }
+    ensures { λ _. ⌜ now (table .exit) ≡ sets (now (table .entry)) at (stepWords step) ⌝ }
 {
     let words = [
         step.kind,
@@ -348,70 +334,7 @@ pub fn put_step(table: &mut [u64], filling: Filling, step: StepRecord) -> Fillin
         step.side_size,
         step.line,
     ];
-    table_layout::put_record(table, filling, table_layout::STEPS, &words)
-}
-
-pub fn put_map(table: &mut [u64], filling: Filling, map: MapRecord) -> Filling
-    requires { ⌜ position filling maps + mapWidth ≤ length (now table) ⌝ }
-    ensures { λ r. ⌜ (r ≡ counted filling maps) × (now (table .exit) ≡ sets (now (table .entry)) (position filling maps) (mapWords map)) ⌝ }
-{
-    let words = [
-        map.start,
-        map.size,
-        map.order,
-        map.rows,
-        map.columns,
-        map.first,
-        map.pins,
-    ];
-    table_layout::put_record(table, filling, table_layout::MAPS, &words)
-}
-
-pub fn put_pin(table: &mut [u64], filling: Filling, pin: PinRecord) -> Filling
-    requires { ⌜ position filling pins + pinWidth ≤ length (now table) ⌝ }
-    ensures { λ r. ⌜ (r ≡ counted filling pins) × (now (table .exit) ≡ sets (now (table .entry)) (position filling pins) (pinWords pin)) ⌝ }
-{
-    let words = [pin.start, pin.size];
-    table_layout::put_record(table, filling, table_layout::PINS, &words)
-}
-
-pub fn put_section(table: &mut [u64], filling: Filling, section: SectionRecord) -> Filling
-    requires { ⌜ position filling sections + sectionWidth ≤ length (now table) ⌝ }
-    ensures { λ r. ⌜ (r ≡ counted filling sections) × (now (table .exit) ≡ sets (now (table .entry)) (position filling sections) (sectionWords section)) ⌝ }
-{
-    let words = [
-        section.start,
-        section.size,
-        section.method,
-        section.conductors,
-        section.resistance,
-        section.inductance,
-        section.conductance,
-        section.capacitance,
-    ];
-    table_layout::put_record(table, filling, table_layout::SECTIONS, &words)
-}
-
-pub fn put_matrix(table: &mut [u64], filling: Filling, matrix: MatrixRecord) -> Filling
-    requires { ⌜ position filling matrices + matrixWidth ≤ length (now table) ⌝ }
-    ensures { λ r. ⌜ (r ≡ counted filling matrices) × (now (table .exit) ≡ sets (now (table .entry)) (position filling matrices) (matrixWords matrix)) ⌝ }
-{
-    let words = [
-        matrix.form,
-        matrix.bandwidth,
-        matrix.first,
-        matrix.values,
-        matrix.line,
-    ];
-    table_layout::put_record(table, filling, table_layout::MATRICES, &words)
-}
-
-pub fn put_value(table: &mut [u64], filling: Filling, value: Value) -> Filling
-    requires { ⌜ position filling values + valueWidth ≤ length (now table) ⌝ }
-    ensures { λ r. ⌜ (r ≡ counted filling values) × (now (table .exit) ≡ sets (now (table .entry)) (position filling values) (valueWords value)) ⌝ }
-{
-    let words = [value.row, value.column, value.word];
-    table_layout::put_record(table, filling, table_layout::VALUES, &words)
+    base::put_words(table, at, &words);
 }
 
 // A value stored at word `at`.

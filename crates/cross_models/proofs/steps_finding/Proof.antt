@@ -1,33 +1,33 @@
 -- `cross_models::steps_finding` meets its contract. The loop's invariant: what is left of the steps, with the models behind, gives the whole.
 -- Assumes nothing.
-use borrow.Author.Needs.{needs}
 use Prim.Native.Nat.{_-_}
-use Rattle.cross_models.proofs.StepsLaws.{StepsLeft, room-asked, steps-start, steps-end, place-fits, line-low, below-here, step-breaks, steps-on}
 use Rattle.cross_steps.proofs.JoinLaws.{step-rooms}
 use Rattle.cross_rules.proofs.TableLaws.{text-rooms}
+use Rattle.cross_models.proofs.StepsLaws.{StepsLeft, room-there, steps-start, steps-end, place-fits, staged-inside, below-here, step-breaks, steps-on}
+use borrow.Author.Needs.{needs}
 use Rattle.cross_models.proofs.steps_finding.Statement.{statement}
 use Rattle.cross_models.proofs.steps_finding.Tie as tie
 
 abbrev Inv-loop : tie.InvT-loop
-Inv-loop text table view marks₀ index at first-line owner count here₀ next₀ i₀ marks here next i = StepsLeft text table view marks index owner count here next i
+Inv-loop text table view steps marks₀ index owner count i₀ marks i = StepsLeft text table view marks index owner count i
 
 abbrev μ-loop : tie.MeasureT-loop
-μ-loop text table view marks₀ index at first-line owner count here₀ next₀ i₀ marks here next i = count - i
+μ-loop text table view steps marks₀ index owner count i₀ marks i = count - i
 
 owner-of-requires : tie.Need-owner-of-requires Inv-loop μ-loop
-owner-of-requires c κs = search room-asked
+owner-of-requires c κs = search room-there
 
 loop-holds : tie.Need-loop-holds Inv-loop μ-loop
 loop-holds c = search steps-start
 
-add-nth-step : tie.Need-add-nth-step Inv-loop μ-loop
-add-nth-step c = search place-fits
+add-here : tie.Need-add-here Inv-loop μ-loop
+add-here c = search place-fits
 
 nth-step-requires : tie.Need-nth-step-requires Inv-loop μ-loop
 nth-step-requires c κs = search (needs, text-rooms)
 
-tell-step-requires : tie.Need-tell-step-requires Inv-loop μ-loop
-tell-step-requires c κs = search (needs, line-low)
+is-mult-requires : tie.Need-is-mult-requires Inv-loop μ-loop
+is-mult-requires c κs = search staged-inside
 
 step-rule-requires : tie.Need-step-rule-requires Inv-loop μ-loop
 step-rule-requires c κs = search (step-rooms, below-here)
@@ -55,9 +55,9 @@ steps-finding-spec =
     μ-loop
     owner-of-requires
     loop-holds
-    add-nth-step
+    add-here
     nth-step-requires
-    tell-step-requires
+    is-mult-requires
     step-rule-requires
     returns
     add-i

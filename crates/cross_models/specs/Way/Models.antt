@@ -1,10 +1,11 @@
 -- What is asked of the record of a model, and what the steps of a model give.
 -- Assumes nothing.
-use Prim.Native.Nat.{ℕ, _+_, _≤_, _<_}
+use Prim.Native.Nat.{ℕ, _+_, _*_, _≤_, _<_}
 use mathlib.Core.Path.{_≡_}
 use mathlib.Core.Bool.{Bool, false, not}
 use mathlib.Core.List.{List, [], _∷_, _++_}
 use lib.ListN.{length, drop, getD}
+use lib.Dec.{eqb}
 use Rattle.cross_rules.specs.Way.Findings.{stepFindings, modelFindings}
 use Rattle.base.specs.Broken.{_when_, firstBroken}
 use Rattle.base.specs.Refusal as refusal
@@ -12,16 +13,14 @@ use Rattle.table_layout.specs.Layout.{models, steps, modelWidth}
 use Rattle.table_layout.specs.declared.View.{View}
 use Rattle.table_record.specs.Records.{Records, recordsOf, range, noModel}
 use Rattle.table_record.specs.Way.Standing.{baseOf, countOf, Rooms}
+use Rattle.table_record.specs.Way.Stage.{stagedStepWidth, stagedStepAt}
 use Rattle.table_record.specs.declared.ModelRecord.{ModelRecord}
 use Rattle.doc.specs.Document.{Model, Document, documentOf}
-use Rattle.doc.specs.Holds.{Each}
 use Rattle.cross_rules.specs.Way.First.{firstIn}
 use Rattle.cross_rules.specs.Way.Repeated.{isRepeated}
 use Rattle.cross_rules.specs.declared.Finding.{Finding}
 use Rattle.cross_steps.specs.Way.StepWords.{firstTarget}
 use Rattle.cross_steps.specs.declared.Owner.{Owner}
-use Rattle.cross_models.specs.Way.Cursor.{Cursor}
-use Rattle.cross_models.specs.declared.StepsFinding.{StepsFinding}
 
 -- ---- by the records of the table
 
@@ -51,6 +50,10 @@ modelRuleAt t table v listed i =
     ∷ refusal.list when not (getD listed i false)
     ∷ [])
 
+-- the amount of the staged step at an index is a Mult
+unfoldable pub multAt : List ℕ → ℕ → Bool
+multAt steps index = eqb (stagedStepAt steps (stagedStepWidth * index) .mult) 1
+
 -- ---- by the document
 
 -- what the models from one on break, but for that model's own line
@@ -58,21 +61,10 @@ unfoldable pub belowFirst : Document → List Model → List Finding
 belowFirst d [] = []
 belowFirst d (m ∷ ms) = stepFindings d m ++ modelFindings d ms
 
--- the steps of the model numbered so are looked at next: the lines of all that is left are still to come
-pub record Awaits (t : List ℕ) (index at line : ℕ) : Type 0 where
-  pub there : index < length (documentOf t .models)
-  pub cursor : Cursor t at line
-  pub low : Each (λ (f : Finding). line ≤ f .line) (belowFirst (documentOf t) (drop index (documentOf t .models)))
-
 -- what they break is what all that is left breaks first; where they break nothing, the models behind give it
-pub record StepsTold (t : List ℕ) (index : ℕ) (r : StepsFinding) : Type 0 where
-  pub broken :
-      (r .rule ≡ 0 → ⊥) →
-      record { rule = r .rule; line = r .line } ≡ firstIn (belowFirst (documentOf t) (drop index (documentOf t .models)))
+pub record StepsTold (t : List ℕ) (index : ℕ) (r : Finding) : Type 0 where
+  pub broken : (r .rule ≡ 0 → ⊥) → r ≡ firstIn (belowFirst (documentOf t) (drop index (documentOf t .models)))
   pub kept :
       r .rule ≡ 0 →
       firstIn (modelFindings (documentOf t) (drop (index + 1) (documentOf t .models)))
       ≡ firstIn (belowFirst (documentOf t) (drop index (documentOf t .models)))
-  pub cursor : Cursor t (r .at) (r .next)
-  pub low :
-      r .rule ≡ 0 → Each (λ (f : Finding). r .next ≤ f .line) (modelFindings (documentOf t) (drop (index + 1) (documentOf t .models)))

@@ -1,9 +1,8 @@
 -- The rule that a list line breaks, by the model that its name finds in the table and the flags that earlier lines have set.
 -- Assumes nothing.
 use Prim.Native.Nat.{ℕ}
-use mathlib.Core.Path.{_≡_}
-use mathlib.Core.Bool.{Bool, true, false}
-use mathlib.Core.List.{List, [], _∷_}
+use mathlib.Core.Bool.{Bool, false}
+use mathlib.Core.List.{List}
 use lib.ListN.{getD}
 use lib.Dec.{leb, eqb}
 use Rattle.base.specs.If.{if_then_else_, both}
@@ -13,9 +12,8 @@ use Rattle.table_layout.specs.Layout.{models, modelWidth}
 use Rattle.table_layout.specs.Bounds.{mostModels}
 use Rattle.table_layout.specs.declared.View.{View}
 use Rattle.table_record.specs.Way.Standing.{baseOf, countOf}
-use Rattle.doc.specs.Lines.{plain, linesAt, gather, wordsOf, firstWord}
-use Rattle.doc.specs.Document.{listedAt}
-use Rattle.doc.specs.Way.Found.{lineIn, linesBehind, FindsKeyed}
+use Rattle.doc.specs.Lines.{plain, wordsOf, firstWord}
+use Rattle.doc.specs.Way.Found.{lineIn}
 use Rattle.doc.specs.declared.Found.{Found}
 use Rattle.table_name.specs.Way.Search.{findIn}
 use Rattle.cross_names.specs.declared.list.Judged.{Judged}
@@ -42,9 +40,3 @@ nameJudged t table v line listed = judgedBy (countOf v models) (modelFound t tab
 unfoldable pub lineJudged : List ℕ → List ℕ → View → ℕ → Found → List Bool → Judged
 lineJudged t table v p line listed =
     if both (eqb p place.list) (eqb (line .key) plain) then nameJudged t table v line listed else record { rule = 0; slot = noSlot }
-
--- `f` is the line found from offset `at` on, in place p; the lines skipped before it are no list lines
-pub record FindsListed (t : List ℕ) (n at p : ℕ) (f : Found) : Type 0 where
-  pub meets : FindsKeyed t n at p f
-  pub names-there : f .there ≡ true → gather listedAt (linesAt t n at p) ≡ gather listedAt (lineIn t f p ∷ linesBehind t f p)
-  pub names-none : f .there ≡ false → gather listedAt (linesAt t n at p) ≡ []

@@ -1,18 +1,20 @@
 -- `cross_rules::nth_line` meets its contract. The loop's invariant: what is left to count among the lines left gives the line.
 -- Assumes nothing.
-use borrow.Author.Needs.{needs}
 use Prim.Native.Nat.{_-_}
-use native.Mathlib.Omega.{arith}
 use lib.ListN.{length}
-use Rattle.cross_rules.proofs.NthLaws.{CountLeft, count-starts, count-ends, found, count-found, number-small, count-on, count-less}
+use Rattle.cross_rules.proofs.NthLaws.{CountLeft, count-starts, count-ends, found, count-found, count-on, count-less}
+use borrow.Author.Needs.{needs}
 use Rattle.cross_rules.proofs.nth_line.Statement.{statement}
 use Rattle.cross_rules.proofs.nth_line.Tie as tie
 
 abbrev Inv-loop : tie.InvT-loop
-Inv-loop text part index left₀ at₀ number₀ place₀ left at number place = CountLeft text part index left at number place
+Inv-loop text part index left₀ cursor₀ left cursor = CountLeft text part index left cursor
 
 abbrev μ-loop : tie.MeasureT-loop
-μ-loop text part index left₀ at₀ number₀ place₀ left at number place = length text - at
+μ-loop text part index left₀ cursor₀ left cursor = length text - cursor .at
+
+start-requires : tie.Need-start-requires Inv-loop μ-loop
+start-requires c κs = search needs
 
 loop-holds : tie.Need-loop-holds Inv-loop μ-loop
 loop-holds c = search count-starts
@@ -35,11 +37,8 @@ returns-2 c = search count-found
 less-if-requires : tie.Need-less-if-requires Inv-loop μ-loop
 less-if-requires c κs = search needs
 
-place-after-requires : tie.Need-place-after-requires Inv-loop μ-loop
-place-after-requires c κs = search found
-
-add-line-here : tie.Need-add-line-here Inv-loop μ-loop
-add-line-here c = omega (arith, number-small _ _ _ _ _ _ _ (c .before .before .before .before .before .before .before .before .before .loop .inv) _ (c .before .before .before .before .before .before .before .before .next-line .ensures) (c .before .before .before .before .before .before .if1 .left))
+past-requires : tie.Need-past-requires Inv-loop μ-loop
+past-requires c κs = search found
 
 loop-less : tie.Need-loop-less Inv-loop μ-loop
 loop-less c = search count-less
@@ -53,6 +52,7 @@ nth-line-spec =
     (tie.spec
     Inv-loop
     μ-loop
+    start-requires
     loop-holds
     next-line-requires
     returns
@@ -60,7 +60,6 @@ nth-line-spec =
     is-last-requires
     returns-2
     less-if-requires
-    place-after-requires
-    add-line-here
+    past-requires
     loop-less
     loop-again)

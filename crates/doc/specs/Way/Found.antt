@@ -4,21 +4,18 @@ use Prim.Native.Nat.{ℕ, _+_, _-_, _≤_, _<_}
 use mathlib.Core.Path.{_≡_}
 use mathlib.Core.Bool.{true, false}
 use mathlib.Core.List.{List, [], _∷_, _++_}
-use Prim.Native.Char.{code}
-use lib.ListN.{length, take, drop, getD}
+use lib.ListN.{length, take, drop}
 use lib.Dec.{leb}
 use Rattle.base.specs.If.{if_then_else_}
-use Rattle.base.specs.Bytes.{lineFeed, isBefore}
-use Rattle.base.specs.Way.Class.{runEnd}
 use Rattle.lex_line.specs.Words.{Word}
 use Rattle.lex_line.specs.declared.Span.{Span}
 use Rattle.lex_keyword.specs.Bracket.{bracketOf}
-use Rattle.line_place.specs.Place.{mapHead}
+use Rattle.line_place.specs.Place.{before}
 use Rattle.doc.specs.Lines.{Line, plain, keyOf, linesAt, placeAfter, keyAt, argumentIn}
 use Rattle.doc.specs.Holds.{Each}
 use Rattle.doc.specs.declared.Found.{Found}
 use Rattle.doc.specs.declared.Extent.{Extent}
-use Rattle.doc.specs.declared.fast.Passed.{Passed}
+use Rattle.doc.specs.declared.Cursor.{Cursor}
 
 -- the offset and size of a word
 unfoldable pub extentOf : Word → Extent
@@ -42,6 +39,13 @@ lineIn t f p = record { line = f .line; at = f .at; place = p; content = content
 abbrev pub linesBehind : List ℕ → Found → ℕ → List Line
 linesBehind t f p = linesAt t (f .line + 1) (f .next) (placeAfter p (contentIn t f))
 
+-- the cursor at the first line, and behind a line that was found from a cursor on
+unfoldable pub cursorStart : Cursor
+cursorStart = record { at = 0; line = 1; place = before }
+
+unfoldable pub cursorPast : List ℕ → Cursor → Found → Cursor
+cursorPast t c f = record { at = f .next; line = f .line + 1; place = placeAfter (c .place) (contentIn t f) }
+
 -- a line that was found lies within the text, and there are no more lines than bytes
 pub record Located (t : List ℕ) (f : Found) : Type 0 where
   pub ordered : f .at ≤ f .end
@@ -59,7 +63,7 @@ pub record FindsLine (t : List ℕ) (n at : ℕ) (f : Found) : Type 0 where
   pub same-there : f .there ≡ true → (p : ℕ) → linesAt t n at p ≡ lineIn t f p ∷ linesBehind t f p
   pub same-none : f .there ≡ false → (p : ℕ) → linesAt t n at p ≡ []
 
--- ---- where only keywords are looked for
+-- ---- lines without a keyword
 
 -- a line without a keyword in the place p
 pub record IsPlain (p : ℕ) (l : Line) : Type 0 where
@@ -71,39 +75,3 @@ pub record Plainly (p : ℕ) (ls rest : List Line) : Type 0 where
   pub before : List Line
   pub all : ls ≡ before ++ rest
   pub each : Each (IsPlain p) before
-
--- lines without a keyword are skipped: outside the head of a map they do not change the place
-pub record SkipsPlain (t : List ℕ) (n at : ℕ) (r : Passed) : Type 0 where
-  pub onward : at ≤ r .at
-  pub within : r .at ≤ length t
-  pub counted : r .line ≤ r .at + 1
-  pub lines : (p : ℕ) → (p ≡ mapHead → ⊥) → Plainly p (linesAt t n at p) (linesAt t (r .line) (r .at) p)
-
--- a line from offset `at` on, read in place p; the lines before it have no keyword
-pub record FindsKeyed (t : List ℕ) (n at p : ℕ) (f : Found) : Type 0 where
-  pub located : f .there ≡ true → Located t f
-  pub behind : f .there ≡ true → at ≤ f .at
-  pub same-there : f .there ≡ true → Plainly p (linesAt t n at p) (lineIn t f p ∷ linesBehind t f p)
-  pub same-none : f .there ≡ false → Plainly p (linesAt t n at p) []
-
--- ---- the same, many bytes at once
-
--- the lines from at₀ on are skipped up to an offset right after an LF, or up to one inside the line
--- that starts at s, which does not start with `[`
-pub data Amid (t : List ℕ) (n₀ at₀ : ℕ) : ℕ → ℕ → Type 0 where
-  ended : {n at : ℕ} → SkipsPlain t n₀ at₀ (record { at = at; line = n }) → getD t (at - 1) 0 ≡ lineFeed → Amid t n₀ at₀ n at
-  amid : {n at : ℕ} (s : ℕ) → SkipsPlain t n₀ at₀ (record { at = s; line = n }) → s < at → at ≤ length t →
-      runEnd (isBefore lineFeed) t at ≡ runEnd (isBefore lineFeed) t s → (getD t s 0 ≡ code "[" → ⊥) → (getD t (at - 1) 0 ≡ lineFeed → ⊥) →
-      Amid t n₀ at₀ n at
-
--- bytes are skipped, wherever the lines began
-pub record SkipsBytes (t : List ℕ) (n at : ℕ) (r : Passed) : Type 0 where
-  pub onward : at ≤ r .at
-  pub within : r .at ≤ length t
-  pub counted : r .line ≤ r .at + 1
-  pub over : (n₀ at₀ : ℕ) → Amid t n₀ at₀ n at → Amid t n₀ at₀ (r .line) (r .at)
-
--- and the rest of their last line is skipped
-pub record SkipsRest (t : List ℕ) (n at : ℕ) (r : Passed) : Type 0 where
-  pub onward : at ≤ r .at
-  pub past : (n₀ at₀ : ℕ) → Amid t n₀ at₀ n at → SkipsPlain t n₀ at₀ r

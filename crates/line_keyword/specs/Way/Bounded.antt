@@ -2,6 +2,7 @@
 -- wrap. n is how many lines have been read. No rule bounds the matrices, but each takes a line, so there are at most n.
 -- Assumes nothing.
 use Prim.Native.Nat.{ℕ, _^_, _≤_, _<_}
+use mathlib.Core.Path.{_≡_}
 use Rattle.table_layout.specs.Bounds.{mostModels, mostMaps, mostSections, mostPins, mostValues, deepest, mostSteps}
 use Rattle.line_map.specs.Way.Bounded.{BoundedMap}
 use Rattle.line_keyword.specs.declared.Counts.{Counts}
@@ -28,3 +29,9 @@ pub record BoundedState (n : ℕ) (s : State) : Type 0 where
   pub values : s .counts .values ≤ mostValues
   pub depth : s .path .depth ≤ deepest
   pub grid : BoundedMap (s .map)
+
+-- no section, matrix or value is read yet
+pub record NoneYet (c : Counts) : Type 0 where
+  pub sections : c .sections ≡ 0
+  pub matrices : c .matrices ≡ 0
+  pub values : c .values ≡ 0

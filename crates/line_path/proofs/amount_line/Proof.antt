@@ -23,6 +23,9 @@ is-formed-requires c κs = search needs
 is-length-requires : tie.Need-is-length-requires
 is-length-requires c κs = search needs
 
+word-in-requires : tie.Need-word-in-requires
+word-in-requires c κs = search needs
+
 returns-2 : tie.Need-returns-2
 returns-2 c = search amount-length
 
@@ -36,4 +39,5 @@ amount-line-spec =
     read-number-requires
     is-formed-requires
     is-length-requires
+    word-in-requires
     returns-2)

@@ -1,7 +1,7 @@
 -- `line_path::line_saying` meets its contract: each `return` by what the line says.
 -- Assumes nothing.
 use Rattle.base.proofs.IfLaws.{chain}
-use Rattle.line_path.specs.Path.{lineSaying}
+use Rattle.line_path.specs.Way.Parts.{saidParts}
 use Rattle.line_path.proofs.LineLaws.{says-alone, says-name, says-nothing}
 use borrow.Author.Needs.{needs}
 use Rattle.line_path.proofs.line_saying.Statement.{statement}
@@ -11,7 +11,7 @@ section-line-requires : tie.Need-section-line-requires
 section-line-requires c κs = search needs
 
 returns : tie.Need-returns
-unfolding lineSaying
+unfolding saidParts
 returns c = search chain depth 12
 
 stands-alone-requires : tie.Need-stands-alone-requires
@@ -26,17 +26,14 @@ returns-2 c = search says-alone
 takes-name-requires : tie.Need-takes-name-requires
 takes-name-requires c κs = search needs
 
-names-one-requires : tie.Need-names-one-requires
-names-one-requires c κs = search needs
-
-plain-line-requires-2 : tie.Need-plain-line-requires-2
-plain-line-requires-2 c κs = search needs
+named-line-requires : tie.Need-named-line-requires
+named-line-requires c κs = search needs
 
 returns-3 : tie.Need-returns-3
 returns-3 c = search says-name
 
-plain-line-requires-3 : tie.Need-plain-line-requires-3
-plain-line-requires-3 c κs = search needs
+plain-line-requires-2 : tie.Need-plain-line-requires-2
+plain-line-requires-2 c κs = search needs
 
 returns-4 : tie.Need-returns-4
 returns-4 c = search says-nothing
@@ -51,8 +48,7 @@ line-saying-spec =
     plain-line-requires
     returns-2
     takes-name-requires
-    names-one-requires
-    plain-line-requires-2
+    named-line-requires
     returns-3
-    plain-line-requires-3
+    plain-line-requires-2
     returns-4)

@@ -1,7 +1,9 @@
 -- `line_path::parts_line` meets its contract: each `return` by what the calls before it answered.
 -- Assumes nothing.
+use Rattle.lex_line.proofs.WordLaws.{second-within}
+use native.Mathlib.Omega.{arith}
 use Rattle.lex_line.proofs.FormLaws.{marks}
-use Rattle.line_path.proofs.SectionLaws.{parts-before, parts-after, parts-reserved, parts-right}
+use Rattle.line_path.proofs.SectionLaws.{second-starts, parts-before, parts-after, parts-reserved, parts-right}
 use borrow.Author.Needs.{needs}
 use Rattle.line_path.proofs.parts_line.Statement.{statement}
 use Rattle.line_path.proofs.parts_line.Tie as tie
@@ -42,6 +44,12 @@ marked-requires-2 c κs = search (needs, marks)
 marked-requires-3 : tie.Need-marked-requires-3
 marked-requires-3 c κs = search (needs, marks)
 
+add-t14 : tie.Need-add-t14
+add-t14 c = omega (arith, second-starts)
+
+add-t15 : tie.Need-add-t15
+add-t15 c = omega (arith, second-within)
+
 unit-line-requires : tie.Need-unit-line-requires
 unit-line-requires c κs = search needs
 
@@ -64,5 +72,7 @@ parts-line-spec =
     returns-3
     marked-requires-2
     marked-requires-3
+    add-t14
+    add-t15
     unit-line-requires
     returns-4)

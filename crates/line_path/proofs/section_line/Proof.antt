@@ -15,11 +15,11 @@ plain-line-requires c κs = search needs
 returns : tie.Need-returns
 returns c = search section-none
 
+add-from : tie.Need-add-from
+add-from c = search needs
+
 slice-aggregate-parts-line : tie.Need-slice-aggregate-parts-line
 slice-aggregate-parts-line c = search sign-taken
-
-add-parts-line : tie.Need-add-parts-line
-add-parts-line c = search needs
 
 sub-parts-line : tie.Need-sub-parts-line
 sub-parts-line c = search needs
@@ -43,8 +43,8 @@ section-line-spec =
     equals-at-requires
     plain-line-requires
     returns
+    add-from
     slice-aggregate-parts-line
-    add-parts-line
     sub-parts-line
     part-parts-line-start
     part-parts-line-end

@@ -5,9 +5,6 @@ use borrow.Author.Needs.{needs}
 use Rattle.read_line.proofs.before_step.Statement.{statement}
 use Rattle.read_line.proofs.before_step.Tie as tie
 
-read-bracket-requires : tie.Need-read-bracket-requires
-read-bracket-requires c κs = search needs
-
 enum-told : tie.Need-enum-told
 enum-told c = search needs
 
@@ -38,8 +35,8 @@ enum-told-5 c = search needs
 goes-on-requires-5 : tie.Need-goes-on-requires-5
 goes-on-requires-5 c κs = search needs
 
-enum-known-key : tie.Need-enum-known-key
-enum-known-key c = search needs
+enum-known-bracket : tie.Need-enum-known-bracket
+enum-known-bracket c = search needs
 
 opening-step-requires : tie.Need-opening-step-requires
 opening-step-requires c κs = search needs
@@ -66,7 +63,6 @@ pub before-step-spec : {M : Type 1} → statement M
 before-step-spec =
     tie.close
     (tie.spec
-    read-bracket-requires
     enum-told
     goes-on-requires
     enum-told-2
@@ -77,7 +73,7 @@ before-step-spec =
     goes-on-requires-4
     enum-told-5
     goes-on-requires-5
-    enum-known-key
+    enum-known-bracket
     opening-step-requires
     returns
     returns-2

@@ -1,19 +1,15 @@
 -- `read_line::bracket_step` meets its contract: by what the bracket says.
 -- Assumes nothing.
-use mathlib.Core.Path.{sym, _∙_}
 use Rattle.read_line.proofs.StepLaws.{bracket-told}
 use borrow.Author.Needs.{needs}
 use Rattle.read_line.proofs.bracket_step.Statement.{statement}
 use Rattle.read_line.proofs.bracket_step.Tie as tie
 
-read-bracket-requires : tie.Need-read-bracket-requires
-read-bracket-requires c κs = search needs
-
 enum-told : tie.Need-enum-told
 enum-told c = search needs
 
 line-step-requires : tie.Need-line-step-requires
-line-step-requires c κs = c .before .before .before .before .pre .1 (sym (c .before .before .read-bracket .ensures) ∙ c .enum-told .given .1)
+line-step-requires c κs = c .before .before .before .pre .2 (c .enum-told .given .1)
 
 enum-told-2 : tie.Need-enum-told-2
 enum-told-2 c = search needs
@@ -39,8 +35,8 @@ enum-told-5 c = search needs
 stops-requires-3 : tie.Need-stops-requires-3
 stops-requires-3 c κs = search needs
 
-enum-known-key : tie.Need-enum-known-key
-enum-known-key c = search needs
+enum-known-bracket : tie.Need-enum-known-bracket
+enum-known-bracket c = search needs
 
 named-step-requires : tie.Need-named-step-requires
 named-step-requires c κs = search needs
@@ -67,7 +63,6 @@ pub bracket-step-spec : {M : Type 1} → statement M
 bracket-step-spec =
     tie.close
     (tie.spec
-    read-bracket-requires
     enum-told
     line-step-requires
     enum-told-2
@@ -78,7 +73,7 @@ bracket-step-spec =
     stops-requires-2
     enum-told-5
     stops-requires-3
-    enum-known-key
+    enum-known-bracket
     named-step-requires
     returns
     returns-2

@@ -29,7 +29,7 @@ returns-3 : tie.Need-returns-3
 returns-3 c = by-steps _ _ _ (search chain depth 10)
 
 bracket-step-requires : tie.Need-bracket-step-requires
-bracket-step-requires c κs = (search needs, c .before .before .before .before .before .before .before .pre .1 (sym (c .before .before .before .before .before .is-blank-line .ensures) ∙ c .before .before .before .before .if1 .left))
+bracket-step-requires c κs = (search needs, search needs, λ e. c .before .before .before .before .before .before .before .pre .2 (sym (c .before .before .before .before .before .is-blank-line .ensures) ∙ c .before .before .before .before .if1 .left) (sym (c .before .before .before .before .before .before .before .pre .1) ∙ e))
 
 returns-4 : tie.Need-returns-4
 returns-4 c = by-steps _ _ _ (search chain depth 10)

@@ -20,12 +20,12 @@ use Rattle.line_matrix.specs.declared.Matrix.{Matrix}
 use Rattle.line_keyword.specs.Way.Bounded.{BoundedState}
 use Rattle.line_keyword.specs.declared.Counts.{Counts}
 use Rattle.line_keyword.specs.declared.State.{State}
-use Rattle.read_line.specs.Reading.{commentByte, breaks, readFrom}
+use Rattle.read_line.specs.Reading.{commentByte, breaks, lineResult, readFrom}
 use Rattle.read_line.specs.declared.LineResult.{LineResult}
 use Rattle.read_line.specs.declared.Front.{Front}
 use Rattle.read_line.specs.declared.Front.the-variants.{Blanks, Words, Opening}
 use Rattle.read_line.specs.declared.Walk.{Walk}
-use Rattle.read_line.specs.declared.PathWalk.{PathWalk}
+use Rattle.read_line.specs.declared.LineRead.{LineRead}
 use Rattle.read_line.specs.declared.Reading.{Reading}
 use Rattle.read_line.specs.declared.Reading.the-variants.{Refused}
 
@@ -97,6 +97,15 @@ BracketOrLineByLine content p = isBlankLine content ≡ false → bracketOf cont
 abbrev pub NoProgressMeansBracket : List ℕ → ℕ → ℕ → Type 0
 NoProgressMeansBracket t at further = further ≡ at → at < length t → Opens (contentAt t at)
 
+-- a single line is read: the walk behind it, and the line itself
+pub record ReadsLine (t : List ℕ) (at line : ℕ) (s : State) (r : LineRead) : Type 0 where
+  pub resumes : ResumesText t at line s (record { rule = r .rule; at = r .at; line = r .line; state = r .state })
+  pub result : record { rule = r .rule; state = r .state } ≡ lineResult (contentAt t at) s
+  pub next-is : r .at ≡ lineAt commentByte t at .next
+  pub line-is : r .rule ≡ 0 → r .line ≡ line + 1
+  pub end-is : r .end ≡ lineAt commentByte t at .content
+  pub bracket-is : r .bracket ≡ bracketOf (contentAt t at)
+
 -- what is at the front of a line
 abbrev pub Fronted : List ℕ → Front → Type 0
 Fronted content Blanks = isBlankLine content ≡ true
@@ -127,12 +136,6 @@ withPath p n s =
 pub record Stepping (p : Path) (n : ℕ) : Type 0 where
   pub depth : p .depth ≤ deepest
   pub steps : n ≤ mostSteps
-
--- lines of a path are read, from a line above which the path was p and n steps were read
-pub record Blocked (t : List ℕ) (at line : ℕ) (p : Path) (n : ℕ) (w : PathWalk) : Type 0 where
-  pub crossed : ResumesPart t at line (HoldsPart place.path (withPath p n)) (withPath (w .part .path) (w .part .steps)) (w .part .rule) (w .at) (w .line)
-  pub stays : NoProgressMeansBracket t at (w .at)
-  pub stepping : Stepping (w .part .path) (w .part .steps)
 
 abbrev withPins : ℕ → Counts → Counts
 withPins n c =

@@ -1,8 +1,7 @@
 -- `read_matrix::opened_line` meets its contract: by what the bracket says.
 -- Assumes nothing.
-use mathlib.Core.Path.{sym}
-use mathlib.Core.Bool.{true≢false}
-use Rattle.read_matrix.proofs.LineLaws.{left-takes, bracket-told}
+use mathlib.Core.Path.{refl}
+use Rattle.read_matrix.proofs.LineLaws.{unnamed-takes, bracket-told}
 use borrow.Author.Needs.{needs}
 use Rattle.read_matrix.proofs.opened_line.Statement.{statement}
 use Rattle.read_matrix.proofs.opened_line.Tie as tie
@@ -47,19 +46,19 @@ named-line-requires : tie.Need-named-line-requires
 named-line-requires c κs = (search needs, search bracket-told, search needs)
 
 returns : tie.Need-returns
-returns c = λ table. left-takes _ _ _ _ _ _ (c .before .before .before .before .before .pre .1) (λ e. absurd (true≢false (sym e))) (c .before .before .before .before .before .pre .2) _ (c .left-line .ensures)
+returns c = search (unnamed-takes, refl)
 
 returns-2 : tie.Need-returns-2
-returns-2 c = λ table. left-takes _ _ _ _ _ _ (c .before .before .before .before .before .pre .1) (λ e. absurd (true≢false (sym e))) (c .before .before .before .before .before .pre .2) _ (c .left-line2 .ensures)
+returns-2 c = search (unnamed-takes, refl)
 
 returns-3 : tie.Need-returns-3
-returns-3 c = λ table. left-takes _ _ _ _ _ _ (c .before .before .before .before .before .pre .1) (λ e. absurd (true≢false (sym e))) (c .before .before .before .before .before .pre .2) _ (c .left-line3 .ensures)
+returns-3 c = search (unnamed-takes, refl)
 
 returns-4 : tie.Need-returns-4
-returns-4 c = λ table. left-takes _ _ _ _ _ _ (c .before .before .before .before .before .pre .1) (λ e. absurd (true≢false (sym e))) (c .before .before .before .before .before .pre .2) _ (c .left-line4 .ensures)
+returns-4 c = search (unnamed-takes, refl)
 
 returns-5 : tie.Need-returns-5
-returns-5 c = λ table. left-takes _ _ _ _ _ _ (c .before .before .before .before .before .pre .1) (λ e. absurd (true≢false (sym e))) (c .before .before .before .before .before .pre .2) _ (c .left-line5 .ensures)
+returns-5 c = search (unnamed-takes, refl)
 
 returns-6 : tie.Need-returns-6
 returns-6 c = search needs

@@ -1,37 +1,29 @@
--- `read_matrix::pass_data` meets its contract. The loop's invariant: no rule is broken, reading on gives the same
--- result, and the lines that are left give what all of them give.
+-- `read_matrix::pass_data` meets its contract. The loop's invariant: how far the lines are judged and staged.
 -- Assumes nothing.
-use Prim.Native.Nat.{_+_, _-_, _*_, _^_, _≤_, _<_}
-use native.Mathlib.Omega.{arith}
+use Prim.Native.Nat.{_-_}
 use lib.ListN.{length}
 use Rattle.read_line.proofs.WalkLaws.{content-start, content-within}
-use Rattle.read_matrix.specs.Way.Run.{Gone}
-use Rattle.read_matrix.proofs.BodyLaws.{gone-start, gone-ends}
-use Rattle.read_matrix.proofs.RunLaws.{gone-counted, run-gone, run-bounded, run-ends, run-less, run-leaves, run-stops, run-on}
+use Rattle.read_matrix.proofs.RunLaws.{Passed, passed-start, passed-counted, passed-ends, run-long, run-fits, run-bounded, run-broken, run-ends, run-less, run-leaves, run-stops, run-on}
 use borrow.Author.Needs.{needs}
 use Rattle.read_matrix.proofs.pass_data.Statement.{statement}
 use Rattle.read_matrix.proofs.pass_data.Tie as tie
 
 abbrev Inv-loop : tie.InvT-loop
-Inv-loop text at line values table₀ here₀ number₀ part₀ table here number part = (line ≤ at + 1) × Gone text at line (part₀ .matrix) values table₀
-    here number part table
+Inv-loop text at line values table₀ here₀ line-here₀ part₀ table here line-here part =
+    Passed text at line (part₀ .matrix) values table₀ here line-here part table
 
 abbrev μ-loop : tie.MeasureT-loop
-μ-loop text at line values table₀ here₀ number₀ part₀ table here number part = length text - here
-
-has-room-requires : tie.Need-has-room-requires Inv-loop μ-loop
-has-room-requires c κs = search needs
+μ-loop text at line values table₀ here₀ line-here₀ part₀ table here line-here part = length text - here
 
 new-staging-requires : tie.Need-new-staging-requires Inv-loop μ-loop
 new-staging-requires c κs = search needs
 
 loop-holds : tie.Need-loop-holds Inv-loop μ-loop
-loop-holds c = let pre = c .before .before .before .before .pre in
-    (pre .1, gone-start _ _ _ _ _ _ _ (pre .0) (c .before .has-room .ensures) _ (c .new-staging .ensures))
+loop-holds c = search passed-start
 
 pass-run-requires : tie.Need-pass-run-requires Inv-loop μ-loop
-pass-run-requires c κs = let gone = c .before .before .loop .inv .1 in
-    search (needs, gone .crossed .within, gone .bounded, gone-counted)
+pass-run-requires c κs = let gone = c .before .before .loop .inv .gone in
+    (gone .crossed .within, (search passed-counted, (gone .bounded, gone .few)))
 
 same-length : tie.Need-same-length Inv-loop μ-loop
 same-length c = search needs
@@ -52,74 +44,44 @@ part-take-data-end : tie.Need-part-take-data-end Inv-loop μ-loop
 part-take-data-end c = search content-within
 
 take-data-requires : tie.Need-take-data-requires Inv-loop μ-loop
-take-data-requires c κs = search run-bounded
-
-and-requires : tie.Need-and-requires Inv-loop μ-loop
-and-requires c κs = search needs
+take-data-requires c κs = (
+  run-bounded _ _ _ _ _ _ _ _ _ _ (c .before .before .before .before .before .before .before .before .before .loop .inv) _ _ (c .before .before .before .before .before .before .pass-run .ensures),
+  run-broken _ _ _ _ _ _ _ _ _ _ (c .before .before .before .before .before .before .before .before .before .loop .inv) _ _ (c .before .before .before .before .before .before .pass-run .ensures)
+      (c .before .before .if1 .left) _ (c .before .line-at .ensures),
+)
 
 same-length-2 : tie.Need-same-length-2 Inv-loop μ-loop
-same-length-2 c = search (
-  needs,
-  c .before .before .before .before .before .before .before .before .before .before .before .pass-run .ensures .long,
-  c .before .before .before .before .before .before .before .before .before .before .before .before .before .before .loop .inv .1 .behind .long,
-)
+same-length-2 c = search run-long
 
 returns-2 : tie.Need-returns-2 Inv-loop μ-loop
-returns-2 c = run-leaves _ _ _ _ _ _ _ _ _ _ (c .before .before .before .before .before .before .before .before .before .before .before .before
-    .before .before .loop .inv .1) _ _ (c .before .before .before .before .before .before .before .before .before .before .before .pass-run .ensures)
-    (c .before .before .before .before .before .before .before .if1 .left) _ (c .before .before .before .before .before .before .line-at .ensures) _
-    (c .before .before .before .before .take-data .ensures)
-    (c .before .before .if2 .taken) _ (c .and .ensures)
+returns-2 c = search run-leaves
 
 same-length-3 : tie.Need-same-length-3 Inv-loop μ-loop
-same-length-3 c = search (
-  needs,
-  c .before .before .before .before .before .before .before .before .before .before .before .pass-run .ensures .long,
-  c .before .before .before .before .before .before .before .before .before .before .before .before .before .before .loop .inv .1 .behind .long,
-)
+same-length-3 c = run-long _ _ _ _ _ _ _ _ _ _ (c .before .before .before .before .before .before .before .before .before .before .before .before .before .before .loop .inv) _ _ (c .before .before .before .before .before .before .before .before .before .before .before .pass-run .ensures)
 
 returns-3 : tie.Need-returns-3 Inv-loop μ-loop
-returns-3 c = run-stops _ _ _ _ _ _ _ _ _ _ (c .before .before .before .before .before .before .before .before .before .before .before .before
-    .before .before .loop .inv .1) _ _ (c .before .before .before .before .before .before .before .before .before .before .before .pass-run .ensures)
-    (c .before .before .before .before .before .before .before .if1 .left) _ (c .before .before .before .before .before .before .line-at .ensures) _
-    (c .before .before .before .before .take-data .ensures)
+returns-3 c = run-stops _ _ _ _ _ _ _ _ _ _ (c .before .before .before .before .before .before .before .before .before .before .before .before .before .before .loop .inv) _ _ (c .before .before .before .before .before .before .before .before .before .before .before .pass-run .ensures)
+    (c .before .before .before .before .before .before .before .if1 .left) _ (c .before .before .before .before .before .before .line-at .ensures) _ (c .before .before .before .before .take-data .ensures)
     (c .before .before .if2 .left) (c .if3 .taken)
 
 add-line-here : tie.Need-add-line-here Inv-loop μ-loop
-add-line-here c = let text = c .before .before .before .before .before .before .before .before .before .before .before .before .before .before .before
-    .before .before .before .before .args .text .now in
-    let reached = c .before .before .before .before .before .before .before .before .before .before .before .pass-run .result in
-    let k : reached .line ≤ reached .at + 1 =
-    gone-counted _ _ _ _ _ _ _ _ _ _ (run-gone _ _ _ _ _ _ _ _ _ _ (c .before .before .before .before .before .before .before .before .before
-    .before .before .before .before .before .loop .inv .1) _ _ (c .before .before .before .before .before .before .before .before .before .before
-    .before .pass-run .ensures)) (c .before .before .before .before .before .before .before .before .before .before .before .before .before .before
-    .loop .inv .0) in
-    let h : reached .at < length text = c .before .before .before .before .before .before .before .if1 .left in
-    let f : length text * 1 < 2 ^ 63 = c .before .before .before .before .before .before .before .before .before .before .before .before .before
-    .before .before .before .before .before .before .good .0 .1 in
-    omega (arith, k, h, f)
+add-line-here c = run-fits _ _ _ _ _ _ _ _ _ _ (c .before .before .before .before .before .before .before .before .before .before .before .before .before .before .loop .inv) _ _ (c .before .before .before .before .before .before .before .before .before .before .before .pass-run .ensures)
+    (c .before .before .before .before .before .before .before .if1 .left) (c .before .before .before .before .before .before .before .before .before .before .before .before .before .before .before .before .before .before .good .0 .1)
 
 loop-less : tie.Need-loop-less Inv-loop μ-loop
-loop-less c = run-less _ _ _ _ _ _ _ _ _ _ (c .before .before .before .before .before .before .before .before .before .before .before .before
-    .before .before .loop .inv .1) _ _ (c .before .before .before .before .before .before .before .before .before .before .before .pass-run .ensures)
+loop-less c = run-less _ _ _ _ _ _ _ _ _ _ (c .before .before .before .before .before .before .before .before .before .before .before .before .before .before .loop .inv) _ _ (c .before .before .before .before .before .before .before .before .before .before .before .pass-run .ensures)
     (c .before .before .before .before .before .before .before .if1 .left) _ (c .before .before .before .before .before .before .line-at .ensures)
 
 loop-again : tie.Need-loop-again Inv-loop μ-loop
-loop-again c = let inv = c .before .before .before .before .before .before .before .before .before .before .before .before .before .before .loop
-    .inv in (
-      inv .0,
-      run-on _ _ _ _ _ _ _ _ _ _ (inv .1) _ _ (c .before .before .before .before .before .before .before .before .before .before .before .pass-run
-          .ensures)
-          (c .before .before .before .before .before .before .before .if1 .left) _ (c .before .before .before .before .before .before .line-at .ensures)
-          _ (c .before .before .before .before .take-data .ensures)
-          (c .before .before .if2 .left) (c .if3 .left),
-    )
+loop-again c = run-on _ _ _ _ _ _ _ _ _ _ (c .before .before .before .before .before .before .before .before .before .before .before .before .before .before .loop .inv) _ _ (c .before .before .before .before .before .before .before .before .before .before .before .pass-run .ensures)
+    (c .before .before .before .before .before .before .before .if1 .left) _ (c .before .before .before .before .before .before .line-at .ensures) _ (c .before .before .before .before .take-data .ensures)
+    (c .before .before .if2 .left) (c .if3 .left)
 
 same-length-4 : tie.Need-same-length-4 Inv-loop μ-loop
 same-length-4 c = search needs
 
 returns-4 : tie.Need-returns-4 Inv-loop μ-loop
-returns-4 c = search gone-ends
+returns-4 c = search passed-ends
 
 pub pass-data-spec : {M : Type 1} → statement M
 pass-data-spec =
@@ -127,7 +89,6 @@ pass-data-spec =
     (tie.spec
     Inv-loop
     μ-loop
-    has-room-requires
     new-staging-requires
     loop-holds
     pass-run-requires
@@ -138,7 +99,6 @@ pass-data-spec =
     part-take-data-start
     part-take-data-end
     take-data-requires
-    and-requires
     same-length-2
     returns-2
     same-length-3

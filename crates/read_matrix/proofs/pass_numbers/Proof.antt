@@ -1,6 +1,5 @@
 -- `read_matrix::pass_numbers` meets its contract. The loop's invariant: so far the run leads.
 -- Assumes nothing.
-use mathlib.Core.Bool.{true}
 use Prim.Native.Nat.{_-_}
 use lib.ListN.{length}
 use Rattle.read_matrix.specs.Way.Run.{numbersPart}
@@ -11,7 +10,7 @@ use Rattle.read_matrix.proofs.pass_numbers.Tie as tie
 
 abbrev Inv-loop : tie.InvT-loop
 Inv-loop text at line part table₀ form here₀ number₀ values₀ row₀ column₀ table here number values row column =
-    On text at line part table₀ here number (numbersPart part true values row column) table
+    On text at line part table₀ here number (numbersPart part values row column) table
 
 abbrev μ-loop : tie.MeasureT-loop
 μ-loop text at line part table₀ form here₀ number₀ values₀ row₀ column₀ table here number values row column =

@@ -1,6 +1,5 @@
 -- `read_matrix::pass_pairs` meets its contract. The loop's invariant: so far the run leads.
 -- Assumes nothing.
-use mathlib.Core.Bool.{true}
 use Prim.Native.Nat.{_-_}
 use lib.ListN.{length}
 use Rattle.read_matrix.specs.Way.Run.{pairsMatrix, pairsPart}
@@ -11,7 +10,7 @@ use Rattle.read_matrix.proofs.pass_pairs.Tie as tie
 
 abbrev Inv-loop : tie.InvT-loop
 Inv-loop text at line part table₀ matrix row here₀ number₀ values₀ least₀ greatest₀ fits₀ named₀ table here number values least greatest fits named =
-    On text at line part table₀ here number (pairsPart part true values (pairsMatrix (part .matrix) least greatest fits) named) table
+    On text at line part table₀ here number (pairsPart part values (pairsMatrix (part .matrix) least greatest fits) named) table
 
 abbrev μ-loop : tie.MeasureT-loop
 μ-loop text at line part table₀ matrix row here₀ number₀ values₀ least₀ greatest₀ fits₀ named₀ table here number values least greatest fits named =
@@ -33,7 +32,10 @@ same-length : tie.Need-same-length Inv-loop μ-loop
 same-length c = search pairs-long
 
 returns : tie.Need-returns Inv-loop μ-loop
-returns c = search pairs-leave
+returns c =
+    pairs-leave _ _ _ _ _ _ _ _ _ _ _ _ _ (c .before .before .before .before .before .before .before .before .before .loop .inv) _ _ (c .before .before .before .before .before .before .take-pair .ensures)
+    (c .before .before .before .before .before .before .before .before .loop-test .taken) (c .before .before .before .before .before .before .before .before .before .before .before .before .before .before .before .pre .1) (c .before .before .if1 .taken) _ (c .before .pairs-matrix .ensures) _
+    (c .pairs-passed .ensures)
 
 add-line-here : tie.Need-add-line-here Inv-loop μ-loop
 add-line-here c = search needs

@@ -1,6 +1,6 @@
 -- `read_matrix::plain_numbers` meets its contract: by what was read, and how many values there are.
 -- Assumes nothing.
-use Rattle.read_matrix.proofs.RunLaws.{numbers-spoilt, numbers-taken}
+use Rattle.read_matrix.proofs.RunLaws.{numbers-broken, numbers-many, numbers-taken}
 use borrow.Author.Needs.{needs}
 use Rattle.read_matrix.proofs.plain_numbers.Statement.{statement}
 use Rattle.read_matrix.proofs.plain_numbers.Tie as tie
@@ -15,7 +15,7 @@ same-length : tie.Need-same-length
 same-length c = search needs
 
 returns : tie.Need-returns
-returns c = search numbers-spoilt
+returns c = search numbers-broken
 
 sub-if2 : tie.Need-sub-if2
 sub-if2 c = search needs
@@ -27,7 +27,7 @@ same-length-2 : tie.Need-same-length-2
 same-length-2 c = search needs
 
 returns-2 : tie.Need-returns-2
-returns-2 c = search numbers-spoilt
+returns-2 c = search numbers-many
 
 add-t12 : tie.Need-add-t12
 add-t12 c = search needs

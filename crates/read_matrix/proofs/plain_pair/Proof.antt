@@ -1,6 +1,6 @@
 -- `read_matrix::plain_pair` meets its contract: by what was read.
 -- Assumes nothing.
-use Rattle.read_matrix.proofs.RunLaws.{pair-left, pair-spoilt, pair-taken}
+use Rattle.read_matrix.proofs.RunLaws.{pair-full, pair-broken, pair-taken}
 use borrow.Author.Needs.{needs}
 use Rattle.read_matrix.proofs.plain_pair.Statement.{statement}
 use Rattle.read_matrix.proofs.plain_pair.Tie as tie
@@ -9,7 +9,7 @@ left-pair-requires : tie.Need-left-pair-requires
 left-pair-requires c κs = search needs
 
 returns : tie.Need-returns
-returns c = search pair-left
+returns c = search pair-full
 
 read-pair-requires : tie.Need-read-pair-requires
 read-pair-requires c κs = search needs
@@ -21,7 +21,7 @@ same-length : tie.Need-same-length
 same-length c = search needs
 
 returns-2 : tie.Need-returns-2
-returns-2 c = search pair-spoilt
+returns-2 c = search pair-broken
 
 next-line-requires : tie.Need-next-line-requires
 next-line-requires c κs = search needs

@@ -16,7 +16,8 @@ enum-told-2 : tie.Need-enum-told-2
 enum-told-2 c = search needs
 
 data-line-requires : tie.Need-data-line-requires
-data-line-requires c κs = words-front _ _ (c .before .before .front-of .ensures) (c .enum-told2 .given .1)
+data-line-requires c κs = let front = words-front _ _ (c .before .before .front-of .ensures) (c .enum-told2 .given .1) in
+    (front .0, front .1, search needs, search needs)
 
 enum-told-3 : tie.Need-enum-told-3
 enum-told-3 c = search needs
@@ -26,11 +27,11 @@ opened-line-requires c κs = let front = opening-front _ _ (c .before .before .f
     (front .0, front .1, search needs)
 
 returns : tie.Need-returns
-returns c = λ table. blank-takes _ _ _ _ _ (blanks-front _ _ (c .before .before .front-of .ensures) (c .enum-told .given .1)) (c .before .before
-    .before .before .pre)
+returns c = blank-takes _ _ _ _ (blanks-front _ _ (c .before .before .front-of .ensures) (c .enum-told .given .1)) (c .before .before
+    .before .before .pre .0)
 
 returns-2 : tie.Need-returns-2
-returns-2 c = c .data-line .ensures _
+returns-2 c = search needs
 
 returns-3 : tie.Need-returns-3
 returns-3 c = search needs

@@ -1,6 +1,6 @@
 -- `read_numbers::read_pair` meets its contract: a column, and one number behind it.
 -- Assumes nothing.
-use Rattle.read_numbers.proofs.StagingLaws.{pair-unstaged, pair-stages, column-few, word-starts, word-inside}
+use Rattle.read_numbers.proofs.StagingLaws.{pair-blank, column-unformed, column-unbounded, pair-stages, column-few, word-starts, word-inside}
 use borrow.Author.Needs.{needs}
 use Rattle.read_numbers.proofs.read_pair.Statement.{statement}
 use Rattle.read_numbers.proofs.read_pair.Tie as tie
@@ -15,7 +15,7 @@ no-pair-requires : tie.Need-no-pair-requires
 no-pair-requires c κs = search needs
 
 returns : tie.Need-returns
-returns c = search pair-unstaged
+returns c = search pair-blank
 
 word-end-requires : tie.Need-word-end-requires
 word-end-requires c κs = search needs
@@ -36,7 +36,7 @@ no-pair-requires-2 : tie.Need-no-pair-requires-2
 no-pair-requires-2 c κs = search needs
 
 returns-2 : tie.Need-returns-2
-returns-2 c = search pair-unstaged
+returns-2 c = search column-unformed
 
 is-within-requires : tie.Need-is-within-requires
 is-within-requires c κs = search needs
@@ -45,7 +45,7 @@ no-pair-requires-3 : tie.Need-no-pair-requires-3
 no-pair-requires-3 c κs = search needs
 
 returns-3 : tie.Need-returns-3
-returns-3 c = search pair-unstaged
+returns-3 c = search column-unbounded
 
 store-numbers-requires : tie.Need-store-numbers-requires
 store-numbers-requires c κs = search (needs, column-few)

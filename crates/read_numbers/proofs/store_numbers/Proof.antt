@@ -2,7 +2,7 @@
 -- Assumes nothing.
 use Prim.Native.Nat.{_-_}
 use lib.ListN.{length}
-use Rattle.read_numbers.proofs.StagingLaws.{Left, left-start, left-unstaged, left-roomy, left-done, left-less, left-on, pipe-spells-nothing}
+use Rattle.read_numbers.proofs.StagingLaws.{Left, left-start, left-broken, left-movable, left-done, left-less, left-on, pipe-spells-nothing}
 use borrow.Author.Needs.{needs}
 use Rattle.read_numbers.proofs.store_numbers.Statement.{statement}
 use Rattle.read_numbers.proofs.store_numbers.Tie as tie
@@ -34,8 +34,11 @@ same-length c = search needs
 returns : tie.Need-returns Inv-loop μ-loop
 returns c = search left-done
 
-has-room-requires : tie.Need-has-room-requires Inv-loop μ-loop
-has-room-requires c κs = search needs
+number-in-requires : tie.Need-number-in-requires Inv-loop μ-loop
+number-in-requires c κs = pipe-spells-nothing
+
+is-value-requires : tie.Need-is-value-requires Inv-loop μ-loop
+is-value-requires c κs = search needs
 
 numbers-of-requires-2 : tie.Need-numbers-of-requires-2 Inv-loop μ-loop
 numbers-of-requires-2 c κs = search needs
@@ -44,25 +47,10 @@ same-length-2 : tie.Need-same-length-2 Inv-loop μ-loop
 same-length-2 c = search needs
 
 returns-2 : tie.Need-returns-2 Inv-loop μ-loop
-returns-2 c = search left-unstaged
-
-number-in-requires : tie.Need-number-in-requires Inv-loop μ-loop
-number-in-requires c κs = pipe-spells-nothing
-
-is-value-requires : tie.Need-is-value-requires Inv-loop μ-loop
-is-value-requires c κs = search needs
-
-numbers-of-requires-3 : tie.Need-numbers-of-requires-3 Inv-loop μ-loop
-numbers-of-requires-3 c κs = search needs
-
-same-length-3 : tie.Need-same-length-3 Inv-loop μ-loop
-same-length-3 c = search needs
-
-returns-3 : tie.Need-returns-3 Inv-loop μ-loop
-returns-3 c = search left-unstaged
+returns-2 c = search left-broken
 
 put-number-requires : tie.Need-put-number-requires Inv-loop μ-loop
-put-number-requires c κs = search left-roomy
+put-number-requires c κs = search left-movable
 
 loop-less : tie.Need-loop-less Inv-loop μ-loop
 loop-less c = search left-less
@@ -83,15 +71,11 @@ store-numbers-spec =
     numbers-of-requires
     same-length
     returns
-    has-room-requires
+    number-in-requires
+    is-value-requires
     numbers-of-requires-2
     same-length-2
     returns-2
-    number-in-requires
-    is-value-requires
-    numbers-of-requires-3
-    same-length-3
-    returns-3
     put-number-requires
     loop-less
     loop-again)

@@ -1,23 +1,22 @@
 -- What the functions that stage one line promise to each other.
 -- Assumes nothing.
-use Prim.Native.Nat.{ℕ, _+_, _*_, _≤_}
+use Prim.Native.Nat.{ℕ, _+_, _≤_}
 use mathlib.Core.Path.{_≡_}
 use mathlib.Core.Bool.{Bool, true, false}
-use mathlib.Core.List.{List}
-use lib.ListN.{length, take}
-use lib.Seq.{sets}
+use mathlib.Core.List.{List, _++_}
+use lib.ListN.{length}
 use lib.Dec.{eqb}
 use Rattle.base.specs.If.{if_then_else_, both}
+use Rattle.table_record.specs.declared.Value.{Value}
 use Rattle.lex_line.specs.Way.LineEnds.{lineAt}
 use Rattle.lex_line.specs.Words.{words}
-use Rattle.table_layout.specs.Layout.{valueWidth}
 use Rattle.line_matrix.specs.Matrix.{areFormed, areBounded}
 use Rattle.read_line.specs.Reading.{commentByte}
 use Rattle.read_line.specs.Way.Walk.{contentAt}
 use Rattle.doc.specs.Document.{numbersAt}
-use Rattle.store_base.specs.Way.Stage.{valuesWords}
-use Rattle.store_matrices.specs.declared.Cursor.{Cursor}
-use Rattle.store_matrices.specs.Way.Numbers.{rowAfter}
+use Rattle.read_numbers.specs.Way.Numbers.{rowAfter}
+use Rattle.read_numbers.specs.Way.Staging.{HeldValues}
+use Rattle.read_numbers.specs.declared.Cursor.{Cursor}
 use Rattle.read_numbers.specs.declared.Numbers.{Numbers}
 use Rattle.read_numbers.specs.declared.Pair.{Pair}
 
@@ -30,18 +29,17 @@ pub record Stored (form : ℕ) (ws : List (List ℕ)) (table : List ℕ) (values
   pub counted : r .count ≡ length ws
   pub formed : areFormed ws ≡ true
   pub bounded : areBounded ws ≡ true
-  pub stored : table' ≡ sets table (valueWidth * values) (valuesWords (numbersAt form row column ws))
+  pub held : (whole rest : List Value) → HeldValues whole table values (numbersAt form row column ws ++ rest) → HeldValues whole table' (values + r .count) rest
   pub row-is : r .row ≡ rowAfter form row (length ws)
   pub column-is : r .column ≡ column + length ws
   pub row-few : r .row ≤ row + r .count
-  pub room : valueWidth * values ≤ length table → valueWidth * (values + r .count) ≤ length table
 
 -- the numbers from offset `from` to the end of the line
 pub record Stores (form : ℕ) (t : List ℕ) (from : ℕ) (table : List ℕ) (values row column : ℕ) (table' : List ℕ) (r : Numbers) : Type 0 where
   pub long : length table' ≡ length table
-  pub front : take (valueWidth * values) table' ≡ take (valueWidth * values) table
   pub ends : r .staged ≡ true → r .end ≡ lineAt commentByte t from .content
   pub told : r .staged ≡ true → Stored form (words (contentAt t from)) table values row column table' r
+  pub broken : r .staged ≡ false → both (areFormed (words (contentAt t from))) (areBounded (words (contentAt t from))) ≡ false
 
 -- a column and the numbers after it: staged if there is exactly one number
 unfoldable pub pairOf : ℕ → Numbers → Pair

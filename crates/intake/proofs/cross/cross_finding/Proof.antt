@@ -18,10 +18,10 @@ earlier-of-requires : tie.Need-earlier-of-requires
 earlier-of-requires c κs = search needs
 
 returns : tie.Need-returns
-returns c = with-the-list _ _ (c .before .before .before .before .before .before .before .before .pre) _ _ _ (c .before .before .before .before .list-finding .ensures .0) (c .before .before .before .map-finding .ensures) (c .before .if1 .taken) _ (c .earlier-of .ensures)
+returns c = with-the-list _ _ (c .before .before .before .before .before .before .before .before .before .pre .0) _ _ _ (c .before .before .before .before .list-finding .ensures .0) (c .before .before .before .map-finding .ensures) (c .before .if1 .taken) _ (c .earlier-of .ensures)
 
 model-finding-requires : tie.Need-model-finding-requires
-model-finding-requires c κs = (c .before .before .before .before .before .before .before .before .pre, c .before .before .before .before .before .view-of .ensures, c .before .before .before .before .list-finding .ensures .1 (c .before .if1 .left))
+model-finding-requires c κs = (c .before .before .before .before .before .before .before .before .before .pre .0, c .before .before .before .before .before .view-of .ensures, c .before .before .before .before .before .before .before .before .before .pre .1, c .before .before .before .before .list-finding .ensures .1 (c .before .if1 .left))
 
 section-finding-requires : tie.Need-section-finding-requires
 section-finding-requires c κs = search needs
@@ -33,7 +33,7 @@ earlier-of-requires-3 : tie.Need-earlier-of-requires-3
 earlier-of-requires-3 c κs = search needs
 
 returns-2 : tie.Need-returns-2
-returns-2 c = without-the-list _ _ (c .before .before .before .before .before .before .before .before .before .before .before .before .pre) _ _ _ (c .before .before .before .before .before .before .before .before .list-finding .ensures .0) (c .before .before .before .before .before .before .before .map-finding .ensures) (c .before .before .before .before .before .if1 .left) _ _ _ _ (c .before .before .before .model-finding .ensures) (c .before .before .section-finding .ensures) (c .before .earlier-of2 .ensures) (c .earlier-of3 .ensures)
+returns-2 c = without-the-list _ _ (c .before .before .before .before .before .before .before .before .before .before .before .before .before .pre .0) _ _ _ (c .before .before .before .before .before .before .before .before .list-finding .ensures .0) (c .before .before .before .before .before .before .before .map-finding .ensures) (c .before .before .before .before .before .if1 .left) _ _ _ _ (c .before .before .before .model-finding .ensures) (c .before .before .section-finding .ensures) (c .before .earlier-of2 .ensures) (c .earlier-of3 .ensures)
 
 pub cross-finding-spec : {M : Type 1} → statement M
 cross-finding-spec =

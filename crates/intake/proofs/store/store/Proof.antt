@@ -1,6 +1,6 @@
--- `intake::store::store` meets its contract: no room, or the text's table.
+-- `intake::store::store` meets its contract: no room, or the table of the text.
 -- Assumes nothing.
-use Rattle.intake.proofs.ReadyLaws.{many-few, store-refused, store-stored, lift-fits, lift-ready, fill-room, moved-lifted, moved-staged, store-filled}
+use Rattle.intake.proofs.ReadyLaws.{many-few, store-refused, store-stored, store-room}
 use borrow.Author.Needs.{needs}
 use Rattle.intake.proofs.store.store.Statement.{statement}
 use Rattle.intake.proofs.store.store.Tie as tie
@@ -20,23 +20,14 @@ same-length c = search needs
 returns : tie.Need-returns
 returns c = (search store-refused, search needs)
 
-mul-staged : tie.Need-mul-staged
-mul-staged c = search lift-fits
-
-part-base-requires : tie.Need-part-base-requires
-part-base-requires c κs = (search many-few, search needs)
-
-lift-requires : tie.Need-lift-requires
-lift-requires c κs = search lift-ready
-
-fill-requires : tie.Need-fill-requires
-fill-requires c κs = (search needs, search fill-room, search moved-lifted, search moved-staged, search needs)
+store-staged-requires : tie.Need-store-staged-requires
+store-staged-requires c κs = (search needs, search store-room, search needs, search needs)
 
 same-length-2 : tie.Need-same-length-2
 same-length-2 c = search needs
 
 returns-2 : tie.Need-returns-2
-returns-2 c = (search store-stored, search store-filled)
+returns-2 c = (search store-stored, search needs)
 
 pub store-spec : {M : Type 1} → statement M
 store-spec =
@@ -47,9 +38,6 @@ store-spec =
     zero-all-requires
     same-length
     returns
-    mul-staged
-    part-base-requires
-    lift-requires
-    fill-requires
+    store-staged-requires
     same-length-2
     returns-2)

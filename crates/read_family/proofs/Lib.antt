@@ -1,0 +1,14 @@
+pub mod ListedLaws
+pub mod PinLaws
+pub mod IdleLaws
+pub mod OpenLaws
+pub mod LateLaws
+pub mod BodyLaws
+pub mod RunLaws
+pub mod PlaceLaws
+pub mod TakeLaws
+pub mod GivenLaws
+pub mod ModelLaws
+pub mod MapLaws
+pub mod LineLaws
+pub mod FamilyLaws

@@ -1,0 +1,4 @@
+pub mod Pins
+pub mod Idle
+pub mod Blocks
+pub mod Family

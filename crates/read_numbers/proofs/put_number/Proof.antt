@@ -1,0 +1,39 @@
+-- `read_numbers::put_number` meets its contract.
+-- Assumes nothing.
+use Rattle.read_numbers.proofs.StagingLaws.{number-put}
+use borrow.Author.Needs.{needs}
+use Rattle.read_numbers.proofs.put_number.Statement.{statement}
+use Rattle.read_numbers.proofs.put_number.Tie as tie
+
+word-in-requires : tie.Need-word-in-requires
+word-in-requires c κs = search needs
+
+put-value-requires : tie.Need-put-value-requires
+put-value-requires c κs = search needs
+
+next-row-requires : tie.Need-next-row-requires
+next-row-requires c κs = search needs
+
+add-t12 : tie.Need-add-t12
+add-t12 c = search needs
+
+add-t13 : tie.Need-add-t13
+add-t13 c = search needs
+
+same-length : tie.Need-same-length
+same-length c = search needs
+
+returns : tie.Need-returns
+returns c = search number-put
+
+pub put-number-spec : {M : Type 1} → statement M
+put-number-spec =
+    tie.close
+    (tie.spec
+    word-in-requires
+    put-value-requires
+    next-row-requires
+    add-t12
+    add-t13
+    same-length
+    returns)

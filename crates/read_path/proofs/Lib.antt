@@ -1,0 +1,4 @@
+pub mod SideLaws
+pub mod StepLaws
+pub mod LineLaws
+pub mod PathLaws

@@ -1,3 +1,0 @@
-pub mod PinLaws
-pub mod MapLaws
-pub mod PassLaws

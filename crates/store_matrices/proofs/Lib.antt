@@ -1,4 +1,0 @@
-pub mod NumberLaws
-pub mod BodyLaws
-pub mod MatrixLaws
-pub mod StageLaws

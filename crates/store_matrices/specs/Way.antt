@@ -1,4 +1,0 @@
-pub mod Matrices
-pub mod Staged
-pub mod Numbers
-pub mod Told

@@ -1,4 +1,0 @@
-pub mod WordLaws
-pub mod StepLaws
-pub mod AimLaws
-pub mod UsualLaws

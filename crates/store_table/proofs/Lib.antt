@@ -1,0 +1,4 @@
+pub mod TargetLaws
+pub mod LiftLaws
+pub mod FrontLaws
+pub mod StoreLaws

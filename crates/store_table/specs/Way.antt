@@ -1,0 +1,2 @@
+pub mod Targets
+pub mod Front
