@@ -4,12 +4,10 @@ use mathlib.Core.Path.{_≡_, refl, sym, _∙_, ap}
 use mathlib.Core.Bool.{Bool, true, false}
 use mathlib.Core.List.{List, [], _∷_, _++_, append-assoc}
 use Prim.Native.Nat.{ℕ, _+_}
-use lib.ListN.{length}
 use Rattle.base.specs.If.{if_then_else_}
 use Rattle.base.proofs.IfLaws.{if-true, if-false, by-cases}
-use Rattle.lex_line.specs.Lines.{Raw, isBlankLine, contentOf, lines}
+use Rattle.lex_line.specs.Lines.{Said, isBlankLine, contents}
 use Rattle.line_place.specs.Place as place
-use Rattle.read_line.specs.Reading.{commentByte}
 use Rattle.doc.specs.Lines.{Line, placeAfter, linesFrom, linesAt, significant, gather, upTo}
 use Rattle.doc.proofs.Goes.{lines-blank, lines-said, lines-none}
 use Rattle.doc.proofs.GatherLaws.{gather-more, gather-none, up-in, up-none, up-out}
@@ -21,19 +19,19 @@ pub data Follow : ℕ → List Line → Type 0 where
   none : {p : ℕ} → Follow p []
   more : {p : ℕ} {l : Line} {ls : List Line} → l .place ≡ p → Follow (placeAfter p (l .content)) ls → Follow p (l ∷ ls)
 
-pub lines-follow : (n at p : ℕ) (rs : List Raw) → Follow p (linesFrom n at p rs)
+pub lines-follow : (n at p : ℕ) (rs : List Said) → Follow p (linesFrom n at p rs)
 lines-follow n at p [] = rw (lines-none n at p) none
 lines-follow n at p (r ∷ rs) =
-    by-cases (Follow p (linesFrom n at p (r ∷ rs))) (isBlankLine (contentOf commentByte (r .bytes)))
-    (λ (b : isBlankLine (contentOf commentByte (r .bytes)) ≡ true).
-    rw (lines-blank n at p r rs b) (lines-follow (n + 1) (at + length (r .bytes) + 1) p rs))
-    (λ (b : isBlankLine (contentOf commentByte (r .bytes)) ≡ false).
+    by-cases (Follow p (linesFrom n at p (r ∷ rs))) (isBlankLine (r .content))
+    (λ (b : isBlankLine (r .content) ≡ true).
+    rw (lines-blank n at p r rs b) (lines-follow (n + 1) (at + r .size + 1) p rs))
+    (λ (b : isBlankLine (r .content) ≡ false).
     rw (lines-said n at p r rs b)
-    (more refl (lines-follow (n + 1) (at + length (r .bytes) + 1) (placeAfter p (contentOf commentByte (r .bytes))) rs)))
+    (more refl (lines-follow (n + 1) (at + r .size + 1) (placeAfter p (r .content)) rs)))
 
 pub text-follows : (t : List ℕ) → Follow place.before (significant t)
 unfolding significant linesAt
-text-follows t = lines-follow 1 0 place.before (lines t)
+text-follows t = lines-follow 1 0 place.before (contents t)
 
 -- ---- passes
 

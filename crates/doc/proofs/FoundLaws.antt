@@ -5,22 +5,20 @@ use mathlib.Core.Bool.{Bool, true, false, not, true≢false}
 use mathlib.Core.List.{List, [], _∷_}
 use Prim.Native.Nat.{ℕ, suc, _+_, _-_, _≤_, _<_}
 use native.Mathlib.Omega.{arith}
-use lib.ListN.{length, take, drop, length-drop, drop-of-length-le}
-use lib.Seq.{length-take-le}
+use lib.ListN.{length, take, drop, length-drop}
 use borrow.Author.Tests.{not-true, not-false, eq-eqb, ne-eqb}
 use Rattle.base.specs.Bytes.{lineFeed, isBefore, isContent}
 use Rattle.base.specs.Runs.{run}
 use Rattle.base.proofs.IfLaws.{by-cases, if-true, if-false}
 use Rattle.base.proofs.RunLaws.{run-le}
-use Rattle.lex_line.specs.Lines.{lines, contentOf, isBlankLine}
-use Rattle.lex_line.specs.Way.LineEnds.{lineAt}
+use Rattle.lex_line.specs.Lines.{isBlankLine, commentByte, contents}
+use Rattle.lex_line.specs.Way.LineEnds.{lineAt, contentAt, saidAt}
 use Rattle.lex_line.specs.declared.Line as text
-use Rattle.lex_line.proofs.LineLaws.{firstOf, lines-nil, lines-at, next-on, next-within, next-ended, next-unended, content-at}
+use Rattle.lex_line.proofs.LineLaws.{firstOf, contents-at, contents-none, next-on, next-within, next-ended, next-unended}
 use Rattle.lex_line.specs.Words.{words, firstOf as firstWordOf}
 use Rattle.line_place.specs.Place.{moved, movedByLine, mapHead}
 use Rattle.lex_keyword.specs.Bracket.{bracketOf}
 use Rattle.lex_keyword.specs.declared.Bracket.{Bracket}
-use Rattle.read_line.specs.Reading.{commentByte}
 use Rattle.doc.specs.Lines.{Line, plain, linesFrom, linesAt, placeAfter, keyIn, argumentIn, keyAt}
 use Rattle.doc.specs.Way.Found.{contentIn, Located, FindsLine, cursorPast}
 use Rattle.doc.specs.declared.Cursor.{Cursor}
@@ -28,35 +26,29 @@ use Rattle.doc.specs.declared.Found.{Found}
 use Rattle.doc.proofs.Goes.{lines-blank, lines-said, lines-none}
 
 module _ (t : List ℕ) (at : ℕ) (h : at < length t) where
-  bytes-long : length (firstOf (drop at t) .bytes) ≡ run (isBefore lineFeed) (drop at t)
-  bytes-long = length-take-le _ (drop at t) (run-le _ (drop at t))
-
   -- where the next line starts: after the LF, or at the end if nothing follows
-  rest-same : (m q : ℕ) → linesFrom m (at + length (firstOf (drop at t) .bytes) + 1) q (lines (drop (lineAt commentByte t at .next) t)) ≡ linesAt t m (lineAt commentByte t at .next) q
+  rest-same : (m q : ℕ) → linesFrom m (at + saidAt t at .size + 1) q (contents (drop (lineAt commentByte t at .next) t)) ≡ linesAt t m (lineAt commentByte t at .next) q
   unfolding linesAt
   rest-same m q =
       by-cases _ (firstOf (drop at t) .ended)
       (λ (e : firstOf (drop at t) .ended ≡ true).
       let n : lineAt commentByte t at .next ≡ at + suc (run (isBefore lineFeed) (drop at t)) = next-ended commentByte t at h e in
-      let b : length (firstOf (drop at t) .bytes) ≡ run (isBefore lineFeed) (drop at t) = bytes-long in
-      let o : at + length (firstOf (drop at t) .bytes) + 1 ≡ lineAt commentByte t at .next = omega arith in
-      ap (λ (x : ℕ). linesFrom m x q (lines (drop (lineAt commentByte t at .next) t))) o)
+      let o : at + run (isBefore lineFeed) (drop at t) + 1 ≡ lineAt commentByte t at .next = omega arith in
+      ap (λ (x : ℕ). linesFrom m x q (contents (drop (lineAt commentByte t at .next) t))) o)
       (λ (e : firstOf (drop at t) .ended ≡ false).
-      let d : drop (lineAt commentByte t at .next) t ≡ [] = drop-of-length-le t (next-unended commentByte t at h e) in
-      let z : lines (drop (lineAt commentByte t at .next) t) ≡ [] = ap lines d ∙ lines-nil in
-      rw z (lines-none m _ q ∙ sym (lines-none m _ q)))
+      rw (contents-none t _ (next-unended commentByte t at h e)) (lines-none m _ q ∙ sym (lines-none m _ q)))
 
   module _ (n : ℕ) (ends : text.Line) (told : ends ≡ lineAt commentByte t at) where
     -- what the code cuts out is the line's content
-    pub cut-content : take (ends .content - at) (drop at t) ≡ contentOf commentByte (firstOf (drop at t) .bytes)
-    cut-content = ap (λ (l : text.Line). take (l .content - at) (drop at t)) told ∙ sym (content-at commentByte t at)
+    cut-content : take (ends .content - at) (drop at t) ≡ contentAt t at
+    cut-content = ap (λ (l : text.Line). take (l .content - at) (drop at t)) told
 
     -- a blank line is skipped
     pub pass-over : isBlankLine (take (ends .content - at) (drop at t)) ≡ true → (p : ℕ) → linesAt t n at p ≡ linesAt t (n + 1) (ends .next) p
     unfolding linesAt
     pass-over b p =
-        ap (linesFrom n at p) (lines-at commentByte t at h)
-        ∙ lines-blank n at p (firstOf (drop at t)) (lines (drop (lineAt commentByte t at .next) t)) (ap isBlankLine (sym cut-content) ∙ b)
+        ap (linesFrom n at p) (contents-at t at h)
+        ∙ lines-blank n at p (saidAt t at) (contents (drop (lineAt commentByte t at .next) t)) (ap isBlankLine (sym cut-content) ∙ b)
         ∙ rest-same (n + 1) p
         ∙ ap (λ (l : text.Line). linesAt t (n + 1) (l .next) p) (sym told)
 
@@ -65,9 +57,9 @@ module _ (t : List ℕ) (at : ℕ) (h : at < length t) where
         linesAt t n at p ≡ record { line = n; at = at; place = p; content = take (ends .content - at) (drop at t) } ∷ linesAt t (n + 1) (ends .next) (placeAfter p (take (ends .content - at) (drop at t)))
     unfolding linesAt
     stop-here b p =
-        ap (linesFrom n at p) (lines-at commentByte t at h)
-        ∙ lines-said n at p (firstOf (drop at t)) (lines (drop (lineAt commentByte t at .next) t)) (ap isBlankLine (sym cut-content) ∙ b)
-        ∙ ap (λ (ls : List Line). record { line = n; at = at; place = p; content = contentOf commentByte (firstOf (drop at t) .bytes) } ∷ ls) (rest-same (n + 1) (placeAfter p (contentOf commentByte (firstOf (drop at t) .bytes))))
+        ap (linesFrom n at p) (contents-at t at h)
+        ∙ lines-said n at p (saidAt t at) (contents (drop (lineAt commentByte t at .next) t)) (ap isBlankLine (sym cut-content) ∙ b)
+        ∙ ap (λ (ls : List Line). record { line = n; at = at; place = p; content = contentAt t at } ∷ ls) (rest-same (n + 1) (placeAfter p (contentAt t at)))
         ∙ (λ i. record { line = n; at = at; place = p; content = sym cut-content i } ∷ linesAt t (n + 1) (sym told i .next) (placeAfter p (sym cut-content i)))
 
     pub next-further : at < ends .next
@@ -93,7 +85,7 @@ module _ (t : List ℕ) (at : ℕ) (h : at < length t) where
 -- nothing follows the end
 pub nothing-left : (t : List ℕ) (n at p : ℕ) → length t ≤ at → linesAt t n at p ≡ []
 unfolding linesAt
-nothing-left t n at p h = ap (linesFrom n at p) (ap lines (drop-of-length-le t h) ∙ lines-nil) ∙ lines-none n at p
+nothing-left t n at p h = ap (linesFrom n at p) (contents-none t at h) ∙ lines-none n at p
 
 -- ---- the invariant of the search for a line, and what it finds
 

@@ -6,12 +6,11 @@ use mathlib.Core.Bool.{Bool, true, false}
 use mathlib.Core.List.{List, [], _∷_}
 use Prim.Native.Nat.{ℕ, _+_, _<_}
 use native.Mathlib.Omega.{arith}
-use lib.ListN.{length}
 use lib.Dec.{eqb}
 use borrow.Author.Tests.{eq-eqb, ne-eqb, eqb-true, eqb-false}
 use Rattle.base.specs.If.{if_then_else_, either}
 use Rattle.base.proofs.IfLaws.{if-true, if-false, by-cases}
-use Rattle.lex_line.specs.Lines.{Raw, lines, contentOf, isBlankLine}
+use Rattle.lex_line.specs.Lines.{Said, isBlankLine, contents}
 use Rattle.lex_keyword.specs.Names.{beginHeader}
 use Rattle.lex_keyword.specs.Bracket.{bracketOf}
 use Rattle.lex_keyword.specs.declared.Bracket.{Bracket}
@@ -22,7 +21,7 @@ use Rattle.line_keyword.specs.State.{startState}
 use Rattle.line_keyword.specs.Keywords.{keywordRule, keywordNext}
 use Rattle.line_keyword.specs.declared.Counts.{Counts}
 use Rattle.line_keyword.specs.declared.State.{State}
-use Rattle.read_line.specs.Reading.{lineRule, lineNext, argumentFrom, goes, breaks, judged, lineResult, onward, readFrom, atEnd, readingOf, commentByte}
+use Rattle.read_line.specs.Reading.{lineRule, lineNext, argumentFrom, goes, breaks, judged, lineResult, onward, readFrom, atEnd, readingOf}
 use Rattle.read_line.specs.Way.Steps.{lineStep, keywordStep, bracketStep, beforeStep}
 use Rattle.read_line.proofs.ResultLaws.{result-steps, refused-not-read, end-done}
 use Rattle.read_line.proofs.OutsideLaws.{Met}
@@ -201,16 +200,16 @@ moves-place l s s' (keyed k h) = keyed-place l s k
 
 -- ---- the whole text
 
-pub record Onward (n : ℕ) (r : Raw) (rs : List Raw) (s : State) (c : Counts) : Type 0 where
-  pub kept : lineResult (contentOf commentByte (r .bytes)) s .rule ≡ 0
-  pub rest : readFrom (n + 1) rs (lineResult (contentOf commentByte (r .bytes)) s .state) ≡ Read c
+pub record Onward (n : ℕ) (r : Said) (rs : List Said) (s : State) (c : Counts) : Type 0 where
+  pub kept : lineResult (r .content) s .rule ≡ 0
+  pub rest : readFrom (n + 1) rs (lineResult (r .content) s .state) ≡ Read c
 
-run-on : (n : ℕ) (r : Raw) (rs : List Raw) (s : State) (c : Counts) → readFrom n (r ∷ rs) s ≡ Read c → Onward n r rs s c
+run-on : (n : ℕ) (r : Said) (rs : List Said) (s : State) (c : Counts) → readFrom n (r ∷ rs) s ≡ Read c → Onward n r rs s c
 unfolding readFrom onward
 run-on n r rs s c h =
-    by-cases (Onward n r rs s c) (eqb (lineResult (contentOf commentByte (r .bytes)) s .rule) 0)
-    (λ (e : eqb (lineResult (contentOf commentByte (r .bytes)) s .rule) 0 ≡ true). record { kept = eqb-true _ _ e; rest = sym (if-true _ _ e) ∙ h })
-    (λ (e : eqb (lineResult (contentOf commentByte (r .bytes)) s .rule) 0 ≡ false). absurd (refused-not-read _ _ c (sym (if-false _ _ e) ∙ h)))
+    by-cases (Onward n r rs s c) (eqb (lineResult (r .content) s .rule) 0)
+    (λ (e : eqb (lineResult (r .content) s .rule) 0 ≡ true). record { kept = eqb-true _ _ e; rest = sym (if-true _ _ e) ∙ h })
+    (λ (e : eqb (lineResult (r .content) s .rule) 0 ≡ false). absurd (refused-not-read _ _ c (sym (if-false _ _ e) ∙ h)))
 
 blank-goes : (content : List ℕ) (s : State) → isBlankLine content ≡ true → lineResult content s .state ≡ s
 unfolding goes
@@ -221,15 +220,15 @@ grown : (l : Line) (s : State) (m : Moved l s) (ls : List Line) (c : Counts) →
 grown l s m ls c p b e = record { end = e .end; goes = more p b (m .moves) (e .goes); met = (m .met, e .met); done = e .done; counts = e .counts }
 
 -- the lines from one line on
-abbrev lineOf : ℕ → ℕ → ℕ → Raw → Line
-lineOf n at p r = record { line = n; at = at; place = p; content = contentOf commentByte (r .bytes) }
+abbrev lineOf : ℕ → ℕ → ℕ → Said → Line
+lineOf n at p r = record { line = n; at = at; place = p; content = r .content }
 
-module _ (n at p : ℕ) (r : Raw) (rs : List Raw) where
-  pub lines-blank : isBlankLine (contentOf commentByte (r .bytes)) ≡ true → linesFrom n at p (r ∷ rs) ≡ linesFrom (n + 1) (at + length (r .bytes) + 1) p rs
+module _ (n at p : ℕ) (r : Said) (rs : List Said) where
+  pub lines-blank : isBlankLine (r .content) ≡ true → linesFrom n at p (r ∷ rs) ≡ linesFrom (n + 1) (at + r .size + 1) p rs
   unfolding linesFrom
   lines-blank b = if-true _ _ b
 
-  pub lines-said : isBlankLine (contentOf commentByte (r .bytes)) ≡ false → linesFrom n at p (r ∷ rs) ≡ lineOf n at p r ∷ linesFrom (n + 1) (at + length (r .bytes) + 1) (placeAfter p (contentOf commentByte (r .bytes))) rs
+  pub lines-said : isBlankLine (r .content) ≡ false → linesFrom n at p (r ∷ rs) ≡ lineOf n at p r ∷ linesFrom (n + 1) (at + r .size + 1) (placeAfter p (r .content)) rs
   unfolding linesFrom
   lines-said b = if-false _ _ b
 
@@ -246,31 +245,31 @@ ends-none n at s c h =
     let e : (s .place ≡ done) × (s .counts ≡ c) = end-done s c (sym (run-none n s) ∙ h) in
     rw (lines-none n at (s .place)) (record { end = s; goes = none; met = tt; done = e .0; counts = e .1 })
 
-module _ (n at : ℕ) (r : Raw) (rs : List Raw) (s : State) (c : Counts) (o : Onward n r rs s c) where
-  ends-blank : isBlankLine (contentOf commentByte (r .bytes)) ≡ true → (readFrom (n + 1) rs s ≡ Read c → Ends s (linesFrom (n + 1) (at + length (r .bytes) + 1) (s .place) rs) c) → Ends s (linesFrom n at (s .place) (r ∷ rs)) c
+module _ (n at : ℕ) (r : Said) (rs : List Said) (s : State) (c : Counts) (o : Onward n r rs s c) where
+  ends-blank : isBlankLine (r .content) ≡ true → (readFrom (n + 1) rs s ≡ Read c → Ends s (linesFrom (n + 1) (at + r .size + 1) (s .place) rs) c) → Ends s (linesFrom n at (s .place) (r ∷ rs)) c
   ends-blank b more-ends =
-      let e : Ends s (linesFrom (n + 1) (at + length (r .bytes) + 1) (s .place) rs) c = more-ends (rw (blank-goes (contentOf commentByte (r .bytes)) s b) at (o .rest)) in
+      let e : Ends s (linesFrom (n + 1) (at + r .size + 1) (s .place) rs) c = more-ends (rw (blank-goes (r .content) s b) at (o .rest)) in
       rw (lines-blank n at (s .place) r rs b) e
 
   ends-said :
-      isBlankLine (contentOf commentByte (r .bytes)) ≡ false →
-      ((s' : State) → readFrom (n + 1) rs s' ≡ Read c → Ends s' (linesFrom (n + 1) (at + length (r .bytes) + 1) (s' .place) rs) c) → Ends s (linesFrom n at (s .place) (r ∷ rs)) c
+      isBlankLine (r .content) ≡ false →
+      ((s' : State) → readFrom (n + 1) rs s' ≡ Read c → Ends s' (linesFrom (n + 1) (at + r .size + 1) (s' .place) rs) c) → Ends s (linesFrom n at (s .place) (r ∷ rs)) c
   ends-said b more-ends =
       let m : Moved (lineOf n at (s .place) r) s = line-moves (lineOf n at (s .place) r) s b (o .kept) in
-      let q : m .next .place ≡ placeAfter (s .place) (contentOf commentByte (r .bytes)) = moves-place (lineOf n at (s .place) r) s (m .next) (m .moves) in
-      let e : Ends (m .next) (linesFrom (n + 1) (at + length (r .bytes) + 1) (m .next .place) rs) c = more-ends (m .next) (rw (m .is-next) at (o .rest)) in
+      let q : m .next .place ≡ placeAfter (s .place) (r .content) = moves-place (lineOf n at (s .place) r) s (m .next) (m .moves) in
+      let e : Ends (m .next) (linesFrom (n + 1) (at + r .size + 1) (m .next .place) rs) c = more-ends (m .next) (rw (m .is-next) at (o .rest)) in
       rw (lines-said n at (s .place) r rs b)
-      (grown (lineOf n at (s .place) r) s m (linesFrom (n + 1) (at + length (r .bytes) + 1) (placeAfter (s .place) (contentOf commentByte (r .bytes))) rs) c refl b (rw q at e))
+      (grown (lineOf n at (s .place) r) s m (linesFrom (n + 1) (at + r .size + 1) (placeAfter (s .place) (r .content)) rs) c refl b (rw q at e))
 
-pub run-ends : (n at : ℕ) (rs : List Raw) (s : State) (c : Counts) → readFrom n rs s ≡ Read c → Ends s (linesFrom n at (s .place) rs) c
+pub run-ends : (n at : ℕ) (rs : List Said) (s : State) (c : Counts) → readFrom n rs s ≡ Read c → Ends s (linesFrom n at (s .place) rs) c
 run-ends n at [] s c h = ends-none n at s c h
 run-ends n at (r ∷ rs) s c h =
     let o : Onward n r rs s c = run-on n r rs s c h in
-    by-cases (Ends s (linesFrom n at (s .place) (r ∷ rs)) c) (isBlankLine (contentOf commentByte (r .bytes)))
-    (λ (b : isBlankLine (contentOf commentByte (r .bytes)) ≡ true). ends-blank n at r rs s c o b (run-ends (n + 1) (at + length (r .bytes) + 1) rs s c))
-    (λ (b : isBlankLine (contentOf commentByte (r .bytes)) ≡ false). ends-said n at r rs s c o b (λ (s' : State). run-ends (n + 1) (at + length (r .bytes) + 1) rs s' c))
+    by-cases (Ends s (linesFrom n at (s .place) (r ∷ rs)) c) (isBlankLine (r .content))
+    (λ (b : isBlankLine (r .content) ≡ true). ends-blank n at r rs s c o b (run-ends (n + 1) (at + r .size + 1) rs s c))
+    (λ (b : isBlankLine (r .content) ≡ false). ends-said n at r rs s c o b (λ (s' : State). run-ends (n + 1) (at + r .size + 1) rs s' c))
 
 -- a text that reads to its end
 pub text-ends : (t : List ℕ) (c : Counts) → readingOf t ≡ Read c → Ends startState (significant t) c
 unfolding readingOf significant linesAt startState
-text-ends t c h = run-ends 1 0 (lines t) startState c h
+text-ends t c h = run-ends 1 0 (contents t) startState c h

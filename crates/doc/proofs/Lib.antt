@@ -21,4 +21,5 @@ pub mod StandsLaws
 pub mod OrderLaws
 pub mod NamedLaws
 pub mod PlainLaws
+pub mod IdleLaws
 pub mod StagedLaws

@@ -2,7 +2,7 @@
 -- Assumes nothing.
 use mathlib.Core.Path.{_≡_, refl, sym, _∙_, ap}
 use mathlib.Core.Bool.{true, false, not, true≢false}
-use mathlib.Core.List.{List, [], _∷_}
+use mathlib.Core.List.{List, [], _∷_, map}
 use mathlib.Core.Logic.{_⊎_, inl, inr}
 use Prim.Native.Nat.{ℕ, suc, _+_, _-_, _≤_, _<_, zero-le, suc-le-suc}
 use native.Mathlib.Nat.{add-zero, le-trans}
@@ -30,7 +30,7 @@ use Rattle.base.proofs.IfLaws.{
 }
 use Rattle.base.proofs.RunLaws.{run-nil, run-cons, run-stops, run-le, all-nil, all-cons}
 use Rattle.base.proofs.BrokenLaws.{all-kept, lists-yes, lists-no}
-use Rattle.lex_line.specs.Lines.{Raw, lines, contentOf, isBlankLine}
+use Rattle.lex_line.specs.Lines.{lines, contentOf, isBlankLine, commentByte, contents, Raw, said}
 use Rattle.lex_line.specs.Words.{Word, wordGoesOn, grown, wordsFrom, words, firstOf, lastEnd, toEquals, rightOf}
 use Rattle.lex_line.specs.ByteRules.{sizeRules, mostCharacters, withoutReturn, characters, refusedOr, linesRule, byteRules, rawLineRule as rawRule}
 use Rattle.lex_line.specs.declared.Checked.{Checked}
@@ -51,7 +51,7 @@ use Rattle.line_path.specs.declared.PathLine.{PathLine}
 use Rattle.line_keyword.specs.Keywords.{isForkOpen, isMisplaced, isShapeBroken, isPastBound, keywordRule}
 use Rattle.line_keyword.specs.declared.State.{State}
 use Rattle.line_keyword.specs.declared.Counts.{Counts}
-use Rattle.read_line.specs.Reading.{lineRule, argumentFrom, commentByte, readingOf}
+use Rattle.read_line.specs.Reading.{lineRule, argumentFrom, readingOf}
 use Rattle.read_line.specs.declared.Reading.the-variants.{Read}
 use Rattle.read_line.proofs.ResultLaws.{rule-path}
 use Rattle.doc.specs.Lines.{
@@ -128,8 +128,8 @@ module _ (k n : ℕ) (later : Checked) (h : refusedOr k n later ≡ Fine) where
   unfolding refusedOr
   judged-later = sym (if-true later (Refused k n) (eq-eqb k 0 judged-zero)) ∙ h
 
-line-short : (r : Raw) → rawRule r ≡ 0 → length (contentOf commentByte (r .bytes)) ≤ mostCharacters
-unfolding rawRule
+line-short : (r : Raw) → rawRule r ≡ 0 → length (said r .content) ≤ mostCharacters
+unfolding rawRule said
 line-short r h =
     let f : ltb mostCharacters (length (characters r)) ≡ false =
     all-kept
@@ -140,20 +140,19 @@ line-short r h =
 abbrev Short : Line → Type 0
 Short l = length (l .content) ≤ mostCharacters
 
-lines-short : (n at p m : ℕ) (rs : List Raw) → linesRule m rs ≡ Fine → Each Short (linesFrom n at p rs)
+lines-short : (n at p m : ℕ) (rs : List Raw) → linesRule m rs ≡ Fine → Each Short (linesFrom n at p (map said rs))
 unfolding linesRule
 lines-short n at p m [] h = rw (lines-none n at p) none
 lines-short n at p m (r ∷ rs) h =
     let z : rawRule r ≡ 0 = judged-zero (rawRule r) m (linesRule (m + 1) rs) h in
     let later : linesRule (m + 1) rs ≡ Fine = judged-later (rawRule r) m (linesRule (m + 1) rs) h in
-    by-cases (Each Short (linesFrom n at p (r ∷ rs))) (isBlankLine (contentOf commentByte (r .bytes)))
-    (λ (b : isBlankLine (contentOf commentByte (r .bytes)) ≡ true). rw (lines-blank n at p r rs b)
-    (lines-short (n + 1) _ p (m + 1) rs later))
-    (λ (b : isBlankLine (contentOf commentByte (r .bytes)) ≡ false).
-    rw (lines-said n at p r rs b) (more (line-short r z) (lines-short (n + 1) _ _ (m + 1) rs later)))
+    by-cases (Each Short (linesFrom n at p (map said (r ∷ rs)))) (isBlankLine (said r .content))
+    (λ (b : isBlankLine (said r .content) ≡ true). rw (lines-blank n at p (said r) (map said rs) b) (lines-short (n + 1) _ p (m + 1) rs later))
+    (λ (b : isBlankLine (said r .content) ≡ false).
+    rw (lines-said n at p (said r) (map said rs) b) (more (line-short r z) (lines-short (n + 1) _ _ (m + 1) rs later)))
 
 text-short : (t : List ℕ) → byteRules t ≡ Fine → Each Short (significant t)
-unfolding byteRules significant linesAt
+unfolding byteRules significant linesAt contents
 text-short t h = lines-short 1 0 0 1 (lines t) (judged-later (firstBroken (sizeRules t)) 0 (linesRule 1 (lines t)) h)
 
 -- ---- words and their bytes

@@ -17,8 +17,8 @@ use Rattle.base.specs.Runs.{run}
 use Rattle.base.specs.Way.Class.{runEnd}
 use Rattle.base.proofs.IfLaws.{by-cases, by-test}
 use Rattle.base.proofs.RunLaws.{run-wider}
-use Rattle.lex_line.specs.Lines.{isBlankLine}
-use Rattle.lex_line.specs.Way.LineEnds.{pastFeed, lineAt}
+use Rattle.lex_line.specs.Lines.{isBlankLine, commentByte}
+use Rattle.lex_line.specs.Way.LineEnds.{pastFeed, lineAt, contentAt}
 use Rattle.lex_line.specs.declared.Line as text
 use Rattle.lex_line.specs.Words.{Word, wordsFrom, lastEnd, toEquals}
 use Rattle.lex_line.specs.Way.Spans.{wordSpan}
@@ -27,7 +27,7 @@ use Rattle.lex_line.proofs.WordLaws.{words-none, words-at, end-past, start-on}
 use Rattle.lex_keyword.specs.Bracket.{bracketOf}
 use Rattle.line_place.specs.Place as place
 use Rattle.line_path.specs.Path as path
-use Rattle.read_line.specs.Reading.{argumentFrom, commentByte}
+use Rattle.read_line.specs.Reading.{argumentFrom}
 use Rattle.doc.specs.Lines.{
   Line,
   linesAt,
@@ -230,7 +230,7 @@ module _ (t : List ℕ) (n at p : ℕ) (h : at < length t) where
   ends = lineAt commentByte t at
 
   abbrev content : List ℕ
-  content = take (ends .content - at) (drop at t)
+  content = contentAt t at
 
   line-lies : Lies t (record { line = n; at = at; place = p; content = content }) (ends .next)
   line-lies =

@@ -4,17 +4,17 @@
 use Prim.Native.Nat.{ℕ, _+_}
 use mathlib.Core.Bool.{Bool}
 use mathlib.Core.List.{List, [], _∷_, _++_}
-use lib.ListN.{length, drop}
+use lib.ListN.{drop}
 use lib.Dec.{eqb}
 use Rattle.base.specs.If.{if_then_else_, both}
-use Rattle.lex_line.specs.Lines.{Raw, lines, contentOf, isBlankLine}
+use Rattle.lex_line.specs.Lines.{Said, isBlankLine, contents}
 use Rattle.lex_line.specs.Words.{Word, wordsFrom, words, firstOf, toEquals}
 use Rattle.lex_keyword.specs.Names.{unknown}
 use Rattle.lex_keyword.specs.Bracket.{bracketOf}
 use Rattle.lex_keyword.specs.declared.Bracket.{Bracket}
 use Rattle.lex_keyword.specs.declared.Bracket.the-variants.{Plain, Indented, Bad, Unknown, Later, Keyword}
 use Rattle.line_place.specs.Place.{moved, movedByLine, before}
-use Rattle.read_line.specs.Reading.{argumentFrom, commentByte}
+use Rattle.read_line.specs.Reading.{argumentFrom}
 
 pub record Line : Type 0 where
   pub line : ℕ
@@ -53,18 +53,18 @@ placeAfter p content =
     if eqb (keyAt content) plain then movedByLine p (firstOf (words content)) else moved p (keyAt content)
 
 -- the significant lines; the first raw line is line n, starts at offset `at` and is read in place p
-unfoldable pub linesFrom : ℕ → ℕ → ℕ → List Raw → List Line
+unfoldable pub linesFrom : ℕ → ℕ → ℕ → List Said → List Line
 linesFrom n at p [] = []
 linesFrom n at p (r ∷ rs) =
-    if isBlankLine (contentOf commentByte (r .bytes))
-    then linesFrom (n + 1) (at + length (r .bytes) + 1) p rs
+    if isBlankLine (r .content)
+    then linesFrom (n + 1) (at + r .size + 1) p rs
     else
-    record { line = n; at = at; place = p; content = contentOf commentByte (r .bytes) }
-    ∷ linesFrom (n + 1) (at + length (r .bytes) + 1) (placeAfter p (contentOf commentByte (r .bytes))) rs
+    record { line = n; at = at; place = p; content = r .content }
+    ∷ linesFrom (n + 1) (at + r .size + 1) (placeAfter p (r .content)) rs
 
 -- the significant lines of a text from offset `at` on
 unfoldable pub linesAt : List ℕ → ℕ → ℕ → ℕ → List Line
-linesAt t n at p = linesFrom n at p (lines (drop at t))
+linesAt t n at p = linesFrom n at p (contents (drop at t))
 
 unfoldable pub significant : List ℕ → List Line
 significant t = linesAt t 1 0 before

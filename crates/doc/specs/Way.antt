@@ -1,3 +1,4 @@
 pub mod Found
 pub mod Holds
 pub mod Staged
+pub mod Idle

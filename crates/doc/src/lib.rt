@@ -9,8 +9,7 @@ ghost use Rattle.doc.specs.Way.Found.{extentOf, extentAt, FindsLine, Loc
 use lex_keyword::Bracket;
 use lex_line::Span;
 
-// "From `|` on, a line is comment".
-const COMMENT: u8 = b'|';
+pub mod idle;
 
 // The number that is used as the keyword of a line without one.
 pub const PLAIN: u64 = 41;
@@ -76,7 +75,7 @@ pub fn next_line(text: &[u8], at: usize, line: u64) -> Found
     let mut here = at;
     let mut line_here = line;
     while here < text.len() {
-        let ends = lex_line::line_at(text, here, COMMENT);
+        let ends = lex_line::line_at(text, here, lex_line::COMMENT);
         let end = ends.content;
         if !read_line::is_blank_line(&text[here..end]) {
             let bracket = lex_keyword::read_bracket(&text[here..end]);

@@ -5,11 +5,12 @@ use mathlib.Core.Bool.{true, false}
 use mathlib.Core.List.{List}
 use Prim.Native.Nat.{ℕ, _≤_, _<_}
 use native.Mathlib.Omega.{arith}
-use lib.ListN.{length, drop, drop-of-length-le}
+use lib.ListN.{length, drop}
 use lib.Dec.{ltb}
 use borrow.Author.Tests.{eq-eqb, ne-eqb, ltb-true, ltb-false}
 use Rattle.base.proofs.IfLaws.{if-true, if-false, by-cases}
-use Rattle.lex_line.specs.Lines.{lines}
+use Rattle.lex_line.specs.Lines.{contents}
+use Rattle.lex_line.proofs.LineLaws.{contents-none}
 use Rattle.line_place.specs.Place as place
 use Rattle.line_keyword.specs.Way.Bounded.{NoneYet}
 use Rattle.line_keyword.specs.declared.Counts.{Counts}
@@ -29,18 +30,18 @@ use Rattle.read_sections.specs.Way.Sections.{SectionsStaged}
 -- ---- behind the family
 
 module _ (t : List ℕ) (w : Walk) (whole : w .rule ≡ 0) (same : resume t w ≡ readingOf t) where
-  from-walk : readFrom (w .line) (lines (drop (w .at) t)) (w .state) ≡ readingOf t
+  from-walk : readFrom (w .line) (contents (drop (w .at) t)) (w .state) ≡ readingOf t
   unfolding resume
   from-walk = sym (if-true _ _ (eq-eqb _ _ whole)) ∙ same
 
-  pub rest-read : (r : Reading) → r ≡ readFrom (w .line) (lines (drop (w .at) t)) (w .state) → r ≡ readingOf t
+  pub rest-read : (r : Reading) → r ≡ readFrom (w .line) (contents (drop (w .at) t)) (w .state) → r ≡ readingOf t
   rest-read r e = e ∙ from-walk
 
   -- the text ends within the family
   module _ (away : w .state .place ≡ place.after → ⊥) (r : Reading) (is : r ≡ atEnd (w .state)) where
-    at-the-end : length t ≤ w .at → readFrom (w .line) (lines (drop (w .at) t)) (w .state) ≡ atEnd (w .state)
-    unfolding readFrom lines
-    at-the-end h = rw (drop-of-length-le t h)
+    at-the-end : length t ≤ w .at → readFrom (w .line) (contents (drop (w .at) t)) (w .state) ≡ atEnd (w .state)
+    unfolding readFrom
+    at-the-end h = rw (contents-none t (w .at) h)
 
     pub rest-ends : (w .at < length t → w .state .place ≡ place.after) → r ≡ readingOf t
     rest-ends there =

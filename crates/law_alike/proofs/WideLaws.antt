@@ -14,11 +14,10 @@ use Rattle.base.specs.If.{if_then_else_, both}
 use Rattle.base.specs.Bytes.{bytes, isBlank, lineFeed, isBefore, isFilled, isContent}
 use Rattle.base.specs.Runs.{run, all}
 use Rattle.base.proofs.IfLaws.{if-true, if-false, by-cases, both-first, both-second}
-use Rattle.lex_line.specs.Lines.{Raw, pushed, lines, contentOf, isBlankLine}
+use Rattle.lex_line.specs.Lines.{Raw, pushed, lines, contentOf, commentByte, Said, said, contents, isBlankLine}
 use Rattle.lex_line.specs.Words.{wordGoesOn, words, firstOf, toEquals, hasEquals, leftOf, rightOf}
 use Rattle.line_place.specs.Place.{before, moved, movedByLine}
 use Rattle.line_place.specs.Place as place
-use Rattle.read_line.specs.Reading.{commentByte}
 use Rattle.doc.specs.Lines.{Line, plain, keyAt, placeAfter, linesFrom, linesAt, significant, upTo}
 use Rattle.doc.specs.Document.{inMatrix}
 use Rattle.doc.specs.Holds.{Each}
@@ -38,9 +37,6 @@ same-self p a =
     by-cases _ (eqb (keyAt a) plain)
     (λ (e : eqb (keyAt a) plain ≡ true). same-words (eqb-true _ _ e) (eqb-true _ _ e) refl)
     (λ (e : eqb (keyAt a) plain ≡ false). same-argument (eqb-false _ _ e) refl refl)
-
-abbrev pub contentIn : Raw → List ℕ
-contentIn r = contentOf commentByte (r .bytes)
 
 place-plain : (p : ℕ) (a : List ℕ) → keyAt a ≡ plain → placeAfter p a ≡ movedByLine p (firstOf (words a))
 unfolding placeAfter
@@ -67,52 +63,52 @@ place-same p a b (same-text n k x t) = place-key p a n ∙ ap (moved p) k ∙ sy
 -- ---- lines of two texts, read from the same place
 
 -- the place after some lines that are read from place p
-unfoldable pub placeBehind : ℕ → List Raw → ℕ
+unfoldable pub placeBehind : ℕ → List Said → ℕ
 placeBehind p [] = p
-placeBehind p (r ∷ rs) = placeBehind (if isBlankLine (contentIn r) then p else placeAfter p (contentIn r)) rs
+placeBehind p (r ∷ rs) = placeBehind (if isBlankLine (r .content) then p else placeAfter p (r .content)) rs
 
-abbrev pub lineAs : ℕ → ℕ → ℕ → Raw → Line
-lineAs n at p r = record { line = n; at = at; place = p; content = contentIn r }
+abbrev pub lineAs : ℕ → ℕ → ℕ → Said → Line
+lineAs n at p r = record { line = n; at = at; place = p; content = r .content }
 
 -- the lines bs, read from place p, are all lines of a matrix: the first line of rs is outside
-pub record Ends (p : ℕ) (bs rs : List Raw) : Type 0 where
+pub record Ends (p : ℕ) (bs rs : List Said) : Type 0 where
   pub stops : (n at m to : ℕ) → upTo inMatrix (linesFrom n at p bs ++ linesFrom m to (placeBehind p bs) rs) ≡ linesFrom n at p bs
 
 -- either text may have blank lines, with a comment or without; the other lines say the same
-pub data SameRaws : ℕ → List Raw → List Raw → Type 0 where
-  ended : {p : ℕ} → SameRaws p [] []
-  blank : {p : ℕ} {r : Raw} {rs qs : List Raw} → isBlankLine (contentIn r) ≡ true → SameRaws p rs qs → SameRaws p (r ∷ rs) qs
-  other-blank : {p : ℕ} {q : Raw} {rs qs : List Raw} → isBlankLine (contentIn q) ≡ true → SameRaws p rs qs → SameRaws p rs (q ∷ qs)
+pub data SameContents : ℕ → List Said → List Said → Type 0 where
+  ended : {p : ℕ} → SameContents p [] []
+  blank : {p : ℕ} {r : Said} {rs qs : List Said} → isBlankLine (r .content) ≡ true → SameContents p rs qs → SameContents p (r ∷ rs) qs
+  other-blank : {p : ℕ} {q : Said} {rs qs : List Said} → isBlankLine (q .content) ≡ true → SameContents p rs qs → SameContents p rs (q ∷ qs)
   says :
-      {p : ℕ} {r q : Raw} {rs qs : List Raw} → isBlankLine (contentIn r) ≡ false → isBlankLine (contentIn q) ≡ false →
-      SameSaying p (contentIn r) (contentIn q) → SameRaws (placeAfter p (contentIn r)) rs qs → SameRaws p (r ∷ rs) (q ∷ qs)
+      {p : ℕ} {r q : Said} {rs qs : List Said} → isBlankLine (r .content) ≡ false → isBlankLine (q .content) ≡ false →
+      SameSaying p (r .content) (q .content) → SameContents (placeAfter p (r .content)) rs qs → SameContents p (r ∷ rs) (q ∷ qs)
   -- a matrix in another form; bs and cs are all lines of the two matrices, up to the first line outside
   block :
-      {p : ℕ} {r q : Raw} {rs qs : List Raw} (bs cs : List Raw) → isBlankLine (contentIn r) ≡ false → isBlankLine (contentIn q) ≡ false →
-      ((n at m to : ℕ) → SameNumbers (lineAs n at p r) (linesFrom (n + 1) (at + length (r .bytes) + 1) (placeAfter p (contentIn r)) bs) (lineAs m to p q) (linesFrom (m + 1) (to + length (q .bytes) + 1) (placeAfter p (contentIn q)) cs)) →
-      Ends (placeAfter p (contentIn r)) bs rs → Ends (placeAfter p (contentIn q)) cs qs →
-      placeBehind (placeAfter p (contentIn r)) bs ≡ placeBehind (placeAfter p (contentIn q)) cs →
-      SameRaws (placeBehind (placeAfter p (contentIn r)) bs) rs qs → SameRaws p (r ∷ (bs ++ rs)) (q ∷ (cs ++ qs))
+      {p : ℕ} {r q : Said} {rs qs : List Said} (bs cs : List Said) → isBlankLine (r .content) ≡ false → isBlankLine (q .content) ≡ false →
+      ((n at m to : ℕ) → SameNumbers (lineAs n at p r) (linesFrom (n + 1) (at + r .size + 1) (placeAfter p (r .content)) bs) (lineAs m to p q) (linesFrom (m + 1) (to + q .size + 1) (placeAfter p (q .content)) cs)) →
+      Ends (placeAfter p (r .content)) bs rs → Ends (placeAfter p (q .content)) cs qs →
+      placeBehind (placeAfter p (r .content)) bs ≡ placeBehind (placeAfter p (q .content)) cs →
+      SameContents (placeBehind (placeAfter p (r .content)) bs) rs qs → SameContents p (r ∷ (bs ++ rs)) (q ∷ (cs ++ qs))
 
 no-lines : (n at p : ℕ) → linesFrom n at p [] ≡ []
 unfolding linesFrom
 no-lines n at p = refl
 
-module _ (p : ℕ) (r : Raw) (bs : List Raw) where
-  place-on : isBlankLine (contentIn r) ≡ true → placeBehind p bs ≡ placeBehind p (r ∷ bs)
+module _ (p : ℕ) (r : Said) (bs : List Said) where
+  place-on : isBlankLine (r .content) ≡ true → placeBehind p bs ≡ placeBehind p (r ∷ bs)
   unfolding placeBehind
   place-on e = ap (λ (k : ℕ). placeBehind k bs) (sym (if-true _ _ e))
 
-  place-said : isBlankLine (contentIn r) ≡ false → placeBehind (placeAfter p (contentIn r)) bs ≡ placeBehind p (r ∷ bs)
+  place-said : isBlankLine (r .content) ≡ false → placeBehind (placeAfter p (r .content)) bs ≡ placeBehind p (r ∷ bs)
   unfolding placeBehind
   place-said e = ap (λ (k : ℕ). placeBehind k bs) (sym (if-false _ _ e))
 
-unfoldable sizeOf : List Raw → ℕ
+unfoldable sizeOf : List Said → ℕ
 sizeOf [] = 0
-sizeOf (r ∷ rs) = length (r .bytes) + 1 + sizeOf rs
+sizeOf (r ∷ rs) = r .size + 1 + sizeOf rs
 
 -- the significant lines of two lists of lines, joined
-lines-append : (n at p : ℕ) (bs rs : List Raw) → linesFrom n at p (bs ++ rs) ≡ linesFrom n at p bs ++ linesFrom (n + length bs) (at + sizeOf bs) (placeBehind p bs) rs
+lines-append : (n at p : ℕ) (bs rs : List Said) → linesFrom n at p (bs ++ rs) ≡ linesFrom n at p bs ++ linesFrom (n + length bs) (at + sizeOf bs) (placeBehind p bs) rs
 unfolding placeBehind sizeOf
 lines-append n at p [] rs =
     let a : n ≡ n + 0 = omega arith in
@@ -120,36 +116,36 @@ lines-append n at p [] rs =
     (λ i. linesFrom (a i) (b i) p rs) ∙ ap (λ (ls : List Line). ls ++ linesFrom (n + 0) (at + 0) p rs) (sym (no-lines n at p))
 lines-append n at p (r ∷ bs) rs =
     let a : n + 1 + length bs ≡ n + suc (length bs) = omega arith in
-    let b : at + length (r .bytes) + 1 + sizeOf bs ≡ at + (length (r .bytes) + 1 + sizeOf bs) = omega arith in
-    by-cases _ (isBlankLine (contentIn r))
-    (λ (e : isBlankLine (contentIn r) ≡ true).
-    lines-blank n at p r (bs ++ rs) e ∙ lines-append (n + 1) (at + length (r .bytes) + 1) p bs rs
+    let b : at + r .size + 1 + sizeOf bs ≡ at + (r .size + 1 + sizeOf bs) = omega arith in
+    by-cases _ (isBlankLine (r .content))
+    (λ (e : isBlankLine (r .content) ≡ true).
+    lines-blank n at p r (bs ++ rs) e ∙ lines-append (n + 1) (at + r .size + 1) p bs rs
     ∙ (λ i. sym (lines-blank n at p r bs e) i ++ linesFrom (a i) (b i) (place-on p r bs e i) rs))
-    (λ (e : isBlankLine (contentIn r) ≡ false).
-    lines-said n at p r (bs ++ rs) e ∙ ap (λ (ls : List Line). lineAs n at p r ∷ ls) (lines-append (n + 1) (at + length (r .bytes) + 1) (placeAfter p (contentIn r)) bs rs)
+    (λ (e : isBlankLine (r .content) ≡ false).
+    lines-said n at p r (bs ++ rs) e ∙ ap (λ (ls : List Line). lineAs n at p r ∷ ls) (lines-append (n + 1) (at + r .size + 1) (placeAfter p (r .content)) bs rs)
     ∙ (λ i. sym (lines-said n at p r bs e) i ++ linesFrom (a i) (b i) (place-said p r bs e i) rs))
 
-block-lines : (p : ℕ) (r : Raw) (bs rs : List Raw) → isBlankLine (contentIn r) ≡ false → (n at : ℕ) →
-    linesFrom n at p (r ∷ (bs ++ rs)) ≡ lineAs n at p r ∷ (linesFrom (n + 1) (at + length (r .bytes) + 1) (placeAfter p (contentIn r)) bs ++ linesFrom (n + 1 + length bs) (at + length (r .bytes) + 1 + sizeOf bs) (placeBehind (placeAfter p (contentIn r)) bs) rs)
-block-lines p r bs rs e n at = lines-said n at p r (bs ++ rs) e ∙ ap (λ (ls : List Line). lineAs n at p r ∷ ls) (lines-append (n + 1) (at + length (r .bytes) + 1) (placeAfter p (contentIn r)) bs rs)
+block-lines : (p : ℕ) (r : Said) (bs rs : List Said) → isBlankLine (r .content) ≡ false → (n at : ℕ) →
+    linesFrom n at p (r ∷ (bs ++ rs)) ≡ lineAs n at p r ∷ (linesFrom (n + 1) (at + r .size + 1) (placeAfter p (r .content)) bs ++ linesFrom (n + 1 + length bs) (at + r .size + 1 + sizeOf bs) (placeBehind (placeAfter p (r .content)) bs) rs)
+block-lines p r bs rs e n at = lines-said n at p r (bs ++ rs) e ∙ ap (λ (ls : List Line). lineAs n at p r ∷ ls) (lines-append (n + 1) (at + r .size + 1) (placeAfter p (r .content)) bs rs)
 
-pub raws-alike : {p : ℕ} {rs qs : List Raw} → SameRaws p rs qs → (n at m to : ℕ) → AlikeLines (linesFrom n at p rs) (linesFrom m to p qs)
-raws-alike {p} ended n at m to = rw (no-lines n at p, no-lines m to p) none
-raws-alike {p} (blank {r = r} {rs = rs} e s) n at m to = rw (lines-blank n at p r rs e) (raws-alike s (n + 1) (at + length (r .bytes) + 1) m to)
-raws-alike {p} (other-blank {q = q} {qs = qs} e s) n at m to = rw (lines-blank m to p q qs e) (raws-alike s n at (m + 1) (to + length (q .bytes) + 1))
-raws-alike {p} (says {r = r} {q = q} {rs = rs} {qs = qs} e f s more-lines) n at m to =
-    rw (lines-said n at p r rs e, lines-said m to p q qs f, sym (place-same p (contentIn r) (contentIn q) s))
-    (line (record { place = refl; saying = s }) (raws-alike more-lines (n + 1) (at + length (r .bytes) + 1) (m + 1) (to + length (q .bytes) + 1)))
-raws-alike {p} (block {r = r} {q = q} {rs = rs} {qs = qs} bs cs e f numbers ends others same more-lines) n at m to =
+pub contents-alike : {p : ℕ} {rs qs : List Said} → SameContents p rs qs → (n at m to : ℕ) → AlikeLines (linesFrom n at p rs) (linesFrom m to p qs)
+contents-alike {p} ended n at m to = rw (no-lines n at p, no-lines m to p) none
+contents-alike {p} (blank {r = r} {rs = rs} e s) n at m to = rw (lines-blank n at p r rs e) (contents-alike s (n + 1) (at + r .size + 1) m to)
+contents-alike {p} (other-blank {q = q} {qs = qs} e s) n at m to = rw (lines-blank m to p q qs e) (contents-alike s n at (m + 1) (to + q .size + 1))
+contents-alike {p} (says {r = r} {q = q} {rs = rs} {qs = qs} e f s more-lines) n at m to =
+    rw (lines-said n at p r rs e, lines-said m to p q qs f, sym (place-same p (r .content) (q .content) s))
+    (line (record { place = refl; saying = s }) (contents-alike more-lines (n + 1) (at + r .size + 1) (m + 1) (to + q .size + 1)))
+contents-alike {p} (block {r = r} {q = q} {rs = rs} {qs = qs} bs cs e f numbers ends others same more-lines) n at m to =
     rw (block-lines p r bs rs e n at, block-lines p q cs qs f m to)
-    (matrix (linesFrom (n + 1) (at + length (r .bytes) + 1) (placeAfter p (contentIn r)) bs) (linesFrom (m + 1) (to + length (q .bytes) + 1) (placeAfter p (contentIn q)) cs) (numbers n at m to) (ends .stops _ _ _ _) (others .stops _ _ _ _)
-    (subst (λ (k : ℕ). AlikeLines (linesFrom (n + 1 + length bs) (at + length (r .bytes) + 1 + sizeOf bs) (placeBehind (placeAfter p (contentIn r)) bs) rs) (linesFrom (m + 1 + length cs) (to + length (q .bytes) + 1 + sizeOf cs) k qs)) same
-    (raws-alike more-lines (n + 1 + length bs) (at + length (r .bytes) + 1 + sizeOf bs) (m + 1 + length cs) (to + length (q .bytes) + 1 + sizeOf cs))))
+    (matrix (linesFrom (n + 1) (at + r .size + 1) (placeAfter p (r .content)) bs) (linesFrom (m + 1) (to + q .size + 1) (placeAfter p (q .content)) cs) (numbers n at m to) (ends .stops _ _ _ _) (others .stops _ _ _ _)
+    (subst (λ (k : ℕ). AlikeLines (linesFrom (n + 1 + length bs) (at + r .size + 1 + sizeOf bs) (placeBehind (placeAfter p (r .content)) bs) rs) (linesFrom (m + 1 + length cs) (to + q .size + 1 + sizeOf cs) k qs)) same
+    (contents-alike more-lines (n + 1 + length bs) (at + r .size + 1 + sizeOf bs) (m + 1 + length cs) (to + q .size + 1 + sizeOf cs))))
 
 -- texts whose lines say the same are alike
-pub texts-alike : (t u : List ℕ) → SameRaws before (lines t) (lines u) → Alike t u
+pub texts-alike : (t u : List ℕ) → SameContents before (contents t) (contents u) → Alike t u
 unfolding significant linesAt
-texts-alike t u s = raws-alike s 1 0 1 0
+texts-alike t u s = contents-alike s 1 0 1 0
 
 -- ---- texts written line by line
 
@@ -162,7 +158,7 @@ textOf (c ∷ cs) = c ++ (lineFeed ∷ textOf cs)
 pub record Whole (c : List ℕ) : Type 0 where
   pub no-feed : all (isBefore lineFeed) c ≡ true
 
-abbrev pub rawOf : List ℕ → Raw
+abbrev rawOf : List ℕ → Raw
 rawOf c = record { bytes = c; ended = true }
 
 push-line : (b : ℕ) (l : Raw) (ls : List Raw) → pushed b (l ∷ ls) ≡ record { bytes = b ∷ l .bytes; ended = l .ended } ∷ ls
@@ -182,43 +178,51 @@ line-first (b ∷ c) s e =
     grown-line : (x : ℕ) (y z : List ℕ) → pushed x (rawOf y ∷ lines z) ≡ rawOf (x ∷ y) ∷ lines z
     grown-line x y z = push-line x (rawOf y) (lines z)
 
-pub text-lines : (cs : List (List ℕ)) → Each Whole cs → lines (textOf cs) ≡ map rawOf cs
-unfolding textOf lines
-text-lines [] each-none = refl
-text-lines (c ∷ cs) (each-more w ws) = line-first c (textOf cs) (w .no-feed) ∙ ap (λ (rs : List Raw). rawOf c ∷ rs) (text-lines cs ws)
+-- what a line of these bytes says
+abbrev pub saidOf : List ℕ → Said
+saidOf c = record { size = length c; content = contentOf commentByte c }
+
+said-first : (c s : List ℕ) → all (isBefore lineFeed) c ≡ true → contents (c ++ (lineFeed ∷ s)) ≡ saidOf c ∷ contents s
+unfolding contents said
+said-first c s e = ap (map said) (line-first c s e)
+
+pub text-contents : (cs : List (List ℕ)) → Each Whole cs → contents (textOf cs) ≡ map saidOf cs
+unfolding textOf contents lines
+text-contents [] each-none = refl
+text-contents (c ∷ cs) (each-more w ws) = said-first c (textOf cs) (w .no-feed) ∙ ap (λ (rs : List Said). saidOf c ∷ rs) (text-contents cs ws)
 
 -- ---- the same lines, a line more, a line changed
 
-pub raws-self : (p : ℕ) (rs : List Raw) → SameRaws p rs rs
-raws-self p [] = ended
-raws-self p (r ∷ rs) =
-    by-cases _ (isBlankLine (contentIn r))
-    (λ (e : isBlankLine (contentIn r) ≡ true). blank e (other-blank e (raws-self p rs)))
-    (λ (e : isBlankLine (contentIn r) ≡ false). says e e (same-self p (contentIn r)) (raws-self (placeAfter p (contentIn r)) rs))
+pub contents-self : (p : ℕ) (rs : List Said) → SameContents p rs rs
+contents-self p [] = ended
+contents-self p (r ∷ rs) =
+    by-cases _ (isBlankLine (r .content))
+    (λ (e : isBlankLine (r .content) ≡ true). blank e (other-blank e (contents-self p rs)))
+    (λ (e : isBlankLine (r .content) ≡ false). says e e (same-self p (r .content)) (contents-self (placeAfter p (r .content)) rs))
 
-module _ (rs qs : List Raw) where
+module _ (rs qs : List Said) where
   -- the same lines may be put in front of both
-  pub raws-front : (p : ℕ) (xs : List Raw) → SameRaws (placeBehind p xs) rs qs → SameRaws p (xs ++ rs) (xs ++ qs)
+  pub contents-front : (p : ℕ) (xs : List Said) → SameContents (placeBehind p xs) rs qs → SameContents p (xs ++ rs) (xs ++ qs)
   unfolding placeBehind
-  raws-front p [] s = s
-  raws-front p (x ∷ xs) s =
-      by-cases _ (isBlankLine (contentIn x))
-      (λ (e : isBlankLine (contentIn x) ≡ true). blank e (other-blank e (raws-front p xs (rw (if-true {A = ℕ} p (placeAfter p (contentIn x)) e) at s))))
-      (λ (e : isBlankLine (contentIn x) ≡ false). says e e (same-self p (contentIn x)) (raws-front (placeAfter p (contentIn x)) xs (rw (if-false {A = ℕ} p (placeAfter p (contentIn x)) e) at s)))
+  contents-front p [] s = s
+  contents-front p (x ∷ xs) s =
+      by-cases _ (isBlankLine (x .content))
+      (λ (e : isBlankLine (x .content) ≡ true). blank e (other-blank e (contents-front p xs (rw (if-true {A = ℕ} p (placeAfter p (x .content)) e) at s))))
+      (λ (e : isBlankLine (x .content) ≡ false). says e e (same-self p (x .content)) (contents-front (placeAfter p (x .content)) xs (rw (if-false {A = ℕ} p (placeAfter p (x .content)) e) at s)))
 
 module _ (xs ys : List (List ℕ)) (xs-whole : Each Whole xs) (ys-whole : Each Whole ys) where
   abbrev behind : ℕ
-  behind = placeBehind before (map rawOf xs)
+  behind = placeBehind before (map saidOf xs)
 
-  joined-lines : (zs : List (List ℕ)) → Each Whole zs → lines (textOf (xs ++ zs)) ≡ map rawOf xs ++ map rawOf zs
-  joined-lines zs w = text-lines (xs ++ zs) (each-append xs-whole w) ∙ map-append rawOf xs zs
+  joined-contents : (zs : List (List ℕ)) → Each Whole zs → contents (textOf (xs ++ zs)) ≡ map saidOf xs ++ map saidOf zs
+  joined-contents zs w = text-contents (xs ++ zs) (each-append xs-whole w) ∙ map-append saidOf xs zs
 
   -- "comments, blank lines": a line whose content is blank, put in anywhere
   pub line-put-in : (c : List ℕ) → Whole c → isBlankLine (contentOf commentByte c) ≡ true → Alike (textOf (xs ++ ys)) (textOf (xs ++ (c ∷ ys)))
   line-put-in c w e =
       texts-alike _ _
-      (rw (joined-lines ys ys-whole, joined-lines (c ∷ ys) (each-more w ys-whole))
-      (raws-front (map rawOf ys) (rawOf c ∷ map rawOf ys) before (map rawOf xs) (other-blank e (raws-self behind (map rawOf ys)))))
+      (rw (joined-contents ys ys-whole, joined-contents (c ∷ ys) (each-more w ys-whole))
+      (contents-front (map saidOf ys) (saidOf c ∷ map saidOf ys) before (map saidOf xs) (other-blank e (contents-self behind (map saidOf ys)))))
 
   -- a line replaced by one that says the same in its place
   pub line-changed :
@@ -226,8 +230,8 @@ module _ (xs ys : List (List ℕ)) (xs-whole : Each Whole xs) (ys-whole : Each W
       SameSaying behind (contentOf commentByte a) (contentOf commentByte b) → Alike (textOf (xs ++ (a ∷ ys))) (textOf (xs ++ (b ∷ ys)))
   line-changed a b v w e f s =
       texts-alike _ _
-      (rw (joined-lines (a ∷ ys) (each-more v ys-whole), joined-lines (b ∷ ys) (each-more w ys-whole))
-      (raws-front (rawOf a ∷ map rawOf ys) (rawOf b ∷ map rawOf ys) before (map rawOf xs) (says e f s (raws-self (placeAfter behind (contentOf commentByte a)) (map rawOf ys)))))
+      (rw (joined-contents (a ∷ ys) (each-more v ys-whole), joined-contents (b ∷ ys) (each-more w ys-whole))
+      (contents-front (saidOf a ∷ map saidOf ys) (saidOf b ∷ map saidOf ys) before (map saidOf xs) (says e f s (contents-self (placeAfter behind (contentOf commentByte a)) (map saidOf ys)))))
 
 -- ---- small laws of lists of bytes
 
@@ -317,12 +321,12 @@ sides-of x y e =
       ap (λ (k : ℕ). ltb k (length (x ++ (code "=" ∷ y)))) n ∙ lt-ltb _ _ (front-shorter x (code "=" ∷ y) (code "=") y refl),
     )
 
-content-raws : (p : ℕ) (a b : List ℕ) (rs : List Raw) → contentOf commentByte a ≡ contentOf commentByte b → SameRaws p (rawOf a ∷ rs) (rawOf b ∷ rs)
-content-raws p a b rs e =
+content-same : (p : ℕ) (a b : List ℕ) (rs : List Said) → contentOf commentByte a ≡ contentOf commentByte b → SameContents p (saidOf a ∷ rs) (saidOf b ∷ rs)
+content-same p a b rs e =
     by-cases _ (isBlankLine (contentOf commentByte a))
-    (λ (h : isBlankLine (contentOf commentByte a) ≡ true). blank h (other-blank (ap isBlankLine (sym e) ∙ h) (raws-self p rs)))
+    (λ (h : isBlankLine (contentOf commentByte a) ≡ true). blank h (other-blank (ap isBlankLine (sym e) ∙ h) (contents-self p rs)))
     (λ (h : isBlankLine (contentOf commentByte a) ≡ false).
-    says h (ap isBlankLine (sym e) ∙ h) (subst (SameSaying p (contentOf commentByte a)) e (same-self p (contentOf commentByte a))) (raws-self (placeAfter p (contentOf commentByte a)) rs))
+    says h (ap isBlankLine (sym e) ∙ h) (subst (SameSaying p (contentOf commentByte a)) e (same-self p (contentOf commentByte a))) (contents-self (placeAfter p (contentOf commentByte a)) rs))
 
 -- ---- edits of one line of a text
 
@@ -331,8 +335,8 @@ module _ (xs ys : List (List ℕ)) (xs-whole : Each Whole xs) (ys-whole : Each W
   pub content-kept : (a b : List ℕ) → Whole a → Whole b → contentOf commentByte a ≡ contentOf commentByte b → Alike (textOf (xs ++ (a ∷ ys))) (textOf (xs ++ (b ∷ ys)))
   content-kept a b v w e =
       texts-alike _ _
-      (rw (joined-lines xs ys xs-whole ys-whole (a ∷ ys) (each-more v ys-whole), joined-lines xs ys xs-whole ys-whole (b ∷ ys) (each-more w ys-whole))
-      (raws-front (rawOf a ∷ map rawOf ys) (rawOf b ∷ map rawOf ys) before (map rawOf xs) (content-raws (placeBehind before (map rawOf xs)) a b (map rawOf ys) e)))
+      (rw (joined-contents xs ys xs-whole ys-whole (a ∷ ys) (each-more v ys-whole), joined-contents xs ys xs-whole ys-whole (b ∷ ys) (each-more w ys-whole))
+      (contents-front (saidOf a ∷ map saidOf ys) (saidOf b ∷ map saidOf ys) before (map saidOf xs) (content-same (placeBehind before (map saidOf xs)) a b (map saidOf ys) e)))
 
   -- "a comment added at a line's end"
   pub comment-added : (c x : List ℕ) → Whole c → Whole (c ++ (commentByte ∷ x)) → all (isContent commentByte) c ≡ true → Alike (textOf (xs ++ (c ∷ ys))) (textOf (xs ++ ((c ++ (commentByte ∷ x)) ∷ ys)))

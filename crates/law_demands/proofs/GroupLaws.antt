@@ -11,7 +11,7 @@ use Rattle.base.specs.If.{if_then_else_, both}
 use Rattle.base.specs.Broken.{Rule, _when_, firstBroken}
 use Rattle.base.specs.Refusal as refusal
 use Rattle.base.proofs.IfLaws.{if-true, if-false, by-cases, by-test}
-use Rattle.lex_line.specs.Lines.{Raw, contentOf, isBlankLine}
+use Rattle.lex_line.specs.Lines.{Raw, isBlankLine, Said}
 use Rattle.lex_line.specs.Words.{words, firstOf}
 use Rattle.lex_line.specs.ByteRules.{characterRules, rawLineRule, linesRule, refusedOr, sizeRules}
 use Rattle.lex_line.specs.declared.Checked.{Checked}
@@ -38,7 +38,7 @@ use Rattle.line_matrix.specs.declared.Matrix.{Matrix}
 use Rattle.line_keyword.specs.Keywords.{keywordRules}
 use Rattle.line_keyword.specs.declared.Counts.{Counts}
 use Rattle.line_keyword.specs.declared.State.{State}
-use Rattle.read_line.specs.Reading.{lineRules, RulesAndNext, bracketRulesAndNext, beforeRulesAndNext, rulesAndNext, goes, breaks, judged, lineResult, endOfTextRules, atEnd, onward, readFrom, commentByte, argumentFrom}
+use Rattle.read_line.specs.Reading.{lineRules, RulesAndNext, bracketRulesAndNext, beforeRulesAndNext, rulesAndNext, goes, breaks, judged, lineResult, endOfTextRules, atEnd, onward, readFrom, argumentFrom}
 use Rattle.read_line.specs.declared.LineResult.{LineResult}
 use Rattle.read_line.specs.declared.Reading.{Reading}
 use Rattle.read_line.specs.declared.Reading.the-variants.{Read, Refused}
@@ -238,40 +238,40 @@ module _ (step : LineResult) (n : ℕ) (more-lines : State → Reading) where
   unfolding onward
   on-broken e = if-false _ _ e
 
-pub forward-told : (n : ℕ) (ls : List Raw) (s : State) → Told (readFrom n ls s) (givenBy (forwardRulesAtLines n ls s))
+pub forward-told : (n : ℕ) (ls : List Said) (s : State) → Told (readFrom n ls s) (givenBy (forwardRulesAtLines n ls s))
 unfolding readFrom forwardRulesAtLines
 forward-told n [] s = end-told s
 forward-told n (l ∷ ls) s =
-    by-cases _ (eqb (firstBroken (rulesOn (contentOf commentByte (l .bytes)) s)) 0)
-    (λ (e : eqb (firstBroken (rulesOn (contentOf commentByte (l .bytes)) s)) 0 ≡ true).
-    let kept : eqb (lineResult (contentOf commentByte (l .bytes)) s .rule) 0 ≡ true = ap (λ (m : ℕ). eqb m 0) (step-number (contentOf commentByte (l .bytes)) s) ∙ e in
-    rw (on-kept (lineResult (contentOf commentByte (l .bytes)) s) n (readFrom (n + 1) ls) kept, if-true {A = List RulesAtLine} (forwardRulesAtLines (n + 1) ls (lineResult (contentOf commentByte (l .bytes)) s .state)) [] e, given-later (record { line = n; rules = rulesOn (contentOf commentByte (l .bytes)) s }) (forwardRulesAtLines (n + 1) ls (lineResult (contentOf commentByte (l .bytes)) s .state)) (eqb-true _ _ e)) (forward-told (n + 1) ls (lineResult (contentOf commentByte (l .bytes)) s .state)))
-    (λ (e : eqb (firstBroken (rulesOn (contentOf commentByte (l .bytes)) s)) 0 ≡ false).
-    let broken : eqb (lineResult (contentOf commentByte (l .bytes)) s .rule) 0 ≡ false = ap (λ (m : ℕ). eqb m 0) (step-number (contentOf commentByte (l .bytes)) s) ∙ e in
-    rw (on-broken (lineResult (contentOf commentByte (l .bytes)) s) n (readFrom (n + 1) ls) broken, given-here (record { line = n; rules = rulesOn (contentOf commentByte (l .bytes)) s }) (if eqb (firstBroken (rulesOn (contentOf commentByte (l .bytes)) s)) 0 then forwardRulesAtLines (n + 1) ls (lineResult (contentOf commentByte (l .bytes)) s .state) else []) (eqb-false _ _ e), sym (step-number (contentOf commentByte (l .bytes)) s)) (refused-at (lineResult (contentOf commentByte (l .bytes)) s .rule) n (eqb-false _ _ broken)))
+    by-cases _ (eqb (firstBroken (rulesOn (l .content) s)) 0)
+    (λ (e : eqb (firstBroken (rulesOn (l .content) s)) 0 ≡ true).
+    let kept : eqb (lineResult (l .content) s .rule) 0 ≡ true = ap (λ (m : ℕ). eqb m 0) (step-number (l .content) s) ∙ e in
+    rw (on-kept (lineResult (l .content) s) n (readFrom (n + 1) ls) kept, if-true {A = List RulesAtLine} (forwardRulesAtLines (n + 1) ls (lineResult (l .content) s .state)) [] e, given-later (record { line = n; rules = rulesOn (l .content) s }) (forwardRulesAtLines (n + 1) ls (lineResult (l .content) s .state)) (eqb-true _ _ e)) (forward-told (n + 1) ls (lineResult (l .content) s .state)))
+    (λ (e : eqb (firstBroken (rulesOn (l .content) s)) 0 ≡ false).
+    let broken : eqb (lineResult (l .content) s .rule) 0 ≡ false = ap (λ (m : ℕ). eqb m 0) (step-number (l .content) s) ∙ e in
+    rw (on-broken (lineResult (l .content) s) n (readFrom (n + 1) ls) broken, given-here (record { line = n; rules = rulesOn (l .content) s }) (if eqb (firstBroken (rulesOn (l .content) s)) 0 then forwardRulesAtLines (n + 1) ls (lineResult (l .content) s .state) else []) (eqb-false _ _ e), sym (step-number (l .content) s)) (refused-at (lineResult (l .content) s .rule) n (eqb-false _ _ broken)))
 
-pub forward-ranked : (n : ℕ) (ls : List Raw) (s : State) → AllRanked forward (forwardRulesAtLines n ls s)
+pub forward-ranked : (n : ℕ) (ls : List Said) (s : State) → AllRanked forward (forwardRulesAtLines n ls s)
 unfolding forwardRulesAtLines
 forward-ranked n [] s = more (end-ranked s) none
 forward-ranked n (l ∷ ls) s =
     more (rules-ranked _ s)
-    (by-test (AllRanked forward) (eqb (firstBroken (rulesOn (contentOf commentByte (l .bytes)) s)) 0) _ _ (λ e. forward-ranked (n + 1) ls (lineResult (contentOf commentByte (l .bytes)) s .state)) (λ e. none))
+    (by-test (AllRanked forward) (eqb (firstBroken (rulesOn (l .content) s)) 0) _ _ (λ e. forward-ranked (n + 1) ls (lineResult (l .content) s .state)) (λ e. none))
 
 -- the end of the text comes last
 before-end : (n : ℕ) (rules : List Rule) (s : State) → 0 < n → Before (record { line = n; rules = rules }) (endLook s)
 before-end n rules s p = record { above = λ (q : 0 < 0). absurd (omega arith); apart = λ (e : n ≡ 0). omega arith }
 
-forward-behind : (m : ℕ) (rules : List Rule) (n : ℕ) (ls : List Raw) (s : State) → 0 < m → m < n → Each (Before (record { line = m; rules = rules })) (forwardRulesAtLines n ls s)
+forward-behind : (m : ℕ) (rules : List Rule) (n : ℕ) (ls : List Said) (s : State) → 0 < m → m < n → Each (Before (record { line = m; rules = rules })) (forwardRulesAtLines n ls s)
 unfolding forwardRulesAtLines
 forward-behind m rules n [] s p l = more (before-end m rules s p) none
 forward-behind m rules n (r ∷ ls) s p l =
     more (before-at m rules _ p l)
-    (by-test (Each (Before (record { line = m; rules = rules }))) (eqb (firstBroken (rulesOn (contentOf commentByte (r .bytes)) s)) 0) _ _ (λ e. forward-behind m rules (n + 1) ls (lineResult (contentOf commentByte (r .bytes)) s .state) p (omega arith)) (λ e. none))
+    (by-test (Each (Before (record { line = m; rules = rules }))) (eqb (firstBroken (rulesOn (r .content) s)) 0) _ _ (λ e. forward-behind m rules (n + 1) ls (lineResult (r .content) s .state) p (omega arith)) (λ e. none))
 
-pub forward-ordered : (n : ℕ) (ls : List Raw) (s : State) → 0 < n → InOrder (forwardRulesAtLines n ls s)
+pub forward-ordered : (n : ℕ) (ls : List Said) (s : State) → 0 < n → InOrder (forwardRulesAtLines n ls s)
 unfolding forwardRulesAtLines
 forward-ordered n [] s p = followed none last
 forward-ordered n (l ∷ ls) s p =
     followed
-    (by-test (Each (Before _)) (eqb (firstBroken (rulesOn (contentOf commentByte (l .bytes)) s)) 0) _ _ (λ e. forward-behind n _ (n + 1) ls (lineResult (contentOf commentByte (l .bytes)) s .state) p (omega arith)) (λ e. none))
-    (by-test InOrder (eqb (firstBroken (rulesOn (contentOf commentByte (l .bytes)) s)) 0) _ _ (λ e. forward-ordered (n + 1) ls (lineResult (contentOf commentByte (l .bytes)) s .state) (omega arith)) (λ e. last))
+    (by-test (Each (Before _)) (eqb (firstBroken (rulesOn (l .content) s)) 0) _ _ (λ e. forward-behind n _ (n + 1) ls (lineResult (l .content) s .state) p (omega arith)) (λ e. none))
+    (by-test InOrder (eqb (firstBroken (rulesOn (l .content) s)) 0) _ _ (λ e. forward-ordered (n + 1) ls (lineResult (l .content) s .state) (omega arith)) (λ e. last))

@@ -13,11 +13,11 @@ use lib.Dec.{eqb}
 use Rattle.base.specs.If.{if_then_else_, both}
 use Rattle.base.specs.Broken.{Rule, _when_, firstBroken}
 use Rattle.base.specs.Refusal as refusal
-use Rattle.lex_line.specs.Lines.{Raw, lines, contentOf}
+use Rattle.lex_line.specs.Lines.{Raw, lines, Said, contents}
 use Rattle.lex_line.specs.ByteRules.{sizeRules, characterRules}
 use Rattle.line_keyword.specs.State.{startState}
 use Rattle.line_keyword.specs.declared.State.{State}
-use Rattle.read_line.specs.Reading.{rulesAndNext, lineResult, commentByte, endOfTextRules}
+use Rattle.read_line.specs.Reading.{rulesAndNext, lineResult, endOfTextRules}
 use Rattle.doc.specs.Document.{documentOf}
 use Rattle.intake.specs.Stored.{roomRules}
 use Rattle.cross_rules.specs.Listed.{RulesAtLine, Among}
@@ -36,12 +36,12 @@ abbrev pub rulesOn : List ℕ → State → List Rule
 rulesOn content s = rulesAndNext content s .rules
 
 -- line by line, up to the first line that breaks a rule; the end of the text comes last, as line 0
-unfoldable pub forwardRulesAtLines : ℕ → List Raw → State → List RulesAtLine
+unfoldable pub forwardRulesAtLines : ℕ → List Said → State → List RulesAtLine
 forwardRulesAtLines n [] s = record { line = 0; rules = endOfTextRules s } ∷ []
 forwardRulesAtLines n (l ∷ ls) s =
-    record { line = n; rules = rulesOn (contentOf commentByte (l .bytes)) s }
-    ∷ (if eqb (firstBroken (rulesOn (contentOf commentByte (l .bytes)) s)) 0
-    then forwardRulesAtLines (n + 1) ls (lineResult (contentOf commentByte (l .bytes)) s .state)
+    record { line = n; rules = rulesOn (l .content) s }
+    ∷ (if eqb (firstBroken (rulesOn (l .content) s)) 0
+    then forwardRulesAtLines (n + 1) ls (lineResult (l .content) s .state)
     else [])
 
 -- ---- the groups in their order
@@ -53,7 +53,7 @@ unfoldable pub group : List ℕ → ℕ → ℕ → List RulesAtLine
 group t size g =
     if eqb g 1 then record { line = 0; rules = sizeRules t } ∷ [] else
     if eqb g 2 then characterRulesAtLines 1 (lines t) else
-    if eqb g forward then forwardRulesAtLines 1 (lines t) startState else
+    if eqb g forward then forwardRulesAtLines 1 (contents t) startState else
     if eqb g 4 then record { line = 0; rules = roomRules t size } ∷ [] else
     if eqb g 5 then allRulesAtLines (documentOf t) else []
 

@@ -2,12 +2,12 @@
 -- Assumes nothing.
 use mathlib.Core.Path.{_≡_, refl, sym, _∙_, ap}
 use mathlib.Core.Bool.{Bool, true, false, not}
-use mathlib.Core.List.{List, [], _∷_}
+use mathlib.Core.List.{List, [], _∷_, map}
 use Prim.Native.Nat.{ℕ, suc, _+_, _-_, _≤_, _<_, zero-le, suc-le-suc}
 use native.Mathlib.Nat.{not-suc-le-zero}
 use native.Mathlib.Omega.{arith}
 use lib.ListN.{length, take, drop, getD, length-drop, drop-of-length-le, List·getD-eq-default}
-use lib.Seq.{drop-drop, take-take}
+use lib.Seq.{drop-drop, take-take, length-take-le}
 use lib.Dec.{ltb, eqb, leb·suc-suc}
 use borrow.Author.Tests.{not-true, ne-eqb, lt-ltb, le-ltb, ltb-true, ltb-false}
 use Rattle.base.specs.If.{if_then_else_}
@@ -16,8 +16,8 @@ use Rattle.base.specs.Runs.{run}
 use Rattle.base.specs.Way.Class.{runEnd}
 use Rattle.base.proofs.IfLaws.{if-true, if-false, by-cases, both-first, both-second, not-via, not-not-via}
 use Rattle.base.proofs.RunLaws.{run-nil, run-goes, run-stops, run-on, run-stop, run-past, run-le, run-through, run-wider, run-take}
-use Rattle.lex_line.specs.Lines.{Raw, pushed, lines, contentOf}
-use Rattle.lex_line.specs.Way.LineEnds.{pastFeed, lineAt}
+use Rattle.lex_line.specs.Lines.{Raw, pushed, lines, contentOf, commentByte, Said, said, contents}
+use Rattle.lex_line.specs.Way.LineEnds.{pastFeed, lineAt, saidAt}
 
 pub content-before-feed : (comment b : ℕ) → isContent comment b ≡ true → isBefore lineFeed b ≡ true
 unfolding isContent
@@ -84,8 +84,8 @@ module _ (comment : ℕ) (t : List ℕ) (at : ℕ) where
       let k : run (isContent comment) (drop at t) ≡ 0 = run-stop (isContent comment) t at h (sym told ∙ not-true is e) in
       omega arith
 
-  pub content-through : (mid content : ℕ) → comment ≡ 124 → content ≡ runEnd (isContent 124) t mid →
-      runEnd (isContent 124) t mid ≡ runEnd (isContent 124) t at → content ≡ runEnd (isContent comment) t at
+  pub content-through : (mid content : ℕ) → comment ≡ 124 → content ≡ runEnd (isContent commentByte) t mid →
+      runEnd (isContent commentByte) t mid ≡ runEnd (isContent commentByte) t at → content ≡ runEnd (isContent comment) t at
   content-through mid content e f g = f ∙ g ∙ ap (λ (b : ℕ). runEnd (isContent b) t at) (sym e)
 
 -- a position with an LF is inside the text
@@ -233,3 +233,25 @@ unfolding lineAt
 content-at comment t at =
     let k : at + run (isContent comment) (drop at t) - at ≡ run (isContent comment) (drop at t) = omega arith in
     rw k (content-of comment (drop at t))
+
+-- ---- what the lines from a position on say
+
+contents-first : (u : List ℕ) (l : Raw) (v : List ℕ) → lines u ≡ l ∷ lines v → contents u ≡ said l ∷ contents v
+unfolding contents
+contents-first u l v e = ap (map said) e
+
+said-at : (t : List ℕ) (at : ℕ) → said (firstOf (drop at t)) ≡ saidAt t at
+unfolding said
+said-at t at =
+    let k : length (take (run (isBefore lineFeed) (drop at t)) (drop at t)) ≡ run (isBefore lineFeed) (drop at t) = length-take-le _ _ (run-le _ (drop at t)) in
+    λ i. record { size = k i; content = content-at commentByte t at i }
+
+-- the line there, and then the lines from its `next` on
+pub contents-at : (t : List ℕ) (at : ℕ) → at < length t → contents (drop at t) ≡ saidAt t at ∷ contents (drop (lineAt commentByte t at .next) t)
+contents-at t at h =
+    contents-first _ _ _ (lines-at commentByte t at h) ∙ ap (λ (s : Said). s ∷ contents (drop (lineAt commentByte t at .next) t)) (said-at t at)
+
+-- there is none at the end of the text
+pub contents-none : (t : List ℕ) (at : ℕ) → length t ≤ at → contents (drop at t) ≡ []
+unfolding contents
+contents-none t at h = ap (λ (u : List ℕ). map said (lines u)) (drop-of-length-le t h) ∙ ap (map said) lines-nil

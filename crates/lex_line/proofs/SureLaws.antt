@@ -21,6 +21,7 @@ use Rattle.base.specs.Way.Joined.{joined, isByte, Joins}
 use Rattle.base.proofs.IfLaws.{by-cases, both-true, both-first, both-second, not-via}
 use Rattle.base.proofs.RunLaws.{all-nil, all-cons, run-block}
 use Rattle.base.proofs.JoinedLaws.{joined-cons, byte-below}
+use Rattle.lex_line.specs.Lines.{commentByte}
 
 -- ---- a byte in front of others
 
@@ -103,7 +104,7 @@ before-other : (stop b : ℕ) → (b ≡ stop → ⊥) → isBefore stop b ≡ t
 unfolding isBefore
 before-other stop b h = not-via (ne-eqb b stop h)
 
-between : (b l : ℕ) → b < 256 → l ≡ b % 128 → 14 ≤ l → l < 124 → isContent 124 b ≡ true
+between : (b l : ℕ) → b < 256 → l ≡ b % 128 → 14 ≤ l → l < 124 → isContent commentByte b ≡ true
 unfolding isContent
 between b l h e f g =
     both-true _ _ (before-other 124 b (λ (z : b ≡ 124). omega arith))
@@ -124,7 +125,7 @@ doubt-small b =
     let r : bitAnd (bitAnd b 127 + 4) 128 ≤ 128 = and-le-r (bitAnd b 127 + 4) 128 in
     or-lt 8 (128 - bitAnd (bitAnd b 127 + 114) 128) (bitAnd (bitAnd b 127 + 4) 128) (omega arith) (omega arith)
 
-sure-content : (b : ℕ) → b < 256 → doubtOf b ≡ 0 → isContent 124 b ≡ true
+sure-content : (b : ℕ) → b < 256 → doubtOf b ≡ 0 → isContent commentByte b ≡ true
 unfolding doubtOf
 sure-content b h e =
     let l : bitAnd b 127 ≡ b % 128 = and-mask b 7 in
@@ -177,10 +178,10 @@ tz-many (suc j) k n h =
 
 -- r whole bytes of zeros mean r bytes of content at the front
 sure-run : (s : List ℕ) → all isByte s ≡ true → (r : ℕ) → 8 * r ≤ trailingZeros (8 * length s) (doubts (length s) (joined s)) →
-    all (isContent 124) (take r s) ≡ true
-sure-run [] small zero h = all-nil (isContent 124)
-sure-run [] small (suc r) h = all-nil (isContent 124)
-sure-run (b ∷ s) small zero h = all-nil (isContent 124)
+    all (isContent commentByte) (take r s) ≡ true
+sure-run [] small zero h = all-nil (isContent commentByte)
+sure-run [] small (suc r) h = all-nil (isContent commentByte)
+sure-run (b ∷ s) small zero h = all-nil (isContent commentByte)
 sure-run (b ∷ s) small (suc r) h =
     let hb : both (isByte b) (all isByte s) ≡ true = sym (all-cons isByte b s) ∙ small in
     let bb : b < 256 = byte-below b (both-first _ _ hb) in
@@ -196,7 +197,7 @@ sure-run (b ∷ s) small (suc r) h =
     let v : trailingZeros (8 + 8 * length s) (doubtOf b + 256 * doubts (length s) (joined s)) ≡ 8 + trailingZeros (8 * length s) (m .rest) = m .zeros in
     let u : trailingZeros (8 * length s) (m .rest) ≡ trailingZeros (8 * length s) (doubts (length s) (joined s)) =
     ap (trailingZeros (8 * length s)) q in
-    all-cons (isContent 124) b (take r s)
+    all-cons (isContent commentByte) b (take r s)
     ∙ both-true _ _ (sure-content b bb z) (sure-run s (both-second _ _ hb) r (omega arith))
 
 -- ---- eight bytes of a text
@@ -215,7 +216,7 @@ module _ (t : List ℕ) (at w r : ℕ) (room : at + 8 ≤ length t) (joins : Joi
       let l : trailingZeros 64 (eightDoubts w) ≤ 64 = trailing-le 64 (eightDoubts w) in
       omega arith
 
-  sure-all : all (isContent 124) (take r (drop at t)) ≡ true
+  sure-all : all (isContent commentByte) (take r (drop at t)) ≡ true
   sure-all =
       let d : length (drop at t) ≡ length t - at = length-drop at t in
       let n : length (take 8 (drop at t)) ≡ 8 = length-take-le 8 (drop at t) (omega arith) in
@@ -225,30 +226,30 @@ module _ (t : List ℕ) (at w r : ℕ) (room : at + 8 ≤ length t) (joins : Joi
       ≡ trailingZeros 64 (eightDoubts w) =
       ap (λ (k : ℕ). trailingZeros (8 * k) (doubts (length (take 8 (drop at t))) (joined (take 8 (drop at t))))) n
       ∙ ap (trailingZeros 64) (e ∙ eight-doubts w) in
-      let h : all (isContent 124) (take r (take 8 (drop at t))) ≡ true =
+      let h : all (isContent commentByte) (take r (take 8 (drop at t))) ≡ true =
       sure-run (take 8 (drop at t)) (joins .bytes) r (omega arith) in
-      ap (all (isContent 124)) (sym (take-take r 8 (drop at t) sure-few)) ∙ h
+      ap (all (isContent commentByte)) (sym (take-take r 8 (drop at t) sure-few)) ∙ h
 
-  pub sure-told : (r ≤ 8) × (all (isContent 124) (take r (drop at t)) ≡ true)
+  pub sure-told : (r ≤ 8) × (all (isContent commentByte) (take r (drop at t)) ≡ true)
   sure-told = (sure-few, sure-all)
 
 -- a loop that skips r bytes of content stays in the content
-pub sure-on : (t : List ℕ) (i r end : ℕ) → 8 ≤ length t - i → i ≤ length t → r ≤ 8 → all (isContent 124) (take r (drop i t)) ≡ true →
-    runEnd (isContent 124) t i ≡ end → runEnd (isContent 124) t (i + r) ≡ end
+pub sure-on : (t : List ℕ) (i r end : ℕ) → 8 ≤ length t - i → i ≤ length t → r ≤ 8 → all (isContent commentByte) (take r (drop i t)) ≡ true →
+    runEnd (isContent commentByte) t i ≡ end → runEnd (isContent commentByte) t (i + r) ≡ end
 sure-on t i r end room h few a inv =
     let l : length (drop i t) ≡ length t - i = length-drop i t in
     let g : r ≤ length (drop i t) = omega arith in
-    let k : run (isContent 124) (drop i t) ≡ r + run (isContent 124) (drop r (drop i t)) = run-block (isContent 124) r (drop i t) g a in
+    let k : run (isContent commentByte) (drop i t) ≡ r + run (isContent commentByte) (drop r (drop i t)) = run-block (isContent commentByte) r (drop i t) g a in
     let d : drop r (drop i t) ≡ drop (i + r) t = drop-drop r i t in
-    let m : run (isContent 124) (drop i t) ≡ r + run (isContent 124) (drop (i + r) t) = rw d at k in
+    let m : run (isContent commentByte) (drop i t) ≡ r + run (isContent commentByte) (drop (i + r) t) = rw d at k in
     omega arith
 
 -- the same for all eight bytes: r is 8 if it is not less
-pub sure-whole : (t : List ℕ) (i r end : ℕ) → 8 ≤ length t - i → i ≤ length t → r ≤ 8 → 8 ≤ r → all (isContent 124) (take r (drop i t)) ≡ true →
-    runEnd (isContent 124) t i ≡ end → runEnd (isContent 124) t (i + 8) ≡ end
+pub sure-whole : (t : List ℕ) (i r end : ℕ) → 8 ≤ length t - i → i ≤ length t → r ≤ 8 → 8 ≤ r → all (isContent commentByte) (take r (drop i t)) ≡ true →
+    runEnd (isContent commentByte) t i ≡ end → runEnd (isContent commentByte) t (i + 8) ≡ end
 sure-whole t i r end room h few many a inv =
     let e : r ≡ 8 = omega arith in
-    ap (λ (k : ℕ). runEnd (isContent 124) t (i + k)) (sym e) ∙ sure-on t i r end room h few a inv
+    ap (λ (k : ℕ). runEnd (isContent commentByte) t (i + k)) (sym e) ∙ sure-on t i r end room h few a inv
 
 -- the bounds that the sums and differences of the code need
 pub low-fits : (w : ℕ) → bitAnd w 0x7f7f_7f7f_7f7f_7f7f ≤ 0x7f7f_7f7f_7f7f_7f7f

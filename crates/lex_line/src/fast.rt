@@ -9,6 +9,7 @@ ghost use Rattle.base.specs.Way.Class.{runEnd};
 ghost use Rattle.base.specs.Bytes.{isBefore, isContent};
 ghost use Rattle.lex_line.specs.Words.{backRun};
 ghost use Rattle.lex_line.specs.Way.LineFeeds.{lineFeedOf, lineFeeds, isLineByte, ResumesLines};
+ghost use Rattle.lex_line.specs.Lines.{commentByte};
 ghost use Rattle.base.specs.If.{if_then_else_};
 ghost use lib.Dec.{eqb};
 use base::Class;
@@ -27,7 +28,7 @@ const SHORT: usize = 64;
 // is content. Any other byte may or may not be.
 fn content_of_eight(text: &[u8], at: usize) -> usize
     requires { ⌜ at + 8 ≤ length (now text) ⌝ }
-    ensures { λ r. ⌜ (r ≤ 8) × (all (isContent 124) (take r (drop at (now (text .entry)))) ≡ true) ⌝ }
+    ensures { λ r. ⌜ (r ≤ 8) × (all (isContent commentByte) (take r (drop at (now (text .entry)))) ≡ true) ⌝ }
 {
     let low = base::fast::eight_at(text, at) & 0x7f7f_7f7f_7f7f_7f7f;
     let least = (low + 0x7272_7272_7272_7272) & 0x8080_8080_8080_8080;
@@ -40,7 +41,7 @@ fn content_of_eight(text: &[u8], at: usize) -> usize
 // first byte that still has to be tested.
 pub fn skip_content(text: &[u8], from: usize) -> usize
     requires { ⌜ from ≤ length (now text) ⌝ }
-    ensures { λ r. ⌜ runEnd (isContent 124) (now (text .entry)) r ≡ runEnd (isContent 124) (now (text .entry)) from ⌝ }
+    ensures { λ r. ⌜ runEnd (isContent commentByte) (now (text .entry)) r ≡ runEnd (isContent commentByte) (now (text .entry)) from ⌝ }
 {
     let mut i = from;
     while EIGHT <= text.len() - i {
@@ -108,7 +109,7 @@ pub fn has_other_end(a: &[u8], b: &[u8]) -> bool
 }
 
 // 1 for an LF, 0 for any other byte.
-pub fn line_feed_of(b: u8) -> u8
+fn line_feed_of(b: u8) -> u8
     ensures { λ r. ⌜ r ≡ lineFeedOf b ⌝ }
 {
     if b == crate::LINE_FEED {
@@ -118,7 +119,7 @@ pub fn line_feed_of(b: u8) -> u8
 }
 
 // How many of sixteen bytes are LFs. The loop tests every byte, so that a processor can test them at once.
-pub fn line_feeds_in(text: &[u8], from: usize) -> u8
+fn line_feeds_in(text: &[u8], from: usize) -> u8
     requires { ⌜ from + 16 ≤ length (now text) ⌝ }
     ensures { λ r. ⌜ r ≡ lineFeeds (take 16 (drop from (now (text .entry)))) ⌝ }
 {

@@ -16,7 +16,7 @@ use base::Class;
 pub mod fast;
 
 // "From `|` on, a line is comment".
-const BAR: u8 = 124;
+pub const COMMENT: u8 = b'|';
 
 const LINE_FEED: u8 = 10;
 
@@ -75,10 +75,10 @@ fn past_content(text: &[u8], at: usize, comment: u8) -> usize
     if !base::in_class(Class::Content(comment), text[at]) {
         return at;
     }
-    if comment != BAR {
+    if comment != COMMENT {
         return past_rest(text, at, comment);
     }
-    past_rest(text, fast::skip_content(text, at), BAR)
+    past_rest(text, fast::skip_content(text, at), COMMENT)
 }
 
 // The position of the first LF at or after `from`, or the end of the text if there is none. The next byte is tested

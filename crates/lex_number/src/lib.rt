@@ -81,7 +81,7 @@ pub struct Decimal {
 }
 
 // "256 times m's size, plus 2(k+64), plus 1 if negative"; `shifted` is k + 64.
-pub fn value_word(negative: bool, size: u64, shifted: u64) -> u64
+fn value_word(negative: bool, size: u64, shifted: u64) -> u64
     requires { ⌜ size < 1_000_000_000_000_000 ⌝ ∗ ⌜ shifted < 128 ⌝ }
     ensures { λ r. ⌜ r ≡ valueWord negative size shifted ⌝ }
 {

@@ -5,7 +5,7 @@ ghost use mathlib.Core.Bool.{true, false};
 ghost use Rattle.table_layout.specs.Bounds.{mostBandwidth};
 ghost use Rattle.lex_number.specs.Number.{isFormed, isBounded};
 ghost use Rattle.lex_line.specs.Words.{words};
-ghost use Rattle.line_matrix.specs.Matrix.{newMatrix, isWrongBandwidth, isWrongRow, withBandwidth, inRow, standsAbove, stillFits, withRow, numbersLine, pairLine, sparseLine, dataLineOf, isDataOutOfOrder, areTooMany, dataRule, withColumn, dataNext, shapeConductors, isShaped, isWrongShape, isTooWide};
+ghost use Rattle.line_matrix.specs.Matrix.{newMatrix, isWrongBandwidth, isWrongRow, withBandwidth, inRow, standsAbove, stillFits, withRow, numbersLine, pairLine, sparseLine, dataLineOf, isDataOutOfOrder, areTooMany, dataRule, shapeConductors, isShaped, isWrongShape, isTooWide};
 use lex_number::Number;
 use lex_number::Whole;
 
@@ -319,38 +319,6 @@ pub fn data_rule(l: DataLine, m: Matrix, values: u64) -> u64
         return base::refusal::LIMIT;
     }
     0
-}
-
-// The matrix after a value in this column of a Sparse_matrix: columns rise, and none is below the row.
-fn with_column(column: u64, m: Matrix) -> Matrix
-    requires { ⌜ column < 4294967296 ⌝ }
-    ensures { λ r. ⌜ r ≡ withColumn column m ⌝ }
-{
-    let rows = m.rows;
-    let next = Rows {
-        row: rows.row,
-        above: rows.above,
-        from: rows.from,
-        least: column + 1,
-        greatest: base::greater(rows.greatest, column),
-        fits: base::and(rows.fits, rows.least <= column),
-    };
-    Matrix {
-        form: m.form,
-        band: m.band,
-        first: m.first,
-        rows: next,
-    }
-}
-
-pub fn data_next(l: DataLine, m: Matrix) -> Matrix
-    requires { ⌜ l .column < 4294967296 ⌝ }
-    ensures { λ r. ⌜ r ≡ dataNext l m ⌝ }
-{
-    if m.form == table_layout::code::SPARSE {
-        return with_column(l.column, m);
-    }
-    m
 }
 
 // N, by the form: the count of numbers of a Diagonal_matrix, the greatest row or column of a Sparse_matrix, else the

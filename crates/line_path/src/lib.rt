@@ -365,7 +365,7 @@ fn is_out_of_order(l: PathLine, p: Path) -> bool
 }
 
 // Of the lines that a path takes, all but Side are steps.
-pub fn is_step(l: PathLine) -> bool
+fn is_step(l: PathLine) -> bool
     ensures { λ r. ⌜ r ≡ isStepLine l ⌝ }
 {
     l.says != SIDE

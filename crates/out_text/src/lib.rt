@@ -33,7 +33,7 @@ pub fn put_byte(out: &mut [u8], at: usize, byte: u8) -> usize
     at + 1
 }
 
-pub fn put_bytes(out: &mut [u8], at: usize, bytes: &[u8]) -> usize
+fn put_bytes(out: &mut [u8], at: usize, bytes: &[u8]) -> usize
     ensures { λ r. ⌜ Written (now (out .entry)) (now (out .exit)) at r (now (bytes .entry)) ⌝ }
 {
     let mut next = lesser(at, out.len());

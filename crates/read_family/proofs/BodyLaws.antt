@@ -11,7 +11,7 @@ use lib.Dec.{eqb}
 use borrow.Author.Tests.{eq-eqb, ne-eqb}
 use Rattle.base.specs.If.{if_then_else_}
 use Rattle.base.proofs.IfLaws.{if-true, if-false, by-cases, both-true, both-not-left}
-use Rattle.lex_line.specs.Lines.{lines}
+use Rattle.lex_line.specs.Lines.{contents}
 use Rattle.line_place.specs.Place.{isInModel}
 use Rattle.line_place.specs.Place as place
 use Rattle.line_head.specs.Head.{headLineOf, headNext}
@@ -90,7 +90,7 @@ follow-outside inside p h (follow.more {l = l} {ls = ls} e rest) = up-out inside
 pub models-outside : (t : List ℕ) (n at p : ℕ) → isInModel p ≡ false → upTo inModel (linesAt t n at p) ≡ []
 unfolding linesAt inModel
 models-outside t n at p out =
-    follow-outside inModel p (λ (l : Line) (e : l .place ≡ p). ap isInModel e ∙ out) (lines-follow n at p (lines (drop at t)))
+    follow-outside inModel p (λ (l : Line) (e : l .place ≡ p). ap isInModel e ∙ out) (lines-follow n at p (contents (drop at t)))
 
 -- ---- lines without a keyword in a place
 

@@ -11,7 +11,7 @@ use lib.Dec.{eqb}
 use borrow.Author.Tests.{eq-eqb, eqb-true, eqb-false}
 use Rattle.base.specs.If.{either}
 use Rattle.base.proofs.IfLaws.{if-true, by-cases}
-use Rattle.lex_line.specs.Lines.{lines}
+use Rattle.lex_line.specs.Lines.{contents}
 use Rattle.line_place.specs.Place.{isInModel}
 use Rattle.line_place.specs.Place as place
 use Rattle.line_keyword.specs.State.{startState, noCounts}
@@ -35,7 +35,7 @@ use Rattle.doc.specs.Way.Found.{IsPlain}
 use Rattle.doc.proofs.PlainLaws.{plainly-quiet}
 use Rattle.read_path.specs.Way.Path.{GoesPath}
 use Rattle.read_family.specs.Way.Pins.{GoesPins}
-use Rattle.read_family.specs.Way.Idle.{SkipsIdle}
+use Rattle.doc.specs.Way.Idle.{SkipsIdle}
 use Rattle.read_family.specs.Way.Blocks.{isInMap, Carries}
 use Rattle.read_family.specs.Way.Family.{Alone, walkOf, Passes, Continues, afterSteps, afterPins, followed, Follows, FamilyStaged, FamilyRead}
 use Rattle.read_family.specs.declared.Open.{Open}
@@ -90,7 +90,6 @@ reached t at line fits put rule further last crossed s f on ahead =
       same = crossed .same s f;
       further = ahead;
       onward = λ (e : rule ≡ 0). record { within = crossed .within; counted = omega arith; kept = crossed .kept e s f (on .kept) };
-      rises = λ (e : rule ≡ 0). crossed .rises e s f;
     }
 
 -- ---- lines of a path
@@ -362,7 +361,7 @@ module _ (t : List ℕ) (line at : ℕ) (s : State) (o : Open) (models steps map
           none-yet = carries .none-yet;
         }
 
-  module _ (on : Onward t at line s) (same : readFrom line (lines (drop at t)) s ≡ readingOf t) where
+  module _ (on : Onward t at line s) (same : readFrom line (contents (drop at t)) s ≡ readingOf t) where
     abbrev walk : Walk
     walk = record { rule = 0; at = at; line = line; state = s }
 
@@ -395,7 +394,7 @@ module _ (t : List ℕ) (line at : ℕ) (s : State) (o : Open) (models steps map
 
 -- a line breaks a rule
 pub family-stops :
-    (t : List ℕ) (at line : ℕ) (s : State) → readFrom line (lines (drop at t)) s ≡ readingOf t → (o : Open) (models steps maps pins : List ℕ) (w : FamilyWalk)
+    (t : List ℕ) (at line : ℕ) (s : State) → readFrom line (contents (drop at t)) s ≡ readingOf t → (o : Open) (models steps maps pins : List ℕ) (w : FamilyWalk)
     (models' steps' maps' pins' : List ℕ) → Continues t at line s o models steps maps pins w models' steps' maps' pins' → (w .rule ≡ 0 → ⊥) →
     (c : Cursor) → FamilyRead t (walkOf w) c models' steps' maps' pins'
 family-stops t at line s same o models steps maps pins w models' steps' maps' pins' continues broken c =
@@ -427,7 +426,7 @@ module _ (t : List ℕ) (at line : ℕ) (s : State) (o : Open) (models steps map
   pub family-on : Onward t (w .at) (w .line) (w .state)
   family-on = continues .resumes .onward z
 
-  pub family-same : readFrom line (lines (drop at t)) s ≡ readingOf t → readFrom (w .line) (lines (drop (w .at) t)) (w .state) ≡ readingOf t
+  pub family-same : readFrom line (contents (drop at t)) s ≡ readingOf t → readFrom (w .line) (contents (drop (w .at) t)) (w .state) ≡ readingOf t
   unfolding resume
   family-same same = sym (if-true _ _ (eq-eqb _ _ z)) ∙ continues .resumes .same ∙ same
 

@@ -6,16 +6,15 @@ use mathlib.Core.Bool.{Bool, true, false}
 use mathlib.Core.List.{List, [], _∷_}
 use Prim.Native.Nat.{ℕ, _+_, _≤_, _<_}
 use native.Mathlib.Omega.{arith}
-use lib.ListN.{length, drop}
+use lib.ListN.{drop}
 use lib.Dec.{eqb}
 use borrow.Author.Tests.{ne-eqb}
 use Rattle.base.specs.If.{if_then_else_}
 use Rattle.base.proofs.IfLaws.{if-false, by-cases, both-not-left, either-false}
-use Rattle.lex_line.specs.Lines.{Raw, lines, contentOf, isBlankLine}
+use Rattle.lex_line.specs.Lines.{Said, isBlankLine, contents}
 use Rattle.line_place.specs.Place.{moved, movedByLine, leadsInMatrix, leadsInSection, leadsAfterFamily, isInModel, isInFamily, isInHeader}
 use Rattle.line_place.specs.Place as place
 use Rattle.lex_keyword.specs.Names.{icmVer, beginHeader, beginIcmFamily}
-use Rattle.read_line.specs.Reading.{commentByte}
 use Rattle.doc.specs.Lines.{Line, placeAfter, linesFrom, linesAt, gather}
 use Rattle.doc.specs.Lines.{standsIn}
 use Rattle.doc.specs.Document.{mapAt, modelAt, opensMap, opensModel, pinAt, stepOf}
@@ -80,19 +79,19 @@ late-place p content h = late-if _ _ _ (late-line p _ h) (late-moved p _ h)
 
 -- what gives nothing in a late place gives nothing from there on
 module _ {B : Type 0} (block : Line → List Line → List B) (silent : (l : Line) (ls : List Line) → place.after ≤ l .place → block l ls ≡ []) where
-  late-lines : (n at p : ℕ) (rs : List Raw) → place.after ≤ p → gather block (linesFrom n at p rs) ≡ []
+  late-lines : (n at p : ℕ) (rs : List Said) → place.after ≤ p → gather block (linesFrom n at p rs) ≡ []
   late-lines n at p [] h = ap (gather block) (lines-none n at p) ∙ gather-none block
   late-lines n at p (r ∷ rs) h =
-      by-cases _ (isBlankLine (contentOf commentByte (r .bytes)))
-      (λ (b : isBlankLine (contentOf commentByte (r .bytes)) ≡ true). ap (gather block) (lines-blank n at p r rs b) ∙ late-lines (n + 1) (at + length (r .bytes) + 1) p rs h)
-      (λ (b : isBlankLine (contentOf commentByte (r .bytes)) ≡ false).
+      by-cases _ (isBlankLine (r .content))
+      (λ (b : isBlankLine (r .content) ≡ true). ap (gather block) (lines-blank n at p r rs b) ∙ late-lines (n + 1) (at + r .size + 1) p rs h)
+      (λ (b : isBlankLine (r .content) ≡ false).
       ap (gather block) (lines-said n at p r rs b)
       ∙ gather-quiet block _ _ (silent _ _ h)
-      ∙ late-lines (n + 1) (at + length (r .bytes) + 1) (placeAfter p (contentOf commentByte (r .bytes))) rs (late-place p _ h))
+      ∙ late-lines (n + 1) (at + r .size + 1) (placeAfter p (r .content)) rs (late-place p _ h))
 
   pub late-quiet : (t : List ℕ) (n at p : ℕ) → place.after ≤ p → gather block (linesAt t n at p) ≡ []
   unfolding linesAt
-  late-quiet t n at p h = late-lines n at p (lines (drop at t)) h
+  late-quiet t n at p h = late-lines n at p (contents (drop at t)) h
 
 pub late-map : (l : Line) (ls : List Line) → place.after ≤ l .place → mapAt l ls ≡ []
 unfolding mapAt opensMap

@@ -1,6 +1,5 @@
 pub mod ListedLaws
 pub mod PinLaws
-pub mod IdleLaws
 pub mod OpenLaws
 pub mod LateLaws
 pub mod BodyLaws

@@ -14,8 +14,8 @@ use Rattle.base.specs.Bytes.{isBlank}
 use Rattle.base.specs.Runs.{run}
 use Rattle.base.proofs.IfLaws.{if-true, if-false, by-cases, not-via}
 use Rattle.base.proofs.RunLaws.{all-run}
-use Rattle.lex_line.specs.Lines.{isBlankLine}
-use Rattle.lex_line.specs.Way.LineEnds.{lineAt}
+use Rattle.lex_line.specs.Lines.{isBlankLine, commentByte}
+use Rattle.lex_line.specs.Way.LineEnds.{lineAt, contentAt}
 use Rattle.lex_keyword.specs.Bracket.{bracketOf, isOpen}
 use Rattle.lex_keyword.specs.declared.Bracket.the-variants.{Plain}
 use Rattle.line_place.specs.Place.{isInModel}
@@ -23,8 +23,8 @@ use Rattle.line_place.specs.Place as place
 use Rattle.line_keyword.specs.Way.Bounded.{mostLines}
 use Rattle.line_keyword.specs.declared.State.{State}
 use Rattle.table_record.proofs.StageLaws.{held-same}
-use Rattle.read_line.specs.Reading.{commentByte, goes, lineResult}
-use Rattle.read_line.specs.Way.Walk.{ResumesText, ReadsLine, contentAt}
+use Rattle.read_line.specs.Reading.{goes, lineResult}
+use Rattle.read_line.specs.Way.Walk.{ResumesText, ReadsLine}
 use Rattle.read_line.specs.declared.LineRead.{LineRead}
 use Rattle.read_line.specs.declared.LineResult.{LineResult}
 use Rattle.read_line.proofs.QuietLaws.{quiet-blank}

@@ -8,7 +8,7 @@ use native.Mathlib.Omega.{arith}
 use lib.ListN.{length, take, drop, length-drop, length-take}
 use borrow.Author.Tests.{eq-eqb, not-true}
 use Rattle.base.proofs.IfLaws.{by-cases, if-true, both-true}
-use Rattle.lex_line.specs.Lines.{isBlankLine}
+use Rattle.lex_line.specs.Lines.{isBlankLine, commentByte}
 use Rattle.lex_line.specs.Way.LineEnds.{lineAt}
 use Rattle.lex_line.specs.Words.{wordsFrom}
 use Rattle.lex_line.specs.declared.Line as text
@@ -23,7 +23,7 @@ use Rattle.table_layout.specs.Layout.{pinWidth}
 use Rattle.table_record.specs.Records.{pinWords}
 use Rattle.table_record.specs.Way.Stage.{putAt, Held}
 use Rattle.table_record.proofs.StageLaws.{put-long, held-same, held-one}
-use Rattle.read_line.specs.Reading.{commentByte, breaks, lineResult}
+use Rattle.read_line.specs.Reading.{breaks, lineResult}
 use Rattle.read_line.specs.Way.Walk.{ResumesPart, HoldsPart, Fronted, withPinned}
 use Rattle.read_line.specs.declared.Front.{Front}
 use Rattle.read_line.specs.declared.Front.the-variants.{Blanks, Words, Opening}

@@ -1,4 +1,3 @@
 pub mod Pins
-pub mod Idle
 pub mod Blocks
 pub mod Family

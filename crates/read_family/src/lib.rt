@@ -19,7 +19,6 @@ use read_path::PathWalk;
 use table_record::MapRecord;
 use table_record::ModelRecord;
 
-pub mod idle;
 pub mod pins;
 
 // The model or map that is open: where its name stands, and the index of its first step or pin.
@@ -304,7 +303,7 @@ fn read_on(
     if s.place == line_place::PIN_LIST {
         return read_pins(text, at, line, s, block, models, maps, pins);
     }
-    let passing = idle::skip_idle(text, at, line, s.place);
+    let passing = doc::idle::skip_idle(text, at, line, s.place);
     if at < passing.at {
         return FamilyWalk {
             rule: 0,

@@ -8,9 +8,6 @@ use line_map::Map;
 use read_line::Front;
 use table_record::PinRecord;
 
-// "From `|` on, a line is comment".
-const COMMENT: u8 = b'|';
-
 // The result of a line of a pin list, with only the part of the state that such a line changes. A line with a bracket
 // is not taken here. For a line that is taken: the rule that it breaks, and the map and the count of pins after it.
 pub struct Pinned {
@@ -98,7 +95,7 @@ pub fn pass_pins(
         pins,
     };
     while here < text.len() {
-        let found = lex_line::line_at(text, here, COMMENT);
+        let found = lex_line::line_at(text, here, lex_line::COMMENT);
         let content = found.content;
         let next = take_pin(&text[here..content], here, part.map, part.pins, stage);
         if !next.taken {

@@ -4,23 +4,23 @@
 use mathlib.Core.Path.{_≡_, refl, sym, _∙_, ap, subst}
 use mathlib.Core.List.{List}
 use Prim.Native.Nat.{ℕ, _+_, _-_, _≤_, _<_}
-use native.Mathlib.Nat.{le-refl, le-trans}
+use native.Mathlib.Nat.{le-refl}
 use native.Mathlib.Omega.{arith}
 use lib.ListN.{length, take, drop}
 use borrow.Author.Tests.{eq-eqb, ne-eqb}
 use Rattle.base.proofs.IfLaws.{if-true, if-false}
-use Rattle.lex_line.specs.Lines.{lines}
-use Rattle.lex_line.specs.Way.LineEnds.{lineAt}
+use Rattle.lex_line.specs.Lines.{commentByte, contents}
+use Rattle.lex_line.specs.Way.LineEnds.{lineAt, contentAt}
 use Rattle.lex_line.specs.declared.Line.{Line}
 use Rattle.lex_line.proofs.LineLaws.{next-on, next-within}
 use Rattle.line_keyword.specs.Way.Bounded.{BoundedState}
 use Rattle.line_keyword.specs.declared.State.{State}
-use Rattle.read_line.specs.Reading.{commentByte, breaks, lineResult, onward, readFrom}
-use Rattle.read_line.specs.Way.Walk.{resume, Onward, Rises, ResumesText, ResumesPart, Opens, contentAt, BracketOrLineByLine, NoProgressMeansBracket}
+use Rattle.read_line.specs.Reading.{breaks, lineResult, onward, readFrom}
+use Rattle.read_line.specs.Way.Walk.{resume, Onward, ResumesText, ResumesPart, Opens, BracketOrLineByLine, NoProgressMeansBracket}
 use Rattle.read_line.specs.declared.LineResult.{LineResult}
 use Rattle.read_line.specs.declared.Reading.{Reading}
 use Rattle.read_line.specs.declared.Reading.the-variants.{Refused}
-use Rattle.read_line.proofs.WalkLaws.{step-kept, step-raises, line-run}
+use Rattle.read_line.proofs.WalkLaws.{step-kept, line-run}
 
 onward-goes : (s : State) (n : ℕ) (more : State → Reading) → onward (breaks 0 s) n more ≡ more s
 unfolding onward breaks
@@ -35,9 +35,8 @@ module _ (t : List ℕ) (at line : ℕ) (fits : State → Type 0) where
   unfolding resume
   crossed-none put h same =
       record {
-        same = λ (s : State) (f : fits s). if-true _ _ (eq-eqb 0 0 refl) ∙ ap (readFrom line (lines (drop at t))) (sym (same s f));
+        same = λ (s : State) (f : fits s). if-true _ _ (eq-eqb 0 0 refl) ∙ ap (readFrom line (contents (drop at t))) (sym (same s f));
         kept = λ (z : _≡_ {A = ℕ} 0 0) (s : State) (f : fits s) (k : BoundedState line s). rw (sym (same s f)) k;
-        rises = λ (z : _≡_ {A = ℕ} 0 0) (s : State) (f : fits s). subst (Rises s) (same s f) (le-refl (s .counts .values));
         onward = le-refl at;
         within = h;
         raised = le-refl line;
@@ -47,7 +46,7 @@ module _ (t : List ℕ) (at line : ℕ) (fits : State → Type 0) where
   module _ (put : State → State) (broken here number : ℕ) (whole : broken ≡ 0) (crossed : ResumesPart t at line fits put broken here number) where
     -- one line more: what the part of the state decides for it
     module _ (h : here < length t) (found : Line) (told : found ≡ lineAt commentByte t here) (next : State → State) (k : ℕ) (decided : (s : State) → fits s → lineResult (take (found .content - here) (drop here t)) (put s) ≡ breaks k (next s)) where
-      over : (s : State) → fits s → onward (breaks k (next s)) number (readFrom (number + 1) (lines (drop (found .next) t))) ≡ readFrom line (lines (drop at t)) s
+      over : (s : State) → fits s → onward (breaks k (next s)) number (readFrom (number + 1) (contents (drop (found .next) t))) ≡ readFrom line (contents (drop at t)) s
       unfolding resume
       over s f =
           sym (line-run t here number (put s) h found told (breaks k (next s)) (sym (decided s f)))
@@ -66,17 +65,10 @@ module _ (t : List ℕ) (at line : ℕ) (fits : State → Type 0) where
           subst (λ (x : LineResult). x .rule ≡ 0 → BoundedState (number + 1) (x .state)) (decided s f)
           (step-kept number (take (found .content - here) (drop here t)) (put s) (crossed .kept whole s f kept)) z
 
-      on-rises : k ≡ 0 → (s : State) → fits s → Rises s (next s)
-      unfolding breaks
-      on-rises z s f =
-          le-trans (crossed .rises whole s f)
-          (subst (λ (x : LineResult). x .rule ≡ 0 → Rises (put s) (x .state)) (decided s f)
-          (step-raises (take (found .content - here) (drop here t)) (put s)) z)
-
-      on-same : k ≡ 0 → (s : State) → fits s → readFrom (number + 1) (lines (drop (found .next) t)) (next s) ≡ readFrom line (lines (drop at t)) s
+      on-same : k ≡ 0 → (s : State) → fits s → readFrom (number + 1) (contents (drop (found .next) t)) (next s) ≡ readFrom line (contents (drop at t)) s
       on-same z s f =
-          sym (onward-goes (next s) number (readFrom (number + 1) (lines (drop (found .next) t))))
-          ∙ ap (λ (n : ℕ). onward (breaks n (next s)) number (readFrom (number + 1) (lines (drop (found .next) t)))) (sym z)
+          sym (onward-goes (next s) number (readFrom (number + 1) (contents (drop (found .next) t))))
+          ∙ ap (λ (n : ℕ). onward (breaks n (next s)) number (readFrom (number + 1) (contents (drop (found .next) t)))) (sym z)
           ∙ over s f
 
       pub crossed-on : k ≡ 0 → ResumesPart t at line fits next k (found .next) (number + 1)
@@ -89,7 +81,6 @@ module _ (t : List ℕ) (at line : ℕ) (fits : State → Type 0) where
           record {
             same = λ (s : State) (f : fits s). if-true _ _ (eq-eqb _ _ z) ∙ on-same z s f;
             kept = λ (e : k ≡ 0) (s : State) (f : fits s) (kept : BoundedState line s). on-kept z s f kept;
-            rises = λ (e : k ≡ 0) (s : State) (f : fits s). on-rises z s f;
             onward = omega arith;
             within = inside;
             raised = omega arith;
@@ -106,7 +97,6 @@ module _ (t : List ℕ) (at line : ℕ) (fits : State → Type 0) where
           record {
             same = λ (s : State) (f : fits s). if-false _ _ (ne-eqb _ _ z) ∙ sym (onward-stops k (next s) number _ z) ∙ over s f;
             kept = λ (e : k ≡ 0) (s : State) (f : fits s) (kept : BoundedState line s). absurd (z e);
-            rises = λ (e : k ≡ 0) (s : State) (f : fits s). absurd (z e);
             onward = omega arith;
             within = inside;
             raised = r;
@@ -127,7 +117,6 @@ crossed-reached t at line fits put number further last crossed s f on h =
       same = crossed .same s f;
       further = λ (e : number ≡ 0). h;
       onward = λ (e : number ≡ 0). record { within = crossed .within; counted = omega arith; kept = crossed .kept e s f (on .kept) };
-      rises = λ (e : number ≡ 0). crossed .rises e s f;
     }
 
 -- ---- a walk that has made no progress

@@ -13,7 +13,7 @@ use Rattle.base.specs.If.{if_then_else_}
 use Rattle.base.specs.Refusal as refusal
 use Rattle.base.proofs.IfLaws.{if-true, if-false, by-test, by-cases, both-rest}
 use Rattle.base.proofs.BrokenLaws.{Numbered, all-kept}
-use Rattle.lex_line.specs.Lines.{Raw, isBlankLine}
+use Rattle.lex_line.specs.Lines.{Said, isBlankLine}
 use Rattle.lex_line.specs.Words.{words, firstOf}
 use Rattle.lex_keyword.specs.Names.{beginHeader, treePathDescription}
 use Rattle.lex_keyword.specs.Bracket.{bracketOf}
@@ -120,7 +120,7 @@ module _ (P : State → Type 0) where
 -- ---- what every line preserves holds after all lines
 
 -- n is the first line, m is how many lines are above it
-pub along-counted : (P : ℕ → State → Type 0) → ((m : ℕ) (content : List ℕ) (s : State) → P m s → lineResult content s .rule ≡ 0 → P (m + 1) (lineResult content s .state)) → (m n : ℕ) (ls : List Raw) (s : State) → P m s → AllGo (meetings n ls s) → P (m + length ls) (stateAfter n ls s)
+pub along-counted : (P : ℕ → State → Type 0) → ((m : ℕ) (content : List ℕ) (s : State) → P m s → lineResult content s .rule ≡ 0 → P (m + 1) (lineResult content s .state)) → (m n : ℕ) (ls : List Said) (s : State) → P m s → AllGo (meetings n ls s) → P (m + length ls) (stateAfter n ls s)
 unfolding stateAfter
 along-counted P step m n [] s h a =
     let e : m ≡ m + 0 = omega arith in
@@ -136,7 +136,7 @@ along-counted P step m n (l ∷ ls) s h a =
     let b : AllGo (meetingOf n l s ∷ []) = rw (meet-stops n l ls s z) at a in
     absurd (z (head-goes _ _ b)))
 
-pub along : (P : State → Type 0) → ((content : List ℕ) (s : State) → P s → lineResult content s .rule ≡ 0 → P (lineResult content s .state)) → (n : ℕ) (ls : List Raw) (s : State) → P s → AllGo (meetings n ls s) → P (stateAfter n ls s)
+pub along : (P : State → Type 0) → ((content : List ℕ) (s : State) → P s → lineResult content s .rule ≡ 0 → P (lineResult content s .state)) → (n : ℕ) (ls : List Said) (s : State) → P s → AllGo (meetings n ls s) → P (stateAfter n ls s)
 along P step n ls s h a = along-counted (λ (m : ℕ) (r : State). P r) (λ (m : ℕ). step) 0 n ls s h a
 
 -- ---- the first two rules of a keyword that breaks none

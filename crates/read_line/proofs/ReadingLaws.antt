@@ -11,7 +11,7 @@ use lib.Dec.{eqb}
 use borrow.Author.Tests.{eq-eqb, ne-eqb, eqb-true, eqb-false}
 use Rattle.base.specs.Broken.{firstBroken}
 use Rattle.base.proofs.IfLaws.{if-true, if-false, by-cases}
-use Rattle.lex_line.specs.Lines.{Raw, lines}
+use Rattle.lex_line.specs.Lines.{Said, contents}
 use Rattle.line_keyword.specs.State.{startState}
 use Rattle.line_keyword.specs.declared.Counts.{Counts}
 use Rattle.line_keyword.specs.declared.State.{State}
@@ -23,7 +23,7 @@ use Rattle.read_line.proofs.ResultLaws.{refused-not-read, end-read, end
 
 -- ---- the reading, line by line
 
-module _ (n : ℕ) (l : Raw) (ls : List Raw) (s : State) where
+module _ (n : ℕ) (l : Said) (ls : List Said) (s : State) where
   run-goes : brokenAt (meetingOf n l s) ≡ 0 → readFrom n (l ∷ ls) s ≡ readFrom (n + 1) ls (afterwards (meetingOf n l s))
   unfolding readFrom onward
   run-goes e = if-true _ _ (eq-eqb _ _ e)
@@ -90,7 +90,7 @@ first-here m k n z (later e f) = absurd (z e)
 
 -- ---- no rule broken: the last state gives the result
 
-pub all-read : (n : ℕ) (ls : List Raw) (s : State) → AllGo (meetings n ls s) → readFrom n ls s ≡ atEnd (stateAfter n ls s)
+pub all-read : (n : ℕ) (ls : List Said) (s : State) → AllGo (meetings n ls s) → readFrom n ls s ≡ atEnd (stateAfter n ls s)
 unfolding stateAfter readFrom
 all-read n [] s a = refl
 all-read n (l ∷ ls) s a =
@@ -104,7 +104,7 @@ all-read n (l ∷ ls) s a =
 
 -- ---- read to its end: no rule was broken
 
-pub read-goes : (n : ℕ) (ls : List Raw) (s : State) (c : Counts) → readFrom n ls s ≡ Read c → AllGo (meetings n ls s)
+pub read-goes : (n : ℕ) (ls : List Said) (s : State) (c : Counts) → readFrom n ls s ≡ Read c → AllGo (meetings n ls s)
 unfolding meetings
 read-goes n [] s c e = none
 read-goes n (l ∷ ls) s c e =
@@ -114,7 +114,7 @@ read-goes n (l ∷ ls) s c e =
 
 -- ---- refused: the first line that breaks a rule
 
-pub refused-first : (n : ℕ) (ls : List Raw) (s : State) (k m : ℕ) → 0 < m → readFrom n ls s ≡ Refused k m → FirstBroken k m (meetings n ls s)
+pub refused-first : (n : ℕ) (ls : List Said) (s : State) (k m : ℕ) → 0 < m → readFrom n ls s ≡ Refused k m → FirstBroken k m (meetings n ls s)
 unfolding readFrom
 refused-first n [] s k m h e = absurd (end-not-line s k m h e)
 refused-first n (l ∷ ls) s k m h e =
@@ -124,7 +124,7 @@ refused-first n (l ∷ ls) s k m h e =
     let r : Refused (brokenAt (meetingOf n l s)) n ≡ Refused k m = sym (run-stops n l ls s z) ∙ e in
     rw (meet-stops n l ls s z) (refused-here (meetingOf n l s) k m z r))
 
-pub first-refused : (n : ℕ) (ls : List Raw) (s : State) (k m : ℕ) → FirstBroken k m (meetings n ls s) → readFrom n ls s ≡ Refused k m
+pub first-refused : (n : ℕ) (ls : List Said) (s : State) (k m : ℕ) → FirstBroken k m (meetings n ls s) → readFrom n ls s ≡ Refused k m
 unfolding meetings
 first-refused n [] s k m f = absurd (no-first k m f)
 first-refused n (l ∷ ls) s k m f =
@@ -139,14 +139,14 @@ first-refused n (l ∷ ls) s k m f =
 -- ---- a whole text
 
 -- it reads to its end exactly when no line that is reached breaks a rule and the last place is after [End]
-pub reads-when : (t : List ℕ) → AllGo (meetings 1 (lines t) startState) → stateAfter 1 (lines t) startState .place ≡ done → readingOf t ≡ Read (stateAfter 1 (lines t) startState .counts)
+pub reads-when : (t : List ℕ) → AllGo (meetings 1 (contents t) startState) → stateAfter 1 (contents t) startState .place ≡ done → readingOf t ≡ Read (stateAfter 1 (contents t) startState .counts)
 unfolding readingOf
-reads-when t a p = all-read 1 (lines t) startState a ∙ sym (end-read (stateAfter 1 (lines t) startState) p)
+reads-when t a p = all-read 1 (contents t) startState a ∙ sym (end-read (stateAfter 1 (contents t) startState) p)
 
-pub reads-only : (t : List ℕ) (c : Counts) → readingOf t ≡ Read c → AllGo (meetings 1 (lines t) startState)
+pub reads-only : (t : List ℕ) (c : Counts) → readingOf t ≡ Read c → AllGo (meetings 1 (contents t) startState)
 unfolding readingOf
-reads-only t c e = read-goes 1 (lines t) startState c e
+reads-only t c e = read-goes 1 (contents t) startState c e
 
-pub reads-done : (t : List ℕ) (c : Counts) → readingOf t ≡ Read c → stateAfter 1 (lines t) startState .place ≡ done
+pub reads-done : (t : List ℕ) (c : Counts) → readingOf t ≡ Read c → stateAfter 1 (contents t) startState .place ≡ done
 unfolding readingOf
-reads-done t c e = end-done (stateAfter 1 (lines t) startState) c (sym (all-read 1 (lines t) startState (reads-only t c e)) ∙ e) .0
+reads-done t c e = end-done (stateAfter 1 (contents t) startState) c (sym (all-read 1 (contents t) startState (reads-only t c e)) ∙ e) .0

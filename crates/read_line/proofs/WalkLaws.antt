@@ -4,7 +4,6 @@ use mathlib.Core.Path.{_≡_, refl, sym, _∙_, ap}
 use mathlib.Core.Bool.{Bool, true, false}
 use mathlib.Core.List.{List, _∷_}
 use Prim.Native.Nat.{ℕ, _+_, _-_, _≤_, _<_, zero-le}
-use native.Mathlib.Nat.{le-refl}
 use native.Mathlib.Omega.{arith}
 use lib.ListN.{length, take, drop, length-drop}
 use lib.Dec.{eqb}
@@ -15,14 +14,14 @@ use Rattle.base.specs.Refusal as refusal
 use Rattle.base.specs.Bytes.{isContent}
 use Rattle.base.proofs.IfLaws.{if-true, if-false, by-cases}
 use Rattle.base.proofs.RunLaws.{run-le}
-use Rattle.lex_line.specs.Lines.{Raw, lines, contentOf, isBlankLine}
-use Rattle.lex_line.specs.Way.LineEnds.{lineAt}
+use Rattle.lex_line.specs.Lines.{commentByte, Said, contents, isBlankLine}
+use Rattle.lex_line.specs.Way.LineEnds.{lineAt, contentAt, saidAt}
 use Rattle.lex_line.specs.declared.Line.{Line}
-use Rattle.lex_line.proofs.LineLaws.{firstOf, lines-at, next-on, next-within, content-at}
+use Rattle.lex_line.proofs.LineLaws.{contents-at, next-on, next-within}
 use Rattle.line_keyword.specs.Way.Bounded.{BoundedState}
 use Rattle.line_keyword.proofs.KeptLaws.{start-kept, keyword-kept, kept-more}
 use Rattle.line_keyword.specs.State.{startState}
-use Rattle.line_keyword.specs.Keywords.{keywordRule, keywordNext, countsAfter, oneMoreIf}
+use Rattle.line_keyword.specs.Keywords.{keywordRule, keywordNext, oneMoreIf}
 use Rattle.line_keyword.specs.declared.State.{State}
 use Rattle.lex_keyword.specs.Names.{beginHeader}
 use Rattle.lex_keyword.specs.Bracket.{bracketOf}
@@ -30,23 +29,9 @@ use Rattle.lex_keyword.specs.declared.Bracket.{Bracket}
 use Rattle.lex_keyword.specs.declared.Bracket.the-variants.{Plain, Indented, Bad, Unknown, Later, Keyword}
 use Rattle.line_place.specs.Place.{isText, before, done}
 use Rattle.line_place.specs.Place as place
-use Rattle.line_matrix.specs.Matrix.{dataLineOf}
-use Rattle.read_line.specs.Reading.{
-  commentByte,
-  goes,
-  breaks,
-  judged,
-  lineRule,
-  countsAfterLine,
-  lineNext,
-  argumentFrom,
-  lineResult,
-  onward,
-  readFrom,
-  readingOf,
-}
+use Rattle.read_line.specs.Reading.{goes, breaks, judged, lineRule, lineNext, argumentFrom, lineResult, onward, readFrom, readingOf}
 use Rattle.read_line.specs.Way.Steps.{lineStep, keywordStep, bracketStep, beforeStep}
-use Rattle.read_line.specs.Way.Walk.{resume, Onward, Rises, ResumesText, ReadsLine}
+use Rattle.read_line.specs.Way.Walk.{resume, Onward, ResumesText, ReadsLine}
 use Rattle.read_line.specs.declared.LineResult.{LineResult}
 use Rattle.read_line.proofs.KeptLaws.{line-kept}
 use Rattle.read_line.proofs.ResultLaws.{result-steps}
@@ -109,90 +94,22 @@ step-kept n content s k =
     (keeps-if n (eqb (s .place) done) _ _ (keeps-goes n s k)
     (keeps-if n (eqb (s .place) before) _ _ (keeps-before n (bracketOf content) content s k) (keeps-bracket n (bracketOf content) content s k))))
 
--- ---- the count of values never falls
-
-abbrev Raises : State → LineResult → Type 0
-Raises s step = step .rule ≡ 0 → Rises s (step .state)
-
-raises-goes : (s : State) → Raises s (goes s)
-unfolding goes
-raises-goes s z = le-refl (s .counts .values)
-
-raises-breaks : (k : ℕ) (s : State) → Raises s (breaks k s)
-unfolding breaks
-raises-breaks k s z = le-refl (s .counts .values)
-
-raises-if : (s : State) (b : Bool) (x y : LineResult) → Raises s x → Raises s y → Raises s (if b then x else y)
-unfolding if_then_else_
-raises-if s true x y h k = h
-raises-if s false x y h k = k
-
-raises-next : (s next : State) → Rises s next → Raises s (goes next)
-unfolding goes
-raises-next s next h z = h
-
-raises-judged : (k : ℕ) (next s : State) → Rises s next → Raises s (judged k next s)
-unfolding judged
-raises-judged k next s h = raises-if s (eqb k 0) (goes next) (breaks k s) (raises-next s next h) (raises-breaks k s)
-
-rises-either : (b : Bool) (v n : ℕ) → v ≤ (if b then v + n else v)
-unfolding if_then_else_
-rises-either true v n = omega arith
-rises-either false v n = omega arith
-
-raises-line : (content : List ℕ) (s : State) → Raises s (lineStep content s)
-unfolding lineStep lineNext countsAfterLine
-raises-line content s =
-    raises-judged (lineRule content s) (lineNext content s) s
-    (rises-either (eqb (s .place) place.matrix) (s .counts .values) (dataLineOf (s .matrix .form) content .numbers))
-
-raises-keyword : (k : ℕ) (argument : List ℕ) (s : State) → Raises s (keywordStep k argument s)
-unfolding keywordStep keywordNext countsAfter
-raises-keyword k argument s = raises-judged (keywordRule k argument s) (keywordNext k argument s) s (le-refl (s .counts .values))
-
-raises-bracket : (b : Bracket) (content : List ℕ) (s : State) → Raises s (bracketStep b content s)
-raises-bracket Plain content s = raises-line content s
-raises-bracket Indented content s = raises-if s (isText (s .place)) _ _ (raises-line content s) (raises-breaks refusal.keyword s)
-raises-bracket Bad content s = raises-breaks refusal.keyword s
-raises-bracket Unknown content s = raises-breaks refusal.unknown s
-raises-bracket Later content s = raises-breaks refusal.later s
-raises-bracket (Keyword key start) content s = raises-keyword key (argumentFrom content start) s
-
-raises-before : (b : Bracket) (content : List ℕ) (s : State) → Raises s (beforeStep b content s)
-raises-before Plain content s = raises-goes s
-raises-before Indented content s = raises-goes s
-raises-before Bad content s = raises-goes s
-raises-before Unknown content s = raises-goes s
-raises-before Later content s = raises-goes s
-raises-before (Keyword key start) content s = raises-if s (eqb key beginHeader) _ _ (raises-keyword key (argumentFrom content start) s) (raises-goes s)
-
-pub step-raises : (content : List ℕ) (s : State) → Raises s (lineResult content s)
-step-raises content s =
-    rw (result-steps content s)
-    (raises-if s (isBlankLine content) _ _ (raises-goes s)
-    (raises-if s (eqb (s .place) done) _ _ (raises-goes s)
-    (raises-if s (eqb (s .place) before) _ _ (raises-before (bracketOf content) content s) (raises-bracket (bracketOf content) content s))))
-
 -- ---- one line
 
-run-cons : (n : ℕ) (l : Raw) (ls : List Raw) (s : State) → readFrom n (l ∷ ls) s ≡ onward (lineResult (contentOf commentByte (l .bytes)) s) n (readFrom (n + 1) ls)
+run-cons : (n : ℕ) (l : Said) (ls : List Said) (s : State) → readFrom n (l ∷ ls) s ≡ onward (lineResult (l .content) s) n (readFrom (n + 1) ls)
 unfolding readFrom
 run-cons n l ls s = refl
 
 module _ (t : List ℕ) (at line : ℕ) (s : State) (h : at < length t) (here : Line) (found : here ≡ lineAt commentByte t at) where
-  -- what the code cuts out is the line's content
-  content-told : take (here .content - at) (drop at t) ≡ contentOf commentByte (firstOf (drop at t) .bytes)
-  content-told = ap (λ (l : Line). take (l .content - at) (drop at t)) found ∙ sym (content-at commentByte t at)
-
   module _ (step : LineResult) (taken : step ≡ lineResult (take (here .content - at) (drop at t)) s) where
-    step-told : step ≡ lineResult (contentOf commentByte (firstOf (drop at t) .bytes)) s
-    step-told = taken ∙ ap (λ (c : List ℕ). lineResult c s) content-told
+    step-told : step ≡ lineResult (contentAt t at) s
+    step-told = taken ∙ ap (λ (l : Line). lineResult (take (l .content - at) (drop at t)) s) found
 
-    pub line-run : readFrom line (lines (drop at t)) s ≡ onward step line (readFrom (line + 1) (lines (drop (here .next) t)))
+    pub line-run : readFrom line (contents (drop at t)) s ≡ onward step line (readFrom (line + 1) (contents (drop (here .next) t)))
     line-run =
-        ap (λ (ls : List Raw). readFrom line ls s) (lines-at commentByte t at h)
-        ∙ run-cons line (firstOf (drop at t)) (lines (drop (lineAt commentByte t at .next) t)) s
-        ∙ (λ i. onward (sym step-told i) line (readFrom (line + 1) (lines (drop (sym found i .next) t))))
+        ap (λ (ls : List Said). readFrom line ls s) (contents-at t at h)
+        ∙ run-cons line (saidAt t at) (contents (drop (lineAt commentByte t at .next) t)) s
+        ∙ (λ i. onward (sym step-told i) line (readFrom (line + 1) (contents (drop (sym found i .next) t))))
 
 module _ (t : List ℕ) (at line : ℕ) (s : State) (h : at < length t) (on : Onward t at line s) (here : Line) (found : here ≡ lineAt commentByte t at) where
   module _ (step : LineResult) (taken : step ≡ lineResult (take (here .content - at) (drop at t)) s) where
@@ -203,7 +120,6 @@ module _ (t : List ℕ) (at line : ℕ) (s : State) (h : at < length t) (on : On
           same = if-false _ _ (ne-eqb _ _ z) ∙ sym (line-run t at line s h here found step taken ∙ if-false _ _ (ne-eqb _ _ z));
           further = λ (e : step .rule ≡ 0). absurd (z e);
           onward = λ (e : step .rule ≡ 0). absurd (z e);
-          rises = λ (e : step .rule ≡ 0). absurd (z e);
         }
 
     line-taken : step .rule ≡ 0 → ResumesText t at line s (record { rule = step .rule; at = here .next; line = line + 1; state = step .state })
@@ -216,12 +132,8 @@ module _ (t : List ℕ) (at line : ℕ) (s : State) (h : at < length t) (on : On
           same = if-true _ _ (eq-eqb _ _ z) ∙ sym (line-run t at line s h here found step taken ∙ if-true _ _ (eq-eqb _ _ z));
           further = λ (e : step .rule ≡ 0). f;
           onward = λ (e : step .rule ≡ 0). record { within = w; counted = omega arith; kept = bounded-next z };
-          rises = λ (e : step .rule ≡ 0). raised-next e;
         }
       where
-        raised-next : step .rule ≡ 0 → Rises s (step .state)
-        raised-next z = rw taken (step-raises (take (here .content - at) (drop at t)) s (rw taken at z))
-
         bounded-next : step .rule ≡ 0 → BoundedState (line + 1) (step .state)
         bounded-next z = rw taken (step-kept line (take (here .content - at) (drop at t)) s (on .kept) (rw taken at z))
 
@@ -266,6 +178,6 @@ module _ (t : List ℕ) (at : ℕ) (here : Line) (found : here ≡ lineAt commen
 pub reading-starts : (t : List ℕ) (s : State) → s ≡ startState → Onward t 0 1 s
 reading-starts t s e = record { within = zero-le; counted = omega arith; kept = rw e (kept-more 0 1 startState start-kept (omega arith)) }
 
-pub reading-whole : (t : List ℕ) (s : State) → s ≡ startState → readFrom 1 (lines (drop 0 t)) s ≡ readingOf t
+pub reading-whole : (t : List ℕ) (s : State) → s ≡ startState → readFrom 1 (contents (drop 0 t)) s ≡ readingOf t
 unfolding readingOf
-reading-whole t s e = ap (readFrom 1 (lines t)) e
+reading-whole t s e = ap (readFrom 1 (contents t)) e

@@ -1,7 +1,6 @@
 -- The forward reading: which rule each line breaks in its place, the state after it, and the result of the whole text.
 -- Assumes nothing.
 use Prim.Native.Nat.{ℕ, _+_, _-_}
-use Prim.Native.Char.{code}
 use mathlib.Core.Bool.{true, not}
 use mathlib.Core.List.{List, [], _∷_}
 use lib.ListN.{take, drop}
@@ -9,7 +8,7 @@ use lib.Dec.{eqb}
 use Rattle.base.specs.If.{if_then_else_, both}
 use Rattle.base.specs.Broken.{Rule, _when_, firstBroken}
 use Rattle.base.specs.Refusal as refusal
-use Rattle.lex_line.specs.Lines.{Raw, lines, contentOf, isBlankLine}
+use Rattle.lex_line.specs.Lines.{Said, isBlankLine, contents}
 use Rattle.lex_line.specs.Words.{words, firstOf, lastEnd}
 use Rattle.lex_keyword.specs.Names.{beginHeader}
 use Rattle.lex_keyword.specs.Bracket.{bracketOf}
@@ -146,10 +145,6 @@ lineResult content s = judged (firstBroken (rulesAndNext content s .rules)) (rul
 
 -- ---- the whole text
 
--- "From `|` on, a line is comment"
-abbrev pub commentByte : ℕ
-commentByte = code "|"
-
 -- "5 HEADER: no [Begin Header] line (line 0)", "10 END: text stops before [End] (line 0)"
 abbrev pub endOfTextRules : State → List Rule
 endOfTextRules s = refusal.header when eqb (s .place) before ∷ refusal.end when not (eqb (s .place) done) ∷ []
@@ -162,10 +157,10 @@ unfoldable pub onward : LineResult → ℕ → (State → Reading) → Reading
 onward step n more = if eqb (step .rule) 0 then more (step .state) else Refused (step .rule) n
 
 -- the result of the lines from line n on, read in state s
-unfoldable pub readFrom : ℕ → List Raw → State → Reading
+unfoldable pub readFrom : ℕ → List Said → State → Reading
 readFrom n [] s = atEnd s
-readFrom n (l ∷ ls) s = onward (lineResult (contentOf commentByte (l .bytes)) s) n (readFrom (n + 1) ls)
+readFrom n (l ∷ ls) s = onward (lineResult (l .content) s) n (readFrom (n + 1) ls)
 
 -- the result of rules 5 to 17 for a text that breaks none of rules 1 to 4
 unfoldable pub readingOf : List ℕ → Reading
-readingOf t = readFrom 1 (lines t) startState
+readingOf t = readFrom 1 (contents t) startState

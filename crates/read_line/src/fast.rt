@@ -72,5 +72,5 @@ pub fn may_be_idle(text: &[u8], at: usize, place: u64) -> bool {
     if first == crate::CARRIAGE_RETURN {
         return true;
     }
-    first == crate::COMMENT
+    first == lex_line::COMMENT
 }

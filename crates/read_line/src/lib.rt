@@ -8,18 +8,16 @@ ghost use Rattle.line_keyword.specs.Way.Bounded.{BoundedState, mostLines};
 ghost use Rattle.read_line.specs.Reading.{goes, breaks, argumentFrom, lineResult, atEnd};
 ghost use Rattle.read_line.specs.Way.Steps.{lineStep, keywordStep, bracketStep, beforeStep};
 ghost use Rattle.lex_line.specs.Lines.{isBlankLine};
+ghost use Rattle.lex_line.specs.Way.LineEnds.{contentAt};
 ghost use Rattle.line_keyword.specs.declared.State.{State};
 ghost use Rattle.lex_keyword.specs.Bracket.{bracketOf};
 ghost use Rattle.lex_keyword.specs.declared.Bracket.the-variants.{Plain, Indented, Keyword};
-ghost use Rattle.read_line.specs.Way.Walk.{Onward, Fronted, ReadLineByLine, BracketOrLineByLine, contentAt, ReadsLine};
+ghost use Rattle.read_line.specs.Way.Walk.{Onward, Fronted, ReadLineByLine, BracketOrLineByLine, ReadsLine};
 use lex_keyword::Bracket;
 use line_keyword::Counts;
 use line_keyword::State;
 
 pub mod fast;
-
-// "From `|` on, a line is comment".
-const COMMENT: u8 = b'|';
 
 const OPENING: u8 = b'[';
 
@@ -269,7 +267,7 @@ pub fn read_single(text: &[u8], at: usize, line: u64, s: State) -> LineRead
     requires { ⌜ (at < length (now text)) × Onward (now text) at line s × BracketOrLineByLine (contentAt (now text) at) (s .place) ⌝ }
     ensures { λ r. ⌜ ReadsLine (now (text .entry)) at line s r ⌝ }
 {
-    let here = lex_line::line_at(text, at, COMMENT);
+    let here = lex_line::line_at(text, at, lex_line::COMMENT);
     let content = here.content;
     let bracket = lex_keyword::read_bracket(&text[at..content]);
     let taken = take_line(&text[at..content], bracket, s);

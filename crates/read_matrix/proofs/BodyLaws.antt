@@ -12,15 +12,15 @@ use Rattle.table_record.specs.declared.Value.{Value}
 use Rattle.table_layout.specs.Bounds.{mostValues}
 use Rattle.base.specs.If.{either}
 use Rattle.base.proofs.IfLaws.{if-true, if-false, by-cases, both-second, either-rest}
-use Rattle.lex_line.specs.Lines.{isBlankLine}
-use Rattle.lex_line.specs.Way.LineEnds.{lineAt}
+use Rattle.lex_line.specs.Lines.{isBlankLine, commentByte}
+use Rattle.lex_line.specs.Way.LineEnds.{lineAt, contentAt}
 use Rattle.lex_line.specs.declared.Line as text
 use Rattle.line_place.specs.Place.{isRowOrBandwidth, moved, movedByLine}
 use Rattle.line_place.specs.Place as place
 use Rattle.line_matrix.specs.declared.Matrix.{Matrix}
 use Rattle.line_keyword.specs.declared.State.{State}
-use Rattle.read_line.specs.Reading.{commentByte, breaks, lineResult}
-use Rattle.read_line.specs.Way.Walk.{HoldsPart, withMatrix, contentAt}
+use Rattle.read_line.specs.Reading.{breaks, lineResult}
+use Rattle.read_line.specs.Way.Walk.{HoldsPart, withMatrix}
 use Rattle.read_line.proofs.CrossLaws.{crossed-none, crossed-on, crossed-stops}
 use Rattle.doc.specs.Lines.{Line, plain, keyAt, keyOf, placeAfter, linesAt, upTo}
 use Rattle.doc.specs.Document.{inMatrix, valuesFrom}

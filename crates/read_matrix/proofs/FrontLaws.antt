@@ -10,9 +10,10 @@ use borrow.Author.Tests.{not-true, not-false}
 use Rattle.base.specs.If.{both}
 use Rattle.base.specs.Bytes.{isBlank}
 use Rattle.base.specs.Way.Class.{runEnd}
+use Rattle.lex_line.specs.Lines.{commentByte}
+use Rattle.lex_line.specs.Way.LineEnds.{contentAt}
 use Rattle.lex_number.specs.Way.In.{isWord}
-use Rattle.read_line.specs.Reading.{commentByte}
-use Rattle.read_line.specs.Way.Walk.{Fronted, contentAt}
+use Rattle.read_line.specs.Way.Walk.{Fronted}
 use Rattle.read_line.specs.declared.Front.the-variants.{Blanks, Words, Opening}
 use Rattle.read_line.proofs.QuietLaws.{front-blanks, front-words, front-opens}
 use Rattle.read_numbers.proofs.InTextLaws.{blanks, blanks-are, front-ends, front-inside, front-byte}

@@ -19,9 +19,9 @@ use Rattle.base.proofs.BrokenLaws.{sound, gives-later, all-kept}
 use Rattle.base.specs.Bytes.{lineFeed, isBefore, isContent}
 use Rattle.base.specs.Way.Class.{runEnd}
 use Rattle.base.proofs.RunLaws.{run-through}
-use Rattle.lex_line.specs.Lines.{isBlankLine}
+use Rattle.lex_line.specs.Lines.{isBlankLine, commentByte}
 use Rattle.lex_line.specs.Words.{words}
-use Rattle.lex_line.specs.Way.LineEnds.{pastFeed, lineAt}
+use Rattle.lex_line.specs.Way.LineEnds.{pastFeed, lineAt, contentAt}
 use Rattle.lex_line.specs.declared.Line as text
 use Rattle.lex_line.proofs.LineLaws.{next-on, content-before-feed}
 use Rattle.lex_keyword.specs.Bracket.{bracketOf}
@@ -29,8 +29,7 @@ use Rattle.lex_keyword.specs.declared.Bracket.the-variants.{Plain}
 use Rattle.line_matrix.specs.Matrix.{dataLineOf, sparseLine, isDataOutOfOrder, areTooMany, dataRules, dataRule, withColumn, dataNext}
 use Rattle.line_matrix.specs.declared.Matrix.{Matrix}
 use Rattle.line_matrix.specs.declared.DataLine.{DataLine}
-use Rattle.read_line.specs.Reading.{commentByte}
-use Rattle.read_line.specs.Way.Walk.{Fronted, contentAt}
+use Rattle.read_line.specs.Way.Walk.{Fronted}
 use Rattle.read_line.specs.declared.Front.{Front}
 use Rattle.read_line.specs.declared.Front.the-variants.{Blanks, Opening}
 use Rattle.read_line.proofs.QuietLaws.{blanks-front, opening-opens}

@@ -6,13 +6,12 @@ ghost use Prim.Native.Nat.{_+_, _≤_};
 ghost use lib.ListN.{length};
 ghost use Rattle.table_layout.specs.Codes.{sparse};
 ghost use Rattle.table_layout.specs.Bounds.{mostValues};
-ghost use Rattle.lex_line.specs.Lines.{isBlankLine};
-ghost use Rattle.lex_line.specs.Way.LineEnds.{lineAt};
+ghost use Rattle.lex_line.specs.Lines.{isBlankLine, commentByte};
+ghost use Rattle.lex_line.specs.Way.LineEnds.{lineAt, contentAt};
 ghost use Rattle.lex_keyword.specs.Bracket.{bracketOf};
 ghost use Rattle.lex_keyword.specs.declared.Bracket.the-variants.{Plain, Keyword};
 ghost use Rattle.line_place.specs.Place.{isRowOrBandwidth};
-ghost use Rattle.read_line.specs.Reading.{commentByte};
-ghost use Rattle.read_line.specs.Way.Walk.{Opens, Fronted, contentAt};
+ghost use Rattle.read_line.specs.Way.Walk.{Opens, Fronted};
 ghost use Rattle.read_numbers.specs.Way.Numbers.{mostGiven};
 ghost use Rattle.read_numbers.specs.Way.Staging.{BoundedStaging};
 ghost use Rattle.read_matrix.specs.Way.Body.{newStaging, keywordStaging, BrokenLine, TakesKeyword, TakesAlone, ResumesMatrix};
@@ -23,9 +22,6 @@ use line_matrix::Rows;
 use read_line::Front;
 use read_numbers::First;
 use read_numbers::Staging;
-
-// "From `|` on, a line is comment".
-const COMMENT: u8 = b'|';
 
 const OPENING: u8 = b'[';
 
@@ -208,7 +204,7 @@ fn front_at(text: &[u8], here: usize) -> Front
     ensures { λ r. ⌜ Fronted (contentAt (now (text .entry)) here) r ⌝ }
 {
     let start = base::past_blanks(text, here);
-    if !lex_number::is_word_at(text, start, COMMENT) {
+    if !lex_number::is_word_at(text, start, lex_line::COMMENT) {
         return Front::Blanks;
     }
     if base::byte_at(text, start) == OPENING {
@@ -221,7 +217,7 @@ fn front_at(text: &[u8], here: usize) -> Front
 fn next_line(text: &[u8], end: usize) -> usize
     ensures { λ r. ⌜ r ≡ lineAt commentByte (now (text .entry)) end .next ⌝ }
 {
-    let line = lex_line::line_at(text, end, COMMENT);
+    let line = lex_line::line_at(text, end, lex_line::COMMENT);
     line.next
 }
 
@@ -545,7 +541,7 @@ pub fn pass_data(
                 part,
             };
         }
-        let found = lex_line::line_at(text, here, COMMENT);
+        let found = lex_line::line_at(text, here, lex_line::COMMENT);
         let content = found.content;
         let next = take_data(&text[here..content], part.matrix, part.values, part.staging);
         if !next.taken {

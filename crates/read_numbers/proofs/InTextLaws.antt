@@ -16,13 +16,12 @@ use Rattle.base.specs.Runs.{run}
 use Rattle.base.specs.Way.Class.{runEnd}
 use Rattle.base.proofs.IfLaws.{by-cases, both-true, both-first, both-second, both-not-left, both-not-right, either-rest, not-via}
 use Rattle.base.proofs.RunLaws.{run-nil, run-goes, run-stops, run-le, run-all, run-end, run-wider, run-take, run-on}
-use Rattle.lex_line.specs.Way.LineEnds.{lineAt}
+use Rattle.lex_line.specs.Way.LineEnds.{lineAt, contentAt}
 use Rattle.lex_line.specs.Words.{Word, wordGoesOn, grown, wordsFrom, words}
 use Rattle.lex_line.specs.Way.Spans.{wordSpan, markedBy}
 use Rattle.lex_line.proofs.WordLaws.{wordsAfter, after-at, after-none}
+use Rattle.lex_line.specs.Lines.{commentByte}
 use Rattle.lex_number.specs.Way.In.{isWord}
-use Rattle.read_line.specs.Reading.{commentByte}
-use Rattle.read_line.specs.Way.Walk.{contentAt}
 
 -- ---- runs within a run
 

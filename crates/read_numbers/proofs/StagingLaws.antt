@@ -25,8 +25,9 @@ use Rattle.base.specs.Runs.{run}
 use Rattle.base.specs.Way.Class.{runEnd}
 use Rattle.base.proofs.IfLaws.{if-true, if-false, by-cases, by-test, both-true, both-first, both-second, both-not-left, both-not-right}
 use Rattle.base.proofs.RunLaws.{run-ends}
-use Rattle.lex_line.specs.Way.LineEnds.{lineAt}
+use Rattle.lex_line.specs.Way.LineEnds.{lineAt, contentAt}
 use Rattle.lex_line.specs.Words.{words, firstOf, secondOf}
+use Rattle.lex_line.specs.Lines.{commentByte}
 use Rattle.lex_number.specs.Number.{isSign, numberOf, isFormed, isBounded, wordIn}
 use Rattle.lex_number.specs.Integer.{wholeOf}
 use Rattle.lex_number.specs.Way.In.{isWord, isSpelling, isGoodNumber, numberIn}
@@ -36,8 +37,6 @@ use Rattle.lex_number.specs.declared.NumberAt.{NumberAt}
 use Rattle.lex_number.specs.declared.Whole.{Whole}
 use Rattle.line_matrix.specs.Matrix.{numberCheck, areFormed, areBounded, numbersLine, sparseLine, dataLineOf}
 use Rattle.line_matrix.specs.declared.DataLine.{DataLine}
-use Rattle.read_line.specs.Reading.{commentByte}
-use Rattle.read_line.specs.Way.Walk.{contentAt}
 use Rattle.doc.specs.Lines.{Line, plain, keyOf}
 use Rattle.doc.specs.Document.{nextRow, numbersAt, sparseAt, valuesFrom, bandwidthIn, greatestIn}
 use Rattle.read_numbers.specs.declared.Cursor.{Cursor}

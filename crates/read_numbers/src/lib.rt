@@ -16,9 +16,6 @@ ghost use Rattle.read_numbers.specs.Way.Steps.{Stores, numbersResult, pa
 use lex_number::Number;
 use table_record::Value;
 
-// "From `|` on, a line is comment".
-const COMMENT: u8 = b'|';
-
 // A value of which only the first one given counts: whether one is given yet, and which.
 pub struct First {
     pub told: bool,
@@ -169,10 +166,10 @@ fn store_numbers(
     };
     loop {
         let start = base::past_blanks(text, at);
-        if !lex_number::is_word_at(text, start, COMMENT) {
+        if !lex_number::is_word_at(text, start, lex_line::COMMENT) {
             return numbers_of(true, cursor, start);
         }
-        let read = lex_number::number_in(text, start, COMMENT);
+        let read = lex_number::number_in(text, start, lex_line::COMMENT);
         let number = read.number;
         if !lex_number::is_value(number) {
             return numbers_of(false, cursor, start);
@@ -231,10 +228,10 @@ pub fn read_pair(text: &[u8], here: usize, values: u64, table: &mut [u64], row: 
     ensures { λ r. ⌜ StagesPair (now (text .entry)) here (now (table .entry)) values row (now (table .exit)) r ⌝ }
 {
     let start = base::past_blanks(text, here);
-    if !lex_number::is_word_at(text, start, COMMENT) {
+    if !lex_number::is_word_at(text, start, lex_line::COMMENT) {
         return no_pair(start);
     }
-    let end = lex_number::word_end(text, start, COMMENT);
+    let end = lex_number::word_end(text, start, lex_line::COMMENT);
     let column = lex_number::read_integer(&text[start..end]);
     if !column.formed {
         return no_pair(start);

@@ -13,8 +13,8 @@ use Rattle.base.proofs.IfLaws.{if-true, if-false, by-cases, not-via, not-not-vi
 use Rattle.table_record.specs.Way.Stage.{putAt, stagedStepWidth, stagedStepWords, Held}
 use Rattle.table_record.specs.declared.stage.StagedStep.{StagedStep}
 use Rattle.table_record.proofs.StageLaws.{put-long, held-same, held-one}
-use Rattle.lex_line.specs.Lines.{isBlankLine}
-use Rattle.lex_line.specs.Way.LineEnds.{lineAt}
+use Rattle.lex_line.specs.Lines.{isBlankLine, commentByte}
+use Rattle.lex_line.specs.Way.LineEnds.{lineAt, contentAt}
 use Rattle.lex_line.specs.declared.Line as text
 use Rattle.lex_keyword.specs.Bracket.{bracketOf}
 use Rattle.lex_keyword.specs.declared.Bracket.the-variants.{Plain}
@@ -27,8 +27,8 @@ use Rattle.line_path.specs.declared.PathParts.{PathParts}
 use Rattle.line_path.proofs.PartLaws.{right-kept}
 use Rattle.line_keyword.specs.Keywords.{oneMoreIf}
 use Rattle.line_keyword.specs.declared.State.{State}
-use Rattle.read_line.specs.Reading.{commentByte, lineResult}
-use Rattle.read_line.specs.Way.Walk.{Fronted, Decides, Stepping, withPath, contentAt}
+use Rattle.read_line.specs.Reading.{lineResult}
+use Rattle.read_line.specs.Way.Walk.{Fronted, Decides, Stepping, withPath}
 use Rattle.read_line.specs.declared.Front.{Front}
 use Rattle.read_line.specs.declared.Front.the-variants.{Blanks, Words, Opening}
 use Rattle.read_line.proofs.StepLaws.{path-stops, path-goes, stepping-on}

@@ -4,21 +4,20 @@ use mathlib.Core.Path.{_≡_, refl, sym, _∙_, ap, subst}
 use mathlib.Core.Bool.{true, false, not}
 use mathlib.Core.List.{List}
 use Prim.Native.Nat.{ℕ, _+_, _-_, _≤_, _<_}
-use native.Mathlib.Nat.{le-trans}
 use native.Mathlib.Omega.{arith}
 use lib.ListN.{length, take, drop}
 use borrow.Author.Tests.{eq-eqb, not-true}
 use Rattle.base.proofs.IfLaws.{if-true}
 use Rattle.table_record.specs.Way.Stage.{stagedStepWidth, Held}
-use Rattle.lex_line.specs.Lines.{lines}
-use Rattle.lex_line.specs.Way.LineEnds.{lineAt}
+use Rattle.lex_line.specs.Lines.{commentByte, contents}
+use Rattle.lex_line.specs.Way.LineEnds.{lineAt, contentAt}
 use Rattle.lex_line.specs.declared.Line as text
 use Rattle.line_place.specs.Place as place
 use Rattle.line_path.specs.declared.Path.{Path}
 use Rattle.line_keyword.specs.Way.Bounded.{BoundedState}
 use Rattle.line_keyword.specs.declared.State.{State}
-use Rattle.read_line.specs.Reading.{commentByte, breaks, lineResult, readFrom}
-use Rattle.read_line.specs.Way.Walk.{resume, ResumesPart, HoldsPart, Opens, Stepping, withPath, contentAt}
+use Rattle.read_line.specs.Reading.{breaks, lineResult, readFrom}
+use Rattle.read_line.specs.Way.Walk.{resume, ResumesPart, HoldsPart, Opens, Stepping, withPath}
 use Rattle.read_path.specs.declared.Stepped.{Stepped}
 use Rattle.read_path.specs.declared.PathWalk.{PathWalk}
 use Rattle.read_line.proofs.CrossLaws.{crossed-none, crossed-on, crossed-stops, stays-opens, stays-moved, stays-ended}
@@ -171,7 +170,7 @@ module _ (t : List ℕ) (at line : ℕ) (p : Path) (n : ℕ) (stage₀ : List �
     (gone : Gone t at line p n stage₀ here line-here part stage) (v : PathWalk) (stage' : List ℕ)
     (second : GoesPath t here line-here (part .path) (part .steps) stage v stage') where
   come : (s : State) → HoldsPart place.path (withPath p n) s →
-      readFrom line-here (lines (drop here t)) (withPath (part .path) (part .steps) s) ≡ readFrom line (lines (drop at t)) s
+      readFrom line-here (contents (drop here t)) (withPath (part .path) (part .steps) s) ≡ readFrom line (contents (drop at t)) s
   unfolding resume
   come s f = sym (if-true _ _ (eq-eqb _ _ (gone .whole))) ∙ gone .crossed .same s f
 
@@ -197,9 +196,6 @@ module _ (t : List ℕ) (at line : ℕ) (p : Path) (n : ℕ) (stage₀ : List �
                     kept =
                         λ (z : v .part .rule ≡ 0) (s : State) (f : HoldsPart place.path (withPath p n) s) (k : BoundedState line s).
                         second .blocked .crossed .kept z (withPath (part .path) (part .steps) s) (f .0, refl) (gone .crossed .kept (gone .whole) s f k);
-                    rises =
-                        λ (z : v .part .rule ≡ 0) (s : State) (f : HoldsPart place.path (withPath p n) s).
-                        le-trans (gone .crossed .rises (gone .whole) s f) (second .blocked .crossed .rises z (withPath (part .path) (part .steps) s) (f .0, refl));
                     onward = omega arith;
                     within = second .blocked .crossed .within;
                     raised = omega arith;

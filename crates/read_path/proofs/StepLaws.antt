@@ -13,16 +13,15 @@ use Rattle.table_layout.specs.Codes.{endKind, sectionKind, forkKind, endforkKin
 use Rattle.table_record.specs.declared.stage.StagedStep.{StagedStep}
 use Rattle.lex_line.specs.Words.{wordsFrom, toEquals}
 use Rattle.lex_line.specs.Way.Spans.{wordSpan, firstTwoOf}
-use Rattle.lex_line.specs.Way.LineEnds.{lineAt}
+use Rattle.lex_line.specs.Way.LineEnds.{lineAt, contentAt}
 use Rattle.lex_line.specs.declared.Line as text
 use Rattle.lex_line.specs.declared.Span.{Span}
 use Rattle.lex_line.proofs.WordLaws.{second-ordered, second-within}
+use Rattle.lex_line.specs.Lines.{commentByte}
 use Rattle.line_place.specs.Place as place
 use Rattle.line_path.specs.Path.{saysEnd, saysSection, saysFork}
 use Rattle.line_path.specs.Way.Parts.{SecondWord, ParsesName, ParsesSection, ParsesLine}
 use Rattle.line_path.specs.declared.PathParts.{PathParts}
-use Rattle.read_line.specs.Reading.{commentByte}
-use Rattle.read_line.specs.Way.Walk.{contentAt}
 use Rattle.doc.specs.Lines.{linesAt, wordsOf, rightWordsOf, noWord, secondWord}
 use Rattle.doc.specs.Document.{sideIn}
 use Rattle.doc.specs.Way.Found.{extentOf, extentAt}

@@ -19,9 +19,6 @@ use line_path::PathParts;
 use read_line::Front;
 use table_record::stage::StagedStep;
 
-// "From `|` on, a line is comment".
-const COMMENT: u8 = b'|';
-
 // The result of a line of a path, with only the part of the state that such a line changes. A line with a bracket is
 // not taken here. For a line that is taken: the rule that it breaks, and the path and the count of steps after it.
 pub struct Stepped {
@@ -226,7 +223,7 @@ fn pass_path(
         steps,
     };
     while here < text.len() {
-        let ends = lex_line::line_at(text, here, COMMENT);
+        let ends = lex_line::line_at(text, here, lex_line::COMMENT);
         let next = take_step(text, here, line_here, ends, part.path, part.steps, stage);
         if !next.taken {
             return PathWalk {

@@ -2,23 +2,22 @@
 -- and the walk as a whole.
 -- Assumes nothing.
 use mathlib.Core.Path.{_≡_, refl, sym, _∙_, ap}
-use mathlib.Core.Bool.{Bool, true, false, not, true≢false}
+use mathlib.Core.Bool.{true, false, true≢false}
 use mathlib.Core.List.{List, [], _∷_, _++_}
 use Prim.Native.Nat.{ℕ, _+_, _-_, _*_, _^_, _≤_, _<_, max}
-use mir.Syntax.{w64}
-use mir.Val.{Fits}
 use native.Mathlib.Nat.{le-refl}
 use native.Mathlib.Omega.{arith}
-use lib.ListN.{length, take, drop, length-drop, drop-of-length-le}
+use lib.ListN.{length, take, drop, length-drop}
 use lib.Seq.{length-take-le}
 use lib.Dec.{eqb, ltb}
-use borrow.Author.Tests.{eq-eqb, ne-eqb, eqb-true, ltb-true, ltb-false, not-false}
+use borrow.Author.Tests.{eq-eqb, ne-eqb, eqb-true, ltb-true, ltb-false}
 use Rattle.base.specs.If.{if_then_else_}
 use Rattle.base.specs.Broken.{first}
 use Rattle.base.specs.Refusal as refusal
 use Rattle.base.proofs.IfLaws.{if-true, if-false, by-test, by-cases, both-not-right, either-false}
-use Rattle.lex_line.specs.Lines.{lines, isBlankLine}
-use Rattle.lex_line.specs.Way.LineEnds.{lineAt}
+use Rattle.lex_line.specs.Lines.{lines, isBlankLine, commentByte, contents}
+use Rattle.lex_line.specs.Way.LineEnds.{lineAt, contentAt}
+use Rattle.lex_line.proofs.LineLaws.{contents-none}
 use Rattle.lex_line.specs.declared.Line as text
 use Rattle.lex_keyword.specs.Bracket.{bracketOf}
 use Rattle.line_place.specs.Place as place
@@ -31,16 +30,16 @@ use Rattle.table_record.specs.Records.{sectionWords, matrixWords, valueWords}
 use Rattle.table_record.specs.Way.Stage.{putAt}
 use Rattle.table_record.specs.declared.Value.{Value}
 use Rattle.table_record.proofs.StageLaws.{put-long, held-start, held-all}
-use Rattle.read_line.specs.Reading.{commentByte, goes, lineResult, readFrom, atEnd}
-use Rattle.read_line.specs.Way.Walk.{resume, Onward, ResumesText, ReadsLine, BracketOrLineByLine, HoldsPart, withMatrix, contentAt}
+use Rattle.read_line.specs.Reading.{goes, lineResult, readFrom, atEnd}
+use Rattle.read_line.specs.Way.Walk.{resume, Onward, ResumesText, ReadsLine, BracketOrLineByLine, HoldsPart, withMatrix}
 use Rattle.read_line.specs.declared.LineRead.{LineRead}
 use Rattle.read_line.specs.declared.LineResult.{LineResult}
 use Rattle.read_line.specs.declared.Reading.{Reading}
 use Rattle.read_line.specs.declared.Reading.the-variants.{Read, Refused}
 use Rattle.read_line.specs.declared.fast.Passing.{Passing}
 use Rattle.read_line.proofs.ResultLaws.{refused-not-read, end-done}
-use Rattle.read_line.proofs.QuietLaws.{quiet-blank, quiet-decides}
-use Rattle.read_line.proofs.CrossLaws.{crossed-none, crossed-on, crossed-reached}
+use Rattle.read_line.proofs.QuietLaws.{quiet-blank}
+use Rattle.read_line.proofs.CrossLaws.{crossed-reached}
 use Rattle.doc.specs.Lines.{Line, keyAt, keyOf, linesAt, gather, upTo}
 use Rattle.doc.specs.Document.{Section, inMatrix, valuesFrom, bandwidthIn, greatestIn}
 use Rattle.doc.specs.Records.{sectionRecords, matrixRecords, matricesOf, valuesOf}
@@ -48,6 +47,7 @@ use Rattle.doc.proofs.BlockLaws.{Follow, lines-follow}
 use Rattle.doc.proofs.FoundLaws.{pass-over, stop-here, nothing-left, content-ordered, content-inside}
 use Rattle.doc.proofs.GatherLaws.{up-out}
 use Rattle.doc.proofs.Goes.{Moved, line-moves, moves-place}
+use Rattle.doc.specs.Way.Idle.{SkipsIdle}
 use Rattle.read_numbers.specs.Way.Told.{toldOr}
 use Rattle.read_numbers.specs.Way.Staging.{HeldValues}
 use Rattle.read_matrix.specs.Way.Body.{bodyLines, Ends, Left, ResumesMatrix}
@@ -55,14 +55,14 @@ use Rattle.read_matrix.specs.declared.BodyWalk.{BodyWalk}
 use Rattle.read_sections.specs.declared.OpenSection.{OpenSection}
 use Rattle.read_sections.specs.declared.SectionWalk.{SectionWalk}
 use Rattle.read_sections.specs.Way.Open.{reachedIn, Stands, noSection, openAfter, sectionsAfter, matrixClosed, sectionWith}
-use Rattle.read_sections.specs.Way.Sections.{sectionsBehind, SectionsStaged, SkipsBlank, Late, outsideMatrix, EndsKeyed, StandsAt, Continues}
+use Rattle.read_sections.specs.Way.Sections.{sectionsBehind, SectionsStaged, Late, outsideMatrix, EndsKeyed, StandsAt, Continues}
 use Rattle.read_sections.proofs.KindLaws.{kind-small}
 use Rattle.read_sections.proofs.LeftLaws.{stands-blank, stands-closed, stands-start, whole-sections, whole-matrices, whole-values}
 use Rattle.read_sections.proofs.LineLaws.{ends-keyed, open-same, staged-same, outside-not, Steps, moves-steps}
 
 text-follow : (t : List ℕ) (n at p : ℕ) → Follow p (linesAt t n at p)
 unfolding linesAt
-text-follow t n at p = lines-follow n at p (lines (drop at t))
+text-follow t n at p = lines-follow n at p (contents (drop at t))
 
 -- the kind of the open matrix is known
 open-kind : (at : ℕ) (content : List ℕ) (before after : ℕ) (o : OpenSection) → o .kind < matrixKinds → openAfter at content before after o .kind < matrixKinds
@@ -256,40 +256,16 @@ module _ (t : List ℕ) (at line : ℕ) (s : State) (h : at < length t) (late : 
 
 -- ---- blank lines
 
-pub blank-starts : (t : List ℕ) (at line : ℕ) → at ≤ length t → SkipsBlank t at line (record { at = at; line = line })
-blank-starts t at line h =
-    record {
-      resumes = λ (p : ℕ). crossed-none t at line (λ (s : State). s .place ≡ p) (λ (s : State). s) h (λ (s : State) (f : s .place ≡ p). refl);
-      same = λ (p : ℕ). refl;
-    }
-
-pub blank-on :
-    (t : List ℕ) (at line here number : ℕ) → SkipsBlank t at line (record { at = here; line = number }) → here < length t → (found : text.Line) →
-    found ≡ lineAt commentByte t here → (b : Bool) → b ≡ isBlankLine (take (found .content - here) (drop here t)) → not b ≡ false →
-    SkipsBlank t at line (record { at = found .next; line = number + 1 })
-blank-on t at line here number skips h found told b is-blank taken =
-    let blank : isBlankLine (take (found .content - here) (drop here t)) ≡ true = sym is-blank ∙ not-false b taken in
-    record {
-      resumes = λ (p : ℕ).
-          crossed-on t at line (λ (s : State). s .place ≡ p) (λ (s : State). s) 0 here number refl (skips .resumes p) h found told (λ (s : State). s) 0
-          (quiet-decides (take (found .content - here) (drop here t)) p
-          (λ (s : State) (e : s .place ≡ p). quiet-blank (take (found .content - here) (drop here t)) true (sym blank) refl s)) refl;
-      same = λ (p : ℕ). skips .same p ∙ pass-over t here h number found told blank p;
-    }
-
--- one line more can be counted
-pub blank-fits : (t : List ℕ) (at line here number : ℕ) → SkipsBlank t at line (record { at = here; line = number }) → here < length t → line ≤ at + 1 → length t * 1 < 2 ^ 63 → Fits w64 (number + 1)
-blank-fits t at line here number skips h began small =
-    let c : number + at ≤ line + here = skips .resumes 0 .counted in
-    omega arith
-
 module _ (t : List ℕ) (at line : ℕ) (s : State) (on : Onward t at line s) (late : Late (s .place)) (away : s .place ≡ place.matrix → ⊥) (o : OpenSection) (kind : o .kind < matrixKinds)
     (table sections matrices : List ℕ) where
-  pub blank-continues : (r : Passing) → SkipsBlank t at line r → at < r .at →
+  off-list : s .place ≡ place.list → ⊥
+  off-list e = let behind : place.after ≤ s .place = late .from in omega arith
+
+  pub blank-continues : (r : Passing) → SkipsIdle t at line (s .place) r → at < r .at →
       Continues t at line (s .place) s o table sections matrices (record { rule = 0; at = r .at; line = r .line; state = s; block = o }) table sections matrices
   blank-continues r skips h =
       let reached : ResumesText t at line s (record { rule = 0; at = r .at; line = r .line; state = s }) =
-      crossed-reached t at line (λ (x : State). x .place ≡ s .place) (λ (x : State). x) 0 (r .at) (r .line) (skips .resumes (s .place)) s refl on h in
+      crossed-reached t at line (λ (x : State). x .place ≡ s .place) (λ (x : State). x) 0 (r .at) (r .line) (skips .resumes) s refl on h in
       record {
         same = reached .same;
         further = reached .further;
@@ -298,7 +274,7 @@ module _ (t : List ℕ) (at line : ℕ) (s : State) (on : Onward t at line s) (l
         kind = λ (z : _≡_ {A = ℕ} 0 0). kind;
         stands = λ (z : _≡_ {A = ℕ} 0 0) (ss : List Section) (g : StandsAt ss t at line (s .place) s o table sections matrices).
             stands-blank ss o (s .place) (s .section .method) (s .matrix .form) (s .counts .sections) (s .counts .matrices) (s .counts .values) line (r .line) (ne-eqb _ _ away) _
-            table sections matrices (rw (skips .same (s .place)) at g);
+            table sections matrices (rw (skips .blank off-list) at g);
         table-long = refl;
         sections-long = refl;
         matrices-long = refl;
@@ -355,7 +331,7 @@ module _ (t : List ℕ) (at line : ℕ) (s : State) (on : Onward t at line s) (h
       }
 
   module _ (z : w .part .rule ≡ 0) where
-    run-on : readFrom (w .line) (lines (drop (w .at) t)) (withMatrix (w .part .matrix) (w .part .values) s) ≡ readFrom line (lines (drop at t)) s
+    run-on : readFrom (w .line) (contents (drop (w .at) t)) (withMatrix (w .part .matrix) (w .part .values) s) ≡ readFrom line (contents (drop at t)) s
     unfolding resume
     run-on = sym (if-true _ _ (eq-eqb _ _ z)) ∙ passed .crossed .same s holds
 
@@ -367,10 +343,10 @@ module _ (t : List ℕ) (at line : ℕ) (s : State) (on : Onward t at line s) (h
     pub data-ends : length t ≤ w .at →
         Continues t at line (s .place) s o table sections matrices
         (record { rule = refusal.end; at = w .at; line = 0; state = withMatrix (w .part .matrix) (w .part .values) s; block = o }) table' sections matrices
-    unfolding resume readFrom lines
+    unfolding resume readFrom
     data-ends h =
-        let none : readFrom (w .line) (lines (drop (w .at) t)) (withMatrix (w .part .matrix) (w .part .values) s) ≡ atEnd (withMatrix (w .part .matrix) (w .part .values) s) =
-        rw (drop-of-length-le t h) in
+        let none : readFrom (w .line) (contents (drop (w .at) t)) (withMatrix (w .part .matrix) (w .part .values) s) ≡ atEnd (withMatrix (w .part .matrix) (w .part .values) s) =
+        rw (contents-none t (w .at) h) in
         record {
           same = if-false _ _ (ne-eqb refusal.end 0 (λ (e : refusal.end ≡ 0). omega arith)) ∙ sym ends-matrix ∙ sym none ∙ run-on;
           further = λ (e : refusal.end ≡ 0). absurd (omega arith);
@@ -455,7 +431,7 @@ module _ (t : List ℕ) (at line : ℕ) (s : State) (on : Onward t at line s) (h
 -- ---- the walk as a whole
 
 pub record Going (t : List ℕ) (at₀ line₀ : ℕ) (answer : Reading) (table₀ sections₀ matrices₀ : List ℕ) (at line : ℕ) (s : State) (o : OpenSection) (table sections matrices : List ℕ) : Type 0 where
-  pub rest : readFrom line (lines (drop at t)) s ≡ answer
+  pub rest : readFrom line (contents (drop at t)) s ≡ answer
   pub onward : Onward t at line s
   pub behind : at₀ ≤ at
   pub kind : o .kind < matrixKinds
@@ -468,7 +444,7 @@ pub record Going (t : List ℕ) (at₀ line₀ : ℕ) (answer : Reading) (table�
 
 pub going-start :
     (t : List ℕ) (at line : ℕ) (s : State) (table sections matrices : List ℕ) → Onward t at line s → (at < length t → s .place ≡ place.after) → NoneYet (s .counts) → (o : OpenSection) →
-    o ≡ noSection → Going t at line (readFrom line (lines (drop at t)) s) table sections matrices at line s o table sections matrices
+    o ≡ noSection → Going t at line (readFrom line (contents (drop at t)) s) table sections matrices at line s o table sections matrices
 going-start t at line s table sections matrices on behind none o new =
     rw new
     (record {
@@ -559,9 +535,9 @@ module _ (t : List ℕ) (at₀ line₀ : ℕ) (answer : Reading) (table₀ secti
         }
 
     pub going-ends : (r : Reading) → r ≡ atEnd s → (r ≡ answer) × ((c : Counts) → r ≡ Read c → SectionsStaged t line₀ at₀ table sections matrices)
-    unfolding readFrom lines
+    unfolding readFrom
     going-ends r e = (
-      e ∙ rw (drop-of-length-le t h) at (going .rest),
+      e ∙ rw (contents-none t at h) at (going .rest),
       λ (c : Counts) (f : r ≡ Read c).
           by-cases _ (ltb at₀ (length t))
           (λ (k : ltb at₀ (length t) ≡ true). staged-some (ltb-true _ _ k) (end-done s c (sym e ∙ f) .0))

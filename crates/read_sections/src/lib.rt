@@ -5,7 +5,8 @@ ghost use Prim.Native.Nat.{ℕ, _+_, _-_, _*_, _≤_, _<_};
 ghost use lib.ListN.{length, drop};
 ghost use lib.Dec.{eqb};
 ghost use Rattle.base.specs.If.{if_then_else_};
-ghost use Rattle.lex_line.specs.Lines.{lines};
+ghost use Rattle.lex_line.specs.Lines.{contents};
+ghost use Rattle.lex_line.specs.Way.LineEnds.{contentAt};
 ghost use Rattle.lex_keyword.specs.Bracket.{bracketOf};
 ghost use Rattle.line_place.specs.Place as place;
 ghost use Rattle.line_keyword.specs.Way.Bounded.{NoneYet, mostLines};
@@ -16,12 +17,12 @@ ghost use Rattle.table_record.specs.Records.{matrixWords};
 ghost use Rattle.table_record.specs.Way.Stage.{putAt};
 ghost use Rattle.read_line.specs.Reading.{readFrom};
 ghost use Rattle.read_line.specs.declared.Reading.the-variants.{Read};
-ghost use Rattle.read_line.specs.Way.Walk.{Onward, contentAt};
+ghost use Rattle.read_line.specs.Way.Walk.{Onward};
 ghost use Rattle.doc.specs.Document.{kindOf};
 ghost use Rattle.read_numbers.specs.Way.Told.{toldOr};
 ghost use Rattle.read_matrix.specs.Way.Body.{Ends};
 ghost use Rattle.read_sections.specs.Way.Open.{kindsWith, noSection, beginning, openAfter, sectionsAfter, matrixClosed, sectionWith};
-ghost use Rattle.read_sections.specs.Way.Sections.{SectionsStaged, SkipsBlank, Late, outsideMatrix, EndsKeyed, Continues};
+ghost use Rattle.read_sections.specs.Way.Sections.{SectionsStaged, Late, outsideMatrix, EndsKeyed, Continues};
 use lex_keyword::Bracket;
 use line_keyword::State;
 use read_line::Reading;
@@ -31,9 +32,6 @@ use read_matrix::BodyWalk;
 use read_numbers::First;
 use table_record::MatrixRecord;
 use table_record::SectionRecord;
-
-// "From `|` on, a line is comment".
-const COMMENT: u8 = b'|';
 
 // How many kinds of matrices there are.
 const KINDS: usize = table_layout::code::MATRIX_KINDS as usize;
@@ -207,37 +205,6 @@ fn close_section(s: State, before: u64, after: u64, block: OpenSection, sections
 
 // ---- lines
 
-// Skips blank lines and comments.
-fn skip_blank(text: &[u8], at: usize, line: u64) -> Passing
-    requires { ⌜ (at ≤ length (now text)) × (line ≤ at + 1) ⌝ }
-    ensures { λ r. ⌜ SkipsBlank (now (text .entry)) at line r ⌝ }
-{
-    let mut here = at;
-    let mut line_here = line;
-    while here < text.len() {
-        if !read_line::fast::may_be_idle(text, here, line_place::AFTER) {
-            return Passing {
-                at: here,
-                line: line_here,
-            };
-        }
-        let found = lex_line::line_at(text, here, COMMENT);
-        let content = found.content;
-        if !read_line::is_blank_line(&text[here..content]) {
-            return Passing {
-                at: here,
-                line: line_here,
-            };
-        }
-        here = found.next;
-        line_here += 1;
-    }
-    Passing {
-        at: here,
-        line: line_here,
-    }
-}
-
 // Reads a line that is not part of a matrix: it may open a section, open a matrix, or close the section.
 fn read_alone(
     text: &[u8],
@@ -375,7 +342,7 @@ fn read_on(
     if s.place == line_place::MATRIX {
         return read_data(text, at, line, s, block, table, sections, matrices);
     }
-    let passing = skip_blank(text, at, line);
+    let passing = doc::idle::skip_idle(text, at, line, s.place);
     if at < passing.at {
         return SectionWalk {
             rule: 0,
@@ -400,7 +367,7 @@ pub fn read_sections(
     requires { ⌜ Onward (now text) (walk .at) (walk .line) (walk .state)
         × (walk .at < length (now text) → walk .state .place ≡ place.after)
         × NoneYet (walk .state .counts) ⌝ }
-    ensures { λ r. ⌜ (r ≡ readFrom (walk .line) (lines (drop (walk .at) (now (text .entry)))) (walk .state))
+    ensures { λ r. ⌜ (r ≡ readFrom (walk .line) (contents (drop (walk .at) (now (text .entry)))) (walk .state))
         × ((c : Counts) → r ≡ Read c →
         SectionsStaged (now (text .entry)) (walk .line) (walk .at) (now (table .exit)) (now (sections .exit)) (now (matrices .exit))) ⌝
         ∗ ⌜ length (now (table .exit)) ≡ length (now (table .entry)) ⌝

@@ -10,7 +10,7 @@ use Rattle.base.specs.Refusal as refusal
 use Rattle.base.specs.If.{if_then_else_}
 use Rattle.base.specs.Broken.{Rule, first, firstBroken}
 use Rattle.base.proofs.IfLaws.{by-test}
-use Rattle.lex_line.specs.Lines.{Raw, lines, contentOf, isBlankLine}
+use Rattle.lex_line.specs.Lines.{Said, isBlankLine, contents, Raw, lines}
 use Rattle.lex_line.specs.ByteRules as text
 use Rattle.lex_line.specs.ByteRules.{linesRule, byteRules}
 use Rattle.lex_line.specs.declared.Checked.{Checked}
@@ -23,7 +23,7 @@ use Rattle.line_place.specs.Place.{isText, before, done}
 use Rattle.line_keyword.specs.Keywords.{keywordRule}
 use Rattle.line_keyword.specs.State.{startState}
 use Rattle.line_keyword.specs.declared.State.{State}
-use Rattle.read_line.specs.Reading.{lineRule, goes, breaks, judged, lineResult, commentByte, argumentFrom, endOfTextRules, atEnd, onward, readFrom, readingOf}
+use Rattle.read_line.specs.Reading.{lineRule, goes, breaks, judged, lineResult, argumentFrom, endOfTextRules, atEnd, onward, readFrom, readingOf}
 use Rattle.read_line.specs.Way.Steps.{lineStep, keywordStep, bracketStep, beforeStep}
 use Rattle.read_line.proofs.ResultLaws.{result-steps}
 use Rattle.read_line.specs.declared.LineResult.{LineResult}
@@ -151,17 +151,17 @@ abbrev pub OtherReading : Reading → Type 0
 OtherReading (Read counts) = Unit {0}
 OtherReading (Refused number line) = Other number
 
-run-other : (n : ℕ) (ls : List Raw) (s : State) → OtherReading (readFrom n ls s)
+run-other : (n : ℕ) (ls : List Said) (s : State) → OtherReading (readFrom n ls s)
 unfolding readFrom onward atEnd
 run-other n [] s =
     by-test OtherReading (eqb (firstBroken (endOfTextRules s)) 0) _ _ (λ e. tt) (λ e. rule 5 refl _ _ (rule 10 refl _ _ kept))
 run-other n (l ∷ ls) s =
-    by-test OtherReading (eqb (lineResult (contentOf commentByte (l .bytes)) s .rule) 0) _ _
-    (λ e. run-other (n + 1) ls (lineResult (contentOf commentByte (l .bytes)) s .state)) (λ e. step-other (contentOf commentByte (l .bytes)) s)
+    by-test OtherReading (eqb (lineResult (l .content) s .rule) 0) _ _
+    (λ e. run-other (n + 1) ls (lineResult (l .content) s .state)) (λ e. step-other (l .content) s)
 
 pub reading-other : (t : List ℕ) → OtherReading (readingOf t)
 unfolding readingOf
-reading-other t = run-other 1 (lines t) startState
+reading-other t = run-other 1 (contents t) startState
 
 -- ---- 19 to 27
 

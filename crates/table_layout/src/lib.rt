@@ -42,9 +42,6 @@ pub const MATRIX_WIDTH: usize = 5;
 
 pub const VALUE_WIDTH: usize = 3;
 
-// A record that has a name begins with it: where it starts in the text, and its length.
-pub const NAME_WIDTH: usize = 2;
-
 pub const WIDTHS: [usize; PARTS] = [
     MODEL_WIDTH,
     STEP_WIDTH,

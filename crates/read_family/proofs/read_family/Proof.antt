@@ -5,7 +5,7 @@ use mathlib.Core.Path.{_≡_, refl}
 use Prim.Native.Nat.{_-_}
 use native.Mathlib.Omega.{arith}
 use lib.ListN.{length, drop}
-use Rattle.lex_line.specs.Lines.{lines}
+use Rattle.lex_line.specs.Lines.{contents}
 use Rattle.read_line.specs.Reading.{readFrom, readingOf}
 use Rattle.read_line.specs.Way.Walk.{Onward}
 use Rattle.read_line.proofs.WalkLaws.{reading-starts, reading-whole}
@@ -21,7 +21,7 @@ use Rattle.read_family.proofs.read_family.Tie as tie
 abbrev Inv-loop : tie.InvT-loop
 Inv-loop text models₀ steps₀ maps₀ pins₀ at₀ line₀ s₀ block₀ list₀ models steps maps pins at line s block list =
     Onward text at line s
-    × (readFrom line (lines (drop at text)) s ≡ readingOf text)
+    × (readFrom line (contents (drop at text)) s ≡ readingOf text)
     × Carries text (linesAt text line at (s .place)) s block models steps maps pins
     × Follows text list (record { at = at; line = line; place = s .place })
     × (length models ≡ length models₀)

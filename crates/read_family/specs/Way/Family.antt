@@ -7,6 +7,7 @@ use mathlib.Core.List.{List, _++_}
 use lib.ListN.{length}
 use lib.Dec.{eqb}
 use Rattle.base.specs.If.{if_then_else_}
+use Rattle.lex_line.specs.Way.LineEnds.{contentAt}
 use Rattle.line_place.specs.Place.{list, pinList, after}
 use Rattle.line_keyword.specs.Way.Bounded.{NoneYet}
 use Rattle.line_keyword.specs.declared.State.{State}
@@ -14,7 +15,7 @@ use Rattle.table_layout.specs.Layout.{modelWidth, mapWidth, pinWidth}
 use Rattle.table_record.specs.Records.{modelWords, mapWords}
 use Rattle.table_record.specs.Way.Stage.{Whole, stagedStepWidth}
 use Rattle.read_line.specs.Reading.{readingOf}
-use Rattle.read_line.specs.Way.Walk.{resume, Onward, ResumesText, Opens, contentAt, BracketOrLineByLine, withPath, withPinned}
+use Rattle.read_line.specs.Way.Walk.{resume, Onward, ResumesText, Opens, BracketOrLineByLine, withPath, withPinned}
 use Rattle.read_line.specs.declared.Walk.{Walk}
 use Rattle.read_path.specs.declared.PathWalk.{PathWalk}
 use Rattle.doc.specs.Lines.{Line, linesAt, significant, gather}

@@ -6,9 +6,9 @@ use mathlib.Core.Path.{_≡_}
 use mathlib.Core.List.{List, [], _∷_}
 use lib.Dec.{eqb}
 use Rattle.base.specs.If.{if_then_else_}
-use Rattle.lex_line.specs.Lines.{Raw, contentOf}
+use Rattle.lex_line.specs.Lines.{Said}
 use Rattle.line_keyword.specs.declared.State.{State}
-use Rattle.read_line.specs.Reading.{commentByte, lineResult}
+use Rattle.read_line.specs.Reading.{lineResult}
 
 -- a line that is reached: which line it is, its content, and the state before it
 pub record Meeting : Type 0 where
@@ -24,17 +24,17 @@ brokenAt m = lineResult (m .content) (m .state) .rule
 abbrev pub afterwards : Meeting → State
 afterwards m = lineResult (m .content) (m .state) .state
 
-abbrev pub meetingOf : ℕ → Raw → State → Meeting
-meetingOf n l s = record { line = n; content = contentOf commentByte (l .bytes); state = s }
+abbrev pub meetingOf : ℕ → Said → State → Meeting
+meetingOf n l s = record { line = n; content = l .content; state = s }
 
 -- the lines that are reached; the last may break a rule
-unfoldable pub meetings : ℕ → List Raw → State → List Meeting
+unfoldable pub meetings : ℕ → List Said → State → List Meeting
 meetings n [] s = []
 meetings n (l ∷ ls) s =
     meetingOf n l s ∷ (if eqb (brokenAt (meetingOf n l s)) 0 then meetings (n + 1) ls (afterwards (meetingOf n l s)) else [])
 
 -- the state after all lines of the list
-unfoldable pub stateAfter : ℕ → List Raw → State → State
+unfoldable pub stateAfter : ℕ → List Said → State → State
 stateAfter n [] s = s
 stateAfter n (l ∷ ls) s = stateAfter (n + 1) ls (afterwards (meetingOf n l s))
 

@@ -5,12 +5,12 @@ use Prim.Native.Nat.{ℕ, _+_, _-_, _≤_, _<_}
 use mathlib.Core.Path.{_≡_}
 use mathlib.Core.Bool.{true, false}
 use mathlib.Core.List.{List}
-use lib.ListN.{length, take, drop}
+use lib.ListN.{length, drop}
 use lib.Dec.{eqb}
 use Rattle.table_layout.specs.Bounds.{deepest, mostSteps}
 use Rattle.base.specs.If.{if_then_else_}
-use Rattle.lex_line.specs.Lines.{lines, isBlankLine}
-use Rattle.lex_line.specs.Way.LineEnds.{lineAt}
+use Rattle.lex_line.specs.Lines.{isBlankLine, commentByte, contents}
+use Rattle.lex_line.specs.Way.LineEnds.{lineAt, contentAt}
 use Rattle.lex_keyword.specs.Bracket.{bracketOf}
 use Rattle.lex_keyword.specs.declared.Bracket.the-variants.{Plain}
 use Rattle.line_place.specs.Place as place
@@ -20,7 +20,7 @@ use Rattle.line_matrix.specs.declared.Matrix.{Matrix}
 use Rattle.line_keyword.specs.Way.Bounded.{BoundedState}
 use Rattle.line_keyword.specs.declared.Counts.{Counts}
 use Rattle.line_keyword.specs.declared.State.{State}
-use Rattle.read_line.specs.Reading.{commentByte, breaks, lineResult, readFrom}
+use Rattle.read_line.specs.Reading.{breaks, lineResult, readFrom}
 use Rattle.read_line.specs.declared.LineResult.{LineResult}
 use Rattle.read_line.specs.declared.Front.{Front}
 use Rattle.read_line.specs.declared.Front.the-variants.{Blanks, Words, Opening}
@@ -31,7 +31,7 @@ use Rattle.read_line.specs.declared.Reading.the-variants.{Refused}
 
 -- the result of reading on from where a walk ends
 unfoldable pub resume : List ℕ → Walk → Reading
-resume t w = if eqb (w .rule) 0 then readFrom (w .line) (lines (drop (w .at) t)) (w .state) else Refused (w .rule) (w .line)
+resume t w = if eqb (w .rule) 0 then readFrom (w .line) (contents (drop (w .at) t)) (w .state) else Refused (w .rule) (w .line)
 
 -- where a walk that broke no rule goes on: the offset lies within the text, and the state is within its bounds
 pub record Onward (t : List ℕ) (at line : ℕ) (s : State) : Type 0 where
@@ -39,25 +39,19 @@ pub record Onward (t : List ℕ) (at line : ℕ) (s : State) : Type 0 where
   pub counted : line ≤ at + 1
   pub kept : BoundedState line s
 
--- no line lowers the count of values
-abbrev pub Rises : State → State → Type 0
-Rises s r = s .counts .values ≤ r .counts .values
-
 -- a walk from offset `at` has come to w: the result is the same from there, and it has gone on unless a rule is broken
 pub record ResumesText (t : List ℕ) (at line : ℕ) (s : State) (w : Walk) : Type 0 where
-  pub same : resume t w ≡ readFrom line (lines (drop at t)) s
+  pub same : resume t w ≡ readFrom line (contents (drop at t)) s
   pub further : w .rule ≡ 0 → at < w .at
   pub onward : w .rule ≡ 0 → Onward t (w .at) (w .line) (w .state)
-  pub rises : w .rule ≡ 0 → Rises s (w .state)
 
 -- ---- lines read with only a part of the state
 
 -- Lines from offset `at` to offset `further` are read. `fits` are the states in which they may be read, and `put` gives
 -- the state after them: reading on from there gives the same result. A line that breaks a rule is the last.
 pub record ResumesPart (t : List ℕ) (at line : ℕ) (fits : State → Type 0) (put : State → State) (rule further last : ℕ) : Type 0 where
-  pub same : (s : State) → fits s → resume t (record { rule = rule; at = further; line = last; state = put s }) ≡ readFrom line (lines (drop at t)) s
+  pub same : (s : State) → fits s → resume t (record { rule = rule; at = further; line = last; state = put s }) ≡ readFrom line (contents (drop at t)) s
   pub kept : rule ≡ 0 → (s : State) → fits s → BoundedState line s → BoundedState last (put s)
-  pub rises : rule ≡ 0 → (s : State) → fits s → Rises s (put s)
   pub onward : at ≤ further
   pub within : further ≤ length t
   pub raised : line ≤ last
@@ -78,10 +72,6 @@ Decides here put step rule next = (s : State) → s .place ≡ here → step (pu
 -- the line has a bracket at its front
 abbrev pub Opens : List ℕ → Type 0
 Opens content = bracketOf content ≡ Plain → ⊥
-
--- the content of the line that starts at offset `at`
-abbrev pub contentAt : List ℕ → ℕ → List ℕ
-contentAt t at = take (lineAt commentByte t at .content - at) (drop at t)
 
 -- a place whose lines are read one by one, not several together
 pub record ReadLineByLine (p : ℕ) : Type 0 where

@@ -9,6 +9,7 @@ use lib.ListN.{length}
 use lib.Dec.{eqb}
 use Rattle.base.specs.If.{if_then_else_}
 use Rattle.lex_line.specs.Lines.{isBlankLine}
+use Rattle.lex_line.specs.Way.LineEnds.{contentAt}
 use Rattle.lex_number.specs.Integer.{wholeOf}
 use Rattle.lex_keyword.specs.Names.{row}
 use Rattle.lex_keyword.specs.Bracket.{bracketOf}
@@ -21,7 +22,7 @@ use Rattle.line_matrix.specs.Matrix.{dataLineOf, dataRule}
 use Rattle.line_matrix.specs.declared.Matrix.{Matrix}
 use Rattle.read_line.specs.Reading.{lineResult}
 use Rattle.read_line.specs.Way.Steps.{keywordStep}
-use Rattle.read_line.specs.Way.Walk.{ResumesPart, HoldsPart, Decides, Opens, contentAt, withMatrix}
+use Rattle.read_line.specs.Way.Walk.{ResumesPart, HoldsPart, Decides, Opens, withMatrix}
 use Rattle.doc.specs.Lines.{Line, linesAt, upTo}
 use Rattle.doc.specs.Document.{inMatrix, valuesFrom, bandwidthIn, greatestIn}
 use Rattle.read_numbers.specs.Way.Told.{untold, firstTold, toldOr}

@@ -10,12 +10,12 @@ use lib.Dec.{eqb}
 use Rattle.table_layout.specs.Codes.{diagonal, sparse}
 use Rattle.table_layout.specs.Bounds.{mostValues}
 use Rattle.base.specs.If.{both}
-use Rattle.lex_line.specs.Way.LineEnds.{lineAt}
+use Rattle.lex_line.specs.Way.LineEnds.{lineAt, contentAt}
+use Rattle.lex_line.specs.Lines.{commentByte}
 use Rattle.line_place.specs.Place as place
 use Rattle.line_matrix.specs.Matrix.{withColumn}
 use Rattle.line_matrix.specs.declared.Matrix.{Matrix}
-use Rattle.read_line.specs.Reading.{commentByte}
-use Rattle.read_line.specs.Way.Walk.{ResumesPart, HoldsPart, withMatrix, contentAt}
+use Rattle.read_line.specs.Way.Walk.{ResumesPart, HoldsPart, withMatrix}
 use Rattle.read_numbers.specs.declared.Staging.{Staging}
 use Rattle.read_numbers.specs.Way.Staging.{BoundedStaging, movedTo, namedTo}
 use Rattle.read_matrix.specs.declared.Data.{Data}

@@ -12,11 +12,10 @@ use Rattle.table_layout.specs.Codes.{sparse}
 use Rattle.table_record.specs.Records.{valueWords}
 use Rattle.table_record.specs.Way.Stage.{Held}
 use Rattle.table_record.specs.declared.Value.{Value}
-use Rattle.lex_line.specs.Way.LineEnds.{lineAt}
+use Rattle.lex_line.specs.Way.LineEnds.{lineAt, contentAt}
+use Rattle.lex_line.specs.Lines.{commentByte}
 use Rattle.line_matrix.specs.Matrix.{dataLineOf}
 use Rattle.line_matrix.specs.declared.DataLine.{DataLine}
-use Rattle.read_line.specs.Reading.{commentByte}
-use Rattle.read_line.specs.Way.Walk.{contentAt}
 use Rattle.doc.specs.Lines.{Line, plain, keyOf}
 use Rattle.doc.specs.Document.{valuesFrom, bandwidthIn, greatestIn}
 use Rattle.read_numbers.specs.Way.Told.{toldOr}

@@ -8,11 +8,10 @@ use lib.ListN.{length}
 use lib.Dec.{eqb}
 use Rattle.base.specs.If.{if_then_else_, both}
 use Rattle.table_record.specs.declared.Value.{Value}
-use Rattle.lex_line.specs.Way.LineEnds.{lineAt}
+use Rattle.lex_line.specs.Way.LineEnds.{lineAt, contentAt}
 use Rattle.lex_line.specs.Words.{words}
+use Rattle.lex_line.specs.Lines.{commentByte}
 use Rattle.line_matrix.specs.Matrix.{areFormed, areBounded}
-use Rattle.read_line.specs.Reading.{commentByte}
-use Rattle.read_line.specs.Way.Walk.{contentAt}
 use Rattle.doc.specs.Document.{numbersAt}
 use Rattle.read_numbers.specs.Way.Numbers.{rowAfter}
 use Rattle.read_numbers.specs.Way.Staging.{HeldValues}

@@ -11,8 +11,8 @@ use Rattle.base.specs.If.{if_then_else_}
 use Rattle.table_layout.specs.Codes.{endKind, sectionKind, forkKind, endforkKind}
 use Rattle.table_record.specs.Way.Stage.{stagedStepWidth, Held}
 use Rattle.table_record.specs.declared.stage.StagedStep.{StagedStep}
-use Rattle.lex_line.specs.Lines.{isBlankLine}
-use Rattle.lex_line.specs.Way.LineEnds.{lineAt}
+use Rattle.lex_line.specs.Lines.{isBlankLine, commentByte}
+use Rattle.lex_line.specs.Way.LineEnds.{lineAt, contentAt}
 use Rattle.lex_line.specs.declared.Line as text
 use Rattle.lex_keyword.specs.Bracket.{bracketOf}
 use Rattle.lex_keyword.specs.declared.Bracket.the-variants.{Plain}
@@ -21,8 +21,8 @@ use Rattle.line_path.specs.Path.{saysEnd, saysSection, saysFork, isMult, amount
 use Rattle.line_path.specs.Way.Parts.{ParsesLine}
 use Rattle.line_path.specs.declared.Path.{Path}
 use Rattle.line_path.specs.declared.PathParts.{PathParts}
-use Rattle.read_line.specs.Reading.{commentByte, lineResult}
-use Rattle.read_line.specs.Way.Walk.{ResumesPart, HoldsPart, NoProgressMeansBracket, Decides, Opens, Stepping, withPath, contentAt}
+use Rattle.read_line.specs.Reading.{lineResult}
+use Rattle.read_line.specs.Way.Walk.{ResumesPart, HoldsPart, NoProgressMeansBracket, Decides, Opens, Stepping, withPath}
 use Rattle.read_path.specs.declared.Stepped.{Stepped}
 use Rattle.read_path.specs.declared.PathWalk.{PathWalk}
 use Rattle.doc.specs.Lines.{Line, linesAt, wordsOf, rightWordsOf, noWord, secondWord, gather}

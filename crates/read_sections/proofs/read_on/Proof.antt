@@ -20,8 +20,8 @@ same-length-3 c = search needs
 returns : tie.Need-returns
 returns c = search needs
 
-skip-blank-requires : tie.Need-skip-blank-requires
-skip-blank-requires c κs = search needs
+skip-idle-requires : tie.Need-skip-idle-requires
+skip-idle-requires c κs = search needs
 
 returns-2 : tie.Need-returns-2
 returns-2 c = search blank-continues
@@ -45,7 +45,7 @@ read-on-spec =
     same-length-2
     same-length-3
     returns
-    skip-blank-requires
+    skip-idle-requires
     returns-2
     read-alone-requires
     same-length-4

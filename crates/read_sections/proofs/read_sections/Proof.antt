@@ -2,7 +2,7 @@
 -- Assumes nothing.
 use Prim.Native.Nat.{_-_}
 use lib.ListN.{length, drop}
-use Rattle.lex_line.specs.Lines.{lines}
+use Rattle.lex_line.specs.Lines.{contents}
 use Rattle.read_line.specs.Reading.{readFrom}
 use Rattle.read_sections.proofs.WalkLaws.{Going, going-start, going-late, going-stops, going-table, going-sections, going-matrices, going-less, going-on, going-ends}
 use borrow.Author.Needs.{needs}
@@ -11,7 +11,7 @@ use Rattle.read_sections.proofs.read_sections.Tie as tie
 
 abbrev Inv-loop : tie.InvT-loop
 Inv-loop text table₀ sections₀ matrices₀ at₀ line₀ s₀ block₀ table sections matrices at line s block =
-    Going text at₀ line₀ (readFrom line₀ (lines (drop at₀ text)) s₀) table₀ sections₀ matrices₀ at line s block table sections matrices
+    Going text at₀ line₀ (readFrom line₀ (contents (drop at₀ text)) s₀) table₀ sections₀ matrices₀ at line s block table sections matrices
 
 abbrev μ-loop : tie.MeasureT-loop
 μ-loop text table₀ sections₀ matrices₀ at₀ line₀ s₀ block₀ table sections matrices at line s block = length text - at

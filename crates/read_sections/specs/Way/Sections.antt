@@ -8,7 +8,7 @@ use mathlib.Core.List.{List}
 use lib.ListN.{length, drop}
 use lib.Dec.{eqb}
 use Rattle.base.specs.If.{if_then_else_}
-use Rattle.lex_line.specs.Lines.{lines}
+use Rattle.lex_line.specs.Lines.{contents}
 use Rattle.line_place.specs.Place.{isRowOrBandwidth}
 use Rattle.line_place.specs.Place as place
 use Rattle.line_keyword.specs.declared.State.{State}
@@ -17,8 +17,7 @@ use Rattle.table_layout.specs.Layout.{sectionWidth, matrixWidth, valueWidth}
 use Rattle.table_record.specs.Records.{sectionWords, matrixWords, valueWords}
 use Rattle.table_record.specs.Way.Stage.{Whole}
 use Rattle.read_line.specs.Reading.{readFrom}
-use Rattle.read_line.specs.Way.Walk.{resume, Onward, ResumesIdle}
-use Rattle.read_line.specs.declared.fast.Passing.{Passing}
+use Rattle.read_line.specs.Way.Walk.{resume, Onward}
 use Rattle.doc.specs.Lines.{plain, keyAt, linesAt, gather}
 use Rattle.doc.specs.Document.{Section, sectionAt}
 use Rattle.doc.specs.Records.{sectionRecords, matrixRecords, matricesOf, valuesOf}
@@ -37,11 +36,6 @@ pub record SectionsStaged (t : List ℕ) (line at : ℕ) (table sectionStage mat
   pub values : Whole valueWords valueWidth (valuesOf (matricesOf (sectionsBehind t line at))) table
 
 -- ---- on the way
-
--- blank lines are skipped, whatever the place
-pub record SkipsBlank (t : List ℕ) (at line : ℕ) (r : Passing) : Type 0 where
-  pub resumes : (p : ℕ) → ResumesIdle t at line p (r .at) (r .line)
-  pub same : (p : ℕ) → linesAt t line at p ≡ linesAt t (r .line) (r .at) p
 
 -- a place behind the family
 pub record Late (p : ℕ) : Type 0 where
@@ -63,7 +57,7 @@ StandsAt ss t at line p s o table sections matrices = Stands ss o (reachedIn p s
 
 -- a line, or several, are read from offset `at` on
 pub record Continues (t : List ℕ) (at line p : ℕ) (s : State) (o : OpenSection) (table sections matrices : List ℕ) (r : SectionWalk) (table' sections' matrices' : List ℕ) : Type 0 where
-  pub same : resume t (record { rule = r .rule; at = r .at; line = r .line; state = r .state }) ≡ readFrom line (lines (drop at t)) s
+  pub same : resume t (record { rule = r .rule; at = r .at; line = r .line; state = r .state }) ≡ readFrom line (contents (drop at t)) s
   pub further : r .rule ≡ 0 → at < r .at
   pub onward : r .rule ≡ 0 → Onward t (r .at) (r .line) (r .state)
   pub late : r .rule ≡ 0 → Late (r .state .place)

@@ -8,12 +8,13 @@ use native.Mathlib.Omega.{arith}
 use lib.ListN.{length}
 use Rattle.base.specs.Way.Class.{runEnd}
 use Rattle.base.specs.Bytes.{isContent}
+use Rattle.lex_line.specs.Lines.{commentByte}
 use Rattle.lex_line.proofs.SureLaws.{sure-on, sure-whole}
 use Rattle.lex_line.proofs.fast.skip_content.Statement.{statement}
 use Rattle.lex_line.proofs.fast.skip_content.Tie as tie
 
 abbrev Inv-loop : tie.InvT-loop
-Inv-loop text from i₀ i = (i ≤ length text) × (runEnd (isContent 124) text i ≡ runEnd (isContent 124) text from)
+Inv-loop text from i₀ i = (i ≤ length text) × (runEnd (isContent commentByte) text i ≡ runEnd (isContent commentByte) text from)
 
 abbrev μ-loop : tie.MeasureT-loop
 μ-loop text from i₀ i = length text - i

@@ -1,14 +1,14 @@
--- `read_family::idle::skip_idle` meets its contract. The loop's invariant: the lines from the start to here are skipped.
+-- `doc::idle::skip_idle` meets its contract. The loop's invariant: the lines from the start to here are skipped.
 -- Assumes nothing.
 use Prim.Native.Nat.{_+_, _-_, _≤_}
 use lib.ListN.{length}
 use Rattle.read_line.proofs.WalkLaws.{content-start, content-within}
 use Rattle.read_line.proofs.CrossLaws.{crossed-less}
-use Rattle.read_family.specs.Way.Idle.{SkipsIdle}
-use Rattle.read_family.proofs.IdleLaws.{idle-starts, idle-on}
+use Rattle.doc.specs.Way.Idle.{SkipsIdle}
+use Rattle.doc.proofs.IdleLaws.{idle-starts, idle-on}
 use borrow.Author.Needs.{needs}
-use Rattle.read_family.proofs.idle.skip_idle.Statement.{statement}
-use Rattle.read_family.proofs.idle.skip_idle.Tie as tie
+use Rattle.doc.proofs.idle.skip_idle.Statement.{statement}
+use Rattle.doc.proofs.idle.skip_idle.Tie as tie
 
 abbrev Inv-loop : tie.InvT-loop
 Inv-loop text at line place here₀ line-here₀ here line-here = (line ≤ at + 1) × SkipsIdle text at line place (record { at = here; line = line-here })

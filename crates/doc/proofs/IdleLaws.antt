@@ -8,7 +8,7 @@ use native.Mathlib.Omega.{arith}
 use lib.ListN.{length, take, drop}
 use borrow.Author.Tests.{not-false}
 use Rattle.base.proofs.IfLaws.{by-cases}
-use Rattle.lex_line.specs.Lines.{isBlankLine}
+use Rattle.lex_line.specs.Lines.{isBlankLine, commentByte}
 use Rattle.lex_line.specs.Way.LineEnds.{lineAt}
 use Rattle.lex_line.specs.Words.{words, firstOf}
 use Rattle.lex_line.specs.declared.Line as text
@@ -17,14 +17,14 @@ use Rattle.lex_keyword.specs.declared.Bracket.the-variants.{Plain}
 use Rattle.line_place.specs.Place as place
 use Rattle.line_argument.specs.Argument.{isReserved}
 use Rattle.line_keyword.specs.declared.State.{State}
-use Rattle.read_line.specs.Reading.{commentByte, goes, lineResult}
+use Rattle.read_line.specs.Reading.{goes, lineResult}
 use Rattle.read_line.proofs.QuietLaws.{quiet-blank, quiet-listed, quiet-decides}
 use Rattle.read_line.proofs.CrossLaws.{crossed-none, crossed-on}
 use Rattle.doc.specs.Lines.{Line, plain, keyIn, keyAt, keyOf, linesAt}
 use Rattle.doc.specs.Way.Found.{Plainly}
 use Rattle.doc.proofs.FoundLaws.{pass-over, stop-here}
 use Rattle.doc.proofs.PlainLaws.{plain-stays, plainly-none, plainly-one, plainly-same, plainly-join}
-use Rattle.read_family.specs.Way.Idle.{IsIdle, SkipsIdle}
+use Rattle.doc.specs.Way.Idle.{IsIdle, SkipsIdle}
 
 -- ---- one line
 

@@ -1,11 +1,11 @@
--- `read_family::idle::is_idle` meets its contract: a blank line, or a good line of the model list.
+-- `doc::idle::is_idle` meets its contract: a blank line, or a good line of the model list.
 -- Assumes nothing.
 use mathlib.Core.Path.{sym}
 use mathlib.Core.Bool.{true≢false}
-use Rattle.read_family.proofs.IdleLaws.{idle-blank, idle-listed}
+use Rattle.doc.proofs.IdleLaws.{idle-blank, idle-listed}
 use borrow.Author.Needs.{needs}
-use Rattle.read_family.proofs.idle.is_idle.Statement.{statement}
-use Rattle.read_family.proofs.idle.is_idle.Tie as tie
+use Rattle.doc.proofs.idle.is_idle.Statement.{statement}
+use Rattle.doc.proofs.idle.is_idle.Tie as tie
 
 is-blank-line-requires : tie.Need-is-blank-line-requires
 is-blank-line-requires c κs = search needs

@@ -4,11 +4,8 @@ ghost use mathlib.Core.Path.{_≡_};
 ghost use mathlib.Core.Bool.{true, false};
 ghost use Prim.Native.Nat.{_+_, _≤_};
 ghost use lib.ListN.{length};
-ghost use Rattle.read_family.specs.Way.Idle.{IsIdle, SkipsIdle};
+ghost use Rattle.doc.specs.Way.Idle.{IsIdle, SkipsIdle};
 use read_line::fast::Passing;
-
-// "From `|` on, a line is comment".
-const COMMENT: u8 = b'|';
 
 fn is_idle(content: &[u8], place: u64) -> bool
     ensures { λ r. ⌜ (r ≡ true → IsIdle (now (content .entry)) place) ⌝ }
@@ -36,7 +33,7 @@ pub fn skip_idle(text: &[u8], at: usize, line: u64, place: u64) -> Passing
                 line: line_here,
             };
         }
-        let found = lex_line::line_at(text, here, COMMENT);
+        let found = lex_line::line_at(text, here, lex_line::COMMENT);
         let content = found.content;
         if !is_idle(&text[here..content], place) {
             return Passing {
