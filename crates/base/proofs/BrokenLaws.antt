@@ -2,12 +2,11 @@
 -- least number of a broken rule. The rule set `firsts` proves code that makes the tests of a list in the same order.
 -- Assumes nothing.
 use mathlib.Core.Path.{_≡_, refl, sym, _∙_, ap}
-use mathlib.Core.Bool.{Bool, true, false, true≢false}
+use mathlib.Core.Bool.{Bool, true, false}
 use mathlib.Core.List.{List, [], _∷_}
-use Prim.Native.Nat.{ℕ, zero, suc, _≤_, _<_, zero-le, suc-le-suc}
-use native.Mathlib.Nat.{le-of-suc-le-suc, not-suc-le-zero, le-refl, le-trans}
+use Prim.Native.Nat.{ℕ, zero, suc, _<_}
 use native.Mathlib.Omega.{arith}
-use lib.ListN.{length, getD}
+use lib.ListN.{getD}
 use borrow.Author.Tests.{le-leb, lt-leb, eq-eqb, ne-eqb, lt-ltb, le-ltb}
 use Rattle.base.specs.If.{if_then_else_}
 use Rattle.base.specs.Broken.{Rule, _when_, first, firstBroken}
@@ -32,11 +31,6 @@ abbrev pub Numbered : List Rule → Type 0
 Numbered [] = Unit {0}
 Numbered (r ∷ rs) = (0 < r .number) × Numbered rs
 
--- the numbers never fall from front to back, and the first is at least `least`
-abbrev pub Rising : ℕ → List Rule → Type 0
-Rising least [] = Unit {0}
-Rising least (r ∷ rs) = (least ≤ r .number) × Rising (r .number) rs
-
 -- if every test is false, the answer is 0
 pub none-broken : (rs : List Rule) → ((i : ℕ) → getD rs i sound .broken ≡ false) → firstBroken rs ≡ 0
 none-broken [] h = refl
@@ -56,35 +50,6 @@ all-kept (r ∷ rs) n e i = by-cases _ (r .broken) (λ (b : r .broken ≡ true).
     kept : (firstBroken rs ≡ 0 → (j : ℕ) → getD rs j sound .broken ≡ false) → r .broken ≡ false → (j : ℕ) → getD (r ∷ rs) j sound .broken ≡ false
     kept later b zero = b
     kept later b (suc j) = later (sym (first-kept _ _ _ _ b refl) ∙ e) j
-
--- an answer other than 0 is the number of a broken rule of the list
-pub found-broken : (rs : List Rule) (n : ℕ) → firstBroken rs ≡ n → 0 < n → (i : ℕ) × (i < length rs) × (getD rs i sound .broken ≡ true) × (getD rs i sound .number ≡ n)
-found-broken [] n e p = absurd (omega arith)
-found-broken (r ∷ rs) n e p =
-    by-cases _ (r .broken)
-    (λ (b : r .broken ≡ true). (zero, suc-le-suc zero-le, b, sym (first-broken _ _ _ b) ∙ e))
-    (λ (b : r .broken ≡ false). later (found-broken rs n (sym (first-kept _ _ _ _ b refl) ∙ e) p))
-  where
-    later : ((i : ℕ) × (i < length rs) × (getD rs i sound .broken ≡ true) × (getD rs i sound .number ≡ n)) → (i : ℕ) × (i < length (r ∷ rs)) × (getD (r ∷ rs) i sound .broken ≡ true) × (getD (r ∷ rs) i sound .number ≡ n)
-    later f = (suc (f .0), suc-le-suc (f .1), f .2, f .3)
-
-rising-least : (rs : List Rule) (least : ℕ) → Rising least rs → (i : ℕ) → i < length rs → least ≤ getD rs i sound .number
-rising-least [] least h i g = absurd (not-suc-le-zero g)
-rising-least (r ∷ rs) least h zero g = h .0
-rising-least (r ∷ rs) least h (suc i) g = le-trans (h .0) (rising-least rs (r .number) (h .1) i (le-of-suc-le-suc g))
-
--- in a rising list the answer is at most the number of any broken rule
-pub found-least : (rs : List Rule) (least : ℕ) → Rising least rs → (i : ℕ) → i < length rs → getD rs i sound .broken ≡ true → firstBroken rs ≤ getD rs i sound .number
-found-least [] least h i g b = absurd (not-suc-le-zero g)
-found-least (r ∷ rs) least h i g b = by-cases _ (r .broken) (λ (t : r .broken ≡ true). rw (first-broken _ (r .number) (firstBroken rs) t) (head i g)) (λ (t : r .broken ≡ false). tail (found-least rs (r .number) (h .1)) i g b t)
-  where
-    head : (j : ℕ) → j < length (r ∷ rs) → r .number ≤ getD (r ∷ rs) j sound .number
-    head zero k = le-refl (r .number)
-    head (suc j) k = rising-least rs (r .number) (h .1) j (le-of-suc-le-suc k)
-
-    tail : ((j : ℕ) → j < length rs → getD rs j sound .broken ≡ true → firstBroken rs ≤ getD rs j sound .number) → (j : ℕ) → j < length (r ∷ rs) → getD (r ∷ rs) j sound .broken ≡ true → r .broken ≡ false → firstBroken (r ∷ rs) ≤ getD (r ∷ rs) j sound .number
-    tail later zero k c t = absurd (true≢false (sym c ∙ t))
-    tail later (suc j) k c t = rw (first-kept _ (r .number) (firstBroken rs) (firstBroken rs) t refl) (later j (le-of-suc-le-suc k) c)
 
 -- ---- code that makes one test after another: premises are what it knows at a `return`, the conclusion its contract
 

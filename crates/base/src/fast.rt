@@ -5,6 +5,7 @@ ghost use lib.ListN.{length, take, drop};
 ghost use Rattle.base.specs.Runs.{all};
 ghost use Rattle.base.specs.Way.Joined.{Joins};
 ghost use Rattle.base.specs.Way.Class.{inClass, runEnd};
+ghost use Rattle.base.specs.Bytes.{isPrinted};
 use crate::Class;
 
 // How many bytes of a run are tested together.
@@ -68,4 +69,11 @@ pub fn skip_far(class: Class, s: &[u8], from: usize) -> usize
     ensures { λ r. ⌜ r ≡ runEnd (inClass class) (now (s .entry)) from ⌝ }
 {
     crate::skip(class, s, skip_blocks(class, s, from))
+}
+
+// The same for the bytes that a line may contain, with a loop of its own: lines are long, and every line is checked.
+pub fn skip_printed(s: &[u8], from: usize) -> usize
+    ensures { λ r. ⌜ r ≡ runEnd isPrinted (now (s .entry)) from ⌝ }
+{
+    crate::past_printed(s, skip_blocks(Class::Printed, s, from))
 }

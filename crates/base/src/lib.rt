@@ -197,6 +197,20 @@ pub fn past_blanks(s: &[u8], from: usize) -> usize
     i
 }
 
+// The position after the bytes at `from` that a line may contain.
+fn past_printed(s: &[u8], from: usize) -> usize
+    ensures { λ r. ⌜ r ≡ runEnd isPrinted (now (s .entry)) from ⌝ }
+{
+    let mut i = from;
+    while i < s.len() {
+        if !is_printed(s[i]) {
+            return i;
+        }
+        i += 1;
+    }
+    i
+}
+
 // The position after the word at `from`.
 pub fn past_word(s: &[u8], from: usize) -> usize
     ensures { λ r. ⌜ r ≡ runEnd isFilled (now (s .entry)) from ⌝ }

@@ -2,18 +2,18 @@
 -- first line that breaks one, and the lowest rule that is broken there.
 -- Assumes nothing.
 use mathlib.Core.Path.{_≡_, refl, sym, _∙_, ap, subst}
-use mathlib.Core.Bool.{true, false, true≢false}
+use mathlib.Core.Bool.{true, false}
 use mathlib.Core.List.{List, [], _∷_, map}
-use Prim.Native.Nat.{ℕ, _+_, _≤_, _<_}
+use Prim.Native.Nat.{ℕ, _+_, _≤_}
 use native.Mathlib.Nat.{le-trans}
 use native.Mathlib.Omega.{arith}
-use lib.ListN.{length, getD}
+use lib.ListN.{getD}
 use lib.Dec.{eqb}
 use borrow.Author.Tests.{eqb-true, eqb-false}
 use Rattle.table_layout.specs.Codes.{endKind, sectionKind}
 use Rattle.base.specs.Broken.{Rule, firstBroken}
 use Rattle.base.proofs.IfLaws.{by-test, by-cases}
-use Rattle.base.proofs.BrokenLaws.{sound, Numbered, none-broken as tests-kept, all-kept as kept-tests, found-broken, found-least, Rising as Ascending}
+use Rattle.base.proofs.BrokenLaws.{sound, Numbered, all-kept as tests-kept}
 use Rattle.doc.specs.Document.{Named, Step, Model, Map, Section, Document, documentOf}
 use Rattle.doc.specs.Holds.{Each}
 use Rattle.doc.specs.Holds.Each.{none, more}
@@ -40,9 +40,10 @@ use Rattle.cross_rules.specs.Rules.{
   crossRule,
 }
 use Rattle.cross_rules.specs.Way.Findings.{mapNameRule, endRule, sectionStepRule, findings}
-use Rattle.cross_rules.specs.Listed.{RulesAtLine, Among}
+use Rattle.cross_rules.specs.Listed.{RulesAtLine, Among, BrokenIn}
 use Rattle.cross_rules.specs.Listed.Among.{front, further}
 use Rattle.cross_rules.specs.declared.Finding.{Finding}
+use Rattle.cross_rules.proofs.AmongLaws.{broken-kept, broken-found, broken-least, Ascends, Source, source-of, among-mapped}
 use Rattle.cross_rules.proofs.RisingLaws.{each-one}
 use Rattle.cross_rules.proofs.FindingLaws.{findings-looked, cross-findings}
 use Rattle.cross_rules.proofs.KindLaws.{earlier-second, earlier-one, earlier-other, earlier-breaks, earlier-line}
@@ -53,27 +54,7 @@ use Rattle.cross_rules.proofs.ApartLaws.{one-finding}
 -- the numbers of the rules rise, and none is 0
 record Ranked (rules : List Rule) : Type 0 where
   numbered : Numbered rules
-  ascending : Ascending 1 rules
-
--- a rule of this number is in the list, and it is broken
-abbrev pub FoundIn : ℕ → List Rule → Type 0
-FoundIn number rules = (i : ℕ) × (i < length rules) × (getD rules i sound .broken ≡ true) × (getD rules i sound .number ≡ number)
-
--- `number` is 0 exactly if no rule of the list is broken; otherwise it is the lowest number of a broken one
-pub record Judged (number : ℕ) (rules : List Rule) : Type 0 where
-  pub kept : number ≡ 0 → (i : ℕ) → getD rules i sound .broken ≡ false
-  pub holds : ((i : ℕ) → getD rules i sound .broken ≡ false) → number ≡ 0
-  pub found : 0 < number → FoundIn number rules
-  pub least : (i : ℕ) → i < length rules → getD rules i sound .broken ≡ true → number ≤ getD rules i sound .number
-
-judged : (rules : List Rule) → Ranked rules → Judged (firstBroken rules) rules
-judged rules r =
-    record {
-      kept = kept-tests rules (r .numbered);
-      holds = tests-kept rules;
-      found = found-broken rules (firstBroken rules) refl;
-      least = found-least rules 1 (r .ascending);
-    }
+  ascending : Ascends (λ (n : ℕ). n) 1 rules
 
 module _ (d : Document) where
   list-ranked : (n : Named) → Ranked (listNameRules d n)
@@ -111,20 +92,20 @@ module _ (d : Document) where
 pin-ranked : (m : Map) (p : Named) → Ranked (pinNameRules m p)
 pin-ranked m p = record { numbered = (omega arith, tt); ascending = (omega arith, tt) }
 
--- ---- what each rule of a line gives
+-- ---- a line that breaks no rule: every test is false
 
 module _ (d : Document) where
-  pub map-judged : (m : Map) → Judged (mapNameRule d m) (mapNameRules d m)
+  pub map-tests : (m : Map) → mapNameRule d m ≡ 0 → (i : ℕ) → getD (mapNameRules d m) i sound .broken ≡ false
   unfolding mapNameRule
-  map-judged m = judged (mapNameRules d m) (map-ranked d m)
+  map-tests m e = tests-kept (mapNameRules d m) (map-ranked d m .numbered) e
 
-  pub end-judged : (m : Model) (s : Step) → Judged (endRule d m s) (endStepRules d m s)
+  pub end-tests : (m : Model) (s : Step) → endRule d m s ≡ 0 → (i : ℕ) → getD (endStepRules d m s) i sound .broken ≡ false
   unfolding endRule
-  end-judged m s = judged (endStepRules d m s) (end-ranked d m s)
+  end-tests m s e = tests-kept (endStepRules d m s) (end-ranked d m s .numbered) e
 
-  pub section-step-judged : (m : Model) (s : Step) → Judged (sectionStepRule d m s) (sectionStepRules d m s)
+  pub section-step-tests : (m : Model) (s : Step) → sectionStepRule d m s ≡ 0 → (i : ℕ) → getD (sectionStepRules d m s) i sound .broken ≡ false
   unfolding sectionStepRule
-  section-step-judged m s = judged (sectionStepRules d m s) (section-step-ranked d m s)
+  section-step-tests m s e = tests-kept (sectionStepRules d m s) (section-step-ranked d m s .numbered) e
 
 -- ---- the earliest of many
 
@@ -208,84 +189,55 @@ module _ (d : Document) where
       each-append (mapped-ranked _ (list-ranked d) (d .listed))
       (each-append (models-ranked (d .models)) (each-append (maps-ranked (d .maps)) (sections-ranked 0 (d .sections))))
 
--- the document breaks a rule of this number on this line
-pub record Breaks (d : Document) (line number : ℕ) : Type 0 where
-  pub look : RulesAtLine
-  pub among : Among look (allRulesAtLines d)
-  pub place : ℕ
-  pub within : place < length (look .rules)
-  pub broken : getD (look .rules) place sound .broken ≡ true
-  pub on-line : look .line ≡ line
-  pub numbered : getD (look .rules) place sound .number ≡ number
-
--- an element of a mapped list comes from an element of the list
-record Source {A B : Type 0} (f : A → B) (xs : List A) (y : B) : Type 0 where
-  source : A
-  among : Among source xs
-  gives : f source ≡ y
-
-module _ {A B : Type 0} (f : A → B) where
-  source-of : (xs : List A) {y : B} → Among y (map f xs) → Source f xs y
-  source-of (x ∷ xs) front = record { source = x; among = front; gives = refl }
-  source-of (x ∷ xs) (further m) = longer (source-of xs m)
-    where
-      longer : {y : B} → Source f xs y → Source f (x ∷ xs) y
-      longer s = record { source = s .source; among = further (s .among); gives = s .gives }
-
-  among-mapped : {x : A} {xs : List A} → Among x xs → Among (f x) (map f xs)
-  among-mapped front = front
-  among-mapped (further m) = further (among-mapped m)
-
 module _ (d : Document) where
-  look-judged : {x : RulesAtLine} → Among x (allRulesAtLines d) → Judged (firstBroken (x .rules)) (x .rules)
-  look-judged {x} m = judged (x .rules) (each-one (all-ranked d) m)
+  look-ranked : {x : RulesAtLine} → Among x (allRulesAtLines d) → Ranked (x .rules)
+  look-ranked m = each-one (all-ranked d) m
 
   look-found : {x : RulesAtLine} → Among x (allRulesAtLines d) → Among (findingOf x) (findings d)
   look-found m = rw (findings-looked d) (among-mapped findingOf m)
 
+  -- the document breaks a rule of this number on this line
+  abbrev Breaks : ℕ → ℕ → Type 0
+  Breaks number line = BrokenIn (allRulesAtLines d) number line
+
   -- a line that breaks a rule has a finding other than 0
-  breaks-found : {line number : ℕ} (b : Breaks d line number) → firstBroken (b .look .rules) ≡ 0 → ⊥
-  breaks-found b e = true≢false (sym (b .broken) ∙ look-judged (b .among) .kept e (b .place))
+  breaks-found : {number line : ℕ} (b : Breaks number line) → firstBroken (b .rules) ≡ 0 → ⊥
+  breaks-found b e = broken-kept (b .broken) (look-ranked (b .listed) .numbered) e
 
-  pub none-breaks : crossRule d .rule ≡ 0 → (line number : ℕ) → Breaks d line number → ⊥
-  none-breaks e line number b = breaks-found b (each-one (all-kept d e) (look-found (b .among)))
+  pub none-breaks : crossRule d .rule ≡ 0 → (number line : ℕ) → Breaks number line → ⊥
+  none-breaks e number line b = breaks-found b (each-one (all-kept d e) (look-found (b .listed)))
 
-  look-breaks : (x : RulesAtLine) → Among x (allRulesAtLines d) → (firstBroken (x .rules) ≡ 0 → ⊥) → Breaks d (x .line) (firstBroken (x .rules))
-  look-breaks x m n = by-place (look-judged m .found (omega arith))
-    where
-      by-place : FoundIn (firstBroken (x .rules)) (x .rules) → Breaks d (x .line) (firstBroken (x .rules))
-      by-place f = record { look = x; among = m; place = f .0; within = f .1; broken = f .2; on-line = refl; numbered = f .3 }
+  look-breaks : (x : RulesAtLine) → Among x (allRulesAtLines d) → (firstBroken (x .rules) ≡ 0 → ⊥) → Breaks (firstBroken (x .rules)) (x .line)
+  look-breaks x m n = record { rules = x .rules; listed = m; broken = broken-found (x .rules) n }
 
-  source-breaks : {f : Finding} → Source findingOf (allRulesAtLines d) f → (f .rule ≡ 0 → ⊥) → Breaks d (f .line) (f .rule)
+  source-breaks : {f : Finding} → Source findingOf (allRulesAtLines d) f → (f .rule ≡ 0 → ⊥) → Breaks (f .rule) (f .line)
   source-breaks s n =
-      subst (λ (g : Finding). Breaks d (g .line) (g .rule)) (s .gives)
+      subst (λ (g : Finding). Breaks (g .rule) (g .line)) (s .gives)
       (look-breaks (s .source) (s .among)
       (λ (e : firstBroken (s .source .rules) ≡ 0). n (ap (λ (g : Finding). g .rule) (sym (s .gives)) ∙ e)))
 
   -- the rule that `crossRule` gives is broken on the line that it gives
-  pub given-breaks : (crossRule d .rule ≡ 0 → ⊥) → Breaks d (crossRule d .line) (crossRule d .rule)
+  pub given-breaks : (crossRule d .rule ≡ 0 → ⊥) → Breaks (crossRule d .rule) (crossRule d .line)
   given-breaks n = source-breaks (source-of findingOf (allRulesAtLines d) (rw (findings-looked d) at (first-found d n .found))) n
 
-  pub unbroken : ((line number : ℕ) → Breaks d line number → ⊥) → crossRule d .rule ≡ 0
+  pub unbroken : ((number line : ℕ) → Breaks number line → ⊥) → crossRule d .rule ≡ 0
   unbroken h =
       by-cases (crossRule d .rule ≡ 0) (eqb (crossRule d .rule) 0) (λ (e : eqb (crossRule d .rule) 0 ≡ true). eqb-true _ _ e)
       (λ (e : eqb (crossRule d .rule) 0 ≡ false). absurd (h _ _ (given-breaks (eqb-false _ _ e))))
 
-  pub lowest-line : (line number : ℕ) → Breaks d line number → crossRule d .line ≤ line
-  lowest-line line number b =
-      let n : crossRule d .rule ≡ 0 → ⊥ = λ (e : crossRule d .rule ≡ 0). none-breaks e line number b in
-      rw (b .on-line) at (first-found d n .lowest (findingOf (b .look)) (look-found (b .among)) (breaks-found b))
+  pub lowest-line : (number line : ℕ) → Breaks number line → crossRule d .line ≤ line
+  lowest-line number line b =
+      let n : crossRule d .rule ≡ 0 → ⊥ = λ (e : crossRule d .rule ≡ 0). none-breaks e number line b in
+      first-found d n .lowest (findingOf (record { line = line; rules = b .rules })) (look-found (b .listed)) (breaks-found b)
 
 -- "on one line the lowest number"; holds for every text, a refused one too
 pub lowest-rule :
-    (t : List ℕ) (number : ℕ) → Breaks (documentOf t) (crossRule (documentOf t) .line) number → crossRule (documentOf t) .rule ≤ number
+    (t : List ℕ) (number : ℕ) → BrokenIn (allRulesAtLines (documentOf t)) number (crossRule (documentOf t) .line) → crossRule (documentOf t) .rule ≤ number
 lowest-rule t number b =
     let d : Document = documentOf t in
-    let n : crossRule d .rule ≡ 0 → ⊥ = λ (e : crossRule d .rule ≡ 0). none-breaks d e (crossRule d .line) number b in
-    let same : findingOf (b .look) ≡ crossRule d =
-    one-finding t (findingOf (b .look)) (crossRule d) (look-found d (b .among)) (first-found d n .found) (b .on-line) in
-    let e : firstBroken (b .look .rules) ≡ crossRule d .rule = ap (λ (f : Finding). f .rule) same in
-    let l : firstBroken (b .look .rules) ≤ getD (b .look .rules) (b .place) sound .number =
-    look-judged d (b .among) .least (b .place) (b .within) (b .broken) in
-    let m : getD (b .look .rules) (b .place) sound .number ≡ number = b .numbered in
-    omega (arith, e, l, m)
+    let n : crossRule d .rule ≡ 0 → ⊥ = λ (e : crossRule d .rule ≡ 0). none-breaks d e number (crossRule d .line) b in
+    let own : Finding = findingOf (record { line = crossRule d .line; rules = b .rules }) in
+    let same : own ≡ crossRule d = one-finding t own (crossRule d) (look-found d (b .listed)) (first-found d n .found) refl in
+    let e : firstBroken (b .rules) ≡ crossRule d .rule = ap (λ (f : Finding). f .rule) same in
+    let l : firstBroken (b .rules) ≤ number = broken-least (λ (n : ℕ). n) (b .broken) 1 (look-ranked d (b .listed) .ascending) in
+    omega (arith, e, l)

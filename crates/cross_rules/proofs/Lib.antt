@@ -7,6 +7,7 @@ pub mod KindLaws
 pub mod TwiceLaws
 pub mod ListLaws
 pub mod ApartLaws
+pub mod AmongLaws
 pub mod FirstLaws
 pub mod RepeatedLaws
 pub mod NamesLaws

@@ -68,9 +68,10 @@ use Rattle.line_place.specs.Place.{
   movedByLine,
 }
 use Rattle.line_place.specs.Place as place
-use Rattle.line_keyword.specs.Keywords.{isSeen, isOnce, isRepeated, isLacking, isMisplaced, seenAfter, keywordRule, keywordNext}
+use Rattle.line_keyword.specs.Keywords.{isSeen, isOnce, isRepeated, isLacking, isMisplaced, seenAfter, keywordNext}
 use Rattle.line_keyword.specs.declared.State.{State}
 use Rattle.line_keyword.specs.declared.Counts.{Counts}
+use Rattle.line_keyword.specs.Way.Rule.{keywordRule}
 use Rattle.read_line.specs.Reading.{lineNext, readingOf}
 use Rattle.read_line.specs.declared.Reading.the-variants.{Read}
 use Rattle.read_line.proofs.OutsideLaws.{keyword-placed}
@@ -270,7 +271,7 @@ none-listed (more {l = l} {ls = ls} p b m g) c =
 module _ (k : ℕ) (argument : List ℕ) (s : State) (kept : keywordRule k argument s ≡ 0) where
   not-lacking : isLacking k s ≡ false
   unfolding isMisplaced
-  not-lacking = either-none-second _ _ (either-none-second _ _ (either-none-second _ _ (keyword-placed k argument s kept)))
+  not-lacking = either-none-first _ _ (either-none-second _ _ (either-none-second _ _ (either-none-second _ _ (keyword-placed k argument s kept))))
 
   model-read : k ≡ beginIcmModel → ListRead s
   unfolding isLacking if_then_else_

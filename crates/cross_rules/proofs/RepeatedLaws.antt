@@ -11,8 +11,8 @@ use borrow.Author.Tests.{le-leb, lt-ltb}
 use Rattle.base.specs.If.{if_then_else_}
 use Rattle.base.specs.Runs.{same}
 use Rattle.base.proofs.IfLaws.{if-true, if-false, by-cases, both-rest, either-left, either-rest}
-use Rattle.table_layout.specs.Layout.{nameWidth, chopped}
-use Rattle.table_record.specs.Way.Standing.{places, nameRecordAt}
+use Rattle.table_layout.specs.Layout.{chopped}
+use Rattle.table_record.specs.Way.Standing.{places, nameRecordAt, nameWidth}
 use Rattle.table_record.specs.declared.NameRecord.{NameRecord}
 use Rattle.table_record.proofs.PlaceLaws.{places-long}
 use Rattle.table_record.proofs.RecordLaws.{name-here}

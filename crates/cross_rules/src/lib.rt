@@ -4,7 +4,7 @@ ghost use lib.Dec.{eqb};
 ghost use lib.ListN.{length};
 ghost use Prim.Native.Nat.{_-_, _+_, _*_, _≤_};
 ghost use Rattle.base.specs.If.{if_then_else_, both};
-ghost use Rattle.table_layout.specs.Layout.{nameWidth};
+ghost use Rattle.table_record.specs.Way.Standing.{nameWidth};
 ghost use Rattle.doc.specs.Lines.{significant};
 ghost use Rattle.cross_rules.specs.Way.Nth.{writesAt, nthLine};
 ghost use Rattle.cross_rules.specs.Way.Repeated.{isRepeated, MarkedNames};

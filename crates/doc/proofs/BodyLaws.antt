@@ -9,7 +9,7 @@ use native.Mathlib.Omega.{arith}
 use lib.ListN.{getD}
 use lib.Dec.{eqb}
 use borrow.Author.Tests.{eq-eqb, ne-eqb, eqb-true, eqb-false, leb-true, ltb-false, not-false}
-use Rattle.base.specs.If.{if_then_else_, either}
+use Rattle.base.specs.If.{if_then_else_, both, either}
 use Rattle.base.specs.Bytes.{within}
 use Rattle.base.specs.Broken.{Rule, _when_}
 use Rattle.base.proofs.IfLaws.{
@@ -27,44 +27,22 @@ use Rattle.base.proofs.IfLaws.{
 }
 use Rattle.base.proofs.BrokenLaws.{sound, all-kept}
 use Rattle.lex_number.specs.Integer.{wholeOf}
+use Rattle.lex_number.proofs.IntegerLaws.{whole-within}
 use Rattle.lex_keyword.specs.Names.{row, bandwidth, endIcmSection, derivationMethod, beginIcmSection}
 use Rattle.line_place.specs.Place.{dead, opensMatrix, isRowOrBandwidth, moved, movedByLine, leadsInSection, leadsInMatrix, isInModel, isInFamily, isInHeader}
 use Rattle.line_place.specs.Place as place
 use Rattle.line_argument.specs.Argument.{formOf, isBadArgument, isBadInteger, isOutOfBounds}
 use Rattle.line_matrix.specs.declared.Matrix.{Matrix}
-use Rattle.line_matrix.specs.Matrix.{
-  newMatrix,
-  isWrongRow,
-  isWrongBandwidth,
-  isWrongShape,
-  isTooWide,
-  withRow,
-  withBandwidth,
-  dataLineOf,
-  dataRule,
-  dataNext,
-  shapeConductors,
-}
+use Rattle.line_matrix.specs.Matrix.{newMatrix, isWrongRow, isWrongBandwidth, isWrongShape, isTooWide, withRow, withBandwidth, dataLineOf, dataNext, shapeConductors}
+use Rattle.line_matrix.specs.Way.Rule.{dataRule}
 use Rattle.line_keyword.specs.declared.State.{State}
 use Rattle.line_keyword.proofs.InsideLaws.{opens-closes}
 use Rattle.line_keyword.specs.declared.Section.{Section}
-use Rattle.line_keyword.specs.Keywords.{
-  isForkOpen,
-  isMisplaced,
-  isShapeBroken,
-  isPastBound,
-  isMatrixBroken,
-  isWrongInMatrix,
-  closesTooWide,
-  keywordRule,
-  conductorsAfter,
-  sectionAfter,
-  matrixAfter,
-  countsAfter,
-  keywordNext,
-}
-use Rattle.read_line.specs.Reading.{lineRule, lineNext, countsAfterLine}
+use Rattle.line_keyword.specs.Keywords.{isForkOpen, isMisplaced, isShapeBroken, isPastBound, isMatrixBroken, isWrongInMatrix, closesTooWide, conductorsAfter, sectionAfter, matrixAfter, countsAfter, keywordNext}
+use Rattle.line_keyword.specs.Way.Rule.{keywordRule}
+use Rattle.read_line.specs.Reading.{lineNext, countsAfterLine}
 use Rattle.read_line.proofs.ResultLaws.{rule-matrix}
+use Rattle.read_line.specs.Way.Steps.{lineRule}
 use Rattle.doc.specs.Lines.{Line}
 use Rattle.doc.proofs.ShapeLaws.{Follows, Widens, Closed, Body, closed-told, row-told, width-told}
 use Rattle.table_layout.specs.Bounds.{mostConductors, mostBandwidth}
@@ -115,6 +93,9 @@ module _ (k : ℕ) (argument : List ℕ) (s : State) (kept : keywordRule k argum
   pub keyword-argument : isBadArgument k argument ≡ false
   keyword-argument = test-kept 2
 
+  keyword-integer : isBadInteger k argument ≡ false
+  keyword-integer = test-kept 3
+
   pub keyword-bounds : isOutOfBounds k argument ≡ false
   keyword-bounds = test-kept 4
 
@@ -135,7 +116,7 @@ module _ (k : ℕ) (argument : List ℕ) (s : State) (kept : keywordRule k argum
     matrix-kept = sym (if-true _ _ (eq-eqb _ _ p)) ∙ keyword-shaped
 
     module _ (keeps : isRowOrBandwidth k ≡ true) where
-      inside-kept : isWrongInMatrix k (wholeOf argument .value) (s .matrix) ≡ false
+      inside-kept : isWrongInMatrix k (wholeOf argument) (s .matrix) ≡ false
       unfolding isMatrixBroken
       inside-kept = sym (if-true _ _ keeps) ∙ matrix-kept
 
@@ -155,13 +136,17 @@ module _ (k : ℕ) (argument : List ℕ) (s : State) (kept : keywordRule k argum
 
 -- [Row]
 module _ (argument : List ℕ) (s : State) (kept : keywordRule row argument s ≡ 0) (p : s .place ≡ place.matrix) where
+  row-formed : wholeOf argument .formed ≡ true
+  unfolding isBadInteger isRowOrBandwidth either both
+  row-formed = not-false _ (keyword-integer row argument s kept)
+
   row-within : within 1 mostConductors (wholeOf argument .value) ≡ true
   unfolding isOutOfBounds if_then_else_
-  row-within = not-false _ (keyword-bounds row argument s kept)
+  row-within = sym (whole-within 1 mostConductors (wholeOf argument) row-formed) ∙ not-false _ (keyword-bounds row argument s kept)
 
   row-right : isWrongRow (wholeOf argument .value) (s .matrix) ≡ false
   unfolding isWrongInMatrix isRowOrBandwidth either if_then_else_
-  row-right = inside-kept row argument s kept p refl
+  row-right = sym (both-rest _ _ row-formed) ∙ inside-kept row argument s kept p refl
 
   pub row-follows : Follows (s .matrix) (wholeOf argument .value)
   unfolding within

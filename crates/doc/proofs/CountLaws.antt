@@ -17,11 +17,12 @@ use Rattle.line_place.specs.Place as place
 use Rattle.line_argument.specs.Argument.{formOf}
 use Rattle.line_path.specs.Path.{pathLineOf, isStepLine}
 use Rattle.line_path.specs.Path as path
-use Rattle.line_keyword.specs.Keywords.{isMisplaced, oneMoreIf, countsAfter, keywordRule, keywordNext}
+use Rattle.line_keyword.specs.Keywords.{isMisplaced, oneMoreIf, countsAfter, keywordNext}
 use Rattle.line_keyword.specs.State.{startState, noCounts}
 use Rattle.line_keyword.specs.declared.Counts.{Counts}
 use Rattle.line_keyword.specs.declared.State.{State}
-use Rattle.read_line.specs.Reading.{lineRule, lineNext, countsAfterLine, readingOf}
+use Rattle.line_keyword.specs.Way.Rule.{keywordRule}
+use Rattle.read_line.specs.Reading.{lineNext, countsAfterLine, readingOf}
 use Rattle.read_line.specs.declared.Reading.the-variants.{Read}
 use Rattle.read_line.proofs.OutsideLaws.{Met, keyword-placed}
 use Rattle.doc.specs.Lines.{Line, plain, significant, keyOf, argumentOf, standsIn, gather, upTo}
@@ -91,6 +92,7 @@ use Rattle.table_layout.proofs.LayoutLaws.{length-layout}
 use Rattle.table_record.proofs.BackLaws.{records-wide}
 use Rattle.table_layout.specs.Bounds.{bounds}
 use Rattle.read_line.proofs.CountLaws.{read-within, read-matrices}
+use Rattle.read_line.specs.Way.Steps.{lineRule}
 
 -- ---- the place of a keyword that breaks no rule
 

@@ -24,17 +24,20 @@ use Rattle.base.proofs.IfLaws.{
 use Rattle.lex_keyword.specs.Names.{beginIcmModel}
 use Rattle.line_place.specs.Place.{isInFamily, isInModel}
 use Rattle.line_place.specs.Place as place
-use Rattle.line_path.specs.Path.{pathLineOf, pathRule, pathNext}
+use Rattle.line_path.specs.Path.{pathLineOf, pathNext}
 use Rattle.line_path.specs.Path as path
 use Rattle.line_path.specs.declared.Path.{Path}
 use Rattle.line_path.proofs.DepthLaws.{fork-raises, other-keeps, fork-below, endfork-lowers}
-use Rattle.line_keyword.specs.Keywords.{keywordRule, keywordNext}
+use Rattle.line_path.specs.Way.Rule.{pathRule}
+use Rattle.line_keyword.specs.Keywords.{keywordNext}
 use Rattle.line_keyword.specs.State.{startState}
 use Rattle.line_keyword.specs.declared.Counts.{Counts}
 use Rattle.line_keyword.specs.declared.State.{State}
-use Rattle.read_line.specs.Reading.{lineRule, lineNext, readingOf}
+use Rattle.line_keyword.specs.Way.Rule.{keywordRule}
+use Rattle.read_line.specs.Reading.{lineNext, readingOf}
 use Rattle.read_line.specs.declared.Reading.the-variants.{Read}
 use Rattle.read_line.proofs.OutsideLaws.{Outside, start-outside, keyword-closed, keyword-flat, path-flat, keyword-outside, line-outside}
+use Rattle.read_line.specs.Way.Steps.{lineRule}
 use Rattle.doc.specs.Lines.{Line, plain, significant, keyOf, argumentOf, gather, upTo}
 use Rattle.doc.specs.Document.{
   Step,

@@ -18,11 +18,12 @@ use Rattle.lex_keyword.specs.declared.Bracket.the-variants.{Plain, Indented, Ba
 use Rattle.lex_keyword.proofs.AnswerLaws.{keyword-known}
 use Rattle.line_place.specs.Place.{moved, movedByLine, isText, isInModel, isInFamily, isInHeader, before, done}
 use Rattle.line_keyword.specs.State.{startState}
-use Rattle.line_keyword.specs.Keywords.{keywordRule, keywordNext}
+use Rattle.line_keyword.specs.Keywords.{keywordNext}
 use Rattle.line_keyword.specs.declared.Counts.{Counts}
 use Rattle.line_keyword.specs.declared.State.{State}
-use Rattle.read_line.specs.Reading.{lineRule, lineNext, argumentFrom, goes, breaks, judged, lineResult, onward, readFrom, atEnd, readingOf}
-use Rattle.read_line.specs.Way.Steps.{lineStep, keywordStep, bracketStep, beforeStep}
+use Rattle.line_keyword.specs.Way.Rule.{keywordRule}
+use Rattle.read_line.specs.Reading.{lineNext, argumentFrom, goes, breaks, judged, lineResult, onward, readFrom, atEnd, readingOf}
+use Rattle.read_line.specs.Way.Steps.{lineStep, keywordStep, bracketStep, beforeStep, lineRule}
 use Rattle.read_line.proofs.ResultLaws.{result-steps, refused-not-read, end-done}
 use Rattle.read_line.proofs.OutsideLaws.{Met}
 use Rattle.read_line.specs.declared.LineResult.{LineResult}

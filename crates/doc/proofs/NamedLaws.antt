@@ -43,17 +43,20 @@ use Rattle.lex_keyword.specs.Bracket.{bracketOf}
 use Rattle.line_place.specs.Place.{isInFamily, opensMatrix, isRowOrBandwidth}
 use Rattle.line_place.specs.Place as place
 use Rattle.line_argument.specs.Argument.{isOneWord, isName, takesNothing, takesName, isBadArgument, isBadInteger, isOutOfBounds}
-use Rattle.line_path.specs.Path.{sayingOf, plainLine, namesOne, isSectionLine, sectionLine, lineSaying, pathLineOf, isBadFork, isPathOutOfOrder, isStepLine, openRule, closedRule, pathRule}
+use Rattle.line_path.specs.Path.{sayingOf, plainLine, namesOne, isSectionLine, sectionLine, lineSaying, pathLineOf, isBadFork, isPathOutOfOrder, isStepLine}
 use Rattle.line_path.specs.Path as path
 use Rattle.line_path.specs.declared.Path.{Path}
 use Rattle.line_path.proofs.RuleLaws.{path-closed, path-open}
 use Rattle.line_path.specs.declared.PathLine.{PathLine}
-use Rattle.line_keyword.specs.Keywords.{isForkOpen, isMisplaced, isShapeBroken, isPastBound, keywordRule}
+use Rattle.line_path.specs.Way.Rule.{openRule, closedRule, pathRule}
+use Rattle.line_keyword.specs.Keywords.{isForkOpen, isMisplaced, isShapeBroken, isPastBound}
 use Rattle.line_keyword.specs.declared.State.{State}
 use Rattle.line_keyword.specs.declared.Counts.{Counts}
-use Rattle.read_line.specs.Reading.{lineRule, argumentFrom, readingOf}
+use Rattle.line_keyword.specs.Way.Rule.{keywordRule}
+use Rattle.read_line.specs.Reading.{argumentFrom, readingOf}
 use Rattle.read_line.specs.declared.Reading.the-variants.{Read}
 use Rattle.read_line.proofs.ResultLaws.{rule-path}
+use Rattle.read_line.specs.Way.Steps.{lineRule}
 use Rattle.doc.specs.Lines.{
   Line,
   plain,

@@ -42,11 +42,12 @@ use Rattle.line_argument.specs.Argument.{formOf, methodOf, takesNothing, takesF
 use Rattle.line_matrix.specs.Matrix.{newMatrix}
 use Rattle.line_matrix.specs.Matrix as matrix
 use Rattle.line_keyword.specs.declared.State.{State}
-use Rattle.line_keyword.specs.Keywords.{isSeen, hasNoKind, kindsLack, isLacking, isMisplaced, keywordRule, seenAfter, keywordNext}
+use Rattle.line_keyword.specs.Keywords.{isSeen, hasNoKind, kindsLack, isLacking, isMisplaced, seenAfter, keywordNext}
 use Rattle.line_keyword.specs.declared.Counts.{Counts}
 use Rattle.line_keyword.specs.State.{startState}
 use Rattle.line_keyword.proofs.InsideLaws.{opens-closes}
-use Rattle.read_line.specs.Reading.{lineRule, lineNext, readingOf}
+use Rattle.line_keyword.specs.Way.Rule.{keywordRule}
+use Rattle.read_line.specs.Reading.{lineNext, readingOf}
 use Rattle.read_line.specs.declared.Reading.the-variants.{Read}
 use Rattle.doc.specs.Lines.{Line, plain, keyOf, argumentOf, gather, upTo, significant}
 use Rattle.doc.specs.Document.{
@@ -101,6 +102,7 @@ use Rattle.doc.proofs.SpanLaws.{matrix-plain, matrix-kept, matrix-left,
 use Rattle.doc.proofs.MatrixLaws.{RightMatrix, RightRows, new-some, new-right, new-rows}
 use Rattle.doc.proofs.GatherLaws.{gather-more, gather-none, up-in, up-none, up-out}
 use Rattle.read_line.proofs.CountLaws.{forgotten}
+use Rattle.read_line.specs.Way.Steps.{lineRule}
 use Rattle.table_layout.specs.Codes.{sectionMethods}
 
 -- ---- a matrix as it is written
@@ -372,7 +374,7 @@ module _ (argument : List ℕ) (s : State) where
   unfolding isMisplaced isLacking kindsLack if_then_else_
   end-lacks kept =
       either-none-first _ _
-      (either-none-second _ _ (either-none-second _ _ (either-none-second _ _ (keyword-misplaced endIcmSection argument s kept))))
+      (either-none-first _ _ (either-none-second _ _ (either-none-second _ _ (either-none-second _ _ (keyword-misplaced endIcmSection argument s kept)))))
 
 head-key : (k : ℕ) (argument : List ℕ) (s : State) → keywordRule k argument s ≡ 0 → s .place ≡ place.sectionHead → k ≡ derivationMethod
 unfolding moved isInModel isInFamily isInHeader either if_then_else_

@@ -29,11 +29,13 @@ use Rattle.base.proofs.IfLaws.{
 }
 use Rattle.base.proofs.BrokenLaws.{sound, all-kept}
 use Rattle.lex_line.specs.Words.{words, firstOf, secondOf}
-use Rattle.lex_number.specs.Integer.{wholeOf}
+use Rattle.lex_number.specs.Integer.{wholeOf, isWholeWithin}
+use Rattle.lex_number.proofs.IntegerLaws.{whole-within}
 use Rattle.lex_keyword.specs.Names.{row, bandwidth}
 use Rattle.line_matrix.specs.declared.Matrix.{Matrix}
 use Rattle.line_matrix.specs.declared.DataLine.{DataLine}
-use Rattle.line_matrix.specs.Matrix.{isWrongBandwidth, isWrongRow, withBandwidth, inRow, standsAbove, withRow, numberCheck, areFormed, areBounded, numbersLine, sparseLine, dataLineOf, isDataOutOfOrder, areTooMany, dataRule, withColumn, dataNext, shapeConductors, isShaped, isWrongShape, isTooWide}
+use Rattle.line_matrix.specs.Matrix.{isWrongBandwidth, isWrongRow, withBandwidth, inRow, standsAbove, withRow, numberCheck, areFormed, areBounded, numbersLine, sparseLine, dataLineOf, isDataOutOfOrder, areTooMany, withColumn, dataNext, shapeConductors, isShaped, isWrongShape, isTooWide}
+use Rattle.line_matrix.specs.Way.Rule.{dataRule}
 use Rattle.doc.specs.Lines.{Line, plain, keyOf}
 use Rattle.doc.specs.Document.{givenBy}
 
@@ -269,7 +271,7 @@ pairLine ws =
       column = wholeOf (firstOf ws) .value;
       right = true;
       formed = both (wholeOf (firstOf ws) .formed) (numberCheck (secondOf ws) .formed);
-      bounded = both (within 1 mostConductors (wholeOf (firstOf ws) .value)) (numberCheck (secondOf ws) .bounded);
+      bounded = both (isWholeWithin 1 mostConductors (wholeOf (firstOf ws))) (numberCheck (secondOf ws) .bounded);
     }
 
 sparse-two : (ws : List (List ℕ)) → sparseLine ws .right ≡ true → sparseLine ws ≡ pairLine ws
@@ -284,10 +286,11 @@ unfolding within
 pair-told m v l kept =
     let f : both (wholeOf (firstOf (words (l .content))) .formed) (numberCheck (secondOf (words (l .content))) .formed) ≡ true =
     data-formed _ m v kept in
-    let b : both (within 1 mostConductors (columnOf l)) (numberCheck (secondOf (words (l .content))) .bounded) ≡ true = data-bounded _ m v kept in
+    let b : both (isWholeWithin 1 mostConductors (wholeOf (firstOf (words (l .content))))) (numberCheck (secondOf (words (l .content))) .bounded) ≡ true = data-bounded _ m v kept in
+    let c : within 1 mostConductors (columnOf l) ≡ true = sym (whole-within 1 mostConductors _ (both-first _ _ f)) ∙ both-first _ _ b in
     record {
-      low = leb-true 1 (columnOf l) (both-first _ _ (both-first _ _ b));
-      high = leb-true (columnOf l) mostConductors (both-second _ _ (both-first _ _ b));
+      low = leb-true 1 (columnOf l) (both-first _ _ c);
+      high = leb-true (columnOf l) mostConductors (both-second _ _ c);
       formed = both-second _ _ f;
       bounded = both-second _ _ b;
     }

@@ -18,15 +18,16 @@ use Rattle.base.proofs.IfLaws.{if-true, if-false, by-test, by-cases, both-true,
 use Rattle.base.proofs.BrokenLaws.{Numbered, all-kept}
 use Rattle.lex_line.specs.Words.{words, firstOf}
 use Rattle.line_place.specs.Place as place
-use Rattle.line_path.specs.Path.{sayingOf, plainLine, isSectionLine, sectionLine, lineSaying, pathLineOf, closed, isBadFork, isPathOutOfOrder, isStepLine, openRule, pathRule}
+use Rattle.line_path.specs.Path.{sayingOf, plainLine, isSectionLine, sectionLine, lineSaying, pathLineOf, closed, isBadFork, isPathOutOfOrder, isStepLine}
 use Rattle.line_path.specs.Path as path
 use Rattle.line_path.specs.declared.Path.{Path}
 use Rattle.line_path.specs.declared.PathLine.{PathLine}
 use Rattle.line_path.proofs.RuleLaws.{closed-other, path-closed, path-open}
+use Rattle.line_path.specs.Way.Rule.{openRule, pathRule}
 use Rattle.line_keyword.specs.Keywords.{oneMoreIf}
 use Rattle.line_keyword.specs.declared.State.{State}
-use Rattle.read_line.specs.Reading.{lineRule}
 use Rattle.read_line.proofs.ResultLaws.{rule-path}
+use Rattle.read_line.specs.Way.Steps.{lineRule}
 use Rattle.doc.specs.Lines.{Line, plain, keyOf, standsIn}
 use Rattle.doc.specs.Document.{Step, sayingAt, stepOf}
 

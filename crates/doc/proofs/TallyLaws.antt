@@ -33,13 +33,15 @@ use Rattle.lex_keyword.specs.Names.{row, bandwidth}
 use Rattle.line_place.specs.Place.{opensMatrix, isRowOrBandwidth}
 use Rattle.line_place.specs.Place as place
 use Rattle.line_argument.specs.Argument.{formOf}
-use Rattle.line_matrix.specs.Matrix.{newMatrix, withRow, withBandwidth, withColumn, sparseLine, dataLineOf, isDataOutOfOrder, areTooMany, dataRule, dataNext}
+use Rattle.line_matrix.specs.Matrix.{newMatrix, withRow, withBandwidth, withColumn, sparseLine, dataLineOf, isDataOutOfOrder, areTooMany, dataNext}
 use Rattle.line_matrix.specs.declared.Matrix as matrix
 use Rattle.line_matrix.specs.declared.DataLine.{DataLine}
+use Rattle.line_matrix.specs.Way.Rule.{dataRule}
 use Rattle.line_keyword.specs.Keywords.{matrixAfter, countsAfter, keywordNext}
 use Rattle.line_keyword.specs.declared.State.{State}
-use Rattle.read_line.specs.Reading.{lineRule, lineNext, countsAfterLine}
+use Rattle.read_line.specs.Reading.{lineNext, countsAfterLine}
 use Rattle.read_line.proofs.ResultLaws.{rule-matrix}
+use Rattle.read_line.specs.Way.Steps.{lineRule}
 use Rattle.doc.specs.Lines.{Line, plain, placeAfter, keyOf, argumentOf, gather, upTo}
 use Rattle.doc.specs.Document.{Matrix, givenBy, numbersAt, valuesFrom, opensMatrixAt, inMatrix, matrixOf, matrixAt}
 use Rattle.doc.proofs.Goes.{Moves, idle, plainly, keyed, Goes, none, more, idle-outside, moves-place}

@@ -2,6 +2,7 @@
 -- "Order: 1; 2 to 4 over all lines; 5 to 17 reading forward; 18; 19 to 27 over all lines."
 -- Assumes nothing.
 use Prim.Native.Nat.{ℕ, _-_}
+use mathlib.Core.Path.{_≡_}
 use mathlib.Core.Bool.{Bool, true, false}
 use mathlib.Core.List.{List, _++_}
 use lib.ListN.{length, replicate}
@@ -60,3 +61,8 @@ verdictOf t size = afterBytes t size (byteRules t)
 unfoldable pub tableFor : List ℕ → ℕ → Outcome → List ℕ
 tableFor t size outcome =
     if outcome .accepted then tableOf t ++ replicate (size - length (tableOf t)) 0 else replicate size 0
+
+-- what the intake promises of its answer and of the lent table, before and after
+pub record Conforms (t before : List ℕ) (answer : Answer) (after : List ℕ) : Type 0 where
+  pub answers : answerWords answer ≡ verdictOf t (length before)
+  pub leaves : after ≡ tableFor t (length before) (answerWords answer)

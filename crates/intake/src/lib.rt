@@ -19,7 +19,7 @@ ghost use Rattle.doc.specs.Document.{documentOf};
 ghost use Rattle.intake.specs.Stored.{storeAnswer};
 ghost use Rattle.cross_rules.specs.Rules.{crossRule};
 ghost use Rattle.cross_rules.specs.Way.HoldsText.{HoldsText};
-ghost use Rattle.intake.specs.Verdict.{answerWords, crossed, afterStoring, verdictOf, tableFor};
+ghost use Rattle.intake.specs.Verdict.{answerWords, crossed, afterStoring, tableFor, Conforms};
 use doc::Cursor;
 use lex_line::Checked;
 
@@ -136,7 +136,7 @@ fn take(text: &[u8], table: &mut [u64]) -> Answer
 // Any bytes and any table may be given. After a refusal the table is all zeros; otherwise it
 // holds the records of the text, and zeros after them.
 pub fn intake(text: &[u8], table: &mut [u64]) -> Answer
-    ensures { λ r. ⌜ (answerWords r ≡ verdictOf (now (text .entry)) (length (now (table .entry)))) × (now (table .exit) ≡ tableFor (now (text .entry)) (length (now (table .entry))) (answerWords r)) ⌝ }
+    ensures { λ r. ⌜ Conforms (now (text .entry)) (now (table .entry)) r (now (table .exit)) ⌝ }
 {
     match lex_line::check_bytes(text) {
         Checked::Fine => take(text, table),

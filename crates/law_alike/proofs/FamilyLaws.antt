@@ -8,7 +8,7 @@ use native.Mathlib.Omega.{arith}
 use lib.ListN.{drop}
 use lib.Dec.{eqb}
 use borrow.Author.Tests.{ne-eqb, eqb-true, eqb-false}
-use Rattle.base.specs.If.{if_then_else_, both, either}
+use Rattle.base.specs.If.{if_then_else_, either}
 use Rattle.base.proofs.IfLaws.{if-true, if-false, by-cases, both-first, both-second, both-not-left, either-false}
 use Rattle.lex_line.specs.Words.{Word, wordsFrom, words, firstOf, secondOf, toEquals, rightOf}
 use Rattle.lex_keyword.specs.Names.{beginIcmModel, icmPinMap}
@@ -31,8 +31,8 @@ use Rattle.law_alike.specs.Alike.AlikeLines.{none, line, matrix}
 use Rattle.law_alike.specs.Way.Same.{All2, SameNamed, SameStep, SameModel, SameMap}
 use Rattle.law_alike.specs.Way.Same.All2.{none as all2-none, more as all2-more}
 use Rattle.law_alike.proofs.SidesLaws.{words-bare}
-use Rattle.law_alike.proofs.LineLaws.{SameSides, SamePlain, plain-same, head-same, map-same, SamePath, path-same, mult-same, amount-same, words-same, argument-same}
-use Rattle.law_alike.proofs.GatherLaws.{keys-same, stands-same, isDeep, opening-deep, body-deep, block-inside, other-opens, gather-alike, up-alike}
+use Rattle.law_alike.proofs.LineLaws.{Reads, inner-reads, SameSides, SamePlain, plain-same, head-same, map-same, SamePath, path-same, mult-same, amount-same, words-same, argument-same}
+use Rattle.law_alike.proofs.GatherLaws.{tests-same, stands-same, isDeep, opening-deep, body-deep, block-inside, other-opens, gather-alike, up-alike}
 
 -- ---- words with their offsets
 
@@ -74,6 +74,11 @@ stands-plain : (p : ℕ) (l : Line) → standsIn p l ≡ true → keyAt (l .cont
 unfolding standsIn keyOf
 stands-plain p l e = eqb-true _ _ (both-second _ _ e)
 
+-- and it is read, if the place is neither that before [Begin Header] nor that after [End]
+stands-reads : (p : ℕ) → eqb place.before p ≡ false → eqb place.done p ≡ false → (l : Line) → standsIn p l ≡ true → Reads (l .place)
+unfolding standsIn
+stands-reads p begun unended l e = inner-reads (λ (x : ℕ). eqb x p) begun unended (l .place) (both-first _ _ e)
+
 -- a line of a matrix is in none of the places used here
 module _ (l : Line) (e : isDeep l ≡ true) where
   deep-stands : (p : ℕ) → (p ≡ place.section → ⊥) → (p ≡ place.matrix → ⊥) → standsIn p l ≡ false
@@ -107,18 +112,18 @@ module _ (l : Line) (e : isDeep l ≡ true) where
 -- ---- paths
 
 module _ (l m : Line) (s : SameLine l m) where
-  same-plain : (p : ℕ) → standsIn p l ≡ true → SamePlain (l .place) (l .content) (m .content)
-  same-plain p e = plain-same (l .content) (m .content) (s .saying) (stands-plain p l e)
+  same-plain : (p : ℕ) → eqb place.before p ≡ false → eqb place.done p ≡ false → standsIn p l ≡ true → SamePlain (l .place) (l .content) (m .content)
+  same-plain p begun unended e = plain-same (l .content) (m .content) (s .saying) (stands-reads p begun unended l e) (stands-plain p l e)
 
   path-said : standsIn place.path l ≡ true → SamePath (l .content) (m .content)
-  path-said e = path-same (l .place) (l .content) (m .content) (same-plain place.path e) (stands-place place.path l e)
+  path-said e = path-same (l .place) (l .content) (m .content) (same-plain place.path refl refl e) (stands-place place.path l e)
 
   saying-same : sayingAt l ≡ sayingAt m
   unfolding sayingAt
   saying-same =
       by-cases _ (standsIn place.path l)
-      (λ (e : standsIn place.path l ≡ true). if-true _ _ e ∙ path-said e .saying ∙ sym (if-true _ _ (sym (stands-same l m s place.path) ∙ e)))
-      (λ (e : standsIn place.path l ≡ false). if-false _ _ e ∙ sym (if-false _ _ (sym (stands-same l m s place.path) ∙ e)))
+      (λ (e : standsIn place.path l ≡ true). if-true _ _ e ∙ path-said e .saying ∙ sym (if-true _ _ (sym (stands-same l m s place.path refl refl) ∙ e)))
+      (λ (e : standsIn place.path l ≡ false). if-false _ _ e ∙ sym (if-false _ _ (sym (stands-same l m s place.path refl refl) ∙ e)))
 
   -- a line that says something of a path is in a path
   says-stands : (k : ℕ) → (k ≡ path.saysNothing → ⊥) → sayingAt l ≡ k → standsIn place.path l ≡ true
@@ -232,8 +237,8 @@ head-alike : {ls ms : List Line} → AlikeLines ls ms → (h : Head) → headIn 
 head-alike a h =
     fold-alike (standsIn place.head) (λ (x : Head) (l : Line). headNext (headLineOf (l .content)) x) headIn head-folds
     (λ (l : Line) (e : isDeep l ≡ true). deep-stands l e place.head (λ (q : place.head ≡ place.section). omega arith) (λ (q : place.head ≡ place.matrix). omega arith))
-    (λ (l m : Line) (s : SameLine l m). stands-same l m s place.head)
-    (λ (x : Head) (l m : Line) (s : SameLine l m) (e : standsIn place.head l ≡ true). ap (λ (r : HeadLine). headNext r x) (head-same (l .place) (l .content) (m .content) (same-plain l m s place.head e) (stands-place place.head l e)))
+    (λ (l m : Line) (s : SameLine l m). stands-same l m s place.head refl refl)
+    (λ (x : Head) (l m : Line) (s : SameLine l m) (e : standsIn place.head l ≡ true). ap (λ (r : HeadLine). headNext r x) (head-same (l .place) (l .content) (m .content) (same-plain l m s place.head refl refl e) (stands-place place.head l e)))
     a h
 
 grid-folds : (g : pin_map.Map) (l : Line) (ls : List Line) → gridIn g (l ∷ ls) ≡ gridIn (if standsIn place.mapHead l then mapNext (mapLineOf (l .content)) g else g) ls
@@ -244,14 +249,14 @@ grid-alike : {ls ms : List Line} → AlikeLines ls ms → (g : pin_map.Map) → 
 grid-alike a g =
     fold-alike (standsIn place.mapHead) (λ (x : pin_map.Map) (l : Line). mapNext (mapLineOf (l .content)) x) gridIn grid-folds
     (λ (l : Line) (e : isDeep l ≡ true). deep-stands l e place.mapHead (λ (q : place.mapHead ≡ place.section). omega arith) (λ (q : place.mapHead ≡ place.matrix). omega arith))
-    (λ (l m : Line) (s : SameLine l m). stands-same l m s place.mapHead)
-    (λ (x : pin_map.Map) (l m : Line) (s : SameLine l m) (e : standsIn place.mapHead l ≡ true). ap (λ (r : MapLine). mapNext r x) (map-same (l .place) (l .content) (m .content) (same-plain l m s place.mapHead e) (stands-place place.mapHead l e)))
+    (λ (l m : Line) (s : SameLine l m). stands-same l m s place.mapHead refl refl)
+    (λ (x : pin_map.Map) (l m : Line) (s : SameLine l m) (e : standsIn place.mapHead l ≡ true). ap (λ (r : MapLine). mapNext r x) (map-same (l .place) (l .content) (m .content) (same-plain l m s place.mapHead refl refl e) (stands-place place.mapHead l e)))
     a g
 
 -- the argument of a keyword that takes no free text
-pub named-same : (l m : Line) → SameLine l m → (k : ℕ) → keyOf l ≡ k → (k ≡ plain → ⊥) → takesText k ≡ false → argumentOf l .text ≡ argumentOf m .text
+pub named-same : (l m : Line) → SameLine l m → Reads (l .place) → (k : ℕ) → keyOf l ≡ k → (k ≡ plain → ⊥) → takesText k ≡ false → argumentOf l .text ≡ argumentOf m .text
 unfolding argumentOf keyOf
-named-same l m s k e n x = argument-same (l .content) (m .content) (s .saying) (λ (q : keyAt (l .content) ≡ plain). n (sym e ∙ q)) (ap takesText e ∙ x)
+named-same l m s r k e n x = argument-same (l .content) (m .content) (s .saying) r (λ (q : keyAt (l .content) ≡ plain). n (sym e ∙ q)) (ap takesText e ∙ x)
 
 in-model-same : (l m : Line) → SameLine l m → inModel l ≡ inModel m
 unfolding inModel
@@ -261,13 +266,26 @@ model-deep : (l : Line) → isDeep l ≡ true → inModel l ≡ false
 unfolding inModel
 model-deep l e = deep-model l e
 
+-- the family has neither of the places whose lines are not read
+outside-before : isInFamily place.before ≡ false
+unfolding isInFamily either
+outside-before = refl
+
+outside-done : isInFamily place.done ≡ false
+unfolding isInFamily either
+outside-done = refl
+
 opens-same : (l m : Line) → SameLine l m → opensModel l ≡ opensModel m
 unfolding opensModel
-opens-same l m s = λ i. both (isInFamily (s .place i)) (eqb (keys-same l m s i) beginIcmModel)
+opens-same l m s = tests-same l m s isInFamily outside-before outside-done (λ (k : ℕ). eqb k beginIcmModel)
 
 opens-key : (l : Line) → opensModel l ≡ true → keyOf l ≡ beginIcmModel
 unfolding opensModel
 opens-key l e = eqb-true _ _ (both-second _ _ e)
+
+opens-reads : (l : Line) → opensModel l ≡ true → Reads (l .place)
+unfolding opensModel
+opens-reads l e = inner-reads isInFamily outside-before outside-done (l .place) (both-first _ _ e)
 
 model-same : (l m : Line) (ls ms : List Line) → SameLine l m → AlikeLines ls ms → All2 SameModel (modelAt l ls) (modelAt m ms)
 unfolding modelAt modelOf takesText opensHeaderText either
@@ -277,7 +295,7 @@ model-same l m ls ms s a =
     let b : AlikeLines (upTo inModel ls) (upTo inModel ms) = up-alike inModel in-model-same model-deep a in
     all2-more
     (record {
-      name = named-same l m s beginIcmModel (opens-key l e) (λ (q : beginIcmModel ≡ plain). omega arith) refl;
+      name = named-same l m s (opens-reads l e) beginIcmModel (opens-key l e) (λ (q : beginIcmModel ≡ plain). omega arith) refl;
       type = ap (λ (h : Head). h .kind - 1) (head-alike b newHead);
       steps = steps-alike b;
     })
@@ -293,18 +311,18 @@ models-alike a = gather-alike modelAt model-silent SameModel model-same a
 
 -- ---- names one a line: the list, and pins
 
-module _ (p : ℕ) (head : p ≡ place.head → ⊥) (path-not : p ≡ place.path → ⊥) (map-not : p ≡ place.mapHead → ⊥) (l m : Line) (s : SameLine l m) where
+module _ (p : ℕ) (begun : eqb place.before p ≡ false) (unended : eqb place.done p ≡ false) (head : p ≡ place.head → ⊥) (path-not : p ≡ place.path → ⊥) (map-not : p ≡ place.mapHead → ⊥) (l m : Line) (s : SameLine l m) where
   name-same : standsIn p l ≡ true → firstWord (wordsOf l) .text ≡ firstWord (wordsOf m) .text
   name-same e =
       let q : l .place ≡ p = stands-place p l e in
-      first-said l ∙ ap firstOf (words-same (l .place) (l .content) (m .content) (same-plain l m s p e) (λ (h : l .place ≡ place.head). head (sym q ∙ h)) (λ (h : l .place ≡ place.path). path-not (sym q ∙ h)) (λ (h : l .place ≡ place.mapHead). map-not (sym q ∙ h))) ∙ sym (first-said m)
+      first-said l ∙ ap firstOf (words-same (l .place) (l .content) (m .content) (same-plain l m s p begun unended e) (λ (h : l .place ≡ place.head). head (sym q ∙ h)) (λ (h : l .place ≡ place.path). path-not (sym q ∙ h)) (λ (h : l .place ≡ place.mapHead). map-not (sym q ∙ h))) ∙ sym (first-said m)
 
   named-alike : All2 SameNamed (if standsIn p l then record { name = firstWord (wordsOf l); line = l .line } ∷ [] else []) (if standsIn p m then record { name = firstWord (wordsOf m); line = m .line } ∷ [] else [])
-  named-alike = all2-choice (standsIn p l) (standsIn p m) (stands-same l m s p) _ _ _ _ (λ (e : standsIn p l ≡ true). all2-more (record { name = name-same e }) all2-none) (λ e. all2-none)
+  named-alike = all2-choice (standsIn p l) (standsIn p m) (stands-same l m s p begun unended) _ _ _ _ (λ (e : standsIn p l ≡ true). all2-more (record { name = name-same e }) all2-none) (λ e. all2-none)
 
 listed-same : (l m : Line) (ls ms : List Line) → SameLine l m → AlikeLines ls ms → All2 SameNamed (listedAt l ls) (listedAt m ms)
 unfolding listedAt
-listed-same l m ls ms s a = named-alike place.list (λ (h : place.list ≡ place.head). omega arith) (λ (h : place.list ≡ place.path). omega arith) (λ (h : place.list ≡ place.mapHead). omega arith) l m s
+listed-same l m ls ms s a = named-alike place.list refl refl (λ (h : place.list ≡ place.head). omega arith) (λ (h : place.list ≡ place.path). omega arith) (λ (h : place.list ≡ place.mapHead). omega arith) l m s
 
 listed-silent : (l : Line) (ls : List Line) → isDeep l ≡ true → listedAt l ls ≡ []
 unfolding listedAt
@@ -315,7 +333,7 @@ listed-alike a = gather-alike listedAt listed-silent SameNamed listed-same a
 
 pin-same : (l m : Line) (ls ms : List Line) → SameLine l m → AlikeLines ls ms → All2 SameNamed (pinAt l ls) (pinAt m ms)
 unfolding pinAt
-pin-same l m ls ms s a = named-alike place.pinList (λ (h : place.pinList ≡ place.head). omega arith) (λ (h : place.pinList ≡ place.path). omega arith) (λ (h : place.pinList ≡ place.mapHead). omega arith) l m s
+pin-same l m ls ms s a = named-alike place.pinList refl refl (λ (h : place.pinList ≡ place.head). omega arith) (λ (h : place.pinList ≡ place.path). omega arith) (λ (h : place.pinList ≡ place.mapHead). omega arith) l m s
 
 pin-silent : (l : Line) (ls : List Line) → isDeep l ≡ true → pinAt l ls ≡ []
 unfolding pinAt
@@ -328,7 +346,7 @@ pins-alike a = gather-alike pinAt pin-silent SameNamed pin-same a
 
 in-map-same : (l m : Line) → SameLine l m → inMap l ≡ inMap m
 unfolding inMap
-in-map-same l m s = λ i. either (stands-same l m s place.mapHead i) (stands-same l m s place.pinList i)
+in-map-same l m s = λ i. either (stands-same l m s place.mapHead refl refl i) (stands-same l m s place.pinList refl refl i)
 
 map-deep : (l : Line) → isDeep l ≡ true → inMap l ≡ false
 unfolding inMap
@@ -336,11 +354,15 @@ map-deep l e = either-false _ _ (deep-stands l e place.mapHead (λ (q : place.ma
 
 map-opens-same : (l m : Line) → SameLine l m → opensMap l ≡ opensMap m
 unfolding opensMap
-map-opens-same l m s = λ i. both (isInFamily (s .place i)) (eqb (keys-same l m s i) icmPinMap)
+map-opens-same l m s = tests-same l m s isInFamily outside-before outside-done (λ (k : ℕ). eqb k icmPinMap)
 
 map-opens-key : (l : Line) → opensMap l ≡ true → keyOf l ≡ icmPinMap
 unfolding opensMap
 map-opens-key l e = eqb-true _ _ (both-second _ _ e)
+
+map-opens-reads : (l : Line) → opensMap l ≡ true → Reads (l .place)
+unfolding opensMap
+map-opens-reads l e = inner-reads isInFamily outside-before outside-done (l .place) (both-first _ _ e)
 
 one-map-same : (l m : Line) (ls ms : List Line) → SameLine l m → AlikeLines ls ms → All2 SameMap (mapAt l ls) (mapAt m ms)
 unfolding mapAt mapOf takesText opensHeaderText either
@@ -350,7 +372,7 @@ one-map-same l m ls ms s a =
     let b : AlikeLines (upTo inMap ls) (upTo inMap ms) = up-alike inMap in-map-same map-deep a in
     all2-more
     (record {
-      name = named-same l m s icmPinMap (map-opens-key l e) (λ (q : icmPinMap ≡ plain). omega arith) refl;
+      name = named-same l m s (map-opens-reads l e) icmPinMap (map-opens-key l e) (λ (q : icmPinMap ≡ plain). omega arith) refl;
       order = ap (λ (g : pin_map.Map). g .order - 1) (grid-alike b newMap);
       rows = ap (λ (g : pin_map.Map). g .rows) (grid-alike b newMap);
       columns = ap (λ (g : pin_map.Map). g .columns) (grid-alike b newMap);

@@ -7,7 +7,7 @@ use Prim.Native.Nat.{ℕ, _-_}
 use lib.Dec.{eqb}
 use borrow.Author.Tests.{eq-eqb, eqb-true}
 use Rattle.base.specs.If.{both, either}
-use Rattle.base.proofs.IfLaws.{if-true, if-false, by-cases, both-first, both-second, either-right}
+use Rattle.base.proofs.IfLaws.{if-true, if-false, by-cases, both-first, both-second, both-not-left, either-right}
 use Rattle.line_place.specs.Place as place
 use Rattle.line_place.specs.Place.{opensMatrix, isRowOrBandwidth}
 use Rattle.doc.specs.Lines.{Line, plain, keyOf, standsIn, gather, upTo}
@@ -19,7 +19,7 @@ use Rattle.law_alike.specs.Alike.{SameLine, SameNumbers, AlikeLines}
 use Rattle.law_alike.specs.Alike.AlikeLines.{none, line, matrix}
 use Rattle.law_alike.specs.Way.Same.{All2}
 use Rattle.law_alike.specs.Way.Same.All2.{none as all2-none, more as all2-more}
-use Rattle.law_alike.proofs.LineLaws.{key-same}
+use Rattle.law_alike.proofs.LineLaws.{Reads, inner-reads, key-same}
 
 -- ---- lists whose elements correspond
 
@@ -31,13 +31,24 @@ module _ {A B : Type 0} {Rel : A → B → Type 0} where
 -- ---- two lines that say the same
 
 module _ (l m : Line) (s : SameLine l m) where
-  pub keys-same : keyOf l ≡ keyOf m
+  pub keys-same : Reads (l .place) → keyOf l ≡ keyOf m
   unfolding keyOf
-  keys-same = key-same (l .content) (m .content) (s .saying)
+  keys-same r = key-same (l .content) (m .content) (s .saying) r
 
-  pub stands-same : (p : ℕ) → standsIn p l ≡ standsIn p m
+  -- a test of the place that lines which are not read do not pass, and one of the keyword
+  module _ (test : ℕ → Bool) (begun : test place.before ≡ false) (unended : test place.done ≡ false) where
+    pub keys-in : test (l .place) ≡ true → keyOf l ≡ keyOf m
+    keys-in e = keys-same (inner-reads test begun unended (l .place) e)
+
+    pub tests-same : (key : ℕ → Bool) → both (test (l .place)) (key (keyOf l)) ≡ both (test (m .place)) (key (keyOf m))
+    tests-same key =
+        by-cases _ (test (l .place))
+        (λ (e : test (l .place) ≡ true). λ i. both (test (s .place i)) (key (keys-in e i)))
+        (λ (e : test (l .place) ≡ false). both-not-left _ _ e ∙ sym (both-not-left _ _ (ap test (sym (s .place)) ∙ e)))
+
+  pub stands-same : (p : ℕ) → eqb place.before p ≡ false → eqb place.done p ≡ false → standsIn p l ≡ standsIn p m
   unfolding standsIn
-  stands-same p = λ i. both (eqb (s .place i) p) (eqb (keys-same i) plain)
+  stands-same p begun unended = tests-same (λ (x : ℕ). eqb x p) begun unended (λ (k : ℕ). eqb k plain)
 
 -- ---- lines of matrices
 
@@ -126,7 +137,7 @@ unfolding upTo
 up-body [] ls each-none = refl
 up-body (b ∷ bs) ls (each-more h hs) = if-true _ _ (deep-inside b (body-deep b h)) ∙ ap (λ (xs : List Line). b ∷ xs) (up-body bs ls hs)
 
-up-block : (l : Line) (bs ls : List Line) → opensMatrixAt l ≡ true → upTo inMatrix (bs ++ ls) ≡ bs → upTo inSection (l ∷ (bs ++ ls)) ≡ l ∷ (bs ++ upTo inSection ls)
+pub up-block : (l : Line) (bs ls : List Line) → opensMatrixAt l ≡ true → upTo inMatrix (bs ++ ls) ≡ bs → upTo inSection (l ∷ (bs ++ ls)) ≡ l ∷ (bs ++ upTo inSection ls)
 unfolding upTo
 up-block l bs ls o e = if-true _ _ (deep-inside l (opening-deep l o)) ∙ ap (λ (xs : List Line). l ∷ xs) (up-body bs ls (block-inside bs ls e))
 

@@ -5,3 +5,11 @@ pub mod FamilyLaws
 pub mod WrittenLaws
 pub mod MatrixLaws
 pub mod WideLaws
+pub mod RelationLaws
+pub mod SqueezedLaws
+pub mod ArgumentLaws
+pub mod WidthLaws
+pub mod EachLineLaws
+pub mod FormLaws
+pub mod BlockLaws
+pub mod RespeltLaws

@@ -23,16 +23,33 @@ use Rattle.line_map.specs.PinMap.{sizeLine, mapLineOf}
 use Rattle.line_map.specs.PinMap as pinMap
 use Rattle.line_map.specs.declared.MapLine.{MapLine}
 use Rattle.doc.specs.Lines.{plain, keyAt}
-use Rattle.law_alike.specs.Alike.{takesEquals, takesText, argumentText, SameSaying, same-words, same-sides, same-argument, same-text}
+use Rattle.law_alike.specs.Alike.{takesEquals, takesText, argumentText, isUnread, SameSaying, same-words, same-sides, same-argument, same-text, same-unread}
 use Rattle.law_alike.proofs.SidesLaws.{hasSign, same-signs, same-left, same-right, other-first}
+
+-- ---- lines that are not read
+
+-- a place whose lines are all read
+pub record Reads (p : ℕ) : Type 0 where
+  pub begun : p ≡ place.before → ⊥
+  pub unended : p ≡ place.done → ⊥
+
+-- a place that passes a test which neither the place before [Begin Header] nor that after [End] passes
+pub inner-reads : (test : ℕ → Bool) → test place.before ≡ false → test place.done ≡ false → (p : ℕ) → test p ≡ true → Reads p
+inner-reads test b d p e =
+    record { begun = λ (q : p ≡ place.before). true≢false (sym e ∙ ap test q ∙ b); unended = λ (q : p ≡ place.done). true≢false (sym e ∙ ap test q ∙ d) }
+
+never-unread : (p : ℕ) (a : List ℕ) → Reads p → isUnread p a ≡ true → ⊥
+unfolding isUnread
+never-unread p a r e = true≢false (sym e ∙ either-false _ _ (ne-eqb p place.done (r .unended)) (both-not-left _ _ (ne-eqb p place.before (r .begun))))
 
 -- ---- the keyword
 
-pub key-same : {p : ℕ} (a b : List ℕ) → SameSaying p a b → keyAt a ≡ keyAt b
-key-same a b (same-words e f w) = e ∙ sym f
-key-same a b (same-sides e f x y l r) = e ∙ sym f
-key-same a b (same-argument n k t) = k
-key-same a b (same-text n k x t) = k
+pub key-same : {p : ℕ} (a b : List ℕ) → SameSaying p a b → Reads p → keyAt a ≡ keyAt b
+key-same a b (same-words e f w) r = e ∙ sym f
+key-same a b (same-sides e f x y l q) r = e ∙ sym f
+key-same a b (same-argument n k t) r = k
+key-same a b (same-text n k x t) r = k
+key-same {p} a b (same-unread u v) r = absurd (never-unread p a r u)
 
 -- ---- lines without a keyword
 
@@ -51,11 +68,12 @@ has-first : (p : ℕ) (a : List ℕ) → takesEquals p a ≡ true → hasEquals 
 unfolding takesEquals
 has-first p a e = both-first _ _ e
 
-pub plain-same : {p : ℕ} (a b : List ℕ) → SameSaying p a b → keyAt a ≡ plain → SamePlain p a b
-plain-same a b (same-words e f w) k = by-words w (record { signs = same-signs a b w; left = same-left a b w; right = same-right a b w })
-plain-same {p} a b (same-sides e f x y l r) k = by-sides x y (record { signs = has-first p a x ∙ sym (has-first p b y); left = l; right = r })
-plain-same a b (same-argument n e t) k = absurd (n k)
-plain-same a b (same-text n e x t) k = absurd (n k)
+pub plain-same : {p : ℕ} (a b : List ℕ) → SameSaying p a b → Reads p → keyAt a ≡ plain → SamePlain p a b
+plain-same a b (same-words e f w) i k = by-words w (record { signs = same-signs a b w; left = same-left a b w; right = same-right a b w })
+plain-same {p} a b (same-sides e f x y l r) i k = by-sides x y (record { signs = has-first p a x ∙ sym (has-first p b y); left = l; right = r })
+plain-same a b (same-argument n e t) i k = absurd (n k)
+plain-same a b (same-text n e x t) i k = absurd (n k)
+plain-same {p} a b (same-unread u v) i k = absurd (never-unread p a i u)
 
 -- ---- the forms with a `=`, by their place
 
@@ -128,7 +146,7 @@ list-plain : hasSign (bytes "Pin_list") ≡ false
 unfolding hasSign isBefore if_then_else_
 list-plain = refl
 
-some-bytes : {b : ℕ} {w : List ℕ} → (b ∷ w) ≡ [] → ⊥
+pub some-bytes : {b : ℕ} {w : List ℕ} → (b ∷ w) ≡ [] → ⊥
 some-bytes {b} {w} e = let z : _≡_ {A = ℕ} 1 0 = ap sizeOf e in omega arith
   where
     sizeOf : List ℕ → ℕ
@@ -227,11 +245,12 @@ words-same p a b (by-sides x y s) f g h = absurd (nowhere-else p a x f g h)
 -- ---- keywords
 
 -- for a keyword that takes no free text
-pub argument-same : {p : ℕ} (a b : List ℕ) → SameSaying p a b → (keyAt a ≡ plain → ⊥) → takesText (keyAt a) ≡ false → argumentText a ≡ argumentText b
-argument-same a b (same-words e f w) n x = absurd (n e)
-argument-same a b (same-sides e f g h l r) n x = absurd (n e)
-argument-same a b (same-argument m k t) n x = t
-argument-same a b (same-text m k y t) n x = absurd (true≢false (sym y ∙ x))
+pub argument-same : {p : ℕ} (a b : List ℕ) → SameSaying p a b → Reads p → (keyAt a ≡ plain → ⊥) → takesText (keyAt a) ≡ false → argumentText a ≡ argumentText b
+argument-same a b (same-words e f w) i n x = absurd (n e)
+argument-same a b (same-sides e f g h l r) i n x = absurd (n e)
+argument-same a b (same-argument m k t) i n x = t
+argument-same a b (same-text m k y t) i n x = absurd (true≢false (sym y ∙ x))
+argument-same {p} a b (same-unread u v) i n x = absurd (never-unread p a i u)
 
 -- a line that gives a size is not Pin_list
 pub other-lists : (p : ℕ) (a : List ℕ) → takesEquals p a ≡ true → p ≡ place.mapHead → same (firstOf (words a)) (bytes "Pin_list") ≡ false

@@ -1,7 +1,7 @@
 -- The matrices and sections of alike lines: the same kinds, conductors and numbers at every row and column.
 -- Assumes nothing.
 use mathlib.Core.Path.{_≡_, refl, sym, _∙_, ap, subst}
-use mathlib.Core.Bool.{true, false, not, true≢false}
+use mathlib.Core.Bool.{Bool, true, false, not, true≢false}
 use mathlib.Core.List.{List, [], _∷_, _++_}
 use Prim.Native.Nat.{ℕ, _+_, _-_, max}
 use native.Mathlib.Omega.{arith}
@@ -11,7 +11,7 @@ use borrow.Author.Tests.{eq-eqb, ne-eqb, eqb-true, eqb-false}
 use Rattle.table_record.specs.declared.Value.{Value}
 use Rattle.table_layout.specs.Codes.{diagonal, sparse}
 use Rattle.base.specs.If.{if_then_else_, both, either}
-use Rattle.base.proofs.IfLaws.{if-true, if-false, by-test, by-cases, both-second, both-not-left, both-not-right, either-right, either-false}
+use Rattle.base.proofs.IfLaws.{if-true, if-false, by-test, by-cases, both-first, both-second, both-not-left, both-not-right, either-right, either-false}
 use Rattle.lex_line.specs.Words.{words, firstOf, secondOf}
 use Rattle.lex_number.specs.Number.{numberOf, wordIn}
 use Rattle.lex_number.specs.Integer.{wholeOf}
@@ -33,8 +33,8 @@ use Rattle.law_alike.specs.Alike.{takesText, SameLine, formAt, SameNumbe
 use Rattle.law_alike.specs.Alike.AlikeLines.{none, line, matrix}
 use Rattle.law_alike.specs.Way.Same.{All2, SameMatrix, SameSection, SameDocument}
 use Rattle.law_alike.specs.Way.Same.All2.{none as all2-none, more as all2-more}
-use Rattle.law_alike.proofs.LineLaws.{plain-same, words-same}
-use Rattle.law_alike.proofs.GatherLaws.{all2-append, keys-same, isDeep, opening-deep, body-place, body-key, body-deep, block-inside, up-inside, other-opens, section-alike}
+use Rattle.law_alike.proofs.LineLaws.{Reads, inner-reads, plain-same, words-same}
+use Rattle.law_alike.proofs.GatherLaws.{all2-append, keys-same, tests-same, up-block, isDeep, opening-deep, body-place, body-key, body-deep, block-inside, up-inside, other-opens, section-alike}
 use Rattle.law_alike.proofs.FamilyLaws.{all2-choice, named-same, deep-place, listed-alike, models-alike, maps-alike}
 use Rattle.law_alike.proofs.WrittenLaws.{Found, EachOpening, text-openings}
 use Rattle.law_alike.proofs.WrittenLaws.EachOpening.{none as opening-none, more as opening-more}
@@ -49,19 +49,22 @@ pub record SameBody (l m : Line) : Type 0 where
   pub given : keyOf l ≡ row → givenBy l ≡ givenBy m
 
 module _ (l m : Line) (s : SameLine l m) (h : inMatrix l ≡ true) where
+  body-reads : Reads (l .place)
+  body-reads = inner-reads (λ (p : ℕ). eqb p place.matrix) refl refl (l .place) (eq-eqb _ _ (body-place l h))
+
   body-words : keyOf l ≡ plain → words (l .content) ≡ words (m .content)
   unfolding keyOf
   body-words e =
       let p : l .place ≡ place.matrix = body-place l h in
-      words-same (l .place) (l .content) (m .content) (plain-same (l .content) (m .content) (s .saying) e)
+      words-same (l .place) (l .content) (m .content) (plain-same (l .content) (m .content) (s .saying) body-reads e)
       (λ (q : l .place ≡ place.head). omega arith) (λ (q : l .place ≡ place.path). omega arith) (λ (q : l .place ≡ place.mapHead). omega arith)
 
   body-given : keyOf l ≡ row → givenBy l ≡ givenBy m
   unfolding givenBy takesText opensHeaderText either
-  body-given e = ap (λ (w : List ℕ). wholeOf w .value) (named-same l m s row e (λ (q : row ≡ plain). omega arith) refl)
+  body-given e = ap (λ (w : List ℕ). wholeOf w .value) (named-same l m s body-reads row e (λ (q : row ≡ plain). omega arith) refl)
 
   pub same-body : SameBody l m
-  same-body = record { key = keys-same l m s; said = body-words; given = body-given }
+  same-body = record { key = keys-same l m s body-reads; said = body-words; given = body-given }
 
 -- ---- what they write
 
@@ -132,7 +135,7 @@ module _ (form : ℕ) where
   greatest-same all2-none = refl
   greatest-same (all2-more {x = l} {y = m} s a) = λ i. max (named-by-same l m s i) (greatest-same a i)
 
-  conductors-same : {bs cs : List Line} → All2 SameBody bs cs → conductorsIn form bs ≡ conductorsIn form cs
+  pub conductors-same : {bs cs : List Line} → All2 SameBody bs cs → conductorsIn form bs ≡ conductorsIn form cs
   unfolding conductorsIn
   conductors-same a = λ i. if eqb form diagonal then length (values-same 1 1 a i) else greatest-same a i
 
@@ -189,7 +192,7 @@ module _ (form : ℕ) where
       ap (λ (ws : List (List ℕ)). if eqb (wholeOf (firstOf ws) .value) j then wordIn (numberOf (secondOf ws)) else sparseWord j bs) (s .said (is-plain l p))
       ∙ ap (λ (n : ℕ). if eqb (wholeOf (firstOf (words (m .content))) .value) j then wordIn (numberOf (secondOf (words (m .content)))) else n) (sparse-same j a ps)
 
-  written-same : (i j : ℕ) {bs cs : List Line} → All2 SameBody bs cs → writtenAt form bs i j ≡ writtenAt form cs i j
+  pub written-same : (i j : ℕ) {bs cs : List Line} → All2 SameBody bs cs → writtenAt form bs i j ≡ writtenAt form cs i j
   unfolding writtenAt
   written-same i j {bs} {cs} a =
       let d : numbersOf bs ≡ numbersOf cs = numbers-same a in
@@ -204,7 +207,7 @@ unfolding gather
 gathered here l ls = refl
 
 -- neither a line without a keyword, nor [Row], nor [Bandwidth] opens a matrix
-body-keys : (k : ℕ) → either (eqb k plain) (isRowOrBandwidth k) ≡ true → opensMatrix k ≡ false
+pub body-keys : (k : ℕ) → either (eqb k plain) (isRowOrBandwidth k) ≡ true → opensMatrix k ≡ false
 unfolding opensMatrix isRowOrBandwidth either
 body-keys k e =
     by-cases _ (eqb k plain) (λ (h : eqb k plain ≡ true). ap opensMatrix (eqb-true k plain h))
@@ -236,12 +239,12 @@ unfolding gather matrixAt
 matrix-body [] ls each-none = refl
 matrix-body (b ∷ bs) ls (each-more h hs) = ap (λ (xs : List Matrix). xs ++ gather matrixAt (bs ++ ls)) (if-false _ _ (body-opens b h)) ∙ matrix-body bs ls hs
 
-opening-out : (l : Line) → opensMatrixAt l ≡ true → inMatrix l ≡ false
+pub opening-out : (l : Line) → opensMatrixAt l ≡ true → inMatrix l ≡ false
 opening-out l e = by-cases _ (inMatrix l) (λ (h : inMatrix l ≡ true). absurd (true≢false (sym e ∙ body-opens l h))) (λ (h : inMatrix l ≡ false). h)
 
-in-matrix-same : (l m : Line) → SameLine l m → inMatrix l ≡ inMatrix m
+pub in-matrix-same : (l m : Line) → SameLine l m → inMatrix l ≡ inMatrix m
 unfolding inMatrix
-in-matrix-same l m s = λ i. both (eqb (s .place i) place.matrix) (either (eqb (keys-same l m s i) plain) (isRowOrBandwidth (keys-same l m s i)))
+in-matrix-same l m s = tests-same l m s (λ (p : ℕ). eqb p place.matrix) refl refl (λ (k : ℕ). either (eqb k plain) (isRowOrBandwidth k))
 
 bodies-same : {ls ms : List Line} → AlikeLines ls ms → All2 SameBody (upTo inMatrix ls) (upTo inMatrix ms)
 bodies-same none = rw (up-none inMatrix) all2-none
@@ -252,9 +255,25 @@ bodies-same (line {l = l} {m = m} {ls = ls} {ms = ms} s a) =
 bodies-same (matrix {l = l} {m = m} {ls = ls} {ms = ms} bs cs n p q a) =
     rw (up-out inMatrix l (bs ++ ls) (opening-out l (n .opens)), up-out inMatrix m (cs ++ ms) (opening-out m (other-opens l bs m cs n))) all2-none
 
-opens-alike : (l m : Line) → SameLine l m → opensMatrixAt l ≡ opensMatrixAt m
+-- a place of a section, below its method
+abbrev isBelowMethod : ℕ → Bool
+isBelowMethod p = either (eqb p place.section) (eqb p place.matrix)
+
+method-begun : isBelowMethod place.before ≡ false
+unfolding either
+method-begun = refl
+
+method-open : isBelowMethod place.done ≡ false
+unfolding either
+method-open = refl
+
+pub opens-alike : (l m : Line) → SameLine l m → opensMatrixAt l ≡ opensMatrixAt m
 unfolding opensMatrixAt
-opens-alike l m s = λ i. both (either (eqb (s .place i) place.section) (eqb (s .place i) place.matrix)) (opensMatrix (keys-same l m s i))
+opens-alike l m s = tests-same l m s isBelowMethod method-begun method-open opensMatrix
+
+opening-reads : (l : Line) → opensMatrixAt l ≡ true → Reads (l .place)
+unfolding opensMatrixAt
+opening-reads l e = inner-reads isBelowMethod method-begun method-open (l .place) (both-first _ _ e)
 
 -- the keyword of a matrix takes a form
 matrix-key : (k : ℕ) → opensMatrix k ≡ true → (k ≡ plain → ⊥) × (takesText k ≡ false)
@@ -262,15 +281,15 @@ unfolding opensMatrix takesText opensHeaderText either
 matrix-key k e = (λ (q : k ≡ plain). true≢false (sym e ∙ ap opensMatrix q), opens-text k e)
 
 forms-same : (l m : Line) → SameLine l m → opensMatrixAt l ≡ true → formAt l ≡ formAt m
-forms-same l m s e = ap formOf (named-same l m s (keyOf l) refl (matrix-key (keyOf l) (opening-key l e) .0) (matrix-key (keyOf l) (opening-key l e) .1))
+forms-same l m s e = ap formOf (named-same l m s (opening-reads l e) (keyOf l) refl (matrix-key (keyOf l) (opening-key l e) .0) (matrix-key (keyOf l) (opening-key l e) .1))
 
-lines-numbers : (l m : Line) (ls ms : List Line) → SameLine l m → AlikeLines ls ms → opensMatrixAt l ≡ true → SameNumbers l (upTo inMatrix ls) m (upTo inMatrix ms)
+pub lines-numbers : (l m : Line) (ls ms : List Line) → SameLine l m → AlikeLines ls ms → opensMatrixAt l ≡ true → SameNumbers l (upTo inMatrix ls) m (upTo inMatrix ms)
 lines-numbers l m ls ms s a e =
     let f : formAt l ≡ formAt m = forms-same l m s e in
     record {
       opens = e;
       place = s .place;
-      kind = keys-same l m s;
+      kind = keys-same l m s (opening-reads l e);
       conductors = conductors-same (formAt l) (bodies-same a) ∙ ap (λ (k : ℕ). conductorsIn k (upTo inMatrix ms)) f;
       numbers = λ i j h k n. written-same (formAt l) i j (bodies-same a) ∙ ap (λ (x : ℕ). writtenAt x (upTo inMatrix ms) i j) f;
     }
@@ -335,9 +354,9 @@ openings-cut (opening-more {l = l} {ls = ls} f o) =
     (λ (k : inSection l ≡ false). rw (up-out inSection l ls k) opening-none)
 
 -- the method is given by the first line that has one; no line of a matrix does
-methods-same : (l m : Line) → SameLine l m → keyOf l ≡ derivationMethod → methodOf (argumentOf l .text) ≡ methodOf (argumentOf m .text)
+methods-same : (l m : Line) → SameLine l m → Reads (l .place) → keyOf l ≡ derivationMethod → methodOf (argumentOf l .text) ≡ methodOf (argumentOf m .text)
 unfolding takesText opensHeaderText either
-methods-same l m s e = ap methodOf (named-same l m s derivationMethod e (λ (q : derivationMethod ≡ plain). omega arith) refl)
+methods-same l m s r e = ap methodOf (named-same l m s r derivationMethod e (λ (q : derivationMethod ≡ plain). omega arith) refl)
 
 method-on : (l : Line) (ls : List Line) → (keyOf l ≡ derivationMethod → ⊥) → methodIn (l ∷ ls) ≡ methodIn ls
 unfolding methodIn
@@ -359,23 +378,58 @@ method-body : (bs ls : List Line) → Each (λ (l : Line). inMatrix l ≡ true) 
 method-body [] ls each-none = refl
 method-body (b ∷ bs) ls (each-more h hs) = method-on b (bs ++ ls) (body-no-method b h) ∙ method-body bs ls hs
 
-method-alike : {ls ms : List Line} → AlikeLines ls ms → methodIn ls ≡ methodIn ms
+-- a line of a section is read
+abbrev isInSection : ℕ → Bool
+isInSection p = either (eqb p place.sectionHead) (either (eqb p place.section) (eqb p place.matrix))
+
+section-begun : isInSection place.before ≡ false
+unfolding either
+section-begun = refl
+
+section-open : isInSection place.done ≡ false
+unfolding either
+section-open = refl
+
+section-reads : (l : Line) → inSection l ≡ true → Reads (l .place)
+unfolding inSection
+section-reads l e = inner-reads isInSection section-begun section-open (l .place) e
+
+section-stays : (l m : Line) → SameLine l m → inSection l ≡ inSection m
+unfolding inSection
+section-stays l m s = ap isInSection (s .place)
+
+-- in the lines of a section
+module _ (l m : Line) (ls ms : List Line) (s : SameLine l m) where
+  method-in : inSection l ≡ true → methodIn (upTo inSection ls) ≡ methodIn (upTo inSection ms) → methodIn (upTo inSection (l ∷ ls)) ≡ methodIn (upTo inSection (m ∷ ms))
+  method-in h later =
+      let r : Reads (l .place) = section-reads l h in
+      rw (up-in inSection l ls h, up-in inSection m ms (sym (section-stays l m s) ∙ h))
+      (by-cases _ (eqb (keyOf l) derivationMethod)
+      (λ (e : eqb (keyOf l) derivationMethod ≡ true). method-here l _ (eqb-true _ _ e) ∙ methods-same l m s r (eqb-true _ _ e) ∙ sym (method-here m _ (sym (keys-same l m s r) ∙ eqb-true _ _ e)))
+      (λ (e : eqb (keyOf l) derivationMethod ≡ false). method-on l _ (eqb-false _ _ e) ∙ later ∙ sym (method-on m _ (λ (q : keyOf m ≡ derivationMethod). eqb-false _ _ e (keys-same l m s r ∙ q)))))
+
+  method-out : inSection l ≡ false → methodIn (upTo inSection (l ∷ ls)) ≡ methodIn (upTo inSection (m ∷ ms))
+  method-out h = rw (up-out inSection l ls h, up-out inSection m ms (sym (section-stays l m s) ∙ h))
+
+method-alike : {ls ms : List Line} → AlikeLines ls ms → methodIn (upTo inSection ls) ≡ methodIn (upTo inSection ms)
 method-alike none = refl
-method-alike (line {l = l} {m = m} {ls = ls} {ms = ms} s a) =
-    by-cases _ (eqb (keyOf l) derivationMethod)
-    (λ (e : eqb (keyOf l) derivationMethod ≡ true). method-here l ls (eqb-true _ _ e) ∙ methods-same l m s (eqb-true _ _ e) ∙ sym (method-here m ms (sym (keys-same l m s) ∙ eqb-true _ _ e)))
-    (λ (e : eqb (keyOf l) derivationMethod ≡ false). method-on l ls (eqb-false _ _ e) ∙ method-alike a ∙ sym (method-on m ms (λ (q : keyOf m ≡ derivationMethod). eqb-false _ _ e (keys-same l m s ∙ q))))
+method-alike (line {l = l} {m = m} {ls = ls} {ms = ms} s a) = by-cases _ (inSection l) (λ (h : inSection l ≡ true). method-in l m ls ms s h (method-alike a)) (method-out l m ls ms s)
 method-alike (matrix {l = l} {m = m} {ls = ls} {ms = ms} bs cs n p q a) =
-    method-on l (bs ++ ls) (opening-no-method l (n .opens)) ∙ method-body bs ls (block-inside bs ls p) ∙ method-alike a
-    ∙ sym (method-on m (cs ++ ms) (opening-no-method m (other-opens l bs m cs n)) ∙ method-body cs ms (block-inside cs ms q))
+    rw (up-block l bs ls (n .opens) p, up-block m cs ms (other-opens l bs m cs n) q)
+    (method-on l _ (opening-no-method l (n .opens)) ∙ method-body bs _ (block-inside bs ls p) ∙ method-alike a
+    ∙ sym (method-on m _ (opening-no-method m (other-opens l bs m cs n)) ∙ method-body cs _ (block-inside cs ms q)))
 
 section-opens-same : (l m : Line) → SameLine l m → opensSection l ≡ opensSection m
 unfolding opensSection
-section-opens-same l m s = λ i. both (eqb (s .place i) place.after) (eqb (keys-same l m s i) beginIcmSection)
+section-opens-same l m s = tests-same l m s (λ (p : ℕ). eqb p place.after) refl refl (λ (k : ℕ). eqb k beginIcmSection)
 
 section-opens-key : (l : Line) → opensSection l ≡ true → keyOf l ≡ beginIcmSection
 unfolding opensSection
 section-opens-key l e = eqb-true _ _ (both-second _ _ e)
+
+section-opens-reads : (l : Line) → opensSection l ≡ true → Reads (l .place)
+unfolding opensSection
+section-opens-reads l e = inner-reads (λ (p : ℕ). eqb p place.after) refl refl (l .place) (both-first _ _ e)
 
 one-section-same : (l m : Line) (ls ms : List Line) → SameLine l m → AlikeLines ls ms → EachOpening ls → EachOpening ms → All2 SameSection (sectionAt l ls) (sectionAt m ms)
 unfolding sectionAt sectionOf takesText opensHeaderText either
@@ -385,8 +439,8 @@ one-section-same l m ls ms s a o p =
     let b : AlikeLines (upTo inSection ls) (upTo inSection ms) = section-alike a in
     all2-more
     (record {
-      name = named-same l m s beginIcmSection (section-opens-key l e) (λ (q : beginIcmSection ≡ plain). omega arith) refl;
-      method = method-alike b;
+      name = named-same l m s (section-opens-reads l e) beginIcmSection (section-opens-key l e) (λ (q : beginIcmSection ≡ plain). omega arith) refl;
+      method = method-alike a;
       matrices = matrices-alike b (openings-cut o) (openings-cut p);
     })
     all2-none)

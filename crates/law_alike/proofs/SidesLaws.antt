@@ -49,11 +49,11 @@ module _ (b : ℕ) (s : List ℕ) where
   unfolding bare
   bare-blank e = if-true _ _ e
 
-  bare-last : isBlank b ≡ false → wordGoesOn s ≡ false → bare (b ∷ s) ≡ (b ∷ []) ∷ bare s
+  pub bare-last : isBlank b ≡ false → wordGoesOn s ≡ false → bare (b ∷ s) ≡ (b ∷ []) ∷ bare s
   unfolding bare
   bare-last e f = if-false _ _ e ∙ if-false _ _ f
 
-  bare-on : isBlank b ≡ false → wordGoesOn s ≡ true → bare (b ∷ s) ≡ grow b (bare s)
+  pub bare-on : isBlank b ≡ false → wordGoesOn s ≡ true → bare (b ∷ s) ≡ grow b (bare s)
   unfolding bare
   bare-on e f = if-false _ _ e ∙ if-true _ _ f
 
@@ -144,9 +144,9 @@ unfoldable pub cutRight : List (List ℕ) → List (List ℕ)
 cutRight [] = []
 cutRight (w ∷ ws) = if hasSign w then filled (behindSign w) ws else cutRight ws
 
-blank-other : (b : ℕ) → isBlank b ≡ true → isOther b ≡ true
+pub blank-is-other : (b : ℕ) → isBlank b ≡ true → isOther b ≡ true
 unfolding isBlank isBefore either
-blank-other b e =
+blank-is-other b e =
     by-cases _ (eqb b (code "="))
     (λ (h : eqb b (code "=") ≡ true). absurd (true≢false (sym e ∙ ap (λ (n : ℕ). either (eqb n space) (eqb n tab)) (eqb-true b (code "=") h))))
     (λ (h : eqb b (code "=") ≡ false). ap not h)
@@ -182,11 +182,11 @@ unfolding hasSign
 no-sign = refl
 
 module _ (w : List ℕ) (ws : List (List ℕ)) where
-  left-sign : hasSign w ≡ true → cutLeft (w ∷ ws) ≡ filled (beforeSign w) []
+  pub left-sign : hasSign w ≡ true → cutLeft (w ∷ ws) ≡ filled (beforeSign w) []
   unfolding cutLeft
   left-sign e = if-true _ _ e
 
-  left-on : hasSign w ≡ false → cutLeft (w ∷ ws) ≡ w ∷ cutLeft ws
+  pub left-on : hasSign w ≡ false → cutLeft (w ∷ ws) ≡ w ∷ cutLeft ws
   unfolding cutLeft
   left-on e = if-false _ _ e
 
@@ -312,7 +312,7 @@ left-other b s o later =
 module _ (b : ℕ) (s : List ℕ) (o : isOther b ≡ false) where
   sign-filled : isBlank b ≡ false
   sign-filled =
-      by-cases _ (isBlank b) (λ (e : isBlank b ≡ true). absurd (true≢false (sym (blank-other b e) ∙ o))) (λ (e : isBlank b ≡ false). e)
+      by-cases _ (isBlank b) (λ (e : isBlank b ≡ true). absurd (true≢false (sym (blank-is-other b e) ∙ o))) (λ (e : isBlank b ≡ false). e)
 
   signed : cutLeft (bare (b ∷ s)) ≡ []
   unfolding filled
@@ -417,7 +417,7 @@ first-left : (ws : List (List ℕ)) (w : List ℕ) → hasSign w ≡ false → f
 first-left [] w h e n = absurd (n (sym e))
 first-left (v ∷ ws) w h e n = ap firstOf (left-on v ws (ap hasSign e ∙ h)) ∙ e
 
-left-by-words : (s : List ℕ) → leftOf s ≡ cutLeft (words s)
+pub left-by-words : (s : List ℕ) → leftOf s ≡ cutLeft (words s)
 unfolding leftOf
 left-by-words s = ap words (take-sign s) ∙ words-bare 0 (beforeSign s) ∙ left-is s ∙ ap cutLeft (sym (words-bare 0 s))
 

@@ -9,14 +9,15 @@ use Prim.Native.Char.{code}
 use native.Mathlib.Omega.{arith}
 use lib.ListN.{length, take, drop, length-append}
 use lib.Dec.{ltb, eqb}
-use borrow.Author.Tests.{eq-eqb, ne-eqb, eqb-true, eqb-false, lt-ltb}
-use Rattle.base.specs.If.{if_then_else_, both}
+use borrow.Author.Tests.{eq-eqb, ne-eqb, eqb-true, eqb-false, lt-ltb, not-true}
+use Rattle.base.specs.If.{if_then_else_, both, either}
 use Rattle.base.specs.Bytes.{bytes, isBlank, lineFeed, isBefore, isFilled, isContent}
 use Rattle.base.specs.Runs.{run, all}
-use Rattle.base.proofs.IfLaws.{if-true, if-false, by-cases, both-first, both-second}
+use Rattle.base.proofs.IfLaws.{if-true, if-false, by-test, by-cases, both-first, both-second, either-rest}
 use Rattle.lex_line.specs.Lines.{Raw, pushed, lines, contentOf, commentByte, Said, said, contents, isBlankLine}
 use Rattle.lex_line.specs.Words.{wordGoesOn, words, firstOf, toEquals, hasEquals, leftOf, rightOf}
-use Rattle.line_place.specs.Place.{before, moved, movedByLine}
+use Rattle.lex_keyword.specs.Names.{beginHeader}
+use Rattle.line_place.specs.Place.{before, moved, movedByLine, isInModel, isInFamily, isInHeader}
 use Rattle.line_place.specs.Place as place
 use Rattle.doc.specs.Lines.{Line, plain, keyAt, placeAfter, linesFrom, linesAt, significant, upTo}
 use Rattle.doc.specs.Document.{inMatrix}
@@ -24,7 +25,7 @@ use Rattle.doc.specs.Holds.{Each}
 use Rattle.doc.specs.Holds.Each.{none as each-none, more as each-more}
 use Rattle.doc.proofs.StandsLaws.{each-append}
 use Rattle.doc.proofs.Goes.{lines-blank, lines-said}
-use Rattle.law_alike.specs.Alike.{takesEquals, SameSaying, same-words, same-sides, same-argument, same-text, SameNumbers, AlikeLines, Alike}
+use Rattle.law_alike.specs.Alike.{takesEquals, isUnread, SameSaying, same-words, same-sides, same-argument, same-text, same-unread, SameNumbers, AlikeLines, Alike}
 use Rattle.law_alike.specs.Alike.AlikeLines.{none, line, matrix}
 use Rattle.law_alike.proofs.SidesLaws.{bare, grow, isOther, words-bare, bare-blank}
 use Rattle.law_alike.proofs.LineLaws.{other-lists}
@@ -54,11 +55,34 @@ stays p a e =
     (λ (h : eqb p place.mapHead ≡ true). if-true _ _ h ∙ if-false _ _ (other-lists p a e (eqb-true _ _ h)) ∙ sym (eqb-true _ _ h))
     (λ (h : eqb p place.mapHead ≡ false). if-false _ _ h)
 
+-- nor does a line that is not read
+keyword-ended : (k : ℕ) → moved place.done k ≡ place.done
+unfolding moved isInModel isInFamily isInHeader either if_then_else_
+keyword-ended k = refl
+
+keyword-before : (k : ℕ) → eqb k beginHeader ≡ false → moved before k ≡ before
+unfolding moved isInModel isInFamily isInHeader either if_then_else_
+keyword-before k e = ap (λ (h : Bool). if h then place.opened else before) e
+
+either-stays : (p : ℕ) (a : List ℕ) → eqb p place.mapHead ≡ false → moved p (keyAt a) ≡ p → placeAfter p a ≡ p
+unfolding placeAfter movedByLine
+either-stays p a n e = by-test (λ (q : ℕ). q ≡ p) (eqb (keyAt a) plain) _ _ (λ (k : eqb (keyAt a) plain ≡ true). if-false _ _ n) (λ (k : eqb (keyAt a) plain ≡ false). e)
+
+stays-unread : (p : ℕ) (a : List ℕ) → isUnread p a ≡ true → placeAfter p a ≡ p
+unfolding isUnread
+stays-unread p a e =
+    by-cases _ (eqb p place.done)
+    (λ (h : eqb p place.done ≡ true). subst (λ (q : ℕ). placeAfter q a ≡ q) (sym (eqb-true _ _ h)) (either-stays place.done a refl (keyword-ended (keyAt a))))
+    (λ (h : eqb p place.done ≡ false).
+    let w : both (eqb p before) (not (eqb (keyAt a) beginHeader)) ≡ true = sym (either-rest _ _ h) ∙ e in
+    subst (λ (q : ℕ). placeAfter q a ≡ q) (sym (eqb-true _ _ (both-first _ _ w))) (either-stays before a refl (keyword-before (keyAt a) (not-true _ (both-second _ _ w)))))
+
 pub place-same : (p : ℕ) (a b : List ℕ) → SameSaying p a b → placeAfter p a ≡ placeAfter p b
 place-same p a b (same-words e f w) = place-plain p a e ∙ ap (λ (ws : List (List ℕ)). movedByLine p (firstOf ws)) w ∙ sym (place-plain p b f)
 place-same p a b (same-sides e f x y l r) = place-plain p a e ∙ stays p a x ∙ sym (stays p b y) ∙ sym (place-plain p b f)
 place-same p a b (same-argument n k t) = place-key p a n ∙ ap (moved p) k ∙ sym (place-key p b (λ (q : keyAt b ≡ plain). n (k ∙ q)))
 place-same p a b (same-text n k x t) = place-key p a n ∙ ap (moved p) k ∙ sym (place-key p b (λ (q : keyAt b ≡ plain). n (k ∙ q)))
+place-same p a b (same-unread u v) = stays-unread p a u ∙ sym (stays-unread p b v)
 
 -- ---- lines of two texts, read from the same place
 
@@ -253,7 +277,7 @@ run-sign : (x y : List ℕ) → all isOther x ≡ true → toEquals (x ++ (code 
 unfolding isBefore
 run-sign x y e = run-stopped isOther x y (code "=") refl e
 
-take-front : (c x : List ℕ) → take (length c) (c ++ x) ≡ c
+pub take-front : (c x : List ℕ) → take (length c) (c ++ x) ≡ c
 take-front [] x = refl
 take-front (b ∷ c) x = ap (λ (s : List ℕ). b ∷ s) (take-front c x)
 
@@ -274,7 +298,7 @@ unfolding wordGoesOn
 goes-first [] y z b = refl
 goes-first (d ∷ x) y z b = refl
 
-bare-choice : (d : ℕ) (s t : List ℕ) → wordGoesOn s ≡ wordGoesOn t → bare s ≡ bare t → bare (d ∷ s) ≡ bare (d ∷ t)
+pub bare-choice : (d : ℕ) (s t : List ℕ) → wordGoesOn s ≡ wordGoesOn t → bare s ≡ bare t → bare (d ∷ s) ≡ bare (d ∷ t)
 unfolding bare
 bare-choice d s t g e = λ i. if isBlank d then e i else if g i then grow d (e i) else (d ∷ []) ∷ e i
 

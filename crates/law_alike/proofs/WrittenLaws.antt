@@ -24,10 +24,12 @@ use Rattle.line_matrix.specs.Matrix.{newMatrix, withRow, withColumn, withBandwi
 use Rattle.line_keyword.specs.declared.State.{State}
 use Rattle.line_keyword.specs.declared.Counts.{Counts}
 use Rattle.line_keyword.specs.State.{startState}
-use Rattle.line_keyword.specs.Keywords.{keywordRule, keywordNext}
+use Rattle.line_keyword.specs.Keywords.{keywordNext}
 use Rattle.line_keyword.proofs.InsideLaws.{opens-closes}
-use Rattle.read_line.specs.Reading.{lineRule, lineNext, readingOf}
+use Rattle.line_keyword.specs.Way.Rule.{keywordRule}
+use Rattle.read_line.specs.Reading.{lineNext, readingOf}
 use Rattle.read_line.specs.declared.Reading.the-variants.{Read}
+use Rattle.read_line.specs.Way.Steps.{lineRule}
 use Rattle.doc.specs.Lines.{Line, plain, keyOf, argumentOf, gather, upTo, significant}
 use Rattle.doc.specs.Document.{Matrix, Section, nextRow, numbersAt, sparseAt, valuesFrom, givenBy, opensMatrixAt, inMatrix, matrixOf, matrixAt, opensSection, inSection, sectionOf, sectionAt, documentIn, documentOf}
 use Rattle.doc.specs.Holds.{Each}
@@ -106,46 +108,46 @@ module _ (w : List ℕ) (ws : List (List ℕ)) where
   unfolding wordOf
   word-later k = refl
 
-plain-is : (l : Line) → keyOf l ≡ plain → isPlain l ≡ true
+pub plain-is : (l : Line) → keyOf l ≡ plain → isPlain l ≡ true
 unfolding isPlain
 plain-is l k = eq-eqb _ _ k
 
-row-is-not : (l : Line) → keyOf l ≡ row → isPlain l ≡ false
+pub row-is-not : (l : Line) → keyOf l ≡ row → isPlain l ≡ false
 unfolding isPlain
 row-is-not l k = ap (λ (x : ℕ). eqb x plain) k
 
-numbers-of-none : numbersOf [] ≡ []
+pub numbers-of-none : numbersOf [] ≡ []
 unfolding numbersOf
 numbers-of-none = refl
 
-numbers-of-plain : (l : Line) (ls : List Line) → keyOf l ≡ plain → numbersOf (l ∷ ls) ≡ words (l .content) ++ numbersOf ls
+pub numbers-of-plain : (l : Line) (ls : List Line) → keyOf l ≡ plain → numbersOf (l ∷ ls) ≡ words (l .content) ++ numbersOf ls
 unfolding numbersOf
 numbers-of-plain l ls k = ap (λ (ws : List (List ℕ)). ws ++ numbersOf ls) (if-true _ _ (plain-is l k))
 
 module _ (j : ℕ) (l : Line) (ls : List Line) where
-  sparse-here : columnOf l ≡ j → sparseWord j (l ∷ ls) ≡ sparseAt 0 (words (l .content)) .word
+  pub sparse-here : columnOf l ≡ j → sparseWord j (l ∷ ls) ≡ sparseAt 0 (words (l .content)) .word
   unfolding sparseWord sparseAt
   sparse-here e = if-true _ _ (eq-eqb _ _ e)
 
-  sparse-later : (columnOf l ≡ j → ⊥) → sparseWord j (l ∷ ls) ≡ sparseWord j ls
+  pub sparse-later : (columnOf l ≡ j → ⊥) → sparseWord j (l ∷ ls) ≡ sparseWord j ls
   unfolding sparseWord
   sparse-later e = if-false _ _ (ne-eqb _ _ e)
 
 -- the lines below [Row] i
-lines-none : (i : ℕ) → rowLines i [] ≡ []
+pub lines-none : (i : ℕ) → rowLines i [] ≡ []
 unfolding rowLines
 lines-none i = refl
 
 module _ (i : ℕ) (l : Line) (ls : List Line) where
-  lines-here : keyOf l ≡ row → givenBy l ≡ i → rowLines i (l ∷ ls) ≡ upTo isPlain ls
+  pub lines-here : keyOf l ≡ row → givenBy l ≡ i → rowLines i (l ∷ ls) ≡ upTo isPlain ls
   unfolding rowLines
   lines-here k e = if-true _ _ (both-true _ _ (eq-eqb _ _ k) (eq-eqb _ _ e))
 
-  lines-other : (givenBy l ≡ i → ⊥) → rowLines i (l ∷ ls) ≡ rowLines i ls
+  pub lines-other : (givenBy l ≡ i → ⊥) → rowLines i (l ∷ ls) ≡ rowLines i ls
   unfolding rowLines
   lines-other e = if-false _ _ (both-not-right _ _ (ne-eqb _ _ e))
 
-  lines-past : eqb (keyOf l) row ≡ false → rowLines i (l ∷ ls) ≡ rowLines i ls
+  pub lines-past : eqb (keyOf l) row ≡ false → rowLines i (l ∷ ls) ≡ rowLines i ls
   unfolding rowLines
   lines-past k = if-false _ _ (both-not-left _ _ k)
 

@@ -3,14 +3,14 @@
 -- Assumes nothing.
 use Prim.Native.Nat.{ℕ, _≤_}
 use mathlib.Core.Path.{_≡_}
-use mathlib.Core.Bool.{Bool, true}
+use mathlib.Core.Bool.{Bool, true, not}
 use mathlib.Core.List.{List, [], _∷_, _++_}
 use lib.Dec.{eqb}
 use Rattle.base.specs.If.{both, either}
 use Rattle.base.specs.Bytes.{bytes}
 use Rattle.base.specs.Runs.{same}
 use Rattle.lex_line.specs.Words.{words, firstOf, hasEquals, leftOf, rightOf}
-use Rattle.lex_keyword.specs.Names.{fileRev, date, redistribution, beginIcmFamily, manufacturer, icmFamilyDescription, icmModelDescription}
+use Rattle.lex_keyword.specs.Names.{beginHeader, fileRev, date, redistribution, beginIcmFamily, manufacturer, icmFamilyDescription, icmModelDescription}
 use Rattle.lex_keyword.specs.Bracket.{bracketOf}
 use Rattle.line_place.specs.Place.{opensHeaderText}
 use Rattle.line_place.specs.Place as place
@@ -44,7 +44,12 @@ takesText k =
 abbrev pub argumentText : List ℕ → List ℕ
 argumentText content = argumentFrom content (argumentIn (bracketOf content))
 
--- two lines that say the same in place p; blanks between words, about `=`, after a bracket and at the ends do not matter
+-- "Lines before [Begin Header] and after [End] are read only for 2, 3, 4": no other rule and no question looks at them
+unfoldable pub isUnread : ℕ → List ℕ → Bool
+isUnread p content = either (eqb p place.done) (both (eqb p place.before) (not (eqb (keyAt content) beginHeader)))
+
+-- two lines that say the same in place p; blanks between words, about `=`, after a bracket and at the ends do not matter,
+-- and nothing matters in a line that is not read
 pub data SameSaying (p : ℕ) (a b : List ℕ) : Type 0 where
   same-words : keyAt a ≡ plain → keyAt b ≡ plain → words a ≡ words b → SameSaying p a b
   same-sides :
@@ -54,6 +59,7 @@ pub data SameSaying (p : ℕ) (a b : List ℕ) : Type 0 where
   same-text :
       (keyAt a ≡ plain → ⊥) → keyAt a ≡ keyAt b → takesText (keyAt a) ≡ true →
       words (argumentText a) ≡ words (argumentText b) → SameSaying p a b
+  same-unread : isUnread p a ≡ true → isUnread p b ≡ true → SameSaying p a b
 
 pub record SameLine (l m : Line) : Type 0 where
   pub place : l .place ≡ m .place

@@ -1,2 +1,4 @@
 pub mod Same
 pub mod Found
+pub mod Squeezed
+pub mod Carried

@@ -6,12 +6,12 @@ use mathlib.Core.List.{List}
 use Prim.Native.Nat.{ℕ, _-_}
 use lib.ListN.{length}
 use Rattle.doc.specs.Records.{tableOf}
-use Rattle.intake.specs.Verdict.{Outcome, acceptedWith, refusedBy, answerWords, verdictOf, tableFor}
+use Rattle.intake.specs.Verdict.{Outcome, acceptedWith, refusedBy, answerWords, verdictOf, tableFor, Conforms}
 use Rattle.intake.specs.declared.Answer.{Answer}
 use Rattle.intake.specs.declared.Answer.the-variants.{Accepted, Refused}
 use Rattle.intake.proofs.IntakeLaws.{zeros-refused, layout-accepted}
 use Rattle.law_demands.specs.RuleBook.{Broken, First}
-use Rattle.law_demands.specs.Demands.{Conforms, Demanded}
+use Rattle.law_demands.specs.Demands.{Demanded}
 use Rattle.law_demands.proofs.VerdictLaws.{Decided, accepts, refuses, decided}
 
 -- ---- answers and the paper's words for them

@@ -35,13 +35,12 @@ use Rattle.cross_rules.specs.Rules.{allRulesAtLines, crossRule}
 use Rattle.cross_rules.specs.Way.Findings.{findings, listFindings, modelFindings, mapFindings, sectionFindings}
 use Rattle.cross_rules.specs.declared.Finding.{Finding}
 use Rattle.cross_rules.proofs.OrderLaws.{in-order}
-use Rattle.cross_rules.specs.Listed.{RulesAtLine, Among}
-use Rattle.cross_rules.specs.Listed.Among.{front, further}
+use Rattle.cross_rules.specs.Listed.{RulesAtLine, BrokenIn}
 use Rattle.cross_rules.proofs.RisingLaws.{all-least, each-one}
-use Rattle.cross_rules.proofs.FirstLaws.{Breaks, none-breaks, given-breaks, lowest-line, lowest-rule, first-found}
+use Rattle.cross_rules.proofs.FirstLaws.{none-breaks, given-breaks, lowest-line, lowest-rule, first-found}
 use Rattle.intake.specs.Verdict.{Outcome, acceptedWith, refusedBy, crossed, afterStoring, afterBytes, verdictOf}
-use Rattle.law_demands.specs.RuleBook.{BrokenIn, Broken, First, group, rank, characterRulesAtLines, forwardRulesAtLines}
-use Rattle.law_demands.proofs.BookLaws.{Given, givenBy, Found, InOrder, last, followed, AllRanked, empty-gives, given-later, given-here, given-none, given-first}
+use Rattle.law_demands.specs.RuleBook.{Broken, First, group, rank, characterRulesAtLines, forwardRulesAtLines}
+use Rattle.law_demands.proofs.BookLaws.{Given, givenBy, Found, InOrder, last, followed, AllRanked, empty-gives, given-later, given-here, given-none, given-first, among-some}
 use Rattle.law_demands.proofs.GroupLaws.{characters-given, characters-ranked, characters-ordered, Told, read-on, refused-at, forward-told, forward-ranked, forward-ordered, size-ranked, room-ranked}
 
 -- ---- the cases of an answer
@@ -72,14 +71,6 @@ told-refused : (number line : ℕ) (given : Given) → Told (reading.Refused num
 told-refused number line _ (refused-at _ _ n) = record { nonzero = n; is = refl }
 
 -- ---- each group
-
-abbrev NotEmpty : List RulesAtLine → Type 0
-NotEmpty [] = ⊥
-NotEmpty (x ∷ xs) = Unit {0}
-
-among-some : {x : RulesAtLine} {xs : List RulesAtLine} → Among x xs → NotEmpty xs
-among-some front = tt
-among-some (further m) = tt
 
 read-run : (t : List ℕ) {answer : Reading} → readingOf t ≡ answer → readFrom 1 (contents t) startState ≡ answer
 unfolding readingOf
@@ -130,7 +121,7 @@ module _ (t : List ℕ) (size : ℕ) where
   Kept g = (number line : ℕ) → Broken t size g number line → ⊥
 
   nothing-there : {number line : ℕ} → BrokenIn [] number line → ⊥
-  nothing-there b = among-some (b .among)
+  nothing-there b = among-some (b .listed)
 
   none-kept : Kept 0
   none-kept number line b = nothing-there (rw no-group at b)
@@ -212,17 +203,11 @@ module _ (t : List ℕ) (size : ℕ) where
   abbrev d : Document
   d = documentOf t
 
-  breaks-of : {number line : ℕ} → Broken t size 5 number line → Breaks d line number
-  breaks-of b = by-looks (rw cross-group at b)
-    where
-      by-looks : {number line : ℕ} → BrokenIn (allRulesAtLines d) number line → Breaks d line number
-      by-looks c = record { look = c .look; among = c .among; place = c .place; within = c .within; broken = c .broken; on-line = c .on-line; numbered = c .numbered }
-
-  broken-of : {number line : ℕ} → Breaks d line number → Broken t size 5 number line
-  broken-of c = rw cross-group record { look = c .look; among = c .among; place = c .place; within = c .within; broken = c .broken; on-line = c .on-line; numbered = c .numbered }
+  breaks-of : {number line : ℕ} → Broken t size 5 number line → BrokenIn (allRulesAtLines d) number line
+  breaks-of b = rw cross-group at b
 
   cross-kept : crossRule d .rule ≡ 0 → Kept 5
-  cross-kept e number line b = none-breaks d e line number (breaks-of b)
+  cross-kept e number line b = none-breaks d e number line (breaks-of b)
 
   findings-low : Each (λ (f : Finding). 1 ≤ f .line) (findings d)
   unfolding findings
@@ -238,8 +223,8 @@ module _ (t : List ℕ) (size : ℕ) where
   cross-found : (crossRule d .rule ≡ 0 → ⊥) → Found 5 (group t size 5) (crossRule d .rule) (crossRule d .line)
   cross-found n =
       record {
-        found = broken-of (given-breaks d n);
-        earliest = λ other place b p. (each-one findings-low (first-found d n .found), lowest-line d place other (breaks-of b));
+        found = rw cross-group (given-breaks d n);
+        earliest = λ other-number other-line b p. (each-one findings-low (first-found d n .found), lowest-line d other-number other-line (breaks-of b));
         lowest = λ other b. let l : crossRule d .rule ≤ other = lowest-rule t other (breaks-of b) in rw (rank-plain (crossRule d .rule), rank-plain other) (omega arith);
       }
 
@@ -251,7 +236,7 @@ module _ (t : List ℕ) (size : ℕ) where
         found = f .found;
         earlier-groups = λ h other place b. by-cases (g ≤ h) (ltb h g) (λ (e : ltb h g ≡ true). absurd (kept h (ltb-true _ _ e) other place b)) (λ (e : ltb h g ≡ false). ltb-false _ _ e);
         earliest-line = f .earliest;
-        lowest-rule = f .lowest;
+        lowest-number = f .lowest;
       }
 
   pub data Decided : Outcome → Type 0 where

@@ -1,20 +1,14 @@
--- The first and the second demand on the intake, for whatever satisfies its contract: what the answer and the lent
--- table must be, for every text and every table.
+-- The first and the second demand on the intake: what the answer and the lent table must be, for every text and every
+-- table.
 -- Assumes nothing.
 use Prim.Native.Nat.{ℕ, _-_}
 use mathlib.Core.Path.{_≡_}
 use mathlib.Core.List.{List, _++_}
 use lib.ListN.{length, replicate}
 use Rattle.doc.specs.Records.{tableOf}
-use Rattle.intake.specs.Verdict.{answerWords, verdictOf, tableFor}
 use Rattle.intake.specs.declared.Answer.{Answer}
 use Rattle.intake.specs.declared.Answer.the-variants.{Accepted, Refused}
 use Rattle.law_demands.specs.RuleBook.{Broken, First}
-
--- the contract of the intake: the text, the table before and after, and the answer
-pub record Conforms (t before : List ℕ) (answer : Answer) (after : List ℕ) : Type 0 where
-  pub answers : answerWords answer ≡ verdictOf t (length before)
-  pub leaves : after ≡ tableFor t (length before) (answerWords answer)
 
 -- "A file is accepted exactly when no listed rule is broken; the table then holds what the text says .. otherwise the
 -- answer is the rule and line that the stated order puts first", and "a refused intake leaves the lent table all zeros"

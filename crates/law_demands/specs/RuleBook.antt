@@ -5,13 +5,10 @@
 -- `line_keyword`; 18 in Stored.antt of `intake`; 19 to 27 in Rules.antt of `cross_rules`.
 -- Assumes nothing.
 use Prim.Native.Nat.{ℕ, _+_, _*_, _≤_, _<_}
-use mathlib.Core.Path.{_≡_}
-use mathlib.Core.Bool.{true, false}
 use mathlib.Core.List.{List, [], _∷_}
-use lib.ListN.{length, getD}
 use lib.Dec.{eqb}
 use Rattle.base.specs.If.{if_then_else_, both}
-use Rattle.base.specs.Broken.{Rule, _when_, firstBroken}
+use Rattle.base.specs.Broken.{Rule, firstBroken}
 use Rattle.base.specs.Refusal as refusal
 use Rattle.lex_line.specs.Lines.{Raw, lines, Said, contents}
 use Rattle.lex_line.specs.ByteRules.{sizeRules, characterRules}
@@ -20,7 +17,7 @@ use Rattle.line_keyword.specs.declared.State.{State}
 use Rattle.read_line.specs.Reading.{rulesAndNext, lineResult, endOfTextRules}
 use Rattle.doc.specs.Document.{documentOf}
 use Rattle.intake.specs.Stored.{roomRules}
-use Rattle.cross_rules.specs.Listed.{RulesAtLine, Among}
+use Rattle.cross_rules.specs.Listed.{RulesAtLine, BrokenIn}
 use Rattle.cross_rules.specs.Rules.{allRulesAtLines}
 
 -- ---- 2 to 4, over all lines
@@ -57,34 +54,20 @@ group t size g =
     if eqb g 4 then record { line = 0; rules = roomRules t size } ∷ [] else
     if eqb g 5 then allRulesAtLines (documentOf t) else []
 
--- the default for an index past the last rule: a rule that is never broken
-abbrev neverBroken : Rule
-neverBroken = 0 when false
-
--- among these lines with their rules, a rule of this number is broken on this line
-pub record BrokenIn (listed : List RulesAtLine) (rule line : ℕ) : Type 0 where
-  pub look : RulesAtLine
-  pub among : Among look listed
-  pub place : ℕ
-  pub within : place < length (look .rules)
-  pub broken : getD (look .rules) place neverBroken .broken ≡ true
-  pub on-line : look .line ≡ line
-  pub numbered : getD (look .rules) place neverBroken .number ≡ rule
-
--- a listed rule of group g is broken on a line
+-- a rule of group g is broken on a line
 abbrev pub Broken : List ℕ → ℕ → ℕ → ℕ → ℕ → Type 0
-Broken t size g rule line = BrokenIn (group t size g) rule line
+Broken t size g number line = BrokenIn (group t size g) number line
 
 -- ---- the stated order
 
 -- "15 FORK .. goes before 9, 11 and 12": the rank of a rule among those of one line. In the forward group 15 comes between 8 and 9.
 unfoldable pub rank : ℕ → ℕ → ℕ
-rank g rule = if both (eqb g forward) (eqb rule refusal.fork) then 17 else 2 * rule
+rank g number = if both (eqb g forward) (eqb number refusal.fork) then 17 else 2 * number
 
 -- the rule is broken on the line; no rule of an earlier group is broken; "In each group the earliest line counts, line
 -- 0 last; on one line the lowest number"
-pub record First (t : List ℕ) (size g rule line : ℕ) : Type 0 where
-  pub found : Broken t size g rule line
-  pub earlier-groups : (h other at : ℕ) → Broken t size h other at → g ≤ h
-  pub earliest-line : (other at : ℕ) → Broken t size g other at → 0 < at → (0 < line) × (line ≤ at)
-  pub lowest-rule : (other : ℕ) → Broken t size g other line → rank g rule ≤ rank g other
+pub record First (t : List ℕ) (size g number line : ℕ) : Type 0 where
+  pub found : Broken t size g number line
+  pub earlier-groups : (group-there number-there line-there : ℕ) → Broken t size group-there number-there line-there → g ≤ group-there
+  pub earliest-line : (number-there line-there : ℕ) → Broken t size g number-there line-there → 0 < line-there → (0 < line) × (line ≤ line-there)
+  pub lowest-number : (number-there : ℕ) → Broken t size g number-there line → rank g number ≤ rank g number-there

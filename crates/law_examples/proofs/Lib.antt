@@ -1,2 +1,3 @@
 pub mod ExampleLaws
 pub mod AppliedLaws
+pub mod FormExampleLaws

@@ -21,12 +21,14 @@ use Rattle.lex_number.specs.Number.{numberOf, isFormed, wordIn}
 use Rattle.lex_number.specs.declared.Number.{Number}
 use Rattle.lex_number.specs.declared.Number.the-variants as number
 use Rattle.lex_number.proofs.NumberLaws.{number-word}
+use Rattle.lex_number.proofs.IntegerLaws.{whole-within}
 use Rattle.line_place.specs.Place as place
-use Rattle.line_path.specs.Path.{plainLine, isMult, isSectionLine, amountFormed, amountBounded, sectionLine, lineSaying, pathLineOf, closed, isBadFork, isPathOutOfOrder, isStepLine, openRule, pathRule, amountOf}
+use Rattle.line_path.specs.Path.{plainLine, isMult, isSectionLine, amountFormed, amountBounded, sectionLine, lineSaying, pathLineOf, closed, isBadFork, isPathOutOfOrder, isStepLine, amountOf}
 use Rattle.line_path.specs.Path as path
 use Rattle.line_path.specs.declared.Path.{Path}
 use Rattle.line_path.specs.declared.PathLine.{PathLine}
 use Rattle.line_path.proofs.RuleLaws.{closed-other, path-closed, path-open}
+use Rattle.line_path.specs.Way.Rule.{openRule, pathRule}
 use Rattle.line_keyword.specs.declared.Counts.{Counts}
 use Rattle.line_keyword.specs.declared.State.{State}
 use Rattle.read_line.specs.Reading.{readingOf}
@@ -61,7 +63,7 @@ amount-told :
 unfolding amountFormed amountBounded amountOf
 amount-told content f b =
     record {
-      mult = λ (m : isMult content ≡ true). ap (within 1 mostMult) (if-true _ _ m) ∙ sym (if-true _ _ m) ∙ b;
+      mult = λ (m : isMult content ≡ true). ap (within 1 mostMult) (if-true _ _ m) ∙ sym (whole-within 1 mostMult _ (sym (if-true _ _ m) ∙ f)) ∙ sym (if-true _ _ m) ∙ b;
       long =
           λ (m : isMult content ≡ false).
           ap isLengthWord (if-false _ _ m)

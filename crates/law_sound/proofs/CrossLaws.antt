@@ -16,7 +16,7 @@ use Rattle.doc.specs.Holds.Each.{none, more}
 use Rattle.cross_rules.specs.Rules.{mapIndex, sectionIndex, hasMap, hasSection, isWrongMethod, crossRule}
 use Rattle.cross_rules.specs.Way.Findings.{endRule, sectionStepRule, stepRule, listFindings, stepFindings, modelFindings, mapFindings, sectionFindings, findings}
 use Rattle.cross_rules.specs.declared.Finding.{Finding}
-use Rattle.cross_rules.proofs.FirstLaws.{end-judged, section-step-judged, all-kept}
+use Rattle.cross_rules.proofs.FirstLaws.{end-tests, section-step-tests, all-kept}
 
 -- ---- parts of a list
 
@@ -62,7 +62,7 @@ module _ (d : Document) (m : Model) (s : Step) (kept : stepRule d m s ≡ 0) whe
   unfolding stepRule hasMap
   end-found k =
       let e : endRule d m s ≡ 0 = sym (if-true _ _ (eq-eqb _ _ k)) ∙ kept in
-      ltb-true _ _ (not-false _ (end-judged d m s .kept e 0))
+      ltb-true _ _ (not-false _ (end-tests d m s e 0))
 
   module _ (k : s .kind ≡ sectionKind) where
     step-kept : sectionStepRule d m s ≡ 0
@@ -72,7 +72,7 @@ module _ (d : Document) (m : Model) (s : Step) (kept : stepRule d m s ≡ 0) whe
         sym (if-false _ _ n ∙ if-true _ _ (eq-eqb _ _ k)) ∙ kept
 
     has-section : hasSection d s ≡ true
-    has-section = not-false _ (section-step-judged d m s .kept step-kept 0)
+    has-section = not-false _ (section-step-tests d m s step-kept 0)
 
     -- 23: its section exists
     pub section-found : sectionIndex d s < length (d .sections)
@@ -81,4 +81,4 @@ module _ (d : Document) (m : Model) (s : Step) (kept : stepRule d m s ≡ 0) whe
 
     -- 24: and its method fits the step
     pub method-right : isWrongMethod d s ≡ false
-    method-right = sym (both-rest _ _ has-section) ∙ section-step-judged d m s .kept step-kept 1
+    method-right = sym (both-rest _ _ has-section) ∙ section-step-tests d m s step-kept 1

@@ -7,46 +7,21 @@ use mathlib.Core.List.{List, [], _∷_}
 use Prim.Native.Nat.{ℕ, _-_, _≤_, _<_, _+_}
 use native.Mathlib.Omega.{arith}
 use lib.ListN.{getD}
-use lib.Dec.{eqb, leb}
-use borrow.Author.Tests.{eq-eqb, ne-eqb, eqb-true, eqb-false, leb-true, not-false}
+use lib.Dec.{eqb}
+use borrow.Author.Tests.{eq-eqb, ne-eqb, eqb-true, eqb-false, not-false}
 use Rattle.base.specs.If.{if_then_else_, both, either}
 use Rattle.base.specs.Bytes.{bytes, within}
 use Rattle.base.specs.Runs.{same}
 use Rattle.base.specs.Broken.{Rule, _when_}
-use Rattle.base.proofs.IfLaws.{
-  if-true,
-  if-false,
-  by-test,
-  by-cases,
-  both-true,
-  both-second,
-  both-rest,
-  either-none-first,
-  either-none-second,
-}
+use Rattle.base.proofs.IfLaws.{if-true, if-false, by-test, by-cases, both-true, both-rest, either-none-first, either-none-second}
 use Rattle.base.proofs.BrokenLaws.{sound, all-kept}
 use Rattle.base.proofs.RunLaws.{same-equal}
 use Rattle.lex_line.specs.Words.{words, firstOf, secondOf, rightOf}
-use Rattle.lex_number.specs.Integer.{wholeOf}
-use Rattle.line_map.specs.PinMap.{
-  saysOrder,
-  saysColumns,
-  saysRows,
-  saysPinList,
-  orderOf,
-  wrongMapLine,
-  orderLine,
-  listLine,
-  sizeLine,
-  mapLineOf,
-  newMap,
-  isOrdered,
-  isMapOutOfOrder,
-  mapRule,
-  mapNext,
-}
+use Rattle.lex_number.proofs.IntegerLaws.{whole-most}
+use Rattle.line_map.specs.PinMap.{saysOrder, saysColumns, saysRows, saysPinList, orderOf, wrongMapLine, orderLine, listLine, sizeLine, mapLineOf, newMap, isOrdered, isMapOutOfOrder, mapNext}
 use Rattle.line_map.specs.declared.Map.{Map}
 use Rattle.line_map.specs.declared.MapLine.{MapLine}
+use Rattle.line_map.specs.Way.Rule.{mapRule}
 use Rattle.ask_sound.specs.Tests.{isGrid}
 use Rattle.law_sound.proofs.PartLaws.{within-is}
 use Rattle.table_layout.specs.Bounds.{mostMapPins}
@@ -86,13 +61,13 @@ unfolding listLine
 list-told ws = by-test Told _ _ _ (λ e. nothing-told _ refl) (λ e. wrong-told saysPinList)
 
 size-told : (says : ℕ) (content : List ℕ) → (says ≡ saysOrder → ⊥) → Told (sizeLine says content)
-unfolding sizeLine within
+unfolding sizeLine
 size-told says content n =
     by-test Told _ _ _
     (λ e.
     record {
       order = λ (s : says ≡ saysOrder). absurd (n s);
-      size = λ (b : both (leb 1 (wholeOf (firstOf (rightOf content)) .value)) (leb (wholeOf (firstOf (rightOf content)) .value) mostMapPins) ≡ true). leb-true _ mostMapPins (both-second _ _ b);
+      size = whole-most 1 mostMapPins (firstOf (rightOf content));
     })
     (λ e. wrong-told says)
 

@@ -9,10 +9,9 @@ use lib.ListN.{length, replicate, length-append, length-replicate}
 use Rattle.doc.specs.Records.{tableOf}
 use Rattle.cross_rules.specs.Way.HoldsText.{HoldsText}
 use Rattle.ask_sound.specs.Sound.{isSound}
-use Rattle.intake.specs.Verdict.{Outcome, answerWords}
+use Rattle.intake.specs.Verdict.{Outcome, answerWords, Conforms}
 use Rattle.intake.specs.declared.Answer.{Answer}
 use Rattle.intake.specs.declared.Answer.the-variants.{Accepted}
-use Rattle.law_demands.specs.Demands.{Conforms}
 use Rattle.law_demands.proofs.AcceptedLaws.{Taken, accepted-taken}
 use Rattle.law_demands.proofs.DemandLaws.{demanded}
 use Rattle.law_sound.proofs.SoundnessLaws.{accepted-sound}

@@ -17,17 +17,20 @@ use Rattle.lex_line.specs.Words.{words, firstOf}
 use Rattle.lex_keyword.specs.Names.{icmPinMap}
 use Rattle.line_place.specs.Place.{moved, movedByLine, leadsInFamily, isInModel, isInFamily, done}
 use Rattle.line_place.specs.Place as place
-use Rattle.line_map.specs.PinMap.{mapLineOf, mapRule, mapNext, newMap, isOrdered, pinRule, withPin, pinsLack, isWrongGrid}
+use Rattle.line_map.specs.PinMap.{mapLineOf, mapNext, newMap, isOrdered, withPin, pinsLack, isWrongGrid}
 use Rattle.line_map.specs.declared.Map as pin_map
 use Rattle.line_map.proofs.MapLaws.{pin-fits}
 use Rattle.line_map.proofs.GridLaws.{Fits, fits-only}
+use Rattle.line_map.specs.Way.Rule.{mapRule, pinRule}
 use Rattle.line_keyword.specs.State.{startState}
-use Rattle.line_keyword.specs.Keywords.{isUnclosed, isMisplaced, isShapeBroken, keywordRule, mapAfter, keywordNext}
+use Rattle.line_keyword.specs.Keywords.{isUnclosed, isMisplaced, isShapeBroken, mapAfter, keywordNext}
 use Rattle.line_keyword.specs.declared.Counts.{Counts}
 use Rattle.line_keyword.specs.declared.State.{State}
-use Rattle.read_line.specs.Reading.{lineRule, lineNext, readingOf}
+use Rattle.line_keyword.specs.Way.Rule.{keywordRule}
+use Rattle.read_line.specs.Reading.{lineNext, readingOf}
 use Rattle.read_line.specs.declared.Reading.the-variants.{Read}
 use Rattle.read_line.proofs.ResultLaws.{rule-pins, rule-map}
+use Rattle.read_line.specs.Way.Steps.{lineRule}
 use Rattle.doc.specs.Lines.{Line, plain, significant, keyOf, argumentOf, standsIn, gather, upTo}
 use Rattle.doc.specs.Document.{Named, Map, opensMap, inMap, gridIn, pinAt, mapOf, mapAt, documentIn, documentOf}
 use Rattle.doc.specs.Holds.{Each}

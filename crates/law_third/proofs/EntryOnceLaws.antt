@@ -24,10 +24,11 @@ use Rattle.lex_keyword.specs.Names.{
 use Rattle.line_place.specs.Place.{opensMatrix, isRowOrBandwidth, moved, dead, isInModel, isInFamily, isInHeader}
 use Rattle.line_place.specs.Place as place
 use Rattle.line_keyword.specs.State.{startState, noneSeen}
-use Rattle.line_keyword.specs.Keywords.{isSeen, isOnce, isRepeated, isMisplaced, keywordRule, seenAfter, keywordNext}
+use Rattle.line_keyword.specs.Keywords.{isSeen, isOnce, isRepeated, isMisplaced, seenAfter, keywordNext}
 use Rattle.line_keyword.specs.declared.Counts.{Counts}
 use Rattle.line_keyword.specs.declared.State.{State}
 use Rattle.line_keyword.proofs.InsideLaws.{opens-closes}
+use Rattle.line_keyword.specs.Way.Rule.{keywordRule}
 use Rattle.read_line.specs.Reading.{lineNext, readingOf}
 use Rattle.read_line.specs.declared.Reading.the-variants.{Read}
 use Rattle.doc.specs.Lines.{Line, keyOf, argumentOf, gather, upTo}

@@ -2,6 +2,8 @@ pub mod EntryLaws
 pub mod EntryOnceLaws
 pub mod EntryRecordLaws
 pub mod EntrySameLaws
+pub mod PathWrittenLaws
+pub mod OnePathLaws
 pub mod WalkLaws
 pub mod WalkNameLaws
 pub mod WalkRecordLaws

@@ -31,8 +31,11 @@ use Rattle.ask_walk.specs.declared.Place.{Place}
 use Rattle.ask_walk.proofs.KindLaws.{Moves, moves}
 use Rattle.ask_walk.proofs.ReadyLaws.{right-model}
 use Rattle.ask_walk.proofs.WalkLaws.{first-place, next-place}
+use Rattle.law_demands.proofs.AcceptedLaws as accepted
+use Rattle.law_third.specs.PathWritten.{PathWrittenBy}
 use Rattle.law_third.specs.Third.{AcceptedTable, walkedTo, nameThrough, sideOf, Shown, stepKinds, WalkShown}
-use Rattle.law_third.proofs.TakenLaws.{taken-kept, taken-sound, taken-records}
+use Rattle.law_third.proofs.TakenLaws.{taken-passed, taken-kept, taken-sound, taken-records}
+use Rattle.law_third.proofs.PathWrittenLaws.{paths-written}
 use Rattle.law_third.proofs.WalkRecordLaws.{its-model, its-place, its-step, its-kinds}
 use Rattle.law_third.proofs.WalkNameLaws.{all-nameless, name-shown, section-passed}
 
@@ -229,9 +232,16 @@ module _ (t table : List ℕ) (taken : AcceptedTable t table) (before behind : L
         ∙ ap (λ (x : StepRecord). stepped x (nextOf q (stepAtPlace (recordsOf table) q .kind))) (step-there (c .depth)) in
         rw goes (shown-by (nextOf q (stepAtPlace (recordsOf table) q .kind)))
 
+  -- ---- its lines
+
+  its-lines : PathWrittenBy t m
+  its-lines =
+      let k : accepted.Taken t (length (taken .before)) = taken-passed t table taken in
+      each-of (d .models) before behind m stands (paths-written t (k .counts) (k .reads))
+
   -- the walk from the start of the model, as the demand states it
   pub walk-shown : WalkShown t table (length before) m
-  walk-shown = record { shows = its-shown; deep = its-deep; ends = its-end }
+  walk-shown = record { by-lines = its-lines; shows = its-shown; deep = its-deep; ends = its-end }
 
 -- for every model of an accepted text
 pub walks-shown :

@@ -28,7 +28,7 @@ use Rattle.cross_rules.specs.Rules.{any, sameWord, isTwice, mapName, mapIndex, 
 use Rattle.cross_rules.specs.Way.Findings.{mapNameRule, stepRule, listFindings, modelFindings, pinFindings, mapFindings, sectionFindings, findings}
 use Rattle.cross_rules.specs.declared.Finding.{Finding}
 use Rattle.cross_rules.proofs.RisingLaws.{each-by}
-use Rattle.cross_rules.proofs.FirstLaws.{map-judged, all-kept}
+use Rattle.cross_rules.proofs.FirstLaws.{map-tests, all-kept}
 use Rattle.ask_sound.specs.Sound as sound
 use Rattle.law_sound.proofs.CrossLaws.{all-steps-kept, end-found, each-front, each-behind}
 use Rattle.ask_walk.specs.Walk as walk
@@ -153,7 +153,7 @@ module _ (d : Document) where
       (each-behind (modelFindings d (d .models)) _ (each-behind (listFindings d) _ (all-kept d e))))
 
   maps-fresh : crossRule d .rule ≡ 0 → Fresh (d .maps)
-  maps-fresh e = fresh (d .maps) (each-by (λ (m : Map) (h : mapNameRule d m ≡ 0). map-judged d m .kept h 0) (all-maps-kept e))
+  maps-fresh e = fresh (d .maps) (each-by (λ (m : Map) (h : mapNameRule d m ≡ 0). map-tests d m h 0) (all-maps-kept e))
 
 -- ---- records that are the same except for lines and offsets
 

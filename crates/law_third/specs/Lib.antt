@@ -1,1 +1,2 @@
+pub mod PathWritten
 pub mod Third

@@ -19,7 +19,7 @@ use Rattle.doc.specs.Document.{Step, Model, Matrix, Section, documentOf, conduc
 use Rattle.doc.specs.Holds.{Each}
 use Rattle.table_name.specs.Name.{nameAt}
 use Rattle.intake.specs.declared.Answer.the-variants.{Accepted}
-use Rattle.law_demands.specs.Demands.{Conforms}
+use Rattle.intake.specs.Verdict.{Conforms}
 use Rattle.ask_walk.specs.Walk as walk
 use Rattle.ask_walk.specs.Walk.{WalkWords, countKind}
 use Rattle.ask_walk.specs.declared.Place.{Place}
@@ -28,6 +28,7 @@ use Rattle.ask_entry.specs.Entry as entry
 use Rattle.ask_entry.specs.Entry.{foundWith}
 use Rattle.law_alike.specs.Written.{writtenAt}
 use Rattle.law_alike.specs.Alike.{formAt, Alike}
+use Rattle.law_third.specs.PathWritten.{PathWrittenBy}
 
 -- a text that the intake accepts, and the table that the intake leaves
 pub record AcceptedTable (t table : List ℕ) : Type 0 where
@@ -75,9 +76,10 @@ pub record Shown (t table : List ℕ) (s : Step) (w : WalkWords) : Type 0 where
 abbrev pub stepKinds : List Step → List ℕ
 stepKinds steps = map (λ (s : Step). s .kind) steps
 
--- the walk of model m, which has the index i: it shows each path line in turn; the depth is opens less closes; after
--- the last line it is done, and every fork is closed
+-- the walk of model m, which has the index i: lines of the text write the steps of m, and it shows each path line in
+-- turn; the depth is opens less closes; after the last line it is done, and every fork is closed
 pub record WalkShown (t table : List ℕ) (i : ℕ) (m : Model) : Type 0 where
+  pub by-lines : PathWrittenBy t m
   pub shows :
       (above below : List Step) (s : Step) → m .steps ≡ above ++ (s ∷ below) →
       Shown t table s (walk.walkAnswer t table (walkedTo t table i (length above)))

@@ -102,6 +102,11 @@ pub line-here : (comment : ℕ) (t : List ℕ) (at content b : ℕ) → content 
 line-here comment t at content b is told e =
     line-ended comment t at content content is (feed-here t content b told e) (feed-inside t content b told e)
 
+-- and where the next line starts, seen from there
+pub next-here : (comment : ℕ) (t : List ℕ) (end b : ℕ) → b ≡ getD t end 0 → b ≡ 10 → end + 1 ≡ lineAt comment t end .next
+unfolding lineAt
+next-here comment t end b told e = sym (ap (pastFeed t) (sym (feed-here t end b told e)) ∙ feed-past t end (feed-inside t end b told e))
+
 -- ---- the first line of a text
 
 feed-is : (b : ℕ) → eqb b lineFeed ≡ true → isBefore lineFeed b ≡ false

@@ -18,7 +18,7 @@ pub mod fast;
 // "From `|` on, a line is comment".
 pub const COMMENT: u8 = b'|';
 
-const LINE_FEED: u8 = 10;
+pub const LINE_FEED: u8 = 10;
 
 const CARRIAGE_RETURN: u8 = 13;
 
@@ -223,7 +223,7 @@ fn line_check(text: &[u8], at: usize) -> LineCheck
             next: at + 1,
         };
     }
-    let stop = base::fast::skip_far(Class::Printed, text, at);
+    let stop = base::fast::skip_printed(text, at);
     let terminator = terminator_at(text, stop);
     let next = stop + terminator;
     let characters = stop - at;

@@ -1,22 +1,23 @@
 -- Laws of integers, as `read_integer` uses them at each return. An integer has at most 9 digits, so nothing is capped.
 -- Assumes nothing.
-use mathlib.Core.Path.{_≡_, sym, _∙_, ap}
+use mathlib.Core.Path.{_≡_, sym, _∙_, ap, refl}
 use mathlib.Core.Bool.{true, false}
 use mathlib.Core.List.{List, [], _∷_}
-use Prim.Native.Nat.{ℕ, _+_, _-_, _*_, _^_, _≤_, _<_, min}
+use Prim.Native.Nat.{ℕ, _+_, _-_, _*_, _^_, _≤_, _<_, min, zero-le}
 use native.Mathlib.Nat.{zero-add, mul-one, mul-assoc, mul-le-mul-right, pow-zero, pow-succ', pow-le-pow-right, zero-lt-suc, le-trans}
 use native.Mathlib.Omega.{arith}
 use lib.ListN.{length, take}
 use lib.Seq.{take-all}
 use lib.Dec.{leb}
 use borrow.Author.Tests.{eq-eqb, ne-eqb, le-leb, leb-true}
-use Rattle.base.specs.If.{both}
+use Rattle.base.specs.If.{both, if_then_else_}
 use Rattle.base.specs.Bytes.{isDigit, within}
 use Rattle.base.specs.Runs.{run, all}
-use Rattle.base.proofs.IfLaws.{if-true, if-false, by-cases, both-true, both-not-left, both-not-right, both-first, both-second}
+use Rattle.base.proofs.IfLaws.{if-true, if-false, by-cases, both-true, both-not-left, both-not-right, both-first, both-second, by-test}
 use Rattle.lex_number.specs.declared.Exponent.{Exponent}
-use Rattle.lex_number.specs.Integer.{valueOf, isInteger, wholeOf}
+use Rattle.lex_number.specs.Integer.{valueOf, isInteger, wholeOf, isWholeWithin}
 use Rattle.lex_number.specs.Way.Capped.{exponentCap, cappedExponent, sizeAt}
+use Rattle.lex_number.specs.declared.Whole.{Whole}
 use Rattle.lex_number.proofs.AllLaws.{all-run}
 use Rattle.lex_number.proofs.DigitLaws.{digit-to}
 
@@ -79,3 +80,16 @@ whole-is s value t e = rw e (sym (if-true _ _ t))
 pub whole-not : (s : List ℕ) → isInteger s ≡ false → record { formed = false; value = 0 } ≡ wholeOf s
 unfolding wholeOf
 whole-not s t = sym (if-false _ _ t)
+
+-- a word that is an integer is within the bounds that its value is within
+pub whole-within : (low high : ℕ) (w : Whole) → w .formed ≡ true → isWholeWithin low high w ≡ within low high (w .value)
+unfolding isWholeWithin
+whole-within low high w e = if-true _ _ e
+
+-- a word that is no integer has the value 0, so the upper bound holds of every word
+pub whole-most : (low high : ℕ) (s : List ℕ) → isWholeWithin low high (wholeOf s) ≡ true → wholeOf s .value ≤ high
+unfolding isWholeWithin wholeOf within
+whole-most low high s =
+    by-test (λ (w : Whole). (if w .formed then both (leb low (w .value)) (leb (w .value) high) else true) ≡ true → w .value ≤ high) (isInteger s) _ _
+    (λ e h. leb-true _ _ (both-second _ _ (sym (if-true _ _ refl) ∙ h)))
+    (λ e h. zero-le)

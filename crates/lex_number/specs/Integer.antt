@@ -20,3 +20,7 @@ isInteger s = both (within 1 9 (length s)) (all isDigit s)
 -- whether a word is an integer, and its value, 0 if it is none
 unfoldable pub wholeOf : List ℕ → Whole
 wholeOf s = if isInteger s then record { formed = Bool.true; value = valueOf 0 s } else record { formed = Bool.false; value = 0 }
+
+-- an integer is within its bounds; if not, it breaks 14. A word that is no integer breaks 13, and no bounds
+unfoldable pub isWholeWithin : ℕ → ℕ → Whole → Bool
+isWholeWithin low high w = if w .formed then within low high (w .value) else Bool.true

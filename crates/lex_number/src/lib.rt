@@ -10,7 +10,7 @@ ghost use Rattle.base.specs.Runs.{all};
 ghost use Rattle.base.specs.Way.Class.{runEnd};
 ghost use lib.Dec.{ltb};
 ghost use Rattle.lex_number.specs.Number.{isSign, isMinus, isE, pastSign, digitsGoOn, noDigits, withPoint, withDigit, withByte, scan, noExponent, exponentOf, scalings, powerIn, aboveZero, scaleOf, raised, lowered, valueAs, wellFormed, numberOf, isFormed, isBounded, wordIn};
-ghost use Rattle.lex_number.specs.Integer.{wholeOf};
+ghost use Rattle.lex_number.specs.Integer.{wholeOf, isWholeWithin};
 ghost use Rattle.lex_number.specs.ValueWord.{valueWord, decimalOf, isDecimal, isValueWord};
 ghost use Rattle.lex_number.specs.Way.Capped.{exponentCap, countCap, cappedDigits, cappedExponent, sizeAt, raising, lowering, CutDigits, BoundedNumber};
 ghost use Rattle.lex_number.specs.Way.At.{numberAt};
@@ -663,4 +663,14 @@ pub fn is_within(low: u64, high: u64, value: u64) -> bool
         return false;
     }
     value <= high
+}
+
+// Whether an integer is within its bounds; if not, it breaks rule 14. A word that is no integer breaks no bounds.
+pub fn is_whole_within(low: u64, high: u64, whole: Whole) -> bool
+    ensures { λ r. ⌜ r ≡ isWholeWithin low high whole ⌝ }
+{
+    if !whole.formed {
+        return true;
+    }
+    is_within(low, high, whole.value)
 }

@@ -1,25 +1,27 @@
 -- Laws of arguments, as code uses them at its returns: the end of a run of bytes decides whether the argument is one
 -- word, an extension or a file name, and the integer that is read is that of the argument.
 -- Assumes nothing.
-use mathlib.Core.Path.{_≡_, sym, _∙_, ap}
+use mathlib.Core.Path.{_≡_, sym, _∙_, ap, refl}
 use mathlib.Core.Bool.{Bool, true, false, not}
-use mathlib.Core.List.{List}
+use mathlib.Core.List.{List, [], _∷_}
 use Prim.Native.Nat.{ℕ, _+_, _-_, _≤_, _<_}
 use native.Mathlib.Nat.{zero-add}
 use native.Mathlib.Omega.{arith}
 use lib.ListN.{length, take, drop, getD, length-drop, List·getD-eq-default}
 use lib.Seq.{take-all}
 use lib.Dec.{eqb, ltb}
-use borrow.Author.Tests.{eq-eqb, ne-eqb, le-leb, lt-leb, lt-ltb, le-ltb, ltb-true, ltb-false, not-true, not-false}
+use borrow.Author.Tests.{eq-eqb, ne-eqb, le-leb, lt-leb, lt-ltb, le-ltb, ltb-true, ltb-false, not-true, not-false, eqb-false}
 use Rattle.base.specs.Bytes.{within, isFilled}
 use Rattle.base.specs.Way.Class.{runEnd}
-use Rattle.base.specs.Runs.{run, all}
-use Rattle.base.proofs.IfLaws.{by-cases, both-true, both-rest, both-not-left, both-not-right}
+use Rattle.base.specs.Runs.{run, all, same}
+use Rattle.base.proofs.IfLaws.{by-cases, both-true, both-rest, both-not-left, both-not-right, either-false, either-none-first, either-none-second}
+use Rattle.base.specs.If.{either}
 use Rattle.lex_number.specs.declared.Whole.{Whole}
-use Rattle.lex_number.specs.Integer.{wholeOf}
+use Rattle.lex_number.specs.Integer.{wholeOf, isWholeWithin}
 use Rattle.lex_number.proofs.AllLaws.{all-run}
 use Rattle.line_place.specs.Place.{isRowOrBandwidth}
 use Rattle.line_argument.specs.Argument.{isOneWord, isName, isReserved, isFileByte, isExtension, isFileName, isBadInteger}
+use Rattle.line_argument.specs.Way.Reserved.{startsReserved}
 use Rattle.table_layout.specs.Bounds.{mostConductors, mostBandwidth}
 
 -- every byte passes exactly when the run from the front goes to the end
@@ -97,7 +99,7 @@ module _ (s : List ℕ) (period there : ℕ) (told : period ≡ runEnd isFileByt
 
 -- the integer that is read is that of the argument
 module _ (s : List ℕ) (whole : Whole) (told : whole ≡ wholeOf s) where
-  pub off-rows : (t : Bool) → t ≡ within 1 mostConductors (whole .value) → not t ≡ not (within 1 mostConductors (wholeOf s .value))
+  pub off-rows : (t : Bool) → t ≡ isWholeWithin 1 mostConductors whole → not t ≡ not (isWholeWithin 1 mostConductors (wholeOf s))
   off-rows t e = rw (e, told)
 
   pub wide-band : ltb mostBandwidth (whole .value) ≡ ltb mostBandwidth (wholeOf s .value)
@@ -112,3 +114,24 @@ module _ (key : ℕ) (s : List ℕ) (t : Bool) (told : t ≡ isRowOrBandwidth ke
   pub integer-told : (whole : Whole) → not t ≡ false → whole ≡ wholeOf s → not (whole .formed) ≡ isBadInteger key s
   unfolding isBadInteger
   integer-told whole e read = ap (λ (w : Whole). not (w .formed)) read ∙ sym (both-rest _ _ (sym told ∙ not-false t e))
+
+-- ---- reserved words by their first byte
+
+-- words with different first bytes differ
+other-start : (b c : ℕ) (x y : List ℕ) → (b ≡ c → ⊥) → same (b ∷ x) (c ∷ y) ≡ false
+unfolding same
+other-start b c x y h = both-not-left _ _ (ne-eqb b c h)
+
+pub not-reserved : (b : ℕ) (x : List ℕ) → startsReserved b ≡ false → isReserved (b ∷ x) ≡ false
+unfolding startsReserved isReserved
+not-reserved b x e =
+    let power : b ≡ 80 → ⊥ = eqb-false b 80 (either-none-first _ _ e) in
+    let ground : b ≡ 71 → ⊥ = eqb-false b 71 (either-none-first _ _ (either-none-second _ _ e)) in
+    let none : b ≡ 78 → ⊥ = eqb-false b 78 (either-none-second _ _ (either-none-second _ _ e)) in
+    either-false _ _ (other-start b 80 x _ power)
+    (either-false _ _ (other-start b 71 x _ ground) (either-false _ _ (other-start b 78 x _ none) (other-start b 78 x _ none)))
+
+pub reserved-starts : (w : List ℕ) (b : ℕ) (is : Bool) → b ≡ getD w 0 0 → is ≡ startsReserved b → not is ≡ true → false ≡ isReserved w
+unfolding isReserved same either
+reserved-starts [] b is told starts e = refl
+reserved-starts (c ∷ x) b is told starts e = sym (not-reserved c x (ap startsReserved (sym told) ∙ sym starts ∙ not-true is e))

@@ -10,7 +10,7 @@ use lib.Dec.{ltb, eqb}
 use Rattle.base.specs.If.{if_then_else_, both, either}
 use Rattle.base.specs.Bytes.{bytes, within, isDigit, isSmall, isFilled}
 use Rattle.base.specs.Runs.{run, all, same}
-use Rattle.lex_number.specs.Integer.{wholeOf}
+use Rattle.lex_number.specs.Integer.{wholeOf, isWholeWithin}
 use Rattle.lex_keyword.specs.Names.{
   theEnd,
   row,
@@ -118,5 +118,5 @@ isBadInteger k s = both (isRowOrBandwidth k) (not (wholeOf s .formed))
 -- 14 for a keyword line: "[Row] .. 1 to 256; B 0 to 255"
 unfoldable pub isOutOfBounds : ℕ → List ℕ → Bool
 isOutOfBounds k s =
-    if eqb k row then not (within 1 mostConductors (wholeOf s .value)) else
+    if eqb k row then not (isWholeWithin 1 mostConductors (wholeOf s)) else
     if eqb k bandwidth then ltb mostBandwidth (wholeOf s .value) else false

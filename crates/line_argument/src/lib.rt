@@ -22,11 +22,28 @@ ghost use Rattle.line_argument.specs.Argument.{
   isBadInteger,
   isOutOfBounds,
 };
+ghost use Rattle.line_argument.specs.Way.Reserved.{startsReserved};
 
-// "names .. never POWER, GND, NC or NA".
+// Whether a reserved word starts with this byte.
+pub fn starts_reserved(b: u8) -> bool
+    ensures { λ r. ⌜ r ≡ startsReserved b ⌝ }
+{
+    if b == b'P' {
+        return true;
+    }
+    if b == b'G' {
+        return true;
+    }
+    b == b'N'
+}
+
+// "names .. never POWER, GND, NC or NA". For most words the first byte decides it.
 pub fn is_reserved(word: &[u8]) -> bool
     ensures { λ r. ⌜ r ≡ isReserved (now (word .entry)) ⌝ }
 {
+    if !starts_reserved(base::byte_at(word, 0)) {
+        return false;
+    }
     if lex_line::same_bytes(word, b"POWER") {
         return true;
     }
@@ -274,7 +291,7 @@ pub fn is_out_of_bounds(key: u64, argument: &[u8]) -> bool
 {
     if key == lex_keyword::ROW {
         let whole = lex_number::read_integer(argument);
-        return !lex_number::is_within(1, table_layout::bound::CONDUCTORS, whole.value);
+        return !lex_number::is_whole_within(1, table_layout::bound::CONDUCTORS, whole);
     }
     if key == lex_keyword::BANDWIDTH {
         let whole = lex_number::read_integer(argument);

@@ -11,7 +11,7 @@ use lib.ListN.{length, take, drop}
 use lib.Seq.{length-take-le}
 use lib.Dec.{eqb}
 use borrow.Author.Tests.{eq-eqb, ne-eqb, not-true, not-false}
-use Rattle.base.specs.Bytes.{bytes, within, isBefore}
+use Rattle.base.specs.Bytes.{bytes, isBefore}
 use Rattle.base.specs.Runs.{same}
 use Rattle.base.specs.Way.Class.{runEnd}
 use Rattle.base.proofs.IfLaws.{if-true, if-false, both-true, both-not-left, both-not-right, not-via, not-not-via}
@@ -22,7 +22,7 @@ use Rattle.lex_line.specs.declared.FirstTwo.{FirstTwo}
 use Rattle.lex_line.proofs.WordLaws.{first-marked, second-marked}
 use Rattle.lex_line.proofs.FormLaws.{counted, counted-not, part-from, sign-none, sign-there, left-words, right-words}
 use Rattle.lex_number.specs.Number.{numberOf, isFormed, isBounded}
-use Rattle.lex_number.specs.Integer.{wholeOf}
+use Rattle.lex_number.specs.Integer.{wholeOf, isWholeWithin}
 use Rattle.lex_number.specs.declared.Number.{Number}
 use Rattle.lex_number.specs.declared.Whole.{Whole}
 use Rattle.line_head.specs.Head.{saysNothing, saysModelType, saysRatio, saysImpedance, modelTypeOf, wrongHeadLine, typeLine, toColon, ratioOf, sgrLine, impedanceLine, headLineOf}
@@ -96,7 +96,7 @@ module _ (content : List ℕ) (few : FirstTwo) (told : few ≡ firstTwoOf conten
       unfolding sgrLine
       sgr-wrong r e h = h ∙ sym (if-false _ _ (both-not-right _ _ (sym rest-is ∙ not-true t e)))
 
-      pub sgr-right : (ratio : Whole) (inside : Bool) → not t ≡ false → ratio ≡ wholeOf (take colon w) → inside ≡ within 1 mostRatio (ratio .value) → record { says = saysRatio; right = true; formed = ratio .formed; bounded = inside; kind = 0 } ≡ sgrLine (words content)
+      pub sgr-right : (ratio : Whole) (inside : Bool) → not t ≡ false → ratio ≡ wholeOf (take colon w) → inside ≡ isWholeWithin 1 mostRatio ratio → record { says = saysRatio; right = true; formed = ratio .formed; bounded = inside; kind = 0 } ≡ sgrLine (words content)
       unfolding sgrLine
       sgr-right ratio inside e k h =
           let f : ratio ≡ ratioOf (secondOf (words content)) = colon-ratio w colon at ratio k ∙ ap ratioOf word-is in

@@ -1,4 +1,9 @@
 -- Document 01, "Model": the lines of a model before its first keyword.
+--
+-- What is remembered of a head is the struct `Head` of src/lib.rt: `kind`, the number of the model's type plus 1, 0 while
+-- it has not been given; and whether SGR and Ref_impedance have been read (`sgr`, `impedance`). What a line says is a
+-- `HeadLine`: `says`, which of the three it is; whether its rest is `right`; whether its number is `formed` and `bounded`,
+-- true of a line without one; and the `kind` that it names.
 -- Assumes nothing.
 use Prim.Native.Nat.{ℕ, _+_}
 use Prim.Native.Char.{code}
@@ -7,13 +12,13 @@ use mathlib.Core.List.{List, [], _∷_}
 use lib.ListN.{length, take, drop}
 use lib.Dec.{eqb}
 use Rattle.base.specs.If.{if_then_else_, both, either}
-use Rattle.base.specs.Bytes.{bytes, within, isBefore}
+use Rattle.base.specs.Bytes.{bytes, isBefore}
 use Rattle.base.specs.Runs.{run, same}
-use Rattle.base.specs.Broken.{Rule, _when_, firstBroken}
+use Rattle.base.specs.Broken.{Rule, _when_}
 use Rattle.base.specs.Refusal as refusal
 use Rattle.lex_line.specs.Words.{words, firstOf, secondOf, hasEquals, leftOf, rightOf}
 use Rattle.lex_number.specs.Number.{numberOf, isFormed, isBounded}
-use Rattle.lex_number.specs.Integer.{wholeOf}
+use Rattle.lex_number.specs.Integer.{wholeOf, isWholeWithin}
 use Rattle.lex_number.specs.declared.Whole.{Whole}
 use Rattle.line_head.specs.declared.Head.{Head}
 use Rattle.line_head.specs.declared.HeadLine.{HeadLine}
@@ -62,7 +67,7 @@ ratioOf w = wholeOf (take (toColon w) w)
 unfoldable pub sgrLine : List (List ℕ) → HeadLine
 sgrLine ws =
     if both (eqb (length ws) 2) (same (drop (toColon (secondOf ws)) (secondOf ws)) (bytes ":1"))
-    then record { says = saysRatio; right = true; formed = ratioOf (secondOf ws) .formed; bounded = within 1 mostRatio (ratioOf (secondOf ws) .value); kind = 0 }
+    then record { says = saysRatio; right = true; formed = ratioOf (secondOf ws) .formed; bounded = isWholeWithin 1 mostRatio (ratioOf (secondOf ws)); kind = 0 }
     else wrongHeadLine saysRatio
 
 -- "`Ref_impedance=` a number"
@@ -95,9 +100,6 @@ headRules l h =
     ∷ refusal.number when not (l .formed)
     ∷ refusal.range when not (l .bounded)
     ∷ []
-
-unfoldable pub headRule : HeadLine → Head → ℕ
-headRule l h = firstBroken (headRules l h)
 
 unfoldable pub headNext : HeadLine → Head → Head
 headNext l h =

@@ -4,7 +4,8 @@ ghost use Rattle.base.specs.Bytes.{bytes};
 ghost use Rattle.base.specs.Runs.{same};
 ghost use Rattle.lex_line.specs.Words.{words, firstOf, leftOf};
 ghost use Rattle.lex_line.specs.Way.Spans.{firstTwoOf};
-ghost use Rattle.line_head.specs.Head.{modelTypeOf, wrongHeadLine, typeLine, sgrLine, impedanceLine, headLineOf, isHeadOutOfOrder, headRule, headNext, newHead, headLacks};
+ghost use Rattle.line_head.specs.Head.{modelTypeOf, wrongHeadLine, typeLine, sgrLine, impedanceLine, headLineOf, isHeadOutOfOrder, headNext, newHead, headLacks};
+ghost use Rattle.line_head.specs.Way.Rule.{headRule};
 use base::Class;
 use lex_line::FirstTwo;
 
@@ -111,7 +112,7 @@ fn sgr_line(content: &[u8], few: FirstTwo) -> HeadLine
         says: RATIO,
         right: true,
         formed: ratio.formed,
-        bounded: lex_number::is_within(1, table_layout::bound::RATIO, ratio.value),
+        bounded: lex_number::is_whole_within(1, table_layout::bound::RATIO, ratio),
         kind: 0,
     }
 }

@@ -52,8 +52,8 @@ unfolding isSeen
 unseen k s l h = sym (List·getD-eq-default (s .seen) false (le-trans (le-of-eq l) h))
 
 -- [Row] and [Bandwidth] are judged by the integer that they take
-pub by-value : (k : ℕ) (argument : List ℕ) (m : Matrix) (w : Whole) → w ≡ wholeOf argument → (answer : Bool) → answer ≡ isWrongInMatrix k (w .value) m → answer ≡ isWrongInMatrix k (wholeOf argument .value) m
-by-value k argument m w read answer h = h ∙ ap (λ (v : Whole). isWrongInMatrix k (v .value) m) read
+pub by-value : (k : ℕ) (argument : List ℕ) (m : Matrix) (w : Whole) → w ≡ wholeOf argument → (answer : Bool) → answer ≡ isWrongInMatrix k w m → answer ≡ isWrongInMatrix k (wholeOf argument) m
+by-value k argument m w read answer h = h ∙ ap (λ (v : Whole). isWrongInMatrix k v m) read
 
 -- ---- what is remembered
 

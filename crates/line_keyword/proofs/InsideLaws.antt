@@ -14,31 +14,9 @@ use Rattle.lex_keyword.specs.Names.{row, bandwidth}
 use Rattle.line_place.specs.Place.{moved, leadsInMatrix, opensMatrix, isRowOrBandwidth, standsInHeader, opensHeaderText}
 use Rattle.line_place.specs.Place as place
 use Rattle.line_keyword.specs.declared.State.{State}
-use Rattle.line_keyword.specs.Keywords.{
-  isOnce,
-  isLacking,
-  isUnclosed,
-  isRepeated,
-  isMisplaced,
-  isForkOpen,
-  isMatrixBroken,
-  isShapeBroken,
-  closesTooWide,
-  isFull,
-  isPastBound,
-  keywordRule,
-  seenAfter,
-  headAfter,
-  pathAfter,
-  mapAfter,
-  conductorsAfter,
-  sectionAfter,
-  matrixAfter,
-  oneMoreIf,
-  countsAfter,
-  keywordNext,
-}
+use Rattle.line_keyword.specs.Keywords.{isOnce, isLacking, isUnclosed, isRepeated, isMisplaced, isForkOpen, isMatrixBroken, isShapeBroken, closesTooWide, isFull, isPastBound, seenAfter, headAfter, pathAfter, mapAfter, conductorsAfter, sectionAfter, matrixAfter, oneMoreIf, countsAfter, keywordNext, isTooLate}
 use Rattle.line_keyword.specs.Way.Row.{matrixKeywordRule, matrixKeywordNext}
+use Rattle.line_keyword.specs.Way.Rule.{keywordRule}
 
 -- a keyword that does not end a matrix is one of two
 kept-by : (P : ℕ → Type 0) (k : ℕ) → isRowOrBandwidth k ≡ true → P row → P bandwidth → P k
@@ -72,11 +50,11 @@ goesOn k argument s =
 
 module _ (argument : List ℕ) (s : State) (inside : s .place ≡ place.matrix) where
   row-rule : keywordRule row argument s ≡ matrixKeywordRule row argument (s .matrix)
-  unfolding keywordRule matrixKeywordRule first isForkOpen isMisplaced moved leadsInMatrix isRowOrBandwidth isUnclosed isRepeated isOnce standsInHeader opensHeaderText opensMatrix isLacking isShapeBroken isMatrixBroken isPastBound closesTooWide isFull if_then_else_ both either
+  unfolding keywordRule matrixKeywordRule first isForkOpen isMisplaced moved leadsInMatrix isRowOrBandwidth isUnclosed isRepeated isOnce standsInHeader opensHeaderText opensMatrix isLacking isTooLate isShapeBroken isMatrixBroken isPastBound closesTooWide isFull if_then_else_ both either
   row-rule = rw inside
 
   bandwidth-rule : keywordRule bandwidth argument s ≡ matrixKeywordRule bandwidth argument (s .matrix)
-  unfolding keywordRule matrixKeywordRule first isForkOpen isMisplaced moved leadsInMatrix isRowOrBandwidth isUnclosed isRepeated isOnce standsInHeader opensHeaderText opensMatrix isLacking isShapeBroken isMatrixBroken isPastBound closesTooWide isFull if_then_else_ both either
+  unfolding keywordRule matrixKeywordRule first isForkOpen isMisplaced moved leadsInMatrix isRowOrBandwidth isUnclosed isRepeated isOnce standsInHeader opensHeaderText opensMatrix isLacking isTooLate isShapeBroken isMatrixBroken isPastBound closesTooWide isFull if_then_else_ both either
   bandwidth-rule = rw inside
 
   row-next : keywordNext row argument s ≡ goesOn row argument s

@@ -25,7 +25,8 @@ use Rattle.line_keyword.specs.declared.Counts.{Counts}
 use Rattle.line_keyword.specs.declared.State.{State}
 use Rattle.line_keyword.specs.State.{startState, noCounts}
 use Rattle.line_keyword.specs.Way.Bounded.{Countable, BoundedState}
-use Rattle.line_keyword.specs.Keywords.{isFull, isPastBound, keywordRules, keywordRule, pathAfter, mapAfter, oneMoreIf, countsAfter, keywordNext}
+use Rattle.line_keyword.specs.Keywords.{isFull, isPastBound, keywordRules, pathAfter, mapAfter, oneMoreIf, countsAfter, keywordNext}
+use Rattle.line_keyword.specs.Way.Rule.{keywordRule}
 
 -- a new path is outside every fork block
 new-shallow : newPath .depth ≤ deepest

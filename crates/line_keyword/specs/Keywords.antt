@@ -8,9 +8,10 @@ use lib.ListN.{getD, set}
 use lib.Dec.{leb, eqb}
 use Rattle.table_layout.specs.Bounds.{mostModels, mostMaps, mostSections}
 use Rattle.base.specs.If.{if_then_else_, both, either}
-use Rattle.base.specs.Broken.{Rule, _when_, firstBroken}
+use Rattle.base.specs.Broken.{Rule, _when_}
 use Rattle.base.specs.Refusal as refusal
 use Rattle.lex_number.specs.Integer.{wholeOf}
+use Rattle.lex_number.specs.declared.Whole.{Whole}
 use Rattle.lex_keyword.specs.Names.{
   theEnd,
   row,
@@ -96,18 +97,21 @@ headerLacks s = either (not (isSeen fileName s)) (not (isSeen fileRev s))
 unfoldable pub familyLacks : State → Bool
 familyLacks s = either (not (isSeen manufacturer s)) (eqb (s .counts .models) 0)
 
--- "the list stands before the first model"; [Manufacturer] and [ICM Family Description] come before the list (F1); and
--- what must be there when a block closes
+-- what must be there already: "the list stands before the first model", and what a block requires when it closes
 unfoldable pub isLacking : ℕ → State → Bool
 isLacking k s =
     if eqb k endHeader then headerLacks s else
     if eqb k beginIcmModel then not (isSeen icmModelList s) else
-    if eqb k manufacturer then isSeen icmModelList s else
-    if eqb k icmFamilyDescription then isSeen icmModelList s else
     if eqb k endIcmFamily then familyLacks s else
     if eqb k endIcmModel then not (isSeen treePathDescription s) else
     if eqb k endIcmSection then kindsLack s else
     if eqb k theEnd then eqb (s .counts .sections) 0 else false
+
+-- [Manufacturer] and [ICM Family Description] come before the list (F1)
+unfoldable pub isTooLate : ℕ → State → Bool
+isTooLate k s =
+    if eqb k manufacturer then isSeen icmModelList s else
+    if eqb k icmFamilyDescription then isSeen icmModelList s else false
 
 -- what the keyword closes is incomplete: the head of a model, a path or a pin map
 unfoldable pub isUnclosed : State → Bool
@@ -125,21 +129,21 @@ isRepeated k s = both (isOnce k) (isSeen k s)
 unfoldable pub isMisplaced : ℕ → State → Bool
 isMisplaced k s =
     either (eqb (moved (s .place) k) dead)
-    (either (isUnclosed s) (either (isRepeated k s) (isLacking k s)))
+    (either (isUnclosed s) (either (isRepeated k s) (either (isLacking k s) (isTooLate k s))))
 
 -- "15 FORK: .. closing with one open"
 unfoldable pub isForkOpen : State → Bool
 isForkOpen s = both (eqb (s .place) place.path) (pathOpen (s .path))
 
--- "[Row] or [Bandwidth] missing, surplus or out of order"
-unfoldable pub isWrongInMatrix : ℕ → ℕ → Matrix → Bool
-isWrongInMatrix k value m = if eqb k row then isWrongRow value m else isWrongBandwidth m
+-- "[Row] or [Bandwidth] missing, surplus or out of order"; a [Row] that is no integer breaks 13, and no order
+unfoldable pub isWrongInMatrix : ℕ → Whole → Matrix → Bool
+isWrongInMatrix k given m = if eqb k row then both (given .formed) (isWrongRow (given .value) m) else isWrongBandwidth m
 
 -- in a matrix, [Row] and [Bandwidth] are judged by their order, any other keyword by the matrix that it closes
 unfoldable pub isMatrixBroken : ℕ → List ℕ → State → Bool
 isMatrixBroken k argument s =
     if isRowOrBandwidth k
-    then isWrongInMatrix k (wholeOf argument .value) (s .matrix)
+    then isWrongInMatrix k (wholeOf argument) (s .matrix)
     else isWrongShape (s .matrix) (s .section .conductors) (s .counts .values)
 
 -- "16 SHAPE: matrix or pin grid of the wrong shape"
@@ -174,9 +178,6 @@ keywordRules k argument s =
     ∷ refusal.shape when isShapeBroken k argument s
     ∷ refusal.limit when isPastBound k s
     ∷ []
-
-unfoldable pub keywordRule : ℕ → List ℕ → State → ℕ
-keywordRule k argument s = firstBroken (keywordRules k argument s)
 
 -- ---- what is remembered
 

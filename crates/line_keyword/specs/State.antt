@@ -1,5 +1,10 @@
 -- What the forward reading remembers between lines: the place, the keywords read, and what has been read of the open
 -- block. It contains no line number and no offset.
+--
+-- It is the struct `State` of src/lib.rt: the `place` in which the next line is read; `seen`, for each keyword by its number
+-- whether it has been read; of the open block its `head`, `path`, `map`, `section` or `matrix`, each explained where it is
+-- defined; and `counts`, how many records of each part have been read. Of a section (`Section`) the `method` is remembered,
+-- and its `conductors`, the N of its first matrix, 0 until that is closed.
 -- Assumes nothing.
 use mathlib.Core.Bool.{Bool, false}
 use mathlib.Core.List.{List}

@@ -2,7 +2,7 @@
 ghost use mathlib.Core.Path.{_≡_};
 ghost use mathlib.Core.Bool.{true, false};
 ghost use Prim.Native.Nat.{_^_, _<_};
-ghost use Rattle.line_keyword.specs.Keywords.{isOnce, isSeen, hasNoKind, kindsLack, headerLacks, familyLacks, isLacking, isUnclosed, isRepeated, isMisplaced, isForkOpen, isWrongInMatrix, isMatrixBroken, isShapeBroken, closesTooWide, isFull, isPastBound, keywordRule, seenAfter, headAfter, pathAfter, mapAfter, conductorsAfter, sectionAfter, matrixAfter, oneMoreIf, countsAfter, keywordNext};
+ghost use Rattle.line_keyword.specs.Keywords.{isOnce, isSeen, hasNoKind, kindsLack, headerLacks, familyLacks, isLacking, isTooLate, isUnclosed, isRepeated, isMisplaced, isForkOpen, isWrongInMatrix, isMatrixBroken, isShapeBroken, closesTooWide, isFull, isPastBound, seenAfter, headAfter, pathAfter, mapAfter, conductorsAfter, sectionAfter, matrixAfter, oneMoreIf, countsAfter, keywordNext};
 ghost use Rattle.line_keyword.specs.Way.Row.{matrixKeywordRule, matrixKeywordNext};
 ghost use Rattle.lex_number.specs.Integer.{wholeOf};
 ghost use Rattle.line_place.specs.Place.{isRowOrBandwidth};
@@ -10,6 +10,8 @@ ghost use Rattle.line_argument.specs.Argument.{isOutOfBounds};
 ghost use Rattle.line_keyword.specs.Way.Bounded.{Countable};
 ghost use Rattle.line_map.specs.Way.Bounded.{BoundedMap};
 ghost use Rattle.line_keyword.specs.State.{startState};
+ghost use Rattle.line_keyword.specs.Way.Rule.{keywordRule};
+use lex_number::Whole;
 use line_head::Head;
 use line_map::Map;
 use line_matrix::Matrix;
@@ -136,7 +138,7 @@ fn family_lacks(s: State) -> bool
     counts.models == 0
 }
 
-// Whether something is missing that must come before this keyword, or something is there that must come after it.
+// Whether something is missing that must come before this keyword.
 fn is_lacking(key: u64, s: State) -> bool
     ensures { λ r. ⌜ r ≡ isLacking key s ⌝ }
 {
@@ -145,12 +147,6 @@ fn is_lacking(key: u64, s: State) -> bool
     }
     if key == lex_keyword::BEGIN_ICM_MODEL {
         return !is_seen(lex_keyword::ICM_MODEL_LIST, s);
-    }
-    if key == lex_keyword::MANUFACTURER {
-        return is_seen(lex_keyword::ICM_MODEL_LIST, s);
-    }
-    if key == lex_keyword::ICM_FAMILY_DESCRIPTION {
-        return is_seen(lex_keyword::ICM_MODEL_LIST, s);
     }
     if key == lex_keyword::END_ICM_FAMILY {
         return family_lacks(s);
@@ -164,6 +160,19 @@ fn is_lacking(key: u64, s: State) -> bool
     if key == lex_keyword::THE_END {
         let counts = s.counts;
         return counts.sections == 0;
+    }
+    false
+}
+
+// Whether the model list has been read, which must come after this keyword.
+fn is_too_late(key: u64, s: State) -> bool
+    ensures { λ r. ⌜ r ≡ isTooLate key s ⌝ }
+{
+    if key == lex_keyword::MANUFACTURER {
+        return is_seen(lex_keyword::ICM_MODEL_LIST, s);
+    }
+    if key == lex_keyword::ICM_FAMILY_DESCRIPTION {
+        return is_seen(lex_keyword::ICM_MODEL_LIST, s);
     }
     false
 }
@@ -213,7 +222,10 @@ fn is_misplaced(key: u64, s: State) -> bool
     if is_repeated(key, s) {
         return true;
     }
-    is_lacking(key, s)
+    if is_lacking(key, s) {
+        return true;
+    }
+    is_too_late(key, s)
 }
 
 // Rule 15: a path that closes while a fork is open.
@@ -228,21 +240,24 @@ fn is_fork_open(s: State) -> bool
 }
 
 // Whether a [Row] of this value, or a [Bandwidth], is out of order in a matrix.
-fn is_wrong_in_matrix(key: u64, value: u64, m: Matrix) -> bool
-    ensures { λ r. ⌜ r ≡ isWrongInMatrix key value m ⌝ }
+fn is_wrong_in_matrix(key: u64, given: Whole, m: Matrix) -> bool
+    ensures { λ r. ⌜ r ≡ isWrongInMatrix key given m ⌝ }
 {
     if key == lex_keyword::ROW {
-        return line_matrix::is_wrong_row(value, m);
+        if !given.formed {
+            return false;
+        }
+        return line_matrix::is_wrong_row(given.value, m);
     }
     line_matrix::is_wrong_bandwidth(m)
 }
 
 // The same, with the value read from the argument.
 fn is_wrong_by(key: u64, argument: &[u8], m: Matrix) -> bool
-    ensures { λ r. ⌜ r ≡ isWrongInMatrix key (wholeOf (now (argument .entry)) .value) m ⌝ }
+    ensures { λ r. ⌜ r ≡ isWrongInMatrix key (wholeOf (now (argument .entry))) m ⌝ }
 {
-    let value = lex_number::read_integer(argument);
-    is_wrong_in_matrix(key, value.value, m)
+    let given = lex_number::read_integer(argument);
+    is_wrong_in_matrix(key, given, m)
 }
 
 // Rule 16 for a keyword in a matrix: [Row] and [Bandwidth] are judged by their order, any other keyword by the shape of

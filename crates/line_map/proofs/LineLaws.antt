@@ -10,7 +10,7 @@ use lib.ListN.{length, take, drop, length-drop}
 use lib.Seq.{take-all}
 use lib.Dec.{eqb}
 use borrow.Author.Tests.{eq-eqb, ne-eqb, lt-ltb, le-ltb}
-use Rattle.base.specs.Bytes.{bytes, within}
+use Rattle.base.specs.Bytes.{bytes}
 use Rattle.base.specs.Runs.{same}
 use Rattle.base.proofs.IfLaws.{if-true, if-false, both-true, both-rest, both-not-left, not-via, not-not-via}
 use Rattle.lex_line.specs.declared.FirstTwo.{FirstTwo}
@@ -18,7 +18,7 @@ use Rattle.lex_line.specs.Words.{words, firstOf, secondOf, toEquals, hasEquals,
 use Rattle.lex_line.specs.Way.Spans.{firstTwoOf, markedBy}
 use Rattle.lex_line.proofs.WordLaws.{first-marked, second-marked}
 use Rattle.lex_number.specs.declared.Whole.{Whole}
-use Rattle.lex_number.specs.Integer.{wholeOf}
+use Rattle.lex_number.specs.Integer.{wholeOf, isWholeWithin}
 use Rattle.line_map.specs.declared.MapLine.{MapLine}
 use Rattle.line_map.specs.PinMap.{saysNothing, saysOrder, saysColumns, saysRows, saysPinList, orderOf, wrongMapLine, orderLine, listLine, sizeLine, mapLineOf, isPinLine}
 use Rattle.table_layout.specs.Bounds.{mostMapPins}
@@ -122,13 +122,13 @@ module _ (content : List ℕ) (sign : ℕ) (told : sign ≡ toEquals content) wh
             e ∙ sym (if-false _ _ (both-rest _ _ has-sign ∙ both-rest _ _ name-alone ∙ n))
 
         -- the integer after the sign
-        pub size-given : (word : List ℕ) (whole : Whole) (fits : Bool) → right .count ≡ 1 → word ≡ markedBy (take (length content - (sign + 1)) (drop (sign + 1) content)) (right .first) → whole ≡ wholeOf word → fits ≡ within 1 mostMapPins (whole .value) → sized says whole fits ≡ sizeLine says content
+        pub size-given : (word : List ℕ) (whole : Whole) (fits : Bool) → right .count ≡ 1 → word ≡ markedBy (take (length content - (sign + 1)) (drop (sign + 1) content)) (right .first) → whole ≡ wholeOf word → fits ≡ isWholeWithin 1 mostMapPins whole → sized says whole fits ≡ sizeLine says content
         unfolding sizeLine
         size-given word whole fits h first read bounds =
             let n : eqb (length (rightOf content)) 1 ≡ true = ap (λ (ws : List (List ℕ)). eqb (length ws) 1) (sym right-is) ∙ one-word _ right told-right h in
             let w : whole ≡ wholeOf (firstOf (rightOf content)) = read ∙ ap wholeOf (first-told _ right told-right word first ∙ ap firstOf right-is) in
-            let b : fits ≡ within 1 mostMapPins (wholeOf (firstOf (rightOf content)) .value) = bounds ∙ ap (λ (v : Whole). within 1 mostMapPins (v .value)) w in
-            let r : sized says whole fits ≡ sized says (wholeOf (firstOf (rightOf content))) (within 1 mostMapPins (wholeOf (firstOf (rightOf content)) .value)) = λ i. sized says (w i) (b i) in
+            let b : fits ≡ isWholeWithin 1 mostMapPins (wholeOf (firstOf (rightOf content))) = bounds ∙ ap (λ (v : Whole). isWholeWithin 1 mostMapPins v) w in
+            let r : sized says whole fits ≡ sized says (wholeOf (firstOf (rightOf content))) (isWholeWithin 1 mostMapPins (wholeOf (firstOf (rightOf content)))) = λ i. sized says (w i) (b i) in
             r ∙ sym (if-true _ _ (both-true _ _ has-sign (both-true _ _ name-alone n)))
 
 -- what the first word says; t is whether it is Pin_order, u whether it is Pin_list

@@ -8,19 +8,20 @@ use Prim.Native.Nat.{ℕ, _*_, _≤_, _<_}
 use native.Mathlib.Nat.{mul-le-mul}
 use native.Mathlib.Omega.{arith}
 use lib.Dec.{eqb, leb}
-use borrow.Author.Tests.{not-false, leb-true, leb-false}
+use borrow.Author.Tests.{not-false, leb-false}
 use Rattle.table_layout.specs.Bounds.{mostPins, mostMapPins}
 use Rattle.base.specs.If.{if_then_else_, both, either}
-use Rattle.base.specs.Bytes.{bytes, within}
+use Rattle.base.specs.Bytes.{bytes}
 use Rattle.base.specs.Runs.{same}
-use Rattle.base.proofs.IfLaws.{by-test, both-second, either-rest, either-left, either-none-first, not-via, not-not-via}
+use Rattle.base.proofs.IfLaws.{by-test, either-rest, either-left, either-none-first, not-via, not-not-via}
 use Rattle.base.proofs.BrokenLaws.{all-kept}
 use Rattle.lex_line.specs.Words.{words, firstOf, secondOf, rightOf}
-use Rattle.lex_number.specs.Integer.{wholeOf}
+use Rattle.lex_number.proofs.IntegerLaws.{whole-most}
 use Rattle.line_map.specs.declared.Map.{Map}
 use Rattle.line_map.specs.declared.MapLine.{MapLine}
-use Rattle.line_map.specs.PinMap.{saysOrder, saysColumns, saysRows, orderOf, wrongMapLine, orderLine, listLine, sizeLine, mapLineOf, newMap, isOrdered, isMapOutOfOrder, mapRules, mapRule, mapNext, pinRules, pinRule, withPin}
+use Rattle.line_map.specs.PinMap.{saysOrder, saysColumns, saysRows, orderOf, wrongMapLine, orderLine, listLine, sizeLine, mapLineOf, newMap, isOrdered, isMapOutOfOrder, mapRules, mapNext, pinRules, withPin}
 use Rattle.line_map.specs.Way.Bounded.{BoundedMap}
+use Rattle.line_map.specs.Way.Rule.{mapRule, pinRule}
 
 -- t says whether the map is ordered
 module _ (m : Map) (given : ℕ) (t : Bool) (told : t ≡ isOrdered m) where
@@ -72,8 +73,8 @@ unfolding listLine
 list-small ws = by-test Small _ _ _ (λ e b. omega arith) (λ e. wrong-small _)
 
 size-small : (says : ℕ) (content : List ℕ) → Small (sizeLine says content)
-unfolding sizeLine within
-size-small says content = by-test Small _ _ _ (λ e (b : both (leb 1 (wholeOf (firstOf (rightOf content)) .value)) (leb (wholeOf (firstOf (rightOf content)) .value) mostMapPins) ≡ true). leb-true _ mostMapPins (both-second _ _ b)) (λ e. wrong-small says)
+unfolding sizeLine
+size-small says content = by-test Small _ _ _ (λ e b. whole-most 1 mostMapPins (firstOf (rightOf content)) b) (λ e. wrong-small says)
 
 line-small : (content : List ℕ) → Small (mapLineOf content)
 unfolding mapLineOf

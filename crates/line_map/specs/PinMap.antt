@@ -1,4 +1,9 @@
 -- Document 01, "Pin maps": the lines above Pin_list, and the pins below it.
+--
+-- What is remembered of a map is the struct `Map` of src/lib.rt: `order`, the number of its Pin_order plus 1; `rows` and
+-- `columns`, each 0 while it has not been given; and how many `pins` have been read. What a line says is a `MapLine`:
+-- `says`, which of the four it is; whether its rest is `right`; whether its number is `formed` and `bounded`, true of a
+-- line without one; and the `value` that it gives.
 -- Assumes nothing.
 use Prim.Native.Nat.{ℕ, _+_, _*_}
 use mathlib.Core.Bool.{Bool, true, false, not}
@@ -9,10 +14,10 @@ use Rattle.table_layout.specs.Bounds.{mostPins, mostMapPins}
 use Rattle.base.specs.If.{if_then_else_, both, either}
 use Rattle.base.specs.Bytes.{bytes, within}
 use Rattle.base.specs.Runs.{same}
-use Rattle.base.specs.Broken.{Rule, _when_, firstBroken}
+use Rattle.base.specs.Broken.{Rule, _when_}
 use Rattle.base.specs.Refusal as refusal
 use Rattle.lex_line.specs.Words.{words, firstOf, secondOf, hasEquals, leftOf, rightOf}
-use Rattle.lex_number.specs.Integer.{wholeOf}
+use Rattle.lex_number.specs.Integer.{wholeOf, isWholeWithin}
 use Rattle.line_map.specs.declared.Map.{Map}
 use Rattle.line_map.specs.declared.MapLine.{MapLine}
 use Rattle.table_layout.specs.Codes.{rowOrdered, columnOrdered, unOrdered}
@@ -62,7 +67,7 @@ sizeLine says content =
       says = says;
       right = true;
       formed = wholeOf (firstOf (rightOf content)) .formed;
-      bounded = within 1 mostMapPins (wholeOf (firstOf (rightOf content)) .value);
+      bounded = isWholeWithin 1 mostMapPins (wholeOf (firstOf (rightOf content)));
       value = wholeOf (firstOf (rightOf content)) .value;
     }
     else wrongMapLine says
@@ -98,9 +103,6 @@ mapRules l m =
     ∷ refusal.range when not (l .bounded)
     ∷ []
 
-unfoldable pub mapRule : MapLine → Map → ℕ
-mapRule l m = firstBroken (mapRules l m)
-
 unfoldable pub mapNext : MapLine → Map → Map
 mapNext l m =
     record {
@@ -120,9 +122,6 @@ pinRules content m total =
     refusal.argument when not (isPinLine (words content))
     ∷ refusal.limit when either (leb mostMapPins (m .pins)) (leb mostPins total)
     ∷ []
-
-unfoldable pub pinRule : List ℕ → Map → ℕ → ℕ
-pinRule content m total = firstBroken (pinRules content m total)
 
 unfoldable pub withPin : Map → Map
 withPin m = record { order = m .order; rows = m .rows; columns = m .columns; pins = m .pins + 1 }

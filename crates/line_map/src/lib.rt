@@ -6,24 +6,9 @@ ghost use Prim.Native.Nat.{_<_};
 ghost use lib.Dec.{eqb};
 ghost use Rattle.base.specs.If.{if_then_else_, both, either};
 ghost use Rattle.lex_line.specs.Words.{words};
-ghost use Rattle.line_map.specs.PinMap.{
-  orderOf,
-  wrongMapLine,
-  orderLine,
-  listLine,
-  sizeLine,
-  mapLineOf,
-  newMap,
-  isOrdered,
-  isMapOutOfOrder,
-  mapRule,
-  mapNext,
-  pinRule,
-  withPin,
-  pinsLack,
-  isWrongGrid,
-};
+ghost use Rattle.line_map.specs.PinMap.{orderOf, wrongMapLine, orderLine, listLine, sizeLine, mapLineOf, newMap, isOrdered, isMapOutOfOrder, mapNext, withPin, pinsLack, isWrongGrid};
 ghost use Rattle.line_map.specs.Way.Bounded.{BoundedMap};
+ghost use Rattle.line_map.specs.Way.Rule.{mapRule, pinRule};
 
 // What has been read of a map. The order is its number in the table plus 1, so that a 0 in order, rows or columns means
 // that it has not been given yet.
@@ -147,7 +132,7 @@ fn size_line(says: u64, content: &[u8]) -> MapLine
     }
     let first = right.first;
     let whole = lex_number::read_integer(lex_line::marked(rest, first));
-    let bounded = lex_number::is_within(1, table_layout::bound::MAP_PINS, whole.value);
+    let bounded = lex_number::is_whole_within(1, table_layout::bound::MAP_PINS, whole);
     MapLine {
         says,
         right: true,

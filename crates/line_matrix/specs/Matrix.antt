@@ -1,4 +1,12 @@
 -- Document 01, "Sections and matrices": the rows and numbers of a matrix in its four forms, and its shape.
+--
+-- What is remembered of the open matrix is the struct `Matrix` of src/lib.rt: its `form`; `band`, the most numbers that
+-- a row may have; `first`, how many values the file had before it; and its rows. Of these (`Rows`) are remembered `row`,
+-- the number of the last [Row], 0 before the first; `above`, how many numbers the row above it has; `from`, how many
+-- values the file had before the row; `least`, the least column that may come next in a Sparse_matrix; `greatest`, the
+-- greatest row or column named; and `fits`, whether all rows that have ended are of the right length.
+-- What a data line says is a `DataLine`: how many `numbers` it writes; the `column` of a sparse line; whether it has the
+-- `right` count of words; whether these are numbers (`formed`) and within their bounds (`bounded`).
 -- `values` is how many values have been read in the whole file, so that the numbers of a row are those since `from`.
 -- Assumes nothing.
 use Prim.Native.Nat.{ℕ, _+_, _-_, min, max}
@@ -9,12 +17,11 @@ use lib.Dec.{leb, ltb, eqb}
 use Rattle.table_layout.specs.Codes.{diagonal, banded, sparse, full}
 use Rattle.table_layout.specs.Bounds.{mostValues, mostConductors}
 use Rattle.base.specs.If.{if_then_else_, both, either}
-use Rattle.base.specs.Bytes.{within}
-use Rattle.base.specs.Broken.{Rule, _when_, firstBroken}
+use Rattle.base.specs.Broken.{Rule, _when_}
 use Rattle.base.specs.Refusal as refusal
 use Rattle.lex_line.specs.Words.{words, firstOf, secondOf}
 use Rattle.lex_number.specs.Number.{numberOf, isFormed, isBounded}
-use Rattle.lex_number.specs.Integer.{wholeOf}
+use Rattle.lex_number.specs.Integer.{wholeOf, isWholeWithin}
 use Rattle.lex_number.specs.declared.Whole.{Whole}
 use Rattle.line_matrix.specs.declared.Matrix.{Matrix}
 use Rattle.line_matrix.specs.declared.DataLine.{DataLine}
@@ -51,8 +58,9 @@ withBandwidth b m = record { form = m .form; band = b + 1; first = m .first; row
 unfoldable pub inRow : Matrix → ℕ → ℕ
 inRow m values = values - m .rows .from
 
--- "row i has N-i+1 numbers", "row i has 1+min(B, N-i)": of two rows the upper one has one number more than the lower
--- one, or as many as the band allows
+-- "row i has N-i+1 numbers", "row i has 1+min(B, N-i)", told as the row ends and without N, which only the last row
+-- tells: that row has one number, and every other has one more than the row below it, or as many as the band allows
+-- if these are fewer. So the row above the one that ends is asked for; the first row has none above it
 unfoldable pub standsAbove : Matrix → ℕ → Bool
 standsAbove m values = either (ltb (m .rows .row) 2) (eqb (m .rows .above) (min (m .band) (inRow m values + 1)))
 
@@ -104,7 +112,7 @@ pairLine column check =
       column = column .value;
       right = true;
       formed = both (column .formed) (check .formed);
-      bounded = both (within 1 mostConductors (column .value)) (check .bounded);
+      bounded = both (isWholeWithin 1 mostConductors column) (check .bounded);
     }
 
 -- "lines `column value`": columns 1 to 256
@@ -132,9 +140,6 @@ dataRules l m values =
     ∷ refusal.range when not (l .bounded)
     ∷ refusal.limit when areTooMany values (l .numbers)
     ∷ []
-
-unfoldable pub dataRule : DataLine → Matrix → ℕ → ℕ
-dataRule l m values = firstBroken (dataRules l m values)
 
 -- "columns rising and not below the row"
 unfoldable pub withColumn : ℕ → Matrix → Matrix

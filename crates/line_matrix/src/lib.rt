@@ -5,7 +5,8 @@ ghost use mathlib.Core.Bool.{true, false};
 ghost use Rattle.table_layout.specs.Bounds.{mostBandwidth};
 ghost use Rattle.lex_number.specs.Number.{isFormed, isBounded};
 ghost use Rattle.lex_line.specs.Words.{words};
-ghost use Rattle.line_matrix.specs.Matrix.{newMatrix, isWrongBandwidth, isWrongRow, withBandwidth, inRow, standsAbove, stillFits, withRow, numbersLine, pairLine, sparseLine, dataLineOf, isDataOutOfOrder, areTooMany, dataRule, shapeConductors, isShaped, isWrongShape, isTooWide};
+ghost use Rattle.line_matrix.specs.Matrix.{newMatrix, isWrongBandwidth, isWrongRow, withBandwidth, inRow, standsAbove, stillFits, withRow, numbersLine, pairLine, sparseLine, dataLineOf, isDataOutOfOrder, areTooMany, shapeConductors, isShaped, isWrongShape, isTooWide};
+ghost use Rattle.line_matrix.specs.Way.Rule.{dataRule};
 use lex_number::Number;
 use lex_number::Whole;
 
@@ -245,7 +246,7 @@ fn pair_line(column: Whole, told: NumberCheck) -> DataLine
         right: true,
         formed: base::and(column.formed, told.formed),
         bounded: base::and(
-            lex_number::is_within(1, table_layout::bound::CONDUCTORS, column.value),
+            lex_number::is_whole_within(1, table_layout::bound::CONDUCTORS, column),
             told.bounded,
         ),
     }

@@ -11,9 +11,10 @@ use Rattle.table_layout.specs.Bounds.{deepest}
 use Rattle.base.specs.Refusal as refusal
 use Rattle.base.proofs.IfLaws.{if-true, if-false, by-cases, by-test}
 use Rattle.base.proofs.BrokenLaws.{first-broken}
-use Rattle.line_path.specs.Path.{saysEnd, saysSide, saysSection, saysFork, saysEndfork, closed, starting, newPath, isBadFork, openRule, pathRule, withEnd, pathNext}
+use Rattle.line_path.specs.Path.{saysEnd, saysSide, saysSection, saysFork, saysEndfork, closed, starting, newPath, isBadFork, withEnd, pathNext}
 use Rattle.line_path.specs.declared.Path.{Path}
 use Rattle.line_path.specs.declared.PathLine.{PathLine}
+use Rattle.line_path.specs.Way.Rule.{openRule, pathRule}
 use Rattle.line_path.proofs.RuleLaws.{bad-fork, bad-endfork, closed-other, path-closed, path-open}
 
 -- an end does not change the depth

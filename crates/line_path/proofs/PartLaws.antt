@@ -17,30 +17,13 @@ use Rattle.lex_line.specs.Words.{words, firstOf, rightOf, toEquals}
 use Rattle.lex_line.specs.Way.Spans.{wordSpan, firstTwoOf}
 use Rattle.lex_line.specs.declared.Span.{Span}
 use Rattle.lex_line.proofs.WordLaws.{after-at, after-none, wordsAfter}
-use Rattle.line_path.specs.Path.{
-  saysNothing,
-  saysEnd,
-  saysSide,
-  saysSection,
-  saysFork,
-  saysEndfork,
-  sayingOf,
-  plainLine,
-  namesOne,
-  isMult,
-  amountOf,
-  isSectionLine,
-  lineSaying,
-  pathLineOf,
-  openRules,
-  openRule,
-  pathRule,
-}
+use Rattle.line_path.specs.Path.{saysNothing, saysEnd, saysSide, saysSection, saysFork, saysEndfork, sayingOf, plainLine, namesOne, isMult, amountOf, isSectionLine, lineSaying, pathLineOf, openRules}
 use Rattle.line_path.specs.Way.Section.{spanFrom, plainParts, amountIn, amountLine, nameRight, sectionParts}
 use Rattle.line_path.specs.Way.Parts.{namedParts, saidParts, partsOf, ParsesName, ParsesSection, ParsesLine}
 use Rattle.line_path.specs.declared.Path.{Path}
 use Rattle.line_path.specs.declared.PathLine.{PathLine}
 use Rattle.line_path.specs.declared.PathParts.{PathParts}
+use Rattle.line_path.specs.Way.Rule.{openRule, pathRule}
 use Rattle.line_path.proofs.SectionLaws.{section-two, section-right, section-wrong, section-line}
 use Rattle.line_path.proofs.DepthLaws.{open-kept}
 

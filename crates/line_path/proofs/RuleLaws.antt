@@ -12,9 +12,10 @@ use Rattle.base.specs.Broken.{first}
 use Rattle.base.specs.Refusal as refusal
 use Rattle.base.proofs.IfLaws.{if-true, if-false, both-true, both-rest, both-not-left, both-not-right, either-left, either-rest, either-comes, either-false, not-via, not-not-via}
 use Rattle.base.proofs.BrokenLaws.{gives-first, gives-later, lists-yes, lists-no}
-use Rattle.line_path.specs.Path.{saysEnd, saysSide, saysSection, saysFork, saysEndfork, items, closed, isBadFork, isStepLine, openRule, closedRule, pathRule, pathNext}
+use Rattle.line_path.specs.Path.{saysEnd, saysSide, saysSection, saysFork, saysEndfork, items, closed, isBadFork, isStepLine, pathNext}
 use Rattle.line_path.specs.declared.Path.{Path}
 use Rattle.line_path.specs.declared.PathLine.{PathLine}
+use Rattle.line_path.specs.Way.Rule.{openRule, closedRule, pathRule}
 
 -- ---- 15
 

@@ -9,7 +9,7 @@ use lib.ListN.{length, take, drop}
 use lib.Dec.{eqb}
 use borrow.Author.Tests.{eqb-true}
 use Rattle.base.specs.If.{if_then_else_, both, either}
-use Rattle.base.specs.Bytes.{bytes, within}
+use Rattle.base.specs.Bytes.{bytes}
 use Rattle.base.specs.Runs.{same}
 use Rattle.base.proofs.IfLaws.{if-true, if-false, by-cases, by-test, both-true, both-not-left, both-not-right, both-first, both-second, either-rest, either-none-first, either-none-second, not-via, not-not-via}
 use Rattle.lex_line.specs.Words.{words, firstOf, secondOf, hasEquals, leftOf, rightOf, toEquals}
@@ -19,7 +19,7 @@ use Rattle.lex_line.specs.declared.Span.{Span}
 use Rattle.lex_line.proofs.WordLaws.{second-ordered, second-within, first-marked, second-marked}
 use Rattle.lex_line.proofs.FormLaws.{counted, counted-not, part-from, sign-none, sign-there, left-words, right-words}
 use Rattle.lex_number.specs.Number.{numberOf, isFormed, wordIn}
-use Rattle.lex_number.specs.Integer.{wholeOf}
+use Rattle.lex_number.specs.Integer.{wholeOf, isWholeWithin}
 use Rattle.lex_number.specs.declared.Number.{Number}
 use Rattle.lex_number.specs.declared.Whole.{Whole}
 use Rattle.line_argument.specs.Argument.{isReserved}
@@ -32,13 +32,13 @@ use Rattle.table_layout.specs.Bounds.{mostMult}
 
 pub amount-mult :
     (mult : Bool) (amount : List ℕ) (name : Span) (times : Whole) (inside : Bool) → mult ≡ true → times ≡ wholeOf amount →
-    inside ≡ within 1 mostMult (times .value) →
+    inside ≡ isWholeWithin 1 mostMult times →
     record { line = record { says = saysSection; right = true; formed = times .formed; bounded = inside }; name = name; amount = times .value; mult = mult }
     ≡ amountLine mult amount name
 unfolding amountLine amountFormed amountBounded amountIn
 amount-mult mult amount name times inside e k h =
     let f : times .formed ≡ (if mult then wholeOf amount .formed else isFormed (numberOf amount)) = ap (λ (w : Whole). w .formed) k ∙ sym (if-true _ _ e) in
-    let b : inside ≡ (if mult then within 1 mostMult (wholeOf amount .value) else isLength (numberOf amount)) = h ∙ ap (λ (w : Whole). within 1 mostMult (w .value)) k ∙ sym (if-true _ _ e) in
+    let b : inside ≡ (if mult then isWholeWithin 1 mostMult (wholeOf amount) else isLength (numberOf amount)) = h ∙ ap (λ (w : Whole). isWholeWithin 1 mostMult w) k ∙ sym (if-true _ _ e) in
     let v : times .value ≡ (if mult then wholeOf amount .value else wordIn (numberOf amount)) = ap (λ (w : Whole). w .value) k ∙ sym (if-true _ _ e) in
     λ i. record { line = record { says = saysSection; right = true; formed = f i; bounded = b i }; name = name; amount = v i; mult = mult }
 
@@ -50,7 +50,7 @@ pub amount-length :
 unfolding amountLine amountFormed amountBounded amountIn
 amount-length mult amount name n formed bounded word e k f b w =
     let g : formed ≡ (if mult then wholeOf amount .formed else isFormed (numberOf amount)) = f ∙ ap isFormed k ∙ sym (if-false _ _ e) in
-    let h : bounded ≡ (if mult then within 1 mostMult (wholeOf amount .value) else isLength (numberOf amount)) = b ∙ ap isLength k ∙ sym (if-false _ _ e) in
+    let h : bounded ≡ (if mult then isWholeWithin 1 mostMult (wholeOf amount) else isLength (numberOf amount)) = b ∙ ap isLength k ∙ sym (if-false _ _ e) in
     let v : word ≡ (if mult then wholeOf amount .value else wordIn (numberOf amount)) = w ∙ ap wordIn k ∙ sym (if-false _ _ e) in
     λ i. record { line = record { says = saysSection; right = true; formed = g i; bounded = h i }; name = name; amount = v i; mult = mult }
 

@@ -1,4 +1,9 @@
 -- Document 01, "Paths": "End, items, end", line by line.
+--
+-- What is remembered of a path is the struct `Path` of src/lib.rt: its `stage`, one of the four below; `depth`, how many
+-- fork blocks are open; `ended`, whether the end of the innermost block has been read, so that only its Endfork may come;
+-- and `side`, whether the next line may be a Side. What a line says is a `PathLine`: `says`, which of the five it is;
+-- whether its rest is `right`; and whether its number is `formed` and `bounded`, true of a line without one.
 -- Assumes nothing.
 use Prim.Native.Nat.{ℕ, _+_, _-_, _%_}
 use mathlib.Core.Bool.{Bool, true, false, not}
@@ -7,13 +12,13 @@ use lib.ListN.{length}
 use lib.Dec.{leb, ltb, eqb}
 use Rattle.table_layout.specs.Bounds.{deepest, mostSteps, mostMult}
 use Rattle.base.specs.If.{if_then_else_, both, either}
-use Rattle.base.specs.Bytes.{bytes, within}
+use Rattle.base.specs.Bytes.{bytes}
 use Rattle.base.specs.Runs.{same}
-use Rattle.base.specs.Broken.{Rule, _when_, firstBroken}
+use Rattle.base.specs.Broken.{Rule, _when_}
 use Rattle.base.specs.Refusal as refusal
 use Rattle.lex_line.specs.Words.{words, firstOf, secondOf, hasEquals, leftOf, rightOf}
 use Rattle.lex_number.specs.Number.{numberOf, isFormed, wordIn}
-use Rattle.lex_number.specs.Integer.{wholeOf}
+use Rattle.lex_number.specs.Integer.{wholeOf, isWholeWithin}
 use Rattle.lex_number.specs.ValueWord.{zeroWord}
 use Rattle.lex_number.specs.declared.Number.{Number}
 use Rattle.lex_number.specs.declared.Number.the-variants.{Value, Malformed, Range}
@@ -81,7 +86,7 @@ unfoldable pub amountFormed : Bool → List ℕ → Bool
 amountFormed mult amount = if mult then wholeOf amount .formed else isFormed (numberOf amount)
 
 unfoldable pub amountBounded : Bool → List ℕ → Bool
-amountBounded mult amount = if mult then within 1 mostMult (wholeOf amount .value) else isLength (numberOf amount)
+amountBounded mult amount = if mult then isWholeWithin 1 mostMult (wholeOf amount) else isLength (numberOf amount)
 
 unfoldable pub sectionLine : List ℕ → PathLine
 sectionLine content =
@@ -143,9 +148,6 @@ openRules l p steps =
     ∷ refusal.limit when both (isStepLine l) (leb mostSteps steps)
     ∷ []
 
-unfoldable pub openRule : PathLine → Path → ℕ → ℕ
-openRule l p steps = firstBroken (openRules l p steps)
-
 -- "The end at depth 0 closes the path": only its Side may follow
 abbrev pub closedRules : PathLine → Path → List Rule
 closedRules l p =
@@ -153,14 +155,8 @@ closedRules l p =
     then refusal.argument when not (l .right) ∷ []
     else refusal.line when true ∷ []
 
-unfoldable pub closedRule : PathLine → Path → ℕ
-closedRule l p = firstBroken (closedRules l p)
-
 abbrev pub pathRules : PathLine → Path → ℕ → List Rule
 pathRules l p steps = if eqb (p .stage) closed then closedRules l p else openRules l p steps
-
-unfoldable pub pathRule : PathLine → Path → ℕ → ℕ
-pathRule l p steps = firstBroken (pathRules l p steps)
 
 -- the path after an end: its first end, its closing end, or the end of a fork block
 unfoldable pub withEnd : Path → Path

@@ -1,3 +1,4 @@
+pub mod Rule
 pub mod Section
 pub mod Parts
 pub mod Usual

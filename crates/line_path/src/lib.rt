@@ -9,9 +9,10 @@ ghost use Rattle.base.specs.If.{either};
 ghost use Rattle.lex_line.specs.Words.{words};
 ghost use Rattle.lex_line.specs.Way.Spans.{firstTwoOf};
 ghost use Rattle.lex_number.specs.declared.Number.the-variants.{Value};
-ghost use Rattle.line_path.specs.Path.{saysFork, saysEndfork, saysEnd, saysSide, sayingOf, namesOne, isLength, newPath, isBadFork, isPathOutOfOrder, isStepLine, openRule, closedRule, pathRule, withEnd, pathNext, pathOpen, pathLacks};
+ghost use Rattle.line_path.specs.Path.{saysFork, saysEndfork, saysEnd, saysSide, sayingOf, namesOne, isLength, newPath, isBadFork, isPathOutOfOrder, isStepLine, withEnd, pathNext, pathOpen, pathLacks};
 ghost use Rattle.line_path.specs.Way.Section.{spanFrom, plainParts, amountLine, unitLine, partsLine, sectionParts};
 ghost use Rattle.line_path.specs.Way.Parts.{namedParts, saidParts, partsOf, ParsesLine};
+ghost use Rattle.line_path.specs.Way.Rule.{openRule, closedRule, pathRule};
 use lex_line::FirstTwo;
 use lex_line::Span;
 use lex_number::Number;
@@ -155,7 +156,7 @@ fn amount_line(mult: bool, amount: &[u8], name: Span) -> PathParts
                 says: SECTION,
                 right: true,
                 formed: times.formed,
-                bounded: lex_number::is_within(1, table_layout::bound::MULT, times.value),
+                bounded: lex_number::is_whole_within(1, table_layout::bound::MULT, times),
             },
             name,
             amount: times.value,

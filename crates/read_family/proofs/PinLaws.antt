@@ -15,8 +15,9 @@ use Rattle.lex_line.specs.declared.Line as text
 use Rattle.lex_keyword.specs.Bracket.{bracketOf}
 use Rattle.lex_keyword.specs.declared.Bracket.the-variants.{Plain}
 use Rattle.line_place.specs.Place as place
-use Rattle.line_map.specs.PinMap.{pinRule, withPin}
+use Rattle.line_map.specs.PinMap.{withPin}
 use Rattle.line_map.specs.declared.Map.{Map}
+use Rattle.line_map.specs.Way.Rule.{pinRule}
 use Rattle.line_keyword.specs.Way.Bounded.{mostLines}
 use Rattle.line_keyword.specs.declared.State.{State}
 use Rattle.table_layout.specs.Layout.{pinWidth}

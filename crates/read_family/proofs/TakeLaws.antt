@@ -23,9 +23,10 @@ use Rattle.line_head.specs.Head.{headLineOf, headNext, newHead}
 use Rattle.line_map.specs.PinMap.{mapLineOf, mapNext, newMap, withPin}
 use Rattle.line_head.specs.declared.Head.{Head}
 use Rattle.line_map.specs.declared.Map.{Map}
-use Rattle.line_keyword.specs.Keywords.{isMisplaced, isUnclosed, oneMoreIf, countsAfter, headAfter, mapAfter, keywordRule, keywordNext}
+use Rattle.line_keyword.specs.Keywords.{isMisplaced, isUnclosed, oneMoreIf, countsAfter, headAfter, mapAfter, keywordNext}
 use Rattle.line_keyword.specs.Way.Bounded.{NoneYet}
 use Rattle.line_keyword.specs.declared.State.{State}
+use Rattle.line_keyword.specs.Way.Rule.{keywordRule}
 use Rattle.read_line.specs.Reading.{lineResult, lineNext, countsAfterLine, breaks}
 use Rattle.read_line.specs.Way.Steps.{bracketStep}
 use Rattle.read_line.specs.Way.Walk.{BracketOrLineByLine}

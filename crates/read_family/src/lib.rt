@@ -214,15 +214,7 @@ fn read_steps(
 {
     let path = s.path;
     let counts = s.counts;
-    let walk = read_path::pass_block(
-        text,
-        at,
-        line,
-        path,
-        counts.steps,
-        table_layout::bound::DEPTH,
-        steps,
-    );
+    let walk = read_path::pass_block(text, at, line, path, counts.steps, steps);
     let part = walk.part;
     if part.rule != 0 {
         return after_steps(s, block, walk);

@@ -67,15 +67,17 @@ use Rattle.line_place.specs.Place.{
 }
 use Rattle.line_place.specs.Place as place
 use Rattle.line_keyword.specs.Way.Bounded.{BoundedState}
-use Rattle.line_keyword.specs.Keywords.{isSeen, isOnce, isRepeated, isMisplaced, seenAfter, oneMoreIf, countsAfter, keywordRule, keywordNext}
+use Rattle.line_keyword.specs.Keywords.{isSeen, isOnce, isRepeated, isMisplaced, seenAfter, oneMoreIf, countsAfter, keywordNext}
 use Rattle.line_keyword.specs.State.{noCounts, noneSeen, startState}
 use Rattle.line_keyword.specs.declared.Counts.{Counts}
 use Rattle.line_keyword.specs.declared.State.{State}
 use Rattle.line_keyword.proofs.InsideLaws.{opens-closes}
 use Rattle.line_keyword.proofs.KeptLaws.{start-kept, kept-more}
-use Rattle.read_line.specs.Reading.{lineResult, lineRule, countsAfterLine, lineNext, readingOf}
+use Rattle.line_keyword.specs.Way.Rule.{keywordRule}
+use Rattle.read_line.specs.Reading.{lineResult, countsAfterLine, lineNext, readingOf}
 use Rattle.read_line.specs.Way.Trace.{stateAfter}
 use Rattle.read_line.specs.declared.Reading.the-variants.{Read}
+use Rattle.read_line.specs.Way.Steps.{lineRule}
 use Rattle.read_line.proofs.WalkLaws.{step-kept}
 use Rattle.read_line.proofs.ReadingLaws.{reads-only, reads-when, reads-done}
 use Rattle.read_line.proofs.OutsideLaws.{along-counted, along, Met, step-holds, keyword-placed}

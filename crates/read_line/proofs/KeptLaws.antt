@@ -19,22 +19,26 @@ use Rattle.lex_number.specs.Integer.{valueOf, isInteger, wholeOf}
 use Rattle.lex_number.specs.declared.Whole.{Whole}
 use Rattle.lex_number.proofs.IntegerLaws.{integer-below}
 use Rattle.line_place.specs.Place as place
-use Rattle.line_path.specs.Path.{saysSide, closed, pathLineOf, isStepLine, openRules, openRule, pathRule}
+use Rattle.line_path.specs.Path.{saysSide, closed, pathLineOf, isStepLine, openRules}
 use Rattle.line_path.specs.declared.Path.{Path}
 use Rattle.line_path.specs.declared.PathLine.{PathLine}
 use Rattle.line_path.proofs.RuleLaws.{closed-other, path-closed, path-open}
 use Rattle.line_path.proofs.DepthLaws.{depth-within}
-use Rattle.line_map.specs.PinMap.{mapLineOf, pinRules, pinRule}
+use Rattle.line_path.specs.Way.Rule.{openRule, pathRule}
+use Rattle.line_map.specs.PinMap.{mapLineOf, pinRules}
 use Rattle.line_map.specs.Way.Bounded.{BoundedMap}
 use Rattle.line_map.specs.declared.Map.{Map}
 use Rattle.line_map.proofs.MapLaws.{next-bounded, pin-bounded}
-use Rattle.line_matrix.specs.Matrix.{sparseLine, numbersLine, dataLineOf, areTooMany, dataRules, dataRule}
+use Rattle.line_map.specs.Way.Rule.{pinRule}
+use Rattle.line_matrix.specs.Matrix.{sparseLine, numbersLine, dataLineOf, areTooMany, dataRules}
 use Rattle.line_matrix.specs.declared.Matrix.{Matrix}
 use Rattle.line_matrix.specs.declared.DataLine.{DataLine}
+use Rattle.line_matrix.specs.Way.Rule.{dataRule}
 use Rattle.line_keyword.specs.Way.Bounded.{BoundedState}
 use Rattle.line_keyword.specs.declared.State.{State}
 use Rattle.line_keyword.proofs.KeptLaws.{more-within}
-use Rattle.read_line.specs.Reading.{lineRule, countsAfterLine, lineNext}
+use Rattle.read_line.specs.Reading.{countsAfterLine, lineNext}
+use Rattle.read_line.specs.Way.Steps.{lineRule}
 use Rattle.read_line.proofs.ResultLaws.{rule-matrix, rule-path, rule-pins, rule-map}
 
 -- ---- 17 in each place

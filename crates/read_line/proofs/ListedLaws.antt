@@ -8,24 +8,24 @@ use native.Mathlib.Omega.{arith}
 use lib.ListN.{getD}
 use borrow.Author.Tests.{ne-eqb, eqb-false, ltb-true, not-true}
 use Rattle.base.specs.Bytes.{isBlank}
-use Rattle.base.specs.Runs.{run, same}
+use Rattle.base.specs.Runs.{run}
 use Rattle.base.specs.Way.Class.{runEnd}
-use Rattle.base.proofs.IfLaws.{if-false, by-test, both-first, both-second, both-not-left, either-false}
+use Rattle.base.proofs.IfLaws.{if-false, by-test, both-first, both-second, either-false}
 use Rattle.base.proofs.RunLaws.{run-stops}
 use Rattle.lex_line.specs.Words.{Word, wordGoesOn, grown, wordsFrom, words, firstOf}
 use Rattle.lex_keyword.specs.Bracket.{bracketOf}
 use Rattle.lex_keyword.specs.declared.Bracket.the-variants.{Plain}
 use Rattle.lex_keyword.proofs.BracketLaws.{reads-plain}
 use Rattle.line_argument.specs.Argument.{isReserved}
+use Rattle.line_argument.specs.Way.Reserved.{startsReserved}
+use Rattle.line_argument.proofs.ArgumentLaws.{not-reserved}
 use Rattle.read_line.specs.Way.Listed.{isFree}
 
 -- what such a byte is not
 record Unlike (b : ℕ) : Type 0 where
   high : 32 < b
   bracket : b ≡ 91 → ⊥
-  power : b ≡ 80 → ⊥
-  ground : b ≡ 71 → ⊥
-  none : b ≡ 78 → ⊥
+  starts : startsReserved b ≡ false
 
 unlike : (b : ℕ) → isFree b ≡ true → Unlike b
 unfolding isFree
@@ -33,40 +33,26 @@ unlike b e =
     record {
       high = ltb-true 32 b (both-first _ _ e);
       bracket = eqb-false b 91 (not-true _ (both-first _ _ (both-second _ _ e)));
-      power = eqb-false b 80 (not-true _ (both-first _ _ (both-second _ _ (both-second _ _ e))));
-      ground = eqb-false b 71 (not-true _ (both-first _ _ (both-second _ _ (both-second _ _ (both-second _ _ e)))));
-      none = eqb-false b 78 (not-true _ (both-second _ _ (both-second _ _ (both-second _ _ (both-second _ _ e)))));
+      starts = not-true _ (both-second _ _ (both-second _ _ e));
     }
 
 not-blank : (b : ℕ) → 32 < b → isBlank b ≡ false
 unfolding isBlank
 not-blank b h = either-false _ _ (ne-eqb b 32 (λ (e : b ≡ 32). omega arith)) (ne-eqb b 9 (λ (e : b ≡ 9). omega arith))
 
--- words with different first bytes differ
-other-start : (b c : ℕ) (x y : List ℕ) → (b ≡ c → ⊥) → same (b ∷ x) (c ∷ y) ≡ false
-unfolding same
-other-start b c x y h = both-not-left _ _ (ne-eqb b c h)
-
-not-reserved : (b : ℕ) (x : List ℕ) → Unlike b → isReserved (b ∷ x) ≡ false
-unfolding isReserved
-not-reserved b x u =
-    either-false _ _ (other-start b 80 x _ (u .power))
-    (either-false _ _ (other-start b 71 x _ (u .ground))
-    (either-false _ _ (other-start b 78 x _ (u .none)) (other-start b 78 x _ (u .none))))
-
 abbrev isTaken : List Word → Bool
 isTaken ws = isReserved (firstOf (map (λ (w : Word). w .text) ws))
 
 grown-free : (b : ℕ) (ws : List Word) → Unlike b → isTaken (grown 0 b ws) ≡ false
 unfolding grown
-grown-free b [] u = not-reserved b [] u
-grown-free b (w ∷ ws) u = not-reserved b (w .text) u
+grown-free b [] u = not-reserved b [] (u .starts)
+grown-free b (w ∷ ws) u = not-reserved b (w .text) (u .starts)
 
 first-free : (b : ℕ) (s : List ℕ) → Unlike b → isTaken (wordsFrom 0 (b ∷ s)) ≡ false
 unfolding wordsFrom
 first-free b s u =
     ap isTaken (if-false _ _ (not-blank b (u .high)))
-    ∙ by-test (λ (ws : List Word). isTaken ws ≡ false) (wordGoesOn s) _ _ (λ e. grown-free b (wordsFrom 1 s) u) (λ e. not-reserved b [] u)
+    ∙ by-test (λ (ws : List Word). isTaken ws ≡ false) (wordGoesOn s) _ _ (λ e. grown-free b (wordsFrom 1 s) u) (λ e. not-reserved b [] (u .starts))
 
 starts-plain : (b : ℕ) (s : List ℕ) → Unlike b → bracketOf (b ∷ s) ≡ Plain
 starts-plain b s u =

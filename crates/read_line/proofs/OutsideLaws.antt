@@ -24,19 +24,12 @@ use Rattle.line_place.specs.Place as place
 use Rattle.line_path.specs.Path.{pathOpen, newPath}
 use Rattle.line_path.specs.declared.Path.{Path}
 use Rattle.line_path.proofs.DepthLaws.{new-outside}
-use Rattle.line_keyword.specs.Keywords.{isForkOpen, isMisplaced, pathAfter, keywordRules, keywordRule, keywordNext}
+use Rattle.line_keyword.specs.Keywords.{isForkOpen, isMisplaced, pathAfter, keywordRules, keywordNext}
 use Rattle.line_keyword.specs.State.{startState}
 use Rattle.line_keyword.specs.declared.State.{State}
-use Rattle.read_line.specs.Reading.{
-  goes,
-  breaks,
-  judged,
-  lineRule,
-  lineNext,
-  argumentFrom,
-  lineResult,
-}
-use Rattle.read_line.specs.Way.Steps.{lineStep, keywordStep, bracketStep, beforeStep}
+use Rattle.line_keyword.specs.Way.Rule.{keywordRule}
+use Rattle.read_line.specs.Reading.{goes, breaks, judged, lineNext, argumentFrom, lineResult}
+use Rattle.read_line.specs.Way.Steps.{lineStep, keywordStep, bracketStep, beforeStep, lineRule}
 use Rattle.read_line.specs.Way.Trace.{brokenAt, afterwards, meetingOf, meetings, stateAfter, AllGo}
 use Rattle.read_line.specs.declared.LineResult.{LineResult}
 use Rattle.read_line.proofs.ResultLaws.{result-steps}

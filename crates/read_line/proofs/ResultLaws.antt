@@ -20,33 +20,19 @@ use Rattle.lex_keyword.specs.declared.Bracket.{Bracket}
 use Rattle.lex_keyword.specs.declared.Bracket.the-variants.{Plain, Indented, Bad, Unknown, Later, Keyword}
 use Rattle.line_place.specs.Place.{isText, before, done}
 use Rattle.line_place.specs.Place as place
-use Rattle.line_head.specs.Head.{headLineOf, headRule}
-use Rattle.line_path.specs.Path.{pathLineOf, pathRule}
-use Rattle.line_map.specs.PinMap.{mapLineOf, mapRule, pinRule}
-use Rattle.line_matrix.specs.Matrix.{dataLineOf, dataRule}
-use Rattle.line_keyword.specs.Keywords.{keywordRule}
+use Rattle.line_head.specs.Head.{headLineOf}
+use Rattle.line_head.specs.Way.Rule.{headRule}
+use Rattle.line_path.specs.Path.{pathLineOf}
+use Rattle.line_path.specs.Way.Rule.{pathRule}
+use Rattle.line_map.specs.PinMap.{mapLineOf}
+use Rattle.line_map.specs.Way.Rule.{mapRule, pinRule}
+use Rattle.line_matrix.specs.Matrix.{dataLineOf}
+use Rattle.line_matrix.specs.Way.Rule.{dataRule}
 use Rattle.line_keyword.specs.declared.Counts.{Counts}
 use Rattle.line_keyword.specs.declared.State.{State}
-use Rattle.read_line.specs.Reading.{
-  listRules,
-  lineRule,
-  RulesAndNext,
-  passedOver,
-  alwaysBreaks,
-  plainRulesAndNext,
-  keywordRulesAndNext,
-  bracketRulesAndNext,
-  beforeRulesAndNext,
-  rulesAndNext,
-  goes,
-  breaks,
-  judged,
-  lineResult,
-  argumentFrom,
-  endOfTextRules,
-  atEnd,
-}
-use Rattle.read_line.specs.Way.Steps.{resultOf, lineStep, keywordStep, bracketStep, beforeStep, stepOf}
+use Rattle.line_keyword.specs.Way.Rule.{keywordRule}
+use Rattle.read_line.specs.Reading.{listRules, RulesAndNext, passedOver, alwaysBreaks, plainRulesAndNext, keywordRulesAndNext, bracketRulesAndNext, beforeRulesAndNext, rulesAndNext, goes, breaks, judged, lineResult, argumentFrom, endOfTextRules, atEnd}
+use Rattle.read_line.specs.Way.Steps.{resultOf, lineStep, keywordStep, bracketStep, beforeStep, stepOf, lineRule}
 use Rattle.read_line.specs.declared.LineResult.{LineResult}
 use Rattle.read_line.specs.declared.Reading.the-variants.{Read, Refused}
 

@@ -18,23 +18,27 @@ use Rattle.lex_line.specs.Way.Spans.{lastWord}
 use Rattle.line_place.specs.Place.{movedByLine, isText}
 use Rattle.line_place.specs.Place as place
 use Rattle.line_argument.specs.Argument.{isReserved, isOutOfBounds}
-use Rattle.line_head.specs.Head.{headLineOf, headRule, headNext}
+use Rattle.line_head.specs.Head.{headLineOf, headNext}
 use Rattle.line_head.specs.declared.Head.{Head}
 use Rattle.line_head.specs.declared.HeadLine.{HeadLine}
-use Rattle.line_path.specs.Path.{pathLineOf, pathRule, pathNext, isStepLine}
+use Rattle.line_head.specs.Way.Rule.{headRule}
+use Rattle.line_path.specs.Path.{pathLineOf, pathNext, isStepLine}
 use Rattle.line_path.proofs.DepthLaws.{depth-within}
 use Rattle.line_path.specs.declared.Path.{Path}
 use Rattle.line_path.specs.declared.PathLine.{PathLine}
-use Rattle.line_map.specs.PinMap.{mapLineOf, mapRule, mapNext, pinRule, withPin}
+use Rattle.line_path.specs.Way.Rule.{pathRule}
+use Rattle.line_map.specs.PinMap.{mapLineOf, mapNext, withPin}
 use Rattle.line_map.specs.declared.Map.{Map}
 use Rattle.line_map.specs.declared.MapLine.{MapLine}
-use Rattle.line_matrix.specs.Matrix.{dataLineOf, dataRule, dataNext}
+use Rattle.line_matrix.specs.Matrix.{dataLineOf, dataNext}
 use Rattle.line_map.proofs.MapLaws.{pin-fits}
+use Rattle.line_map.specs.Way.Rule.{mapRule, pinRule}
 use Rattle.read_line.proofs.KeptLaws.{data-fits, pin-total, step-room}
 use Rattle.read_line.proofs.ResultLaws.{rule-matrix, rule-path, rule-pins, rule-map, rule-head, rule-list}
 use Rattle.line_matrix.specs.declared.Matrix.{Matrix}
 use Rattle.line_matrix.specs.declared.DataLine.{DataLine}
-use Rattle.line_keyword.specs.Keywords.{oneMoreIf, keywordRule, keywordNext}
+use Rattle.line_matrix.specs.Way.Rule.{dataRule}
+use Rattle.line_keyword.specs.Keywords.{oneMoreIf, keywordNext}
 use Rattle.line_keyword.specs.Way.Bounded.{BoundedState, Countable, mostLines}
 use Rattle.line_keyword.proofs.KeptLaws.{keyword-bounds, kept-countable, more-within}
 use Rattle.base.specs.Bytes.{isBlank}
@@ -48,9 +52,10 @@ use Rattle.lex_keyword.specs.declared.Bracket.{Bracket}
 use lib.ListN.{length, take, drop}
 use native.Mathlib.Nat.{zero-add}
 use Rattle.line_keyword.specs.declared.State.{State}
+use Rattle.line_keyword.specs.Way.Rule.{keywordRule}
 use Rattle.read_line.specs.declared.LineResult.{LineResult}
-use Rattle.read_line.specs.Reading.{lineRule, countsAfterLine, lineNext, goes, breaks, judged, argumentFrom}
-use Rattle.read_line.specs.Way.Steps.{lineStep, keywordStep, bracketStep, beforeStep}
+use Rattle.read_line.specs.Reading.{countsAfterLine, lineNext, goes, breaks, judged, argumentFrom}
+use Rattle.read_line.specs.Way.Steps.{lineStep, keywordStep, bracketStep, beforeStep, lineRule}
 use Rattle.read_line.specs.Way.Walk.{Decides, Stepping, ReadLineByLine, withPath, withPinned, withMatrix}
 
 -- ---- a line judged

@@ -21,16 +21,17 @@ use Rattle.lex_line.proofs.LineLaws.{contents-at, next-on, next-within}
 use Rattle.line_keyword.specs.Way.Bounded.{BoundedState}
 use Rattle.line_keyword.proofs.KeptLaws.{start-kept, keyword-kept, kept-more}
 use Rattle.line_keyword.specs.State.{startState}
-use Rattle.line_keyword.specs.Keywords.{keywordRule, keywordNext, oneMoreIf}
+use Rattle.line_keyword.specs.Keywords.{keywordNext, oneMoreIf}
 use Rattle.line_keyword.specs.declared.State.{State}
+use Rattle.line_keyword.specs.Way.Rule.{keywordRule}
 use Rattle.lex_keyword.specs.Names.{beginHeader}
 use Rattle.lex_keyword.specs.Bracket.{bracketOf}
 use Rattle.lex_keyword.specs.declared.Bracket.{Bracket}
 use Rattle.lex_keyword.specs.declared.Bracket.the-variants.{Plain, Indented, Bad, Unknown, Later, Keyword}
 use Rattle.line_place.specs.Place.{isText, before, done}
 use Rattle.line_place.specs.Place as place
-use Rattle.read_line.specs.Reading.{goes, breaks, judged, lineRule, lineNext, argumentFrom, lineResult, onward, readFrom, readingOf}
-use Rattle.read_line.specs.Way.Steps.{lineStep, keywordStep, bracketStep, beforeStep}
+use Rattle.read_line.specs.Reading.{goes, breaks, judged, lineNext, argumentFrom, lineResult, onward, readFrom, readingOf}
+use Rattle.read_line.specs.Way.Steps.{lineStep, keywordStep, bracketStep, beforeStep, lineRule}
 use Rattle.read_line.specs.Way.Walk.{resume, Onward, ResumesText, ReadsLine}
 use Rattle.read_line.specs.declared.LineResult.{LineResult}
 use Rattle.read_line.proofs.KeptLaws.{line-kept}

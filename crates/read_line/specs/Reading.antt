@@ -46,9 +46,6 @@ lineRules content s =
     if eqb (s .place) place.head then headRules (headLineOf content) (s .head) else
     if eqb (s .place) place.list then listRules content else refusal.line when true ∷ []
 
-unfoldable pub lineRule : List ℕ → State → ℕ
-lineRule content s = firstBroken (lineRules content s)
-
 -- the counts after a line without a keyword
 unfoldable pub countsAfterLine : List ℕ → State → Counts
 countsAfterLine content s =

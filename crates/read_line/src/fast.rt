@@ -26,13 +26,7 @@ fn is_free(b: u8) -> bool
     if b == crate::OPENING {
         return false;
     }
-    if b == b'P' {
-        return false;
-    }
-    if b == b'G' {
-        return false;
-    }
-    b != b'N'
+    !line_argument::starts_reserved(b)
 }
 
 // A line of the model list that breaks no rule.
@@ -66,7 +60,7 @@ pub fn may_be_idle(text: &[u8], at: usize, place: u64) -> bool {
         return true;
     }
     let first = base::byte_at(text, at);
-    if first == crate::LINE_FEED {
+    if first == lex_line::LINE_FEED {
         return true;
     }
     if first == crate::CARRIAGE_RETURN {

@@ -21,8 +21,6 @@ pub mod fast;
 
 const OPENING: u8 = b'[';
 
-const LINE_FEED: u8 = 10;
-
 const CARRIAGE_RETURN: u8 = 13;
 
 // The result of one line: the rule that it breaks, 0 for none, and the state after it.

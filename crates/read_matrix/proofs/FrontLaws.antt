@@ -3,7 +3,10 @@
 use mathlib.Core.Path.{_≡_, sym, _∙_}
 use mathlib.Core.Bool.{Bool, true, false, not}
 use mathlib.Core.List.{List}
-use Prim.Native.Nat.{ℕ}
+use Prim.Native.Nat.{ℕ, _+_, _*_, _^_, _<_}
+use native.Mathlib.Omega.{arith}
+use mir.Syntax.{w64}
+use mir.Val.{Fits}
 use lib.ListN.{length, getD}
 use lib.Dec.{ltb}
 use borrow.Author.Tests.{not-true, not-false}
@@ -12,6 +15,7 @@ use Rattle.base.specs.Bytes.{isBlank}
 use Rattle.base.specs.Way.Class.{runEnd}
 use Rattle.lex_line.specs.Lines.{commentByte}
 use Rattle.lex_line.specs.Way.LineEnds.{contentAt}
+use Rattle.lex_line.proofs.LineLaws.{feed-inside}
 use Rattle.lex_number.specs.Way.In.{isWord}
 use Rattle.read_line.specs.Way.Walk.{Fronted}
 use Rattle.read_line.specs.declared.Front.the-variants.{Blanks, Words, Opening}
@@ -38,3 +42,7 @@ module _ (t : List ℕ) (here start : ℕ) (begins : start ≡ runEnd isBlank t 
     text-words =
         front-words (contentAt t here) (blanks t here start begins) (sym (blanks-are t here start begins)) (front-inside t here start begins stands)
         first (is ∙ sym (front-byte t here start begins stands))
+
+-- the place behind an LF can be counted
+pub next-fits : (t : List ℕ) (end b : ℕ) → b ≡ getD t end 0 → b ≡ 10 → length t * 1 < 2 ^ 63 → Fits w64 (end + 1)
+next-fits t end b told e small = let h : end < length t = feed-inside t end b told e in omega arith

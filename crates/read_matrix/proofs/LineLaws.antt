@@ -24,13 +24,14 @@ use Rattle.lex_keyword.specs.declared.Bracket.{Bracket}
 use Rattle.lex_keyword.specs.declared.Bracket.the-variants.{Plain, Indented, Bad, Unknown, Later, Keyword}
 use Rattle.line_place.specs.Place.{isRowOrBandwidth}
 use Rattle.line_place.specs.Place as place
-use Rattle.line_matrix.specs.Matrix.{dataLineOf, dataRule, dataNext, withColumn, withRow, withBandwidth}
+use Rattle.line_matrix.specs.Matrix.{dataLineOf, dataNext, withColumn, withRow, withBandwidth}
 use Rattle.line_matrix.specs.declared.Matrix.{Matrix}
 use Rattle.line_matrix.specs.declared.DataLine.{DataLine}
-use Rattle.line_keyword.specs.Keywords.{keywordRule}
+use Rattle.line_matrix.specs.Way.Rule.{dataRule}
 use Rattle.line_keyword.specs.Way.Row.{matrixKeywordRule, matrixKeywordNext}
 use Rattle.line_keyword.specs.declared.State.{State}
 use Rattle.line_keyword.proofs.InsideLaws.{matrix-keyword-rule-is, matrix-keyword-next-is}
+use Rattle.line_keyword.specs.Way.Rule.{keywordRule}
 use Rattle.read_line.specs.Reading.{argumentFrom, goes, breaks, lineResult}
 use Rattle.read_line.specs.Way.Steps.{bracketStep, keywordStep}
 use Rattle.read_line.proofs.ResultLaws.{result-steps}

@@ -26,9 +26,10 @@ use Rattle.lex_line.specs.declared.Line as text
 use Rattle.lex_line.proofs.LineLaws.{next-on, content-before-feed}
 use Rattle.lex_keyword.specs.Bracket.{bracketOf}
 use Rattle.lex_keyword.specs.declared.Bracket.the-variants.{Plain}
-use Rattle.line_matrix.specs.Matrix.{dataLineOf, sparseLine, isDataOutOfOrder, areTooMany, dataRules, dataRule, withColumn, dataNext}
+use Rattle.line_matrix.specs.Matrix.{dataLineOf, sparseLine, isDataOutOfOrder, areTooMany, dataRules, withColumn, dataNext}
 use Rattle.line_matrix.specs.declared.Matrix.{Matrix}
 use Rattle.line_matrix.specs.declared.DataLine.{DataLine}
+use Rattle.line_matrix.specs.Way.Rule.{dataRule}
 use Rattle.read_line.specs.Way.Walk.{Fronted}
 use Rattle.read_line.specs.declared.Front.{Front}
 use Rattle.read_line.specs.declared.Front.the-variants.{Blanks, Opening}

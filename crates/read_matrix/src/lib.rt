@@ -217,6 +217,9 @@ fn front_at(text: &[u8], here: usize) -> Front
 fn next_line(text: &[u8], end: usize) -> usize
     ensures { λ r. ⌜ r ≡ lineAt commentByte (now (text .entry)) end .next ⌝ }
 {
+    if base::byte_at(text, end) == lex_line::LINE_FEED {
+        return end + 1;
+    }
     let line = lex_line::line_at(text, end, lex_line::COMMENT);
     line.next
 }

@@ -29,12 +29,13 @@ use Rattle.lex_line.specs.Way.LineEnds.{lineAt, contentAt}
 use Rattle.lex_line.specs.Words.{words, firstOf, secondOf}
 use Rattle.lex_line.specs.Lines.{commentByte}
 use Rattle.lex_number.specs.Number.{isSign, numberOf, isFormed, isBounded, wordIn}
-use Rattle.lex_number.specs.Integer.{wholeOf}
+use Rattle.lex_number.specs.Integer.{wholeOf, isWholeWithin}
 use Rattle.lex_number.specs.Way.In.{isWord, isSpelling, isGoodNumber, numberIn}
 use Rattle.lex_number.specs.declared.Number.{Number}
 use Rattle.lex_number.specs.declared.Number.the-variants as number
 use Rattle.lex_number.specs.declared.NumberAt.{NumberAt}
 use Rattle.lex_number.specs.declared.Whole.{Whole}
+use Rattle.lex_number.proofs.IntegerLaws.{whole-within}
 use Rattle.line_matrix.specs.Matrix.{numberCheck, areFormed, areBounded, numbersLine, sparseLine, dataLineOf}
 use Rattle.line_matrix.specs.declared.DataLine.{DataLine}
 use Rattle.doc.specs.Lines.{Line, plain, keyOf}
@@ -45,7 +46,7 @@ use Rattle.read_numbers.specs.declared.Staging.{Staging}
 use Rattle.read_numbers.specs.declared.Numbers.{Numbers}
 use Rattle.read_numbers.specs.declared.Pair.{Pair}
 use Rattle.read_numbers.specs.Way.Told.{toldOr}
-use Rattle.read_numbers.specs.Way.Numbers.{mostGiven, valueOf, rowAfter, Points, PutsValue, Movable, PutsNumber}
+use Rattle.read_numbers.specs.Way.Numbers.{mostGiven, valueOf, rowAfter, Points, PutsValue, Movable, PutsNumber, passedBy}
 use Rattle.read_numbers.specs.Way.Staging.{HeldValues, BoundedStaging, Adds, BrokenData, movedTo, namedTo, StagesNumbers, StagesPair}
 use Rattle.read_numbers.specs.Way.Steps.{numbersResult, Stored, Stores, pairOf}
 use Rattle.read_numbers.proofs.InTextLaws.{ends-here, no-words, one-word, same-end, word-on}
@@ -89,11 +90,9 @@ value-wide : (v : Value) → length (valueWords v) ≡ valueWidth
 value-wide v = refl
 
 -- no room
-pub value-none : (place : ℕ) (v : Value) (table : List ℕ) (free : Bool) → free ≡ leb (place + valueWidth) (length table) → not free ≡ true →
-    PutsValue place v table place table
+value-none : (place : ℕ) (v : Value) (table : List ℕ) → length table < place + valueWidth → PutsValue place v table place table
 unfolding putAt
-value-none place v table free told tested =
-    let h : length table < place + valueWidth = leb-false (place + valueWidth) (length table) (sym told ∙ not-true free tested) in
+value-none place v table h =
     record {
       long = refl;
       stored = λ (n : ℕ) (p : Points (length table) n place).
@@ -104,17 +103,17 @@ value-none place v table free told tested =
           record { few = omega arith; exact = λ (r : place + valueWidth ≤ length table). absurd (omega arith) };
     }
 
-module _ (place : ℕ) (table : List ℕ) (free : Bool) (told : free ≡ leb (place + valueWidth) (length table)) (tested : not free ≡ false) where
-  pub value-room : place + valueWidth ≤ length table
-  value-room = leb-true (place + valueWidth) (length table) (sym told ∙ not-false free tested)
+-- whether there is room is asked before
+pub room-there : (place size : ℕ) (free : Bool) → free ≡ leb (place + valueWidth) size → free ≡ true → place + valueWidth ≤ size
+room-there place size free told e = leb-true (place + valueWidth) size (sym told ∙ e)
 
+module _ (place : ℕ) (table : List ℕ) (h : place + valueWidth ≤ length table) where
   pub value-fits : length table * 8 < 2 ^ 63 → Fits w64 (place + valueWidth)
-  value-fits small = let h : place + valueWidth ≤ length table = value-room in omega arith
+  value-fits small = omega arith
 
-  pub value-some : (v : Value) (table' : List ℕ) → table' ≡ sets table place (valueWords v) → PutsValue place v table (place + valueWidth) table'
+  value-some : (v : Value) (table' : List ℕ) → table' ≡ sets table place (valueWords v) → PutsValue place v table (place + valueWidth) table'
   unfolding putAt
   value-some v table' stored =
-      let h : place + valueWidth ≤ length table = value-room in
       record {
         long = ap length stored ∙ length-sets table place (valueWords v);
         stored = λ (n : ℕ) (p : Points (length table) n place).
@@ -129,9 +128,11 @@ module _ (place : ℕ) (table : List ℕ) (free : Bool) (told : free ≡ leb (pl
 -- ---- one number
 
 module _ (form : ℕ) (number : Number) (table : List ℕ) (c : Cursor) (word : ℕ) (is-word : word ≡ wordIn number) where
-  pub number-put : (place : ℕ) (table' : List ℕ) → PutsValue (c .place) (record { row = c .row; column = c .column; word = word }) table place table' → (row : ℕ) → row ≡ nextRow form (c .row) →
-      PutsNumber form number table c (record { row = row; column = c .column + 1; count = c .count + 1; place = place }) table'
-  number-put place table' puts row is-row = record { row-is = is-row; column-is = refl; count-is = refl; puts = rw is-word at puts }
+  pub number-put : c .place + valueWidth ≤ length table → (table' : List ℕ) →
+      table' ≡ sets table (c .place) (valueWords (record { row = c .row; column = c .column; word = word })) → (row : ℕ) → row ≡ nextRow form (c .row) →
+      PutsNumber form number table c (record { row = row; column = c .column + 1; count = c .count + 1; place = c .place + valueWidth }) table'
+  number-put room table' stored row is-row =
+      record { row-is = is-row; column-is = refl; count-is = refl; puts = rw is-word at (value-some (c .place) table room _ table' stored) }
 
 step-left : (form row column : ℕ) (w : List ℕ) (ws : List (List ℕ)) (rest : List Value) (number : Number) → number ≡ numberOf w →
     numbersAt form row column (w ∷ ws) ++ rest ≡ valueOf row column number ∷ (numbersAt form (nextRow form row) (column + 1) ws ++ rest)
@@ -209,7 +210,8 @@ not-formed-on : (w : List ℕ) (ws : List (List ℕ)) → both (isFormed (number
 unfolding areFormed areBounded numberCheck
 not-formed-on w ws e = both-down (isFormed (numberOf w)) (areFormed ws) (isBounded (numberOf w)) (areBounded ws) e
 
--- the loop's invariant: the numbers that are left give what all of them give
+-- from `from` on some numbers are read, and the cursor has come to `at`: the numbers that are left give what all of them
+-- give
 pub record Left (form : ℕ) (t : List ℕ) (from : ℕ) (table₀ : List ℕ) (values row₀ column₀ at : ℕ) (c : Cursor) (table : List ℕ) : Type 0 where
   pub counted : c .count + length (words (contentAt t at)) ≡ length (words (contentAt t from))
   pub formed : areFormed (words (contentAt t at)) ≡ areFormed (words (contentAt t from))
@@ -399,6 +401,125 @@ module _ (form : ℕ) (t : List ℕ) (from : ℕ) (table₀ : List ℕ) (values 
                 ends = same-end t at start begins stands (read .end) end-is ∙ left .ends;
               }
 
+-- ---- a number read in two passes
+
+pub plain-is : (t : List ℕ) (start end : ℕ) → end ≡ runEnd (isWord commentByte) t start → (read : Number) → read ≡ numberOf (take (end - start) (drop start t)) →
+    record { number = read; end = end } ≡ numberIn commentByte t start
+unfolding numberIn
+plain-is t start end ends read is =
+    let n : end - start ≡ run (isWord commentByte) (drop start t) = omega arith in
+    let same : read ≡ numberOf (take (run (isWord commentByte) (drop start t)) (drop start t)) = is ∙ ap (λ (k : ℕ). numberOf (take k (drop start t))) n in
+    λ i. record { number = same i; end = ends i }
+
+pub word-there : (t : List ℕ) (start : ℕ) (there : Bool) → there ≡ both (ltb start (length t)) (isWord commentByte (getD t start 0)) → not there ≡ false → start < length t
+word-there t start there told tested = ltb-true start (length t) (both-first _ _ (sym told ∙ not-false there tested))
+
+-- ---- from the first number on that finds no room
+
+-- a number that is left out
+number-passed : (form : ℕ) (number : Number) (table : List ℕ) (c : Cursor) → length table < c .place + valueWidth → PutsNumber form number table c (passedBy form c) table
+number-passed form number table c full = record { row-is = refl; column-is = refl; count-is = refl; puts = value-none (c .place) _ table full }
+
+-- each number takes a byte, so that no sum wraps
+pub record Countable (t : List ℕ) (at : ℕ) (c : Cursor) : Type 0 where
+  pub row : at < length t → c .row + (length t - at) < 18_446_744_073_709_551_615
+  pub column : at < length t → c .column + (length t - at) < 18_446_744_073_709_551_615
+  pub count : at < length t → c .count + (length t - at) < 18_446_744_073_709_551_615
+
+-- from the cursor c₀ at `at₀` on, without room, the numbers up to `at` are judged
+pub record Passes (form : ℕ) (t : List ℕ) (at₀ : ℕ) (c₀ : Cursor) (at : ℕ) (c : Cursor) : Type 0 where
+  pub on : (from : ℕ) (table₀ table : List ℕ) (values row column : ℕ) → Left form t from table₀ values row column at₀ c₀ table →
+      length table < c₀ .place + valueWidth → Left form t from table₀ values row column at c table
+  pub stays : c .place ≡ c₀ .place
+  pub countable : Countable t at c
+
+-- the numbers that are left are so few that no sum wraps, wherever they begin
+left-countable : (form : ℕ) (t : List ℕ) (from : ℕ) (table₀ : List ℕ) (values row column at : ℕ) (c : Cursor) (table : List ℕ) →
+    Left form t from table₀ values row column at c table → row ≤ mostGiven + values → column ≤ mostGiven + values → values ≤ mostValues → length t * 1 < 2 ^ 63 →
+    Countable t at c
+left-countable form t from table₀ values row column at c table left row-few column-few few small =
+    let g : c .row ≤ row + c .count = left .row-few in
+    let k : c .column ≡ column + c .count = left .column in
+    let p : c .count + from ≤ at = left .taken in
+    record { row = λ (o : at < length t). omega arith; column = λ (o : at < length t). omega arith; count = λ (o : at < length t). omega arith }
+
+module _ (form : ℕ) (t : List ℕ) (from : ℕ) (table₀ : List ℕ) (values row column at₀ : ℕ) (c₀ : Cursor) (table : List ℕ)
+    (left : Left form t from table₀ values row column at₀ c₀ table) where
+  pub passes-start : row ≤ mostGiven + values → column ≤ mostGiven + values → values ≤ mostValues → length t * 1 < 2 ^ 63 → Passes form t at₀ c₀ at₀ c₀
+  passes-start row-few column-few few small =
+      record {
+        on = λ from′ table′ table values′ row′ column′ left′ full. left′;
+        stays = refl;
+        countable = left-countable form t from table₀ values row column at₀ c₀ table left row-few column-few few small;
+      }
+
+  module _ (free : Bool) (room : free ≡ leb (c₀ .place + valueWidth) (length table)) (gone : free ≡ false) (at : ℕ) (c : Cursor)
+      (passes : Passes form t at₀ c₀ at c) (start : ℕ) (begins : start ≡ runEnd isBlank t at) (there : Bool)
+      (told-there : there ≡ both (ltb start (length t)) (isWord commentByte (getD t start 0))) where
+    left-here : Left form t from table₀ values row column at c table
+    left-here = passes .on from table₀ table values row column left (leb-false (c₀ .place + valueWidth) (length table) (sym room ∙ gone))
+
+    pub passes-done : not there ≡ true → (r : Numbers) → r ≡ numbersResult true c start → Stores form t from table₀ values row column table r
+    passes-done tested r e = left-done form t from table₀ values row column at c table left-here start begins there told-there tested r e
+
+    pub passes-broken : not there ≡ false → (read : NumberAt) → read ≡ numberIn commentByte t start → (value : Bool) → value ≡ isGoodNumber (read .number) →
+        not value ≡ true → (r : Numbers) → r ≡ numbersResult false c start → Stores form t from table₀ values row column table r
+    passes-broken tested read told value value-told bad r e =
+        left-broken form t from table₀ values row column at c table left-here start begins there told-there tested read told value value-told bad r e
+
+module _ (form : ℕ) (t : List ℕ) (at₀ : ℕ) (c₀ : Cursor) (at : ℕ) (c : Cursor) (passes : Passes form t at₀ c₀ at c) (start : ℕ)
+    (begins : start ≡ runEnd isBlank t at) (there : Bool)
+    (told-there : there ≡ both (ltb start (length t)) (isWord commentByte (getD t start 0))) (tested : not there ≡ false) where
+  inside : start < length t
+  inside = word-there t start there told-there tested
+
+  early : at < length t
+  early = let o : start < length t = inside in omega arith
+
+  pub passes-movable : Movable c
+  passes-movable =
+      let o : at < length t = early in
+      let a : c .row + (length t - at) < 18_446_744_073_709_551_615 = passes .countable .row o in
+      let b : c .column + (length t - at) < 18_446_744_073_709_551_615 = passes .countable .column o in
+      let d : c .count + (length t - at) < 18_446_744_073_709_551_615 = passes .countable .count o in
+      record { row-few = omega arith; column-few = omega arith; count-few = omega arith }
+
+  module _ (read : NumberAt) (told : read ≡ numberIn commentByte t start) where
+    further : at < read .end
+    unfolding numberIn
+    further = word-on t at start begins (sym told-there ∙ not-false there tested) (read .end) (ap (λ (r : NumberAt). r .end) told)
+
+    pub passes-less : length t - read .end < length t - at
+    passes-less =
+        let f : at < read .end = further in
+        let o : start < length t = inside in
+        omega arith
+
+    next-countable : Countable t (read .end) (passedBy form c)
+    next-countable =
+        let f : at < read .end = further in
+        let o : at < length t = early in
+        let k : nextRow form (c .row) ≤ c .row + 1 = row-most form (c .row) in
+        let a : c .row + (length t - at) < 18_446_744_073_709_551_615 = passes .countable .row o in
+        let b : c .column + (length t - at) < 18_446_744_073_709_551_615 = passes .countable .column o in
+        let d : c .count + (length t - at) < 18_446_744_073_709_551_615 = passes .countable .count o in
+        record {
+          row = λ (g : read .end < length t). omega arith;
+          column = λ (g : read .end < length t). omega arith;
+          count = λ (g : read .end < length t). omega arith;
+        }
+
+    pub passes-on : (value : Bool) → value ≡ isGoodNumber (read .number) → not value ≡ false → (c' : Cursor) → c' ≡ passedBy form c → Passes form t at₀ c₀ (read .end) c'
+    passes-on value value-told fine c' e =
+        rw e
+        (record {
+          on = λ from table₀ table values row column left full.
+              left-on form t from table₀ values row column at c table (passes .on from table₀ table values row column left full) start begins there told-there
+              tested read told value value-told fine (passedBy form c) table (number-passed form (read .number) table c (rw (passes .stays) full));
+          stays = passes .stays;
+          countable = next-countable;
+        })
+
 -- ---- a line of numbers
 
 module _ (form : ℕ) (t : List ℕ) (here : ℕ) (table : List ℕ) (values row column : ℕ) (table' : List ℕ) (r : Numbers)
@@ -494,7 +615,7 @@ unstaged t here table values row table' long broken end =
 line-bad :
     (content : List ℕ) (ws : List (List ℕ)) → words content ≡ ws →
     (length ws ≡ 2 →
-    both (both (wholeOf (firstOf ws) .formed) (numberCheck (secondOf ws) .formed)) (both (within 1 mostConductors (wholeOf (firstOf ws) .value)) (numberCheck (secondOf ws) .bounded)) ≡ false) →
+    both (both (wholeOf (firstOf ws) .formed) (numberCheck (secondOf ws) .formed)) (both (isWholeWithin 1 mostConductors (wholeOf (firstOf ws))) (numberCheck (secondOf ws) .bounded)) ≡ false) →
     BrokenData (dataLineOf sparse content)
 unfolding dataLineOf sparseLine
 line-bad content ws are bad =
@@ -521,7 +642,7 @@ both-last true true true false e = refl
 both-last true true true true e = absurd (true≢false e)
 
 last-bad : (column : Whole) (ws : List (List ℕ)) → suc (length ws) ≡ 2 → (length ws ≡ 1 → both (areFormed ws) (areBounded ws) ≡ false) →
-    both (both (column .formed) (numberCheck (firstOf ws) .formed)) (both (within 1 mostConductors (column .value)) (numberCheck (firstOf ws) .bounded)) ≡ false
+    both (both (column .formed) (numberCheck (firstOf ws) .formed)) (both (isWholeWithin 1 mostConductors column) (numberCheck (firstOf ws) .bounded)) ≡ false
 unfolding areFormed areBounded
 last-bad column [] e b = absurd (let z : 1 ≡ 2 = e in omega arith)
 last-bad column (w ∷ []) e b = both-last _ (numberCheck w .formed) _ (numberCheck w .bounded) (b refl)
@@ -549,20 +670,24 @@ module _ (t : List ℕ) (here start : ℕ) (begins : start ≡ runEnd isBlank t 
     behind-column : words (contentAt t here) ≡ part ∷ words (contentAt t end)
     behind-column = one-word t here start begins stands-there end ends ∙ ap (λ (w : List ℕ). w ∷ words (contentAt t end)) (sym cut)
 
-    column-bad : both (column .formed) (within 1 mostConductors (column .value)) ≡ false → BrokenData (dataLineOf sparse (contentAt t here))
+    column-bad : both (column .formed) (isWholeWithin 1 mostConductors column) ≡ false → BrokenData (dataLineOf sparse (contentAt t here))
     column-bad bad =
         line-bad (contentAt t here) (part ∷ words (contentAt t end)) behind-column
-        (λ (e : length (part ∷ words (contentAt t end)) ≡ 2). rw (sym is-column) (both-down (column .formed) _ (within 1 mostConductors (column .value)) _ bad))
+        (λ (e : length (part ∷ words (contentAt t end)) ≡ 2). rw (sym is-column) (both-down (column .formed) _ (isWholeWithin 1 mostConductors column) _ bad))
 
     pub column-unformed : not (column .formed) ≡ true → (table : List ℕ) (values row stop : ℕ) (r : Pair) → r ≡ record { staged = false; column = 0; end = stop } →
         StagesPair t here table values row table r
     column-unformed bad table values row stop r e =
         rw e (unstaged t here table values row table refl (column-bad (both-not-left _ _ (not-true (column .formed) bad))) stop)
 
-    pub column-unbounded : (fits : Bool) → fits ≡ within 1 mostConductors (column .value) → not fits ≡ true → (table : List ℕ) (values row stop : ℕ) (r : Pair) →
+    -- an integer is within its bounds where its value is
+    within-is : not (column .formed) ≡ false → (fits : Bool) → fits ≡ within 1 mostConductors (column .value) → fits ≡ isWholeWithin 1 mostConductors column
+    within-is formed fits told = told ∙ sym (whole-within 1 mostConductors column (not-false (column .formed) formed))
+
+    pub column-unbounded : not (column .formed) ≡ false → (fits : Bool) → fits ≡ within 1 mostConductors (column .value) → not fits ≡ true → (table : List ℕ) (values row stop : ℕ) (r : Pair) →
         r ≡ record { staged = false; column = 0; end = stop } → StagesPair t here table values row table r
-    column-unbounded fits told bad table values row stop r e =
-        rw e (unstaged t here table values row table refl (column-bad (both-not-right _ _ (sym told ∙ not-true fits bad))) stop)
+    column-unbounded formed fits told bad table values row stop r e =
+        rw e (unstaged t here table values row table refl (column-bad (both-not-right _ _ (sym (within-is formed fits told) ∙ not-true fits bad))) stop)
 
     module _ (table : List ℕ) (values row : ℕ) (table' : List ℕ) (n : Numbers)
         (stores : Stores sparse t end table values row (column .value) table' n) where
@@ -621,7 +746,7 @@ module _ (t : List ℕ) (here start : ℕ) (begins : start ≡ runEnd isBlank t 
             most-of (a .greatest) (column .value) _ _ (greatestIn sparse ls)
             (rw (named-here, sym same) (sparse-greatest sparse l ls is-plain refl)) refl)
 
-        module _ (formed : column .formed ≡ true) (bounded : within 1 mostConductors (column .value) ≡ true) where
+        module _ (formed : column .formed ≡ true) (bounded : isWholeWithin 1 mostConductors column ≡ true) where
           pair-line : record { numbers = 1; column = column .value; right = true; formed = true; bounded = true } ≡ dataLineOf sparse (contentAt t here)
           unfolding dataLineOf sparseLine
           pair-line =
@@ -672,5 +797,5 @@ module _ (t : List ℕ) (here start : ℕ) (begins : start ≡ runEnd isBlank t 
           rw e
           (by-test (λ (x : Pair). StagesPair t here table values row table' x) (both (n .staged) (eqb (n .count) 1)) _ _
           (λ (w : both (n .staged) (eqb (n .count) 1) ≡ true).
-          pair-staged (both-first _ _ w) (eqb-true _ _ (both-second _ _ w)) (not-false (column .formed) formed) (sym told ∙ not-false fits tested))
+          pair-staged (both-first _ _ w) (eqb-true _ _ (both-second _ _ w)) (not-false (column .formed) formed) (sym (within-is formed fits told) ∙ not-false fits tested))
           (λ (w : both (n .staged) (eqb (n .count) 1) ≡ false). pair-lost w))

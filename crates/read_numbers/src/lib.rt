@@ -4,16 +4,20 @@
 ghost use mathlib.Core.Path.{_≡_};
 ghost use mathlib.Core.Bool.{true, false};
 ghost use Prim.Native.Nat.{_+_, _≤_, _<_};
+ghost use lib.ListN.{length};
 ghost use lib.Dec.{leb};
 ghost use Rattle.table_layout.specs.Layout.{valueWidth};
 ghost use Rattle.table_layout.specs.Codes.{sparse};
 ghost use Rattle.table_layout.specs.Bounds.{mostValues};
 ghost use Rattle.doc.specs.Document.{nextRow};
 ghost use Rattle.read_numbers.specs.Way.Told.{firstTold, toldOr};
-ghost use Rattle.read_numbers.specs.Way.Numbers.{mostGiven, PutsValue, Movable, PutsNumber};
+ghost use Rattle.read_numbers.specs.Way.Numbers.{mostGiven, Movable, PutsNumber, passedBy};
 ghost use Rattle.read_numbers.specs.Way.Staging.{StagesNumbers, StagesPair};
 ghost use Rattle.read_numbers.specs.Way.Steps.{Stores, numbersResult, pairOf};
+ghost use Rattle.lex_number.specs.Way.In.{numberIn};
+ghost use Rattle.lex_line.specs.Lines.{commentByte};
 use lex_number::Number;
+use lex_number::NumberAt;
 use table_record::Value;
 
 // A value of which only the first one given counts: whether one is given yet, and which.
@@ -88,17 +92,6 @@ fn has_room(place: usize, words: usize) -> bool
     table_layout::VALUE_WIDTH <= words - place
 }
 
-// Stores a value at a position, if there is room. The result is the position of the next value.
-fn put_value(table: &mut [u64], place: usize, value: Value) -> usize
-    ensures { λ r. ⌜ PutsValue place value (now (table .entry)) r (now (table .exit)) ⌝ }
-{
-    if !has_room(place, table.len()) {
-        return place;
-    }
-    table_record::put_value_at(table, place, value);
-    place + table_layout::VALUE_WIDTH
-}
-
 // The row of the next number: down the diagonal, else the same row.
 fn next_row(form: u64, row: u64) -> u64
     requires { ⌜ row < 18_446_744_073_709_551_615 ⌝ }
@@ -112,7 +105,7 @@ fn next_row(form: u64, row: u64) -> u64
 
 // Stores a number where the cursor is, and moves the cursor on.
 fn put_number(number: Number, form: u64, table: &mut [u64], cursor: Cursor) -> Cursor
-    requires { ⌜ Movable cursor ⌝ }
+    requires { ⌜ Movable cursor ⌝ ∗ ⌜ cursor .place + valueWidth ≤ length (now table) ⌝ }
     ensures { λ r. ⌜ PutsNumber form number (now (table .entry)) cursor r (now (table .exit)) ⌝ }
 {
     let row = cursor.row;
@@ -122,12 +115,25 @@ fn put_number(number: Number, form: u64, table: &mut [u64], cursor: Cursor) -> C
         column,
         word: lex_number::word_in(number),
     };
-    let place = put_value(table, cursor.place, value);
+    table_record::put_value_at(table, cursor.place, value);
     Cursor {
         row: next_row(form, row),
         column: column + 1,
         count: cursor.count + 1,
-        place,
+        place: cursor.place + table_layout::VALUE_WIDTH,
+    }
+}
+
+// The cursor behind a number that is left out: it counts, and takes no room.
+fn pass_number(form: u64, cursor: Cursor) -> Cursor
+    requires { ⌜ Movable cursor ⌝ }
+    ensures { λ r. ⌜ r ≡ passedBy form cursor ⌝ }
+{
+    Cursor {
+        row: next_row(form, cursor.row),
+        column: cursor.column + 1,
+        count: cursor.count + 1,
+        place: cursor.place,
     }
 }
 
@@ -143,8 +149,22 @@ fn numbers_of(staged: bool, cursor: Cursor, end: usize) -> Numbers
     }
 }
 
+// The number that starts at `start`, read in two passes. It is for the numbers that find no room: the way in one pass is
+// fast where it stands in one place alone.
+fn plain_number(text: &[u8], start: usize) -> NumberAt
+    requires { ⌜ start < length (now text) ⌝ }
+    ensures { λ r. ⌜ r ≡ numberIn commentByte (now (text .entry)) start ⌝ }
+{
+    let end = lex_number::word_end(text, start, lex_line::COMMENT);
+    NumberAt {
+        number: lex_number::read_number(&text[start..end]),
+        end,
+    }
+}
+
 // Reads and stores the numbers from offset `from` to the end of the line; the first belongs at this row and column. If
-// a word is no number or out of its bounds, the line is not staged.
+// a word is no number or out of its bounds, the line is not staged. From the first number on that finds no room the rest
+// are only judged, in a loop of their own, so that the first loop, in which most of the time goes, stays short.
 fn store_numbers(
     text: &[u8],
     from: usize,
@@ -164,7 +184,7 @@ fn store_numbers(
         count: 0,
         place: table_layout::VALUE_WIDTH * (values as usize),
     };
-    loop {
+    while has_room(cursor.place, table.len()) {
         let start = base::past_blanks(text, at);
         if !lex_number::is_word_at(text, start, lex_line::COMMENT) {
             return numbers_of(true, cursor, start);
@@ -175,6 +195,19 @@ fn store_numbers(
             return numbers_of(false, cursor, start);
         }
         cursor = put_number(number, form, table, cursor);
+        at = read.end;
+    }
+    loop {
+        let start = base::past_blanks(text, at);
+        if !lex_number::is_word_at(text, start, lex_line::COMMENT) {
+            return numbers_of(true, cursor, start);
+        }
+        let read = plain_number(text, start);
+        let number = read.number;
+        if !lex_number::is_value(number) {
+            return numbers_of(false, cursor, start);
+        }
+        cursor = pass_number(form, cursor);
         at = read.end;
     }
 }

@@ -2,3 +2,4 @@ pub mod SideLaws
 pub mod StepLaws
 pub mod LineLaws
 pub mod PathLaws
+pub mod BlockLaws

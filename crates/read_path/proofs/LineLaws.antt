@@ -19,12 +19,13 @@ use Rattle.lex_line.specs.declared.Line as text
 use Rattle.lex_keyword.specs.Bracket.{bracketOf}
 use Rattle.lex_keyword.specs.declared.Bracket.the-variants.{Plain}
 use Rattle.line_place.specs.Place as place
-use Rattle.line_path.specs.Path.{saysEnd, saysSide, saysSection, saysFork, saysEndfork, pathRule, pathNext, isStepLine}
+use Rattle.line_path.specs.Path.{saysEnd, saysSide, saysSection, saysFork, saysEndfork, pathNext, isStepLine}
 use Rattle.line_path.specs.Way.Parts.{ParsesLine}
 use Rattle.line_path.specs.declared.Path.{Path}
 use Rattle.line_path.specs.declared.PathLine.{PathLine}
 use Rattle.line_path.specs.declared.PathParts.{PathParts}
 use Rattle.line_path.proofs.PartLaws.{right-kept}
+use Rattle.line_path.specs.Way.Rule.{pathRule}
 use Rattle.line_keyword.specs.Keywords.{oneMoreIf}
 use Rattle.line_keyword.specs.declared.State.{State}
 use Rattle.read_line.specs.Reading.{lineResult}
@@ -41,7 +42,7 @@ use Rattle.doc.proofs.FoundLaws.{pass-over, stop-here}
 use Rattle.doc.proofs.GatherLaws.{gather-more, gather-quiet}
 use Rattle.doc.proofs.PlainLaws.{plain-stays, plainly-none, plainly-one, plainly-same}
 use Rattle.doc.proofs.StepLaws.{saying-there, path-says}
-use Rattle.read_path.specs.Way.Path.{lineHere, nextAt, linesFollowing, stepSaid, Starts, Parsed, Worded, StagesSteps, TakesStep}
+use Rattle.read_path.specs.Way.Path.{lineHere, nextAt, linesFollowing, stepSaid, ruleOfLine, pathAfterLine, stepsAfterLine, Starts, Parsed, Worded, JudgesLine, StagesSteps, TakesStep}
 use Rattle.read_path.proofs.StepLaws.{cut-is, cut-parses}
 
 wide : (s : Step) → length (stepStaged s) ≡ stagedStepWidth
@@ -100,6 +101,10 @@ module _ (t : List ℕ) (n at : ℕ) (ends : text.Line) (worded : Worded t n at 
     parses : ParsesLine content parts
     parses = cut-parses t n at ends (worded .starts) parts cut
 
+    told-rule : k ≡ ruleOfLine content p steps
+    unfolding ruleOfLine
+    told-rule = rule ∙ ap (λ (l : PathLine). pathRule l p steps) (parses .line-is) ∙ sym (if-false _ _ (worded .filled))
+
     pub line-refused : (stage : List ℕ) → (k ≡ 0 → ⊥) → TakesStep t at n p steps stage (record { taken = true; rule = k; path = p; steps = steps }) stage
     line-refused stage broken =
         record {
@@ -107,6 +112,14 @@ module _ (t : List ℕ) (n at : ℕ) (ends : text.Line) (worded : Worded t n at 
               λ (e : true ≡ true).
               words-decide content Words fronted place.path (withPath p steps) refl (λ (s : State). refl) (λ (z : place.path ≡ place.done). omega arith)
               (λ (z : place.path ≡ place.before). omega arith) k (withPath p steps) (path-stops content p steps (parts .line) (parses .line-is) k rule broken);
+          judges =
+              λ (e : true ≡ true).
+              record {
+                plainly = λ (f : isBlankLine content ≡ false). worded .plainly;
+                rule-is = told-rule;
+                path-is = λ (z : k ≡ 0). absurd (broken z);
+                steps-is = λ (z : k ≡ 0). absurd (broken z);
+              };
           opens = λ (f : true ≡ false). absurd (true≢false f);
           stepping = stepping;
           kept = λ (f : true ≡ false). refl;
@@ -131,6 +144,19 @@ module _ (t : List ℕ) (n at : ℕ) (ends : text.Line) (worded : Worded t n at 
           (λ (e : place.path ≡ place.before). omega arith) 0 (withPath next more)
           (path-goes content p steps (parts .line) (parses .line-is) k rule z (isStepLine (parts .line)) refl more count next told)
 
+      judges-on : (more : ℕ) → more ≡ oneMoreIf (isStepLine (parts .line)) steps →
+          JudgesLine content p steps (record { taken = true; rule = 0; path = next; steps = more })
+      unfolding pathAfterLine stepsAfterLine
+      judges-on more count =
+          record {
+            plainly = λ (f : isBlankLine content ≡ false). worded .plainly;
+            rule-is = sym z ∙ told-rule;
+            path-is = λ (y : _≡_ {A = ℕ} 0 0). told ∙ ap (λ (l : PathLine). pathNext l p) (parses .line-is) ∙ sym (if-false _ _ (worded .filled));
+            steps-is =
+                λ (y : _≡_ {A = ℕ} 0 0).
+                count ∙ ap (λ (l : PathLine). oneMoreIf (isStepLine l) steps) (parses .line-is) ∙ sym (if-false _ _ (worded .filled));
+          }
+
       steps-on : (more : ℕ) → more ≡ oneMoreIf (isStepLine (parts .line)) steps → Stepping next more
       steps-on more count = stepping-on (parts .line) p steps k rule z stepping (isStepLine (parts .line)) refl more count next told
 
@@ -148,6 +174,7 @@ module _ (t : List ℕ) (n at : ℕ) (ends : text.Line) (worded : Worded t n at 
         line-side stage =
             record {
               decides = λ (e : true ≡ true). goes-on steps side-count;
+              judges = λ (e : true ≡ true). judges-on steps side-count;
               opens = λ (f : true ≡ false). absurd (true≢false f);
               stepping = steps-on steps side-count;
               kept = λ (f : true ≡ false). refl;
@@ -202,6 +229,7 @@ module _ (t : List ℕ) (n at : ℕ) (ends : text.Line) (worded : Worded t n at 
             stored ∙ ap (λ (s : StagedStep). putAt (stagedStepWidth * steps) (stagedStepWords s) stage) is-step' in
             record {
               decides = λ (e : true ≡ true). goes-on (steps + 1) step-count;
+              judges = λ (e : true ≡ true). judges-on (steps + 1) step-count;
               opens = λ (f : true ≡ false). absurd (true≢false f);
               stepping = steps-on (steps + 1) step-count;
               kept = λ (f : true ≡ false). absurd (true≢false f);
@@ -219,11 +247,22 @@ module _ (t : List ℕ) (n at : ℕ) (ends : text.Line) (starts : Starts t n at 
   blank-over : isBlankLine (contentAt t at) ≡ true → linesAt t n at place.path ≡ linesFollowing t n at
   blank-over b = pass-over t at (starts .there) n (lineAt commentByte t at) refl b place.path
 
+  judges-blank : isBlankLine (contentAt t at) ≡ true → JudgesLine (contentAt t at) p steps (record { taken = true; rule = 0; path = p; steps = steps })
+  unfolding ruleOfLine pathAfterLine stepsAfterLine
+  judges-blank b =
+      record {
+        plainly = λ (f : isBlankLine (contentAt t at) ≡ false). absurd (true≢false (sym b ∙ f));
+        rule-is = sym (if-true _ _ b);
+        path-is = λ (z : _≡_ {A = ℕ} 0 0). sym (if-true _ _ b);
+        steps-is = λ (z : _≡_ {A = ℕ} 0 0). sym (if-true _ _ b);
+      }
+
   pub take-blank : (stage : List ℕ) → front ≡ Blanks → TakesStep t at n p steps stage (record { taken = true; rule = 0; path = p; steps = steps }) stage
   take-blank stage e =
       let over : linesAt t n at place.path ≡ linesFollowing t n at = blank-over (blanks-front (contentAt t at) front told e) in
       record {
         decides = λ (y : true ≡ true). blanks-decide (contentAt t at) front told place.path (withPath p steps) e;
+        judges = λ (y : true ≡ true). judges-blank (blanks-front (contentAt t at) front told e);
         opens = λ (f : true ≡ false). absurd (true≢false f);
         stepping = stepping;
         kept = λ (f : true ≡ false). refl;
@@ -242,6 +281,7 @@ module _ (t : List ℕ) (n at : ℕ) (ends : text.Line) (starts : Starts t n at 
   take-opens stage e =
       record {
         decides = λ (y : false ≡ true). absurd (true≢false (sym y));
+        judges = λ (y : false ≡ true). absurd (true≢false (sym y));
         opens = λ (f : false ≡ false). opening-opens (contentAt t at) front told e;
         stepping = stepping;
         kept = λ (f : false ≡ false). refl;

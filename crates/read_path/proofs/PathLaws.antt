@@ -233,7 +233,8 @@ module _ (t : List ℕ) (at line : ℕ) (p : Path) (n : ℕ) (stage₀ : List �
   pub gone-inner : u .part .rule ≡ 0 → Gone t at line p n stage₀ (u .at) (u .line) (u .part) stage''
   gone-inner y = gone-after t at line p n stage₀ (v .at) (v .line) (v .part) stage' outer u stage'' third y
 
-  pub inner-less : here < u .at → length t - u .at < length t - here
+  pub inner-less : here < v .at → length t - u .at < length t - here
   inner-less h =
+      let o : v .at ≤ u .at = third .blocked .crossed .onward in
       let a : u .at ≤ length t = third .blocked .crossed .within in
       omega arith

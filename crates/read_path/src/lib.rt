@@ -11,6 +11,7 @@ ghost use Rattle.doc.specs.Document.{sideIn};
 ghost use Rattle.doc.specs.Way.Found.{Located, extentOf, lineIn};
 ghost use Rattle.doc.specs.Way.Staged.{stagedStep};
 ghost use Rattle.read_path.specs.Way.Path.{forkStep, stepSaid, namedStep, Starts, Parsed, Worded, TakesStep, GoesPath};
+ghost use Rattle.read_path.specs.Way.Block.{EndsLevel, EndsBlock};
 use doc::Extent;
 use doc::Found;
 use lex_line::Line;
@@ -211,7 +212,8 @@ fn pass_path(
     stage: &mut [u64],
 ) -> PathWalk
     requires { ⌜ (at ≤ length (now text)) × (line ≤ at + 1) × Stepping path steps ⌝ }
-    ensures { λ r. ⌜ GoesPath (now (text .entry)) at line path steps (now (stage .entry)) r (now (stage .exit)) ⌝ }
+    ensures { λ r. ⌜ GoesPath (now (text .entry)) at line path steps (now (stage .entry)) r (now (stage .exit))
+        × EndsLevel (now (text .entry)) (record { at = at; line = line; path = path; steps = steps }) r ⌝ }
 {
     let depth = path.depth;
     let mut here = at;
@@ -258,19 +260,20 @@ fn pass_path(
     }
 }
 
-// Reads the lines of a fork block, up to and including the line that closes it. The function calls itself for an inner
-// block, and the depth still left falls. The path itself is the outermost block.
+// Reads the lines of a fork block, up to and including the Endfork that closes it, or up to a line that breaks a rule, or
+// before a bracket. The function calls itself for an inner block. With each call the depth rises, and it is at most 8, so
+// the calls come to an end. The path itself is the outermost block.
 pub fn pass_block(
     text: &[u8],
     at: usize,
     line: u64,
     path: Path,
     steps: u64,
-    left: u64,
     stage: &mut [u64],
 ) -> PathWalk
     requires { ⌜ (at ≤ length (now text)) × (line ≤ at + 1) × Stepping path steps ⌝ }
-    ensures { λ r. ⌜ GoesPath (now (text .entry)) at line path steps (now (stage .entry)) r (now (stage .exit)) ⌝ }
+    ensures { λ r. ⌜ GoesPath (now (text .entry)) at line path steps (now (stage .entry)) r (now (stage .exit))
+        × EndsBlock (now (text .entry)) (record { at = at; line = line; path = path; steps = steps }) r ⌝ }
 {
     let mut here = at;
     let mut line_here = line;
@@ -290,23 +293,13 @@ pub fn pass_block(
         if reached.depth <= path.depth {
             return walk;
         }
-        if left == 0 {
-            return walk;
-        }
-        let inner = pass_block(
-            text,
-            walk.at,
-            walk.line,
-            reached,
-            come.steps,
-            left - 1,
-            stage,
-        );
+        let inner = pass_block(text, walk.at, walk.line, reached, come.steps, stage);
         let inside = inner.part;
+        let after = inside.path;
         if inside.rule != 0 {
             return inner;
         }
-        if inner.at <= here {
+        if path.depth < after.depth {
             return inner;
         }
         here = inner.at;

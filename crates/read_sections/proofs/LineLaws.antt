@@ -23,15 +23,16 @@ use Rattle.line_place.specs.Place as place
 use Rattle.line_argument.specs.Argument.{formOf, methodOf}
 use Rattle.line_matrix.specs.Matrix.{newMatrix}
 use Rattle.line_matrix.specs.declared.Matrix as matrix
-use Rattle.line_keyword.specs.Keywords.{oneMoreIf, countsAfter, sectionAfter, matrixAfter, keywordRule, keywordNext}
+use Rattle.line_keyword.specs.Keywords.{oneMoreIf, countsAfter, sectionAfter, matrixAfter, keywordNext}
 use Rattle.line_keyword.specs.declared.Section as kept
 use Rattle.line_keyword.proofs.InsideLaws.{opens-closes}
 use Rattle.line_keyword.specs.declared.State.{State}
+use Rattle.line_keyword.specs.Way.Rule.{keywordRule}
 use Rattle.table_layout.specs.Layout.{sectionWidth}
 use Rattle.table_record.specs.Records.{sectionWords}
 use Rattle.table_record.specs.Way.Stage.{putAt}
-use Rattle.read_line.specs.Reading.{lineRule, lineResult, breaks}
-use Rattle.read_line.specs.Way.Steps.{bracketStep}
+use Rattle.read_line.specs.Reading.{lineResult, breaks}
+use Rattle.read_line.specs.Way.Steps.{bracketStep, lineRule}
 use Rattle.read_line.specs.declared.LineResult.{LineResult}
 use Rattle.read_line.proofs.ResultLaws.{result-steps}
 use Rattle.read_line.proofs.OutsideLaws.{Met}

@@ -15,7 +15,7 @@ use Rattle.base.specs.If.{if_then_else_}
 use Rattle.base.specs.Broken.{first}
 use Rattle.base.specs.Refusal as refusal
 use Rattle.base.proofs.IfLaws.{if-true, if-false, by-test, by-cases, both-not-right, either-false}
-use Rattle.lex_line.specs.Lines.{lines, isBlankLine, commentByte, contents}
+use Rattle.lex_line.specs.Lines.{isBlankLine, commentByte, contents}
 use Rattle.lex_line.specs.Way.LineEnds.{lineAt, contentAt}
 use Rattle.lex_line.proofs.LineLaws.{contents-none}
 use Rattle.lex_line.specs.declared.Line as text

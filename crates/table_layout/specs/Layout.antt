@@ -52,10 +52,6 @@ matrixWidth = 5
 abbrev pub valueWidth : ℕ
 valueWidth = 3
 
--- a record that has a name begins with it: where it starts in the text, and its length
-abbrev pub nameWidth : ℕ
-nameWidth = 2
-
 abbrev pub widths : List ℕ
 widths = modelWidth ∷ stepWidth ∷ mapWidth ∷ pinWidth ∷ sectionWidth ∷ matrixWidth ∷ valueWidth ∷ []
 

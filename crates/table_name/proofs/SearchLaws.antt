@@ -14,8 +14,8 @@ use lib.Seq.{take-all, take-nil, drop-drop}
 use borrow.Author.Tests.{le-leb, lt-leb}
 use Rattle.base.specs.Runs.{same}
 use Rattle.base.proofs.IfLaws.{if-true, if-false, both-rest, both-not-left}
-use Rattle.table_layout.specs.Layout.{nameWidth, chopped}
-use Rattle.table_record.specs.Way.Standing.{nameRecordAt}
+use Rattle.table_layout.specs.Layout.{chopped}
+use Rattle.table_record.specs.Way.Standing.{nameRecordAt, nameWidth}
 use Rattle.table_record.specs.declared.NameRecord.{NameRecord}
 use Rattle.table_record.proofs.RecordLaws.{name-here}
 use Rattle.doc.specs.Records.{indexOf}

@@ -3,10 +3,10 @@ ghost use mathlib.Core.Path.{_≡_};
 ghost use mathlib.Core.Bool.{false};
 ghost use Prim.Native.Nat.{_+_, _*_, _≤_, _<_};
 ghost use lib.ListN.{length};
-ghost use Rattle.table_layout.specs.Layout.{nameWidth};
 ghost use Rattle.table_name.specs.Name.{nameAt};
 ghost use Rattle.table_name.specs.Way.Search.{hasName, findIn, Tails};
 ghost use Rattle.table_name.specs.Way.Hash.{hashOf};
+ghost use Rattle.table_record.specs.Way.Standing.{nameWidth};
 use table_record::NameRecord;
 
 mod fast;

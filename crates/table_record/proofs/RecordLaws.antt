@@ -8,7 +8,7 @@ use native.Mathlib.Nat.{add-zero, mul-zero, mul-suc, le-of-suc-le-suc, not-suc-l
 use native.Mathlib.Omega.{arith}
 use lib.ListN.{length, take, drop, getD, length-map}
 use lib.Seq.{drop-drop, getD-drop, getD-take}
-use Rattle.table_layout.specs.Layout.{widths, models, steps, maps, pins, sections, matrices, values, partCount, modelWidth, stepWidth, mapWidth, pinWidth, sectionWidth, matrixWidth, valueWidth, nameWidth, chopped, partsIn}
+use Rattle.table_layout.specs.Layout.{widths, models, steps, maps, pins, sections, matrices, values, partCount, modelWidth, stepWidth, mapWidth, pinWidth, sectionWidth, matrixWidth, valueWidth, chopped, partsIn}
 use Rattle.table_layout.specs.View.{viewOf}
 use Rattle.table_layout.specs.declared.View.{View}
 use Rattle.table_layout.proofs.PartLaws.{Viewed, viewed}
@@ -19,7 +19,7 @@ use Rattle.table_record.specs.declared.Value.{Value}
 use Rattle.table_record.specs.declared.StepRecord.{StepRecord}
 use Rattle.table_record.specs.declared.SectionRecord.{SectionRecord}
 use Rattle.table_record.specs.Records.{Records, toModel, toStep, toMap, toPin, toSection, toMatrix, toValue, recordsIn, recordsOf, noModel, noStep, noMap, noSection, noMatrix, noValue}
-use Rattle.table_record.specs.Way.Standing.{places, nameRecordAt, modelAt, stepAt, mapAt, pinAt, sectionAt, matrixAt, valueAt, baseOf, countOf, placesOf, kindsFrom, valuesFrom, kindsAt, methodsAt, valuesAt, recordsAt, Rooms}
+use Rattle.table_record.specs.Way.Standing.{places, nameRecordAt, modelAt, stepAt, mapAt, pinAt, sectionAt, matrixAt, valueAt, baseOf, countOf, placesOf, kindsFrom, valuesFrom, kindsAt, methodsAt, valuesAt, recordsAt, Rooms, nameWidth}
 use Rattle.table_record.proofs.PlaceLaws.{places-long}
 
 -- ---- one record

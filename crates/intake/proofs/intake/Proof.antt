@@ -24,13 +24,13 @@ same-length : tie.Need-same-length
 same-length c = search needs
 
 returns : tie.Need-returns
-returns c = (search fine-outcome, search needs)
+returns c = record { answers = search fine-outcome; leaves = search needs }
 
 same-length-2 : tie.Need-same-length-2
 same-length-2 c = search needs
 
 returns-2 : tie.Need-returns-2
-returns-2 c = (search bytes-outcome, search table-cleared)
+returns-2 c = record { answers = search bytes-outcome; leaves = search table-cleared }
 
 pub intake-spec : {M : Type 1} → statement M
 intake-spec =

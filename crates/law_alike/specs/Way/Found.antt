@@ -6,7 +6,6 @@ use lib.Dec.{eqb}
 use Rattle.table_record.specs.declared.Value.{Value}
 use Rattle.base.specs.If.{if_then_else_, both}
 use Rattle.lex_number.specs.ValueWord.{zeroWord}
-use Rattle.lex_keyword.specs.Names.{row}
 
 -- the word of the first value with this row and this column; zero if there is none
 unfoldable pub foundAt : ℕ → ℕ → List Value → ℕ

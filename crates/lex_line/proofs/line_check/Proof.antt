@@ -8,7 +8,7 @@ use Rattle.lex_line.proofs.ByteLaws.{line-empty, line-bad-byte, last-lo
 use borrow.Author.Needs.{needs}
 use Rattle.lex_line.proofs.line_check.Statement.{statement}
 use Rattle.lex_line.proofs.line_check.Tie as tie
-use Rattle.base.proofs.fast.skip_far.Reads as skip-far-reads
+use Rattle.base.proofs.fast.skip_printed.Reads as skip-printed-reads
 use Rattle.lex_line.proofs.terminator_at.Reads as terminator-at-reads
 
 shared-slice-read-if1 : tie.Need-shared-slice-read-if1
@@ -20,14 +20,14 @@ add-t10 c = search needs
 returns : tie.Need-returns
 returns c = search line-empty
 
-skip-far-requires : tie.Need-skip-far-requires
-skip-far-requires c κs = search needs
+skip-printed-requires : tie.Need-skip-printed-requires
+skip-printed-requires c κs = search needs
 
 terminator-at-requires : tie.Need-terminator-at-requires
 terminator-at-requires c κs = search stop-fits
 
 add-next : tie.Need-add-next
-add-next c = let s : c .before .skip-far .result ≤ length (now (c .before .before .before .before .before .args .text)) = search stop-fits in let w : c .terminator-at .result ≤ 2 = search terminator-at-most in omega arith
+add-next c = let s : c .before .skip-printed .result ≤ length (now (c .before .before .before .before .before .args .text)) = search stop-fits in let w : c .terminator-at .result ≤ 2 = search terminator-at-most in omega arith
 
 sub-characters : tie.Need-sub-characters
 sub-characters c = search needs
@@ -54,7 +54,7 @@ line-check-spec =
     shared-slice-read-if1
     add-t10
     returns
-    skip-far-requires
+    skip-printed-requires
     terminator-at-requires
     add-next
     sub-characters

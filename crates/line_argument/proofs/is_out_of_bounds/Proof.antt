@@ -10,8 +10,8 @@ use Rattle.line_argument.proofs.is_out_of_bounds.Tie as tie
 read-integer-requires : tie.Need-read-integer-requires
 read-integer-requires c κs = search needs
 
-is-within-requires : tie.Need-is-within-requires
-is-within-requires c κs = search needs
+is-whole-within-requires : tie.Need-is-whole-within-requires
+is-whole-within-requires c κs = search needs
 
 returns : tie.Need-returns
 unfolding isOutOfBounds
@@ -33,7 +33,7 @@ is-out-of-bounds-spec =
     tie.close
     (tie.spec
     read-integer-requires
-    is-within-requires
+    is-whole-within-requires
     returns
     read-integer-requires-2
     returns-2

@@ -1,7 +1,7 @@
 -- `line_head::head_rule` meets its contract: the rules are tested in the order of the definition.
 -- Assumes nothing.
-use Rattle.line_head.specs.Head.{headRule}
 use Rattle.base.proofs.BrokenLaws.{rules}
+use Rattle.line_head.specs.Way.Rule.{headRule}
 use borrow.Author.Needs.{needs}
 use Rattle.line_head.proofs.head_rule.Statement.{statement}
 use Rattle.line_head.proofs.head_rule.Tie as tie

@@ -45,8 +45,8 @@ slice-aggregate-read-integer c = search colon-taken
 read-integer-requires : tie.Need-read-integer-requires
 read-integer-requires c κs = search needs
 
-is-within-requires : tie.Need-is-within-requires
-is-within-requires c κs = search needs
+is-whole-within-requires : tie.Need-is-whole-within-requires
+is-whole-within-requires c κs = search needs
 
 returns-3 : tie.Need-returns-3
 returns-3 c = search sgr-right
@@ -68,5 +68,5 @@ sgr-line-spec =
     returns-2
     slice-aggregate-read-integer
     read-integer-requires
-    is-within-requires
+    is-whole-within-requires
     returns-3)

@@ -20,48 +20,34 @@ returns-2 : tie.Need-returns-2
 unfolding isLacking
 returns-2 c = search chain depth 14 fits 4000
 
-is-seen-requires-2 : tie.Need-is-seen-requires-2
-is-seen-requires-2 c κs = search needs
+family-lacks-requires : tie.Need-family-lacks-requires
+family-lacks-requires c κs = search needs
 
 returns-3 : tie.Need-returns-3
 unfolding isLacking
 returns-3 c = search chain depth 14 fits 4000
 
-is-seen-requires-3 : tie.Need-is-seen-requires-3
-is-seen-requires-3 c κs = search needs
+is-seen-requires-2 : tie.Need-is-seen-requires-2
+is-seen-requires-2 c κs = search needs
 
 returns-4 : tie.Need-returns-4
 unfolding isLacking
 returns-4 c = search chain depth 14 fits 4000
 
-family-lacks-requires : tie.Need-family-lacks-requires
-family-lacks-requires c κs = search needs
+kinds-lack-requires : tie.Need-kinds-lack-requires
+kinds-lack-requires c κs = search needs
 
 returns-5 : tie.Need-returns-5
 unfolding isLacking
 returns-5 c = search chain depth 14 fits 4000
 
-is-seen-requires-4 : tie.Need-is-seen-requires-4
-is-seen-requires-4 c κs = search needs
-
 returns-6 : tie.Need-returns-6
 unfolding isLacking
 returns-6 c = search chain depth 14 fits 4000
 
-kinds-lack-requires : tie.Need-kinds-lack-requires
-kinds-lack-requires c κs = search needs
-
 returns-7 : tie.Need-returns-7
 unfolding isLacking
 returns-7 c = search chain depth 14 fits 4000
-
-returns-8 : tie.Need-returns-8
-unfolding isLacking
-returns-8 c = search chain depth 14 fits 4000
-
-returns-9 : tie.Need-returns-9
-unfolding isLacking
-returns-9 c = search chain depth 14 fits 4000
 
 pub is-lacking-spec : {M : Type 1} → statement M
 is-lacking-spec =
@@ -71,15 +57,11 @@ is-lacking-spec =
     returns
     is-seen-requires
     returns-2
-    is-seen-requires-2
-    returns-3
-    is-seen-requires-3
-    returns-4
     family-lacks-requires
-    returns-5
-    is-seen-requires-4
-    returns-6
+    returns-3
+    is-seen-requires-2
+    returns-4
     kinds-lack-requires
-    returns-7
-    returns-8
-    returns-9)
+    returns-5
+    returns-6
+    returns-7)

@@ -34,6 +34,13 @@ returns-4 : tie.Need-returns-4
 unfolding isMisplaced
 returns-4 c = search chain depth 14 fits 4000
 
+is-too-late-requires : tie.Need-is-too-late-requires
+is-too-late-requires c κs = search needs
+
+returns-5 : tie.Need-returns-5
+unfolding isMisplaced
+returns-5 c = search chain depth 14 fits 4000
+
 pub is-misplaced-spec : {M : Type 1} → statement M
 is-misplaced-spec =
     tie.close
@@ -45,4 +52,6 @@ is-misplaced-spec =
     is-repeated-requires
     returns-3
     is-lacking-requires
-    returns-4)
+    returns-4
+    is-too-late-requires
+    returns-5)

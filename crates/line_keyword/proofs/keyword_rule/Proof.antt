@@ -1,7 +1,7 @@
 -- `line_keyword::keyword_rule` meets its contract: the tests of the list in its order.
 -- Assumes nothing.
 use Rattle.base.proofs.BrokenLaws.{rules}
-use Rattle.line_keyword.specs.Keywords.{keywordRule}
+use Rattle.line_keyword.specs.Way.Rule.{keywordRule}
 use borrow.Author.Needs.{needs}
 use Rattle.line_keyword.proofs.keyword_rule.Statement.{statement}
 use Rattle.line_keyword.proofs.keyword_rule.Tie as tie

@@ -20,7 +20,7 @@ matrixKeywordRules k argument m =
     refusal.argument when isBadArgument k argument
     ∷ refusal.number when isBadInteger k argument
     ∷ refusal.range when isOutOfBounds k argument
-    ∷ refusal.shape when isWrongInMatrix k (wholeOf argument .value) m
+    ∷ refusal.shape when isWrongInMatrix k (wholeOf argument) m
     ∷ []
 
 unfoldable pub matrixKeywordRule : ℕ → List ℕ → Matrix → ℕ

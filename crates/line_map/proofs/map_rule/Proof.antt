@@ -2,7 +2,7 @@
 -- Assumes nothing.
 use mathlib.Core.Path.{sym}
 use Rattle.base.proofs.BrokenLaws.{firsts}
-use Rattle.line_map.specs.PinMap.{mapRule}
+use Rattle.line_map.specs.Way.Rule.{mapRule}
 use Rattle.line_map.proofs.MapLaws.{out-of-order, in-order}
 use borrow.Author.Needs.{needs}
 use Rattle.line_map.proofs.map_rule.Statement.{statement}

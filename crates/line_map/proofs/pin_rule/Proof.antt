@@ -2,7 +2,7 @@
 -- Assumes nothing.
 use mathlib.Core.Path.{sym}
 use Rattle.base.proofs.BrokenLaws.{firsts}
-use Rattle.line_map.specs.PinMap.{pinRule}
+use Rattle.line_map.specs.Way.Rule.{pinRule}
 use Rattle.line_map.proofs.LineLaws.{pin-short, pin-long}
 use borrow.Author.Needs.{needs}
 use Rattle.line_map.proofs.pin_rule.Statement.{statement}

@@ -55,8 +55,8 @@ marked-requires c κs = search (first-ordered, first-within)
 read-integer-requires : tie.Need-read-integer-requires
 read-integer-requires c κs = search needs
 
-is-within-requires : tie.Need-is-within-requires
-is-within-requires c κs = search needs
+is-whole-within-requires : tie.Need-is-whole-within-requires
+is-whole-within-requires c κs = search needs
 
 returns-4 : tie.Need-returns-4
 returns-4 c = search size-given
@@ -81,5 +81,5 @@ size-line-spec =
     returns-3
     marked-requires
     read-integer-requires
-    is-within-requires
+    is-whole-within-requires
     returns-4)

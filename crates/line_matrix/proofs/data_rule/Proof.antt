@@ -1,7 +1,7 @@
 -- `line_matrix::data_rule` meets its contract: the tests of the list in its order.
 -- Assumes nothing.
 use Rattle.base.proofs.BrokenLaws.{rules}
-use Rattle.line_matrix.specs.Matrix.{dataRule}
+use Rattle.line_matrix.specs.Way.Rule.{dataRule}
 use borrow.Author.Needs.{needs}
 use Rattle.line_matrix.proofs.data_rule.Statement.{statement}
 use Rattle.line_matrix.proofs.data_rule.Tie as tie

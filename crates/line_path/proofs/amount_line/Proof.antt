@@ -8,8 +8,8 @@ use Rattle.line_path.proofs.amount_line.Tie as tie
 read-integer-requires : tie.Need-read-integer-requires
 read-integer-requires c κs = search needs
 
-is-within-requires : tie.Need-is-within-requires
-is-within-requires c κs = search needs
+is-whole-within-requires : tie.Need-is-whole-within-requires
+is-whole-within-requires c κs = search needs
 
 returns : tie.Need-returns
 returns c = search amount-mult
@@ -34,7 +34,7 @@ amount-line-spec =
     tie.close
     (tie.spec
     read-integer-requires
-    is-within-requires
+    is-whole-within-requires
     returns
     read-number-requires
     is-formed-requires

@@ -1,7 +1,7 @@
 -- `line_path::open_rule` meets its contract: the rules are tested in the order of the definition.
 -- Assumes nothing.
 use Rattle.base.proofs.BrokenLaws.{rules}
-use Rattle.line_path.specs.Path.{openRule}
+use Rattle.line_path.specs.Way.Rule.{openRule}
 use Rattle.line_path.proofs.RuleLaws.{side-free, step-over, step-free}
 use borrow.Author.Needs.{needs}
 use Rattle.line_path.proofs.open_rule.Statement.{statement}

@@ -1,7 +1,7 @@
 -- `line_path::path_rule` meets its contract: a closed path has its own rule.
 -- Assumes nothing.
 use Rattle.base.proofs.BrokenLaws.{rules}
-use Rattle.line_path.specs.Path.{pathRule, closedRule, openRule}
+use Rattle.line_path.specs.Way.Rule.{openRule, closedRule, pathRule}
 use borrow.Author.Needs.{needs}
 use Rattle.line_path.proofs.path_rule.Statement.{statement}
 use Rattle.line_path.proofs.path_rule.Tie as tie

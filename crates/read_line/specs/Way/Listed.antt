@@ -6,9 +6,8 @@ use mathlib.Core.Bool.{Bool, not}
 use lib.Dec.{ltb, eqb}
 use Rattle.base.specs.If.{both}
 use Rattle.base.specs.Bytes.{space}
+use Rattle.line_argument.specs.Way.Reserved.{startsReserved}
 
 -- no blank, no bracket, and not the first byte of a reserved word
 unfoldable pub isFree : ℕ → Bool
-isFree b =
-    both (ltb space b)
-    (both (not (eqb b (code "["))) (both (not (eqb b (code "P"))) (both (not (eqb b (code "G"))) (not (eqb b (code "N"))))))
+isFree b = both (ltb space b) (both (not (eqb b (code "["))) (not (startsReserved b)))

@@ -12,10 +12,15 @@ use Rattle.lex_keyword.specs.Bracket.{bracketOf}
 use Rattle.lex_keyword.specs.declared.Bracket.{Bracket}
 use Rattle.lex_keyword.specs.declared.Bracket.the-variants.{Plain, Indented, Bad, Unknown, Later, Keyword}
 use Rattle.line_place.specs.Place.{isText, before, done}
-use Rattle.line_keyword.specs.Keywords.{keywordRule, keywordNext}
+use Rattle.line_keyword.specs.Keywords.{keywordNext}
 use Rattle.line_keyword.specs.declared.State.{State}
-use Rattle.read_line.specs.Reading.{lineRule, lineNext, argumentFrom, RulesAndNext, goes, breaks, judged}
+use Rattle.line_keyword.specs.Way.Rule.{keywordRule}
+use Rattle.read_line.specs.Reading.{lineNext, argumentFrom, RulesAndNext, goes, breaks, judged, lineRules}
 use Rattle.read_line.specs.declared.LineResult.{LineResult}
+
+-- the rule that a line without a keyword breaks, 0 for none
+unfoldable pub lineRule : List ℕ → State → ℕ
+lineRule content s = firstBroken (lineRules content s)
 
 -- the result of a line with these rules and this state after it
 abbrev pub resultOf : RulesAndNext → State → LineResult

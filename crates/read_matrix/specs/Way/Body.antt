@@ -18,8 +18,9 @@ use Rattle.table_layout.specs.Bounds.{mostValues}
 use Rattle.table_record.specs.declared.Value.{Value}
 use Rattle.line_place.specs.Place.{isRowOrBandwidth}
 use Rattle.line_place.specs.Place as place
-use Rattle.line_matrix.specs.Matrix.{dataLineOf, dataRule}
+use Rattle.line_matrix.specs.Matrix.{dataLineOf}
 use Rattle.line_matrix.specs.declared.Matrix.{Matrix}
+use Rattle.line_matrix.specs.Way.Rule.{dataRule}
 use Rattle.read_line.specs.Reading.{lineResult}
 use Rattle.read_line.specs.Way.Steps.{keywordStep}
 use Rattle.read_line.specs.Way.Walk.{ResumesPart, HoldsPart, Decides, Opens, withMatrix}

@@ -1,6 +1,6 @@
 -- `read_numbers::put_number` meets its contract.
 -- Assumes nothing.
-use Rattle.read_numbers.proofs.StagingLaws.{number-put}
+use Rattle.read_numbers.proofs.StagingLaws.{number-put, value-fits}
 use borrow.Author.Needs.{needs}
 use Rattle.read_numbers.proofs.put_number.Statement.{statement}
 use Rattle.read_numbers.proofs.put_number.Tie as tie
@@ -8,8 +8,8 @@ use Rattle.read_numbers.proofs.put_number.Tie as tie
 word-in-requires : tie.Need-word-in-requires
 word-in-requires c κs = search needs
 
-put-value-requires : tie.Need-put-value-requires
-put-value-requires c κs = search needs
+put-value-at-requires : tie.Need-put-value-at-requires
+put-value-at-requires c κs = search needs
 
 next-row-requires : tie.Need-next-row-requires
 next-row-requires c κs = search needs
@@ -19,6 +19,9 @@ add-t12 c = search needs
 
 add-t13 : tie.Need-add-t13
 add-t13 c = search needs
+
+add-t14 : tie.Need-add-t14
+add-t14 c = search value-fits
 
 same-length : tie.Need-same-length
 same-length c = search needs
@@ -31,9 +34,10 @@ put-number-spec =
     tie.close
     (tie.spec
     word-in-requires
-    put-value-requires
+    put-value-at-requires
     next-row-requires
     add-t12
     add-t13
+    add-t14
     same-length
     returns)

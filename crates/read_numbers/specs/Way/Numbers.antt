@@ -51,3 +51,7 @@ pub record PutsNumber (form : ℕ) (number : Number) (table : List ℕ) (c r : C
   pub column-is : r .column ≡ c .column + 1
   pub count-is : r .count ≡ c .count + 1
   pub puts : PutsValue (c .place) (valueOf (c .row) (c .column) number) table (r .place) table'
+
+-- the cursor behind a number that is left out
+abbrev pub passedBy : ℕ → Cursor → Cursor
+passedBy form c = record { row = nextRow form (c .row); column = c .column + 1; count = c .count + 1; place = c .place }

@@ -17,10 +17,12 @@ use Rattle.lex_line.specs.declared.Line as text
 use Rattle.lex_keyword.specs.Bracket.{bracketOf}
 use Rattle.lex_keyword.specs.declared.Bracket.the-variants.{Plain}
 use Rattle.line_place.specs.Place as place
-use Rattle.line_path.specs.Path.{saysEnd, saysSection, saysFork, isMult, amountOf}
+use Rattle.line_path.specs.Path.{saysEnd, saysSection, saysFork, isMult, amountOf, pathLineOf, pathNext, isStepLine}
 use Rattle.line_path.specs.Way.Parts.{ParsesLine}
+use Rattle.line_path.specs.Way.Rule.{pathRule}
 use Rattle.line_path.specs.declared.Path.{Path}
 use Rattle.line_path.specs.declared.PathParts.{PathParts}
+use Rattle.line_keyword.specs.Keywords.{oneMoreIf}
 use Rattle.read_line.specs.Reading.{lineResult}
 use Rattle.read_line.specs.Way.Walk.{ResumesPart, HoldsPart, NoProgressMeansBracket, Decides, Opens, Stepping, withPath}
 use Rattle.read_path.specs.declared.Stepped.{Stepped}
@@ -110,6 +112,24 @@ pub record Worded (t : List ℕ) (n at : ℕ) (ends : text.Line) : Type 0 where
   pub filled : isBlankLine (contentAt t at) ≡ false
   pub plainly : bracketOf (contentAt t at) ≡ Plain
 
+-- the number of the first rule that a line without a bracket breaks in a path, 0 for none; a blank line breaks none
+unfoldable pub ruleOfLine : List ℕ → Path → ℕ → ℕ
+ruleOfLine content p steps = if isBlankLine content then 0 else pathRule (pathLineOf content) p steps
+
+-- the path and the count of steps after a line that breaks no rule; a blank line leaves them as they are
+unfoldable pub pathAfterLine : List ℕ → Path → Path
+pathAfterLine content p = if isBlankLine content then p else pathNext (pathLineOf content) p
+
+unfoldable pub stepsAfterLine : List ℕ → ℕ → ℕ
+stepsAfterLine content steps = if isBlankLine content then steps else oneMoreIf (isStepLine (pathLineOf content)) steps
+
+-- a line that is taken has no bracket; its rule, and the path and the count of steps after it, are those of the definitions
+pub record JudgesLine (content : List ℕ) (p : Path) (steps : ℕ) (r : Stepped) : Type 0 where
+  pub plainly : isBlankLine content ≡ false → bracketOf content ≡ Plain
+  pub rule-is : r .rule ≡ ruleOfLine content p steps
+  pub path-is : r .rule ≡ 0 → r .path ≡ pathAfterLine content p
+  pub steps-is : r .rule ≡ 0 → r .steps ≡ stepsAfterLine content steps
+
 -- lines are gone over, the next being line n' at offset at': their steps are staged behind those that were
 pub record StagesSteps (t : List ℕ) (at n steps : ℕ) (stage : List ℕ) (at' n' steps' : ℕ) (stage' : List ℕ) : Type 0 where
   pub plain : Plainly place.path (linesAt t n at place.path) (linesAt t n' at' place.path)
@@ -119,6 +139,7 @@ pub record StagesSteps (t : List ℕ) (at n steps : ℕ) (stage : List ℕ) (at'
 -- a line of a path is judged and staged; one with a bracket is not taken
 pub record TakesStep (t : List ℕ) (at n : ℕ) (p : Path) (steps : ℕ) (stage : List ℕ) (r : Stepped) (stage' : List ℕ) : Type 0 where
   pub decides : r .taken ≡ true → Decides place.path (withPath p steps) (lineResult (contentAt t at)) (r .rule) (withPath (r .path) (r .steps))
+  pub judges : r .taken ≡ true → JudgesLine (contentAt t at) p steps r
   pub opens : r .taken ≡ false → Opens (contentAt t at)
   pub stepping : Stepping (r .path) (r .steps)
   pub kept : r .taken ≡ false → stage' ≡ stage

@@ -25,7 +25,10 @@ places w from (suc n) = from ∷ places w (from + w) n
 
 -- ---- the record that begins at word `at`
 
--- only its name
+-- only its name: where it starts in the text, and its length
+abbrev pub nameWidth : ℕ
+nameWidth = 2
+
 abbrev pub nameRecordAt : List ℕ → ℕ → NameRecord
 nameRecordAt table at = record { start = getD table at 0; size = getD table (at + 1) 0 }
 

@@ -1,0 +1,9 @@
+pub mod StandLaws
+pub mod GrammarLaws
+pub mod OneTreeLaws
+pub mod RowsLaws
+pub mod SparseLaws
+pub mod ShapeLaws
+pub mod LinesLaws
+pub mod PassingLaws
+pub mod Samples
