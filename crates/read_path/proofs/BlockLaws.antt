@@ -1,4 +1,4 @@
--- Laws of where lines of one depth end and where a fork block ends: one line more, and an inner block behind lines of the
+-- Laws of where lines of a level end and where a fork block ends: one line more, and an inner block behind lines of the
 -- outer one.
 -- Assumes nothing.
 use mathlib.Core.Path.{_≡_, refl, sym, _∙_, ap, subst}
@@ -114,7 +114,7 @@ module _ (content : List ℕ) (p : Path) (steps : ℕ) (kept : ruleOfLine conten
       (λ (e : pathAfterLine content p .depth ≡ p .depth + 1). absurd (omega arith))
       (λ (s : said .says ≡ saysEndfork) (e : pathAfterLine content p .depth + 1 ≡ p .depth). (s, e))
 
--- ---- lines of one depth
+-- ---- lines of a level
 
 -- lines have been passed, and the depth is the one that they began at
 pub record Level (t : List ℕ) (from c : PathCursor) : Type 0 where

@@ -94,9 +94,9 @@ pub data EndsBlock (t : List ℕ) (from : PathCursor) (w : PathWalk) : Type 0 wh
   at-broken-rule : BreaksRule t from w → EndsBlock t from w
   at-bracket : ComesToBracket t from w → EndsBlock t from w
 
--- ---- where lines of one depth end
+-- ---- where lines of a level end
 
--- a line that opens a block or closes one; all lines above it have left the depth as it was
+-- a line that opens a block or closes one; above it the depth is the one that the lines were begun at
 pub record TurnsDepth (t : List ℕ) (from : PathCursor) (w : PathWalk) : Type 0 where
   pub last : PathCursor
   pub inside : PassesAbove t (from .path .depth) from last
@@ -107,7 +107,8 @@ pub record TurnsDepth (t : List ℕ) (from : PathCursor) (w : PathWalk) : Type 0
   pub turned : w .part .path .depth ≡ from .path .depth → ⊥
   pub whole : w .part .rule ≡ 0
 
--- lines of one depth, from `from` on, end behind such a line, at one that breaks a rule, or at a bracket
+-- lines of a level, from `from` on, end behind such a line, or at one that breaks a rule, or at a bracket with the depth
+-- that they were begun at
 pub data EndsLevel (t : List ℕ) (from : PathCursor) (w : PathWalk) : Type 0 where
   turns : TurnsDepth t from w → EndsLevel t from w
   breaks : BreaksRule t from w → EndsLevel t from w
