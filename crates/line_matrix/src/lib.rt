@@ -10,7 +10,6 @@ ghost use Rattle.line_matrix.specs.Way.Rule.{dataRule};
 use lex_number::Number;
 use lex_number::Whole;
 
-// The forms, by their numbers in the table.
 // What has been read of the rows of a matrix: the number of the last [Row], how many numbers the row above it has, how
 // many values the file has before it, the least column that may come next, the greatest row or column named, and
 // whether everything so far fits.
