@@ -83,6 +83,9 @@ count = 26
 abbrev pub unused : ℕ
 unused = 27
 
+abbrev pub sgr : ℕ
+sgr = 29
+
 abbrev pub table : ℕ
 table = 30
 

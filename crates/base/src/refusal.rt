@@ -53,6 +53,8 @@ pub const COUNT: u64 = 26;
 
 pub const UNUSED: u64 = 27;
 
+pub const SGR: u64 = 29;
+
 pub const TABLE: u64 = 30;
 
 pub const NOSUCH: u64 = 31;

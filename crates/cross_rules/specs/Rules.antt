@@ -1,4 +1,4 @@
--- Document 01, "Numbers of refusal": rules 19 to 27, over the whole document. "In the last group a name means its first definition (a
+-- Document 01, "Numbers of refusal": rules 19 to 27 and 29, over the whole document. "In the last group a name means its first definition (a
 -- map's, after the line); one that has none breaks only 20, 21 or 23."
 -- Assumes nothing.
 use Prim.Native.Nat.{ℕ, zero, suc, _+_}
@@ -6,7 +6,7 @@ use mathlib.Core.Bool.{Bool, false, not}
 use mathlib.Core.List.{List, [], _∷_, _++_, map}
 use lib.ListN.{length}
 use lib.Dec.{ltb, eqb}
-use Rattle.table_layout.specs.Codes.{diagonal, endKind, sectionKind, lumped, distributed, mlm}
+use Rattle.table_layout.specs.Codes.{diagonal, endKind, sectionKind, lumped, distributed, slmGeneral, mlm}
 use Rattle.base.specs.If.{if_then_else_, both, either}
 use Rattle.base.specs.Runs.{same}
 use Rattle.base.specs.Broken.{Rule, _when_, firstBroken}
@@ -59,6 +59,10 @@ modelRules d m =
     refusal.twice when isTwice (map modelName (d .models)) (modelName m)
     ∷ refusal.list when not (isThere (d .listed) (modelName m))
     ∷ []
+
+-- "turned away, at the SGR line, in every model that is not SLM_general"
+abbrev pub sgrRules : Model → List Rule
+sgrRules m = refusal.sgr when not (eqb (m .type) slmGeneral) ∷ []
 
 -- ---- maps, pins and sections
 
@@ -176,8 +180,8 @@ stepRules d m s =
     if eqb (s .kind) endKind then endStepRules d m s else
     if eqb (s .kind) sectionKind then sectionStepRules d m s else []
 
--- ---- all lines with their rules, in this order: the model list, models with their steps, maps with their pins,
--- sections
+-- ---- all lines with their rules, in this order: the model list, models with their steps, the SGR lines of models, maps
+-- with their pins, sections
 
 module _ (d : Document) where
   unfoldable pub listRulesAtLines : List RulesAtLine
@@ -189,6 +193,12 @@ module _ (d : Document) where
   unfoldable pub modelRulesAtLines : List Model → List RulesAtLine
   modelRulesAtLines [] = []
   modelRulesAtLines (m ∷ ms) = record { line = m .line; rules = modelRules d m } ∷ (stepRulesAtLines m ++ modelRulesAtLines ms)
+
+  -- a model without SGR has no such line
+  unfoldable pub sgrRulesAtLines : List Model → List RulesAtLine
+  sgrRulesAtLines [] = []
+  sgrRulesAtLines (m ∷ ms) =
+      if eqb (m .sgr) 0 then sgrRulesAtLines ms else record { line = m .sgr; rules = sgrRules m } ∷ sgrRulesAtLines ms
 
   unfoldable pub pinRulesAtLines : Map → List RulesAtLine
   pinRulesAtLines m = map (λ (p : Named). record { line = p .line; rules = pinNameRules m p }) (m .pins)
@@ -202,7 +212,10 @@ module _ (d : Document) where
   sectionRulesAtLines i (s ∷ ss) = record { line = s .line; rules = sectionRules d i s } ∷ sectionRulesAtLines (i + 1) ss
 
   unfoldable pub allRulesAtLines : List RulesAtLine
-  allRulesAtLines = listRulesAtLines ++ (modelRulesAtLines (d .models) ++ (mapRulesAtLines (d .maps) ++ sectionRulesAtLines 0 (d .sections)))
+  allRulesAtLines =
+      listRulesAtLines
+      ++ (modelRulesAtLines (d .models)
+      ++ (sgrRulesAtLines (d .models) ++ (mapRulesAtLines (d .maps) ++ sectionRulesAtLines 0 (d .sections))))
 
 -- ---- the first broken rule
 
@@ -221,6 +234,6 @@ unfoldable pub earliest : List Finding → Finding
 earliest [] = noFinding
 earliest (f ∷ fs) = earlier f (earliest fs)
 
--- the first line that breaks one of the rules 19 to 27, and that rule; rule 0 and line 0 if no line does
+-- the first line that breaks one of the rules 19 to 27 and 29, and that rule; rule 0 and line 0 if no line does
 unfoldable pub crossRule : Document → Finding
 crossRule d = earliest (map findingOf (allRulesAtLines d))

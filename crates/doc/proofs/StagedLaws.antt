@@ -1,46 +1,54 @@
--- Laws of the staged steps of a text: each is found again at its index.
+-- Laws of the staged models and steps of a text: each is found again at its index.
 -- Assumes nothing.
 use mathlib.Core.Path.{_≡_, refl, sym, _∙_, ap}
-use mathlib.Core.List.{List, [], _∷_, _++_}
-use Prim.Native.Nat.{ℕ, zero, suc, _+_, _-_, _*_, _≤_, _<_}
-use native.Mathlib.Nat.{add-zero, zero-add, mul-le-mul, le-refl, le-trans}
+use mathlib.Core.List.{List, [], _∷_, _++_, map}
+use Prim.Native.Nat.{ℕ, suc, _+_, _*_, _≤_}
+use native.Mathlib.Nat.{mul-le-mul, le-refl, le-trans}
 use native.Mathlib.Omega.{arith}
-use lib.ListN.{length, take, drop, getD, length-append}
-use lib.Seq.{getD-drop, getD-take, drop-at}
-use Rattle.table_record.specs.Way.Stage.{wordsOf, stagedStepWidth, stagedStepAt}
-use Rattle.table_record.proofs.StageLaws.{words-append, words-cons, words-long}
+use lib.ListN.{length, take, drop, length-append}
+use lib.Seq.{drop-at}
+use Rattle.table_record.specs.Way.Stage.{wordsOf, stagedFrom, stagedModelWidth, stagedModelWords, stagedModelAt, stagedStepWidth, stagedStepAt}
+use Rattle.table_record.specs.declared.ModelRecord.{ModelRecord}
+use Rattle.table_record.specs.declared.stage.StagedModel.{StagedModel}
+use Rattle.table_record.proofs.StageLaws.{words-append, words-cons, words-long, drop-taken, model-back, step-back, staged-back}
 use Rattle.line_keyword.specs.declared.Counts.{Counts}
 use Rattle.read_line.specs.Reading.{readingOf}
 use Rattle.read_line.specs.declared.Reading.the-variants.{Read}
 use Rattle.doc.specs.Lines.{significant, gather}
-use Rattle.doc.specs.Document.{Step, stepOf}
+use Rattle.doc.specs.Document.{Step, Model, stepOf, documentOf}
+use Rattle.doc.specs.Records.{modelRecords}
 use Rattle.doc.specs.Way.Holds.{countsOf}
-use Rattle.doc.specs.Way.Staged.{stagedStep, stepStaged, StepsStaged}
+use Rattle.doc.specs.Way.Staged.{stagedModel, stagedModels, ModelsStaged, stagedStep, stepStaged, StepsStaged}
 use Rattle.doc.proofs.PassLaws.{steps-of-text}
-use Rattle.doc.proofs.CountLaws.{many-steps, counts-bounded}
+use Rattle.doc.proofs.CountLaws.{many-models, many-steps, counts-bounded}
 
-pub step-back : (s : Step) (rest stage : List ℕ) (at many : ℕ) → stagedStepWidth ≤ many → take many (drop at stage) ≡ stepStaged s ++ rest → stagedStepAt stage at ≡ stagedStep s
-unfolding stagedStep
-step-back s rest stage at many h e =
-    let word : (k : ℕ) → k < stagedStepWidth → getD stage (at + k) 0 ≡ getD (stepStaged s ++ rest) k 0 =
-    λ (k : ℕ) (l : k < stagedStepWidth). sym (getD-drop at stage k 0) ∙ sym (getD-take many (drop at stage) k 0 (omega arith)) ∙ ap (λ (u : List ℕ). getD u k 0) e in
-    let z : getD stage at 0 ≡ s .kind = ap (λ (n : ℕ). getD stage n 0) (sym (add-zero at)) ∙ word 0 (omega arith) in
-    rw (z, word 1 (omega arith), word 2 (omega arith), word 3 (omega arith), word 4 (omega arith)) (
-    rw (word 5 (omega arith), word 6 (omega arith), word 7 (omega arith)) refl)
+-- ---- models
 
-pub drop-taken : (w n : ℕ) (l : List ℕ) → drop w (take (w + n) l) ≡ take n (drop w l)
-drop-taken zero n l = ap (λ (k : ℕ). take k l) (zero-add n)
-drop-taken (suc w) n [] = empty (suc w + n) ∙ sym (nothing n)
-  where
-    nothing : (k : ℕ) → take {A = ℕ} k [] ≡ []
-    nothing zero = refl
-    nothing (suc k) = refl
+pub models-told : (first : ℕ) (ms : List Model) → map (λ (x : StagedModel). x .model) (stagedModels first ms) ≡ modelRecords first ms
+unfolding stagedModels modelRecords
+models-told first [] = refl
+models-told first (m ∷ ms) = ap (λ (rs : List ModelRecord). stagedModel first m .model ∷ rs) (models-told (first + length (m .steps)) ms)
 
-    empty : (k : ℕ) → drop (suc w) (take {A = ℕ} k []) ≡ []
-    empty k = ap (drop (suc w)) (nothing k)
-drop-taken (suc w) n (x ∷ l) =
-    let e : suc w + n ≡ suc (w + n) = omega arith in
-    ap (λ (k : ℕ). drop (suc w) (take k (x ∷ l))) e ∙ drop-taken w n l
+pub staged-models-long : (first : ℕ) (ms : List Model) → length (stagedModels first ms) ≡ length ms
+unfolding stagedModels
+staged-models-long first [] = refl
+staged-models-long first (m ∷ ms) = ap suc (staged-models-long (first + length (m .steps)) ms)
+
+-- of a text that reads to its end
+module _ (t : List ℕ) (c : Counts) (reads : readingOf t ≡ Read c) (stage : List ℕ) (staged : ModelsStaged t stage) where
+  pub models-inside : stagedModelWidth * c .models ≤ length stage
+  unfolding countsOf
+  models-inside = le-trans (mul-le-mul (le-refl stagedModelWidth) (counts-bounded t c reads 0)) (staged .room)
+
+  pub models-staged : stagedFrom (stagedModelAt stage) stagedModelWidth 0 (c .models) ≡ stagedModels 0 (documentOf t .models)
+  models-staged =
+      let ms : List StagedModel = stagedModels 0 (documentOf t .models) in
+      let n : length ms ≡ c .models = staged-models-long 0 (documentOf t .models) ∙ many-models t c reads in
+      let fits : stagedModelWidth * length ms ≤ length stage = rw n models-inside in
+      ap (stagedFrom (stagedModelAt stage) stagedModelWidth 0) (sym n)
+      ∙ staged-back stagedModelWords stagedModelWidth (λ (x : StagedModel). refl) stagedModelAt model-back ms stage 0 (staged .whole .all fits)
+
+-- ---- steps
 
 -- the step behind so many others
 staged-at : (pre post : List Step) (s : Step) (stage : List ℕ) →
@@ -57,7 +65,7 @@ staged-at pre post s stage e =
     ∙ ap (λ (k : ℕ). drop front (take k stage)) (sym n)
     ∙ ap (drop front) (e ∙ words)
     ∙ drop-at (wordsOf stepStaged pre) (stepStaged s ++ wordsOf stepStaged post) front w in
-    step-back s (wordsOf stepStaged post) stage front (stagedStepWidth + stagedStepWidth * length post) (omega arith) behind
+    step-back (stagedStep s) (wordsOf stepStaged post) stage front (stagedStepWidth + stagedStepWidth * length post) (omega arith) behind
 
 -- of a text that reads to its end
 module _ (t : List ℕ) (c : Counts) (reads : readingOf t ≡ Read c) (stage : List ℕ) (staged : StepsStaged t stage) where

@@ -26,7 +26,7 @@ use Rattle.lex_keyword.specs.Names.{
 use Rattle.line_place.specs.Place.{isInFamily, isInModel, opensMatrix, isRowOrBandwidth}
 use Rattle.line_place.specs.Place as place
 use Rattle.line_argument.specs.Argument.{formOf, methodOf}
-use Rattle.line_head.specs.Head.{headLineOf, headNext, newHead}
+use Rattle.line_head.specs.Head.{saysRatio, headLineOf, headNext, newHead}
 use Rattle.line_head.specs.declared.Head.{Head}
 use Rattle.line_path.specs.Path.{sayingOf, isMult, amountOf}
 use Rattle.line_path.specs.Path as path
@@ -64,10 +64,12 @@ pub record Step : Type 0 where
   pub side : Word
   pub line : ℕ
 
+-- `sgr` is the line of its SGR, 0 if it has none
 pub record Model : Type 0 where
   pub name : Word
   pub line : ℕ
   pub type : ℕ
+  pub sgr : ℕ
   pub steps : List Step
 
 pub record Map : Type 0 where
@@ -130,6 +132,15 @@ unfoldable pub headIn : Head → List Line → Head
 headIn h [] = h
 headIn h (l ∷ ls) = headIn (if standsIn place.head l then headNext (headLineOf (l .content)) h else h) ls
 
+-- a line `SGR n:1` of a model's head
+unfoldable pub saysSgr : Line → Bool
+saysSgr l = both (standsIn place.head l) (eqb (headLineOf (l .content) .says) saysRatio)
+
+-- the line of a model's SGR; n if none of these lines says it
+unfoldable pub sgrIn : ℕ → List Line → ℕ
+sgrIn n [] = n
+sgrIn n (l ∷ ls) = sgrIn (if saysSgr l then l .line else n) ls
+
 unfoldable pub opensModel : Line → Bool
 opensModel l = both (isInFamily (l .place)) (eqb (keyOf l) beginIcmModel)
 
@@ -138,7 +149,14 @@ unfoldable pub inModel : Line → Bool
 inModel l = isInModel (l .place)
 
 unfoldable pub modelOf : Line → List Line → Model
-modelOf l body = record { name = argumentOf l; line = l .line; type = headIn newHead body .kind - 1; steps = stepsIn body }
+modelOf l body =
+    record {
+      name = argumentOf l;
+      line = l .line;
+      type = headIn newHead body .kind - 1;
+      sgr = sgrIn 0 body;
+      steps = stepsIn body;
+    }
 
 unfoldable pub modelAt : Line → List Line → List Model
 modelAt l after = if opensModel l then modelOf l (upTo inModel after) ∷ [] else []

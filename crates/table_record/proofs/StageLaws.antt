@@ -4,18 +4,27 @@
 use mathlib.Core.Path.{_≡_, refl, sym, _∙_, ap}
 use mathlib.Core.Bool.{true, false}
 use mathlib.Core.List.{List, [], _∷_, _++_, append-assoc, append-nil}
-use Prim.Native.Nat.{ℕ, suc, _+_, _-_, _*_, _/_, _^_, _≤_, _<_}
-use native.Mathlib.Nat.{add-comm, mul-suc, mul-add, mul-zero, le-trans, mul-le-mul, le-refl, mul-comm, lt-div-mul-add, div-mul-le-self}
+use Prim.Native.Nat.{ℕ, zero, suc, _+_, _-_, _*_, _/_, _^_, _≤_, _<_}
+use native.Mathlib.Nat.{add-comm, add-zero, zero-add, mul-suc, mul-add, mul-zero, le-trans, mul-le-mul, le-refl, mul-comm, lt-div-mul-add, div-mul-le-self}
+use native.Mathlib.Numerals.{add-one}
 use native.Mathlib.Omega.{arith}
-use lib.ListN.{length, take, drop, length-append}
-use lib.Seq.{sets, sets-eq, length-sets, take-at, length-take-le}
+use lib.ListN.{length, take, drop, getD, length-append}
+use lib.Seq.{sets, sets-eq, length-sets, take-at, drop-at, drop-drop, getD-drop, getD-take, length-take-le}
 use lib.Dec.{leb}
 use borrow.Author.Tests.{le-leb, lt-leb}
 use Rattle.base.proofs.IfLaws.{if-true, if-false, by-cases}
-use Rattle.table_layout.specs.Layout.{joined}
-use Rattle.table_record.specs.Way.Stage.{wordsOf, putAt, Held, Whole}
+use Rattle.table_layout.specs.Layout.{modelWidth, joined}
+use Rattle.table_record.specs.Way.Standing.{modelAt}
+use Rattle.table_record.specs.Way.Stage.{wordsOf, putAt, Held, Whole, stagedFrom, stagedModelWidth, stagedModelWords, stagedModelAt, stagedStepWidth, stagedStepWords, stagedStepAt}
+use Rattle.table_record.specs.declared.ModelRecord.{ModelRecord}
+use Rattle.table_record.specs.declared.stage.StagedModel.{StagedModel}
+use Rattle.table_record.specs.declared.stage.StagedStep.{StagedStep}
 
 -- ---- the words of records
+
+-- where the record behind the i-th begins
+pub next-place : (width i : ℕ) → width * i + width ≡ width * (i + 1)
+next-place width i = sym (ap (λ (n : ℕ). width * n) (add-one i) ∙ mul-suc width i)
 
 pub words-none : {A : Type 0} (words : A → List ℕ) → wordsOf words [] ≡ []
 unfolding wordsOf joined
@@ -128,6 +137,69 @@ module _ {A : Type 0} (words : A → List ℕ) (width : ℕ) (whole : List A) wh
               ∙ ap (λ (r : List ℕ). take (width * k) stage ++ r) (sym (ap (wordsOf words) e ∙ words-none words))
               ∙ held .image h;
         }
+
+-- ---- and back
+
+pub model-read :
+    (stage : List ℕ) (at : ℕ) (own : ModelRecord) → own ≡ modelAt stage at →
+    record { model = own; sgr = getD stage (at + modelWidth) 0 } ≡ stagedModelAt stage at
+model-read stage at own e = λ i. record { model = e i; sgr = getD stage (at + modelWidth) 0 }
+
+pub drop-taken : (w n : ℕ) (l : List ℕ) → drop w (take (w + n) l) ≡ take n (drop w l)
+drop-taken zero n l = ap (λ (k : ℕ). take k l) (zero-add n)
+drop-taken (suc w) n [] = empty (suc w + n) ∙ sym (nothing n)
+  where
+    nothing : (k : ℕ) → take {A = ℕ} k [] ≡ []
+    nothing zero = refl
+    nothing (suc k) = refl
+
+    empty : (k : ℕ) → drop (suc w) (take {A = ℕ} k []) ≡ []
+    empty k = ap (drop (suc w)) (nothing k)
+drop-taken (suc w) n (x ∷ l) =
+    let e : suc w + n ≡ suc (w + n) = omega arith in
+    ap (λ (k : ℕ). drop (suc w) (take k (x ∷ l))) e ∙ drop-taken w n l
+
+-- the k-th of some words that stand in a stage
+module _ (stage : List ℕ) (at many : ℕ) (words : List ℕ) (there : take many (drop at stage) ≡ words) where
+  word-back : (k : ℕ) → k < many → getD stage (at + k) 0 ≡ getD words k 0
+  word-back k h = sym (getD-drop at stage k 0) ∙ sym (getD-take many (drop at stage) k 0 h) ∙ ap (λ (u : List ℕ). getD u k 0) there
+
+  first-back : 0 < many → getD stage at 0 ≡ getD words 0 0
+  first-back h = ap (λ (n : ℕ). getD stage n 0) (sym (add-zero at)) ∙ word-back 0 h
+
+pub model-back : (x : StagedModel) (rest stage : List ℕ) (at many : ℕ) → stagedModelWidth ≤ many → take many (drop at stage) ≡ stagedModelWords x ++ rest → stagedModelAt stage at ≡ x
+model-back x rest stage at many h e =
+    let word : (k : ℕ) → k < stagedModelWidth → getD stage (at + k) 0 ≡ getD (stagedModelWords x ++ rest) k 0 =
+    λ (k : ℕ) (l : k < stagedModelWidth). word-back stage at many _ e k (omega arith) in
+    let z : getD stage at 0 ≡ x .model .start = first-back stage at many _ e (omega arith) in
+    rw (z, word 1 (omega arith), word 2 (omega arith), word 3 (omega arith), word 4 (omega arith), word 5 (omega arith)) refl
+
+pub step-back : (x : StagedStep) (rest stage : List ℕ) (at many : ℕ) → stagedStepWidth ≤ many → take many (drop at stage) ≡ stagedStepWords x ++ rest → stagedStepAt stage at ≡ x
+step-back x rest stage at many h e =
+    let word : (k : ℕ) → k < stagedStepWidth → getD stage (at + k) 0 ≡ getD (stagedStepWords x ++ rest) k 0 =
+    λ (k : ℕ) (l : k < stagedStepWidth). word-back stage at many _ e k (omega arith) in
+    let z : getD stage at 0 ≡ x .kind = first-back stage at many _ e (omega arith) in
+    rw (z, word 1 (omega arith), word 2 (omega arith), word 3 (omega arith), word 4 (omega arith)) (
+    rw (word 5 (omega arith), word 6 (omega arith), word 7 (omega arith)) refl)
+
+-- records whose words stand in a stage, read back one by one
+module _ {A : Type 0} (words : A → List ℕ) (width : ℕ) (wide : (x : A) → length (words x) ≡ width) (item : List ℕ → ℕ → A)
+    (back : (x : A) (rest stage : List ℕ) (at many : ℕ) → width ≤ many → take many (drop at stage) ≡ words x ++ rest → item stage at ≡ x) where
+  pub staged-back : (xs : List A) (stage : List ℕ) (i : ℕ) → take (width * length xs) (drop (width * i) stage) ≡ wordsOf words xs →
+      stagedFrom (item stage) width i (length xs) ≡ xs
+  unfolding stagedFrom
+  staged-back [] stage i e = refl
+  staged-back (x ∷ xs) stage i e =
+      let n : width * suc (length xs) ≡ width + width * length xs = mul-suc width (length xs) ∙ add-comm (width * length xs) width in
+      let f : take (width + width * length xs) (drop (width * i) stage) ≡ words x ++ wordsOf words xs =
+      ap (λ (k : ℕ). take k (drop (width * i) stage)) (sym n) ∙ e ∙ words-cons words x xs in
+      let rest : take (width * length xs) (drop (width * (i + 1)) stage) ≡ wordsOf words xs =
+      ap (λ (k : ℕ). take (width * length xs) (drop k stage)) (sym (next-place width i))
+      ∙ ap (take (width * length xs)) (sym (drop-drop width (width * i) stage))
+      ∙ sym (drop-taken width (width * length xs) (drop (width * i) stage))
+      ∙ ap (drop width) f
+      ∙ drop-at (words x) (wordsOf words xs) width (wide x) in
+      (λ j. back x (wordsOf words xs) stage (width * i) (width + width * length xs) (omega arith) f j ∷ staged-back xs stage (i + 1) rest j)
 
 -- ---- what the code stores
 

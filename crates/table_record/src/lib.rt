@@ -322,6 +322,20 @@ pub fn no_value() -> Value
 
 // ---- a record stored at a word of a table
 
+pub fn put_model_at(table: &mut [u64], at: usize, model: ModelRecord)
+    requires { ⌜ at + modelWidth ≤ length (now table) ⌝ }
+    ensures { λ _. ⌜ now (table .exit) ≡ sets (now (table .entry)) at (modelWords model) ⌝ }
+{
+    let words = [
+        model.start,
+        model.size,
+        model.kind,
+        model.first,
+        model.steps,
+    ];
+    base::put_words(table, at, &words);
+}
+
 pub fn put_step_at(table: &mut [u64], at: usize, step: StepRecord)
     requires { ⌜ at + stepWidth ≤ length (now table) ⌝ }
     ensures { λ _. ⌜ now (table .exit) ≡ sets (now (table .entry)) at (stepWords step) ⌝ }

@@ -3,14 +3,23 @@
 ghost use mathlib.Core.Path.{_≡_};
 ghost use Prim.Native.Nat.{_+_, _*_, _≤_, _<_};
 ghost use lib.ListN.{length};
-ghost use Rattle.table_layout.specs.Layout.{modelWidth, mapWidth, pinWidth, sectionWidth, matrixWidth};
-ghost use Rattle.table_record.specs.Records.{modelWords, mapWords, pinWords, sectionWords, matrixWords};
-ghost use Rattle.table_record.specs.Way.Stage.{putAt, stagedStepWidth, stagedStepWords, stagedStepAt};
+ghost use Rattle.table_layout.specs.Layout.{mapWidth, pinWidth, sectionWidth, matrixWidth};
+ghost use Rattle.table_record.specs.Records.{mapWords, pinWords, sectionWords, matrixWords};
+ghost use Rattle.table_record.specs.Way.Stage.{putAt, stagedModelWidth, stagedModelWords, stagedModelAt, stagedStepWidth, stagedStepWords, stagedStepAt};
 use crate::MapRecord;
 use crate::MatrixRecord;
 use crate::ModelRecord;
 use crate::PinRecord;
 use crate::SectionRecord;
+
+// A model's record, and the line of its SGR (0 for none), which the table does not hold.
+pub struct StagedModel {
+    pub model: ModelRecord,
+    pub sgr: u64,
+}
+
+// How many words a staged model has.
+pub const MODEL_WIDTH: usize = 6;
 
 // A step before its target is known: it has its name instead, and tells whether its amount is a Mult (1) or not (0).
 pub struct StagedStep {
@@ -39,15 +48,17 @@ fn put(stage: &mut [u64], index: u64, words: &[u64])
     base::put_words(stage, words.len() * (index as usize), words);
 }
 
-pub fn put_model(stage: &mut [u64], index: u64, model: ModelRecord)
-    ensures { λ _. ⌜ now (stage .exit) ≡ putAt (modelWidth * index) (modelWords model) (now (stage .entry)) ⌝ }
+pub fn put_model(stage: &mut [u64], index: u64, staged: StagedModel)
+    ensures { λ _. ⌜ now (stage .exit) ≡ putAt (stagedModelWidth * index) (stagedModelWords staged) (now (stage .entry)) ⌝ }
 {
+    let model = staged.model;
     let words = [
         model.start,
         model.size,
         model.kind,
         model.first,
         model.steps,
+        staged.sgr,
     ];
     put(stage, index, &words);
 }
@@ -117,6 +128,18 @@ pub fn put_matrix(stage: &mut [u64], index: u64, matrix: MatrixRecord)
         matrix.line,
     ];
     put(stage, index, &words);
+}
+
+// The staged model whose words begin at word `at`.
+pub fn model_at(stage: &[u64], at: usize) -> StagedModel
+    requires { ⌜ at + stagedModelWidth ≤ length (now stage) ⌝ }
+    ensures { λ r. ⌜ r ≡ stagedModelAt (now (stage .entry)) at ⌝ }
+{
+    let model = crate::model_at(stage, at);
+    StagedModel {
+        model,
+        sgr: stage[at + table_layout::MODEL_WIDTH],
+    }
 }
 
 // The staged step whose words begin at word `at`.

@@ -1,4 +1,4 @@
--- The first rule of 19 to 27 that each line breaks, and the findings of a document by the kinds of its lines: what the
+-- The first rule of 19 to 27 and 29 that each line breaks, and the findings of a document by the kinds of its lines: what the
 -- code goes over. A law says that they are the findings of `allRulesAtLines`.
 -- Assumes nothing.
 use Prim.Native.Nat.{ℕ, _+_}
@@ -8,7 +8,7 @@ use Rattle.table_layout.specs.Codes.{endKind, sectionKind}
 use Rattle.base.specs.If.{if_then_else_}
 use Rattle.base.specs.Broken.{firstBroken}
 use Rattle.doc.specs.Document.{Named, Step, Model, Map, Section, Document}
-use Rattle.cross_rules.specs.Rules.{listNameRules, modelRules, mapNameRules, pinNameRules, sectionRules, endStepRules, sectionStepRules}
+use Rattle.cross_rules.specs.Rules.{listNameRules, modelRules, sgrRules, mapNameRules, pinNameRules, sectionRules, endStepRules, sectionStepRules}
 use Rattle.cross_rules.specs.declared.Finding.{Finding}
 
 -- ---- the rule of a line
@@ -18,6 +18,9 @@ listNameRule d n = firstBroken (listNameRules d n)
 
 unfoldable pub modelRule : Document → Model → ℕ
 modelRule d m = firstBroken (modelRules d m)
+
+unfoldable pub sgrRule : Model → ℕ
+sgrRule m = firstBroken (sgrRules m)
 
 unfoldable pub mapNameRule : Document → Map → ℕ
 mapNameRule d m = firstBroken (mapNameRules d m)
@@ -51,6 +54,10 @@ unfoldable pub modelFindings : Document → List Model → List Finding
 modelFindings d [] = []
 modelFindings d (m ∷ ms) = record { rule = modelRule d m; line = m .line } ∷ (stepFindings d m ++ modelFindings d ms)
 
+unfoldable pub sgrFindings : List Model → List Finding
+sgrFindings [] = []
+sgrFindings (m ∷ ms) = if eqb (m .sgr) 0 then sgrFindings ms else record { rule = sgrRule m; line = m .sgr } ∷ sgrFindings ms
+
 unfoldable pub pinFindings : Map → List Finding
 pinFindings m = map (λ (p : Named). record { rule = pinNameRule m p; line = p .line }) (m .pins)
 
@@ -63,4 +70,6 @@ sectionFindings d i [] = []
 sectionFindings d i (s ∷ ss) = record { rule = sectionRule d i s; line = s .line } ∷ sectionFindings d (i + 1) ss
 
 unfoldable pub findings : Document → List Finding
-findings d = listFindings d ++ (modelFindings d (d .models) ++ (mapFindings d (d .maps) ++ sectionFindings d 0 (d .sections)))
+findings d =
+    listFindings d
+    ++ (modelFindings d (d .models) ++ (sgrFindings (d .models) ++ (mapFindings d (d .maps) ++ sectionFindings d 0 (d .sections))))

@@ -1,14 +1,17 @@
 -- Records that are staged: stored one behind another while the lines that write them are judged, before it is known where
 -- their part begins. What is staged and what is left is the whole.
 -- Assumes nothing.
-use Prim.Native.Nat.{ℕ, _+_, _*_, _≤_}
+use Prim.Native.Nat.{ℕ, zero, suc, _+_, _*_, _≤_}
 use mathlib.Core.Path.{_≡_}
 use mathlib.Core.List.{List, [], _∷_, _++_, map}
 use lib.ListN.{length, take, getD}
 use lib.Seq.{sets}
 use lib.Dec.{leb}
 use Rattle.base.specs.If.{if_then_else_}
-use Rattle.table_layout.specs.Layout.{joined}
+use Rattle.table_layout.specs.Layout.{modelWidth, joined}
+use Rattle.table_record.specs.Records.{modelWords}
+use Rattle.table_record.specs.Way.Standing.{modelAt}
+use Rattle.table_record.specs.declared.stage.StagedModel.{StagedModel}
 use Rattle.table_record.specs.declared.stage.StagedStep.{StagedStep}
 
 -- the words of records, one record after another
@@ -27,6 +30,23 @@ pub record Held {A : Type 0} (words : A → List ℕ) (width : ℕ) (whole : Lis
 -- all records are staged, if they fit
 pub record Whole {A : Type 0} (words : A → List ℕ) (width : ℕ) (whole : List A) (stage : List ℕ) : Type 0 where
   pub all : width * length whole ≤ length stage → take (width * length whole) stage ≡ wordsOf words whole
+
+-- so many staged records, from the i-th on; `item` gives the one whose words begin at a word
+unfoldable pub stagedFrom : {A : Type 0} → (ℕ → A) → ℕ → ℕ → ℕ → List A
+stagedFrom item width i zero = []
+stagedFrom item width i (suc n) = item (width * i) ∷ stagedFrom item width (i + 1) n
+
+-- ---- a model, with the line of its SGR
+
+abbrev pub stagedModelWidth : ℕ
+stagedModelWidth = modelWidth + 1
+
+abbrev pub stagedModelWords : StagedModel → List ℕ
+stagedModelWords m = modelWords (m .model) ++ (m .sgr ∷ [])
+
+-- the staged model whose words begin at a word
+abbrev pub stagedModelAt : List ℕ → ℕ → StagedModel
+stagedModelAt stage at = record { model = modelAt stage at; sgr = getD stage (at + modelWidth) 0 }
 
 -- ---- a step, before its target is known
 
