@@ -61,7 +61,7 @@ enum skumvari_walk_answer {
 /* The kinds of matrix: resistance, inductance, conductance, capacitance. */
 enum skumvari_kind { SKUMVARI_R = 0, SKUMVARI_L = 1, SKUMVARI_G = 2, SKUMVARI_C = 3 };
 
-/* The numbers of refusal: 1 to 27 of the intake, 30 and 31 of the questions, which have line 0. */
+/* The numbers of refusal: 1 to 27 and 29 of the intake, 30 and 31 of the questions, which have line 0. */
 enum skumvari_number {
     SKUMVARI_NUMBER_SIZE = 1, /* text over 1,048,576 bytes */
     SKUMVARI_NUMBER_BYTE = 2, /* a byte other than 0x20 to 0x7E, TAB, LF, or CR right before LF */
@@ -90,6 +90,7 @@ enum skumvari_number {
     SKUMVARI_NUMBER_KIND = 25, /* an SLM model's step over a section with a form that is not Diagonal_matrix */
     SKUMVARI_NUMBER_COUNT = 26, /* a step whose pins or conductors differ from the pins of the path's first map */
     SKUMVARI_NUMBER_UNUSED = 27, /* a section that no step uses */
+    SKUMVARI_NUMBER_SGR = 29, /* SGR in a model that is not SLM_general */
     SKUMVARI_NUMBER_TABLE = 30, /* a question over an unsound table */
     SKUMVARI_NUMBER_NOSUCH = 31 /* section, kind, row, column or walk place out of range */
 };

@@ -121,6 +121,8 @@ static void check_refusals(void)
         { 24, "", SKUMVARI_NUMBER_COUNT, 14 },
         { 38, "[End ICM Section]\n[Begin ICM Section] T\n[Derivation Method] Lumped\n[Resistance Matrix] Diagonal_matrix\n1\n[End ICM Section]",
           SKUMVARI_NUMBER_UNUSED, 39 },
+        { 11, "ICM_model_type MLM\nSGR 3:1", SKUMVARI_NUMBER_SGR, 12 },
+        { 11, "SGR 3:1\nICM_model_type MLM", SKUMVARI_NUMBER_SGR, 11 },
     };
     for (size_t i = 0; i < sizeof cases / sizeof cases[0]; i++) {
         const char *text = edited(cases[i].line, cases[i].replacement);

@@ -196,6 +196,8 @@ class Refusals(unittest.TestCase):
         self.refused(example(line24="A\xe9"), "refused 2 BYTE: byte other than 0x20 to 0x7E, TAB, LF, or CR right before LF, line 24")
         self.refused(example(line3="\0"), "refused 2 BYTE: byte other than 0x20 to 0x7E, TAB, LF, or CR right before LF, line 3")
         self.refused(example(line16="Section Mult=1 T"), "refused 23 NOSECTION: no such section, line 16")
+        ratio = example(line11="ICM_model_type MLM\nSGR 3:1")
+        self.refused(ratio, "refused 29 SGR: SGR in a model that is not SLM_general, line 12")
 
     def test_numbers_are_those_of_the_header(self):
         header = (ROOT / "include" / "skumvari.h").read_text()

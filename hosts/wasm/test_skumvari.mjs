@@ -58,6 +58,7 @@ test("a refused text leaves zeros", () => {
         [TEXT.subarray(0, -1), 299, 4, 39],
         [edited(35, "1e99 1"), 299, 14, 35],
         [edited(16, "Section Mult=1 T"), 299, 23, 16],
+        [edited(11, "ICM_model_type MLM\nSGR 3:1"), 299, 29, 12],
         [new Uint8Array(1_048_577).fill(10), 299, 1, 0],
         [new Uint8Array(1_048_576).fill(10), 299, 5, 0],
     ];

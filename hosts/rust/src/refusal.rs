@@ -4,7 +4,7 @@ use std::fmt;
 use std::io;
 
 /// What the paper's table of refusals says of each number.
-const NUMBERS: [(u64, &str, &str); 29] = [
+const NUMBERS: [(u64, &str, &str); 30] = [
     (1, "SIZE", "text over 1,048,576 bytes"),
     (2, "BYTE", "byte other than 0x20 to 0x7E, TAB, LF, or CR right before LF"),
     (3, "LONG", "line over 120 characters without its terminator"),
@@ -32,6 +32,7 @@ const NUMBERS: [(u64, &str, &str); 29] = [
     (25, "KIND", "step of an SLM model over a section with a form that is not Diagonal_matrix"),
     (26, "COUNT", "pins or conductors that differ from the pins of the path's first map"),
     (27, "UNUSED", "section that no step uses"),
+    (29, "SGR", "SGR in a model that is not SLM_general"),
     (30, "TABLE", "question over an unsound table"),
     (31, "NOSUCH", "section, kind, row, column or walk place out of range"),
 ];
@@ -43,7 +44,7 @@ const NOSUCH: u64 = 31;
 #[derive(Clone, Copy, Debug, PartialEq, Eq, Hash)]
 #[non_exhaustive]
 pub struct Refusal {
-    /// The paper's number: 1 to 27 from the intake, 30 or 31 from a question.
+    /// The paper's number: 1 to 27 or 29 from the intake, 30 or 31 from a question.
     pub number: u64,
     /// The paper's name of the number, such as `ROOM`.
     pub name: &'static str,

@@ -52,8 +52,9 @@ const LISTING_WORDS: usize = 8_192;
 const SHORT_TEXT: usize = 20_000;
 /// How many words after those used there are in tables that are bent.
 const AFTER: usize = 4;
-/// The numbers of refusal of the intake.
-const NUMBERS: usize = 27;
+/// The greatest number of refusal of the intake, and the one below it that is not given yet.
+const NUMBERS: usize = 29;
+const NOT_GIVEN: usize = 28;
 
 /// A setting from the environment, or its default.
 fn setting(name: &str, default: u64) -> u64 {
@@ -244,7 +245,8 @@ impl Run {
     }
 
     fn assert_all_refusals(&self) {
-        let missed: Vec<usize> = (1..=NUMBERS).filter(|number| self.refused[*number] == 0).collect();
+        let given = (1..=NUMBERS).filter(|number| *number != NOT_GIVEN);
+        let missed: Vec<usize> = given.filter(|number| self.refused[*number] == 0).collect();
         assert!(missed.is_empty(), "numbers of refusal that no case met: {missed:?}");
     }
 }

@@ -175,6 +175,7 @@ fn refusals_tell_number_name_and_line() {
         ("\n".repeat(1_048_577), "refused 1 SIZE: text over 1,048,576 bytes"),
         (edited("4.5nH\n", "1e99\n"), "refused 14 RANGE: number or integer out of bounds, line 37"),
         (edited("Mult=1 S", "Mult=1 T"), "refused 23 NOSECTION: no such section, line 16"),
+        (edited("MLM\n", "MLM\nSGR 3:1\n"), "refused 29 SGR: SGR in a model that is not SLM_general, line 12"),
         (
             edited("A2", "A\u{e9}"),
             "refused 2 BYTE: byte other than 0x20 to 0x7E, TAB, LF, or CR right before LF, line 24",

@@ -74,6 +74,7 @@ NUMBERS = {
     25: ("KIND", "step of an SLM model over a section with a form that is not Diagonal_matrix"),
     26: ("COUNT", "pins or conductors that differ from the pins of the path's first map"),
     27: ("UNUSED", "section that no step uses"),
+    29: ("SGR", "SGR in a model that is not SLM_general"),
     30: ("TABLE", "question over an unsound table"),
     31: ("NOSUCH", "section, kind, row, column or walk place out of range"),
 }

@@ -51,6 +51,8 @@ pub(crate) enum ModelType {
 pub(crate) struct Model<'a> {
     pub named: Named<'a>,
     pub model_type: ModelType,
+    /// The line of its SGR, if it has one.
+    pub ratio_line: Option<u64>,
     pub first_step: usize,
     pub steps: usize,
 }

@@ -72,8 +72,9 @@ impl<'a> Reader<'a> {
 
     fn open_model(&mut self, named: Named<'a>) {
         let first_step = self.document.steps.len();
-        // The type is settled by the model's head, the steps by its path.
-        self.document.models.push(Model { named, model_type: ModelType::Multiple, first_step, steps: 0 });
+        // Type and SGR are settled by the model's head, the steps by its path.
+        let model_type = ModelType::Multiple;
+        self.document.models.push(Model { named, model_type, ratio_line: None, first_step, steps: 0 });
         self.block = Block::Model;
         self.seen = Seen::default();
     }

@@ -62,7 +62,7 @@ pub fn intake(text: &[u8], table: &mut [u64]) -> Answer {
     }
 }
 
-/// The groups of rules in their order: size; lines and what they hold; room; names across the file.
+/// The groups of rules in their order: size; lines and what they hold; room; what goes together across the file.
 fn try_intake(text: &[u8], table: &mut [u64]) -> Result<usize, Refusal> {
     if text.len() > TEXT_BOUND {
         return Err(Refusal { number: refusal::SIZE, line: 0 });

@@ -13,13 +13,14 @@ use crate::words::Piece;
 #[derive(Debug, Default)]
 pub(crate) struct ModelHead {
     model_type: Option<ModelType>,
-    has_ratio: bool,
+    /// Where the SGR stands. Whether the model may have one is not judged here, since its type may stand below.
+    ratio_line: Option<u64>,
     has_impedance: bool,
 }
 
 impl ModelHead {
     /// A wrong rest (11) goes before a repeated line (12), and that before a bad number (13, 14).
-    pub fn take(&mut self, content: Piece) -> Result<(), u64> {
+    pub fn take(&mut self, content: Piece, line: u64) -> Result<(), u64> {
         let (key, rest) = content.split_key();
         match key {
             b"ICM_model_type" => {
@@ -29,8 +30,8 @@ impl ModelHead {
             }
             b"SGR" => {
                 let ratio = read_ratio(rest)?;
-                once(self.has_ratio)?;
-                self.has_ratio = true;
+                once(self.ratio_line.is_some())?;
+                self.ratio_line = Some(line);
                 number::integer(ratio, 1, MULTIPLE_BOUND)?;
             }
             b"Ref_impedance" => {
@@ -47,7 +48,7 @@ impl ModelHead {
     /// The type, once nothing is lacking.
     fn close(&self) -> Result<ModelType, u64> {
         match self.model_type {
-            Some(ModelType::SingleGeneral) if !self.has_ratio => Err(PLACE),
+            Some(ModelType::SingleGeneral) if self.ratio_line.is_none() => Err(PLACE),
             Some(model_type) => Ok(model_type),
             None => Err(PLACE),
         }
@@ -85,8 +86,9 @@ impl<'a> Reader<'a> {
     pub(crate) fn model_keyword(&mut self, keyword: Keyword, argument: Piece<'a>) -> Result<(), u64> {
         match &self.taker {
             Taker::Head(head) => {
-                let model_type = head.close()?;
-                self.document.models.last_mut().expect("a model is open").model_type = model_type;
+                let model = self.document.models.last_mut().expect("a model is open");
+                model.model_type = head.close()?;
+                model.ratio_line = head.ratio_line;
             }
             Taker::Path(path) => path.close()?,
             _ => {}

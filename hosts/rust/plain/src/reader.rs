@@ -88,7 +88,7 @@ impl<'a> Reader<'a> {
             Taker::Matrix(matrix) => matrix.take(content, &mut document.values),
             Taker::PinMap(map) => map.take(content, line, &mut document.pins),
             Taker::Path(path) => path.take(content, line, &mut document.steps),
-            Taker::Head(head) => head.take(content),
+            Taker::Head(head) => head.take(content, line),
             Taker::List => crate::family::take_list_line(content, line, &mut document.list),
             Taker::Text => Ok(()),
             Taker::Nothing => Err(LINE),

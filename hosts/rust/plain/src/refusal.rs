@@ -35,5 +35,6 @@ pub(crate) const METHOD: u64 = 24;
 pub(crate) const KIND: u64 = 25;
 pub(crate) const COUNT: u64 = 26;
 pub(crate) const UNUSED: u64 = 27;
+pub(crate) const SGR: u64 = 29;
 pub(crate) const TABLE: u64 = 30;
 pub(crate) const NO_SUCH: u64 = 31;

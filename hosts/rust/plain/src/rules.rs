@@ -1,11 +1,11 @@
-//! The rules that tie the parts of a document together by their names, 19 to 27.
+//! The rules over a whole document, 19 to 27 and 29: its parts go together by their names, and an SGR with its type.
 //! All of them are judged, since the break on the earliest line counts, and on one line the lowest number.
 
 use std::collections::hash_map::{Entry, HashMap};
 use std::collections::HashSet;
 
 use crate::document::{Action, Amount, Document, Form, Method, Model, ModelType, Named, Step};
-use crate::refusal::{Refusal, COUNT, KIND, LIST, METHOD, NO_MAP, NO_SECTION, SIDE, TWICE, UNUSED};
+use crate::refusal::{Refusal, COUNT, KIND, LIST, METHOD, NO_MAP, NO_SECTION, SGR, SIDE, TWICE, UNUSED};
 
 /// The earliest break so far.
 #[derive(Default)]
@@ -44,6 +44,7 @@ pub(crate) fn resolve(document: &Document) -> Result<Vec<usize>, Refusal> {
     let mut breaks = Breaks::default();
     let models = index_once(document.models.iter().map(|model| model.named), &mut breaks);
     check_list(document, &models, &mut breaks);
+    check_ratios(document, &mut breaks);
     for map in &document.maps {
         let pins = &document.pins[map.first_pin..map.first_pin + map.pins];
         index_once(pins.iter().copied(), &mut breaks);
@@ -81,6 +82,16 @@ fn check_list<'a>(document: &Document<'a>, models: &Index<'a>, breaks: &mut Brea
     for model in &document.models {
         if !listed.contains(model.named.name.bytes) {
             breaks.note(model.named.line, LIST);
+        }
+    }
+}
+
+/// An SGR means something in SLM_general alone.
+fn check_ratios(document: &Document, breaks: &mut Breaks) {
+    for model in &document.models {
+        match model.ratio_line {
+            Some(line) if model.model_type != ModelType::SingleGeneral => breaks.note(line, SGR),
+            _ => {}
         }
     }
 }

@@ -1,5 +1,5 @@
 //! The paper's example with lines changed, and the answer that each change brings.
-//! How many pins a map may have is tried in `maps.rs`.
+//! How many pins a map may have is tried in `maps.rs`, which models may have an SGR in `sgr.rs`.
 
 mod edit;
 mod example;

@@ -4,7 +4,7 @@
 pub const EXAMPLE: &[u8] = include_bytes!("../paper.icm");
 
 /// A number of refusal, and the piece of the example that becomes another to earn it.
-const EDITS: [(u64, &str, &str); 26] = [
+const EDITS: [(u64, &str, &str); 28] = [
     (2, "A2\n", "A2\x7f\n"),
     (3, "A2\n", "A2                                                                                                                      |\n"),
     (4, "[End]\n", "[End]"),
@@ -31,6 +31,8 @@ const EDITS: [(u64, &str, &str); 26] = [
     (25, "MLM", "SLM_quiescent"),
     (26, "A2\n", ""),
     (27, "[End]\n", "[Begin ICM Section] T\n[Derivation Method] Lumped\n[Resistance Matrix] Diagonal_matrix\n1\n[End ICM Section]\n[End]\n"),
+    (29, "ICM_model_type MLM\n", "ICM_model_type MLM\nSGR 3:1\n"),
+    (29, "ICM_model_type MLM\n", "SGR 3:1\nICM_model_type MLM\n"),
 ];
 
 /// Numbers and texts.

@@ -22,6 +22,7 @@ fn damaged_once(text: Vec<u8>, way: u64, random: &mut Random) -> Vec<u8> {
         1 | 2 => change_line,
         3 => change_word,
         4 => change_number,
+        5 | 6 if random.percent(20) => add_ratio,
         5 | 6 => change_saying,
         _ => change_name,
     };
@@ -153,7 +154,7 @@ fn change_number(lines: &mut Lines, random: &mut Random) {
 }
 
 /// Words that decide something, and what they become: the lines stay in shape, and the rules across lines are broken.
-const SAYINGS: [(&str, &str); 16] = [
+const SAYINGS: [(&str, &str); 18] = [
     ("Mult", "Len"),
     ("Len", "Mult"),
     ("Lumped", "Distributed"),
@@ -161,6 +162,8 @@ const SAYINGS: [(&str, &str); 16] = [
     ("MLM", "SLM_quiescent"),
     ("MLM", "SLM_general"),
     ("SLM_quiescent", "SLM_general"),
+    ("SLM_general", "SLM_quiescent"),
+    ("SLM_general", "MLM"),
     ("Row_ordered", "Un_ordered"),
     ("Un_ordered", "Column_ordered"),
     ("Diagonal_matrix", "Full_matrix"),
@@ -190,6 +193,16 @@ fn change_saying(lines: &mut Lines, random: &mut Random) {
             lines[place].splice(range, new.bytes());
             return;
         }
+    }
+}
+
+/// A model of any type gets an SGR line above or below its type: SLM_general has one already, the others may have none.
+fn add_ratio(lines: &mut Lines, random: &mut Random) {
+    let is_type = |line: &[u8]| words(line).first().map(|word| &line[word.clone()]) == Some(&b"ICM_model_type"[..]);
+    let types: Vec<usize> = (0..lines.len()).filter(|place| is_type(&lines[*place])).collect();
+    if !types.is_empty() {
+        let place = random.pick(&types) + random.below(2);
+        lines.insert(place, b"SGR 3:1\n".to_vec());
     }
 }
 

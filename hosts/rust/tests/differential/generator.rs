@@ -238,7 +238,7 @@ fn write_model_head(writer: &mut Writer, diagonal: bool) {
     let types = if diagonal { &["SLM_general", "SLM_quiescent", "MLM"][..] } else { &["MLM"] };
     let model_type = *writer.random.pick(types);
     let mut lines = vec![format!("ICM_model_type {model_type}")];
-    if model_type == "SLM_general" || writer.random.percent(20) {
+    if model_type == "SLM_general" {
         let ratio = *writer.random.pick(&[1, 3, 65_535]);
         lines.push(format!("SGR {}:1", writer.integer(ratio)));
     }
