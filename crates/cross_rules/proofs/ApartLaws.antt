@@ -5,9 +5,9 @@ use mathlib.Core.Bool.{true, false}
 use mathlib.Core.List.{List, [], _∷_, _++_, map}
 use Prim.Native.Nat.{ℕ, _+_}
 use lib.Dec.{eqb}
-use borrow.Author.Tests.{eqb-true}
+use borrow.Author.Tests.{eqb-true, eqb-false}
 use Rattle.base.specs.If.{if_then_else_}
-use Rattle.base.proofs.IfLaws.{by-cases, both-first, both-second, if-false}
+use Rattle.base.proofs.IfLaws.{by-test, by-cases, both-first, both-second, if-true, if-false}
 use Rattle.lex_keyword.specs.Names.{icmPinMap, beginIcmModel, beginIcmSection}
 use Rattle.line_place.specs.Place as place
 use Rattle.doc.specs.Lines.{Line, plain, keyOf, significant, standsIn}
@@ -21,6 +21,8 @@ use Rattle.doc.specs.Document.{
   sayingAt,
   stepOf,
   stepsIn,
+  saysSgr,
+  sgrIn,
   opensModel,
   inModel,
   modelOf,
@@ -41,7 +43,7 @@ use Rattle.doc.specs.Holds.{Each}
 use Rattle.doc.specs.Holds.Each.{none, more}
 use Rattle.doc.proofs.StandsLaws.{each-append, each-gather, each-if, each-up}
 use Rattle.doc.proofs.StepLaws.{silent-step}
-use Rattle.cross_rules.specs.Way.Findings.{listFindings, stepFindings, modelFindings, pinFindings, mapFindings, sectionFindings, findings}
+use Rattle.cross_rules.specs.Way.Findings.{listFindings, stepFindings, modelFindings, sgrFindings, pinFindings, mapFindings, sectionFindings, findings}
 use Rattle.cross_rules.specs.declared.Finding.{Finding}
 use Rattle.cross_rules.specs.Listed.{Among}
 use Rattle.cross_rules.specs.Listed.Among.{front, further}
@@ -54,13 +56,18 @@ use Rattle.cross_rules.proofs.OrderLaws.{Ordered, in-order, lines-rise,
 data Part : Type 0 where
   list : Part
   models : Part
+  sgrs : Part
   maps : Part
   sections : Part
   other : Part
 
 -- the part of a line without a keyword, and of one with the keyword k
 unfoldable plainPart : ℕ → Part
-plainPart p = if eqb p place.list then list else if eqb p place.path then models else if eqb p place.pinList then maps else other
+plainPart p =
+    if eqb p place.list then list else
+    if eqb p place.head then sgrs else
+    if eqb p place.path then models else
+    if eqb p place.pinList then maps else other
 
 unfoldable keyedPart : ℕ → Part
 keyedPart k = if eqb k beginIcmModel then models else if eqb k icmPinMap then maps else if eqb k beginIcmSection then sections else other
@@ -103,6 +110,7 @@ given-each itself h = more h none
 
 record ModelComes (ls : List Line) (m : Model) : Type 0 where
   own : Comes ls models (m .line)
+  sgr : (m .sgr ≡ 0 → ⊥) → Comes ls sgrs (m .sgr)
   steps : Each (λ (s : Step). Comes ls models (s .line)) (m .steps)
 
 record MapComes (ls : List Line) (m : Map) : Type 0 where
@@ -150,6 +158,15 @@ module _ (ls : List Line) where
         each-unmapped (λ (s : Step). s .line) (stepOf l after) (given-each (step-own l after) (path-comes e)))
         (λ (e : standsIn place.path l ≡ false). rw (silent-step l after (if-false _ _ e)) none)
 
+  -- the last line that says SGR, if any does
+  sgr-comes : (n : ℕ) → ((n ≡ 0 → ⊥) → Comes ls sgrs n) → {body : List Line} → Each In body → (sgrIn n body ≡ 0 → ⊥) → Comes ls sgrs (sgrIn n body)
+  unfolding sgrIn saysSgr plainPart if_then_else_
+  sgr-comes n h none = h
+  sgr-comes n h (more {x = l} {xs = after} m ms) =
+      sgr-comes (if saysSgr l then l .line else n)
+      (by-test (λ (k : ℕ). (k ≡ 0 → ⊥) → Comes ls sgrs k) (saysSgr l) (l .line) n
+      (λ (e : saysSgr l ≡ true) (z : l .line ≡ 0 → ⊥). plain-comes l after m ms place.head (both-first _ _ e)) (λ (e : saysSgr l ≡ false). h)) ms
+
   model-comes : (l : Line) (after : List Line) → In l → Each In after → Each (ModelComes ls) (modelAt l after)
   unfolding modelAt modelOf stepsIn opensModel keyedPart if_then_else_
   model-comes l after m ms =
@@ -157,6 +174,7 @@ module _ (ls : List Line) where
       (λ (e : opensModel l ≡ true).
       record {
         own = keyed-comes l after m ms beginIcmModel refl (eqb-true _ _ (both-second _ _ e));
+        sgr = sgr-comes 0 (λ (z : _≡_ {A = ℕ} 0 0 → ⊥). absurd (z refl)) (each-up inModel ms);
         steps = each-gather In stepOf step-comes (each-up inModel ms);
       })
 
@@ -179,6 +197,14 @@ module _ (d : Document) (ls : List Line) where
   models-found [] none = none
   models-found (m ∷ ms) (more h hs) = more (h .own) (each-append (each-mapped _ (m .steps) (h .steps)) (models-found ms hs))
 
+  sgrs-found : (ms : List Model) → Each (ModelComes ls) ms → Each (λ (f : Finding). Comes ls sgrs (f .line)) (sgrFindings ms)
+  unfolding sgrFindings
+  sgrs-found [] none = none
+  sgrs-found (m ∷ ms) (more h hs) =
+      by-cases _ (eqb (m .sgr) 0)
+      (λ (e : eqb (m .sgr) 0 ≡ true). rw (if-true (sgrFindings ms) _ e) (sgrs-found ms hs))
+      (λ (e : eqb (m .sgr) 0 ≡ false). rw (if-false (sgrFindings ms) _ e) (more (h .sgr (eqb-false _ _ e)) (sgrs-found ms hs)))
+
   maps-found : (ms : List Map) → Each (MapComes ls) ms → Each (λ (f : Finding). Comes ls maps (f .line)) (mapFindings d ms)
   unfolding mapFindings pinFindings
   maps-found [] none = none
@@ -200,6 +226,7 @@ module _ (d : Document) (ls : List Line) where
 data InPart (d : Document) (f : Finding) : Part → Type 0 where
   in-list : Among f (listFindings d) → InPart d f list
   in-models : Among f (modelFindings d (d .models)) → InPart d f models
+  in-sgrs : Among f (sgrFindings (d .models)) → InPart d f sgrs
   in-maps : Among f (mapFindings d (d .maps)) → InPart d f maps
   in-sections : Among f (sectionFindings d 0 (d .sections)) → InPart d f sections
 
@@ -220,12 +247,15 @@ somewhere d f m =
     (λ n.
     by-append (Somewhere d f) (modelFindings d (d .models)) _ n (λ k. record { part = models; lies = in-models k })
     (λ k.
-    by-append (Somewhere d f) (mapFindings d (d .maps)) _ k (λ i. record { part = maps; lies = in-maps i })
-    (λ i. record { part = sections; lies = in-sections i })))
+    by-append (Somewhere d f) (sgrFindings (d .models)) _ k (λ j. record { part = sgrs; lies = in-sgrs j })
+    (λ j.
+    by-append (Somewhere d f) (mapFindings d (d .maps)) _ j (λ i. record { part = maps; lies = in-maps i })
+    (λ i. record { part = sections; lies = in-sections i }))))
 
 same-part : {d : Document} {f g : Finding} {part : Part} → Ordered d → InPart d f part → InPart d g part → f .line ≡ g .line → f ≡ g
 same-part o (in-list m) (in-list n) e = same-line (λ (f : Finding). f .line) _ (o .in-list) m n e
 same-part o (in-models m) (in-models n) e = same-line (λ (f : Finding). f .line) _ (o .in-models) m n e
+same-part o (in-sgrs m) (in-sgrs n) e = same-line (λ (f : Finding). f .line) _ (o .in-sgrs) m n e
 same-part o (in-maps m) (in-maps n) e = same-line (λ (f : Finding). f .line) _ (o .in-maps) m n e
 same-part o (in-sections m) (in-sections n) e = same-line (λ (f : Finding). f .line) _ (o .in-sections) m n e
 
@@ -240,6 +270,8 @@ module _ (t : List ℕ) where
       each-one (list-found (documentOf t) (significant t) (each-gather _ listedAt (listed-comes (significant t)) all-in)) m
   part-comes (in-models m) =
       each-one (models-found (documentOf t) (significant t) _ (each-gather _ modelAt (model-comes (significant t)) all-in)) m
+  part-comes (in-sgrs m) =
+      each-one (sgrs-found (documentOf t) (significant t) _ (each-gather _ modelAt (model-comes (significant t)) all-in)) m
   part-comes (in-maps m) =
       each-one (maps-found (documentOf t) (significant t) _ (each-gather _ mapAt (map-comes (significant t)) all-in)) m
   part-comes (in-sections m) =

@@ -7,6 +7,7 @@ use Prim.Native.Nat.{ℕ, _+_}
 use lib.Dec.{eqb}
 use Rattle.table_layout.specs.Codes.{endKind, sectionKind}
 use Rattle.base.specs.If.{if_then_else_}
+use Rattle.base.proofs.IfLaws.{if-true, if-false, by-cases}
 use Rattle.base.specs.Broken.{Rule, firstBroken}
 use Rattle.doc.specs.Document.{Named, Step, Model, Map, Section, Document}
 use Rattle.cross_rules.specs.Listed.{RulesAtLine}
@@ -17,6 +18,7 @@ use Rattle.cross_rules.specs.Rules.{
   listRulesAtLines,
   stepRulesAtLines,
   modelRulesAtLines,
+  sgrRulesAtLines,
   pinRulesAtLines,
   mapRulesAtLines,
   sectionRulesAtLines,
@@ -28,6 +30,7 @@ use Rattle.cross_rules.specs.Rules.{
 use Rattle.cross_rules.specs.Way.Findings.{
   listNameRule,
   modelRule,
+  sgrRule,
   mapNameRule,
   pinNameRule,
   sectionRule,
@@ -37,6 +40,7 @@ use Rattle.cross_rules.specs.Way.Findings.{
   listFindings,
   stepFindings,
   modelFindings,
+  sgrFindings,
   pinFindings,
   mapFindings,
   sectionFindings,
@@ -86,6 +90,17 @@ module _ (d : Document) where
       ap (λ (fs : List Finding). record { rule = modelRule d m; line = m .line } ∷ fs)
       ((λ i. step-looked m i ++ model-looked ms i) ∙ sym (map-append findingOf (stepRulesAtLines d m) (modelRulesAtLines d ms)))
 
+  sgr-looked : (ms : List Model) → sgrFindings ms ≡ map findingOf (sgrRulesAtLines d ms)
+  unfolding sgrFindings sgrRulesAtLines sgrRule
+  sgr-looked [] = refl
+  sgr-looked (m ∷ ms) =
+      by-cases _ (eqb (m .sgr) 0)
+      (λ (e : eqb (m .sgr) 0 ≡ true). if-true _ _ e ∙ sgr-looked ms ∙ sym (ap (map findingOf) (if-true _ _ e)))
+      (λ (e : eqb (m .sgr) 0 ≡ false).
+      if-false _ _ e
+      ∙ ap (λ (fs : List Finding). record { rule = sgrRule m; line = m .sgr } ∷ fs) (sgr-looked ms)
+      ∙ sym (ap (map findingOf) (if-false _ _ e)))
+
   map-looked : (ms : List Map) → mapFindings d ms ≡ map findingOf (mapRulesAtLines d ms)
   unfolding mapFindings mapRulesAtLines mapNameRule
   map-looked [] = refl
@@ -105,9 +120,12 @@ module _ (d : Document) where
       rw (
         map-append findingOf (listRulesAtLines d),
         map-append findingOf (modelRulesAtLines d (d .models)),
+        map-append findingOf (sgrRulesAtLines d (d .models)),
         map-append findingOf (mapRulesAtLines d (d .maps)),
       )
-      (λ i. list-looked i ++ (model-looked (d .models) i ++ (map-looked (d .maps) i ++ section-looked 0 (d .sections) i)))
+      (λ i.
+      list-looked i
+      ++ (model-looked (d .models) i ++ (sgr-looked (d .models) i ++ (map-looked (d .maps) i ++ section-looked 0 (d .sections) i))))
 
   pub cross-findings : crossRule d ≡ earliest (findings d)
   unfolding crossRule

@@ -1,4 +1,4 @@
--- Rules 19 to 27 over a document: `crossRule` gives rule 0 exactly if no line breaks a rule. Otherwise it gives the
+-- Rules 19 to 27 and 29 over a document: `crossRule` gives rule 0 exactly if no line breaks a rule. Otherwise it gives the
 -- first line that breaks one, and the lowest rule that is broken there.
 -- Assumes nothing.
 use mathlib.Core.Path.{_≡_, refl, sym, _∙_, ap, subst}
@@ -21,6 +21,7 @@ use Rattle.doc.proofs.StandsLaws.{each-append}
 use Rattle.cross_rules.specs.Rules.{
   listNameRules,
   modelRules,
+  sgrRules,
   mapNameRules,
   pinNameRules,
   sectionRules,
@@ -30,6 +31,7 @@ use Rattle.cross_rules.specs.Rules.{
   listRulesAtLines,
   stepRulesAtLines,
   modelRulesAtLines,
+  sgrRulesAtLines,
   pinRulesAtLines,
   mapRulesAtLines,
   sectionRulesAtLines,
@@ -88,6 +90,9 @@ module _ (d : Document) where
       by-test Ranked (eqb (s .kind) endKind) _ _ (λ e. end-ranked m s)
       (λ e.
       by-test Ranked (eqb (s .kind) sectionKind) _ _ (λ f. section-step-ranked m s) (λ f. record { numbered = tt; ascending = tt }))
+
+sgr-ranked : (m : Model) → Ranked (sgrRules m)
+sgr-ranked m = record { numbered = (omega arith, tt); ascending = (omega arith, tt) }
 
 pin-ranked : (m : Map) (p : Named) → Ranked (pinNameRules m p)
 pin-ranked m p = record { numbered = (omega arith, tt); ascending = (omega arith, tt) }
@@ -173,6 +178,11 @@ module _ (d : Document) where
   models-ranked [] = none
   models-ranked (m ∷ ms) = more (model-ranked d m) (each-append (mapped-ranked _ (step-ranked d m) (m .steps)) (models-ranked ms))
 
+  sgrs-ranked : (ms : List Model) → Each LookRanked (sgrRulesAtLines d ms)
+  unfolding sgrRulesAtLines
+  sgrs-ranked [] = none
+  sgrs-ranked (m ∷ ms) = by-test (Each LookRanked) (eqb (m .sgr) 0) _ _ (λ e. sgrs-ranked ms) (λ e. more (sgr-ranked m) (sgrs-ranked ms))
+
   maps-ranked : (ms : List Map) → Each LookRanked (mapRulesAtLines d ms)
   unfolding mapRulesAtLines pinRulesAtLines
   maps-ranked [] = none
@@ -187,7 +197,8 @@ module _ (d : Document) where
   unfolding allRulesAtLines listRulesAtLines
   all-ranked =
       each-append (mapped-ranked _ (list-ranked d) (d .listed))
-      (each-append (models-ranked (d .models)) (each-append (maps-ranked (d .maps)) (sections-ranked 0 (d .sections))))
+      (each-append (models-ranked (d .models))
+      (each-append (sgrs-ranked (d .models)) (each-append (maps-ranked (d .maps)) (sections-ranked 0 (d .sections)))))
 
 module _ (d : Document) where
   look-ranked : {x : RulesAtLine} → Among x (allRulesAtLines d) → Ranked (x .rules)

@@ -1,5 +1,5 @@
--- The earliest finding of a document is the earliest of four: the first finding of the model list, of the models and
--- their steps, of the maps and their pins, and of the sections.
+-- The earliest finding of a document is the earliest of five: the first finding of the model list, of the models and
+-- their steps, of the SGR lines, of the maps and their pins, and of the sections.
 -- Assumes nothing.
 use mathlib.Core.Path.{_≡_, refl, sym, _∙_, ap}
 use mathlib.Core.Bool.{true, false}
@@ -12,7 +12,7 @@ use borrow.Author.Tests.{eq-eqb, ne-eqb, eqb-true, eqb-false, lt-ltb, le-ltb, lt
 use Rattle.base.proofs.IfLaws.{if-true, if-false, by-cases}
 use Rattle.doc.specs.Document.{Document, documentOf}
 use Rattle.cross_rules.specs.Rules.{earlier, noFinding, earliest, crossRule}
-use Rattle.cross_rules.specs.Way.Findings.{listFindings, modelFindings, mapFindings, sectionFindings, findings}
+use Rattle.cross_rules.specs.Way.Findings.{listFindings, modelFindings, sgrFindings, mapFindings, sectionFindings, findings}
 use Rattle.cross_rules.specs.Way.First.{firstIn}
 use Rattle.cross_rules.specs.declared.Finding.{Finding}
 use Rattle.cross_rules.proofs.FindingLaws.{cross-findings}
@@ -164,17 +164,20 @@ module _ (d : Document) where
       crossRule d
       ≡ earlier (firstIn (listFindings d))
       (earlier (firstIn (modelFindings d (d .models)))
-      (earlier (firstIn (mapFindings d (d .maps))) (firstIn (sectionFindings d 0 (d .sections)))))
+      (earlier (firstIn (sgrFindings (d .models)))
+      (earlier (firstIn (mapFindings d (d .maps))) (firstIn (sectionFindings d 0 (d .sections))))))
   unfolding findings
   kinds-of o =
       rw (
         cross-findings d,
         first-earliest (listFindings d) (o .in-list),
         first-earliest (modelFindings d (d .models)) (o .in-models),
+        first-earliest (sgrFindings (d .models)) (o .in-sgrs),
         first-earliest (mapFindings d (d .maps)) (o .in-maps),
         first-earliest (sectionFindings d 0 (d .sections)) (o .in-sections),
         earliest-append (listFindings d) _,
         earliest-append (modelFindings d (d .models)) _,
+        earliest-append (sgrFindings (d .models)) _,
         earliest-append (mapFindings d (d .maps)) _,
       )
 
@@ -183,6 +186,7 @@ pub by-kinds :
     crossRule (documentOf t)
     ≡ earlier (firstIn (listFindings (documentOf t)))
     (earlier (firstIn (modelFindings (documentOf t) (documentOf t .models)))
+    (earlier (firstIn (sgrFindings (documentOf t .models)))
     (earlier (firstIn (mapFindings (documentOf t) (documentOf t .maps)))
-    (firstIn (sectionFindings (documentOf t) 0 (documentOf t .sections)))))
+    (firstIn (sectionFindings (documentOf t) 0 (documentOf t .sections))))))
 by-kinds t = kinds-of (documentOf t) (in-order t)

@@ -15,6 +15,7 @@ use Rattle.base.specs.If.{if_then_else_, either}
 use Rattle.base.specs.Runs.{same}
 use Rattle.base.specs.Bytes.{bytes}
 use Rattle.base.proofs.IfLaws.{
+  if-true,
   if-false,
   by-test,
   by-cases,
@@ -98,14 +99,15 @@ use Rattle.doc.proofs.BlockLaws.Follow.{none as empty, more as next}
 use Rattle.doc.proofs.StandsLaws.{each-append, each-if}
 use Rattle.doc.proofs.GatherLaws.{gather-more, gather-none}
 use Rattle.cross_rules.specs.Rules.{earlier, noFinding, crossRule}
-use Rattle.cross_rules.specs.Way.Findings.{modelRule, sectionRule, listFindings, stepFindings, modelFindings, mapFindings, sectionFindings}
+use Rattle.cross_rules.specs.Way.Findings.{modelRule, sgrRule, sectionRule, listFindings, stepFindings, modelFindings, sgrFindings, mapFindings, sectionFindings}
 use Rattle.cross_rules.specs.Way.First.{firstIn}
 use Rattle.cross_rules.specs.declared.Finding.{Finding}
 use Rattle.cross_rules.proofs.RisingLaws.{Rising, Gives, each-by, all-least, numbers, gather-rising}
 use Rattle.cross_rules.proofs.RisingLaws.Rising.{rise}
-use Rattle.cross_rules.proofs.OrderLaws.{findingLines, model-own, section-own, lines-rise, Ordered, in-order}
+use Rattle.cross_rules.proofs.OrderLaws.{lineOrNone, sgrLine, findingLines, model-own, section-own, lines-rise, Ordered, in-order}
 use Rattle.cross_rules.proofs.KindLaws.{
   earlier-first,
+  earlier-one,
   earlier-breaks,
   earlier-line,
   earlier-assoc,
@@ -442,6 +444,9 @@ above-low :
     f .line ≤ firstIn (f ∷ fs) .line
 above-low f fs (rise h rest) n = first-low (f ∷ fs) (rise (le-refl (f .line)) rest) n
 
+least-of : {least n : ℕ} {ns : List ℕ} → Rising least (n ∷ ns) → least ≤ n
+least-of (rise h rest) = h
+
 module _ (d : Document) where
   models-low :
       (line : ℕ) {least : ℕ} {ms : List Model} → Each (λ (m : Model). line < m .line) ms →
@@ -451,6 +456,30 @@ module _ (d : Document) where
   models-low line each-none r n = absurd (n refl)
   models-low line (each-more {x = m} {xs = ms} h hs) r n =
       le-trans h (above-low (record { rule = modelRule d m; line = m .line }) (stepFindings d m ++ modelFindings d ms) r n)
+
+  -- an SGR line stands below its model's
+  sgrs-low :
+      (line : ℕ) {ms : List Model} → Each (λ (m : Model). line < m .line) ms → Each (λ (m : Model). Rising (m .line + 1) (sgrLine m)) ms →
+      (firstIn (sgrFindings ms) .rule ≡ 0 → ⊥) → line < firstIn (sgrFindings ms) .line
+  unfolding sgrFindings lineOrNone firstIn noFinding
+  sgrs-low line each-none each-none n = absurd (n refl)
+  sgrs-low line (each-more {x = m} {xs = ms} h hs) (each-more k ks) n =
+      by-cases _ (eqb (m .sgr) 0)
+      (λ (e : eqb (m .sgr) 0 ≡ true).
+      let l : firstIn (sgrFindings (m ∷ ms)) ≡ firstIn (sgrFindings ms) = ap firstIn (if-true _ _ e) in
+      rw l (sgrs-low line hs ks (rw l at n)))
+      (λ (e : eqb (m .sgr) 0 ≡ false).
+      let own : Finding = record { rule = sgrRule m; line = m .sgr } in
+      let l : firstIn (sgrFindings (m ∷ ms)) ≡ firstIn (own ∷ sgrFindings ms) = ap firstIn (if-false _ _ e) in
+      by-cases _ (eqb (sgrRule m) 0)
+      (λ (f : eqb (sgrRule m) 0 ≡ true).
+      let p : firstIn (sgrFindings (m ∷ ms)) ≡ firstIn (sgrFindings ms) = l ∙ first-later own (sgrFindings ms) (eqb-true _ _ f) in
+      rw p (sgrs-low line hs ks (rw p at n)))
+      (λ (f : eqb (sgrRule m) 0 ≡ false).
+      let p : firstIn (sgrFindings (m ∷ ms)) ≡ own = l ∙ first-here own (sgrFindings ms) (eqb-false _ _ f) in
+      let r : Rising (m .line + 1) (m .sgr ∷ []) = rw (if-false {A = List ℕ} [] (m .sgr ∷ []) e) at k in
+      let q : m .line + 1 ≤ m .sgr = least-of r in
+      rw p (omega arith)))
 
   sections-low :
       (line i : ℕ) {least : ℕ} {ss : List Section} → Each (λ (s : Section). line < s .line) ss →
@@ -484,10 +513,15 @@ module _ (d : Document) (o : Ordered d) (n : firstIn (listFindings d) .rule ≡ 
       Each (λ (m : Named). Each (λ (x : Section). m .line < x .line) (d .sections)) (d .listed) →
       crossRule d ≡ earlier (firstIn (listFindings d)) (firstIn (mapFindings d (d .maps)))
   first-of-list h k =
+      let below : Each (λ (m : Model). firstIn (listFindings d) .line < m .line) (d .models) = first-below (λ (m : Model). m .line) (d .models) h in
+      let models : Finding = firstIn (modelFindings d (d .models)) in
+      let sgrs : Finding = firstIn (sgrFindings (d .models)) in
       kinds-of d o
-      ∙ passed-by (firstIn (listFindings d)) (firstIn (modelFindings d (d .models))) (firstIn (mapFindings d (d .maps)))
+      ∙ ap (earlier (firstIn (listFindings d))) (sym (earlier-assoc models sgrs _))
+      ∙ passed-by (firstIn (listFindings d)) (earlier models sgrs) (firstIn (mapFindings d (d .maps)))
       (firstIn (sectionFindings d 0 (d .sections))) n
-      (models-low d (firstIn (listFindings d) .line) (first-below (λ (m : Model). m .line) (d .models) h) (o .in-models))
+      (earlier-one (λ (f : Finding). (f .rule ≡ 0 → ⊥) → firstIn (listFindings d) .line < f .line) models sgrs
+      (models-low d (firstIn (listFindings d) .line) below (o .in-models)) (sgrs-low d (firstIn (listFindings d) .line) below (o .sgrs)))
       (sections-low d (firstIn (listFindings d) .line) 0 (first-below (λ (s : Section). s .line) (d .sections) k) (o .in-sections))
 
 pub list-first :

@@ -1,13 +1,15 @@
 -- The order of a document: in each of its lists the line numbers rise, and so do those of the findings of each
 -- kind. This holds for every text.
 -- Assumes nothing.
-use mathlib.Core.Path.{_≡_, refl, _∙_, ap}
+use mathlib.Core.Path.{_≡_, refl, sym, _∙_, ap}
 use mathlib.Core.Bool.{Bool, true, false}
 use mathlib.Core.List.{List, [], _∷_, _++_, map, map-append, append-nil}
-use Prim.Native.Nat.{ℕ, _+_}
+use Prim.Native.Nat.{ℕ, _+_, _≤_, _<_}
+use native.Mathlib.Omega.{arith}
 use lib.Dec.{eqb}
 use Rattle.base.specs.If.{if_then_else_}
-use Rattle.base.proofs.IfLaws.{by-test, if-false}
+use borrow.Author.Tests.{eqb-false}
+use Rattle.base.proofs.IfLaws.{by-test, by-cases, if-true, if-false}
 use Rattle.line_place.specs.Place as place
 use Rattle.line_path.specs.Path as path
 use Rattle.doc.specs.Lines.{Line, significant, standsIn, gather, upTo}
@@ -21,6 +23,8 @@ use Rattle.doc.specs.Document.{
   sayingAt,
   stepOf,
   stepsIn,
+  saysSgr,
+  sgrIn,
   opensModel,
   inModel,
   modelOf,
@@ -39,13 +43,14 @@ use Rattle.doc.specs.Document.{
 }
 use Rattle.doc.specs.Holds.{Each}
 use Rattle.doc.specs.Holds.Each.{none, more}
-use Rattle.doc.proofs.BlockLaws.{joined}
+use Rattle.doc.proofs.BlockLaws.{joined, joined-append}
+use Rattle.doc.proofs.GatherLaws.{gather-more, gather-none, up-in, up-none, up-out}
 use Rattle.doc.proofs.StandsLaws.{Laid, laid}
 use Rattle.doc.proofs.StandsLaws.Laid.{ended, onward}
 use Rattle.doc.proofs.PassLaws.{model-blocks, map-blocks}
-use Rattle.cross_rules.specs.Way.Findings.{listFindings, stepFindings, modelFindings, pinFindings, mapFindings, sectionFindings}
+use Rattle.cross_rules.specs.Way.Findings.{listFindings, stepFindings, modelFindings, sgrFindings, pinFindings, mapFindings, sectionFindings}
 use Rattle.cross_rules.specs.declared.Finding.{Finding}
-use Rattle.cross_rules.proofs.RisingLaws.{Rising, Gives, numbers, gather-rising, blocks-rising, rising-front, rising-behind}
+use Rattle.cross_rules.proofs.RisingLaws.{Rising, Gives, numbers, rising-wider, gives-rising, gather-rising, blocks-rising, rising-front, rising-behind}
 use Rattle.cross_rules.proofs.RisingLaws.Rising.{flat, rise}
 use Rattle.cross_rules.proofs.RisingLaws.Gives.{nothing, itself}
 
@@ -68,6 +73,16 @@ sectionOpenings ss = map (λ (s : Section). s .line) ss
 
 abbrev pub findingLines : List Finding → List ℕ
 findingLines fs = map (λ (f : Finding). f .line) fs
+
+-- a line, 0 for none; that of a model's SGR; the line of a model and that of its SGR
+unfoldable pub lineOrNone : ℕ → List ℕ
+lineOrNone n = if eqb n 0 then [] else n ∷ []
+
+abbrev pub sgrLine : Model → List ℕ
+sgrLine m = lineOrNone (m .sgr)
+
+abbrev headLines : Model → List ℕ
+headLines m = m .line ∷ sgrLine m
 
 -- the line of a model and those of its steps; the line of a map and those of its pins
 abbrev modelLines : Model → List ℕ
@@ -136,6 +151,10 @@ module _ (l : Line) (after : List Line) where
   unfolding mapAt mapOf
   map-whole = block-whole mapLines _ (opensMap l) _ refl
 
+  head-whole : Gives (l .line) (lineOrNone (sgrIn 0 (upTo inModel after))) (joined headLines (modelAt l after))
+  unfolding modelAt modelOf
+  head-whole = block-whole headLines _ (opensModel l) _ refl
+
   model-shut : inModel l ≡ true → modelAt l after ≡ []
   unfolding modelAt
   model-shut e = if-false _ _ (model-blocks .apart l e)
@@ -171,6 +190,16 @@ module _ (d : Document) where
   model-lines (m ∷ ms) =
       ap (λ (ls : List ℕ). m .line ∷ ls) (map-append _ (stepFindings d m) (modelFindings d ms) ∙ (λ i. step-lines m i ++ model-lines ms i))
 
+  sgr-lines : (ms : List Model) → findingLines (sgrFindings ms) ≡ joined sgrLine ms
+  unfolding sgrFindings lineOrNone joined
+  sgr-lines [] = refl
+  sgr-lines (m ∷ ms) =
+      by-cases _ (eqb (m .sgr) 0)
+      (λ (e : eqb (m .sgr) 0 ≡ true). ap findingLines (if-true _ _ e) ∙ sgr-lines ms ∙ sym (ap (λ (ls : List ℕ). ls ++ joined sgrLine ms) (if-true _ _ e)))
+      (λ (e : eqb (m .sgr) 0 ≡ false).
+      ap findingLines (if-false _ _ e) ∙ ap (λ (ls : List ℕ). m .sgr ∷ ls) (sgr-lines ms)
+      ∙ sym (ap (λ (ls : List ℕ). ls ++ joined sgrLine ms) (if-false _ _ e)))
+
   map-lines : (ms : List Map) → findingLines (mapFindings d ms) ≡ joined mapLines ms
   unfolding mapFindings joined
   map-lines [] = refl
@@ -181,6 +210,50 @@ module _ (d : Document) where
   unfolding sectionFindings
   section-lines n [] = refl
   section-lines n (s ∷ ss) = ap (λ (ls : List ℕ). s .line ∷ ls) (section-lines (n + 1) ss)
+
+-- ---- the SGR lines of models
+
+-- a number that may be none, above others
+or-none-rising : {low high : ℕ} (n : ℕ) {ns : List ℕ} → ((n ≡ 0 → ⊥) → (low ≤ n) × (n < high)) → low ≤ high → Rising high ns → Rising low (lineOrNone n ++ ns)
+unfolding lineOrNone
+or-none-rising {low} {high} n {ns} h k rising =
+    by-cases _ (eqb n 0)
+    (λ (e : eqb n 0 ≡ true). rw (if-true {A = List ℕ} [] (n ∷ []) e) (rising-wider k rising))
+    (λ (e : eqb n 0 ≡ false).
+    let between : (low ≤ n) × (n < high) = h (eqb-false _ _ e) in
+    let below : n < high = between .1 in
+    rw (if-false {A = List ℕ} [] (n ∷ []) e) (rise (between .0) (rising-wider (omega arith) rising)))
+
+-- the SGR of an open model, of which these lines are left, and the models behind it; so far its SGR is line n
+sgr-rising :
+    {low least : ℕ} (n : ℕ) (ls : List Line) → Rising least (numbers ls) → low ≤ least → ((n ≡ 0 → ⊥) → (low ≤ n) × (n < least)) →
+    Rising low (lineOrNone (sgrIn n (upTo inModel ls)) ++ joined headLines (gather modelAt ls))
+unfolding sgrIn joined
+sgr-rising n [] flat k h = rw (up-none inModel, gather-none modelAt) (or-none-rising n h k flat)
+sgr-rising {low} {least} n (l ∷ ls) (rise least-here rest) k h =
+    by-cases _ (inModel l)
+    (λ (e : inModel l ≡ true).
+    rw (up-in inModel l ls e, gather-more modelAt l ls, model-shut l ls e)
+    (sgr-rising (if saysSgr l then l .line else n) ls rest (omega arith)
+    (by-test (λ (m : ℕ). (m ≡ 0 → ⊥) → (low ≤ m) × (m < l .line + 1)) (saysSgr l) (l .line) n
+    (λ s z. (omega arith, omega arith))
+    (λ s z. let between : (low ≤ n) × (n < least) = h z in let below : n < least = between .1 in (between .0, omega arith)))))
+    (λ (e : inModel l ≡ false).
+    rw (up-out inModel l ls e, gather-more modelAt l ls, joined-append headLines (modelAt l ls) (gather modelAt ls))
+    (or-none-rising n h k
+    (gives-rising (lineOrNone (sgrIn 0 (upTo inModel ls))) _ (head-whole l ls) least-here
+    (sgr-rising 0 ls rest (omega arith) (λ (z : _≡_ {A = ℕ} 0 0 → ⊥). absurd (z refl))))))
+
+-- where the lines of models are left out, the others rise still
+between-rising : {least : ℕ} (xs ys zs : List ℕ) → ((low : ℕ) → Rising low ys → Rising low zs) → Rising least (xs ++ ys) → Rising least (xs ++ zs)
+between-rising {least} [] ys zs f h = f least h
+between-rising (x ∷ xs) ys zs f (rise k rest) = rise k (between-rising xs ys zs f rest)
+
+only-sgr : {least : ℕ} (ms : List Model) → Rising least (joined headLines ms) → Rising least (joined sgrLine ms)
+unfolding joined
+only-sgr [] h = flat
+only-sgr (m ∷ ms) (rise h rest) =
+    rising-wider (omega arith) (between-rising (sgrLine m) (joined headLines ms) (joined sgrLine ms) (λ (low : ℕ) (r : Rising low (joined headLines ms)). only-sgr ms r) rest)
 
 -- ---- each block of its own
 
@@ -206,9 +279,11 @@ pub record Ordered (d : Document) : Type 0 where
   pub maps : Rising 1 (mapOpenings (d .maps))
   pub sections : Rising 1 (sectionOpenings (d .sections))
   pub steps : Each (λ (m : Model). Rising (m .line + 1) (stepLines (m .steps))) (d .models)
+  pub sgrs : Each (λ (m : Model). Rising (m .line + 1) (sgrLine m)) (d .models)
   pub pins : Each (λ (m : Map). Rising (m .line + 1) (nameLines (m .pins))) (d .maps)
   pub in-list : Rising 1 (findingLines (listFindings d))
   pub in-models : Rising 1 (findingLines (modelFindings d (d .models)))
+  pub in-sgrs : Rising 1 (findingLines (sgrFindings (d .models)))
   pub in-maps : Rising 1 (findingLines (mapFindings d (d .maps)))
   pub in-sections : Rising 1 (findingLines (sectionFindings d 0 (d .sections)))
 
@@ -224,6 +299,9 @@ module _ (ls : List Line) (h : Rising 1 (numbers ls)) where
   models-rise : Rising 1 (joined modelLines (gather modelAt ls))
   models-rise = blocks-rising (λ (s : Step). s .line) stepOf step-own modelLines modelAt inModel model-shut model-whole ls h
 
+  heads-rise : Rising 1 (joined headLines (gather modelAt ls))
+  heads-rise = rising-behind (lineOrNone (sgrIn 0 (upTo inModel ls))) _ (sgr-rising 0 ls h (omega arith) (λ z. absurd (z refl)))
+
   maps-rise : Rising 1 (joined mapLines (gather mapAt ls))
   maps-rise = blocks-rising (λ (p : Named). p .line) pinAt pin-own mapLines mapAt inMap map-shut map-whole ls h
 
@@ -236,9 +314,11 @@ module _ (ls : List Line) (h : Rising 1 (numbers ls)) where
         maps = gather-rising (λ (m : Map). m .line) mapAt map-own ls h;
         sections = gather-rising (λ (s : Section). s .line) sectionAt section-own ls h;
         steps = each-block modelLines (λ (m : Model). m .line) (λ (m : Model). stepLines (m .steps)) (λ (m : Model). refl) _ models-rise;
+        sgrs = each-block headLines (λ (m : Model). m .line) sgrLine (λ (m : Model). refl) _ heads-rise;
         pins = each-block mapLines (λ (m : Map). m .line) (λ (m : Map). nameLines (m .pins)) (λ (m : Map). refl) _ maps-rise;
         in-list = rw (list-lines (documentIn ls)) (gather-rising (λ (n : Named). n .line) listedAt listed-own ls h);
         in-models = rw (model-lines (documentIn ls) (gather modelAt ls)) models-rise;
+        in-sgrs = rw (sgr-lines (documentIn ls) (gather modelAt ls)) (only-sgr _ heads-rise);
         in-maps = rw (map-lines (documentIn ls) (gather mapAt ls)) maps-rise;
         in-sections =
             rw (section-lines (documentIn ls) 0 (gather sectionAt ls))

@@ -102,7 +102,7 @@ pub data Gives (n : ℕ) (rest : List ℕ) : List ℕ → Type 0 where
   nothing : Gives n rest []
   itself : Gives n rest (n ∷ rest)
 
-gives-rising : {least n : ℕ} {given : List ℕ} (rest later : List ℕ) → Gives n rest given → least ≤ n → Rising (n + 1) (rest ++ later) →
+pub gives-rising : {least n : ℕ} {given : List ℕ} (rest later : List ℕ) → Gives n rest given → least ≤ n → Rising (n + 1) (rest ++ later) →
     Rising least (given ++ later)
 gives-rising rest later nothing h k = rising-wider (omega arith) (rising-behind rest later k)
 gives-rising rest later itself h k = rise h k

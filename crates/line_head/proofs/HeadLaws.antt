@@ -1,13 +1,16 @@
 -- Laws of the head: what it contains after each kind of line.
 -- Assumes nothing.
-use mathlib.Core.Path.{_≡_, sym}
-use mathlib.Core.Bool.{true}
+use mathlib.Core.Path.{_≡_, sym, _∙_}
+use mathlib.Core.Bool.{true, false}
+use Prim.Native.Nat.{ℕ}
 use native.Mathlib.Omega.{arith}
 use lib.Dec.{eqb}
 use borrow.Author.Tests.{eq-eqb, ne-eqb}
 use Rattle.base.specs.If.{if_then_else_, either}
 use Rattle.base.proofs.IfLaws.{if-true, if-false, either-left, either-rest}
-use Rattle.line_head.specs.Head.{saysModelType, saysRatio, saysImpedance, headNext}
+use Rattle.base.proofs.BrokenLaws.{all-kept}
+use Rattle.line_head.specs.Head.{saysModelType, saysRatio, saysImpedance, isHeadOutOfOrder, headRules, headNext}
+use Rattle.line_head.specs.Way.Rule.{headRule}
 use Rattle.line_head.specs.declared.Head.{Head}
 use Rattle.line_head.specs.declared.HeadLine.{HeadLine}
 
@@ -46,3 +49,11 @@ module _ (l : HeadLine) (h : Head) where
       next-nothing p =
           let m : either (eqb (l .says) saysImpedance) (h .impedance) ≡ h .impedance = either-rest _ _ (ne-eqb _ _ p) in
           λ i. record { kind = sym same-kind i; sgr = sym same-sgr i; impedance = sym m i }
+
+  -- "repeated or out of order 12": of an SGR line that breaks no rule the head has had none
+  pub sgr-once : headRule l h ≡ 0 → l .says ≡ saysRatio → h .sgr ≡ false
+  unfolding headRule isHeadOutOfOrder
+  sgr-once kept e =
+      sym
+      (if-false _ _ (ne-eqb (l .says) saysModelType (λ (f : l .says ≡ saysModelType). omega arith)) ∙ if-true _ _ (eq-eqb (l .says) saysRatio e))
+      ∙ all-kept (headRules l h) (omega arith, (omega arith, (omega arith, (omega arith, tt)))) kept 1

@@ -21,7 +21,7 @@ use Rattle.line_map.specs.PinMap.{mapLineOf, mapNext, saysOrder, saysRows, says
 use Rattle.line_map.specs.declared.Map.{Map}
 use Rattle.line_map.specs.declared.MapLine.{MapLine}
 use Rattle.doc.specs.Lines.{Line, linesAt, standsIn, gather, upTo}
-use Rattle.doc.specs.Document.{sayingAt, stepOf, headIn, inModel, gridIn, pinAt}
+use Rattle.doc.specs.Document.{sayingAt, stepOf, headIn, saysSgr, sgrIn, inModel, gridIn, pinAt}
 use Rattle.doc.specs.Holds.{Each, none, more}
 use Rattle.doc.specs.Way.Found.{IsPlain}
 use Rattle.doc.proofs.BlockLaws.{Follow, lines-follow}
@@ -128,6 +128,25 @@ pub head-front : (p : ℕ) → (p ≡ place.head → ⊥) → (h : Head) → {fr
 head-front p away h none rest = refl
 head-front p away h (more {x = l} {xs = ls} k ks) rest =
     head-skip h l (ls ++ rest) (plain-elsewhere p l k place.head away) ∙ head-front p away h ks rest
+
+-- ---- the SGR of a model
+
+pub sgr-more : (n : ℕ) (l : Line) (ls : List Line) → sgrIn n (l ∷ ls) ≡ sgrIn (if saysSgr l then l .line else n) ls
+unfolding sgrIn
+sgr-more n l ls = refl
+
+pub sgr-none : (n : ℕ) → sgrIn n [] ≡ n
+unfolding sgrIn
+sgr-none n = refl
+
+pub sgr-skip : (n : ℕ) (l : Line) (ls : List Line) → standsIn place.head l ≡ false → sgrIn n (l ∷ ls) ≡ sgrIn n ls
+unfolding saysSgr
+sgr-skip n l ls e = sgr-more n l ls ∙ ap (λ (k : ℕ). sgrIn k ls) (if-false _ _ (both-not-left _ _ e))
+
+pub sgr-front : (p : ℕ) → (p ≡ place.head → ⊥) → (n : ℕ) → {front : List Line} → Each (IsPlain p) front → (rest : List Line) → sgrIn n (front ++ rest) ≡ sgrIn n rest
+sgr-front p away n none rest = refl
+sgr-front p away n (more {x = l} {xs = ls} k ks) rest =
+    sgr-skip n l (ls ++ rest) (plain-elsewhere p l k place.head away) ∙ sgr-front p away n ks rest
 
 -- ---- the grid of a map
 

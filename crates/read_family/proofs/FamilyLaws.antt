@@ -16,9 +16,9 @@ use Rattle.line_place.specs.Place.{isInModel}
 use Rattle.line_place.specs.Place as place
 use Rattle.line_keyword.specs.State.{startState, noCounts}
 use Rattle.line_keyword.specs.declared.State.{State}
-use Rattle.table_layout.specs.Layout.{modelWidth, mapWidth, pinWidth}
-use Rattle.table_record.specs.Records.{modelWords, mapWords}
-use Rattle.table_record.specs.Way.Stage.{Held, stagedStepWidth}
+use Rattle.table_layout.specs.Layout.{mapWidth, pinWidth}
+use Rattle.table_record.specs.Records.{mapWords}
+use Rattle.table_record.specs.Way.Stage.{Held, stagedModelWidth, stagedModelWords, stagedStepWidth}
 use Rattle.table_record.proofs.StageLaws.{held-start, held-same, held-all}
 use Rattle.read_line.specs.Reading.{readFrom, readingOf}
 use Rattle.read_line.specs.Way.Walk.{resume, Onward, ResumesText, ResumesPart, NoProgressMeansBracket, HoldsPart, withPath, withPinned}
@@ -28,8 +28,8 @@ use Rattle.read_line.specs.declared.fast.Passing.{Passing}
 use Rattle.read_line.proofs.CrossLaws.{crossed-reached, stays-elsewhere}
 use Rattle.doc.specs.Lines.{Line, linesAt, significant, gather}
 use Rattle.doc.specs.Document.{stepOf, modelAt, pinAt, mapAt, sectionAt, documentIn, documentOf}
-use Rattle.doc.specs.Records.{modelRecords, mapRecords}
-use Rattle.doc.specs.Way.Staged.{stepStaged, pinStaged}
+use Rattle.doc.specs.Records.{mapRecords}
+use Rattle.doc.specs.Way.Staged.{stagedModels, stepStaged, pinStaged}
 use Rattle.doc.specs.declared.Cursor.{Cursor}
 use Rattle.doc.specs.Way.Found.{IsPlain}
 use Rattle.doc.proofs.PlainLaws.{plainly-quiet}
@@ -309,7 +309,7 @@ module _ (t : List ℕ) (s : State) (is-start : s ≡ startState) (o : Open) (mo
       record {
         models =
             record {
-              outside = λ e. held-start modelWords modelWidth _ models;
+              outside = λ e. held-start stagedModelWords stagedModelWidth _ models;
               inside = λ (e : false ≡ true). absurd (true≢false (sym e));
             };
         steps = held-start stepStaged stagedStepWidth _ steps;
@@ -334,9 +334,9 @@ module _ (t : List ℕ) (line at : ℕ) (s : State) (o : Open) (models steps map
     late : place.after ≤ s .place
     late = omega arith
 
-    no-models : modelRecords (s .counts .steps) (gather modelAt (linesAt t line at (s .place))) ≡ []
-    unfolding modelRecords
-    no-models = ap (modelRecords (s .counts .steps)) (late-quiet modelAt late-model t line at (s .place) late)
+    no-models : stagedModels (s .counts .steps) (gather modelAt (linesAt t line at (s .place))) ≡ []
+    unfolding stagedModels
+    no-models = ap (stagedModels (s .counts .steps)) (late-quiet modelAt late-model t line at (s .place) late)
 
     no-maps : mapRecords (s .counts .pins) (gather mapAt (linesAt t line at (s .place))) ≡ []
     unfolding mapRecords
@@ -353,7 +353,7 @@ module _ (t : List ℕ) (line at : ℕ) (s : State) (o : Open) (models steps map
     family-staged : FamilyStaged t line at s models steps maps pins
     family-staged =
         record {
-          models = held-all modelWords modelWidth _ models (s .counts .models) _ (carries .models .outside out-of-models) no-models;
+          models = held-all stagedModelWords stagedModelWidth _ models (s .counts .models) _ (carries .models .outside out-of-models) no-models;
           steps = held-all stepStaged stagedStepWidth _ steps (s .counts .steps) _ (carries .steps) (late-quiet stepOf late-step t line at (s .place) late);
           maps = held-all mapWords mapWidth _ maps (s .counts .maps) _ (carries .maps .outside out-of-maps) no-maps;
           pins = held-all pinStaged pinWidth _ pins (s .counts .pins) _ (carries .pins) (late-quiet pinAt late-pin t line at (s .place) late);

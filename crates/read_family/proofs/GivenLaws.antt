@@ -1,25 +1,27 @@
 -- What a line that is read alone opens, and what it gives: no step and no pin, since it has a keyword where these stand.
 -- Assumes nothing.
-use mathlib.Core.Path.{_≡_, sym, _∙_, ap}
-use mathlib.Core.Bool.{true, false}
+use mathlib.Core.Path.{_≡_, refl, sym, _∙_, ap}
+use mathlib.Core.Bool.{Bool, true, false, not}
 use mathlib.Core.List.{List, []}
 use Prim.Native.Nat.{ℕ, _<_}
 use native.Mathlib.Omega.{arith}
 use lib.Dec.{eqb}
 use borrow.Author.Tests.{ne-eqb, eqb-true}
-use Rattle.base.specs.If.{both}
-use Rattle.base.proofs.IfLaws.{if-true, if-false, both-second, both-not-left, both-not-right}
+use Rattle.base.specs.If.{both, either}
+use Rattle.base.proofs.IfLaws.{if-true, if-false, by-cases, both-true, both-first, both-second, both-rest, both-not-left, both-not-right, not-via, either-left, either-rest}
 use Rattle.lex_keyword.specs.Names.{icmPinMap, beginIcmModel}
 use Rattle.line_place.specs.Place.{isInFamily}
 use Rattle.line_place.specs.Place as place
+use Rattle.line_head.specs.Head.{saysRatio, headLineOf, headNext, newHead}
+use Rattle.line_head.specs.declared.Head.{Head}
 use Rattle.line_keyword.specs.declared.State.{State}
-use Rattle.doc.specs.Lines.{Line, plain, keyAt, keyOf}
-use Rattle.doc.specs.Document.{sayingAt, stepOf, opensModel, opensMap, pinAt, opensSection, sectionAt}
+use Rattle.doc.specs.Lines.{Line, plain, keyAt, keyOf, standsIn}
+use Rattle.doc.specs.Document.{sayingAt, stepOf, saysSgr, opensModel, opensMap, pinAt, opensSection, sectionAt}
 use Rattle.doc.proofs.StepLaws.{silent-step}
-use Rattle.read_family.specs.Way.Blocks.{opening, enters, openAfter}
+use Rattle.read_family.specs.Way.Blocks.{opening, enters, openAfter, withSgr, sgrAfter, sgrTaken}
 use Rattle.read_family.specs.declared.Open.{Open}
 use Rattle.read_family.proofs.PlaceLaws.{enters-model, enters-map}
-use Rattle.read_family.proofs.TakeLaws.{Takes}
+use Rattle.read_family.proofs.TakeLaws.{headTaken, Takes}
 
 -- the places before and after the line tell what it opens, so the code knows the open block after it; and it gives nothing
 -- but the block that it opens
@@ -28,14 +30,52 @@ pub record Given (l : Line) (s s' : State) (o o' : Open) : Type 0 where
   pub map-is : opensMap l ≡ both (isInFamily (s .place)) (eqb (keyAt (l .content)) icmPinMap)
   pub open-model : opensModel l ≡ true → o' ≡ opening (l .at) (l .content) (s .counts .steps)
   pub open-map : opensMap l ≡ true → o' ≡ opening (l .at) (l .content) (s .counts .pins)
-  pub open-same : opensModel l ≡ false → opensMap l ≡ false → o' ≡ o
+  pub open-same : opensModel l ≡ false → opensMap l ≡ false → o' ≡ sgrTaken l o
   pub no-steps : (ls : List Line) → stepOf l ls ≡ []
   pub no-pins : (ls : List Line) → pinAt l ls ≡ []
   pub no-sections : (ls : List Line) → sectionAt l ls ≡ []
 
+-- ---- the line of an SGR
+
+pub not-self : (b : Bool) → both b (not b) ≡ false
+unfolding both
+not-self true = refl
+not-self false = refl
+
+pub sgr-unchanged : (line : ℕ) (before after : Head) (o : Open) → after .sgr ≡ before .sgr → sgrAfter line before after o ≡ o
+unfolding sgrAfter
+sgr-unchanged line before after o e = if-false _ _ (ap (λ (b : Bool). both b (not (before .sgr))) e ∙ not-self (before .sgr))
+
+-- the heads before and after a line that opens no model tell whether it says SGR
+module _ (l : Line) (before after : Head) (o : Open) (told : after ≡ headTaken l before) (once : saysSgr l ≡ true → before .sgr ≡ false) where
+  sgr-said : saysSgr l ≡ true → sgrAfter (l .line) before after o ≡ withSgr (l .line) o
+  unfolding saysSgr sgrAfter headNext
+  sgr-said e =
+      let there : standsIn place.head l ≡ true = both-first _ _ e in
+      let a : after .sgr ≡ true = ap (λ (h : Head). h .sgr) (told ∙ if-true _ _ there) ∙ either-left _ _ (both-second _ _ e) in
+      if-true _ _ (both-true _ _ a (not-via (once e)))
+
+  sgr-unsaid : saysSgr l ≡ false → after .sgr ≡ before .sgr
+  unfolding saysSgr headNext
+  sgr-unsaid e =
+      by-cases _ (standsIn place.head l)
+      (λ (there : standsIn place.head l ≡ true).
+      ap (λ (h : Head). h .sgr) (told ∙ if-true _ _ there) ∙ either-rest _ _ (sym (both-rest _ _ there) ∙ e))
+      (λ (away : standsIn place.head l ≡ false). ap (λ (h : Head). h .sgr) (told ∙ if-false _ _ away))
+
+  sgr-told : sgrAfter (l .line) before after o ≡ sgrTaken l o
+  sgr-told =
+      by-cases _ (saysSgr l)
+      (λ (e : saysSgr l ≡ true). sgr-said e ∙ ap (λ (n : ℕ). withSgr n o) (sym (if-true _ _ e)))
+      (λ (e : saysSgr l ≡ false).
+      sgr-unchanged (l .line) before after o (sgr-unsaid e) ∙ ap (λ (n : ℕ). withSgr n o) (sym (if-false _ _ e)))
+
 module _ (l : Line) (s s' : State) (takes : Takes l s s') (early : s .place < place.after) (o : Open) where
+  abbrev opened : Open
+  opened = openAfter (l .at) (l .content) s (s' .place) o
+
   abbrev block : Open
-  block = openAfter (l .at) (l .content) s (s' .place) o
+  block = sgrAfter (l .line) (s .head) (s' .head) opened
 
   -- ---- what the line opens
 
@@ -66,17 +106,27 @@ module _ (l : Line) (s s' : State) (takes : Takes l s s') (early : s .place < pl
       let k : keyOf l ≡ icmPinMap = eqb-true _ _ (both-second _ _ h) in
       both-not-right _ _ (ne-eqb _ _ (λ (z : keyOf l ≡ beginIcmModel). let y : icmPinMap ≡ beginIcmModel = sym k ∙ z in omega arith))
 
+  -- a new head has no SGR yet, and a line that opens a map leaves the head
   open-model : opensModel l ≡ true → block ≡ opening (l .at) (l .content) (s .counts .steps)
-  unfolding openAfter
-  open-model h = if-true _ _ (model-told ∙ h)
+  unfolding openAfter sgrAfter newHead
+  open-model h =
+      if-false _ _ (both-not-left _ _ (ap (λ (x : Head). x .sgr) (takes .head ∙ if-true _ _ h))) ∙ if-true _ _ (model-told ∙ h)
 
   open-map : opensMap l ≡ true → block ≡ opening (l .at) (l .content) (s .counts .pins)
-  unfolding openAfter
-  open-map h = if-false _ _ (model-told ∙ map-only h) ∙ if-true _ _ (map-told ∙ h)
+  unfolding openAfter opensMap standsIn
+  open-map h =
+      let k : keyOf l ≡ icmPinMap = eqb-true _ _ (both-second _ _ h) in
+      let away : standsIn place.head l ≡ false =
+      both-not-right _ _ (ne-eqb _ _ (λ (z : keyOf l ≡ plain). let y : icmPinMap ≡ plain = sym k ∙ z in omega arith)) in
+      let same : s' .head ≡ s .head = takes .head ∙ if-false _ _ (map-only h) ∙ if-false _ _ away in
+      sgr-unchanged (l .line) (s .head) (s' .head) opened (ap (λ (x : Head). x .sgr) same)
+      ∙ if-false _ _ (model-told ∙ map-only h) ∙ if-true _ _ (map-told ∙ h)
 
-  open-same : opensModel l ≡ false → opensMap l ≡ false → block ≡ o
+  open-same : opensModel l ≡ false → opensMap l ≡ false → block ≡ sgrTaken l o
   unfolding openAfter
-  open-same h k = if-false _ _ (model-told ∙ h) ∙ if-false _ _ (map-told ∙ k)
+  open-same h k =
+      ap (sgrAfter (l .line) (s .head) (s' .head)) (if-false _ _ (model-told ∙ h) ∙ if-false _ _ (map-told ∙ k))
+      ∙ sgr-told l (s .head) (s' .head) o (takes .head ∙ if-false _ _ h) (takes .sgr)
 
   -- ---- what the line gives
 
@@ -92,7 +142,7 @@ module _ (l : Line) (s s' : State) (takes : Takes l s s') (early : s .place < pl
   unfolding sectionAt opensSection
   no-sections ls = if-false _ _ (both-not-left _ _ (ne-eqb _ _ (λ (e : l .place ≡ place.after). let z : s .place ≡ place.after = sym (takes .here) ∙ e in omega arith)))
 
-  pub line-gives : Given l s s' o (openAfter (l .at) (l .content) s (s' .place) o)
+  pub line-gives : Given l s s' o (sgrAfter (l .line) (s .head) (s' .head) (openAfter (l .at) (l .content) s (s' .place) o))
   line-gives =
       record {
         model-is = model-is;

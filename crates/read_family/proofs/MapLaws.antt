@@ -105,6 +105,7 @@ module _ (l : Line) (rest : List Line) (s s' : State) (takes : Takes l s s') (o 
     further = λ i. mapRecords (pins-told i) (no-map shut i)
 
     maps-stay : MapsInside whole maps' o' s' rest
+    unfolding mapOpen
     maps-stay =
         let same : maps' ≡ maps = maps-kept (λ (e : s .place ≡ place.pinList). omega arith) in
         rw (same, given .open-same no-model-here shut)

@@ -16,20 +16,19 @@ use Rattle.line_head.specs.Head.{newHead}
 use Rattle.line_head.specs.declared.Head.{Head}
 use Rattle.line_keyword.specs.Keywords.{oneMoreIf}
 use Rattle.line_keyword.specs.declared.State.{State}
-use Rattle.table_layout.specs.Layout.{modelWidth}
-use Rattle.table_record.specs.Records.{modelWords}
-use Rattle.table_record.specs.Way.Stage.{putAt, Held}
-use Rattle.table_record.specs.declared.ModelRecord.{ModelRecord}
+use Rattle.table_record.specs.Way.Stage.{putAt, Held, stagedModelWidth, stagedModelWords}
+use Rattle.table_record.specs.declared.stage.StagedModel.{StagedModel}
 use Rattle.table_record.proofs.StageLaws.{held-same, held-one}
 use Rattle.doc.specs.Lines.{Line, plain, keyOf, argumentOf, placeAfter, standsIn, gather, upTo}
-use Rattle.doc.specs.Document.{Model, stepOf, stepsIn, headIn, opensModel, inModel, modelOf, modelAt, opensMap}
-use Rattle.doc.specs.Records.{modelRecord, modelRecords}
+use Rattle.doc.specs.Document.{Model, stepOf, stepsIn, headIn, saysSgr, sgrIn, opensModel, inModel, modelOf, modelAt, opensMap}
+use Rattle.doc.specs.Records.{modelRecord}
+use Rattle.doc.specs.Way.Staged.{stagedModel, stagedModels}
 use Rattle.doc.proofs.GatherLaws.{gather-more, gather-none, gather-quiet, up-in}
 use Rattle.doc.proofs.LeadLaws.{model-entered}
 use Rattle.doc.proofs.PlainLaws.{plain-stays}
-use Rattle.read_family.specs.Way.Blocks.{modelOpen, modelsBehind, ModelsOutside, ModelsInside, ModelsHeld, modelClosed, modelsAfter}
+use Rattle.read_family.specs.Way.Blocks.{modelOpen, modelsBehind, ModelsOutside, ModelsInside, ModelsHeld, modelClosed, modelsAfter, sgrTaken}
 use Rattle.read_family.specs.declared.Open.{Open}
-use Rattle.read_family.proofs.BodyLaws.{added, head-more, head-none, head-skip}
+use Rattle.read_family.proofs.BodyLaws.{added, head-more, head-none, head-skip, sgr-more, sgr-none, sgr-skip}
 use Rattle.read_family.proofs.PlaceLaws.{model-leads, model-shut}
 use Rattle.read_family.proofs.TakeLaws.{Takes}
 use Rattle.read_family.proofs.GivenLaws.{Given}
@@ -39,7 +38,7 @@ module _ (l : Line) (rest : List Line) (s s' : State) (takes : Takes l s s') (o 
   unfolding stepsIn
   steps-same ls = λ i. sym (takes .steps) i + length (gather-quiet stepOf l ls (given .no-steps ls) i)
 
-  module _ (models : List ℕ) (whole : List ModelRecord) where
+  module _ (models : List ℕ) (whole : List StagedModel) where
     abbrev models' : List ℕ
     models' = modelsAfter o s (s' .place) models
 
@@ -76,15 +75,21 @@ module _ (l : Line) (rest : List Line) (s s' : State) (takes : Takes l s s') (o 
 
       further : modelsBehind s (l ∷ rest) ≡ modelsBehind s' rest
       unfolding modelsBehind
-      further = λ i. modelRecords (steps-told i) (no-model shut i)
+      further = λ i. stagedModels (steps-told i) (no-model shut i)
 
       -- and after the line
-      model-stays : modelOpen o s (upTo inModel (l ∷ rest)) ≡ modelOpen o s' (upTo inModel rest)
+      model-stays : modelOpen o s (upTo inModel (l ∷ rest)) ≡ modelOpen (sgrTaken l o) s' (upTo inModel rest)
       unfolding modelOpen
       model-stays =
           let h : headIn (s .head) (upTo inModel (l ∷ rest)) ≡ headIn (s' .head) (upTo inModel rest) =
           ap (headIn (s .head)) body ∙ head-told (upTo inModel rest) in
-          λ i. record { start = o .start; size = o .size; kind = h i .kind - 1; first = o .first; steps = steps-told i - o .first }
+          let g : sgrIn (o .sgr) (upTo inModel (l ∷ rest)) ≡ sgrIn (sgrTaken l o .sgr) (upTo inModel rest) =
+          ap (sgrIn (o .sgr)) body ∙ sgr-more (o .sgr) l (upTo inModel rest) in
+          λ i.
+          record {
+            model = record { start = o .start; size = o .size; kind = h i .kind - 1; first = o .first; steps = steps-told i - o .first };
+            sgr = g i;
+          }
 
       models-stay : isInModel (s' .place) ≡ true → ModelsInside whole models' o' s' rest
       models-stay still =
@@ -93,8 +98,8 @@ module _ (l : Line) (rest : List Line) (s s' : State) (takes : Takes l s s') (o 
           (record {
             some = rw (models-same shut) (held .some);
             held =
-                subst (λ (n : ℕ). Held modelWords modelWidth whole models (n - 1) (modelOpen o s' (upTo inModel rest) ∷ modelsBehind s' rest)) (sym (models-same shut))
-                (held-same modelWords modelWidth whole models (s .counts .models - 1) _ (held .held) _ (λ i. model-stays i ∷ further i));
+                subst (λ (n : ℕ). Held stagedModelWords stagedModelWidth whole models (n - 1) (modelOpen (sgrTaken l o) s' (upTo inModel rest) ∷ modelsBehind s' rest)) (sym (models-same shut))
+                (held-same stagedModelWords stagedModelWidth whole models (s .counts .models - 1) _ (held .held) _ (λ i. model-stays i ∷ further i));
           })
 
       -- and not after it: the model is closed
@@ -117,17 +122,22 @@ module _ (l : Line) (rest : List Line) (s s' : State) (takes : Takes l s s') (o 
             let h : headIn (s .head) (l ∷ []) ≡ s .head = head-skip (s .head) l [] no-head ∙ head-none (s .head) in
             let z : length (gather stepOf (l ∷ [])) ≡ 0 = ap length (gather-quiet stepOf l [] (given .no-steps []) ∙ gather-none stepOf) in
             let n : s .counts .steps + length (gather stepOf (l ∷ [])) ≡ s .counts .steps = omega arith in
+            let g : sgrIn (o .sgr) (l ∷ []) ≡ o .sgr = sgr-skip (o .sgr) l [] no-head ∙ sgr-none (o .sgr) in
             ap (modelOpen o s) last
-            ∙ (λ i. record { start = o .start; size = o .size; kind = h i .kind - 1; first = o .first; steps = n i - o .first })
+            ∙ (λ i.
+            record {
+              model = record { start = o .start; size = o .size; kind = h i .kind - 1; first = o .first; steps = n i - o .first };
+              sgr = g i;
+            })
 
-        none-behind : modelsBehind s (l ∷ rest) ≡ modelRecords (s' .counts .steps) (gather modelAt rest)
+        none-behind : modelsBehind s (l ∷ rest) ≡ stagedModels (s' .counts .steps) (gather modelAt rest)
         unfolding modelsBehind stepsIn
         none-behind =
             let z : length (gather stepOf (upTo inModel rest)) ≡ 0 = ap length (ap (gather stepOf) nothing ∙ gather-none stepOf) in
             let n : s' .counts .steps + length (gather stepOf (upTo inModel rest)) ≡ s' .counts .steps = omega arith in
-            further ∙ ap (λ (m : ℕ). modelRecords m (gather modelAt rest)) n
+            further ∙ ap (λ (m : ℕ). stagedModels m (gather modelAt rest)) n
 
-        stored : models' ≡ putAt (modelWidth * (s .counts .models - 1)) (modelWords (modelClosed o s)) models
+        stored : models' ≡ putAt (stagedModelWidth * (s .counts .models - 1)) (stagedModelWords (modelClosed o s)) models
         unfolding modelsAfter
         stored = if-true _ _ (both-true _ _ into (not-via out))
 
@@ -136,9 +146,9 @@ module _ (l : Line) (rest : List Line) (s s' : State) (takes : Takes l s s') (o 
             let m : 1 ≤ s .counts .models = held .some in
             let e : s' .counts .models ≡ s .counts .models = models-same shut in
             let n : s .counts .models - 1 + 1 ≡ s' .counts .models = omega arith in
-            subst (λ (k : ℕ). Held modelWords modelWidth whole models' k (modelRecords (s' .counts .steps) (gather modelAt rest))) n
-            (held-one modelWords modelWidth whole models (s .counts .models - 1) _ (held .held) (λ (x : ModelRecord). refl) (modelClosed o s)
-            (modelRecords (s' .counts .steps) (gather modelAt rest)) (λ i. model-closed i ∷ none-behind i) models' stored)
+            subst (λ (k : ℕ). Held stagedModelWords stagedModelWidth whole models' k (stagedModels (s' .counts .steps) (gather modelAt rest))) n
+            (held-one stagedModelWords stagedModelWidth whole models (s .counts .models - 1) _ (held .held) (λ (x : StagedModel). refl) (modelClosed o s)
+            (stagedModels (s' .counts .steps) (gather modelAt rest)) (λ i. model-closed i ∷ none-behind i) models' stored)
 
     -- in no model
     module _ (out : isInModel (s .place) ≡ false) (held : ModelsOutside whole models s (l ∷ rest)) where
@@ -149,9 +159,9 @@ module _ (l : Line) (rest : List Line) (s s' : State) (takes : Takes l s s') (o 
       unfolding isInModel either
       models-pass still =
           rw kept
-          (subst (λ (k : ℕ). Held modelWords modelWidth whole models k (modelRecords (s' .counts .steps) (gather modelAt rest))) (sym (models-same no-opening))
-          (held-same modelWords modelWidth whole models (s .counts .models) _ held _
-          (λ i. modelRecords (sym (takes .steps) i) (no-model no-opening i))))
+          (subst (λ (k : ℕ). Held stagedModelWords stagedModelWidth whole models k (stagedModels (s' .counts .steps) (gather modelAt rest))) (sym (models-same no-opening))
+          (held-same stagedModelWords stagedModelWidth whole models (s .counts .models) _ held _
+          (λ i. stagedModels (sym (takes .steps) i) (no-model no-opening i))))
         where
           no-opening : opensModel l ≡ false
           no-opening =
@@ -176,33 +186,41 @@ module _ (l : Line) (rest : List Line) (s s' : State) (takes : Takes l s s') (o 
         unfolding modelAt
         one-model = gather-more modelAt l rest ∙ ap (λ (ms : List Model). ms ++ gather modelAt rest) (if-true _ _ opens)
 
-        model-opens : modelRecord (s .counts .steps) (modelOf l (upTo inModel rest)) ≡ modelOpen o' s' (upTo inModel rest)
+        model-opens : stagedModel (s .counts .steps) (modelOf l (upTo inModel rest)) ≡ modelOpen o' s' (upTo inModel rest)
         unfolding modelOpen modelRecord modelOf argumentOf
         model-opens =
             let n : length (stepsIn (upTo inModel rest)) ≡ s .counts .steps + length (stepsIn (upTo inModel rest)) - s .counts .steps =
             sym (added (s .counts .steps) (length (stepsIn (upTo inModel rest)))) in
             (λ i.
             record {
-              start = sym (given .open-model opens) i .start;
-              size = sym (given .open-model opens) i .size;
-              kind = headIn (sym new-head i) (upTo inModel rest) .kind - 1;
-              first = sym (given .open-model opens) i .first;
-              steps = n i;
+              model =
+                  record {
+                    start = sym (given .open-model opens) i .start;
+                    size = sym (given .open-model opens) i .size;
+                    kind = headIn (sym new-head i) (upTo inModel rest) .kind - 1;
+                    first = sym (given .open-model opens) i .first;
+                    steps = n i;
+                  };
+              sgr = sgrIn (sym (given .open-model opens) i .sgr) (upTo inModel rest);
             })
             ∙ (λ i.
             record {
-              start = o' .start;
-              size = o' .size;
-              kind = headIn (s' .head) (upTo inModel rest) .kind - 1;
-              first = o' .first;
-              steps = sym (takes .steps) i + length (stepsIn (upTo inModel rest)) - sym (given .open-model opens) i .first;
+              model =
+                  record {
+                    start = o' .start;
+                    size = o' .size;
+                    kind = headIn (s' .head) (upTo inModel rest) .kind - 1;
+                    first = o' .first;
+                    steps = sym (takes .steps) i + length (stepsIn (upTo inModel rest)) - sym (given .open-model opens) i .first;
+                  };
+              sgr = sgrIn (o' .sgr) (upTo inModel rest);
             })
 
-        models-told : modelRecords (s .counts .steps) (gather modelAt (l ∷ rest)) ≡ modelOpen o' s' (upTo inModel rest) ∷ modelsBehind s' rest
-        unfolding modelRecords modelsBehind modelOf
+        models-told : stagedModels (s .counts .steps) (gather modelAt (l ∷ rest)) ≡ modelOpen o' s' (upTo inModel rest) ∷ modelsBehind s' rest
+        unfolding stagedModels modelsBehind modelOf
         models-told =
-            ap (modelRecords (s .counts .steps)) one-model
-            ∙ (λ i. model-opens i ∷ modelRecords (sym (takes .steps) i + length (stepsIn (upTo inModel rest))) (gather modelAt rest))
+            ap (stagedModels (s .counts .steps)) one-model
+            ∙ (λ i. model-opens i ∷ stagedModels (sym (takes .steps) i + length (stepsIn (upTo inModel rest))) (gather modelAt rest))
 
         models-open : ModelsInside whole models' o' s' rest
         unfolding oneMoreIf
@@ -213,8 +231,8 @@ module _ (l : Line) (rest : List Line) (s s' : State) (takes : Takes l s s') (o 
             (record {
               some = omega arith;
               held =
-                  subst (λ (k : ℕ). Held modelWords modelWidth whole models k (modelOpen o' s' (upTo inModel rest) ∷ modelsBehind s' rest)) n
-                  (held-same modelWords modelWidth whole models (s .counts .models) _ held _ models-told);
+                  subst (λ (k : ℕ). Held stagedModelWords stagedModelWidth whole models k (modelOpen o' s' (upTo inModel rest) ∷ modelsBehind s' rest)) n
+                  (held-same stagedModelWords stagedModelWidth whole models (s .counts .models) _ held _ models-told);
             })
 
     -- whichever it is

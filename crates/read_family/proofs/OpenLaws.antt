@@ -12,15 +12,16 @@ use Rattle.lex_keyword.specs.Bracket.{bracketOf}
 use Rattle.lex_keyword.specs.declared.Bracket.{Bracket}
 use Rattle.line_place.specs.Place.{isInModel}
 use Rattle.line_place.specs.Place as place
+use Rattle.line_head.specs.declared.Head.{Head}
 use Rattle.line_keyword.specs.Way.Bounded.{mostLines}
 use Rattle.line_keyword.specs.declared.State.{State}
-use Rattle.table_layout.specs.Layout.{modelWidth, mapWidth}
-use Rattle.table_record.specs.Records.{modelWords, mapWords}
-use Rattle.table_record.specs.Way.Stage.{putAt}
+use Rattle.table_layout.specs.Layout.{mapWidth}
+use Rattle.table_record.specs.Records.{mapWords}
+use Rattle.table_record.specs.Way.Stage.{putAt, stagedModelWidth, stagedModelWords}
 use Rattle.read_line.specs.Reading.{argumentFrom}
 use Rattle.doc.specs.Lines.{argumentIn}
 use Rattle.doc.proofs.ExtentLaws.{argument-in-line}
-use Rattle.read_family.specs.Way.Blocks.{mapsAfter, modelsAfter, opening, enters, openAfter}
+use Rattle.read_family.specs.Way.Blocks.{mapsAfter, modelsAfter, opening, enters, openAfter, withSgr, sgrAfter}
 use Rattle.read_family.specs.declared.Open.{Open}
 
 -- ---- the block that a line opens
@@ -34,12 +35,12 @@ module _ (at : ℕ) (content : List ℕ) (bracket : Bracket) (is-bracket : brack
 
   pub opening-told :
       (name : List ℕ) → name ≡ argumentFrom content start → (first : ℕ) →
-      record { start = at + start; size = length name; first = first } ≡ opening at content first
+      record { start = at + start; size = length name; first = first; sgr = 0 } ≡ opening at content first
   opening-told name is-name first =
       let e : start ≡ argumentIn (bracketOf content) = is-start ∙ ap argumentIn is-bracket in
       let n : length name ≡ length (argumentFrom content (argumentIn (bracketOf content))) =
       ap length (is-name ∙ ap (argumentFrom content) e) in
-      λ i. record { start = at + e i; size = n i; first = first }
+      λ i. record { start = at + e i; size = n i; first = first; sgr = 0 }
 
 module _ (at : ℕ) (content : List ℕ) (s : State) (p : ℕ) (o : Open) (model : Bool) (is-model : model ≡ enters place.head (s .place) p) where
   pub after-model : model ≡ true → (r : Open) → r ≡ opening at content (s .counts .steps) → r ≡ openAfter at content s p o
@@ -54,6 +55,21 @@ module _ (at : ℕ) (content : List ℕ) (s : State) (p : ℕ) (o : Open) (model
     pub after-same : map ≡ false → o ≡ openAfter at content s p o
     unfolding openAfter
     after-same h = sym (if-false _ _ (sym is-map ∙ h)) ∙ sym (if-false _ _ (sym is-model ∙ no-model))
+
+-- ---- the line of an SGR
+
+module _ (line : ℕ) (before after : Head) (o : Open) where
+  pub sgr-unsaid : not (after .sgr) ≡ true → o ≡ sgrAfter line before after o
+  unfolding sgrAfter
+  sgr-unsaid h = sym (if-false _ _ (both-not-left _ _ (not-true (after .sgr) h)))
+
+  pub sgr-above : before .sgr ≡ true → o ≡ sgrAfter line before after o
+  unfolding sgrAfter
+  sgr-above h = sym (if-false _ _ (both-not-right _ _ (not-not-via h)))
+
+  pub sgr-said : not (after .sgr) ≡ false → before .sgr ≡ false → withSgr line o ≡ sgrAfter line before after o
+  unfolding sgrAfter
+  sgr-said h k = sym (if-true _ _ (both-true _ _ (not-false (after .sgr) h) (not-via k)))
 
 -- ---- the records of blocks that a line closes
 
@@ -109,13 +125,13 @@ module _ (o : Open) (s : State) (p : ℕ) (models : List ℕ) (inside : Bool) (i
         further ≡ false → (kind : ℕ) → kind ≡ s .head .kind - 1 → (steps : ℕ) → steps ≡ s .counts .steps - o .first →
         (index : ℕ) → index ≡ s .counts .models - 1 → (models' : List ℕ) →
         models'
-        ≡ putAt (modelWidth * index)
-        (modelWords (record { start = o .start; size = o .size; kind = kind; first = o .first; steps = steps })) models →
+        ≡ putAt (stagedModelWidth * index)
+        (stagedModelWords (record { model = record { start = o .start; size = o .size; kind = kind; first = o .first; steps = steps }; sgr = o .sgr })) models →
         models' ≡ modelsAfter o s p models
     unfolding modelsAfter
     models-closed h kind is-kind steps is-steps index is-index models' e =
         e
         ∙ (λ i.
-        putAt (modelWidth * is-index i)
-        (modelWords (record { start = o .start; size = o .size; kind = is-kind i; first = o .first; steps = is-steps i })) models)
+        putAt (stagedModelWidth * is-index i)
+        (stagedModelWords (record { model = record { start = o .start; size = o .size; kind = is-kind i; first = o .first; steps = is-steps i }; sgr = o .sgr })) models)
         ∙ sym (if-true _ _ (both-true _ _ (sym is-inside ∙ not-false inside there) (not-via (sym is-further ∙ h))))

@@ -14,16 +14,16 @@ use Rattle.line_place.specs.Place as place
 use Rattle.line_head.specs.declared.Head.{Head}
 use Rattle.line_keyword.specs.Way.Bounded.{NoneYet}
 use Rattle.line_keyword.specs.declared.State.{State}
-use Rattle.table_layout.specs.Layout.{modelWidth, mapWidth, pinWidth}
-use Rattle.table_record.specs.Records.{modelWords, mapWords}
-use Rattle.table_record.specs.Way.Stage.{Held, stagedStepWidth}
-use Rattle.table_record.specs.declared.ModelRecord.{ModelRecord}
+use Rattle.table_layout.specs.Layout.{mapWidth, pinWidth}
+use Rattle.table_record.specs.Records.{mapWords}
+use Rattle.table_record.specs.Way.Stage.{Held, stagedModelWidth, stagedModelWords, stagedStepWidth}
+use Rattle.table_record.specs.declared.stage.StagedModel.{StagedModel}
 use Rattle.table_record.specs.declared.MapRecord.{MapRecord}
 use Rattle.table_record.proofs.StageLaws.{held-same}
 use Rattle.doc.specs.Lines.{Line, significant, gather, upTo}
-use Rattle.doc.specs.Document.{stepOf, stepsIn, headIn, inModel, modelAt, gridIn, inMap, pinAt, mapAt, sectionAt}
-use Rattle.doc.specs.Records.{modelRecords, mapRecords}
-use Rattle.doc.specs.Way.Staged.{stepStaged, pinStaged}
+use Rattle.doc.specs.Document.{stepOf, stepsIn, headIn, sgrIn, inModel, modelAt, gridIn, inMap, pinAt, mapAt, sectionAt}
+use Rattle.doc.specs.Records.{mapRecords}
+use Rattle.doc.specs.Way.Staged.{stagedModels, stepStaged, pinStaged}
 use Rattle.doc.specs.Way.Found.{IsPlain, Plainly}
 use Rattle.doc.proofs.PlainLaws.{plain-map, plain-model, plain-section, plainly-quiet}
 use Rattle.read_family.specs.Way.Pins.{SameGrid}
@@ -49,6 +49,7 @@ use Rattle.read_family.proofs.BodyLaws.{
   plain-no-step,
   plain-no-pin,
   head-front,
+  sgr-front,
   grid-front,
   grid-lines,
 }
@@ -99,35 +100,42 @@ module _ (p : ℕ) (ls rest : List Line) (plainly : Plainly p ls rest) (s s' : S
         ∙ head-front p out-of-head (s .head) (plainly .each) (upTo inModel rest)
         ∙ ap (λ (h : Head). headIn h (upTo inModel rest)) (sym (stays .head))
 
+    sgr-same : isInModel p ≡ true → sgrIn (o .sgr) (upTo inModel ls) ≡ sgrIn (o .sgr) (upTo inModel rest)
+    sgr-same into = ap (sgrIn (o .sgr)) (body-front into) ∙ sgr-front p out-of-head (o .sgr) (plainly .each) (upTo inModel rest)
+
     model-same : isInModel p ≡ true → modelOpen o s (upTo inModel ls) ≡ modelOpen o s' (upTo inModel rest)
     unfolding modelOpen
     model-same into =
         λ i.
         record {
-          start = o .start;
-          size = o .size;
-          kind = head-same into i .kind - 1;
-          first = o .first;
-          steps = steps-front into i - o .first;
+          model =
+              record {
+                start = o .start;
+                size = o .size;
+                kind = head-same into i .kind - 1;
+                first = o .first;
+                steps = steps-front into i - o .first;
+              };
+          sgr = sgr-same into i;
         }
 
     behind-same : isInModel p ≡ true → modelsBehind s ls ≡ modelsBehind s' rest
     unfolding modelsBehind
-    behind-same into = λ i. modelRecords (steps-front into i) (models-quiet i)
+    behind-same into = λ i. stagedModels (steps-front into i) (models-quiet i)
 
     not-path : isInModel p ≡ false → p ≡ place.path → ⊥
     unfolding isInModel
     not-path out e = true≢false (sym (either-right _ _ (either-left _ _ (eq-eqb _ _ e))) ∙ out)
 
-    pub models-run : (whole : List ModelRecord) (stage : List ℕ) → ModelsHeld whole stage o s ls → ModelsHeld whole stage o s' rest
+    pub models-run : (whole : List StagedModel) (stage : List ℕ) → ModelsHeld whole stage o s ls → ModelsHeld whole stage o s' rest
     models-run whole stage held =
         record {
           outside =
               λ (e : isInModel (s' .place) ≡ false).
               let out : isInModel p ≡ false = ap isInModel (sym (stays .there)) ∙ e in
               rw (stays .models)
-              (held-same modelWords modelWidth whole stage (s .counts .models) _ (held .outside (ap isInModel (stays .here) ∙ out)) _
-              (λ i. modelRecords (steps-same (not-path out) i) (models-quiet i)));
+              (held-same stagedModelWords stagedModelWidth whole stage (s .counts .models) _ (held .outside (ap isInModel (stays .here) ∙ out)) _
+              (λ i. stagedModels (steps-same (not-path out) i) (models-quiet i)));
           inside =
               λ (e : isInModel (s' .place) ≡ true).
               let into : isInModel p ≡ true = ap isInModel (sym (stays .there)) ∙ e in
@@ -135,8 +143,8 @@ module _ (p : ℕ) (ls rest : List Line) (plainly : Plainly p ls rest) (s s' : S
               record {
                 some = rw (stays .models) (open-here .some);
                 held =
-                    subst (λ (n : ℕ). Held modelWords modelWidth whole stage (n - 1) (modelOpen o s' (upTo inModel rest) ∷ modelsBehind s' rest)) (sym (stays .models))
-                    (held-same modelWords modelWidth whole stage (s .counts .models - 1) _ (open-here .held) _
+                    subst (λ (n : ℕ). Held stagedModelWords stagedModelWidth whole stage (n - 1) (modelOpen o s' (upTo inModel rest) ∷ modelsBehind s' rest)) (sym (stays .models))
+                    (held-same stagedModelWords stagedModelWidth whole stage (s .counts .models - 1) _ (open-here .held) _
                     (λ i. model-same into i ∷ behind-same into i));
               };
         }

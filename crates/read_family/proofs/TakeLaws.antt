@@ -10,7 +10,7 @@ use lib.Dec.{eqb}
 use borrow.Author.Tests.{eq-eqb, ne-eqb, eqb-true, eqb-false}
 use Rattle.base.specs.If.{if_then_else_, both, either}
 use Rattle.base.specs.Refusal as refusal
-use Rattle.base.proofs.IfLaws.{if-true, if-false, by-cases, both-rest, both-not-left, both-not-right, either-false, either-none-first, either-none-second}
+use Rattle.base.proofs.IfLaws.{if-true, if-false, by-cases, both-first, both-second, both-rest, both-not-left, both-not-right, either-false, either-none-first, either-none-second}
 use Rattle.lex_line.specs.Lines.{isBlankLine}
 use Rattle.lex_keyword.specs.Names.{icmPinMap, beginIcmModel, beginIcmSection}
 use Rattle.lex_keyword.specs.Bracket.{bracketOf}
@@ -20,6 +20,8 @@ use Rattle.lex_keyword.proofs.AnswerLaws.{keyword-known}
 use Rattle.line_place.specs.Place.{isInFamily, isText, opensMatrix, moved}
 use Rattle.line_place.specs.Place as place
 use Rattle.line_head.specs.Head.{headLineOf, headNext, newHead}
+use Rattle.line_head.specs.Way.Rule.{headRule}
+use Rattle.line_head.proofs.HeadLaws.{sgr-once}
 use Rattle.line_map.specs.PinMap.{mapLineOf, mapNext, newMap, withPin}
 use Rattle.line_head.specs.declared.Head.{Head}
 use Rattle.line_map.specs.declared.Map.{Map}
@@ -28,13 +30,13 @@ use Rattle.line_keyword.specs.Way.Bounded.{NoneYet}
 use Rattle.line_keyword.specs.declared.State.{State}
 use Rattle.line_keyword.specs.Way.Rule.{keywordRule}
 use Rattle.read_line.specs.Reading.{lineResult, lineNext, countsAfterLine, breaks}
-use Rattle.read_line.specs.Way.Steps.{bracketStep}
+use Rattle.read_line.specs.Way.Steps.{lineRule, bracketStep}
 use Rattle.read_line.specs.Way.Walk.{BracketOrLineByLine}
 use Rattle.read_line.specs.declared.LineResult.{LineResult}
-use Rattle.read_line.proofs.ResultLaws.{result-steps}
+use Rattle.read_line.proofs.ResultLaws.{rule-head, result-steps}
 use Rattle.read_line.proofs.OutsideLaws.{keyword-placed}
 use Rattle.doc.specs.Lines.{Line, plain, keyIn, keyAt, keyOf, argumentOf, placeAfter, standsIn}
-use Rattle.doc.specs.Document.{opensModel, opensMap}
+use Rattle.doc.specs.Document.{saysSgr, opensModel, opensMap}
 use Rattle.doc.proofs.Goes.{ended, waits, Moves, idle, plainly, keyed, Moved, MetBy, line-moves, moves-place}
 use Rattle.doc.proofs.CountLaws.{Placed, placed}
 use Rattle.read_family.proofs.PlaceLaws.{early-known, early-after}
@@ -59,6 +61,7 @@ pub record Takes (l : Line) (s s' : State) : Type 0 where
   pub models : s' .counts .models ≡ oneMoreIf (opensModel l) (s .counts .models)
   pub maps : s' .counts .maps ≡ oneMoreIf (opensMap l) (s .counts .maps)
   pub head : s' .head ≡ (if opensModel l then newHead else headTaken l (s .head))
+  pub sgr : saysSgr l ≡ true → s .head .sgr ≡ false
   pub map : s' .map ≡ (if opensMap l then newMap else gridTaken l (s .map))
 
 -- ---- a line of a path or a pin list that is read alone has a keyword
@@ -113,6 +116,11 @@ module _ (l : Line) (s : State) (here : l .place ≡ s .place) (early : s .place
   unfolding standsIn
   not-at q away = both-not-left _ _ (ne-eqb _ _ (λ (e : l .place ≡ q). away (sym here ∙ e)))
 
+  -- a line that is not of a head says no SGR
+  unsaid : standsIn place.head l ≡ false → saysSgr l ≡ true → s .head .sgr ≡ false
+  unfolding saysSgr
+  unsaid e h = absurd (true≢false (sym (both-first _ _ h) ∙ e))
+
   -- a line above the header
   module _ (waiting : s .place ≡ place.before) where
     away : (q : ℕ) → 0 < q → s .place ≡ q → ⊥
@@ -142,6 +150,7 @@ module _ (l : Line) (s : State) (here : l .place ≡ s .place) (early : s .place
           models = sym (if-false _ _ no-model);
           maps = sym (if-false _ _ no-map);
           head = sym (if-false _ _ no-model ∙ if-false _ _ (not-at place.head (away place.head (omega arith))));
+          sgr = unsaid (not-at place.head (away place.head (omega arith)));
           map = sym (if-false _ _ no-map ∙ if-false _ _ (not-at place.mapHead (away place.mapHead (omega arith))));
         }
 
@@ -163,9 +172,16 @@ module _ (l : Line) (s : State) (here : l .place ≡ s .place) (early : s .place
     stands-told q =
         ap (λ (b : Bool). both (eqb (l .place) q) b) (eq-eqb _ _ key) ∙ with-true (eqb (l .place) q) ∙ ap (λ (p : ℕ). eqb p q) here
 
-    plain-takes : Moves l s (lineNext (l .content) s) → Takes l s (lineNext (l .content) s)
+    -- "repeated .. 12": an SGR line that breaks no rule is the first of its head
+    first-sgr : lineRule (l .content) s ≡ 0 → saysSgr l ≡ true → s .head .sgr ≡ false
+    unfolding saysSgr standsIn
+    first-sgr kept e =
+        let there : s .place ≡ place.head = sym here ∙ eqb-true _ _ (both-first _ _ (both-first _ _ e)) in
+        sgr-once (headLineOf (l .content)) (s .head) (sym (rule-head (l .content) s there) ∙ kept) (eqb-true _ _ (both-second _ _ e))
+
+    plain-takes : lineRule (l .content) s ≡ 0 → Moves l s (lineNext (l .content) s) → Takes l s (lineNext (l .content) s)
     unfolding lineNext countsAfterLine oneMoreIf keyOf
-    plain-takes m =
+    plain-takes kept m =
         record {
           here = here;
           there = moves-place l s (lineNext (l .content) s) m;
@@ -187,6 +203,7 @@ module _ (l : Line) (s : State) (here : l .place ≡ s .place) (early : s .place
           models = sym (if-false _ _ plain-model);
           maps = sym (if-false _ _ plain-map);
           head = ap (λ (b : Bool). if b then headNext (headLineOf (l .content)) (s .head) else s .head) (sym (stands-told place.head)) ∙ sym (if-false _ _ plain-model);
+          sgr = first-sgr kept;
           map =
               (λ i.
               if sym (stands-told place.mapHead) i
@@ -269,6 +286,7 @@ module _ (l : Line) (s : State) (here : l .place ≡ s .place) (early : s .place
           maps = ap (λ (b : Bool). oneMoreIf b (s .counts .maps)) (sym map-told);
           head =
               (λ i. if sym model-told i then newHead else sym (if-false (headNext (headLineOf (l .content)) (s .head)) (s .head) (keyed-apart place.head)) i);
+          sgr = unsaid (keyed-apart place.head);
           map =
               (λ i. if sym map-told i then newMap else sym (if-false (mapNext (mapLineOf (l .content)) (s .map)) (s .map) (keyed-apart place.mapHead)) i);
         }
@@ -283,7 +301,7 @@ module _ (l : Line) (s : State) (here : l .place ≡ s .place) (early : s .place
   by-moves s' (idle (waits e k)) met = idle-takes l s here early e (idle (waits e k))
   by-moves s' (plainly k h) met =
       let a : Apart (l .content) s filled kept alone = plain-apart (l .content) s filled kept alone k in
-      plain-takes l s here early k (a .path) (a .pins) (plainly k h)
+      plain-takes l s here early k (a .path) (a .pins) h (plainly k h)
   by-moves s' (keyed k h) met =
       keyed-takes l s here early k h (placed (keyOf l) (argumentOf l .text) s (early-known (s .place) (omega arith)) met h) (keyed k h)
 

@@ -8,24 +8,28 @@ ghost use Rattle.lex_keyword.specs.Bracket.{bracketOf};
 ghost use Rattle.line_place.specs.Place as place;
 ghost use Rattle.line_keyword.specs.Way.Bounded.{mostLines};
 ghost use Rattle.read_line.specs.Way.Walk.{Onward};
-ghost use Rattle.read_family.specs.Way.Blocks.{mapsAfter, modelsAfter, opening, enters, openAfter};
+ghost use Rattle.read_family.specs.Way.Blocks.{mapsAfter, modelsAfter, opening, enters, openAfter, sgrAfter};
 ghost use Rattle.read_family.specs.Way.Family.{Alone, Continues, afterSteps, afterPins, followed, FamilyRead};
 use doc::Cursor;
 use lex_keyword::Bracket;
+use line_head::Head;
 use line_keyword::State;
 use pins::PinWalk;
 use read_line::Walk;
 use read_path::PathWalk;
 use table_record::MapRecord;
 use table_record::ModelRecord;
+use table_record::stage::StagedModel;
 
 pub mod pins;
 
-// The model or map that is open: where its name stands, and the index of its first step or pin.
+// The model or map that is open: where its name stands, the index of its first step or pin, and the line of the model's
+// SGR, 0 for none.
 pub struct Open {
     pub start: u64,
     pub size: u64,
     pub first: u64,
+    pub sgr: u64,
 }
 
 // Where the walk over the family ended, and where the model list starts.
@@ -86,7 +90,11 @@ fn close_model(s: State, place: u64, block: Open, models: &mut [u64])
         first: block.first,
         steps: base::minus(counts.steps, block.first),
     };
-    table_record::stage::put_model(models, base::minus(counts.models, 1), own);
+    let staged = StagedModel {
+        model: own,
+        sgr: block.sgr,
+    };
+    table_record::stage::put_model(models, base::minus(counts.models, 1), staged);
 }
 
 // The block that a line opens: its name is the argument of the keyword.
@@ -100,6 +108,7 @@ fn open_block(content: &[u8], at: usize, bracket: Bracket, first: u64) -> Open
         start: (at + start) as u64,
         size: name.len() as u64,
         first,
+        sgr: 0,
     }
 }
 
@@ -135,6 +144,25 @@ fn open_after(
     block
 }
 
+// The open block after a line, by the head before it and after it: an SGR line is kept with its model, since rule 29 is
+// judged when all types are known.
+fn keep_sgr(block: Open, line: u64, before: Head, after: Head) -> Open
+    ensures { λ r. ⌜ r ≡ sgrAfter line before after block ⌝ }
+{
+    if !after.sgr {
+        return block;
+    }
+    if before.sgr {
+        return block;
+    }
+    Open {
+        start: block.start,
+        size: block.size,
+        first: block.first,
+        sgr: line,
+    }
+}
+
 // Reads the line at offset `at`: it may close the open block, and open another.
 fn read_alone(
     text: &[u8],
@@ -165,12 +193,15 @@ fn read_alone(
     let end = read.end;
     let bracket = read.bracket;
     let next = open_after(&text[at..end], at, bracket, s, state.place, block);
+    let before = s.head;
+    let after = state.head;
+    let kept = keep_sgr(next, line, before, after);
     FamilyWalk {
         rule: 0,
         at: read.at,
         line: read.line,
         state,
-        block: next,
+        block: kept,
     }
 }
 
@@ -336,6 +367,7 @@ pub fn read_family(
         start: 0,
         size: 0,
         first: 0,
+        sgr: 0,
     };
     let mut list = doc::start();
     while at < text.len() {

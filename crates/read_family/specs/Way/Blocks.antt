@@ -11,18 +11,19 @@ use Rattle.base.specs.If.{if_then_else_, both, either}
 use Rattle.lex_keyword.specs.Bracket.{bracketOf}
 use Rattle.line_place.specs.Place.{isInModel}
 use Rattle.line_place.specs.Place as place
+use Rattle.line_head.specs.declared.Head.{Head}
 use Rattle.line_keyword.specs.Way.Bounded.{NoneYet}
 use Rattle.line_keyword.specs.declared.State.{State}
-use Rattle.table_layout.specs.Layout.{modelWidth, mapWidth, pinWidth}
-use Rattle.table_record.specs.Records.{modelWords, mapWords}
-use Rattle.table_record.specs.Way.Stage.{putAt, Held, stagedStepWidth}
-use Rattle.table_record.specs.declared.ModelRecord.{ModelRecord}
+use Rattle.table_layout.specs.Layout.{mapWidth, pinWidth}
+use Rattle.table_record.specs.Records.{mapWords}
+use Rattle.table_record.specs.Way.Stage.{putAt, Held, stagedModelWidth, stagedModelWords, stagedStepWidth}
+use Rattle.table_record.specs.declared.stage.StagedModel.{StagedModel}
 use Rattle.table_record.specs.declared.MapRecord.{MapRecord}
 use Rattle.read_line.specs.Reading.{argumentFrom}
 use Rattle.doc.specs.Lines.{Line, argumentIn, significant, gather, upTo}
-use Rattle.doc.specs.Document.{stepOf, stepsIn, headIn, inModel, modelAt, gridIn, inMap, pinAt, mapAt, sectionAt, documentOf}
-use Rattle.doc.specs.Records.{modelRecords, mapRecords}
-use Rattle.doc.specs.Way.Staged.{stepStaged, pinStaged}
+use Rattle.doc.specs.Document.{stepOf, stepsIn, headIn, saysSgr, sgrIn, inModel, modelAt, gridIn, inMap, pinAt, mapAt, sectionAt, documentOf}
+use Rattle.doc.specs.Records.{mapRecords}
+use Rattle.doc.specs.Way.Staged.{stagedModels, stepStaged, pinStaged}
 use Rattle.read_family.specs.declared.Open.{Open}
 
 -- ---- maps
@@ -62,32 +63,36 @@ pub record MapsHeld (whole : List MapRecord) (maps : List ℕ) (o : Open) (s : S
 
 -- ---- models
 
--- the record of the open model, of which these lines are left
-unfoldable pub modelOpen : Open → State → List Line → ModelRecord
+-- the open model, of which these lines are left
+unfoldable pub modelOpen : Open → State → List Line → StagedModel
 modelOpen o s body =
     record {
-      start = o .start;
-      size = o .size;
-      kind = headIn (s .head) body .kind - 1;
-      first = o .first;
-      steps = s .counts .steps + length (stepsIn body) - o .first;
+      model =
+          record {
+            start = o .start;
+            size = o .size;
+            kind = headIn (s .head) body .kind - 1;
+            first = o .first;
+            steps = s .counts .steps + length (stepsIn body) - o .first;
+          };
+      sgr = sgrIn (o .sgr) body;
     }
 
 -- the models after the open one
-unfoldable pub modelsBehind : State → List Line → List ModelRecord
-modelsBehind s ls = modelRecords (s .counts .steps + length (stepsIn (upTo inModel ls))) (gather modelAt ls)
+unfoldable pub modelsBehind : State → List Line → List StagedModel
+modelsBehind s ls = stagedModels (s .counts .steps + length (stepsIn (upTo inModel ls))) (gather modelAt ls)
 
 -- no model is open
-abbrev pub ModelsOutside : List ModelRecord → List ℕ → State → List Line → Type 0
+abbrev pub ModelsOutside : List StagedModel → List ℕ → State → List Line → Type 0
 ModelsOutside whole models s ls =
-    Held modelWords modelWidth whole models (s .counts .models) (modelRecords (s .counts .steps) (gather modelAt ls))
+    Held stagedModelWords stagedModelWidth whole models (s .counts .models) (stagedModels (s .counts .steps) (gather modelAt ls))
 
 -- a model is open: it is counted, but not staged
-pub record ModelsInside (whole : List ModelRecord) (models : List ℕ) (o : Open) (s : State) (ls : List Line) : Type 0 where
+pub record ModelsInside (whole : List StagedModel) (models : List ℕ) (o : Open) (s : State) (ls : List Line) : Type 0 where
   pub some : 1 ≤ s .counts .models
-  pub held : Held modelWords modelWidth whole models (s .counts .models - 1) (modelOpen o s (upTo inModel ls) ∷ modelsBehind s ls)
+  pub held : Held stagedModelWords stagedModelWidth whole models (s .counts .models - 1) (modelOpen o s (upTo inModel ls) ∷ modelsBehind s ls)
 
-pub record ModelsHeld (whole : List ModelRecord) (models : List ℕ) (o : Open) (s : State) (ls : List Line) : Type 0 where
+pub record ModelsHeld (whole : List StagedModel) (models : List ℕ) (o : Open) (s : State) (ls : List Line) : Type 0 where
   pub outside : isInModel (s .place) ≡ false → ModelsOutside whole models s ls
   pub inside : isInModel (s .place) ≡ true → ModelsInside whole models o s ls
 
@@ -95,7 +100,7 @@ pub record ModelsHeld (whole : List ModelRecord) (models : List ℕ) (o : Open) 
 
 -- the text has been read up to these lines, and its records are staged as far as they are known
 pub record Carries (t : List ℕ) (ls : List Line) (s : State) (o : Open) (modelStage stepStage mapStage pinStage : List ℕ) : Type 0 where
-  pub models : ModelsHeld (modelRecords 0 (documentOf t .models)) modelStage o s ls
+  pub models : ModelsHeld (stagedModels 0 (documentOf t .models)) modelStage o s ls
   pub steps : Held stepStaged stagedStepWidth (gather stepOf (significant t)) stepStage (s .counts .steps) (gather stepOf ls)
   pub maps : MapsHeld (mapRecords 0 (documentOf t .maps)) mapStage o s ls
   pub pins : Held pinStaged pinWidth (gather pinAt (significant t)) pinStage (s .counts .pins) (gather pinAt ls)
@@ -105,7 +110,7 @@ pub record Carries (t : List ℕ) (ls : List Line) (s : State) (o : Open) (model
 
 -- ---- what a line does that is read alone
 
--- the record of the open map or model, as it is known at the line that closes it
+-- the open map or model, as it is known at the line that closes it
 abbrev pub mapClosed : Open → State → MapRecord
 mapClosed o s =
     record {
@@ -118,14 +123,18 @@ mapClosed o s =
       pins = s .counts .pins - o .first;
     }
 
-abbrev pub modelClosed : Open → State → ModelRecord
+abbrev pub modelClosed : Open → State → StagedModel
 modelClosed o s =
     record {
-      start = o .start;
-      size = o .size;
-      kind = s .head .kind - 1;
-      first = o .first;
-      steps = s .counts .steps - o .first;
+      model =
+          record {
+            start = o .start;
+            size = o .size;
+            kind = s .head .kind - 1;
+            first = o .first;
+            steps = s .counts .steps - o .first;
+          };
+      sgr = o .sgr;
     }
 
 -- the staged maps after a line that is read alone: below a Pin_list it has a keyword, which closes the map
@@ -137,7 +146,7 @@ mapsAfter o s maps =
 unfoldable pub modelsAfter : Open → State → ℕ → List ℕ → List ℕ
 modelsAfter o s p models =
     if both (isInModel (s .place)) (not (isInModel p))
-    then putAt (modelWidth * (s .counts .models - 1)) (modelWords (modelClosed o s)) models
+    then putAt (stagedModelWidth * (s .counts .models - 1)) (stagedModelWords (modelClosed o s)) models
     else models
 
 -- the block that a line at an offset opens, with the index of its first step or pin
@@ -147,6 +156,7 @@ opening at content first =
       start = at + argumentIn (bracketOf content);
       size = length (argumentFrom content (argumentIn (bracketOf content)));
       first = first;
+      sgr = 0;
     }
 
 -- a line leads into the head of a block from elsewhere
@@ -158,3 +168,15 @@ unfoldable pub openAfter : ℕ → List ℕ → State → ℕ → Open → Open
 openAfter at content s p o =
     if enters place.head (s .place) p then opening at content (s .counts .steps) else
     if enters place.mapHead (s .place) p then opening at content (s .counts .pins) else o
+
+-- the open block with the line of its SGR
+abbrev pub withSgr : ℕ → Open → Open
+withSgr line o = record { start = o .start; size = o .size; first = o .first; sgr = line }
+
+-- a line that breaks no rule says SGR if the head has one after it and had none before it
+unfoldable pub sgrAfter : ℕ → Head → Head → Open → Open
+sgrAfter line before after o = if both (after .sgr) (not (before .sgr)) then withSgr line o else o
+
+-- the open block after a line of the document that opens none
+abbrev pub sgrTaken : Line → Open → Open
+sgrTaken l o = withSgr (if saysSgr l then l .line else o .sgr) o

@@ -11,17 +11,17 @@ use Rattle.lex_line.specs.Way.LineEnds.{contentAt}
 use Rattle.line_place.specs.Place.{list, pinList, after}
 use Rattle.line_keyword.specs.Way.Bounded.{NoneYet}
 use Rattle.line_keyword.specs.declared.State.{State}
-use Rattle.table_layout.specs.Layout.{modelWidth, mapWidth, pinWidth}
-use Rattle.table_record.specs.Records.{modelWords, mapWords}
-use Rattle.table_record.specs.Way.Stage.{Whole, stagedStepWidth}
+use Rattle.table_layout.specs.Layout.{mapWidth, pinWidth}
+use Rattle.table_record.specs.Records.{mapWords}
+use Rattle.table_record.specs.Way.Stage.{Whole, stagedModelWidth, stagedModelWords, stagedStepWidth}
 use Rattle.read_line.specs.Reading.{readingOf}
 use Rattle.read_line.specs.Way.Walk.{resume, Onward, ResumesText, Opens, BracketOrLineByLine, withPath, withPinned}
 use Rattle.read_line.specs.declared.Walk.{Walk}
 use Rattle.read_path.specs.declared.PathWalk.{PathWalk}
 use Rattle.doc.specs.Lines.{Line, linesAt, significant, gather}
 use Rattle.doc.specs.Document.{stepOf, listedAt, pinAt, sectionAt, documentOf}
-use Rattle.doc.specs.Records.{modelRecords, mapRecords}
-use Rattle.doc.specs.Way.Staged.{stepStaged, pinStaged, ListsFrom}
+use Rattle.doc.specs.Records.{mapRecords}
+use Rattle.doc.specs.Way.Staged.{stagedModels, stepStaged, pinStaged, ListsFrom}
 use Rattle.doc.specs.declared.Cursor.{Cursor}
 use Rattle.read_family.specs.Way.Blocks.{Carries}
 use Rattle.read_family.specs.declared.Open.{Open}
@@ -77,7 +77,7 @@ pub record Follows (t : List ℕ) (c here : Cursor) : Type 0 where
 
 -- all records of the family are staged, as far as they fit; the sections come behind it
 pub record FamilyStaged (t : List ℕ) (line at : ℕ) (s : State) (modelStage stepStage mapStage pinStage : List ℕ) : Type 0 where
-  pub models : Whole modelWords modelWidth (modelRecords 0 (documentOf t .models)) modelStage
+  pub models : Whole stagedModelWords stagedModelWidth (stagedModels 0 (documentOf t .models)) modelStage
   pub steps : Whole stepStaged stagedStepWidth (gather stepOf (significant t)) stepStage
   pub maps : Whole mapWords mapWidth (mapRecords 0 (documentOf t .maps)) mapStage
   pub pins : Whole pinStaged pinWidth (gather pinAt (significant t)) pinStage
