@@ -12,7 +12,7 @@ use Rattle.base.proofs.IfLaws.{if-true, if-false, by-cases, both-true, both-fir
 use Rattle.lex_keyword.specs.Names.{icmPinMap, beginIcmModel}
 use Rattle.line_place.specs.Place.{isInFamily}
 use Rattle.line_place.specs.Place as place
-use Rattle.line_head.specs.Head.{saysRatio, headLineOf, headNext, newHead}
+use Rattle.line_head.specs.Head.{saysRatio, headLineOf, headNext}
 use Rattle.line_head.specs.declared.Head.{Head}
 use Rattle.line_keyword.specs.declared.State.{State}
 use Rattle.doc.specs.Lines.{Line, plain, keyAt, keyOf, standsIn}
@@ -71,11 +71,8 @@ module _ (l : Line) (before after : Head) (o : Open) (told : after ≡ headTaken
       sgr-unchanged (l .line) before after o (sgr-unsaid e) ∙ ap (λ (n : ℕ). withSgr n o) (sym (if-false _ _ e)))
 
 module _ (l : Line) (s s' : State) (takes : Takes l s s') (early : s .place < place.after) (o : Open) where
-  abbrev opened : Open
-  opened = openAfter (l .at) (l .content) s (s' .place) o
-
   abbrev block : Open
-  block = sgrAfter (l .line) (s .head) (s' .head) opened
+  block = openAfter (l .line) (l .at) (l .content) s (s' .place) (s' .head) o
 
   -- ---- what the line opens
 
@@ -106,26 +103,18 @@ module _ (l : Line) (s s' : State) (takes : Takes l s s') (early : s .place < pl
       let k : keyOf l ≡ icmPinMap = eqb-true _ _ (both-second _ _ h) in
       both-not-right _ _ (ne-eqb _ _ (λ (z : keyOf l ≡ beginIcmModel). let y : icmPinMap ≡ beginIcmModel = sym k ∙ z in omega arith))
 
-  -- a new head has no SGR yet, and a line that opens a map leaves the head
   open-model : opensModel l ≡ true → block ≡ opening (l .at) (l .content) (s .counts .steps)
-  unfolding openAfter sgrAfter newHead
-  open-model h =
-      if-false _ _ (both-not-left _ _ (ap (λ (x : Head). x .sgr) (takes .head ∙ if-true _ _ h))) ∙ if-true _ _ (model-told ∙ h)
+  unfolding openAfter
+  open-model h = if-true _ _ (model-told ∙ h)
 
   open-map : opensMap l ≡ true → block ≡ opening (l .at) (l .content) (s .counts .pins)
-  unfolding openAfter opensMap standsIn
-  open-map h =
-      let k : keyOf l ≡ icmPinMap = eqb-true _ _ (both-second _ _ h) in
-      let away : standsIn place.head l ≡ false =
-      both-not-right _ _ (ne-eqb _ _ (λ (z : keyOf l ≡ plain). let y : icmPinMap ≡ plain = sym k ∙ z in omega arith)) in
-      let same : s' .head ≡ s .head = takes .head ∙ if-false _ _ (map-only h) ∙ if-false _ _ away in
-      sgr-unchanged (l .line) (s .head) (s' .head) opened (ap (λ (x : Head). x .sgr) same)
-      ∙ if-false _ _ (model-told ∙ map-only h) ∙ if-true _ _ (map-told ∙ h)
+  unfolding openAfter
+  open-map h = if-false _ _ (model-told ∙ map-only h) ∙ if-true _ _ (map-told ∙ h)
 
   open-same : opensModel l ≡ false → opensMap l ≡ false → block ≡ sgrTaken l o
   unfolding openAfter
   open-same h k =
-      ap (sgrAfter (l .line) (s .head) (s' .head)) (if-false _ _ (model-told ∙ h) ∙ if-false _ _ (map-told ∙ k))
+      if-false _ _ (model-told ∙ h) ∙ if-false _ _ (map-told ∙ k)
       ∙ sgr-told l (s .head) (s' .head) o (takes .head ∙ if-false _ _ h) (takes .sgr)
 
   -- ---- what the line gives
@@ -142,7 +131,7 @@ module _ (l : Line) (s s' : State) (takes : Takes l s s') (early : s .place < pl
   unfolding sectionAt opensSection
   no-sections ls = if-false _ _ (both-not-left _ _ (ne-eqb _ _ (λ (e : l .place ≡ place.after). let z : s .place ≡ place.after = sym (takes .here) ∙ e in omega arith)))
 
-  pub line-gives : Given l s s' o (sgrAfter (l .line) (s .head) (s' .head) (openAfter (l .at) (l .content) s (s' .place) o))
+  pub line-gives : Given l s s' o (openAfter (l .line) (l .at) (l .content) s (s' .place) (s' .head) o)
   line-gives =
       record {
         model-is = model-is;

@@ -32,7 +32,7 @@ use Rattle.doc.specs.Lines.{Line, linesAt, gather, upTo}
 use Rattle.doc.specs.Document.{stepOf, inModel, pinAt, sectionAt}
 use Rattle.doc.proofs.FoundLaws.{pass-over, stop-here, content-ordered, content-inside}
 use Rattle.doc.proofs.GatherLaws.{gather-quiet}
-use Rattle.read_family.specs.Way.Blocks.{Carries, mapsAfter, modelsAfter, enters, openAfter, sgrAfter}
+use Rattle.read_family.specs.Way.Blocks.{Carries, mapsAfter, modelsAfter, enters, openAfter}
 use Rattle.read_family.specs.Way.Family.{Alone, Passes, Continues}
 use Rattle.read_family.specs.declared.Open.{Open}
 use Rattle.read_family.proofs.ListedLaws.{passes-none, passes-line}
@@ -48,7 +48,7 @@ use Rattle.read_family.proofs.MapLaws.{maps-line}
 module _ (t : List ℕ) (l : Line) (rest : List Line) (s s' : State) (takes : Takes l s s') (early : s .place < place.after)
     (nothing : isInModel (s' .place) ≡ false → upTo inModel rest ≡ []) (o : Open) (models steps maps pins : List ℕ) where
   abbrev o' : Open
-  o' = sgrAfter (l .line) (s .head) (s' .head) (openAfter (l .at) (l .content) s (s' .place) o)
+  o' = openAfter (l .line) (l .at) (l .content) s (s' .place) (s' .head) o
 
   given : Given l s s' o o'
   given = line-gives l s s' takes early o
@@ -80,11 +80,11 @@ blank-plain content b =
 
 -- the place stays
 module _ (o : Open) (s : State) where
-  open-kept : (line at : ℕ) (content : List ℕ) → sgrAfter line (s .head) (s .head) (openAfter at content s (s .place) o) ≡ o
+  open-kept : (line at : ℕ) (content : List ℕ) → openAfter line at content s (s .place) (s .head) o ≡ o
   unfolding openAfter enters
   open-kept line at content =
-      sgr-unchanged line (s .head) (s .head) _ refl
-      ∙ if-false _ _ (not-self (eqb (s .place) place.head)) ∙ if-false _ _ (not-self (eqb (s .place) place.mapHead))
+      if-false _ _ (not-self (eqb (s .place) place.head)) ∙ if-false _ _ (not-self (eqb (s .place) place.mapHead))
+      ∙ sgr-unchanged line (s .head) (s .head) o refl
 
   models-kept : (models : List ℕ) → modelsAfter o s (s .place) models ≡ models
   unfolding modelsAfter
@@ -127,7 +127,7 @@ module _ (t : List ℕ) (at line : ℕ) (s : State) (h : at < length t) (early :
     Goes s' =
         Passes (s .place) (linesAt t line at (s .place)) (linesAt t (line + 1) next (s' .place))
         × (Carries t (linesAt t line at (s .place)) s o models steps maps pins →
-        Carries t (linesAt t (line + 1) next (s' .place)) s' (sgrAfter line (s .head) (s' .head) (openAfter at content s (s' .place) o)) (modelsAfter o s (s' .place) models) steps (mapsAfter o s maps) pins)
+        Carries t (linesAt t (line + 1) next (s' .place)) s' (openAfter line at content s (s' .place) (s' .head) o) (modelsAfter o s (s' .place) models) steps (mapsAfter o s maps) pins)
 
     kept : lineResult content s .rule ≡ 0
     kept = sym (ap (λ (x : LineResult). x .rule) (reads .result)) ∙ z
@@ -169,15 +169,15 @@ module _ (t : List ℕ) (at line : ℕ) (s : State) (h : at < length t) (early :
 pub alone-goes :
     (t : List ℕ) (at line : ℕ) (s : State) → at < length t → s .place < place.after → Alone t at (s .place) → (r : LineRead) → ReadsLine t at line s r →
     r .rule ≡ 0 → (o : Open) (models maps : List ℕ) (maps' : List ℕ) → maps' ≡ mapsAfter o s maps → (models' : List ℕ) →
-    models' ≡ modelsAfter o s (r .state .place) models → (o' : Open) → o' ≡ openAfter at (take (r .end - at) (drop at t)) s (r .state .place) o →
-    (kept : Open) → kept ≡ sgrAfter line (s .head) (r .state .head) o' → (steps pins : List ℕ) →
-    Continues t at line s o models steps maps pins (record { rule = 0; at = r .at; line = r .line; state = r .state; block = kept }) models' steps maps' pins
-alone-goes t at line s h early alone r reads z o models maps maps' is-maps models' is-models o' is-o kept is-kept steps pins =
+    models' ≡ modelsAfter o s (r .state .place) models → (o' : Open) →
+    o' ≡ openAfter line at (take (r .end - at) (drop at t)) s (r .state .place) (r .state .head) o → (steps pins : List ℕ) →
+    Continues t at line s o models steps maps pins (record { rule = 0; at = r .at; line = r .line; state = r .state; block = o' }) models' steps maps' pins
+alone-goes t at line s h early alone r reads z o models maps maps' is-maps models' is-models o' is-o steps pins =
     record {
       resumes = subst (λ (k : ℕ). ResumesText t at line s (record { rule = k; at = r .at; line = r .line; state = r .state })) z (reads .resumes);
       passes = λ (e : _≡_ {A = ℕ} 0 0). rw (reads .line-is z, reads .next-is) (goes-on t at line s h early alone r reads z o models steps maps pins .0);
       carries =
           λ (e : _≡_ {A = ℕ} 0 0) carries.
-          rw (is-maps, is-models, is-kept, is-o, reads .end-is, reads .line-is z, reads .next-is)
+          rw (is-maps, is-models, is-o, reads .end-is, reads .line-is z, reads .next-is)
           (goes-on t at line s h early alone r reads z o models steps maps pins .1 carries);
     }

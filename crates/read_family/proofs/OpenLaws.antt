@@ -42,19 +42,19 @@ module _ (at : ℕ) (content : List ℕ) (bracket : Bracket) (is-bracket : brack
       ap length (is-name ∙ ap (argumentFrom content) e) in
       λ i. record { start = at + e i; size = n i; first = first; sgr = 0 }
 
-module _ (at : ℕ) (content : List ℕ) (s : State) (p : ℕ) (o : Open) (model : Bool) (is-model : model ≡ enters place.head (s .place) p) where
-  pub after-model : model ≡ true → (r : Open) → r ≡ opening at content (s .counts .steps) → r ≡ openAfter at content s p o
+module _ (line at : ℕ) (content : List ℕ) (s : State) (p : ℕ) (h : Head) (o : Open) (model : Bool) (is-model : model ≡ enters place.head (s .place) p) where
+  pub after-model : model ≡ true → (r : Open) → r ≡ opening at content (s .counts .steps) → r ≡ openAfter line at content s p h o
   unfolding openAfter
-  after-model h r e = e ∙ sym (if-true _ _ (sym is-model ∙ h))
+  after-model opens r e = e ∙ sym (if-true _ _ (sym is-model ∙ opens))
 
   module _ (no-model : model ≡ false) (map : Bool) (is-map : map ≡ enters place.mapHead (s .place) p) where
-    pub after-map : map ≡ true → (r : Open) → r ≡ opening at content (s .counts .pins) → r ≡ openAfter at content s p o
+    pub after-map : map ≡ true → (r : Open) → r ≡ opening at content (s .counts .pins) → r ≡ openAfter line at content s p h o
     unfolding openAfter
-    after-map h r e = e ∙ sym (if-true _ _ (sym is-map ∙ h)) ∙ sym (if-false _ _ (sym is-model ∙ no-model))
+    after-map opens r e = e ∙ sym (if-true _ _ (sym is-map ∙ opens)) ∙ sym (if-false _ _ (sym is-model ∙ no-model))
 
-    pub after-same : map ≡ false → o ≡ openAfter at content s p o
+    pub after-same : map ≡ false → (r : Open) → r ≡ sgrAfter line (s .head) h o → r ≡ openAfter line at content s p h o
     unfolding openAfter
-    after-same h = sym (if-false _ _ (sym is-map ∙ h)) ∙ sym (if-false _ _ (sym is-model ∙ no-model))
+    after-same shut r e = e ∙ sym (if-false _ _ (sym is-map ∙ shut)) ∙ sym (if-false _ _ (sym is-model ∙ no-model))
 
 -- ---- the line of an SGR
 

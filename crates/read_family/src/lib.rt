@@ -122,30 +122,8 @@ fn is_entered(head: u64, before: u64, after: u64) -> bool
     before != head
 }
 
-// The block that is open after a line.
-fn open_after(
-    content: &[u8],
-    at: usize,
-    bracket: Bracket,
-    s: State,
-    place: u64,
-    block: Open,
-) -> Open
-    requires { ⌜ (at + length (now content) ≤ mostLines) × (bracket ≡ bracketOf (now content)) ⌝ }
-    ensures { λ r. ⌜ r ≡ openAfter at (now (content .entry)) s place block ⌝ }
-{
-    let counts = s.counts;
-    if is_entered(line_place::HEAD, s.place, place) {
-        return open_block(content, at, bracket, counts.steps);
-    }
-    if is_entered(line_place::MAP_HEAD, s.place, place) {
-        return open_block(content, at, bracket, counts.pins);
-    }
-    block
-}
-
-// The open block after a line, by the head before it and after it: an SGR line is kept with its model, since rule 29 is
-// judged when all types are known.
+// The open block, with its line if it says SGR: the head has one after the line, and had none before it. Rule 29 is judged
+// when the model's type is known, which may stand below.
 fn keep_sgr(block: Open, line: u64, before: Head, after: Head) -> Open
     ensures { λ r. ⌜ r ≡ sgrAfter line before after block ⌝ }
 {
@@ -161,6 +139,31 @@ fn keep_sgr(block: Open, line: u64, before: Head, after: Head) -> Open
         first: block.first,
         sgr: line,
     }
+}
+
+// The block that is open after a line.
+fn open_after(
+    content: &[u8],
+    at: usize,
+    line: u64,
+    bracket: Bracket,
+    s: State,
+    place: u64,
+    head: Head,
+    block: Open,
+) -> Open
+    requires { ⌜ (at + length (now content) ≤ mostLines) × (bracket ≡ bracketOf (now content)) ⌝ }
+    ensures { λ r. ⌜ r ≡ openAfter line at (now (content .entry)) s place head block ⌝ }
+{
+    let counts = s.counts;
+    if is_entered(line_place::HEAD, s.place, place) {
+        return open_block(content, at, bracket, counts.steps);
+    }
+    if is_entered(line_place::MAP_HEAD, s.place, place) {
+        return open_block(content, at, bracket, counts.pins);
+    }
+    let before = s.head;
+    keep_sgr(block, line, before, head)
 }
 
 // Reads the line at offset `at`: it may close the open block, and open another.
@@ -192,16 +195,23 @@ fn read_alone(
     close_model(s, state.place, block, models);
     let end = read.end;
     let bracket = read.bracket;
-    let next = open_after(&text[at..end], at, bracket, s, state.place, block);
-    let before = s.head;
-    let after = state.head;
-    let kept = keep_sgr(next, line, before, after);
+    let head = state.head;
+    let next = open_after(
+        &text[at..end],
+        at,
+        line,
+        bracket,
+        s,
+        state.place,
+        head,
+        block,
+    );
     FamilyWalk {
         rule: 0,
         at: read.at,
         line: read.line,
         state,
-        block: kept,
+        block: next,
     }
 }
 

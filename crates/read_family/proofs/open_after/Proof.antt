@@ -23,6 +23,9 @@ open-block-requires-2 c κs = search needs
 returns-2 : tie.Need-returns-2
 returns-2 c = search after-map
 
+keep-sgr-requires : tie.Need-keep-sgr-requires
+keep-sgr-requires c κs = search needs
+
 returns-3 : tie.Need-returns-3
 returns-3 c = search after-same
 
@@ -36,4 +39,5 @@ open-after-spec =
     is-entered-requires-2
     open-block-requires-2
     returns-2
+    keep-sgr-requires
     returns-3)

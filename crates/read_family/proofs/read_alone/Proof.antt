@@ -29,9 +29,6 @@ part-open-after-end c = search alone-within
 open-after-requires : tie.Need-open-after-requires
 open-after-requires c κs = (search alone-few, search alone-bracket)
 
-keep-sgr-requires : tie.Need-keep-sgr-requires
-keep-sgr-requires c κs = search needs
-
 same-length : tie.Need-same-length
 same-length c = search needs
 
@@ -53,7 +50,6 @@ read-alone-spec =
     part-open-after-start
     part-open-after-end
     open-after-requires
-    keep-sgr-requires
     same-length
     same-length-2
     returns-2)

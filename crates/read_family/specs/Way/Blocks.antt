@@ -163,19 +163,19 @@ opening at content first =
 unfoldable pub enters : ℕ → ℕ → ℕ → Bool
 enters head p q = both (eqb q head) (not (eqb p head))
 
--- the open block after a line that leads to the place p
-unfoldable pub openAfter : ℕ → List ℕ → State → ℕ → Open → Open
-openAfter at content s p o =
-    if enters place.head (s .place) p then opening at content (s .counts .steps) else
-    if enters place.mapHead (s .place) p then opening at content (s .counts .pins) else o
-
 -- the open block with the line of its SGR
 abbrev pub withSgr : ℕ → Open → Open
 withSgr line o = record { start = o .start; size = o .size; first = o .first; sgr = line }
 
--- a line that breaks no rule says SGR if the head has one after it and had none before it
+-- the head tells of a line that breaks no rule whether it says SGR: it has one after the line, and had none before it
 unfoldable pub sgrAfter : ℕ → Head → Head → Open → Open
 sgrAfter line before after o = if both (after .sgr) (not (before .sgr)) then withSgr line o else o
+
+-- the open block after a line that leads to the place p and to the head h
+unfoldable pub openAfter : ℕ → ℕ → List ℕ → State → ℕ → Head → Open → Open
+openAfter line at content s p h o =
+    if enters place.head (s .place) p then opening at content (s .counts .steps) else
+    if enters place.mapHead (s .place) p then opening at content (s .counts .pins) else sgrAfter line (s .head) h o
 
 -- the open block after a line of the document that opens none
 abbrev pub sgrTaken : Line → Open → Open
