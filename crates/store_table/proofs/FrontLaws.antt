@@ -1,21 +1,20 @@
 -- Laws of the parts that are stored before the values.
 -- Assumes nothing.
 use mathlib.Core.Path.{_≡_, refl, sym, _∙_, ap}
-use mathlib.Core.List.{List, [], _∷_, _++_, map}
+use mathlib.Core.List.{List, [], _∷_, _++_}
 use Prim.Native.Nat.{ℕ, _+_, _-_, _*_, _≤_}
 use native.Mathlib.Omega.{arith}
-use lib.ListN.{length, take, length-map, length-append}
+use lib.ListN.{length, take, length-append}
 use lib.Seq.{sets, length-sets, length-take-le}
 use Rattle.base.proofs.StoreLaws.{sets-append}
 use Rattle.table_layout.specs.Layout.{modelWidth, stepWidth, mapWidth, pinWidth, sectionWidth, matrixWidth}
-use Rattle.table_record.specs.Records.{stepWords}
-use Rattle.table_record.specs.Way.Stage.{wordsOf}
-use Rattle.table_record.specs.declared.StepRecord.{StepRecord}
-use Rattle.table_record.proofs.StageLaws.{words-long}
+use Rattle.table_record.specs.Way.Stage.{wordsOf, stagedFrom, stagedModelWidth, stagedModelAt, stagedStepWidth, stagedStepAt}
+use Rattle.table_record.specs.declared.stage.StagedModel.{StagedModel}
+use Rattle.table_record.specs.declared.stage.StagedStep.{StagedStep}
 use Rattle.line_keyword.specs.declared.Counts.{Counts}
-use Rattle.store_table.specs.Way.Targets.{Targets, recordFound, stepsFrom}
-use Rattle.store_table.proofs.TargetLaws.{steps-many}
-use Rattle.store_table.specs.Way.Front.{partWords, targetsOf, stepsWords, familyWords, familyLong, FamilyThere, sectionsWords, sectionsLong}
+use Rattle.store_table.specs.Way.Targets.{Targets}
+use Rattle.store_table.proofs.StoringLaws.{stored-long}
+use Rattle.store_table.specs.Way.Front.{partWords, targetsOf, modelStored, stepStored, modelsWords, stepsWords, familyWords, familyLong, FamilyThere, sectionsWords, sectionsLong}
 
 -- ---- one part
 
@@ -67,21 +66,34 @@ module _ (c : Counts) (sections matrices : List ℕ) (sections-there : sectionWi
 
 -- ---- the family
 
+models-long : (count : ℕ) (models : List ℕ) → length (modelsWords count models) ≡ 1 + modelWidth * count
+unfolding modelsWords
+models-long count models =
+    let n : length (wordsOf modelStored (stagedFrom (stagedModelAt models) stagedModelWidth 0 count)) ≡ modelWidth * count =
+    stored-long (stagedModelAt models) stagedModelWidth modelStored modelWidth (λ (x : StagedModel). refl) count in
+    omega arith
+
+-- the models behind their count
+pub models-put : (count : ℕ) (models t₀ counted t₁ : List ℕ) → counted ≡ sets t₀ 0 (count ∷ []) →
+    t₁ ≡ sets counted 1 (wordsOf modelStored (stagedFrom (stagedModelAt models) stagedModelWidth 0 count)) → t₁ ≡ sets t₀ 0 (modelsWords count models)
+unfolding modelsWords
+models-put count models t₀ counted t₁ first second =
+    let ws : List ℕ = wordsOf modelStored (stagedFrom (stagedModelAt models) stagedModelWidth 0 count) in
+    second ∙ ap (λ (u : List ℕ). sets u 1 ws) first ∙ sym (sets-append t₀ 0 (count ∷ []) ws)
+
 steps-long : (t : List ℕ) (x : Targets) (count : ℕ) (steps : List ℕ) → length (stepsWords t x count steps) ≡ 1 + stepWidth * count
 unfolding stepsWords
 steps-long t x count steps =
-    let rs : List StepRecord = map (recordFound t x) (stepsFrom steps 0 count) in
-    let l : length (wordsOf stepWords rs) ≡ stepWidth * length rs = words-long stepWords stepWidth (λ (r : StepRecord). refl) rs in
-    let m : length rs ≡ count = length-map (stepsFrom steps 0 count) (recordFound t x) ∙ steps-many steps 0 count in
-    let n : length (wordsOf stepWords rs) ≡ stepWidth * count = l ∙ ap (λ (k : ℕ). stepWidth * k) m in
+    let n : length (wordsOf (stepStored t x) (stagedFrom (stagedStepAt steps) stagedStepWidth 0 count)) ≡ stepWidth * count =
+    stored-long (stagedStepAt steps) stagedStepWidth (stepStored t x) stepWidth (λ (s : StagedStep). refl) count in
     omega arith
 
 module _ (t : List ℕ) (c : Counts) (models steps maps pins sections : List ℕ) (there : FamilyThere c models steps maps pins sections)
-    (t₀ t₁ : List ℕ) (a : ℕ) (first : (a ≡ 0 + 1 + modelWidth * c .models) × (t₁ ≡ sets t₀ 0 (partWords modelWidth (c .models) models)))
+    (t₀ t₁ : List ℕ) (a : ℕ) (first : (a ≡ 1 + modelWidth * c .models) × (t₁ ≡ sets t₀ 0 (modelsWords (c .models) models)))
     (counted t₂ : List ℕ) (count : counted ≡ sets t₁ a (c .steps ∷ []))
-    (second : t₂ ≡ sets counted (a + 1) (wordsOf stepWords (map (recordFound t (targetsOf c maps sections)) (stepsFrom steps 0 (c .steps))))) where
+    (second : t₂ ≡ sets counted (a + 1) (wordsOf (stepStored t (targetsOf c maps sections)) (stagedFrom (stagedStepAt steps) stagedStepWidth 0 (c .steps)))) where
   abbrev models-words : List ℕ
-  models-words = partWords modelWidth (c .models) models
+  models-words = modelsWords (c .models) models
 
   abbrev steps-words : List ℕ
   steps-words = stepsWords t (targetsOf c maps sections) (c .steps) steps
@@ -89,7 +101,7 @@ module _ (t : List ℕ) (c : Counts) (models steps maps pins sections : List ℕ
   steps-put : t₂ ≡ sets t₁ a steps-words
   unfolding stepsWords
   steps-put =
-      let ws : List ℕ = wordsOf stepWords (map (recordFound t (targetsOf c maps sections)) (stepsFrom steps 0 (c .steps))) in
+      let ws : List ℕ = wordsOf (stepStored t (targetsOf c maps sections)) (stagedFrom (stagedStepAt steps) stagedStepWidth 0 (c .steps)) in
       second ∙ ap (λ (u : List ℕ). sets u (a + 1) ws) count ∙ sym (sets-append t₁ a (c .steps ∷ []) ws)
 
   pub steps-kept : length t₂ ≡ length t₀
@@ -108,10 +120,10 @@ module _ (t : List ℕ) (c : Counts) (models steps maps pins sections : List ℕ
           let q : List ℕ = steps-words in
           let r : List ℕ = partWords mapWidth (c .maps) maps in
           let s : List ℕ = partWords pinWidth (c .pins) pins in
-          let l : length p ≡ 1 + modelWidth * c .models = part-long modelWidth (c .models) models (there .models-there) in
+          let l : length p ≡ 1 + modelWidth * c .models = models-long (c .models) models in
           let m : length q ≡ 1 + stepWidth * c .steps = steps-long t (targetsOf c maps sections) (c .steps) steps in
           let n : length r ≡ 1 + mapWidth * c .maps = part-long mapWidth (c .maps) maps (there .maps-there) in
-          let f : a ≡ 0 + 1 + modelWidth * c .models = first .0 in
+          let f : a ≡ 1 + modelWidth * c .models = first .0 in
           let g : d ≡ a + 1 + stepWidth * c .steps + 1 + mapWidth * c .maps = third .0 in
           let h : e ≡ d + 1 + pinWidth * c .pins = fourth .0 in
           let x : 0 + length p ≡ a = omega arith in
@@ -133,11 +145,11 @@ pub family-long : (t : List ℕ) (c : Counts) (models steps maps pins sections :
     length (familyWords t c models steps maps pins sections) ≡ familyLong c
 unfolding familyWords
 family-long t c models steps maps pins sections there =
-    let p : List ℕ = partWords modelWidth (c .models) models in
+    let p : List ℕ = modelsWords (c .models) models in
     let q : List ℕ = stepsWords t (targetsOf c maps sections) (c .steps) steps in
     let r : List ℕ = partWords mapWidth (c .maps) maps in
     let s : List ℕ = partWords pinWidth (c .pins) pins in
-    let a : length p ≡ 1 + modelWidth * c .models = part-long modelWidth (c .models) models (there .models-there) in
+    let a : length p ≡ 1 + modelWidth * c .models = models-long (c .models) models in
     let b : length q ≡ 1 + stepWidth * c .steps = steps-long t (targetsOf c maps sections) (c .steps) steps in
     let d : length r ≡ 1 + mapWidth * c .maps = part-long mapWidth (c .maps) maps (there .maps-there) in
     let e : length s ≡ 1 + pinWidth * c .pins = part-long pinWidth (c .pins) pins (there .pins-there) in

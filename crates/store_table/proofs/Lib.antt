@@ -1,4 +1,5 @@
 pub mod TargetLaws
+pub mod StoringLaws
 pub mod LiftLaws
 pub mod FrontLaws
 pub mod StoreLaws

@@ -3,28 +3,31 @@
 use mathlib.Core.Path.{_≡_, refl, sym, _∙_, ap}
 use mathlib.Core.Bool.{true, false}
 use mathlib.Core.List.{List, [], _∷_, _++_, map, map-map, append-assoc, append-nil}
-use Prim.Native.Nat.{ℕ, suc, _+_, _-_, _*_, _^_, _≤_, _<_}
+use Prim.Native.Nat.{ℕ, _+_, _-_, _*_, _^_, _≤_, _<_}
 use native.Mathlib.Nat.{mul-le-mul, le-refl, le-trans}
 use native.Mathlib.Omega.{arith}
 use lib.ListN.{length, take, drop, replicate, length-append, length-map, take-append-drop, length-replicate}
-use lib.Seq.{sets, sets-eq, length-sets, drop-at, drop-drop, length-take-le}
+use lib.Seq.{sets, sets-eq, length-sets, drop-at, length-take-le}
 use lib.Dec.{eqb, leb, ltb}
 use borrow.Author.Tests.{eqb-true}
 use Rattle.base.proofs.IfLaws.{if-true, if-false, by-cases}
 use Rattle.base.proofs.StoreLaws.{sets-append}
 use Rattle.table_layout.specs.Codes.{endKind, sectionKind}
 use Rattle.table_layout.specs.Bounds.{mostModels, mostSteps, mostMaps, mostPins, mostSections, mostMatrices, mostValues}
-use Rattle.table_layout.specs.Layout.{joined, layout, chopped, needed, widths, values, modelWidth, mapWidth, pinWidth, sectionWidth, matrixWidth, valueWidth}
+use Rattle.table_layout.specs.Layout.{joined, layout, chopped, needed, widths, values, mapWidth, pinWidth, sectionWidth, matrixWidth, valueWidth}
 use Rattle.table_layout.specs.Way.Bases.{partBase, basesFrom, BoundedCounts}
 use Rattle.table_layout.proofs.LayoutLaws.{chopped-joined}
 use Rattle.table_layout.proofs.StoreLaws.{bounds-small}
 use Rattle.table_record.specs.Records.{partsOf, modelWords, stepWords, mapWords, pinWords, sectionWords, matrixWords, valueWords}
-use Rattle.table_record.specs.Way.Stage.{wordsOf, Whole, stagedStepWidth}
+use Rattle.table_record.specs.Way.Stage.{wordsOf, Whole, stagedFrom, stagedModelWidth, stagedModelAt, stagedStepWidth, stagedStepWords, stagedStepAt}
+use Rattle.table_record.specs.declared.ModelRecord.{ModelRecord}
 use Rattle.table_record.specs.declared.StepRecord.{StepRecord}
 use Rattle.table_record.specs.declared.MapRecord.{MapRecord}
 use Rattle.table_record.specs.declared.SectionRecord.{SectionRecord}
 use Rattle.table_record.specs.declared.Value.{Value}
-use Rattle.table_record.proofs.StageLaws.{words-cons}
+use Rattle.table_record.specs.declared.stage.StagedModel.{StagedModel}
+use Rattle.table_record.specs.declared.stage.StagedStep.{StagedStep}
+use Rattle.table_record.proofs.StageLaws.{step-back, staged-back}
 use Rattle.table_record.proofs.BackLaws.{all-wide}
 use Rattle.table_name.specs.Name.{nameAt}
 use Rattle.table_name.specs.Way.Search.{isNamed, findIn}
@@ -38,14 +41,14 @@ use Rattle.doc.specs.Records.{indexOf, targetOf, stepRecord, stepRecords, model
 use Rattle.doc.specs.Holds.{Each}
 use Rattle.doc.specs.Holds.Each.{none, more}
 use Rattle.doc.specs.Way.Holds.{Stands, countsOf}
-use Rattle.doc.specs.Way.Staged.{stagedStep, stepStaged, pinStaged, StagedText}
+use Rattle.doc.specs.Way.Staged.{stagedModels, ModelsStaged, stagedStep, stepStaged, pinStaged, StagedText}
 use Rattle.doc.proofs.StandsLaws.{each-join, StepStands, MapStands, all-stand, steps-stand}
 use Rattle.doc.proofs.OrderLaws.{EndOrdered, ends-ordered}
-use Rattle.doc.proofs.StagedLaws.{step-back, drop-taken}
+use Rattle.doc.proofs.StagedLaws.{models-told, models-staged}
 use Rattle.doc.proofs.PassLaws.{steps-of-text, pins-of-text, pins-joined, steps-joined}
 use Rattle.doc.proofs.CountLaws.{many-models, many-steps, many-maps, many-pins, many-sections, many-matrices, many-values, models-long, maps-long, sections-long, matrices-long, counts-agree, counts-bounded, table-long}
-use Rattle.store_table.specs.Way.Targets.{Targets, targetFound, recordFound, stepsFrom, Roomy}
-use Rattle.store_table.specs.Way.Front.{partWords, targetsOf, stepsWords, familyWords, familyLong, FamilyThere, sectionsWords, sectionsLong}
+use Rattle.store_table.specs.Way.Targets.{Targets, targetFound, recordFound, Roomy}
+use Rattle.store_table.specs.Way.Front.{partWords, targetsOf, modelStored, stepStored, modelsWords, stepsWords, familyWords, familyLong, FamilyThere, sectionsWords, sectionsLong}
 use Rattle.store_table.proofs.FrontLaws.{family-long, sections-length}
 
 -- ---- a part of which all records are staged
@@ -66,21 +69,14 @@ module _ {A : Type 0} (words : A → List ℕ) (width : ℕ) (xs : List A) (stag
 
 -- ---- the staged steps
 
-steps-back : (xs : List Step) (stage : List ℕ) (i : ℕ) → take (stagedStepWidth * length xs) (drop (stagedStepWidth * i) stage) ≡ wordsOf stepStaged xs →
-    stepsFrom stage i (length xs) ≡ map stagedStep xs
-unfolding stepsFrom
-steps-back [] stage i e = refl
-steps-back (x ∷ xs) stage i e =
-    let n : stagedStepWidth * suc (length xs) ≡ stagedStepWidth + stagedStepWidth * length xs = omega arith in
-    let f : take (stagedStepWidth + stagedStepWidth * length xs) (drop (stagedStepWidth * i) stage) ≡ stepStaged x ++ wordsOf stepStaged xs =
-    ap (λ (k : ℕ). take k (drop (stagedStepWidth * i) stage)) (sym n) ∙ e ∙ words-cons stepStaged x xs in
-    let m : stagedStepWidth * i + stagedStepWidth ≡ stagedStepWidth * (i + 1) = omega arith in
-    let rest : take (stagedStepWidth * length xs) (drop (stagedStepWidth * (i + 1)) stage) ≡ wordsOf stepStaged xs =
-    ap (λ (k : ℕ). take (stagedStepWidth * length xs) (drop k stage)) (sym m)
-    ∙ ap (take (stagedStepWidth * length xs)) (sym (drop-drop stagedStepWidth (stagedStepWidth * i) stage))
-    ∙ sym (drop-taken stagedStepWidth (stagedStepWidth * length xs) (drop (stagedStepWidth * i) stage))
-    ∙ ap (drop stagedStepWidth) f in
-    (λ j. step-back x (wordsOf stepStaged xs) stage (stagedStepWidth * i) (stagedStepWidth + stagedStepWidth * length xs) (omega arith) f j ∷ steps-back xs stage (i + 1) rest j)
+steps-back : (xs : List Step) (stage : List ℕ) → take (stagedStepWidth * length xs) stage ≡ wordsOf stepStaged xs →
+    stagedFrom (stagedStepAt stage) stagedStepWidth 0 (length xs) ≡ map stagedStep xs
+unfolding wordsOf
+steps-back xs stage e =
+    let n : length (map stagedStep xs) ≡ length xs = length-map xs stagedStep in
+    ap (stagedFrom (stagedStepAt stage) stagedStepWidth 0) (sym n)
+    ∙ staged-back stagedStepWords stagedStepWidth (λ (x : StagedStep). refl) stagedStepAt step-back (map stagedStep xs) stage 0
+    (ap (λ (k : ℕ). take (stagedStepWidth * k) stage) n ∙ e ∙ ap joined (sym (map-map stagedStepWords stagedStep xs)))
 
 -- ---- what they point at
 
@@ -171,7 +167,7 @@ module _ (t : List ℕ) (c : Counts) (reads : readingOf t ≡ Read c) (table mod
   unfolding countsOf
   family-there =
       record {
-        models-there = bounded (c .models) mostModels modelWidth models (counts-bounded t c reads 0) (roomy .models-fit);
+        models-there = bounded (c .models) mostModels stagedModelWidth models (counts-bounded t c reads 0) (roomy .models-fit);
         steps-there = bounded (c .steps) mostSteps stagedStepWidth steps (counts-bounded t c reads 1) (roomy .steps-fit);
         maps-there = bounded (c .maps) mostMaps mapWidth maps (counts-bounded t c reads 2) (roomy .maps-fit);
         pins-there = bounded (c .pins) mostPins pinWidth pins (counts-bounded t c reads 3) (roomy .pins-fit);
@@ -209,8 +205,8 @@ module _ (t : List ℕ) (c : Counts) (reads : readingOf t ≡ Read c) (table mod
     unfolding stepsWords wordsOf targets
     steps-words =
         let fits : stagedStepWidth * length all-steps ≤ length steps = rw (sym steps-counted) (there .steps-there) in
-        let back : stepsFrom steps 0 (length all-steps) ≡ map stagedStep all-steps =
-        steps-back all-steps steps 0 (staged .steps-are .all fits) in
+        let back : stagedFrom (stagedStepAt steps) stagedStepWidth 0 (length all-steps) ≡ map stagedStep all-steps =
+        steps-back all-steps steps (staged .steps-are .all fits) in
         let found : map (recordFound t targets) (map stagedStep all-steps) ≡ map (stepRecord (d .maps) (d .sections)) all-steps =
         records-found t targets (d .maps) (d .sections)
         (records-are mapWords mapWidth (mapRecords 0 (d .maps)) maps (staged .maps-are) (rw (sym maps-many) (there .maps-there)) (λ (x : MapRecord). refl) (c .maps) maps-many)
@@ -218,8 +214,10 @@ module _ (t : List ℕ) (c : Counts) (reads : readingOf t ≡ Read c) (table mod
         (all-stand t .maps) (all-stand t .sections) (steps-stand t) (ends-ordered t c reads) in
         let same : map (stepRecord (d .maps) (d .sections)) all-steps ≡ stepRecords (d .maps) (d .sections) (d .models) =
         ap (map (stepRecord (d .maps) (d .sections))) (sym (steps-of-text t)) ∙ sym (steps-joined (d .maps) (d .sections) (d .models)) in
-        (λ i. steps-counted i ∷ joined (map stepWords (map (recordFound t targets) (stepsFrom steps 0 (steps-counted i)))))
-        ∙ ap (λ (rs : List StepRecord). length all-steps ∷ joined (map stepWords rs)) (ap (map (recordFound t targets)) back ∙ found ∙ same)
+        (λ i. steps-counted i ∷ joined (map (stepStored t targets) (stagedFrom (stagedStepAt steps) stagedStepWidth 0 (steps-counted i))))
+        ∙ ap (λ (xs : List StagedStep). length all-steps ∷ joined (map (stepStored t targets) xs)) back
+        ∙ ap (λ (ws : List (List ℕ)). length all-steps ∷ joined ws) (sym (map-map stepWords (recordFound t targets) (map stagedStep all-steps)))
+        ∙ ap (λ (rs : List StepRecord). length all-steps ∷ joined (map stepWords rs)) (found ∙ same)
 
     pins-words : partWords pinWidth (c .pins) pins ≡ length all-pins ∷ joined (map pinWords (pinRecords (d .maps)))
     pins-words =
@@ -230,10 +228,16 @@ module _ (t : List ℕ) (c : Counts) (reads : readingOf t ≡ Read c) (table mod
     counted-part : {A : Type 0} (words : A → List ℕ) (xs : List A) → _≡_ {A = List ℕ} (length xs ∷ joined (map words xs)) (laid words xs)
     counted-part words xs = ap (λ (n : ℕ). n ∷ joined (map words xs)) (sym (length-map xs words))
 
-    models-part : partWords modelWidth (c .models) models ≡ laid modelWords (modelRecords 0 (d .models))
+    models-part : modelsWords (c .models) models ≡ laid modelWords (modelRecords 0 (d .models))
+    unfolding modelsWords wordsOf
     models-part =
-        part-is modelWords modelWidth (modelRecords 0 (d .models)) models (staged .models-are) (rw (sym models-many) (there .models-there)) (c .models) models-many
-        ∙ counted-part modelWords (modelRecords 0 (d .models))
+        let back : stagedFrom (stagedModelAt models) stagedModelWidth 0 (c .models) ≡ stagedModels 0 (d .models) =
+        models-staged t c reads models (record { whole = staged .models-are; room = roomy .models-fit }) in
+        let n : c .models ≡ length (map modelWords (modelRecords 0 (d .models))) = models-many ∙ sym (length-map (modelRecords 0 (d .models)) modelWords) in
+        ap (λ (xs : List StagedModel). c .models ∷ joined (map modelStored xs)) back
+        ∙ ap (λ (ws : List (List ℕ)). c .models ∷ joined ws) (sym (map-map modelWords (λ (x : StagedModel). x .model) (stagedModels 0 (d .models))))
+        ∙ ap (λ (rs : List ModelRecord). c .models ∷ joined (map modelWords rs)) (models-told 0 (d .models))
+        ∙ ap (λ (k : ℕ). k ∷ joined (map modelWords (modelRecords 0 (d .models)))) n
 
     maps-part : partWords mapWidth (c .maps) maps ≡ laid mapWords (mapRecords 0 (d .maps))
     maps-part =

@@ -1,20 +1,20 @@
 // Stores what is staged in the lent table: the values move to their part, and the other parts are put before them, each
 // behind its count. A step gets its target, the map or the section that its name means.
 ghost use mathlib.Core.Path.{_≡_};
-ghost use mathlib.Core.List.{[], _∷_, _++_, map};
+ghost use mathlib.Core.List.{[], _∷_, _++_};
 ghost use Prim.Native.Nat.{_+_, _-_, _*_, _≤_, _<_};
 ghost use lib.ListN.{length, take, replicate};
 ghost use lib.Seq.{sets};
-ghost use Rattle.table_layout.specs.Layout.{stepWidth, sectionWidth, matrixWidth, widths, needed};
+ghost use Rattle.table_layout.specs.Layout.{modelWidth, stepWidth, sectionWidth, matrixWidth, widths, needed};
 ghost use Rattle.table_record.specs.Records.{stepWords};
-ghost use Rattle.table_record.specs.Way.Stage.{stagedStepWidth, wordsOf};
+ghost use Rattle.table_record.specs.Way.Stage.{stagedFrom, stagedModelWidth, stagedStepWidth, stagedStepAt, wordsOf};
 ghost use Rattle.read_line.specs.Reading.{readingOf};
 ghost use Rattle.read_line.specs.declared.Reading.the-variants.{Read};
 ghost use Rattle.doc.specs.Records.{tableOf};
 ghost use Rattle.doc.specs.Way.Holds.{countsOf};
 ghost use Rattle.doc.specs.Way.Staged.{StagedText};
-ghost use Rattle.store_table.specs.Way.Targets.{Inside, targetFound, recordFound, stepsFrom, Roomy};
-ghost use Rattle.store_table.specs.Way.Front.{partWords, familyWords, familyLong, FamilyThere, sectionsWords, sectionsLong};
+ghost use Rattle.store_table.specs.Way.Targets.{Inside, targetFound, recordFound, Roomy};
+ghost use Rattle.store_table.specs.Way.Front.{partWords, stepStored, modelsWords, familyWords, familyLong, FamilyThere, sectionsWords, sectionsLong};
 use line_keyword::Counts;
 use table_record::StepRecord;
 use table_record::stage::StagedStep;
@@ -97,7 +97,7 @@ fn put_steps(
 )
     requires { ⌜ Inside (record { maps = now maps; «map_count» = «map_count»; sections = now sections; «section_count» = «section_count» })
         × (stagedStepWidth * count ≤ length (now steps)) × (at + stepWidth * count ≤ length (now table)) ⌝ }
-    ensures { λ _. ⌜ now (table .exit) ≡ sets (now (table .entry)) at (wordsOf stepWords (map (recordFound (now (text .entry)) (record { maps = now (maps .entry); «map_count» = «map_count»; sections = now (sections .entry); «section_count» = «section_count» })) (stepsFrom (now (steps .entry)) 0 count))) ⌝ }
+    ensures { λ _. ⌜ now (table .exit) ≡ sets (now (table .entry)) at (wordsOf (stepStored (now (text .entry)) (record { maps = now (maps .entry); «map_count» = «map_count»; sections = now (sections .entry); «section_count» = «section_count» })) (stagedFrom (stagedStepAt (now (steps .entry))) stagedStepWidth 0 count)) ⌝ }
 {
     let mut i = 0;
     let mut from = 0;
@@ -139,6 +139,26 @@ fn put_part(table: &mut [u64], at: usize, width: usize, count: u64, stage: &[u64
     first + words
 }
 
+// Stores all models from the first word on, behind their count, without the lines of their SGR. Gives the word behind them.
+fn put_models(table: &mut [u64], count: u64, models: &[u64]) -> usize
+    requires { ⌜ (stagedModelWidth * count ≤ length (now models)) × (1 + modelWidth * count ≤ length (now table)) ⌝ }
+    ensures { λ r. ⌜ (r ≡ 1 + modelWidth * count) × (now (table .exit) ≡ sets (now (table .entry)) 0 (modelsWords count (now (models .entry)))) ⌝ }
+{
+    put_count(table, 0, count);
+    let mut i = 0;
+    let mut from = 0;
+    let mut to = 1;
+    while i < count {
+        let staged = table_record::stage::model_at(models, from);
+        let model = staged.model;
+        table_record::put_model_at(table, to, model);
+        i += 1;
+        from += table_record::stage::MODEL_WIDTH;
+        to += table_layout::MODEL_WIDTH;
+    }
+    to
+}
+
 // Stores models, steps, maps and pins from the first word on. Gives the word behind them.
 fn put_family(
     text: &[u8],
@@ -154,7 +174,7 @@ fn put_family(
     ensures { λ r. ⌜ (r ≡ familyLong counts)
         × (now (table .exit) ≡ sets (now (table .entry)) 0 (familyWords (now (text .entry)) counts (now (models .entry)) (now (steps .entry)) (now (maps .entry)) (now (pins .entry)) (now (sections .entry)))) ⌝ }
 {
-    let steps_at = put_part(table, 0, table_layout::MODEL_WIDTH, counts.models, models);
+    let steps_at = put_models(table, counts.models, models);
     put_count(table, steps_at, counts.steps);
     let first = steps_at + 1;
     put_steps(

@@ -2,13 +2,15 @@
 -- values.
 -- Assumes nothing.
 use Prim.Native.Nat.{ℕ, _+_, _*_, _≤_}
-use mathlib.Core.List.{List, [], _∷_, _++_, map}
+use mathlib.Core.List.{List, [], _∷_, _++_}
 use lib.ListN.{length, take}
 use Rattle.table_layout.specs.Layout.{modelWidth, stepWidth, mapWidth, pinWidth, sectionWidth, matrixWidth}
-use Rattle.table_record.specs.Records.{stepWords}
-use Rattle.table_record.specs.Way.Stage.{wordsOf, stagedStepWidth}
+use Rattle.table_record.specs.Records.{modelWords, stepWords}
+use Rattle.table_record.specs.Way.Stage.{wordsOf, stagedFrom, stagedModelWidth, stagedModelAt, stagedStepWidth, stagedStepAt}
+use Rattle.table_record.specs.declared.stage.StagedModel.{StagedModel}
+use Rattle.table_record.specs.declared.stage.StagedStep.{StagedStep}
 use Rattle.line_keyword.specs.declared.Counts.{Counts}
-use Rattle.store_table.specs.Way.Targets.{Targets, recordFound, stepsFrom}
+use Rattle.store_table.specs.Way.Targets.{Targets, recordFound}
 
 -- a part: its count, and the words of so many staged records
 unfoldable pub partWords : ℕ → ℕ → List ℕ → List ℕ
@@ -18,12 +20,22 @@ partWords width count stage = count ∷ take (width * count) stage
 abbrev pub targetsOf : Counts → List ℕ → List ℕ → Targets
 targetsOf c maps sections = record { maps = maps; «map_count» = c .maps; sections = sections; «section_count» = c .sections }
 
+-- models are stored without the line of their SGR, steps with what they point at
+abbrev pub modelStored : StagedModel → List ℕ
+modelStored m = modelWords (m .model)
+
+abbrev pub stepStored : List ℕ → Targets → StagedStep → List ℕ
+stepStored t x s = stepWords (recordFound t x s)
+
+unfoldable pub modelsWords : ℕ → List ℕ → List ℕ
+modelsWords count models = count ∷ wordsOf modelStored (stagedFrom (stagedModelAt models) stagedModelWidth 0 count)
+
 unfoldable pub stepsWords : List ℕ → Targets → ℕ → List ℕ → List ℕ
-stepsWords t x count steps = count ∷ wordsOf stepWords (map (recordFound t x) (stepsFrom steps 0 count))
+stepsWords t x count steps = count ∷ wordsOf (stepStored t x) (stagedFrom (stagedStepAt steps) stagedStepWidth 0 count)
 
 unfoldable pub familyWords : List ℕ → Counts → List ℕ → List ℕ → List ℕ → List ℕ → List ℕ → List ℕ
 familyWords t c models steps maps pins sections =
-    partWords modelWidth (c .models) models
+    modelsWords (c .models) models
     ++ (stepsWords t (targetsOf c maps sections) (c .steps) steps ++ (partWords mapWidth (c .maps) maps ++ partWords pinWidth (c .pins) pins))
 
 unfoldable pub sectionsWords : Counts → List ℕ → List ℕ → List ℕ
@@ -39,7 +51,7 @@ sectionsLong c = 1 + sectionWidth * c .sections + (1 + matrixWidth * c .matrices
 
 -- the records of the family that are counted lie in their stages, and so do the sections that steps point at
 pub record FamilyThere (c : Counts) (models steps maps pins sections : List ℕ) : Type 0 where
-  pub models-there : modelWidth * c .models ≤ length models
+  pub models-there : stagedModelWidth * c .models ≤ length models
   pub steps-there : stagedStepWidth * c .steps ≤ length steps
   pub maps-there : mapWidth * c .maps ≤ length maps
   pub pins-there : pinWidth * c .pins ≤ length pins

@@ -1,23 +1,18 @@
--- The steps that are staged, and the record of each: what its name means is found among the staged maps and sections.
+-- The record of a staged step: what its name means is found among the staged maps and sections.
 -- Assumes nothing.
-use Prim.Native.Nat.{ℕ, zero, suc, _+_, _*_, _≤_}
-use mathlib.Core.List.{List, [], _∷_}
+use Prim.Native.Nat.{ℕ, _*_, _≤_}
+use mathlib.Core.List.{List}
 use lib.ListN.{length}
 use lib.Dec.{eqb}
 use Rattle.base.specs.If.{if_then_else_}
 use Rattle.table_layout.specs.Codes.{endKind, sectionKind}
 use Rattle.table_layout.specs.Bounds.{mostModels, mostSteps, mostMaps, mostPins, mostSections, mostMatrices}
-use Rattle.table_layout.specs.Layout.{modelWidth, mapWidth, pinWidth, sectionWidth, matrixWidth}
-use Rattle.table_record.specs.Way.Stage.{stagedStepWidth, stagedStepAt}
+use Rattle.table_layout.specs.Layout.{mapWidth, pinWidth, sectionWidth, matrixWidth}
+use Rattle.table_record.specs.Way.Stage.{stagedModelWidth, stagedStepWidth}
 use Rattle.table_record.specs.declared.StepRecord.{StepRecord}
 use Rattle.table_record.specs.declared.stage.StagedStep.{StagedStep}
 use Rattle.table_name.specs.Name.{nameAt}
 use Rattle.table_name.specs.Way.Search.{findIn}
-
--- so many staged steps, from the i-th on
-unfoldable pub stepsFrom : List ℕ → ℕ → ℕ → List StagedStep
-stepsFrom steps i zero = []
-stepsFrom steps i (suc n) = stagedStepAt steps (stagedStepWidth * i) ∷ stepsFrom steps (i + 1) n
 
 -- the staged maps and sections, and how many there are of each
 pub record Targets : Type 0 where
@@ -45,7 +40,7 @@ recordFound t x s =
 
 -- there is room in each stage for as many records as a text may have
 pub record Roomy (models steps maps pins sections matrices : List ℕ) : Type 0 where
-  pub models-fit : modelWidth * mostModels ≤ length models
+  pub models-fit : stagedModelWidth * mostModels ≤ length models
   pub steps-fit : stagedStepWidth * mostSteps ≤ length steps
   pub maps-fit : mapWidth * mostMaps ≤ length maps
   pub pins-fit : pinWidth * mostPins ≤ length pins
