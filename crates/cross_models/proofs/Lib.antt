@@ -1,3 +1,4 @@
 pub mod ModelLaws
 pub mod StepsLaws
 pub mod WalkLaws
+pub mod SgrLaws

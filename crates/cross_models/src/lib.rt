@@ -1,4 +1,4 @@
-// Rules 19 to 26 of models and their steps.
+// Rules 19 to 26 of models and their steps, and 29 of their SGR lines.
 ghost use mathlib.Core.Path.{_≡_};
 ghost use Prim.Native.Nat.{_+_, _*_, _≤_, _<_};
 ghost use lib.ListN.{length};
@@ -6,7 +6,7 @@ ghost use Rattle.table_layout.specs.Layout.{models};
 ghost use Rattle.table_layout.specs.View.{viewOf};
 ghost use Rattle.table_record.specs.Records.{recordsOf};
 ghost use Rattle.table_record.specs.Way.Standing.{countOf, Rooms};
-ghost use Rattle.table_record.specs.Way.Stage.{stagedStepWidth};
+ghost use Rattle.table_record.specs.Way.Stage.{stagedFrom, stagedModelWidth, stagedModelAt, stagedStepWidth};
 ghost use Rattle.table_name.specs.Way.Hash.{marksMany};
 ghost use Rattle.doc.specs.Document.{documentOf};
 ghost use Rattle.doc.specs.Way.Staged.{StepsStaged};
@@ -14,10 +14,11 @@ ghost use Rattle.cross_rules.specs.Way.Findings.{modelFindings};
 ghost use Rattle.cross_rules.specs.Way.First.{firstIn};
 ghost use Rattle.cross_rules.specs.Way.HoldsText.{HoldsText};
 ghost use Rattle.cross_names.specs.Way.Listed.{Listed};
-ghost use Rattle.cross_models.specs.Way.Models.{ModelRoom, multAt, ownerAt, modelRuleAt, StepsTold};
+ghost use Rattle.cross_models.specs.Way.Models.{ModelRoom, multAt, ownerAt, modelRuleAt, StepsTold, isWrongSgr, firstSgr};
 use cross_rules::Finding;
 use cross_steps::Owner;
 use table_layout::View;
+use table_record::stage::StagedModel;
 
 // A mark that is the number of no model.
 const UNMARKED: u8 = table_layout::bound::MODELS as u8;
@@ -143,6 +144,40 @@ pub fn model_finding(
             return found;
         }
         i += 1;
+    }
+    Finding { rule: 0, line: 0 }
+}
+
+// ---- the SGR lines of models
+
+// Whether a model has SGR and is not SLM_general.
+fn is_wrong_sgr(staged: StagedModel) -> bool
+    ensures { λ r. ⌜ r ≡ isWrongSgr staged ⌝ }
+{
+    if staged.sgr == 0 {
+        return false;
+    }
+    let model = staged.model;
+    model.kind != table_layout::code::SLM_GENERAL
+}
+
+// The first SGR line that a model has and should not have. The lines are staged with the models.
+pub fn sgr_finding(models: &[u64], count: u64) -> Finding
+    requires { ⌜ stagedModelWidth * count ≤ length (now models) ⌝ }
+    ensures { λ r. ⌜ r ≡ firstSgr (stagedFrom (stagedModelAt (now (models .entry))) stagedModelWidth 0 count) ⌝ }
+{
+    let mut i = 0;
+    let mut from = 0;
+    while i < count {
+        let staged = table_record::stage::model_at(models, from);
+        if is_wrong_sgr(staged) {
+            return Finding {
+                rule: base::refusal::SGR,
+                line: staged.sgr,
+            };
+        }
+        i += 1;
+        from += table_record::stage::MODEL_WIDTH;
     }
     Finding { rule: 0, line: 0 }
 }

@@ -1,4 +1,4 @@
--- What is asked of the record of a model, and what the steps of a model give.
+-- What is asked of the record of a model, what the steps of a model give, and what is asked of a staged model.
 -- Assumes nothing.
 use Prim.Native.Nat.{ℕ, _+_, _*_, _≤_, _<_}
 use mathlib.Core.Path.{_≡_}
@@ -7,15 +7,19 @@ use mathlib.Core.List.{List, [], _∷_, _++_}
 use lib.ListN.{length, drop, getD}
 use lib.Dec.{eqb}
 use Rattle.cross_rules.specs.Way.Findings.{stepFindings, modelFindings}
+use Rattle.base.specs.If.{if_then_else_, both}
 use Rattle.base.specs.Broken.{_when_, firstBroken}
 use Rattle.base.specs.Refusal as refusal
+use Rattle.table_layout.specs.Codes.{slmGeneral}
 use Rattle.table_layout.specs.Layout.{models, steps, modelWidth}
 use Rattle.table_layout.specs.declared.View.{View}
 use Rattle.table_record.specs.Records.{Records, recordsOf, range, noModel}
 use Rattle.table_record.specs.Way.Standing.{baseOf, countOf, Rooms}
 use Rattle.table_record.specs.Way.Stage.{stagedStepWidth, stagedStepAt}
 use Rattle.table_record.specs.declared.ModelRecord.{ModelRecord}
+use Rattle.table_record.specs.declared.stage.StagedModel.{StagedModel}
 use Rattle.doc.specs.Document.{Model, Document, documentOf}
+use Rattle.cross_rules.specs.Rules.{noFinding}
 use Rattle.cross_rules.specs.Way.First.{firstIn}
 use Rattle.cross_rules.specs.Way.Repeated.{isRepeated}
 use Rattle.cross_rules.specs.declared.Finding.{Finding}
@@ -53,6 +57,16 @@ modelRuleAt t table v listed i =
 -- the amount of the staged step at an index is a Mult
 unfoldable pub multAt : List ℕ → ℕ → Bool
 multAt steps index = eqb (stagedStepAt steps (stagedStepWidth * index) .mult) 1
+
+-- ---- by the staged models
+
+unfoldable pub isWrongSgr : StagedModel → Bool
+isWrongSgr m = both (not (eqb (m .sgr) 0)) (not (eqb (m .model .kind) slmGeneral))
+
+-- the first SGR line that a model has and should not have
+unfoldable pub firstSgr : List StagedModel → Finding
+firstSgr [] = noFinding
+firstSgr (m ∷ ms) = if isWrongSgr m then record { rule = refusal.sgr; line = m .sgr } else firstSgr ms
 
 -- ---- by the document
 
