@@ -9,9 +9,9 @@ use native.Mathlib.Omega.{arith}
 use lib.ListN.{length, replicate, length-replicate}
 use borrow.Author.Tests.{lt-ltb, le-ltb}
 use Rattle.base.specs.Refusal as refusal
-use Rattle.table_layout.specs.Layout.{modelWidth, mapWidth, pinWidth, sectionWidth, matrixWidth, widths, needed}
+use Rattle.table_layout.specs.Layout.{mapWidth, pinWidth, sectionWidth, matrixWidth, widths, needed}
 use Rattle.table_layout.specs.Bounds.{mostModels, mostSteps, mostMaps, mostPins, mostSections, mostMatrices}
-use Rattle.table_record.specs.Way.Stage.{Whole, stagedStepWidth}
+use Rattle.table_record.specs.Way.Stage.{Whole, stagedModelWidth, stagedModelWords, stagedStepWidth}
 use Rattle.table_layout.specs.Way.Bases.{BoundedCounts}
 use Rattle.table_layout.proofs.StoreLaws.{bounds-small}
 use Rattle.line_keyword.specs.declared.Counts.{Counts}
@@ -22,8 +22,8 @@ use Rattle.read_line.specs.declared.Reading.the-variants as reading
 use Rattle.doc.specs.Records.{tableOf}
 use Rattle.doc.specs.Way.Holds.{countsOf}
 use Rattle.doc.specs.Lines.{significant, gather}
-use Rattle.doc.specs.Document.{stepOf}
-use Rattle.doc.specs.Way.Staged.{stepStaged, StepsStaged}
+use Rattle.doc.specs.Document.{stepOf, documentOf}
+use Rattle.doc.specs.Way.Staged.{stagedModels, ModelsStaged, stepStaged, StepsStaged}
 use Rattle.doc.proofs.CountLaws.{counts-agree, counts-bounded, table-long}
 use Rattle.store_table.specs.Way.Targets.{Roomy}
 use Rattle.intake.specs.Stored.{afterReading, storeAnswer}
@@ -92,6 +92,11 @@ room-kept n stage before is same =
     let k : length before ≡ n = ap length is ∙ length-replicate n 0 in
     omega arith
 
+pub models-staged :
+    (t models models' : List ℕ) → Whole stagedModelWords stagedModelWidth (stagedModels 0 (documentOf t .models)) models' →
+    models ≡ replicate (stagedModelWidth * mostModels) 0 → length models' ≡ length models → ModelsStaged t models'
+models-staged t models models' whole is same = record { whole = whole; room = room-kept (stagedModelWidth * mostModels) models' models is same }
+
 pub steps-staged :
     (t steps steps' : List ℕ) → Whole stepStaged stagedStepWidth (gather stepOf (significant t)) steps' →
     steps ≡ replicate (stagedStepWidth * mostSteps) 0 → length steps' ≡ length steps → StepsStaged t steps'
@@ -99,7 +104,7 @@ steps-staged t steps steps' whole is same = record { whole = whole; room = room-
 
 pub roomy :
     {models steps maps pins sections matrices models' steps' maps' pins' sections' matrices' : List ℕ} →
-    models ≡ replicate (modelWidth * mostModels) 0 → length models' ≡ length models →
+    models ≡ replicate (stagedModelWidth * mostModels) 0 → length models' ≡ length models →
     steps ≡ replicate (stagedStepWidth * mostSteps) 0 → length steps' ≡ length steps →
     maps ≡ replicate (mapWidth * mostMaps) 0 → length maps' ≡ length maps →
     pins ≡ replicate (pinWidth * mostPins) 0 → length pins' ≡ length pins →
@@ -108,7 +113,7 @@ pub roomy :
     Roomy models' steps' maps' pins' sections' matrices'
 roomy {models} {steps} {maps} {pins} {sections} {matrices} {models'} {steps'} {maps'} {pins'} {sections'} {matrices'} a a' b b' d d' e e' f f' g g' =
     record {
-      models-fit = room-kept (modelWidth * mostModels) models' models a a';
+      models-fit = room-kept (stagedModelWidth * mostModels) models' models a a';
       steps-fit = room-kept (stagedStepWidth * mostSteps) steps' steps b b';
       maps-fit = room-kept (mapWidth * mostMaps) maps' maps d d';
       pins-fit = room-kept (pinWidth * mostPins) pins' pins e e';

@@ -6,15 +6,15 @@
 //    front of the table, the others each in the stage of its part (`read_family`, `read_sections`).
 // 3. The room is checked: rule 18 (`store::store`).
 // 4. The values move to their part, and the other parts are stored before them (`store_table`).
-// 5. Rules 19 to 27 are judged over the whole file (`cross::cross_finding`).
+// 5. Rules 19 to 27 and 29 are judged over the whole file (`cross::cross_finding`).
 // If a rule is broken, the text is refused and the table is zeroed.
 ghost use mathlib.Core.Path.{_≡_};
 ghost use Prim.Native.Nat.{_*_};
 ghost use lib.ListN.{length, replicate};
-ghost use Rattle.table_layout.specs.Layout.{modelWidth, mapWidth, pinWidth, sectionWidth, matrixWidth};
+ghost use Rattle.table_layout.specs.Layout.{mapWidth, pinWidth, sectionWidth, matrixWidth};
 ghost use Rattle.table_layout.specs.Bounds.{mostModels, mostSteps, mostMaps, mostPins, mostSections, mostMatrices};
-ghost use Rattle.table_record.specs.Way.Stage.{stagedStepWidth};
-ghost use Rattle.doc.specs.Way.Staged.{ListsFrom, StepsStaged};
+ghost use Rattle.table_record.specs.Way.Stage.{stagedModelWidth, stagedStepWidth};
+ghost use Rattle.doc.specs.Way.Staged.{ListsFrom, ModelsStaged, StepsStaged};
 ghost use Rattle.doc.specs.Document.{documentOf};
 ghost use Rattle.intake.specs.Stored.{storeAnswer};
 ghost use Rattle.cross_rules.specs.Rules.{crossRule};
@@ -32,12 +32,19 @@ pub enum Answer {
     Refused(u64, u64),
 }
 
-// Rules 19 to 27, for a text whose records the table holds.
-fn judge(text: &[u8], table: &mut [u64], steps: &[u64], list: Cursor, words: usize) -> Answer
-    requires { ⌜ HoldsText (now text) (now table) × StepsStaged (now text) (now steps) × ListsFrom (now text) list ⌝ }
+// Rules 19 to 27 and 29, for a text whose records the table holds.
+fn judge(
+    text: &[u8],
+    table: &mut [u64],
+    models: &[u64],
+    steps: &[u64],
+    list: Cursor,
+    words: usize,
+) -> Answer
+    requires { ⌜ HoldsText (now text) (now table) × ModelsStaged (now text) (now models) × StepsStaged (now text) (now steps) × ListsFrom (now text) list ⌝ }
     ensures { λ r. ⌜ (answerWords r ≡ crossed words (crossRule (documentOf (now (text .entry))))) × (now (table .exit) ≡ tableFor (now (text .entry)) (length (now (table .entry))) (answerWords r)) ⌝ }
 {
-    let finding = cross::cross_finding(text, table, steps, list);
+    let finding = cross::cross_finding(text, table, models, steps, list);
     if finding.rule != 0 {
         base::zero_all(table);
         return Answer::Refused(finding.rule, finding.line);
@@ -47,7 +54,7 @@ fn judge(text: &[u8], table: &mut [u64], steps: &[u64], list: Cursor, words: usi
 
 // Room to stage the records of each part, as many as a text may have. A function makes each array, so that no proof has to
 // look at all its words.
-const MODELS: usize = table_layout::MODEL_WIDTH * (table_layout::bound::MODELS as usize);
+const MODELS: usize = table_record::stage::MODEL_WIDTH * (table_layout::bound::MODELS as usize);
 
 const STEPS: usize = table_record::stage::STEP_WIDTH * (table_layout::bound::STEPS as usize);
 
@@ -60,7 +67,7 @@ const SECTIONS: usize = table_layout::SECTION_WIDTH * (table_layout::bound::SECT
 const MATRICES: usize = table_layout::MATRIX_WIDTH * (table_layout::bound::MATRICES as usize);
 
 fn model_room() -> [u64; MODELS]
-    ensures { λ r. ⌜ r ≡ replicate (modelWidth * mostModels) 0 ⌝ }
+    ensures { λ r. ⌜ r ≡ replicate (stagedModelWidth * mostModels) 0 ⌝ }
 {
     [0; MODELS]
 }
@@ -95,7 +102,7 @@ fn matrix_room() -> [u64; MATRICES]
     [0; MATRICES]
 }
 
-// Rules 5 to 27, for a text that breaks none of rules 1 to 4.
+// Rules 5 to 29, for a text that breaks none of rules 1 to 4.
 fn take(text: &[u8], table: &mut [u64]) -> Answer
     ensures { λ r. ⌜ (answerWords r ≡ afterStoring (now (text .entry)) (storeAnswer (now (text .entry)) (length (now (table .entry))))) × (now (table .exit) ≡ tableFor (now (text .entry)) (length (now (table .entry))) (answerWords r)) ⌝ }
 {
@@ -128,7 +135,7 @@ fn take(text: &[u8], table: &mut [u64]) -> Answer
         &sections,
         &matrices,
     ) {
-        store::StoreAnswer::Stored(words) => judge(text, table, &steps, list, words),
+        store::StoreAnswer::Stored(words) => judge(text, table, &models, &steps, list, words),
         store::StoreAnswer::Refused(rule, line) => Answer::Refused(rule, line),
     }
 }

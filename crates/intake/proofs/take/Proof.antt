@@ -1,7 +1,7 @@
 -- `intake::take` meets its contract.
 -- Assumes nothing.
 use Rattle.intake.proofs.IntakeLaws.{stored-holds, stored-outcome, stored-table, refused-outcome, refused-table}
-use Rattle.intake.proofs.ReadyLaws.{told-stored, taken-before, steps-staged, roomy}
+use Rattle.intake.proofs.ReadyLaws.{told-stored, taken-before, models-staged, steps-staged, roomy}
 use borrow.Author.Needs.{needs}
 use Rattle.intake.proofs.take.Statement.{statement}
 use Rattle.intake.proofs.take.Tie as tie
@@ -82,11 +82,15 @@ enum-known-words c = search needs
 slice-aggregate-judge : tie.Need-slice-aggregate-judge
 slice-aggregate-judge c = search needs
 
+slice-aggregate-judge-2 : tie.Need-slice-aggregate-judge-2
+slice-aggregate-judge-2 c = search needs
+
 judge-requires : tie.Need-judge-requires
 judge-requires c κs = (
-  stored-holds _ _ _ _ (c .before .before .before .before .before .before .before .store-text .ensures .0) (c .before .before .before .before .before .before .before .store-text .ensures .1) (c .before .before .before .words .given .0 .0) (search needs),
-  steps-staged _ _ _ (told-stored _ _ (c .before .before .before .before .before .before .before .before .before .before .before .before .before .before .before .before .before .before .before .before .before .before .before .before .read .ensures .0) (c .before .before .before .before .before .before .before .before .before .before .before .before .before .before .before .before .before .before .before .before .before .before .before .before .read .ensures .1) _ _ (c .before .before .before .before .before .before .before .store-text .ensures .0) (c .before .before .before .words .given .0 .0) (search needs) .1 .steps-are) (c .before .before .before .before .before .before .before .before .before .before .before .before .before .before .before .before .before .before .before .before .before .before .before .before .before .before .before .before .before .before .before .before .before .before .before .before .step-room .ensures) (c .before .before .before .before .before .before .before .before .before .before .before .before .before .before .before .before .before .before .before .before .before .before .before .before .read .kept .1 .1 .1 .0),
-  told-stored _ _ (c .before .before .before .before .before .before .before .before .before .before .before .before .before .before .before .before .before .before .before .before .before .before .before .before .read .ensures .0) (c .before .before .before .before .before .before .before .before .before .before .before .before .before .before .before .before .before .before .before .before .before .before .before .before .read .ensures .1) _ _ (c .before .before .before .before .before .before .before .store-text .ensures .0) (c .before .before .before .words .given .0 .0) (search needs) .0,
+  stored-holds _ _ _ _ (c .before .before .before .before .before .before .before .before .store-text .ensures .0) (c .before .before .before .before .before .before .before .before .store-text .ensures .1) (c .before .before .before .before .words .given .0 .0) (search needs),
+  models-staged _ _ _ (told-stored _ _ (c .before .before .before .before .before .before .before .before .before .before .before .before .before .before .before .before .before .before .before .before .before .before .before .before .before .read .ensures .0) (c .before .before .before .before .before .before .before .before .before .before .before .before .before .before .before .before .before .before .before .before .before .before .before .before .before .read .ensures .1) _ _ (c .before .before .before .before .before .before .before .before .store-text .ensures .0) (c .before .before .before .before .words .given .0 .0) (search needs) .1 .models-are) (c .before .before .before .before .before .before .before .before .before .before .before .before .before .before .before .before .before .before .before .before .before .before .before .before .before .before .before .before .before .before .before .before .before .before .before .before .before .before .model-room .ensures) (c .before .before .before .before .before .before .before .before .before .before .before .before .before .before .before .before .before .before .before .before .before .before .before .before .before .read .kept .1 .1 .0),
+  steps-staged _ _ _ (told-stored _ _ (c .before .before .before .before .before .before .before .before .before .before .before .before .before .before .before .before .before .before .before .before .before .before .before .before .before .read .ensures .0) (c .before .before .before .before .before .before .before .before .before .before .before .before .before .before .before .before .before .before .before .before .before .before .before .before .before .read .ensures .1) _ _ (c .before .before .before .before .before .before .before .before .store-text .ensures .0) (c .before .before .before .before .words .given .0 .0) (search needs) .1 .steps-are) (c .before .before .before .before .before .before .before .before .before .before .before .before .before .before .before .before .before .before .before .before .before .before .before .before .before .before .before .before .before .before .before .before .before .before .before .before .before .step-room .ensures) (c .before .before .before .before .before .before .before .before .before .before .before .before .before .before .before .before .before .before .before .before .before .before .before .before .before .read .kept .1 .1 .1 .0),
+  told-stored _ _ (c .before .before .before .before .before .before .before .before .before .before .before .before .before .before .before .before .before .before .before .before .before .before .before .before .before .read .ensures .0) (c .before .before .before .before .before .before .before .before .before .before .before .before .before .before .before .before .before .before .before .before .before .before .before .before .before .read .ensures .1) _ _ (c .before .before .before .before .before .before .before .before .store-text .ensures .0) (c .before .before .before .before .words .given .0 .0) (search needs) .0,
 )
 
 enum-known-rule : tie.Need-enum-known-rule
@@ -96,7 +100,7 @@ same-length : tie.Need-same-length
 same-length c = search needs
 
 returns : tie.Need-returns
-returns c = taken-before _ _ (c .before .before .before .before .before .before .before .before .before .before .before .before .before .before .before .before .before .before .before .before .before .before .before .before .before .before .before .read .kept .1 .0) _ _ _ (search stored-outcome, search stored-table)
+returns c = taken-before _ _ (c .before .before .before .before .before .before .before .before .before .before .before .before .before .before .before .before .before .before .before .before .before .before .before .before .before .before .before .before .read .kept .1 .0) _ _ _ (search stored-outcome, search stored-table)
 
 same-length-2 : tie.Need-same-length-2
 same-length-2 c = search needs
@@ -130,6 +134,7 @@ take-spec =
     store-text-requires
     enum-known-words
     slice-aggregate-judge
+    slice-aggregate-judge-2
     judge-requires
     enum-known-rule
     same-length
