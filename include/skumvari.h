@@ -117,7 +117,7 @@ size_t skumvari_table_words(void);
  *
  * Indexes and offsets count from 0, lines, rows and columns from 1.
  *
- * It needs a little more than 400 KB of the caller's stack (391,168 bytes of it hold records while the text is read), for a short text
+ * It needs a little more than 400 KB of the caller's stack (391,680 bytes of it hold records while the text is read), for a short text
  * too: call it in a thread whose stack has 512 KiB or more. */
 bool skumvari_intake(const uint8_t *text, size_t text_length, uint64_t *table, size_t table_length, uint64_t *answer, size_t answer_length);
 

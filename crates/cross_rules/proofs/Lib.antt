@@ -12,3 +12,4 @@ pub mod FirstLaws
 pub mod RepeatedLaws
 pub mod NamesLaws
 pub mod MarkedLaws
+pub mod SgrLaws

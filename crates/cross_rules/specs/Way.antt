@@ -3,3 +3,4 @@ pub mod HoldsText
 pub mod Nth
 pub mod Repeated
 pub mod First
+pub mod Sgr

@@ -1,4 +1,4 @@
-// Helpers of the rules 19 to 27: the line that writes a record, where a broken rule is reported, and repeated names.
+// Helpers of the rules 19 to 29: the line that writes a record, where a broken rule is reported, and repeated names.
 ghost use mathlib.Core.Path.{_≡_};
 ghost use lib.Dec.{eqb};
 ghost use lib.ListN.{length};
@@ -9,7 +9,7 @@ ghost use Rattle.doc.specs.Lines.{significant};
 ghost use Rattle.cross_rules.specs.Way.Nth.{writesAt, nthLine};
 ghost use Rattle.cross_rules.specs.Way.Repeated.{isRepeated, MarkedNames};
 
-// A line, and the rule of 19 to 27 that it breaks; rule 0 if it breaks none.
+// A line, and the rule of 19 to 29 that it breaks; rule 0 if it breaks none.
 pub struct Finding {
     pub rule: u64,
     pub line: u64,

@@ -39,7 +39,7 @@ module _ (t : List ℕ) (size : ℕ) where
   unfolding tableFor
   layout-accepted words = if-true _ _ refl
 
--- ---- 19 to 27
+-- ---- 19 to 29
 
 module _ (t : List ℕ) (words : ℕ) (finding : Finding) (is : finding ≡ crossRule (documentOf t)) where
   pub crossed-broken : (finding .rule ≡ 0 → ⊥) → refusedBy (finding .rule) (finding .line) ≡ crossed words (crossRule (documentOf t))

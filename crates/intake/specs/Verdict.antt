@@ -1,5 +1,6 @@
 -- Document 01: the outcome of the intake for a text and a lent table of a given length, and what the table then holds.
--- "Order: 1; 2 to 4 over all lines; 5 to 17 reading forward; 18; 19 to 27 over all lines."
+-- "Order: 1; 2 to 4 over all lines; 5 to 17 reading forward; 18; 19 to 27 over all lines." Document 02: "the order there is
+-- 19 to 27, 28 if present, 29".
 -- Assumes nothing.
 use Prim.Native.Nat.{ℕ, _-_}
 use mathlib.Core.Path.{_≡_}
@@ -39,7 +40,7 @@ abbrev pub answerWords : Answer → Outcome
 answerWords (Accepted words) = acceptedWith words
 answerWords (Refused rule line) = refusedBy rule line
 
--- rules 19 to 27: the text is stored in `words` words, and `finding` is what it breaks first, if anything
+-- rules 19 to 29: the text is stored in `words` words, and `finding` is what it breaks first, if anything
 abbrev pub crossed : ℕ → Finding → Outcome
 crossed words finding = if eqb (finding .rule) 0 then acceptedWith words else refusedBy (finding .rule) (finding .line)
 

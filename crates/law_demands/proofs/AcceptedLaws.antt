@@ -23,7 +23,7 @@ use Rattle.intake.proofs.RoomLaws.{room-there, room-short}
 use Rattle.cross_rules.specs.Rules.{crossRule}
 use Rattle.intake.specs.Verdict.{Outcome, crossed, afterStoring, afterBytes, verdictOf}
 
--- no rule of 1 to 4 and of 5 to 17 is broken, the table has room, and no rule of 19 to 27 is broken
+-- no rule of 1 to 4 and of 5 to 17 is broken, the table has room, and no rule of 19 to 29 is broken
 pub record Taken (t : List ℕ) (size : ℕ) : Type 0 where
   pub counts : Counts
   pub fine : byteRules t ≡ bytes.Fine

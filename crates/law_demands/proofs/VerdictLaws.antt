@@ -32,7 +32,7 @@ use Rattle.doc.proofs.StandsLaws.{each-append}
 use Rattle.intake.specs.Stored.{roomRules, storeAnswer, afterReading}
 use Rattle.intake.proofs.RoomLaws.{room-there, room-short}
 use Rattle.cross_rules.specs.Rules.{allRulesAtLines, crossRule}
-use Rattle.cross_rules.specs.Way.Findings.{findings, listFindings, modelFindings, mapFindings, sectionFindings}
+use Rattle.cross_rules.specs.Way.Findings.{findings, listFindings, modelFindings, sgrFindings, mapFindings, sectionFindings}
 use Rattle.cross_rules.specs.declared.Finding.{Finding}
 use Rattle.cross_rules.proofs.OrderLaws.{in-order}
 use Rattle.cross_rules.specs.Listed.{RulesAtLine, BrokenIn}
@@ -198,7 +198,7 @@ module _ (t : List ℕ) (size : ℕ) where
       let told : Refuses number line given3 = told-refused number line given3 (rw (read-run t e) at (forward-told 1 (contents t) startState)) in
       group-found 3 (forwardRulesAtLines 1 (contents t) startState) forward-group (forward-ranked 1 (contents t) startState) (forward-ordered 1 (contents t) startState (omega arith)) number line (told .nonzero) (told .is)
 
-  -- ---- 19 to 27
+  -- ---- 19 to 29
 
   abbrev d : Document
   d = documentOf t
@@ -214,7 +214,8 @@ module _ (t : List ℕ) (size : ℕ) where
   findings-low =
       each-append (all-least (λ (f : Finding). f .line) (listFindings d) (in-order t .in-list))
       (each-append (all-least (λ (f : Finding). f .line) (modelFindings d (d .models)) (in-order t .in-models))
-      (each-append (all-least (λ (f : Finding). f .line) (mapFindings d (d .maps)) (in-order t .in-maps)) (all-least (λ (f : Finding). f .line) (sectionFindings d 0 (d .sections)) (in-order t .in-sections))))
+      (each-append (all-least (λ (f : Finding). f .line) (sgrFindings (d .models)) (in-order t .in-sgrs))
+      (each-append (all-least (λ (f : Finding). f .line) (mapFindings d (d .maps)) (in-order t .in-maps)) (all-least (λ (f : Finding). f .line) (sectionFindings d 0 (d .sections)) (in-order t .in-sections)))))
 
   rank-plain : (number : ℕ) → rank 5 number ≡ 2 * number
   unfolding rank both

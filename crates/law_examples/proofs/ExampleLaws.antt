@@ -360,7 +360,7 @@ record Computed : Type 0 where
 
 -- unfolds every definition that is needed to read the texts
 computed : Computed
-unfolding textOf placeBehind d0.first d1.within d1.isBlank d1.isDigit d1.isCapital d1.isSmall d1.isLetter d1.small d1.isFilled d1.isPrinted d1.isBefore d1.isContent d3.if_then_else_ d3.both d3.either d4.run d4.all d4.same d5.withoutReturn d5.characters d5.rawLineRule d5.refusedOr d5.linesRule d5.byteRules d6.pushed d6.lines d6.said d6.contents d6.contentOf d6.isBlankLine d7.wordGoesOn d7.grown d7.wordsFrom d7.backRun d7.lastEnd d7.hasEquals d7.leftOf d7.rightOf d8.cappedDigits d8.cappedExponent d8.sizeAt d8.raising d8.lowering d9.valueOf d9.isInteger d9.wholeOf d9.isWholeWithin d10.isSign d10.isMinus d10.isPoint d10.isE d10.pastSign d10.noDigits d10.digitsGoOn d10.withPoint d10.withDigit d10.withByte d10.scan d10.noExponent d10.exponentAt d10.exponentOf d10.powerIn d10.scaleBy d10.scaleOf d10.raised d10.lowered d10.inRange d10.valueAs d10.wellFormed d10.numberFrom d10.digitsOf d10.exponentFrom d10.numberOf d11.valueWord d11.decimalOf d11.isDecimal d11.isValueWord d12.isOpen d12.isNotClosing d12.isSeparator d12.isPlainByte d12.push d12.parted d12.isHyphenWord d12.isGoodWord d12.areGoodWords d12.isGoodName d12.nameLength d12.nameOf d12.isClosed d12.isGoodBracket d12.argumentAt d12.namedAs d12.bracketOf d13.joinedNames d13.letters d13.startOf d13.shorter d13.firstOfSize d13.begins d13.standsAt d14.folded d14.sameName d14.nameIndex d14.keywordOf d14.isLater d15.opensLine d15.isWordByte d15.closesAt d15.saysName place.opensHeaderText place.standsInHeader place.leadsInHeader place.leadsInFamily place.leadsInModel place.opensMatrix place.leadsInSection place.isRowOrBandwidth place.leadsInMatrix place.leadsAfterFamily place.isInHeader place.isInFamily place.isInModel place.moved place.isText place.movedByLine d17.isReserved d17.isOneWord d17.isName d17.isFileByte d17.isExtension d17.isFileName d17.formOf d17.methodOf d17.takesNothing d17.takesFreeText d17.takesName d17.isBadForm d17.isBadArgument d17.isBadInteger d17.isOutOfBounds d18.modelTypeOf d18.wrongHeadLine d18.typeLine d18.ratioOf d18.sgrLine d18.impedanceLine d18.headLineOf d18.isHeadOutOfOrder d18.headNext d18.newHead d18.headLacks d19.sayingOf d19.plainLine d19.namesOne d19.isMult d19.isSectionLine d19.amountFormed d19.amountOf d19.amountBounded d19.sectionLine d19.lineSaying d19.pathLineOf d19.newPath d19.isBadFork d19.isPathOutOfOrder d19.isStepLine d19.withEnd d19.pathNext d19.pathOpen d19.pathLacks d20.amountLine d20.unitLine d20.isParted d20.partsLine d21.orderOf d21.wrongMapLine d21.orderLine d21.listLine d21.sizeLine d21.mapLineOf d21.newMap d21.isOrdered d21.isMapOutOfOrder d21.mapNext d21.isPinLine d21.withPin d21.pinsLack d21.isWrongGrid d22.newMatrix d22.isWrongBandwidth d22.isWrongRow d22.withBandwidth d22.inRow d22.standsAbove d22.stillFits d22.withRow d22.numberCheck d22.areFormed d22.areBounded d22.numbersLine d22.sparseLine d22.dataLineOf d22.isDataOutOfOrder d22.areTooMany d22.withColumn d22.dataNext d22.shapeConductors d22.isShaped d22.isWrongShape d22.isTooWide d23.isSeen d23.isOnce d23.hasNoKind d23.kindsLack d23.headerLacks d23.familyLacks d23.isLacking d23.isTooLate d23.isUnclosed d23.isRepeated d23.isMisplaced d23.isForkOpen d23.isWrongInMatrix d23.isMatrixBroken d23.isShapeBroken d23.closesTooWide d23.isFull d23.isPastBound d23.seenAfter d23.headAfter d23.pathAfter d23.mapAfter d23.conductorsAfter d23.sectionAfter d23.matrixAfter d23.oneMoreIf d23.countsAfter d23.keywordNext d24.noCounts d24.noneSeen d24.newSection d24.startState d25.countsAfterLine d25.lineNext d25.argumentFrom d25.goes d25.breaks d25.judged d25.rulesAndNext d25.lineResult d25.atEnd d25.onward d25.readFrom d25.readingOf d26.meetings d26.stateAfter d27.resume d28.basesFrom d29.joined d29.layout d29.chopped d29.partsIn d30.areWithin d30.basesAt d30.countsAt d30.endAt d30.noView d30.viewOf d31.sayingAt d31.stepOf d31.stepsIn d31.headIn d31.opensModel d31.inModel d31.modelOf d31.modelAt d31.listedAt d31.opensMap d31.inMap d31.gridIn d31.pinAt d31.mapOf d31.mapAt d31.kindOf d31.opensMatrixAt d31.inMatrix d31.givenBy d31.bandwidthIn d31.nextRow d31.numbersAt d31.sparseAt d31.valuesFrom d31.namedBy d31.greatestIn d31.conductorsIn d31.matrixOf d31.matrixAt d31.opensSection d31.inSection d31.methodIn d31.sectionOf d31.sectionAt d31.documentIn d31.documentOf d32.extentOf d32.extentAt d33.comesBefore d33.isInUpperHalf d33.rises d34.keyAt d34.placeAfter d34.linesFrom d34.linesAt d34.significant d34.keyOf d34.argumentOf d34.wordsOf d34.rightWordsOf d34.noWord d34.standsIn d34.gather d34.upTo d35.indexOf d35.isMapOf d35.isSectionOf d35.targetOf d35.stepRecord d35.stepRecords d35.modelRecord d35.modelRecords d35.pinRecord d35.pinRecords d35.mapRecord d35.mapRecords d35.indexOfKind d35.sectionRecord d35.sectionRecords d35.matricesOf d35.matrixRecord d35.matrixRecords d35.valuesOf d35.flatten partsOf d35.tableOf recordsIn recordsOf d36.storeAnswer d37.writesAt d37.writesPart d37.nthLine d38.any d38.sameWord d38.isTwice d38.isThere d38.uses d38.isUsed d38.pinsAt d38.conductorsAt d38.methodAt d38.isOtherForm d38.hasOtherForm d38.hasMap d38.hasSection d38.clash d38.clashes d38.isClashing d38.isWrongMethod d38.isSingleLine d38.listRulesAtLines d38.stepRulesAtLines d38.modelRulesAtLines d38.pinRulesAtLines d38.mapRulesAtLines d38.sectionRulesAtLines d38.allRulesAtLines d38.earlier d38.noFinding d38.earliest d38.crossRule d39.verdictOf d39.tableFor d40.takesEquals d40.takesText d41.isPlain d41.rowLines d41.numbersOf d41.wordOf d41.sparseWord d41.writtenAt
+unfolding textOf placeBehind d0.first d1.within d1.isBlank d1.isDigit d1.isCapital d1.isSmall d1.isLetter d1.small d1.isFilled d1.isPrinted d1.isBefore d1.isContent d3.if_then_else_ d3.both d3.either d4.run d4.all d4.same d5.withoutReturn d5.characters d5.rawLineRule d5.refusedOr d5.linesRule d5.byteRules d6.pushed d6.lines d6.said d6.contents d6.contentOf d6.isBlankLine d7.wordGoesOn d7.grown d7.wordsFrom d7.backRun d7.lastEnd d7.hasEquals d7.leftOf d7.rightOf d8.cappedDigits d8.cappedExponent d8.sizeAt d8.raising d8.lowering d9.valueOf d9.isInteger d9.wholeOf d9.isWholeWithin d10.isSign d10.isMinus d10.isPoint d10.isE d10.pastSign d10.noDigits d10.digitsGoOn d10.withPoint d10.withDigit d10.withByte d10.scan d10.noExponent d10.exponentAt d10.exponentOf d10.powerIn d10.scaleBy d10.scaleOf d10.raised d10.lowered d10.inRange d10.valueAs d10.wellFormed d10.numberFrom d10.digitsOf d10.exponentFrom d10.numberOf d11.valueWord d11.decimalOf d11.isDecimal d11.isValueWord d12.isOpen d12.isNotClosing d12.isSeparator d12.isPlainByte d12.push d12.parted d12.isHyphenWord d12.isGoodWord d12.areGoodWords d12.isGoodName d12.nameLength d12.nameOf d12.isClosed d12.isGoodBracket d12.argumentAt d12.namedAs d12.bracketOf d13.joinedNames d13.letters d13.startOf d13.shorter d13.firstOfSize d13.begins d13.standsAt d14.folded d14.sameName d14.nameIndex d14.keywordOf d14.isLater d15.opensLine d15.isWordByte d15.closesAt d15.saysName place.opensHeaderText place.standsInHeader place.leadsInHeader place.leadsInFamily place.leadsInModel place.opensMatrix place.leadsInSection place.isRowOrBandwidth place.leadsInMatrix place.leadsAfterFamily place.isInHeader place.isInFamily place.isInModel place.moved place.isText place.movedByLine d17.isReserved d17.isOneWord d17.isName d17.isFileByte d17.isExtension d17.isFileName d17.formOf d17.methodOf d17.takesNothing d17.takesFreeText d17.takesName d17.isBadForm d17.isBadArgument d17.isBadInteger d17.isOutOfBounds d18.modelTypeOf d18.wrongHeadLine d18.typeLine d18.ratioOf d18.sgrLine d18.impedanceLine d18.headLineOf d18.isHeadOutOfOrder d18.headNext d18.newHead d18.headLacks d19.sayingOf d19.plainLine d19.namesOne d19.isMult d19.isSectionLine d19.amountFormed d19.amountOf d19.amountBounded d19.sectionLine d19.lineSaying d19.pathLineOf d19.newPath d19.isBadFork d19.isPathOutOfOrder d19.isStepLine d19.withEnd d19.pathNext d19.pathOpen d19.pathLacks d20.amountLine d20.unitLine d20.isParted d20.partsLine d21.orderOf d21.wrongMapLine d21.orderLine d21.listLine d21.sizeLine d21.mapLineOf d21.newMap d21.isOrdered d21.isMapOutOfOrder d21.mapNext d21.isPinLine d21.withPin d21.pinsLack d21.isWrongGrid d22.newMatrix d22.isWrongBandwidth d22.isWrongRow d22.withBandwidth d22.inRow d22.standsAbove d22.stillFits d22.withRow d22.numberCheck d22.areFormed d22.areBounded d22.numbersLine d22.sparseLine d22.dataLineOf d22.isDataOutOfOrder d22.areTooMany d22.withColumn d22.dataNext d22.shapeConductors d22.isShaped d22.isWrongShape d22.isTooWide d23.isSeen d23.isOnce d23.hasNoKind d23.kindsLack d23.headerLacks d23.familyLacks d23.isLacking d23.isTooLate d23.isUnclosed d23.isRepeated d23.isMisplaced d23.isForkOpen d23.isWrongInMatrix d23.isMatrixBroken d23.isShapeBroken d23.closesTooWide d23.isFull d23.isPastBound d23.seenAfter d23.headAfter d23.pathAfter d23.mapAfter d23.conductorsAfter d23.sectionAfter d23.matrixAfter d23.oneMoreIf d23.countsAfter d23.keywordNext d24.noCounts d24.noneSeen d24.newSection d24.startState d25.countsAfterLine d25.lineNext d25.argumentFrom d25.goes d25.breaks d25.judged d25.rulesAndNext d25.lineResult d25.atEnd d25.onward d25.readFrom d25.readingOf d26.meetings d26.stateAfter d27.resume d28.basesFrom d29.joined d29.layout d29.chopped d29.partsIn d30.areWithin d30.basesAt d30.countsAt d30.endAt d30.noView d30.viewOf d31.sayingAt d31.stepOf d31.stepsIn d31.headIn d31.saysSgr d31.sgrIn d31.opensModel d31.inModel d31.modelOf d31.modelAt d31.listedAt d31.opensMap d31.inMap d31.gridIn d31.pinAt d31.mapOf d31.mapAt d31.kindOf d31.opensMatrixAt d31.inMatrix d31.givenBy d31.bandwidthIn d31.nextRow d31.numbersAt d31.sparseAt d31.valuesFrom d31.namedBy d31.greatestIn d31.conductorsIn d31.matrixOf d31.matrixAt d31.opensSection d31.inSection d31.methodIn d31.sectionOf d31.sectionAt d31.documentIn d31.documentOf d32.extentOf d32.extentAt d33.comesBefore d33.isInUpperHalf d33.rises d34.keyAt d34.placeAfter d34.linesFrom d34.linesAt d34.significant d34.keyOf d34.argumentOf d34.wordsOf d34.rightWordsOf d34.noWord d34.standsIn d34.gather d34.upTo d35.indexOf d35.isMapOf d35.isSectionOf d35.targetOf d35.stepRecord d35.stepRecords d35.modelRecord d35.modelRecords d35.pinRecord d35.pinRecords d35.mapRecord d35.mapRecords d35.indexOfKind d35.sectionRecord d35.sectionRecords d35.matricesOf d35.matrixRecord d35.matrixRecords d35.valuesOf d35.flatten partsOf d35.tableOf recordsIn recordsOf d36.storeAnswer d37.writesAt d37.writesPart d37.nthLine d38.any d38.sameWord d38.isTwice d38.isThere d38.uses d38.isUsed d38.pinsAt d38.conductorsAt d38.methodAt d38.isOtherForm d38.hasOtherForm d38.hasMap d38.hasSection d38.clash d38.clashes d38.isClashing d38.isWrongMethod d38.isSingleLine d38.listRulesAtLines d38.stepRulesAtLines d38.modelRulesAtLines d38.sgrRulesAtLines d38.pinRulesAtLines d38.mapRulesAtLines d38.sectionRulesAtLines d38.allRulesAtLines d38.earlier d38.noFinding d38.earliest d38.crossRule d39.verdictOf d39.tableFor d40.takesEquals d40.takesText d41.isPlain d41.rowLines d41.numbersOf d41.wordOf d41.sparseWord d41.writtenAt
 computed =
     record {
       example-accepted = refl;

@@ -1,4 +1,4 @@
--- What the rules 19 to 27 guarantee of the steps of a document that breaks none of them.
+-- What the rules 19 to 29 guarantee of the steps of a document that breaks none of them.
 -- Assumes nothing.
 use mathlib.Core.Path.{_≡_, sym, _∙_}
 use mathlib.Core.Bool.{true, false}
@@ -14,7 +14,7 @@ use Rattle.doc.specs.Document.{Step, Model, Document}
 use Rattle.doc.specs.Holds.{Each}
 use Rattle.doc.specs.Holds.Each.{none, more}
 use Rattle.cross_rules.specs.Rules.{mapIndex, sectionIndex, hasMap, hasSection, isWrongMethod, crossRule}
-use Rattle.cross_rules.specs.Way.Findings.{endRule, sectionStepRule, stepRule, listFindings, stepFindings, modelFindings, mapFindings, sectionFindings, findings}
+use Rattle.cross_rules.specs.Way.Findings.{endRule, sectionStepRule, stepRule, listFindings, stepFindings, modelFindings, sgrFindings, mapFindings, sectionFindings, findings}
 use Rattle.cross_rules.specs.declared.Finding.{Finding}
 use Rattle.cross_rules.proofs.FirstLaws.{end-tests, section-step-tests, all-kept}
 
@@ -51,7 +51,7 @@ module _ (d : Document) where
   unfolding findings
   all-steps-kept e =
       steps-kept (d .models)
-      (each-front (modelFindings d (d .models)) (mapFindings d (d .maps) ++ sectionFindings d 0 (d .sections))
+      (each-front (modelFindings d (d .models)) (sgrFindings (d .models) ++ (mapFindings d (d .maps) ++ sectionFindings d 0 (d .sections)))
       (each-behind (listFindings d) _ (all-kept d e)))
 
 -- ---- one step

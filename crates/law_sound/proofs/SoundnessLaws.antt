@@ -24,7 +24,7 @@ use Rattle.law_sound.proofs.MapLaws.{text-maps}
 pub read-bounded : (t : List ℕ) (c : Counts) → readingOf t ≡ Read c → Bounded (documentOf t)
 read-bounded t c read = record { types = text-types t; steps = text-steps t c read; maps = text-maps t c read }
 
--- if a text breaks none of the rules 1 to 17 and 19 to 27, the table that holds it is sound
+-- if a text breaks none of the rules 1 to 17 and 19 to 29, the table that holds it is sound
 pub accepted-sound :
     (t table : List ℕ) → byteRules t ≡ Fine → HoldsText t table → crossRule (documentOf t) .rule ≡ 0 → isSound t table ≡ true
 accepted-sound t table fine filled kept =

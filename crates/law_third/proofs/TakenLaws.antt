@@ -1,5 +1,5 @@
 -- What is known of an accepted text and its table: the table is sound and holds the records of the document, which
--- breaks no rule of 19 to 27.
+-- breaks no rule of 19 to 29.
 -- Assumes nothing.
 use mathlib.Core.Path.{_≡_, refl, sym, _∙_, ap}
 use mathlib.Core.Bool.{true}

@@ -25,7 +25,7 @@ use Rattle.doc.specs.Holds.Each.{none, more}
 use Rattle.doc.proofs.StandsLaws.{StepStands, ModelStands, all-stand}
 use Rattle.table_name.specs.Name.{nameAt}
 use Rattle.cross_rules.specs.Rules.{any, sameWord, isTwice, mapName, mapIndex, sectionIndex, crossRule}
-use Rattle.cross_rules.specs.Way.Findings.{mapNameRule, stepRule, listFindings, modelFindings, pinFindings, mapFindings, sectionFindings, findings}
+use Rattle.cross_rules.specs.Way.Findings.{mapNameRule, stepRule, listFindings, modelFindings, sgrFindings, pinFindings, mapFindings, sectionFindings, findings}
 use Rattle.cross_rules.specs.declared.Finding.{Finding}
 use Rattle.cross_rules.proofs.RisingLaws.{each-by}
 use Rattle.cross_rules.proofs.FirstLaws.{map-tests, all-kept}
@@ -150,7 +150,7 @@ module _ (d : Document) where
   all-maps-kept e =
       maps-kept (d .maps)
       (each-front (mapFindings d (d .maps)) (sectionFindings d 0 (d .sections))
-      (each-behind (modelFindings d (d .models)) _ (each-behind (listFindings d) _ (all-kept d e))))
+      (each-behind (sgrFindings (d .models)) _ (each-behind (modelFindings d (d .models)) _ (each-behind (listFindings d) _ (all-kept d e)))))
 
   maps-fresh : crossRule d .rule ≡ 0 → Fresh (d .maps)
   maps-fresh e = fresh (d .maps) (each-by (λ (m : Map) (h : mapNameRule d m ≡ 0). map-tests d m h 0) (all-maps-kept e))

@@ -1,4 +1,4 @@
--- Rule 18 is given for room alone: no rule of the groups 1 to 4, 5 to 17 and 19 to 27 has that number.
+-- Rule 18 is given for room alone: no rule of the groups 1 to 4, 5 to 17 and 19 to 29 has that number.
 -- Assumes nothing.
 use mathlib.Core.Path.{_≡_, refl}
 use mathlib.Core.Bool.{Bool, true, false}
@@ -35,7 +35,7 @@ use Rattle.doc.specs.Holds.Each.{none, more}
 use Rattle.doc.proofs.StandsLaws.{each-append}
 use Rattle.cross_rules.specs.Rules.{noFinding, earliest, crossRule}
 use Rattle.cross_rules.specs.Way.Findings as rules
-use Rattle.cross_rules.specs.Way.Findings.{listFindings, stepFindings, modelFindings, pinFindings, mapFindings, sectionFindings, findings}
+use Rattle.cross_rules.specs.Way.Findings.{listFindings, stepFindings, modelFindings, sgrFindings, pinFindings, mapFindings, sectionFindings, findings}
 use Rattle.cross_rules.specs.declared.Finding.{Finding}
 use Rattle.cross_rules.proofs.FindingLaws.{cross-findings}
 use Rattle.cross_rules.proofs.KindLaws.{earlier-one}
@@ -163,7 +163,7 @@ pub reading-other : (t : List ℕ) → OtherReading (readingOf t)
 unfolding readingOf
 reading-other t = run-other 1 (contents t) startState
 
--- ---- 19 to 27
+-- ---- 19 to 29
 
 abbrev OtherFinding : Finding → Type 0
 OtherFinding finding = Other (finding .rule)
@@ -195,6 +195,12 @@ module _ (d : Document) where
   model-others [] = none
   model-others (m ∷ ms) = more (rule 19 refl _ _ (rule 20 refl _ _ kept)) (each-append (step-others m) (model-others ms))
 
+  sgr-others : (ms : List Model) → Each OtherFinding (sgrFindings ms)
+  unfolding sgrFindings rules.sgrRule
+  sgr-others [] = none
+  sgr-others (m ∷ ms) =
+      by-test (Each OtherFinding) (eqb (m .sgr) 0) _ _ (λ e. sgr-others ms) (λ e. more (rule 29 refl _ _ kept) (sgr-others ms))
+
   pin-others : (m : Map) → Each OtherFinding (pinFindings m)
   unfolding pinFindings rules.pinNameRule
   pin-others m = each-map _ (λ (p : Named). rule 19 refl _ _ kept) (m .pins)
@@ -214,4 +220,4 @@ module _ (d : Document) where
   cross-other =
       rw (cross-findings d)
       (earliest-other
-      (each-append list-others (each-append (model-others (d .models)) (each-append (map-others (d .maps)) (section-others 0 (d .sections))))))
+      (each-append list-others (each-append (model-others (d .models)) (each-append (sgr-others (d .models)) (each-append (map-others (d .maps)) (section-others 0 (d .sections)))))))

@@ -1,4 +1,4 @@
--- The table of a text: the code of the rules 19 to 27 needs it.
+-- The table of a text: the code of the rules 19 to 29 needs it.
 -- Assumes nothing.
 use Prim.Native.Nat.{ℕ, _-_}
 use mathlib.Core.Path.{_≡_}
