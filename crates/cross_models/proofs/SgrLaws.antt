@@ -18,7 +18,7 @@ use Rattle.table_record.specs.Way.Stage.{stagedFrom, stagedModelWidth, stagedMo
 use Rattle.table_record.specs.declared.stage.StagedModel.{StagedModel}
 use Rattle.doc.specs.Document.{Model}
 use Rattle.doc.specs.Records.{modelRecord}
-use Rattle.doc.specs.Way.Staged.{stagedModel, stagedModels}
+use Rattle.doc.specs.Way.Staged.{stagedModels}
 use Rattle.cross_rules.specs.Rules.{noFinding}
 use Rattle.cross_rules.specs.Way.Findings.{sgrRule, sgrFindings}
 use Rattle.cross_rules.specs.Way.First.{firstIn}

@@ -7,12 +7,12 @@ use Prim.Native.Nat.{ℕ, _<_}
 use native.Mathlib.Omega.{arith}
 use lib.Dec.{eqb}
 use borrow.Author.Tests.{ne-eqb, eqb-true}
-use Rattle.base.specs.If.{both, either}
+use Rattle.base.specs.If.{both}
 use Rattle.base.proofs.IfLaws.{if-true, if-false, by-cases, both-true, both-first, both-second, both-rest, both-not-left, both-not-right, not-via, either-left, either-rest}
 use Rattle.lex_keyword.specs.Names.{icmPinMap, beginIcmModel}
 use Rattle.line_place.specs.Place.{isInFamily}
 use Rattle.line_place.specs.Place as place
-use Rattle.line_head.specs.Head.{saysRatio, headLineOf, headNext}
+use Rattle.line_head.specs.Head.{headNext}
 use Rattle.line_head.specs.declared.Head.{Head}
 use Rattle.line_keyword.specs.declared.State.{State}
 use Rattle.doc.specs.Lines.{Line, plain, keyAt, keyOf, standsIn}

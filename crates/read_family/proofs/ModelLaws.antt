@@ -20,7 +20,7 @@ use Rattle.table_record.specs.Way.Stage.{putAt, Held, stagedModelWidth, stagedM
 use Rattle.table_record.specs.declared.stage.StagedModel.{StagedModel}
 use Rattle.table_record.proofs.StageLaws.{held-same, held-one}
 use Rattle.doc.specs.Lines.{Line, plain, keyOf, argumentOf, placeAfter, standsIn, gather, upTo}
-use Rattle.doc.specs.Document.{Model, stepOf, stepsIn, headIn, saysSgr, sgrIn, opensModel, inModel, modelOf, modelAt, opensMap}
+use Rattle.doc.specs.Document.{Model, stepOf, stepsIn, headIn, sgrIn, opensModel, inModel, modelOf, modelAt, opensMap}
 use Rattle.doc.specs.Records.{modelRecord}
 use Rattle.doc.specs.Way.Staged.{stagedModel, stagedModels}
 use Rattle.doc.proofs.GatherLaws.{gather-more, gather-none, gather-quiet, up-in}

@@ -20,7 +20,6 @@ use Rattle.lex_keyword.proofs.AnswerLaws.{keyword-known}
 use Rattle.line_place.specs.Place.{isInFamily, isText, opensMatrix, moved}
 use Rattle.line_place.specs.Place as place
 use Rattle.line_head.specs.Head.{headLineOf, headNext, newHead}
-use Rattle.line_head.specs.Way.Rule.{headRule}
 use Rattle.line_head.proofs.HeadLaws.{sgr-once}
 use Rattle.line_map.specs.PinMap.{mapLineOf, mapNext, newMap, withPin}
 use Rattle.line_head.specs.declared.Head.{Head}

@@ -41,7 +41,7 @@ use Rattle.doc.specs.Records.{indexOf, targetOf, stepRecord, stepRecords, model
 use Rattle.doc.specs.Holds.{Each}
 use Rattle.doc.specs.Holds.Each.{none, more}
 use Rattle.doc.specs.Way.Holds.{Stands, countsOf}
-use Rattle.doc.specs.Way.Staged.{stagedModels, ModelsStaged, stagedStep, stepStaged, pinStaged, StagedText}
+use Rattle.doc.specs.Way.Staged.{stagedModels, stagedStep, stepStaged, pinStaged, StagedText}
 use Rattle.doc.proofs.StandsLaws.{each-join, StepStands, MapStands, all-stand, steps-stand}
 use Rattle.doc.proofs.OrderLaws.{EndOrdered, ends-ordered}
 use Rattle.doc.proofs.StagedLaws.{models-told, models-staged}
