@@ -1,7 +1,7 @@
 -- A line that is read alone: what is staged and what is left stays the whole. A blank line changes nothing.
 -- Assumes nothing.
 use mathlib.Core.Path.{_≡_, refl, sym, _∙_, ap, subst}
-use mathlib.Core.Bool.{Bool, true, false, not}
+use mathlib.Core.Bool.{true, false}
 use mathlib.Core.List.{List, [], _∷_}
 use Prim.Native.Nat.{ℕ, _+_, _-_, _*_, _^_, _≤_, _<_}
 use lib.ListN.{length, take, drop, getD}
@@ -9,7 +9,6 @@ use lib.Dec.{eqb}
 use borrow.Author.Tests.{ne-eqb}
 use native.Mathlib.Nat.{le-refl}
 use lib.ListN.{List·getD-eq-default}
-use Rattle.base.specs.If.{both}
 use Rattle.base.specs.Bytes.{isBlank}
 use Rattle.base.specs.Runs.{run}
 use Rattle.base.proofs.IfLaws.{if-true, if-false, by-cases, not-via}

@@ -5,7 +5,7 @@ ghost use Prim.Native.Nat.{_+_, _≤_, _<_};
 ghost use lib.ListN.{length, getD};
 ghost use lib.Seq.{sets};
 ghost use Rattle.table_layout.specs.Layout.{models, steps, maps, pins, sections, matrices, values, modelWidth, stepWidth, mapWidth, pinWidth, sectionWidth, matrixWidth, valueWidth};
-ghost use Rattle.table_record.specs.Records.{modelWords, stepWords, mapWords, pinWords, sectionWords, matrixWords, valueWords, recordsOf, noModel, noStep, noMap, noSection, noMatrix, noValue};
+ghost use Rattle.table_record.specs.Records.{modelWords, stepWords, valueWords, recordsOf, noModel, noStep, noMap, noSection, noMatrix, noValue};
 ghost use Rattle.table_record.specs.Way.Standing.{nameRecordAt, modelAt, stepAt, mapAt, pinAt, sectionAt, matrixAt, valueAt, countOf, Rooms, nameWidth};
 use table_layout::View;
 
