@@ -1,5 +1,5 @@
--- Document 01, "Numbers of refusal": rules 19 to 27 and 29, over the whole document. "In the last group a name means its first definition (a
--- map's, after the line); one that has none breaks only 20, 21 or 23."
+-- Document 01, "Numbers of refusal": rules 19 to 27, over the whole document, and 29 of document 02. "In the last group
+-- a name means its first definition (a map's, after the line); one that has none breaks only 20, 21 or 23."
 -- Assumes nothing.
 use Prim.Native.Nat.{ℕ, zero, suc, _+_}
 use mathlib.Core.Bool.{Bool, false, not}
@@ -60,7 +60,7 @@ modelRules d m =
     ∷ refusal.list when not (isThere (d .listed) (modelName m))
     ∷ []
 
--- "turned away, at the SGR line, in every model that is not SLM_general"
+-- document 02: "We want it turned away, at the SGR line, in every model that is not SLM_general."
 abbrev pub sgrRules : Model → List Rule
 sgrRules m = refusal.sgr when not (eqb (m .type) slmGeneral) ∷ []
 

@@ -1,6 +1,6 @@
 -- Document 01: the outcome of the intake for a text and a lent table of a given length, and what the table then holds.
--- "Order: 1; 2 to 4 over all lines; 5 to 17 reading forward; 18; 19 to 27 over all lines." Document 02: "the order there is
--- 19 to 27, 28 if present, 29".
+-- "Order: 1; 2 to 4 over all lines; 5 to 17 reading forward; 18; 19 to 27 over all lines." Document 02 of the last: "the
+-- order there is 19 to 27, 28 if present, 29."
 -- Assumes nothing.
 use Prim.Native.Nat.{ℕ, _-_}
 use mathlib.Core.Path.{_≡_}

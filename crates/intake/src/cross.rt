@@ -50,7 +50,7 @@ pub fn cross_finding(
     }
     let listed = list.listed;
     let paths = cross_models::model_finding(text, table, view, steps, listed);
-    let ratios = cross_models::sgr_finding(models, counts[table_layout::MODELS]);
+    let sgr = cross_models::sgr_finding(models, counts[table_layout::MODELS]);
     let sections = cross_names::sections::section_finding(text, table, view);
-    earlier_of(paths, earlier_of(ratios, earlier_of(maps, sections)))
+    earlier_of(paths, earlier_of(sgr, earlier_of(maps, sections)))
 }

@@ -1,8 +1,9 @@
 -- Document 01, "Numbers of refusal": the rule book. Each of the five groups is a list of lines in their order, each
 -- with the rules that are checked there, in the order of refusal: "1; 2 to 4 over all lines; 5 to 17 reading forward;
--- 18; 19 to 27 over all lines", to which document 02 adds 29. The rules themselves stand beside their tests: 1 to 4 in ByteRules.antt of `lex_line`;
--- 5 to 17 in Reading.antt of `read_line`, with the lists of `line_head`, `line_path`, `line_map`, `line_matrix` and
--- `line_keyword`; 18 in Stored.antt of `intake`; 19 to 29 in Rules.antt of `cross_rules`.
+-- 18; 19 to 27 over all lines". Document 02 adds 29 to the last group. The rules themselves stand beside their tests:
+-- 1 to 4 in ByteRules.antt of `lex_line`; 5 to 17 in Reading.antt of `read_line`, with the lists of `line_head`,
+-- `line_path`, `line_map`, `line_matrix` and `line_keyword`; 18 in Stored.antt of `intake`; 19 to 29 in Rules.antt of
+-- `cross_rules`.
 -- Assumes nothing.
 use Prim.Native.Nat.{ℕ, _+_, _*_, _≤_, _<_}
 use mathlib.Core.List.{List, [], _∷_}

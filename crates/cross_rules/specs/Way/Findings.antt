@@ -1,4 +1,4 @@
--- The first rule of 19 to 27 and 29 that each line breaks, and the findings of a document by the kinds of its lines: what the
+-- The first rule of 19 to 29 that each line breaks, and the findings of a document by the kinds of its lines: what the
 -- code goes over. A law says that they are the findings of `allRulesAtLines`.
 -- Assumes nothing.
 use Prim.Native.Nat.{ℕ, _+_}

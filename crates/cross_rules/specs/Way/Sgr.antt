@@ -6,7 +6,7 @@ use Rattle.table_layout.specs.Codes.{slmGeneral}
 use Rattle.doc.specs.Document.{Model, Document}
 use Rattle.cross_rules.specs.Listed.{Among}
 
--- "turned away, at the SGR line, in every model that is not SLM_general"
+-- "We want it turned away, at the SGR line, in every model that is not SLM_general."
 pub record WrongSgr (d : Document) (line : ℕ) : Type 0 where
   pub model : Model
   pub among : Among model (d .models)
