@@ -17,7 +17,6 @@ use Rattle.base.proofs.BrokenLaws.{sound, Numbered, all-kept as tests-kept}
 use Rattle.doc.specs.Document.{Named, Step, Model, Map, Section, Document, documentOf}
 use Rattle.doc.specs.Holds.{Each}
 use Rattle.doc.specs.Holds.Each.{none, more}
-use Rattle.doc.proofs.StandsLaws.{each-append}
 use Rattle.cross_rules.specs.Rules.{
   listNameRules,
   modelRules,
@@ -28,13 +27,6 @@ use Rattle.cross_rules.specs.Rules.{
   endStepRules,
   sectionStepRules,
   stepRules,
-  listRulesAtLines,
-  stepRulesAtLines,
-  modelRulesAtLines,
-  sgrRulesAtLines,
-  pinRulesAtLines,
-  mapRulesAtLines,
-  sectionRulesAtLines,
   allRulesAtLines,
   findingOf,
   noFinding,
@@ -50,6 +42,7 @@ use Rattle.cross_rules.proofs.RisingLaws.{each-one}
 use Rattle.cross_rules.proofs.FindingLaws.{findings-looked, cross-findings}
 use Rattle.cross_rules.proofs.KindLaws.{earlier-second, earlier-one, earlier-other, earlier-breaks, earlier-line}
 use Rattle.cross_rules.proofs.ApartLaws.{one-finding}
+use Rattle.cross_rules.proofs.LookLaws.{all-hold}
 
 -- ---- what a list of rules gives
 
@@ -168,41 +161,12 @@ module _ (d : Document) where
 abbrev LookRanked : RulesAtLine → Type 0
 LookRanked x = Ranked (x .rules)
 
-mapped-ranked : {A : Type 0} (look : A → RulesAtLine) → ((x : A) → LookRanked (look x)) → (xs : List A) → Each LookRanked (map look xs)
-mapped-ranked look all [] = none
-mapped-ranked look all (x ∷ xs) = more (all x) (mapped-ranked look all xs)
-
-module _ (d : Document) where
-  models-ranked : (ms : List Model) → Each LookRanked (modelRulesAtLines d ms)
-  unfolding modelRulesAtLines stepRulesAtLines
-  models-ranked [] = none
-  models-ranked (m ∷ ms) = more (model-ranked d m) (each-append (mapped-ranked _ (step-ranked d m) (m .steps)) (models-ranked ms))
-
-  sgrs-ranked : (ms : List Model) → Each LookRanked (sgrRulesAtLines d ms)
-  unfolding sgrRulesAtLines
-  sgrs-ranked [] = none
-  sgrs-ranked (m ∷ ms) = by-test (Each LookRanked) (eqb (m .sgr) 0) _ _ (λ e. sgrs-ranked ms) (λ e. more (sgr-ranked m) (sgrs-ranked ms))
-
-  maps-ranked : (ms : List Map) → Each LookRanked (mapRulesAtLines d ms)
-  unfolding mapRulesAtLines pinRulesAtLines
-  maps-ranked [] = none
-  maps-ranked (m ∷ ms) = more (map-ranked d m) (each-append (mapped-ranked _ (pin-ranked m) (m .pins)) (maps-ranked ms))
-
-  sections-ranked : (i : ℕ) (ss : List Section) → Each LookRanked (sectionRulesAtLines d i ss)
-  unfolding sectionRulesAtLines
-  sections-ranked i [] = none
-  sections-ranked i (s ∷ ss) = more (section-ranked d i s) (sections-ranked (i + 1) ss)
-
-  all-ranked : Each LookRanked (allRulesAtLines d)
-  unfolding allRulesAtLines listRulesAtLines
-  all-ranked =
-      each-append (mapped-ranked _ (list-ranked d) (d .listed))
-      (each-append (models-ranked (d .models))
-      (each-append (sgrs-ranked (d .models)) (each-append (maps-ranked (d .maps)) (sections-ranked 0 (d .sections)))))
-
 module _ (d : Document) where
   look-ranked : {x : RulesAtLine} → Among x (allRulesAtLines d) → Ranked (x .rules)
-  look-ranked m = each-one (all-ranked d) m
+  look-ranked m =
+      each-one
+      (all-hold d LookRanked (list-ranked d) (model-ranked d) (step-ranked d) (λ (m : Model) among some. sgr-ranked m) (map-ranked d) pin-ranked
+      (section-ranked d)) m
 
   look-found : {x : RulesAtLine} → Among x (allRulesAtLines d) → Among (findingOf x) (findings d)
   look-found m = rw (findings-looked d) (among-mapped findingOf m)

@@ -8,6 +8,7 @@ pub mod TwiceLaws
 pub mod ListLaws
 pub mod ApartLaws
 pub mod AmongLaws
+pub mod LookLaws
 pub mod FirstLaws
 pub mod RepeatedLaws
 pub mod NamesLaws

@@ -2,19 +2,17 @@
 -- Assumes nothing.
 use mathlib.Core.Path.{_≡_, refl, sym, _∙_, subst}
 use mathlib.Core.Bool.{Bool, true, false, not, true≢false}
-use mathlib.Core.List.{List, [], _∷_, _++_, map}
-use Prim.Native.Nat.{ℕ, _+_, _<_}
+use mathlib.Core.List.{List, [], _∷_, _++_}
+use Prim.Native.Nat.{ℕ, _<_}
 use native.Mathlib.Omega.{arith}
 use lib.Dec.{eqb}
-use borrow.Author.Tests.{eq-eqb, ne-eqb, eqb-false}
+use borrow.Author.Tests.{eq-eqb, ne-eqb}
 use Rattle.table_layout.specs.Codes.{slmGeneral, endKind, sectionKind}
 use Rattle.base.specs.Broken.{Rule, _when_}
 use Rattle.base.specs.Refusal as refusal
 use Rattle.base.proofs.IfLaws.{if-false, by-test, not-via, not-not-via}
 use Rattle.doc.specs.Document.{Named, Step, Model, Map, Section, Document}
 use Rattle.doc.specs.Holds.{Each}
-use Rattle.doc.specs.Holds.Each.{none, more}
-use Rattle.doc.proofs.StandsLaws.{each-append}
 use Rattle.cross_rules.specs.Listed.{RulesAtLine, Among, BrokenIn}
 use Rattle.cross_rules.specs.Listed.Among.{front, further}
 use Rattle.cross_rules.specs.Rules.{
@@ -26,17 +24,14 @@ use Rattle.cross_rules.specs.Rules.{
   sectionRules,
   stepRules,
   listRulesAtLines,
-  stepRulesAtLines,
   modelRulesAtLines,
   sgrRulesAtLines,
-  pinRulesAtLines,
-  mapRulesAtLines,
-  sectionRulesAtLines,
   allRulesAtLines,
   crossRule,
 }
 use Rattle.cross_rules.specs.Way.Sgr.{WrongSgr}
-use Rattle.cross_rules.proofs.RisingLaws.{each-one, each-among}
+use Rattle.cross_rules.proofs.RisingLaws.{each-one}
+use Rattle.cross_rules.proofs.LookLaws.{all-hold}
 use Rattle.cross_rules.proofs.FirstLaws.{none-breaks}
 
 -- ---- rules of other numbers
@@ -69,10 +64,6 @@ module _ (d : Document) where
   lower-told : (look : RulesAtLine) → Lower (look .rules) → Told look
   lower-told look h m = absurd (lower-none h m)
 
-  mapped-told : {A : Type 0} (look : A → RulesAtLine) → ((x : A) → Lower (look x .rules)) → (xs : List A) → Each Told (map look xs)
-  mapped-told look all [] = none
-  mapped-told look all (x ∷ xs) = more (lower-told (look x) (all x)) (mapped-told look all xs)
-
   step-lower : (m : Model) (s : Step) → Lower (stepRules d m s)
   step-lower m s =
       by-test Lower (eqb (s .kind) endKind) _ _ (λ e. (omega arith, (omega arith, (omega arith, tt))))
@@ -85,43 +76,24 @@ module _ (d : Document) where
   pin-lower : (m : Map) (p : Named) → Lower (pinNameRules m p)
   pin-lower m p = (omega arith, tt)
 
-  models-told : (ms : List Model) → Each Told (modelRulesAtLines d ms)
-  unfolding modelRulesAtLines stepRulesAtLines
-  models-told [] = none
-  models-told (m ∷ ms) =
-      more (lower-told (record { line = m .line; rules = modelRules d m }) (omega arith, (omega arith, tt)))
-      (each-append (mapped-told _ (step-lower m) (m .steps)) (models-told ms))
+  model-lower : (m : Model) → Lower (modelRules d m)
+  model-lower m = (omega arith, (omega arith, tt))
 
-  maps-told : (ms : List Map) → Each Told (mapRulesAtLines d ms)
-  unfolding mapRulesAtLines pinRulesAtLines
-  maps-told [] = none
-  maps-told (m ∷ ms) =
-      more (lower-told (record { line = m .line; rules = mapNameRules d m }) (omega arith, tt))
-      (each-append (mapped-told _ (pin-lower m) (m .pins)) (maps-told ms))
+  map-lower : (m : Map) → Lower (mapNameRules d m)
+  map-lower m = (omega arith, tt)
 
-  sections-told : (i : ℕ) (ss : List Section) → Each Told (sectionRulesAtLines d i ss)
-  unfolding sectionRulesAtLines
-  sections-told i [] = none
-  sections-told i (s ∷ ss) =
-      more (lower-told (record { line = s .line; rules = sectionRules d i s }) (omega arith, (omega arith, tt))) (sections-told (i + 1) ss)
+  section-lower : (i : ℕ) (s : Section) → Lower (sectionRules d i s)
+  section-lower i s = (omega arith, (omega arith, tt))
 
   sgr-told : (m : Model) → Among m (d .models) → (m .sgr ≡ 0 → ⊥) → Told (record { line = m .sgr; rules = sgrRules m })
   sgr-told m among some found =
       record { model = m; among = among; there = refl; some = some; other = λ (e : m .type ≡ slmGeneral). one-rule _ (not-not-via (eq-eqb _ _ e)) found }
 
-  sgrs-told : {ms : List Model} → Each (λ (m : Model). Among m (d .models)) ms → Each Told (sgrRulesAtLines d ms)
-  unfolding sgrRulesAtLines
-  sgrs-told none = none
-  sgrs-told (more {x = m} h hs) =
-      by-test (Each Told) (eqb (m .sgr) 0) _ _ (λ e. sgrs-told hs)
-      (λ (e : eqb (m .sgr) 0 ≡ false). more (sgr-told m h (eqb-false _ _ e)) (sgrs-told hs))
-
   all-told : Each Told (allRulesAtLines d)
-  unfolding allRulesAtLines listRulesAtLines
   all-told =
-      each-append (mapped-told _ list-lower (d .listed))
-      (each-append (models-told (d .models))
-      (each-append (sgrs-told (each-among (d .models))) (each-append (maps-told (d .maps)) (sections-told 0 (d .sections)))))
+      all-hold d Told (λ (n : Named). lower-told _ (list-lower n)) (λ (m : Model). lower-told _ (model-lower m))
+      (λ (m : Model) (s : Step). lower-told _ (step-lower m s)) sgr-told (λ (m : Map). lower-told _ (map-lower m))
+      (λ (m : Map) (p : Named). lower-told _ (pin-lower m p)) (λ (i : ℕ) (s : Section). lower-told _ (section-lower i s))
 
   pub breaks-wrong : (line : ℕ) → BrokenIn (allRulesAtLines d) refusal.sgr line → WrongSgr d line
   breaks-wrong line b = each-one all-told (b .listed) (b .broken)
