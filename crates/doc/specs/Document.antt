@@ -136,7 +136,7 @@ headIn h (l ∷ ls) = headIn (if standsIn place.head l then headNext (headLineOf
 unfoldable pub saysSgr : Line → Bool
 saysSgr l = both (standsIn place.head l) (eqb (headLineOf (l .content) .says) saysRatio)
 
--- the line of a model's SGR, of which there is at most one; n if none of these lines says it
+-- the line of a model's SGR, of which a second one is 12; n if none of these lines says it
 unfoldable pub sgrIn : ℕ → List Line → ℕ
 sgrIn n [] = n
 sgrIn n (l ∷ ls) = sgrIn (if saysSgr l then l .line else n) ls
