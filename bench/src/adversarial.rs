@@ -5,23 +5,15 @@ use std::fmt::Write;
 use crate::file::{diagonal, File, TEXT_MOST};
 
 pub fn files() -> Vec<(&'static str, Vec<u8>)> {
-    let mut files = vec![
+    vec![
         ("half a million list lines", list(|_| "A\n".to_string())),
         ("different list lines", list(|line| format!("{line:x}\n"))),
         ("1,366 ends in one path, sided", ends()),
         ("16 maps of 256 pins, equal prefixes", pins()),
         ("256 sections by 4,094 steps", sections()),
-    ];
-    files.extend(without_content(TEXT_MOST));
-    files
-}
-
-/// The smallest file, filled up to a length with lines that say nothing.
-pub fn without_content(most: usize) -> [(&'static str, Vec<u8>); 3] {
-    [
-        ("all blank lines", filled("\n", most)),
-        ("all comments, short", filled("|\n", most)),
-        ("all comments, long", filled(&format!("|{}\n", "c".repeat(119)), most)),
+        ("all blank lines", filled("\n")),
+        ("all comments, short", filled("|\n")),
+        ("all comments, long", filled(&format!("|{}\n", "c".repeat(119)))),
     ]
 }
 
@@ -83,8 +75,8 @@ fn sections() -> Vec<u8> {
 }
 
 /// The smallest file, filled with one line over and over.
-fn filled(line: &str, most: usize) -> Vec<u8> {
+fn filled(line: &str) -> Vec<u8> {
     let mut file = File::small();
-    file.filling = line.repeat((most - file.text().len()) / line.len());
+    file.filling = line.repeat((TEXT_MOST - file.text().len()) / line.len());
     file.text()
 }

@@ -1,7 +1,7 @@
-// main.rs: measures the proved intake beside the plain reading of the same paper, in one run and in turns, files with
-// another comment character beside the same files without, and questions that judge their table beside the same ones
-// that do not; prints plain text. Before anything is timed both must answer the same; if not, that is told and the exit
-// status is 1. With `--against THIS OTHER`, two shared libraries, their intakes are measured instead.
+// main.rs: measures the proved intake beside the plain reading of the same paper, in one run and in turns, and questions
+// that judge their table beside the same ones that do not; prints plain text. Before anything is timed both must answer
+// the same; if not, that is told and the exit status is 1. With `--against THIS OTHER`, two shared libraries, their
+// intakes are measured instead.
 mod adversarial;
 mod against;
 mod clock;
@@ -10,7 +10,6 @@ mod kinds;
 mod library;
 mod proved;
 mod questions;
-mod switched;
 
 use std::env;
 use std::hint::black_box;
@@ -83,7 +82,6 @@ fn beside_plain() {
     let whole = speeds();
     growth();
     adversarial(&whole);
-    switched::measure();
     questions::measure();
 }
 

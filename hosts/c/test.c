@@ -67,6 +67,19 @@ static bool reads(const char *text, size_t length, size_t room, uint64_t given, 
         && all(words + used, room - used, 0) && all(words + room, 300 - room, GUARD);
 }
 
+static void check_intake(void)
+{
+    check(skumvari_table_words() >= USED, "a table long enough for every text is long enough for the example");
+    check(reads(example, example_length, USED, 1, 0, 0, USED), "the example fits into 92 words");
+    check(reads(example, example_length, 299, 1, 0, 0, USED), "words past the 92 are zeroed, and none past the table");
+    check(reads(example, example_length, USED - 1, 0, SKUMVARI_NUMBER_ROOM, 0, 0), "91 words are refused 18");
+    check(reads(example, example_length, 0, 0, SKUMVARI_NUMBER_ROOM, 0, 0), "a table of no words is refused 18");
+    check(reads("", 0, 299, 0, SKUMVARI_NUMBER_HEADER, 0, 0), "an empty text is refused 5");
+    check(reads("", 0, 0, 0, SKUMVARI_NUMBER_HEADER, 0, 0), "an empty text with an empty table is refused 5");
+    check(reads("x", 1, 299, 0, SKUMVARI_NUMBER_UNENDED, 1, 0), "a line without an end is refused 4");
+    check(reads(example, example_length - 1, 299, 0, SKUMVARI_NUMBER_UNENDED, 39, 0), "the example without its last byte is refused 4");
+}
+
 /* The example with one line replaced; nothing for it leaves a blank line, so that the others keep their numbers. */
 static const char *edited(int line, const char *replacement)
 {
@@ -76,21 +89,6 @@ static const char *edited(int line, const char *replacement)
         start = strchr(start, '\n') + 1;
     sprintf(text, "%.*s%s%s", (int)(start - example), example, replacement, strchr(start, '\n'));
     return text;
-}
-
-static void check_intake(void)
-{
-    check(skumvari_table_words() >= USED, "a table long enough for every text is long enough for the example");
-    check(reads(example, example_length, USED, 1, 0, 0, USED), "the example fits into 92 words");
-    check(reads(example, example_length, 299, 1, 0, 0, USED), "words past the 92 are zeroed, and none past the table");
-    check(reads(example, example_length, USED - 1, 0, SKUMVARI_NUMBER_ROOM, 0, 0), "91 words are refused 18");
-    check(reads(example, example_length, 0, 0, SKUMVARI_NUMBER_ROOM, 0, 0), "a table of no words is refused 18");
-    const char *switched = edited(22, "Pin_list\n[Comment Char] #_char | x\n# x");
-    check(reads(switched, strlen(switched), 299, 1, 0, 0, USED), "another comment character changes no word used");
-    check(reads("", 0, 299, 0, SKUMVARI_NUMBER_HEADER, 0, 0), "an empty text is refused 5");
-    check(reads("", 0, 0, 0, SKUMVARI_NUMBER_HEADER, 0, 0), "an empty text with an empty table is refused 5");
-    check(reads("x", 1, 299, 0, SKUMVARI_NUMBER_UNENDED, 1, 0), "a line without an end is refused 4");
-    check(reads(example, example_length - 1, 299, 0, SKUMVARI_NUMBER_UNENDED, 39, 0), "the example without its last byte is refused 4");
 }
 
 static void check_refusals(void)
@@ -106,10 +104,8 @@ static void check_refusals(void)
         { 17, "[Foo]", SKUMVARI_NUMBER_UNKNOWN, 17 },
         { 17, "[Frequency] 1", SKUMVARI_NUMBER_LATER, 17 },
         { 3, "", SKUMVARI_NUMBER_PLACE, 5 },
-        { 1, "[Begin Header]\n[Comment Char] #_char", SKUMVARI_NUMBER_PLACE, 2 },
         { 39, "", SKUMVARI_NUMBER_END, 0 },
         { 2, "[ICM Ver] 1.10", SKUMVARI_NUMBER_ARGUMENT, 2 },
-        { 15, "Fork\n[Comment Char] #_char # x", SKUMVARI_NUMBER_ARGUMENT, 16 },
         { 4, "[File Rev] 0.1\nx", SKUMVARI_NUMBER_LINE, 5 },
         { 14, "Section Mult=x S", SKUMVARI_NUMBER_NUMBER, 14 },
         { 14, "Section Mult=0 S", SKUMVARI_NUMBER_RANGE, 14 },

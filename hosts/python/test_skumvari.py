@@ -89,11 +89,6 @@ class Example(unittest.TestCase):
     def test_maps(self):
         self.assertEqual(self.file.maps, [("P", "Un_ordered", 0, 0, ["A1", "A2"]), ("Q", "Un_ordered", 0, 0, ["1", "2"])])
 
-    def test_names_with_a_pipe(self):
-        file = skumvari.reads(example(line22="Pin_list\n[Comment Char] #_char | x", line23="A|1 # x", line24="A|2"))
-        self.assertEqual(file.maps[0].pins, ["A|1", "A|2"])
-        self.assertEqual(file.listing(), LISTING)
-
     def test_sections(self):
         (section,) = self.file.sections
         self.assertEqual((section.name, section.method, section.conductors, section.kinds), ("S", "Lumped", 2, "L"))

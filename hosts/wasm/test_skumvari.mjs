@@ -49,19 +49,6 @@ test("the intake fills a table, and zeroes the words past those used", () => {
     assert.ok(skumvari.tableWords() > USED);
 });
 
-test("names may hold the first comment character where another is in force", () => {
-    const lines = "Pin_list\n[Comment Char] #_char | x\nA|1 # x\nA|2\n";
-    const text = new TextEncoder().encode(TEXT.toString().replace("Pin_list\nA1\nA2\n", lines));
-    const { given, table } = skumvari.intake(text);
-    assert.deepEqual([given, table.length], [true, USED]);
-    // the first pins stand behind a model, six steps and two maps, each part with its count, and the count of the pins
-    const names = [59, 61].map((place) => {
-        const [start, length] = table.subarray(place, place + 2);
-        return new TextDecoder().decode(text.subarray(Number(start), Number(start + length)));
-    });
-    assert.deepEqual(names, ["A|1", "A|2"]);
-});
-
 test("a refused text leaves zeros", () => {
     const cases = [
         [TEXT, USED - 1, 18, 0],
@@ -70,7 +57,6 @@ test("a refused text leaves zeros", () => {
         [new Uint8Array(0), 0, 5, 0],
         [TEXT.subarray(0, -1), 299, 4, 39],
         [edited(35, "1e99 1"), 299, 14, 35],
-        [edited(15, "Fork\n[Comment Char] #_char # x"), 299, 11, 16],
         [edited(16, "Section Mult=1 T"), 299, 23, 16],
         [edited(11, "ICM_model_type MLM\nSGR 3:1"), 299, 29, 12],
         [new Uint8Array(1_048_577).fill(10), 299, 1, 0],

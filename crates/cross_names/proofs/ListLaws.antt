@@ -113,7 +113,7 @@ either_swap false b c = refl
 
 -- the lines from a cursor on
 abbrev from : List ℕ → Cursor → List Line
-from t c = lines_at c.comment t c.line c.at c.place
+from t c = lines_at t c.line c.at c.place
 
 pub record ListLeft (t : List ℕ) (listed : List Bool) (c : Cursor) : Type 0 where
   pub passed : List Line
@@ -296,7 +296,7 @@ module _ (t : List ℕ) (listed : List Bool) (c : Cursor) (left : ListLeft t lis
             },
       )
 
-  module _ (line : Found) (finds : FindsLine c.comment t c.line c.at line) where
+  module _ (line : Found) (finds : FindsLine t c.line c.at line) where
     pub list_ends : not line.there ≡ true → Gives t 0 0 listed
     list_ends h = list_done (ap (gather listed_at) (finds.same_none (not-true line.there h) p) ∙ gather_none listed_at)
 

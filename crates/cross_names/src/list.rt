@@ -134,7 +134,7 @@ pub fn list_finding(text: &[u8], table: &[u64], view: View, start: Cursor) -> Li
     let mut listed = [false; FLAGS];
     let mut cursor = start;
     loop {
-        let line = doc::next_line(text, cursor.at, cursor.line, cursor.comment);
+        let line = doc::next_line(text, cursor.at, cursor.line);
         if !line.there {
             return ListFinding {
                 rule: 0,

@@ -70,10 +70,10 @@ module _ (t table marks : List ℕ) (stamp base width index : ℕ) (marked : Mar
 
   -- the name and the mark that the code has computed
   module _ (own : NameRecord) (here : own ≡ name_record_at table (base + width * index)) (name : List ℕ) (is_name : name ≡ name_at t own.start own.size)
-      (mark : ℕ) (is_mark_lem : mark ≡ hash_of 0 name) where
+      (mark : ℕ) (is_mark : mark ≡ hash_of 0 name) where
     mark_told : mark ≡ own_mark t table (base + width * index)
     unfolding own_mark own_name
-    mark_told = is_mark_lem ∙ ap (hash_of 0) (is_name ∙ ap (λ (r : NameRecord). name_at t r.start r.size) here)
+    mark_told = is_mark ∙ ap (hash_of 0) (is_name ∙ ap (λ (r : NameRecord). name_at t r.start r.size) here)
 
     pub marked_on : MarkedNames t table (set marks mark stamp) stamp base width (index + 1)
     marked_on = next_marked mark mark_told

@@ -21,7 +21,7 @@ use Rattle.cross_rules.specs.Way.Nth.{writes_at, writes_part, nth_line}
 
 -- the loop's invariant: skipping `left` records from position `at` on leads to the same line as skipping `index` records from the start
 pub record CountLeft (t : List ℕ) (part index left : ℕ) (c : Cursor) : Type 0 where
-  pub same : nth_line part left (lines_at c.comment t c.line c.at c.place) ≡ nth_line part index (significant t)
+  pub same : nth_line part left (lines_at t c.line c.at c.place) ≡ nth_line part index (significant t)
   pub within : c.at ≤ length t
   pub counted : c.line ≤ c.at + 1
 
@@ -45,7 +45,7 @@ nth_none : (part i : ℕ) → nth_line part i [] ≡ 0
 unfolding nth_line
 nth_none part i = refl
 
-module _ (t : List ℕ) (part index left : ℕ) (c : Cursor) (inv : CountLeft t part index left c) (line : Found) (finds : FindsLine c.comment t c.line c.at line) where
+module _ (t : List ℕ) (part index left : ℕ) (c : Cursor) (inv : CountLeft t part index left c) (line : Found) (finds : FindsLine t c.line c.at line) where
   abbrev p : ℕ
   p = c.place
 
@@ -56,7 +56,7 @@ module _ (t : List ℕ) (part index left : ℕ) (c : Cursor) (inv : CountLeft t 
     pub found : Located t line
     found = finds.located (not-false line.there there)
 
-    here : lines_at c.comment t c.line c.at p ≡ line_in t line p ∷ lines_behind t line p
+    here : lines_at t c.line c.at p ≡ line_in t line p ∷ lines_behind t line p
     here = finds.same_there (not-false line.there there) p
 
     module _ (writes : Bool) (is_writes : writes ≡ writes_at part p line.key) (last : Bool) (is_last : last ≡ both writes (eqb left 0)) where

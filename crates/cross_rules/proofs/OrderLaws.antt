@@ -293,7 +293,7 @@ laid_numbers (onward end h k lies rest) = rise h (laid_numbers rest)
 
 pub lines_rise : (t : List ℕ) → Rising 1 (numbers (significant t))
 unfolding significant
-lines_rise t = laid_numbers (laid 0 t 1 0 place.before)
+lines_rise t = laid_numbers (laid t 1 0 place.before)
 
 module _ (ls : List Line) (h : Rising 1 (numbers ls)) where
   models_rise : Rising 1 (joined model_lines (gather model_at ls))

@@ -68,7 +68,7 @@ pub fn nth_line(text: &[u8], part: usize, index: u64) -> u64
     let mut left = index;
     let mut cursor = doc::start();
     loop {
-        let line = doc::next_line(text, cursor.at, cursor.line, cursor.comment);
+        let line = doc::next_line(text, cursor.at, cursor.line);
         if !line.there {
             return 0;
         }

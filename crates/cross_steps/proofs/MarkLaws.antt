@@ -140,9 +140,9 @@ module _ (t table : List ℕ) (v : View) (rooms : Rooms table v) (marks : List �
   pub other_marked : (own.kind ≡ end_kind → ⊥) → MarkedEnds t marks o.stamp (range o.from (above + 1) all)
   other_marked n = rw one_more (marked_other t marks o.stamp (range o.from above all) below.marked own n)
 
-  module _ (mark : ℕ) (is_mark_lem : mark ≡ mark_of t own) where
+  module _ (mark : ℕ) (is_mark : mark ≡ mark_of t own) where
     pub end_marked : MarkedEnds t (set marks mark o.stamp) o.stamp (range o.from (above + 1) all)
-    end_marked = rw (is_mark_lem, one_more) (marked_end t marks o.stamp (range o.from above all) below.marked own)
+    end_marked = rw (is_mark, one_more) (marked_end t marks o.stamp (range o.from above all) below.marked own)
 
   pub none_told : (marked : Bool) → marked ≡ is_marked t marks o.stamp own → not marked ≡ true → false ≡ meets_above t own (range o.from above all)
   none_told marked is free = sym (none_above t marks o.stamp own (sym is ∙ not-true marked free) below.marked.each)

@@ -6,8 +6,7 @@ use mathlib.Core.List.{List, [], ◌∷◌, ◌++◌, append_assoc}
 use Prim.Native.Nat.{ℕ, ◌+◌}
 use Rattle.base.specs.If.{if◌then◌else◌}
 use Rattle.base.proofs.IfLaws.{if_true, if_false, by_cases}
-use Rattle.lex_line.specs.Lines.{is_blank_line}
-use Rattle.lex_comment.specs.Comments.{above_header, Said, contents}
+use Rattle.lex_line.specs.Lines.{Said, is_blank_line, contents}
 use Rattle.line_place.specs.Place as place
 use Rattle.doc.specs.Lines.{Line, place_after, lines_from, lines_at, significant, gather, up_to}
 use Rattle.doc.proofs.Goes.{lines_blank, lines_said, lines_none}
@@ -32,7 +31,7 @@ lines_follow n at p (r ∷ rs) =
 
 pub text_follows : (t : List ℕ) → Follow place.before (significant t)
 unfolding significant lines_at
-text_follows t = lines_follow 1 0 place.before (contents above_header t)
+text_follows t = lines_follow 1 0 place.before (contents t)
 
 -- ---- passes
 

@@ -17,7 +17,7 @@ use Rattle.lex_line.specs.declared.Span.{Span}
 use Rattle.lex_line.proofs.WordLaws.{words_none, words_at, word_ordered, word_within, start_on}
 use Rattle.lex_keyword.specs.Bracket.{bracket_of}
 use Rattle.lex_keyword.specs.declared.Bracket.{Bracket}
-use Rattle.lex_keyword.specs.declared.Bracket.TheVariants.{Plain, Indented, Bad, Unknown, Later, Switch, Keyword}
+use Rattle.lex_keyword.specs.declared.Bracket.TheVariants.{Plain, Indented, Bad, Unknown, Later, Keyword}
 use Rattle.lex_keyword.proofs.AnswerLaws.{keyword_known}
 use Rattle.doc.specs.Lines.{argument_in, no_word, first_word, second_word}
 use Rattle.doc.specs.Way.Found.{extent_of, extent_at, content_in, Located}
@@ -90,7 +90,6 @@ argument_in_line content Indented e = omega arith
 argument_in_line content Bad e = omega arith
 argument_in_line content Unknown e = omega arith
 argument_in_line content Later e = omega arith
-argument_in_line content (Switch start) e = omega arith
 argument_in_line content (Keyword k start) e = (keyword_known k start content e).inside
 
 module _ (t : List ℕ) (f : Found) (located : Located t f) where

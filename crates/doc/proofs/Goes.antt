@@ -10,12 +10,11 @@ use lib.Dec.{eqb}
 use borrow.Author.Tests.{eq-eqb, ne_eqb, eqb-true, eqb-false}
 use Rattle.base.specs.If.{if◌then◌else◌, either}
 use Rattle.base.proofs.IfLaws.{if_true, if_false, by_cases}
-use Rattle.lex_line.specs.Lines.{is_blank_line}
-use Rattle.lex_comment.specs.Comments.{above_header, Said, contents}
+use Rattle.lex_line.specs.Lines.{Said, is_blank_line, contents}
 use Rattle.lex_keyword.specs.Names.{begin_header}
 use Rattle.lex_keyword.specs.Bracket.{bracket_of}
 use Rattle.lex_keyword.specs.declared.Bracket.{Bracket}
-use Rattle.lex_keyword.specs.declared.Bracket.TheVariants.{Plain, Indented, Bad, Unknown, Later, Switch, Keyword}
+use Rattle.lex_keyword.specs.declared.Bracket.TheVariants.{Plain, Indented, Bad, Unknown, Later, Keyword}
 use Rattle.lex_keyword.proofs.AnswerLaws.{keyword_known}
 use Rattle.line_place.specs.Place.{moved, moved_by_line, is_text, is_in_model, is_in_family, is_in_header, before, done}
 use Rattle.line_keyword.specs.State.{start_state}
@@ -23,10 +22,9 @@ use Rattle.line_keyword.specs.Keywords.{keyword_next}
 use Rattle.line_keyword.specs.declared.Counts.{Counts}
 use Rattle.line_keyword.specs.declared.State.{State}
 use Rattle.line_keyword.specs.Way.Rule.{keyword_rule}
-use Rattle.read_line.specs.Reading.{line_next, goes, breaks, judged, line_result, onward, read_from, at_end, reading_of}
-use Rattle.lex_line.specs.Words.{argument_from}
+use Rattle.read_line.specs.Reading.{line_next, argument_from, goes, breaks, judged, line_result, onward, read_from, at_end, reading_of}
 use Rattle.read_line.specs.Way.Steps.{line_step, keyword_step, bracket_step, before_step, line_rule}
-use Rattle.read_line.proofs.ResultLaws.{switch_breaks, result_steps, refused_not_read, end_done}
+use Rattle.read_line.proofs.ResultLaws.{result_steps, refused_not_read, end_done}
 use Rattle.read_line.proofs.OutsideLaws.{Met}
 use Rattle.read_line.specs.declared.LineResult.{LineResult}
 use Rattle.read_line.specs.declared.Reading.TheVariants.{Read}
@@ -128,7 +126,6 @@ module _ (l : Line) (s : State) where
   read_moved met Bad b e h = absurd (omega (arith, h))
   read_moved met Unknown b e h = absurd (omega (arith, h))
   read_moved met Later b e h = absurd (omega (arith, h))
-  read_moved met (Switch start) b e h = absurd (omega (arith, h, switch_breaks s))
   read_moved met (Keyword k start) b e h = by_keyword k start b (met k) h e
 
   -- above [Begin Header]
@@ -149,7 +146,6 @@ module _ (l : Line) (s : State) where
   early_moved Bad b p e h = passed_over p (not_header 40 (ap key_in b) (λ (x : 40 ≡ 15). omega arith)) e
   early_moved Unknown b p e h = passed_over p (not_header 40 (ap key_in b) (λ (x : 40 ≡ 15). omega arith)) e
   early_moved Later b p e h = passed_over p (not_header 40 (ap key_in b) (λ (x : 40 ≡ 15). omega arith)) e
-  early_moved (Switch start) b p e h = passed_over p (not_header 40 (ap key_in b) (λ (x : 40 ≡ 15). omega arith)) e
   early_moved (Keyword k start) b p e h =
       by_cases (Moved l s) (eqb k begin_header)
       (λ (t : eqb k begin_header ≡ true). let x : before_step (Keyword k start) l.content s ≡ keyword_step k (argument_from l.content start) s = if_true _ _ t in by_keyword k start b (early_met k (eqb-true _ _ t) p) (ap (λ (y : LineResult). y.rule) (sym x) ∙ h) (e ∙ x))
@@ -277,4 +273,4 @@ run_ends n at (r ∷ rs) s c h =
 -- a text that reads to its end
 pub text_ends : (t : List ℕ) (c : Counts) → reading_of t ≡ Read c → Ends start_state (significant t) c
 unfolding reading_of significant lines_at start_state
-text_ends t c h = run_ends 1 0 (contents above_header t) start_state c h
+text_ends t c h = run_ends 1 0 (contents t) start_state c h

@@ -8,10 +8,10 @@ use native.Mathlib.Omega.{arith}
 use lib.ListN.{length, take, drop}
 use borrow.Author.Tests.{not-false}
 use Rattle.base.proofs.IfLaws.{by_cases}
-use Rattle.lex_line.specs.Lines.{is_blank_line}
-use Rattle.lex_comment.specs.Way.Cut.{cut_at}
+use Rattle.lex_line.specs.Lines.{is_blank_line, comment_byte}
+use Rattle.lex_line.specs.Way.LineEnds.{line_at}
 use Rattle.lex_line.specs.Words.{words, first_of}
-use Rattle.lex_comment.specs.declared.Cut.{Cut}
+use Rattle.lex_line.specs.declared.Line as text
 use Rattle.lex_keyword.specs.Bracket.{bracket_of}
 use Rattle.lex_keyword.specs.declared.Bracket.TheVariants.{Plain}
 use Rattle.line_place.specs.Place as place
@@ -45,16 +45,16 @@ module _ (content : List ℕ) (p : ℕ) where
 
 -- ---- lines one after another
 
-pub idle_starts : (comment : ℕ) (t : List ℕ) (at line p : ℕ) → at ≤ length t → SkipsIdle comment t at line p (record { at = at; line = line; comment = comment })
-idle_starts comment t at line p h =
+pub idle_starts : (t : List ℕ) (at line p : ℕ) → at ≤ length t → SkipsIdle t at line p (record { at = at; line = line })
+idle_starts t at line p h =
     record {
-      resumes = crossed_none comment t at line (λ (s : State). s.place ≡ p) (λ (s : State). s) h (λ (s : State) (f : s.place ≡ p). refl);
+      resumes = crossed_none t at line (λ (s : State). s.place ≡ p) (λ (s : State). s) h (λ (s : State) (f : s.place ≡ p). refl);
       listed = λ e. plainly_none place.list _;
       blank = λ e. refl;
     }
 
-module _ (comment₀ : ℕ) (t : List ℕ) (at line p here number comment : ℕ) (skips : SkipsIdle comment₀ t at line p (record { at = here; line = number; comment = comment })) (h : here < length t)
-    (found : Cut) (told : found ≡ cut_at comment t here) (b : Bool) (is_idle_lem : b ≡ true → IsIdle (take (found.content - here) (drop here t)) p)
+module _ (t : List ℕ) (at line p here number : ℕ) (skips : SkipsIdle t at line p (record { at = here; line = number })) (h : here < length t)
+    (found : text.Line) (told : found ≡ line_at comment_byte t here) (b : Bool) (is_idle_lem : b ≡ true → IsIdle (take (found.content - here) (drop here t)) p)
     (taken : not b ≡ false) where
   abbrev content : List ℕ
   content = take (found.content - here) (drop here t)
@@ -63,18 +63,18 @@ module _ (comment₀ : ℕ) (t : List ℕ) (at line p here number comment : ℕ)
   idle = is_idle_lem (not-false b taken)
 
   abbrev over : ℕ → Type 0
-  over q = Plainly q (lines_at comment t number here q) (lines_at found.comment t (number + 1) found.next q)
+  over q = Plainly q (lines_at t number here q) (lines_at t (number + 1) found.next q)
 
   over_blank : (q : ℕ) → is_blank_line content ≡ true → over q
-  over_blank q b = plainly_same q _ _ _ (plainly_none q _) (pass_over comment t here h number found told b q)
+  over_blank q b = plainly_same q _ _ _ (plainly_none q _) (pass_over t here h number found told b q)
 
   over_listed : is_blank_line content ≡ false → over place.list
   unfolding key_of key_at
   over_listed b =
       let key : key_at content ≡ plain = ap key_in (idle.plain b) in
-      rw (stop_here comment t here h number found told b place.list)
+      rw (stop_here t here h number found told b place.list)
       (plainly_same place.list _ _ _ (plainly_one place.list _ _ (record { place_is = refl; key_is = key }))
-      (ap (lines_at found.comment t (number + 1) found.next) (plain_stays place.list content key (λ (x : place.list ≡ place.map_head). omega arith))))
+      (ap (lines_at t (number + 1) found.next) (plain_stays place.list content key (λ (x : place.list ≡ place.map_head). omega arith))))
 
   -- elsewhere than in the list only blank lines are skipped
   only_blank : (p ≡ place.list → ⊥) → is_blank_line content ≡ true
@@ -82,14 +82,14 @@ module _ (comment₀ : ℕ) (t : List ℕ) (at line p here number comment : ℕ)
       by_cases _ (is_blank_line content) (λ (e : is_blank_line content ≡ true). e)
       (λ (e : is_blank_line content ≡ false). absurd (away (idle.listed e)))
 
-  pub idle_on : SkipsIdle comment₀ t at line p (record { at = found.next; line = number + 1; comment = found.comment })
+  pub idle_on : SkipsIdle t at line p (record { at = found.next; line = number + 1 })
   idle_on =
       record {
         resumes =
-            crossed_on comment₀ t at line (λ (s : State). s.place ≡ p) (λ (s : State). s) 0 comment here number refl skips.resumes h found told
+            crossed_on t at line (λ (s : State). s.place ≡ p) (λ (s : State). s) 0 here number refl skips.resumes h found told
             (λ (s : State). s) 0 (quiet_decides content p (idle_quiet content p idle)) refl;
         listed =
             λ (e : p ≡ place.list).
             plainly_join place.list _ _ _ (skips.listed e) (by_cases (over place.list) (is_blank_line content) (over_blank place.list) over_listed);
-        blank = λ (e : p ≡ place.list → ⊥). skips.blank e ∙ pass_over comment t here h number found told (only_blank e) p;
+        blank = λ (e : p ≡ place.list → ⊥). skips.blank e ∙ pass_over t here h number found told (only_blank e) p;
       }

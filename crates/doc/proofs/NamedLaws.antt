@@ -30,9 +30,8 @@ use Rattle.base.proofs.IfLaws.{
 }
 use Rattle.base.proofs.RunLaws.{run_nil, run_cons, run_stops, run_le, all_nil, all_cons}
 use Rattle.base.proofs.BrokenLaws.{all_kept, lists_yes, lists_no}
-use Rattle.lex_line.specs.Lines.{lines, content_of, is_blank_line, Raw}
-use Rattle.lex_comment.specs.Comments.{in_force, uncut, names_comment, switch_size, content_under, takes_effect, comment_after, spoken, said, contents_from, contents}
-use Rattle.lex_line.specs.Words.{Word, word_goes_on, grown, words_from, words, first_of, last_end, to_equals, right_of, argument_from}
+use Rattle.lex_line.specs.Lines.{lines, content_of, is_blank_line, comment_byte, contents, Raw, said}
+use Rattle.lex_line.specs.Words.{Word, word_goes_on, grown, words_from, words, first_of, last_end, to_equals, right_of}
 use Rattle.lex_line.specs.ByteRules.{size_rules, most_characters, without_return, characters, refused_or, lines_rule, byte_rules, raw_line_rule as raw_rule}
 use Rattle.lex_line.specs.declared.Checked.{Checked}
 use Rattle.lex_line.specs.declared.Span.{Span}
@@ -54,7 +53,7 @@ use Rattle.line_keyword.specs.Keywords.{is_fork_open, is_misplaced, is_shape_bro
 use Rattle.line_keyword.specs.declared.State.{State}
 use Rattle.line_keyword.specs.declared.Counts.{Counts}
 use Rattle.line_keyword.specs.Way.Rule.{keyword_rule}
-use Rattle.read_line.specs.Reading.{reading_of}
+use Rattle.read_line.specs.Reading.{argument_from, reading_of}
 use Rattle.read_line.specs.declared.Reading.TheVariants.{Read}
 use Rattle.read_line.proofs.ResultLaws.{rule_path}
 use Rattle.read_line.specs.Way.Steps.{line_rule}
@@ -132,50 +131,32 @@ module _ (k n : ℕ) (later : Checked) (h : refused_or k n later ≡ Fine) where
   unfolding refused_or
   judged_later = sym (if_true later (Refused k n) (eq-eqb k 0 judged_zero)) ∙ h
 
-under_few : (comment : ℕ) (r : Raw) → length (content_under comment r.bytes) ≤ length (characters r)
-unfolding content_under uncut
-under_few comment r =
-    by_test (λ (s : List ℕ). length s ≤ length (characters r)) (names_comment (uncut r.bytes)) _ _
-    (λ (e : names_comment (uncut r.bytes) ≡ true).
-    let f : length (content_of 13 r.bytes) ≤ length (characters r) = content_few 13 r in
-    rw (length-take (switch_size (in_force comment) (content_of 13 r.bytes)) (content_of 13 r.bytes)) (omega arith))
-    (λ (e : names_comment (uncut r.bytes) ≡ false). content_few (in_force comment) r)
-
-said_few : (comment : ℕ) (r : Raw) → length (said comment r).content ≤ length (characters r)
-unfolding said spoken
-said_few comment r =
-    by_test (λ (s : List ℕ). length s ≤ length (characters r)) (takes_effect comment (content_under comment r.bytes)) _ _
-    (λ (e : takes_effect comment (content_under comment r.bytes) ≡ true). omega arith)
-    (λ (e : takes_effect comment (content_under comment r.bytes) ≡ false). under_few comment r)
-
-line_short : (comment : ℕ) (r : Raw) → raw_rule r ≡ 0 → length (said comment r).content ≤ most_characters
-unfolding raw_rule
-line_short comment r h =
+line_short : (r : Raw) → raw_rule r ≡ 0 → length (said r).content ≤ most_characters
+unfolding raw_rule said
+line_short r h =
     let f : ltb most_characters (length (characters r)) ≡ false =
     all_kept
     (2 when not (all is_printed (characters r)) ∷ 3 when ltb most_characters (length (characters r)) ∷ 4 when not r.ended ∷ [])
     (omega arith, (omega arith, (omega arith, tt))) h 1 in
-    le_trans (said_few comment r) (ltb-false _ _ f)
+    le_trans (content_few comment_byte r) (ltb-false _ _ f)
 
 abbrev Short : Line → Type 0
 Short l = length l.content ≤ most_characters
 
-lines_short : (comment n at p m : ℕ) (rs : List Raw) → lines_rule m rs ≡ Fine → Each Short (lines_from n at p (contents_from comment rs))
-unfolding lines_rule contents_from
-lines_short comment n at p m [] h = rw (lines_none n at p) none
-lines_short comment n at p m (r ∷ rs) h =
+lines_short : (n at p m : ℕ) (rs : List Raw) → lines_rule m rs ≡ Fine → Each Short (lines_from n at p (map said rs))
+unfolding lines_rule
+lines_short n at p m [] h = rw (lines_none n at p) none
+lines_short n at p m (r ∷ rs) h =
     let z : raw_rule r ≡ 0 = judged_zero (raw_rule r) m (lines_rule (m + 1) rs) h in
     let later : lines_rule (m + 1) rs ≡ Fine = judged_later (raw_rule r) m (lines_rule (m + 1) rs) h in
-    let comment' : ℕ = comment_after comment (content_under comment r.bytes) in
-    by_cases (Each Short (lines_from n at p (contents_from comment (r ∷ rs)))) (is_blank_line (said comment r).content)
-    (λ (b : is_blank_line (said comment r).content ≡ true).
-    rw (lines_blank n at p (said comment r) (contents_from comment' rs) b) (lines_short comment' (n + 1) _ p (m + 1) rs later))
-    (λ (b : is_blank_line (said comment r).content ≡ false).
-    rw (lines_said n at p (said comment r) (contents_from comment' rs) b) (more (line_short comment r z) (lines_short comment' (n + 1) _ _ (m + 1) rs later)))
+    by_cases (Each Short (lines_from n at p (map said (r ∷ rs)))) (is_blank_line (said r).content)
+    (λ (b : is_blank_line (said r).content ≡ true). rw (lines_blank n at p (said r) (map said rs) b) (lines_short (n + 1) _ p (m + 1) rs later))
+    (λ (b : is_blank_line (said r).content ≡ false).
+    rw (lines_said n at p (said r) (map said rs) b) (more (line_short r z) (lines_short (n + 1) _ _ (m + 1) rs later)))
 
 text_short : (t : List ℕ) → byte_rules t ≡ Fine → Each Short (significant t)
 unfolding byte_rules significant lines_at contents
-text_short t h = lines_short 0 1 0 0 1 (lines t) (judged_later (first_broken (size_rules t)) 0 (lines_rule 1 (lines t)) h)
+text_short t h = lines_short 1 0 0 1 (lines t) (judged_later (first_broken (size_rules t)) 0 (lines_rule 1 (lines t)) h)
 
 -- ---- words and their bytes
 

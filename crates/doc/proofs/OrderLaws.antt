@@ -76,7 +76,7 @@ pub record Sorted (before : List Line) (l : Line) (after : List Line) : Type 0 w
 pub lines_sorted : (t : List ℕ) (before after : List Line) (l : Line) → significant t ≡ before ++ (l ∷ after) → Sorted before l after
 unfolding significant
 lines_sorted t before after l e =
-    let h : Laid t 1 0 (before ++ (l ∷ after)) = rw e at (laid 0 t 1 0 place.before) in
+    let h : Laid t 1 0 (before ++ (l ∷ after)) = rw e at (laid t 1 0 place.before) in
     record { earlier = laid_before before after l h; later = laid_after before after l h }
 
 -- ---- maps below a line

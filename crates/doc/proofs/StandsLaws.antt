@@ -17,17 +17,17 @@ use Rattle.base.specs.Runs.{run}
 use Rattle.base.specs.Way.Class.{run_end}
 use Rattle.base.proofs.IfLaws.{by_cases, by_test}
 use Rattle.base.proofs.RunLaws.{run_wider}
-use Rattle.lex_line.specs.Lines.{is_blank_line}
-use Rattle.lex_line.specs.Way.LineEnds.{past_feed}
-use Rattle.lex_comment.specs.Way.Cut.{cut_at, content_at}
-use Rattle.lex_comment.specs.declared.Cut.{Cut}
-use Rattle.lex_line.specs.Words.{Word, words_from, last_end, to_equals, argument_from}
+use Rattle.lex_line.specs.Lines.{is_blank_line, comment_byte}
+use Rattle.lex_line.specs.Way.LineEnds.{past_feed, line_at, content_at}
+use Rattle.lex_line.specs.declared.Line as text
+use Rattle.lex_line.specs.Words.{Word, words_from, last_end, to_equals}
 use Rattle.lex_line.specs.Way.Spans.{word_span}
-use Rattle.lex_comment.proofs.CutLaws.{take_back, cut_first}
+use Rattle.lex_line.proofs.LineLaws.{content_before_feed}
 use Rattle.lex_line.proofs.WordLaws.{words_none, words_at, end_past, start_on}
 use Rattle.lex_keyword.specs.Bracket.{bracket_of}
 use Rattle.line_place.specs.Place as place
 use Rattle.line_path.specs.Path as path
+use Rattle.read_line.specs.Reading.{argument_from}
 use Rattle.doc.specs.Lines.{
   Line,
   lines_at,
@@ -111,6 +111,9 @@ each_up {P} inside (more {x = l} {xs = ls} h hs) =
     (λ (e : inside l ≡ false). none)
 
 -- ---- parts of what is in the text
+
+take_back : (n : ℕ) (s : List ℕ) → take (length (take n s)) s ≡ take n s
+take_back n s = ap (take (length (take n s))) (sym (take-append-drop n s)) ∙ take-append_seam (take n s) (drop n s)
 
 module _ (t : List ℕ) (a : ℕ) (s : List ℕ) (h : Stands t (record { start = a; text = s })) where
   abbrev rest : List ℕ
@@ -212,52 +215,62 @@ pub laid_wider : {t : List ℕ} {ls : List Line} (m n a b : ℕ) → m ≤ n →
 laid_wider m n a b h k ended = ended
 laid_wider m n a b h k (onward end u v lies rest) = onward end (le_trans h u) (le_trans k v) lies rest
 
-module _ (comment : ℕ) (t : List ℕ) (n at p : ℕ) (h : at < length t) where
-  abbrev ends : Cut
-  ends = cut_at comment t at
+-- the content of a line ends before its LF
+content_first : (t : List ℕ) (at : ℕ) → (line_at comment_byte t at).content ≤ (line_at comment_byte t at).next
+unfolding line_at past_feed
+content_first t at =
+    let w : run (is_content comment_byte) (drop at t) ≤ run (is_before line_feed) (drop at t) =
+    run_wider (is_content comment_byte) (is_before line_feed) (content_before_feed comment_byte) (drop at t) in
+    by_test (λ (n : ℕ). run_end (is_content comment_byte) t at ≤ n) (ltb (run_end (is_before line_feed) t at) (length t)) _ _
+    (λ (e : ltb (run_end (is_before line_feed) t at) (length t) ≡ true). omega arith)
+    (λ (e : ltb (run_end (is_before line_feed) t at) (length t) ≡ false). omega arith)
+
+module _ (t : List ℕ) (n at p : ℕ) (h : at < length t) where
+  abbrev ends : text.Line
+  ends = line_at comment_byte t at
 
   abbrev content : List ℕ
-  content = content_at comment t at
+  content = content_at t at
 
   line_lies : Lies t (record { line = n; at = at; place = p; content = content }) ends.next
   line_lies =
-      let o : at ≤ ends.content = content_ordered comment t at h n ends refl in
-      let i : ends.content ≤ length t = content_inside comment t at h n ends refl in
-      let f : ends.content ≤ ends.next = cut_first comment t at h in
+      let o : at ≤ ends.content = content_ordered t at h n ends refl in
+      let i : ends.content ≤ length t = content_inside t at h n ends refl in
+      let f : ends.content ≤ ends.next = content_first t at in
       let d : length (drop at t) ≡ length t - at = length-drop at t in
       let c : length content ≡ ends.content - at = length-take-le (ends.content - at) (drop at t) (omega arith) in
       record {
         stands = record { inside = omega arith; bytes = ap (λ (k : ℕ). take k (drop at t)) c };
         ends = omega arith;
-        further = next_further comment t at h n ends refl;
+        further = next_further t at h n ends refl;
       }
 
   -- by the lines from the next one on
-  line_laid : ((m q : ℕ) → Laid t m ends.next (lines_at ends.comment t m ends.next q)) → Laid t n at (lines_at comment t n at p)
+  line_laid : ((m q : ℕ) → Laid t m ends.next (lines_at t m ends.next q)) → Laid t n at (lines_at t n at p)
   line_laid later =
-      by_cases (Laid t n at (lines_at comment t n at p)) (is_blank_line content)
+      by_cases (Laid t n at (lines_at t n at p)) (is_blank_line content)
       (λ (b : is_blank_line content ≡ true).
-      let f : at < ends.next = next_further comment t at h n ends refl in
-      rw (pass_over comment t at h n ends refl b p) (laid_wider n (n + 1) at ends.next (omega arith) (omega arith) (later (n + 1) p)))
+      let f : at < ends.next = next_further t at h n ends refl in
+      rw (pass_over t at h n ends refl b p) (laid_wider n (n + 1) at ends.next (omega arith) (omega arith) (later (n + 1) p)))
       (λ (b : is_blank_line content ≡ false).
-      rw (stop_here comment t at h n ends refl b p) (onward ends.next (le_refl n) (le_refl at) line_lies (later (n + 1) _)))
+      rw (stop_here t at h n ends refl b p) (onward ends.next (le_refl n) (le_refl at) line_lies (later (n + 1) _)))
 
-laid_end : (comment : ℕ) (t : List ℕ) (n at p : ℕ) → length t ≤ at → Laid t n at (lines_at comment t n at p)
-laid_end comment t n at p h = rw (nothing_left comment t n at p h) ended
+laid_end : (t : List ℕ) (n at p : ℕ) → length t ≤ at → Laid t n at (lines_at t n at p)
+laid_end t n at p h = rw (nothing_left t n at p h) ended
 
-laid_from : (k comment : ℕ) (t : List ℕ) (at : ℕ) → length t - at ≤ k → (n p : ℕ) → Laid t n at (lines_at comment t n at p)
-laid_from zero comment t at h n p = laid_end comment t n at p (omega arith)
-laid_from (suc k) comment t at h n p =
-    by_cases (Laid t n at (lines_at comment t n at p)) (ltb at (length t))
+laid_from : (k : ℕ) (t : List ℕ) (at : ℕ) → length t - at ≤ k → (n p : ℕ) → Laid t n at (lines_at t n at p)
+laid_from zero t at h n p = laid_end t n at p (omega arith)
+laid_from (suc k) t at h n p =
+    by_cases (Laid t n at (lines_at t n at p)) (ltb at (length t))
     (λ (e : ltb at (length t) ≡ true).
     let l : at < length t = ltb-true _ _ e in
-    let f : at < (cut_at comment t at).next = next_further comment t at l n (cut_at comment t at) refl in
-    line_laid comment t n at p l (laid_from k (cut_at comment t at).comment t (cut_at comment t at).next (omega arith)))
-    (λ (e : ltb at (length t) ≡ false). laid_end comment t n at p (ltb-false _ _ e))
+    let f : at < (line_at comment_byte t at).next = next_further t at l n (line_at comment_byte t at) refl in
+    line_laid t n at p l (laid_from k t (line_at comment_byte t at).next (omega arith)))
+    (λ (e : ltb at (length t) ≡ false). laid_end t n at p (ltb-false _ _ e))
 
 -- the lines from any offset of any text on
-pub laid : (comment : ℕ) (t : List ℕ) (n at p : ℕ) → Laid t n at (lines_at comment t n at p)
-laid comment t n at p = laid_from (length t - at) comment t at (omega arith) n p
+pub laid : (t : List ℕ) (n at p : ℕ) → Laid t n at (lines_at t n at p)
+laid t n at p = laid_from (length t - at) t at (omega arith) n p
 
 laid_stand : {t : List ℕ} {n at : ℕ} {ls : List Line} → Laid t n at ls → Each (LineStands t) ls
 laid_stand ended = none
@@ -265,7 +278,7 @@ laid_stand (onward end u v lies rest) = more lies.stands (laid_stand rest)
 
 pub lines_stand : (t : List ℕ) → Each (LineStands t) (significant t)
 unfolding significant
-lines_stand t = laid_stand (laid 0 t 1 0 place.before)
+lines_stand t = laid_stand (laid t 1 0 place.before)
 
 -- ---- every word of the document is in the text at its offset
 

@@ -3,14 +3,14 @@
 -- Assumes nothing.
 use Rattle.std.specs.Prelude.{ℕ, ◌+◌, Bool, List, [], ◌∷◌, ◌++◌, drop, eqb}
 use Rattle.base.specs.If.{if◌then◌else◌, both}
-use Rattle.lex_line.specs.Lines.{is_blank_line}
-use Rattle.lex_comment.specs.Comments.{above_header, Said, contents}
-use Rattle.lex_line.specs.Words.{Word, words_from, words, first_of, to_equals, argument_from}
+use Rattle.lex_line.specs.Lines.{Said, is_blank_line, contents}
+use Rattle.lex_line.specs.Words.{Word, words_from, words, first_of, to_equals}
 use Rattle.lex_keyword.specs.Names.{unknown}
 use Rattle.lex_keyword.specs.Bracket.{bracket_of}
 use Rattle.lex_keyword.specs.declared.Bracket.{Bracket}
-use Rattle.lex_keyword.specs.declared.Bracket.TheVariants.{Plain, Indented, Bad, Unknown, Later, Switch, Keyword}
+use Rattle.lex_keyword.specs.declared.Bracket.TheVariants.{Plain, Indented, Bad, Unknown, Later, Keyword}
 use Rattle.line_place.specs.Place.{moved, moved_by_line, before}
+use Rattle.read_line.specs.Reading.{argument_from}
 
 pub record Line : Type 0 where
   pub line : ℕ
@@ -29,7 +29,6 @@ key_in Indented = plain
 key_in Bad = unknown
 key_in Unknown = unknown
 key_in Later = unknown
-key_in (Switch start) = unknown
 key_in (Keyword k start) = k
 
 -- where the argument of a keyword starts
@@ -39,7 +38,6 @@ argument_in Indented = 0
 argument_in Bad = 0
 argument_in Unknown = 0
 argument_in Later = 0
-argument_in (Switch start) = 0
 argument_in (Keyword k start) = start
 
 unfoldable pub key_at : List ℕ → ℕ
@@ -60,12 +58,12 @@ lines_from n at p (r ∷ rs) =
     record { line = n; at = at; place = p; content = r.content }
     ∷ lines_from (n + 1) (at + r.size + 1) (place_after p r.content) rs
 
--- the significant lines of a text from offset `at` on, where this comment character is in force
-unfoldable pub lines_at : ℕ → List ℕ → ℕ → ℕ → ℕ → List Line
-lines_at comment t n at p = lines_from n at p (contents comment (drop at t))
+-- the significant lines of a text from offset `at` on
+unfoldable pub lines_at : List ℕ → ℕ → ℕ → ℕ → List Line
+lines_at t n at p = lines_from n at p (contents (drop at t))
 
 unfoldable pub significant : List ℕ → List Line
-significant t = lines_at above_header t 1 0 before
+significant t = lines_at t 1 0 before
 
 -- ---- what a line says
 

@@ -18,37 +18,32 @@ fn is_idle(content: &[u8], place: u64) -> bool
 }
 
 // Skips lines that change nothing. Of the state only the place is needed.
-pub fn skip_idle(text: &[u8], at: usize, line: u64, comment: u8, place: u64) -> Passing
+pub fn skip_idle(text: &[u8], at: usize, line: u64, place: u64) -> Passing
     requires { (at ≤ length text.now) × (line ≤ at + 1) }
-    ensures { SkipsIdle comment text.now at line place result }
+    ensures { SkipsIdle text.now at line place result }
 {
     let mut here = at;
     let mut line_here = line;
-    let mut comment_here = comment;
     while here < text.len() {
-        if !read_line::fast::may_be_idle(text, here, comment_here, place) {
+        if !read_line::fast::may_be_idle(text, here, place) {
             return Passing {
                 at: here,
                 line: line_here,
-                comment: comment_here,
             };
         }
-        let found = lex_comment::cut_at(text, here, comment_here);
+        let found = lex_line::line_at(text, here, lex_line::COMMENT);
         let content = found.content;
         if !is_idle(&text[here..content], place) {
             return Passing {
                 at: here,
                 line: line_here,
-                comment: comment_here,
             };
         }
         here = found.next;
         line_here += 1;
-        comment_here = found.comment;
     }
     Passing {
         at: here,
         line: line_here,
-        comment: comment_here,
     }
 }

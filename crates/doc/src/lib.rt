@@ -14,8 +14,7 @@ pub mod idle;
 pub const PLAIN: u64 = 41;
 
 // A significant line, if there is one: which line it is, the offsets where it starts, where its content ends and where
-// the next line starts, the comment character in force there, its keyword, and where in the line the keyword's argument
-// starts.
+// the next line starts, its keyword, and where in the line the keyword's argument starts.
 #[derive(Drop)]
 pub struct Found {
     pub there: bool,
@@ -23,18 +22,15 @@ pub struct Found {
     pub at: usize,
     pub end: usize,
     pub next: usize,
-    pub comment: u8,
     pub key: u64,
     pub argument: usize,
 }
 
-// Where a walk over the lines goes on: the offset and the number of the next line, the comment character in force there,
-// and the place in which the line is read.
+// Where a walk over the lines goes on: the offset and the number of the next line, and the place in which it is read.
 #[derive(Drop)]
 pub struct Cursor {
     pub at: usize,
     pub line: u64,
-    pub comment: u8,
     pub place: u64,
 }
 
@@ -55,7 +51,6 @@ pub fn key_in(bracket: Bracket) -> u64
         Bracket::Bad => lex_keyword::UNKNOWN,
         Bracket::Unknown => lex_keyword::UNKNOWN,
         Bracket::Later => lex_keyword::UNKNOWN,
-        Bracket::Switch(_start) => lex_keyword::UNKNOWN,
         Bracket::Keyword(key, _start) => key,
     }
 }
@@ -70,22 +65,19 @@ pub fn argument_in(bracket: Bracket) -> usize
         Bracket::Bad => 0,
         Bracket::Unknown => 0,
         Bracket::Later => 0,
-        Bracket::Switch(_start) => 0,
         Bracket::Keyword(_key, start) => start,
     }
 }
 
-// The first significant line from offset `at` on, where this comment character is in force: blank lines, comments and
-// every [Comment Char] that takes effect are skipped.
-pub fn next_line(text: &[u8], at: usize, line: u64, comment: u8) -> Found
+// The first significant line from offset `at` on: blank lines and comments are skipped.
+pub fn next_line(text: &[u8], at: usize, line: u64) -> Found
     requires { (at ≤ length text.now) × (line ≤ at + 1) }
-    ensures { FindsLine comment text.now line at result }
+    ensures { FindsLine text.now line at result }
 {
     let mut here = at;
     let mut line_here = line;
-    let mut comment_here = comment;
     while here < text.len() {
-        let ends = lex_comment::cut_at(text, here, comment_here);
+        let ends = lex_line::line_at(text, here, lex_line::COMMENT);
         let end = ends.content;
         if !read_line::is_blank_line(&text[here..end]) {
             let bracket = lex_keyword::read_bracket(&text[here..end]);
@@ -95,14 +87,12 @@ pub fn next_line(text: &[u8], at: usize, line: u64, comment: u8) -> Found
                 at: here,
                 end,
                 next: ends.next,
-                comment: ends.comment,
                 key: key_in(bracket),
                 argument: argument_in(bracket),
             };
         }
         here = ends.next;
         line_here += 1;
-        comment_here = ends.comment;
     }
     Found {
         there: false,
@@ -110,7 +100,6 @@ pub fn next_line(text: &[u8], at: usize, line: u64, comment: u8) -> Found
         at: here,
         end: here,
         next: here,
-        comment: comment_here,
         key: PLAIN,
         argument: 0,
     }
@@ -140,7 +129,6 @@ pub fn start() -> Cursor
     Cursor {
         at: 0,
         line: 1,
-        comment: lex_comment::ABOVE_HEADER,
         place: line_place::BEFORE,
     }
 }
@@ -153,7 +141,6 @@ pub fn past(text: &[u8], cursor: Cursor, line: Found) -> Cursor
     Cursor {
         at: line.next,
         line: line.line + 1,
-        comment: line.comment,
         place: place_after(cursor.place, text, line),
     }
 }

@@ -9,8 +9,8 @@ use lib.ListN.{length, drop}
 use lib.Dec.{ltb}
 use borrow.Author.Tests.{eq-eqb, ne_eqb, ltb-true, ltb-false}
 use Rattle.base.proofs.IfLaws.{if_true, if_false, by_cases}
-use Rattle.lex_comment.specs.Comments.{contents}
-use Rattle.lex_comment.proofs.CutLaws.{contents_none}
+use Rattle.lex_line.specs.Lines.{contents}
+use Rattle.lex_line.proofs.LineLaws.{contents_none}
 use Rattle.line_place.specs.Place as place
 use Rattle.line_keyword.specs.Way.Bounded.{NoneYet}
 use Rattle.line_keyword.specs.declared.Counts.{Counts}
@@ -30,18 +30,18 @@ use Rattle.read_sections.specs.Way.Sections.{SectionsStaged}
 -- ---- behind the family
 
 module _ (t : List ℕ) (w : Walk) (whole : w.rule ≡ 0) (same : resume t w ≡ reading_of t) where
-  from_walk : read_from w.line (contents w.comment (drop w.at t)) w.state ≡ reading_of t
+  from_walk : read_from w.line (contents (drop w.at t)) w.state ≡ reading_of t
   unfolding resume
   from_walk = sym (if_true _ _ (eq-eqb _ _ whole)) ∙ same
 
-  pub rest_read : (r : Reading) → r ≡ read_from w.line (contents w.comment (drop w.at t)) w.state → r ≡ reading_of t
+  pub rest_read : (r : Reading) → r ≡ read_from w.line (contents (drop w.at t)) w.state → r ≡ reading_of t
   rest_read r e = e ∙ from_walk
 
   -- the text ends within the family
   module _ (away : w.state.place ≡ place.after → ⊥) (r : Reading) (is : r ≡ at_end w.state) where
-    at_the_end : length t ≤ w.at → read_from w.line (contents w.comment (drop w.at t)) w.state ≡ at_end w.state
+    at_the_end : length t ≤ w.at → read_from w.line (contents (drop w.at t)) w.state ≡ at_end w.state
     unfolding read_from
-    at_the_end h = rw (contents_none w.comment t w.at h)
+    at_the_end h = rw (contents_none t w.at h)
 
     pub rest_ends : (w.at < length t → w.state.place ≡ place.after) → r ≡ reading_of t
     rest_ends there =
@@ -68,11 +68,11 @@ module _ (t : List ℕ) (w : Walk) (c : Cursor) (models steps maps pins : List �
     family_none there = (family.staged whole there).none_yet
 
     pub all_staged :
-        (table sections matrices : List ℕ) → (w.state.place ≡ place.after) × SectionsStaged w.comment t w.line w.at table sections matrices →
+        (table sections matrices : List ℕ) → (w.state.place ≡ place.after) × SectionsStaged t w.line w.at table sections matrices →
         ListsFrom t c × StagedText t table models steps maps pins sections matrices
     all_staged table sections matrices (there, rest) =
-        let own : FamilyStaged w.comment t w.line w.at w.state models steps maps pins = family.staged whole there in
-        let is : gather section_at (lines_at w.comment t w.line w.at place.after) ≡ (document_of t).sections = own.sections in (
+        let own : FamilyStaged t w.line w.at w.state models steps maps pins = family.staged whole there in
+        let is : gather section_at (lines_at t w.line w.at place.after) ≡ (document_of t).sections = own.sections in (
           family.lists whole,
           record {
             models_are = own.models;

@@ -39,12 +39,12 @@ fn read_rest(
     sections: &mut [u64],
     matrices: &mut [u64],
 ) -> Reading
-    requires { (walk.rule ≡ 0) × (resume text.now walk ≡ reading_of text.now) × Onward walk.comment text.now walk.at walk.line walk.state
+    requires { (walk.rule ≡ 0) × (resume text.now walk ≡ reading_of text.now) × Onward text.now walk.at walk.line walk.state
         × (walk.at < length text.now → walk.state.place ≡ place.after) × (walk.state.place ≤ place.after)
         × (walk.state.place ≡ place.after → NoneYet walk.state.counts) }
     ensures { (result ≡ reading_of text.now)
         × ((c : Counts) → result ≡ Read c → (walk.state.place ≡ place.after)
-        × SectionsStaged walk.comment text.now walk.line walk.at table.new sections.new matrices.new) }
+        × SectionsStaged text.now walk.line walk.at table.new sections.new matrices.new) }
 {
     let state = walk.state;
     if state.place != line_place::AFTER {

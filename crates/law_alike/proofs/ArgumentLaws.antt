@@ -18,7 +18,7 @@ use Rattle.base.specs.Runs.{run, all, same}
 use Rattle.base.proofs.IfLaws.{if_true, if_false, by_test, by_cases, both_true, both_first, both_second, either_left, either_right, either_rest, either_false}
 use Rattle.base.proofs.RunLaws.{run_goes, run_stops, run_nil, run_append, run_end_at, all_nil, all_cons, same_equal}
 use Rattle.table_layout.specs.Codes.{matrix_forms, section_methods}
-use Rattle.lex_line.specs.Words.{word_goes_on, words, first_of, back_run, last_end, argument_from}
+use Rattle.lex_line.specs.Words.{word_goes_on, words, first_of, back_run, last_end}
 use Rattle.lex_line.proofs.WordLaws.{back_grows, back_ends}
 use Rattle.lex_keyword.specs.Names.{date, icm_ver, file_name, derivation_method, is_later, keyword_of, unknown}
 use Rattle.lex_keyword.specs.Bracket.{bracket_of, is_open, is_not_closing, is_good_name, name_length, name_of, is_closed, is_good_bracket, argument_at, named_as}
@@ -27,6 +27,7 @@ use Rattle.lex_keyword.specs.declared.Bracket.TheVariants.{Bad, Unknown, Later, 
 use Rattle.lex_keyword.proofs.AnswerLaws.{Known, key_most, keyword_known}
 use Rattle.line_place.specs.Place.{opens_matrix, is_row_or_bandwidth, opens_header_text}
 use Rattle.line_argument.specs.Argument.{is_one_word, is_name, is_file_byte, is_extension, is_file_name, form_of, method_of, takes_nothing, takes_free_text, takes_name, is_bad_form, is_bad_argument}
+use Rattle.read_line.specs.Reading.{argument_from}
 use Rattle.doc.specs.Lines.{plain, key_in, argument_in, key_at}
 use Rattle.law_alike.specs.Alike.{takes_text, argument_text}
 use Rattle.law_alike.proofs.SidesLaws.{grow, bare, filled, words_bare, bare_blank, bare_last, bare_on}

@@ -8,8 +8,7 @@ use lib.Dec.{eqb}
 use borrow.Author.Tests.{eq-eqb, ne_eqb, eqb-true}
 use Rattle.base.specs.If.{either}
 use Rattle.base.proofs.IfLaws.{if_true, if_false, by_cases, both_true, both_not_right, either_left, either_right, either_rest}
-use Rattle.lex_line.specs.Lines.{is_blank_line}
-use Rattle.lex_comment.specs.Comments.{Said, contents}
+use Rattle.lex_line.specs.Lines.{Said, is_blank_line, contents}
 use Rattle.lex_keyword.specs.Names.{row, bandwidth}
 use Rattle.line_place.specs.Place.{before, moved, moved_by_line, is_in_model, is_in_family, is_in_header, opens_matrix, is_row_or_bandwidth, leads_in_matrix, leads_in_section}
 use Rattle.line_place.specs.Place as place

@@ -14,7 +14,7 @@ use Rattle.base.specs.Bytes.{space, tab, is_blank, is_before, is_content, line_f
 use Rattle.base.specs.Runs.{all}
 use Rattle.base.proofs.IfLaws.{if_true, if_false, by_cases, both_true, both_first, both_second, both_not_left, either_rest}
 use Rattle.base.proofs.RunLaws.{run_goes, run_stops, run_nil, all_nil, all_cons}
-use Rattle.lex_line.specs.Lines.{content_of, is_blank_line}
+use Rattle.lex_line.specs.Lines.{content_of, comment_byte, is_blank_line}
 use Rattle.lex_keyword.specs.Bracket.{bracket_of, is_open, is_not_closing, argument_at}
 use Rattle.lex_keyword.specs.declared.Bracket.TheVariants.{Keyword}
 use Rattle.line_place.specs.Place.{before}

@@ -9,7 +9,7 @@ use lib.ListN.{length, drop, length-append}
 use lib.Dec.{eqb}
 use Rattle.base.specs.If.{both, either}
 use Rattle.base.proofs.IfLaws.{by_cases}
-use Rattle.lex_comment.specs.Comments.{above_header, contents}
+use Rattle.lex_line.specs.Lines.{contents}
 use Rattle.lex_line.specs.Words.{words, left_of, right_of}
 use Rattle.lex_keyword.specs.Names.{begin_header}
 use Rattle.line_place.specs.Place.{before}
@@ -26,7 +26,7 @@ use Rattle.law_alike.proofs.WideLaws.{contents_self, texts_alike}
 
 -- every text is alike with itself
 pub alike_self : (t : List ℕ) → Alike t t
-alike_self t = texts_alike t t (contents_self before (contents above_header t))
+alike_self t = texts_alike t t (contents_self before (contents t))
 
 pub saying_back : (p : ℕ) (a b : List ℕ) → SameSaying p a b → SameSaying p b a
 saying_back p a b (same_words e f w) = same_words f e (sym w)

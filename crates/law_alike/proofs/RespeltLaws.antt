@@ -15,19 +15,17 @@ use Rattle.base.specs.Bytes.{line_feed, is_blank, is_before, is_content}
 use Rattle.base.specs.Runs.{run, all}
 use Rattle.base.proofs.IfLaws.{if_true, if_false, by_cases, both_true, both_first, both_second, both_not_left, both_rest, either_left, either_right, not_via}
 use Rattle.base.proofs.RunLaws.{run_stops, all_nil, all_cons}
-use Rattle.lex_line.specs.Lines.{is_blank_line}
-use Rattle.lex_comment.specs.Comments.{Said, contents}
+use Rattle.lex_line.specs.Lines.{comment_byte, Said, is_blank_line, contents}
 use Rattle.lex_keyword.specs.Names.{begin_header}
 use Rattle.lex_keyword.specs.Bracket.{bracket_of, is_open, is_not_closing, argument_at}
 use Rattle.lex_keyword.specs.declared.Bracket.{Bracket}
-use Rattle.lex_keyword.specs.declared.Bracket.TheVariants.{Plain, Indented, Bad, Unknown, Later, Switch, Keyword}
+use Rattle.lex_keyword.specs.declared.Bracket.TheVariants.{Plain, Indented, Bad, Unknown, Later, Keyword}
 use Rattle.line_place.specs.Place.{before, done}
 use Rattle.line_argument.specs.Argument.{is_bad_argument}
 use Rattle.line_keyword.specs.State.{start_state}
 use Rattle.line_keyword.specs.declared.Counts.{Counts}
 use Rattle.line_keyword.specs.declared.State.{State}
-use Rattle.read_line.specs.Reading.{goes, breaks, judged, line_result, onward, read_from, reading_of}
-use Rattle.lex_line.specs.Words.{argument_from}
+use Rattle.read_line.specs.Reading.{argument_from, goes, breaks, judged, line_result, onward, read_from, reading_of}
 use Rattle.read_line.specs.Way.Steps.{keyword_step, bracket_step, before_step}
 use Rattle.read_line.specs.declared.LineResult.{LineResult}
 use Rattle.read_line.specs.declared.Reading.TheVariants.{Read}

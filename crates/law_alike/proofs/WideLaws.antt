@@ -14,8 +14,7 @@ use Rattle.base.specs.If.{if◌then◌else◌, both, either}
 use Rattle.base.specs.Bytes.{bytes, is_blank, line_feed, is_before, is_filled, is_content}
 use Rattle.base.specs.Runs.{run, all}
 use Rattle.base.proofs.IfLaws.{if_true, if_false, by_test, by_cases, both_first, both_second, either_rest}
-use Rattle.lex_line.specs.Lines.{Raw, pushed, lines, content_of, is_blank_line}
-use Rattle.lex_comment.specs.Comments.{above_header, Said, said, contents}
+use Rattle.lex_line.specs.Lines.{Raw, pushed, lines, content_of, comment_byte, Said, said, contents, is_blank_line}
 use Rattle.lex_line.specs.Words.{word_goes_on, words, first_of, to_equals, has_equals, left_of, right_of}
 use Rattle.lex_keyword.specs.Names.{begin_header}
 use Rattle.line_place.specs.Place.{before, moved, moved_by_line, is_in_model, is_in_family, is_in_header}
@@ -168,7 +167,7 @@ contents_alike {p} (block {r = r} {q = q} {rs = rs} {qs = qs} bs cs e f numbers 
     (contents_alike more_lines (n + 1 + length bs) (at + r.size + 1 + size_of bs) (m + 1 + length cs) (to + q.size + 1 + size_of cs))))
 
 -- texts whose lines say the same are alike
-pub texts_alike : (t u : List ℕ) → SameContents before (contents above_header t) (contents u) → Alike t u
+pub texts_alike : (t u : List ℕ) → SameContents before (contents t) (contents u) → Alike t u
 unfolding significant lines_at
 texts_alike t u s = contents_alike s 1 0 1 0
 

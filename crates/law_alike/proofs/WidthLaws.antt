@@ -37,8 +37,8 @@ unfolding is_unread either both
 unread_above c n = ap not (ne_eqb _ _ n)
 
 -- "Lines before [Begin Header] .. are read only for 2, 3, 4"
-pub above_header_lem : (a b : List ℕ) → (key_at a ≡ begin_header → ⊥) → (key_at b ≡ begin_header → ⊥) → SameSaying place.before a b
-above_header_lem a b e f = same_unread (unread_above a e) (unread_above b f)
+pub above_header : (a b : List ℕ) → (key_at a ≡ begin_header → ⊥) → (key_at b ≡ begin_header → ⊥) → SameSaying place.before a b
+above_header a b e f = same_unread (unread_above a e) (unread_above b f)
 
 -- "Lines .. after [End] are read only for 2, 3, 4"
 pub below_end : (a b : List ℕ) → SameSaying place.done a b

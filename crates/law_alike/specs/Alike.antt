@@ -5,12 +5,13 @@ use Rattle.std.specs.Prelude.{ℕ, ◌≤◌, ◌≡◌, Bool, true, not, List, 
 use Rattle.base.specs.If.{both, either}
 use Rattle.base.specs.Bytes.{bytes}
 use Rattle.base.specs.Runs.{same}
-use Rattle.lex_line.specs.Words.{words, first_of, has_equals, left_of, right_of, argument_from}
+use Rattle.lex_line.specs.Words.{words, first_of, has_equals, left_of, right_of}
 use Rattle.lex_keyword.specs.Names.{begin_header, file_rev, date, redistribution, begin_icm_family, manufacturer, icm_family_description, icm_model_description}
 use Rattle.lex_keyword.specs.Bracket.{bracket_of}
 use Rattle.line_place.specs.Place.{opens_header_text}
 use Rattle.line_place.specs.Place as place
 use Rattle.line_argument.specs.Argument.{form_of}
+use Rattle.read_line.specs.Reading.{argument_from}
 use Rattle.doc.specs.Lines.{Line, plain, key_at, argument_in, key_of, argument_of, significant, up_to}
 use Rattle.doc.specs.Document.{opens_matrix_at, in_matrix, conductors_in}
 use Rattle.law_alike.specs.Written.{written_at}

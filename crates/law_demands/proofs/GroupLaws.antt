@@ -11,16 +11,15 @@ use Rattle.base.specs.If.{if◌then◌else◌, both}
 use Rattle.base.specs.Broken.{Rule, ◌when◌, first_broken}
 use Rattle.base.specs.Refusal as refusal
 use Rattle.base.proofs.IfLaws.{if_true, if_false, by_cases, by_test}
-use Rattle.lex_line.specs.Lines.{Raw, is_blank_line}
-use Rattle.lex_comment.specs.Comments.{Said}
-use Rattle.lex_line.specs.Words.{words, first_of, argument_from}
+use Rattle.lex_line.specs.Lines.{Raw, is_blank_line, Said}
+use Rattle.lex_line.specs.Words.{words, first_of}
 use Rattle.lex_line.specs.ByteRules.{character_rules, raw_line_rule, lines_rule, refused_or, size_rules}
 use Rattle.lex_line.specs.declared.Checked.{Checked}
 use Rattle.lex_line.specs.declared.Checked.TheVariants as bytes
 use Rattle.lex_keyword.specs.Names.{begin_header}
 use Rattle.lex_keyword.specs.Bracket.{bracket_of}
 use Rattle.lex_keyword.specs.declared.Bracket.{Bracket}
-use Rattle.lex_keyword.specs.declared.Bracket.TheVariants.{Plain, Indented, Bad, Unknown, Later, Switch, Keyword}
+use Rattle.lex_keyword.specs.declared.Bracket.TheVariants.{Plain, Indented, Bad, Unknown, Later, Keyword}
 use Rattle.line_place.specs.Place.{is_text, before, done}
 use Rattle.line_place.specs.Place as place
 use Rattle.line_argument.specs.Argument.{is_reserved}
@@ -39,7 +38,7 @@ use Rattle.line_matrix.specs.declared.Matrix.{Matrix}
 use Rattle.line_keyword.specs.Keywords.{keyword_rules}
 use Rattle.line_keyword.specs.declared.Counts.{Counts}
 use Rattle.line_keyword.specs.declared.State.{State}
-use Rattle.read_line.specs.Reading.{line_rules, switch_rules, RulesAndNext, bracket_rules_and_next, before_rules_and_next, rules_and_next, goes, breaks, judged, line_result, end_of_text_rules, at_end, onward, read_from}
+use Rattle.read_line.specs.Reading.{line_rules, RulesAndNext, bracket_rules_and_next, before_rules_and_next, rules_and_next, goes, breaks, judged, line_result, end_of_text_rules, at_end, onward, read_from, argument_from}
 use Rattle.read_line.specs.declared.LineResult.{LineResult}
 use Rattle.read_line.specs.declared.Reading.{Reading}
 use Rattle.read_line.specs.declared.Reading.TheVariants.{Read, Refused}
@@ -123,10 +122,6 @@ keyword_ranked k argument s =
       ascends = (omega arith, (omega arith, (omega arith, (omega arith, (omega arith, (omega arith, (omega arith, tt)))))));
     }
 
-switch_ranked : (argument : List ℕ) (s : State) → Ranked forward (switch_rules argument s)
-unfolding rank if◌then◌else◌ both
-switch_ranked argument s = record { numbered = (omega arith, (omega arith, tt)); ascends = (omega arith, (omega arith, tt)) }
-
 end_ranked : (s : State) → Ranked forward (end_of_text_rules s)
 unfolding rank if◌then◌else◌ both
 end_ranked s = record { numbered = (omega arith, (omega arith, tt)); ascends = (omega arith, (omega arith, tt)) }
@@ -160,7 +155,6 @@ brackets_ranked Indented content s = by_test LineRanked (is_text s.place) _ _ (�
 brackets_ranked Bad content s = bracket_ranked refusal.keyword (omega arith) true
 brackets_ranked Unknown content s = bracket_ranked refusal.unknown (omega arith) true
 brackets_ranked Later content s = bracket_ranked refusal.later (omega arith) true
-brackets_ranked (Switch start) content s = switch_ranked (argument_from content start) s
 brackets_ranked (Keyword k start) content s = keyword_ranked k (argument_from content start) s
 
 before_ranked : (b : Bracket) (content : List ℕ) (s : State) → LineRanked (before_rules_and_next b content s)
@@ -169,7 +163,6 @@ before_ranked Indented content s = none_ranked forward
 before_ranked Bad content s = none_ranked forward
 before_ranked Unknown content s = none_ranked forward
 before_ranked Later content s = none_ranked forward
-before_ranked (Switch start) content s = none_ranked forward
 before_ranked (Keyword k start) content s = by_test LineRanked (eqb k begin_header) _ _ (λ e. keyword_ranked k (argument_from content start) s) (λ e. none_ranked forward)
 
 rules_ranked : (content : List ℕ) (s : State) → Ranked forward (rules_on content s)

@@ -14,8 +14,7 @@ use Rattle.base.specs.Broken.{◌when◌, first_broken}
 use Rattle.base.specs.Refusal as refusal
 use Rattle.base.proofs.BrokenLaws.{first_broken_lem, first_kept}
 use Rattle.base.proofs.IfLaws.{if_true, if_false, by_cases}
-use Rattle.lex_line.specs.Lines.{lines}
-use Rattle.lex_comment.specs.Comments.{above_header, contents}
+use Rattle.lex_line.specs.Lines.{lines, contents}
 use Rattle.lex_line.specs.ByteRules.{most_bytes, lines_rule, size_rules}
 use Rattle.lex_line.specs.declared.Checked.{Checked}
 use Rattle.lex_line.specs.declared.Checked.TheVariants as bytes
@@ -73,7 +72,7 @@ told_refused number line _ (refused_at _ _ n) = record { nonzero = n; is = refl 
 
 -- ---- each group
 
-read_run_lem : (t : List ℕ) {answer : Reading} → reading_of t ≡ answer → read_from 1 (contents above_header t) start_state ≡ answer
+read_run_lem : (t : List ℕ) {answer : Reading} → reading_of t ≡ answer → read_from 1 (contents t) start_state ≡ answer
 unfolding reading_of
 read_run_lem t e = e
 
@@ -92,7 +91,7 @@ module _ (t : List ℕ) (size : ℕ) where
   unfolding group if◌then◌else◌
   character_group = refl
 
-  forward_group : group t size 3 ≡ forward_rules_at_lines 1 (contents above_header t) start_state
+  forward_group : group t size 3 ≡ forward_rules_at_lines 1 (contents t) start_state
   unfolding group if◌then◌else◌
   forward_group = refl
 
@@ -189,15 +188,15 @@ module _ (t : List ℕ) (size : ℕ) where
   -- ---- 5 to 17
 
   abbrev given3 : Given
-  given3 = given_by (forward_rules_at_lines 1 (contents above_header t) start_state)
+  given3 = given_by (forward_rules_at_lines 1 (contents t) start_state)
 
   forward_kept : (c : Counts) → reading_of t ≡ reading.Read c → Kept 3
-  forward_kept c e = group_kept 3 (forward_rules_at_lines 1 (contents above_header t) start_state) forward_group (forward_ranked 1 (contents above_header t) start_state) (told_read c given3 (rw (read_run_lem t e) at (forward_told 1 (contents above_header t) start_state)))
+  forward_kept c e = group_kept 3 (forward_rules_at_lines 1 (contents t) start_state) forward_group (forward_ranked 1 (contents t) start_state) (told_read c given3 (rw (read_run_lem t e) at (forward_told 1 (contents t) start_state)))
 
   forward_found : (number line : ℕ) → reading_of t ≡ reading.Refused number line → Found 3 (group t size 3) number line
   forward_found number line e =
-      let told : Refuses number line given3 = told_refused number line given3 (rw (read_run_lem t e) at (forward_told 1 (contents above_header t) start_state)) in
-      group_found 3 (forward_rules_at_lines 1 (contents above_header t) start_state) forward_group (forward_ranked 1 (contents above_header t) start_state) (forward_ordered 1 (contents above_header t) start_state (omega arith)) number line told.nonzero told.is
+      let told : Refuses number line given3 = told_refused number line given3 (rw (read_run_lem t e) at (forward_told 1 (contents t) start_state)) in
+      group_found 3 (forward_rules_at_lines 1 (contents t) start_state) forward_group (forward_ranked 1 (contents t) start_state) (forward_ordered 1 (contents t) start_state (omega arith)) number line told.nonzero told.is
 
   -- ---- 19 to 29
 

@@ -9,8 +9,7 @@ use Rattle.std.specs.Prelude.{ℕ, ◌+◌, ◌*◌, ◌≤◌, ◌<◌, List, [
 use Rattle.base.specs.If.{if◌then◌else◌, both}
 use Rattle.base.specs.Broken.{Rule, first_broken}
 use Rattle.base.specs.Refusal as refusal
-use Rattle.lex_line.specs.Lines.{Raw, lines}
-use Rattle.lex_comment.specs.Comments.{above_header, Said, contents}
+use Rattle.lex_line.specs.Lines.{Raw, lines, Said, contents}
 use Rattle.lex_line.specs.ByteRules.{size_rules, character_rules}
 use Rattle.line_keyword.specs.State.{start_state}
 use Rattle.line_keyword.specs.declared.State.{State}
@@ -50,7 +49,7 @@ unfoldable pub group : List ℕ → ℕ → ℕ → List RulesAtLine
 group t size g =
     if eqb g 1 then record { line = 0; rules = size_rules t } ∷ [] else
     if eqb g 2 then character_rules_at_lines 1 (lines t) else
-    if eqb g forward then forward_rules_at_lines 1 (contents above_header t) start_state else
+    if eqb g forward then forward_rules_at_lines 1 (contents t) start_state else
     if eqb g 4 then record { line = 0; rules = room_rules t size } ∷ [] else
     if eqb g 5 then all_rules_at_lines (document_of t) else []
 

@@ -11,8 +11,7 @@ use borrow.Author.Tests.{eqb-true, eqb-false}
 use Rattle.table_record.specs.Records.{parts_of, records_in, records_of}
 use Rattle.base.proofs.IfLaws.{by_cases}
 use Rattle.base.specs.Bytes.{bytes}
-use Rattle.lex_line.specs.Lines.{is_blank_line}
-use Rattle.lex_comment.specs.Comments.{Said, contents}
+use Rattle.lex_line.specs.Lines.{Said, contents, is_blank_line}
 use Rattle.line_place.specs.Place.{before}
 use Rattle.line_place.specs.Place as place
 use Rattle.intake.specs.Verdict.{accepted_with, verdict_of}

@@ -1,24 +1,23 @@
 -- What callers may conclude from a `Bracket`, and that no two keywords have the same number.
 -- Assumes nothing.
-use mathlib.Core.Path.{◌≡◌, refl, sym, ◌∙◌, ap, subst}
+use mathlib.Core.Path.{◌≡◌, refl, sym, ◌∙◌, ap}
 use mathlib.Core.Bool.{Bool, true, false, not, true≢false}
 use mathlib.Core.List.{List, [], ◌∷◌, map}
-use Prim.Native.Nat.{ℕ, zero, suc, ◌+◌, ◌≤◌, ◌<◌, zero-le, suc-le-suc}
-use native.Mathlib.Nat.{not-suc-le-zero}
+use Prim.Native.Nat.{ℕ, suc, ◌+◌, ◌≤◌, ◌<◌, zero-le, suc-le-suc}
 use native.Mathlib.Omega.{arith}
-use lib.ListN.{length, drop, get_or, length-drop}
+use lib.ListN.{length, drop, length-drop}
 use lib.Dec.{eqb, ltb}
-use borrow.Author.Tests.{eqb-true, eqb-false, ltb-true, ltb-false, not-true, not-false}
+use borrow.Author.Tests.{eqb-false, ltb-true, ltb-false, not-true, not-false}
 use Rattle.base.specs.If.{if◌then◌else◌, both}
 use Rattle.base.specs.Bytes.{is_blank, small, is_capital, within}
 use Rattle.base.specs.Runs.{run, same}
 use Rattle.base.proofs.IfLaws.{if_true, by_test, both_first, not_via}
 use Rattle.base.proofs.RunLaws.{run_le}
-use Rattle.lex_keyword.specs.Names.{folded, same_name, names, name_index, keyword_of, is_later, unknown, comment_char}
+use Rattle.lex_keyword.specs.Names.{folded, same_name, names, name_index, keyword_of, is_later, unknown}
 use Rattle.lex_keyword.specs.Bracket.{name_length, name_of, is_closed, is_good_bracket, argument_at, named_as, bracket_of}
 use Rattle.lex_keyword.specs.Way.Reading.{opens_line}
 use Rattle.lex_keyword.specs.declared.Bracket.{Bracket}
-use Rattle.lex_keyword.specs.declared.Bracket.TheVariants.{Plain, Indented, Bad, Unknown, Later, Switch, Keyword}
+use Rattle.lex_keyword.specs.declared.Bracket.TheVariants.{Plain, Indented, Bad, Unknown, Later, Keyword}
 
 place_le : (a : List ℕ) (ns : List (List ℕ)) → name_index a ns ≤ length ns
 unfolding name_index
@@ -51,7 +50,6 @@ argument_past content = omega arith
 pub record Known (content : List ℕ) (key argument : ℕ) : Type 0 where
   pub known : key < unknown
   pub now_read : is_later key ≡ false
-  pub no_switch : eqb key comment_char ≡ false
   pub past : 2 ≤ argument
   pub inside : argument ≤ length content
   pub named : key ≡ keyword_of (name_of content)
@@ -66,7 +64,6 @@ is_keyword Indented = false
 is_keyword Bad = false
 is_keyword Unknown = false
 is_keyword Later = false
-is_keyword (Switch argument) = false
 is_keyword (Keyword key argument) = true
 
 abbrev is_plain : Bracket → Bool
@@ -75,7 +72,6 @@ is_plain Indented = false
 is_plain Bad = false
 is_plain Unknown = false
 is_plain Later = false
-is_plain (Switch argument) = false
 is_plain (Keyword key argument) = false
 
 -- two answers with different results of a test are not equal
@@ -87,37 +83,30 @@ module _ (key argument : ℕ) where
   other : (r : Bracket) (P : Type 0) → is_keyword r ≡ false → r ≡ Keyword key argument → P
   other r P = never is_keyword r (Keyword key argument) P refl
 
-  abbrev Parts : ℕ → ℕ → Type 0
-  Parts k a = (eqb k unknown ≡ false) × (is_later k ≡ false) × (eqb k comment_char ≡ false) × (key ≡ k) × (argument ≡ a)
-
-  named_known : (k a : ℕ) → named_as k a ≡ Keyword key argument → Parts k a
+  named_known : (k a : ℕ) → named_as k a ≡ Keyword key argument → (eqb k unknown ≡ false) × (is_later k ≡ false) × (key ≡ k) × (argument ≡ a)
   unfolding named_as
   named_known k a =
-      by_test (λ (r : Bracket). r ≡ Keyword key argument → Parts k a) (eqb k unknown) _ _
+      by_test (λ (r : Bracket). r ≡ Keyword key argument → (eqb k unknown ≡ false) × (is_later k ≡ false) × (key ≡ k) × (argument ≡ a)) (eqb k unknown) _ _
       (λ (e : eqb k unknown ≡ true). other Unknown _ refl)
       (λ (e : eqb k unknown ≡ false).
-      by_test (λ (r : Bracket). r ≡ Keyword key argument → Parts k a) (is_later k) _ _
+      by_test (λ (r : Bracket). r ≡ Keyword key argument → (eqb k unknown ≡ false) × (is_later k ≡ false) × (key ≡ k) × (argument ≡ a)) (is_later k) _ _
       (λ (f : is_later k ≡ true). other Later _ refl)
-      (λ (f : is_later k ≡ false).
-      by_test (λ (r : Bracket). r ≡ Keyword key argument → Parts k a) (eqb k comment_char) _ _
-      (λ (g : eqb k comment_char ≡ true). other (Switch a) _ refl)
-      (λ (g : eqb k comment_char ≡ false) (h : Keyword k a ≡ Keyword key argument). (e, f, g, (cc), (cc)))))
+      (λ (f : is_later k ≡ false) (h : Keyword k a ≡ Keyword key argument). (e, f, (cc), (cc))))
 
   module _ (content : List ℕ) where
     answer_known : not (opens_line content) ≡ false → ltb 0 (run is_blank content) ≡ false → not (is_good_bracket content) ≡ false → named_as (keyword_of (name_of content)) (argument_at content) ≡ Keyword key argument → Known content key argument
     answer_known opens column good h =
-        let parts : Parts (keyword_of (name_of content)) (argument_at content) = named_known (keyword_of (name_of content)) (argument_at content) h in
+        let parts : (eqb (keyword_of (name_of content)) unknown ≡ false) × (is_later (keyword_of (name_of content)) ≡ false) × (key ≡ keyword_of (name_of content)) × (argument ≡ argument_at content) = named_known (keyword_of (name_of content)) (argument_at content) h in
         let other_key : keyword_of (name_of content) ≡ unknown → ⊥ = eqb-false (keyword_of (name_of content)) unknown parts.0 in
         let blanks : run is_blank content ≤ 0 = ltb-false 0 (run is_blank content) column in
         let most : argument_at content ≤ length content = argument_inside content (not-false (is_good_bracket content) good) in
         record {
-          known = omega (arith, parts.3, key_most (name_of content), other_key);
-          now_read = rw parts.3 parts.1;
-          no_switch = rw parts.3 parts.2;
-          past = omega (arith, parts.4, argument_past content);
-          inside = omega (arith, parts.4);
-          named = parts.3;
-          placed = parts.4;
+          known = omega (arith, parts.2, key_most (name_of content), other_key);
+          now_read = rw parts.2 parts.1;
+          past = omega (arith, parts.3, argument_past content);
+          inside = omega (arith, parts.3);
+          named = parts.2;
+          placed = parts.3;
           good = not-false (is_good_bracket content) good;
           opened = not-false (opens_line content) opens;
           first_column = omega arith;
@@ -137,69 +126,6 @@ module _ (key argument : ℕ) where
         (λ (e : not (is_good_bracket content) ≡ true). other Bad _ refl)
         (λ (good : not (is_good_bracket content) ≡ false). answer_known opens column good)))
 
--- what is known if the answer is [Comment Char]
-pub record KnownSwitch (content : List ℕ) (argument : ℕ) : Type 0 where
-  pub named : keyword_of (name_of content) ≡ comment_char
-  pub inside : argument ≤ length content
-  pub placed : argument ≡ argument_at content
-  pub opened : opens_line content ≡ true
-  pub first_column : run is_blank content ≡ 0
-
-abbrev is_switch : Bracket → Bool
-is_switch Plain = false
-is_switch Indented = false
-is_switch Bad = false
-is_switch Unknown = false
-is_switch Later = false
-is_switch (Switch argument) = true
-is_switch (Keyword key argument) = false
-
-module _ (argument : ℕ) where
-  -- an answer that is no [Comment Char] is not this one
-  no_switch_here : (r : Bracket) (P : Type 0) → is_switch r ≡ false → r ≡ Switch argument → P
-  no_switch_here r P = never is_switch r (Switch argument) P refl
-
-  named_switched : (k a : ℕ) → named_as k a ≡ Switch argument → (k ≡ comment_char) × (argument ≡ a)
-  unfolding named_as
-  named_switched k a =
-      by_test (λ (r : Bracket). r ≡ Switch argument → (k ≡ comment_char) × (argument ≡ a)) (eqb k unknown) _ _
-      (λ (e : eqb k unknown ≡ true). no_switch_here Unknown _ refl)
-      (λ (e : eqb k unknown ≡ false).
-      by_test (λ (r : Bracket). r ≡ Switch argument → (k ≡ comment_char) × (argument ≡ a)) (is_later k) _ _
-      (λ (f : is_later k ≡ true). no_switch_here Later _ refl)
-      (λ (f : is_later k ≡ false).
-      by_test (λ (r : Bracket). r ≡ Switch argument → (k ≡ comment_char) × (argument ≡ a)) (eqb k comment_char) _ _
-      (λ (g : eqb k comment_char ≡ true) (h : Switch a ≡ Switch argument). (eqb-true k comment_char g, (cc)))
-      (λ (g : eqb k comment_char ≡ false). no_switch_here (Keyword k a) _ refl)))
-
-  module _ (content : List ℕ) where
-    answer_switched : not (opens_line content) ≡ false → ltb 0 (run is_blank content) ≡ false → not (is_good_bracket content) ≡ false → named_as (keyword_of (name_of content)) (argument_at content) ≡ Switch argument → KnownSwitch content argument
-    answer_switched opens column good h =
-        let parts : (keyword_of (name_of content) ≡ comment_char) × (argument ≡ argument_at content) = named_switched (keyword_of (name_of content)) (argument_at content) h in
-        let blanks : run is_blank content ≤ 0 = ltb-false 0 (run is_blank content) column in
-        let most : argument_at content ≤ length content = argument_inside content (not-false (is_good_bracket content) good) in
-        record {
-          named = parts.0;
-          inside = omega (arith, parts.1);
-          placed = parts.1;
-          opened = not-false (opens_line content) opens;
-          first_column = omega arith;
-        }
-
-    -- all that follows from the answer `Switch`
-    pub switch_known : bracket_of content ≡ Switch argument → KnownSwitch content argument
-    unfolding bracket_of opens_line
-    switch_known =
-        by_test (λ (r : Bracket). r ≡ Switch argument → KnownSwitch content argument) (not (opens_line content)) _ _
-        (λ (e : not (opens_line content) ≡ true). no_switch_here Plain _ refl)
-        (λ (opens : not (opens_line content) ≡ false).
-        by_test (λ (r : Bracket). r ≡ Switch argument → KnownSwitch content argument) (ltb 0 (run is_blank content)) _ _
-        (λ (e : ltb 0 (run is_blank content) ≡ true). no_switch_here Indented _ refl)
-        (λ (column : ltb 0 (run is_blank content) ≡ false).
-        by_test (λ (r : Bracket). r ≡ Switch argument → KnownSwitch content argument) (not (is_good_bracket content)) _ _
-        (λ (e : not (is_good_bracket content) ≡ true). no_switch_here Bad _ refl)
-        (λ (good : not (is_good_bracket content) ≡ false). answer_switched opens column good)))
-
 -- `Plain` exactly when the first byte that is not blank is no `[`
 module _ (content : List ℕ) where
   pub plain_when : opens_line content ≡ false → bracket_of content ≡ Plain
@@ -217,10 +143,7 @@ module _ (content : List ℕ) where
       (λ (e : eqb k unknown ≡ false).
       by_test (λ (r : Bracket). r ≡ Plain → opens_line content ≡ false) (is_later k) _ _
       (λ (f : is_later k ≡ true). not_plain Later refl)
-      (λ (f : is_later k ≡ false).
-      by_test (λ (r : Bracket). r ≡ Plain → opens_line content ≡ false) (eqb k comment_char) _ _
-      (λ (g : eqb k comment_char ≡ true). not_plain (Switch a) refl)
-      (λ (g : eqb k comment_char ≡ false). not_plain (Keyword k a) refl)))
+      (λ (f : is_later k ≡ false). not_plain (Keyword k a) refl))
 
   pub plain_only : bracket_of content ≡ Plain → opens_line content ≡ false
   unfolding bracket_of opens_line
@@ -239,18 +162,3 @@ module _ (content : List ℕ) where
 pub each_name : map keyword_of names ≡ 0 ∷ 1 ∷ 2 ∷ 3 ∷ 4 ∷ 5 ∷ 6 ∷ 7 ∷ 8 ∷ 9 ∷ 10 ∷ 11 ∷ 12 ∷ 13 ∷ 14 ∷ 15 ∷ 16 ∷ 17 ∷ 18 ∷ 19 ∷ 20 ∷ 21 ∷ 22 ∷ 23 ∷ 24 ∷ 25 ∷ 26 ∷ 27 ∷ 28 ∷ 29 ∷ 30 ∷ 31 ∷ 32 ∷ 33 ∷ 34 ∷ 35 ∷ 36 ∷ 37 ∷ 38 ∷ 39 ∷ []
 unfolding keyword_of name_index same_name same folded if◌then◌else◌ both small is_capital within
 each_name = refl
-
--- and so a name with a keyword's number is that keyword's name, as names are compared
-index_same : (a : List ℕ) (ns : List (List ℕ)) (i : ℕ) → name_index a ns ≡ i → i < length ns → same_name a (get_or ns i []) ≡ true
-unfolding name_index
-index_same a [] i = λ e h. absurd (not-suc-le-zero h)
-index_same a (n ∷ ns) i =
-    by_test (λ (k : ℕ). k ≡ i → i < length (n ∷ ns) → same_name a (get_or (n ∷ ns) i []) ≡ true) (same_name a n) _ _
-    (λ (e : same_name a n ≡ true) (z : zero ≡ i) (h : i < length (n ∷ ns)). subst (λ (k : ℕ). same_name a (get_or (n ∷ ns) k []) ≡ true) z e)
-    (λ (e : same_name a n ≡ false) (z : suc (name_index a ns) ≡ i) (h : i < length (n ∷ ns)).
-    subst (λ (k : ℕ). same_name a (get_or (n ∷ ns) k []) ≡ true) z
-    (index_same a ns (name_index a ns) refl (omega arith)))
-
-pub key_name : (name : List ℕ) (k : ℕ) → keyword_of name ≡ k → k < unknown → same_name name (get_or names k []) ≡ true
-unfolding keyword_of
-key_name name k e h = index_same name names k e h

@@ -18,7 +18,7 @@ use Rattle.lex_keyword.specs.Names.{keyword_of, is_later}
 use Rattle.lex_keyword.specs.Bracket.{is_open, is_not_closing, is_good_name, parted, are_good_words, name_length, name_of, is_closed, is_good_bracket, argument_at, named_as, bracket_of}
 use Rattle.lex_keyword.specs.Way.Reading.{closes_at, says_name}
 use Rattle.lex_keyword.specs.declared.Bracket.{Bracket}
-use Rattle.lex_keyword.specs.declared.Bracket.TheVariants.{Plain, Indented, Bad, Unknown, Later, Switch, Keyword}
+use Rattle.lex_keyword.specs.declared.Bracket.TheVariants.{Plain, Indented, Bad, Unknown, Later, Keyword}
 
 -- t says whether the first byte of a name is a letter
 module _ (name : List ℕ) (b : ℕ) (t : Bool) (there : b ≡ get_or name 0 0) (told : t ≡ is_letter b) where
@@ -40,13 +40,9 @@ module _ (key argument : ℕ) (t : Bool) (h : key ≡ 40 → ⊥) (told : t ≡ 
   unfolding named_as
   named_later e = sym (if_false _ _ (ne_eqb key 40 h) ∙ if_true _ _ (sym told ∙ e))
 
-  pub named_switch : t ≡ false → key ≡ 17 → Switch argument ≡ named_as key argument
+  pub named_keyword : t ≡ false → Keyword key argument ≡ named_as key argument
   unfolding named_as
-  named_switch e k = sym (if_false _ _ (ne_eqb key 40 h) ∙ if_false _ _ (sym told ∙ e) ∙ if_true _ _ (eq-eqb key 17 k))
-
-  pub named_keyword : t ≡ false → (key ≡ 17 → ⊥) → Keyword key argument ≡ named_as key argument
-  unfolding named_as
-  named_keyword e k = sym (if_false _ _ (ne_eqb key 40 h) ∙ if_false _ _ (sym told ∙ e) ∙ if_false _ _ (ne_eqb key 17 k))
+  named_keyword e = sym (if_false _ _ (ne_eqb key 40 h) ∙ if_false _ _ (sym told ∙ e))
 
 -- t says whether the name is good
 module _ (name : List ℕ) (argument : ℕ) (t : Bool) (told : t ≡ is_good_name name) where

@@ -11,7 +11,7 @@ use Rattle.base.specs.Runs.{run, all, same}
 use Rattle.lex_keyword.specs.Names.{folded, same_name, name_index, keyword_of, is_later, the_end, row, icm_ver, begin_header, end_header, manufacturer}
 use Rattle.lex_keyword.specs.Bracket.{is_open, is_not_closing, is_separator, is_plain_byte, push, parted, is_hyphen_word, is_good_word, are_good_words, is_good_name, name_length, name_of, is_closed, is_good_bracket, argument_at, named_as, bracket_of}
 use Rattle.lex_keyword.specs.declared.Bracket.{Bracket}
-use Rattle.lex_keyword.specs.declared.Bracket.TheVariants.{Plain, Indented, Bad, Unknown, Later, Switch, Keyword}
+use Rattle.lex_keyword.specs.declared.Bracket.TheVariants.{Plain, Indented, Bad, Unknown, Later, Keyword}
 
 pub record Reading : Type 0 where
   pub content : List ℕ
@@ -66,18 +66,13 @@ readings =
     bytes "[ICM Section]" says Unknown ∷
     bytes "[Begin ICM Model Family]" says Unknown ∷
     -- K10: later keywords
+    bytes "[Comment Char] " says Later ∷
     bytes "[Nodal Path Description]" says Later ∷
     bytes "[ICM Node Map] x" says Later ∷
     bytes "[ICM Swath Parameters]" says Later ∷
     bytes "[ICM Swath Pin Numbers]" says Later ∷
     bytes "[Frequency] 1" says Later ∷
     bytes "[ICM S-parameter] x" says Later ∷
-    -- C1.1: [Comment Char], and where its argument starts
-    bytes "[Comment Char]" says Switch 14 ∷
-    bytes "[comment_CHAR]  #_char" says Switch 16 ∷
-    bytes "[Comment  Char] #_char" says Bad ∷
-    bytes " [Comment Char] #_char" says Indented ∷
-    bytes "[Comment Char]#_char" says Bad ∷
     -- K16: where the argument starts; without an argument, the end of the content
     bytes "[End]" says Keyword the_end 5 ∷
     bytes "[End]  " says Keyword the_end 7 ∷

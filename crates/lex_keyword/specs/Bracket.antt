@@ -6,9 +6,9 @@ use Prim.Native.Char.{code}
 use Rattle.base.specs.If.{if◌then◌else◌, both, either}
 use Rattle.base.specs.Bytes.{bytes, is_blank, is_digit, is_letter}
 use Rattle.base.specs.Runs.{run, all}
-use Rattle.lex_keyword.specs.Names.{same_name, keyword_of, is_later, unknown, comment_char}
+use Rattle.lex_keyword.specs.Names.{same_name, keyword_of, is_later, unknown}
 use Rattle.lex_keyword.specs.declared.Bracket.{Bracket}
-use Rattle.lex_keyword.specs.declared.Bracket.TheVariants.{Plain, Indented, Bad, Unknown, Later, Switch, Keyword}
+use Rattle.lex_keyword.specs.declared.Bracket.TheVariants.{Plain, Indented, Bad, Unknown, Later, Keyword}
 
 unfoldable pub is_open : ℕ → Bool
 is_open b = eqb b (code "[")
@@ -70,13 +70,9 @@ is_good_bracket content = both (is_closed content) (is_good_name (name_of conten
 unfoldable pub argument_at : List ℕ → ℕ
 argument_at content = name_length content + 2 + run is_blank (drop (name_length content + 2) content)
 
--- 7 for a "keyword not of 000", 8 for a "later keyword above"; Switch for [Comment Char], which opens and closes nothing;
--- else the keyword. Of the last two also where the argument starts
+-- 7 for a "keyword not of 000", 8 for a "later keyword above", else the keyword and where its argument starts
 unfoldable pub named_as : ℕ → ℕ → Bracket
-named_as key argument =
-    if eqb key unknown then Unknown else
-    if is_later key then Later else
-    if eqb key comment_char then Switch argument else Keyword key argument
+named_as key argument = if eqb key unknown then Unknown else if is_later key then Later else Keyword key argument
 
 -- Plain if the first non-blank byte is no `[`; Indented for "A first non-blank `[` outside column 1 is 6, except in a
 -- text block"; Bad for a bad bracket, which is 6; else what the bracket names

@@ -190,10 +190,11 @@ icm_family_description = 38
 abbrev pub nodal_path_description : ℕ
 nodal_path_description = 39
 
--- "Later: .. [Nodal Path Description], [ICM Node Map], [ICM Swath Parameters], [ICM Swath Pin Numbers], [Frequency],
--- [ICM S-parameter]"; document 02 on [Comment Char]: "the keyword leaves 8"
+-- "Later: [Comment Char], [Nodal Path Description], [ICM Node Map], [ICM Swath Parameters], [ICM Swath Pin Numbers],
+-- [Frequency], [ICM S-parameter]"
 unfoldable pub is_later : ℕ → Bool
 is_later k =
-    either (eqb k nodal_path_description)
+    either (eqb k comment_char)
+    (either (eqb k nodal_path_description)
     (either (eqb k icm_node_map)
-    (either (eqb k icm_swath_parameters) (either (eqb k icm_swath_pin_numbers) (either (eqb k frequency) (eqb k icm_sParameter)))))
+    (either (eqb k icm_swath_parameters) (either (eqb k icm_swath_pin_numbers) (either (eqb k frequency) (eqb k icm_sParameter))))))

@@ -24,8 +24,6 @@ pub enum Bracket {
     Unknown,
     // Rule 8: a later keyword.
     Later,
-    // [Comment Char], and where its argument starts.
-    Switch(usize),
     // The number of the keyword, and where its argument starts.
     Keyword(u64, usize),
 }
@@ -249,7 +247,7 @@ fn is_name_of(table: &[u8], name: &[u8], key: usize) -> bool
 }
 
 // The number of the keyword with this name, or UNKNOWN.
-pub fn key_of(name: &[u8]) -> u64
+fn key_of(name: &[u8]) -> u64
     ensures { result ≡ keyword_of name.now }
 {
     let size = name.len();
@@ -271,6 +269,9 @@ pub fn key_of(name: &[u8]) -> u64
 fn is_later(key: u64) -> bool
     ensures { result ≡ is_later key }
 {
+    if key == COMMENT_CHAR {
+        return true;
+    }
     if key == NODAL_PATH_DESCRIPTION {
         return true;
     }
@@ -300,7 +301,7 @@ fn is_word_byte(b: u8) -> bool
 }
 
 // A letter or a digit.
-pub fn is_plain_byte(b: u8) -> bool
+fn is_plain_byte(b: u8) -> bool
     ensures { result ≡ is_plain_byte b }
 {
     if base::is_letter(b) {
@@ -389,9 +390,6 @@ fn named_as(key: u64, argument: usize) -> Bracket
     }
     if is_later(key) {
         return Bracket::Later;
-    }
-    if key == COMMENT_CHAR {
-        return Bracket::Switch(argument);
     }
     Bracket::Keyword(key, argument)
 }

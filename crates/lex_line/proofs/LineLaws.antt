@@ -16,8 +16,8 @@ use Rattle.base.specs.Runs.{run}
 use Rattle.base.specs.Way.Class.{run_end}
 use Rattle.base.proofs.IfLaws.{if_true, if_false, by_cases, both_first, both_second, not_via, not_not_via}
 use Rattle.base.proofs.RunLaws.{run_nil, run_goes, run_stops, run_on, run_stop, run_past, run_le, run_through, run_wider, run_take}
-use Rattle.lex_line.specs.Lines.{Raw, pushed, lines, content_of, comment_byte}
-use Rattle.lex_line.specs.Way.LineEnds.{past_feed, line_at}
+use Rattle.lex_line.specs.Lines.{Raw, pushed, lines, content_of, comment_byte, Said, said, contents}
+use Rattle.lex_line.specs.Way.LineEnds.{past_feed, line_at, said_at}
 
 pub content_before_feed : (comment b : ℕ) → is_content comment b ≡ true → is_before line_feed b ≡ true
 unfolding is_content
@@ -238,3 +238,25 @@ unfolding line_at
 content_at_lem comment t at =
     let k : at + run (is_content comment) (drop at t) - at ≡ run (is_content comment) (drop at t) = omega arith in
     rw k (content_of_lem comment (drop at t))
+
+-- ---- what the lines from a position on say
+
+contents_first : (u : List ℕ) (l : Raw) (v : List ℕ) → lines u ≡ l ∷ lines v → contents u ≡ said l ∷ contents v
+unfolding contents
+contents_first u l v e = ap (map said) e
+
+said_at_lem : (t : List ℕ) (at : ℕ) → said (first_of (drop at t)) ≡ said_at t at
+unfolding said
+said_at_lem t at =
+    let k : length (take (run (is_before line_feed) (drop at t)) (drop at t)) ≡ run (is_before line_feed) (drop at t) = length-take-le _ _ (run_le _ (drop at t)) in
+    λ i. record { size = k i; content = content_at_lem comment_byte t at i }
+
+-- the line there, and then the lines from its `next` on
+pub contents_at : (t : List ℕ) (at : ℕ) → at < length t → contents (drop at t) ≡ said_at t at ∷ contents (drop (line_at comment_byte t at).next t)
+contents_at t at h =
+    contents_first _ _ _ (lines_at comment_byte t at h) ∙ ap (λ (s : Said). s ∷ contents (drop (line_at comment_byte t at).next t)) (said_at_lem t at)
+
+-- there is none at the end of the text
+pub contents_none : (t : List ℕ) (at : ℕ) → length t ≤ at → contents (drop at t) ≡ []
+unfolding contents
+contents_none t at h = ap (λ (u : List ℕ). map said (lines u)) (drop_of_length-le t h) ∙ ap (map said) lines_nil

@@ -17,8 +17,8 @@ use Rattle.base.specs.Runs.{run}
 use Rattle.base.specs.Way.Class.{run_end}
 use Rattle.base.proofs.IfLaws.{if_true, if_false, by_cases, not_via, not_not_via}
 use Rattle.base.proofs.RunLaws.{run_nil, run_goes, run_stops, run_le, run_on, run_end_at}
-use Rattle.lex_line.specs.Words.{Word, word_goes_on, grown, words_from, back_run, last_end, argument_from, words, first_of, second_of}
-use Rattle.lex_line.specs.Way.Spans.{word_span, last_word, first_two_of, marked_by}
+use Rattle.lex_line.specs.Words.{Word, word_goes_on, grown, words_from, back_run, words, first_of, second_of}
+use Rattle.lex_line.specs.Way.Spans.{word_span, first_two_of, marked_by}
 use Rattle.lex_line.specs.declared.Span.{Span}
 use Rattle.lex_line.specs.declared.FirstTwo.{FirstTwo}
 
@@ -301,31 +301,3 @@ word_within s from word e h = rw e (within_line s from h)
 
 pub first_at : (s : List ℕ) (word : Span) (part : List ℕ) → word ≡ word_span s 0 → part ≡ marked_by s word → part ≡ first_of (words s)
 first_at s word part e h = h ∙ ap (marked_by s) e ∙ sym (first_after s 0)
-
--- ---- the argument of a keyword, which ends with the last word
-
-last_within : (content : List ℕ) → last_end content ≤ length content
-unfolding last_end
-last_within content = omega arith
-
-module _ (content : List ℕ) (start : ℕ) (last : Span) (found : last ≡ last_word content) where
-  end_told : last.end ≡ last_end content
-  unfolding last_word
-  end_told = ap (λ (w : Span). w.end) found
-
-  pub argument_within : last.end ≤ length content
-  argument_within =
-      let e : last.end ≡ last_end content = end_told in
-      let h : last_end content ≤ length content = last_within content in
-      omega arith
-
-  pub argument_none : last.end ≤ start → take 0 content ≡ argument_from content start
-  unfolding argument_from
-  argument_none h =
-      let e : last.end ≡ last_end content = end_told in
-      let z : last_end content - start ≡ 0 = omega arith in
-      rw z
-
-  pub argument_there : take (last.end - start) (drop start content) ≡ argument_from content start
-  unfolding argument_from
-  argument_there = ap (λ (n : ℕ). take (n - start) (drop start content)) end_told

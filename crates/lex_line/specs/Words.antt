@@ -36,10 +36,6 @@ back_run p s place = run p (reverse (take place s))
 unfoldable pub last_end : List ℕ → ℕ
 last_end s = length s - back_run is_blank s (length s)
 
--- the argument of a keyword that starts at a position, without the blanks at its end
-unfoldable pub argument_from : List ℕ → ℕ → List ℕ
-argument_from content start = take (last_end content - start) (drop start content)
-
 -- the words of a line, as their bytes
 abbrev pub words : List ℕ → List (List ℕ)
 words content = map (λ (w : Word). w.text) (words_from 0 content)

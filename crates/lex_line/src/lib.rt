@@ -4,7 +4,7 @@ ghost use Rattle.base.specs.Runs.{same};
 ghost use Rattle.lex_line.specs.Way.LineEnds.{line_at, terminator_at};
 ghost use Rattle.base.specs.Way.Class.{in_class, run_end};
 ghost use Rattle.base.specs.Bytes.{is_before, is_content};
-ghost use Rattle.lex_line.specs.Words.{back_run, argument_from, words, first_of, to_equals};
+ghost use Rattle.lex_line.specs.Words.{back_run, words, first_of, to_equals};
 ghost use Rattle.lex_line.specs.Way.Spans.{word_span, last_word, first_two_of, marked_by};
 ghost use Rattle.lex_line.specs.ByteRules.{byte_rules};
 ghost use Rattle.lex_line.specs.Way.Resumes.{ResumesAfterLine};
@@ -13,7 +13,7 @@ use base::Class;
 
 pub mod fast;
 
-// "From `|` on, a line is comment", until [Comment Char] names another character.
+// "From `|` on, a line is comment".
 pub const COMMENT: u8 = b'|';
 
 pub const LINE_FEED: u8 = 10;
@@ -78,7 +78,7 @@ fn past_content(text: &[u8], at: usize, comment: u8) -> usize
         return at;
     }
     if comment != COMMENT {
-        return base::fast::skip_far(Class::Content(comment), text, at);
+        return past_rest(text, at, comment);
     }
     past_rest(text, fast::skip_content(text, at), COMMENT)
 }
@@ -166,18 +166,6 @@ pub fn last_word(s: &[u8]) -> Span
         start: skip_back(Class::Filled, s, end),
         end,
     }
-}
-
-// The argument of a keyword that starts at `start`, without the blanks at its end.
-pub fn argument_of(content: &[u8], start: usize) -> &[u8]
-    ensures { result.now ≡ argument_from content.now start }
-{
-    let last = last_word(content);
-    let end = last.end;
-    if end <= start {
-        return &content[..0];
-    }
-    &content[start..end]
 }
 
 // Whether two words have the same bytes.

@@ -11,7 +11,7 @@ use lib.Dec.{eqb}
 use borrow.Author.Tests.{eq-eqb, ne_eqb}
 use Rattle.base.specs.If.{if◌then◌else◌}
 use Rattle.base.proofs.IfLaws.{if_true, if_false, by_cases, both_true, both_not_left}
-use Rattle.lex_comment.specs.Comments.{contents}
+use Rattle.lex_line.specs.Lines.{contents}
 use Rattle.line_place.specs.Place.{is_in_model}
 use Rattle.line_place.specs.Place as place
 use Rattle.line_head.specs.Head.{head_line_of, head_next}
@@ -87,10 +87,10 @@ follow_outside : (inside : Line → Bool) (p : ℕ) → ((l : Line) → l.place 
 follow_outside inside p h follow.none = up_none inside
 follow_outside inside p h (follow.more {l = l} {ls = ls} e rest) = up_out inside l ls (h l e)
 
-pub models_outside : (comment : ℕ) (t : List ℕ) (n at p : ℕ) → is_in_model p ≡ false → up_to in_model (lines_at comment t n at p) ≡ []
+pub models_outside : (t : List ℕ) (n at p : ℕ) → is_in_model p ≡ false → up_to in_model (lines_at t n at p) ≡ []
 unfolding lines_at in_model
-models_outside comment t n at p out =
-    follow_outside in_model p (λ (l : Line) (e : l.place ≡ p). ap is_in_model e ∙ out) (lines_follow n at p (contents comment (drop at t)))
+models_outside t n at p out =
+    follow_outside in_model p (λ (l : Line) (e : l.place ≡ p). ap is_in_model e ∙ out) (lines_follow n at p (contents (drop at t)))
 
 -- ---- lines without a keyword in a place
 

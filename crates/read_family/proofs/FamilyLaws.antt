@@ -11,7 +11,7 @@ use lib.Dec.{eqb}
 use borrow.Author.Tests.{eq-eqb, eqb-true, eqb-false}
 use Rattle.base.specs.If.{either}
 use Rattle.base.proofs.IfLaws.{if_true, by_cases}
-use Rattle.lex_comment.specs.Comments.{above_header, contents}
+use Rattle.lex_line.specs.Lines.{contents}
 use Rattle.line_place.specs.Place.{is_in_model}
 use Rattle.line_place.specs.Place as place
 use Rattle.line_keyword.specs.State.{start_state, no_counts}
@@ -49,23 +49,23 @@ use Rattle.read_family.proofs.RunLaws.{Stays, carries_run, carries_quiet}
 
 -- ---- a walk that has made no progress
 
-module _ (comment : ℕ) (t : List ℕ) (at here p : ℕ) where
+module _ (t : List ℕ) (at here p : ℕ) where
   -- it is at a line with a bracket, which is read alone
-  pub alone_stays : NoProgressMeansBracket comment t at here → at ≤ here → here ≤ at → at < length t → Alone comment t at p
+  pub alone_stays : NoProgressMeansBracket t at here → at ≤ here → here ≤ at → at < length t → Alone t at p
   alone_stays stays o n h =
       record {
-        bracket = stays_elsewhere comment t at here p stays o n h;
+        bracket = stays_elsewhere t at here p stays o n h;
         pins = λ (e : p ≡ place.pin_list). stays (omega arith) h;
       }
 
 -- the lines are the same still
-still_line : {comment : ℕ} {t : List ℕ} {at line : ℕ} {fits : State → Type 0} {put : State → State} {rule comment' further last : ℕ} →
-    ResumesPart comment t at line fits put rule comment' further last → further ≤ at → (further ≡ at) × (last ≡ line) × (comment' ≡ comment)
+still_line : {t : List ℕ} {at line : ℕ} {fits : State → Type 0} {put : State → State} {rule further last : ℕ} → ResumesPart t at line fits put rule further last →
+    further ≤ at → (further ≡ at) × (last ≡ line)
 still_line crossed h =
     let a = crossed.onward in
     let b = crossed.raised in
     let c = crossed.counted in
-    (omega arith, omega arith, crossed.unmoved (omega arith))
+    (omega arith, omega arith)
 
 -- and so are the records that are left, so as many are staged
 still_held :
@@ -80,22 +80,22 @@ still_held words width whole stage stage' k k' left left' before after same =
 
 -- lines read with a part of the state, as a walk
 reached :
-    (comment : ℕ) (t : List ℕ) (at line : ℕ) (fits : State → Type 0) (put : State → State) (rule comment' further last : ℕ) → ResumesPart comment t at line fits put rule comment' further last →
-    (s : State) → fits s → Onward comment t at line s → (rule ≡ 0 → at < further) →
-    ResumesText comment t at line s (record { rule = rule; at = further; line = last; comment = comment'; state = put s })
-reached comment t at line fits put rule comment' further last crossed s f on ahead =
+    (t : List ℕ) (at line : ℕ) (fits : State → Type 0) (put : State → State) (rule further last : ℕ) → ResumesPart t at line fits put rule further last →
+    (s : State) → fits s → Onward t at line s → (rule ≡ 0 → at < further) →
+    ResumesText t at line s (record { rule = rule; at = further; line = last; state = put s })
+reached t at line fits put rule further last crossed s f on ahead =
     let c : line ≤ at + 1 = on.counted in
     let k : last + at ≤ line + further = crossed.counted in
     record {
       same = crossed.same s f;
       further = ahead;
-      onward = λ (e : rule ≡ 0). record { allowed = crossed.allowed on.allowed; within = crossed.within; counted = omega arith; kept = crossed.kept e s f on.kept };
+      onward = λ (e : rule ≡ 0). record { within = crossed.within; counted = omega arith; kept = crossed.kept e s f on.kept };
     }
 
 -- ---- lines of a path
 
-module _ (comment : ℕ) (t : List ℕ) (at line : ℕ) (s : State) (on : Onward comment t at line s) (there : s.place ≡ place.path) (w : PathWalk) (steps steps' : List ℕ)
-    (goes : GoesPath comment t at line s.path s.counts.steps steps w steps') (o : Open) (models maps pins : List ℕ) where
+module _ (t : List ℕ) (at line : ℕ) (s : State) (on : Onward t at line s) (there : s.place ≡ place.path) (w : PathWalk) (steps steps' : List ℕ)
+    (goes : GoesPath t at line s.path s.counts.steps steps w steps') (o : Open) (models maps pins : List ℕ) where
   abbrev s_path : State
   s_path = with_path w.part.path w.part.steps s
 
@@ -112,12 +112,12 @@ module _ (comment : ℕ) (t : List ℕ) (at line : ℕ) (s : State) (on : Onward
       }
 
   path_carries :
-      w.part.rule ≡ 0 → Carries t (lines_at comment t line at s.place) s o models steps maps pins →
-      Carries t (lines_at w.comment t w.line w.at s.place) s_path o models steps' maps pins
+      w.part.rule ≡ 0 → Carries t (lines_at t line at s.place) s o models steps maps pins →
+      Carries t (lines_at t w.line w.at s.place) s_path o models steps' maps pins
   path_carries z carries =
-      let begun : Carries t (lines_at comment t line at place.path) s o models steps maps pins =
-      subst (λ (p : ℕ). Carries t (lines_at comment t line at p) s o models steps maps pins) there carries in
-      subst (λ (p : ℕ). Carries t (lines_at w.comment t w.line w.at p) s_path o models steps' maps pins) (sym there)
+      let begun : Carries t (lines_at t line at place.path) s o models steps maps pins =
+      subst (λ (p : ℕ). Carries t (lines_at t line at p) s o models steps maps pins) there carries in
+      subst (λ (p : ℕ). Carries t (lines_at t w.line w.at p) s_path o models steps' maps pins) (sym there)
       (carries_run place.path _ _ (goes.plain z) s s_path path_stays o t models steps maps pins begun
       (λ (e : place.path ≡ place.head). omega arith) (λ (e : place.path ≡ place.map_head). omega arith) steps' pins
       (goes.staged z _ begun.steps)
@@ -126,28 +126,28 @@ module _ (comment : ℕ) (t : List ℕ) (at line : ℕ) (s : State) (on : Onward
       (λ (l : Line) (after : List Line) (h : IsPlain place.path l).
       plain_no_pin place.path l h (λ (e : place.path ≡ place.pin_list). omega arith) after) _ _ (goes.plain z))))
 
-  path_walk : (w.part.rule ≡ 0 → at < w.at) → (r : FamilyWalk) → r ≡ after_steps s o w → Continues comment t at line s o models steps maps pins r models steps' maps pins
+  path_walk : (w.part.rule ≡ 0 → at < w.at) → (r : FamilyWalk) → r ≡ after_steps s o w → Continues t at line s o models steps maps pins r models steps' maps pins
   path_walk ahead r e =
       rw e
       (record {
-        resumes = reached comment t at line (HoldsPart place.path (with_path s.path s.counts.steps)) (with_path w.part.path w.part.steps) w.part.rule w.comment w.at w.line goes.blocked.crossed s (there, refl) on ahead;
+        resumes = reached t at line (HoldsPart place.path (with_path s.path s.counts.steps)) (with_path w.part.path w.part.steps) w.part.rule w.at w.line goes.blocked.crossed s (there, refl) on ahead;
         passes =
             λ (z : w.part.rule ≡ 0).
-            subst (λ (p : ℕ). Passes p (lines_at comment t line at p) (lines_at w.comment t w.line w.at p)) (sym there) (passes_plainly place.path _ _ (goes.plain z));
+            subst (λ (p : ℕ). Passes p (lines_at t line at p) (lines_at t w.line w.at p)) (sym there) (passes_plainly place.path _ _ (goes.plain z));
         carries = path_carries;
       })
 
-  pub path_stops : (w.part.rule ≡ 0 → ⊥) → (r : FamilyWalk) → r ≡ after_steps s o w → Continues comment t at line s o models steps maps pins r models steps' maps pins
+  pub path_stops : (w.part.rule ≡ 0 → ⊥) → (r : FamilyWalk) → r ≡ after_steps s o w → Continues t at line s o models steps maps pins r models steps' maps pins
   path_stops broken = path_walk (λ (z : w.part.rule ≡ 0). absurd (broken z))
 
-  pub path_goes : at < w.at → (r : FamilyWalk) → r ≡ after_steps s o w → Continues comment t at line s o models steps maps pins r models steps' maps pins
+  pub path_goes : at < w.at → (r : FamilyWalk) → r ≡ after_steps s o w → Continues t at line s o models steps maps pins r models steps' maps pins
   path_goes ahead = path_walk (λ (z : w.part.rule ≡ 0). ahead)
 
   -- no line of a path is there: what is staged is as good as before
   pub path_waits :
       w.part.rule ≡ 0 → w.at ≤ at → (r : FamilyWalk) (models' maps' : List ℕ) →
-      ((step_stage pin_stage : List ℕ) → Continues comment t at line s o models step_stage maps pin_stage r models' step_stage maps' pin_stage) →
-      Continues comment t at line s o models steps maps pins r models' steps' maps' pins
+      ((step_stage pin_stage : List ℕ) → Continues t at line s o models step_stage maps pin_stage r models' step_stage maps' pin_stage) →
+      Continues t at line s o models steps maps pins r models' steps' maps' pins
   path_waits z still r models' maps' alone =
       record {
         resumes = (alone steps' pins).resumes;
@@ -155,19 +155,19 @@ module _ (comment : ℕ) (t : List ℕ) (at line : ℕ) (s : State) (on : Onward
         carries = λ (e : r.rule ≡ 0) carries. (alone steps' pins).carries e (waits carries);
       }
     where
-      same : lines_at w.comment t w.line w.at place.path ≡ lines_at comment t line at s.place
+      same : lines_at t w.line w.at place.path ≡ lines_at t line at s.place
       same =
-          let k : (w.at ≡ at) × (w.line ≡ line) × (w.comment ≡ comment) = still_line goes.blocked.crossed still in
-          λ i. lines_at (k.2 i) t (k.1 i) (k.0 i) (sym there i)
+          let k : (w.at ≡ at) × (w.line ≡ line) = still_line goes.blocked.crossed still in
+          λ i. lines_at t (k.1 i) (k.0 i) (sym there i)
 
-      waits : Carries t (lines_at comment t line at s.place) s o models steps maps pins → Carries t (lines_at comment t line at s.place) s o models steps' maps pins
+      waits : Carries t (lines_at t line at s.place) s o models steps maps pins → Carries t (lines_at t line at s.place) s o models steps' maps pins
       waits carries =
           record {
             models = carries.models;
             steps =
                 still_held step_staged staged_step_width _ steps steps' s.counts.steps w.part.steps _ _ carries.steps
                 (goes.staged z _
-                (subst (λ (p : ℕ). Held step_staged staged_step_width (gather step_of (significant t)) steps s.counts.steps (gather step_of (lines_at comment t line at p))) there
+                (subst (λ (p : ℕ). Held step_staged staged_step_width (gather step_of (significant t)) steps s.counts.steps (gather step_of (lines_at t line at p))) there
                 carries.steps))
                 (ap (gather step_of) same);
             maps = carries.maps;
@@ -179,8 +179,8 @@ module _ (comment : ℕ) (t : List ℕ) (at line : ℕ) (s : State) (on : Onward
 
 -- ---- lines of a pin list
 
-module _ (comment : ℕ) (t : List ℕ) (at line : ℕ) (s : State) (on : Onward comment t at line s) (there : s.place ≡ place.pin_list) (w : PinWalk) (pins pins' : List ℕ)
-    (goes : GoesPins comment t at line s.map s.counts.pins pins w pins') (o : Open) (models steps maps : List ℕ) where
+module _ (t : List ℕ) (at line : ℕ) (s : State) (on : Onward t at line s) (there : s.place ≡ place.pin_list) (w : PinWalk) (pins pins' : List ℕ)
+    (goes : GoesPins t at line s.map s.counts.pins pins w pins') (o : Open) (models steps maps : List ℕ) where
   abbrev s_pins : State
   s_pins = with_pinned w.part.map w.part.pins s
 
@@ -197,12 +197,12 @@ module _ (comment : ℕ) (t : List ℕ) (at line : ℕ) (s : State) (on : Onward
       }
 
   list_carries :
-      w.part.rule ≡ 0 → Carries t (lines_at comment t line at s.place) s o models steps maps pins →
-      Carries t (lines_at w.comment t w.line w.at s.place) s_pins o models steps maps pins'
+      w.part.rule ≡ 0 → Carries t (lines_at t line at s.place) s o models steps maps pins →
+      Carries t (lines_at t w.line w.at s.place) s_pins o models steps maps pins'
   list_carries z carries =
-      let begun : Carries t (lines_at comment t line at place.pin_list) s o models steps maps pins =
-      subst (λ (p : ℕ). Carries t (lines_at comment t line at p) s o models steps maps pins) there carries in
-      subst (λ (p : ℕ). Carries t (lines_at w.comment t w.line w.at p) s_pins o models steps maps pins') (sym there)
+      let begun : Carries t (lines_at t line at place.pin_list) s o models steps maps pins =
+      subst (λ (p : ℕ). Carries t (lines_at t line at p) s o models steps maps pins) there carries in
+      subst (λ (p : ℕ). Carries t (lines_at t w.line w.at p) s_pins o models steps maps pins') (sym there)
       (carries_run place.pin_list _ _ (goes.plain z) s s_pins list_stays o t models steps maps pins begun
       (λ (e : place.pin_list ≡ place.head). omega arith) (λ (e : place.pin_list ≡ place.map_head). omega arith) steps pins'
       (held_same step_staged staged_step_width _ steps s.counts.steps _ begun.steps _
@@ -211,28 +211,28 @@ module _ (comment : ℕ) (t : List ℕ) (at line : ℕ) (s : State) (on : Onward
       plain_no_step place.pin_list l h (λ (e : place.pin_list ≡ place.path). omega arith) after) _ _ (goes.plain z)))
       (goes.staged z _ begun.pins))
 
-  list_walk : (w.part.rule ≡ 0 → at < w.at) → (r : FamilyWalk) → r ≡ after_pins s o w → Continues comment t at line s o models steps maps pins r models steps maps pins'
+  list_walk : (w.part.rule ≡ 0 → at < w.at) → (r : FamilyWalk) → r ≡ after_pins s o w → Continues t at line s o models steps maps pins r models steps maps pins'
   list_walk ahead r e =
       rw e
       (record {
-        resumes = reached comment t at line (HoldsPart place.pin_list (with_pinned s.map s.counts.pins)) (with_pinned w.part.map w.part.pins) w.part.rule w.comment w.at w.line goes.crossed s (there, refl) on ahead;
+        resumes = reached t at line (HoldsPart place.pin_list (with_pinned s.map s.counts.pins)) (with_pinned w.part.map w.part.pins) w.part.rule w.at w.line goes.crossed s (there, refl) on ahead;
         passes =
             λ (z : w.part.rule ≡ 0).
-            subst (λ (p : ℕ). Passes p (lines_at comment t line at p) (lines_at w.comment t w.line w.at p)) (sym there) (passes_plainly place.pin_list _ _ (goes.plain z));
+            subst (λ (p : ℕ). Passes p (lines_at t line at p) (lines_at t w.line w.at p)) (sym there) (passes_plainly place.pin_list _ _ (goes.plain z));
         carries = list_carries;
       })
 
-  pub list_stops : (w.part.rule ≡ 0 → ⊥) → (r : FamilyWalk) → r ≡ after_pins s o w → Continues comment t at line s o models steps maps pins r models steps maps pins'
+  pub list_stops : (w.part.rule ≡ 0 → ⊥) → (r : FamilyWalk) → r ≡ after_pins s o w → Continues t at line s o models steps maps pins r models steps maps pins'
   list_stops broken = list_walk (λ (z : w.part.rule ≡ 0). absurd (broken z))
 
-  pub list_goes : at < w.at → (r : FamilyWalk) → r ≡ after_pins s o w → Continues comment t at line s o models steps maps pins r models steps maps pins'
+  pub list_goes : at < w.at → (r : FamilyWalk) → r ≡ after_pins s o w → Continues t at line s o models steps maps pins r models steps maps pins'
   list_goes ahead = list_walk (λ (z : w.part.rule ≡ 0). ahead)
 
   -- no pin is there: what is staged is as good as before
   pub list_waits :
       w.part.rule ≡ 0 → w.at ≤ at → (r : FamilyWalk) (models' maps' : List ℕ) →
-      ((step_stage pin_stage : List ℕ) → Continues comment t at line s o models step_stage maps pin_stage r models' step_stage maps' pin_stage) →
-      Continues comment t at line s o models steps maps pins r models' steps maps' pins'
+      ((step_stage pin_stage : List ℕ) → Continues t at line s o models step_stage maps pin_stage r models' step_stage maps' pin_stage) →
+      Continues t at line s o models steps maps pins r models' steps maps' pins'
   list_waits z still r models' maps' alone =
       record {
         resumes = (alone steps pins').resumes;
@@ -240,12 +240,12 @@ module _ (comment : ℕ) (t : List ℕ) (at line : ℕ) (s : State) (on : Onward
         carries = λ (e : r.rule ≡ 0) carries. (alone steps pins').carries e (waits carries);
       }
     where
-      same : lines_at w.comment t w.line w.at place.pin_list ≡ lines_at comment t line at s.place
+      same : lines_at t w.line w.at place.pin_list ≡ lines_at t line at s.place
       same =
-          let k : (w.at ≡ at) × (w.line ≡ line) × (w.comment ≡ comment) = still_line goes.crossed still in
-          λ i. lines_at (k.2 i) t (k.1 i) (k.0 i) (sym there i)
+          let k : (w.at ≡ at) × (w.line ≡ line) = still_line goes.crossed still in
+          λ i. lines_at t (k.1 i) (k.0 i) (sym there i)
 
-      waits : Carries t (lines_at comment t line at s.place) s o models steps maps pins → Carries t (lines_at comment t line at s.place) s o models steps maps pins'
+      waits : Carries t (lines_at t line at s.place) s o models steps maps pins → Carries t (lines_at t line at s.place) s o models steps maps pins'
       waits carries =
           record {
             models = carries.models;
@@ -254,7 +254,7 @@ module _ (comment : ℕ) (t : List ℕ) (at line : ℕ) (s : State) (on : Onward
             pins =
                 still_held pin_staged pin_width _ pins pins' s.counts.pins w.part.pins _ _ carries.pins
                 (goes.staged z _
-                (subst (λ (p : ℕ). Held pin_staged pin_width (gather pin_at (significant t)) pins s.counts.pins (gather pin_at (lines_at comment t line at p))) there
+                (subst (λ (p : ℕ). Held pin_staged pin_width (gather pin_at (significant t)) pins s.counts.pins (gather pin_at (lines_at t line at p))) there
                 carries.pins))
                 (ap (gather pin_at) same);
             sections = carries.sections;
@@ -264,38 +264,38 @@ module _ (comment : ℕ) (t : List ℕ) (at line : ℕ) (s : State) (on : Onward
 
 -- ---- lines that change nothing
 
-module _ (comment : ℕ) (t : List ℕ) (at line : ℕ) (s : State) (on : Onward comment t at line s) (r : Passing) (skips : SkipsIdle comment t at line s.place r) (o : Open)
+module _ (t : List ℕ) (at line : ℕ) (s : State) (on : Onward t at line s) (r : Passing) (skips : SkipsIdle t at line s.place r) (o : Open)
     (models steps maps pins : List ℕ) where
   idle_stays : s.place ≡ place.list → Stays place.list s s
   idle_stays there =
       record { here = there; there = there; head = refl; grid = grid_same s.map; models = refl; maps = refl; none_yet = λ n. n }
 
-  idle_carries : Carries t (lines_at comment t line at s.place) s o models steps maps pins → Carries t (lines_at r.comment t r.line r.at s.place) s o models steps maps pins
+  idle_carries : Carries t (lines_at t line at s.place) s o models steps maps pins → Carries t (lines_at t r.line r.at s.place) s o models steps maps pins
   idle_carries carries =
       by_cases _ (eqb s.place place.list)
       (λ (e : eqb s.place place.list ≡ true).
       let there : s.place ≡ place.list = eqb-true _ _ e in
-      subst (λ (p : ℕ). Carries t (lines_at r.comment t r.line r.at p) s o models steps maps pins) (sym there)
+      subst (λ (p : ℕ). Carries t (lines_at t r.line r.at p) s o models steps maps pins) (sym there)
       (carries_quiet place.list _ _ (skips.listed there) s s (idle_stays there) o t models steps maps pins
-      (subst (λ (p : ℕ). Carries t (lines_at comment t line at p) s o models steps maps pins) there carries)
+      (subst (λ (p : ℕ). Carries t (lines_at t line at p) s o models steps maps pins) there carries)
       (λ (z : place.list ≡ place.head). omega arith) (λ (z : place.list ≡ place.map_head). omega arith)
       (λ (z : place.list ≡ place.path). omega arith) (λ (z : place.list ≡ place.pin_list). omega arith) refl refl))
       (λ (e : eqb s.place place.list ≡ false).
       subst (λ (ls : List Line). Carries t ls s o models steps maps pins) (skips.blank (eqb-false _ _ e)) carries)
 
-  idle_passes : Passes s.place (lines_at comment t line at s.place) (lines_at r.comment t r.line r.at s.place)
+  idle_passes : Passes s.place (lines_at t line at s.place) (lines_at t r.line r.at s.place)
   idle_passes =
       by_cases _ (eqb s.place place.list)
       (λ (e : eqb s.place place.list ≡ true).
       let there : s.place ≡ place.list = eqb-true _ _ e in
-      subst (λ (p : ℕ). Passes p (lines_at comment t line at p) (lines_at r.comment t r.line r.at p)) (sym there) (passes_plainly place.list _ _ (skips.listed there)))
+      subst (λ (p : ℕ). Passes p (lines_at t line at p) (lines_at t r.line r.at p)) (sym there) (passes_plainly place.list _ _ (skips.listed there)))
       (λ (e : eqb s.place place.list ≡ false). passes_none _ _ _ (skips.blank (eqb-false _ _ e)))
 
   pub idle_goes :
-      at < r.at → Continues comment t at line s o models steps maps pins (record { rule = 0; at = r.at; line = r.line; comment = r.comment; state = s; block = o }) models steps maps pins
+      at < r.at → Continues t at line s o models steps maps pins (record { rule = 0; at = r.at; line = r.line; state = s; block = o }) models steps maps pins
   idle_goes ahead =
       record {
-        resumes = crossed_reached comment t at line (λ (x : State). x.place ≡ s.place) (λ (x : State). x) 0 r.comment r.at r.line skips.resumes s refl on ahead;
+        resumes = crossed_reached t at line (λ (x : State). x.place ≡ s.place) (λ (x : State). x) 0 r.at r.line skips.resumes s refl on ahead;
         passes = λ e. idle_passes;
         carries = λ e. idle_carries;
       }
@@ -303,7 +303,7 @@ module _ (comment : ℕ) (t : List ℕ) (at line : ℕ) (s : State) (on : Onward
 -- ---- the start
 
 module _ (t : List ℕ) (s : State) (is_start : s ≡ start_state) (o : Open) (models steps maps pins : List ℕ) where
-  start_carries : Carries t (lines_at above_header t 1 0 start_state.place) start_state o models steps maps pins
+  start_carries : Carries t (lines_at t 1 0 start_state.place) start_state o models steps maps pins
   unfolding start_state no_counts significant document_of document_in is_in_model is_in_map either
   start_carries =
       record {
@@ -324,23 +324,23 @@ module _ (t : List ℕ) (s : State) (is_start : s ≡ start_state) (o : Open) (m
         early = omega arith;
       }
 
-  pub family_starts : Carries t (lines_at above_header t 1 0 s.place) s o models steps maps pins
-  family_starts = subst (λ (x : State). Carries t (lines_at above_header t 1 0 x.place) x o models steps maps pins) (sym is_start) start_carries
+  pub family_starts : Carries t (lines_at t 1 0 s.place) s o models steps maps pins
+  family_starts = subst (λ (x : State). Carries t (lines_at t 1 0 x.place) x o models steps maps pins) (sym is_start) start_carries
 
 -- ---- the end
 
-module _ (comment : ℕ) (t : List ℕ) (line at : ℕ) (s : State) (o : Open) (models steps maps pins : List ℕ) (carries : Carries t (lines_at comment t line at s.place) s o models steps maps pins) where
+module _ (t : List ℕ) (line at : ℕ) (s : State) (o : Open) (models steps maps pins : List ℕ) (carries : Carries t (lines_at t line at s.place) s o models steps maps pins) where
   module _ (there : s.place ≡ place.after) where
     late : place.after ≤ s.place
     late = omega arith
 
-    no_models : staged_models s.counts.steps (gather model_at (lines_at comment t line at s.place)) ≡ []
+    no_models : staged_models s.counts.steps (gather model_at (lines_at t line at s.place)) ≡ []
     unfolding staged_models
-    no_models = ap (staged_models s.counts.steps) (late_quiet model_at late_model comment t line at s.place late)
+    no_models = ap (staged_models s.counts.steps) (late_quiet model_at late_model t line at s.place late)
 
-    no_maps : map_records s.counts.pins (gather map_at (lines_at comment t line at s.place)) ≡ []
+    no_maps : map_records s.counts.pins (gather map_at (lines_at t line at s.place)) ≡ []
     unfolding map_records
-    no_maps = ap (map_records s.counts.pins) (late_quiet map_at late_map comment t line at s.place late)
+    no_maps = ap (map_records s.counts.pins) (late_quiet map_at late_map t line at s.place late)
 
     out_of_models : is_in_model s.place ≡ false
     unfolding is_in_model either
@@ -350,26 +350,26 @@ module _ (comment : ℕ) (t : List ℕ) (line at : ℕ) (s : State) (o : Open) (
     unfolding is_in_map either
     out_of_maps = rw there
 
-    family_staged : FamilyStaged comment t line at s models steps maps pins
+    family_staged : FamilyStaged t line at s models steps maps pins
     family_staged =
         record {
           models = held_all staged_model_words staged_model_width _ models s.counts.models _ (carries.models.outside out_of_models) no_models;
-          steps = held_all step_staged staged_step_width _ steps s.counts.steps _ carries.steps (late_quiet step_of late_step comment t line at s.place late);
+          steps = held_all step_staged staged_step_width _ steps s.counts.steps _ carries.steps (late_quiet step_of late_step t line at s.place late);
           maps = held_all map_words map_width _ maps s.counts.maps _ (carries.maps.outside out_of_maps) no_maps;
-          pins = held_all pin_staged pin_width _ pins s.counts.pins _ carries.pins (late_quiet pin_at late_pin comment t line at s.place late);
-          sections = subst (λ (p : ℕ). gather section_at (lines_at comment t line at p) ≡ (document_of t).sections) there carries.sections;
+          pins = held_all pin_staged pin_width _ pins s.counts.pins _ carries.pins (late_quiet pin_at late_pin t line at s.place late);
+          sections = subst (λ (p : ℕ). gather section_at (lines_at t line at p) ≡ (document_of t).sections) there carries.sections;
           none_yet = carries.none_yet;
         }
 
-  module _ (on : Onward comment t at line s) (same : read_from line (contents comment (drop at t)) s ≡ reading_of t) where
+  module _ (on : Onward t at line s) (same : read_from line (contents (drop at t)) s ≡ reading_of t) where
     abbrev walk : Walk
-    walk = record { rule = 0; at = at; line = line; comment = comment; state = s }
+    walk = record { rule = 0; at = at; line = line; state = s }
 
     same_walk : resume t walk ≡ reading_of t
     unfolding resume
     same_walk = if_true _ _ (eq-eqb 0 0 refl) ∙ same
 
-    module _ (c : Cursor) (follows : Follows t c (record { at = at; line = line; comment = comment; place = s.place })) where
+    module _ (c : Cursor) (follows : Follows t c (record { at = at; line = line; place = s.place })) where
       pub family_after : s.place ≡ place.after → FamilyRead t walk c models steps maps pins
       family_after there =
           record {
@@ -394,10 +394,10 @@ module _ (comment : ℕ) (t : List ℕ) (line at : ℕ) (s : State) (o : Open) (
 
 -- a line breaks a rule
 pub family_stops :
-    (comment : ℕ) (t : List ℕ) (at line : ℕ) (s : State) → read_from line (contents comment (drop at t)) s ≡ reading_of t → (o : Open) (models steps maps pins : List ℕ) (w : FamilyWalk)
-    (models' steps' maps' pins' : List ℕ) → Continues comment t at line s o models steps maps pins w models' steps' maps' pins' → (w.rule ≡ 0 → ⊥) →
+    (t : List ℕ) (at line : ℕ) (s : State) → read_from line (contents (drop at t)) s ≡ reading_of t → (o : Open) (models steps maps pins : List ℕ) (w : FamilyWalk)
+    (models' steps' maps' pins' : List ℕ) → Continues t at line s o models steps maps pins w models' steps' maps' pins' → (w.rule ≡ 0 → ⊥) →
     (c : Cursor) → FamilyRead t (walk_of w) c models' steps' maps' pins'
-family_stops comment t at line s same o models steps maps pins w models' steps' maps' pins' continues broken c =
+family_stops t at line s same o models steps maps pins w models' steps' maps' pins' continues broken c =
     record {
       same = continues.resumes.same ∙ same;
       lists = λ z. absurd (broken z);
@@ -416,27 +416,27 @@ family_early t ls s o models steps maps pins carries away =
     let e : s.place ≤ place.after = carries.early in
     omega arith
 
-module _ (comment : ℕ) (t : List ℕ) (at line : ℕ) (s : State) (o : Open) (models steps maps pins : List ℕ) (w : FamilyWalk) (models' steps' maps' pins' : List ℕ)
-    (continues : Continues comment t at line s o models steps maps pins w models' steps' maps' pins') (z : w.rule ≡ 0) where
+module _ (t : List ℕ) (at line : ℕ) (s : State) (o : Open) (models steps maps pins : List ℕ) (w : FamilyWalk) (models' steps' maps' pins' : List ℕ)
+    (continues : Continues t at line s o models steps maps pins w models' steps' maps' pins') (z : w.rule ≡ 0) where
   pub family_less : at < length t → length t - w.at < length t - at
   family_less h =
       let f : at < w.at = continues.resumes.further z in
       omega arith
 
-  pub family_on : Onward w.comment t w.at w.line w.state
+  pub family_on : Onward t w.at w.line w.state
   family_on = continues.resumes.onward z
 
-  pub family_same : read_from line (contents comment (drop at t)) s ≡ reading_of t → read_from w.line (contents w.comment (drop w.at t)) w.state ≡ reading_of t
+  pub family_same : read_from line (contents (drop at t)) s ≡ reading_of t → read_from w.line (contents (drop w.at t)) w.state ≡ reading_of t
   unfolding resume
   family_same same = sym (if_true _ _ (eq-eqb _ _ z)) ∙ continues.resumes.same ∙ same
 
   pub family_carries :
-      Carries t (lines_at comment t line at s.place) s o models steps maps pins →
-      Carries t (lines_at w.comment t w.line w.at w.state.place) w.state w.block models' steps' maps' pins'
+      Carries t (lines_at t line at s.place) s o models steps maps pins →
+      Carries t (lines_at t w.line w.at w.state.place) w.state w.block models' steps' maps' pins'
   family_carries = continues.carries z
 
   pub family_follows :
-      (c : Cursor) → Follows t c (record { at = at; line = line; comment = comment; place = s.place }) → (c' : Cursor) →
-      c' ≡ followed c (record { at = w.at; line = w.line; comment = w.comment; place = w.state.place }) →
-      Follows t c' (record { at = w.at; line = w.line; comment = w.comment; place = w.state.place })
+      (c : Cursor) → Follows t c (record { at = at; line = line; place = s.place }) → (c' : Cursor) →
+      c' ≡ followed c (record { at = w.at; line = w.line; place = w.state.place }) →
+      Follows t c' (record { at = w.at; line = w.line; place = w.state.place })
   family_follows c follows = follows_on t c _ _ follows (continues.passes z) family_on.within family_on.counted

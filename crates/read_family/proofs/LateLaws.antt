@@ -11,8 +11,7 @@ use lib.Dec.{eqb}
 use borrow.Author.Tests.{ne_eqb}
 use Rattle.base.specs.If.{if◌then◌else◌}
 use Rattle.base.proofs.IfLaws.{if_false, by_cases, both_not_left, either_false}
-use Rattle.lex_line.specs.Lines.{is_blank_line}
-use Rattle.lex_comment.specs.Comments.{Said, contents}
+use Rattle.lex_line.specs.Lines.{Said, is_blank_line, contents}
 use Rattle.line_place.specs.Place.{moved, moved_by_line, leads_in_matrix, leads_in_section, leads_after_family, is_in_model, is_in_family, is_in_header}
 use Rattle.line_place.specs.Place as place
 use Rattle.lex_keyword.specs.Names.{icm_ver, begin_header, begin_icm_family}
@@ -90,9 +89,9 @@ module _ {B : Type 0} (block : Line → List Line → List B) (silent : (l : Lin
       ∙ gather_quiet block _ _ (silent _ _ h)
       ∙ late_lines (n + 1) (at + r.size + 1) (place_after p r.content) rs (late_place p _ h))
 
-  pub late_quiet : (comment : ℕ) (t : List ℕ) (n at p : ℕ) → place.after ≤ p → gather block (lines_at comment t n at p) ≡ []
+  pub late_quiet : (t : List ℕ) (n at p : ℕ) → place.after ≤ p → gather block (lines_at t n at p) ≡ []
   unfolding lines_at
-  late_quiet comment t n at p h = late_lines n at p (contents comment (drop at t)) h
+  late_quiet t n at p h = late_lines n at p (contents (drop at t)) h
 
 pub late_map : (l : Line) (ls : List Line) → place.after ≤ l.place → map_at l ls ≡ []
 unfolding map_at opens_map

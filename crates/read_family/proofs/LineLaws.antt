@@ -13,8 +13,8 @@ use Rattle.base.specs.Bytes.{is_blank}
 use Rattle.base.specs.Runs.{run}
 use Rattle.base.proofs.IfLaws.{if_true, if_false, by_cases, not_via}
 use Rattle.base.proofs.RunLaws.{all_run}
-use Rattle.lex_line.specs.Lines.{is_blank_line}
-use Rattle.lex_comment.specs.Way.Cut.{cut_at, content_at}
+use Rattle.lex_line.specs.Lines.{is_blank_line, comment_byte}
+use Rattle.lex_line.specs.Way.LineEnds.{line_at, content_at}
 use Rattle.lex_keyword.specs.Bracket.{bracket_of, is_open}
 use Rattle.lex_keyword.specs.declared.Bracket.TheVariants.{Plain}
 use Rattle.line_place.specs.Place.{is_in_model}
@@ -95,41 +95,38 @@ module _ (o : Open) (s : State) where
 
 -- ---- the line that is read
 
-module _ (comment : ℕ) (t : List ℕ) (at line : ℕ) (s : State) (h : at < length t) (early : s.place < place.after) (alone : Alone comment t at s.place) (r : LineRead)
-    (reads : ReadsLine comment t at line s r) where
+module _ (t : List ℕ) (at line : ℕ) (s : State) (h : at < length t) (early : s.place < place.after) (alone : Alone t at s.place) (r : LineRead)
+    (reads : ReadsLine t at line s r) where
   pub alone_start : at ≤ r.end
-  alone_start = rw reads.end_is (content_ordered comment t at h line (cut_at comment t at) refl)
+  alone_start = rw reads.end_is (content_ordered t at h line (line_at comment_byte t at) refl)
 
   pub alone_within : r.end ≤ length t
-  alone_within = rw reads.end_is (content_inside comment t at h line (cut_at comment t at) refl)
+  alone_within = rw reads.end_is (content_inside t at h line (line_at comment_byte t at) refl)
 
   pub alone_few : length t * 1 < 2 ^ 63 → at + length (take (r.end - at) (drop at t)) ≤ most_lines
-  alone_few few = rw reads.end_is (content_few comment t at (cut_at comment t at) refl h few)
+  alone_few few = rw reads.end_is (content_few t at (line_at comment_byte t at) refl h few)
 
   pub alone_bracket : r.bracket ≡ bracket_of (take (r.end - at) (drop at t))
   alone_bracket = rw reads.end_is reads.bracket_is
 
   pub alone_stops :
       (r.rule ≡ 0 → ⊥) → (o : Open) (models maps steps pins : List ℕ) →
-      Continues comment t at line s o models steps maps pins (record { rule = r.rule; at = r.at; line = r.line; comment = r.comment; state = r.state; block = o }) models steps maps pins
+      Continues t at line s o models steps maps pins (record { rule = r.rule; at = r.at; line = r.line; state = r.state; block = o }) models steps maps pins
   alone_stops broken o models maps steps pins = record { resumes = reads.resumes; passes = λ (z : r.rule ≡ 0). absurd (broken z); carries = λ (z : r.rule ≡ 0). absurd (broken z) }
 
   module _ (z : r.rule ≡ 0) (o : Open) (models steps maps pins : List ℕ) where
     abbrev content : List ℕ
-    content = content_at comment t at
+    content = content_at t at
 
     abbrev next : ℕ
-    next = (cut_at comment t at).next
-
-    abbrev comment' : ℕ
-    comment' = (cut_at comment t at).comment
+    next = (line_at comment_byte t at).next
 
     -- what a line does that leads to the state s'
     abbrev Goes : State → Type 0
     Goes s' =
-        Passes s.place (lines_at comment t line at s.place) (lines_at comment' t (line + 1) next s'.place)
-        × (Carries t (lines_at comment t line at s.place) s o models steps maps pins →
-        Carries t (lines_at comment' t (line + 1) next s'.place) s' (open_after line at content s s'.place s'.head o) (models_after o s s'.place models) steps (maps_after o s maps) pins)
+        Passes s.place (lines_at t line at s.place) (lines_at t (line + 1) next s'.place)
+        × (Carries t (lines_at t line at s.place) s o models steps maps pins →
+        Carries t (lines_at t (line + 1) next s'.place) s' (open_after line at content s s'.place s'.head o) (models_after o s s'.place models) steps (maps_after o s maps) pins)
 
     kept : (line_result content s).rule ≡ 0
     kept = sym (ap (λ (x : LineResult). x.rule) reads.result) ∙ z
@@ -137,8 +134,8 @@ module _ (comment : ℕ) (t : List ℕ) (at line : ℕ) (s : State) (h : at < le
     by_blank : is_blank_line content ≡ true → Goes s
     by_blank blank =
         let away : s.place ≡ place.pin_list → ⊥ = λ (e : s.place ≡ place.pin_list). alone.pins e (blank_plain content blank) in
-        let same : lines_at comment t line at s.place ≡ lines_at comment' t (line + 1) next s.place =
-        pass_over comment t at h line (cut_at comment t at) refl blank s.place in (
+        let same : lines_at t line at s.place ≡ lines_at t (line + 1) next s.place =
+        pass_over t at h line (line_at comment_byte t at) refl blank s.place in (
           passes_none _ _ _ same,
           λ carries.
               rw (open_kept o s line at content, models_kept o s models, maps_kept o s away maps)
@@ -150,12 +147,12 @@ module _ (comment : ℕ) (t : List ℕ) (at line : ℕ) (s : State) (h : at < le
         let l : Line = record { line = line; at = at; place = s.place; content = content } in
         let s' : State = (line_result content s).state in
         let takes : Takes l s s' = line_takes l s refl early filled kept alone.bracket in
-        let lines : lines_at comment t line at s.place ≡ l ∷ lines_at comment' t (line + 1) next s'.place =
-        stop_here comment t at h line (cut_at comment t at) refl filled s.place
-        ∙ ap (λ (p : ℕ). l ∷ lines_at comment' t (line + 1) next p) (sym takes.there) in (
+        let lines : lines_at t line at s.place ≡ l ∷ lines_at t (line + 1) next s'.place =
+        stop_here t at h line (line_at comment_byte t at) refl filled s.place
+        ∙ ap (λ (p : ℕ). l ∷ lines_at t (line + 1) next p) (sym takes.there) in (
           passes_line _ _ _ l refl lines,
           λ carries.
-              carries_line t l (lines_at comment' t (line + 1) next s'.place) s s' takes early (models_outside comment' t (line + 1) next s'.place) o models steps maps pins
+              carries_line t l (lines_at t (line + 1) next s'.place) s s' takes early (models_outside t (line + 1) next s'.place) o models steps maps pins
               (subst (λ (ls : List Line). Carries t ls s o models steps maps pins) lines carries),
         )
 
@@ -169,17 +166,17 @@ module _ (comment : ℕ) (t : List ℕ) (at line : ℕ) (s : State) (h : at < le
         (by_cases _ (is_blank_line content) (λ (b : is_blank_line content ≡ true). subst Goes (blank_same b) (by_blank b)) by_filled)
 
 pub alone_goes :
-    (comment : ℕ) (t : List ℕ) (at line : ℕ) (s : State) → at < length t → s.place < place.after → Alone comment t at s.place → (r : LineRead) → ReadsLine comment t at line s r →
+    (t : List ℕ) (at line : ℕ) (s : State) → at < length t → s.place < place.after → Alone t at s.place → (r : LineRead) → ReadsLine t at line s r →
     r.rule ≡ 0 → (o : Open) (models maps : List ℕ) (maps' : List ℕ) → maps' ≡ maps_after o s maps → (models' : List ℕ) →
     models' ≡ models_after o s r.state.place models → (o' : Open) →
     o' ≡ open_after line at (take (r.end - at) (drop at t)) s r.state.place r.state.head o → (steps pins : List ℕ) →
-    Continues comment t at line s o models steps maps pins (record { rule = 0; at = r.at; line = r.line; comment = r.comment; state = r.state; block = o' }) models' steps maps' pins
-alone_goes comment t at line s h early alone r reads z o models maps maps' is_maps models' is_models o' is_o steps pins =
+    Continues t at line s o models steps maps pins (record { rule = 0; at = r.at; line = r.line; state = r.state; block = o' }) models' steps maps' pins
+alone_goes t at line s h early alone r reads z o models maps maps' is_maps models' is_models o' is_o steps pins =
     record {
-      resumes = subst (λ (k : ℕ). ResumesText comment t at line s (record { rule = k; at = r.at; line = r.line; comment = r.comment; state = r.state })) z reads.resumes;
-      passes = λ (e : ◌≡◌ {A = ℕ} 0 0). rw (reads.line_is z, reads.next_is, reads.comment_is) (goes_on comment t at line s h early alone r reads z o models steps maps pins).0;
+      resumes = subst (λ (k : ℕ). ResumesText t at line s (record { rule = k; at = r.at; line = r.line; state = r.state })) z reads.resumes;
+      passes = λ (e : ◌≡◌ {A = ℕ} 0 0). rw (reads.line_is z, reads.next_is) (goes_on t at line s h early alone r reads z o models steps maps pins).0;
       carries =
           λ (e : ◌≡◌ {A = ℕ} 0 0) carries.
-          rw (is_maps, is_models, is_o, reads.end_is, reads.line_is z, reads.next_is, reads.comment_is)
-          ((goes_on comment t at line s h early alone r reads z o models steps maps pins).1 carries);
+          rw (is_maps, is_models, is_o, reads.end_is, reads.line_is z, reads.next_is)
+          ((goes_on t at line s h early alone r reads z o models steps maps pins).1 carries);
     }

@@ -12,7 +12,6 @@ use Rattle.base.proofs.IfLaws.{if_true, if_false, by_cases, both_not_left}
 use Rattle.line_place.specs.Place as place
 use Rattle.line_keyword.specs.State.{start_state}
 use Rattle.line_keyword.specs.declared.State.{State}
-use Rattle.lex_comment.specs.Comments.{above_header}
 use Rattle.doc.specs.Lines.{Line, lines_at, significant, gather, stands_in}
 use Rattle.doc.specs.Document.{listed_at, document_in, document_of}
 use Rattle.doc.specs.Way.Found.{IsPlain, Plainly, cursor_start}
@@ -56,9 +55,9 @@ module _ (p : ℕ) (ls rest : List Line) where
 
 -- ---- from line to line
 
-pub follows_start : (comment : ℕ) (t : List ℕ) (c : Cursor) → c ≡ cursor_start → (s : State) → s ≡ start_state → Follows t c (record { at = 0; line = 1; comment = above_header; place = s.place })
+pub follows_start : (t : List ℕ) (c : Cursor) → c ≡ cursor_start → (s : State) → s ≡ start_state → Follows t c (record { at = 0; line = 1; place = s.place })
 unfolding cursor_start start_state significant document_of document_in
-follows_start comment t c is s is_start =
+follows_start t c is s is_start =
     rw (is, is_start)
     (record {
       lists = record { passed = []; all = refl; listed = refl; within = omega arith; counted = omega arith };
@@ -66,7 +65,7 @@ follows_start comment t c is s is_start =
     })
 
 module _ (t : List ℕ) (c here next : Cursor) (follows : Follows t c here) where
-  reached : (c.place ≡ place.list → ⊥) → Passes here.place (lines_at here.comment t here.line here.at here.place) (lines_at next.comment t next.line next.at next.place) →
+  reached : (c.place ≡ place.list → ⊥) → Passes here.place (lines_at t here.line here.at here.place) (lines_at t next.line next.at next.place) →
       next.at ≤ length t → next.line ≤ next.at + 1 → ListsFrom t next
   reached away passes within counted =
       let is : c ≡ here = follows.above away in
@@ -80,7 +79,7 @@ module _ (t : List ℕ) (c here next : Cursor) (follows : Follows t c here) wher
       }
 
   pub follows_on :
-      Passes here.place (lines_at here.comment t here.line here.at here.place) (lines_at next.comment t next.line next.at next.place) →
+      Passes here.place (lines_at t here.line here.at here.place) (lines_at t next.line next.at next.place) →
       next.at ≤ length t → next.line ≤ next.at + 1 → (c' : Cursor) → c' ≡ followed c next → Follows t c' next
   unfolding followed
   follows_on passes within counted c' is =

@@ -18,7 +18,7 @@ use Rattle.line_keyword.specs.declared.State.{State}
 use Rattle.table_layout.specs.Layout.{map_width}
 use Rattle.table_record.specs.Records.{map_words}
 use Rattle.table_record.specs.Way.Stage.{put_at, staged_model_width, staged_model_words}
-use Rattle.lex_line.specs.Words.{argument_from}
+use Rattle.read_line.specs.Reading.{argument_from}
 use Rattle.doc.specs.Lines.{argument_in}
 use Rattle.doc.proofs.ExtentLaws.{argument_in_line}
 use Rattle.read_family.specs.Way.Blocks.{maps_after, models_after, opening, enters, open_after, with_sgr, sgr_after}

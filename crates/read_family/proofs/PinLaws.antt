@@ -8,10 +8,10 @@ use native.Mathlib.Omega.{arith}
 use lib.ListN.{length, take, drop, length-drop, length-take}
 use borrow.Author.Tests.{eq-eqb, not-true}
 use Rattle.base.proofs.IfLaws.{by_cases, if_true, both_true}
-use Rattle.lex_line.specs.Lines.{is_blank_line}
-use Rattle.lex_comment.specs.Way.Cut.{cut_at}
+use Rattle.lex_line.specs.Lines.{is_blank_line, comment_byte}
+use Rattle.lex_line.specs.Way.LineEnds.{line_at}
 use Rattle.lex_line.specs.Words.{words_from}
-use Rattle.lex_comment.specs.declared.Cut.{Cut}
+use Rattle.lex_line.specs.declared.Line as text
 use Rattle.lex_keyword.specs.Bracket.{bracket_of}
 use Rattle.lex_keyword.specs.declared.Bracket.TheVariants.{Plain}
 use Rattle.line_place.specs.Place as place
@@ -143,9 +143,9 @@ length_take_most n l =
 
 -- the content of a line lies within the text
 pub content_few :
-    (comment : ℕ) (t : List ℕ) (here : ℕ) (found : Cut) → found ≡ cut_at comment t here → here < length t → length t * 1 < 2 ^ 63 →
+    (t : List ℕ) (here : ℕ) (found : text.Line) → found ≡ line_at comment_byte t here → here < length t → length t * 1 < 2 ^ 63 →
     here + length (take (found.content - here) (drop here t)) ≤ most_lines
-content_few comment t here found told h few =
+content_few t here found told h few =
     let e : length (take (found.content - here) (drop here t)) ≤ length (drop here t) =
     length_take_most (found.content - here) (drop here t) in
     let d : length (drop here t) ≡ length t - here = length-drop here t in
@@ -170,26 +170,26 @@ unfolding pin_record lines.words_of extent_of
 pin_words_lem l = refl
 
 -- how far the lines of a pin list have been read, no rule being broken
-pub record Gone (comment : ℕ) (t : List ℕ) (at line : ℕ) (m : Map) (pins : ℕ) (stage₀ : List ℕ) (here number comment_here : ℕ) (part : Pinned) (stage : List ℕ) :
+pub record Gone (t : List ℕ) (at line : ℕ) (m : Map) (pins : ℕ) (stage₀ : List ℕ) (here number : ℕ) (part : Pinned) (stage : List ℕ) :
     Type 0 where
   pub sound : part.rule ≡ 0
   pub crossed :
-      ResumesPart comment t at line (HoldsPart place.pin_list (with_pinned m pins)) (with_pinned part.map part.pins) part.rule comment_here here number
+      ResumesPart t at line (HoldsPart place.pin_list (with_pinned m pins)) (with_pinned part.map part.pins) part.rule here number
   pub grid : SameGrid m part.map
   pub long : length stage ≡ length stage₀
-  pub plain : Plainly place.pin_list (lines_at comment t line at place.pin_list) (lines_at comment_here t number here place.pin_list)
+  pub plain : Plainly place.pin_list (lines_at t line at place.pin_list) (lines_at t number here place.pin_list)
   pub staged :
-      (whole : List Named) → Held pin_staged pin_width whole stage₀ pins (gather pin_at (lines_at comment t line at place.pin_list)) →
-      Held pin_staged pin_width whole stage part.pins (gather pin_at (lines_at comment_here t number here place.pin_list))
+      (whole : List Named) → Held pin_staged pin_width whole stage₀ pins (gather pin_at (lines_at t line at place.pin_list)) →
+      Held pin_staged pin_width whole stage part.pins (gather pin_at (lines_at t number here place.pin_list))
 
 pub gone_start :
-    (comment : ℕ) (t : List ℕ) (at line : ℕ) (m : Map) (pins : ℕ) (stage : List ℕ) → at ≤ length t →
-    Gone comment t at line m pins stage at line comment (record { taken = true; rule = 0; map = m; pins = pins }) stage
-gone_start comment t at line m pins stage h =
+    (t : List ℕ) (at line : ℕ) (m : Map) (pins : ℕ) (stage : List ℕ) → at ≤ length t →
+    Gone t at line m pins stage at line (record { taken = true; rule = 0; map = m; pins = pins }) stage
+gone_start t at line m pins stage h =
     record {
       sound = refl;
       crossed =
-          crossed_none comment t at line (HoldsPart place.pin_list (with_pinned m pins)) (with_pinned m pins) h
+          crossed_none t at line (HoldsPart place.pin_list (with_pinned m pins)) (with_pinned m pins) h
           (λ (s : State) (f : HoldsPart place.pin_list (with_pinned m pins) s). f.1);
       grid = grid_same m;
       long = refl;
@@ -197,38 +197,38 @@ gone_start comment t at line m pins stage h =
       staged = λ whole held. held;
     }
 
-module _ (comment : ℕ) (t : List ℕ) (at line : ℕ) (m : Map) (pins : ℕ) (stage₀ : List ℕ) (here number comment_here : ℕ) (part : Pinned) (stage : List ℕ)
-    (gone : Gone comment t at line m pins stage₀ here number comment_here part stage) where
+module _ (t : List ℕ) (at line : ℕ) (m : Map) (pins : ℕ) (stage₀ : List ℕ) (here number : ℕ) (part : Pinned) (stage : List ℕ)
+    (gone : Gone t at line m pins stage₀ here number part stage) where
   abbrev fits : State → Type 0
   fits = HoldsPart place.pin_list (with_pinned m pins)
 
   abbrev put : State → State
   put = with_pinned part.map part.pins
 
-  pub gone_ends : length t ≤ here → GoesPins comment t at line m pins stage₀ (record { at = here; line = number; comment = comment_here; part = part }) stage
+  pub gone_ends : length t ≤ here → GoesPins t at line m pins stage₀ (record { at = here; line = number; part = part }) stage
   gone_ends h =
       record {
         crossed = gone.crossed;
-        stays = stays_ended comment t at here h;
+        stays = stays_ended t at here h;
         grid = gone.grid;
         long = gone.long;
         plain = λ (z : part.rule ≡ 0). gone.plain;
         staged = λ (z : part.rule ≡ 0). gone.staged;
       }
 
-  module _ (h : here < length t) (found : Cut) (is_found : found ≡ cut_at comment_here t here) (next : Pinned) (stage' : List ℕ)
+  module _ (h : here < length t) (found : text.Line) (is_found : found ≡ line_at comment_byte t here) (next : Pinned) (stage' : List ℕ)
       (takes : TakesPin (take (found.content - here) (drop here t)) here part.map part.pins stage next stage') where
     abbrev content : List ℕ
     content = take (found.content - here) (drop here t)
 
     pub gone_leaves :
-        not next.taken ≡ true → GoesPins comment t at line m pins stage₀ (record { at = here; line = number; comment = comment_here; part = part }) stage'
+        not next.taken ≡ true → GoesPins t at line m pins stage₀ (record { at = here; line = number; part = part }) stage'
     gone_leaves is_left =
         let left : next.taken ≡ false = not-true next.taken is_left in
         rw (takes.kept left)
         (record {
           crossed = gone.crossed;
-          stays = stays_opens comment t at here comment_here found is_found gone.crossed.unmoved (takes.opens left);
+          stays = stays_opens t at here found is_found (takes.opens left);
           grid = gone.grid;
           long = gone.long;
           plain = λ (z : part.rule ≡ 0). gone.plain;
@@ -240,13 +240,13 @@ module _ (comment : ℕ) (t : List ℕ) (at line : ℕ) (m : Map) (pins : ℕ) (
       decided s f = takes.decides taken s f.0
 
       pub gone_stops :
-          (next.rule ≡ 0 → ⊥) → GoesPins comment t at line m pins stage₀ (record { at = found.next; line = number; comment = found.comment; part = next }) stage'
+          (next.rule ≡ 0 → ⊥) → GoesPins t at line m pins stage₀ (record { at = found.next; line = number; part = next }) stage'
       gone_stops broken =
           record {
             crossed =
-                crossed_stops comment t at line fits put part.rule comment_here here number gone.sound gone.crossed h found is_found
+                crossed_stops t at line fits put part.rule here number gone.sound gone.crossed h found is_found
                 (with_pinned next.map next.pins) next.rule decided broken;
-            stays = stays_moved comment t at here comment_here found is_found h gone.crossed.onward;
+            stays = stays_moved t at here found is_found h gone.crossed.onward;
             grid = grid_join gone.grid takes.grid;
             long = takes.long ∙ gone.long;
             plain = λ (z : next.rule ≡ 0). absurd (broken z);
@@ -255,10 +255,10 @@ module _ (comment : ℕ) (t : List ℕ) (at line : ℕ) (m : Map) (pins : ℕ) (
 
       module _ (z : next.rule ≡ 0) where
         abbrev here_lines : List Line
-        here_lines = lines_at comment_here t number here place.pin_list
+        here_lines = lines_at t number here place.pin_list
 
         abbrev next_lines : List Line
-        next_lines = lines_at found.comment t (number + 1) found.next place.pin_list
+        next_lines = lines_at t (number + 1) found.next place.pin_list
 
         abbrev Goes : Type 0
         Goes =
@@ -269,7 +269,7 @@ module _ (comment : ℕ) (t : List ℕ) (at line : ℕ) (m : Map) (pins : ℕ) (
         on_blank : is_blank_line content ≡ true → Goes
         on_blank blank =
             let e : (stage' ≡ stage) × (next.pins ≡ part.pins) = takes.blank blank in
-            let same : here_lines ≡ next_lines = pass_over comment_here t here h number found is_found blank place.pin_list in (
+            let same : here_lines ≡ next_lines = pass_over t here h number found is_found blank place.pin_list in (
               plainly_same place.pin_list _ _ _ (plainly_none place.pin_list _) same,
               λ whole held.
                   rw (e.0, e.1) (held_same pin_staged pin_width whole stage part.pins (gather pin_at here_lines) held (gather pin_at next_lines) (ap (gather pin_at) same)),
@@ -283,8 +283,8 @@ module _ (comment : ℕ) (t : List ℕ) (at line : ℕ) (m : Map) (pins : ℕ) (
             let key : key_at content ≡ plain = plain_key content e.0 in
             let l : Line = record { line = number; at = here; place = place.pin_list; content = content } in
             let one : here_lines ≡ l ∷ next_lines =
-            stop_here comment_here t here h number found is_found filled place.pin_list
-            ∙ ap (λ (p : ℕ). l ∷ lines_at found.comment t (number + 1) found.next p)
+            stop_here t here h number found is_found filled place.pin_list
+            ∙ ap (λ (p : ℕ). l ∷ lines_at t (number + 1) found.next p)
             (plain_stays place.pin_list content key (λ (x : place.pin_list ≡ place.map_head). omega arith)) in
             let gives : gather pin_at here_lines ≡ named_at l ∷ gather pin_at next_lines =
             ap (gather pin_at) one ∙ gather_more pin_at l next_lines
@@ -301,12 +301,12 @@ module _ (comment : ℕ) (t : List ℕ) (at line : ℕ) (m : Map) (pins : ℕ) (
         goes_on : Goes
         goes_on = by_cases Goes (is_blank_line content) on_blank on_filled
 
-        pub gone_on : Gone comment t at line m pins stage₀ found.next (number + 1) found.comment next stage'
+        pub gone_on : Gone t at line m pins stage₀ found.next (number + 1) next stage'
         gone_on =
             record {
               sound = z;
               crossed =
-                  crossed_on comment t at line fits put part.rule comment_here here number gone.sound gone.crossed h found is_found
+                  crossed_on t at line fits put part.rule here number gone.sound gone.crossed h found is_found
                   (with_pinned next.map next.pins) next.rule decided z;
               grid = grid_join gone.grid takes.grid;
               long = takes.long ∙ gone.long;

@@ -15,7 +15,7 @@ use Rattle.lex_line.specs.Lines.{is_blank_line}
 use Rattle.lex_keyword.specs.Names.{icm_pin_map, begin_icm_model, begin_icm_section}
 use Rattle.lex_keyword.specs.Bracket.{bracket_of}
 use Rattle.lex_keyword.specs.declared.Bracket.{Bracket}
-use Rattle.lex_keyword.specs.declared.Bracket.TheVariants.{Plain, Indented, Bad, Unknown, Later, Switch, Keyword}
+use Rattle.lex_keyword.specs.declared.Bracket.TheVariants.{Plain, Indented, Bad, Unknown, Later, Keyword}
 use Rattle.lex_keyword.proofs.AnswerLaws.{keyword_known}
 use Rattle.line_place.specs.Place.{is_in_family, is_text, opens_matrix, moved}
 use Rattle.line_place.specs.Place as place
@@ -95,7 +95,6 @@ module _ (content : List ℕ) (s : State) (filled : is_blank_line content ≡ fa
     by_bracket Bad b key = absurd (omega (arith, key))
     by_bracket Unknown b key = absurd (omega (arith, key))
     by_bracket Later b key = absurd (omega (arith, key))
-    by_bracket (Switch start) b key = absurd (omega (arith, key))
     by_bracket (Keyword k start) b key =
         let h : k < 40 = (keyword_known k start content b).known in
         absurd (omega (arith, key))

@@ -43,7 +43,6 @@ pub struct FamilyWalk {
     pub rule: u64,
     pub at: usize,
     pub line: u64,
-    pub comment: u8,
     pub state: State,
     pub block: Open,
 }
@@ -104,7 +103,7 @@ fn open_block(content: &[u8], at: usize, bracket: Bracket, first: u64) -> Open
     ensures { result ≡ opening at content.now first }
 {
     let start = doc::argument_in(bracket);
-    let name = lex_line::argument_of(content, start);
+    let name = read_line::argument_of(content, start);
     Open {
         start: (at + start) as u64,
         size: name.len() as u64,
@@ -172,24 +171,22 @@ fn read_alone(
     text: &[u8],
     at: usize,
     line: u64,
-    comment: u8,
     s: State,
     block: Open,
     models: &mut [u64],
     maps: &mut [u64],
 ) -> FamilyWalk
-    requires { (at < length text.now) × Onward comment text.now at line s × (s.place < place.after) × Alone comment text.now at s.place }
-    ensures { (steps pins : List ℕ) → Continues comment text.now at line s block models.old steps maps.old pins
+    requires { (at < length text.now) × Onward text.now at line s × (s.place < place.after) × Alone text.now at s.place }
+    ensures { (steps pins : List ℕ) → Continues text.now at line s block models.old steps maps.old pins
         result models.new steps maps.new pins }
 {
-    let read = read_line::read_single(text, at, line, comment, s);
+    let read = read_line::read_single(text, at, line, s);
     let state = read.state;
     if read.rule != 0 {
         return FamilyWalk {
             rule: read.rule,
             at: read.at,
             line: read.line,
-            comment: read.comment,
             state,
             block,
         };
@@ -213,7 +210,6 @@ fn read_alone(
         rule: 0,
         at: read.at,
         line: read.line,
-        comment: read.comment,
         state,
         block: next,
     }
@@ -236,7 +232,6 @@ fn after_steps(s: State, block: Open, walk: PathWalk) -> FamilyWalk
         rule: part.rule,
         at: walk.at,
         line: walk.line,
-        comment: walk.comment,
         state,
         block,
     }
@@ -248,20 +243,19 @@ fn read_steps(
     text: &[u8],
     at: usize,
     line: u64,
-    comment: u8,
     s: State,
     block: Open,
     models: &mut [u64],
     steps: &mut [u64],
     maps: &mut [u64],
 ) -> FamilyWalk
-    requires { (at < length text.now) × Onward comment text.now at line s × (s.place ≡ place.path) }
-    ensures { (pins : List ℕ) → Continues comment text.now at line s block models.old steps.old maps.old pins
+    requires { (at < length text.now) × Onward text.now at line s × (s.place ≡ place.path) }
+    ensures { (pins : List ℕ) → Continues text.now at line s block models.old steps.old maps.old pins
         result models.new steps.new maps.new pins }
 {
     let path = s.path;
     let counts = s.counts;
-    let walk = read_path::pass_block(text, at, line, comment, path, counts.steps, steps);
+    let walk = read_path::pass_block(text, at, line, path, counts.steps, steps);
     let part = walk.part;
     if part.rule != 0 {
         return after_steps(s, block, walk);
@@ -269,7 +263,7 @@ fn read_steps(
     if at < walk.at {
         return after_steps(s, block, walk);
     }
-    read_alone(text, at, line, comment, s, block, models, maps)
+    read_alone(text, at, line, s, block, models, maps)
 }
 
 // The walk after lines of a pin list.
@@ -287,7 +281,6 @@ fn after_pins(s: State, block: Open, walk: PinWalk) -> FamilyWalk
         rule: part.rule,
         at: walk.at,
         line: walk.line,
-        comment: walk.comment,
         state,
         block,
     }
@@ -298,20 +291,19 @@ fn read_pins(
     text: &[u8],
     at: usize,
     line: u64,
-    comment: u8,
     s: State,
     block: Open,
     models: &mut [u64],
     maps: &mut [u64],
     pins: &mut [u64],
 ) -> FamilyWalk
-    requires { (at < length text.now) × Onward comment text.now at line s × (s.place ≡ place.pin_list) }
-    ensures { (steps : List ℕ) → Continues comment text.now at line s block models.old steps maps.old pins.old
+    requires { (at < length text.now) × Onward text.now at line s × (s.place ≡ place.pin_list) }
+    ensures { (steps : List ℕ) → Continues text.now at line s block models.old steps maps.old pins.old
         result models.new steps maps.new pins.new }
 {
     let map = s.map;
     let counts = s.counts;
-    let walk = pins::pass_pins(text, at, line, comment, map, counts.pins, pins);
+    let walk = pins::pass_pins(text, at, line, map, counts.pins, pins);
     let part = walk.part;
     if part.rule != 0 {
         return after_pins(s, block, walk);
@@ -319,7 +311,7 @@ fn read_pins(
     if at < walk.at {
         return after_pins(s, block, walk);
     }
-    read_alone(text, at, line, comment, s, block, models, maps)
+    read_alone(text, at, line, s, block, models, maps)
 }
 
 // Reads the line at offset `at`, or several lines that change nothing or only one part of the state.
@@ -327,7 +319,6 @@ fn read_on(
     text: &[u8],
     at: usize,
     line: u64,
-    comment: u8,
     s: State,
     block: Open,
     models: &mut [u64],
@@ -335,43 +326,37 @@ fn read_on(
     maps: &mut [u64],
     pins: &mut [u64],
 ) -> FamilyWalk
-    requires { (at < length text.now) × Onward comment text.now at line s × (s.place < place.after) }
-    ensures { Continues comment text.now at line s block models.old steps.old maps.old pins.old
+    requires { (at < length text.now) × Onward text.now at line s × (s.place < place.after) }
+    ensures { Continues text.now at line s block models.old steps.old maps.old pins.old
         result models.new steps.new maps.new pins.new }
 {
     if s.place == line_place::PATH {
-        return read_steps(text, at, line, comment, s, block, models, steps, maps);
+        return read_steps(text, at, line, s, block, models, steps, maps);
     }
     if s.place == line_place::PIN_LIST {
-        return read_pins(text, at, line, comment, s, block, models, maps, pins);
+        return read_pins(text, at, line, s, block, models, maps, pins);
     }
-    let passing = doc::idle::skip_idle(text, at, line, comment, s.place);
+    let passing = doc::idle::skip_idle(text, at, line, s.place);
     if at < passing.at {
         return FamilyWalk {
             rule: 0,
             at: passing.at,
             line: passing.line,
-            comment: passing.comment,
             state: s,
             block,
         };
     }
-    read_alone(text, at, line, comment, s, block, models, maps)
+    read_alone(text, at, line, s, block, models, maps)
 }
 
 // The place of the model list: the place that is reached, up to the list.
-fn follow(list: Cursor, at: usize, line: u64, comment: u8, place: u64) -> Cursor
-    ensures { result ≡ followed list (record { at = at; line = line; comment = comment; place = place }) }
+fn follow(list: Cursor, at: usize, line: u64, place: u64) -> Cursor
+    ensures { result ≡ followed list (record { at = at; line = line; place = place }) }
 {
     if list.place == line_place::LIST {
         return list;
     }
-    Cursor {
-        at,
-        line,
-        comment,
-        place,
-    }
+    Cursor { at, line, place }
 }
 
 // Rules 5 to 17 up to [End ICM Family]. If none is broken there, the records of the family are staged, as far as the
@@ -387,7 +372,6 @@ pub fn read_family(
 {
     let mut at = 0;
     let mut line = 1;
-    let mut comment = lex_comment::ABOVE_HEADER;
     let mut s = line_keyword::start_state();
     let mut block = Open {
         start: 0,
@@ -402,36 +386,32 @@ pub fn read_family(
                 rule: 0,
                 at,
                 line,
-                comment,
                 state: s,
             };
             return Family { walk, list };
         }
-        let next = read_on(text, at, line, comment, s, block, models, steps, maps, pins);
+        let next = read_on(text, at, line, s, block, models, steps, maps, pins);
         let state = next.state;
         if next.rule != 0 {
             let walk = Walk {
                 rule: next.rule,
                 at: next.at,
                 line: next.line,
-                comment: next.comment,
                 state,
             };
             return Family { walk, list };
         }
         at = next.at;
         line = next.line;
-        comment = next.comment;
         s = state;
         let reached = next.block;
         block = reached;
-        list = follow(list, at, line, comment, s.place);
+        list = follow(list, at, line, s.place);
     }
     let walk = Walk {
         rule: 0,
         at,
         line,
-        comment,
         state: s,
     };
     Family { walk, list }

@@ -68,13 +68,11 @@ fn take_pin(content: &[u8], at: usize, map: Map, pins: u64, stage: &mut [u64]) -
     }
 }
 
-// Where the lines of a pin list end and the comment character in force there, or the line that breaks a rule, and the
-// result up to there.
+// Where the lines of a pin list end, or the line that breaks a rule, and the result up to there.
 #[derive(Drop)]
 pub struct PinWalk {
     pub at: usize,
     pub line: u64,
-    pub comment: u8,
     pub part: Pinned,
 }
 
@@ -83,17 +81,15 @@ pub fn pass_pins(
     text: &[u8],
     at: usize,
     line: u64,
-    comment: u8,
     map: Map,
     pins: u64,
     stage: &mut [u64],
 ) -> PinWalk
     requires { (at ≤ length text.now) × (line ≤ at + 1) }
-    ensures { GoesPins comment text.now at line map pins stage.old result stage.new }
+    ensures { GoesPins text.now at line map pins stage.old result stage.new }
 {
     let mut here = at;
     let mut line_here = line;
-    let mut comment_here = comment;
     let mut part = Pinned {
         taken: true,
         rule: 0,
@@ -101,25 +97,22 @@ pub fn pass_pins(
         pins,
     };
     while here < text.len() {
-        let found = lex_comment::cut_at(text, here, comment_here);
+        let found = lex_line::line_at(text, here, lex_line::COMMENT);
         let content = found.content;
         let next = take_pin(&text[here..content], here, part.map, part.pins, stage);
         if !next.taken {
             return PinWalk {
                 at: here,
                 line: line_here,
-                comment: comment_here,
                 part,
             };
         }
         here = found.next;
-        comment_here = found.comment;
         part = next;
         if part.rule != 0 {
             return PinWalk {
                 at: here,
                 line: line_here,
-                comment: comment_here,
                 part,
             };
         }
@@ -128,7 +121,6 @@ pub fn pass_pins(
     PinWalk {
         at: here,
         line: line_here,
-        comment: comment_here,
         part,
     }
 }

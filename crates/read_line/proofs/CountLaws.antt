@@ -26,7 +26,7 @@ use Rattle.base.proofs.IfLaws.{
   either_none_second,
 }
 use Rattle.lex_line.specs.Words.{words, first_of}
-use Rattle.lex_comment.specs.Comments.{above_header, contents}
+use Rattle.lex_line.specs.Lines.{contents}
 use Rattle.lex_keyword.specs.Names.{
   icm_ver,
   begin_header,
@@ -83,16 +83,16 @@ use Rattle.read_line.proofs.ReadingLaws.{reads_only, reads_when, reads_done}
 use Rattle.read_line.proofs.OutsideLaws.{along_counted, along, Met, step_holds, keyword_placed}
 use Rattle.table_layout.specs.Bounds.{most_models, most_steps, most_maps, most_pins, most_sections, most_values, most_matrices}
 
-pub read_kept : (t : List ℕ) (c : Counts) → reading_of t ≡ Read c → BoundedState (1 + length (contents above_header t)) (state_after 1 (contents above_header t) start_state)
+pub read_kept : (t : List ℕ) (c : Counts) → reading_of t ≡ Read c → BoundedState (1 + length (contents t)) (state_after 1 (contents t) start_state)
 read_kept t c e =
-    along_counted (λ (m : ℕ) (s : State). BoundedState m s) step_kept 1 1 (contents above_header t) start_state (kept_more 0 1 start_state start_kept (omega arith)) (reads_only t c e)
+    along_counted (λ (m : ℕ) (s : State). BoundedState m s) step_kept 1 1 (contents t) start_state (kept_more 0 1 start_state start_kept (omega arith)) (reads_only t c e)
 
 -- a text has one result
 same_counts : (c d : Counts) → Read c ≡ Read d → c ≡ d
 same_counts c d e = cc
 
 -- the counts in the result are those of the last state
-pub reads_counts : (t : List ℕ) (c : Counts) → reading_of t ≡ Read c → c ≡ (state_after 1 (contents above_header t) start_state).counts
+pub reads_counts : (t : List ℕ) (c : Counts) → reading_of t ≡ Read c → c ≡ (state_after 1 (contents t) start_state).counts
 reads_counts t c e = same_counts _ _ (sym e ∙ reads_when t (reads_only t c e) (reads_done t c e))
 
 -- "64 models", "4,096 steps", "64 maps", "4,096 pins", "256 sections", "65,536 values"
@@ -655,9 +655,9 @@ step_tally content s t z = step_holds Tally line_tally keyword_tally content s t
 -- over all sections there are at most four matrices each
 pub read_fours : (t : List ℕ) (c : Counts) → reading_of t ≡ Read c → c.matrices ≤ 4 * c.sections
 read_fours t c e =
-    let y : Tally (state_after 1 (contents above_header t) start_state) = along Tally step_tally 1 (contents above_header t) start_state start_tally (reads_only t c e) in
-    let d : (state_after 1 (contents above_header t) start_state).place ≡ done = reads_done t c e in
-    let f : (state_after 1 (contents above_header t) start_state).counts.matrices ≤ 4 * (state_after 1 (contents above_header t) start_state).counts.sections = y.all (omega arith) in
+    let y : Tally (state_after 1 (contents t) start_state) = along Tally step_tally 1 (contents t) start_state start_tally (reads_only t c e) in
+    let d : (state_after 1 (contents t) start_state).place ≡ done = reads_done t c e in
+    let f : (state_after 1 (contents t) start_state).counts.matrices ≤ 4 * (state_after 1 (contents t) start_state).counts.sections = y.all (omega arith) in
     rw (reads_counts t c e) f
 
 -- so no rule needs to count the matrices

@@ -13,13 +13,12 @@ use Rattle.base.specs.If.{if◌then◌else◌}
 use Rattle.base.specs.Refusal as refusal
 use Rattle.base.proofs.IfLaws.{if_true, if_false, by_test, by_cases, both_rest}
 use Rattle.base.proofs.BrokenLaws.{Numbered, all_kept}
-use Rattle.lex_line.specs.Lines.{is_blank_line}
-use Rattle.lex_comment.specs.Comments.{Said}
-use Rattle.lex_line.specs.Words.{words, first_of, argument_from}
+use Rattle.lex_line.specs.Lines.{Said, is_blank_line}
+use Rattle.lex_line.specs.Words.{words, first_of}
 use Rattle.lex_keyword.specs.Names.{begin_header, tree_path_description}
 use Rattle.lex_keyword.specs.Bracket.{bracket_of}
 use Rattle.lex_keyword.specs.declared.Bracket.{Bracket}
-use Rattle.lex_keyword.specs.declared.Bracket.TheVariants.{Plain, Indented, Bad, Unknown, Later, Switch, Keyword}
+use Rattle.lex_keyword.specs.declared.Bracket.TheVariants.{Plain, Indented, Bad, Unknown, Later, Keyword}
 use Rattle.line_place.specs.Place.{is_text, before, done, moved_by_line}
 use Rattle.line_place.specs.Place as place
 use Rattle.line_path.specs.Path.{path_open, new_path}
@@ -29,11 +28,11 @@ use Rattle.line_keyword.specs.Keywords.{is_fork_open, is_misplaced, path_after, 
 use Rattle.line_keyword.specs.State.{start_state}
 use Rattle.line_keyword.specs.declared.State.{State}
 use Rattle.line_keyword.specs.Way.Rule.{keyword_rule}
-use Rattle.read_line.specs.Reading.{goes, breaks, judged, line_next, line_result}
-use Rattle.read_line.specs.Way.Steps.{line_step, keyword_step, switch_rule, bracket_step, before_step, line_rule}
+use Rattle.read_line.specs.Reading.{goes, breaks, judged, line_next, argument_from, line_result}
+use Rattle.read_line.specs.Way.Steps.{line_step, keyword_step, bracket_step, before_step, line_rule}
 use Rattle.read_line.specs.Way.Trace.{broken_at, afterwards, meeting_of, meetings, state_after, AllGo}
 use Rattle.read_line.specs.declared.LineResult.{LineResult}
-use Rattle.read_line.proofs.ResultLaws.{switch_breaks, result_steps}
+use Rattle.read_line.proofs.ResultLaws.{result_steps}
 use Rattle.read_line.proofs.ReadingLaws.{meet_goes, meet_stops, by_broken, head_goes, tail_goes}
 
 -- ---- what lines with and without a keyword preserve, every line preserves
@@ -84,7 +83,6 @@ module _ (P : State → Type 0) where
     holds_bracket Bad content s met h = holds_breaks refusal.keyword s (omega arith)
     holds_bracket Unknown content s met h = holds_breaks refusal.unknown s (omega arith)
     holds_bracket Later content s met h = holds_breaks refusal.later s (omega arith)
-    holds_bracket (Switch start) content s met h = holds_breaks (switch_rule s) s (switch_breaks s)
     holds_bracket (Keyword key start) content s met h = holds_keyword key (argument_from content start) s (met key) h
 
     holds_before : (b : Bracket) (content : List ℕ) (s : State) → (s.place ≡ done → ⊥) → P s → Holds (before_step b content s)
@@ -93,7 +91,6 @@ module _ (P : State → Type 0) where
     holds_before Bad content s on h = holds_goes s h
     holds_before Unknown content s on h = holds_goes s h
     holds_before Later content s on h = holds_goes s h
-    holds_before (Switch start) content s on h = holds_goes s h
     holds_before (Keyword key start) content s on h =
         by_test (λ (x : LineResult). Holds x) (eqb key begin_header) _ _
         (λ (e : eqb key begin_header ≡ true).

@@ -17,10 +17,10 @@ use Rattle.base.specs.Way.Class.{run_end}
 use Rattle.base.proofs.IfLaws.{if_true, if_false, by_test, by_cases}
 use Rattle.lex_line.specs.Lines.{is_blank_line}
 use Rattle.lex_line.specs.Words.{words, first_of}
-use Rattle.lex_keyword.specs.Names.{unknown, is_later, keyword_of, comment_char}
+use Rattle.lex_keyword.specs.Names.{unknown, is_later, keyword_of}
 use Rattle.lex_keyword.specs.Bracket.{is_open, is_good_bracket, name_of, argument_at, named_as, bracket_of}
 use Rattle.lex_keyword.specs.declared.Bracket.{Bracket}
-use Rattle.lex_keyword.specs.declared.Bracket.TheVariants.{Plain, Indented, Bad, Unknown, Later, Switch, Keyword}
+use Rattle.lex_keyword.specs.declared.Bracket.TheVariants.{Plain, Indented, Bad, Unknown, Later, Keyword}
 use Rattle.lex_keyword.proofs.BracketLaws.{reads_plain}
 use Rattle.line_place.specs.Place as place
 use Rattle.line_argument.specs.Argument.{is_reserved}
@@ -50,7 +50,6 @@ is_plain Indented = false
 is_plain Bad = false
 is_plain Unknown = false
 is_plain Later = false
-is_plain (Switch start) = false
 is_plain (Keyword k start) = false
 
 named_other : (k start : ℕ) → is_plain (named_as k start) ≡ false
@@ -58,7 +57,7 @@ unfolding named_as
 named_other k start =
     by_test (λ (b : Bracket). is_plain b ≡ false) (eqb k unknown) _ _
     (λ e. refl)
-    (λ e. by_test (λ (b : Bracket). is_plain b ≡ false) (is_later k) _ _ (λ f. refl) (λ f. by_test (λ (b : Bracket). is_plain b ≡ false) (eqb k comment_char) _ _ (λ g. refl) (λ g. refl)))
+    (λ e. by_test (λ (b : Bracket). is_plain b ≡ false) (is_later k) _ _ (λ f. refl) (λ f. refl))
 
 -- a line whose first byte after the blanks is `[` has a bracket
 opened_other : (content : List ℕ) → is_open (get_or content (run is_blank content) 0) ≡ true → Opens content

@@ -11,7 +11,7 @@ use lib.Dec.{eqb}
 use borrow.Author.Tests.{eq-eqb, ne_eqb, eqb-true, eqb-false}
 use Rattle.base.specs.Broken.{first_broken}
 use Rattle.base.proofs.IfLaws.{if_true, if_false, by_cases}
-use Rattle.lex_comment.specs.Comments.{above_header, Said, contents}
+use Rattle.lex_line.specs.Lines.{Said, contents}
 use Rattle.line_keyword.specs.State.{start_state}
 use Rattle.line_keyword.specs.declared.Counts.{Counts}
 use Rattle.line_keyword.specs.declared.State.{State}
@@ -139,14 +139,14 @@ first_refused n (l ∷ ls) s k m f =
 -- ---- a whole text
 
 -- it reads to its end exactly when no line that is reached breaks a rule and the last place is after [End]
-pub reads_when : (t : List ℕ) → AllGo (meetings 1 (contents above_header t) start_state) → (state_after 1 (contents above_header t) start_state).place ≡ done → reading_of t ≡ Read (state_after 1 (contents above_header t) start_state).counts
+pub reads_when : (t : List ℕ) → AllGo (meetings 1 (contents t) start_state) → (state_after 1 (contents t) start_state).place ≡ done → reading_of t ≡ Read (state_after 1 (contents t) start_state).counts
 unfolding reading_of
-reads_when t a p = all_read 1 (contents above_header t) start_state a ∙ sym (end_read (state_after 1 (contents above_header t) start_state) p)
+reads_when t a p = all_read 1 (contents t) start_state a ∙ sym (end_read (state_after 1 (contents t) start_state) p)
 
-pub reads_only : (t : List ℕ) (c : Counts) → reading_of t ≡ Read c → AllGo (meetings 1 (contents above_header t) start_state)
+pub reads_only : (t : List ℕ) (c : Counts) → reading_of t ≡ Read c → AllGo (meetings 1 (contents t) start_state)
 unfolding reading_of
-reads_only t c e = read_goes 1 (contents above_header t) start_state c e
+reads_only t c e = read_goes 1 (contents t) start_state c e
 
-pub reads_done : (t : List ℕ) (c : Counts) → reading_of t ≡ Read c → (state_after 1 (contents above_header t) start_state).place ≡ done
+pub reads_done : (t : List ℕ) (c : Counts) → reading_of t ≡ Read c → (state_after 1 (contents t) start_state).place ≡ done
 unfolding reading_of
-reads_done t c e = (end_done (state_after 1 (contents above_header t) start_state) c (sym (all_read 1 (contents above_header t) start_state (reads_only t c e)) ∙ e)).0
+reads_done t c e = (end_done (state_after 1 (contents t) start_state) c (sym (all_read 1 (contents t) start_state (reads_only t c e)) ∙ e)).0

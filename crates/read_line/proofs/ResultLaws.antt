@@ -4,20 +4,20 @@
 use mathlib.Core.Path.{◌≡◌, refl, sym, ◌∙◌, ap}
 use mathlib.Core.Bool.{Bool, true, false, not}
 use mathlib.Core.List.{List}
-use Prim.Native.Nat.{ℕ, ◌<◌}
+use Prim.Native.Nat.{ℕ}
 use native.Mathlib.Omega.{arith}
 use lib.Dec.{eqb}
 use borrow.Author.Tests.{eq-eqb, ne_eqb, eqb-true, not-false}
 use Rattle.base.specs.If.{if◌then◌else◌, either}
 use Rattle.base.specs.Broken.{first, first_broken}
 use Rattle.base.specs.Refusal as refusal
-use Rattle.base.proofs.IfLaws.{if_true, if_false, by_cases, not_via, not_not_via, by_test, either_left}
+use Rattle.base.proofs.IfLaws.{if_true, if_false, by_cases, not_via, not_not_via}
 use Rattle.base.proofs.BrokenLaws.{first_broken_lem, first_kept, all_kept}
 use Rattle.lex_line.specs.Lines.{is_blank_line}
 use Rattle.lex_keyword.specs.Names.{begin_header}
 use Rattle.lex_keyword.specs.Bracket.{bracket_of}
 use Rattle.lex_keyword.specs.declared.Bracket.{Bracket}
-use Rattle.lex_keyword.specs.declared.Bracket.TheVariants.{Plain, Indented, Bad, Unknown, Later, Switch, Keyword}
+use Rattle.lex_keyword.specs.declared.Bracket.TheVariants.{Plain, Indented, Bad, Unknown, Later, Keyword}
 use Rattle.line_place.specs.Place.{is_text, before, done}
 use Rattle.line_place.specs.Place as place
 use Rattle.line_head.specs.Head.{head_line_of}
@@ -31,9 +31,8 @@ use Rattle.line_matrix.specs.Way.Rule.{data_rule}
 use Rattle.line_keyword.specs.declared.Counts.{Counts}
 use Rattle.line_keyword.specs.declared.State.{State}
 use Rattle.line_keyword.specs.Way.Rule.{keyword_rule}
-use Rattle.read_line.specs.Reading.{list_rules, RulesAndNext, passed_over, always_breaks, plain_rules_and_next, keyword_rules_and_next, switch_rules, bracket_rules_and_next, before_rules_and_next, rules_and_next, goes, breaks, judged, line_result, end_of_text_rules, at_end}
-use Rattle.lex_line.specs.Words.{argument_from}
-use Rattle.read_line.specs.Way.Steps.{result_of, line_step, keyword_step, switch_rule, bracket_step, before_step, step_of, line_rule}
+use Rattle.read_line.specs.Reading.{list_rules, RulesAndNext, passed_over, always_breaks, plain_rules_and_next, keyword_rules_and_next, bracket_rules_and_next, before_rules_and_next, rules_and_next, goes, breaks, judged, line_result, argument_from, end_of_text_rules, at_end}
+use Rattle.read_line.specs.Way.Steps.{result_of, line_step, keyword_step, bracket_step, before_step, step_of, line_rule}
 use Rattle.read_line.specs.declared.LineResult.{LineResult}
 use Rattle.read_line.specs.declared.Reading.TheVariants.{Read, Refused}
 
@@ -82,24 +81,6 @@ keyword_steps : (k : ℕ) (argument : List ℕ) (s : State) → result_of (keywo
 unfolding keyword_step keyword_rule
 keyword_steps k argument s = refl
 
--- [Comment Char], if it is read
-switch_first : (argument : List ℕ) (s : State) → first_broken (switch_rules argument s) ≡ switch_rule s
-unfolding switch_rule
-switch_first argument s =
-    by_test (λ (n : ℕ). first_broken (switch_rules argument s) ≡ n) (eqb s.place place.opened) _ _
-    (λ (e : eqb s.place place.opened ≡ true). first_broken_lem _ _ _ e)
-    (λ (e : eqb s.place place.opened ≡ false). first_kept _ _ _ _ e (first_broken_lem _ _ _ (either_left _ _ (not_via e))))
-
-pub switch_breaks : (s : State) → 0 < switch_rule s
-unfolding switch_rule
-switch_breaks s = by_test (λ (n : ℕ). 0 < n) (eqb s.place place.opened) _ _ (λ e. omega arith) (λ e. omega arith)
-
-switch_steps : (argument : List ℕ) (s : State) → result_of (record { rules = switch_rules argument s; next = s }) s ≡ breaks (switch_rule s) s
-unfolding judged
-switch_steps argument s =
-    let h : 0 < switch_rule s = switch_breaks s in
-    ap (λ (n : ℕ). judged n s s) (switch_first argument s) ∙ if_false _ _ (ne_eqb _ _ (λ (z : switch_rule s ≡ 0). omega arith))
-
 -- a choice between lines is a choice between their results
 result_chosen : (b : Bool) (x y : RulesAndNext) (s : State) (p q : LineResult) → result_of x s ≡ p → result_of y s ≡ q → result_of (if b then x else y) s ≡ (if b then p else q)
 unfolding if◌then◌else◌
@@ -113,7 +94,6 @@ bracket_steps Indented content s =
 bracket_steps Bad content s = refused_breaks refusal.keyword s (λ (z : refusal.keyword ≡ 0). omega arith)
 bracket_steps Unknown content s = refused_breaks refusal.unknown s (λ (z : refusal.unknown ≡ 0). omega arith)
 bracket_steps Later content s = refused_breaks refusal.later s (λ (z : refusal.later ≡ 0). omega arith)
-bracket_steps (Switch start) content s = switch_steps (argument_from content start) s
 bracket_steps (Keyword k start) content s = keyword_steps k (argument_from content start) s
 
 before_steps : (b : Bracket) (content : List ℕ) (s : State) → result_of (before_rules_and_next b content s) s ≡ before_step b content s
@@ -122,7 +102,6 @@ before_steps Indented content s = passed_goes s
 before_steps Bad content s = passed_goes s
 before_steps Unknown content s = passed_goes s
 before_steps Later content s = passed_goes s
-before_steps (Switch start) content s = passed_goes s
 before_steps (Keyword k start) content s =
     result_chosen (eqb k begin_header) (keyword_rules_and_next k (argument_from content start) s) (passed_over s) s _ _ (keyword_steps k (argument_from content start) s) (passed_goes s)
 

@@ -13,7 +13,8 @@ use Rattle.base.specs.Broken.{◌when◌, first, first_broken}
 use Rattle.base.specs.Refusal as refusal
 use Rattle.base.proofs.IfLaws.{if_true, if_false, by_cases, either_rest}
 use Rattle.base.proofs.BrokenLaws.{first_broken_lem, first_kept, lists_yes, lists_no}
-use Rattle.lex_line.specs.Words.{words, first_of, last_end, argument_from}
+use Rattle.lex_line.specs.Words.{words, first_of, last_end}
+use Rattle.lex_line.specs.Way.Spans.{last_word}
 use Rattle.line_place.specs.Place.{moved_by_line, is_text}
 use Rattle.line_place.specs.Place as place
 use Rattle.line_argument.specs.Argument.{is_reserved, is_out_of_bounds}
@@ -45,6 +46,7 @@ use Rattle.base.specs.Runs.{run, all}
 use Rattle.base.specs.Way.Class.{run_end}
 use Rattle.base.proofs.RunLaws.{run_whole, all_run}
 use Rattle.lex_line.specs.Lines.{is_blank_line}
+use Rattle.lex_line.specs.declared.Span.{Span}
 use Rattle.lex_keyword.specs.Bracket.{bracket_of}
 use Rattle.lex_keyword.specs.declared.Bracket.{Bracket}
 use lib.ListN.{length, take, drop}
@@ -52,8 +54,8 @@ use native.Mathlib.Nat.{zero-add}
 use Rattle.line_keyword.specs.declared.State.{State}
 use Rattle.line_keyword.specs.Way.Rule.{keyword_rule}
 use Rattle.read_line.specs.declared.LineResult.{LineResult}
-use Rattle.read_line.specs.Reading.{counts_after_line, line_next, goes, breaks, judged}
-use Rattle.read_line.specs.Way.Steps.{line_step, keyword_step, switch_rule, bracket_step, before_step, line_rule}
+use Rattle.read_line.specs.Reading.{counts_after_line, line_next, goes, breaks, judged, argument_from}
+use Rattle.read_line.specs.Way.Steps.{line_step, keyword_step, bracket_step, before_step, line_rule}
 use Rattle.read_line.specs.Way.Walk.{Decides, Stepping, ReadLineByLine, with_path, with_pinned, with_matrix}
 
 -- ---- a line judged
@@ -302,6 +304,32 @@ all_countable s kept = kept_countable most_lines s kept (omega arith)
 
 -- ---- arguments
 
+last_within : (content : List ℕ) → last_end content ≤ length content
+unfolding last_end
+last_within content = omega arith
+
+module _ (content : List ℕ) (start : ℕ) (last : Span) (found : last ≡ last_word content) where
+  end_told : last.end ≡ last_end content
+  unfolding last_word
+  end_told = ap (λ (w : Span). w.end) found
+
+  pub argument_within : last.end ≤ length content
+  argument_within =
+      let e : last.end ≡ last_end content = end_told in
+      let h : last_end content ≤ length content = last_within content in
+      omega arith
+
+  pub argument_none : last.end ≤ start → take 0 content ≡ argument_from content start
+  unfolding argument_from
+  argument_none h =
+      let e : last.end ≡ last_end content = end_told in
+      let z : last_end content - start ≡ 0 = omega arith in
+      rw z
+
+  pub argument_there : take (last.end - start) (drop start content) ≡ argument_from content start
+  unfolding argument_from
+  argument_there = ap (λ (n : ℕ). take (n - start) (drop start content)) end_told
+
 -- a keyword, with the argument that was cut out
 pub named_told : (k : ℕ) (content : List ℕ) (start : ℕ) (s : State) (argument : List ℕ) (r : LineResult) → argument ≡ argument_from content start → r ≡ keyword_step k argument s → r ≡ keyword_step k (argument_from content start) s
 named_told k content start s argument r cut e = e ∙ ap (λ (x : List ℕ). keyword_step k x s) cut
@@ -328,12 +356,3 @@ blank_told content n e =
     by_cases (eqb n (length content) ≡ all is_blank content) (all is_blank content)
     (λ (a : all is_blank content ≡ true). absurd (eqb-false n (length content) h (z ∙ all_run is_blank content a)))
     (λ (a : all is_blank content ≡ false). h ∙ sym a))
-
--- [Comment Char]
-pub switch_misplaced : (s : State) (r : LineResult) → s.place ≡ place.opened → r ≡ breaks refusal.place s → r ≡ breaks (switch_rule s) s
-unfolding switch_rule
-switch_misplaced s r h e = e ∙ ap (λ (n : ℕ). breaks n s) (sym (if_true _ _ (eq-eqb _ _ h)))
-
-pub switch_argued : (s : State) (r : LineResult) → (s.place ≡ place.opened → ⊥) → r ≡ breaks refusal.argument s → r ≡ breaks (switch_rule s) s
-unfolding switch_rule
-switch_argued s r h e = e ∙ ap (λ (n : ℕ). breaks n s) (sym (if_false _ _ (ne_eqb _ _ h)))

@@ -1,16 +1,15 @@
 -- The forward reading: which rule each line breaks in its place, the state after it, and the result of the whole text.
 -- Assumes nothing.
-use Rattle.std.specs.Prelude.{ℕ, ◌+◌, true, not, List, [], ◌∷◌, eqb}
-use Rattle.base.specs.If.{if◌then◌else◌, both, either}
+use Rattle.std.specs.Prelude.{ℕ, ◌+◌, ◌-◌, true, not, List, [], ◌∷◌, take, drop, eqb}
+use Rattle.base.specs.If.{if◌then◌else◌, both}
 use Rattle.base.specs.Broken.{Rule, ◌when◌, first_broken}
 use Rattle.base.specs.Refusal as refusal
-use Rattle.lex_line.specs.Lines.{is_blank_line}
-use Rattle.lex_comment.specs.Comments.{is_comment_argument, above_header, Said, contents}
-use Rattle.lex_line.specs.Words.{words, first_of, argument_from}
+use Rattle.lex_line.specs.Lines.{Said, is_blank_line, contents}
+use Rattle.lex_line.specs.Words.{words, first_of, last_end}
 use Rattle.lex_keyword.specs.Names.{begin_header}
 use Rattle.lex_keyword.specs.Bracket.{bracket_of}
 use Rattle.lex_keyword.specs.declared.Bracket.{Bracket}
-use Rattle.lex_keyword.specs.declared.Bracket.TheVariants.{Plain, Indented, Bad, Unknown, Later, Switch, Keyword}
+use Rattle.lex_keyword.specs.declared.Bracket.TheVariants.{Plain, Indented, Bad, Unknown, Later, Keyword}
 use Rattle.line_place.specs.Place.{moved_by_line, is_text, before, done}
 use Rattle.line_place.specs.Place as place
 use Rattle.line_argument.specs.Argument.{is_reserved}
@@ -74,6 +73,10 @@ line_next content s =
 
 -- ---- one line
 
+-- the argument of a keyword, without the blanks at its ends
+unfoldable pub argument_from : List ℕ → ℕ → List ℕ
+argument_from content start = take (last_end content - start) (drop start content)
+
 -- the rules that a line is checked for, and the state after it if it breaks none of them
 pub record RulesAndNext : Type 0 where
   pub rules : List Rule
@@ -93,14 +96,6 @@ plain_rules_and_next content s = record { rules = line_rules content s; next = l
 abbrev pub keyword_rules_and_next : ℕ → List ℕ → State → RulesAndNext
 keyword_rules_and_next k argument s = record { rules = keyword_rules k argument s; next = keyword_next k argument s }
 
--- [Comment Char]: "a bad argument is 11, a wrong place 9", which is above [ICM Ver]. Below it a good one says nothing any
--- more (Comments.antt of `lex_comment`), so one that is read there has a bad argument
-abbrev pub switch_rules : List ℕ → State → List Rule
-switch_rules argument s =
-    refusal.place when eqb s.place place.opened
-    ∷ refusal.argument when either (not (eqb s.place place.opened)) (not (is_comment_argument argument))
-    ∷ []
-
 -- a bad bracket is 6, a keyword not of 000 is 7, a later keyword is 8; these come before every other rule of the line
 abbrev pub bracket_rules_and_next : Bracket → List ℕ → State → RulesAndNext
 bracket_rules_and_next Plain content s = plain_rules_and_next content s
@@ -108,7 +103,6 @@ bracket_rules_and_next Indented content s = if is_text s.place then plain_rules_
 bracket_rules_and_next Bad content s = always_breaks refusal.keyword s
 bracket_rules_and_next Unknown content s = always_breaks refusal.unknown s
 bracket_rules_and_next Later content s = always_breaks refusal.later s
-bracket_rules_and_next (Switch start) content s = record { rules = switch_rules (argument_from content start) s; next = s }
 bracket_rules_and_next (Keyword k start) content s = keyword_rules_and_next k (argument_from content start) s
 
 -- "Lines before [Begin Header] .. are read only for 2, 3, 4": only that keyword, well formed and in column 1, counts
@@ -118,7 +112,6 @@ before_rules_and_next Indented content s = passed_over s
 before_rules_and_next Bad content s = passed_over s
 before_rules_and_next Unknown content s = passed_over s
 before_rules_and_next Later content s = passed_over s
-before_rules_and_next (Switch start) content s = passed_over s
 before_rules_and_next (Keyword k start) content s = if eqb k begin_header then keyword_rules_and_next k (argument_from content start) s else passed_over s
 
 -- "lines left blank are skipped"; a line after [End] breaks none of these rules
@@ -163,4 +156,4 @@ read_from n (l ∷ ls) s = onward (line_result l.content s) n (read_from (n + 1)
 
 -- the result of rules 5 to 17 for a text that breaks none of rules 1 to 4
 unfoldable pub reading_of : List ℕ → Reading
-reading_of t = read_from 1 (contents above_header t) start_state
+reading_of t = read_from 1 (contents t) start_state

@@ -9,13 +9,11 @@ ghost use Rattle.lex_keyword.specs.declared.Bracket.TheVariants.{Plain, Indented
 
 use lex_keyword::Bracket;
 
-// Where the lines that change nothing end: the offset of the next line, which line that is, and the comment character in
-// force there.
+// Where the lines that change nothing end: the offset of the next line, and which line that is.
 #[derive(Drop)]
 pub struct Passing {
     pub at: usize,
     pub line: u64,
-    pub comment: u8,
 }
 
 // If a line starts with such a byte, it has no bracket at its front and its first word is not reserved.
@@ -41,7 +39,6 @@ fn reads_listed(content: &[u8]) -> bool
         Bracket::Bad => false,
         Bracket::Unknown => false,
         Bracket::Later => false,
-        Bracket::Switch(_) => false,
         Bracket::Keyword(_, _) => false,
     }
 }
@@ -58,7 +55,7 @@ pub fn is_listed(content: &[u8]) -> bool
 
 // A cheap test, by the first byte, whether a line may change nothing: the lines of the model list mostly do; elsewhere
 // the byte must show an empty line or a comment.
-pub fn may_be_idle(text: &[u8], at: usize, comment: u8, place: u64) -> bool {
+pub fn may_be_idle(text: &[u8], at: usize, place: u64) -> bool {
     if place == line_place::LIST {
         return true;
     }
@@ -69,5 +66,5 @@ pub fn may_be_idle(text: &[u8], at: usize, comment: u8, place: u64) -> bool {
     if first == crate::CARRIAGE_RETURN {
         return true;
     }
-    first == lex_comment::in_force(comment)
+    first == lex_line::COMMENT
 }

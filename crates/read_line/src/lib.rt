@@ -3,11 +3,10 @@
 ghost use Rattle.std.specs.Prelude.{◌≡◌, ◌<◌, length};
 ghost use Rattle.line_place.specs.Place as place;
 ghost use Rattle.line_keyword.specs.Way.Bounded.{BoundedState, most_lines};
-ghost use Rattle.read_line.specs.Reading.{goes, breaks, line_result, at_end};
-ghost use Rattle.lex_line.specs.Words.{argument_from};
-ghost use Rattle.read_line.specs.Way.Steps.{line_step, keyword_step, switch_rule, bracket_step, before_step};
+ghost use Rattle.read_line.specs.Reading.{goes, breaks, argument_from, line_result, at_end};
+ghost use Rattle.read_line.specs.Way.Steps.{line_step, keyword_step, bracket_step, before_step};
 ghost use Rattle.lex_line.specs.Lines.{is_blank_line};
-ghost use Rattle.lex_comment.specs.Way.Cut.{content_at};
+ghost use Rattle.lex_line.specs.Way.LineEnds.{content_at};
 ghost use Rattle.line_keyword.specs.declared.State.{State};
 ghost use Rattle.lex_keyword.specs.Bracket.{bracket_of};
 ghost use Rattle.lex_keyword.specs.declared.Bracket.TheVariants.{Plain, Indented, Keyword};
@@ -36,14 +35,12 @@ pub enum Reading {
     Refused(u64, u64),
 }
 
-// How far a walk over the lines has come: the offset, line, comment character and state where it goes on, or the rule
-// broken and its line.
+// How far a walk over the lines has come: the offset, line and state where it goes on, or the rule broken and its line.
 #[derive(Drop)]
 pub struct Walk {
     pub rule: u64,
     pub at: usize,
     pub line: u64,
-    pub comment: u8,
     pub state: State,
 }
 
@@ -53,7 +50,6 @@ pub struct LineRead {
     pub rule: u64,
     pub at: usize,
     pub line: u64,
-    pub comment: u8,
     pub state: State,
     pub end: usize,
     pub bracket: Bracket,
@@ -151,11 +147,23 @@ fn keyword_step(key: u64, argument: &[u8], s: State) -> LineResult
     goes_on(line_keyword::keyword_next(key, argument, s))
 }
 
+// The argument of a keyword, without the blanks at its ends.
+pub fn argument_of(content: &[u8], start: usize) -> &[u8]
+    ensures { result.now ≡ argument_from content.now start }
+{
+    let last = lex_line::last_word(content);
+    let end = last.end;
+    if end <= start {
+        return &content[..0];
+    }
+    &content[start..end]
+}
+
 fn named_step(key: u64, start: usize, content: &[u8], s: State) -> LineResult
     requires { BoundedState most_lines s }
     ensures { result ≡ keyword_step key (argument_from content.now start) s }
 {
-    keyword_step(key, lex_line::argument_of(content, start), s)
+    keyword_step(key, argument_of(content, start), s)
 }
 
 // An indented bracket is text in a text block, and bad elsewhere.
@@ -168,16 +176,6 @@ fn indented_step(content: &[u8], s: State) -> LineResult
     stops(base::refusal::KEYWORD, s)
 }
 
-// A [Comment Char] that is not a blank line: it stands above [ICM Ver], or its argument is bad.
-fn switch_step(s: State) -> LineResult
-    ensures { result ≡ breaks (switch_rule s) s }
-{
-    if s.place == line_place::OPENED {
-        return stops(base::refusal::PLACE, s);
-    }
-    stops(base::refusal::ARGUMENT, s)
-}
-
 fn bracket_step(content: &[u8], bracket: Bracket, s: State) -> LineResult
     requires { BoundedState most_lines s × (bracket ≡ bracket_of content.now) × (bracket ≡ Plain → ReadLineByLine s.place) }
     ensures { result ≡ bracket_step (bracket_of content.now) content.now s }
@@ -188,7 +186,6 @@ fn bracket_step(content: &[u8], bracket: Bracket, s: State) -> LineResult
         Bracket::Bad => stops(base::refusal::KEYWORD, s),
         Bracket::Unknown => stops(base::refusal::UNKNOWN, s),
         Bracket::Later => stops(base::refusal::LATER, s),
-        Bracket::Switch(_start) => switch_step(s),
         Bracket::Keyword(key, start) => named_step(key, start, content, s),
     }
 }
@@ -214,7 +211,6 @@ fn before_step(content: &[u8], bracket: Bracket, s: State) -> LineResult
         Bracket::Bad => goes_on(s),
         Bracket::Unknown => goes_on(s),
         Bracket::Later => goes_on(s),
-        Bracket::Switch(_start) => goes_on(s),
         Bracket::Keyword(key, start) => opening_step(key, start, content, s),
     }
 }
@@ -268,11 +264,11 @@ pub fn front_of(content: &[u8]) -> Front
 // ---- a line of a text
 
 // Reads the line at offset `at`. Each byte is looked at a bounded number of times.
-pub fn read_single(text: &[u8], at: usize, line: u64, comment: u8, s: State) -> LineRead
-    requires { (at < length text.now) × Onward comment text.now at line s × BracketOrLineByLine (content_at comment text.now at) s.place }
-    ensures { ReadsLine comment text.now at line s result }
+pub fn read_single(text: &[u8], at: usize, line: u64, s: State) -> LineRead
+    requires { (at < length text.now) × Onward text.now at line s × BracketOrLineByLine (content_at text.now at) s.place }
+    ensures { ReadsLine text.now at line s result }
 {
-    let here = lex_comment::cut_at(text, at, comment);
+    let here = lex_line::line_at(text, at, lex_line::COMMENT);
     let content = here.content;
     let bracket = lex_keyword::read_bracket(&text[at..content]);
     let taken = take_line(&text[at..content], bracket, s);
@@ -281,7 +277,6 @@ pub fn read_single(text: &[u8], at: usize, line: u64, comment: u8, s: State) -> 
         rule: taken.rule,
         at: here.next,
         line: line_keyword::one_more_if(taken.rule == 0, line),
-        comment: here.comment,
         state,
         end: content,
         bracket,

@@ -12,9 +12,9 @@ use Rattle.table_record.specs.declared.Value.{Value}
 use Rattle.table_layout.specs.Bounds.{most_values}
 use Rattle.base.specs.If.{either}
 use Rattle.base.proofs.IfLaws.{if_true, if_false, by_cases, both_second, either_rest}
-use Rattle.lex_line.specs.Lines.{is_blank_line}
-use Rattle.lex_comment.specs.Way.Cut.{cut_at, content_at}
-use Rattle.lex_comment.specs.declared.Cut.{Cut}
+use Rattle.lex_line.specs.Lines.{is_blank_line, comment_byte}
+use Rattle.lex_line.specs.Way.LineEnds.{line_at, content_at}
+use Rattle.lex_line.specs.declared.Line as text
 use Rattle.line_place.specs.Place.{is_row_or_bandwidth, moved, moved_by_line}
 use Rattle.line_place.specs.Place as place
 use Rattle.line_matrix.specs.declared.Matrix.{Matrix}
@@ -57,63 +57,63 @@ module _ (content : List ℕ) where
 
 -- ---- the lines that are left
 
-module _ (comment₀ : ℕ) (t : List ℕ) (n₀ at₀ form : ℕ) (table₀ : List ℕ) (values₀ comment n at comment' n' at' : ℕ) (table : List ℕ) (values : ℕ) (a : Staging) where
+module _ (t : List ℕ) (n₀ at₀ form : ℕ) (table₀ : List ℕ) (values₀ n at n' at' : ℕ) (table : List ℕ) (values : ℕ) (a : Staging) where
   -- the same lines, given by another line and offset
-  left_same : lines_at comment t n at place.matrix ≡ lines_at comment' t n' at' place.matrix → Left comment₀ t n₀ at₀ form table₀ values₀ comment n at table values a → Left comment₀ t n₀ at₀ form table₀ values₀ comment' n' at' table values a
+  left_same : lines_at t n at place.matrix ≡ lines_at t n' at' place.matrix → Left t n₀ at₀ form table₀ values₀ n at table values a → Left t n₀ at₀ form table₀ values₀ n' at' table values a
   left_same lines left =
-      let body : body_lines comment t n at ≡ body_lines comment' t n' at' = ap (up_to in_matrix) lines in
+      let body : body_lines t n at ≡ body_lines t n' at' = ap (up_to in_matrix) lines in
       record {
         held = rw body at left.held;
         bandwidth = rw body at left.bandwidth;
         greatest = rw body at left.greatest;
-        rest = λ (ls : List Line) (e : lines_at comment' t n' at' place.matrix ≡ body_lines comment' t n' at' ++ ls). left.rest ls (lines ∙ e ∙ ap (λ (x : List Line). x ++ ls) (sym body));
+        rest = λ (ls : List Line) (e : lines_at t n' at' place.matrix ≡ body_lines t n' at' ++ ls). left.rest ls (lines ∙ e ∙ ap (λ (x : List Line). x ++ ls) (sym body));
       }
 
   -- one line less
-  module _ (l : Line) (lines : lines_at comment t n at place.matrix ≡ l ∷ lines_at comment' t n' at' place.matrix) (inside : in_matrix l ≡ true) (left : Left comment₀ t n₀ at₀ form table₀ values₀ comment n at table values a) where
-    body_on : body_lines comment t n at ≡ l ∷ body_lines comment' t n' at'
-    body_on = ap (up_to in_matrix) lines ∙ up_in in_matrix l (lines_at comment' t n' at' place.matrix) inside
+  module _ (l : Line) (lines : lines_at t n at place.matrix ≡ l ∷ lines_at t n' at' place.matrix) (inside : in_matrix l ≡ true) (left : Left t n₀ at₀ form table₀ values₀ n at table values a) where
+    body_on : body_lines t n at ≡ l ∷ body_lines t n' at'
+    body_on = ap (up_to in_matrix) lines ∙ up_in in_matrix l (lines_at t n' at' place.matrix) inside
 
-    left_on : (table' : List ℕ) (values' : ℕ) (b : Staging) → Adds form l table values a table' values' b → Left comment₀ t n₀ at₀ form table₀ values₀ comment' n' at' table' values' b
+    left_on : (table' : List ℕ) (values' : ℕ) (b : Staging) → Adds form l table values a table' values' b → Left t n₀ at₀ form table₀ values₀ n' at' table' values' b
     left_on table' values' b adds =
         record {
-          held = λ (whole rest : List Value) (h : HeldValues whole table₀ values₀ (values_from form 1 1 (body_lines comment₀ t n₀ at₀) ++ rest)).
-              adds.held (body_lines comment' t n' at') whole rest (rw body_on at (left.held whole rest h));
-          bandwidth = adds.bandwidth (body_lines comment' t n' at') ∙ rw body_on at left.bandwidth;
-          greatest = adds.greatest (body_lines comment' t n' at') ∙ rw body_on at left.greatest;
-          rest = λ (ls : List Line) (e : lines_at comment' t n' at' place.matrix ≡ body_lines comment' t n' at' ++ ls).
+          held = λ (whole rest : List Value) (h : HeldValues whole table₀ values₀ (values_from form 1 1 (body_lines t n₀ at₀) ++ rest)).
+              adds.held (body_lines t n' at') whole rest (rw body_on at (left.held whole rest h));
+          bandwidth = adds.bandwidth (body_lines t n' at') ∙ rw body_on at left.bandwidth;
+          greatest = adds.greatest (body_lines t n' at') ∙ rw body_on at left.greatest;
+          rest = λ (ls : List Line) (e : lines_at t n' at' place.matrix ≡ body_lines t n' at' ++ ls).
               left.rest ls (lines ∙ ap (λ (x : List Line). l ∷ x) e ∙ ap (λ (x : List Line). x ++ ls) (sym body_on));
         }
 
 -- ---- no line yet
 
-module _ (comment : ℕ) (t : List ℕ) (at line : ℕ) (m : Matrix) (values : ℕ) (a : Staging) (new : a ≡ new_staging) where
+module _ (t : List ℕ) (at line : ℕ) (m : Matrix) (values : ℕ) (a : Staging) (new : a ≡ new_staging) where
   abbrev none : Data
   none = record { taken = true; rule = 0; matrix = m; values = values; staging = a }
 
-  pub gone_start : at ≤ length t → values ≤ most_values → Gone comment t at line m values comment at line (record { taken = true; rule = 0; matrix = m; values = values; staging = a })
+  pub gone_start : at ≤ length t → values ≤ most_values → Gone t at line m values at line (record { taken = true; rule = 0; matrix = m; values = values; staging = a })
   gone_start h few =
       record {
         whole = refl;
-        crossed = crossed_none comment t at line (HoldsPart place.matrix (with_matrix m values)) (with_matrix m values) h (λ (s : State) (f : HoldsPart place.matrix (with_matrix m values) s). f.1);
+        crossed = crossed_none t at line (HoldsPart place.matrix (with_matrix m values)) (with_matrix m values) h (λ (s : State) (f : HoldsPart place.matrix (with_matrix m values) s). f.1);
         form = refl;
         few = few;
         bounded = rw new (no_bounded values);
       }
 
-  pub left_start : (table : List ℕ) → LeftPart comment t line at m.form table values comment line at (record { taken = true; rule = 0; matrix = m; values = values; staging = a }) table
+  pub left_start : (table : List ℕ) → LeftPart t line at m.form table values line at (record { taken = true; rule = 0; matrix = m; values = values; staging = a }) table
   left_start table =
       rw new
       (record {
-        held = λ (whole rest : List Value) (h : HeldValues whole table values (values_from m.form 1 1 (body_lines comment t line at) ++ rest)). h;
+        held = λ (whole rest : List Value) (h : HeldValues whole table values (values_from m.form 1 1 (body_lines t line at) ++ rest)). h;
         bandwidth = told_untold _;
         greatest = omega arith;
-        rest = λ (ls : List Line) (e : lines_at comment t line at place.matrix ≡ body_lines comment t line at ++ ls). e;
+        rest = λ (ls : List Line) (e : lines_at t line at place.matrix ≡ body_lines t line at ++ ls). e;
       })
 
 -- ---- one line more
 
-module _ (comment : ℕ) (t : List ℕ) (here number : ℕ) (part : Data) (table : List ℕ) (h : here < length t) (found : Cut) (is_found : found ≡ cut_at comment t here) (next : Data) (table' : List ℕ)
+module _ (t : List ℕ) (here number : ℕ) (part : Data) (table : List ℕ) (h : here < length t) (found : text.Line) (is_found : found ≡ line_at comment_byte t here) (next : Data) (table' : List ℕ)
     (takes : Takes (take (found.content - here) (drop here t)) part.matrix part.values part.staging table next table') where
   abbrev content : List ℕ
   content = take (found.content - here) (drop here t)
@@ -121,37 +121,37 @@ module _ (comment : ℕ) (t : List ℕ) (here number : ℕ) (part : Data) (table
   abbrev l : Line
   l = record { line = number; at = here; place = place.matrix; content = take (found.content - here) (drop here t) }
 
-  pub ends_here : next.taken ≡ false → Ends (content_at comment t here)
-  ends_here left = subst (λ (x : Cut). Ends (take (x.content - here) (drop here t))) is_found (takes.ends left)
+  pub ends_here : next.taken ≡ false → Ends (content_at t here)
+  ends_here left = subst (λ (x : text.Line). Ends (take (x.content - here) (drop here t))) is_found (takes.ends left)
 
-  module _ (taken : next.taken ≡ true) (z : next.rule ≡ 0) (comment₀ n₀ at₀ : ℕ) (table₀ : List ℕ) (values₀ : ℕ)
-      (left : LeftPart comment₀ t n₀ at₀ part.matrix.form table₀ values₀ comment number here part table) where
-    on_blank : is_blank_line content ≡ true → LeftPart comment₀ t n₀ at₀ part.matrix.form table₀ values₀ found.comment (number + 1) found.next next table'
+  module _ (taken : next.taken ≡ true) (z : next.rule ≡ 0) (n₀ at₀ : ℕ) (table₀ : List ℕ) (values₀ : ℕ)
+      (left : LeftPart t n₀ at₀ part.matrix.form table₀ values₀ number here part table) where
+    on_blank : is_blank_line content ≡ true → LeftPart t n₀ at₀ part.matrix.form table₀ values₀ (number + 1) found.next next table'
     on_blank blank =
         let e : (table' ≡ table) × (next.values ≡ part.values) × (next.staging ≡ part.staging) = (takes.extends taken z).blank blank in
-        let lines : lines_at comment t number here place.matrix ≡ lines_at found.comment t (number + 1) found.next place.matrix = pass_over comment t here h number found is_found blank place.matrix in
-        rw (e.0, e.1, e.2) (left_same comment₀ t n₀ at₀ part.matrix.form table₀ values₀ comment number here found.comment (number + 1) found.next table part.values part.staging lines left)
+        let lines : lines_at t number here place.matrix ≡ lines_at t (number + 1) found.next place.matrix = pass_over t here h number found is_found blank place.matrix in
+        rw (e.0, e.1, e.2) (left_same t n₀ at₀ part.matrix.form table₀ values₀ number here (number + 1) found.next table part.values part.staging lines left)
 
-    on_filled : is_blank_line content ≡ false → LeftPart comment₀ t n₀ at₀ part.matrix.form table₀ values₀ found.comment (number + 1) found.next next table'
+    on_filled : is_blank_line content ≡ false → LeftPart t n₀ at₀ part.matrix.form table₀ values₀ (number + 1) found.next next table'
     on_filled filled =
         let e : (in_matrix l ≡ true) × Adds part.matrix.form l table part.values part.staging table' next.values next.staging = (takes.extends taken z).filled filled l refl refl in
-        let lines : lines_at comment t number here place.matrix ≡ l ∷ lines_at found.comment t (number + 1) found.next place.matrix =
-        stop_here comment t here h number found is_found filled place.matrix ∙ ap (λ (p : ℕ). l ∷ lines_at found.comment t (number + 1) found.next p) (inside_stays content number here e.0) in
-        left_on comment₀ t n₀ at₀ part.matrix.form table₀ values₀ comment number here found.comment (number + 1) found.next table part.values part.staging l lines e.0 left table' next.values next.staging e.1
+        let lines : lines_at t number here place.matrix ≡ l ∷ lines_at t (number + 1) found.next place.matrix =
+        stop_here t here h number found is_found filled place.matrix ∙ ap (λ (p : ℕ). l ∷ lines_at t (number + 1) found.next p) (inside_stays content number here e.0) in
+        left_on t n₀ at₀ part.matrix.form table₀ values₀ number here (number + 1) found.next table part.values part.staging l lines e.0 left table' next.values next.staging e.1
 
-    pub left_next : LeftPart comment₀ t n₀ at₀ part.matrix.form table₀ values₀ found.comment (number + 1) found.next next table'
+    pub left_next : LeftPart t n₀ at₀ part.matrix.form table₀ values₀ (number + 1) found.next next table'
     left_next = by_cases _ (is_blank_line content) on_blank on_filled
 
-  module _ (taken : next.taken ≡ true) (comment₀ at line : ℕ) (m : Matrix) (values : ℕ) (gone : Gone comment₀ t at line m values comment here number part) where
+  module _ (taken : next.taken ≡ true) (at line : ℕ) (m : Matrix) (values : ℕ) (gone : Gone t at line m values here number part) where
     decided : (s : State) → HoldsPart place.matrix (with_matrix m values) s → line_result content (with_matrix part.matrix part.values s) ≡ breaks next.rule (with_matrix next.matrix next.values s)
     decided s f = takes.decides taken s f.0
 
-    pub gone_next : next.rule ≡ 0 → Gone comment₀ t at line m values found.comment found.next (number + 1) next
+    pub gone_next : next.rule ≡ 0 → Gone t at line m values found.next (number + 1) next
     gone_next z =
         record {
           whole = z;
           crossed =
-              crossed_on comment₀ t at line (HoldsPart place.matrix (with_matrix m values)) (with_matrix part.matrix part.values) part.rule comment here number gone.whole gone.crossed h found is_found
+              crossed_on t at line (HoldsPart place.matrix (with_matrix m values)) (with_matrix part.matrix part.values) part.rule here number gone.whole gone.crossed h found is_found
               (with_matrix next.matrix next.values) next.rule decided z;
           form = takes.form ∙ gone.form;
           few = takes.few gone.few;
@@ -160,11 +160,11 @@ module _ (comment : ℕ) (t : List ℕ) (here number : ℕ) (part : Data) (table
 
     -- a line that breaks a rule
     pub gone_stops : (next.rule ≡ 0 → ⊥) → (table₀ : List ℕ) → length table' ≡ length table₀ →
-        ResumesMatrix comment₀ t at line m values table₀ (record { at = found.next; line = number; comment = found.comment; part = next }) table'
+        ResumesMatrix t at line m values table₀ (record { at = found.next; line = number; part = next }) table'
     gone_stops broken table₀ long =
         record {
           crossed =
-              crossed_stops comment₀ t at line (HoldsPart place.matrix (with_matrix m values)) (with_matrix part.matrix part.values) part.rule comment here number gone.whole gone.crossed h found is_found
+              crossed_stops t at line (HoldsPart place.matrix (with_matrix m values)) (with_matrix part.matrix part.values) part.rule here number gone.whole gone.crossed h found is_found
               (with_matrix next.matrix next.values) next.rule decided broken;
           long = long;
           ends = λ (z : next.rule ≡ 0). absurd (broken z);

@@ -21,7 +21,7 @@ use Rattle.lex_number.specs.declared.Whole.{Whole}
 use Rattle.lex_keyword.specs.Names.{row, bandwidth}
 use Rattle.lex_keyword.specs.Bracket.{bracket_of}
 use Rattle.lex_keyword.specs.declared.Bracket.{Bracket}
-use Rattle.lex_keyword.specs.declared.Bracket.TheVariants.{Plain, Indented, Bad, Unknown, Later, Switch, Keyword}
+use Rattle.lex_keyword.specs.declared.Bracket.TheVariants.{Plain, Indented, Bad, Unknown, Later, Keyword}
 use Rattle.line_place.specs.Place.{is_row_or_bandwidth}
 use Rattle.line_place.specs.Place as place
 use Rattle.line_matrix.specs.Matrix.{data_line_of, data_next, with_column, with_row, with_bandwidth}
@@ -32,8 +32,7 @@ use Rattle.line_keyword.specs.Way.Row.{matrix_keyword_rule, matrix_keyword_next}
 use Rattle.line_keyword.specs.declared.State.{State}
 use Rattle.line_keyword.proofs.InsideLaws.{matrix_keyword_rule_is, matrix_keyword_next_is}
 use Rattle.line_keyword.specs.Way.Rule.{keyword_rule}
-use Rattle.read_line.specs.Reading.{goes, breaks, line_result}
-use Rattle.lex_line.specs.Words.{argument_from}
+use Rattle.read_line.specs.Reading.{argument_from, goes, breaks, line_result}
 use Rattle.read_line.specs.Way.Steps.{bracket_step, keyword_step}
 use Rattle.read_line.proofs.ResultLaws.{result_steps}
 use Rattle.read_line.specs.Way.Walk.{Decides, Opens, with_matrix}
@@ -185,7 +184,6 @@ is_named Indented = false
 is_named Bad = false
 is_named Unknown = false
 is_named Later = false
-is_named (Switch start) = false
 is_named (Keyword k start) = true
 
 pub unnamed_takes : (content : List ℕ) (m : Matrix) (values : ℕ) (a : Staging) → is_blank_line content ≡ false → Opens content → BoundedStaging a values → (b c : Bracket) →
@@ -210,7 +208,6 @@ module _ (content : List ℕ) (k start : ℕ) (is : bracket_of content ≡ Keywo
       kind Bad = false
       kind Unknown = false
       kind Later = false
-      kind (Switch start) = false
       kind (Keyword k start) = false
 
       apart : false ≡ true → ⊥

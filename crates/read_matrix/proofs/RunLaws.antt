@@ -19,15 +19,11 @@ use Rattle.base.proofs.BrokenLaws.{sound, gives_later, all_kept}
 use Rattle.base.specs.Bytes.{line_feed, is_before, is_content}
 use Rattle.base.specs.Way.Class.{run_end}
 use Rattle.base.proofs.RunLaws.{run_through}
-use Rattle.lex_line.specs.Lines.{is_blank_line}
+use Rattle.lex_line.specs.Lines.{is_blank_line, comment_byte}
 use Rattle.lex_line.specs.Words.{words}
-use Rattle.lex_line.specs.Way.LineEnds.{past_feed, line_at, cut_from}
-use Rattle.lex_comment.specs.Comments.{in_force}
-use Rattle.lex_comment.specs.Way.Cut.{Allowed, cut_at, content_at}
-use Rattle.lex_comment.proofs.PlainLaws.{plain_cut, plain_content, opened_other, blank_other}
-use Rattle.lex_comment.specs.declared.Cut.{Cut}
-use Rattle.lex_line.proofs.LineLaws.{content_before_feed}
-use Rattle.lex_comment.proofs.CutLaws.{cut_on}
+use Rattle.lex_line.specs.Way.LineEnds.{past_feed, line_at, content_at}
+use Rattle.lex_line.specs.declared.Line as text
+use Rattle.lex_line.proofs.LineLaws.{next_on, content_before_feed}
 use Rattle.lex_keyword.specs.Bracket.{bracket_of}
 use Rattle.lex_keyword.specs.declared.Bracket.TheVariants.{Plain}
 use Rattle.line_matrix.specs.Matrix.{data_line_of, sparse_line, is_data_out_of_order, are_too_many, data_rules, with_column, data_next}
@@ -36,8 +32,8 @@ use Rattle.line_matrix.specs.declared.DataLine.{DataLine}
 use Rattle.line_matrix.specs.Way.Rule.{data_rule}
 use Rattle.read_line.specs.Way.Walk.{Fronted}
 use Rattle.read_line.specs.declared.Front.{Front}
-use Rattle.read_line.specs.declared.Front.TheVariants.{Blanks, Words, Opening}
-use Rattle.read_line.proofs.QuietLaws.{blanks_front, words_front, opening_opens}
+use Rattle.read_line.specs.declared.Front.TheVariants.{Blanks, Opening}
+use Rattle.read_line.proofs.QuietLaws.{blanks_front, opening_opens}
 use Rattle.read_line.proofs.KeptLaws.{column_small}
 use Rattle.doc.specs.Lines.{Line, plain, key_of}
 use Rattle.read_numbers.specs.Way.Numbers.{most_given}
@@ -133,36 +129,28 @@ full_broken content values full m form_is is_data kept =
 
 -- ---- a line that is no line of data
 
-module _ (comment : ℕ) (allowed : Allowed comment) (t : List ℕ) (here : ℕ) (front : Front) (told : Fronted (cut_from (in_force comment) t here) front) where
-  blank_no_data : front ≡ Blanks → IsData (content_at comment t here) → ⊥
-  blank_no_data e d = blank_other comment t here allowed (blanks_front (cut_from (in_force comment) t here) front told e) d.0
+module _ (content : List ℕ) (front : Front) (told : Fronted content front) where
+  blank_other : front ≡ Blanks → IsData content → ⊥
+  blank_other e d = true≢false (sym (blanks_front content front told e) ∙ d.0)
 
-  opened_no_data : front ≡ Opening → IsData (content_at comment t here) → ⊥
-  opened_no_data e d = opened_other comment t here allowed (opening_opens (cut_from (in_force comment) t here) front told e) d.0 d.1
-
--- a line with words at its front, as it is handed on
-pub words_plainly : (comment : ℕ) (t : List ℕ) (here : ℕ) (front : Front) → Fronted (cut_from (in_force comment) t here) front → front ≡ Words → Allowed comment →
-    (is_blank_line (cut_from (in_force comment) t here) ≡ false) × (bracket_of (cut_from (in_force comment) t here) ≡ Plain) × Allowed comment
-words_plainly comment t here front told e allowed =
-    let w : (is_blank_line (cut_from (in_force comment) t here) ≡ false) × (bracket_of (cut_from (in_force comment) t here) ≡ Plain) =
-    words_front (cut_from (in_force comment) t here) front told e in
-    (w.0, w.1, allowed)
+  opened_other : front ≡ Opening → IsData content → ⊥
+  opened_other e d = opening_opens content front told e d.1
 
 -- ---- one line of numbers
 
-next_of : (comment cut : ℕ) (t : List ℕ) (here end next : ℕ) → end ≡ (line_at cut t here).content → next ≡ (line_at cut t end).next →
-    next ≡ (cut_at comment t here).next
-unfolding line_at cut_at
-next_of comment cut t here end next e f =
+next_of : (t : List ℕ) (here end next : ℕ) → end ≡ (line_at comment_byte t here).content → next ≡ (line_at comment_byte t end).next →
+    next ≡ (line_at comment_byte t here).next
+unfolding line_at
+next_of t here end next e f =
     f ∙ ap (past_feed t)
     (ap (run_end (is_before line_feed) t) e
-    ∙ run_through (is_content cut) (is_before line_feed) (content_before_feed cut) t here)
+    ∙ run_through (is_content comment_byte) (is_before line_feed) (content_before_feed comment_byte) t here)
 
-module _ (comment : ℕ) (t : List ℕ) (here form values row column : ℕ) (table : List ℕ) where
+module _ (t : List ℕ) (here form values row column : ℕ) (table : List ℕ) where
   -- a line that is not taken
-  passed_by_lem : (table' : List ℕ) → length table' ≡ length table → ((IsData (content_at comment t here) → ⊥) → table' ≡ table) →
-      ((m : Matrix) → m.form ≡ form → BrokenLine (content_at comment t here) m values) → (r : TakenNumbers) →
-      r ≡ record { taken = false; values = values; row = row; column = column; next = 0 } → TakesNumbers comment t here form values row column table r table'
+  passed_by_lem : (table' : List ℕ) → length table' ≡ length table → ((IsData (content_at t here) → ⊥) → table' ≡ table) →
+      ((m : Matrix) → m.form ≡ form → BrokenLine (content_at t here) m values) → (r : TakenNumbers) →
+      r ≡ record { taken = false; values = values; row = row; column = column; next = 0 } → TakesNumbers t here form values row column table r table'
   passed_by_lem table' long kept broken r e =
       rw e
       (record {
@@ -171,53 +159,37 @@ module _ (comment : ℕ) (t : List ℕ) (here form values row column : ℕ) (tab
         broken = λ (z : false ≡ false). broken;
         few = λ (z : false ≡ true). absurd (true≢false (sym z));
         onward = λ (z : false ≡ true). absurd (true≢false (sym z));
-        steady = λ (z : false ≡ true). absurd (true≢false (sym z));
         takes = λ (z : false ≡ true). absurd (true≢false (sym z));
       })
 
-  numbers_left : (IsData (content_at comment t here) → ⊥) → (r : TakenNumbers) → r ≡ record { taken = false; values = values; row = row; column = column; next = 0 } →
-      TakesNumbers comment t here form values row column table r table
+  numbers_left : (IsData (content_at t here) → ⊥) → (r : TakenNumbers) → r ≡ record { taken = false; values = values; row = row; column = column; next = 0 } →
+      TakesNumbers t here form values row column table r table
   numbers_left other r e =
-      passed_by_lem table refl (λ (n : IsData (content_at comment t here) → ⊥). refl)
-      (λ (m : Matrix) (f : m.form ≡ form) (d : IsData (content_at comment t here)). absurd (other d)) r e
+      passed_by_lem table refl (λ (n : IsData (content_at t here) → ⊥). refl)
+      (λ (m : Matrix) (f : m.form ≡ form) (d : IsData (content_at t here)). absurd (other d)) r e
 
-  module _ (allowed : Allowed comment) (front : Front) (told : Fronted (cut_from (in_force comment) t here) front) where
+  module _ (front : Front) (told : Fronted (content_at t here) front) where
     pub numbers_blank : front ≡ Blanks → (r : TakenNumbers) → r ≡ record { taken = false; values = values; row = row; column = column; next = 0 } →
-        TakesNumbers comment t here form values row column table r table
-    numbers_blank e = numbers_left (blank_no_data comment allowed t here front told e)
+        TakesNumbers t here form values row column table r table
+    numbers_blank e = numbers_left (blank_other (content_at t here) front told e)
 
     pub numbers_opened : front ≡ Opening → (r : TakenNumbers) → r ≡ record { taken = false; values = values; row = row; column = column; next = 0 } →
-        TakesNumbers comment t here form values row column table r table
-    numbers_opened e = numbers_left (opened_no_data comment allowed t here front told e)
+        TakesNumbers t here form values row column table r table
+    numbers_opened e = numbers_left (opened_other (content_at t here) front told e)
 
-  module _ (allowed : Allowed comment) (cut : ℕ) (is_cut : cut ≡ in_force comment) (table' : List ℕ) (numbers : Numbers) (read_cut : StagesNumbers cut form t here table values row column table' numbers) where
-    read : StagesNumbers (in_force comment) form t here table values row column table' numbers
-    read = subst (λ (c : ℕ). StagesNumbers c form t here table values row column table' numbers) is_cut read_cut
-
-    module _ (filled_cut : is_blank_line (cut_from (in_force comment) t here) ≡ false) (plain_by_cut : bracket_of (cut_from (in_force comment) t here) ≡ Plain) where
-      same : content_at comment t here ≡ cut_from (in_force comment) t here
-      same = plain_content comment t here allowed plain_by_cut
-
-      filled : is_blank_line (content_at comment t here) ≡ false
-      filled = ap is_blank_line same ∙ filled_cut
-
-      plainly : bracket_of (content_at comment t here) ≡ Plain
-      plainly = ap bracket_of same ∙ plain_by_cut
-
-      steady_here : (cut_at comment t here).comment ≡ comment
-      steady_here = ap (λ (l : Cut). l.comment) (sym (plain_cut comment t here allowed plain_by_cut))
-
+  module _ (table' : List ℕ) (numbers : Numbers) (read : StagesNumbers form t here table values row column table' numbers) where
+    module _ (filled : is_blank_line (content_at t here) ≡ false) (plainly : bracket_of (content_at t here) ≡ Plain) where
       pub numbers_broken : not numbers.staged ≡ true → (r : TakenNumbers) → r ≡ record { taken = false; values = values; row = row; column = column; next = 0 } →
-          TakesNumbers comment t here form values row column table r table'
+          TakesNumbers t here form values row column table r table'
       numbers_broken bad r e =
-          passed_by_lem table' read.long (λ (n : IsData (content_at comment t here) → ⊥). absurd (n (filled, plainly)))
-          (data_broken form (content_at comment t here) values (rw same (read.broken (not-true numbers.staged bad)))) r e
+          passed_by_lem table' read.long (λ (n : IsData (content_at t here) → ⊥). absurd (n (filled, plainly)))
+          (data_broken form (content_at t here) values (read.broken (not-true numbers.staged bad))) r e
 
       pub numbers_many : not numbers.staged ≡ false → values ≤ most_values → most_values - values < numbers.count → (r : TakenNumbers) →
-          r ≡ record { taken = false; values = values; row = row; column = column; next = 0 } → TakesNumbers comment t here form values row column table r table'
+          r ≡ record { taken = false; values = values; row = row; column = column; next = 0 } → TakesNumbers t here form values row column table r table'
       numbers_many staged few many r e =
-          passed_by_lem table' read.long (λ (n : IsData (content_at comment t here) → ⊥). absurd (n (filled, plainly)))
-          (many_broken form (content_at comment t here) values (record { numbers = numbers.count; column = 0; right = true; formed = true; bounded = true }) (rw same (read.line_is (not-false numbers.staged staged))) (omega arith)) r e
+          passed_by_lem table' read.long (λ (n : IsData (content_at t here) → ⊥). absurd (n (filled, plainly)))
+          (many_broken form (content_at t here) values _ (read.line_is (not-false numbers.staged staged)) (omega arith)) r e
 
       module _ (not_sparse : form ≡ sparse → ⊥) (staged : numbers.staged ≡ true) (few : values + numbers.count ≤ most_values) where
         abbrev line : DataLine
@@ -225,25 +197,25 @@ module _ (comment : ℕ) (t : List ℕ) (here form values row column : ℕ) (tab
 
         module _ (m : Matrix) (form_is : m.form ≡ form) (ordered : is_ordered m ≡ true) (a : Staging) (row_is : a.row ≡ row)
             (column_is : a.column ≡ column) where
-          line_read : line ≡ data_line_of m.form (content_at comment t here)
-          line_read = rw (form_is, same) (read.line_is staged)
+          line_read : line ≡ data_line_of m.form (content_at t here)
+          line_read = rw form_is (read.line_is staged)
 
-          line_adds : (l : Line) → l.content ≡ content_at comment t here → key_of l ≡ plain →
+          line_adds : (l : Line) → l.content ≡ content_at t here → key_of l ≡ plain →
               Adds m.form l table values a table' (values + numbers.count) (moved_to numbers.row numbers.column a)
-          line_adds l is_content_lem is_plain = rw form_is (read.adds staged a row_is column_is l (is_content_lem ∙ same) is_plain)
+          line_adds l same is_plain = rw form_is (read.adds staged a row_is column_is l same is_plain)
 
           matrix_stays : m ≡ data_next line m
           unfolding data_next
           matrix_stays = sym (if_false _ _ (ne_eqb _ _ (λ (e : m.form ≡ sparse). not_sparse (sym form_is ∙ e))))
 
-          line_taken : Takes (content_at comment t here) m values a table
+          line_taken : Takes (content_at t here) m values a table
               (record { taken = true; rule = 0; matrix = m; values = values + numbers.count; staging = moved_to numbers.row numbers.column a }) table'
           line_taken =
-              stage_goes (content_at comment t here) filled plainly m values line line_read 0 (rule_kept line m values refl ordered refl refl few) a
+              stage_goes (content_at t here) filled plainly m values line line_read 0 (rule_kept line m values refl ordered refl refl few) a
               (moved_to numbers.row numbers.column a) table table' few line_adds refl m matrix_stays
 
-        all_taken : (next : ℕ) → next ≡ (line_at cut t numbers.end).next →
-            TakesNumbers comment t here form values row column table
+        all_taken : (next : ℕ) → next ≡ (line_at comment_byte t numbers.end).next →
+            TakesNumbers t here form values row column table
             (record { taken = true; values = values + numbers.count; row = numbers.row; column = numbers.column; next = next }) table'
         all_taken next on =
             record {
@@ -251,23 +223,22 @@ module _ (comment : ℕ) (t : List ℕ) (here form values row column : ℕ) (tab
               kept = λ (z : true ≡ false). absurd (true≢false z);
               broken = λ (z : true ≡ false). absurd (true≢false z);
               few = λ (z : true ≡ true). few;
-              onward = λ (z : true ≡ true). next_of comment cut t here numbers.end next (read_cut.ends staged) on;
-              steady = λ (z : true ≡ true). steady_here;
+              onward = λ (z : true ≡ true). next_of t here numbers.end next (read.ends staged) on;
               takes = λ (z : true ≡ true). line_taken;
             }
 
       pub numbers_taken : (form ≡ sparse → ⊥) → values ≤ most_values → not numbers.staged ≡ false → numbers.count ≤ most_values - values → (next : ℕ) →
-          next ≡ (line_at cut t numbers.end).next →
-          TakesNumbers comment t here form values row column table
+          next ≡ (line_at comment_byte t numbers.end).next →
+          TakesNumbers t here form values row column table
           (record { taken = true; values = values + numbers.count; row = numbers.row; column = numbers.column; next = next }) table'
       numbers_taken not_sparse most staged few next on = all_taken not_sparse (not-false numbers.staged staged) (omega arith) next on
 
 -- ---- one line of a column and a value
 
-module _ (comment : ℕ) (t : List ℕ) (here values row : ℕ) (table : List ℕ) where
-  pair_passed : (table' : List ℕ) → length table' ≡ length table → ((IsData (content_at comment t here) → ⊥) → table' ≡ table) →
-      ((m : Matrix) → m.form ≡ sparse → BrokenLine (content_at comment t here) m values) → (r : TakenPair) → r ≡ record { taken = false; column = 0; next = 0 } →
-      TakesPair comment t here values row table r table'
+module _ (t : List ℕ) (here values row : ℕ) (table : List ℕ) where
+  pair_passed : (table' : List ℕ) → length table' ≡ length table → ((IsData (content_at t here) → ⊥) → table' ≡ table) →
+      ((m : Matrix) → m.form ≡ sparse → BrokenLine (content_at t here) m values) → (r : TakenPair) → r ≡ record { taken = false; column = 0; next = 0 } →
+      TakesPair t here values row table r table'
   pair_passed table' long kept broken r e =
       rw e
       (record {
@@ -277,88 +248,74 @@ module _ (comment : ℕ) (t : List ℕ) (here values row : ℕ) (table : List �
         few = λ (z : false ≡ true). absurd (true≢false (sym z));
         narrow = λ (z : false ≡ true). absurd (true≢false (sym z));
         onward = λ (z : false ≡ true). absurd (true≢false (sym z));
-        steady = λ (z : false ≡ true). absurd (true≢false (sym z));
         takes = λ (z : false ≡ true). absurd (true≢false (sym z));
       })
 
-  pair_left : (IsData (content_at comment t here) → ⊥) → (r : TakenPair) → r ≡ record { taken = false; column = 0; next = 0 } → TakesPair comment t here values row table r table
+  pair_left : (IsData (content_at t here) → ⊥) → (r : TakenPair) → r ≡ record { taken = false; column = 0; next = 0 } → TakesPair t here values row table r table
   pair_left other r e =
-      pair_passed table refl (λ (n : IsData (content_at comment t here) → ⊥). refl)
-      (λ (m : Matrix) (f : m.form ≡ sparse) (d : IsData (content_at comment t here)). absurd (other d)) r e
+      pair_passed table refl (λ (n : IsData (content_at t here) → ⊥). refl)
+      (λ (m : Matrix) (f : m.form ≡ sparse) (d : IsData (content_at t here)). absurd (other d)) r e
 
-  module _ (allowed : Allowed comment) (front : Front) (told : Fronted (cut_from (in_force comment) t here) front) where
-    pub pair_blank : front ≡ Blanks → (r : TakenPair) → r ≡ record { taken = false; column = 0; next = 0 } → TakesPair comment t here values row table r table
-    pair_blank e = pair_left (blank_no_data comment allowed t here front told e)
+  module _ (front : Front) (told : Fronted (content_at t here) front) where
+    pub pair_blank : front ≡ Blanks → (r : TakenPair) → r ≡ record { taken = false; column = 0; next = 0 } → TakesPair t here values row table r table
+    pair_blank e = pair_left (blank_other (content_at t here) front told e)
 
-    pub pair_opened : front ≡ Opening → (r : TakenPair) → r ≡ record { taken = false; column = 0; next = 0 } → TakesPair comment t here values row table r table
-    pair_opened e = pair_left (opened_no_data comment allowed t here front told e)
+    pub pair_opened : front ≡ Opening → (r : TakenPair) → r ≡ record { taken = false; column = 0; next = 0 } → TakesPair t here values row table r table
+    pair_opened e = pair_left (opened_other (content_at t here) front told e)
 
-  pub pair_full : most_values ≤ values → (r : TakenPair) → r ≡ record { taken = false; column = 0; next = 0 } → TakesPair comment t here values row table r table
-  pair_full full r e = pair_passed table refl (λ (n : IsData (content_at comment t here) → ⊥). refl) (full_broken (content_at comment t here) values full) r e
+  pub pair_full : most_values ≤ values → (r : TakenPair) → r ≡ record { taken = false; column = 0; next = 0 } → TakesPair t here values row table r table
+  pair_full full r e = pair_passed table refl (λ (n : IsData (content_at t here) → ⊥). refl) (full_broken (content_at t here) values full) r e
 
-  module _ (allowed : Allowed comment) (cut : ℕ) (is_cut : cut ≡ in_force comment) (table' : List ℕ) (pair : Pair) (read_cut : StagesPair cut t here table values row table' pair)
-      (filled_cut : is_blank_line (cut_from (in_force comment) t here) ≡ false) (plain_by_cut : bracket_of (cut_from (in_force comment) t here) ≡ Plain) where
-    read_pair_lem : StagesPair (in_force comment) t here table values row table' pair
-    read_pair_lem = subst (λ (c : ℕ). StagesPair c t here table values row table' pair) is_cut read_cut
-
-    same_pair : content_at comment t here ≡ cut_from (in_force comment) t here
-    same_pair = plain_content comment t here allowed plain_by_cut
-
-    pair_filled : is_blank_line (content_at comment t here) ≡ false
-    pair_filled = ap is_blank_line same_pair ∙ filled_cut
-
-    pair_plainly : bracket_of (content_at comment t here) ≡ Plain
-    pair_plainly = ap bracket_of same_pair ∙ plain_by_cut
-
-    pub pair_broken : not pair.staged ≡ true → (r : TakenPair) → r ≡ record { taken = false; column = 0; next = 0 } → TakesPair comment t here values row table r table'
+  module _ (table' : List ℕ) (pair : Pair) (read : StagesPair t here table values row table' pair) (filled : is_blank_line (content_at t here) ≡ false)
+      (plainly : bracket_of (content_at t here) ≡ Plain) where
+    pub pair_broken : not pair.staged ≡ true → (r : TakenPair) → r ≡ record { taken = false; column = 0; next = 0 } → TakesPair t here values row table r table'
     pair_broken bad r e =
-        pair_passed table' read_pair_lem.long (λ (n : IsData (content_at comment t here) → ⊥). absurd (n (pair_filled, pair_plainly)))
-        (data_broken sparse (content_at comment t here) values (rw same_pair (read_pair_lem.broken (not-true pair.staged bad)))) r e
+        pair_passed table' read.long (λ (n : IsData (content_at t here) → ⊥). absurd (n (filled, plainly)))
+        (data_broken sparse (content_at t here) values (read.broken (not-true pair.staged bad))) r e
 
     module _ (staged : pair.staged ≡ true) (few : values < most_values) where
       abbrev pair_line : DataLine
       pair_line = record { numbers = 1; column = pair.column; right = true; formed = true; bounded = true }
 
       module _ (m : Matrix) (form_is : m.form ≡ sparse) (ordered : is_ordered m ≡ true) (a : Staging) (bound : BoundedStaging a values) (row_is : a.row ≡ row) where
-        pair_read : pair_line ≡ data_line_of m.form (content_at comment t here)
-        pair_read = rw (form_is, same_pair) (read_pair_lem.line_is staged)
+        pair_read : pair_line ≡ data_line_of m.form (content_at t here)
+        pair_read = rw form_is (read.line_is staged)
 
-        pair_adds : (l : Line) → l.content ≡ content_at comment t here → key_of l ≡ plain →
+        pair_adds : (l : Line) → l.content ≡ content_at t here → key_of l ≡ plain →
             Adds m.form l table values a table' (values + 1) (named_to pair.column a)
-        pair_adds l is_content_lem is_plain = rw form_is (read_pair_lem.adds staged a bound row_is l (is_content_lem ∙ same_pair) is_plain)
+        pair_adds l same is_plain = rw form_is (read.adds staged a bound row_is l same is_plain)
 
         matrix_moves : with_column pair.column m ≡ data_next pair_line m
         unfolding data_next
         matrix_moves = sym (if_true _ _ (eq-eqb _ _ form_is))
 
-        pair_taken_here : Takes (content_at comment t here) m values a table
+        pair_taken_here : Takes (content_at t here) m values a table
             (record { taken = true; rule = 0; matrix = with_column pair.column m; values = values + 1; staging = named_to pair.column a }) table'
         pair_taken_here =
-            stage_goes (content_at comment t here) pair_filled pair_plainly m values pair_line pair_read 0
+            stage_goes (content_at t here) filled plainly m values pair_line pair_read 0
             (rule_kept pair_line m values refl ordered refl refl (omega arith)) a (named_to pair.column a) table table' (omega arith) pair_adds refl
             (with_column pair.column m) matrix_moves
 
-    pub pair_taken : not pair.staged ≡ false → values < most_values → (next : ℕ) → next ≡ (line_at cut t pair.end).next →
-        TakesPair comment t here values row table (record { taken = true; column = pair.column; next = next }) table'
+    pub pair_taken : not pair.staged ≡ false → values < most_values → (next : ℕ) → next ≡ (line_at comment_byte t pair.end).next →
+        TakesPair t here values row table (record { taken = true; column = pair.column; next = next }) table'
     pair_taken staged few next on =
         let is_staged : pair.staged ≡ true = not-false pair.staged staged in
         record {
-          long = read_pair_lem.long;
+          long = read.long;
           kept = λ (z : true ≡ false). absurd (true≢false z);
           broken = λ (z : true ≡ false). absurd (true≢false z);
           few = λ (z : true ≡ true). few;
-          narrow = λ (z : true ≡ true). column_small sparse (content_at comment t here) (record { numbers = 1; column = pair.column; right = true; formed = true; bounded = true }) (rw same_pair (read_pair_lem.line_is is_staged));
-          onward = λ (z : true ≡ true). next_of comment cut t here pair.end next (read_cut.ends is_staged) on;
-          steady = λ (z : true ≡ true). ap (λ (l : Cut). l.comment) (sym (plain_cut comment t here allowed plain_by_cut));
+          narrow = λ (z : true ≡ true). column_small sparse (content_at t here) _ (read.line_is is_staged);
+          onward = λ (z : true ≡ true). next_of t here pair.end next (read.ends is_staged) on;
           takes = λ (z : true ≡ true). pair_taken_here is_staged few;
         }
 
 -- ---- how far a run has come
 
-pub record On (comment : ℕ) (t : List ℕ) (at line : ℕ) (part : Data) (table₀ : List ℕ) (here number : ℕ) (reached : Data) (table : List ℕ) : Type 0 where
-  pub gone : (comment₀ at₀ line₀ : ℕ) (m : Matrix) (values : ℕ) → Gone comment₀ t at₀ line₀ m values comment at line part → Gone comment₀ t at₀ line₀ m values comment here number reached
-  pub left : (comment₀ n₀ at₀ : ℕ) (first : List ℕ) (values₀ : ℕ) → LeftPart comment₀ t n₀ at₀ part.matrix.form first values₀ comment line at part table₀ →
-      LeftPart comment₀ t n₀ at₀ part.matrix.form first values₀ comment number here reached table
+pub record On (t : List ℕ) (at line : ℕ) (part : Data) (table₀ : List ℕ) (here number : ℕ) (reached : Data) (table : List ℕ) : Type 0 where
+  pub gone : (at₀ line₀ : ℕ) (m : Matrix) (values : ℕ) → Gone t at₀ line₀ m values at line part → Gone t at₀ line₀ m values here number reached
+  pub left : (n₀ at₀ : ℕ) (first : List ℕ) (values₀ : ℕ) → LeftPart t n₀ at₀ part.matrix.form first values₀ line at part table₀ →
+      LeftPart t n₀ at₀ part.matrix.form first values₀ number here reached table
   pub form : reached.matrix.form ≡ part.matrix.form
   pub onward : at ≤ here
   pub long : length table ≡ length table₀
@@ -366,29 +323,29 @@ pub record On (comment : ℕ) (t : List ℕ) (at line : ℕ) (part : Data) (tabl
   pub bounded : BoundedStaging reached.staging reached.values
   pub few : reached.values ≤ most_values
 
-pub runs_now : (comment : ℕ) (t : List ℕ) (at line : ℕ) (part : Data) → Allowed comment → at ≤ length t → line ≤ at + 1 → BoundedStaging part.staging part.values →
-    part.values ≤ most_values → (b : Bool) → b ≡ is_ordered part.matrix → not b ≡ false → Runs comment t at line part
-runs_now comment t at line part allowed within counted bounded few b ordered tested =
-    record { allowed = allowed; within = within; counted = counted; bounded = bounded; few = few; ordered = sym ordered ∙ not-false b tested }
+pub runs_now : (t : List ℕ) (at line : ℕ) (part : Data) → at ≤ length t → line ≤ at + 1 → BoundedStaging part.staging part.values →
+    part.values ≤ most_values → (b : Bool) → b ≡ is_ordered part.matrix → not b ≡ false → Runs t at line part
+runs_now t at line part within counted bounded few b ordered tested =
+    record { within = within; counted = counted; bounded = bounded; few = few; ordered = sym ordered ∙ not-false b tested }
 
 -- a run that is not entered: a line of data would break a rule
-pub run_none : (comment : ℕ) (t : List ℕ) (at line : ℕ) (part : Data) (table : List ℕ) (b : Bool) → b ≡ is_ordered part.matrix → not b ≡ true →
-    ResumesRun comment t at line part table (record { at = at; line = line; comment = comment; part = part }) table
-run_none comment t at line part table b told tested =
+pub run_none : (t : List ℕ) (at line : ℕ) (part : Data) (table : List ℕ) (b : Bool) → b ≡ is_ordered part.matrix → not b ≡ true →
+    ResumesRun t at line part table (record { at = at; line = line; part = part }) table
+run_none t at line part table b told tested =
     record {
-      gone = λ (comment₀ at₀ line₀ : ℕ) (m : Matrix) (values : ℕ) (g : Gone comment₀ t at₀ line₀ m values comment at line part). g;
-      left = λ (other : at < length t → IsData (content_at comment t at) → ⊥) (comment₀ n₀ at₀ : ℕ) (first : List ℕ) (values₀ : ℕ)
-          (l : LeftPart comment₀ t n₀ at₀ part.matrix.form first values₀ comment line at part table). l;
-      broken = λ (h : at < length t). unordered_broken part.matrix b told tested (content_at comment t at) part.values;
+      gone = λ (at₀ line₀ : ℕ) (m : Matrix) (values : ℕ) (g : Gone t at₀ line₀ m values at line part). g;
+      left = λ (other : at < length t → IsData (content_at t at) → ⊥) (n₀ at₀ : ℕ) (first : List ℕ) (values₀ : ℕ)
+          (l : LeftPart t n₀ at₀ part.matrix.form first values₀ line at part table). l;
+      broken = λ (h : at < length t). unordered_broken part.matrix b told tested (content_at t at) part.values;
       onward = le_refl at;
       long = refl;
     }
 
 -- the state of a run, given by its fields
-module _ (comment : ℕ) (t : List ℕ) (at line : ℕ) (part : Data) (table : List ℕ) (runs : Runs comment t at line part) (reached : Data) (broken : reached.rule ≡ 0)
+module _ (t : List ℕ) (at line : ℕ) (part : Data) (table : List ℕ) (runs : Runs t at line part) (reached : Data) (broken : reached.rule ≡ 0)
     (matrix : reached.matrix ≡ part.matrix) (values : reached.values ≡ part.values) (staging : reached.staging ≡ part.staging) where
-  again : (comment₀ at₀ line₀ : ℕ) (m : Matrix) (values₀ : ℕ) → Gone comment₀ t at₀ line₀ m values₀ comment at line part → Gone comment₀ t at₀ line₀ m values₀ comment at line reached
-  again comment₀ at₀ line₀ m values₀ g =
+  again : (at₀ line₀ : ℕ) (m : Matrix) (values₀ : ℕ) → Gone t at₀ line₀ m values₀ at line part → Gone t at₀ line₀ m values₀ at line reached
+  again at₀ line₀ m values₀ g =
       record {
         whole = broken;
         crossed = rw (broken, matrix, values) (rw g.whole at g.crossed);
@@ -397,11 +354,11 @@ module _ (comment : ℕ) (t : List ℕ) (at line : ℕ) (part : Data) (table : L
         bounded = rw (staging, values) g.bounded;
       }
 
-  on_start : On comment t at line part table at line reached table
+  on_start : On t at line part table at line reached table
   on_start =
       record {
         gone = again;
-        left = λ (comment₀ n₀ at₀ : ℕ) (first : List ℕ) (values₀ : ℕ) (l : LeftPart comment₀ t n₀ at₀ part.matrix.form first values₀ comment line at part table).
+        left = λ (n₀ at₀ : ℕ) (first : List ℕ) (values₀ : ℕ) (l : LeftPart t n₀ at₀ part.matrix.form first values₀ line at part table).
             rw (values, staging) l;
         form = ap (λ (m : Matrix). m.form) matrix;
         onward = le_refl at;
@@ -411,24 +368,23 @@ module _ (comment : ℕ) (t : List ℕ) (at line : ℕ) (part : Data) (table : L
         few = rw values runs.few;
       }
 
-module _ (comment : ℕ) (t : List ℕ) (at line : ℕ) (part : Data) (table₀ : List ℕ) (here number : ℕ) (reached : Data) (table : List ℕ)
-    (on : On comment t at line part table₀ here number reached table) where
+module _ (t : List ℕ) (at line : ℕ) (part : Data) (table₀ : List ℕ) (here number : ℕ) (reached : Data) (table : List ℕ)
+    (on : On t at line part table₀ here number reached table) where
   -- one line more
-  module _ (h : here < length t) (found : Cut) (is_found : found ≡ cut_at comment t here) (next : Data) (table' : List ℕ)
+  module _ (h : here < length t) (found : text.Line) (is_found : found ≡ line_at comment_byte t here) (next : Data) (table' : List ℕ)
       (takes : Takes (take (found.content - here) (drop here t)) reached.matrix reached.values reached.staging table next table')
-      (taken : next.taken ≡ true) (kept : next.rule ≡ 0) (few : next.values ≤ most_values) (long : length table' ≡ length table) (steady : found.comment ≡ comment) where
-    on_next : On comment t at line part table₀ found.next (number + 1) next table'
+      (taken : next.taken ≡ true) (kept : next.rule ≡ 0) (few : next.values ≤ most_values) (long : length table' ≡ length table) where
+    on_next : On t at line part table₀ found.next (number + 1) next table'
     on_next =
-        let f : here < found.next = rw is_found (cut_on comment t here h) in
+        let f : here < found.next = rw is_found (next_on comment_byte t here h) in
         let c : number ≤ here + 1 = on.counted in
         let o : at ≤ here = on.onward in
         record {
-          gone = λ (comment₀ at₀ line₀ : ℕ) (m : Matrix) (values : ℕ) (g : Gone comment₀ t at₀ line₀ m values comment at line part).
-              rw steady at
-              (gone_next comment t here number reached table h found is_found next table' takes taken comment₀ at₀ line₀ m values (on.gone comment₀ at₀ line₀ m values g) kept);
-          left = λ (comment₀ n₀ at₀ : ℕ) (first : List ℕ) (values₀ : ℕ) (l : LeftPart comment₀ t n₀ at₀ part.matrix.form first values₀ comment line at part table₀).
-              rw (on.form, steady) at
-              (left_next comment t here number reached table h found is_found next table' takes taken kept comment₀ n₀ at₀ first values₀ (rw on.form (on.left comment₀ n₀ at₀ first values₀ l)));
+          gone = λ (at₀ line₀ : ℕ) (m : Matrix) (values : ℕ) (g : Gone t at₀ line₀ m values at line part).
+              gone_next t here number reached table h found is_found next table' takes taken at₀ line₀ m values (on.gone at₀ line₀ m values g) kept;
+          left = λ (n₀ at₀ : ℕ) (first : List ℕ) (values₀ : ℕ) (l : LeftPart t n₀ at₀ part.matrix.form first values₀ line at part table₀).
+              rw on.form at
+              (left_next t here number reached table h found is_found next table' takes taken kept n₀ at₀ first values₀ (rw on.form (on.left n₀ at₀ first values₀ l)));
           form = takes.form ∙ on.form;
           onward = omega arith;
           long = long ∙ on.long;
@@ -438,26 +394,26 @@ module _ (comment : ℕ) (t : List ℕ) (at line : ℕ) (part : Data) (table₀ 
         }
 
   -- the end of the text
-  ended : length t ≤ here → ResumesRun comment t at line part table₀ (record { at = here; line = number; comment = comment; part = reached }) table
+  ended : length t ≤ here → ResumesRun t at line part table₀ (record { at = here; line = number; part = reached }) table
   ended h =
       record {
         gone = on.gone;
-        left = λ (other : here < length t → IsData (content_at comment t here) → ⊥). on.left;
+        left = λ (other : here < length t → IsData (content_at t here) → ⊥). on.left;
         broken = λ (l : here < length t). absurd (omega arith);
         onward = on.onward;
         long = on.long;
       }
 
   -- a line that is not part of the run: only a line of data has changed the table
-  left_by : (table' : List ℕ) → length table' ≡ length table → ((IsData (content_at comment t here) → ⊥) → table' ≡ table) →
-      BrokenLine (content_at comment t here) reached.matrix reached.values → here < length t →
-      ResumesRun comment t at line part table₀ (record { at = here; line = number; comment = comment; part = reached }) table'
+  left_by : (table' : List ℕ) → length table' ≡ length table → ((IsData (content_at t here) → ⊥) → table' ≡ table) →
+      BrokenLine (content_at t here) reached.matrix reached.values → here < length t →
+      ResumesRun t at line part table₀ (record { at = here; line = number; part = reached }) table'
   left_by table' long kept broken h =
       record {
         gone = on.gone;
-        left = λ (other : here < length t → IsData (content_at comment t here) → ⊥) (comment₀ n₀ at₀ : ℕ) (first : List ℕ) (values₀ : ℕ)
-            (l : LeftPart comment₀ t n₀ at₀ part.matrix.form first values₀ comment line at part table₀).
-            rw (kept (other h)) (on.left comment₀ n₀ at₀ first values₀ l);
+        left = λ (other : here < length t → IsData (content_at t here) → ⊥) (n₀ at₀ : ℕ) (first : List ℕ) (values₀ : ℕ)
+            (l : LeftPart t n₀ at₀ part.matrix.form first values₀ line at part table₀).
+            rw (kept (other h)) (on.left n₀ at₀ first values₀ l);
         broken = λ (l : here < length t). broken;
         onward = on.onward;
         long = long ∙ on.long;
@@ -465,14 +421,14 @@ module _ (comment : ℕ) (t : List ℕ) (at line : ℕ) (part : Data) (table₀ 
 
 -- ---- a run of lines of numbers
 
-module _ (comment : ℕ) (t : List ℕ) (at line : ℕ) (part : Data) (table₀ : List ℕ) where
-  pub numbers_start : Runs comment t at line part →
-      On comment t at line part table₀ at line (numbers_part part part.values part.staging.row part.staging.column) table₀
+module _ (t : List ℕ) (at line : ℕ) (part : Data) (table₀ : List ℕ) where
+  pub numbers_start : Runs t at line part →
+      On t at line part table₀ at line (numbers_part part part.values part.staging.row part.staging.column) table₀
   unfolding numbers_part
-  numbers_start runs = on_start comment t at line part table₀ runs _ refl refl refl refl
+  numbers_start runs = on_start t at line part table₀ runs _ refl refl refl refl
 
   module _ (here number values row column : ℕ) (table : List ℕ)
-      (on : On comment t at line part table₀ here number (numbers_part part values row column) table) where
+      (on : On t at line part table₀ here number (numbers_part part values row column) table) where
     -- no sum wraps at the line
     pub numbers_row : row ≤ most_given + values
     unfolding numbers_part
@@ -486,68 +442,68 @@ module _ (comment : ℕ) (t : List ℕ) (at line : ℕ) (part : Data) (table₀ 
     unfolding numbers_part
     numbers_few = on.few
 
-    pub numbers_end : length t ≤ here → (r : BodyWalk) → r ≡ record { at = here; line = number; comment = comment; part = numbers_part part values row column } →
-        ResumesRun comment t at line part table₀ r table
-    numbers_end h r e = rw e (ended comment t at line part table₀ here number (numbers_part part values row column) table on h)
+    pub numbers_end : length t ≤ here → (r : BodyWalk) → r ≡ record { at = here; line = number; part = numbers_part part values row column } →
+        ResumesRun t at line part table₀ r table
+    numbers_end h r e = rw e (ended t at line part table₀ here number (numbers_part part values row column) table on h)
 
     module _ (next : TakenNumbers) (table' : List ℕ)
-        (takes : TakesNumbers comment t here part.matrix.form values row column table next table') where
+        (takes : TakesNumbers t here part.matrix.form values row column table next table') where
       pub numbers_leave : here < length t → not next.taken ≡ true → (r : BodyWalk) →
-          r ≡ record { at = here; line = number; comment = comment; part = numbers_part part values row column } → ResumesRun comment t at line part table₀ r table'
+          r ≡ record { at = here; line = number; part = numbers_part part values row column } → ResumesRun t at line part table₀ r table'
       unfolding numbers_part
       numbers_leave h left r e =
           rw e
-          (left_by comment t at line part table₀ here number _ table on table' takes.long (takes.kept (not-true next.taken left))
+          (left_by t at line part table₀ here number _ table on table' takes.long (takes.kept (not-true next.taken left))
           (takes.broken (not-true next.taken left) part.matrix refl) h)
 
       pub numbers_less : here < length t → not next.taken ≡ false → length t - next.next < length t - here
       numbers_less h left =
-          let f : here < next.next = rw (takes.onward (not-false next.taken left)) (cut_on comment t here h) in
+          let f : here < next.next = rw (takes.onward (not-false next.taken left)) (next_on comment_byte t here h) in
           omega arith
 
       pub numbers_next : here < length t → not next.taken ≡ false → is_ordered part.matrix ≡ true →
-          On comment t at line part table₀ next.next (number + 1) (numbers_part part next.values next.row next.column) table'
+          On t at line part table₀ next.next (number + 1) (numbers_part part next.values next.row next.column) table'
       unfolding numbers_part
       numbers_next h left ordered =
           let taken : next.taken ≡ true = not-false next.taken left in
           rw (takes.onward taken)
-          (on_next comment t at line part table₀ here number _ table on h (cut_at comment t here) refl _ table'
-          (takes.takes taken part.matrix refl ordered (numbers_part part values row column).staging refl refl) refl refl (takes.few taken) takes.long (takes.steady taken))
+          (on_next t at line part table₀ here number _ table on h (line_at comment_byte t here) refl _ table'
+          (takes.takes taken part.matrix refl ordered (numbers_part part values row column).staging refl refl) refl refl (takes.few taken) takes.long)
 
 -- ---- a run of lines of a Sparse_matrix
 
-module _ (comment : ℕ) (t : List ℕ) (at line : ℕ) (part : Data) (table₀ : List ℕ) where
+module _ (t : List ℕ) (at line : ℕ) (part : Data) (table₀ : List ℕ) where
   abbrev reached_pairs : ℕ → ℕ → ℕ → Bool → ℕ → Data
   reached_pairs values least greatest fits named = pairs_part part values (pairs_matrix part.matrix least greatest fits) named
 
-  pub pairs_start : Runs comment t at line part →
-      On comment t at line part table₀ at line
+  pub pairs_start : Runs t at line part →
+      On t at line part table₀ at line
       (pairs_part part part.values
       (pairs_matrix part.matrix part.matrix.rows.least part.matrix.rows.greatest part.matrix.rows.fits) part.staging.greatest)
       table₀
   unfolding pairs_part pairs_matrix
-  pairs_start runs = on_start comment t at line part table₀ runs _ refl refl refl refl
+  pairs_start runs = on_start t at line part table₀ runs _ refl refl refl refl
 
   module _ (here number values least greatest : ℕ) (fits : Bool) (named : ℕ) (table : List ℕ)
-      (on : On comment t at line part table₀ here number (pairs_part part values (pairs_matrix part.matrix least greatest fits) named) table) where
+      (on : On t at line part table₀ here number (pairs_part part values (pairs_matrix part.matrix least greatest fits) named) table) where
     pub pairs_row : part.staging.row ≤ most_given + values
     unfolding pairs_part
     pairs_row = on.bounded.row
 
     pub pairs_end : length t ≤ here → (m : Matrix) → m ≡ pairs_matrix part.matrix least greatest fits → (r : BodyWalk) →
-        r ≡ record { at = here; line = number; comment = comment; part = pairs_part part values m named } → ResumesRun comment t at line part table₀ r table
-    pairs_end h m is r e = rw (e, is) (ended comment t at line part table₀ here number _ table on h)
+        r ≡ record { at = here; line = number; part = pairs_part part values m named } → ResumesRun t at line part table₀ r table
+    pairs_end h m is r e = rw (e, is) (ended t at line part table₀ here number _ table on h)
 
-    module _ (next : TakenPair) (table' : List ℕ) (takes : TakesPair comment t here values part.staging.row table next table') where
+    module _ (next : TakenPair) (table' : List ℕ) (takes : TakesPair t here values part.staging.row table next table') where
       pub pairs_long : length table' ≡ length table₀
       pairs_long = takes.long ∙ on.long
 
       pub pairs_leave : here < length t → part.matrix.form ≡ sparse → not next.taken ≡ true → (m : Matrix) → m ≡ pairs_matrix part.matrix least greatest fits →
-          (r : BodyWalk) → r ≡ record { at = here; line = number; comment = comment; part = pairs_part part values m named } → ResumesRun comment t at line part table₀ r table'
+          (r : BodyWalk) → r ≡ record { at = here; line = number; part = pairs_part part values m named } → ResumesRun t at line part table₀ r table'
       unfolding pairs_part pairs_matrix
       pairs_leave h form_is left m is r e =
           rw (e, is)
-          (left_by comment t at line part table₀ here number _ table on table' takes.long (takes.kept (not-true next.taken left))
+          (left_by t at line part table₀ here number _ table on table' takes.long (takes.kept (not-true next.taken left))
           (takes.broken (not-true next.taken left) (pairs_matrix part.matrix least greatest fits) form_is) h)
 
       module _ (left : not next.taken ≡ false) where
@@ -560,11 +516,11 @@ module _ (comment : ℕ) (t : List ℕ) (at line : ℕ) (part : Data) (table₀ 
 
         pub pairs_less : here < length t → length t - next.next < length t - here
         pairs_less h =
-            let f : here < next.next = rw (takes.onward (not-false next.taken left)) (cut_on comment t here h) in
+            let f : here < next.next = rw (takes.onward (not-false next.taken left)) (next_on comment_byte t here h) in
             omega arith
 
         moved : part.matrix.form ≡ sparse → is_ordered part.matrix ≡ true → here < length t →
-            On comment t at line part table₀ next.next (number + 1)
+            On t at line part table₀ next.next (number + 1)
             (pairs_part part (values + 1)
             (pairs_matrix part.matrix (next.column + 1) (max greatest next.column) (both fits (leb least next.column)))
             (max named next.column)) table'
@@ -574,44 +530,40 @@ module _ (comment : ℕ) (t : List ℕ) (at line : ℕ) (part : Data) (table₀ 
             let few : values < most_values = takes.few taken in
             let more : values + 1 ≤ most_values = omega arith in
             rw (takes.onward taken)
-            (on_next comment t at line part table₀ here number _ table on h (cut_at comment t here) refl _ table'
+            (on_next t at line part table₀ here number _ table on h (line_at comment_byte t here) refl _ table'
             (takes.takes taken (pairs_matrix part.matrix least greatest fits) form_is ordered (reached_pairs values least greatest fits named
-            ).staging on.bounded refl) refl refl more takes.long (takes.steady taken))
+            ).staging on.bounded refl) refl refl more takes.long)
 
         pub pairs_next : part.matrix.form ≡ sparse → is_ordered part.matrix ≡ true → here < length t →
             (fits' : Bool) → fits' ≡ both fits (leb least next.column) → (greatest' : ℕ) → greatest' ≡ max greatest next.column →
             (named' : ℕ) → named' ≡ max named next.column →
-            On comment t at line part table₀ next.next (number + 1)
+            On t at line part table₀ next.next (number + 1)
             (pairs_part part (values + 1) (pairs_matrix part.matrix (next.column + 1) greatest' fits') named') table'
         pairs_next form_is ordered h fits' f greatest' g named' n = rw (f, g, n) (moved form_is ordered h)
 
 -- ---- a run, and the line after it
 
 -- how far the lines of a matrix are judged and staged
-pub record Passed (comment₀ : ℕ) (t : List ℕ) (at line : ℕ) (m : Matrix) (values : ℕ) (table₀ : List ℕ) (comment here number : ℕ) (part : Data) (table : List ℕ) : Type 0 where
-  pub allowed : Allowed comment₀
-  pub gone : Gone comment₀ t at line m values comment here number part
-  pub left : LeftPart comment₀ t line at m.form table₀ values comment number here part table
+pub record Passed (t : List ℕ) (at line : ℕ) (m : Matrix) (values : ℕ) (table₀ : List ℕ) (here number : ℕ) (part : Data) (table : List ℕ) : Type 0 where
+  pub gone : Gone t at line m values here number part
+  pub left : LeftPart t line at m.form table₀ values number here part table
   pub long : length table ≡ length table₀
   pub began : line ≤ at + 1
 
-pub passed_start : (comment : ℕ) (t : List ℕ) (at line : ℕ) (m : Matrix) (values : ℕ) (table : List ℕ) → Allowed comment → at ≤ length t → line ≤ at + 1 → values ≤ most_values → (a : Staging) → a ≡ new_staging →
-    Passed comment t at line m values table comment at line (record { taken = true; rule = 0; matrix = m; values = values; staging = a }) table
-passed_start comment t at line m values table allowed within began few a new =
-    record { allowed = allowed; gone = gone_start comment t at line m values a new within few; left = left_start comment t at line m values a new table; long = refl; began = began }
+pub passed_start : (t : List ℕ) (at line : ℕ) (m : Matrix) (values : ℕ) (table : List ℕ) → at ≤ length t → line ≤ at + 1 → values ≤ most_values → (a : Staging) → a ≡ new_staging →
+    Passed t at line m values table at line (record { taken = true; rule = 0; matrix = m; values = values; staging = a }) table
+passed_start t at line m values table within began few a new =
+    record { gone = gone_start t at line m values a new within few; left = left_start t at line m values a new table; long = refl; began = began }
 
-module _ (comment₀ : ℕ) (t : List ℕ) (at line : ℕ) (m : Matrix) (values : ℕ) (table₀ : List ℕ) (comment here number : ℕ) (part : Data) (table : List ℕ)
-    (passed : Passed comment₀ t at line m values table₀ comment here number part table) where
-  pub passed_allowed : Allowed comment
-  passed_allowed = passed.gone.crossed.allowed passed.allowed
-
+module _ (t : List ℕ) (at line : ℕ) (m : Matrix) (values : ℕ) (table₀ : List ℕ) (here number : ℕ) (part : Data) (table : List ℕ)
+    (passed : Passed t at line m values table₀ here number part table) where
   pub passed_counted : number ≤ here + 1
   passed_counted =
       let c : number + at ≤ line + here = passed.gone.crossed.counted in
       let b : line ≤ at + 1 = passed.began in
       omega arith
 
-  pub passed_ends : length t ≤ here → ResumesMatrix comment₀ t at line m values table₀ (record { at = here; line = number; comment = comment; part = part }) table
+  pub passed_ends : length t ≤ here → ResumesMatrix t at line m values table₀ (record { at = here; line = number; part = part }) table
   passed_ends h =
       record {
         crossed = passed.gone.crossed;
@@ -620,9 +572,9 @@ module _ (comment₀ : ℕ) (t : List ℕ) (at line : ℕ) (m : Matrix) (values 
         left = λ (z : part.rule ≡ 0). passed.left;
       }
 
-  module _ (r : BodyWalk) (table₁ : List ℕ) (leads : ResumesRun comment t here number part table r table₁) where
-    run_gone : Gone comment₀ t at line m values r.comment r.at r.line r.part
-    run_gone = leads.gone comment₀ at line m values passed.gone
+  module _ (r : BodyWalk) (table₁ : List ℕ) (leads : ResumesRun t here number part table r table₁) where
+    run_gone : Gone t at line m values r.at r.line r.part
+    run_gone = leads.gone at line m values passed.gone
 
     pub run_long : length table₁ ≡ length table₀
     run_long = leads.long ∙ passed.long
@@ -637,60 +589,59 @@ module _ (comment₀ : ℕ) (t : List ℕ) (at line : ℕ) (m : Matrix) (values 
     pub run_bounded : BoundedStaging r.part.staging r.part.values
     run_bounded = run_gone.bounded
 
-    run_left : (r.at < length t → IsData (content_at r.comment t r.at) → ⊥) → LeftPart comment₀ t line at m.form table₀ values r.comment r.line r.at r.part table₁
-    run_left other = rw passed.gone.form at (leads.left other comment₀ line at table₀ values (rw passed.gone.form passed.left))
+    run_left : (r.at < length t → IsData (content_at t r.at) → ⊥) → LeftPart t line at m.form table₀ values r.line r.at r.part table₁
+    run_left other = rw passed.gone.form at (leads.left other line at table₀ values (rw passed.gone.form passed.left))
 
-    pub run_ends : length t ≤ r.at → ResumesMatrix comment₀ t at line m values table₀ (record { at = r.at; line = r.line; comment = r.comment; part = r.part }) table₁
+    pub run_ends : length t ≤ r.at → ResumesMatrix t at line m values table₀ (record { at = r.at; line = r.line; part = r.part }) table₁
     run_ends h =
         record {
           crossed = run_gone.crossed;
           long = run_long;
           ends = λ (z : r.part.rule ≡ 0) (l : r.at < length t). absurd (omega arith);
-          left = λ (z : r.part.rule ≡ 0). run_left (λ (l : r.at < length t) (d : IsData (content_at r.comment t r.at)). absurd (omega arith));
+          left = λ (z : r.part.rule ≡ 0). run_left (λ (l : r.at < length t) (d : IsData (content_at t r.at)). absurd (omega arith));
         }
 
-    module _ (h : r.at < length t) (found : Cut) (is_found : found ≡ cut_at r.comment t r.at) where
+    module _ (h : r.at < length t) (found : text.Line) (is_found : found ≡ line_at comment_byte t r.at) where
       pub run_less : length t - found.next < length t - here
       run_less =
-          let f : r.at < found.next = rw is_found (cut_on r.comment t r.at h) in
+          let f : r.at < found.next = rw is_found (next_on comment_byte t r.at h) in
           let o : here ≤ r.at = leads.onward in
           omega arith
 
       -- if it is a line of data, it breaks a rule
       pub run_broken : BrokenLine (take (found.content - r.at) (drop r.at t)) r.part.matrix r.part.values
-      run_broken = subst (λ (x : Cut). BrokenLine (take (x.content - r.at) (drop r.at t)) r.part.matrix r.part.values) (sym is_found) (leads.broken h)
+      run_broken = subst (λ (x : text.Line). BrokenLine (take (x.content - r.at) (drop r.at t)) r.part.matrix r.part.values) (sym is_found) (leads.broken h)
 
       module _ (next : Data)
           (takes : TakesAlone (take (found.content - r.at) (drop r.at t)) r.part.matrix r.part.values r.part.staging next) where
-        others : next.rule ≡ 0 → r.at < length t → IsData (content_at r.comment t r.at) → ⊥
-        others z l = subst (λ (x : Cut). IsData (take (x.content - r.at) (drop r.at t)) → ⊥) is_found (takes.other z)
+        others : next.rule ≡ 0 → r.at < length t → IsData (content_at t r.at) → ⊥
+        others z l = subst (λ (x : text.Line). IsData (take (x.content - r.at) (drop r.at t)) → ⊥) is_found (takes.other z)
 
-        pub run_leaves : not next.taken ≡ true → ResumesMatrix comment₀ t at line m values table₀ (record { at = r.at; line = r.line; comment = r.comment; part = r.part }) table₁
+        pub run_leaves : not next.taken ≡ true → ResumesMatrix t at line m values table₀ (record { at = r.at; line = r.line; part = r.part }) table₁
         run_leaves left =
-            let e : Ends (content_at r.comment t r.at) =
-            ends_here r.comment t r.at r.line r.part table₁ h found is_found next table₁ (takes.takes table₁) (not-true next.taken left) in
+            let e : Ends (content_at t r.at) =
+            ends_here t r.at r.line r.part table₁ h found is_found next table₁ (takes.takes table₁) (not-true next.taken left) in
             record {
               crossed = run_gone.crossed;
               long = run_long;
               ends = λ (z : r.part.rule ≡ 0) (l : r.at < length t). e;
-              left = λ (z : r.part.rule ≡ 0). run_left (λ (l : r.at < length t) (d : IsData (content_at r.comment t r.at)). e.opens d.1);
+              left = λ (z : r.part.rule ≡ 0). run_left (λ (l : r.at < length t) (d : IsData (content_at t r.at)). e.opens d.1);
             }
 
         module _ (taken : not next.taken ≡ false) where
-          pub run_stops : (next.rule ≡ 0 → ⊥) → ResumesMatrix comment₀ t at line m values table₀ (record { at = found.next; line = r.line; comment = found.comment; part = next }) table₁
+          pub run_stops : (next.rule ≡ 0 → ⊥) → ResumesMatrix t at line m values table₀ (record { at = found.next; line = r.line; part = next }) table₁
           run_stops broken =
-              gone_stops r.comment t r.at r.line r.part table₁ h found is_found next table₁ (takes.takes table₁) (not-false next.taken taken)
-              comment₀ at line m values run_gone broken table₀ run_long
+              gone_stops t r.at r.line r.part table₁ h found is_found next table₁ (takes.takes table₁) (not-false next.taken taken)
+              at line m values run_gone broken table₀ run_long
 
-          pub run_on : next.rule ≡ 0 → Passed comment₀ t at line m values table₀ found.comment found.next (r.line + 1) next table₁
+          pub run_on : next.rule ≡ 0 → Passed t at line m values table₀ found.next (r.line + 1) next table₁
           run_on kept =
               record {
-                allowed = passed.allowed;
-                gone = gone_next r.comment t r.at r.line r.part table₁ h found is_found next table₁ (takes.takes table₁) (not-false next.taken taken)
-                    comment₀ at line m values run_gone kept;
+                gone = gone_next t r.at r.line r.part table₁ h found is_found next table₁ (takes.takes table₁) (not-false next.taken taken)
+                    at line m values run_gone kept;
                 left = rw run_gone.form at
-                    (left_next r.comment t r.at r.line r.part table₁ h found is_found next table₁ (takes.takes table₁) (not-false next.taken taken) kept
-                    comment₀ line at table₀ values (rw run_gone.form (run_left (others kept))));
+                    (left_next t r.at r.line r.part table₁ h found is_found next table₁ (takes.takes table₁) (not-false next.taken taken) kept
+                    line at table₀ values (rw run_gone.form (run_left (others kept))));
                 long = run_long;
                 began = passed.began;
               }

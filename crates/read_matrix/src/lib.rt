@@ -3,10 +3,8 @@
 ghost use Rattle.std.specs.Prelude.{◌≡◌, true, false, ◌+◌, ◌≤◌, length};
 ghost use Rattle.table_layout.specs.Codes.{sparse};
 ghost use Rattle.table_layout.specs.Bounds.{most_values};
-ghost use Rattle.lex_line.specs.Lines.{is_blank_line};
-ghost use Rattle.lex_line.specs.Way.LineEnds.{line_at, cut_from};
-ghost use Rattle.lex_comment.specs.Comments.{in_force};
-ghost use Rattle.lex_comment.specs.Way.Cut.{Allowed};
+ghost use Rattle.lex_line.specs.Lines.{is_blank_line, comment_byte};
+ghost use Rattle.lex_line.specs.Way.LineEnds.{line_at, content_at};
 ghost use Rattle.lex_keyword.specs.Bracket.{bracket_of};
 ghost use Rattle.lex_keyword.specs.declared.Bracket.TheVariants.{Plain, Keyword};
 ghost use Rattle.line_place.specs.Place.{is_row_or_bandwidth};
@@ -146,7 +144,7 @@ fn named_line(
     if line_place::is_row_or_bandwidth(key) {
         return matrix_keyword_line(
             key,
-            lex_line::argument_of(content, start),
+            read_line::argument_of(content, start),
             matrix,
             values,
             staging,
@@ -166,7 +164,6 @@ fn opened_line(content: &[u8], matrix: Matrix, values: u64, staging: Staging) ->
         Bracket::Bad => left_line(matrix, values, staging),
         Bracket::Unknown => left_line(matrix, values, staging),
         Bracket::Later => left_line(matrix, values, staging),
-        Bracket::Switch(_start) => left_line(matrix, values, staging),
         Bracket::Keyword(key, start) => named_line(key, start, content, matrix, values, staging),
     }
 }
@@ -189,13 +186,11 @@ fn take_data(content: &[u8], matrix: Matrix, values: u64, staging: Staging) -> D
     }
 }
 
-// How far the lines of a matrix are read and the comment character in force there, or the line that breaks a rule, and the
-// result up to there.
+// How far the lines of a matrix are read, or the line that breaks a rule, and the result up to there.
 #[derive(Drop)]
 pub struct BodyWalk {
     pub at: usize,
     pub line: u64,
-    pub comment: u8,
     pub part: Data,
 }
 
@@ -203,13 +198,11 @@ pub struct BodyWalk {
 
 // What is at the front of the line that starts at offset `here`. The answer is that of `read_line::front_of` for the
 // line's content, but the line's end is not looked for.
-fn front_at(text: &[u8], here: usize, comment: u8) -> Front
-    requires { Allowed comment }
-    ensures { Fronted (cut_from (in_force comment) text.now here) result }
+fn front_at(text: &[u8], here: usize) -> Front
+    ensures { Fronted (content_at text.now here) result }
 {
-    let cut = lex_comment::in_force(comment);
     let start = base::past_blanks(text, here);
-    if !lex_number::is_word_at(text, start, cut) {
+    if !lex_number::is_word_at(text, start, lex_line::COMMENT) {
         return Front::Blanks;
     }
     if base::byte_at(text, start) == OPENING {
@@ -219,13 +212,13 @@ fn front_at(text: &[u8], here: usize, comment: u8) -> Front
 }
 
 // Where the next line starts, given the offset where the content of a line ends.
-fn next_line(text: &[u8], end: usize, comment: u8) -> usize
-    ensures { result ≡ (line_at comment text.now end).next }
+fn next_line(text: &[u8], end: usize) -> usize
+    ensures { result ≡ (line_at comment_byte text.now end).next }
 {
     if base::byte_at(text, end) == lex_line::LINE_FEED {
         return end + 1;
     }
-    let line = lex_line::line_at(text, end, comment);
+    let line = lex_line::line_at(text, end, lex_line::COMMENT);
     line.next
 }
 
@@ -256,23 +249,20 @@ fn left_numbers(values: u64, row: u64, column: u64) -> TakenNumbers
 fn plain_numbers(
     text: &[u8],
     here: usize,
-    comment: u8,
     form: u64,
     values: u64,
     table: &mut [u64],
     row: u64,
     column: u64,
 ) -> TakenNumbers
-    requires fact_1 { (is_blank_line (cut_from (in_force comment) text.now here) ≡ false) × (bracket_of (cut_from (in_force comment) text.now here) ≡ Plain)
-        × Allowed comment }
+    requires fact_1 { (is_blank_line (content_at text.now here) ≡ false) × (bracket_of (content_at text.now here) ≡ Plain) }
     requires fact_2 { row ≤ most_given + values }
     requires fact_3 { column ≤ most_given + values }
     requires fact_4 { values ≤ most_values }
     requires fact_5 { (form ≡ sparse → ⊥) }
-    ensures { TakesNumbers comment text.now here form values row column table.old result table.new }
+    ensures { TakesNumbers text.now here form values row column table.old result table.new }
 {
-    let cut = lex_comment::in_force(comment);
-    let numbers = read_numbers::read_numbers(text, here, cut, form, values, table, row, column);
+    let numbers = read_numbers::read_numbers(text, here, form, values, table, row, column);
     if !numbers.staged {
         return left_numbers(values, row, column);
     }
@@ -284,44 +274,34 @@ fn plain_numbers(
         values: values + numbers.count,
         row: numbers.row,
         column: numbers.column,
-        next: next_line(text, numbers.end, cut),
+        next: next_line(text, numbers.end),
     }
 }
 
 fn take_numbers(
     text: &[u8],
     here: usize,
-    comment: u8,
     form: u64,
     values: u64,
     table: &mut [u64],
     row: u64,
     column: u64,
 ) -> TakenNumbers
-    requires fact_1 { Allowed comment }
-    requires fact_2 { row ≤ most_given + values }
-    requires fact_3 { column ≤ most_given + values }
-    requires fact_4 { values ≤ most_values }
-    requires fact_5 { (form ≡ sparse → ⊥) }
-    ensures { TakesNumbers comment text.now here form values row column table.old result table.new }
+    requires fact_1 { row ≤ most_given + values }
+    requires fact_2 { column ≤ most_given + values }
+    requires fact_3 { values ≤ most_values }
+    requires fact_4 { (form ≡ sparse → ⊥) }
+    ensures { TakesNumbers text.now here form values row column table.old result table.new }
 {
-    match front_at(text, here, comment) {
+    match front_at(text, here) {
         Front::Blanks => left_numbers(values, row, column),
-        Front::Words => plain_numbers(text, here, comment, form, values, table, row, column),
+        Front::Words => plain_numbers(text, here, form, values, table, row, column),
         Front::Opening => left_numbers(values, row, column),
     }
 }
 
-fn numbers_passed(
-    at: usize,
-    line: u64,
-    comment: u8,
-    part: Data,
-    values: u64,
-    row: u64,
-    column: u64,
-) -> BodyWalk
-    ensures { result ≡ record { at = at; line = line; comment = comment; part = numbers_part part values row column } }
+fn numbers_passed(at: usize, line: u64, part: Data, values: u64, row: u64, column: u64) -> BodyWalk
+    ensures { result ≡ record { at = at; line = line; part = numbers_part part values row column } }
 {
     let matrix = part.matrix;
     let before = part.staging;
@@ -342,23 +322,15 @@ fn numbers_passed(
     BodyWalk {
         at,
         line,
-        comment,
         part: reached,
     }
 }
 
 // A run of lines of numbers.
-fn pass_numbers(
-    text: &[u8],
-    at: usize,
-    line: u64,
-    comment: u8,
-    part: Data,
-    table: &mut [u64],
-) -> BodyWalk
-    requires fact_1 { Runs comment text.now at line part }
+fn pass_numbers(text: &[u8], at: usize, line: u64, part: Data, table: &mut [u64]) -> BodyWalk
+    requires fact_1 { Runs text.now at line part }
     requires fact_2 { (part.matrix.form ≡ sparse → ⊥) }
-    ensures { ResumesRun comment text.now at line part table.old result table.new }
+    ensures { ResumesRun text.now at line part table.old result table.new }
 {
     let matrix = part.matrix;
     let form = matrix.form;
@@ -369,9 +341,9 @@ fn pass_numbers(
     let mut row = staging.row;
     let mut column = staging.column;
     while here < text.len() {
-        let next = take_numbers(text, here, comment, form, values, table, row, column);
+        let next = take_numbers(text, here, form, values, table, row, column);
         if !next.taken {
-            return numbers_passed(here, line_here, comment, part, values, row, column);
+            return numbers_passed(here, line_here, part, values, row, column);
         }
         here = next.next;
         line_here += 1;
@@ -379,7 +351,7 @@ fn pass_numbers(
         row = next.row;
         column = next.column;
     }
-    numbers_passed(here, line_here, comment, part, values, row, column)
+    numbers_passed(here, line_here, part, values, row, column)
 }
 
 // The result of a line of a Sparse_matrix: whether it is taken; if so, its column, and where the next line starts.
@@ -401,49 +373,32 @@ fn left_pair() -> TakenPair
     }
 }
 
-fn plain_pair(
-    text: &[u8],
-    here: usize,
-    comment: u8,
-    values: u64,
-    table: &mut [u64],
-    row: u64,
-) -> TakenPair
-    requires fact_1 { (is_blank_line (cut_from (in_force comment) text.now here) ≡ false) × (bracket_of (cut_from (in_force comment) text.now here) ≡ Plain)
-        × Allowed comment }
+fn plain_pair(text: &[u8], here: usize, values: u64, table: &mut [u64], row: u64) -> TakenPair
+    requires fact_1 { (is_blank_line (content_at text.now here) ≡ false) × (bracket_of (content_at text.now here) ≡ Plain) }
     requires fact_2 { row ≤ most_given + values }
-    ensures { TakesPair comment text.now here values row table.old result table.new }
+    ensures { TakesPair text.now here values row table.old result table.new }
 {
     if table_layout::bound::VALUES <= values {
         return left_pair();
     }
-    let cut = lex_comment::in_force(comment);
-    let pair = read_numbers::read_pair(text, here, cut, values, table, row);
+    let pair = read_numbers::read_pair(text, here, values, table, row);
     if !pair.staged {
         return left_pair();
     }
     TakenPair {
         taken: true,
         column: pair.column,
-        next: next_line(text, pair.end, cut),
+        next: next_line(text, pair.end),
     }
 }
 
-fn take_pair(
-    text: &[u8],
-    here: usize,
-    comment: u8,
-    values: u64,
-    table: &mut [u64],
-    row: u64,
-) -> TakenPair
-    requires fact_1 { Allowed comment }
-    requires fact_2 { row ≤ most_given + values }
-    ensures { TakesPair comment text.now here values row table.old result table.new }
+fn take_pair(text: &[u8], here: usize, values: u64, table: &mut [u64], row: u64) -> TakenPair
+    requires { row ≤ most_given + values }
+    ensures { TakesPair text.now here values row table.old result table.new }
 {
-    match front_at(text, here, comment) {
+    match front_at(text, here) {
         Front::Blanks => left_pair(),
-        Front::Words => plain_pair(text, here, comment, values, table, row),
+        Front::Words => plain_pair(text, here, values, table, row),
         Front::Opening => left_pair(),
     }
 }
@@ -472,13 +427,12 @@ fn pairs_matrix(matrix: Matrix, least: u64, greatest: u64, fits: bool) -> Matrix
 fn pairs_passed(
     at: usize,
     line: u64,
-    comment: u8,
     part: Data,
     values: u64,
     matrix: Matrix,
     named: u64,
 ) -> BodyWalk
-    ensures { result ≡ record { at = at; line = line; comment = comment; part = pairs_part part values matrix named } }
+    ensures { result ≡ record { at = at; line = line; part = pairs_part part values matrix named } }
 {
     let before = part.staging;
     let bandwidth = before.bandwidth;
@@ -498,23 +452,15 @@ fn pairs_passed(
     BodyWalk {
         at,
         line,
-        comment,
         part: reached,
     }
 }
 
 // A run of lines of a Sparse_matrix.
-fn pass_pairs(
-    text: &[u8],
-    at: usize,
-    line: u64,
-    comment: u8,
-    part: Data,
-    table: &mut [u64],
-) -> BodyWalk
-    requires fact_1 { Runs comment text.now at line part }
+fn pass_pairs(text: &[u8], at: usize, line: u64, part: Data, table: &mut [u64]) -> BodyWalk
+    requires fact_1 { Runs text.now at line part }
     requires fact_2 { part.matrix.form ≡ sparse }
-    ensures { ResumesRun comment text.now at line part table.old result table.new }
+    ensures { ResumesRun text.now at line part table.old result table.new }
 {
     let matrix = part.matrix;
     let rows = matrix.rows;
@@ -528,10 +474,10 @@ fn pass_pairs(
     let mut fits = rows.fits;
     let mut named = staging.greatest;
     while here < text.len() {
-        let next = take_pair(text, here, comment, values, table, row);
+        let next = take_pair(text, here, values, table, row);
         if !next.taken {
             let reached = pairs_matrix(matrix, least, greatest, fits);
-            return pairs_passed(here, line_here, comment, part, values, reached, named);
+            return pairs_passed(here, line_here, part, values, reached, named);
         }
         here = next.next;
         line_here += 1;
@@ -542,7 +488,7 @@ fn pass_pairs(
         named = base::greater(named, next.column);
     }
     let reached = pairs_matrix(matrix, least, greatest, fits);
-    pairs_passed(here, line_here, comment, part, values, reached, named)
+    pairs_passed(here, line_here, part, values, reached, named)
 }
 
 // Whether a data line is allowed here: a form with rows must have had a [Row].
@@ -557,34 +503,21 @@ fn is_ordered(matrix: Matrix) -> bool
 }
 
 // A run of plain lines, perhaps empty.
-fn pass_run(
-    text: &[u8],
-    at: usize,
-    line: u64,
-    comment: u8,
-    part: Data,
-    table: &mut [u64],
-) -> BodyWalk
-    requires fact_1 { Allowed comment }
-    requires fact_2 { at ≤ length text.now }
-    requires fact_3 { line ≤ at + 1 }
-    requires fact_4 { BoundedStaging part.staging part.values }
-    requires fact_5 { part.values ≤ most_values }
-    ensures { ResumesRun comment text.now at line part table.old result table.new }
+fn pass_run(text: &[u8], at: usize, line: u64, part: Data, table: &mut [u64]) -> BodyWalk
+    requires fact_1 { at ≤ length text.now }
+    requires fact_2 { line ≤ at + 1 }
+    requires fact_3 { BoundedStaging part.staging part.values }
+    requires fact_4 { part.values ≤ most_values }
+    ensures { ResumesRun text.now at line part table.old result table.new }
 {
     let matrix = part.matrix;
     if !is_ordered(matrix) {
-        return BodyWalk {
-            at,
-            line,
-            comment,
-            part,
-        };
+        return BodyWalk { at, line, part };
     }
     if matrix.form == table_layout::code::SPARSE {
-        return pass_pairs(text, at, line, comment, part, table);
+        return pass_pairs(text, at, line, part, table);
     }
-    pass_numbers(text, at, line, comment, part, table)
+    pass_numbers(text, at, line, part, table)
 }
 
 // Judges and stages the lines of a matrix. It stops before the keyword that ends the matrix, before a bracket that is
@@ -593,17 +526,15 @@ pub fn pass_data(
     text: &[u8],
     at: usize,
     line: u64,
-    comment: u8,
     matrix: Matrix,
     values: u64,
     table: &mut [u64],
 ) -> BodyWalk
-    requires { Allowed comment × (at ≤ length text.now) × (line ≤ at + 1) × (values ≤ most_values) }
-    ensures { ResumesMatrix comment text.now at line matrix values table.old result table.new }
+    requires { (at ≤ length text.now) × (line ≤ at + 1) × (values ≤ most_values) }
+    ensures { ResumesMatrix text.now at line matrix values table.old result table.new }
 {
     let mut here = at;
     let mut line_here = line;
-    let mut comment_here = comment;
     let mut part = Data {
         taken: true,
         rule: 0,
@@ -612,38 +543,33 @@ pub fn pass_data(
         staging: new_staging(),
     };
     while here < text.len() {
-        let run = pass_run(text, here, line_here, comment_here, part, table);
+        let run = pass_run(text, here, line_here, part, table);
         here = run.at;
         line_here = run.line;
-        comment_here = run.comment;
         part = run.part;
         if text.len() <= here {
             return BodyWalk {
                 at: here,
                 line: line_here,
-                comment: comment_here,
                 part,
             };
         }
-        let found = lex_comment::cut_at(text, here, comment_here);
+        let found = lex_line::line_at(text, here, lex_line::COMMENT);
         let content = found.content;
         let next = take_data(&text[here..content], part.matrix, part.values, part.staging);
         if !next.taken {
             return BodyWalk {
                 at: here,
                 line: line_here,
-                comment: comment_here,
                 part,
             };
         }
         here = found.next;
-        comment_here = found.comment;
         part = next;
         if part.rule != 0 {
             return BodyWalk {
                 at: here,
                 line: line_here,
-                comment: comment_here,
                 part,
             };
         }
@@ -652,7 +578,6 @@ pub fn pass_data(
     BodyWalk {
         at: here,
         line: line_here,
-        comment: comment_here,
         part,
     }
 }

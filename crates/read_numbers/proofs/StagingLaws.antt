@@ -23,12 +23,11 @@ use Rattle.base.specs.If.{both, either}
 use Rattle.base.specs.Bytes.{is_blank, is_digit, is_capital, is_small, is_letter, within}
 use Rattle.base.specs.Runs.{run}
 use Rattle.base.specs.Way.Class.{run_end}
-use Rattle.base.proofs.IfLaws.{if_true, if_false, by_cases, by_test, both_true, both_first, both_second, both_not_left, both_not_right, either_false}
+use Rattle.base.proofs.IfLaws.{if_true, if_false, by_cases, by_test, both_true, both_first, both_second, both_not_left, both_not_right}
 use Rattle.base.proofs.RunLaws.{run_ends}
-use Rattle.lex_line.specs.Way.LineEnds.{line_at, cut_from}
+use Rattle.lex_line.specs.Way.LineEnds.{line_at, content_at}
 use Rattle.lex_line.specs.Words.{words, first_of, second_of}
-use Rattle.lex_comment.specs.Comments.{is_comment_byte}
-use Rattle.lex_comment.proofs.AllowedLaws.{allowed_no_letter, allowed_no_digit, allowed_no_point, allowed_no_plus, allowed_no_minus}
+use Rattle.lex_line.specs.Lines.{comment_byte}
 use Rattle.lex_number.specs.Number.{is_sign, number_of, is_formed, is_bounded, word_in}
 use Rattle.lex_number.specs.Integer.{whole_of, is_whole_within}
 use Rattle.lex_number.specs.Way.In.{is_word, is_spelling, is_good_number, number_in}
@@ -145,13 +144,10 @@ none_left : (form row column : ℕ) (rest : List Value) → numbers_at form row 
 unfolding numbers_at
 none_left form row column rest = refl
 
--- no number is written with a byte that may start comments
-pub spells_nothing : (comment : ℕ) → is_comment_byte comment ≡ true → is_spelling comment ≡ false
-unfolding is_spelling is_sign
-spells_nothing comment allowed =
-    either_false _ _ (allowed_no_digit comment allowed)
-    (either_false _ _ (allowed_no_letter comment allowed)
-    (either_false _ _ (either_false _ _ (allowed_no_plus comment allowed) (allowed_no_minus comment allowed)) (allowed_no_point comment allowed)))
+-- no number is written with the comment byte
+pub pipe_spells_nothing : is_spelling comment_byte ≡ false
+unfolding is_spelling is_digit is_letter is_capital is_small is_sign within both either
+pipe_spells_nothing = refl
 
 -- ---- room
 
@@ -216,31 +212,31 @@ not_formed_on w ws e = both_down (is_formed (number_of w)) (are_formed ws) (is_b
 
 -- from `from` on some numbers are read, and the cursor has come to `at`: the numbers that are left give what all of them
 -- give
-pub record Left (comment form : ℕ) (t : List ℕ) (from : ℕ) (table₀ : List ℕ) (values row₀ column₀ at : ℕ) (c : Cursor) (table : List ℕ) : Type 0 where
-  pub counted : c.count + length (words (cut_from comment t at)) ≡ length (words (cut_from comment t from))
-  pub formed : are_formed (words (cut_from comment t at)) ≡ are_formed (words (cut_from comment t from))
-  pub bounded : are_bounded (words (cut_from comment t at)) ≡ are_bounded (words (cut_from comment t from))
+pub record Left (form : ℕ) (t : List ℕ) (from : ℕ) (table₀ : List ℕ) (values row₀ column₀ at : ℕ) (c : Cursor) (table : List ℕ) : Type 0 where
+  pub counted : c.count + length (words (content_at t at)) ≡ length (words (content_at t from))
+  pub formed : are_formed (words (content_at t at)) ≡ are_formed (words (content_at t from))
+  pub bounded : are_bounded (words (content_at t at)) ≡ are_bounded (words (content_at t from))
   pub held : (whole rest : List Value) →
-      HeldValues whole table₀ values (numbers_at form row₀ column₀ (words (cut_from comment t from)) ++ rest) →
-      HeldValues whole table (values + c.count) (numbers_at form c.row c.column (words (cut_from comment t at)) ++ rest)
-  pub row : row_after form c.row (length (words (cut_from comment t at))) ≡ row_after form row₀ (length (words (cut_from comment t from)))
+      HeldValues whole table₀ values (numbers_at form row₀ column₀ (words (content_at t from)) ++ rest) →
+      HeldValues whole table (values + c.count) (numbers_at form c.row c.column (words (content_at t at)) ++ rest)
+  pub row : row_after form c.row (length (words (content_at t at))) ≡ row_after form row₀ (length (words (content_at t from)))
   pub row_few : c.row ≤ row₀ + c.count
   pub column : c.column ≡ column₀ + c.count
   pub points : Points (length table) (values + c.count) c.place
   pub long : length table ≡ length table₀
   -- each number takes a byte, so that no count wraps
   pub taken : c.count + from ≤ at
-  pub ends : (line_at comment t at).content ≡ (line_at comment t from).content
+  pub ends : (line_at comment_byte t at).content ≡ (line_at comment_byte t from).content
 
-pub left_start : (comment form : ℕ) (t : List ℕ) (from : ℕ) (table : List ℕ) (values row column : ℕ) →
-    Left comment form t from table values row column from (record { row = row; column = column; count = 0; place = value_width * values }) table
-left_start comment form t from table values row column =
+pub left_start : (form : ℕ) (t : List ℕ) (from : ℕ) (table : List ℕ) (values row column : ℕ) →
+    Left form t from table values row column from (record { row = row; column = column; count = 0; place = value_width * values }) table
+left_start form t from table values row column =
     let z : values + 0 ≡ values = omega arith in
     record {
       counted = omega arith;
       formed = refl;
       bounded = refl;
-      held = λ (whole rest : List Value) (h : HeldValues whole table values (numbers_at form row column (words (cut_from comment t from)) ++ rest)). rw z h;
+      held = λ (whole rest : List Value) (h : HeldValues whole table values (numbers_at form row column (words (content_at t from)) ++ rest)). rw z h;
       row = refl;
       row_few = omega arith;
       column = omega arith;
@@ -250,34 +246,34 @@ left_start comment form t from table values row column =
       ends = refl;
     }
 
-module _ (comment : ℕ) (allowed : is_comment_byte comment ≡ true) (form : ℕ) (t : List ℕ) (from : ℕ) (table₀ : List ℕ) (values row column at : ℕ) (c : Cursor) (table : List ℕ)
-    (left : Left comment form t from table₀ values row column at c table) where
+module _ (form : ℕ) (t : List ℕ) (from : ℕ) (table₀ : List ℕ) (values row column at : ℕ) (c : Cursor) (table : List ℕ)
+    (left : Left form t from table₀ values row column at c table) where
   module _ (start : ℕ) (begins : start ≡ run_end is_blank t at) (there : Bool)
-      (told_there : there ≡ both (ltb start (length t)) (is_word comment (get_or t start 0))) where
+      (told_there : there ≡ both (ltb start (length t)) (is_word comment_byte (get_or t start 0))) where
     -- the line ends here
     module _ (tested : not there ≡ true) where
-      none : both (ltb start (length t)) (is_word comment (get_or t start 0)) ≡ false
+      none : both (ltb start (length t)) (is_word comment_byte (get_or t start 0)) ≡ false
       none = sym told_there ∙ not-true there tested
 
-      none_words : words (cut_from comment t at) ≡ []
-      none_words = no_words comment allowed t at start begins none
+      none_words : words (content_at t at) ≡ []
+      none_words = no_words t at start begins none
 
-      none_length : length (words (cut_from comment t at)) ≡ 0
+      none_length : length (words (content_at t at)) ≡ 0
       none_length = ap length none_words
 
-      all_counted : c.count ≡ length (words (cut_from comment t from))
+      all_counted : c.count ≡ length (words (content_at t from))
       all_counted =
-          let a : c.count + length (words (cut_from comment t at)) ≡ length (words (cut_from comment t from)) = left.counted in
-          let z : length (words (cut_from comment t at)) ≡ 0 = none_length in
+          let a : c.count + length (words (content_at t at)) ≡ length (words (content_at t from)) = left.counted in
+          let z : length (words (content_at t at)) ≡ 0 = none_length in
           omega arith
 
-      all_held : (whole rest : List Value) → HeldValues whole table₀ values (numbers_at form row column (words (cut_from comment t from)) ++ rest) →
+      all_held : (whole rest : List Value) → HeldValues whole table₀ values (numbers_at form row column (words (content_at t from)) ++ rest) →
           HeldValues whole table (values + c.count) rest
       all_held whole rest h =
           held_same value_words value_width whole table (values + c.count) _ (left.held whole rest h) rest
           (ap (λ (ws : List (List ℕ)). numbers_at form c.row c.column ws ++ rest) none_words ∙ none_left form c.row c.column rest)
 
-      all_told : Stored form (words (cut_from comment t from)) table₀ values row column table (record {
+      all_told : Stored form (words (content_at t from)) table₀ values row column table (record {
         staged = true;
         count = c.count;
         row = c.row;
@@ -295,23 +291,23 @@ module _ (comment : ℕ) (allowed : is_comment_byte comment ≡ true) (form : �
             row_few = left.row_few;
           }
 
-      pub left_done : (r : Numbers) → r ≡ numbers_result true c start → Stores comment form t from table₀ values row column table r
+      pub left_done : (r : Numbers) → r ≡ numbers_result true c start → Stores form t from table₀ values row column table r
       unfolding numbers_result
       left_done r e =
           rw e
           (record {
             long = left.long;
-            ends = λ (w : true ≡ true). ends_here comment allowed t at start begins none ∙ left.ends;
+            ends = λ (w : true ≡ true). ends_here t at start begins none ∙ left.ends;
             told = λ (w : true ≡ true). all_told;
             broken = λ (w : true ≡ false). absurd (true≢false w);
           })
 
     -- one number more
-    module _ (tested : not there ≡ false) (read : NumberAt) (told : read ≡ number_in comment t start) where
-      stands : both (ltb start (length t)) (is_word comment (get_or t start 0)) ≡ true
+    module _ (tested : not there ≡ false) (read : NumberAt) (told : read ≡ number_in comment_byte t start) where
+      stands : both (ltb start (length t)) (is_word comment_byte (get_or t start 0)) ≡ true
       stands = sym told_there ∙ not-false there tested
 
-      end_is : read.end ≡ run_end (is_word comment) t start
+      end_is : read.end ≡ run_end (is_word comment_byte) t start
       unfolding number_in
       end_is = ap (λ (r : NumberAt). r.end) told
 
@@ -321,16 +317,16 @@ module _ (comment : ℕ) (allowed : is_comment_byte comment ≡ true) (form : �
       number_is : read.number ≡ number_of word
       unfolding number_in
       number_is =
-          let e : read.end ≡ run_end (is_word comment) t start = end_is in
-          let n : read.end - start ≡ run (is_word comment) (drop start t) = omega arith in
+          let e : read.end ≡ run_end (is_word comment_byte) t start = end_is in
+          let n : read.end - start ≡ run (is_word comment_byte) (drop start t) = omega arith in
           rw n (ap (λ (r : NumberAt). r.number) told)
 
-      here : words (cut_from comment t at) ≡ word ∷ words (cut_from comment t read.end)
-      here = one_word comment allowed t at start begins stands read.end end_is
+      here : words (content_at t at) ≡ word ∷ words (content_at t read.end)
+      here = one_word t at start begins stands read.end end_is
 
       pub left_less : length t - read.end < length t - at
       left_less =
-          let h : at < read.end = word_on comment allowed t at start begins stands read.end end_is in
+          let h : at < read.end = word_on t at start begins stands read.end end_is in
           let g : start < length t = ltb-true start (length t) (both_first _ _ stands) in
           omega arith
 
@@ -345,7 +341,7 @@ module _ (comment : ℕ) (allowed : is_comment_byte comment ≡ true) (form : �
 
       module _ (value : Bool) (value_told : value ≡ is_good_number read.number) where
         -- a word that is no value
-        pub left_broken : not value ≡ true → (r : Numbers) → r ≡ numbers_result false c start → Stores comment form t from table₀ values row column table r
+        pub left_broken : not value ≡ true → (r : Numbers) → r ≡ numbers_result false c start → Stores form t from table₀ values row column table r
         unfolding numbers_result
         left_broken bad r e =
             rw e
@@ -355,7 +351,7 @@ module _ (comment : ℕ) (allowed : is_comment_byte comment ≡ true) (form : �
               told = λ (w : false ≡ true). absurd (true≢false (sym w));
               broken = λ (w : false ≡ false).
                   rw (sym left.formed, sym left.bounded, here)
-                  (not_formed_on word (words (cut_from comment t read.end))
+                  (not_formed_on word (words (content_at t read.end))
                   (rw number_is at (not_value read.number (sym value_told ∙ not-true value bad))));
             })
 
@@ -364,24 +360,24 @@ module _ (comment : ℕ) (allowed : is_comment_byte comment ≡ true) (form : �
           is_value_lem = sym value_told ∙ not-false value fine
 
           one_held : (whole rest : List Value) →
-              HeldValues whole table₀ values (numbers_at form row column (words (cut_from comment t from)) ++ rest) →
-              HeldValues whole table' (values + (c.count + 1)) (numbers_at form (next_row form c.row) (c.column + 1) (words (cut_from comment t read.end)) ++ rest)
+              HeldValues whole table₀ values (numbers_at form row column (words (content_at t from)) ++ rest) →
+              HeldValues whole table' (values + (c.count + 1)) (numbers_at form (next_row form c.row) (c.column + 1) (words (content_at t read.end)) ++ rest)
           one_held whole rest h =
               rw (sym (add_assoc values c.count 1))
               (held_one value_words value_width whole table (values + c.count) _ (left.held whole rest h) value_wide
               (value_of c.row c.column read.number) _
               (ap (λ (ws : List (List ℕ)). numbers_at form c.row c.column ws ++ rest) here
-              ∙ step_left form c.row c.column word (words (cut_from comment t read.end)) rest read.number number_is)
+              ∙ step_left form c.row c.column word (words (content_at t read.end)) rest read.number number_is)
               table' (put.puts.stored (values + c.count) left.points))
 
-          pub left_on : Left comment form t from table₀ values row column read.end c' table'
+          pub left_on : Left form t from table₀ values row column read.end c' table'
           left_on =
               let f : c.row ≤ row + c.count = left.row_few in
               let g : next_row form c.row ≤ c.row + 1 = row_most form c.row in
               let h : c.column ≡ column + c.count = left.column in
-              let n : length (words (cut_from comment t at)) ≡ suc (length (words (cut_from comment t read.end))) = ap length here in
-              let m : c.count + length (words (cut_from comment t at)) ≡ length (words (cut_from comment t from)) = left.counted in
-              let o : at < read.end = word_on comment allowed t at start begins stands read.end end_is in
+              let n : length (words (content_at t at)) ≡ suc (length (words (content_at t read.end))) = ap length here in
+              let m : c.count + length (words (content_at t at)) ≡ length (words (content_at t from)) = left.counted in
+              let o : at < read.end = word_on t at start begins stands read.end end_is in
               let p : c.count + from ≤ at = left.taken in
               let x : c'.row ≡ next_row form c.row = put.row_is in
               let y : c'.column ≡ c.column + 1 = put.column_is in
@@ -389,34 +385,34 @@ module _ (comment : ℕ) (allowed : is_comment_byte comment ≡ true) (form : �
               record {
                 counted = omega arith;
                 formed =
-                    sym (formed_on word (words (cut_from comment t read.end)) (rw number_is at (value_formed read.number is_value_lem)))
+                    sym (formed_on word (words (content_at t read.end)) (rw number_is at (value_formed read.number is_value_lem)))
                     ∙ sym (ap are_formed here) ∙ left.formed;
                 bounded =
-                    sym (bounded_on word (words (cut_from comment t read.end)) (rw number_is at (value_bounded read.number is_value_lem)))
+                    sym (bounded_on word (words (content_at t read.end)) (rw number_is at (value_bounded read.number is_value_lem)))
                     ∙ sym (ap are_bounded here) ∙ left.bounded;
                 held = rw (x, y, z) one_held;
-                row = ap (λ (k : ℕ). row_after form k (length (words (cut_from comment t read.end)))) x ∙ row_on form c.row _
+                row = ap (λ (k : ℕ). row_after form k (length (words (content_at t read.end)))) x ∙ row_on form c.row _
                     ∙ ap (row_after form c.row) (sym n) ∙ left.row;
                 row_few = omega arith;
                 column = omega arith;
                 points = rw (put.puts.long, z, sym (add_assoc values c.count 1)) (put.puts.points (values + c.count) left.points);
                 long = put.puts.long ∙ left.long;
                 taken = omega arith;
-                ends = same_end comment allowed t at start begins stands read.end end_is ∙ left.ends;
+                ends = same_end t at start begins stands read.end end_is ∙ left.ends;
               }
 
 -- ---- a number read in two passes
 
-pub plain_is : (comment : ℕ) (t : List ℕ) (start end : ℕ) → end ≡ run_end (is_word comment) t start → (read : Number) → read ≡ number_of (take (end - start) (drop start t)) →
-    record { number = read; end = end } ≡ number_in comment t start
+pub plain_is : (t : List ℕ) (start end : ℕ) → end ≡ run_end (is_word comment_byte) t start → (read : Number) → read ≡ number_of (take (end - start) (drop start t)) →
+    record { number = read; end = end } ≡ number_in comment_byte t start
 unfolding number_in
-plain_is comment t start end ends read is =
-    let n : end - start ≡ run (is_word comment) (drop start t) = omega arith in
-    let same : read ≡ number_of (take (run (is_word comment) (drop start t)) (drop start t)) = is ∙ ap (λ (k : ℕ). number_of (take k (drop start t))) n in
+plain_is t start end ends read is =
+    let n : end - start ≡ run (is_word comment_byte) (drop start t) = omega arith in
+    let same : read ≡ number_of (take (run (is_word comment_byte) (drop start t)) (drop start t)) = is ∙ ap (λ (k : ℕ). number_of (take k (drop start t))) n in
     λ i. record { number = same i; end = ends i }
 
-pub word_there : (comment : ℕ) (t : List ℕ) (start : ℕ) (there : Bool) → there ≡ both (ltb start (length t)) (is_word comment (get_or t start 0)) → not there ≡ false → start < length t
-word_there comment t start there told tested = ltb-true start (length t) (both_first _ _ (sym told ∙ not-false there tested))
+pub word_there : (t : List ℕ) (start : ℕ) (there : Bool) → there ≡ both (ltb start (length t)) (is_word comment_byte (get_or t start 0)) → not there ≡ false → start < length t
+word_there t start there told tested = ltb-true start (length t) (both_first _ _ (sym told ∙ not-false there tested))
 
 -- ---- from the first number on that finds no room
 
@@ -431,51 +427,51 @@ pub record Countable (t : List ℕ) (at : ℕ) (c : Cursor) : Type 0 where
   pub count : at < length t → c.count + (length t - at) < 18_446_744_073_709_551_615
 
 -- from the cursor c₀ at `at₀` on, without room, the numbers up to `at` are judged
-pub record Passes (comment form : ℕ) (t : List ℕ) (at₀ : ℕ) (c₀ : Cursor) (at : ℕ) (c : Cursor) : Type 0 where
-  pub on : (from : ℕ) (table₀ table : List ℕ) (values row column : ℕ) → Left comment form t from table₀ values row column at₀ c₀ table →
-      length table < c₀.place + value_width → Left comment form t from table₀ values row column at c table
+pub record Passes (form : ℕ) (t : List ℕ) (at₀ : ℕ) (c₀ : Cursor) (at : ℕ) (c : Cursor) : Type 0 where
+  pub on : (from : ℕ) (table₀ table : List ℕ) (values row column : ℕ) → Left form t from table₀ values row column at₀ c₀ table →
+      length table < c₀.place + value_width → Left form t from table₀ values row column at c table
   pub stays : c.place ≡ c₀.place
   pub countable : Countable t at c
 
 -- the numbers that are left are so few that no sum wraps, wherever they begin
-left_countable : (comment form : ℕ) (t : List ℕ) (from : ℕ) (table₀ : List ℕ) (values row column at : ℕ) (c : Cursor) (table : List ℕ) →
-    Left comment form t from table₀ values row column at c table → row ≤ most_given + values → column ≤ most_given + values → values ≤ most_values → length t * 1 < 2 ^ 63 →
+left_countable : (form : ℕ) (t : List ℕ) (from : ℕ) (table₀ : List ℕ) (values row column at : ℕ) (c : Cursor) (table : List ℕ) →
+    Left form t from table₀ values row column at c table → row ≤ most_given + values → column ≤ most_given + values → values ≤ most_values → length t * 1 < 2 ^ 63 →
     Countable t at c
-left_countable comment form t from table₀ values row column at c table left row_few column_few few small =
+left_countable form t from table₀ values row column at c table left row_few column_few few small =
     let g : c.row ≤ row + c.count = left.row_few in
     let k : c.column ≡ column + c.count = left.column in
     let p : c.count + from ≤ at = left.taken in
     record { row = λ (o : at < length t). omega arith; column = λ (o : at < length t). omega arith; count = λ (o : at < length t). omega arith }
 
-module _ (comment form : ℕ) (t : List ℕ) (from : ℕ) (table₀ : List ℕ) (values row column at₀ : ℕ) (c₀ : Cursor) (table : List ℕ)
-    (left : Left comment form t from table₀ values row column at₀ c₀ table) where
-  pub passes_start : row ≤ most_given + values → column ≤ most_given + values → values ≤ most_values → length t * 1 < 2 ^ 63 → Passes comment form t at₀ c₀ at₀ c₀
+module _ (form : ℕ) (t : List ℕ) (from : ℕ) (table₀ : List ℕ) (values row column at₀ : ℕ) (c₀ : Cursor) (table : List ℕ)
+    (left : Left form t from table₀ values row column at₀ c₀ table) where
+  pub passes_start : row ≤ most_given + values → column ≤ most_given + values → values ≤ most_values → length t * 1 < 2 ^ 63 → Passes form t at₀ c₀ at₀ c₀
   passes_start row_few column_few few small =
       record {
         on = λ from' table' table values' row' column' left' full. left';
         stays = refl;
-        countable = left_countable comment form t from table₀ values row column at₀ c₀ table left row_few column_few few small;
+        countable = left_countable form t from table₀ values row column at₀ c₀ table left row_few column_few few small;
       }
 
-  module _ (allowed : is_comment_byte comment ≡ true) (free : Bool) (room : free ≡ leb (c₀.place + value_width) (length table)) (gone : free ≡ false) (at : ℕ) (c : Cursor)
-      (passes : Passes comment form t at₀ c₀ at c) (start : ℕ) (begins : start ≡ run_end is_blank t at) (there : Bool)
-      (told_there : there ≡ both (ltb start (length t)) (is_word comment (get_or t start 0))) where
-    left_here : Left comment form t from table₀ values row column at c table
+  module _ (free : Bool) (room : free ≡ leb (c₀.place + value_width) (length table)) (gone : free ≡ false) (at : ℕ) (c : Cursor)
+      (passes : Passes form t at₀ c₀ at c) (start : ℕ) (begins : start ≡ run_end is_blank t at) (there : Bool)
+      (told_there : there ≡ both (ltb start (length t)) (is_word comment_byte (get_or t start 0))) where
+    left_here : Left form t from table₀ values row column at c table
     left_here = passes.on from table₀ table values row column left (leb-false (c₀.place + value_width) (length table) (sym room ∙ gone))
 
-    pub passes_done : not there ≡ true → (r : Numbers) → r ≡ numbers_result true c start → Stores comment form t from table₀ values row column table r
-    passes_done tested r e = left_done comment allowed form t from table₀ values row column at c table left_here start begins there told_there tested r e
+    pub passes_done : not there ≡ true → (r : Numbers) → r ≡ numbers_result true c start → Stores form t from table₀ values row column table r
+    passes_done tested r e = left_done form t from table₀ values row column at c table left_here start begins there told_there tested r e
 
-    pub passes_broken : not there ≡ false → (read : NumberAt) → read ≡ number_in comment t start → (value : Bool) → value ≡ is_good_number read.number →
-        not value ≡ true → (r : Numbers) → r ≡ numbers_result false c start → Stores comment form t from table₀ values row column table r
+    pub passes_broken : not there ≡ false → (read : NumberAt) → read ≡ number_in comment_byte t start → (value : Bool) → value ≡ is_good_number read.number →
+        not value ≡ true → (r : Numbers) → r ≡ numbers_result false c start → Stores form t from table₀ values row column table r
     passes_broken tested read told value value_told bad r e =
-        left_broken comment allowed form t from table₀ values row column at c table left_here start begins there told_there tested read told value value_told bad r e
+        left_broken form t from table₀ values row column at c table left_here start begins there told_there tested read told value value_told bad r e
 
-module _ (comment : ℕ) (allowed : is_comment_byte comment ≡ true) (form : ℕ) (t : List ℕ) (at₀ : ℕ) (c₀ : Cursor) (at : ℕ) (c : Cursor) (passes : Passes comment form t at₀ c₀ at c) (start : ℕ)
+module _ (form : ℕ) (t : List ℕ) (at₀ : ℕ) (c₀ : Cursor) (at : ℕ) (c : Cursor) (passes : Passes form t at₀ c₀ at c) (start : ℕ)
     (begins : start ≡ run_end is_blank t at) (there : Bool)
-    (told_there : there ≡ both (ltb start (length t)) (is_word comment (get_or t start 0))) (tested : not there ≡ false) where
+    (told_there : there ≡ both (ltb start (length t)) (is_word comment_byte (get_or t start 0))) (tested : not there ≡ false) where
   inside : start < length t
-  inside = word_there comment t start there told_there tested
+  inside = word_there t start there told_there tested
 
   early : at < length t
   early = let o : start < length t = inside in omega arith
@@ -488,10 +484,10 @@ module _ (comment : ℕ) (allowed : is_comment_byte comment ≡ true) (form : �
       let d : c.count + (length t - at) < 18_446_744_073_709_551_615 = passes.countable.count o in
       record { row_few = omega arith; column_few = omega arith; count_few = omega arith }
 
-  module _ (read : NumberAt) (told : read ≡ number_in comment t start) where
+  module _ (read : NumberAt) (told : read ≡ number_in comment_byte t start) where
     further : at < read.end
     unfolding number_in
-    further = word_on comment allowed t at start begins (sym told_there ∙ not-false there tested) read.end (ap (λ (r : NumberAt). r.end) told)
+    further = word_on t at start begins (sym told_there ∙ not-false there tested) read.end (ap (λ (r : NumberAt). r.end) told)
 
     pub passes_less : length t - read.end < length t - at
     passes_less =
@@ -513,12 +509,12 @@ module _ (comment : ℕ) (allowed : is_comment_byte comment ≡ true) (form : �
           count = λ (g : read.end < length t). omega arith;
         }
 
-    pub passes_on : (value : Bool) → value ≡ is_good_number read.number → not value ≡ false → (c' : Cursor) → c' ≡ passed_by form c → Passes comment form t at₀ c₀ read.end c'
+    pub passes_on : (value : Bool) → value ≡ is_good_number read.number → not value ≡ false → (c' : Cursor) → c' ≡ passed_by form c → Passes form t at₀ c₀ read.end c'
     passes_on value value_told fine c' e =
         rw e
         (record {
           on = λ from table₀ table values row column left full.
-              left_on comment allowed form t from table₀ values row column at c table (passes.on from table₀ table values row column left full) start begins there told_there
+              left_on form t from table₀ values row column at c table (passes.on from table₀ table values row column left full) start begins there told_there
               tested read told value value_told fine (passed_by form c) table (number_passed form read.number table c (rw passes.stays full));
           stays = passes.stays;
           countable = next_countable;
@@ -526,12 +522,12 @@ module _ (comment : ℕ) (allowed : is_comment_byte comment ≡ true) (form : �
 
 -- ---- a line of numbers
 
-module _ (comment : ℕ) (allowed : is_comment_byte comment ≡ true) (form : ℕ) (t : List ℕ) (here : ℕ) (table : List ℕ) (values row column : ℕ) (table' : List ℕ) (r : Numbers)
-    (stores : Stores comment form t here table values row column table' r) where
+module _ (form : ℕ) (t : List ℕ) (here : ℕ) (table : List ℕ) (values row column : ℕ) (table' : List ℕ) (r : Numbers)
+    (stores : Stores form t here table values row column table' r) where
   module _ (row_few : row ≤ most_given + values) (column_few : column ≤ most_given + values) (not_sparse : form ≡ sparse → ⊥)
       (staged : r.staged ≡ true) where
     abbrev content : List ℕ
-    content = cut_from comment t here
+    content = content_at t here
 
     told : Stored form (words content) table values row column table' r
     told = stores.told staged
@@ -572,12 +568,12 @@ module _ (comment : ℕ) (allowed : is_comment_byte comment ≡ true) (form : �
         (λ (ls : List Line).
         most_of a.greatest 0 a.greatest _ (greatest_in form ls) (numbers_greatest form l ls is_plain not_sparse) (omega arith))
 
-  line_broken : (form ≡ sparse → ⊥) → r.staged ≡ false → BrokenData (data_line_of form (cut_from comment t here))
+  line_broken : (form ≡ sparse → ⊥) → r.staged ≡ false → BrokenData (data_line_of form (content_at t here))
   unfolding data_line_of numbers_line
   line_broken not_sparse unstaged = rw (if_false {A = DataLine} _ _ (ne_eqb form sparse not_sparse)) (both_not_right true _ (stores.broken unstaged))
 
   pub numbers_staged : row ≤ most_given + values → column ≤ most_given + values → (form ≡ sparse → ⊥) →
-      StagesNumbers comment form t here table values row column table' r
+      StagesNumbers form t here table values row column table' r
   numbers_staged row_few column_few not_sparse =
       record {
         long = stores.long;
@@ -604,9 +600,9 @@ unfolding pair_of
 pair_told column n e f = sym (if_true _ _ (both_true _ _ (not-false n.staged e) (eq-eqb _ _ f)))
 
 -- a line that is not staged
-unstaged : (comment : ℕ) (t : List ℕ) (here : ℕ) (table : List ℕ) (values row : ℕ) (table' : List ℕ) → length table' ≡ length table → BrokenData (data_line_of sparse (cut_from comment t here)) →
-    (end : ℕ) → StagesPair comment t here table values row table' (record { staged = false; column = 0; end = end })
-unstaged comment t here table values row table' long broken end =
+unstaged : (t : List ℕ) (here : ℕ) (table : List ℕ) (values row : ℕ) (table' : List ℕ) → length table' ≡ length table → BrokenData (data_line_of sparse (content_at t here)) →
+    (end : ℕ) → StagesPair t here table values row table' (record { staged = false; column = 0; end = end })
+unstaged t here table values row table' long broken end =
     record {
       long = long;
       ends = λ (w : false ≡ true). absurd (true≢false (sym w));
@@ -629,13 +625,13 @@ line_bad content ws are bad =
     (λ (e : eqb (length ws) 2 ≡ false). both_not_left false _ refl))
 
 pub pair_blank :
-    (comment : ℕ) (allowed : is_comment_byte comment ≡ true) (t : List ℕ) (here : ℕ) (table : List ℕ) (values row start : ℕ) → start ≡ run_end is_blank t here → (there : Bool) →
-    there ≡ both (ltb start (length t)) (is_word comment (get_or t start 0)) → not there ≡ true → (end : ℕ) (r : Pair) →
-    r ≡ record { staged = false; column = 0; end = end } → StagesPair comment t here table values row table r
-pair_blank comment allowed t here table values row start begins there told tested end r e =
+    (t : List ℕ) (here : ℕ) (table : List ℕ) (values row start : ℕ) → start ≡ run_end is_blank t here → (there : Bool) →
+    there ≡ both (ltb start (length t)) (is_word comment_byte (get_or t start 0)) → not there ≡ true → (end : ℕ) (r : Pair) →
+    r ≡ record { staged = false; column = 0; end = end } → StagesPair t here table values row table r
+pair_blank t here table values row start begins there told tested end r e =
     rw e
-    (unstaged comment t here table values row table refl
-    (line_bad (cut_from comment t here) [] (no_words comment allowed t here start begins (sym told ∙ not-true there tested)) (λ (z : ◌≡◌ {A = ℕ} 0 2). absurd (omega arith))) end)
+    (unstaged t here table values row table refl
+    (line_bad (content_at t here) [] (no_words t here start begins (sym told ∙ not-true there tested)) (λ (z : ◌≡◌ {A = ℕ} 0 2). absurd (omega arith))) end)
 
 both_last : (a b c d : Bool) → both (both b true) (both d true) ≡ false → both (both a b) (both c d) ≡ false
 unfolding both
@@ -652,16 +648,16 @@ last_bad column [] e b = absurd (let z : 1 ≡ 2 = e in omega arith)
 last_bad column (w ∷ []) e b = both_last _ (number_check w).formed _ (number_check w).bounded (b refl)
 last_bad column (w ∷ v ∷ ws) e b = absurd (let z : suc (suc (suc (length ws))) ≡ 2 = e in omega arith)
 
-module _ (comment : ℕ) (allowed : is_comment_byte comment ≡ true) (t : List ℕ) (here start : ℕ) (begins : start ≡ run_end is_blank t here) (there : Bool)
-    (told_there : there ≡ both (ltb start (length t)) (is_word comment (get_or t start 0))) (tested : not there ≡ false) (end : ℕ)
-    (ends : end ≡ run_end (is_word comment) t start) where
-  stands_there : both (ltb start (length t)) (is_word comment (get_or t start 0)) ≡ true
+module _ (t : List ℕ) (here start : ℕ) (begins : start ≡ run_end is_blank t here) (there : Bool)
+    (told_there : there ≡ both (ltb start (length t)) (is_word comment_byte (get_or t start 0))) (tested : not there ≡ false) (end : ℕ)
+    (ends : end ≡ run_end (is_word comment_byte) t start) where
+  stands_there : both (ltb start (length t)) (is_word comment_byte (get_or t start 0)) ≡ true
   stands_there = sym told_there ∙ not-false there tested
 
   pub word_inside : end ≤ length t
   word_inside =
       let g : start < length t = ltb-true start (length t) (both_first _ _ stands_there) in
-      run_ends (is_word comment) t start end g ends
+      run_ends (is_word comment_byte) t start end g ends
 
   pub word_starts : start ≤ end
   word_starts = omega arith
@@ -671,36 +667,36 @@ module _ (comment : ℕ) (allowed : is_comment_byte comment ≡ true) (t : List 
     column_few values = let h : column.value < most_given = rw is_column (whole_below part) in omega arith
 
     -- its first word is the column
-    behind_column : words (cut_from comment t here) ≡ part ∷ words (cut_from comment t end)
-    behind_column = one_word comment allowed t here start begins stands_there end ends ∙ ap (λ (w : List ℕ). w ∷ words (cut_from comment t end)) (sym cut)
+    behind_column : words (content_at t here) ≡ part ∷ words (content_at t end)
+    behind_column = one_word t here start begins stands_there end ends ∙ ap (λ (w : List ℕ). w ∷ words (content_at t end)) (sym cut)
 
-    column_bad : both column.formed (is_whole_within 1 most_conductors column) ≡ false → BrokenData (data_line_of sparse (cut_from comment t here))
+    column_bad : both column.formed (is_whole_within 1 most_conductors column) ≡ false → BrokenData (data_line_of sparse (content_at t here))
     column_bad bad =
-        line_bad (cut_from comment t here) (part ∷ words (cut_from comment t end)) behind_column
-        (λ (e : length (part ∷ words (cut_from comment t end)) ≡ 2). rw (sym is_column) (both_down column.formed _ (is_whole_within 1 most_conductors column) _ bad))
+        line_bad (content_at t here) (part ∷ words (content_at t end)) behind_column
+        (λ (e : length (part ∷ words (content_at t end)) ≡ 2). rw (sym is_column) (both_down column.formed _ (is_whole_within 1 most_conductors column) _ bad))
 
     pub column_unformed : not column.formed ≡ true → (table : List ℕ) (values row stop : ℕ) (r : Pair) → r ≡ record { staged = false; column = 0; end = stop } →
-        StagesPair comment t here table values row table r
+        StagesPair t here table values row table r
     column_unformed bad table values row stop r e =
-        rw e (unstaged comment t here table values row table refl (column_bad (both_not_left _ _ (not-true column.formed bad))) stop)
+        rw e (unstaged t here table values row table refl (column_bad (both_not_left _ _ (not-true column.formed bad))) stop)
 
     -- an integer is within its bounds where its value is
     within_is : not column.formed ≡ false → (fits : Bool) → fits ≡ within 1 most_conductors column.value → fits ≡ is_whole_within 1 most_conductors column
     within_is formed fits told = told ∙ sym (whole_within 1 most_conductors column (not-false column.formed formed))
 
     pub column_unbounded : not column.formed ≡ false → (fits : Bool) → fits ≡ within 1 most_conductors column.value → not fits ≡ true → (table : List ℕ) (values row stop : ℕ) (r : Pair) →
-        r ≡ record { staged = false; column = 0; end = stop } → StagesPair comment t here table values row table r
+        r ≡ record { staged = false; column = 0; end = stop } → StagesPair t here table values row table r
     column_unbounded formed fits told bad table values row stop r e =
-        rw e (unstaged comment t here table values row table refl (column_bad (both_not_right _ _ (sym (within_is formed fits told) ∙ not-true fits bad))) stop)
+        rw e (unstaged t here table values row table refl (column_bad (both_not_right _ _ (sym (within_is formed fits told) ∙ not-true fits bad))) stop)
 
     module _ (table : List ℕ) (values row : ℕ) (table' : List ℕ) (n : Numbers)
-        (stores : Stores comment sparse t end table values row column.value table' n) where
+        (stores : Stores sparse t end table values row column.value table' n) where
       module _ (staged : n.staged ≡ true) (one : n.count ≡ 1) where
-        behind : Stored sparse (words (cut_from comment t end)) table values row column.value table' n
+        behind : Stored sparse (words (content_at t end)) table values row column.value table' n
         behind = stores.told staged
 
-        single : words (cut_from comment t end) ≡ first_of (words (cut_from comment t end)) ∷ []
-        single = alone (words (cut_from comment t end)) (sym behind.counted ∙ one)
+        single : words (content_at t end) ≡ first_of (words (content_at t end)) ∷ []
+        single = alone (words (content_at t end)) (sym behind.counted ∙ one)
           where
             alone : (ws : List (List ℕ)) → length ws ≡ 1 → ws ≡ first_of ws ∷ []
             alone [] e = absurd (let z : 0 ≡ 1 = e in omega arith)
@@ -708,9 +704,9 @@ module _ (comment : ℕ) (allowed : is_comment_byte comment ≡ true) (t : List 
             alone (w ∷ v ∷ ws) e = absurd (let z : suc (suc (length ws)) ≡ 1 = e in omega arith)
 
         abbrev value : List ℕ
-        value = first_of (words (cut_from comment t end))
+        value = first_of (words (content_at t end))
 
-        two : words (cut_from comment t here) ≡ part ∷ value ∷ []
+        two : words (content_at t here) ≡ part ∷ value ∷ []
         two = behind_column ∙ ap (λ (ws : List (List ℕ)). part ∷ ws) single
 
         value_formed_here : (number_check value).formed ≡ true
@@ -721,17 +717,17 @@ module _ (comment : ℕ) (allowed : is_comment_byte comment ≡ true) (t : List 
         unfolding are_bounded
         value_bounded_here = both_first _ _ (sym (ap are_bounded single) ∙ behind.bounded)
 
-        pair_value : numbers_at sparse row column.value (words (cut_from comment t end)) ≡ sparse_at row (words (cut_from comment t here)) ∷ []
+        pair_value : numbers_at sparse row column.value (words (content_at t end)) ≡ sparse_at row (words (content_at t here)) ∷ []
         unfolding numbers_at sparse_at
         pair_value = rw (single, two) (λ i. record { row = row; column = (is_column i).value; word = word_in (number_of value) } ∷ [])
 
-        pair_held : (whole rest : List Value) → HeldValues whole table values ((sparse_at row (words (cut_from comment t here)) ∷ []) ++ rest) →
+        pair_held : (whole rest : List Value) → HeldValues whole table values ((sparse_at row (words (content_at t here)) ∷ []) ++ rest) →
             HeldValues whole table' (values + 1) rest
         pair_held whole rest h =
             rw one at
             (behind.held whole rest (held_same value_words value_width whole table values _ h _ (ap (λ (vs : List Value). vs ++ rest) (sym pair_value))))
 
-        named_here : column.value ≡ (whole_of (first_of (words (cut_from comment t here)))).value
+        named_here : column.value ≡ (whole_of (first_of (words (content_at t here)))).value
         named_here = rw two (ap (λ (w : Whole). w.value) is_column)
 
         pair_bounded : (a : Staging) → BoundedStaging a values → BoundedStaging (named_to column.value a) (values + 1)
@@ -740,10 +736,10 @@ module _ (comment : ℕ) (allowed : is_comment_byte comment ≡ true) (t : List 
             let g : a.column ≤ most_given + values = bound.column in
             record { row = omega arith; column = omega arith }
 
-        pair_adds : (a : Staging) → BoundedStaging a values → a.row ≡ row → (l : Line) → l.content ≡ cut_from comment t here → key_of l ≡ plain →
+        pair_adds : (a : Staging) → BoundedStaging a values → a.row ≡ row → (l : Line) → l.content ≡ content_at t here → key_of l ≡ plain →
             Adds sparse l table values a table' (values + 1) (named_to column.value a)
         pair_adds a bound row_is l same is_plain =
-            added table values table' (sparse_at row (words (cut_from comment t here)) ∷ []) 1 pair_held sparse a (named_to column.value a) refl
+            added table values table' (sparse_at row (words (content_at t here)) ∷ []) 1 pair_held sparse a (named_to column.value a) refl
             (pair_bounded a bound) l is_plain
             (λ (ls : List Line). rw (sym row_is, sym same) (sparse_values sparse l ls is_plain refl a.row a.column))
             (λ (ls : List Line).
@@ -751,7 +747,7 @@ module _ (comment : ℕ) (allowed : is_comment_byte comment ≡ true) (t : List 
             (rw (named_here, sym same) (sparse_greatest sparse l ls is_plain refl)) refl)
 
         module _ (formed : column.formed ≡ true) (bounded : is_whole_within 1 most_conductors column ≡ true) where
-          pair_line : record { numbers = 1; column = column.value; right = true; formed = true; bounded = true } ≡ data_line_of sparse (cut_from comment t here)
+          pair_line : record { numbers = 1; column = column.value; right = true; formed = true; bounded = true } ≡ data_line_of sparse (content_at t here)
           unfolding data_line_of sparse_line
           pair_line =
               sym
@@ -768,38 +764,38 @@ module _ (comment : ℕ) (allowed : is_comment_byte comment ≡ true) (t : List 
                 bounded = both_true _ _ bounded value_bounded_here i;
               })))
 
-          pair_staged : StagesPair comment t here table values row table' (record { staged = true; column = column.value; end = n.end })
+          pair_staged : StagesPair t here table values row table' (record { staged = true; column = column.value; end = n.end })
           pair_staged =
               record {
                 long = stores.long;
-                ends = λ (w : true ≡ true). stores.ends staged ∙ same_end comment allowed t here start begins stands_there end ends;
+                ends = λ (w : true ≡ true). stores.ends staged ∙ same_end t here start begins stands_there end ends;
                 line_is = λ (w : true ≡ true). pair_line;
                 adds = λ (w : true ≡ true). pair_adds;
                 broken = λ (w : true ≡ false). absurd (true≢false w);
               }
 
       -- the words behind the column are not one value
-      value_bad : (length (words (cut_from comment t end)) ≡ 1 → both (are_formed (words (cut_from comment t end))) (are_bounded (words (cut_from comment t end))) ≡ false) →
-          StagesPair comment t here table values row table' (record { staged = false; column = 0; end = n.end })
+      value_bad : (length (words (content_at t end)) ≡ 1 → both (are_formed (words (content_at t end))) (are_bounded (words (content_at t end))) ≡ false) →
+          StagesPair t here table values row table' (record { staged = false; column = 0; end = n.end })
       value_bad bad =
-          unstaged comment t here table values row table' stores.long
-          (line_bad (cut_from comment t here) (part ∷ words (cut_from comment t end)) behind_column
-          (λ (e : suc (length (words (cut_from comment t end))) ≡ 2). last_bad (whole_of part) (words (cut_from comment t end)) e bad)) n.end
+          unstaged t here table values row table' stores.long
+          (line_bad (content_at t here) (part ∷ words (content_at t end)) behind_column
+          (λ (e : suc (length (words (content_at t end))) ≡ 2). last_bad (whole_of part) (words (content_at t end)) e bad)) n.end
 
-      pair_lost : both n.staged (eqb n.count 1) ≡ false → StagesPair comment t here table values row table' (record { staged = false; column = 0; end = n.end })
+      pair_lost : both n.staged (eqb n.count 1) ≡ false → StagesPair t here table values row table' (record { staged = false; column = 0; end = n.end })
       pair_lost lost =
           by_cases _ n.staged
           (λ (w : n.staged ≡ true).
-          value_bad (λ (e : length (words (cut_from comment t end)) ≡ 1).
+          value_bad (λ (e : length (words (content_at t end)) ≡ 1).
           absurd (true≢false (sym (both_true _ _ w (eq-eqb _ _ ((stores.told w).counted ∙ e))) ∙ lost))))
-          (λ (w : n.staged ≡ false). value_bad (λ (e : length (words (cut_from comment t end)) ≡ 1). stores.broken w))
+          (λ (w : n.staged ≡ false). value_bad (λ (e : length (words (content_at t end)) ≡ 1). stores.broken w))
 
       pub pair_stages : not column.formed ≡ false → (fits : Bool) → fits ≡ within 1 most_conductors column.value → not fits ≡ false → (r : Pair) →
-          r ≡ pair_of column.value n → StagesPair comment t here table values row table' r
+          r ≡ pair_of column.value n → StagesPair t here table values row table' r
       unfolding pair_of
       pair_stages formed fits told tested r e =
           rw e
-          (by_test (λ (x : Pair). StagesPair comment t here table values row table' x) (both n.staged (eqb n.count 1)) _ _
+          (by_test (λ (x : Pair). StagesPair t here table values row table' x) (both n.staged (eqb n.count 1)) _ _
           (λ (w : both n.staged (eqb n.count 1) ≡ true).
           pair_staged (both_first _ _ w) (eqb-true _ _ (both_second _ _ w)) (not-false column.formed formed) (sym (within_is formed fits told) ∙ not-false fits tested))
           (λ (w : both n.staged (eqb n.count 1) ≡ false). pair_lost w))

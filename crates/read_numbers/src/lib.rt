@@ -11,7 +11,7 @@ ghost use Rattle.read_numbers.specs.Way.Numbers.{most_given, Movable, PutsNumber
 ghost use Rattle.read_numbers.specs.Way.Staging.{StagesNumbers, StagesPair};
 ghost use Rattle.read_numbers.specs.Way.Steps.{Stores, numbers_result, pair_of};
 ghost use Rattle.lex_number.specs.Way.In.{number_in};
-ghost use Rattle.lex_comment.specs.Comments.{is_comment_byte};
+ghost use Rattle.lex_line.specs.Lines.{comment_byte};
 
 use lex_number::{Number, NumberAt};
 use table_record::Value;
@@ -153,11 +153,11 @@ fn numbers_of(staged: bool, cursor: Cursor, end: usize) -> Numbers
 
 // The number that starts at `start`, read in two passes. It is for the numbers that find no room: the way in one pass is
 // fast where it stands in one place alone.
-fn plain_number(text: &[u8], start: usize, comment: u8) -> NumberAt
+fn plain_number(text: &[u8], start: usize) -> NumberAt
     requires { start < length text.now }
-    ensures { result ≡ number_in comment text.now start }
+    ensures { result ≡ number_in comment_byte text.now start }
 {
-    let end = lex_number::word_end(text, start, comment);
+    let end = lex_number::word_end(text, start, lex_line::COMMENT);
     NumberAt {
         number: lex_number::read_number(&text[start..end]),
         end,
@@ -170,7 +170,6 @@ fn plain_number(text: &[u8], start: usize, comment: u8) -> NumberAt
 fn store_numbers(
     text: &[u8],
     from: usize,
-    comment: u8,
     form: u64,
     values: u64,
     table: &mut [u64],
@@ -180,8 +179,7 @@ fn store_numbers(
     requires fact_1 { row ≤ most_given + values }
     requires fact_2 { column ≤ most_given + values }
     requires fact_3 { values ≤ most_values }
-    requires fact_4 { is_comment_byte comment ≡ true }
-    ensures { Stores comment form text.now from table.old values row column table.new result }
+    ensures { Stores form text.now from table.old values row column table.new result }
 {
     let mut at = from;
     let mut cursor = Cursor {
@@ -192,10 +190,10 @@ fn store_numbers(
     };
     while has_room(cursor.place, table.len()) {
         let start = base::past_blanks(text, at);
-        if !lex_number::is_word_at(text, start, comment) {
+        if !lex_number::is_word_at(text, start, lex_line::COMMENT) {
             return numbers_of(true, cursor, start);
         }
-        let read = lex_number::number_in(text, start, comment);
+        let read = lex_number::number_in(text, start, lex_line::COMMENT);
         let number = read.number;
         if !lex_number::is_value(number) {
             return numbers_of(false, cursor, start);
@@ -205,10 +203,10 @@ fn store_numbers(
     }
     loop {
         let start = base::past_blanks(text, at);
-        if !lex_number::is_word_at(text, start, comment) {
+        if !lex_number::is_word_at(text, start, lex_line::COMMENT) {
             return numbers_of(true, cursor, start);
         }
-        let read = plain_number(text, start, comment);
+        let read = plain_number(text, start);
         let number = read.number;
         if !lex_number::is_value(number) {
             return numbers_of(false, cursor, start);
@@ -222,21 +220,19 @@ fn store_numbers(
 pub fn read_numbers(
     text: &[u8],
     here: usize,
-    comment: u8,
     form: u64,
     values: u64,
     table: &mut [u64],
     row: u64,
     column: u64,
 ) -> Numbers
-    requires fact_1 { is_comment_byte comment ≡ true }
-    requires fact_2 { row ≤ most_given + values }
-    requires fact_3 { column ≤ most_given + values }
-    requires fact_4 { values ≤ most_values }
-    requires fact_5 { (form ≡ sparse → ⊥) }
-    ensures { StagesNumbers comment form text.now here table.old values row column table.new result }
+    requires fact_1 { row ≤ most_given + values }
+    requires fact_2 { column ≤ most_given + values }
+    requires fact_3 { values ≤ most_values }
+    requires fact_4 { (form ≡ sparse → ⊥) }
+    ensures { StagesNumbers form text.now here table.old values row column table.new result }
 {
-    store_numbers(text, here, comment, form, values, table, row, column)
+    store_numbers(text, here, form, values, table, row, column)
 }
 
 // A line of a Sparse_matrix that is not staged.
@@ -267,24 +263,16 @@ fn pair_of(column: u64, numbers: Numbers) -> Pair
 }
 
 // A line of a Sparse_matrix: a column, then a value. A line without a word is not staged.
-pub fn read_pair(
-    text: &[u8],
-    here: usize,
-    comment: u8,
-    values: u64,
-    table: &mut [u64],
-    row: u64,
-) -> Pair
-    requires fact_1 { is_comment_byte comment ≡ true }
-    requires fact_2 { row ≤ most_given + values }
-    requires fact_3 { values ≤ most_values }
-    ensures { StagesPair comment text.now here table.old values row table.new result }
+pub fn read_pair(text: &[u8], here: usize, values: u64, table: &mut [u64], row: u64) -> Pair
+    requires fact_1 { row ≤ most_given + values }
+    requires fact_2 { values ≤ most_values }
+    ensures { StagesPair text.now here table.old values row table.new result }
 {
     let start = base::past_blanks(text, here);
-    if !lex_number::is_word_at(text, start, comment) {
+    if !lex_number::is_word_at(text, start, lex_line::COMMENT) {
         return no_pair(start);
     }
-    let end = lex_number::word_end(text, start, comment);
+    let end = lex_number::word_end(text, start, lex_line::COMMENT);
     let column = lex_number::read_integer(&text[start..end]);
     if !column.formed {
         return no_pair(start);
@@ -295,7 +283,6 @@ pub fn read_pair(
     let numbers = store_numbers(
         text,
         end,
-        comment,
         table_layout::code::SPARSE,
         values,
         table,

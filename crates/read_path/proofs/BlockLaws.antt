@@ -11,10 +11,10 @@ use lib.ListN.{length}
 use lib.Dec.{eqb}
 use borrow.Author.Tests.{eqb-true, eqb-false, not-true}
 use Rattle.base.proofs.IfLaws.{if_true, if_false, by_cases}
-use Rattle.lex_line.specs.Lines.{is_blank_line}
-use Rattle.lex_comment.specs.Way.Cut.{cut_at, content_at}
-use Rattle.lex_comment.specs.declared.Cut.{Cut}
-use Rattle.lex_comment.proofs.CutLaws.{cut_on}
+use Rattle.lex_line.specs.Lines.{is_blank_line, comment_byte}
+use Rattle.lex_line.specs.Way.LineEnds.{line_at, content_at}
+use Rattle.lex_line.specs.declared.Line as text
+use Rattle.lex_line.proofs.LineLaws.{next_on}
 use Rattle.line_path.specs.Path.{says_fork, says_endfork, path_line_of, path_next}
 use Rattle.line_path.specs.Way.Rule.{path_rule}
 use Rattle.line_path.specs.declared.Path.{Path}
@@ -62,7 +62,7 @@ passes_onward : {t : List ℕ} {d : ℕ} {from c : PathCursor} → PassesAbove t
 passes_onward none = le_refl _
 passes_onward {t} {d} {from} (more {c} q m k h) =
     let a : from.at ≤ c.at = passes_onward q in
-    let b : c.at < next_at c.comment t c.at = cut_on c.comment t c.at m.there in
+    let b : c.at < next_at t c.at = next_on comment_byte t c.at m.there in
     omega arith
 
 -- ---- the depth after a line that breaks no rule
@@ -121,31 +121,31 @@ pub record Level (t : List ℕ) (from c : PathCursor) : Type 0 where
   pub inside : PassesAbove t from.path.depth from c
   pub level : c.path.depth ≡ from.path.depth
 
-abbrev pub cursor_at : ℕ → ℕ → ℕ → Stepped → PathCursor
-cursor_at here line comment part = record { at = here; line = line; comment = comment; path = part.path; steps = part.steps }
+abbrev pub cursor_at : ℕ → ℕ → Stepped → PathCursor
+cursor_at here line part = record { at = here; line = line; path = part.path; steps = part.steps }
 
 pub level_start : (t : List ℕ) (from : PathCursor) → Level t from from
 level_start t from = record { inside = none; level = refl }
 
 -- the next line has a bracket, or there is none
-module _ (t : List ℕ) (from : PathCursor) (here line comment : ℕ) (part : Stepped) (whole : part.rule ≡ 0) (level : Level t from (cursor_at here line comment part)) where
-  comes : (here < length t → Opens (content_at comment t here)) → EndsLevel t from (record { at = here; line = line; comment = comment; part = part })
+module _ (t : List ℕ) (from : PathCursor) (here line : ℕ) (part : Stepped) (whole : part.rule ≡ 0) (level : Level t from (cursor_at here line part)) where
+  comes : (here < length t → Opens (content_at t here)) → EndsLevel t from (record { at = here; line = line; part = part })
   comes opens = stops (record { inside = level.inside; opens = opens; whole = whole }) level.level
 
-  pub level_ends : length t ≤ here → EndsLevel t from (record { at = here; line = line; comment = comment; part = part })
+  pub level_ends : length t ≤ here → EndsLevel t from (record { at = here; line = line; part = part })
   level_ends h = comes (λ (k : here < length t). absurd (omega arith))
 
-  pub level_leaves : (next : Stepped) (stage stage' : List ℕ) → TakesStep comment t here line part.path part.steps stage next stage' →
-      not next.taken ≡ true → EndsLevel t from (record { at = here; line = line; comment = comment; part = part })
+  pub level_leaves : (next : Stepped) (stage stage' : List ℕ) → TakesStep t here line part.path part.steps stage next stage' →
+      not next.taken ≡ true → EndsLevel t from (record { at = here; line = line; part = part })
   level_leaves next stage stage' takes left = comes (λ (k : here < length t). takes.opens (not-true next.taken left))
 
 -- one line more
-module _ (t : List ℕ) (from c : PathCursor) (level : Level t from c) (h : c.at < length t) (ends : Cut) (is_found : ends ≡ cut_at c.comment t c.at)
-    (next : Stepped) (stage stage' : List ℕ) (takes : TakesStep c.comment t c.at c.line c.path c.steps stage next stage') (taken : next.taken ≡ true) where
+module _ (t : List ℕ) (from c : PathCursor) (level : Level t from c) (h : c.at < length t) (ends : text.Line) (is_found : ends ≡ line_at comment_byte t c.at)
+    (next : Stepped) (stage stage' : List ℕ) (takes : TakesStep t c.at c.line c.path c.steps stage next stage') (taken : next.taken ≡ true) where
   meets : Meets t c
   meets = record { there = h; plainly = (takes.judges taken).plainly }
 
-  pub level_breaks : (next.rule ≡ 0 → ⊥) → EndsLevel t from (record { at = ends.next; line = c.line; comment = ends.comment; part = next })
+  pub level_breaks : (next.rule ≡ 0 → ⊥) → EndsLevel t from (record { at = ends.next; line = c.line; part = next })
   level_breaks broken =
       breaks (record { last = c; inside = level.inside; meets = meets; rule_is = (takes.judges taken).rule_is; line_is = refl; broken = broken })
 
@@ -153,14 +153,14 @@ module _ (t : List ℕ) (from c : PathCursor) (level : Level t from c) (h : c.at
     kept : rule_from t c ≡ 0
     kept = sym (takes.judges taken).rule_is ∙ z
 
-    come : cursor_at ends.next (c.line + 1) ends.comment next ≡ behind t c
-    come i = record { at = (is_found i).next; line = c.line + 1; comment = (is_found i).comment; path = (takes.judges taken).path_is z i; steps = (takes.judges taken).steps_is z i }
+    come : cursor_at ends.next (c.line + 1) next ≡ behind t c
+    come i = record { at = (is_found i).next; line = c.line + 1; path = (takes.judges taken).path_is z i; steps = (takes.judges taken).steps_is z i }
 
-    pub level_turns : (next.path.depth ≡ from.path.depth → ⊥) → EndsLevel t from (record { at = ends.next; line = c.line + 1; comment = ends.comment; part = next })
+    pub level_turns : (next.path.depth ≡ from.path.depth → ⊥) → EndsLevel t from (record { at = ends.next; line = c.line + 1; part = next })
     level_turns other =
         turns (record { last = c; inside = level.inside; level = level.level; meets = meets; kept = kept; ends = come; turned = other; whole = z })
 
-    pub level_on : next.path.depth ≡ from.path.depth → Level t from (cursor_at ends.next (c.line + 1) ends.comment next)
+    pub level_on : next.path.depth ≡ from.path.depth → Level t from (cursor_at ends.next (c.line + 1) next)
     level_on e =
         let d : next.path.depth ≡ (behind t c).path.depth = ap (λ (r : PathCursor). r.path.depth) come in
         record { inside = subst (PassesAbove t from.path.depth from) (sym come) (more level.inside meets kept (omega arith)); level = e }
@@ -247,8 +247,8 @@ module _ (t : List ℕ) (from c : PathCursor) (level : Level t from c) (w : Path
       pub inner_ahead : c.at < w.at
       inner_ahead =
           let a : c.at ≤ turn.last.at = passes_onward turn.inside in
-          let b : turn.last.at < next_at turn.last.comment t turn.last.at = cut_on turn.last.comment t turn.last.at turn.meets.there in
-          let e : w.at ≡ next_at turn.last.comment t turn.last.at = ap (λ (r : PathCursor). r.at) turn.ends in
+          let b : turn.last.at < next_at t turn.last.at = next_on comment_byte t turn.last.at turn.meets.there in
+          let e : w.at ≡ next_at t turn.last.at = ap (λ (r : PathCursor). r.at) turn.ends in
           omega arith
 
       -- it ends at u

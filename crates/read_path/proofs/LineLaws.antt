@@ -13,9 +13,9 @@ use Rattle.base.proofs.IfLaws.{if_true, if_false, by_cases, not_via, not_not_via
 use Rattle.table_record.specs.Way.Stage.{put_at, staged_step_width, staged_step_words, Held}
 use Rattle.table_record.specs.declared.stage.StagedStep.{StagedStep}
 use Rattle.table_record.proofs.StageLaws.{put_long, held_same, held_one}
-use Rattle.lex_line.specs.Lines.{is_blank_line}
-use Rattle.lex_comment.specs.Way.Cut.{cut_at, content_at}
-use Rattle.lex_comment.specs.declared.Cut.{Cut}
+use Rattle.lex_line.specs.Lines.{is_blank_line, comment_byte}
+use Rattle.lex_line.specs.Way.LineEnds.{line_at, content_at}
+use Rattle.lex_line.specs.declared.Line as text
 use Rattle.lex_keyword.specs.Bracket.{bracket_of}
 use Rattle.lex_keyword.specs.declared.Bracket.TheVariants.{Plain}
 use Rattle.line_place.specs.Place as place
@@ -50,46 +50,46 @@ wide s = refl
 
 -- ---- a line with words
 
-module _ (comment : ℕ) (t : List ℕ) (n at : ℕ) (ends : Cut) (worded : Worded comment t n at ends) where
+module _ (t : List ℕ) (n at : ℕ) (ends : text.Line) (worded : Worded t n at ends) where
   abbrev content : List ℕ
-  content = content_at comment t at
+  content = content_at t at
 
   key_plain : key_at content ≡ plain
   unfolding key_at
   key_plain = ap key_in worded.plainly
 
-  lines_here : lines_at comment t n at place.path ≡ line_here comment t n at ∷ lines_following comment t n at
+  lines_here : lines_at t n at place.path ≡ line_here t n at ∷ lines_following t n at
   lines_here =
-      stop_here comment t at worded.starts.there n (cut_at comment t at) refl worded.filled place.path
-      ∙ ap (λ (p : ℕ). line_here comment t n at ∷ lines_at (cut_at comment t at).comment t (n + 1) (next_at comment t at) p)
+      stop_here t at worded.starts.there n (line_at comment_byte t at) refl worded.filled place.path
+      ∙ ap (λ (p : ℕ). line_here t n at ∷ lines_at t (n + 1) (next_at t at) p)
       (plain_stays place.path content key_plain (λ (e : place.path ≡ place.map_head). omega arith))
 
-  line_plain : Plainly place.path (lines_at comment t n at place.path) (lines_following comment t n at)
+  line_plain : Plainly place.path (lines_at t n at place.path) (lines_following t n at)
   unfolding key_of
-  line_plain = rw lines_here (plainly_one place.path (line_here comment t n at) (lines_following comment t n at) (record { place_is = refl; key_is = key_plain }))
+  line_plain = rw lines_here (plainly_one place.path (line_here t n at) (lines_following t n at) (record { place_is = refl; key_is = key_plain }))
 
   -- the line gives no step
-  stages_none : (steps : ℕ) (stage : List ℕ) → step_of (line_here comment t n at) (lines_following comment t n at) ≡ [] → StagesSteps comment t at n steps stage (cut_at comment t at).comment (next_at comment t at) (n + 1) steps stage
+  stages_none : (steps : ℕ) (stage : List ℕ) → step_of (line_here t n at) (lines_following t n at) ≡ [] → StagesSteps t at n steps stage (next_at t at) (n + 1) steps stage
   stages_none steps stage e =
       record {
         plain = line_plain;
         staged =
-            λ (whole : List Step) (held : Held step_staged staged_step_width whole stage steps (gather step_of (lines_at comment t n at place.path))).
+            λ (whole : List Step) (held : Held step_staged staged_step_width whole stage steps (gather step_of (lines_at t n at place.path))).
             held_same step_staged staged_step_width whole stage steps _ held _
-            (ap (gather step_of) lines_here ∙ gather_quiet step_of (line_here comment t n at) (lines_following comment t n at) e);
+            (ap (gather step_of) lines_here ∙ gather_quiet step_of (line_here t n at) (lines_following t n at) e);
       }
 
   -- the line gives one, which is stored
-  stages_one : (steps : ℕ) (stage : List ℕ) (s : Step) → step_of (line_here comment t n at) (lines_following comment t n at) ≡ s ∷ [] →
-      (stage' : List ℕ) → stage' ≡ put_at (staged_step_width * steps) (step_staged s) stage → StagesSteps comment t at n steps stage (cut_at comment t at).comment (next_at comment t at) (n + 1) (steps + 1) stage'
+  stages_one : (steps : ℕ) (stage : List ℕ) (s : Step) → step_of (line_here t n at) (lines_following t n at) ≡ s ∷ [] →
+      (stage' : List ℕ) → stage' ≡ put_at (staged_step_width * steps) (step_staged s) stage → StagesSteps t at n steps stage (next_at t at) (n + 1) (steps + 1) stage'
   stages_one steps stage s e stage' stored =
       record {
         plain = line_plain;
         staged =
-            λ (whole : List Step) (held : Held step_staged staged_step_width whole stage steps (gather step_of (lines_at comment t n at place.path))).
-            held_one step_staged staged_step_width whole stage steps _ held wide s (gather step_of (lines_following comment t n at))
-            (ap (gather step_of) lines_here ∙ gather_more step_of (line_here comment t n at) (lines_following comment t n at)
-            ∙ ap (λ (xs : List Step). xs ++ gather step_of (lines_following comment t n at)) e)
+            λ (whole : List Step) (held : Held step_staged staged_step_width whole stage steps (gather step_of (lines_at t n at place.path))).
+            held_one step_staged staged_step_width whole stage steps _ held wide s (gather step_of (lines_following t n at))
+            (ap (gather step_of) lines_here ∙ gather_more step_of (line_here t n at) (lines_following t n at)
+            ∙ ap (λ (xs : List Step). xs ++ gather step_of (lines_following t n at)) e)
             stage' stored;
       }
 
@@ -99,13 +99,13 @@ module _ (comment : ℕ) (t : List ℕ) (n at : ℕ) (ends : Cut) (worded : Word
   module _ (p : Path) (steps : ℕ) (stepping : Stepping p steps) (parts : PathParts) (cut : ParsesLine (take (ends.content - at) (drop at t)) parts)
       (k : ℕ) (rule : k ≡ path_rule parts.line p steps) where
     parses : ParsesLine content parts
-    parses = cut_parses comment t n at ends worded.starts parts cut
+    parses = cut_parses t n at ends worded.starts parts cut
 
     told_rule : k ≡ rule_of_line content p steps
     unfolding rule_of_line
     told_rule = rule ∙ ap (λ (l : PathLine). path_rule l p steps) parses.line_is ∙ sym (if_false _ _ worded.filled)
 
-    pub line_refused : (stage : List ℕ) → (k ≡ 0 → ⊥) → TakesStep comment t at n p steps stage (record { taken = true; rule = k; path = p; steps = steps }) stage
+    pub line_refused : (stage : List ℕ) → (k ≡ 0 → ⊥) → TakesStep t at n p steps stage (record { taken = true; rule = k; path = p; steps = steps }) stage
     line_refused stage broken =
         record {
           decides =
@@ -134,9 +134,9 @@ module _ (comment : ℕ) (t : List ℕ) (n at : ℕ) (ends : Cut) (worded : Word
       kept_rule : path_rule parts.line p steps ≡ 0
       kept_rule = sym rule ∙ z
 
-      says_here : saying_at (line_here comment t n at) ≡ says
+      says_here : saying_at (line_here t n at) ≡ says
       unfolding key_of
-      says_here = saying_there (line_here comment t n at) refl key_plain ∙ sym (ap (λ (l : PathLine). l.says) parses.line_is)
+      says_here = saying_there (line_here t n at) refl key_plain ∙ sym (ap (λ (l : PathLine). l.says) parses.line_is)
 
       goes_on : (more : ℕ) → more ≡ one_more_if (is_step_line parts.line) steps → Decides place.path (with_path p steps) (line_result content) 0 (with_path next more)
       goes_on more count =
@@ -166,11 +166,11 @@ module _ (comment : ℕ) (t : List ℕ) (n at : ℕ) (ends : Cut) (worded : Word
         unfolding one_more_if is_step_line
         side_count = sym (if_false _ _ (not_not_via (eq-eqb _ _ is)))
 
-        side_none : step_of (line_here comment t n at) (lines_following comment t n at) ≡ []
+        side_none : step_of (line_here t n at) (lines_following t n at) ≡ []
         unfolding step_of if◌then◌else◌
         side_none = rw (says_here ∙ is)
 
-        pub line_side : (stage : List ℕ) → TakesStep comment t at n p steps stage (record { taken = true; rule = 0; path = next; steps = steps }) stage
+        pub line_side : (stage : List ℕ) → TakesStep t at n p steps stage (record { taken = true; rule = 0; path = next; steps = steps }) stage
         line_side stage =
             record {
               decides = λ (e : true ≡ true). goes_on steps side_count;
@@ -192,11 +192,11 @@ module _ (comment : ℕ) (t : List ℕ) (n at : ℕ) (ends : Cut) (worded : Word
         unfolding one_more_if
         step_count = sym (if_true _ _ is_step_lem)
 
-        pub line_parsed : Parsed comment t n at ends parts
+        pub line_parsed : Parsed t n at ends parts
         line_parsed = record { starts = worded.starts; parses = parses; right = right_kept parts.line p steps kept_rule other }
 
         -- the five that a line may say
-        one_step : step_of (line_here comment t n at) (lines_following comment t n at) ≡ step_said comment t n at says ∷ []
+        one_step : step_of (line_here t n at) (lines_following t n at) ≡ step_said t n at says ∷ []
         unfolding step_of step_said
         one_step =
             by_cases _ (eqb says says_end)
@@ -215,17 +215,17 @@ module _ (comment : ℕ) (t : List ℕ) (n at : ℕ) (ends : Cut) (worded : Word
             ∙ one (if_false _ _ a ∙ if_false _ _ b ∙ if_false _ _ c))
             (λ (d : eqb says says_endfork ≡ false). absurd (path_says parts.line p steps kept_rule (ne_eqb _ _ other) b c a d)))))
           where
-            said : (v : ℕ) → eqb (saying_at (line_here comment t n at)) v ≡ eqb says v
+            said : (v : ℕ) → eqb (saying_at (line_here t n at)) v ≡ eqb says v
             said v = ap (λ (w : ℕ). eqb w v) says_here
 
             one : {s r : Step} → r ≡ s → s ∷ [] ≡ r ∷ []
             one e = ap (λ (x : Step). x ∷ []) (sym e)
 
-        pub line_staged : (stage : List ℕ) (step : StagedStep) → step ≡ staged_step (step_said comment t n at says) → (stage' : List ℕ) →
+        pub line_staged : (stage : List ℕ) (step : StagedStep) → step ≡ staged_step (step_said t n at says) → (stage' : List ℕ) →
             stage' ≡ put_at (staged_step_width * steps) (staged_step_words step) stage →
-            TakesStep comment t at n p steps stage (record { taken = true; rule = 0; path = next; steps = steps + 1 }) stage'
+            TakesStep t at n p steps stage (record { taken = true; rule = 0; path = next; steps = steps + 1 }) stage'
         line_staged stage step is_step' stage' stored =
-            let put : stage' ≡ put_at (staged_step_width * steps) (step_staged (step_said comment t n at says)) stage =
+            let put : stage' ≡ put_at (staged_step_width * steps) (step_staged (step_said t n at says)) stage =
             stored ∙ ap (λ (s : StagedStep). put_at (staged_step_width * steps) (staged_step_words s) stage) is_step' in
             record {
               decides = λ (e : true ≡ true). goes_on (steps + 1) step_count;
@@ -234,35 +234,35 @@ module _ (comment : ℕ) (t : List ℕ) (n at : ℕ) (ends : Cut) (worded : Word
               stepping = steps_on (steps + 1) step_count;
               kept = λ (f : true ≡ false). absurd (true≢false f);
               long = ap length stored ∙ put_long (staged_step_width * steps) (staged_step_words step) stage;
-              stages = λ (e : true ≡ true) (y : ◌≡◌ {A = ℕ} 0 0). stages_one steps stage (step_said comment t n at says) one_step stage' put;
+              stages = λ (e : true ≡ true) (y : ◌≡◌ {A = ℕ} 0 0). stages_one steps stage (step_said t n at says) one_step stage' put;
             }
 
 -- ---- any line, by its front
 
-module _ (comment : ℕ) (t : List ℕ) (n at : ℕ) (ends : Cut) (starts : Starts comment t n at ends) (front : Front) (cut : Fronted (take (ends.content - at) (drop at t)) front)
+module _ (t : List ℕ) (n at : ℕ) (ends : text.Line) (starts : Starts t n at ends) (front : Front) (cut : Fronted (take (ends.content - at) (drop at t)) front)
     (p : Path) (steps : ℕ) (stepping : Stepping p steps) where
-  told : Fronted (content_at comment t at) front
-  told = rw (cut_is comment t n at ends starts) at cut
+  told : Fronted (content_at t at) front
+  told = rw (cut_is t n at ends starts) at cut
 
-  blank_over : is_blank_line (content_at comment t at) ≡ true → lines_at comment t n at place.path ≡ lines_following comment t n at
-  blank_over b = pass_over comment t at starts.there n (cut_at comment t at) refl b place.path
+  blank_over : is_blank_line (content_at t at) ≡ true → lines_at t n at place.path ≡ lines_following t n at
+  blank_over b = pass_over t at starts.there n (line_at comment_byte t at) refl b place.path
 
-  judges_blank : is_blank_line (content_at comment t at) ≡ true → JudgesLine (content_at comment t at) p steps (record { taken = true; rule = 0; path = p; steps = steps })
+  judges_blank : is_blank_line (content_at t at) ≡ true → JudgesLine (content_at t at) p steps (record { taken = true; rule = 0; path = p; steps = steps })
   unfolding rule_of_line path_after_line steps_after_line
   judges_blank b =
       record {
-        plainly = λ (f : is_blank_line (content_at comment t at) ≡ false). absurd (true≢false (sym b ∙ f));
+        plainly = λ (f : is_blank_line (content_at t at) ≡ false). absurd (true≢false (sym b ∙ f));
         rule_is = sym (if_true _ _ b);
         path_is = λ (z : ◌≡◌ {A = ℕ} 0 0). sym (if_true _ _ b);
         steps_is = λ (z : ◌≡◌ {A = ℕ} 0 0). sym (if_true _ _ b);
       }
 
-  pub take_blank : (stage : List ℕ) → front ≡ Blanks → TakesStep comment t at n p steps stage (record { taken = true; rule = 0; path = p; steps = steps }) stage
+  pub take_blank : (stage : List ℕ) → front ≡ Blanks → TakesStep t at n p steps stage (record { taken = true; rule = 0; path = p; steps = steps }) stage
   take_blank stage e =
-      let over : lines_at comment t n at place.path ≡ lines_following comment t n at = blank_over (blanks_front (content_at comment t at) front told e) in
+      let over : lines_at t n at place.path ≡ lines_following t n at = blank_over (blanks_front (content_at t at) front told e) in
       record {
-        decides = λ (y : true ≡ true). blanks_decide (content_at comment t at) front told place.path (with_path p steps) e;
-        judges = λ (y : true ≡ true). judges_blank (blanks_front (content_at comment t at) front told e);
+        decides = λ (y : true ≡ true). blanks_decide (content_at t at) front told place.path (with_path p steps) e;
+        judges = λ (y : true ≡ true). judges_blank (blanks_front (content_at t at) front told e);
         opens = λ (f : true ≡ false). absurd (true≢false f);
         stepping = stepping;
         kept = λ (f : true ≡ false). refl;
@@ -272,24 +272,24 @@ module _ (comment : ℕ) (t : List ℕ) (n at : ℕ) (ends : Cut) (starts : Star
             record {
               plain = plainly_same place.path _ _ _ (plainly_none place.path _) over;
               staged =
-                  λ (whole : List Step) (held : Held step_staged staged_step_width whole stage steps (gather step_of (lines_at comment t n at place.path))).
+                  λ (whole : List Step) (held : Held step_staged staged_step_width whole stage steps (gather step_of (lines_at t n at place.path))).
                   held_same step_staged staged_step_width whole stage steps _ held _ (ap (gather step_of) over);
             };
       }
 
-  pub take_opens : (stage : List ℕ) → front ≡ Opening → TakesStep comment t at n p steps stage (record { taken = false; rule = 0; path = p; steps = steps }) stage
+  pub take_opens : (stage : List ℕ) → front ≡ Opening → TakesStep t at n p steps stage (record { taken = false; rule = 0; path = p; steps = steps }) stage
   take_opens stage e =
       record {
         decides = λ (y : false ≡ true). absurd (true≢false (sym y));
         judges = λ (y : false ≡ true). absurd (true≢false (sym y));
-        opens = λ (f : false ≡ false). opening_opens (content_at comment t at) front told e;
+        opens = λ (f : false ≡ false). opening_opens (content_at t at) front told e;
         stepping = stepping;
         kept = λ (f : false ≡ false). refl;
         long = refl;
         stages = λ (y : false ≡ true). absurd (true≢false (sym y));
       }
 
-  pub take_worded : front ≡ Words → Worded comment t n at ends
+  pub take_worded : front ≡ Words → Worded t n at ends
   take_worded e =
-      let w : (is_blank_line (content_at comment t at) ≡ false) × (bracket_of (content_at comment t at) ≡ Plain) = words_front (content_at comment t at) front told e in
+      let w : (is_blank_line (content_at t at) ≡ false) × (bracket_of (content_at t at) ≡ Plain) = words_front (content_at t at) front told e in
       record { starts = starts; filled = w.0; plainly = w.1 }

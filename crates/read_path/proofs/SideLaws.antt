@@ -57,13 +57,13 @@ module _ (t : List ℕ) (line : Found) (located : Located t line) where
     side_told h r e = e ∙ ap extent_of (sym (if_true _ _ (eq-eqb _ _ (says_here ∙ eq_of_not_not says says_side h))))
 
 -- the next line that says something
-module _ (comment : ℕ) (t : List ℕ) (n at : ℕ) (line : Found) (finds : FindsLine comment t n at line) where
-  pub side_none : not line.there ≡ true → record { start = 0; size = 0 } ≡ extent_of (side_in (lines_at comment t n at place.path))
+module _ (t : List ℕ) (n at : ℕ) (line : Found) (finds : FindsLine t n at line) where
+  pub side_none : not line.there ≡ true → record { start = 0; size = 0 } ≡ extent_of (side_in (lines_at t n at place.path))
   side_none h = rw (finds.same_none (not-true line.there h) place.path) no_extent
 
   module _ (there : not line.there ≡ false) where
     pub side_line : Located t line
     side_line = finds.located (not-false line.there there)
 
-    pub side_next : (r : Extent) → r ≡ extent_of (side_in (line_in t line place.path ∷ [])) → r ≡ extent_of (side_in (lines_at comment t n at place.path))
+    pub side_next : (r : Extent) → r ≡ extent_of (side_in (line_in t line place.path ∷ [])) → r ≡ extent_of (side_in (lines_at t n at place.path))
     side_next r h = rw (finds.same_there (not-false line.there there) place.path) h

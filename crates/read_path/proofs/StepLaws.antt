@@ -13,10 +13,11 @@ use Rattle.table_layout.specs.Codes.{end_kind, section_kind, fork_kind, endfork_
 use Rattle.table_record.specs.declared.stage.StagedStep.{StagedStep}
 use Rattle.lex_line.specs.Words.{words_from, to_equals}
 use Rattle.lex_line.specs.Way.Spans.{word_span, first_two_of}
-use Rattle.lex_comment.specs.Way.Cut.{cut_at, content_at}
-use Rattle.lex_comment.specs.declared.Cut.{Cut}
+use Rattle.lex_line.specs.Way.LineEnds.{line_at, content_at}
+use Rattle.lex_line.specs.declared.Line as text
 use Rattle.lex_line.specs.declared.Span.{Span}
 use Rattle.lex_line.proofs.WordLaws.{second_ordered, second_within}
+use Rattle.lex_line.specs.Lines.{comment_byte}
 use Rattle.line_place.specs.Place as place
 use Rattle.line_path.specs.Path.{says_end, says_section, says_fork}
 use Rattle.line_path.specs.Way.Parts.{SecondWord, ParsesName, ParsesSection, ParsesLine}
@@ -77,57 +78,57 @@ module _ (content : List ℕ) (from : ℕ) (name : Span) (second : SecondWord co
 
 -- ---- the line
 
-module _ (comment : ℕ) (t : List ℕ) (n at : ℕ) (ends : Cut) (starts : Starts comment t n at ends) where
+module _ (t : List ℕ) (n at : ℕ) (ends : text.Line) (starts : Starts t n at ends) where
   pub line_ordered : at ≤ ends.content
-  line_ordered = content_ordered comment t at starts.there n ends starts.ends_is
+  line_ordered = content_ordered t at starts.there n ends starts.ends_is
 
   pub line_within : ends.content ≤ length t
-  line_within = content_inside comment t at starts.there n ends starts.ends_is
+  line_within = content_inside t at starts.there n ends starts.ends_is
 
   pub next_within : ends.next ≤ length t
-  next_within = next_inside comment t at starts.there n ends starts.ends_is
+  next_within = next_inside t at starts.there n ends starts.ends_is
 
   pub next_counted : n + 1 ≤ ends.next + 1
   next_counted =
-      let a : at < ends.next = next_further comment t at starts.there n ends starts.ends_is in
+      let a : at < ends.next = next_further t at starts.there n ends starts.ends_is in
       let b : n ≤ at + 1 = starts.counted in
       omega arith
 
-  pub cut_is : take (ends.content - at) (drop at t) ≡ content_at comment t at
-  cut_is = ap (λ (l : Cut). take (l.content - at) (drop at t)) starts.ends_is
+  pub cut_is : take (ends.content - at) (drop at t) ≡ content_at t at
+  cut_is = ap (λ (l : text.Line). take (l.content - at) (drop at t)) starts.ends_is
 
-  pub cut_parses : (parts : PathParts) → ParsesLine (take (ends.content - at) (drop at t)) parts → ParsesLine (content_at comment t at) parts
+  pub cut_parses : (parts : PathParts) → ParsesLine (take (ends.content - at) (drop at t)) parts → ParsesLine (content_at t at) parts
   cut_parses parts h = rw cut_is at h
 
-  content_long : at + length (content_at comment t at) ≤ length t
+  content_long : at + length (content_at t at) ≤ length t
   content_long =
       let d : length (drop at t) ≡ length t - at = length-drop at t in
       let a : at ≤ ends.content = line_ordered in
       let b : ends.content ≤ length t = line_within in
       let l : length (take (ends.content - at) (drop at t)) ≡ ends.content - at = length-take-le _ (drop at t) (omega arith) in
-      let m : length (content_at comment t at) ≡ ends.content - at = rw cut_is at l in
+      let m : length (content_at t at) ≡ ends.content - at = rw cut_is at l in
       omega arith
 
-  name_inside : (from : ℕ) (name : Span) → SecondWord (content_at comment t at) from name → at + name.end ≤ length t
+  name_inside : (from : ℕ) (name : Span) → SecondWord (content_at t at) from name → at + name.end ≤ length t
   name_inside from name second =
-      let a : name.end ≤ length (content_at comment t at) = name_within (content_at comment t at) from name second in
-      let b : at + length (content_at comment t at) ≤ length t = content_long in
+      let a : name.end ≤ length (content_at t at) = name_within (content_at t at) from name second in
+      let b : at + length (content_at t at) ≤ length t = content_long in
       omega arith
 
 -- ---- the step
 
-module _ (comment : ℕ) (t : List ℕ) (n at : ℕ) (ends : Cut) (parts : PathParts) (parsed : Parsed comment t n at ends parts) where
+module _ (t : List ℕ) (n at : ℕ) (ends : text.Line) (parts : PathParts) (parsed : Parsed t n at ends parts) where
   abbrev content : List ℕ
-  content = content_at comment t at
+  content = content_at t at
 
   abbrev says : ℕ
   says = parts.line.says
 
   pub side_within : ends.next ≤ length t
-  side_within = next_within comment t n at ends parsed.starts
+  side_within = next_within t n at ends parsed.starts
 
   pub side_counted : n + 1 ≤ ends.next + 1
-  side_counted = next_counted comment t n at ends parsed.starts
+  side_counted = next_counted t n at ends parsed.starts
 
   module _ (is : says ≡ says_end) where
     end_parsed : ParsesName content parts
@@ -137,20 +138,20 @@ module _ (comment : ℕ) (t : List ℕ) (n at : ℕ) (ends : Cut) (parts : PathP
     end_ordered = name_ordered content 0 parts.name end_parsed.name_is
 
     pub end_inside : at + parts.name.end ≤ length t
-    end_inside = name_inside comment t n at ends parsed.starts 0 parts.name end_parsed.name_is
+    end_inside = name_inside t n at ends parsed.starts 0 parts.name end_parsed.name_is
 
-    end_name : record { start = at + parts.name.start; size = parts.name.end - parts.name.start } ≡ extent_of (second_word (words_of (line_here comment t n at)))
+    end_name : record { start = at + parts.name.start; size = parts.name.end - parts.name.start } ≡ extent_of (second_word (words_of (line_here t n at)))
     unfolding words_of
     end_name =
         name_extent content 0 parts.name end_parsed.name_is at
         ∙ ap (λ (o : ℕ). extent_of (second_word (words_from o content))) (add-zero at)
 
-    end_staged : (side : Extent) → side ≡ extent_of (side_in (lines_at ends.comment t (n + 1) ends.next place.path)) → named_step end_kind at n parts side ≡ staged_step (end_step comment t n at)
+    end_staged : (side : Extent) → side ≡ extent_of (side_in (lines_at t (n + 1) ends.next place.path)) → named_step end_kind at n parts side ≡ staged_step (end_step t n at)
     unfolding staged_step extent_of
     end_staged side is_side_lem =
         let p : ParsesName content parts = end_parsed in
-        let s : side ≡ extent_of (side_in (lines_at (cut_at comment t at).comment t (n + 1) (cut_at comment t at).next place.path)) =
-        is_side_lem ∙ ap (λ (l : Cut). extent_of (side_in (lines_at l.comment t (n + 1) l.next place.path))) parsed.starts.ends_is in
+        let s : side ≡ extent_of (side_in (lines_at t (n + 1) (line_at comment_byte t at).next place.path)) =
+        is_side_lem ∙ ap (λ (l : text.Line). extent_of (side_in (lines_at t (n + 1) l.next place.path))) parsed.starts.ends_is in
         λ i.
         record {
           kind = end_kind;
@@ -163,8 +164,8 @@ module _ (comment : ℕ) (t : List ℕ) (n at : ℕ) (ends : Cut) (parts : PathP
           line = n;
         }
 
-    pub end_told : (side : Extent) → side ≡ extent_of (side_in (lines_at ends.comment t (n + 1) ends.next place.path)) → (r : StagedStep) → r ≡ named_step end_kind at n parts side →
-        r ≡ staged_step (step_said comment t n at says)
+    pub end_told : (side : Extent) → side ≡ extent_of (side_in (lines_at t (n + 1) ends.next place.path)) → (r : StagedStep) → r ≡ named_step end_kind at n parts side →
+        r ≡ staged_step (step_said t n at says)
     unfolding step_said
     end_told side is_side_lem r e = e ∙ end_staged side is_side_lem ∙ ap staged_step (sym (if_true _ _ (eq-eqb _ _ is)))
 
@@ -176,13 +177,13 @@ module _ (comment : ℕ) (t : List ℕ) (n at : ℕ) (ends : Cut) (parts : PathP
     section_ordered = name_ordered content (to_equals content + 1) parts.name section_parsed.name_is
 
     pub section_inside : at + parts.name.end ≤ length t
-    section_inside = name_inside comment t n at ends parsed.starts (to_equals content + 1) parts.name section_parsed.name_is
+    section_inside = name_inside t n at ends parsed.starts (to_equals content + 1) parts.name section_parsed.name_is
 
-    section_name_lem : record { start = at + parts.name.start; size = parts.name.end - parts.name.start } ≡ extent_of (second_word (right_words_of (line_here comment t n at)))
+    section_name_lem : record { start = at + parts.name.start; size = parts.name.end - parts.name.start } ≡ extent_of (second_word (right_words_of (line_here t n at)))
     unfolding right_words_of
     section_name_lem = name_extent content (to_equals content + 1) parts.name section_parsed.name_is at
 
-    section_staged : named_step section_kind at n parts (record { start = 0; size = 0 }) ≡ staged_step (section_step comment t n at)
+    section_staged : named_step section_kind at n parts (record { start = 0; size = 0 }) ≡ staged_step (section_step t n at)
     unfolding staged_step extent_of no_word
     section_staged =
         let p : ParsesSection content parts = section_parsed in
@@ -199,16 +200,16 @@ module _ (comment : ℕ) (t : List ℕ) (n at : ℕ) (ends : Cut) (parts : PathP
         }
 
   module _ (not_end : says ≡ says_end → ⊥) where
-    pub section_told : says ≡ says_section → (r : StagedStep) → r ≡ named_step section_kind at n parts (record { start = 0; size = 0 }) → r ≡ staged_step (step_said comment t n at says)
+    pub section_told : says ≡ says_section → (r : StagedStep) → r ≡ named_step section_kind at n parts (record { start = 0; size = 0 }) → r ≡ staged_step (step_said t n at says)
     unfolding step_said
     section_told is r e = e ∙ section_staged is ∙ ap staged_step (sym (if_false _ _ (ne_eqb _ _ not_end) ∙ if_true _ _ (eq-eqb _ _ is)))
 
     module _ (not_section : says ≡ says_section → ⊥) where
-      pub fork_told : says ≡ says_fork → (r : StagedStep) → r ≡ staged_step (fork_step fork_kind n) → r ≡ staged_step (step_said comment t n at says)
+      pub fork_told : says ≡ says_fork → (r : StagedStep) → r ≡ staged_step (fork_step fork_kind n) → r ≡ staged_step (step_said t n at says)
       unfolding step_said
       fork_told is r e = e ∙ ap staged_step (sym (if_false _ _ (ne_eqb _ _ not_end) ∙ if_false _ _ (ne_eqb _ _ not_section) ∙ if_true _ _ (eq-eqb _ _ is)))
 
-      pub endfork_told : (says ≡ says_fork → ⊥) → (r : StagedStep) → r ≡ staged_step (fork_step endfork_kind n) → r ≡ staged_step (step_said comment t n at says)
+      pub endfork_told : (says ≡ says_fork → ⊥) → (r : StagedStep) → r ≡ staged_step (fork_step endfork_kind n) → r ≡ staged_step (step_said t n at says)
       unfolding step_said
       endfork_told not_fork r e = e ∙ ap staged_step (sym (if_false _ _ (ne_eqb _ _ not_end) ∙ if_false _ _ (ne_eqb _ _ not_section) ∙ if_false _ _ (ne_eqb _ _ not_fork)))
 

@@ -11,7 +11,7 @@ ghost use Rattle.read_path.specs.Way.Path.{fork_step, step_said, named_step, Sta
 ghost use Rattle.read_path.specs.Way.Block.{EndsLevel, EndsBlock};
 
 use doc::{Extent, Found};
-use lex_comment::Cut;
+use lex_line::Line;
 use line_path::{Path, PathParts};
 use read_line::Front;
 use table_record::stage::StagedStep;
@@ -26,13 +26,11 @@ pub struct Stepped {
     pub steps: u64,
 }
 
-// Where the lines of a path end and the comment character in force there, or the line that breaks a rule, and the result
-// up to there.
+// Where the lines of a path end, or the line that breaks a rule, and the result up to there.
 #[derive(Drop)]
 pub struct PathWalk {
     pub at: usize,
     pub line: u64,
-    pub comment: u8,
     pub part: Stepped,
 }
 
@@ -56,11 +54,11 @@ fn side_in(text: &[u8], line: Found) -> Extent
 }
 
 // "perhaps with `Side name` as the next line read".
-fn side_after(text: &[u8], at: usize, first_line: u64, comment: u8) -> Extent
+fn side_after(text: &[u8], at: usize, first_line: u64) -> Extent
     requires { (at ≤ length text.now) × (first_line ≤ at + 1) }
-    ensures { result ≡ extent_of (side_in (lines_at comment text.now first_line at place.path)) }
+    ensures { result ≡ extent_of (side_in (lines_at text.now first_line at place.path)) }
 {
-    let line = doc::next_line(text, at, first_line, comment);
+    let line = doc::next_line(text, at, first_line);
     if !line.there {
         return Extent { start: 0, size: 0 };
     }
@@ -104,20 +102,13 @@ fn fork_step(kind: u64, line: u64) -> StagedStep
 }
 
 // The step of a line that is not a Side.
-fn step_of(
-    text: &[u8],
-    at: usize,
-    line: u64,
-    comment: u8,
-    ends: Cut,
-    parts: PathParts,
-) -> StagedStep
-    requires { Parsed comment text.now line at ends parts }
-    ensures { result ≡ staged_step (step_said comment text.now line at parts.line.says) }
+fn step_of(text: &[u8], at: usize, line: u64, ends: Line, parts: PathParts) -> StagedStep
+    requires { Parsed text.now line at ends parts }
+    ensures { result ≡ staged_step (step_said text.now line at parts.line.says) }
 {
     let said = parts.line;
     if said.says == line_path::END {
-        let side = side_after(text, ends.next, line + 1, ends.comment);
+        let side = side_after(text, ends.next, line + 1);
         return named_step(table_layout::code::END, at, line, parts, side);
     }
     if said.says == line_path::SECTION {
@@ -137,14 +128,13 @@ fn path_line(
     text: &[u8],
     at: usize,
     line: u64,
-    comment: u8,
-    ends: Cut,
+    ends: Line,
     path: Path,
     steps: u64,
     stage: &mut [u64],
 ) -> Stepped
-    requires { Worded comment text.now line at ends × Stepping path steps }
-    ensures { TakesStep comment text.now at line path steps stage.old result stage.new }
+    requires { Worded text.now line at ends × Stepping path steps }
+    ensures { TakesStep text.now at line path steps stage.old result stage.new }
 {
     let end = ends.content;
     let parts = line_path::path_line(&text[at..end]);
@@ -167,7 +157,7 @@ fn path_line(
             steps,
         };
     }
-    let step = step_of(text, at, line, comment, ends, parts);
+    let step = step_of(text, at, line, ends, parts);
     table_record::stage::put_step(stage, steps, step);
     Stepped {
         taken: true,
@@ -182,14 +172,13 @@ fn take_step(
     text: &[u8],
     at: usize,
     line: u64,
-    comment: u8,
-    ends: Cut,
+    ends: Line,
     path: Path,
     steps: u64,
     stage: &mut [u64],
 ) -> Stepped
-    requires { Starts comment text.now line at ends × Stepping path steps }
-    ensures { TakesStep comment text.now at line path steps stage.old result stage.new }
+    requires { Starts text.now line at ends × Stepping path steps }
+    ensures { TakesStep text.now at line path steps stage.old result stage.new }
 {
     let end = ends.content;
     match read_line::front_of(&text[at..end]) {
@@ -199,7 +188,7 @@ fn take_step(
             path,
             steps,
         },
-        Front::Words => path_line(text, at, line, comment, ends, path, steps, stage),
+        Front::Words => path_line(text, at, line, ends, path, steps, stage),
         Front::Opening => Stepped {
             taken: false,
             rule: 0,
@@ -216,19 +205,17 @@ fn pass_path(
     text: &[u8],
     at: usize,
     line: u64,
-    comment: u8,
     path: Path,
     steps: u64,
     stage: &mut [u64],
 ) -> PathWalk
     requires { (at ≤ length text.now) × (line ≤ at + 1) × Stepping path steps }
-    ensures { GoesPath comment text.now at line path steps stage.old result stage.new
-        × EndsLevel text.now (record { at = at; line = line; comment = comment; path = path; steps = steps }) result }
+    ensures { GoesPath text.now at line path steps stage.old result stage.new
+        × EndsLevel text.now (record { at = at; line = line; path = path; steps = steps }) result }
 {
     let depth = path.depth;
     let mut here = at;
     let mut line_here = line;
-    let mut comment_here = comment;
     let mut part = Stepped {
         taken: true,
         rule: 0,
@@ -236,33 +223,21 @@ fn pass_path(
         steps,
     };
     while here < text.len() {
-        let ends = lex_comment::cut_at(text, here, comment_here);
-        let next = take_step(
-            text,
-            here,
-            line_here,
-            comment_here,
-            ends,
-            part.path,
-            part.steps,
-            stage,
-        );
+        let ends = lex_line::line_at(text, here, lex_line::COMMENT);
+        let next = take_step(text, here, line_here, ends, part.path, part.steps, stage);
         if !next.taken {
             return PathWalk {
                 at: here,
                 line: line_here,
-                comment: comment_here,
                 part,
             };
         }
         here = ends.next;
-        comment_here = ends.comment;
         part = next;
         if part.rule != 0 {
             return PathWalk {
                 at: here,
                 line: line_here,
-                comment: comment_here,
                 part,
             };
         }
@@ -272,7 +247,6 @@ fn pass_path(
             return PathWalk {
                 at: here,
                 line: line_here,
-                comment: comment_here,
                 part,
             };
         }
@@ -280,7 +254,6 @@ fn pass_path(
     PathWalk {
         at: here,
         line: line_here,
-        comment: comment_here,
         part,
     }
 }
@@ -292,18 +265,16 @@ pub fn pass_block(
     text: &[u8],
     at: usize,
     line: u64,
-    comment: u8,
     path: Path,
     steps: u64,
     stage: &mut [u64],
 ) -> PathWalk
     requires { (at ≤ length text.now) × (line ≤ at + 1) × Stepping path steps }
-    ensures { GoesPath comment text.now at line path steps stage.old result stage.new
-        × EndsBlock text.now (record { at = at; line = line; comment = comment; path = path; steps = steps }) result }
+    ensures { GoesPath text.now at line path steps stage.old result stage.new
+        × EndsBlock text.now (record { at = at; line = line; path = path; steps = steps }) result }
 {
     let mut here = at;
     let mut line_here = line;
-    let mut comment_here = comment;
     let mut part = Stepped {
         taken: true,
         rule: 0,
@@ -311,15 +282,7 @@ pub fn pass_block(
         steps,
     };
     loop {
-        let walk = pass_path(
-            text,
-            here,
-            line_here,
-            comment_here,
-            part.path,
-            part.steps,
-            stage,
-        );
+        let walk = pass_path(text, here, line_here, part.path, part.steps, stage);
         let come = walk.part;
         let reached = come.path;
         if come.rule != 0 {
@@ -328,15 +291,7 @@ pub fn pass_block(
         if reached.depth <= path.depth {
             return walk;
         }
-        let inner = pass_block(
-            text,
-            walk.at,
-            walk.line,
-            walk.comment,
-            reached,
-            come.steps,
-            stage,
-        );
+        let inner = pass_block(text, walk.at, walk.line, reached, come.steps, stage);
         let inside = inner.part;
         let after = inside.path;
         if inside.rule != 0 {
@@ -347,7 +302,6 @@ pub fn pass_block(
         }
         here = inner.at;
         line_here = inner.line;
-        comment_here = inner.comment;
         part = inside;
     }
 }

@@ -16,7 +16,7 @@ use Rattle.base.proofs.IfLaws.{if_true, if_false, by_test, by_cases, both_not_le
 use Rattle.lex_keyword.specs.Names.{the_end, begin_icm_section, derivation_method, end_icm_section}
 use Rattle.lex_keyword.specs.Bracket.{bracket_of}
 use Rattle.lex_keyword.specs.declared.Bracket.{Bracket}
-use Rattle.lex_keyword.specs.declared.Bracket.TheVariants.{Plain, Indented, Bad, Unknown, Later, Switch, Keyword}
+use Rattle.lex_keyword.specs.declared.Bracket.TheVariants.{Plain, Indented, Bad, Unknown, Later, Keyword}
 use Rattle.lex_keyword.proofs.AnswerLaws.{keyword_known}
 use Rattle.line_place.specs.Place.{opens_matrix, is_row_or_bandwidth, is_text, is_in_model, is_in_family, is_in_header, moved, leads_after_family, leads_in_matrix, leads_in_section}
 use Rattle.line_place.specs.Place as place
@@ -32,9 +32,9 @@ use Rattle.table_layout.specs.Layout.{section_width}
 use Rattle.table_record.specs.Records.{section_words}
 use Rattle.table_record.specs.Way.Stage.{put_at}
 use Rattle.read_line.specs.Reading.{line_result, breaks}
-use Rattle.read_line.specs.Way.Steps.{switch_rule, bracket_step, line_rule}
+use Rattle.read_line.specs.Way.Steps.{bracket_step, line_rule}
 use Rattle.read_line.specs.declared.LineResult.{LineResult}
-use Rattle.read_line.proofs.ResultLaws.{switch_breaks, result_steps}
+use Rattle.read_line.proofs.ResultLaws.{result_steps}
 use Rattle.read_line.proofs.OutsideLaws.{Met}
 use Rattle.doc.specs.Lines.{Line, plain, key_in, key_at, key_of, argument_of}
 use Rattle.doc.specs.Document.{Section, kind_of, opens_section}
@@ -101,7 +101,6 @@ module _ (content : List ℕ) (s : State) (here : s.place ≡ place.matrix) (end
   by_bracket Bad b = absurd (never Bad b refusal.keyword refl (λ (z : refusal.keyword ≡ 0). omega arith))
   by_bracket Unknown b = absurd (never Unknown b refusal.unknown refl (λ (z : refusal.unknown ≡ 0). omega arith))
   by_bracket Later b = absurd (never Later b refusal.later refl (λ (z : refusal.later ≡ 0). omega arith))
-  by_bracket (Switch start) b = absurd (never (Switch start) b (switch_rule s) refl (λ (z : switch_rule s ≡ 0). omega (arith, switch_breaks s)))
   by_bracket (Keyword k start) b =
       let h : k < 40 = (keyword_known k start content b).known in
       let e : key_in (bracket_of content) ≡ k = ap key_in b in

@@ -22,7 +22,7 @@ use Rattle.table_layout.specs.Codes.{diagonal, resistance_kind, inductance_kind,
 use Rattle.table_layout.specs.Layout.{section_width, matrix_width}
 use Rattle.table_record.specs.Records.{section_words, matrix_words}
 use Rattle.table_record.specs.Way.Stage.{put_at}
-use Rattle.lex_line.specs.Words.{argument_from}
+use Rattle.read_line.specs.Reading.{argument_from}
 use Rattle.doc.specs.Lines.{key_in, key_at, argument_in}
 use Rattle.doc.specs.Document.{kind_of}
 use Rattle.doc.proofs.ExtentLaws.{argument_in_line}

@@ -1,8 +1,8 @@
 // The walk over the lines behind [End ICM Family]: it judges them, and stages their sections, matrices and values.
 ghost use Rattle.std.specs.Prelude.{◌≡◌, List, ℕ, ◌+◌, ◌-◌, ◌*◌, ◌≤◌, ◌<◌, length, drop, eqb};
 ghost use Rattle.base.specs.If.{if◌then◌else◌};
-ghost use Rattle.lex_comment.specs.Comments.{contents};
-ghost use Rattle.lex_comment.specs.Way.Cut.{content_at};
+ghost use Rattle.lex_line.specs.Lines.{contents};
+ghost use Rattle.lex_line.specs.Way.LineEnds.{content_at};
 ghost use Rattle.lex_keyword.specs.Bracket.{bracket_of};
 ghost use Rattle.line_place.specs.Place as place;
 ghost use Rattle.line_keyword.specs.Way.Bounded.{NoneYet, most_lines};
@@ -48,7 +48,6 @@ pub struct SectionWalk {
     pub rule: u64,
     pub at: usize,
     pub line: u64,
-    pub comment: u8,
     pub state: State,
     pub block: OpenSection,
 }
@@ -134,7 +133,7 @@ fn begin_section(content: &[u8], at: usize, bracket: Bracket) -> OpenSection
     ensures { result ≡ beginning at content.now }
 {
     let start = doc::argument_in(bracket);
-    let name = lex_line::argument_of(content, start);
+    let name = read_line::argument_of(content, start);
     let untold = First {
         told: false,
         value: 0,
@@ -208,25 +207,23 @@ fn read_alone(
     text: &[u8],
     at: usize,
     line: u64,
-    comment: u8,
     s: State,
     block: OpenSection,
     sections: &mut [u64],
 ) -> SectionWalk
-    requires { (at < length text.now) × Onward comment text.now at line s × Late s.place × (s.place ≡ place.matrix → Ends (content_at comment text.now at))
+    requires { (at < length text.now) × Onward text.now at line s × Late s.place × (s.place ≡ place.matrix → Ends (content_at text.now at))
         × (block.kind < matrix_kinds) }
-    ensures { ((table matrices : List ℕ) → Continues comment text.now at line (outside_matrix s.place) s block table sections.old matrices
+    ensures { ((table matrices : List ℕ) → Continues text.now at line (outside_matrix s.place) s block table sections.old matrices
         result table sections.new matrices)
-        × (result.rule ≡ 0 → s.place ≡ place.matrix → EndsKeyed (content_at comment text.now at)) }
+        × (result.rule ≡ 0 → s.place ≡ place.matrix → EndsKeyed (content_at text.now at)) }
 {
-    let read = read_line::read_single(text, at, line, comment, s);
+    let read = read_line::read_single(text, at, line, s);
     let state = read.state;
     if read.rule != 0 {
         return SectionWalk {
             rule: read.rule,
             at: read.at,
             line: read.line,
-            comment: read.comment,
             state,
             block,
         };
@@ -239,7 +236,6 @@ fn read_alone(
         rule: 0,
         at: read.at,
         line: read.line,
-        comment: read.comment,
         state,
         block: next,
     }
@@ -284,20 +280,19 @@ fn read_data(
     text: &[u8],
     at: usize,
     line: u64,
-    comment: u8,
     s: State,
     block: OpenSection,
     table: &mut [u64],
     sections: &mut [u64],
     matrices: &mut [u64],
 ) -> SectionWalk
-    requires { (at < length text.now) × Onward comment text.now at line s × (s.place ≡ place.matrix) × (block.kind < matrix_kinds) }
-    ensures { Continues comment text.now at line s.place s block table.old sections.old matrices.old
+    requires { (at < length text.now) × Onward text.now at line s × (s.place ≡ place.matrix) × (block.kind < matrix_kinds) }
+    ensures { Continues text.now at line s.place s block table.old sections.old matrices.old
         result table.new sections.new matrices.new }
 {
     let matrix = s.matrix;
     let mut counts = s.counts;
-    let walk = read_matrix::pass_data(text, at, line, comment, matrix, counts.values, table);
+    let walk = read_matrix::pass_data(text, at, line, matrix, counts.values, table);
     let part = walk.part;
     let reached = part.matrix;
     counts.values = part.values;
@@ -309,7 +304,6 @@ fn read_data(
             rule: part.rule,
             at: walk.at,
             line: walk.line,
-            comment: walk.comment,
             state,
             block,
         };
@@ -319,21 +313,12 @@ fn read_data(
             rule: base::refusal::END,
             at: walk.at,
             line: 0,
-            comment: walk.comment,
             state,
             block,
         };
     }
     let closed = close_matrix(s, walk, line, block, matrices);
-    read_alone(
-        text,
-        walk.at,
-        walk.line,
-        walk.comment,
-        state,
-        closed,
-        sections,
-    )
+    read_alone(text, walk.at, walk.line, state, closed, sections)
 }
 
 // Reads the line at offset `at`, or several: blank lines, or a matrix.
@@ -341,32 +326,30 @@ fn read_on(
     text: &[u8],
     at: usize,
     line: u64,
-    comment: u8,
     s: State,
     block: OpenSection,
     table: &mut [u64],
     sections: &mut [u64],
     matrices: &mut [u64],
 ) -> SectionWalk
-    requires { (at < length text.now) × Onward comment text.now at line s × Late s.place × (block.kind < matrix_kinds) }
-    ensures { Continues comment text.now at line s.place s block table.old sections.old matrices.old
+    requires { (at < length text.now) × Onward text.now at line s × Late s.place × (block.kind < matrix_kinds) }
+    ensures { Continues text.now at line s.place s block table.old sections.old matrices.old
         result table.new sections.new matrices.new }
 {
     if s.place == line_place::MATRIX {
-        return read_data(text, at, line, comment, s, block, table, sections, matrices);
+        return read_data(text, at, line, s, block, table, sections, matrices);
     }
-    let passing = doc::idle::skip_idle(text, at, line, comment, s.place);
+    let passing = doc::idle::skip_idle(text, at, line, s.place);
     if at < passing.at {
         return SectionWalk {
             rule: 0,
             at: passing.at,
             line: passing.line,
-            comment: passing.comment,
             state: s,
             block,
         };
     }
-    read_alone(text, at, line, comment, s, block, sections)
+    read_alone(text, at, line, s, block, sections)
 }
 
 // Rules 5 to 17 over the rest of a text, from behind [End ICM Family] on. If none is broken, what these lines write is
@@ -378,30 +361,28 @@ pub fn read_sections(
     sections: &mut [u64],
     matrices: &mut [u64],
 ) -> Reading
-    requires { Onward walk.comment text.now walk.at walk.line walk.state
+    requires { Onward text.now walk.at walk.line walk.state
         × (walk.at < length text.now → walk.state.place ≡ place.after)
         × NoneYet walk.state.counts }
-    ensures fact_1 { (result ≡ read_from walk.line (contents walk.comment (drop walk.at text.now)) walk.state)
+    ensures fact_1 { (result ≡ read_from walk.line (contents (drop walk.at text.now)) walk.state)
         × ((c : Counts) → result ≡ Read c →
-        SectionsStaged walk.comment text.now walk.line walk.at table.new sections.new matrices.new) }
+        SectionsStaged text.now walk.line walk.at table.new sections.new matrices.new) }
     ensures fact_2 { length table.new ≡ length table.old }
     ensures fact_3 { length sections.new ≡ length sections.old }
     ensures fact_4 { length matrices.new ≡ length matrices.old }
 {
     let mut at = walk.at;
     let mut line = walk.line;
-    let mut comment = walk.comment;
     let start = walk.state;
     let mut s = start;
     let mut block = no_section();
     while at < text.len() {
-        let next = read_on(text, at, line, comment, s, block, table, sections, matrices);
+        let next = read_on(text, at, line, s, block, table, sections, matrices);
         if next.rule != 0 {
             return Reading::Refused(next.rule, next.line);
         }
         at = next.at;
         line = next.line;
-        comment = next.comment;
         let state = next.state;
         s = state;
         let reached = next.block;

@@ -10,8 +10,7 @@ use Rattle.base.specs.Refusal as refusal
 use Rattle.base.specs.If.{if◌then◌else◌}
 use Rattle.base.specs.Broken.{Rule, first, first_broken}
 use Rattle.base.proofs.IfLaws.{by_test}
-use Rattle.lex_line.specs.Lines.{is_blank_line, Raw, lines}
-use Rattle.lex_comment.specs.Comments.{above_header, Said, contents}
+use Rattle.lex_line.specs.Lines.{Said, is_blank_line, contents, Raw, lines}
 use Rattle.lex_line.specs.ByteRules as text
 use Rattle.lex_line.specs.ByteRules.{lines_rule, byte_rules}
 use Rattle.lex_line.specs.declared.Checked.{Checked}
@@ -19,14 +18,13 @@ use Rattle.lex_line.specs.declared.Checked.TheVariants as bytes
 use Rattle.lex_keyword.specs.Names.{begin_header}
 use Rattle.lex_keyword.specs.Bracket.{bracket_of}
 use Rattle.lex_keyword.specs.declared.Bracket.{Bracket}
-use Rattle.lex_keyword.specs.declared.Bracket.TheVariants.{Plain, Indented, Bad, Unknown, Later, Switch, Keyword}
-use Rattle.line_place.specs.Place.{is_text, before, opened, done}
+use Rattle.lex_keyword.specs.declared.Bracket.TheVariants.{Plain, Indented, Bad, Unknown, Later, Keyword}
+use Rattle.line_place.specs.Place.{is_text, before, done}
 use Rattle.line_keyword.specs.State.{start_state}
 use Rattle.line_keyword.specs.declared.State.{State}
 use Rattle.line_keyword.specs.Way.Rule.{keyword_rule}
-use Rattle.read_line.specs.Reading.{goes, breaks, judged, line_result, end_of_text_rules, at_end, onward, read_from, reading_of}
-use Rattle.lex_line.specs.Words.{argument_from}
-use Rattle.read_line.specs.Way.Steps.{switch_rule, line_step, keyword_step, bracket_step, before_step, line_rule}
+use Rattle.read_line.specs.Reading.{goes, breaks, judged, line_result, argument_from, end_of_text_rules, at_end, onward, read_from, reading_of}
+use Rattle.read_line.specs.Way.Steps.{line_step, keyword_step, bracket_step, before_step, line_rule}
 use Rattle.read_line.proofs.ResultLaws.{result_steps}
 use Rattle.read_line.specs.declared.LineResult.{LineResult}
 use Rattle.read_line.specs.declared.Reading.{Reading}
@@ -126,17 +124,12 @@ keyword_step_lem : (k : ℕ) (argument : List ℕ) (s : State) → OtherStep (ke
 unfolding keyword_step
 keyword_step_lem k argument s = judged_other _ _ s (keyword_other k argument s)
 
-switch_other : (s : State) → Other (switch_rule s)
-unfolding switch_rule
-switch_other s = by_test Other (eqb s.place opened) _ _ (λ e. other 9 refl) (λ e. other 11 refl)
-
 bracket_step_lem : (b : Bracket) (content : List ℕ) (s : State) → OtherStep (bracket_step b content s)
 bracket_step_lem Plain content s = line_step_lem content s
 bracket_step_lem Indented content s = by_test OtherStep (is_text s.place) _ _ (λ e. line_step_lem content s) (λ e. breaks_other 6 s (other 6 refl))
 bracket_step_lem Bad content s = breaks_other 6 s (other 6 refl)
 bracket_step_lem Unknown content s = breaks_other 7 s (other 7 refl)
 bracket_step_lem Later content s = breaks_other 8 s (other 8 refl)
-bracket_step_lem (Switch start) content s = breaks_other (switch_rule s) s (switch_other s)
 bracket_step_lem (Keyword k start) content s = keyword_step_lem k (argument_from content start) s
 
 before_step_lem : (b : Bracket) (content : List ℕ) (s : State) → OtherStep (before_step b content s)
@@ -145,7 +138,6 @@ before_step_lem Indented content s = goes_other s
 before_step_lem Bad content s = goes_other s
 before_step_lem Unknown content s = goes_other s
 before_step_lem Later content s = goes_other s
-before_step_lem (Switch start) content s = goes_other s
 before_step_lem (Keyword k start) content s = by_test OtherStep (eqb k begin_header) _ _ (λ e. keyword_step_lem k (argument_from content start) s) (λ e. goes_other s)
 
 step_other : (content : List ℕ) (s : State) → OtherStep (line_result content s)
@@ -169,7 +161,7 @@ run_other n (l ∷ ls) s =
 
 pub reading_other : (t : List ℕ) → OtherReading (reading_of t)
 unfolding reading_of
-reading_other t = run_other 1 (contents above_header t) start_state
+reading_other t = run_other 1 (contents t) start_state
 
 -- ---- 19 to 29
 

@@ -21,10 +21,6 @@ mod layout;
 mod questions;
 #[path = "differential/random.rs"]
 mod random;
-#[path = "differential/switch_damage.rs"]
-mod switch_damage;
-#[path = "differential/switches.rs"]
-mod switches;
 #[path = "differential/writer.rs"]
 mod writer;
 
@@ -42,7 +38,7 @@ use random::Random;
 use skumvari::raw;
 
 const SEED: u64 = 1;
-const CASES: u64 = 960;
+const CASES: u64 = 240;
 const SECONDS: u64 = 60;
 
 /// How many pairs of words are asked for their doubles.
@@ -78,9 +74,6 @@ struct Run {
     /// How often each number of refusal was given.
     refused: [u64; NUMBERS + 1],
     bends: Bends,
-    /// What came of generated and damaged files with a [Comment Char] between [Begin Header] and [End]: how often each
-    /// number of refusal was given, and at 0 how often they were accepted.
-    switched: [u64; NUMBERS + 1],
 }
 
 #[test]
@@ -98,7 +91,6 @@ fn proved_and_plain_agree() {
     run.assert_all_refusals();
     if whole {
         assert_all_reached(&reached);
-        run.assert_switched();
     }
 }
 
@@ -119,8 +111,7 @@ impl Run {
         println!("SKUMVARI_SEED={seed}");
         let mut random = Random::of_case(seed, 0);
         let rubbish = (0..raw::table_words()).map(|_| random.word()).collect();
-        let none = [0; NUMBERS + 1];
-        Run { seed, case: 0, rubbish, accepted: 0, refused: none, bends: Bends::default(), switched: none }
+        Run { seed, case: 0, rubbish, accepted: 0, refused: [0; NUMBERS + 1], bends: Bends::default() }
     }
 
     /// The test files of the base and of the change requests.
@@ -182,11 +173,9 @@ impl Run {
                     self.seed
                 );
                 note_reached(&text, &mut reached);
-                self.note_switched(&text, answer);
             } else {
                 let text = damage::damaged(&text, case, &mut Random::of_case(!self.seed, case));
-                let answer = self.try_case("damaged", &text);
-                self.note_switched(&text, answer);
+                self.try_case("damaged", &text);
             }
         }
         (reached, self.seed == SEED && cases >= CASES)
@@ -247,27 +236,12 @@ impl Run {
         Ok(outcome)
     }
 
-    fn note_switched(&mut self, text: &[u8], answer: Answer) {
-        if switches::of(text).is_empty() {
-            return;
-        }
-        match answer {
-            Answer::Accepted(_) => self.switched[0] += 1,
-            Answer::Refused(number, _) => self.switched[number as usize] += 1,
-        }
-    }
-
     fn report(&self) {
-        println!(
-            "intakes accepted: {}; by number of refusal, and of generated files with [Comment Char]:",
-            self.accepted
-        );
+        println!("intakes accepted: {}; by number of refusal:", self.accepted);
         for (number, count) in self.refused.iter().enumerate().skip(1) {
-            println!("{number:4} {count:7} {:7}", self.switched[number]);
+            println!("{number:4} {count:7}");
         }
         println!("bent tables: {} sound, {} unsound", self.bends.sound, self.bends.unsound);
-        let (accepted, refused) = (self.switched[0], self.switched[1..].iter().sum::<u64>());
-        println!("generated files with [Comment Char]: {accepted} accepted, {refused} refused");
     }
 
     fn assert_all_refusals(&self) {
@@ -275,18 +249,9 @@ impl Run {
         let missed: Vec<usize> = given.filter(|number| self.refused[*number] == 0).collect();
         assert!(missed.is_empty(), "numbers of refusal that no case met: {missed:?}");
     }
-
-    /// Generated files with a [Comment Char] are accepted, and are refused with each number that such a line has of its
-    /// own (6, 9, 11) or leads to where a comment is not written in the character in force.
-    fn assert_switched(&self) {
-        let wanted = [0, 6, 9, 11, 12, 13, 19, 20, 21, 23];
-        let missed: Vec<usize> = wanted.into_iter().filter(|number| self.switched[*number] == 0).collect();
-        assert!(missed.is_empty(), "of files with [Comment Char] no case met (0: accepted): {missed:?}");
-    }
 }
 
-/// Notes the enumerations of an accepted file's table, whether places of a grid are missing and ends have sides, how
-/// deep forks go, and the characters and places of its [Comment Char] lines.
+/// Notes the enumerations of an accepted file's table, whether places of a grid are missing and ends have sides, and how deep forks go.
 fn note_reached(text: &[u8], reached: &mut BTreeSet<(&'static str, u64)>) {
     let mut table = vec![0; raw::table_words()];
     let used = raw::intake(text, &mut table).expect("an accepted file");
@@ -313,14 +278,6 @@ fn note_reached(text: &[u8], reached: &mut BTreeSet<(&'static str, u64)>) {
         }
         reached.insert(("depth", depth));
     }
-    for switch in switches::of(text) {
-        let character = switches::ALLOWED.bytes().position(|allowed| Some(allowed) == switch.character);
-        reached.insert(("character", character.expect("an allowed character") as u64));
-        if let Some(place) = switches::PLACES.iter().position(|place| *place == switch.place) {
-            reached.insert(("switch", place as u64));
-        }
-        reached.insert(("switch in a fork", u64::from(switch.depth > 0)));
-    }
 }
 
 fn assert_all_reached(reached: &BTreeSet<(&'static str, u64)>) {
@@ -333,9 +290,6 @@ fn assert_all_reached(reached: &BTreeSet<(&'static str, u64)>) {
         ("kind", 3),
         ("side", 1),
         ("depth", 8),
-        ("character", switches::ALLOWED.len() as u64 - 1),
-        ("switch", switches::PLACES.len() as u64 - 1),
-        ("switch in a fork", 1),
     ];
     for (what, most) in kinds {
         for value in 0..=most {

@@ -62,15 +62,6 @@ fn names_and_choices() {
     assert!(file.model("B").is_none() && file.map("A").is_none() && file.section("s").is_none());
 }
 
-/// "Two makers write `|` inside pin names and switch the comment character first."
-#[test]
-fn names_with_a_pipe() {
-    let text = edited("Pin_list\nA1\nA2\n", "Pin_list\n[Comment Char] #_char | x\nA|1 # x\nA|2\n");
-    let file = Intake::read(text).expect("the edited example is accepted");
-    assert_eq!(file.map("P").expect("map P").pins().collect::<Vec<_>>(), ["A|1", "A|2"]);
-    assert_eq!(file.listing(), LISTING);
-}
-
 #[test]
 fn steps_and_walk_tell_the_same() {
     let file = paper();

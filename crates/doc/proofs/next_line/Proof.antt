@@ -8,16 +8,16 @@ use Rattle.doc.proofs.next_line.Statement.{statement}
 use Rattle.doc.proofs.next_line.Tie as tie
 
 abbrev invariant_loop : tie.invariant-loop
-invariant_loop text at number comment here₀ line₀ comment₀ here line_here_lem comment_here = Onward comment text number at comment_here line_here_lem here
+invariant_loop text at number here₀ line₀ here line = Onward text number at line here
 
 abbrev decreases_loop : tie.decreases-loop
-decreases_loop text at number comment here₀ line₀ comment₀ here line_here_lem comment_here = length text - here
+decreases_loop text at number here₀ line₀ here line = length text - here
 
 loop_holds : tie.Need-loop-init invariant_loop decreases_loop
 loop_holds c = search search_starts
 
-cut_at_requires : tie.Need-cut-at-requires invariant_loop decreases_loop
-cut_at_requires c κs = search rules
+line_at_requires : tie.Need-line-at-requires invariant_loop decreases_loop
+line_at_requires c κs = search rules
 
 sub_is_blank_line : tie.Need-overflow-sub-is-blank-line invariant_loop decreases_loop
 sub_is_blank_line c = search content_ordered
@@ -71,7 +71,7 @@ next_line_spec =
     invariant_loop
     decreases_loop
     loop_holds
-    cut_at_requires
+    line_at_requires
     sub_is_blank_line
     part_is_blank_line_start
     part_is_blank_line_end

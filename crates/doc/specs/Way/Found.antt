@@ -5,7 +5,6 @@ use Rattle.base.specs.If.{if◌then◌else◌}
 use Rattle.lex_line.specs.Words.{Word}
 use Rattle.lex_line.specs.declared.Span.{Span}
 use Rattle.lex_keyword.specs.Bracket.{bracket_of}
-use Rattle.lex_comment.specs.Comments.{above_header}
 use Rattle.line_place.specs.Place.{before}
 use Rattle.doc.specs.Lines.{Line, plain, key_of, lines_at, place_after, key_at, argument_in}
 use Rattle.doc.specs.Holds.{Each}
@@ -33,14 +32,14 @@ line_in t f p = record { line = f.line; at = f.at; place = p; content = content_
 
 -- the lines after it
 abbrev pub lines_behind : List ℕ → Found → ℕ → List Line
-lines_behind t f p = lines_at f.comment t (f.line + 1) f.next (place_after p (content_in t f))
+lines_behind t f p = lines_at t (f.line + 1) f.next (place_after p (content_in t f))
 
 -- the cursor at the first line, and behind a line that was found from a cursor on
 unfoldable pub cursor_start : Cursor
-cursor_start = record { at = 0; line = 1; comment = above_header; place = before }
+cursor_start = record { at = 0; line = 1; place = before }
 
 unfoldable pub cursor_past : List ℕ → Cursor → Found → Cursor
-cursor_past t c f = record { at = f.next; line = f.line + 1; comment = f.comment; place = place_after c.place (content_in t f) }
+cursor_past t c f = record { at = f.next; line = f.line + 1; place = place_after c.place (content_in t f) }
 
 -- a line that was found lies within the text, and there are no more lines than bytes
 pub record Located (t : List ℕ) (f : Found) : Type 0 where
@@ -52,12 +51,12 @@ pub record Located (t : List ℕ) (f : Found) : Type 0 where
   pub key_is : f.key ≡ key_at (content_in t f)
   pub argument_is : f.argument ≡ argument_in (bracket_of (content_in t f))
 
--- the first significant line from offset `at` on, where this comment character is in force
-pub record FindsLine (comment : ℕ) (t : List ℕ) (n at : ℕ) (f : Found) : Type 0 where
+-- the first significant line from offset `at` on
+pub record FindsLine (t : List ℕ) (n at : ℕ) (f : Found) : Type 0 where
   pub located : f.there ≡ true → Located t f
   pub behind : f.there ≡ true → at ≤ f.at
-  pub same_there : f.there ≡ true → (p : ℕ) → lines_at comment t n at p ≡ line_in t f p ∷ lines_behind t f p
-  pub same_none : f.there ≡ false → (p : ℕ) → lines_at comment t n at p ≡ []
+  pub same_there : f.there ≡ true → (p : ℕ) → lines_at t n at p ≡ line_in t f p ∷ lines_behind t f p
+  pub same_none : f.there ≡ false → (p : ℕ) → lines_at t n at p ≡ []
 
 -- ---- lines without a keyword
 

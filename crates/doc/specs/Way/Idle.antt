@@ -19,7 +19,7 @@ pub record IsIdle (content : List ℕ) (p : ℕ) : Type 0 where
   pub free : is_blank_line content ≡ false → is_reserved (first_of (words content)) ≡ false
 
 -- such lines one after another: good lines of the model list there, elsewhere blank lines and comments
-pub record SkipsIdle (comment : ℕ) (t : List ℕ) (at line p : ℕ) (r : Passing) : Type 0 where
-  pub resumes : ResumesIdle comment t at line p r.comment r.at r.line
-  pub listed : p ≡ place.list → Plainly place.list (lines_at comment t line at place.list) (lines_at r.comment t r.line r.at place.list)
-  pub blank : (p ≡ place.list → ⊥) → lines_at comment t line at p ≡ lines_at r.comment t r.line r.at p
+pub record SkipsIdle (t : List ℕ) (at line p : ℕ) (r : Passing) : Type 0 where
+  pub resumes : ResumesIdle t at line p r.at r.line
+  pub listed : p ≡ place.list → Plainly place.list (lines_at t line at place.list) (lines_at t r.line r.at place.list)
+  pub blank : (p ≡ place.list → ⊥) → lines_at t line at p ≡ lines_at t r.line r.at p

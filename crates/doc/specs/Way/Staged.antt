@@ -47,8 +47,8 @@ pin_staged p = pin_words (pin_record p)
 -- the lines from a cursor on have the whole model list
 pub record ListsFrom (t : List ℕ) (c : Cursor) : Type 0 where
   pub passed : List Line
-  pub all : significant t ≡ passed ++ lines_at c.comment t c.line c.at c.place
-  pub listed : (document_of t).listed ≡ gather listed_at (lines_at c.comment t c.line c.at c.place)
+  pub all : significant t ≡ passed ++ lines_at t c.line c.at c.place
+  pub listed : (document_of t).listed ≡ gather listed_at (lines_at t c.line c.at c.place)
   pub within : c.at ≤ length t
   pub counted : c.line ≤ c.at + 1
 

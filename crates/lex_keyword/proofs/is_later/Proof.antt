@@ -27,8 +27,12 @@ returns_5 c = search ifs
 
 returns_6 : tie.Need-returns-6
 unfolding is_later
-returns_6 c = search (ifs, either_rest)
+returns_6 c = search ifs
+
+returns_7 : tie.Need-returns-7
+unfolding is_later
+returns_7 c = search (ifs, either_rest)
 
 pub is_later_spec : {M : Type 1} → statement M
 is_later_spec =
-    tie.close (tie.spec returns returns_2 returns_3 returns_4 returns_5 returns_6)
+    tie.close (tie.spec returns returns_2 returns_3 returns_4 returns_5 returns_6 returns_7)

@@ -17,8 +17,8 @@ in_class_requires c κs = search rules
 returns_2 : tie.Need-returns-2
 returns_2 c = search content_stops
 
-skip_far_requires : tie.Need-skip-far-requires
-skip_far_requires c κs = search rules
+past_rest_requires : tie.Need-past-rest-requires
+past_rest_requires c κs = search rules
 
 returns_3 : tie.Need-returns-3
 returns_3 c = search rules
@@ -26,8 +26,8 @@ returns_3 c = search rules
 skip_content_requires : tie.Need-skip-content-requires
 skip_content_requires c κs = search rules
 
-past_rest_requires : tie.Need-past-rest-requires
-past_rest_requires c κs = search rules
+past_rest_requires_2 : tie.Need-past-rest-requires-2
+past_rest_requires_2 c κs = search rules
 
 returns_4 : tie.Need-returns-4
 returns_4 c = search content_through
@@ -40,8 +40,8 @@ past_content_spec =
     shared_slice_read_in_class
     in_class_requires
     returns_2
-    skip_far_requires
+    past_rest_requires
     returns_3
     skip_content_requires
-    past_rest_requires
+    past_rest_requires_2
     returns_4)

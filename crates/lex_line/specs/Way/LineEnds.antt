@@ -5,6 +5,7 @@ use Rattle.base.specs.If.{if◌then◌else◌, both}
 use Rattle.base.specs.Bytes.{line_feed, carriage_return, is_before, is_content}
 use Rattle.base.specs.Runs.{run}
 use Rattle.base.specs.Way.Class.{run_end}
+use Rattle.lex_line.specs.Lines.{comment_byte, Said}
 use Rattle.lex_line.specs.declared.Line.{Line}
 
 -- the position after the LF at `end`, or `end` itself if the text ends there
@@ -15,13 +16,12 @@ past_feed t end = if ltb end (length t) then end + 1 else end
 unfoldable pub line_at : ℕ → List ℕ → ℕ → Line
 line_at comment t at = record { content = run_end (is_content comment) t at; next = past_feed t (run_end (is_before line_feed) t at) }
 
--- the bytes from `at` on to the end of the content
-abbrev pub cut_from : ℕ → List ℕ → ℕ → List ℕ
-cut_from comment t at = take ((line_at comment t at).content - at) (drop at t)
+-- the content of the line that starts at `at`, and what that line says
+abbrev pub content_at : List ℕ → ℕ → List ℕ
+content_at t at = take ((line_at comment_byte t at).content - at) (drop at t)
 
--- the bytes of the line that starts at `at`, before its LF
-abbrev pub bytes_at : List ℕ → ℕ → List ℕ
-bytes_at t at = take (run (is_before line_feed) (drop at t)) (drop at t)
+abbrev pub said_at : List ℕ → ℕ → Said
+said_at t at = record { size = run (is_before line_feed) (drop at t); content = content_at t at }
 
 -- the length of the terminator at position i: 1 for LF, 2 for CR right before LF, 0 for none
 unfoldable pub terminator_at : List ℕ → ℕ → ℕ

@@ -18,7 +18,7 @@ same_length c = search rules
 returns : tie.Need-returns
 returns c =
     λ pins.
-    path_stops _ _ _ _ _ c.before.before.before.before.before.before.before.before.before.before.before.before.before.before.requires.1 c.before.before.before.before.before.before.before.before.before.before.before.before.before.before.requires.2 _ _ _ c.before.before.before.before.before.before.pass_block_lem.ensures.0 _ _ _ pins
+    path_stops _ _ _ _ c.before.before.before.before.before.before.before.before.before.before.before.before.before.before.requires.1 c.before.before.before.before.before.before.before.before.before.before.before.before.before.before.requires.2 _ _ _ c.before.before.before.before.before.before.pass_block_lem.ensures.0 _ _ _ pins
     c.before.if1.true _ c.after_steps_lem.ensures
 
 after_steps_requires_2 : tie.Need-after-steps-requires-2
@@ -30,7 +30,7 @@ same_length_2 c = search rules
 returns_2 : tie.Need-returns-2
 returns_2 c =
     λ pins.
-    path_goes _ _ _ _ _ c.before.before.before.before.before.before.before.before.before.before.before.before.before.before.before.before.requires.1 c.before.before.before.before.before.before.before.before.before.before.before.before.before.before.before.before.requires.2 _ _ _ c.before.before.before.before.before.before.before.before.pass_block_lem.ensures.0 _ _ _ pins
+    path_goes _ _ _ _ c.before.before.before.before.before.before.before.before.before.before.before.before.before.before.before.before.requires.1 c.before.before.before.before.before.before.before.before.before.before.before.before.before.before.before.before.requires.2 _ _ _ c.before.before.before.before.before.before.before.before.pass_block_lem.ensures.0 _ _ _ pins
     c.before.if2.true _ c.after_steps2.ensures
 
 read_alone_requires : tie.Need-read-alone-requires
@@ -48,7 +48,7 @@ same_length_5 c = search rules
 returns_3 : tie.Need-returns-3
 returns_3 c =
     λ pins.
-    path_waits _ _ _ _ _ c.before.before.before.before.before.before.before.before.before.before.before.before.before.before.before.before.before.before.before.before.before.before.requires.1 c.before.before.before.before.before.before.before.before.before.before.before.before.before.before.before.before.before.before.before.before.before.before.requires.2 _ _ _ c.before.before.before.before.before.before.before.before.before.before.before.before.before.before.pass_block_lem.ensures.0 _ _ _ pins
+    path_waits _ _ _ _ c.before.before.before.before.before.before.before.before.before.before.before.before.before.before.before.before.before.before.before.before.before.before.requires.1 c.before.before.before.before.before.before.before.before.before.before.before.before.before.before.before.before.before.before.before.before.before.before.requires.2 _ _ _ c.before.before.before.before.before.before.before.before.before.before.before.before.before.before.pass_block_lem.ensures.0 _ _ _ pins
     c.before.before.before.before.before.before.before.before.before.if1.false c.before.before.before.before.before.before.before.if2.false _ _ _ c.before.before.before.before.read_alone_lem.ensures
 
 pub read_steps_spec : {M : Type 1} → statement M

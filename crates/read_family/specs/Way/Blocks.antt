@@ -14,7 +14,7 @@ use Rattle.table_record.specs.Records.{map_words}
 use Rattle.table_record.specs.Way.Stage.{put_at, Held, staged_model_width, staged_model_words, staged_step_width}
 use Rattle.table_record.specs.declared.stage.StagedModel.{StagedModel}
 use Rattle.table_record.specs.declared.MapRecord.{MapRecord}
-use Rattle.lex_line.specs.Words.{argument_from}
+use Rattle.read_line.specs.Reading.{argument_from}
 use Rattle.doc.specs.Lines.{Line, argument_in, significant, gather, up_to}
 use Rattle.doc.specs.Document.{step_of, steps_in, head_in, says_sgr, sgr_in, in_model, model_at, grid_in, in_map, pin_at, map_at, section_at, document_of}
 use Rattle.doc.specs.Records.{map_records}

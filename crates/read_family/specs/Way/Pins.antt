@@ -58,14 +58,14 @@ pub record TakesPin (content : List ℕ) (at : ℕ) (m : Map) (pins : ℕ) (stag
       (bracket_of content ≡ Plain) × (r.pins ≡ pins + 1) × (stage' ≡ pin_put at content pins stage)
 
 -- the lines of a pin list
-pub record GoesPins (comment : ℕ) (t : List ℕ) (at line : ℕ) (m : Map) (pins : ℕ) (stage : List ℕ) (w : PinWalk) (stage' : List ℕ) : Type 0 where
+pub record GoesPins (t : List ℕ) (at line : ℕ) (m : Map) (pins : ℕ) (stage : List ℕ) (w : PinWalk) (stage' : List ℕ) : Type 0 where
   pub crossed :
-      ResumesPart comment t at line (HoldsPart place.pin_list (with_pinned m pins)) (with_pinned w.part.map w.part.pins) w.part.rule
-      w.comment w.at w.line
-  pub stays : NoProgressMeansBracket comment t at w.at
+      ResumesPart t at line (HoldsPart place.pin_list (with_pinned m pins)) (with_pinned w.part.map w.part.pins) w.part.rule
+      w.at w.line
+  pub stays : NoProgressMeansBracket t at w.at
   pub grid : SameGrid m w.part.map
   pub long : length stage' ≡ length stage
-  pub plain : w.part.rule ≡ 0 → Plainly place.pin_list (lines_at comment t line at place.pin_list) (lines_at w.comment t w.line w.at place.pin_list)
+  pub plain : w.part.rule ≡ 0 → Plainly place.pin_list (lines_at t line at place.pin_list) (lines_at t w.line w.at place.pin_list)
   pub staged :
-      w.part.rule ≡ 0 → (whole : List Named) → Held pin_staged pin_width whole stage pins (gather pin_at (lines_at comment t line at place.pin_list)) →
-      Held pin_staged pin_width whole stage' w.part.pins (gather pin_at (lines_at w.comment t w.line w.at place.pin_list))
+      w.part.rule ≡ 0 → (whole : List Named) → Held pin_staged pin_width whole stage pins (gather pin_at (lines_at t line at place.pin_list)) →
+      Held pin_staged pin_width whole stage' w.part.pins (gather pin_at (lines_at t w.line w.at place.pin_list))

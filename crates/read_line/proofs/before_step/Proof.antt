@@ -38,12 +38,6 @@ goes_on_requires_5 c κs = search rules
 enum_known_bracket : tie.Need-enum-known-bracket
 enum_known_bracket c = search rules
 
-goes_on_requires_6 : tie.Need-goes-on-requires-6
-goes_on_requires_6 c κs = search rules
-
-enum_known_bracket_2 : tie.Need-enum-known-bracket-2
-enum_known_bracket_2 c = search rules
-
 opening_step_requires : tie.Need-opening-step-requires
 opening_step_requires c κs = search rules
 
@@ -65,9 +59,6 @@ returns_5 c = search before_told
 returns_6 : tie.Need-returns-6
 returns_6 c = search before_told
 
-returns_7 : tie.Need-returns-7
-returns_7 c = search before_told
-
 pub before_step_spec : {M : Type 1} → statement M
 before_step_spec =
     tie.close
@@ -83,13 +74,10 @@ before_step_spec =
     enum_told_5
     goes_on_requires_5
     enum_known_bracket
-    goes_on_requires_6
-    enum_known_bracket_2
     opening_step_requires
     returns
     returns_2
     returns_3
     returns_4
     returns_5
-    returns_6
-    returns_7)
+    returns_6)

@@ -38,12 +38,6 @@ stops_requires_3 c κs = search rules
 enum_known_bracket : tie.Need-enum-known-bracket
 enum_known_bracket c = search rules
 
-switch_step_requires : tie.Need-switch-step-requires
-switch_step_requires c κs = search rules
-
-enum_known_bracket_2 : tie.Need-enum-known-bracket-2
-enum_known_bracket_2 c = search rules
-
 named_step_requires : tie.Need-named-step-requires
 named_step_requires c κs = search rules
 
@@ -65,9 +59,6 @@ returns_5 c = search bracket_told
 returns_6 : tie.Need-returns-6
 returns_6 c = search bracket_told
 
-returns_7 : tie.Need-returns-7
-returns_7 c = search bracket_told
-
 pub bracket_step_spec : {M : Type 1} → statement M
 bracket_step_spec =
     tie.close
@@ -83,13 +74,10 @@ bracket_step_spec =
     enum_told_5
     stops_requires_3
     enum_known_bracket
-    switch_step_requires
-    enum_known_bracket_2
     named_step_requires
     returns
     returns_2
     returns_3
     returns_4
     returns_5
-    returns_6
-    returns_7)
+    returns_6)

@@ -6,8 +6,8 @@ use borrow.Author.Rules.{rules}
 use Rattle.read_line.proofs.read_single.Statement.{statement}
 use Rattle.read_line.proofs.read_single.Tie as tie
 
-cut_at_requires : tie.Need-cut-at-requires
-cut_at_requires c κs = search rules
+line_at_requires : tie.Need-line-at-requires
+line_at_requires c κs = search rules
 
 sub_read_bracket : tie.Need-overflow-sub-read-bracket
 sub_read_bracket c = search content_start
@@ -43,7 +43,7 @@ pub read_single_spec : {M : Type 1} → statement M
 read_single_spec =
     tie.close
     (tie.spec
-    cut_at_requires
+    line_at_requires
     sub_read_bracket
     part_read_bracket_start
     part_read_bracket_end

@@ -8,13 +8,12 @@ use Rattle.lex_line.specs.Lines.{is_blank_line}
 use Rattle.lex_keyword.specs.Names.{begin_header}
 use Rattle.lex_keyword.specs.Bracket.{bracket_of}
 use Rattle.lex_keyword.specs.declared.Bracket.{Bracket}
-use Rattle.lex_keyword.specs.declared.Bracket.TheVariants.{Plain, Indented, Bad, Unknown, Later, Switch, Keyword}
-use Rattle.line_place.specs.Place.{is_text, before, opened, done}
+use Rattle.lex_keyword.specs.declared.Bracket.TheVariants.{Plain, Indented, Bad, Unknown, Later, Keyword}
+use Rattle.line_place.specs.Place.{is_text, before, done}
 use Rattle.line_keyword.specs.Keywords.{keyword_next}
 use Rattle.line_keyword.specs.declared.State.{State}
 use Rattle.line_keyword.specs.Way.Rule.{keyword_rule}
-use Rattle.read_line.specs.Reading.{line_next, RulesAndNext, goes, breaks, judged, line_rules}
-use Rattle.lex_line.specs.Words.{argument_from}
+use Rattle.read_line.specs.Reading.{line_next, argument_from, RulesAndNext, goes, breaks, judged, line_rules}
 use Rattle.read_line.specs.declared.LineResult.{LineResult}
 
 -- the rule that a line without a keyword breaks, 0 for none
@@ -31,17 +30,12 @@ line_step content s = judged (line_rule content s) (line_next content s) s
 unfoldable pub keyword_step : ℕ → List ℕ → State → LineResult
 keyword_step k argument s = judged (keyword_rule k argument s) (keyword_next k argument s) s
 
--- a [Comment Char] that is read breaks one of two rules
-unfoldable pub switch_rule : State → ℕ
-switch_rule s = if eqb s.place opened then refusal.place else refusal.argument
-
 abbrev pub bracket_step : Bracket → List ℕ → State → LineResult
 bracket_step Plain content s = line_step content s
 bracket_step Indented content s = if is_text s.place then line_step content s else breaks refusal.keyword s
 bracket_step Bad content s = breaks refusal.keyword s
 bracket_step Unknown content s = breaks refusal.unknown s
 bracket_step Later content s = breaks refusal.later s
-bracket_step (Switch start) content s = breaks (switch_rule s) s
 bracket_step (Keyword k start) content s = keyword_step k (argument_from content start) s
 
 abbrev pub before_step : Bracket → List ℕ → State → LineResult
@@ -50,7 +44,6 @@ before_step Indented content s = goes s
 before_step Bad content s = goes s
 before_step Unknown content s = goes s
 before_step Later content s = goes s
-before_step (Switch start) content s = goes s
 before_step (Keyword k start) content s = if eqb k begin_header then keyword_step k (argument_from content start) s else goes s
 
 abbrev pub step_of : List ℕ → State → LineResult

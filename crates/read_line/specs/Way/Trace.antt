@@ -3,7 +3,7 @@
 -- Assumes nothing.
 use Rattle.std.specs.Prelude.{ℕ, ◌+◌, ◌≡◌, List, [], ◌∷◌, eqb}
 use Rattle.base.specs.If.{if◌then◌else◌}
-use Rattle.lex_comment.specs.Comments.{Said}
+use Rattle.lex_line.specs.Lines.{Said}
 use Rattle.line_keyword.specs.declared.State.{State}
 use Rattle.read_line.specs.Reading.{line_result}
 

@@ -4,9 +4,8 @@
 use Rattle.std.specs.Prelude.{ℕ, ◌+◌, ◌-◌, ◌≤◌, ◌<◌, ◌≡◌, true, false, List, length, drop, eqb}
 use Rattle.table_layout.specs.Bounds.{deepest, most_steps}
 use Rattle.base.specs.If.{if◌then◌else◌}
-use Rattle.lex_line.specs.Lines.{is_blank_line}
-use Rattle.lex_comment.specs.Comments.{contents}
-use Rattle.lex_comment.specs.Way.Cut.{Allowed, cut_at, content_at}
+use Rattle.lex_line.specs.Lines.{is_blank_line, comment_byte, contents}
+use Rattle.lex_line.specs.Way.LineEnds.{line_at, content_at}
 use Rattle.lex_keyword.specs.Bracket.{bracket_of}
 use Rattle.lex_keyword.specs.declared.Bracket.TheVariants.{Plain}
 use Rattle.line_place.specs.Place as place
@@ -27,40 +26,35 @@ use Rattle.read_line.specs.declared.Reading.TheVariants.{Refused}
 
 -- the result of reading on from where a walk ends
 unfoldable pub resume : List ℕ → Walk → Reading
-resume t w = if eqb w.rule 0 then read_from w.line (contents w.comment (drop w.at t)) w.state else Refused w.rule w.line
+resume t w = if eqb w.rule 0 then read_from w.line (contents (drop w.at t)) w.state else Refused w.rule w.line
 
--- where a walk that broke no rule goes on, and the comment character in force there: the offset lies within the text, and
--- the state is within its bounds
-pub record Onward (comment : ℕ) (t : List ℕ) (at line : ℕ) (s : State) : Type 0 where
-  pub allowed : Allowed comment
+-- where a walk that broke no rule goes on: the offset lies within the text, and the state is within its bounds
+pub record Onward (t : List ℕ) (at line : ℕ) (s : State) : Type 0 where
   pub within : at ≤ length t
   pub counted : line ≤ at + 1
   pub kept : BoundedState line s
 
 -- a walk from offset `at` has come to w: the result is the same from there, and it has gone on unless a rule is broken
-pub record ResumesText (comment : ℕ) (t : List ℕ) (at line : ℕ) (s : State) (w : Walk) : Type 0 where
-  pub same : resume t w ≡ read_from line (contents comment (drop at t)) s
+pub record ResumesText (t : List ℕ) (at line : ℕ) (s : State) (w : Walk) : Type 0 where
+  pub same : resume t w ≡ read_from line (contents (drop at t)) s
   pub further : w.rule ≡ 0 → at < w.at
-  pub onward : w.rule ≡ 0 → Onward w.comment t w.at w.line w.state
+  pub onward : w.rule ≡ 0 → Onward t w.at w.line w.state
 
 -- ---- lines read with only a part of the state
 
--- Lines from offset `at` to offset `further` are read, where another comment character may be in force. `fits` are the states in which they may be read, and `put` gives
+-- Lines from offset `at` to offset `further` are read. `fits` are the states in which they may be read, and `put` gives
 -- the state after them: reading on from there gives the same result. A line that breaks a rule is the last.
-pub record ResumesPart (comment : ℕ) (t : List ℕ) (at line : ℕ) (fits : State → Type 0) (put : State → State) (rule comment' further last : ℕ) : Type 0 where
-  pub same : (s : State) → fits s → resume t (record { rule = rule; at = further; line = last; comment = comment'; state = put s }) ≡ read_from line (contents comment (drop at t)) s
+pub record ResumesPart (t : List ℕ) (at line : ℕ) (fits : State → Type 0) (put : State → State) (rule further last : ℕ) : Type 0 where
+  pub same : (s : State) → fits s → resume t (record { rule = rule; at = further; line = last; state = put s }) ≡ read_from line (contents (drop at t)) s
   pub kept : rule ≡ 0 → (s : State) → fits s → BoundedState line s → BoundedState last (put s)
-  pub allowed : Allowed comment → Allowed comment'
-  pub unmoved : further ≡ at → comment' ≡ comment
   pub onward : at ≤ further
   pub within : further ≤ length t
   pub raised : line ≤ last
   pub counted : last + at ≤ line + further
 
 -- lines that change nothing, in any state with this place
-abbrev pub ResumesIdle : ℕ → List ℕ → ℕ → ℕ → ℕ → ℕ → ℕ → ℕ → Type 0
-ResumesIdle comment t at line here comment' further last =
-    ResumesPart comment t at line (λ (s : State). s.place ≡ here) (λ (s : State). s) 0 comment' further last
+abbrev pub ResumesIdle : List ℕ → ℕ → ℕ → ℕ → ℕ → ℕ → Type 0
+ResumesIdle t at line here further last = ResumesPart t at line (λ (s : State). s.place ≡ here) (λ (s : State). s) 0 further last
 
 -- the state has this place, and its part is the one that `put` puts in
 abbrev pub HoldsPart : ℕ → (State → State) → State → Type 0
@@ -85,18 +79,17 @@ abbrev pub BracketOrLineByLine : List ℕ → ℕ → Type 0
 BracketOrLineByLine content p = is_blank_line content ≡ false → bracket_of content ≡ Plain → ReadLineByLine p
 
 -- a walk that has made no progress is at a line with a bracket
-abbrev pub NoProgressMeansBracket : ℕ → List ℕ → ℕ → ℕ → Type 0
-NoProgressMeansBracket comment t at further = further ≡ at → at < length t → Opens (content_at comment t at)
+abbrev pub NoProgressMeansBracket : List ℕ → ℕ → ℕ → Type 0
+NoProgressMeansBracket t at further = further ≡ at → at < length t → Opens (content_at t at)
 
 -- a single line is read: the walk behind it, and the line itself
-pub record ReadsLine (comment : ℕ) (t : List ℕ) (at line : ℕ) (s : State) (r : LineRead) : Type 0 where
-  pub resumes : ResumesText comment t at line s (record { rule = r.rule; at = r.at; line = r.line; comment = r.comment; state = r.state })
-  pub result : record { rule = r.rule; state = r.state } ≡ line_result (content_at comment t at) s
-  pub next_is : r.at ≡ (cut_at comment t at).next
-  pub comment_is : r.comment ≡ (cut_at comment t at).comment
+pub record ReadsLine (t : List ℕ) (at line : ℕ) (s : State) (r : LineRead) : Type 0 where
+  pub resumes : ResumesText t at line s (record { rule = r.rule; at = r.at; line = r.line; state = r.state })
+  pub result : record { rule = r.rule; state = r.state } ≡ line_result (content_at t at) s
+  pub next_is : r.at ≡ (line_at comment_byte t at).next
   pub line_is : r.rule ≡ 0 → r.line ≡ line + 1
-  pub end_is : r.end ≡ (cut_at comment t at).content
-  pub bracket_is : r.bracket ≡ bracket_of (content_at comment t at)
+  pub end_is : r.end ≡ (line_at comment_byte t at).content
+  pub bracket_is : r.bracket ≡ bracket_of (content_at t at)
 
 -- what is at the front of a line
 abbrev pub Fronted : List ℕ → Front → Type 0

@@ -5,9 +5,6 @@ use borrow.Author.Rules.{rules}
 use Rattle.read_matrix.proofs.front_at.Statement.{statement}
 use Rattle.read_matrix.proofs.front_at.Tie as tie
 
-in_force_requires : tie.Need-in-force-requires
-in_force_requires c κs = search rules
-
 past_blanks_requires : tie.Need-past-blanks-requires
 past_blanks_requires c κs = search rules
 
@@ -30,7 +27,6 @@ pub front_at_spec : {M : Type 1} → statement M
 front_at_spec =
     tie.close
     (tie.spec
-    in_force_requires
     past_blanks_requires
     is_word_at_requires
     returns

@@ -39,12 +39,6 @@ enum_told_5 c = search rules
 left_line_requires_5 : tie.Need-left-line-requires-5
 left_line_requires_5 c κs = search rules
 
-enum_known--start : tie.Need-enum-known--start
-enum_known--start c = search rules
-
-left_line_requires_6 : tie.Need-left-line-requires-6
-left_line_requires_6 c κs = search rules
-
 enum_known_key : tie.Need-enum-known-key
 enum_known_key c = search rules
 
@@ -67,10 +61,7 @@ returns_5 : tie.Need-returns-5
 returns_5 c = search (unnamed_takes, refl)
 
 returns_6 : tie.Need-returns-6
-returns_6 c = search (unnamed_takes, refl)
-
-returns_7 : tie.Need-returns-7
-returns_7 c = search rules
+returns_6 c = search rules
 
 pub opened_line_spec : {M : Type 1} → statement M
 opened_line_spec =
@@ -87,8 +78,6 @@ opened_line_spec =
     left_line_requires_4
     enum_told_5
     left_line_requires_5
-    enum_known--start
-    left_line_requires_6
     enum_known_key
     named_line_requires
     returns
@@ -96,5 +85,4 @@ opened_line_spec =
     returns_3
     returns_4
     returns_5
-    returns_6
-    returns_7)
+    returns_6)

@@ -3,17 +3,17 @@
 use Prim.Native.Nat.{◌-◌}
 use lib.ListN.{length}
 use Rattle.read_line.proofs.WalkLaws.{content_start, content_within}
-use Rattle.read_matrix.proofs.RunLaws.{Passed, passed_start, passed_allowed, passed_counted, passed_ends, run_long, run_fits, run_bounded, run_broken, run_ends, run_less, run_leaves, run_stops, run_on}
+use Rattle.read_matrix.proofs.RunLaws.{Passed, passed_start, passed_counted, passed_ends, run_long, run_fits, run_bounded, run_broken, run_ends, run_less, run_leaves, run_stops, run_on}
 use borrow.Author.Rules.{rules}
 use Rattle.read_matrix.proofs.pass_data.Statement.{statement}
 use Rattle.read_matrix.proofs.pass_data.Tie as tie
 
 abbrev invariant_loop : tie.invariant-loop
-invariant_loop text at line comment values table₀ here₀ line_here₀ comment_here₀ part₀ table here line_here_lem comment_here part =
-    Passed comment text at line part₀.matrix values table₀ comment_here here line_here_lem part table
+invariant_loop text at line values table₀ here₀ line_here₀ part₀ table here line_here_lem part =
+    Passed text at line part₀.matrix values table₀ here line_here_lem part table
 
 abbrev decreases_loop : tie.decreases-loop
-decreases_loop text at line comment values table₀ here₀ line_here₀ comment_here₀ part₀ table here line_here_lem comment_here part = length text - here
+decreases_loop text at line values table₀ here₀ line_here₀ part₀ table here line_here_lem part = length text - here
 
 new_staging_requires : tie.Need-new-staging-requires invariant_loop decreases_loop
 new_staging_requires c κs = search rules
@@ -23,7 +23,7 @@ loop_holds c = search passed_start
 
 pass_run_requires : tie.Need-pass-run-requires invariant_loop decreases_loop
 pass_run_requires c κs = let gone = c.before.before.loop.invariant.gone in
-    (search passed_allowed, (gone.crossed.within, (search passed_counted, (gone.bounded, gone.few))))
+    (gone.crossed.within, (search passed_counted, (gone.bounded, gone.few)))
 
 same_length : tie.Need-same-length invariant_loop decreases_loop
 same_length c = search rules
@@ -31,8 +31,8 @@ same_length c = search rules
 returns : tie.Need-returns invariant_loop decreases_loop
 returns c = search run_ends
 
-cut_at_requires : tie.Need-cut-at-requires invariant_loop decreases_loop
-cut_at_requires c κs = search rules
+line_at_requires : tie.Need-line-at-requires invariant_loop decreases_loop
+line_at_requires c κs = search rules
 
 sub_take_data : tie.Need-overflow-sub-take-data invariant_loop decreases_loop
 sub_take_data c = search content_start
@@ -45,9 +45,9 @@ part_take_data_end c = search content_within
 
 take_data_requires : tie.Need-take-data-requires invariant_loop decreases_loop
 take_data_requires c κs = (
-  run_bounded _ _ _ _ _ _ _ _ _ _ _ _ c.before.before.before.before.before.before.before.before.before.loop.invariant _ _ c.before.before.before.before.before.before.pass_run_lem.ensures,
-  run_broken _ _ _ _ _ _ _ _ _ _ _ _ c.before.before.before.before.before.before.before.before.before.loop.invariant _ _ c.before.before.before.before.before.before.pass_run_lem.ensures
-      c.before.before.if1.false _ c.before.cut_at.ensures,
+  run_bounded _ _ _ _ _ _ _ _ _ _ c.before.before.before.before.before.before.before.before.before.loop.invariant _ _ c.before.before.before.before.before.before.pass_run_lem.ensures,
+  run_broken _ _ _ _ _ _ _ _ _ _ c.before.before.before.before.before.before.before.before.before.loop.invariant _ _ c.before.before.before.before.before.before.pass_run_lem.ensures
+      c.before.before.if1.false _ c.before.line_at_lem.ensures,
 )
 
 same_length_2 : tie.Need-same-length-2 invariant_loop decreases_loop
@@ -57,24 +57,24 @@ returns_2 : tie.Need-returns-2 invariant_loop decreases_loop
 returns_2 c = search run_leaves
 
 same_length_3 : tie.Need-same-length-3 invariant_loop decreases_loop
-same_length_3 c = run_long _ _ _ _ _ _ _ _ _ _ _ _ c.before.before.before.before.before.before.before.before.before.before.before.before.before.before.loop.invariant _ _ c.before.before.before.before.before.before.before.before.before.before.before.pass_run_lem.ensures
+same_length_3 c = run_long _ _ _ _ _ _ _ _ _ _ c.before.before.before.before.before.before.before.before.before.before.before.before.before.before.loop.invariant _ _ c.before.before.before.before.before.before.before.before.before.before.before.pass_run_lem.ensures
 
 returns_3 : tie.Need-returns-3 invariant_loop decreases_loop
-returns_3 c = run_stops _ _ _ _ _ _ _ _ _ _ _ _ c.before.before.before.before.before.before.before.before.before.before.before.before.before.before.loop.invariant _ _ c.before.before.before.before.before.before.before.before.before.before.before.pass_run_lem.ensures
-    c.before.before.before.before.before.before.before.if1.false _ c.before.before.before.before.before.before.cut_at.ensures _ c.before.before.before.before.take_data_lem.ensures
+returns_3 c = run_stops _ _ _ _ _ _ _ _ _ _ c.before.before.before.before.before.before.before.before.before.before.before.before.before.before.loop.invariant _ _ c.before.before.before.before.before.before.before.before.before.before.before.pass_run_lem.ensures
+    c.before.before.before.before.before.before.before.if1.false _ c.before.before.before.before.before.before.line_at_lem.ensures _ c.before.before.before.before.take_data_lem.ensures
     c.before.before.if2.false c.if3.true
 
 add_line_here : tie.Need-overflow-add-line-here invariant_loop decreases_loop
-add_line_here c = run_fits _ _ _ _ _ _ _ _ _ _ _ _ c.before.before.before.before.before.before.before.before.before.before.before.before.before.before.loop.invariant _ _ c.before.before.before.before.before.before.before.before.before.before.before.pass_run_lem.ensures
+add_line_here c = run_fits _ _ _ _ _ _ _ _ _ _ c.before.before.before.before.before.before.before.before.before.before.before.before.before.before.loop.invariant _ _ c.before.before.before.before.before.before.before.before.before.before.before.pass_run_lem.ensures
     c.before.before.before.before.before.before.before.if1.false c.before.before.before.before.before.before.before.before.before.before.before.before.before.before.before.before.before.before.well_formed_lem.0.1
 
 loop_less : tie.Need-loop-smaller invariant_loop decreases_loop
-loop_less c = run_less _ _ _ _ _ _ _ _ _ _ _ _ c.before.before.before.before.before.before.before.before.before.before.before.before.before.before.loop.invariant _ _ c.before.before.before.before.before.before.before.before.before.before.before.pass_run_lem.ensures
-    c.before.before.before.before.before.before.before.if1.false _ c.before.before.before.before.before.before.cut_at.ensures
+loop_less c = run_less _ _ _ _ _ _ _ _ _ _ c.before.before.before.before.before.before.before.before.before.before.before.before.before.before.loop.invariant _ _ c.before.before.before.before.before.before.before.before.before.before.before.pass_run_lem.ensures
+    c.before.before.before.before.before.before.before.if1.false _ c.before.before.before.before.before.before.line_at_lem.ensures
 
 loop_again : tie.Need-loop-preserved invariant_loop decreases_loop
-loop_again c = run_on _ _ _ _ _ _ _ _ _ _ _ _ c.before.before.before.before.before.before.before.before.before.before.before.before.before.before.loop.invariant _ _ c.before.before.before.before.before.before.before.before.before.before.before.pass_run_lem.ensures
-    c.before.before.before.before.before.before.before.if1.false _ c.before.before.before.before.before.before.cut_at.ensures _ c.before.before.before.before.take_data_lem.ensures
+loop_again c = run_on _ _ _ _ _ _ _ _ _ _ c.before.before.before.before.before.before.before.before.before.before.before.before.before.before.loop.invariant _ _ c.before.before.before.before.before.before.before.before.before.before.before.pass_run_lem.ensures
+    c.before.before.before.before.before.before.before.if1.false _ c.before.before.before.before.before.before.line_at_lem.ensures _ c.before.before.before.before.take_data_lem.ensures
     c.before.before.if2.false c.if3.false
 
 same_length_4 : tie.Need-same-length-4 invariant_loop decreases_loop
@@ -94,7 +94,7 @@ pass_data_spec =
     pass_run_requires
     same_length
     returns
-    cut_at_requires
+    line_at_requires
     sub_take_data
     part_take_data_start
     part_take_data_end

@@ -9,11 +9,11 @@ use Rattle.read_matrix.proofs.pass_numbers.Statement.{statement}
 use Rattle.read_matrix.proofs.pass_numbers.Tie as tie
 
 abbrev invariant_loop : tie.invariant-loop
-invariant_loop text at line comment part table₀ form here₀ number₀ values₀ row₀ column₀ table here number values row column =
-    On comment text at line part table₀ here number (numbers_part part values row column) table
+invariant_loop text at line part table₀ form here₀ number₀ values₀ row₀ column₀ table here number values row column =
+    On text at line part table₀ here number (numbers_part part values row column) table
 
 abbrev decreases_loop : tie.decreases-loop
-decreases_loop text at line comment part table₀ form here₀ number₀ values₀ row₀ column₀ table here number values row column =
+decreases_loop text at line part table₀ form here₀ number₀ values₀ row₀ column₀ table here number values row column =
     length text - here
 
 loop_holds : tie.Need-loop-init invariant_loop decreases_loop

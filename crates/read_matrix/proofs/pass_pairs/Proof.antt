@@ -9,11 +9,11 @@ use Rattle.read_matrix.proofs.pass_pairs.Statement.{statement}
 use Rattle.read_matrix.proofs.pass_pairs.Tie as tie
 
 abbrev invariant_loop : tie.invariant-loop
-invariant_loop text at line comment part table₀ matrix row here₀ number₀ values₀ least₀ greatest₀ fits₀ named₀ table here number values least greatest fits named =
-    On comment text at line part table₀ here number (pairs_part part values (pairs_matrix part.matrix least greatest fits) named) table
+invariant_loop text at line part table₀ matrix row here₀ number₀ values₀ least₀ greatest₀ fits₀ named₀ table here number values least greatest fits named =
+    On text at line part table₀ here number (pairs_part part values (pairs_matrix part.matrix least greatest fits) named) table
 
 abbrev decreases_loop : tie.decreases-loop
-decreases_loop text at line comment part table₀ matrix row here₀ number₀ values₀ least₀ greatest₀ fits₀ named₀ table here number values least greatest fits named =
+decreases_loop text at line part table₀ matrix row here₀ number₀ values₀ least₀ greatest₀ fits₀ named₀ table here number values least greatest fits named =
     length text - here
 
 loop_holds : tie.Need-loop-init invariant_loop decreases_loop
@@ -33,7 +33,7 @@ same_length c = search pairs_long
 
 returns : tie.Need-returns invariant_loop decreases_loop
 returns c =
-    pairs_leave _ _ _ _ _ _ _ _ _ _ _ _ _ _ c.before.before.before.before.before.before.before.before.before.loop.invariant _ _ c.before.before.before.before.before.before.take_pair_lem.ensures
+    pairs_leave _ _ _ _ _ _ _ _ _ _ _ _ _ c.before.before.before.before.before.before.before.before.before.loop.invariant _ _ c.before.before.before.before.before.before.take_pair_lem.ensures
     c.before.before.before.before.before.before.before.before.loop_test.true c.before.before.before.before.before.before.before.before.before.before.before.before.before.before.before.requires.1 c.before.before.if1.true _ c.before.pairs_matrix_lem.ensures _
     c.pairs_passed_lem.ensures
 

@@ -1,16 +1,12 @@
 -- `read_matrix::plain_numbers` meets its contract: by what was read, and how many values there are.
 -- Assumes nothing.
-use Rattle.read_matrix.proofs.FrontLaws.{force_allowed}
 use Rattle.read_matrix.proofs.RunLaws.{numbers_broken, numbers_many, numbers_taken}
 use borrow.Author.Rules.{rules}
 use Rattle.read_matrix.proofs.plain_numbers.Statement.{statement}
 use Rattle.read_matrix.proofs.plain_numbers.Tie as tie
 
-in_force_requires : tie.Need-in-force-requires
-in_force_requires c κs = search rules
-
 read_numbers_requires : tie.Need-read-numbers-requires
-read_numbers_requires c κs = search (rules, force_allowed)
+read_numbers_requires c κs = search rules
 
 left_numbers_requires : tie.Need-left-numbers-requires
 left_numbers_requires c κs = search rules
@@ -33,8 +29,8 @@ same_length_2 c = search rules
 returns_2 : tie.Need-returns-2
 returns_2 c = search numbers_many
 
-add_t14 : tie.Need-overflow-add-t14
-add_t14 c = search rules
+add_t12 : tie.Need-overflow-add-t12
+add_t12 c = search rules
 
 next_line_requires : tie.Need-next-line-requires
 next_line_requires c κs = search rules
@@ -49,7 +45,6 @@ pub plain_numbers_spec : {M : Type 1} → statement M
 plain_numbers_spec =
     tie.close
     (tie.spec
-    in_force_requires
     read_numbers_requires
     left_numbers_requires
     same_length
@@ -58,7 +53,7 @@ plain_numbers_spec =
     left_numbers_requires_2
     same_length_2
     returns_2
-    add_t14
+    add_t12
     next_line_requires
     same_length_3
     returns_3)

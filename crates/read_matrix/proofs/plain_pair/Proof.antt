@@ -1,6 +1,5 @@
 -- `read_matrix::plain_pair` meets its contract: by what was read.
 -- Assumes nothing.
-use Rattle.read_matrix.proofs.FrontLaws.{force_allowed}
 use Rattle.read_matrix.proofs.RunLaws.{pair_full, pair_broken, pair_taken}
 use borrow.Author.Rules.{rules}
 use Rattle.read_matrix.proofs.plain_pair.Statement.{statement}
@@ -12,11 +11,8 @@ left_pair_requires c κs = search rules
 returns : tie.Need-returns
 returns c = search pair_full
 
-in_force_requires : tie.Need-in-force-requires
-in_force_requires c κs = search rules
-
 read_pair_requires : tie.Need-read-pair-requires
-read_pair_requires c κs = search (rules, force_allowed)
+read_pair_requires c κs = search rules
 
 left_pair_requires_2 : tie.Need-left-pair-requires-2
 left_pair_requires_2 c κs = search rules
@@ -42,7 +38,6 @@ plain_pair_spec =
     (tie.spec
     left_pair_requires
     returns
-    in_force_requires
     read_pair_requires
     left_pair_requires_2
     same_length

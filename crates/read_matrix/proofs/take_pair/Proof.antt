@@ -1,6 +1,7 @@
 -- `read_matrix::take_pair` meets its contract: by the front of the line.
 -- Assumes nothing.
-use Rattle.read_matrix.proofs.RunLaws.{words_plainly, pair_blank, pair_opened}
+use Rattle.read_line.proofs.QuietLaws.{words_front}
+use Rattle.read_matrix.proofs.RunLaws.{pair_blank, pair_opened}
 use borrow.Author.Rules.{rules}
 use Rattle.read_matrix.proofs.take_pair.Statement.{statement}
 use Rattle.read_matrix.proofs.take_pair.Tie as tie
@@ -18,7 +19,7 @@ enum_told_2 : tie.Need-enum-told-2
 enum_told_2 c = search rules
 
 plain_pair_requires : tie.Need-plain-pair-requires
-plain_pair_requires c κs = (words_plainly _ _ _ _ c.before.before.before.Front_at.ensures c.before.enum_told2.given.1 c.before.before.before.before.before.before.requires.0, search rules)
+plain_pair_requires c κs = (words_front _ _ c.before.before.before.Front_at.ensures c.before.enum_told2.given.1, search rules)
 
 enum_told_3 : tie.Need-enum-told-3
 enum_told_3 c = search rules

@@ -4,7 +4,7 @@
 use Rattle.std.specs.Prelude.{ℕ, ◌≤◌, ◌<◌, max, ◌≡◌, true, false, List, ◌++◌, length, eqb}
 use Rattle.base.specs.If.{if◌then◌else◌}
 use Rattle.lex_line.specs.Lines.{is_blank_line}
-use Rattle.lex_comment.specs.Way.Cut.{content_at}
+use Rattle.lex_line.specs.Way.LineEnds.{content_at}
 use Rattle.lex_number.specs.Integer.{whole_of}
 use Rattle.lex_keyword.specs.Names.{row}
 use Rattle.lex_keyword.specs.Bracket.{bracket_of}
@@ -28,8 +28,8 @@ use Rattle.read_matrix.specs.declared.Data.{Data}
 use Rattle.read_matrix.specs.declared.BodyWalk.{BodyWalk}
 
 -- the lines of a matrix, from the line below its keyword on
-abbrev pub body_lines : ℕ → List ℕ → ℕ → ℕ → List Line
-body_lines comment t n at = up_to in_matrix (lines_at comment t n at place.matrix)
+abbrev pub body_lines : List ℕ → ℕ → ℕ → List Line
+body_lines t n at = up_to in_matrix (lines_at t n at place.matrix)
 
 -- before the first of them
 abbrev pub new_staging : Staging
@@ -90,17 +90,17 @@ pub record TakesAlone (content : List ℕ) (m : Matrix) (values : ℕ) (a : Stag
 -- ---- lines one after another
 
 -- staging the lines that are left of a matrix, after those staged already, gives what all of them give
-pub record Left (comment₀ : ℕ) (t : List ℕ) (n₀ at₀ form : ℕ) (table₀ : List ℕ) (values₀ comment n at : ℕ) (table : List ℕ) (values : ℕ) (a : Staging) : Type 0 where
-  pub held : (whole rest : List Value) → HeldValues whole table₀ values₀ (values_from form 1 1 (body_lines comment₀ t n₀ at₀) ++ rest) →
-      HeldValues whole table values (values_from form a.row a.column (body_lines comment t n at) ++ rest)
-  pub bandwidth : told_or a.bandwidth (bandwidth_in (body_lines comment t n at)) ≡ bandwidth_in (body_lines comment₀ t n₀ at₀)
-  pub greatest : max a.greatest (greatest_in form (body_lines comment t n at)) ≡ greatest_in form (body_lines comment₀ t n₀ at₀)
+pub record Left (t : List ℕ) (n₀ at₀ form : ℕ) (table₀ : List ℕ) (values₀ n at : ℕ) (table : List ℕ) (values : ℕ) (a : Staging) : Type 0 where
+  pub held : (whole rest : List Value) → HeldValues whole table₀ values₀ (values_from form 1 1 (body_lines t n₀ at₀) ++ rest) →
+      HeldValues whole table values (values_from form a.row a.column (body_lines t n at) ++ rest)
+  pub bandwidth : told_or a.bandwidth (bandwidth_in (body_lines t n at)) ≡ bandwidth_in (body_lines t n₀ at₀)
+  pub greatest : max a.greatest (greatest_in form (body_lines t n at)) ≡ greatest_in form (body_lines t n₀ at₀)
   -- what follows the lines that are left follows all of them
-  pub rest : (ls : List Line) → lines_at comment t n at place.matrix ≡ body_lines comment t n at ++ ls → lines_at comment₀ t n₀ at₀ place.matrix ≡ body_lines comment₀ t n₀ at₀ ++ ls
+  pub rest : (ls : List Line) → lines_at t n at place.matrix ≡ body_lines t n at ++ ls → lines_at t n₀ at₀ place.matrix ≡ body_lines t n₀ at₀ ++ ls
 
 -- the lines of a matrix up to the keyword that ends it, or up to the first line that is not taken here
-pub record ResumesMatrix (comment : ℕ) (t : List ℕ) (at line : ℕ) (m : Matrix) (values : ℕ) (table : List ℕ) (w : BodyWalk) (table' : List ℕ) : Type 0 where
-  pub crossed : ResumesPart comment t at line (HoldsPart place.matrix (with_matrix m values)) (with_matrix w.part.matrix w.part.values) w.part.rule w.comment w.at w.line
+pub record ResumesMatrix (t : List ℕ) (at line : ℕ) (m : Matrix) (values : ℕ) (table : List ℕ) (w : BodyWalk) (table' : List ℕ) : Type 0 where
+  pub crossed : ResumesPart t at line (HoldsPart place.matrix (with_matrix m values)) (with_matrix w.part.matrix w.part.values) w.part.rule w.at w.line
   pub long : length table' ≡ length table
-  pub ends : w.part.rule ≡ 0 → w.at < length t → Ends (content_at w.comment t w.at)
-  pub left : w.part.rule ≡ 0 → Left comment t line at m.form table values w.comment w.line w.at table' w.part.values w.part.staging
+  pub ends : w.part.rule ≡ 0 → w.at < length t → Ends (content_at t w.at)
+  pub left : w.part.rule ≡ 0 → Left t line at m.form table values w.line w.at table' w.part.values w.part.staging

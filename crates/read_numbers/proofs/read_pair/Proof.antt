@@ -57,7 +57,7 @@ same_length : tie.Need-same-length
 same_length c = search rules
 
 returns_4 : tie.Need-returns-4
-returns_4 c = search (pair_stages, c.before.before.before.before.before.before.before.before.before.before.before.before.before.before.before.before.before.requires.0)
+returns_4 c = search pair_stages
 
 pub read_pair_spec : {M : Type 1} → statement M
 read_pair_spec =

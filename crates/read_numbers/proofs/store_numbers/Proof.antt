@@ -20,26 +20,26 @@ use Rattle.read_numbers.proofs.StagingLaws.{
   passes_less,
   passes_on,
   word_there,
-  spells_nothing,
+  pipe_spells_nothing,
 }
 use borrow.Author.Rules.{rules}
 use Rattle.read_numbers.proofs.store_numbers.Statement.{statement}
 use Rattle.read_numbers.proofs.store_numbers.Tie as tie
 
 abbrev invariant_loop : tie.invariant-loop
-invariant_loop text from comment form values table₀ row column at₀ cursor₀ table at cursor = Left comment form text from table₀ values row column at cursor table
+invariant_loop text from form values table₀ row column at₀ cursor₀ table at cursor = Left form text from table₀ values row column at cursor table
 
 abbrev decreases_loop : tie.decreases-loop
-decreases_loop text from comment form values table₀ row column at₀ cursor₀ table at cursor = length text - at
+decreases_loop text from form values table₀ row column at₀ cursor₀ table at cursor = length text - at
 
 abbrev invariant_loop2 : tie.invariant-loop2
-invariant_loop2 text from comment form values table row column at₀ cursor₀ at cursor = Passes comment form text at₀ cursor₀ at cursor
+invariant_loop2 text from form values table row column at₀ cursor₀ at cursor = Passes form text at₀ cursor₀ at cursor
 
 abbrev decreases_loop2 : tie.decreases-loop2
-decreases_loop2 text from comment form values table row column at₀ cursor₀ at cursor = length text - at
+decreases_loop2 text from form values table row column at₀ cursor₀ at cursor = length text - at
 
-mul_t18 : tie.Need-overflow-mul-t18 invariant_loop decreases_loop invariant_loop2 decreases_loop2
-mul_t18 c = search rules
+mul_t17 : tie.Need-overflow-mul-t17 invariant_loop decreases_loop invariant_loop2 decreases_loop2
+mul_t17 c = search rules
 
 loop_holds : tie.Need-loop-init invariant_loop decreases_loop invariant_loop2 decreases_loop2
 loop_holds c = search left_start
@@ -63,7 +63,7 @@ returns : tie.Need-returns invariant_loop decreases_loop invariant_loop2 decreas
 returns c = search left_done
 
 number_in_requires : tie.Need-number-in-requires invariant_loop decreases_loop invariant_loop2 decreases_loop2
-number_in_requires c κs = search spells_nothing
+number_in_requires c κs = pipe_spells_nothing
 
 is_value_requires : tie.Need-is-value-requires invariant_loop decreases_loop invariant_loop2 decreases_loop2
 is_value_requires c κs = search rules
@@ -87,7 +87,7 @@ loop_again : tie.Need-loop-preserved invariant_loop decreases_loop invariant_loo
 loop_again c = search left_on
 
 loop2_holds : tie.Need-loop2-init invariant_loop decreases_loop invariant_loop2 decreases_loop2
-loop2_holds c = search (passes_start, c.before.before.loop.invariant)
+loop2_holds c = search passes_start
 
 past_blanks_requires_2 : tie.Need-past-blanks-requires-2 invariant_loop decreases_loop invariant_loop2 decreases_loop2
 past_blanks_requires_2 c κs = search rules
@@ -136,7 +136,7 @@ store_numbers_spec =
     decreases_loop
     invariant_loop2
     decreases_loop2
-    mul_t18
+    mul_t17
     loop_holds
     has_room_requires
     past_blanks_requires

@@ -8,7 +8,8 @@ use Rattle.table_layout.specs.Codes.{sparse}
 use Rattle.table_record.specs.Records.{value_words}
 use Rattle.table_record.specs.Way.Stage.{Held}
 use Rattle.table_record.specs.declared.Value.{Value}
-use Rattle.lex_line.specs.Way.LineEnds.{line_at, cut_from}
+use Rattle.lex_line.specs.Way.LineEnds.{line_at, content_at}
+use Rattle.lex_line.specs.Lines.{comment_byte}
 use Rattle.line_matrix.specs.Matrix.{data_line_of}
 use Rattle.line_matrix.specs.declared.DataLine.{DataLine}
 use Rattle.doc.specs.Lines.{Line, plain, key_of}
@@ -48,25 +49,25 @@ abbrev pub moved_to : ℕ → ℕ → Staging → Staging
 moved_to row column a = record { row = row; column = column; bandwidth = a.bandwidth; greatest = a.greatest }
 
 -- the line at `here` is a line of numbers, the first of them at this row and column; `adds` holds for any such staging
-pub record StagesNumbers (comment form : ℕ) (t : List ℕ) (here : ℕ) (table : List ℕ) (values row column : ℕ) (table' : List ℕ) (r : Numbers) : Type 0 where
+pub record StagesNumbers (form : ℕ) (t : List ℕ) (here : ℕ) (table : List ℕ) (values row column : ℕ) (table' : List ℕ) (r : Numbers) : Type 0 where
   pub long : length table' ≡ length table
-  pub ends : r.staged ≡ true → r.end ≡ (line_at comment t here).content
+  pub ends : r.staged ≡ true → r.end ≡ (line_at comment_byte t here).content
   pub line_is : r.staged ≡ true →
-      record { numbers = r.count; column = 0; right = true; formed = true; bounded = true } ≡ data_line_of form (cut_from comment t here)
-  pub adds : r.staged ≡ true → (a : Staging) → a.row ≡ row → a.column ≡ column → (l : Line) → l.content ≡ cut_from comment t here →
+      record { numbers = r.count; column = 0; right = true; formed = true; bounded = true } ≡ data_line_of form (content_at t here)
+  pub adds : r.staged ≡ true → (a : Staging) → a.row ≡ row → a.column ≡ column → (l : Line) → l.content ≡ content_at t here →
       key_of l ≡ plain → Adds form l table values a table' (values + r.count) (moved_to r.row r.column a)
-  pub broken : r.staged ≡ false → BrokenData (data_line_of form (cut_from comment t here))
+  pub broken : r.staged ≡ false → BrokenData (data_line_of form (content_at t here))
 
 -- the same staging, with one more column named
 abbrev pub named_to : ℕ → Staging → Staging
 named_to column a = record { row = a.row; column = a.column; bandwidth = a.bandwidth; greatest = max a.greatest column }
 
 -- the line at `here` is one of a Sparse_matrix, in this row; `adds` holds for any such staging
-pub record StagesPair (comment : ℕ) (t : List ℕ) (here : ℕ) (table : List ℕ) (values row : ℕ) (table' : List ℕ) (r : Pair) : Type 0 where
+pub record StagesPair (t : List ℕ) (here : ℕ) (table : List ℕ) (values row : ℕ) (table' : List ℕ) (r : Pair) : Type 0 where
   pub long : length table' ≡ length table
-  pub ends : r.staged ≡ true → r.end ≡ (line_at comment t here).content
+  pub ends : r.staged ≡ true → r.end ≡ (line_at comment_byte t here).content
   pub line_is : r.staged ≡ true →
-      record { numbers = 1; column = r.column; right = true; formed = true; bounded = true } ≡ data_line_of sparse (cut_from comment t here)
-  pub adds : r.staged ≡ true → (a : Staging) → BoundedStaging a values → a.row ≡ row → (l : Line) → l.content ≡ cut_from comment t here →
+      record { numbers = 1; column = r.column; right = true; formed = true; bounded = true } ≡ data_line_of sparse (content_at t here)
+  pub adds : r.staged ≡ true → (a : Staging) → BoundedStaging a values → a.row ≡ row → (l : Line) → l.content ≡ content_at t here →
       key_of l ≡ plain → Adds sparse l table values a table' (values + 1) (named_to r.column a)
-  pub broken : r.staged ≡ false → BrokenData (data_line_of sparse (cut_from comment t here))
+  pub broken : r.staged ≡ false → BrokenData (data_line_of sparse (content_at t here))

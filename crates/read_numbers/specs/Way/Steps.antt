@@ -3,8 +3,9 @@
 use Rattle.std.specs.Prelude.{ℕ, ◌+◌, ◌≤◌, ◌≡◌, Bool, true, false, List, ◌++◌, length, eqb}
 use Rattle.base.specs.If.{if◌then◌else◌, both}
 use Rattle.table_record.specs.declared.Value.{Value}
-use Rattle.lex_line.specs.Way.LineEnds.{line_at, cut_from}
+use Rattle.lex_line.specs.Way.LineEnds.{line_at, content_at}
 use Rattle.lex_line.specs.Words.{words}
+use Rattle.lex_line.specs.Lines.{comment_byte}
 use Rattle.line_matrix.specs.Matrix.{are_formed, are_bounded}
 use Rattle.doc.specs.Document.{numbers_at}
 use Rattle.read_numbers.specs.Way.Numbers.{row_after}
@@ -28,11 +29,11 @@ pub record Stored (form : ℕ) (ws : List (List ℕ)) (table : List ℕ) (values
   pub row_few : r.row ≤ row + r.count
 
 -- the numbers from offset `from` to the end of the line
-pub record Stores (comment form : ℕ) (t : List ℕ) (from : ℕ) (table : List ℕ) (values row column : ℕ) (table' : List ℕ) (r : Numbers) : Type 0 where
+pub record Stores (form : ℕ) (t : List ℕ) (from : ℕ) (table : List ℕ) (values row column : ℕ) (table' : List ℕ) (r : Numbers) : Type 0 where
   pub long : length table' ≡ length table
-  pub ends : r.staged ≡ true → r.end ≡ (line_at comment t from).content
-  pub told : r.staged ≡ true → Stored form (words (cut_from comment t from)) table values row column table' r
-  pub broken : r.staged ≡ false → both (are_formed (words (cut_from comment t from))) (are_bounded (words (cut_from comment t from))) ≡ false
+  pub ends : r.staged ≡ true → r.end ≡ (line_at comment_byte t from).content
+  pub told : r.staged ≡ true → Stored form (words (content_at t from)) table values row column table' r
+  pub broken : r.staged ≡ false → both (are_formed (words (content_at t from))) (are_bounded (words (content_at t from))) ≡ false
 
 -- a column and the numbers after it: staged if there is exactly one number
 unfoldable pub pair_of : ℕ → Numbers → Pair

@@ -17,7 +17,7 @@ use Rattle.read_path.proofs.+pass_block.{statement}
 use Rattle.read_path.proofs.+pass_block.Tie.{close}
 
 abbrev μ-pass-block : Measures 2 pass_block_kinds.ps ℕ
-μ-pass-block κs a = deepest - a.1.1.1.1.0.depth
+μ-pass-block κs a = deepest - a.1.1.1.0.depth
 
 abbrev pass_block_at : ℕ → In 2 pass_block_kinds.ps
 pass_block_at t =
@@ -28,12 +28,11 @@ pass_block_below t =
     and 2 pass_block_kinds.ps (falls 2 pass_block_kinds.ps ◌<◌ μ-pass-block t) pass_block_lem.Pre
 
 abbrev pass_block_Inv_loop : pass_block_lts.invariant_loop
-pass_block_Inv_loop text at line comment path steps stage₀ here₀ line_here₀ comment_here₀ part₀ stage here line_here_lem comment_here part =
-    (line ≤ at + 1) × Gone comment text at line path steps stage₀ here line_here_lem comment_here part stage
-    × Level text (record { at = at; line = line; comment = comment; path = path; steps = steps }) (cursor_at here line_here_lem comment_here part)
+pass_block_Inv_loop text at line path steps stage₀ here₀ line_here₀ part₀ stage here line_here_lem part =
+    (line ≤ at + 1) × Gone text at line path steps stage₀ here line_here_lem part stage × Level text (record { at = at; line = line; path = path; steps = steps }) (cursor_at here line_here_lem part)
 
 abbrev pass_block_μ_loop : pass_block_lts.decreases_loop
-pass_block_μ_loop text at line comment path steps stage₀ here₀ line_here₀ comment_here₀ part₀ stage here line_here_lem comment_here part =
+pass_block_μ_loop text at line path steps stage₀ here₀ line_here₀ part₀ stage here line_here_lem part =
     length text - here
 
 pass_block_loop_holds : (t : ℕ) → pass_block_lts.Need_loop_init (
@@ -66,7 +65,7 @@ pass_block_returns : (t : ℕ) → pass_block_lts.Need_returns (
   pass_block_below t,
   pass_block_lem.Post,
 ) (pass_block_at t) pass_block_lem.Post pass_block_Inv_loop pass_block_μ_loop
-pass_block_returns t c = (goes_after _ _ _ _ _ _ _ _ _ _ _ _ c.before.before.before.before.before.before.before.before.loop.invariant.1 _ _ c.before.before.before.before.before.before.pass_path_lem.ensures.0, block_breaks _ _ _ c.before.before.before.before.before.before.before.before.loop.invariant.2 _ c.before.before.before.before.before.before.pass_path_lem.ensures.1 c.if1.true)
+pass_block_returns t c = (goes_after _ _ _ _ _ _ _ _ _ _ c.before.before.before.before.before.before.before.before.loop.invariant.1 _ _ c.before.before.before.before.before.before.pass_path_lem.ensures.0, block_breaks _ _ _ c.before.before.before.before.before.before.before.before.loop.invariant.2 _ c.before.before.before.before.before.before.pass_path_lem.ensures.1 c.if1.true)
 
 pass_block_same_length_2 : (t : ℕ) → pass_block_lts.Need_same_length_2 (
   pass_path_reads.Asked,
@@ -82,7 +81,7 @@ pass_block_returns_2 : (t : ℕ) → pass_block_lts.Need_returns_2 (
   pass_block_below t,
   pass_block_lem.Post,
 ) (pass_block_at t) pass_block_lem.Post pass_block_Inv_loop pass_block_μ_loop
-pass_block_returns_2 t c = (goes_after _ _ _ _ _ _ _ _ _ _ _ _ c.before.before.before.before.before.before.before.before.before.before.before.loop.invariant.1 _ _ c.before.before.before.before.before.before.before.before.before.pass_path_lem.ensures.0, block_ends _ _ _ c.before.before.before.before.before.before.before.before.before.before.before.loop.invariant.2 _ c.before.before.before.before.before.before.before.before.before.pass_path_lem.ensures.1 c.before.before.before.if1.false (omega arith))
+pass_block_returns_2 t c = (goes_after _ _ _ _ _ _ _ _ _ _ c.before.before.before.before.before.before.before.before.before.before.before.loop.invariant.1 _ _ c.before.before.before.before.before.before.before.before.before.pass_path_lem.ensures.0, block_ends _ _ _ c.before.before.before.before.before.before.before.before.before.before.before.loop.invariant.2 _ c.before.before.before.before.before.before.before.before.before.pass_path_lem.ensures.1 c.before.before.before.if1.false (omega arith))
 
 pass_block_pass_block_requires : (t : ℕ) → pass_block_lts.Need_pass_block_requires (
   pass_path_reads.Asked,
@@ -98,7 +97,7 @@ pass_block_same_length_3 : (t : ℕ) → pass_block_lts.Need_same_length_3 (
   pass_block_below t,
   pass_block_lem.Post,
 ) (pass_block_at t) pass_block_lem.Post pass_block_Inv_loop pass_block_μ_loop
-pass_block_same_length_3 t c = search (rules, (goes_inner _ _ _ _ _ _ _ _ _ _ _ _ c.before.before.before.before.before.before.before.before.before.before.before.before.before.before.before.before.before.before.before.loop.invariant.1 _ _ c.before.before.before.before.before.before.before.before.before.before.before.before.before.before.before.before.before.pass_path_lem.ensures.0 c.before.before.before.before.before.before.before.before.before.before.before.if1.false _ _ c.before.before.before.before.before.before.pass_block_lem.ensures.0).long)
+pass_block_same_length_3 t c = search (rules, (goes_inner _ _ _ _ _ _ _ _ _ _ c.before.before.before.before.before.before.before.before.before.before.before.before.before.before.before.before.before.before.before.loop.invariant.1 _ _ c.before.before.before.before.before.before.before.before.before.before.before.before.before.before.before.before.before.pass_path_lem.ensures.0 c.before.before.before.before.before.before.before.before.before.before.before.if1.false _ _ c.before.before.before.before.before.before.pass_block_lem.ensures.0).long)
 
 pass_block_returns_3 : (t : ℕ) → pass_block_lts.Need_returns_3 (
   pass_path_reads.Asked,
@@ -106,7 +105,7 @@ pass_block_returns_3 : (t : ℕ) → pass_block_lts.Need_returns_3 (
   pass_block_below t,
   pass_block_lem.Post,
 ) (pass_block_at t) pass_block_lem.Post pass_block_Inv_loop pass_block_μ_loop
-pass_block_returns_3 t c = (goes_inner _ _ _ _ _ _ _ _ _ _ _ _ c.before.before.before.before.before.before.before.before.before.before.before.before.before.before.before.before.before.before.before.loop.invariant.1 _ _ c.before.before.before.before.before.before.before.before.before.before.before.before.before.before.before.before.before.pass_path_lem.ensures.0 c.before.before.before.before.before.before.before.before.before.before.before.if1.false _ _ c.before.before.before.before.before.before.pass_block_lem.ensures.0, inner_breaks _ _ _ c.before.before.before.before.before.before.before.before.before.before.before.before.before.before.before.before.before.before.before.loop.invariant.2 _ c.before.before.before.before.before.before.before.before.before.before.before.before.before.before.before.before.before.pass_path_lem.ensures.1 c.before.before.before.before.before.before.before.before.before.before.before.if1.false c.before.before.before.before.before.before.before.before.if2.false _ c.before.before.before.before.before.before.pass_block_lem.ensures.1 c.if3.true)
+pass_block_returns_3 t c = (goes_inner _ _ _ _ _ _ _ _ _ _ c.before.before.before.before.before.before.before.before.before.before.before.before.before.before.before.before.before.before.before.loop.invariant.1 _ _ c.before.before.before.before.before.before.before.before.before.before.before.before.before.before.before.before.before.pass_path_lem.ensures.0 c.before.before.before.before.before.before.before.before.before.before.before.if1.false _ _ c.before.before.before.before.before.before.pass_block_lem.ensures.0, inner_breaks _ _ _ c.before.before.before.before.before.before.before.before.before.before.before.before.before.before.before.before.before.before.before.loop.invariant.2 _ c.before.before.before.before.before.before.before.before.before.before.before.before.before.before.before.before.before.pass_path_lem.ensures.1 c.before.before.before.before.before.before.before.before.before.before.before.if1.false c.before.before.before.before.before.before.before.before.if2.false _ c.before.before.before.before.before.before.pass_block_lem.ensures.1 c.if3.true)
 
 pass_block_same_length_4 : (t : ℕ) → pass_block_lts.Need_same_length_4 (
   pass_path_reads.Asked,
@@ -114,7 +113,7 @@ pass_block_same_length_4 : (t : ℕ) → pass_block_lts.Need_same_length_4 (
   pass_block_below t,
   pass_block_lem.Post,
 ) (pass_block_at t) pass_block_lem.Post pass_block_Inv_loop pass_block_μ_loop
-pass_block_same_length_4 t c = search (rules, (goes_inner _ _ _ _ _ _ _ _ _ _ _ _ c.before.before.before.before.before.before.before.before.before.before.before.before.before.before.before.before.before.before.before.before.before.before.loop.invariant.1 _ _ c.before.before.before.before.before.before.before.before.before.before.before.before.before.before.before.before.before.before.before.before.pass_path_lem.ensures.0 c.before.before.before.before.before.before.before.before.before.before.before.before.before.before.if1.false _ _ c.before.before.before.before.before.before.before.before.before.pass_block_lem.ensures.0).long)
+pass_block_same_length_4 t c = search (rules, (goes_inner _ _ _ _ _ _ _ _ _ _ c.before.before.before.before.before.before.before.before.before.before.before.before.before.before.before.before.before.before.before.before.before.before.loop.invariant.1 _ _ c.before.before.before.before.before.before.before.before.before.before.before.before.before.before.before.before.before.before.before.before.pass_path_lem.ensures.0 c.before.before.before.before.before.before.before.before.before.before.before.before.before.before.if1.false _ _ c.before.before.before.before.before.before.before.before.before.pass_block_lem.ensures.0).long)
 
 pass_block_returns_4 : (t : ℕ) → pass_block_lts.Need_returns_4 (
   pass_path_reads.Asked,
@@ -122,7 +121,7 @@ pass_block_returns_4 : (t : ℕ) → pass_block_lts.Need_returns_4 (
   pass_block_below t,
   pass_block_lem.Post,
 ) (pass_block_at t) pass_block_lem.Post pass_block_Inv_loop pass_block_μ_loop
-pass_block_returns_4 t c = (goes_inner _ _ _ _ _ _ _ _ _ _ _ _ c.before.before.before.before.before.before.before.before.before.before.before.before.before.before.before.before.before.before.before.before.before.before.loop.invariant.1 _ _ c.before.before.before.before.before.before.before.before.before.before.before.before.before.before.before.before.before.before.before.before.pass_path_lem.ensures.0 c.before.before.before.before.before.before.before.before.before.before.before.before.before.before.if1.false _ _ c.before.before.before.before.before.before.before.before.before.pass_block_lem.ensures.0, inner_stops _ _ _ c.before.before.before.before.before.before.before.before.before.before.before.before.before.before.before.before.before.before.before.before.before.before.loop.invariant.2 _ c.before.before.before.before.before.before.before.before.before.before.before.before.before.before.before.before.before.before.before.before.pass_path_lem.ensures.1 c.before.before.before.before.before.before.before.before.before.before.before.before.before.before.if1.false c.before.before.before.before.before.before.before.before.before.before.before.if2.false _ c.before.before.before.before.before.before.before.before.before.pass_block_lem.ensures.1 c.before.before.before.if3.false c.if4.true)
+pass_block_returns_4 t c = (goes_inner _ _ _ _ _ _ _ _ _ _ c.before.before.before.before.before.before.before.before.before.before.before.before.before.before.before.before.before.before.before.before.before.before.loop.invariant.1 _ _ c.before.before.before.before.before.before.before.before.before.before.before.before.before.before.before.before.before.before.before.before.pass_path_lem.ensures.0 c.before.before.before.before.before.before.before.before.before.before.before.before.before.before.if1.false _ _ c.before.before.before.before.before.before.before.before.before.pass_block_lem.ensures.0, inner_stops _ _ _ c.before.before.before.before.before.before.before.before.before.before.before.before.before.before.before.before.before.before.before.before.before.before.loop.invariant.2 _ c.before.before.before.before.before.before.before.before.before.before.before.before.before.before.before.before.before.before.before.before.pass_path_lem.ensures.1 c.before.before.before.before.before.before.before.before.before.before.before.before.before.before.if1.false c.before.before.before.before.before.before.before.before.before.before.before.if2.false _ c.before.before.before.before.before.before.before.before.before.pass_block_lem.ensures.1 c.before.before.before.if3.false c.if4.true)
 
 pass_block_loop_less : (t : ℕ) → pass_block_lts.Need_loop_smaller (
   pass_path_reads.Asked,
@@ -130,7 +129,7 @@ pass_block_loop_less : (t : ℕ) → pass_block_lts.Need_loop_smaller (
   pass_block_below t,
   pass_block_lem.Post,
 ) (pass_block_at t) pass_block_lem.Post pass_block_Inv_loop pass_block_μ_loop
-pass_block_loop_less t c = inner_less _ _ _ _ _ _ _ _ _ _ _ _ c.before.before.before.before.before.before.before.before.before.before.before.before.before.before.before.before.before.before.before.before.before.before.loop.invariant.1 _ _ c.before.before.before.before.before.before.before.before.before.before.before.before.before.before.before.before.before.before.before.before.pass_path_lem.ensures.0 c.before.before.before.before.before.before.before.before.before.before.before.before.before.before.if1.false _ _ c.before.before.before.before.before.before.before.before.before.pass_block_lem.ensures.0 (inner_ahead _ _ _ c.before.before.before.before.before.before.before.before.before.before.before.before.before.before.before.before.before.before.before.before.before.before.loop.invariant.2 _ c.before.before.before.before.before.before.before.before.before.before.before.before.before.before.before.before.before.before.before.before.pass_path_lem.ensures.1 c.before.before.before.before.before.before.before.before.before.before.before.before.before.before.if1.false c.before.before.before.before.before.before.before.before.before.before.before.if2.false)
+pass_block_loop_less t c = inner_less _ _ _ _ _ _ _ _ _ _ c.before.before.before.before.before.before.before.before.before.before.before.before.before.before.before.before.before.before.before.before.before.before.loop.invariant.1 _ _ c.before.before.before.before.before.before.before.before.before.before.before.before.before.before.before.before.before.before.before.before.pass_path_lem.ensures.0 c.before.before.before.before.before.before.before.before.before.before.before.before.before.before.if1.false _ _ c.before.before.before.before.before.before.before.before.before.pass_block_lem.ensures.0 (inner_ahead _ _ _ c.before.before.before.before.before.before.before.before.before.before.before.before.before.before.before.before.before.before.before.before.before.before.loop.invariant.2 _ c.before.before.before.before.before.before.before.before.before.before.before.before.before.before.before.before.before.before.before.before.pass_path_lem.ensures.1 c.before.before.before.before.before.before.before.before.before.before.before.before.before.before.if1.false c.before.before.before.before.before.before.before.before.before.before.before.if2.false)
 
 pass_block_loop_again : (t : ℕ) → pass_block_lts.Need_loop_preserved (
   pass_path_reads.Asked,
@@ -138,7 +137,7 @@ pass_block_loop_again : (t : ℕ) → pass_block_lts.Need_loop_preserved (
   pass_block_below t,
   pass_block_lem.Post,
 ) (pass_block_at t) pass_block_lem.Post pass_block_Inv_loop pass_block_μ_loop
-pass_block_loop_again t c = (c.before.before.before.before.before.before.before.before.before.before.before.before.before.before.before.before.before.before.before.before.before.before.loop.invariant.0, gone_inner _ _ _ _ _ _ _ _ _ _ _ _ c.before.before.before.before.before.before.before.before.before.before.before.before.before.before.before.before.before.before.before.before.before.before.loop.invariant.1 _ _ c.before.before.before.before.before.before.before.before.before.before.before.before.before.before.before.before.before.before.before.before.pass_path_lem.ensures.0 c.before.before.before.before.before.before.before.before.before.before.before.before.before.before.if1.false _ _ c.before.before.before.before.before.before.before.before.before.pass_block_lem.ensures.0 c.before.before.before.if3.false, inner_closes _ _ _ c.before.before.before.before.before.before.before.before.before.before.before.before.before.before.before.before.before.before.before.before.before.before.loop.invariant.2 _ c.before.before.before.before.before.before.before.before.before.before.before.before.before.before.before.before.before.before.before.before.pass_path_lem.ensures.1 c.before.before.before.before.before.before.before.before.before.before.before.before.before.before.if1.false c.before.before.before.before.before.before.before.before.before.before.before.if2.false _ c.before.before.before.before.before.before.before.before.before.pass_block_lem.ensures.1 c.before.before.before.if3.false c.if4.false)
+pass_block_loop_again t c = (c.before.before.before.before.before.before.before.before.before.before.before.before.before.before.before.before.before.before.before.before.before.before.loop.invariant.0, gone_inner _ _ _ _ _ _ _ _ _ _ c.before.before.before.before.before.before.before.before.before.before.before.before.before.before.before.before.before.before.before.before.before.before.loop.invariant.1 _ _ c.before.before.before.before.before.before.before.before.before.before.before.before.before.before.before.before.before.before.before.before.pass_path_lem.ensures.0 c.before.before.before.before.before.before.before.before.before.before.before.before.before.before.if1.false _ _ c.before.before.before.before.before.before.before.before.before.pass_block_lem.ensures.0 c.before.before.before.if3.false, inner_closes _ _ _ c.before.before.before.before.before.before.before.before.before.before.before.before.before.before.before.before.before.before.before.before.before.before.loop.invariant.2 _ c.before.before.before.before.before.before.before.before.before.before.before.before.before.before.before.before.before.before.before.before.pass_path_lem.ensures.1 c.before.before.before.before.before.before.before.before.before.before.before.before.before.before.if1.false c.before.before.before.before.before.before.before.before.before.before.before.if2.false _ c.before.before.before.before.before.before.before.before.before.pass_block_lem.ensures.1 c.before.before.before.if3.false c.if4.false)
 
 pub +pass-block-spec : {M : Type 1} → statement M
 +pass-block-spec = close μ-pass-block λ t. pass_block_lts.spec (

@@ -38,8 +38,8 @@ step_of_requires c κs = search line_parsed
 put_step_requires : tie.Need-put-step-requires
 put_step_requires c κs = search rules
 
-add_t23 : tie.Need-overflow-add-t23
-add_t23 c = omega (arith, steps_small)
+add_t22 : tie.Need-overflow-add-t22
+add_t22 c = omega (arith, steps_small)
 
 same_length : tie.Need-same-length
 same_length c = search rules
@@ -61,6 +61,6 @@ path_line_spec =
     returns_2
     step_of_requires
     put_step_requires
-    add_t23
+    add_t22
     same_length
     returns_3)

@@ -13,13 +13,13 @@ side_after_requires : tie.Need-side-after-requires
 side_after_requires c κs = (search side_within, search side_counted)
 
 named_step_requires : tie.Need-named-step-requires
-named_step_requires c κs = (search end_ordered, omega (arith, end_inside _ _ _ _ _ _ c.before.before.before.before.before.requires c.before.if1.true))
+named_step_requires c κs = (search end_ordered, omega (arith, end_inside _ _ _ _ _ c.before.before.before.before.before.requires c.before.if1.true))
 
 returns : tie.Need-returns
 returns c = search end_told
 
 named_step_requires_2 : tie.Need-named-step-requires-2
-named_step_requires_2 c κs = (search section_ordered, omega (arith, section_inside _ _ _ _ _ _ c.before.before.before.before.before.before.requires c.if2.true))
+named_step_requires_2 c κs = (search section_ordered, omega (arith, section_inside _ _ _ _ _ c.before.before.before.before.before.before.requires c.if2.true))
 
 returns_2 : tie.Need-returns-2
 returns_2 c = search section_told

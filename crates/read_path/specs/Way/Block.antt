@@ -3,7 +3,7 @@
 -- Assumes nothing.
 use Rattle.std.specs.Prelude.{ℕ, ◌+◌, ◌≤◌, ◌<◌, ◌≡◌, false, List, length}
 use Rattle.lex_line.specs.Lines.{is_blank_line}
-use Rattle.lex_comment.specs.Way.Cut.{cut_at, content_at}
+use Rattle.lex_line.specs.Way.LineEnds.{content_at}
 use Rattle.lex_keyword.specs.Bracket.{bracket_of}
 use Rattle.lex_keyword.specs.declared.Bracket.TheVariants.{Plain}
 use Rattle.line_path.specs.Path.{says_endfork, path_line_of}
@@ -14,22 +14,21 @@ use Rattle.read_path.specs.declared.PathWalk.{PathWalk}
 
 -- ---- one line
 
--- where the reading of a path stands: the offset and the number of the next line, the comment character in force there, and
--- the path and the count of steps above it
+-- where the reading of a path stands: the offset and the number of the next line, and the path and the count of steps
+-- above it
 pub record PathCursor : Type 0 where
   pub at : ℕ
   pub line : ℕ
-  pub comment : ℕ
   pub path : Path
   pub steps : ℕ
 
 -- where a walk has come
 abbrev pub reached : PathWalk → PathCursor
-reached w = record { at = w.at; line = w.line; comment = w.comment; path = w.part.path; steps = w.part.steps }
+reached w = record { at = w.at; line = w.line; path = w.part.path; steps = w.part.steps }
 
 -- the content of the next line
 abbrev pub content_from : List ℕ → PathCursor → List ℕ
-content_from t c = content_at c.comment t c.at
+content_from t c = content_at t c.at
 
 -- the next line is there and has no bracket
 pub record Meets (t : List ℕ) (c : PathCursor) : Type 0 where
@@ -44,9 +43,8 @@ rule_from t c = rule_of_line (content_from t c) c.path c.steps
 abbrev pub behind : List ℕ → PathCursor → PathCursor
 behind t c =
     record {
-      at = next_at c.comment t c.at;
+      at = next_at t c.at;
       line = c.line + 1;
-      comment = (cut_at c.comment t c.at).comment;
       path = path_after_line (content_from t c) c.path;
       steps = steps_after_line (content_from t c) c.steps;
     }
@@ -83,7 +81,7 @@ pub record BreaksRule (t : List ℕ) (from : PathCursor) (w : PathWalk) : Type 0
 -- a line with a bracket, or the end of the text
 pub record ComesToBracket (t : List ℕ) (from : PathCursor) (w : PathWalk) : Type 0 where
   pub inside : PassesAbove t from.path.depth from (reached w)
-  pub opens : w.at < length t → Opens (content_at w.comment t w.at)
+  pub opens : w.at < length t → Opens (content_at t w.at)
   pub whole : w.part.rule ≡ 0
 
 -- the reading of a block that was begun at `from` ends at one of the three

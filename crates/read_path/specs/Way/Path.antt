@@ -6,9 +6,9 @@ use Rattle.base.specs.If.{if◌then◌else◌}
 use Rattle.table_layout.specs.Codes.{end_kind, section_kind, fork_kind, endfork_kind}
 use Rattle.table_record.specs.Way.Stage.{staged_step_width, Held}
 use Rattle.table_record.specs.declared.stage.StagedStep.{StagedStep}
-use Rattle.lex_line.specs.Lines.{is_blank_line}
-use Rattle.lex_comment.specs.Way.Cut.{cut_at, content_at}
-use Rattle.lex_comment.specs.declared.Cut.{Cut}
+use Rattle.lex_line.specs.Lines.{is_blank_line, comment_byte}
+use Rattle.lex_line.specs.Way.LineEnds.{line_at, content_at}
+use Rattle.lex_line.specs.declared.Line as text
 use Rattle.lex_keyword.specs.Bracket.{bracket_of}
 use Rattle.lex_keyword.specs.declared.Bracket.TheVariants.{Plain}
 use Rattle.line_place.specs.Place as place
@@ -31,33 +31,33 @@ use Rattle.doc.specs.declared.Extent.{Extent}
 -- ---- the step of a line
 
 -- the line that starts at offset `at`, read in a path, where the next one starts, and the lines behind it
-abbrev pub line_here : ℕ → List ℕ → ℕ → ℕ → Line
-line_here comment t n at = record { line = n; at = at; place = place.path; content = content_at comment t at }
+abbrev pub line_here : List ℕ → ℕ → ℕ → Line
+line_here t n at = record { line = n; at = at; place = place.path; content = content_at t at }
 
-abbrev pub next_at : ℕ → List ℕ → ℕ → ℕ
-next_at comment t at = (cut_at comment t at).next
+abbrev pub next_at : List ℕ → ℕ → ℕ
+next_at t at = (line_at comment_byte t at).next
 
-abbrev pub lines_following : ℕ → List ℕ → ℕ → ℕ → List Line
-lines_following comment t n at = lines_at (cut_at comment t at).comment t (n + 1) (next_at comment t at) place.path
+abbrev pub lines_following : List ℕ → ℕ → ℕ → List Line
+lines_following t n at = lines_at t (n + 1) (next_at t at) place.path
 
-abbrev pub end_step : ℕ → List ℕ → ℕ → ℕ → Step
-end_step comment t n at =
+abbrev pub end_step : List ℕ → ℕ → ℕ → Step
+end_step t n at =
     record {
       kind = end_kind;
-      name = second_word (words_of (line_here comment t n at));
+      name = second_word (words_of (line_here t n at));
       mult = false;
       amount = 0;
-      side = side_in (lines_following comment t n at);
+      side = side_in (lines_following t n at);
       line = n;
     }
 
-abbrev pub section_step : ℕ → List ℕ → ℕ → ℕ → Step
-section_step comment t n at =
+abbrev pub section_step : List ℕ → ℕ → ℕ → Step
+section_step t n at =
     record {
       kind = section_kind;
-      name = second_word (right_words_of (line_here comment t n at));
-      mult = is_mult (content_at comment t at);
-      amount = amount_of (content_at comment t at);
+      name = second_word (right_words_of (line_here t n at));
+      mult = is_mult (content_at t at);
+      amount = amount_of (content_at t at);
       side = no_word;
       line = n;
     }
@@ -67,10 +67,10 @@ abbrev pub fork_step : ℕ → ℕ → Step
 fork_step kind n = record { kind = kind; name = no_word; mult = false; amount = 0; side = no_word; line = n }
 
 -- the step by what its line says
-unfoldable pub step_said : ℕ → List ℕ → ℕ → ℕ → ℕ → Step
-step_said comment t n at says =
-    if eqb says says_end then end_step comment t n at else
-    if eqb says says_section then section_step comment t n at else
+unfoldable pub step_said : List ℕ → ℕ → ℕ → ℕ → Step
+step_said t n at says =
+    if eqb says says_end then end_step t n at else
+    if eqb says says_section then section_step t n at else
     if eqb says says_fork then fork_step fork_kind n else fork_step endfork_kind n
 
 -- what is staged of an end or a section, by the parts of its line and its Side
@@ -90,22 +90,22 @@ named_step kind at n parts side =
 -- ---- one line
 
 -- a line that starts at offset `at`: there are no more lines than bytes
-pub record Starts (comment : ℕ) (t : List ℕ) (n at : ℕ) (ends : Cut) : Type 0 where
+pub record Starts (t : List ℕ) (n at : ℕ) (ends : text.Line) : Type 0 where
   pub there : at < length t
   pub counted : n ≤ at + 1
-  pub ends_is : ends ≡ cut_at comment t at
+  pub ends_is : ends ≡ line_at comment_byte t at
 
 -- it has been parsed, and its rest is right
-pub record Parsed (comment : ℕ) (t : List ℕ) (n at : ℕ) (ends : Cut) (parts : PathParts) : Type 0 where
-  pub starts : Starts comment t n at ends
-  pub parses : ParsesLine (content_at comment t at) parts
+pub record Parsed (t : List ℕ) (n at : ℕ) (ends : text.Line) (parts : PathParts) : Type 0 where
+  pub starts : Starts t n at ends
+  pub parses : ParsesLine (content_at t at) parts
   pub right : parts.line.right ≡ true
 
 -- it has words and no bracket at its front
-pub record Worded (comment : ℕ) (t : List ℕ) (n at : ℕ) (ends : Cut) : Type 0 where
-  pub starts : Starts comment t n at ends
-  pub filled : is_blank_line (content_at comment t at) ≡ false
-  pub plainly : bracket_of (content_at comment t at) ≡ Plain
+pub record Worded (t : List ℕ) (n at : ℕ) (ends : text.Line) : Type 0 where
+  pub starts : Starts t n at ends
+  pub filled : is_blank_line (content_at t at) ≡ false
+  pub plainly : bracket_of (content_at t at) ≡ Plain
 
 -- the number of the first rule that a line without a bracket breaks in a path, 0 for none; a blank line breaks none
 unfoldable pub rule_of_line : List ℕ → Path → ℕ → ℕ
@@ -126,34 +126,34 @@ pub record JudgesLine (content : List ℕ) (p : Path) (steps : ℕ) (r : Stepped
   pub steps_is : r.rule ≡ 0 → r.steps ≡ steps_after_line content steps
 
 -- lines are gone over, the next being line n' at offset at': their steps are staged behind those that were
-pub record StagesSteps (comment : ℕ) (t : List ℕ) (at n steps : ℕ) (stage : List ℕ) (comment' at' n' steps' : ℕ) (stage' : List ℕ) : Type 0 where
-  pub plain : Plainly place.path (lines_at comment t n at place.path) (lines_at comment' t n' at' place.path)
-  pub staged : (whole : List Step) → Held step_staged staged_step_width whole stage steps (gather step_of (lines_at comment t n at place.path)) →
-      Held step_staged staged_step_width whole stage' steps' (gather step_of (lines_at comment' t n' at' place.path))
+pub record StagesSteps (t : List ℕ) (at n steps : ℕ) (stage : List ℕ) (at' n' steps' : ℕ) (stage' : List ℕ) : Type 0 where
+  pub plain : Plainly place.path (lines_at t n at place.path) (lines_at t n' at' place.path)
+  pub staged : (whole : List Step) → Held step_staged staged_step_width whole stage steps (gather step_of (lines_at t n at place.path)) →
+      Held step_staged staged_step_width whole stage' steps' (gather step_of (lines_at t n' at' place.path))
 
 -- a line of a path is judged and staged; one with a bracket is not taken
-pub record TakesStep (comment : ℕ) (t : List ℕ) (at n : ℕ) (p : Path) (steps : ℕ) (stage : List ℕ) (r : Stepped) (stage' : List ℕ) : Type 0 where
-  pub decides : r.taken ≡ true → Decides place.path (with_path p steps) (line_result (content_at comment t at)) r.rule (with_path r.path r.steps)
-  pub judges : r.taken ≡ true → JudgesLine (content_at comment t at) p steps r
-  pub opens : r.taken ≡ false → Opens (content_at comment t at)
+pub record TakesStep (t : List ℕ) (at n : ℕ) (p : Path) (steps : ℕ) (stage : List ℕ) (r : Stepped) (stage' : List ℕ) : Type 0 where
+  pub decides : r.taken ≡ true → Decides place.path (with_path p steps) (line_result (content_at t at)) r.rule (with_path r.path r.steps)
+  pub judges : r.taken ≡ true → JudgesLine (content_at t at) p steps r
+  pub opens : r.taken ≡ false → Opens (content_at t at)
   pub stepping : Stepping r.path r.steps
   pub kept : r.taken ≡ false → stage' ≡ stage
   pub long : length stage' ≡ length stage
-  pub stages : r.taken ≡ true → r.rule ≡ 0 → StagesSteps comment t at n steps stage (cut_at comment t at).comment (next_at comment t at) (n + 1) r.steps stage'
+  pub stages : r.taken ≡ true → r.rule ≡ 0 → StagesSteps t at n steps stage (next_at t at) (n + 1) r.steps stage'
 
 -- ---- lines of a path
 
 -- lines of a path are read, from a line above which the path was p and n steps were read
-pub record Blocked (comment : ℕ) (t : List ℕ) (at line : ℕ) (p : Path) (n : ℕ) (w : PathWalk) : Type 0 where
-  pub crossed : ResumesPart comment t at line (HoldsPart place.path (with_path p n)) (with_path w.part.path w.part.steps) w.part.rule w.comment w.at w.line
-  pub stays : NoProgressMeansBracket comment t at w.at
+pub record Blocked (t : List ℕ) (at line : ℕ) (p : Path) (n : ℕ) (w : PathWalk) : Type 0 where
+  pub crossed : ResumesPart t at line (HoldsPart place.path (with_path p n)) (with_path w.part.path w.part.steps) w.part.rule w.at w.line
+  pub stays : NoProgressMeansBracket t at w.at
   pub stepping : Stepping w.part.path w.part.steps
 
 -- they are judged; if they break no rule they are without a keyword, and their steps are staged: what is staged and what is
 -- left is the whole, as it was before
-pub record GoesPath (comment : ℕ) (t : List ℕ) (at line : ℕ) (p : Path) (steps : ℕ) (stage : List ℕ) (w : PathWalk) (stage' : List ℕ) : Type 0 where
-  pub blocked : Blocked comment t at line p steps w
+pub record GoesPath (t : List ℕ) (at line : ℕ) (p : Path) (steps : ℕ) (stage : List ℕ) (w : PathWalk) (stage' : List ℕ) : Type 0 where
+  pub blocked : Blocked t at line p steps w
   pub long : length stage' ≡ length stage
-  pub plain : w.part.rule ≡ 0 → Plainly place.path (lines_at comment t line at place.path) (lines_at w.comment t w.line w.at place.path)
-  pub staged : w.part.rule ≡ 0 → (whole : List Step) → Held step_staged staged_step_width whole stage steps (gather step_of (lines_at comment t line at place.path)) →
-      Held step_staged staged_step_width whole stage' w.part.steps (gather step_of (lines_at w.comment t w.line w.at place.path))
+  pub plain : w.part.rule ≡ 0 → Plainly place.path (lines_at t line at place.path) (lines_at t w.line w.at place.path)
+  pub staged : w.part.rule ≡ 0 → (whole : List Step) → Held step_staged staged_step_width whole stage steps (gather step_of (lines_at t line at place.path)) →
+      Held step_staged staged_step_width whole stage' w.part.steps (gather step_of (lines_at t w.line w.at place.path))

@@ -11,7 +11,7 @@ read_single_requires c κs = (search rules, search rules, search alone_asked)
 
 returns : tie.Need-returns
 returns c = let pre = c.before.before.before.before.before.before.requires in
-    alone_stops _ _ _ _ _ pre.0 pre.2 pre.3 _ c.before.before.before.read_single_lem.ensures c.if1.true _ _
+    alone_stops _ _ _ _ pre.0 pre.2 pre.3 _ c.before.before.before.read_single_lem.ensures c.if1.true _ _
 
 close_section_requires : tie.Need-close-section-requires
 close_section_requires c κs = search rules
@@ -33,7 +33,7 @@ same_length c = search rules
 
 returns_2 : tie.Need-returns-2
 returns_2 c = let pre = c.before.before.before.before.before.before.before.before.before.before.before.before.requires in
-    alone_taken _ _ _ _ _ pre.0 pre.2 pre.3 _ c.before.before.before.before.before.before.before.before.before.read_single_lem.ensures
+    alone_taken _ _ _ _ pre.0 pre.2 pre.3 _ c.before.before.before.before.before.before.before.before.before.read_single_lem.ensures
     c.before.before.before.before.before.before.if1.false _ pre.4 _ _ c.before.before.before.before.close_section_lem.ensures _ refl _ c.Open_after.ensures
 
 pub read_alone_spec : {M : Type 1} → statement M

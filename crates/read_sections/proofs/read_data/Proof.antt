@@ -12,13 +12,13 @@ same_length : tie.Need-same-length
 same_length c = search rules
 
 returns : tie.Need-returns
-returns c = data_broken _ _ _ _ _ c.before.before.before.before.before.before.before.before.before.before.before.before.before.before.requires.1 c.before.before.before.before.before.before.before.before.before.before.before.before.before.before.requires.2 _ _ _ _ _ _ c.before.before.before.before.before.before.pass_data_lem.ensures c.if1.true
+returns c = data_broken _ _ _ _ c.before.before.before.before.before.before.before.before.before.before.before.before.before.before.requires.1 c.before.before.before.before.before.before.before.before.before.before.before.before.before.before.requires.2 _ _ _ _ _ _ c.before.before.before.before.before.before.pass_data_lem.ensures c.if1.true
 
 same_length_2 : tie.Need-same-length-2
 same_length_2 c = search rules
 
 returns_2 : tie.Need-returns-2
-returns_2 c = data_ends _ _ _ _ _ c.before.before.before.before.before.before.before.before.before.before.before.before.before.before.before.before.requires.1 c.before.before.before.before.before.before.before.before.before.before.before.before.before.before.before.before.requires.2 _ _ _ _ _ _ c.before.before.before.before.before.before.before.before.pass_data_lem.ensures
+returns_2 c = data_ends _ _ _ _ c.before.before.before.before.before.before.before.before.before.before.before.before.before.before.before.before.requires.1 c.before.before.before.before.before.before.before.before.before.before.before.before.before.before.before.before.requires.2 _ _ _ _ _ _ c.before.before.before.before.before.before.before.before.pass_data_lem.ensures
     c.before.before.if1.false c.if2.true
 
 close_matrix_requires : tie.Need-close-matrix-requires
@@ -30,9 +30,9 @@ read_alone_requires c κs = let pre = c.before.before.before.before.before.befor
     let kept = c.before.before.before.before.before.before.before.if1.false in
     let there = c.before.before.before.before.before.if2.false in (
       there,
-      data_onward _ _ _ _ _ pre.1 pre.2 _ _ _ passed kept,
+      data_onward _ _ _ _ pre.1 pre.2 _ _ _ passed kept,
       data_late _ pre.2,
-      λ e. data_last _ _ _ _ _ pre.1 pre.2 _ _ _ passed kept there,
+      λ e. data_last _ _ _ _ pre.1 pre.2 _ _ _ passed kept there,
       data_kind _ _ _ _ c.before.before.before.close_matrix_lem.ensures.1 pre.3,
     )
 
@@ -47,7 +47,7 @@ same_length_5 c = search rules
 
 returns_3 : tie.Need-returns-3
 returns_3 c = let pre = c.before.before.before.before.before.before.before.before.before.before.before.before.before.before.before.before.before.before.before.before.before.before.before.before.requires in
-    data_goes _ _ _ _ _ pre.1 pre.2 _ _ _ _ _ _ c.before.before.before.before.before.before.before.before.before.before.before.before.before.before.before.before.pass_data_lem.ensures
+    data_goes _ _ _ _ pre.1 pre.2 _ _ _ _ _ _ c.before.before.before.before.before.before.before.before.before.before.before.before.before.before.before.before.pass_data_lem.ensures
     c.before.before.before.before.before.before.before.before.before.before.if1.false c.before.before.before.before.before.before.before.before.if2.false pre.3 _ c.before.before.before.before.before.before.close_matrix_lem.ensures.0 _
     c.before.before.before.before.before.before.close_matrix_lem.ensures.1 _ _ c.before.before.read_alone_lem.ensures.0 c.before.before.read_alone_lem.ensures.1
 

@@ -2,7 +2,7 @@
 -- Assumes nothing.
 use Prim.Native.Nat.{◌-◌}
 use lib.ListN.{length, drop}
-use Rattle.lex_comment.specs.Comments.{contents}
+use Rattle.lex_line.specs.Lines.{contents}
 use Rattle.read_line.specs.Reading.{read_from}
 use Rattle.read_sections.proofs.WalkLaws.{Going, going_start, going_late, going_stops, going_table, going_sections, going_matrices, going_less, going_on, going_ends}
 use borrow.Author.Rules.{rules}
@@ -10,11 +10,11 @@ use Rattle.read_sections.proofs.read_sections.Statement.{statement}
 use Rattle.read_sections.proofs.read_sections.Tie as tie
 
 abbrev invariant_loop : tie.invariant-loop
-invariant_loop text table₀ sections₀ matrices₀ at₀ line₀ comment₀ s₀ block₀ table sections matrices at line comment s block =
-    Going comment₀ text at₀ line₀ (read_from line₀ (contents comment₀ (drop at₀ text)) s₀) table₀ sections₀ matrices₀ comment at line s block table sections matrices
+invariant_loop text table₀ sections₀ matrices₀ at₀ line₀ s₀ block₀ table sections matrices at line s block =
+    Going text at₀ line₀ (read_from line₀ (contents (drop at₀ text)) s₀) table₀ sections₀ matrices₀ at line s block table sections matrices
 
 abbrev decreases_loop : tie.decreases-loop
-decreases_loop text table₀ sections₀ matrices₀ at₀ line₀ comment₀ s₀ block₀ table sections matrices at line comment s block = length text - at
+decreases_loop text table₀ sections₀ matrices₀ at₀ line₀ s₀ block₀ table sections matrices at line s block = length text - at
 
 no_section_requires : tie.Need-no-section-requires invariant_loop decreases_loop
 no_section_requires c κs = search rules
@@ -37,7 +37,7 @@ same_length_3 c = search going_matrices
 returns : tie.Need-returns invariant_loop decreases_loop
 returns c = let going = c.before.before.before.before.before.before.before.before.before.before.before.before.before.loop.invariant in
     let more = c.before.before.before.before.before.before.before.before.read_on_lem.ensures in (
-      going_stops _ _ _ _ _ _ _ _ _ _ _ _ _ _ _ _ going _ _ _ _ more c.if1.true,
+      going_stops _ _ _ _ _ _ _ _ _ _ _ _ _ _ going _ _ _ _ more c.if1.true,
       (search going_table, (search going_sections, search going_matrices)),
     )
 
@@ -61,7 +61,7 @@ same_length_6 c = search rules
 
 returns_2 : tie.Need-returns-2 invariant_loop decreases_loop
 returns_2 c = let going = c.before.before.loop.invariant in (
-  going_ends _ _ _ _ _ _ _ _ _ _ _ _ _ _ _ _ going c.before.loop_test.false _ c.at_end_lem.ensures,
+  going_ends _ _ _ _ _ _ _ _ _ _ _ _ _ _ going c.before.loop_test.false _ c.at_end_lem.ensures,
   (going.table_long, (going.sections_long_lem, going.matrices_long)),
 )
 

@@ -12,7 +12,7 @@ use Rattle.table_record.specs.Records.{section_words, matrix_words}
 use Rattle.table_record.specs.Way.Stage.{put_at, Held}
 use Rattle.table_record.specs.declared.SectionRecord.{SectionRecord}
 use Rattle.table_record.specs.declared.MatrixRecord.{MatrixRecord}
-use Rattle.lex_line.specs.Words.{argument_from}
+use Rattle.read_line.specs.Reading.{argument_from}
 use Rattle.doc.specs.Lines.{Line, key_at, argument_in, gather, up_to}
 use Rattle.doc.specs.Document.{Matrix, Section, kind_of, in_matrix, values_from, bandwidth_in, conductors_in, matrix_at, in_section, method_in, section_at, conductors_of}
 use Rattle.doc.specs.Records.{index_of_kind, section_records, matrix_records, matrices_of, values_of}

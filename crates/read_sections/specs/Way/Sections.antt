@@ -3,7 +3,7 @@
 -- Assumes nothing.
 use Rattle.std.specs.Prelude.{ℕ, ◌≤◌, ◌<◌, ◌≡◌, false, List, length, drop, eqb}
 use Rattle.base.specs.If.{if◌then◌else◌}
-use Rattle.lex_comment.specs.Comments.{contents}
+use Rattle.lex_line.specs.Lines.{contents}
 use Rattle.line_place.specs.Place.{is_row_or_bandwidth}
 use Rattle.line_place.specs.Place as place
 use Rattle.line_keyword.specs.declared.State.{State}
@@ -21,14 +21,14 @@ use Rattle.read_sections.specs.declared.OpenSection.{OpenSection}
 use Rattle.read_sections.specs.declared.SectionWalk.{SectionWalk}
 
 -- the sections that are written behind the family
-abbrev pub sections_behind : ℕ → List ℕ → ℕ → ℕ → List Section
-sections_behind comment t line at = gather section_at (lines_at comment t line at place.after)
+abbrev pub sections_behind : List ℕ → ℕ → ℕ → List Section
+sections_behind t line at = gather section_at (lines_at t line at place.after)
 
 -- each part is staged whole, if it fits
-pub record SectionsStaged (comment : ℕ) (t : List ℕ) (line at : ℕ) (table section_stage matrix_stage : List ℕ) : Type 0 where
-  pub sections : Whole section_words section_width (section_records 0 (sections_behind comment t line at)) section_stage
-  pub matrices : Whole matrix_words matrix_width (matrix_records 0 (matrices_of (sections_behind comment t line at))) matrix_stage
-  pub values : Whole value_words value_width (values_of (matrices_of (sections_behind comment t line at))) table
+pub record SectionsStaged (t : List ℕ) (line at : ℕ) (table section_stage matrix_stage : List ℕ) : Type 0 where
+  pub sections : Whole section_words section_width (section_records 0 (sections_behind t line at)) section_stage
+  pub matrices : Whole matrix_words matrix_width (matrix_records 0 (matrices_of (sections_behind t line at))) matrix_stage
+  pub values : Whole value_words value_width (values_of (matrices_of (sections_behind t line at))) table
 
 -- ---- on the way
 
@@ -47,18 +47,18 @@ unfoldable pub outside_matrix : ℕ → ℕ
 outside_matrix p = if eqb p place.matrix then place.section else p
 
 -- p is the place by which it is told what is open
-abbrev pub StandsAt : List Section → ℕ → List ℕ → ℕ → ℕ → ℕ → State → OpenSection → List ℕ → List ℕ → List ℕ → Type 0
-StandsAt ss comment t at line p s o table sections matrices = Stands ss o (reached_in p s line) (lines_at comment t line at s.place) table sections matrices
+abbrev pub StandsAt : List Section → List ℕ → ℕ → ℕ → ℕ → State → OpenSection → List ℕ → List ℕ → List ℕ → Type 0
+StandsAt ss t at line p s o table sections matrices = Stands ss o (reached_in p s line) (lines_at t line at s.place) table sections matrices
 
 -- a line, or several, are read from offset `at` on
-pub record Continues (comment : ℕ) (t : List ℕ) (at line p : ℕ) (s : State) (o : OpenSection) (table sections matrices : List ℕ) (r : SectionWalk) (table' sections' matrices' : List ℕ) : Type 0 where
-  pub same : resume t (record { rule = r.rule; at = r.at; line = r.line; comment = r.comment; state = r.state }) ≡ read_from line (contents comment (drop at t)) s
+pub record Continues (t : List ℕ) (at line p : ℕ) (s : State) (o : OpenSection) (table sections matrices : List ℕ) (r : SectionWalk) (table' sections' matrices' : List ℕ) : Type 0 where
+  pub same : resume t (record { rule = r.rule; at = r.at; line = r.line; state = r.state }) ≡ read_from line (contents (drop at t)) s
   pub further : r.rule ≡ 0 → at < r.at
-  pub onward : r.rule ≡ 0 → Onward r.comment t r.at r.line r.state
+  pub onward : r.rule ≡ 0 → Onward t r.at r.line r.state
   pub late : r.rule ≡ 0 → Late r.state.place
   pub kind : r.rule ≡ 0 → r.block.kind < matrix_kinds
-  pub stands : r.rule ≡ 0 → (ss : List Section) → StandsAt ss comment t at line p s o table sections matrices →
-      StandsAt ss r.comment t r.at r.line r.state.place r.state r.block table' sections' matrices'
+  pub stands : r.rule ≡ 0 → (ss : List Section) → StandsAt ss t at line p s o table sections matrices →
+      StandsAt ss t r.at r.line r.state.place r.state r.block table' sections' matrices'
   pub table_long : length table' ≡ length table
   pub sections_long_lem : length sections' ≡ length sections
   pub matrices_long : length matrices' ≡ length matrices

@@ -4,8 +4,6 @@ use std::ops::Range;
 
 use skumvari::Refusal;
 
-use crate::comment::content_length;
-
 /// How many bytes of a line are shown, and how many of them before the mark where that stands far to the right; and
 /// behind which column nothing is shown, since a byte may take several.
 const SHOWN_MOST: usize = 120;
@@ -28,8 +26,8 @@ pub struct Excerpt {
 impl Excerpt {
     /// Nothing where no line is to blame.
     pub fn of(text: &[u8], refusal: &Refusal) -> Option<Excerpt> {
-        let (above, line) = parted(text, refusal)?;
-        Some(Excerpt::around(line, to_mark(above, line, refusal)))
+        let line = blamed(text, refusal)?;
+        Some(Excerpt::around(line, to_mark(line, refusal)))
     }
 
     /// The line, or what stands about the mark where it is long.
@@ -57,21 +55,14 @@ impl Excerpt {
 
 /// The line that a refusal blames, without its line end.
 pub fn blamed<'t>(text: &'t [u8], refusal: &Refusal) -> Option<&'t [u8]> {
-    parted(text, refusal).map(|(_, line)| line)
-}
-
-/// The lines above the one that a refusal blames, and that line without its line end.
-fn parted<'t>(text: &'t [u8], refusal: &Refusal) -> Option<(&'t [u8], &'t [u8])> {
-    let lines_above = usize::try_from(refusal.line).ok()?.checked_sub(1)?;
-    let lines = |text: &'t [u8]| text.split_inclusive(|byte| *byte == b'\n');
-    let (above, rest) = text.split_at(lines(text).take(lines_above).map(<[u8]>::len).sum());
-    let line = lines(rest).next()?;
-    let Some(line) = line.strip_suffix(b"\n") else { return Some((above, line)) };
-    Some((above, line.strip_suffix(b"\r").unwrap_or(line)))
+    let above = usize::try_from(refusal.line).ok()?.checked_sub(1)?;
+    let line = text.split_inclusive(|byte| *byte == b'\n').nth(above)?;
+    let Some(line) = line.strip_suffix(b"\n") else { return Some(line) };
+    Some(line.strip_suffix(b"\r").unwrap_or(line))
 }
 
 /// The bytes of a line that a refusal is about. Mostly that is its content, which is what stands before a comment.
-fn to_mark(above: &[u8], line: &[u8], refusal: &Refusal) -> Range<usize> {
+fn to_mark(line: &[u8], refusal: &Refusal) -> Range<usize> {
     match refusal.name {
         "BYTE" => {
             let is_bad = |byte: &u8| !matches!(byte, b' '..=b'~' | b'\t');
@@ -81,7 +72,7 @@ fn to_mark(above: &[u8], line: &[u8], refusal: &Refusal) -> Range<usize> {
         "LONG" => LINE_MOST.min(line.len())..line.len(),
         "UNENDED" => trimmed(line, line.len()),
         _ => {
-            let content = trimmed(line, content_length(above, line));
+            let content = trimmed(line, line.iter().position(|byte| *byte == b'|').unwrap_or(line.len()));
             if content.is_empty() {
                 trimmed(line, line.len())
             } else {
@@ -133,31 +124,6 @@ mod tests {
         assert_drawn(&header("  x y \t | why"), "  x y    | why", "  ^^^");
         assert_drawn(&header("[Foo]"), "[Foo]", "^^^^^");
         assert_drawn(&header("[Foo]\r"), "[Foo]", "^^^^^");
-    }
-
-    #[test]
-    fn a_comment_starts_with_the_character_in_force() {
-        let switched = |line: &str| header(&format!("[ICM Ver] 1.1\n[comment_CHAR]\t#_char|\n{line}"));
-        assert_drawn(&switched("x | y # why"), "x | y # why", "^^^^^");
-        assert_drawn(&switched("# why\n[Comment Char] |_char # back\nx # y | why"), "x # y | why", "^^^^^");
-        // above the header nothing switches, and in a text block it does
-        assert_drawn(&[b"[Comment Char] #_char\n", &header("x # y | why")[..]].concat(), "x # y | why", "^^^^^");
-        assert_drawn(&switched("[Notes]\n[Comment Char] $_char\n | x\n[Foo] $ why"), "[Foo] $ why", "^^^^^");
-    }
-
-    #[test]
-    fn on_its_own_line_it_starts_behind_the_argument() {
-        let below_version = |line: &str| header(&format!("[ICM Ver] 1.1\n{line}"));
-        assert_drawn(&below_version("[Comment Char] | why"), "[Comment Char] | why", "^^^^^^^^^^^^^^^^^^^^");
-        assert_drawn(
-            &below_version("[Comment Char] |_CHAR | why"),
-            "[Comment Char] |_CHAR | why",
-            "^^^^^^^^^^^^^^^^^^^^^",
-        );
-        assert_drawn(&below_version("[Comment Char]|_char"), "[Comment Char]|_char", "^^^^^^^^^^^^^^^^^^^^");
-        assert_drawn(&below_version("[Comment Char] #_char # why"), "[Comment Char] #_char # why", &"^".repeat(27));
-        assert_drawn(&header("[Comment Char] #_char | why"), "[Comment Char] #_char | why", "^^^^^^^^^^^^^^^^^^^^^");
-        assert_drawn(&below_version("[Comment Char]"), "[Comment Char]", "^^^^^^^^^^^^^^");
     }
 
     #[test]

@@ -4,7 +4,6 @@
 
 mod answers;
 mod arguments;
-mod comment;
 mod desk;
 mod excerpt;
 mod help;

@@ -1,5 +1,5 @@
 //! Keywords in brackets: how one is written, and which of them are known.
-//! Case does not count and an underscore is as good as a space. `[Comment Char]` stands apart, in `comment_char.rs`.
+//! Case does not count and an underscore is as good as a space.
 
 use crate::refusal::{KEYWORD, LATER, PLACE, UNKNOWN};
 use crate::words::{is_blank, Piece};
@@ -50,32 +50,15 @@ pub(crate) fn read(line: Piece<'_>) -> Result<(Keyword, Piece<'_>), u64> {
     let close = line.bytes.iter().position(|&byte| byte == b']').ok_or(KEYWORD)?;
     let argument = line.skip(close + 1);
     let inside = &line.bytes[1..close];
-    if !is_well_formed(inside) {
+    if !is_well_formed(inside) || argument.bytes.first().is_some_and(|&byte| !is_blank(byte)) {
         return Err(KEYWORD);
     }
-    check_behind(argument)?;
     let mut buffer = [0; BUFFER_SIZE];
     let folded = buffer.get_mut(..inside.len()).ok_or(UNKNOWN)?;
     for (to, from) in folded.iter_mut().zip(inside) {
-        *to = fold(*from);
+        *to = if *from == b'_' { b' ' } else { from.to_ascii_lowercase() };
     }
     Ok((find(folded)?, argument))
-}
-
-/// Behind a bracket stands a blank or nothing.
-pub(crate) fn check_behind(argument: Piece) -> Result<(), u64> {
-    match argument.bytes.first() {
-        Some(&byte) if !is_blank(byte) => Err(KEYWORD),
-        _ => Ok(()),
-    }
-}
-
-/// A byte of a keyword as it is compared.
-pub(crate) fn fold(byte: u8) -> u8 {
-    match byte {
-        b'_' => b' ',
-        _ => byte.to_ascii_lowercase(),
-    }
 }
 
 /// Words of letters and digits parted by one separator each, a letter first; one word may have a hyphen.
@@ -123,7 +106,8 @@ fn find(folded: &[u8]) -> Result<Keyword, u64> {
         b"bandwidth" => Keyword::Bandwidth,
         b"end icm section" => Keyword::EndSection,
         b"end" => Keyword::End,
-        b"nodal path description"
+        b"comment char"
+        | b"nodal path description"
         | b"icm node map"
         | b"icm swath parameters"
         | b"icm swath pin numbers"

@@ -5,7 +5,6 @@
 #![forbid(unsafe_code)]
 #![warn(missing_docs)]
 
-mod comment_char;
 mod document;
 mod double;
 mod family;

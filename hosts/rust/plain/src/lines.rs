@@ -1,14 +1,11 @@
 //! The lines of the text: each is checked for its bytes, its length and its terminator as it is found.
-//! A line is handed on without its terminator and its comment. Which character starts comments is known here alone.
+//! A line is handed on without its terminator and its comment.
 
 use crate::refusal::{Refusal, BYTE, LONG, UNENDED};
 use crate::words::Piece;
 
 /// The longest line, in bytes without the terminator.
 const LINE_BOUND: usize = 120;
-
-/// What starts comments until a `[Comment Char]` line names another character.
-const FIRST_COMMENT: u8 = b'|';
 
 /// A line of the text, counted from 1.
 #[derive(Debug, Clone, Copy)]
@@ -23,23 +20,11 @@ pub(crate) struct Lines<'a> {
     position: usize,
     number: u64,
     broken: Option<Refusal>,
-    /// The character in force on the next line: comments start with it.
-    comment: u8,
 }
 
 impl<'a> Lines<'a> {
     pub fn over(text: &'a [u8]) -> Lines<'a> {
-        Lines { text, position: 0, number: 0, broken: None, comment: FIRST_COMMENT }
-    }
-
-    /// The character in force. Until it is changed it is that of the line handed on last, too.
-    pub fn comment(&self) -> u8 {
-        self.comment
-    }
-
-    /// Changes the character in force, from the next line on.
-    pub fn set_comment(&mut self, comment: u8) {
-        self.comment = comment;
+        Lines { text, position: 0, number: 0, broken: None }
     }
 
     /// The next line, or nothing at the end of the text and after a broken line.
@@ -49,10 +34,9 @@ impl<'a> Lines<'a> {
         }
         self.number += 1;
         let rest = &self.text[self.position..];
-        let comment = self.comment;
-        let content = content_length(rest, comment);
-        let length = match rest.get(content) {
-            Some(&byte) if byte == comment => content + run_length(&rest[content..], is_allowed),
+        let content = run_length(rest, |byte| is_allowed(byte) & (byte != b'|'));
+        let length = match &rest[content..] {
+            comment @ [b'|', ..] => content + run_length(comment, is_allowed),
             _ => content,
         };
         let terminator = match &rest[length..] {
@@ -69,12 +53,6 @@ impl<'a> Lines<'a> {
         Some(Line { number: self.number, content })
     }
 
-    /// The line handed on last, which has this content, with its comment.
-    pub fn whole(&self, content: Piece<'a>) -> Piece<'a> {
-        let line = Piece { start: content.start, bytes: &self.text[content.start..self.position] };
-        line.split_before(|byte| matches!(byte, b'\r' | b'\n')).0
-    }
-
     /// Looks through all lines not walked yet. A broken line goes before whatever was found in the lines above it.
     pub fn check_rest(&mut self) -> Result<(), Refusal> {
         while self.next().is_some() {}
@@ -84,15 +62,6 @@ impl<'a> Lines<'a> {
     fn break_with(&mut self, number: u64) -> Option<Line<'a>> {
         self.broken = Some(Refusal { number, line: self.number });
         None
-    }
-}
-
-/// How many bytes from the front stand before a comment and the terminator.
-fn content_length(bytes: &[u8], comment: u8) -> usize {
-    match comment {
-        // Most files keep this one, and a constant need not be spread over a chunk anew for every line.
-        FIRST_COMMENT => run_length(bytes, |byte| is_allowed(byte) & (byte != FIRST_COMMENT)),
-        _ => run_length(bytes, |byte| is_allowed(byte) & (byte != comment)),
     }
 }
 

@@ -1,7 +1,6 @@
 //! Reads the lines from the top, hands each to the block it stands in, and gathers the document.
 //! The first line that breaks a rule ends the reading.
 
-use crate::comment_char;
 use crate::document::Document;
 use crate::keyword::{self, Keyword, Seen};
 use crate::lines::{Line, Lines};
@@ -64,7 +63,7 @@ impl<'a> Reader<'a> {
     fn read(&mut self, lines: &mut Lines<'a>) -> Result<(), Refusal> {
         find_header(lines)?;
         while let Some(line) = lines.next() {
-            self.line(line, lines).map_err(|number| Refusal { number, line: line.number })?;
+            self.line(line).map_err(|number| Refusal { number, line: line.number })?;
             if self.block == Block::Finished {
                 return Ok(());
             }
@@ -72,11 +71,11 @@ impl<'a> Reader<'a> {
         Err(Refusal { number: END, line: 0 })
     }
 
-    fn line(&mut self, line: Line<'a>, lines: &mut Lines<'a>) -> Result<(), u64> {
+    fn line(&mut self, line: Line<'a>) -> Result<(), u64> {
         let content = line.content.trim_start();
         match content.bytes.first() {
             None => Ok(()),
-            Some(b'[') if content.start == line.content.start => self.keyword(content, line.number, lines),
+            Some(b'[') if content.start == line.content.start => self.keyword(content, line.number),
             Some(b'[') if !matches!(self.taker, Taker::Text) => Err(KEYWORD),
             Some(_) => self.take(content, line.number),
         }
@@ -96,10 +95,7 @@ impl<'a> Reader<'a> {
         }
     }
 
-    fn keyword(&mut self, content: Piece<'a>, line: u64, lines: &mut Lines<'a>) -> Result<(), u64> {
-        if comment_char::opens(content) {
-            return self.comment_char(content, lines);
-        }
+    fn keyword(&mut self, content: Piece<'a>, line: u64) -> Result<(), u64> {
         let (keyword, argument) = keyword::read(content)?;
         match self.block {
             Block::Header => self.header_keyword(keyword, argument),

@@ -1,6 +1,5 @@
 //! The paper's example with lines changed, and the answer that each change brings.
-//! How many pins a map may have is tried in `maps.rs`, which models may have an SGR in `sgr.rs`, what starts a comment in
-//! `comments.rs`.
+//! How many pins a map may have is tried in `maps.rs`, which models may have an SGR in `sgr.rs`.
 
 mod edit;
 mod example;
@@ -49,7 +48,7 @@ const READINGS: &[(&str, &str)] = &[
     ("{5+=[ICM S_parameter]}", "7 6"),
     ("{5+=[icm_s-PARAMETER]}", "8 6"),
     ("{11+=[Begin ICM Model Description]}", "7 12"),
-    ("{1+=[ICM Swath Parameters]}", "8 2"),
+    ("{1+=[Comment Char] |_char}", "8 2"),
     ("{11+=SGR=3:1}", "12 12"),
     ("{13=Model_pinmap=P}", "12 13"),
     ("{15=Fork=}", "12 15"),

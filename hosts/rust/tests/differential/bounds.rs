@@ -37,7 +37,6 @@ pub fn files() -> Vec<(String, Vec<u8>)> {
             let _ = writeln!(longest, "{}", "x".repeat(length - 1));
         }
         add("1048576 bytes", longest);
-        add("1048576 bytes of [Comment Char]", switches(TEXT_MOST + more));
     }
     files
 }
@@ -75,15 +74,6 @@ fn file(counts: &Counts) -> String {
     }
     text.push_str("[End]\n");
     text
-}
-
-/// A file of this length, filled with lines that change the comment character and use the old one.
-fn switches(length: usize) -> String {
-    let least = file(&LEAST);
-    let pair = "[Comment Char] #_char|\n[Comment Char] |_char#\n";
-    let room = length - least.len();
-    let lines = pair.repeat(room / pair.len()) + &"\n".repeat(room % pair.len());
-    least.replacen("[End Header]\n", &format!("[End Header]\n{lines}"), 1)
 }
 
 /// Banded matrices while the numbers are enough, since many of theirs go on a line, and a sparse one of those that are left, or of one.

@@ -1,12 +1,11 @@
 // damage.rs: breaks a file in one of the ways that people and programs do, mostly so that one rule or two are broken.
 // What is drawn leans towards lines and words that mean something at another place.
 use crate::random::Random;
-use crate::switch_damage::{add_comment, add_switch, change_switch};
 
 /// The lines of a text, each with its end.
-pub type Lines = Vec<Vec<u8>>;
+type Lines = Vec<Vec<u8>>;
 
-/// A damaged copy of a text, by one of the ways, of which there are eleven. Sometimes it is damaged further by any of them.
+/// A damaged copy of a text, by one of the ways, of which there are eight. Sometimes it is damaged further by any of them.
 pub fn damaged(text: &[u8], way: u64, random: &mut Random) -> Vec<u8> {
     let mut text = damaged_once(text.to_vec(), way, random);
     while random.percent(20) {
@@ -17,7 +16,7 @@ pub fn damaged(text: &[u8], way: u64, random: &mut Random) -> Vec<u8> {
 }
 
 fn damaged_once(text: Vec<u8>, way: u64, random: &mut Random) -> Vec<u8> {
-    let change = match way % 11 {
+    let change = match way % 8 {
         0 if random.percent(40) => return cut(text, random),
         0 => return change_byte(text, random),
         1 | 2 => change_line,
@@ -25,10 +24,7 @@ fn damaged_once(text: Vec<u8>, way: u64, random: &mut Random) -> Vec<u8> {
         4 => change_number,
         5 | 6 if random.percent(20) => add_ratio,
         5 | 6 => change_saying,
-        7 => change_name,
-        8 => add_switch,
-        9 => change_switch,
-        _ => add_comment,
+        _ => change_name,
     };
     let mut lines: Lines = text.split_inclusive(|byte| *byte == b'\n').map(<[u8]>::to_vec).collect();
     if !lines.is_empty() {
@@ -55,7 +51,7 @@ fn change_byte(mut text: Vec<u8>, random: &mut Random) -> Vec<u8> {
         text[place] = match random.below(4) {
             0 => random.word() as u8,
             1 => *random.pick(&[0, 0x0a, 0x0d, 0x1f, 0x7f, 0x80, 0xff]),
-            _ => *random.pick(b" \t|#=[]_-.:0123456789eEkn"),
+            _ => *random.pick(b" \t|=[]_-.:0123456789eEkn"),
         };
     }
     text
@@ -94,14 +90,9 @@ fn stock_line(random: &mut Random) -> Vec<u8> {
 
 /// A comment takes the line to about its greatest length.
 fn lengthen(line: &mut Vec<u8>, random: &mut Random) {
-    let end = end_of(line);
+    let end = line.iter().position(|byte| matches!(byte, b'\r' | b'\n')).unwrap_or(line.len());
     let wanted = random.between(119, 122);
     line.splice(end..end, std::iter::once(b'|').chain(std::iter::repeat_n(b'c', wanted.saturating_sub(end + 1))));
-}
-
-/// How many bytes of a line stand before its end.
-pub fn end_of(line: &[u8]) -> usize {
-    line.iter().position(|byte| matches!(byte, b'\r' | b'\n')).unwrap_or(line.len())
 }
 
 /// The places of a line's words.

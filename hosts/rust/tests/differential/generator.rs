@@ -41,27 +41,24 @@ struct Model {
 
 /// A valid file.
 pub fn file(random: &mut Random) -> Vec<u8> {
-    // Many files keep the comment character of the beginning.
-    let switches = *random.pick(&[0, 0, 2, 10, 30]);
-    let plan = plan(random, switches > 0);
-    let mut writer = Writer::new(random, switches);
+    let plan = plan(random);
+    let mut writer = Writer::new(random);
     write_header(&mut writer);
     write_family(&mut writer, &plan);
     write_sections(&mut writer, &plan);
     writer.keyword("End", "");
-    writer.may_switch = false;
     if writer.random.percent(20) {
-        for line in ["after the end", "[Begin Header] x", " [", "[Frequency]", "[Comment Char] x", "[Comment Char]x"] {
+        for line in ["after the end", "[Begin Header] x", " [", "[Frequency]"] {
             writer.bare(line);
         }
     }
     writer.finish()
 }
 
-fn plan(random: &mut Random, switches: bool) -> Plan {
+fn plan(random: &mut Random) -> Plan {
     let group_count = *random.pick(&[1, 1, 2, 3]);
     // Models, maps and sections have the same names, which are spaces apart.
-    let mut model_names = names(random, switches);
+    let mut model_names = names(random);
     let mut others = (model_names.clone(), model_names.clone());
     let mut models = Vec::new();
     for group in 0..group_count {
@@ -95,11 +92,9 @@ fn group(
     Group { conductors, diagonal, maps, sections }
 }
 
-/// Names that are all different and hold every byte that a name may have, in files that change the comment character
-/// also the one of the beginning. Some are long, some differ in their last byte only.
-fn names(random: &mut Random, switches: bool) -> impl FnMut() -> String + Clone {
-    let fronts = ["S", "N", "gnd", "Row", "a=b:", "x]y[", "\"~!", "Section", "A|", "|#", "(p),|", "|_char"];
-    let front = fronts[random.below(if switches { fronts.len() } else { 8 })];
+/// Names that are all different and hold every byte that a name may have. Some are long, some differ in their last byte only.
+fn names(random: &mut Random) -> impl FnMut() -> String + Clone {
+    let front = *random.pick(&["S", "N", "gnd", "Row", "a=b:", "x]y[", "\"~!", "Section"]);
     let filling = "_".repeat(*random.pick(&[0, 0, 0, 1, 7, 60]));
     let mut count = 0;
     move || {
@@ -110,22 +105,12 @@ fn names(random: &mut Random, switches: bool) -> impl FnMut() -> String + Clone 
 
 fn write_header(writer: &mut Writer) {
     if writer.random.percent(20) {
-        let lines = [
-            "above the header",
-            "[bad",
-            " [Begin Header]",
-            "[Begin Header]x",
-            "[End]",
-            "[Comment Char] #_char",
-            "[Comment Char]x",
-        ];
-        for line in lines {
+        for line in ["above the header", "[bad", " [Begin Header]", "[Begin Header]x", "[End]"] {
             writer.bare(line);
         }
     }
     writer.keyword("Begin Header", "");
     writer.keyword("ICM Ver", "1.1");
-    writer.may_switch = true;
     let mut keywords = vec!["File Name", "File Rev"];
     let optional =
         ["Date", "Redistribution", "Source", "Notes", "Disclaimer", "Copyright", "Support", "Redistribution Text"];
@@ -151,13 +136,9 @@ fn write_text_block(writer: &mut Writer, keyword: &str) {
     let argument = *writer.random.pick(&["", "a text", "[x] ="]);
     writer.keyword(keyword, argument);
     for _ in 0..writer.random.below(4) {
-        match writer.random.below(6) {
+        match writer.random.below(3) {
             0 => writer.bare(" [x"),
             1 => writer.words(&["SGR", "x"]),
-            // Whether or not a comment starts in them, these are lines of the block, and the last one names no character.
-            2 => writer.bare("| x"),
-            3 => writer.bare("# x"),
-            4 => writer.bare(" [Comment Char] #_char"),
             _ => writer.words(&["Section", "Mult=0", "=", "]"]),
         }
     }
@@ -172,10 +153,7 @@ fn write_family(writer: &mut Writer, plan: &Plan) {
     writer.random.shuffle(&mut parts);
     for part in parts {
         match part {
-            "Manufacturer" => {
-                let name = writer.one_of("NA", &["O | P", "|"]);
-                writer.keyword(part, name);
-            }
+            "Manufacturer" => writer.keyword(part, "NA"),
             _ => write_text_block(writer, part),
         }
     }
@@ -221,16 +199,12 @@ fn write_map(writer: &mut Writer, map: &Map, pins: usize) {
         }
     }
     writer.words(&["Pin_list"]);
-    let odd = ["GND", "NC", "Pin_list", "Pin_order", "=", "]", "Num_of_rows=0", "#"];
+    let odd = ["GND", "NC", "Pin_list", "Pin_order", "=", "]", "Num_of_rows=0"];
     let first_odd = if writer.random.percent(25) { writer.random.between(0, odd.len()) } else { odd.len() };
     for pin in 0..pins {
-        let front = writer.one_of("A", &["A|", "|", "A#", "(", "'\\"]);
-        let name = odd.get(first_odd + pin).map_or_else(|| format!("{front}{pin}"), |name| name.to_string());
+        let name = odd.get(first_odd + pin).map_or_else(|| format!("A{pin}"), |name| name.to_string());
         match writer.random.below(5) {
-            0 => {
-                let signal = writer.one_of("SIGNAL", &["S|1"]);
-                writer.words(&[&name, signal]);
-            }
+            0 => writer.words(&[&name, "SIGNAL"]),
             _ => writer.words(&[&name]),
         }
     }
@@ -317,8 +291,7 @@ impl PathWriter<'_> {
         let sided = needs_side || writer.random.percent(40);
         writer.words(&["Model_pinmap", &self.maps[map].name]);
         if sided {
-            let front = writer.one_of("side", &["side|"]);
-            writer.words(&["Side", &format!("{front}{earlier}")]);
+            writer.words(&["Side", &format!("side{earlier}")]);
         }
         self.ends.push((map, sided));
     }

@@ -1,8 +1,6 @@
-// writer.rs: writes the lines of a generated file in all the ways that the paper allows: blanks, comments and the
-// characters that start them, ends of lines, cases, numbers. What it writes means the same whichever way is drawn, so
-// what stands above it may think of lines and words alone.
+// writer.rs: writes the lines of a generated file in all the ways that the paper allows: blanks, comments, ends of lines, cases, numbers.
+// What it writes means the same whichever way is drawn, so what stands above it may think of lines and words alone.
 use crate::random::Random;
-use crate::switches::ALLOWED;
 
 /// The most characters of a line.
 const LINE_MOST: usize = 120;
@@ -14,19 +12,13 @@ pub struct Writer<'r> {
     noise: usize,
     /// How often in a hundred times a line ends in CR LF.
     carriage_returns: usize,
-    /// How often in a hundred times a line has a [Comment Char] line above it.
-    switches: usize,
-    /// [Comment Char] may stand here: between [ICM Ver] and [End].
-    pub may_switch: bool,
-    /// The character that starts comments on the next line.
-    comment: char,
 }
 
 impl<'r> Writer<'r> {
-    pub fn new(random: &'r mut Random, switches: usize) -> Writer<'r> {
+    pub fn new(random: &'r mut Random) -> Writer<'r> {
         let noise = *random.pick(&[0, 5, 15, 50]);
         let carriage_returns = *random.pick(&[0, 0, 50, 100]);
-        Writer { random, text: Vec::new(), noise, carriage_returns, switches, may_switch: false, comment: '|' }
+        Writer { random, text: Vec::new(), noise, carriage_returns }
     }
 
     pub fn finish(self) -> Vec<u8> {
@@ -40,31 +32,12 @@ impl<'r> Writer<'r> {
         self.text.extend_from_slice(end);
     }
 
-    /// A line, perhaps with a comment behind it, and with empty lines and [Comment Char] lines above it: one at least
-    /// where the line holds the character in force.
+    /// A line, perhaps with a comment behind it and empty lines above it. Decoration that would make it too long is left out.
     fn decorated(&mut self, line: &str) {
-        self.empty_lines();
-        while self.may_switch && (line.contains(self.comment) || self.random.percent(self.switches)) {
-            self.switch(line);
-            self.empty_lines();
+        while self.random.percent(self.noise / 2) {
+            let empty = self.empty_line();
+            self.bare(&empty);
         }
-        self.commented(line);
-    }
-
-    /// A [Comment Char] line with a character that the line below does not hold, often the one of the beginning. The
-    /// comment behind it is still written with the old one.
-    fn switch(&mut self, below: &str) {
-        let free: Vec<char> = ALLOWED.chars().filter(|character| !below.contains(*character)).collect();
-        let goes_back = free.contains(&'|') && self.random.percent(25);
-        let next = if goes_back { '|' } else { *self.random.pick(&free) };
-        let bracket = self.bracket("Comment Char");
-        let gap = self.gap();
-        self.commented(&format!("{bracket}{gap}{next}_char"));
-        self.comment = next;
-    }
-
-    /// Decoration that would make the line too long is left out.
-    fn commented(&mut self, line: &str) {
         let mut whole = line.to_string();
         if self.random.percent(self.noise) {
             whole.push_str(self.blanks());
@@ -75,36 +48,18 @@ impl<'r> Writer<'r> {
         self.bare(if whole.len() > LINE_MOST { line } else { &whole });
     }
 
-    fn empty_lines(&mut self) {
-        while self.random.percent(self.noise / 2) {
-            let empty = self.empty_line();
-            self.bare(&empty);
-        }
-    }
-
     fn empty_line(&mut self) -> String {
-        let comments =
-            ["", "", " ", "\t ", "C", "C [End]", " \tC Section Mult=1 x", "CC = [ ]", "C| x", "C[Comment Char] |_char"];
-        self.random.pick(&comments).replacen('C', &self.comment.to_string(), 1)
+        let comments = ["", "", " ", "\t ", "|", "| [End]", " \t| Section Mult=1 x", "|| = [ ]"];
+        self.random.pick(&comments).to_string()
     }
 
     /// Sometimes one that fills the line to its very end.
     fn comment(&mut self, used: usize) -> String {
-        let comment = self.comment;
         match self.random.below(4) {
-            0 => format!("{comment}{}", "c".repeat((LINE_MOST - 1).saturating_sub(used))),
-            1 => comment.to_string(),
-            2 => format!("{comment} [Row] 1"),
-            _ => format!(" {comment}{ALLOWED}"),
-        }
-    }
-
-    /// The usual of some words, or at times one of the others where the file changes the comment character.
-    pub fn one_of(&mut self, usual: &'static str, others: &[&'static str]) -> &'static str {
-        if self.switches > 0 && self.random.percent(25) {
-            *self.random.pick(others)
-        } else {
-            usual
+            0 => format!("|{}", "c".repeat((LINE_MOST - 1).saturating_sub(used))),
+            1 => "|".to_string(),
+            2 => "| [Row] 1".to_string(),
+            _ => " |#%&*~".to_string(),
         }
     }
 
@@ -138,14 +93,9 @@ impl<'r> Writer<'r> {
 
     /// A keyword in some spelling, and its argument if there is one.
     pub fn keyword(&mut self, keyword: &str, argument: &str) {
-        let bracket = self.bracket(keyword);
-        let gap = if argument.is_empty() { "" } else { self.gap() };
-        self.decorated(&format!("{bracket}{gap}{argument}"));
-    }
-
-    fn bracket(&mut self, keyword: &str) -> String {
         let spelled: String = keyword.chars().map(|letter| self.spelled(letter)).collect();
-        format!("[{spelled}]")
+        let gap = if argument.is_empty() { "" } else { self.gap() };
+        self.decorated(&format!("[{spelled}]{gap}{argument}"));
     }
 
     fn spelled(&mut self, letter: char) -> char {

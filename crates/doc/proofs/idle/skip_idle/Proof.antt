@@ -1,21 +1,20 @@
 -- `doc::idle::skip_idle` meets its contract. The loop's invariant: the lines from the start to here are skipped.
 -- Assumes nothing.
-use borrow.Author.Rules.{rules}
 use Prim.Native.Nat.{◌+◌, ◌-◌, ◌≤◌}
 use lib.ListN.{length}
 use Rattle.read_line.proofs.WalkLaws.{content_start, content_within}
 use Rattle.read_line.proofs.CrossLaws.{crossed_less}
 use Rattle.doc.specs.Way.Idle.{SkipsIdle}
 use Rattle.doc.proofs.IdleLaws.{idle_starts, idle_on}
+use borrow.Author.Rules.{rules}
 use Rattle.doc.proofs.idle.skip_idle.Statement.{statement}
 use Rattle.doc.proofs.idle.skip_idle.Tie as tie
 
 abbrev invariant_loop : tie.invariant-loop
-invariant_loop text at line comment place here₀ line_here₀ comment_here₀ here line_here_lem comment_here =
-    (line ≤ at + 1) × SkipsIdle comment text at line place (record { at = here; line = line_here_lem; comment = comment_here })
+invariant_loop text at line place here₀ line_here₀ here line_here_lem = (line ≤ at + 1) × SkipsIdle text at line place (record { at = here; line = line_here_lem })
 
 abbrev decreases_loop : tie.decreases-loop
-decreases_loop text at line comment place here₀ line_here₀ comment_here₀ here line_here_lem comment_here = length text - here
+decreases_loop text at line place here₀ line_here₀ here line_here_lem = length text - here
 
 loop_holds : tie.Need-loop-init invariant_loop decreases_loop
 loop_holds c = (search rules, search idle_starts)
@@ -26,8 +25,8 @@ may_be_idle_requires c κs = search rules
 returns : tie.Need-returns invariant_loop decreases_loop
 returns c = search rules
 
-cut_at_requires : tie.Need-cut-at-requires invariant_loop decreases_loop
-cut_at_requires c κs = search rules
+line_at_requires : tie.Need-line-at-requires invariant_loop decreases_loop
+line_at_requires c κs = search rules
 
 sub_is_idle : tie.Need-overflow-sub-is-idle invariant_loop decreases_loop
 sub_is_idle c = search content_start
@@ -65,7 +64,7 @@ skip_idle_spec =
     loop_holds
     may_be_idle_requires
     returns
-    cut_at_requires
+    line_at_requires
     sub_is_idle
     part_is_idle_start
     part_is_idle_end

@@ -12,17 +12,17 @@ use Rattle.read_family.proofs.pins.pass_pins.Statement.{statement}
 use Rattle.read_family.proofs.pins.pass_pins.Tie as tie
 
 abbrev invariant_loop : tie.invariant-loop
-invariant_loop text at line comment pins stage₀ here₀ line_here₀ comment_here₀ part₀ stage here line_here_lem comment_here part =
-    (line ≤ at + 1) × Gone comment text at line part₀.map part₀.pins stage₀ here line_here_lem comment_here part stage
+invariant_loop text at line pins stage₀ here₀ line_here₀ part₀ stage here line_here_lem part =
+    (line ≤ at + 1) × Gone text at line part₀.map part₀.pins stage₀ here line_here_lem part stage
 
 abbrev decreases_loop : tie.decreases-loop
-decreases_loop text at line comment pins stage₀ here₀ line_here₀ comment_here₀ part₀ stage here line_here_lem comment_here part = length text - here
+decreases_loop text at line pins stage₀ here₀ line_here₀ part₀ stage here line_here_lem part = length text - here
 
 loop_holds : tie.Need-loop-init invariant_loop decreases_loop
 loop_holds c = (search rules, search gone_start)
 
-cut_at_requires : tie.Need-cut-at-requires invariant_loop decreases_loop
-cut_at_requires c κs = search rules
+line_at_requires : tie.Need-line-at-requires invariant_loop decreases_loop
+line_at_requires c κs = search rules
 
 sub_take_pin : tie.Need-overflow-sub-take-pin invariant_loop decreases_loop
 sub_take_pin c = search content_start
@@ -40,9 +40,7 @@ same_length : tie.Need-same-length invariant_loop decreases_loop
 same_length c = search rules
 
 returns : tie.Need-returns invariant_loop decreases_loop
-returns c =
-    gone_leaves _ _ _ _ _ _ _ _ _ _ _ _ c.before.before.before.before.before.before.before.before.before.loop.invariant.1 c.before.before.before.before.before.before.before.before.loop_test.true _
-    c.before.before.before.before.before.before.before.cut_at.ensures _ _ c.before.before.before.before.take_pin_lem.ensures c.if1.true
+returns c = search gone_leaves
 
 same_length_2 : tie.Need-same-length-2 invariant_loop decreases_loop
 same_length_2 c = search rules
@@ -72,7 +70,7 @@ pass_pins_spec =
     invariant_loop
     decreases_loop
     loop_holds
-    cut_at_requires
+    line_at_requires
     sub_take_pin
     part_take_pin_start
     part_take_pin_end

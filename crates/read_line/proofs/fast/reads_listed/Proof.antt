@@ -34,9 +34,6 @@ enum_told_5 c = search rules
 enum_told_6 : tie.Need-enum-told-6
 enum_told_6 c = search rules
 
-enum_told_7 : tie.Need-enum-told-7
-enum_told_7 c = search rules
-
 returns : tie.Need-returns
 returns c = λ e. listed_free _ _ _ _ c.before.before.before.before.read_bracket_lem.ensures c.before.before.enum_told.given.1 c.before.first_word.ensures c.is_reserved_lem.ensures e
 
@@ -55,9 +52,6 @@ returns_5 c = λ e. absurd (true≢false (sym e))
 returns_6 : tie.Need-returns-6
 returns_6 c = λ e. absurd (true≢false (sym e))
 
-returns_7 : tie.Need-returns-7
-returns_7 c = λ e. absurd (true≢false (sym e))
-
 pub reads_listed_spec : {M : Type 1} → statement M
 reads_listed_spec =
     tie.close
@@ -71,11 +65,9 @@ reads_listed_spec =
     enum_told_4
     enum_told_5
     enum_told_6
-    enum_told_7
     returns
     returns_2
     returns_3
     returns_4
     returns_5
-    returns_6
-    returns_7)
+    returns_6)

@@ -1,9 +1,9 @@
--- `lex_line::argument_of` meets its contract: from its start to the end of the last word.
+-- `read_line::argument_of` meets its contract: from its start to the end of the last word.
 -- Assumes nothing.
-use Rattle.lex_line.proofs.WordLaws.{argument_within, argument_none, argument_there}
+use Rattle.read_line.proofs.StepLaws.{argument_within, argument_none, argument_there}
 use borrow.Author.Rules.{rules}
-use Rattle.lex_line.proofs.argument_of.Statement.{statement}
-use Rattle.lex_line.proofs.argument_of.Tie as tie
+use Rattle.read_line.proofs.argument_of.Statement.{statement}
+use Rattle.read_line.proofs.argument_of.Tie as tie
 
 last_word_requires : tie.Need-last-word-requires
 last_word_requires c κs = search rules

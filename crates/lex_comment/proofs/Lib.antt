@@ -1,5 +1,0 @@
-pub mod AllowedLaws
-pub mod CutLaws
-mod TurnLaws
-pub mod PlainLaws
-mod Readings

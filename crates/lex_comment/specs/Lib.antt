@@ -1,2 +1,0 @@
-pub mod Comments
-pub mod Way
