@@ -1,6 +1,8 @@
 // Document 01: the question "entry", one entry of a section's matrix as a value word. "Entries not written, and kinds
 // not given, are zero; entry (j,i) is entry (i,j)." `whole_matrix` gives all entries of a matrix at once. A caller that
 // knows the table to be sound asks by `entry_unjudged` and `whole_matrix_unjudged`, which do not judge it again.
+#![tactic(auto)]
+
 ghost use Rattle.std.specs.Prelude.{◌≡◌, true, ◌+◌, ◌*◌, ◌≤◌, ◌<◌, length};
 ghost use Rattle.std.proofs.lemmas.List.Edits.{sets};
 ghost use Rattle.table_layout.specs.Layout.{matrices, value_width};
@@ -21,7 +23,7 @@ use table_record::{SectionRecord, Value};
 const ZERO: u64 = 128;
 
 // The value word, or the rule of a refusal.
-#[derive(Drop)]
+#[derive(Clone, Copy)]
 pub enum Answer {
     Found(u64),
     Refused(u64),
@@ -177,7 +179,7 @@ pub fn entry_unjudged(
 // ---- a whole matrix, row by row, into lent room for N times N words; the table is judged once
 
 // Found, with N; or N, if the room is too short; or the rule of a refusal.
-#[derive(Drop)]
+#[derive(Clone, Copy)]
 pub enum WholeAnswer {
     Found(u64),
     Short(u64),

@@ -1,4 +1,6 @@
 // Rule 30: whether a table is sound for a text, so that questions about it have answers.
+#![tactic(auto)]
+
 ghost use Rattle.std.specs.Prelude.{◌≡◌, true, ◌+◌, ◌-◌, ◌*◌, ◌≤◌, ◌<◌, length, drop, get_or};
 ghost use Rattle.table_layout.specs.Layout.{widths, maps, pins, matrices, part_count, step_width, value_width};
 ghost use Rattle.table_layout.specs.Bounds.{deepest, most_conductors, most_values};

@@ -1,4 +1,6 @@
 // The question "walk": one step from a place in a model's path. It answers with the step's words and the next place.
+#![tactic(auto)]
+
 ghost use Rattle.std.specs.Prelude.{◌≡◌, true, ◌+◌, ◌*◌, ◌^◌, ◌≤◌, ◌<◌, length, eqb};
 ghost use Rattle.base.specs.If.{if◌then◌else◌};
 ghost use Rattle.table_layout.specs.Layout.{step_width};
@@ -13,7 +15,7 @@ use table_layout::View;
 use table_record::StepRecord;
 
 // "A walk place is model, step, depth".
-#[derive(Drop)]
+#[derive(Clone, Copy)]
 pub struct Place {
     pub model: u64,
     pub step: u64,
@@ -21,7 +23,7 @@ pub struct Place {
 }
 
 // A step and the next place; or done, and the same place; or refused by a rule.
-#[derive(Drop)]
+#[derive(Clone, Copy)]
 pub enum Walked {
     Step(StepRecord, Place),
     Done(Place),

@@ -1,4 +1,6 @@
 // What every other crate uses: byte classes, runs of bytes, and stores into a lent table.
+#![tactic(auto)]
+
 ghost use Rattle.std.specs.Prelude.{◌≡◌, ◌++◌, ◌+◌, ◌-◌, ◌<◌, ◌≤◌, min, max, length, get_or, take, replicate};
 ghost use Rattle.base.specs.If.{both};
 ghost use Rattle.std.proofs.lemmas.List.Edits.{sets};
@@ -55,7 +57,7 @@ pub fn is_letter(b: u8) -> bool
 }
 
 // The kinds of bytes that a run can consist of.
-#[derive(Drop)]
+#[derive(Clone, Copy)]
 pub enum Class {
     Blank,
     // Not blank.

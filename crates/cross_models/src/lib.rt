@@ -1,4 +1,6 @@
 // Rules 19 to 26 of models and their steps, and 29 of their SGR lines.
+#![tactic(auto)]
+
 ghost use Rattle.std.specs.Prelude.{◌≡◌, ◌+◌, ◌*◌, ◌≤◌, ◌<◌, length};
 ghost use Rattle.table_layout.specs.Layout.{models};
 ghost use Rattle.table_layout.specs.View.{view_of};

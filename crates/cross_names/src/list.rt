@@ -25,7 +25,7 @@ pub const FLAGS: usize = NO_MODEL + 1;
 
 // The first list line that breaks a rule; rule 0 if none does. Then `listed` says which models the list names: a flag
 // for each model, and NO_MODEL.
-#[derive(Drop)]
+#[derive(Clone, Copy)]
 pub struct ListFinding {
     pub rule: u64,
     pub line: u64,
@@ -33,7 +33,7 @@ pub struct ListFinding {
 }
 
 // The rule that a line breaks, 0 for none, and the flag that it sets.
-#[derive(Drop)]
+#[derive(Clone, Copy)]
 pub struct Judged {
     pub rule: u64,
     pub slot: usize,

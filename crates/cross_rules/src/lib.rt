@@ -1,4 +1,6 @@
 // Helpers of the rules 19 to 29: the line that writes a record, where a broken rule is reported, and repeated names.
+#![tactic(auto)]
+
 ghost use Rattle.std.specs.Prelude.{◌≡◌, eqb, length, ◌-◌, ◌+◌, ◌*◌, ◌≤◌};
 ghost use Rattle.base.specs.If.{if◌then◌else◌, both};
 ghost use Rattle.table_record.specs.Way.Standing.{name_width};
@@ -7,7 +9,7 @@ ghost use Rattle.cross_rules.specs.Way.Nth.{writes_at, nth_line};
 ghost use Rattle.cross_rules.specs.Way.Repeated.{is_repeated, MarkedNames};
 
 // A line, and the rule of 19 to 29 that it breaks; rule 0 if it breaks none.
-#[derive(Drop)]
+#[derive(Clone, Copy)]
 pub struct Finding {
     pub rule: u64,
     pub line: u64,

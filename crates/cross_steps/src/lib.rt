@@ -1,4 +1,6 @@
 // Rules 21 to 26 of one step, judged by the records of the table.
+#![tactic(auto)]
+
 ghost use Rattle.std.specs.Prelude.{◌≡◌, ◌+◌, ◌≤◌, ◌<◌};
 ghost use Rattle.table_layout.specs.Layout.{steps, sections, matrices};
 ghost use Rattle.table_record.specs.Records.{records_of, range};
@@ -11,7 +13,7 @@ use table_record::{SectionRecord, StepRecord};
 
 // What the rules of a step need to know of its model: the model's type, the index of its first step, how many steps it has,
 // the map of its first end (the number of maps if there is none), and the stamp in the marks of its ends.
-#[derive(Drop)]
+#[derive(Clone, Copy)]
 pub struct Owner {
     pub kind: u64,
     pub from: u64,

@@ -1,4 +1,6 @@
 // Finds the significant lines of a text (neither blank nor all comment) and the words of such a line, by their offsets.
+#![tactic(auto)]
+
 ghost use Rattle.std.specs.Prelude.{◌≡◌, ◌+◌, ◌≤◌, length};
 ghost use Rattle.lex_line.specs.Words.{words_from};
 ghost use Rattle.line_keyword.specs.Way.Bounded.{most_lines};
@@ -15,7 +17,7 @@ pub const PLAIN: u64 = 41;
 
 // A significant line, if there is one: which line it is, the offsets where it starts, where its content ends and where
 // the next line starts, its keyword, and where in the line the keyword's argument starts.
-#[derive(Drop)]
+#[derive(Clone, Copy)]
 pub struct Found {
     pub there: bool,
     pub line: u64,
@@ -27,7 +29,7 @@ pub struct Found {
 }
 
 // Where a walk over the lines goes on: the offset and the number of the next line, and the place in which it is read.
-#[derive(Drop)]
+#[derive(Clone, Copy)]
 pub struct Cursor {
     pub at: usize,
     pub line: u64,
@@ -35,7 +37,7 @@ pub struct Cursor {
 }
 
 // A word of the text: where it starts, and how many bytes it has.
-#[derive(Drop)]
+#[derive(Clone, Copy)]
 pub struct Extent {
     pub start: usize,
     pub size: usize,

@@ -1,5 +1,7 @@
 // Reads an ICM file from standard input and prints its listing, or the rule that it breaks and the line.
 // Run as: icm_list < FILE
+#![tactic(auto)]
+
 use intake::Answer;
 
 // The longest file that the program takes, in bytes.

@@ -8,6 +8,8 @@
 // 4. The values move to their part, and the other parts are stored before them (`store_table`).
 // 5. Rules 19 to 27 and 29 are judged over the whole file (`cross::cross_finding`).
 // If a rule is broken, the text is refused and the table is zeroed.
+#![tactic(auto)]
+
 ghost use Rattle.std.specs.Prelude.{◌≡◌, ◌*◌, length, replicate};
 ghost use Rattle.table_layout.specs.Layout.{map_width, pin_width, section_width, matrix_width};
 ghost use Rattle.table_layout.specs.Bounds.{most_models, most_steps, most_maps, most_pins, most_sections, most_matrices};
@@ -26,7 +28,7 @@ pub mod cross;
 pub mod store;
 
 // Accepted with the words used, or refused by a rule at a line.
-#[derive(Drop)]
+#[derive(Clone, Copy)]
 pub enum Answer {
     Accepted(usize),
     Refused(u64, u64),

@@ -18,14 +18,14 @@ use line_keyword::Counts;
 use read_line::{Reading, Walk};
 
 // The text is stored, with the words used; or the rule that it breaks, and its line.
-#[derive(Drop)]
+#[derive(Clone, Copy)]
 pub enum StoreAnswer {
     Stored(usize),
     Refused(u64, u64),
 }
 
 // The answer of the reading; and where the model list starts, if all lines are read.
-#[derive(Drop)]
+#[derive(Clone, Copy)]
 pub struct AllRead {
     pub reading: Reading,
     pub list: Cursor,

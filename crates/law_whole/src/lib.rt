@@ -1,4 +1,6 @@
 // All three demands as the contract of one function: the intake, as a caller may rely on it.
+#![tactic(auto)]
+
 ghost use Rattle.law_whole.specs.Whole.{AllDemands};
 
 // Takes a text in. What is promised follows from the contract of the intake alone, by the laws of the demands.

@@ -1,4 +1,6 @@
 // Document 01, "Lines and keywords": reads the bracket at the front of a line.
+#![tactic(auto)]
+
 ghost use Rattle.std.specs.Prelude.{◌≡◌, [], ◌+◌, ◌≤◌, ◌<◌, length, get_or};
 ghost use Rattle.base.specs.Bytes.{is_blank};
 ghost use Rattle.base.specs.Way.Class.{run_end};
@@ -12,7 +14,7 @@ use base::Class;
 
 mod fast;
 
-#[derive(Drop)]
+#[derive(Clone, Copy)]
 pub enum Bracket {
     // The first byte of the line that is not blank is no `[`.
     Plain,

@@ -156,7 +156,7 @@ fn are_line_bytes(text: &[u8], from: usize) -> bool
 }
 
 // How far lines have been skipped: the position, and the number of the line there.
-#[derive(Drop)]
+#[derive(Clone, Copy)]
 pub struct Past {
     pub at: usize,
     pub line: u64,

@@ -1,4 +1,6 @@
 // Lines, words, and the rules about bytes: document 000, section 3; document 01, "Lines and keywords" and rules 1 to 4.
+#![tactic(auto)]
+
 ghost use Rattle.std.specs.Prelude.{◌≡◌, true, false, ◌+◌, ◌-◌, ◌<◌, ◌≤◌, length};
 ghost use Rattle.base.specs.Runs.{same};
 ghost use Rattle.lex_line.specs.Way.LineEnds.{line_at, terminator_at};
@@ -25,21 +27,21 @@ const MOST_BYTES: usize = 1048576;
 const MOST_CHARACTERS: usize = 120;
 
 // A line: where its content ends, and where the next line starts.
-#[derive(Drop)]
+#[derive(Clone, Copy)]
 pub struct Line {
     pub content: usize,
     pub next: usize,
 }
 
 // Where a word starts and where it ends.
-#[derive(Drop)]
+#[derive(Clone, Copy)]
 pub struct Span {
     pub start: usize,
     pub end: usize,
 }
 
 // The first two words of a line, and how many words it has; a count of 3 means 3 or more.
-#[derive(Drop)]
+#[derive(Clone, Copy)]
 pub struct FirstTwo {
     pub count: u64,
     pub first: Span,
@@ -47,7 +49,7 @@ pub struct FirstTwo {
 }
 
 // The result of rules 1 to 4 for a text: none is broken, or which rule is broken at which line.
-#[derive(Drop)]
+#[derive(Clone, Copy)]
 pub enum Checked {
     Fine,
     Refused(u64, u64),
@@ -207,7 +209,7 @@ fn terminator_at(text: &[u8], i: usize) -> usize
 }
 
 // Which of the rules 2 to 4 a line breaks, 0 for none, and where the next line starts.
-#[derive(Drop)]
+#[derive(Clone, Copy)]
 struct LineCheck {
     rule: u64,
     next: usize,

@@ -26,7 +26,7 @@ const MOST_EXPONENT: usize = 9;
 const ROOM: usize = 40;
 
 // A run of digits: the number that it writes, where it ends, and the byte there.
-#[derive(Drop)]
+#[derive(Clone, Copy)]
 pub struct Run {
     pub value: u64,
     pub end: usize,
@@ -35,7 +35,7 @@ pub struct Run {
 
 // Digits with at most one point: the number that they write, the count of digits after the point, whether there is a
 // digit, where they end, and the byte there.
-#[derive(Drop)]
+#[derive(Clone, Copy)]
 pub struct Plain {
     pub all: u64,
     pub fraction: u64,
@@ -45,14 +45,14 @@ pub struct Plain {
 }
 
 // An exponent, and the byte where it ends.
-#[derive(Drop)]
+#[derive(Clone, Copy)]
 pub struct Reading {
     pub exponent: Exponent,
     pub next: u8,
 }
 
 // The parts of a number without its letters, and the byte where they end.
-#[derive(Drop)]
+#[derive(Clone, Copy)]
 pub struct Parts {
     pub negative: bool,
     pub digits: Plain,
@@ -61,7 +61,7 @@ pub struct Parts {
 }
 
 // A number as a size that does not end in 0, and the count of zeros after it.
-#[derive(Drop)]
+#[derive(Clone, Copy)]
 struct Trimmed {
     size: u64,
     zeros: u64,
@@ -334,7 +334,7 @@ fn plain_value(parts: Parts, c: Scale) -> Number
 }
 
 // The result of the short way: a number and where its word ends, or, if not `known`, nothing.
-#[derive(Drop)]
+#[derive(Clone, Copy)]
 pub struct ShortNumber {
     pub known: bool,
     pub number: Number,

@@ -1,5 +1,7 @@
 // Document 01, "Numbers": a word read as a number or an integer, and the value word that the table stores.
 // Words of any length are read in one pass. Numbers too great to matter are capped, which changes no answer.
+#![tactic(auto)]
+
 ghost use Rattle.std.specs.Prelude.{◌≡◌, true, false, ◌+◌, ◌-◌, ◌*◌, ◌/◌, ◌<◌, ◌≤◌, min, length, drop, get_or, ltb};
 ghost use Rattle.base.specs.If.{if◌then◌else◌, both};
 ghost use Rattle.base.specs.Bytes.{within};
@@ -17,7 +19,7 @@ use base::Class;
 mod fast;
 
 // A letter that scales a number, and the power of ten that it scales by.
-#[derive(Drop)]
+#[derive(Clone, Copy)]
 struct Scaling(u8, i8);
 
 // "the first scaling by T G M k m u n p f (12, 9, 6, 3, -3, -6, -9, -12, -15)". Case counts: 1M is a million, 1m a thousandth.
@@ -35,7 +37,7 @@ const SCALINGS: [Scaling; 9] = [
 
 // Digits read so far: the number that they write, the number up to the last digit that is not 0, the count of zeros
 // after that digit, the count of digits after the point, whether there is a digit and a point, and where they end.
-#[derive(Drop)]
+#[derive(Clone, Copy)]
 pub struct Digits {
     pub all: u64,
     pub size: u64,
@@ -47,7 +49,7 @@ pub struct Digits {
 }
 
 // An exponent, 0 if there is none, and where the letters after it start.
-#[derive(Drop)]
+#[derive(Clone, Copy)]
 pub struct Exponent {
     pub size: u64,
     pub negative: bool,
@@ -55,14 +57,14 @@ pub struct Exponent {
 }
 
 // The power of ten of a letter: by how much it raises and by how much it lowers. One of the two is 0.
-#[derive(Drop)]
+#[derive(Clone, Copy)]
 pub struct Scale {
     pub up: u64,
     pub down: u64,
 }
 
 // A word read as a number: its value word, or that it is malformed (rule 13) or out of range (rule 14).
-#[derive(Drop)]
+#[derive(Clone, Copy)]
 pub enum Number {
     Value(u64),
     Malformed,
@@ -70,14 +72,14 @@ pub enum Number {
 }
 
 // Whether a word is an integer, and its value, 0 if it is none.
-#[derive(Drop)]
+#[derive(Clone, Copy)]
 pub struct Whole {
     pub formed: bool,
     pub value: u64,
 }
 
 // The parts of a value word: the sign, m's size, and k + 64.
-#[derive(Drop)]
+#[derive(Clone, Copy)]
 pub struct Decimal {
     pub negative: bool,
     pub size: u64,
@@ -529,7 +531,7 @@ pub fn read_number(s: &[u8]) -> Number
 // ---- a number inside a line
 
 // A number inside a line or a text, and where its word ends.
-#[derive(Drop)]
+#[derive(Clone, Copy)]
 pub struct NumberAt {
     pub number: Number,
     pub end: usize,

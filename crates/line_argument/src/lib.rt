@@ -1,5 +1,7 @@
 // Document 01, "Lines and keywords" and the sections after it: which argument each keyword takes, and the words that
 // are never a name. An argument is given without the blanks at its ends and without the comment.
+#![tactic(auto)]
+
 ghost use Rattle.std.specs.Prelude.{◌≡◌, length};
 ghost use Rattle.base.specs.Bytes.{within};
 ghost use Rattle.base.specs.Way.Class.{run_end};

@@ -1,4 +1,6 @@
 // Document 01, "Model": the lines of a model before its first keyword, ICM_model_type, SGR and Ref_impedance.
+#![tactic(auto)]
+
 ghost use Rattle.std.specs.Prelude.{◌≡◌};
 ghost use Rattle.base.specs.Bytes.{bytes};
 ghost use Rattle.base.specs.Runs.{same};
@@ -27,7 +29,7 @@ const SLM_QUIESCENT: u64 = table_layout::code::SLM_QUIESCENT + 1;
 const MLM: u64 = table_layout::code::MLM + 1;
 
 // What the lines of a head have given so far: the type, and whether SGR and Ref_impedance have been read.
-#[derive(Drop)]
+#[derive(Clone, Copy)]
 pub struct Head {
     pub kind: u64,
     pub sgr: bool,
@@ -36,7 +38,7 @@ pub struct Head {
 
 // One line of a head: which of the three it is, whether its rest is right, whether its number is well formed and within
 // its bounds, and the type that it names.
-#[derive(Drop)]
+#[derive(Clone, Copy)]
 pub struct HeadLine {
     pub says: u64,
     pub right: bool,

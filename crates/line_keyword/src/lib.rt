@@ -1,4 +1,6 @@
 // Keyword lines: what each keyword closes and opens, the rules it may break, and what is remembered after it.
+#![tactic(auto)]
+
 ghost use Rattle.std.specs.Prelude.{◌≡◌, true, false, ◌^◌, ◌<◌};
 ghost use Rattle.line_keyword.specs.Keywords.{is_once, is_seen, has_no_kind, kinds_lack, header_lacks, family_lacks, is_lacking, is_too_late, is_unclosed, is_repeated, is_misplaced, is_fork_open, is_wrong_in_matrix, is_matrix_broken, is_shape_broken, closes_too_wide, is_full, is_past_bound, seen_after, head_after, path_after, map_after, conductors_after, section_after, matrix_after, one_more_if, counts_after, keyword_next};
 ghost use Rattle.line_keyword.specs.Way.Row.{matrix_keyword_rule, matrix_keyword_next};
@@ -17,7 +19,7 @@ use line_matrix::Matrix;
 use line_path::Path;
 
 // How many records of each part have been read.
-#[derive(Drop)]
+#[derive(Clone, Copy)]
 pub struct Counts {
     pub models: u64,
     pub steps: u64,
@@ -29,14 +31,14 @@ pub struct Counts {
 }
 
 // The open section: its method, and its conductors, 0 until its first matrix is closed.
-#[derive(Drop)]
+#[derive(Clone, Copy)]
 pub struct Section {
     pub method: u64,
     pub conductors: u64,
 }
 
 // What the forward reading remembers between lines. It contains no line number and no offset.
-#[derive(Drop)]
+#[derive(Clone, Copy)]
 pub struct State {
     pub place: u64,
     pub seen: [bool; 40],

@@ -1,5 +1,7 @@
 // Document 01, "Pin maps": the lines above Pin_list, and the pins below it.
 // A line is first read on its own, then judged against what has been read of the map.
+#![tactic(auto)]
+
 ghost use Rattle.std.specs.Prelude.{◌≡◌, not, ◌<◌, eqb};
 ghost use Rattle.base.specs.If.{if◌then◌else◌, both, either};
 ghost use Rattle.lex_line.specs.Words.{words};
@@ -9,7 +11,7 @@ ghost use Rattle.line_map.specs.Way.Rule.{map_rule, pin_rule};
 
 // What has been read of a map. The order is its number in the table plus 1, so that a 0 in order, rows or columns means
 // that it has not been given yet.
-#[derive(Drop)]
+#[derive(Clone, Copy)]
 pub struct Map {
     pub order: u64,
     pub rows: u64,
@@ -19,7 +21,7 @@ pub struct Map {
 
 // A line above Pin_list: what it says, whether its rest is right, whether its number is well formed and within its
 // bounds, and the value that it gives.
-#[derive(Drop)]
+#[derive(Clone, Copy)]
 pub struct MapLine {
     pub says: u64,
     pub right: bool,

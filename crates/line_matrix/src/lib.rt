@@ -1,4 +1,6 @@
 // Document 01, "Sections and matrices": the rows and numbers of a matrix in its four forms, and its shape.
+#![tactic(auto)]
+
 ghost use Rattle.std.specs.Prelude.{◌≡◌, ◌-◌, ◌<◌, ◌≤◌, true, false};
 ghost use Rattle.table_layout.specs.Bounds.{most_bandwidth};
 ghost use Rattle.lex_number.specs.Number.{is_formed, is_bounded};
@@ -11,7 +13,7 @@ use lex_number::{Number, Whole};
 // What has been read of the rows of a matrix: the number of the last [Row], how many numbers the row above it has, how
 // many values the file has before it, the least column that may come next, the greatest row or column named, and
 // whether everything so far fits.
-#[derive(Drop)]
+#[derive(Clone, Copy)]
 pub struct Rows {
     pub row: u64,
     pub above: u64,
@@ -22,7 +24,7 @@ pub struct Rows {
 }
 
 // A matrix: its form, the most numbers that a row may have, how many values the file has before it, and its rows.
-#[derive(Drop)]
+#[derive(Clone, Copy)]
 pub struct Matrix {
     pub form: u64,
     pub band: u64,
@@ -32,7 +34,7 @@ pub struct Matrix {
 
 // A data line: how many numbers it writes, its column if it has one, whether the count of its words is right, whether
 // the words are numbers, and whether the numbers are within their bounds.
-#[derive(Drop)]
+#[derive(Clone, Copy)]
 pub struct DataLine {
     pub numbers: u64,
     pub column: u64,
@@ -174,7 +176,7 @@ pub fn with_row(row: u64, m: Matrix, values: u64) -> Matrix
 }
 
 // Whether a word of a data line is a number, and whether the number is within its bounds.
-#[derive(Drop)]
+#[derive(Clone, Copy)]
 struct NumberCheck {
     formed: bool,
     bounded: bool,

@@ -1,4 +1,6 @@
 // Document 01, "Paths": "End, items, end", line by line.
+#![tactic(auto)]
+
 ghost use Rattle.std.specs.Prelude.{◌≡◌, true, ◌+◌, ◌-◌, ◌^◌, ◌≤◌, ◌<◌, length, eqb};
 ghost use Rattle.table_layout.specs.Bounds.{deepest};
 ghost use Rattle.base.specs.If.{either};
@@ -42,7 +44,7 @@ const ZERO_WORD: u64 = 128;
 
 // What has been read of a path: its stage, how many fork blocks are open, whether the end of the innermost block has
 // been read, and whether the next line may be a Side.
-#[derive(Drop)]
+#[derive(Clone, Copy)]
 pub struct Path {
     pub stage: u64,
     pub depth: u64,
@@ -51,7 +53,7 @@ pub struct Path {
 }
 
 // One line of a path: what it says, whether its rest is right, and whether its number is well formed and in bounds.
-#[derive(Drop)]
+#[derive(Clone, Copy)]
 pub struct PathLine {
     pub says: u64,
     pub right: bool,
@@ -61,7 +63,7 @@ pub struct PathLine {
 
 // A line with its parts, each read once: the name as a span of the line, the amount, and whether that is a Mult. The
 // parts are told of a line whose rest is right.
-#[derive(Drop)]
+#[derive(Clone, Copy)]
 pub struct PathParts {
     pub line: PathLine,
     pub name: Span,

@@ -1,5 +1,7 @@
 // The places of a file, and how a line leads from one place to the next by its words alone. Document 01, "Lines and
 // keywords", "Paths", "Pin maps" and "Sections and matrices", says which lines each place takes.
+#![tactic(auto)]
+
 ghost use Rattle.std.specs.Prelude.{◌≡◌};
 ghost use Rattle.line_place.specs.Place.{
   opens_header_text,

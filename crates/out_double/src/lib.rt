@@ -1,5 +1,7 @@
 // Request 11, "Curves in the browser": the double of a value word, and the doubles of a frequency and a value, for a
 // plotting panel. A double comes from one rounded operation on exact numbers; a word that does not allow that is outside.
+#![tactic(auto)]
+
 ghost use Rattle.std.specs.Prelude.{◌≡◌, true, ◌+◌, ◌-◌, ◌≤◌, ◌^◌};
 ghost use Rattle.lex_number.specs.ValueWord.{decimal_of};
 ghost use Rattle.out_double.specs.Double.{span, as_double, scaled, double, is_drawn, drawn_of, paired};
@@ -15,13 +17,13 @@ const TENS: [f64; 23] = [
     1e17, 1e18, 1e19, 1e20, 1e21, 1e22,
 ];
 
-#[derive(Drop)]
+#[derive(Clone, Copy)]
 pub enum Drawn {
     Value(f64),
     Outside,
 }
 
-#[derive(Drop)]
+#[derive(Clone, Copy)]
 pub enum DrawnPair {
     Pair(f64, f64),
     Outside,

@@ -1,5 +1,7 @@
 // Document 01, "Listing": what icm-list prints, from the text and the table alone, into lent room. Each function writes from
 // offset `at` on and returns the next offset. No word of the table is trusted: a record that does not exist reads as zeros.
+#![tactic(auto)]
+
 ghost use Rattle.std.specs.Prelude.{◌≡◌, ◌∷◌, [], ◌++◌, ◌+◌, eqb, get_or};
 ghost use Rattle.table_layout.specs.View.{view_of};
 ghost use Rattle.table_record.specs.Records.{no_model, no_step, no_map, no_section, no_matrix, no_value};

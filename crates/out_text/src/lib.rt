@@ -1,12 +1,14 @@
 // Document 01, "Listing": fields, numbers and values, printed into lent room. Each function writes from offset `at` on
 // and returns the next offset. What does not fit is left out. No offset passes the end, so no sum of offsets wraps.
+#![tactic(auto)]
+
 ghost use Rattle.std.specs.Prelude.{◌≡◌, ◌∷◌, [], ◌++◌, min};
 ghost use Rattle.out_text.specs.Printing.{last_digit, decimal, sign_text, exponent_text, value_text};
 ghost use Rattle.out_text.specs.Written.{Written};
 ghost use Rattle.out_text.specs.Way.Digits.{Holds};
 
 // The digits of a number: the bytes from `from` on.
-#[derive(Drop)]
+#[derive(Clone, Copy)]
 struct Digits {
     bytes: [u8; 20],
     from: usize,

@@ -1,5 +1,7 @@
 // The walk over the header and the family of a text, rules 5 to 17: it reads the lines up to [End ICM Family] and
 // stages the records of models, steps, maps and pins on the way.
+#![tactic(auto)]
+
 ghost use Rattle.std.specs.Prelude.{◌≡◌, List, ℕ, ◌+◌, ◌≤◌, ◌<◌, length};
 ghost use Rattle.lex_keyword.specs.Bracket.{bracket_of};
 ghost use Rattle.line_place.specs.Place as place;
@@ -22,7 +24,7 @@ pub mod pins;
 
 // The model or map that is open: where its name stands, the index of its first step or pin, and the line of the model's
 // SGR, 0 for none.
-#[derive(Drop)]
+#[derive(Clone, Copy)]
 pub struct Open {
     pub start: u64,
     pub size: u64,
@@ -31,14 +33,14 @@ pub struct Open {
 }
 
 // Where the walk over the family ended, and where the model list starts.
-#[derive(Drop)]
+#[derive(Clone, Copy)]
 pub struct Family {
     pub walk: Walk,
     pub list: Cursor,
 }
 
 // How far the family has been read: as in a walk, with the block that is open.
-#[derive(Drop)]
+#[derive(Clone, Copy)]
 pub struct FamilyWalk {
     pub rule: u64,
     pub at: usize,

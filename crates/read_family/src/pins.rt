@@ -10,7 +10,7 @@ use table_record::PinRecord;
 
 // The result of a line of a pin list, with only the part of the state that such a line changes. A line with a bracket
 // is not taken here. For a line that is taken: the rule that it breaks, and the map and the count of pins after it.
-#[derive(Drop)]
+#[derive(Clone, Copy)]
 pub struct Pinned {
     pub taken: bool,
     pub rule: u64,
@@ -69,7 +69,7 @@ fn take_pin(content: &[u8], at: usize, map: Map, pins: u64, stage: &mut [u64]) -
 }
 
 // Where the lines of a pin list end, or the line that breaks a rule, and the result up to there.
-#[derive(Drop)]
+#[derive(Clone, Copy)]
 pub struct PinWalk {
     pub at: usize,
     pub line: u64,

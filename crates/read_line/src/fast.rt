@@ -10,7 +10,7 @@ ghost use Rattle.lex_keyword.specs.declared.Bracket.TheVariants.{Plain, Indented
 use lex_keyword::Bracket;
 
 // Where the lines that change nothing end: the offset of the next line, and which line that is.
-#[derive(Drop)]
+#[derive(Clone, Copy)]
 pub struct Passing {
     pub at: usize,
     pub line: u64,

@@ -1,5 +1,7 @@
 // Rules 5 to 17 for one line: its result in its place.
 // `read_family` and `read_sections` build the walk over a whole text from these functions.
+#![tactic(auto)]
+
 ghost use Rattle.std.specs.Prelude.{◌≡◌, ◌<◌, length};
 ghost use Rattle.line_place.specs.Place as place;
 ghost use Rattle.line_keyword.specs.Way.Bounded.{BoundedState, most_lines};
@@ -22,21 +24,21 @@ const OPENING: u8 = b'[';
 const CARRIAGE_RETURN: u8 = 13;
 
 // The result of one line: the rule that it breaks, 0 for none, and the state after it.
-#[derive(Drop)]
+#[derive(Clone, Copy)]
 pub struct LineResult {
     pub rule: u64,
     pub state: State,
 }
 
 // The result of a text for rules 5 to 17: the counts of all records, or the rule broken and its line.
-#[derive(Drop)]
+#[derive(Clone, Copy)]
 pub enum Reading {
     Read(Counts),
     Refused(u64, u64),
 }
 
 // How far a walk over the lines has come: the offset, line and state where it goes on, or the rule broken and its line.
-#[derive(Drop)]
+#[derive(Clone, Copy)]
 pub struct Walk {
     pub rule: u64,
     pub at: usize,
@@ -45,7 +47,7 @@ pub struct Walk {
 }
 
 // A single line that is read: as in a walk, with the offset where its content ends and the bracket at its front.
-#[derive(Drop)]
+#[derive(Clone, Copy)]
 pub struct LineRead {
     pub rule: u64,
     pub at: usize,
@@ -241,7 +243,7 @@ fn take_line(content: &[u8], bracket: Bracket, s: State) -> LineResult
 // ---- lines that change one part
 
 // What is at the front of a line: nothing (the line is blank), words, or a bracket.
-#[derive(Drop)]
+#[derive(Clone, Copy)]
 pub enum Front {
     Blanks,
     Words,

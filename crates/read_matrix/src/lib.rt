@@ -1,5 +1,7 @@
 // The lines of a matrix, judged and staged in one pass: its numbers are stored at the front of the lent table as they
 // are judged, so that they are never read again.
+#![tactic(auto)]
+
 ghost use Rattle.std.specs.Prelude.{◌≡◌, true, false, ◌+◌, ◌≤◌, length};
 ghost use Rattle.table_layout.specs.Codes.{sparse};
 ghost use Rattle.table_layout.specs.Bounds.{most_values};
@@ -23,7 +25,7 @@ const OPENING: u8 = b'[';
 
 // The result of a line of a matrix, with only the part of the state that such a line changes: whether it is taken here,
 // the rule that it breaks, and the matrix, the count of values and the staging after it.
-#[derive(Drop)]
+#[derive(Clone, Copy)]
 pub struct Data {
     pub taken: bool,
     pub rule: u64,
@@ -187,7 +189,7 @@ fn take_data(content: &[u8], matrix: Matrix, values: u64, staging: Staging) -> D
 }
 
 // How far the lines of a matrix are read, or the line that breaks a rule, and the result up to there.
-#[derive(Drop)]
+#[derive(Clone, Copy)]
 pub struct BodyWalk {
     pub at: usize,
     pub line: u64,
@@ -224,7 +226,7 @@ fn next_line(text: &[u8], end: usize) -> usize
 
 // The result of a line of numbers: whether it is taken; if so, the count of values, the row and column of the next
 // number, and where the next line starts.
-#[derive(Drop)]
+#[derive(Clone, Copy)]
 struct TakenNumbers {
     taken: bool,
     values: u64,
@@ -355,7 +357,7 @@ fn pass_numbers(text: &[u8], at: usize, line: u64, part: Data, table: &mut [u64]
 }
 
 // The result of a line of a Sparse_matrix: whether it is taken; if so, its column, and where the next line starts.
-#[derive(Drop)]
+#[derive(Clone, Copy)]
 struct TakenPair {
     taken: bool,
     column: u64,

@@ -1,6 +1,8 @@
 // Judges and stages a line of numbers in one pass: each number is read directly from the text, and its row, column and
 // value word are stored at the front of the lent table, after the values that were read before it. A line is read once:
 // its end is found as its last number is read. A number that finds no room is left out.
+#![tactic(auto)]
+
 ghost use Rattle.std.specs.Prelude.{◌≡◌, true, false, ◌+◌, ◌≤◌, ◌<◌, length, leb};
 ghost use Rattle.table_layout.specs.Layout.{value_width};
 ghost use Rattle.table_layout.specs.Codes.{sparse};
@@ -17,7 +19,7 @@ use lex_number::{Number, NumberAt};
 use table_record::Value;
 
 // A value of which only the first one given counts: whether one is given yet, and which.
-#[derive(Drop)]
+#[derive(Clone, Copy)]
 pub struct First {
     pub told: bool,
     pub value: u64,
@@ -25,7 +27,7 @@ pub struct First {
 
 // Where the next number of a line goes: its row, its column, how many of the line come before it, and its position in
 // the table.
-#[derive(Drop)]
+#[derive(Clone, Copy)]
 pub struct Cursor {
     pub row: u64,
     pub column: u64,
@@ -35,7 +37,7 @@ pub struct Cursor {
 
 // What the lines of a matrix have given so far: the row and column of the next number, the bandwidth, and the greatest
 // row or column that is named.
-#[derive(Drop)]
+#[derive(Clone, Copy)]
 pub struct Staging {
     pub row: u64,
     pub column: u64,
@@ -45,7 +47,7 @@ pub struct Staging {
 
 // The result of a line of numbers: whether all its words are numbers within their bounds. If so: how many they are, the
 // row and column of the next number, and where the line's content ends.
-#[derive(Drop)]
+#[derive(Clone, Copy)]
 pub struct Numbers {
     pub staged: bool,
     pub count: u64,
@@ -56,7 +58,7 @@ pub struct Numbers {
 
 // The result of a line of a Sparse_matrix: whether it is a column and a value, both within their bounds. If so: the
 // column, and where the line's content ends.
-#[derive(Drop)]
+#[derive(Clone, Copy)]
 pub struct Pair {
     pub staged: bool,
     pub column: u64,

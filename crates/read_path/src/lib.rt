@@ -1,5 +1,7 @@
 // Lines of a path, judged and staged in one go: the step of each line is stored behind those of the lines before it.
 // `read_family` builds the reading of a family from `pass_block`.
+#![tactic(auto)]
+
 ghost use Rattle.std.specs.Prelude.{◌≡◌, [], ◌∷◌, ◌+◌, ◌^◌, ◌≤◌, ◌<◌, length};
 ghost use Rattle.line_place.specs.Place as place;
 ghost use Rattle.read_line.specs.Way.Walk.{Stepping};
@@ -18,7 +20,7 @@ use table_record::stage::StagedStep;
 
 // The result of a line of a path, with only the part of the state that such a line changes. A line with a bracket is
 // not taken here. For a line that is taken: the rule that it breaks, and the path and the count of steps after it.
-#[derive(Drop)]
+#[derive(Clone, Copy)]
 pub struct Stepped {
     pub taken: bool,
     pub rule: u64,
@@ -27,7 +29,7 @@ pub struct Stepped {
 }
 
 // Where the lines of a path end, or the line that breaks a rule, and the result up to there.
-#[derive(Drop)]
+#[derive(Clone, Copy)]
 pub struct PathWalk {
     pub at: usize,
     pub line: u64,

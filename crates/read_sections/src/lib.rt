@@ -1,4 +1,6 @@
 // The walk over the lines behind [End ICM Family]: it judges them, and stages their sections, matrices and values.
+#![tactic(auto)]
+
 ghost use Rattle.std.specs.Prelude.{◌≡◌, List, ℕ, ◌+◌, ◌-◌, ◌*◌, ◌≤◌, ◌<◌, length, drop, eqb};
 ghost use Rattle.base.specs.If.{if◌then◌else◌};
 ghost use Rattle.lex_line.specs.Lines.{contents};
@@ -33,7 +35,7 @@ const KINDS: usize = table_layout::code::MATRIX_KINDS as usize;
 
 // The section that is open: the offset and size of its name, and what its matrices have given. N is that of the first
 // matrix. Of each kind the first matrix counts, as its index plus 1; 0 is none. The kind is that of the open matrix.
-#[derive(Drop)]
+#[derive(Clone, Copy)]
 pub struct OpenSection {
     pub start: u64,
     pub size: u64,
@@ -43,7 +45,7 @@ pub struct OpenSection {
 }
 
 // How far the walk has come, as in `read_line::Walk`, and the section that is open there.
-#[derive(Drop)]
+#[derive(Clone, Copy)]
 pub struct SectionWalk {
     pub rule: u64,
     pub at: usize,

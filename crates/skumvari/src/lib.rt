@@ -1,5 +1,7 @@
 // The library for hosts in other languages, as declared in include/skumvari.h. Each function writes its answer into
 // lent words, in the layout of specs/Words.antt. If there are too few words it returns false and writes no answer.
+#![tactic(auto)]
+
 ghost use Rattle.std.specs.Prelude.{◌≡◌, true, [], ◌∷◌, length};
 ghost use Rattle.ask_sound.specs.Sound.{is_sound};
 ghost use Rattle.intake.specs.Verdict.{verdict_of, table_for};

@@ -1,5 +1,7 @@
 // Stores what is staged in the lent table: the values move to their part, and the other parts are put before them, each
 // behind its count. A step gets its target, the map or the section that its name means.
+#![tactic(auto)]
+
 ghost use Rattle.std.specs.Prelude.{◌≡◌, [], ◌∷◌, ◌++◌, ◌+◌, ◌-◌, ◌*◌, ◌≤◌, ◌<◌, length, take, replicate};
 ghost use Rattle.std.proofs.lemmas.List.Edits.{sets};
 ghost use Rattle.table_layout.specs.Layout.{model_width, step_width, section_width, matrix_width, widths, needed};

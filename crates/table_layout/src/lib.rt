@@ -1,4 +1,6 @@
 // The parts of a table: how many words they need, where each begins, and where the parts of a given table are.
+#![tactic(auto)]
+
 ghost use Rattle.std.specs.Prelude.{◌≡◌, ◌+◌, ◌≤◌, ◌<◌, take, get_or};
 ghost use Rattle.table_layout.specs.Layout.{widths, part_count, needed};
 ghost use Rattle.table_layout.specs.Bounds.{bounds};
@@ -104,7 +106,7 @@ pub fn part_base(counts: [u64; PARTS], part: usize) -> usize
 
 // Where the records of each part begin, how many there are, and where the last one ends. It fits if no count is above its bound and all
 // records lie inside the table.
-#[derive(Drop)]
+#[derive(Clone, Copy)]
 pub struct View {
     pub fits: bool,
     pub bases: [usize; PARTS],

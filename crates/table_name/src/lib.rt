@@ -1,4 +1,6 @@
 // Names in the records of a table: their bytes in the text, the first record of a name, and marks (hashes) of names.
+#![tactic(auto)]
+
 ghost use Rattle.std.specs.Prelude.{◌≡◌, false, ◌+◌, ◌*◌, ◌≤◌, ◌<◌, length};
 ghost use Rattle.table_name.specs.Name.{name_at};
 ghost use Rattle.table_name.specs.Way.Search.{has_name, find_in, Tails};

@@ -1,5 +1,7 @@
 // One record of each part by value: read from a table, and stored in it. No other crate knows which word of a record is
 // which.
+#![tactic(auto)]
+
 ghost use Rattle.std.specs.Prelude.{◌≡◌, ◌+◌, ◌≤◌, ◌<◌, length, get_or};
 ghost use Rattle.std.proofs.lemmas.List.Edits.{sets};
 ghost use Rattle.table_layout.specs.Layout.{models, steps, maps, pins, sections, matrices, values, model_width, step_width, map_width, pin_width, section_width, matrix_width, value_width};
@@ -11,7 +13,7 @@ use table_layout::View;
 pub mod stage;
 
 // "models (name start, length, type, first step, steps)". The type is its `kind`.
-#[derive(Drop)]
+#[derive(Clone, Copy)]
 pub struct ModelRecord {
     pub start: u64,
     pub size: u64,
@@ -22,7 +24,7 @@ pub struct ModelRecord {
 
 // "steps (kind 0 end 1 section 2 fork 3 endfork; target or 0; amount: Mult, the Len value word, or 0; side start and length or
 // 0 0; line)".
-#[derive(Drop)]
+#[derive(Clone, Copy)]
 pub struct StepRecord {
     pub kind: u64,
     pub target: u64,
@@ -33,7 +35,7 @@ pub struct StepRecord {
 }
 
 // "maps (start, length, order, rows, columns, first pin, pins; Un_ordered has 0 0 for rows, columns)".
-#[derive(Drop)]
+#[derive(Clone, Copy)]
 pub struct MapRecord {
     pub start: u64,
     pub size: u64,
@@ -45,14 +47,14 @@ pub struct MapRecord {
 }
 
 // "pins (start, length)".
-#[derive(Drop)]
+#[derive(Clone, Copy)]
 pub struct PinRecord {
     pub start: u64,
     pub size: u64,
 }
 
 // "sections (start, length, method, N, R L G C each matrix index plus 1 or 0)".
-#[derive(Drop)]
+#[derive(Clone, Copy)]
 pub struct SectionRecord {
     pub start: u64,
     pub size: u64,
@@ -65,7 +67,7 @@ pub struct SectionRecord {
 }
 
 // "matrices (form 0 diagonal 1 banded 2 sparse 3 full, bandwidth or 0, first value, values, line)".
-#[derive(Drop)]
+#[derive(Clone, Copy)]
 pub struct MatrixRecord {
     pub form: u64,
     pub bandwidth: u64,
@@ -75,7 +77,7 @@ pub struct MatrixRecord {
 }
 
 // "values (row, column, value word), one per number written".
-#[derive(Drop)]
+#[derive(Clone, Copy)]
 pub struct Value {
     pub row: u64,
     pub column: u64,
@@ -83,7 +85,7 @@ pub struct Value {
 }
 
 // The name of a model, a map, a pin or a section: the first words of its record.
-#[derive(Drop)]
+#[derive(Clone, Copy)]
 pub struct NameRecord {
     pub start: u64,
     pub size: u64,

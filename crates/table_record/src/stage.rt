@@ -8,7 +8,7 @@ ghost use Rattle.table_record.specs.Way.Stage.{put_at, staged_model_width, stage
 use crate::{MapRecord, MatrixRecord, ModelRecord, PinRecord, SectionRecord};
 
 // A model's record, and the line of its SGR (0 for none), which the table does not hold.
-#[derive(Drop)]
+#[derive(Clone, Copy)]
 pub struct StagedModel {
     pub model: ModelRecord,
     pub sgr: u64,
@@ -18,7 +18,7 @@ pub struct StagedModel {
 pub const MODEL_WIDTH: usize = 6;
 
 // A step before its target is known: it has its name instead, and tells whether its amount is a Mult (1) or not (0).
-#[derive(Drop)]
+#[derive(Clone, Copy)]
 pub struct StagedStep {
     pub kind: u64,
     pub name: u64,

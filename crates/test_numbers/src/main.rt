@@ -1,5 +1,7 @@
 // Reads words from standard input, one a line, and prints each with its number: m and k, or rule 13 or 14.
 // At most 65,536 bytes are read. No contract says what is printed: the file `stdout` does.
+#![tactic(auto)]
+
 use base::Class;
 use lex_number::Number;
 

@@ -17,6 +17,8 @@
 //                  `walk done MODEL STEP DEPTH` or `walk refused RULE`
 //   # REST         is printed as it is, to label the answers
 // Any other line that is not empty, and a command with a bad number, is answered with `what` and the line.
+#![tactic(auto)]
+
 ghost use Rattle.std.specs.Prelude.{◌≤◌, length};
 
 use ask_walk::{Place, Walked};
@@ -35,21 +37,21 @@ const GREATEST: u64 = 18446744073709551615;
 const TENS: u64 = 1844674407370955161;
 
 // How many bytes the text has, and how many words the table has; the rest of their rooms is not used.
-#[derive(Drop)]
+#[derive(Clone, Copy)]
 struct Sizes {
     bytes: usize,
     words: usize,
 }
 
 // A number; `fine` is false if the word is none.
-#[derive(Drop)]
+#[derive(Clone, Copy)]
 struct Number {
     fine: bool,
     value: u64,
 }
 
 // The numbers after a command; `fine` is false if there are more or fewer than it needs.
-#[derive(Drop)]
+#[derive(Clone, Copy)]
 struct Numbers {
     fine: bool,
     values: [u64; 4],

@@ -4,6 +4,8 @@
 //   FILE hash  the words used and a hash of the table
 //   FILE list  the listing
 // A table is not zero before the intake. An answer ends with `old words` if a word of that is left.
+#![tactic(auto)]
+
 ghost use Rattle.std.specs.Prelude.{◌≤◌};
 
 use base::Class;
