@@ -103,9 +103,9 @@ module _ (b : ℕ) where
   unfolding within
   within_high e = leb-true b 63 (both_second _ _ e)
 
-  is_digit : 48 ≤ b → b ≤ 57 → is_digit b ≡ true
+  is_digit_lem : 48 ≤ b → b ≤ 57 → is_digit b ≡ true
   unfolding is_digit within
-  is_digit h k = both_true _ _ (le-leb 48 b h) (le-leb b 57 k)
+  is_digit_lem h k = both_true _ _ (le-leb 48 b h) (le-leb b 57 k)
 
 -- bytes whose high halves are 3, also after 6 is added, are digits
 six_more : (n word : ℕ) → all (within 48 63) (bytes_of n word) ≡ true → all (within 48 63) (bytes_of n (word + alike n 6)) ≡ true → all is_digit (bytes_of n word) ≡ true
@@ -118,7 +118,7 @@ six_more (suc n) word e f =
     let rest : (word + (6 + 256 * alike n 6)) / 256 ≡ word / 256 + alike n 6 = omega arith in
     let g : all (within 48 63) ((word % 256 + 6) ∷ bytes_of n (word / 256 + alike n 6)) ≡ true = rw (first, rest) at f in
     let less : word % 256 + 6 ≤ 63 = within_high (word % 256 + 6) (all_first (within 48 63) (word % 256 + 6) (bytes_of n (word / 256 + alike n 6)) g) in
-    all_more is_digit (word % 256) (bytes_of n (word / 256)) (is_digit (word % 256) low (omega arith)) (six_more n (word / 256) (all_rest (within 48 63) (word % 256) (bytes_of n (word / 256)) e) (all_rest (within 48 63) (word % 256 + 6) (bytes_of n (word / 256 + alike n 6)) g))
+    all_more is_digit (word % 256) (bytes_of n (word / 256)) (is_digit_lem (word % 256) low (omega arith)) (six_more n (word / 256) (all_rest (within 48 63) (word % 256) (bytes_of n (word / 256)) e) (all_rest (within 48 63) (word % 256 + 6) (bytes_of n (word / 256 + alike n 6)) g))
 
 -- bytes of at most 63 each make a word of at most that many bytes of 63
 most_alike : (n word : ℕ) → all (within 48 63) (bytes_of n word) ≡ true → word < 256 ^ n → word ≤ alike n 63

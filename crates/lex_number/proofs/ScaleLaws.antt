@@ -98,7 +98,7 @@ pub scale_down : (c : Scale) (b : ℕ) → c ≡ scale_of b → c.down ≤ 15
 unfolding scale_by scale_of
 scale_down c b e = rw e (above_little (neg_ℤ (power_in scalings b)) (negated_little (power_in scalings b) (power_little b)))
 
--- ---- the search. The machine stores a signed number z as its bits, `of_z w8 z`, and reads it back with `to_z w8`
+-- ---- the search
 
 -- such a power fits eight bits
 power_fits : (b : ℕ) → SFits w8 (power_in scalings b)
@@ -116,21 +116,20 @@ unfolding power_in
 power_from l i b h = rw (drop-cons l i past h) refl
 
 module _ (i b : ℕ) (some : 0 < i) (within : i ≤ 9) where
-  pub search_found : b ≡ (get_or scalings (i - 1) past).0 → of_z w8 (get_or scalings (i - 1) past).1 ≡ of_z w8 (power_in (drop (i - 1) scalings) b)
-  search_found same = ap (of_z w8) (sym (power_from scalings (i - 1) b (omega arith) ∙ if_true _ _ (eq-eqb b (get_or scalings (i - 1) past).0 same)))
+  pub search_found : b ≡ (get_or scalings (i - 1) past).0 → (get_or scalings (i - 1) past).1 ≡ power_in (drop (i - 1) scalings) b
+  search_found same = sym (power_from scalings (i - 1) b (omega arith) ∙ if_true _ _ (eq-eqb b (get_or scalings (i - 1) past).0 same))
 
-  pub search_other : (power : ℕ) → (b ≡ (get_or scalings (i - 1) past).0 → ⊥) → power ≡ of_z w8 (power_in (drop i scalings) b) → power ≡ of_z w8 (power_in (drop (i - 1) scalings) b)
+  pub search_other : (power : ℤ) → (b ≡ (get_or scalings (i - 1) past).0 → ⊥) → power ≡ power_in (drop i scalings) b → power ≡ power_in (drop (i - 1) scalings) b
   search_other power other inv =
       let next : i ≡ suc (i - 1) = omega arith in
       inv
-      ∙ ap (λ (k : ℕ). of_z w8 (power_in (drop k scalings) b)) next
-      ∙ ap (of_z w8) (sym (power_from scalings (i - 1) b (omega arith) ∙ if_false _ _ (ne_eqb b (get_or scalings (i - 1) past).0 other)))
+      ∙ ap (λ (k : ℕ). power_in (drop k scalings) b) next
+      ∙ sym (power_from scalings (i - 1) b (omega arith) ∙ if_false _ _ (ne_eqb b (get_or scalings (i - 1) past).0 other))
 
-pub search_done : (i b power : ℕ) → i ≤ 0 → power ≡ of_z w8 (power_in (drop i scalings) b) → to_z w8 power ≡ power_in scalings b
+pub search_done : (i b : ℕ) (power : ℤ) → i ≤ 0 → power ≡ power_in (drop i scalings) b → power ≡ power_in scalings b
 search_done i b power done inv =
     let e : i ≡ 0 = omega arith in
-    let k : power ≡ of_z w8 (power_in scalings b) = rw e at inv in
-    rw k (to_z-of_z (power_fits b))
+    rw e at inv
 
 -- ---- by how much a power is above zero
 

@@ -1,0 +1,11 @@
+use Rattle.base.proofs.RunLaws.{tested_on, tested_stop, reach_past}
+use Rattle.base.proofs.past_word.Goals as goal
+
+pub returns-then-not-is_filled : goal.returns-then-not-is_filled
+returns-then-not-is_filled c = search tested_stop
+
+pub loop-i-preserved : goal.loop-i-preserved
+loop-i-preserved c = search tested_on
+
+pub returns : goal.returns
+returns c = search reach_past

@@ -1,0 +1,13 @@
+-- `lex_number::is_value_word` meets its contract: zero's word, or the parts of the word are those of a number.
+-- Assumes nothing.
+use Rattle.base.proofs.IfLaws.{ifs}
+use Rattle.lex_number.specs.ValueWord.{is_value_word}
+use Rattle.lex_number.proofs.WordLaws.{word_tested}
+use Rattle.lex_number.proofs.is_value_word.Goals as goal
+
+pub returns-then-word-eq128 : goal.returns-then-word-eq128
+unfolding is_value_word
+returns-then-word-eq128 c = search ifs
+
+pub returns : goal.returns
+returns c = search word_tested

@@ -1,0 +1,13 @@
+-- `lex_number::lowering` meets its contract: each `return` by the sign.
+-- Assumes nothing.
+use Rattle.base.proofs.IfLaws.{ifs}
+use Rattle.lex_number.specs.Way.Capped.{lowering}
+use Rattle.lex_number.proofs.lowering.Goals as goal
+
+pub returns-then-x : goal.returns-then-x
+unfolding lowering
+returns-then-x c = search ifs
+
+pub returns : goal.returns
+unfolding lowering
+returns c = search ifs

@@ -1,0 +1,13 @@
+-- `lex_number::raising` meets its contract: each `return` by the sign.
+-- Assumes nothing.
+use Rattle.base.proofs.IfLaws.{ifs}
+use Rattle.lex_number.specs.Way.Capped.{raising}
+use Rattle.lex_number.proofs.raising.Goals as goal
+
+pub returns-then-x : goal.returns-then-x
+unfolding raising
+returns-then-x c = search ifs
+
+pub returns : goal.returns
+unfolding raising
+returns c = search ifs
