@@ -5,12 +5,8 @@ use Rattle.base.specs.If.{both, if◌then◌else◌}
 use Rattle.base.specs.Bytes.{small, is_capital, within}
 use Rattle.lex_keyword.specs.Names.{folded}
 use Rattle.lex_keyword.specs.Way.Lookup.{joined_names, letters}
-use Rattle.lex_keyword.proofs.all_letters.Statement.{statement}
-use Rattle.lex_keyword.proofs.all_letters.Tie as tie
+use Rattle.lex_keyword.proofs.all_letters.Goals as goal
 
-returns : tie.Need-returns
+pub returns : goal.returns
 unfolding letters joined_names folded if◌then◌else◌ small is_capital within both
 returns c = refl
-
-pub all_letters_spec : {M : Type 1} → statement M
-all_letters_spec = tie.close (tie.spec returns)
