@@ -80,5 +80,5 @@ module _ (b : Bool) (x y : List Rule) where
   pub list_passed : (found : ℕ) → No b → found ≡ first_broken y → found ≡ first_broken (if b then x else y)
   list_passed found h k = k ∙ sym (lists_no h.fails)
 
--- `search rules` proves every `return` of a function that makes the tests of a list in the list's order
-pub ruleset rules = (refl, is_broken, is_kept, list_chosen, list_passed, tests)
+-- `search rule_list` proves every `return` of a function that makes the tests of a list in the list's order
+pub ruleset rule_list = (refl, is_broken, is_kept, list_chosen, list_passed, tests)

@@ -1,6 +1,6 @@
 -- `cross_names::sections::section_rule` meets its contract.
 -- Assumes nothing.
-use Rattle.base.proofs.BrokenLaws.{rules}
+use Rattle.base.proofs.BrokenLaws.{rule_list}
 use Rattle.cross_names.specs.Way.Used.{rule_of}
 use borrow.Author.Rules.{rules}
 use Rattle.cross_names.proofs.sections.section_rule.Statement.{statement}
@@ -14,18 +14,18 @@ is_repeated_name_requires c κs = search rules
 
 returns : tie.Need-returns
 unfolding rule_of
-returns c = search rules
+returns c = search rule_list
 
 array_read_if2 : tie.Need-array-read-if2
 array_read_if2 c = search rules
 
 returns_2 : tie.Need-returns-2
 unfolding rule_of
-returns_2 c = search rules
+returns_2 c = search rule_list
 
 returns_3 : tie.Need-returns-3
 unfolding rule_of
-returns_3 c = search rules
+returns_3 c = search rule_list
 
 pub section_rule_spec : {M : Type 1} → statement M
 section_rule_spec =
