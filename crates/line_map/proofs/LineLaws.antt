@@ -166,7 +166,7 @@ module _ (content first : List ℕ) (t : Bool) (line : MapLine) (told : first �
         says_rows_lem h e =
             e ∙ sym (if_false _ _ (order_is ∙ other) ∙ if_false _ _ (list_is ∙ neither) ∙ if_false _ _ (columns_is ∙ no_columns) ∙ if_true _ _ (rows_is ∙ h))
 
-        pub says_nothing : w ≡ false → line ≡ record { says = says_nothing; right = true; formed = true; bounded = true; value = 0 } → line ≡ map_line_of content
+        pub says_nothing_lem : w ≡ false → line ≡ record { says = says_nothing; right = true; formed = true; bounded = true; value = 0 } → line ≡ map_line_of content
         unfolding map_line_of
-        says_nothing h e =
+        says_nothing_lem h e =
             e ∙ sym (if_false _ _ (order_is ∙ other) ∙ if_false _ _ (list_is ∙ neither) ∙ if_false _ _ (columns_is ∙ no_columns) ∙ if_false _ _ (rows_is ∙ h))

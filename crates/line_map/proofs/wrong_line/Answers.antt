@@ -2,12 +2,8 @@
 -- Assumes nothing.
 use borrow.Author.Rules.{rules}
 use Rattle.line_map.specs.PinMap.{wrong_map_line}
-use Rattle.line_map.proofs.wrong_line.Statement.{statement}
-use Rattle.line_map.proofs.wrong_line.Tie as tie
+use Rattle.line_map.proofs.wrong_line.Goals as goal
 
-returns : tie.Need-returns
+pub returns : goal.returns
 unfolding wrong_map_line
 returns c = search rules
-
-pub wrong_line_spec : {M : Type 1} → statement M
-wrong_line_spec = tie.close (tie.spec returns)
