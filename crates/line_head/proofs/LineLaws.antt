@@ -155,6 +155,6 @@ module _ (content : List ℕ) (few : FirstTwo) (told : few ≡ first_two_of cont
       unfolding head_line_of
       says_impedance_lem r e k = k ∙ sym (if_false _ _ (named_is a _ first ∙ other) ∙ if_false _ _ (named_is b _ second ∙ another) ∙ if_true _ _ (sym third ∙ e))
 
-      pub says_nothing : t ≡ false → record { says = says_nothing; right = true; formed = true; bounded = true; kind = 0 } ≡ head_line_of content
+      pub says_nothing_lem : t ≡ false → record { says = says_nothing; right = true; formed = true; bounded = true; kind = 0 } ≡ head_line_of content
       unfolding head_line_of
-      says_nothing e = sym (if_false _ _ (named_is a _ first ∙ other) ∙ if_false _ _ (named_is b _ second ∙ another) ∙ if_false _ _ (sym third ∙ e))
+      says_nothing_lem e = sym (if_false _ _ (named_is a _ first ∙ other) ∙ if_false _ _ (named_is b _ second ∙ another) ∙ if_false _ _ (sym third ∙ e))
