@@ -1,0 +1,25 @@
+-- `line_argument::form_of` meets its contract: each `return` by the words compared so far.
+-- Assumes nothing.
+use Rattle.base.proofs.IfLaws.{chain}
+use Rattle.line_argument.specs.Argument.{form_of}
+use Rattle.line_argument.proofs.form_of.Goals as goal
+
+pub returns-then-same_bytes : goal.returns-then-same_bytes
+unfolding form_of
+returns-then-same_bytes c = search chain depth 12
+
+pub returns-then-same_bytes-2 : goal.returns-then-same_bytes-2
+unfolding form_of
+returns-then-same_bytes-2 c = search chain depth 12
+
+pub returns-then-same_bytes-3 : goal.returns-then-same_bytes-3
+unfolding form_of
+returns-then-same_bytes-3 c = search chain depth 12
+
+pub returns-then-same_bytes-4 : goal.returns-then-same_bytes-4
+unfolding form_of
+returns-then-same_bytes-4 c = search chain depth 12
+
+pub returns : goal.returns
+unfolding form_of
+returns c = search chain depth 12
