@@ -51,9 +51,9 @@ module _ (content : List ℕ) (few : FirstTwo) (told : few ≡ first_two_of cont
       unfolding said_parts
       says_name_lem r e h = h ∙ sym (if_false _ _ (ne_eqb says says_section n) ∙ if_false _ _ (sym alone ∙ other) ∙ if_true _ _ (sym named ∙ e))
 
-      pub says_nothing : (r : PathParts) → b ≡ false → r ≡ plain_parts says_nothing true → r ≡ said_parts says content
+      pub says_nothing_lem : (r : PathParts) → b ≡ false → r ≡ plain_parts says_nothing true → r ≡ said_parts says content
       unfolding said_parts
-      says_nothing r e h = h ∙ sym (if_false _ _ (ne_eqb says says_section n) ∙ if_false _ _ (sym alone ∙ other) ∙ if_false _ _ (sym named ∙ e))
+      says_nothing_lem r e h = h ∙ sym (if_false _ _ (ne_eqb says says_section n) ∙ if_false _ _ (sym alone ∙ other) ∙ if_false _ _ (sym named ∙ e))
 
   pub line_told : (w : List ℕ) (says : ℕ) (r : PathParts) → w ≡ marked_by content few.first → says ≡ saying_of w → r ≡ said_parts says content → r ≡ parts_of content
   unfolding parts_of
