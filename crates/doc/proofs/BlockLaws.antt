@@ -128,8 +128,8 @@ module _ {A : Type 0} (opens inside : Line → Bool) (here : Line → List Line 
             ∙ sym (gather_none here);
         without = λ (o : Unit {0}). gather_none (of_block opens inside here) ∙ sym (gather_none here);
       }
-  one_pass (l ∷ ls) (more e follow) =
-      let later : Passes opens inside here ls = one_pass ls follow in
+  one_pass {p = p} (l ∷ ls) (more e follow) =
+      let later : Passes opens inside here ls = one_pass {p = place_after p l.content} ls follow in
       record {
         within = by_cases _ (inside l) (inside_more l ls e follow later) (left_more l ls e follow later);
         without = outside_more l ls e follow later;

@@ -165,7 +165,7 @@ record Sized (n : ℕ) (w : Word) : Type 0 where
   some : 1 ≤ length w.text
   few : length w.text ≤ n
 
-sized_more : {ws : List Word} (m n : ℕ) → m ≤ n → Each (Sized m) ws → Each (Sized n) ws
+sized_more : (m n : ℕ) {ws : List Word} → m ≤ n → Each (Sized m) ws → Each (Sized n) ws
 sized_more m n h none = none
 sized_more m n h (more k ks) = more (record { some = k.some; few = le_trans k.few h }) (sized_more m n h ks)
 

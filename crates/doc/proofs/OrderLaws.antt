@@ -49,24 +49,24 @@ laid_behind m a h k (onward {l = l} end u v lies rest) =
 
 laid_one : {t : List ℕ} {n at : ℕ} (before after : List Line) (l : Line) → Laid t n at (before ++ (l ∷ after)) → Behind n at l
 laid_one [] after l (onward end u v lies rest) = record { higher = u; starts = v }
-laid_one (k ∷ before) after l (onward end u v lies rest) =
-    let b : Behind (k.line + 1) end l = laid_one before after l rest in
+laid_one {t = t} {n = n} {at = at} (k ∷ before) after l (onward end u v lies rest) =
+    let b : Behind (k.line + 1) end l = laid_one {n = k.line + 1} before after l rest in
     let e : k.at < end = lies.further in
     record { higher = omega arith; starts = omega arith }
 
 laid_before : {t : List ℕ} {n at : ℕ} (before after : List Line) (l : Line) → Laid t n at (before ++ (l ∷ after)) →
     Each (Before l.line l.at) before
 laid_before [] after l h = none
-laid_before (k ∷ before) after l (onward end u v lies rest) =
+laid_before {t = t} {n = n} {at = at} (k ∷ before) after l (onward end u v lies rest) =
     let b : Behind (k.line + 1) end l = laid_one before after l rest in
     let e : k.at + length k.content ≤ end = lies.ends in
     let f : k.at < end = lies.further in
-    more {x = k} (record { lower = omega arith; starts = omega arith; ends = omega arith }) (laid_before before after l rest)
+    more {x = k} (record { lower = omega arith; starts = omega arith; ends = omega arith }) (laid_before {n = k.line + 1} before after l rest)
 
 laid_after : {t : List ℕ} {n at : ℕ} (before after : List Line) (l : Line) → Laid t n at (before ++ (l ∷ after)) →
     Each (Behind (l.line + 1) (l.at + length l.content)) after
 laid_after [] after l (onward end u v lies rest) = laid_behind (l.line + 1) (l.at + length l.content) (le_refl _) lies.ends rest
-laid_after (k ∷ before) after l (onward end u v lies rest) = laid_after before after l rest
+laid_after {t = t} {n = n} {at = at} (k ∷ before) after l (onward end u v lies rest) = laid_after {n = k.line + 1} before after l rest
 
 -- a line of a text among the others: the lines above it end before it starts, those below it start after its end
 pub record Sorted (before : List Line) (l : Line) (after : List Line) : Type 0 where

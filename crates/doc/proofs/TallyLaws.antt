@@ -342,10 +342,10 @@ tallied {s} [] none =
     let a : values_in [] ≡ 0 = values_none in
     let b : numbers_in s.matrix.form (up_to in_matrix []) ≡ 0 = ap (numbers_in s.matrix.form) (up_none in_matrix) in
     record { within = omega arith; without = λ (o : Unit {0}). omega arith }
-tallied (l ∷ ls) (more p b m g) =
+tallied {s = s} {e = e} (l ∷ ls) (more {s' = s'} p b m g) =
     record {
-      within = by_cases _ (in_matrix l) (tally_inside l ls p m g (tallied ls g)) (tally_left l ls p m g (tallied ls g));
-      without = tally_outside l ls p m g (tallied ls g);
+      within = by_cases _ (in_matrix l) (tally_inside l ls p m g (tallied {s = s'} ls g)) (tally_left l ls p m g (tallied {s = s'} ls g));
+      without = tally_outside l ls p m g (tallied {s = s'} ls g);
     }
 
 -- the count rises by as many values as the matrices of the lines have
