@@ -119,6 +119,7 @@ remains (suc depth) deep h (on Moves.block_end (on Moves.block_side (on Moves.bl
     Remains.closing AreItems.none (MayBeEnd.one IsEnd.sided) (remains depth (suc deep) (omega arith) r)
 remains zero deep h (on Moves.last_end over) = Remains.last AreItems.none IsEnd.alone
 remains zero deep h (on Moves.last_end (on Moves.last_side over)) = Remains.last AreItems.none IsEnd.sided
+remains zero deep h (on Rattle.law_grammar.proofs.StandLaws.last_end (on Rattle.law_grammar.proofs.StandLaws.last_side (on {t = t} {says = says} {later = later} x25 r))) = elim x25 [ ]
 
 reads_path : {path : List ℕ} → Reads fresh path → IsPath path
 reads_path (on Moves.first_end_lem (on Moves.first_section r)) = told (remains 0 deepest (omega arith) r)
@@ -266,6 +267,7 @@ reads_steps (l ∷ ls) (on m r) =
     let b : is_step_line l ≡ true = ap (λ (says : ℕ). not (eqb says says_side)) e in
     let more : steps_in (l ∷ ls) ≡ suc (steps_in ls) = steps_more l ls b in
     omega arith
+reads_steps [] x' = elim x' [ ]
 
 -- ---- and back
 
@@ -277,6 +279,10 @@ reads_accepts (l ∷ ls) s steps (on {t} m r) (AreRight.more here later) room =
     let a : Accepts (path_at t) (steps_after l steps) ls = reads_accepts ls t (steps_after l steps) r later (omega arith) in
     let b : Accepts (path_next l (path_at s)) (steps_after l steps) ls = rw (next_at_lem l m) a in
     Accepts.reads (holds l steps here (step_room l ls steps room) s m) b
+reads_accepts [] fresh steps x6 right room = elim x6 [ ]
+reads_accepts [] (Rattle.law_grammar.proofs.StandLaws.begun _) steps x8 right room = elim x8 [ ]
+reads_accepts [] (among _) steps x9 right room = elim x9 [ ]
+reads_accepts [] (Rattle.law_grammar.proofs.StandLaws.ended _ _) steps x11 right room = elim x11 [ ]
 
 -- ---- the law
 
