@@ -198,9 +198,9 @@ module _ (w : List ℕ) (ws : List (List ℕ)) where
   unfolding cut_right
   right_on e = if_false _ _ e
 
-  any_sign : has_sign w ≡ true → any_sign (w ∷ ws) ≡ true
+  any_sign_lem : has_sign w ≡ true → any_sign (w ∷ ws) ≡ true
   unfolding any_sign
-  any_sign e = if_true _ _ e
+  any_sign_lem e = if_true _ _ e
 
   any_on : has_sign w ≡ false → any_sign (w ∷ ws) ≡ any_sign ws
   unfolding any_sign
@@ -379,7 +379,7 @@ right_is (b ∷ s) =
 any_here : (b : ℕ) (s : List ℕ) → is_other b ≡ false → any_sign (bare (b ∷ s)) ≡ true
 any_here b s o =
     let w : Starts b (bare (b ∷ s)) = bare_starts b s (sign_filled b s o) in
-    ap any_sign w.are ∙ any_sign (b ∷ w.first) w.others (has_here b w.first o)
+    ap any_sign w.are ∙ any_sign_lem (b ∷ w.first) w.others (has_here b w.first o)
 
 has_is : (s : List ℕ) → has_sign s ≡ any_sign (bare s)
 unfolding has_sign bare any_sign
