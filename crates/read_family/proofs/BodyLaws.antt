@@ -182,4 +182,7 @@ grid_either false x g = g
 pub grid_lines : {m n : Map} → SameGrid m n → (ls : List Line) → SameGrid (grid_in m ls) (grid_in n ls)
 grid_lines {m} {n} g [] = rw (grid_none m, grid_none n) g
 grid_lines {m} {n} g (l ∷ ls) =
-    rw (grid_more m l ls, grid_more n l ls) (grid_lines (grid_either (stands_in place.map_head l) (map_line_of l.content) g) ls)
+    let inside : Bool = stands_in place.map_head l in
+    let said : MapLine = map_line_of l.content in
+    rw (grid_more m l ls, grid_more n l ls)
+    (grid_lines {m = if inside then map_next said m else m} {n = if inside then map_next said n else n} (grid_either inside said g) ls)

@@ -71,12 +71,12 @@ module _ (l : Line) (rest : List Line) (s s' : State) (takes : Takes l s s') (o 
     unfolding opens_model
     no_model_here = both_not_right _ _ (no_key begin_icm_model (λ (z : plain ≡ begin_icm_model). omega arith))
 
-    in_map : in_map l ≡ true
+    in_map_lem : in_map l ≡ true
     unfolding in_map stands_in
-    in_map = either_left _ _ (both_true _ _ (eq-eqb _ _ (takes.here ∙ there)) (eq-eqb _ _ key))
+    in_map_lem = either_left _ _ (both_true _ _ (eq-eqb _ _ (takes.here ∙ there)) (eq-eqb _ _ key))
 
     body : up_to in_map (l ∷ rest) ≡ l ∷ up_to in_map rest
-    body = up_in in_map l rest in_map
+    body = up_in in_map l rest in_map_lem
 
     grid_told : grid_in s.map (up_to in_map (l ∷ rest)) ≡ grid_in s'.map (up_to in_map rest)
     grid_told =
