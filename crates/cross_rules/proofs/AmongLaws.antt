@@ -74,6 +74,7 @@ module _ {A B : Type 0} (f : A → B) where
     where
       longer : {y : B} → Source f xs y → Source f (x ∷ xs) y
       longer s = record { source = s.source; among = further s.among; gives = s.gives }
+  source_of [] {y = y} x' = elim x' [ ]
 
   pub among_mapped : {x : A} {xs : List A} → Among x xs → Among (f x) (map f xs)
   among_mapped front = front

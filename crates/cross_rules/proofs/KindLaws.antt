@@ -131,21 +131,21 @@ module _ (f : Finding) (fs : List Finding) where
 pub first_low : {least : ℕ} (fs : List Finding) → Rising least (finding_lines fs) → ((first_in fs).rule ≡ 0 → ⊥) → least ≤ (first_in fs).line
 unfolding first_in no_finding
 first_low [] h n = absurd (n refl)
-first_low (f ∷ fs) (rise h rest) n =
+first_low {least = least} (f ∷ fs) (rise h rest) n =
     by_cases _ (eqb f.rule 0)
     (λ (e : eqb f.rule 0 ≡ true).
     let l : first_in (f ∷ fs) ≡ first_in fs = first_later f fs (eqb-true _ _ e) in
-    let k : f.line + 1 ≤ (first_in fs).line = first_low fs rest (rw l at n) in
+    let k : f.line + 1 ≤ (first_in fs).line = first_low {least = f.line + 1} fs rest (rw l at n) in
     rw l (omega arith))
     (λ (e : eqb f.rule 0 ≡ false). rw (first_here f fs (eqb-false _ _ e)) h)
 
 pub first_earliest : {least : ℕ} (fs : List Finding) → Rising least (finding_lines fs) → first_in fs ≡ earliest fs
 unfolding earliest first_in
 first_earliest [] h = refl
-first_earliest (f ∷ fs) (rise h rest) =
+first_earliest {least = least} (f ∷ fs) (rise h rest) =
     by_cases _ (eqb f.rule 0)
     (λ (e : eqb f.rule 0 ≡ true).
-    first_later f fs (eqb-true _ _ e) ∙ first_earliest fs rest ∙ sym (earlier_second f (earliest fs) (eqb-true _ _ e)))
+    first_later f fs (eqb-true _ _ e) ∙ first_earliest {least = f.line + 1} fs rest ∙ sym (earlier_second f (earliest fs) (eqb-true _ _ e)))
     (λ (e : eqb f.rule 0 ≡ false).
     first_here f fs (eqb-false _ _ e)
     ∙ sym (earlier_first f (first_in fs) (eqb-false _ _ e) (λ n. below n (first_low fs rest)))

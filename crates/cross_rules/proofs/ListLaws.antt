@@ -404,8 +404,8 @@ module _ {A : Type 0} (line : A → ℕ) (here : Line → List Line → List A)
   below_list :
       {least : ℕ} (ls : List Line) → Rising least (numbers ls) → Parted here ls → Each (Below (gather here ls)) (gather listed_at ls)
   below_list ls h (past e) = rw e Each_none
-  below_list (l ∷ ls) (rise h rest) (silent e parted) =
-      rw (gather_more listed_at l ls, gather_more here l ls, e) (each_append (name_above l ls rest) (below_list ls rest parted))
+  below_list {least = least} (_ ∷ _) (rise h rest) (silent {l = l} {ls = ls} e parted) =
+      rw (gather_more listed_at l ls, gather_more here l ls, e) (each_append (name_above l ls rest) (below_list {least = l.line + 1} ls rest parted))
 
 -- ---- the list of a text
 

@@ -176,9 +176,9 @@ module _ (d : Document) where
   unfolding list_findings
   list_lines = mapped_lines (λ (n : Named). n.line) _ (λ (n : Named). refl) d.listed
 
-  step_lines : (m : Model) → finding_lines (step_findings d m) ≡ step_lines m.steps
+  step_lines_lem : (m : Model) → finding_lines (step_findings d m) ≡ step_lines m.steps
   unfolding step_findings
-  step_lines m = mapped_lines (λ (s : Step). s.line) _ (λ (s : Step). refl) m.steps
+  step_lines_lem m = mapped_lines (λ (s : Step). s.line) _ (λ (s : Step). refl) m.steps
 
   pin_lines : (m : Map) → finding_lines (pin_findings m) ≡ name_lines m.pins
   unfolding pin_findings
@@ -188,7 +188,7 @@ module _ (d : Document) where
   unfolding model_findings joined
   model_lines_lem [] = refl
   model_lines_lem (m ∷ ms) =
-      ap (λ (ls : List ℕ). m.line ∷ ls) (map-append _ (step_findings d m) (model_findings d ms) ∙ (λ i. step_lines m i ++ model_lines_lem ms i))
+      ap (λ (ls : List ℕ). m.line ∷ ls) (map-append _ (step_findings d m) (model_findings d ms) ∙ (λ i. step_lines_lem m i ++ model_lines_lem ms i))
 
   sgr_lines : (ms : List Model) → finding_lines (sgr_findings ms) ≡ joined sgr_line ms
   unfolding sgr_findings line_or_none joined
@@ -234,7 +234,7 @@ sgr_rising {low} {least} n (l ∷ ls) (rise least_here rest) k h =
     by_cases _ (in_model l)
     (λ (e : in_model l ≡ true).
     rw (up_in in_model l ls e, gather_more model_at l ls, model_shut l ls e)
-    (sgr_rising (if says_sgr l then l.line else n) ls rest (omega arith)
+    (sgr_rising {least = l.line + 1} (if says_sgr l then l.line else n) ls rest (omega arith)
     (by_test (λ (m : ℕ). (m ≡ 0 → ⊥) → (low ≤ m) × (m < l.line + 1)) (says_sgr l) l.line n
     (λ s z. (omega arith, omega arith))
     (λ s z. let between : (low ≤ n) × (n < least) = h z in let below : n < least = between.1 in (between.0, omega arith)))))
@@ -242,12 +242,12 @@ sgr_rising {low} {least} n (l ∷ ls) (rise least_here rest) k h =
     rw (up_out in_model l ls e, gather_more model_at l ls, joined_append head_lines (model_at l ls) (gather model_at ls))
     (or_none_rising n h k
     (gives_rising (line_or_none (sgr_in 0 (up_to in_model ls))) _ (head_whole l ls) least_here
-    (sgr_rising 0 ls rest (omega arith) (λ (z : ◌≡◌ {A = ℕ} 0 0 → ⊥). absurd (z refl))))))
+    (sgr_rising {low = l.line + 1} 0 ls rest (omega arith) (λ (z : ◌≡◌ {A = ℕ} 0 0 → ⊥). absurd (z refl))))))
 
 -- where the lines of models are left out, the others rise still
 between_rising : {least : ℕ} (xs ys zs : List ℕ) → ((low : ℕ) → Rising low ys → Rising low zs) → Rising least (xs ++ ys) → Rising least (xs ++ zs)
 between_rising {least} [] ys zs f h = f least h
-between_rising (x ∷ xs) ys zs f (rise k rest) = rise k (between_rising xs ys zs f rest)
+between_rising {least = least} (x ∷ xs) ys zs f (rise k rest) = rise k (between_rising {least = x + 1} xs ys zs f rest)
 
 only_sgr : {least : ℕ} (ms : List Model) → Rising least (joined head_lines ms) → Rising least (joined sgr_line ms)
 unfolding joined

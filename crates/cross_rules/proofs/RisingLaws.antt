@@ -32,6 +32,7 @@ module _ {A : Type 0} where
   pub each_one : {P : A → Type 0} {x : A} {xs : List A} → Each P xs → Among x xs → P x
   each_one (more h hs) front = h
   each_one (more h hs) (further m) = each_one hs m
+  each_one {P = P} none x4 = elim x4 [ ]
 
   pub each_among : (xs : List A) → Each (λ (x : A). Among x xs) xs
   each_among [] = none
@@ -50,11 +51,11 @@ rising_wider h (rise k rest) = rise (le_trans h k) rest
 
 pub rising_front : {least : ℕ} (xs ys : List ℕ) → Rising least (xs ++ ys) → Rising least xs
 rising_front [] ys h = flat
-rising_front (x ∷ xs) ys (rise h rest) = rise h (rising_front xs ys rest)
+rising_front {least = least} (x ∷ xs) ys (rise h rest) = rise h (rising_front {least = x + 1} xs ys rest)
 
 pub rising_behind : {least : ℕ} (xs ys : List ℕ) → Rising least (xs ++ ys) → Rising least ys
 rising_behind [] ys h = h
-rising_behind (x ∷ xs) ys (rise h rest) = rising_wider (omega arith) (rising_behind xs ys rest)
+rising_behind {least = least} (x ∷ xs) ys (rise h rest) = rising_wider (omega arith) (rising_behind {least = x + 1} xs ys rest)
 
 -- ---- what comes before an element of a list, and what after
 
@@ -65,27 +66,27 @@ module _ {A : Type 0} (line : A → ℕ) where
 
   rising_at : {least : ℕ} (above below : List A) (x : A) → Rising least (map line (above ++ (x ∷ below))) → least ≤ line x
   rising_at [] below x (rise h rest) = h
-  rising_at (a ∷ above) below x (rise h rest) =
-      let k : line a + 1 ≤ line x = rising_at above below x rest in
+  rising_at {least = least} (a ∷ above) below x (rise h rest) =
+      let k : line a + 1 ≤ line x = rising_at {least = line a + 1} above below x rest in
       omega arith
 
   pub above_lower :
       {least : ℕ} (above below : List A) (x : A) → Rising least (map line (above ++ (x ∷ below))) → Each (λ (a : A). line a < line x) above
   above_lower [] below x h = none
-  above_lower (a ∷ above) below x (rise h rest) =
+  above_lower {least = least} (a ∷ above) below x (rise h rest) =
       let k : line a + 1 ≤ line x = rising_at above below x rest in
-      more {x = a} (omega arith) (above_lower above below x rest)
+      more {x = a} (omega arith) (above_lower {least = line a + 1} above below x rest)
 
   pub below_higher :
       {least : ℕ} (above below : List A) (x : A) → Rising least (map line (above ++ (x ∷ below))) → Each (λ (a : A). line x < line a) below
   below_higher [] below x (rise h rest) = each_by (λ (a : A) (k : line x + 1 ≤ line a). omega arith) (all_least below rest)
-  below_higher (a ∷ above) below x (rise h rest) = below_higher above below x rest
+  below_higher {least = least} (a ∷ above) below x (rise h rest) = below_higher {least = line a + 1} above below x rest
 
   higher_among : {least : ℕ} {x : A} (xs : List A) → Rising least (map line xs) → Among x xs → least ≤ line x
   higher_among xs h m = each_one (all_least xs h) m
 
   -- an element is determined by its line
-  pub same_line : {least : ℕ} {x y : A} (xs : List A) → Rising least (map line xs) → Among x xs → Among y xs → line x ≡ line y → x ≡ y
+  pub same_line : {x y : A} {least : ℕ} (xs : List A) → Rising least (map line xs) → Among x xs → Among y xs → line x ≡ line y → x ≡ y
   same_line xs h front front e = refl
   same_line {x = x} {y = y} (z ∷ xs) (rise h rest) front (further m) e =
       let k : line x + 1 ≤ line y = higher_among xs rest m in
@@ -93,7 +94,7 @@ module _ {A : Type 0} (line : A → ℕ) where
   same_line {x = x} {y = y} (z ∷ xs) (rise h rest) (further m) front e =
       let k : line y + 1 ≤ line x = higher_among xs rest m in
       absurd (omega arith)
-  same_line (z ∷ xs) (rise h rest) (further m) (further n) e = same_line xs rest m n e
+  same_line {x = x} {y = y} {least = least} (_ ∷ _) (rise h rest) (further {y = z} {xs = xs} m) (further n) e = same_line {least = line z + 1} xs rest m n e
 
 -- ---- what lines give
 
@@ -116,9 +117,9 @@ module _ {A : Type 0} (line : A → ℕ) (here : Line → List Line → List A)
   -- each line gives at most one element, with its own line number
   pub gather_rising : {least : ℕ} (ls : List Line) → Rising least (numbers ls) → Rising least (map line (gather here ls))
   gather_rising [] flat = rw (gather_none here) flat
-  gather_rising (l ∷ ls) (rise h rest) =
+  gather_rising {least = least} (l ∷ ls) (rise h rest) =
       rw (gather_more here l ls, map-append line (here l ls) (gather here ls))
-      (gives_rising [] (map line (gather here ls)) (own l ls) h (gather_rising ls rest))
+      (gives_rising [] (map line (gather here ls)) (own l ls) h (gather_rising {least = l.line + 1} ls rest))
 
   -- A kind of block: its opening line gives the whole block, whose lines are the opening line and those that its inner
   -- lines give. No line inside a block opens another.
@@ -155,9 +156,9 @@ module _ {A : Type 0} (line : A → ℕ) (here : Line → List Line → List A)
         Rising least (map line (gather here (up_to inside ls)) ++ joined lines (gather block_at ls))
     unfolding joined
     within_rising [] flat = rw (up_none inside, gather_none here, gather_none block_at) flat
-    within_rising (l ∷ ls) (rise h rest) =
-        by_cases _ (inside l) (λ (e : inside l ≡ true). inside_rising l ls e h (within_rising ls rest))
-        (λ (e : inside l ≡ false). outside_rising l ls e h (within_rising ls rest))
+    within_rising {least = least} (l ∷ ls) (rise h rest) =
+        by_cases _ (inside l) (λ (e : inside l ≡ true). inside_rising l ls e h (within_rising {least = l.line + 1} ls rest))
+        (λ (e : inside l ≡ false). outside_rising l ls e h (within_rising {least = l.line + 1} ls rest))
 
     pub blocks_rising : {least : ℕ} (ls : List Line) → Rising least (numbers ls) → Rising least (joined lines (gather block_at ls))
     blocks_rising ls h = rising_behind (map line (gather here (up_to inside ls))) _ (within_rising ls h)
