@@ -308,9 +308,9 @@ abbrev fork_step : ℕ → Line → Step
 fork_step kind l = record { kind = kind; name = no_word; mult = false; amount = 0; side = no_word; line = l.line }
 
 module _ (l : Line) (after : List Line) where
-  end_step : saying_at l ≡ path.says_end → step_of l after ≡ end_step l after ∷ []
+  end_step_lem : saying_at l ≡ path.says_end → step_of l after ≡ end_step l after ∷ []
   unfolding step_of if◌then◌else◌
-  end_step e = rw e
+  end_step_lem e = rw e
 
   section_step_lem : saying_at l ≡ path.says_section → step_of l after ≡ section_step l ∷ []
   unfolding step_of if◌then◌else◌
@@ -395,7 +395,7 @@ module _ (l : Line) (ls : List Line) (i : InPath l) (r : Ruled l.content) (below
   line_inside (is_endfork k f) =
       rw (endfork_step l ls (said_inside l i ∙ k)) (PathWritten.next_step i (WritesStep.endfork (one_word _ _ (endfork_one l.content r k) f)) later)
   line_inside (is_end_lem k f) =
-      rw (end_step l ls (said_inside l i ∙ k))
+      rw (end_step_lem l ls (said_inside l i ∙ k))
       (PathWritten.next_step i (WritesStep.model_pinmap (named_words l (bytes "Model_pinmap") (end_two l.content r k) f) (side_below below)) later)
   line_inside (is_side_lem k f) =
       rw (side_step l ls (said_inside l i ∙ k)) (PathWritten.side_line i (named_words l (bytes "Side") (side_two l.content r k) f) later)
