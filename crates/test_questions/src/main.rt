@@ -24,6 +24,9 @@ ghost use Rattle.std.specs.Prelude.{◌≤◌, length};
 use ask_walk::{Place, Walked};
 use base::Class;
 use intake::Answer;
+use std::fs::File;
+use std::io::Read;
+use std::rt::Files;
 use table_record::StepRecord;
 
 // The longest text, and the longest table.
@@ -295,20 +298,47 @@ fn ask_parts(line: &[u8], text: &[u8], table: &[u64], sizes: Sizes) {
 
 // ---- the text
 
-// Reads a file into the room and returns its length; 0 if the file cannot be read or is too long.
-fn read_text(file: &[u8], text: &mut [u8]) -> usize {
-    let open = os::open_read(file);
-    if open < 0 {
-        io::write_all(1, b"text cannot be read\n");
-        return 0;
+// Opens a file to read; none if its name is not UTF-8 or it cannot be opened.
+fn open<R: Files>(rt: &R, name: &[u8]) -> Option<R::File> {
+    match str::from_utf8(name) {
+        Ok(path) => File::open(rt, path).ok(),
+        Err(_) => None,
     }
-    let count = io::read_full(open, text);
-    libc::close(open);
+}
+
+// Reads until the room is full, the file ends or a read fails, and returns how many bytes were read.
+fn read_full<F: Read>(file: &mut F, room: &mut [u8]) -> usize
+    ensures { result ≤ length room.new }
+{
+    let mut done = 0;
+    while done < room.len() {
+        match file.read(&mut room[done..]) {
+            Ok(count) if 0 < count => done += count,
+            _ => break,
+        }
+    }
+    done
+}
+
+// Reads an opened file into the room and returns its length; 0 if the file is too long.
+fn read_opened<F: Read + Drop>(mut file: F, text: &mut [u8]) -> usize {
+    let count = read_full(&mut file, text);
     if MOST < count {
         io::write_all(1, b"text too long\n");
         return 0;
     }
     count
+}
+
+// Reads a file into the room and returns its length; 0 if the file cannot be read or is too long.
+fn read_text<R: Files>(rt: &R, name: &[u8], text: &mut [u8]) -> usize {
+    match open(rt, name) {
+        Some(file) => read_opened(file, text),
+        None => {
+            io::write_all(1, b"text cannot be read\n");
+            0
+        }
+    }
 }
 
 // The rest of a line after its first five bytes, `line` and a blank.
@@ -450,15 +480,21 @@ fn run_table(line: &[u8], text: &[u8], table: &mut [u64], sizes: Sizes) -> usize
 }
 
 // Runs `text`, alone or with a file, and returns the length of the text.
-fn run_text(line: &[u8], text: &mut [u8]) -> usize {
+fn run_text<R: Files>(rt: &R, line: &[u8], text: &mut [u8]) -> usize {
     let file = word_of(line, 1);
     if file.len() == 0 {
         return 0;
     }
-    read_text(file, text)
+    read_text(rt, file, text)
 }
 
-fn run_line(line: &[u8], text: &mut [u8], table: &mut [u64], sizes: Sizes) -> Sizes {
+fn run_line<R: Files>(
+    rt: &R,
+    line: &[u8],
+    text: &mut [u8],
+    table: &mut [u64],
+    sizes: Sizes,
+) -> Sizes {
     if line.len() == 0 {
         return sizes;
     }
@@ -470,7 +506,7 @@ fn run_line(line: &[u8], text: &mut [u8], table: &mut [u64], sizes: Sizes) -> Si
     let command = command_of(line);
     if lex_line::same_bytes(command, b"text") {
         return Sizes {
-            bytes: run_text(line, text),
+            bytes: run_text(rt, line, text),
             words: sizes.words,
         };
     }
@@ -486,12 +522,12 @@ fn run_line(line: &[u8], text: &mut [u8], table: &mut [u64], sizes: Sizes) -> Si
     }
 }
 
-fn run_lines(lines: &[u8], text: &mut [u8], table: &mut [u64]) {
+fn run_lines<R: Files>(rt: &R, lines: &[u8], text: &mut [u8], table: &mut [u64]) {
     let mut sizes = Sizes { bytes: 0, words: 0 };
     let mut at = 0;
     while at < lines.len() {
         let end = base::skip(Class::Before(b'\n'), lines, at);
-        sizes = run_line(&lines[at..end], text, table, sizes);
+        sizes = run_line(rt, &lines[at..end], text, table, sizes);
         at = end + 1;
     }
 }
@@ -510,10 +546,10 @@ fn table_room() -> [u64; ROOM] {
     [0u64; ROOM]
 }
 
-fn main() {
+fn main(rt: HostRuntime) {
     let mut lines = lines_room();
     let mut text = text_room();
     let mut table = table_room();
     let length = io::read_full(0, &mut lines);
-    run_lines(&lines[..length], &mut text, &mut table);
+    run_lines(&rt, &lines[..length], &mut text, &mut table);
 }

@@ -6,10 +6,13 @@
 // A table is not zero before the intake. An answer ends with `old words` if a word of that is left.
 #![tactic(auto)]
 
-ghost use Rattle.std.specs.Prelude.{◌≤◌};
+ghost use Rattle.std.specs.Prelude.{◌≤◌, length};
 
 use base::Class;
 use intake::Answer;
+use std::fs::File;
+use std::io::Read;
+use std::rt::Files;
 
 // One byte more than a text may have, so that a longer text is recognized.
 const MOST: usize = 1048577;
@@ -214,40 +217,66 @@ fn print_name(file: &[u8]) {
     io::write_all(1, &file[..end]);
 }
 
-fn run_file(name: &[u8], word: &[u8]) {
-    print_name(name);
-    let file = os::open_read(name);
-    if file < 0 {
-        io::write_all(1, b" cannot be read\n");
-        return;
+// Opens a file to read; none if its name is not UTF-8 or it cannot be opened.
+fn open<R: Files>(rt: &R, name: &[u8]) -> Option<R::File> {
+    match str::from_utf8(name) {
+        Ok(path) => File::open(rt, path).ok(),
+        Err(_) => None,
     }
+}
+
+// Reads until the room is full, the file ends or a read fails, and returns how many bytes were read.
+fn read_full<F: Read>(file: &mut F, room: &mut [u8]) -> usize
+    ensures { result ≤ length room.new }
+{
+    let mut done = 0;
+    while done < room.len() {
+        match file.read(&mut room[done..]) {
+            Ok(count) if 0 < count => done += count,
+            _ => break,
+        }
+    }
+    done
+}
+
+fn run_opened<F: Read + Drop>(mut file: F, word: &[u8]) {
     let mut text = text_room();
-    let count = io::read_full(file, &mut text);
-    libc::close(file);
+    let count = read_full(&mut file, &mut text);
     run_text(&text[..count], word);
 }
 
-fn run_line(line: &[u8]) {
+fn run_file<R: Files>(rt: &R, name: &[u8], word: &[u8]) {
+    print_name(name);
+    match open(rt, name) {
+        Some(file) => run_opened(file, word),
+        None => {
+            io::write_all(1, b" cannot be read\n");
+        }
+    }
+}
+
+fn run_line<R: Files>(rt: &R, line: &[u8]) {
     let few = lex_line::first_two_words(line);
     let first = few.first;
     let second = few.second;
     run_file(
+        rt,
         lex_line::marked(line, first),
         lex_line::marked(line, second),
     );
 }
 
-fn run_lines(lines: &[u8]) {
+fn run_lines<R: Files>(rt: &R, lines: &[u8]) {
     let mut at = 0;
     while at < lines.len() {
         let end = base::skip(Class::Before(b'\n'), lines, at);
-        run_line(&lines[at..end]);
+        run_line(rt, &lines[at..end]);
         at = end + 1;
     }
 }
 
-fn main() {
+fn main(rt: HostRuntime) {
     let mut lines = io::large_buffer();
     let length = io::read_full(0, &mut lines);
-    run_lines(&lines[..length]);
+    run_lines(&rt, &lines[..length]);
 }
