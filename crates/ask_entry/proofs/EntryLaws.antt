@@ -10,7 +10,7 @@ use lib.Dec.{eqb, ltb}
 use borrow.Author.Tests.{not-true, not-false}
 use Rattle.table_record.specs.Way.Standing.{count_of, Rooms}
 use Rattle.table_record.specs.Records.{Records, records_of, no_section, no_matrix}
-use Rattle.base.specs.If.{if◌then◌else◌, both}
+use Rattle.base.specs.If.{provided◌then◌else◌, both}
 use Rattle.base.specs.Refusal as refusal
 use Rattle.table_layout.specs.Codes.{matrix_kinds}
 use Rattle.table_layout.specs.Bounds.{most_conductors}
@@ -40,7 +40,7 @@ entry_exchange : (r : Records) (index row column : ℕ) → entry_of r index row
 unfolding entry_of
 entry_exchange r index row column =
     λ i.
-    if eqb index 0
+    provided eqb index 0
     then zero_word
     else word_at (min_comm row column i) (max_comm row column i) (matrix_values r (get_or r.matrices (index - 1) no_matrix))
 
@@ -53,13 +53,13 @@ from_exchange : (r : Records) (section kind row column : ℕ) → entry_from r s
 unfolding entry_from
 from_exchange r section kind row column =
     λ i.
-    if not (range_exchange r section kind row column i) then entry_refused refusal.no_such else
+    provided not (range_exchange r section kind row column i) then entry_refused refusal.no_such else
     found_with (entry_exchange r (matrix_index (get_or r.sections section no_section) kind) row column i)
 
 pub exchange : (t table : List ℕ) (section kind row column : ℕ) → entry_answer t table section kind row column ≡ entry_answer t table section kind column row
 unfolding entry_answer
 exchange t table section kind row column =
-    λ i. if not (is_sound t table) then entry_refused refusal.table else from_exchange (records_of table) section kind row column i
+    λ i. provided not (is_sound t table) then entry_refused refusal.table else from_exchange (records_of table) section kind row column i
 
 -- ---- one answer
 

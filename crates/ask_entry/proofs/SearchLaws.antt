@@ -14,7 +14,7 @@ use Rattle.table_layout.specs.Layout.{value_width}
 use Rattle.table_layout.specs.Bounds.{most_conductors}
 use Rattle.table_record.specs.Way.Standing.{places, value_at, values_from}
 use Rattle.table_record.specs.declared.Value.{Value}
-use Rattle.base.specs.If.{if◌then◌else◌, both}
+use Rattle.base.specs.If.{provided◌then◌else◌, both}
 use Rattle.base.proofs.IfLaws.{if_true, if_false, both_true, both_first, both_second}
 use Rattle.lex_number.specs.ValueWord.{zero_word}
 use Rattle.doc.specs.Holds.{is_in_upper_half, comes_before, rises}
@@ -98,7 +98,7 @@ module _ (table : List ℕ) where
     unfolding word_at values_from places
     word_none at = refl
 
-    word_more : (at n : ℕ) → word at (suc n) ≡ (if matches (here at) then (here at).word else word (at + value_width) n)
+    word_more : (at n : ℕ) → word at (suc n) ≡ (provided matches (here at) then (here at).word else word (at + value_width) n)
     unfolding word_at values_from places
     word_more at n = refl
 
@@ -134,7 +134,7 @@ module _ (table : List ℕ) where
     word_front at (suc m) (suc n) h e b =
         let p : at + value_width * suc m ≡ at + value_width + value_width * m = omega arith in
         let rest : word (at + value_width) n ≡ word (at + value_width) m = word_front (at + value_width) m n (le_of_suc-le-suc h) (rises_tail at n e) (rw p at b) in
-        word_more at n ∙ ap (λ (w : ℕ). if matches (here at) then (here at).word else w) rest ∙ sym (word_more at m)
+        word_more at n ∙ ap (λ (w : ℕ). provided matches (here at) then (here at).word else w) rest ∙ sym (word_more at m)
 
     before_asked : (u v : Value) → Before u v → v.row ≡ row → v.column ≡ column → Before u (asked row column)
     before_asked u v (Before.rows h) r c = Before.rows (omega arith)

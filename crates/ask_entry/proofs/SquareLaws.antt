@@ -11,7 +11,7 @@ use lib.Seq.{get_or-append-add}
 use lib.Dec.{ltb}
 use borrow.Author.Tests.{le-leb}
 use Rattle.table_record.specs.Records.{Records, records_of, no_section}
-use Rattle.base.specs.If.{if◌then◌else◌, both}
+use Rattle.base.specs.If.{provided◌then◌else◌, both}
 use Rattle.base.specs.Bytes.{within}
 use Rattle.base.specs.Refusal as refusal
 use Rattle.table_layout.specs.Codes.{matrix_kinds}
@@ -77,8 +77,8 @@ module _ (t table : List ℕ) (section kind room conductors : ℕ) (found : matr
       (λ (e : is_sound t table ≡ true). e)
       (λ (e : is_sound t table ≡ false). absurd (true≢false (sym (ap (λ (w : MatrixWords). w.found) found) ∙ ap (λ (w : MatrixWords). w.found) (if_true _ _ (not_via e)))))
 
-  past_sound : (if not (is_in_range (records_of table) section kind 1 1) then matrix_refused refusal.no_such else
-      if ltb room (section_conductors (records_of table) section * section_conductors (records_of table) section) then short_of (section_conductors (records_of table) section)
+  past_sound : (provided not (is_in_range (records_of table) section kind 1 1) then matrix_refused refusal.no_such else
+      provided ltb room (section_conductors (records_of table) section * section_conductors (records_of table) section) then short_of (section_conductors (records_of table) section)
       else found_of (section_conductors (records_of table) section)) ≡ found_of conductors
   unfolding matrix_answer matrix_from
   past_sound = sym (if_false _ _ (not_not_via sound_first)) ∙ found
@@ -89,7 +89,7 @@ module _ (t table : List ℕ) (section kind room conductors : ℕ) (found : matr
       (λ (e : is_in_range (records_of table) section kind 1 1 ≡ true). e)
       (λ (e : is_in_range (records_of table) section kind 1 1 ≡ false). absurd (true≢false (sym (ap (λ (w : MatrixWords). w.found) past_sound) ∙ ap (λ (w : MatrixWords). w.found) (if_true _ _ (not_via e)))))
 
-  past_range : (if ltb room (section_conductors (records_of table) section * section_conductors (records_of table) section) then short_of (section_conductors (records_of table) section)
+  past_range : (provided ltb room (section_conductors (records_of table) section * section_conductors (records_of table) section) then short_of (section_conductors (records_of table) section)
       else found_of (section_conductors (records_of table) section)) ≡ found_of conductors
   past_range = sym (if_false _ _ (not_not_via range_then)) ∙ past_sound
 

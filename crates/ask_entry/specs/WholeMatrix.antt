@@ -4,7 +4,7 @@
 use Rattle.std.specs.Prelude.{ℕ, zero, suc, ◌+◌, ◌*◌, Bool, true, false, not, List, [], ◌∷◌, ◌++◌, get_or, ltb}
 use Rattle.std.proofs.lemmas.List.Edits.{sets}
 use Rattle.table_record.specs.Records.{Records, records_of, no_section}
-use Rattle.base.specs.If.{if◌then◌else◌}
+use Rattle.base.specs.If.{provided◌then◌else◌}
 use Rattle.base.specs.Refusal as refusal
 use Rattle.ask_sound.specs.Sound.{is_sound}
 use Rattle.ask_entry.specs.Entry.{matrix_index, entry_of, is_in_range}
@@ -61,18 +61,18 @@ section_conductors r section = (get_or r.sections section no_section).conductors
 -- `room` words are enough. For the records of a sound table
 unfoldable pub matrix_from : Records → ℕ → ℕ → ℕ → MatrixWords
 matrix_from r section kind room =
-    if not (is_in_range r section kind 1 1) then matrix_refused refusal.no_such else
-    if ltb room (section_conductors r section * section_conductors r section) then short_of (section_conductors r section)
+    provided not (is_in_range r section kind 1 1) then matrix_refused refusal.no_such else
+    provided ltb room (section_conductors r section * section_conductors r section) then short_of (section_conductors r section)
     else found_of (section_conductors r section)
 
 -- "30 TABLE: question over an unsound table"
 unfoldable pub matrix_answer : List ℕ → List ℕ → ℕ → ℕ → ℕ → MatrixWords
 matrix_answer t table section kind room =
-    if not (is_sound t table) then matrix_refused refusal.table else matrix_from (records_of table) section kind room
+    provided not (is_sound t table) then matrix_refused refusal.table else matrix_from (records_of table) section kind room
 
 -- the room after an answer: the entries from its start on if the matrix was found, else unchanged
 unfoldable pub room_after : List ℕ → ℕ → ℕ → MatrixWords → List ℕ → List ℕ
 room_after table section kind answer room =
-    if answer.found then
+    provided answer.found then
     sets room 0 (square_of (records_of table) (matrix_index (get_or (records_of table).sections section no_section) kind) answer.conductors)
     else room

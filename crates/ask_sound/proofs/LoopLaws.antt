@@ -18,7 +18,7 @@ use Rattle.table_record.specs.Way.Standing.{places, step_at, value_at, base_of, 
 use Rattle.table_record.specs.declared.StepRecord.{StepRecord}
 use Rattle.table_record.specs.declared.Value.{Value}
 use Rattle.table_layout.specs.Codes.{fork_kind, endfork_kind}
-use Rattle.base.specs.If.{if◌then◌else◌, both}
+use Rattle.base.specs.If.{provided◌then◌else◌, both}
 use Rattle.base.proofs.IfLaws.{if_true, if_false, by_cases, both_rest, both_not_left}
 use Rattle.table_layout.specs.Layout.{widths, part_count, step_width, value_width}
 use Rattle.table_layout.specs.Bounds.{deepest, most_conductors}
@@ -70,17 +70,17 @@ stays_within d kind h e = by_cases _ (eqb kind fork_kind) fork other
     fork f =
         let l : d < deepest = ltb-true d deepest (sym (if_true _ _ f) ∙ e) in
         let k : d + 1 ≤ deepest = omega arith in
-        rw (if_true {b = eqb kind fork_kind} (d + 1) (if eqb kind endfork_kind then d - 1 else d) f) k
+        rw (if_true {b = eqb kind fork_kind} (d + 1) (provided eqb kind endfork_kind then d - 1 else d) f) k
 
     other : eqb kind fork_kind ≡ false → depth_after d kind ≤ deepest
-    other f = rw (if_false {b = eqb kind fork_kind} (d + 1) (if eqb kind endfork_kind then d - 1 else d) f) (by_cases _ (eqb kind endfork_kind) closes stays)
+    other f = rw (if_false {b = eqb kind fork_kind} (d + 1) (provided eqb kind endfork_kind then d - 1 else d) f) (by_cases _ (eqb kind endfork_kind) closes stays)
       where
-        closes : eqb kind endfork_kind ≡ true → (if eqb kind endfork_kind then d - 1 else d) ≤ deepest
+        closes : eqb kind endfork_kind ≡ true → (provided eqb kind endfork_kind then d - 1 else d) ≤ deepest
         closes g =
             let k : d - 1 ≤ deepest = omega arith in
             rw (if_true {b = eqb kind endfork_kind} (d - 1) d g) k
 
-        stays : eqb kind endfork_kind ≡ false → (if eqb kind endfork_kind then d - 1 else d) ≤ deepest
+        stays : eqb kind endfork_kind ≡ false → (provided eqb kind endfork_kind then d - 1 else d) ≤ deepest
         stays g = rw (if_false {b = eqb kind endfork_kind} (d - 1) d g) h
 
 nothing_left : (d : ℕ) (table : List ℕ) (at : ℕ) → eqb d 0 ≡ depth_holds d (kinds_from table at zero)

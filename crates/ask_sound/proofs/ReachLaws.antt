@@ -17,7 +17,7 @@ use Rattle.table_record.specs.declared.Value.{Value}
 use Rattle.table_record.specs.Way.Standing.{places, value_at, values_from}
 use Rattle.table_layout.specs.Layout.{value_width}
 use Rattle.table_layout.specs.Bounds.{most_conductors, most_values}
-use Rattle.base.specs.If.{if◌then◌else◌, both}
+use Rattle.base.specs.If.{provided◌then◌else◌, both}
 use Rattle.base.proofs.IfLaws.{if_true, if_false, by_test, by_cases}
 use Rattle.doc.specs.Holds.{is_in_upper_half, comes_before, rises}
 use Rattle.ask_sound.proofs.LoopLaws.{no_values, RiseLeft}
@@ -29,19 +29,19 @@ leb_suc x y =
     (λ (e : leb x y ≡ false). e ∙ sym (lt-leb (suc x) (suc y) (suc-le-suc (leb-false x y e))))
 
 -- the reach by the first value, and by the first two
-one_rises : (a : Bool) → a ≡ leb 1 (if a then 1 else 0)
-unfolding if◌then◌else◌
+one_rises : (a : Bool) → a ≡ leb 1 (provided a then 1 else 0)
+unfolding provided◌then◌else◌
 one_rises true = refl
 one_rises false = refl
 
-first_rises : (a b : Bool) (r : ℕ) → a ≡ leb 1 (if a then if b then suc r else 1 else 0)
-unfolding if◌then◌else◌
+first_rises : (a b : Bool) (r : ℕ) → a ≡ leb 1 (provided a then provided b then suc r else 1 else 0)
+unfolding provided◌then◌else◌
 first_rises true true r = sym (le-leb 1 (suc r) (suc-le-suc zero-le))
 first_rises true false r = refl
 first_rises false b r = refl
 
-more_rise : (a b : Bool) (k r : ℕ) → both a (both b (leb (suc k) r)) ≡ leb (suc (suc k)) (if a then if b then suc r else 1 else 0)
-unfolding both if◌then◌else◌
+more_rise : (a b : Bool) (k r : ℕ) → both a (both b (leb (suc k) r)) ≡ leb (suc (suc k)) (provided a then provided b then suc r else 1 else 0)
+unfolding both provided◌then◌else◌
 more_rise true true k r = leb_suc (suc k) r
 more_rise true false k r = sym (lt-leb (suc (suc k)) 1 (suc-le-suc (suc-le-suc zero-le)))
 more_rise false b k r = sym (lt-leb (suc (suc k)) 0 (suc-le-suc zero-le))
@@ -60,11 +60,11 @@ module _ (table : List ℕ) where
   unfolding values_from places reach
   no_reach at = refl
 
-  reach_one : (at : ℕ) → reaches at (suc zero) ≡ (if inside at then 1 else 0)
+  reach_one : (at : ℕ) → reaches at (suc zero) ≡ (provided inside at then 1 else 0)
   unfolding values_from places reach
   reach_one at = refl
 
-  reach_two : (at n : ℕ) → reaches at (suc (suc n)) ≡ (if inside at then if before at then suc (reaches (at + value_width) (suc n)) else 1 else 0)
+  reach_two : (at n : ℕ) → reaches at (suc (suc n)) ≡ (provided inside at then provided before at then suc (reaches (at + value_width) (suc n)) else 1 else 0)
   unfolding values_from places reach
   reach_two at n = refl
 
@@ -81,9 +81,9 @@ module _ (table : List ℕ) where
   reach_few at (suc zero) = rw (reach_one at) (by_test (λ (r : ℕ). r ≤ 1) (inside at) 1 0 (λ (e : inside at ≡ true). le_refl 1) (λ (e : inside at ≡ false). zero-le))
   reach_few at (suc (suc n)) = rw (reach_two at n) (few (inside at) (before at) (reaches (at + value_width) (suc n)) (reach_few (at + value_width) (suc n)))
     where
-      few : (a b : Bool) (r : ℕ) → r ≤ suc n → (if a then if b then suc r else 1 else 0) ≤ suc (suc n)
+      few : (a b : Bool) (r : ℕ) → r ≤ suc n → (provided a then provided b then suc r else 1 else 0) ≤ suc (suc n)
       few a b r h =
-          by_test (λ (k : ℕ). k ≤ suc (suc n)) a (if b then suc r else 1) 0
+          by_test (λ (k : ℕ). k ≤ suc (suc n)) a (provided b then suc r else 1) 0
           (λ (e : a ≡ true). by_test (λ (k : ℕ). k ≤ suc (suc n)) b (suc r) 1 (λ (f : b ≡ true). suc-le-suc h) (λ (f : b ≡ false). suc-le-suc zero-le))
           (λ (e : a ≡ false). zero-le)
 

@@ -21,7 +21,7 @@ use Rattle.table_record.specs.declared.SectionRecord.{SectionRecord}
 use Rattle.table_record.specs.declared.MatrixRecord.{MatrixRecord}
 use Rattle.table_record.specs.Records.{range}
 use Rattle.table_record.specs.Way.Standing.{model_at, step_at, map_at, pin_at, section_at, matrix_at, value_at, base_of, count_of, Rooms, kinds_from, values_from, kinds_at, methods_at, values_at}
-use Rattle.base.specs.If.{if◌then◌else◌, both}
+use Rattle.base.specs.If.{provided◌then◌else◌, both}
 use Rattle.base.proofs.IfLaws.{if_false, both_rest, both_not_left}
 use Rattle.table_layout.specs.Layout.{widths, models, steps, maps, pins, sections, matrices, values, model_width, step_width, map_width, pin_width, section_width, matrix_width, value_width}
 use Rattle.table_layout.specs.declared.View.{View}
@@ -166,31 +166,31 @@ module _ (part at room : ℕ) (inside : at + get_or widths part 0 ≤ room) wher
 
 module _ (bytes : ℕ) (table : List ℕ) (v : View) (part at : ℕ) (r : Bool) where
   pub model_record_lem : part ≡ models → (x : ModelRecord) → x ≡ model_at table at → r ≡ is_model bytes (kinds_at table v) x → r ≡ is_record bytes table v part at
-  unfolding is_record if◌then◌else◌
+  unfolding is_record provided◌then◌else◌
   model_record_lem e x here is = is ∙ ap (is_model bytes (kinds_at table v)) here ∙ sym (ap (λ (p : ℕ). is_record bytes table v p at) e)
 
   pub step_record_lem : part ≡ steps → (x : StepRecord) → x ≡ step_at table at → r ≡ is_step bytes (count_of v maps) (methods_at table v) x → r ≡ is_record bytes table v part at
-  unfolding is_record if◌then◌else◌
+  unfolding is_record provided◌then◌else◌
   step_record_lem e x here is = is ∙ ap (is_step bytes (count_of v maps) (methods_at table v)) here ∙ sym (ap (λ (p : ℕ). is_record bytes table v p at) e)
 
   pub map_record_lem : part ≡ maps → (x : MapRecord) → x ≡ map_at table at → r ≡ is_map bytes (count_of v pins) x → r ≡ is_record bytes table v part at
-  unfolding is_record if◌then◌else◌
+  unfolding is_record provided◌then◌else◌
   map_record_lem e x here is = is ∙ ap (is_map bytes (count_of v pins)) here ∙ sym (ap (λ (p : ℕ). is_record bytes table v p at) e)
 
   pub pin_record_lem : part ≡ pins → (x : PinRecord) → x ≡ pin_at table at → r ≡ is_pin bytes x → r ≡ is_record bytes table v part at
-  unfolding is_record if◌then◌else◌
+  unfolding is_record provided◌then◌else◌
   pin_record_lem e x here is = is ∙ ap (is_pin bytes) here ∙ sym (ap (λ (p : ℕ). is_record bytes table v p at) e)
 
   pub section_record_lem : part ≡ sections → (x : SectionRecord) → x ≡ section_at table at → r ≡ is_section bytes (count_of v matrices) x → r ≡ is_record bytes table v part at
-  unfolding is_record if◌then◌else◌
+  unfolding is_record provided◌then◌else◌
   section_record_lem e x here is = is ∙ ap (is_section bytes (count_of v matrices)) here ∙ sym (ap (λ (p : ℕ). is_record bytes table v p at) e)
 
   pub matrix_record_lem : part ≡ matrices → (x : MatrixRecord) → x ≡ matrix_at table at → r ≡ is_matrix (values_at table v) x → r ≡ is_record bytes table v part at
-  unfolding is_record if◌then◌else◌
+  unfolding is_record provided◌then◌else◌
   matrix_record_lem e x here is = is ∙ ap (is_matrix (values_at table v)) here ∙ sym (ap (λ (p : ℕ). is_record bytes table v p at) e)
 
   pub value_record : part ≡ values → (x : Value) → x ≡ value_at table at → r ≡ is_value x → r ≡ is_record bytes table v part at
-  unfolding is_record if◌then◌else◌
+  unfolding is_record provided◌then◌else◌
   value_record e x here is = is ∙ ap (is_value) here ∙ sym (ap (λ (p : ℕ). is_record bytes table v p at) e)
 
 pub no_record :

@@ -10,7 +10,7 @@ use Rattle.ask_sound.specs.Way.Judged.{SoundRecords}
 use Rattle.ask_sound.specs.Way.Judging.{is_record, are_records, are_parts}
 use Rattle.table_record.specs.Way.Standing.{model_at, step_at, map_at, pin_at, section_at, matrix_at, value_at, base_of, count_of, places_of, kinds_at, methods_at, values_at, records_at, Rooms}
 use Rattle.table_record.specs.Records.{Records}
-use Rattle.base.specs.If.{if◌then◌else◌, both}
+use Rattle.base.specs.If.{provided◌then◌else◌, both}
 use Rattle.base.proofs.IfLaws.{if_true, if_false, by_test, both_rest, both_first, both_second, both_not_left, not_not_via}
 use Rattle.table_layout.specs.Layout.{models, steps, maps, pins, sections, matrices, values, part_count, value_width}
 use Rattle.table_layout.specs.Bounds.{most_values}
@@ -52,37 +52,37 @@ module _ (bytes : ℕ) (table : List ℕ) (v : View) where
   r = records_at table v
 
   models_sound : are_records bytes table v models ≡ every (is_model bytes (record_kinds r.steps)) r.models
-  unfolding are_records is_record if◌then◌else◌ records_at record_kinds methods_of
+  unfolding are_records is_record provided◌then◌else◌ records_at record_kinds methods_of
   models_sound = sym (every_map (is_model bytes (kinds_at table v)) (model_at table) (places_of v models)) ∙ ap (λ (ks : List ℕ). every (is_model bytes ks) (map (model_at table) (places_of v models))) (kinds_are table v)
 
   steps_sound : are_records bytes table v steps ≡ every (is_step bytes (length r.maps) (methods_of r.sections)) r.steps
-  unfolding are_records is_record if◌then◌else◌ records_at record_kinds methods_of
+  unfolding are_records is_record provided◌then◌else◌ records_at record_kinds methods_of
   steps_sound =
       sym (every_map (is_step bytes (count_of v maps) (methods_at table v)) (step_at table) (places_of v steps))
       ∙ (λ i. every (is_step bytes (maps_are table v i) (methods_are table v i)) (map (step_at table) (places_of v steps)))
 
   maps_sound : are_records bytes table v maps ≡ every (is_map bytes (length r.pins)) r.maps
-  unfolding are_records is_record if◌then◌else◌ records_at record_kinds methods_of
+  unfolding are_records is_record provided◌then◌else◌ records_at record_kinds methods_of
   maps_sound = sym (every_map (is_map bytes (count_of v pins)) (map_at table) (places_of v maps)) ∙ (λ i. every (is_map bytes (pins_are table v i)) (map (map_at table) (places_of v maps)))
 
   pins_sound : are_records bytes table v pins ≡ every (is_pin bytes) r.pins
-  unfolding are_records is_record if◌then◌else◌ records_at record_kinds methods_of
+  unfolding are_records is_record provided◌then◌else◌ records_at record_kinds methods_of
   pins_sound = sym (every_map (is_pin bytes) (pin_at table) (places_of v pins))
 
   sections_sound : are_records bytes table v sections ≡ every (is_section bytes (length r.matrices)) r.sections
-  unfolding are_records is_record if◌then◌else◌ records_at record_kinds methods_of
+  unfolding are_records is_record provided◌then◌else◌ records_at record_kinds methods_of
   sections_sound =
       sym (every_map (is_section bytes (count_of v matrices)) (section_at table) (places_of v sections))
       ∙ (λ i. every (is_section bytes (matrices_are table v i)) (map (section_at table) (places_of v sections)))
 
   matrices_sound : are_records bytes table v matrices ≡ every (is_matrix r.values) r.matrices
-  unfolding are_records is_record if◌then◌else◌ records_at record_kinds methods_of
+  unfolding are_records is_record provided◌then◌else◌ records_at record_kinds methods_of
   matrices_sound =
       sym (every_map (is_matrix (values_at table v)) (matrix_at table) (places_of v matrices))
       ∙ (λ i. every (is_matrix (values_gathered table v i)) (map (matrix_at table) (places_of v matrices)))
 
   values_sound : are_records bytes table v values ≡ every is_value r.values
-  unfolding are_records is_record if◌then◌else◌ records_at record_kinds methods_of
+  unfolding are_records is_record provided◌then◌else◌ records_at record_kinds methods_of
   values_sound = sym (every_map is_value (value_at table) (places_of v values))
 
   pub parts_sound : are_parts bytes table v 0 part_count ≡ are_sound bytes (records_at table v)

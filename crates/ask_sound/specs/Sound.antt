@@ -12,7 +12,7 @@ use Rattle.table_record.specs.declared.StepRecord.{StepRecord}
 use Rattle.table_record.specs.declared.ModelRecord.{ModelRecord}
 use Rattle.table_layout.specs.Codes.{end_kind, section_kind, fork_kind, endfork_kind, step_kinds, model_types, map_orders, section_methods, matrix_forms}
 use Rattle.table_layout.specs.Bounds.{deepest, most_map_pins, most_conductors}
-use Rattle.base.specs.If.{if◌then◌else◌, both}
+use Rattle.base.specs.If.{provided◌then◌else◌, both}
 use Rattle.base.specs.Bytes.{within}
 use Rattle.lex_number.specs.ValueWord.{is_value_word}
 use Rattle.doc.specs.Holds.{rises}
@@ -30,10 +30,10 @@ every test (x ∷ xs) = both (test x) (every test xs)
 -- whether a step of this kind is allowed where d forks are open, and how many are open after it: a fork opens
 -- one more, an endfork closes one
 unfoldable pub depth_stays : ℕ → ℕ → Bool
-depth_stays d kind = if eqb kind fork_kind then ltb d deepest else if eqb kind endfork_kind then ltb 0 d else true
+depth_stays d kind = provided eqb kind fork_kind then ltb d deepest else provided eqb kind endfork_kind then ltb 0 d else true
 
 unfoldable pub depth_after : ℕ → ℕ → ℕ
-depth_after d kind = if eqb kind fork_kind then d + 1 else if eqb kind endfork_kind then d - 1 else d
+depth_after d kind = provided eqb kind fork_kind then d + 1 else provided eqb kind endfork_kind then d - 1 else d
 
 -- "each model's depth stays 0 to 8 and ends at 0": along steps of these kinds, where d forks are open before the first
 unfoldable pub depth_holds : ℕ → List ℕ → Bool
@@ -65,8 +65,8 @@ is_fork_step s = both (eqb s.target 0) (both (eqb s.amount 0) (has_no_side s.sid
 
 unfoldable pub is_step : ℕ → ℕ → List ℕ → StepRecord → Bool
 is_step bytes maps methods s =
-    if eqb s.kind end_kind then is_end bytes maps s else
-    if eqb s.kind section_kind then is_section_step methods s else
+    provided eqb s.kind end_kind then is_end bytes maps s else
+    provided eqb s.kind section_kind then is_section_step methods s else
     both (ltb s.kind step_kinds) (is_fork_step s)
 
 -- ---- maps and pins
@@ -133,4 +133,4 @@ is_sound t table =
 
 -- the view of a sound table, so that questions need not take it again; of any other table, one that does not fit
 unfoldable pub sound_view : List ℕ → List ℕ → View
-sound_view t table = if is_sound t table then view_of table else no_view
+sound_view t table = provided is_sound t table then view_of table else no_view

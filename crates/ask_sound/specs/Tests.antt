@@ -3,7 +3,7 @@
 use Rattle.std.specs.Prelude.{ℕ, ◌+◌, ◌%◌, Bool, not, leb, eqb}
 use Rattle.table_layout.specs.Codes.{lumped, un_ordered, banded}
 use Rattle.table_layout.specs.Bounds.{most_map_pins, most_bandwidth, most_mult, longest_name}
-use Rattle.base.specs.If.{if◌then◌else◌, both, either}
+use Rattle.base.specs.If.{provided◌then◌else◌, both, either}
 use Rattle.base.specs.Bytes.{within}
 use Rattle.lex_number.specs.ValueWord.{zero_word, is_value_word}
 
@@ -30,15 +30,15 @@ is_length_word w = both (is_value_word w) (both (not (eqb w zero_word)) (eqb (w 
 
 -- "a Section amount fits its method": Mult of a Lumped section, Len of a Distributed one
 unfoldable pub amount_fits : ℕ → ℕ → Bool
-amount_fits method amount = if eqb method lumped then within 1 most_mult amount else is_length_word amount
+amount_fits method amount = provided eqb method lumped then within 1 most_mult amount else is_length_word amount
 
 -- ---- maps and matrices
 
 -- "Un_ordered has 0 0 for rows, columns"; those of the ordered two are 1 to 256
 unfoldable pub is_grid : ℕ → ℕ → ℕ → Bool
 is_grid order rows columns =
-    if eqb order un_ordered then both (eqb rows 0) (eqb columns 0) else both (within 1 most_map_pins rows) (within 1 most_map_pins columns)
+    provided eqb order un_ordered then both (eqb rows 0) (eqb columns 0) else both (within 1 most_map_pins rows) (within 1 most_map_pins columns)
 
 -- "B 0 to 255", and 0 in the other forms
 unfoldable pub is_bandwidth : ℕ → ℕ → Bool
-is_bandwidth form bandwidth = if eqb form banded then leb bandwidth most_bandwidth else eqb bandwidth 0
+is_bandwidth form bandwidth = provided eqb form banded then leb bandwidth most_bandwidth else eqb bandwidth 0

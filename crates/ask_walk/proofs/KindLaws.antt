@@ -11,7 +11,7 @@ use lib.Dec.{eqb}
 use borrow.Author.Tests.{ne_eqb, eqb-true, ltb-true}
 use Rattle.table_layout.specs.Codes.{fork_kind, endfork_kind}
 use Rattle.table_layout.specs.Bounds.{deepest}
-use Rattle.base.specs.If.{if◌then◌else◌}
+use Rattle.base.specs.If.{provided◌then◌else◌}
 use Rattle.base.proofs.IfLaws.{if_true, if_false, by_cases, both_first, both_second}
 use Rattle.ask_sound.specs.Sound.{depth_stays, depth_after, depth_holds}
 use Rattle.ask_sound.proofs.LoopLaws.{stays_within}
@@ -32,7 +32,7 @@ endfork_not_fork kind e =
 -- a step of this kind changes the depth by its opens less its closes, whatever other steps open and close
 abbrev pub Moves : ℕ → ℕ → ℕ → ℕ → Type 0
 Moves d kind opens closes =
-    depth_after d kind + (if eqb kind endfork_kind then closes + 1 else closes) + opens ≡ d + (if eqb kind fork_kind then opens + 1 else opens) + closes
+    depth_after d kind + (provided eqb kind endfork_kind then closes + 1 else closes) + opens ≡ d + (provided eqb kind fork_kind then opens + 1 else opens) + closes
 
 module _ (d kind : ℕ) (stays : depth_stays d kind ≡ true) where
   -- if the step is a fork, the depth is below 8
@@ -52,8 +52,8 @@ module _ (d kind : ℕ) (stays : depth_stays d kind ≡ true) where
       fork : eqb kind fork_kind ≡ true → Moves d kind opens closes
       fork f =
           let a : depth_after d kind ≡ d + 1 = if_true _ _ f in
-          let o : (if eqb kind fork_kind then opens + 1 else opens) ≡ opens + 1 = if_true _ _ f in
-          let c : (if eqb kind endfork_kind then closes + 1 else closes) ≡ closes = if_false _ _ (fork_not_endfork kind f) in
+          let o : (provided eqb kind fork_kind then opens + 1 else opens) ≡ opens + 1 = if_true _ _ f in
+          let c : (provided eqb kind endfork_kind then closes + 1 else closes) ≡ closes = if_false _ _ (fork_not_endfork kind f) in
           omega arith
 
       other : eqb kind fork_kind ≡ false → Moves d kind opens closes
@@ -63,20 +63,20 @@ module _ (d kind : ℕ) (stays : depth_stays d kind ≡ true) where
           endfork g =
               let l : 0 < d = endfork_above g in
               let a : depth_after d kind ≡ d - 1 = if_false _ _ f ∙ if_true _ _ g in
-              let o : (if eqb kind fork_kind then opens + 1 else opens) ≡ opens = if_false _ _ f in
-              let c : (if eqb kind endfork_kind then closes + 1 else closes) ≡ closes + 1 = if_true _ _ g in
+              let o : (provided eqb kind fork_kind then opens + 1 else opens) ≡ opens = if_false _ _ f in
+              let c : (provided eqb kind endfork_kind then closes + 1 else closes) ≡ closes + 1 = if_true _ _ g in
               omega arith
 
           neither : eqb kind endfork_kind ≡ false → Moves d kind opens closes
           neither g =
               let a : depth_after d kind ≡ d = if_false _ _ f ∙ if_false _ _ g in
-              let o : (if eqb kind fork_kind then opens + 1 else opens) ≡ opens = if_false _ _ f in
-              let c : (if eqb kind endfork_kind then closes + 1 else closes) ≡ closes = if_false _ _ g in
+              let o : (provided eqb kind fork_kind then opens + 1 else opens) ≡ opens = if_false _ _ f in
+              let c : (provided eqb kind endfork_kind then closes + 1 else closes) ≡ closes = if_false _ _ g in
               omega arith
 
   -- the depth e at the end is the same whether it is counted from before the step or from after it
   moves_on :
-      (opens closes e : ℕ) → e + (if eqb kind endfork_kind then closes + 1 else closes) ≡ d + (if eqb kind fork_kind then opens + 1 else opens) →
+      (opens closes e : ℕ) → e + (provided eqb kind endfork_kind then closes + 1 else closes) ≡ d + (provided eqb kind fork_kind then opens + 1 else opens) →
       e + closes ≡ depth_after d kind + opens
   moves_on opens closes e h =
       let m : Moves d kind opens closes = moves opens closes in
@@ -154,8 +154,8 @@ module _ (ks : List ℕ) (holds : depth_holds 0 ks ≡ true) (n : ℕ) where
 
 counts_swap :
     (b c : Bool) (x : ℕ) →
-    (if b then (if c then x + 1 else x) + 1 else (if c then x + 1 else x)) ≡ (if c then (if b then x + 1 else x) + 1 else (if b then x + 1 else x))
-unfolding if◌then◌else◌
+    (provided b then (provided c then x + 1 else x) + 1 else (provided c then x + 1 else x)) ≡ (provided c then (provided b then x + 1 else x) + 1 else (provided b then x + 1 else x))
+unfolding provided◌then◌else◌
 counts_swap true true x = refl
 counts_swap true false x = refl
 counts_swap false true x = refl
@@ -163,10 +163,10 @@ counts_swap false false x = refl
 
 pub count_next :
     (kind : ℕ) (ks : List ℕ) (n : ℕ) → n < length ks →
-    count_kind kind (take (suc n) ks) ≡ (if eqb (get_or ks n 0) kind then count_kind kind (take n ks) + 1 else count_kind kind (take n ks))
+    count_kind kind (take (suc n) ks) ≡ (provided eqb (get_or ks n 0) kind then count_kind kind (take n ks) + 1 else count_kind kind (take n ks))
 unfolding count_kind
 count_next kind [] n h = absurd (not-suc-le-zero h)
 count_next kind (k ∷ ks) zero h = refl
 count_next kind (k ∷ ks) (suc n) h =
-    ap (λ (c : ℕ). if eqb k kind then c + 1 else c) (count_next kind ks n (le_of_suc-le-suc h))
+    ap (λ (c : ℕ). provided eqb k kind then c + 1 else c) (count_next kind ks n (le_of_suc-le-suc h))
     ∙ counts_swap (eqb k kind) (eqb (get_or ks n 0) kind) (count_kind kind (take n ks))

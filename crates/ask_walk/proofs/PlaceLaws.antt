@@ -17,7 +17,7 @@ use Rattle.table_record.specs.Records.{Records, records_of, range}
 use Rattle.table_record.specs.Way.Standing.{places, base_of, count_of, step_at, kinds_from, kinds_at, Rooms}
 use Rattle.table_record.proofs.PlaceLaws.{kinds_long, kinds_range}
 use Rattle.table_record.proofs.RecordLaws.{models_long, kinds_are}
-use Rattle.base.specs.If.{if◌then◌else◌, both}
+use Rattle.base.specs.If.{provided◌then◌else◌, both}
 use Rattle.base.proofs.IfLaws.{by_cases, both_rest, both_not_left, both_first, both_second}
 use Rattle.table_layout.specs.Layout.{models, steps, step_width}
 use Rattle.table_layout.specs.Codes.{fork_kind, endfork_kind}
@@ -39,18 +39,18 @@ none_counted kind table at = refl
 one_counted :
     (kind : ℕ) (table : List ℕ) (at n : ℕ) →
     count_kind kind (kinds_from table at (suc n))
-    ≡ (if eqb (step_at table at).kind kind then count_kind kind (kinds_from table (at + step_width) n) + 1 else count_kind kind (kinds_from table (at + step_width) n))
+    ≡ (provided eqb (step_at table at).kind kind then count_kind kind (kinds_from table (at + step_width) n) + 1 else count_kind kind (kinds_from table (at + step_width) n))
 unfolding count_kind kinds_from places
 one_counted kind table at n = refl
 
 -- counted on one side or on the other
-count_moves : (b : Bool) (n rest : ℕ) → (if b then n + 1 else n) + rest ≡ n + (if b then rest + 1 else rest)
-unfolding if◌then◌else◌
+count_moves : (b : Bool) (n rest : ℕ) → (provided b then n + 1 else n) + rest ≡ n + (provided b then rest + 1 else rest)
+unfolding provided◌then◌else◌
 count_moves true n rest = omega arith
 count_moves false n rest = refl
 
-count_few : (b : Bool) (n i : ℕ) → n ≤ i → (if b then n + 1 else n) ≤ i + 1
-unfolding if◌then◌else◌
+count_few : (b : Bool) (n i : ℕ) → n ≤ i → (provided b then n + 1 else n) ≤ i + 1
+unfolding provided◌then◌else◌
 count_few true n i h = omega arith
 count_few false n i h = omega arith
 
@@ -80,21 +80,21 @@ count_starts table from many =
 module _ (table : List ℕ) (from many opens closes at i : ℕ) (left : CountLeft table from many opens closes at i) where
   moved :
       (kind n : ℕ) → i < many → n + count_kind kind (kinds_from table at (many - i)) ≡ count_kind kind (kinds_from table from many) →
-      (if eqb (step_at table at).kind kind then n + 1 else n) + count_kind kind (kinds_from table (at + step_width) (many - (i + 1))) ≡ count_kind kind (kinds_from table from many)
+      (provided eqb (step_at table at).kind kind then n + 1 else n) + count_kind kind (kinds_from table (at + step_width) (many - (i + 1))) ≡ count_kind kind (kinds_from table from many)
   moved kind n h e =
       let s : many - i ≡ suc (many - (i + 1)) = omega arith in
       let f : n + count_kind kind (kinds_from table at (suc (many - (i + 1)))) ≡ count_kind kind (kinds_from table from many) = rw s at e in
       count_moves (eqb (step_at table at).kind kind) n _ ∙ ap (λ (k : ℕ). n + k) (sym (one_counted kind table at (many - (i + 1)))) ∙ f
 
   pub count_on :
-      i < many → (s : StepRecord) → s ≡ step_at table at → (opened_now closed_now : ℕ) → opened_now ≡ (if eqb s.kind fork_kind then opens + 1 else opens) →
-      closed_now ≡ (if eqb s.kind endfork_kind then closes + 1 else closes) →
+      i < many → (s : StepRecord) → s ≡ step_at table at → (opened_now closed_now : ℕ) → opened_now ≡ (provided eqb s.kind fork_kind then opens + 1 else opens) →
+      closed_now ≡ (provided eqb s.kind endfork_kind then closes + 1 else closes) →
       CountLeft table from many opened_now closed_now (at + step_width) (i + 1)
   count_on h s here opened_now closed_now by_step also =
-      let o : opened_now ≡ (if eqb (step_at table at).kind fork_kind then opens + 1 else opens) =
-      by_step ∙ ap (λ (x : StepRecord). if eqb x.kind fork_kind then opens + 1 else opens) here in
-      let c : closed_now ≡ (if eqb (step_at table at).kind endfork_kind then closes + 1 else closes) =
-      also ∙ ap (λ (x : StepRecord). if eqb x.kind endfork_kind then closes + 1 else closes) here in
+      let o : opened_now ≡ (provided eqb (step_at table at).kind fork_kind then opens + 1 else opens) =
+      by_step ∙ ap (λ (x : StepRecord). provided eqb x.kind fork_kind then opens + 1 else opens) here in
+      let c : closed_now ≡ (provided eqb (step_at table at).kind endfork_kind then closes + 1 else closes) =
+      also ∙ ap (λ (x : StepRecord). provided eqb x.kind endfork_kind then closes + 1 else closes) here in
       let p : at ≡ from + step_width * i = left.place in
       rw (o, c)
       (record {

@@ -8,7 +8,7 @@ use Rattle.table_layout.specs.Codes.{fork_kind, endfork_kind, slm_general}
 use Rattle.table_record.specs.declared.ModelRecord.{ModelRecord}
 use Rattle.table_record.specs.declared.StepRecord.{StepRecord}
 use Rattle.table_record.specs.Records.{parts_of, to_step, records_in, records_of}
-use Rattle.base.specs.If.{both, either, if◌then◌else◌}
+use Rattle.base.specs.If.{both, either, provided◌then◌else◌}
 use Rattle.base.specs.Bytes.{within}
 use Rattle.table_layout.specs.Layout.{joined, layout, chopped, parts_in}
 use Rattle.table_layout.specs.View.{are_within, bases_at, counts_at, end_at, view_of}
@@ -57,5 +57,5 @@ tried :
     × (walk_answer text table (place 0 2 0) ≡ done_at (place 0 2 0)) × (walk_answer text table (place 0 1 0) ≡ walk_refused refusal.no_such)
     × (walk_answer text table (place 0 2 1) ≡ walk_refused refusal.no_such) × (walk_answer text table (place 0 3 0) ≡ walk_refused refusal.no_such)
     × (walk_answer text table (place 1 0 0) ≡ walk_refused refusal.no_such) × (walk_answer [] table (place 1 0 0) ≡ walk_refused refusal.table)
-unfolding if◌then◌else◌ both either within joined layout parts_of chopped parts_in are_within bases_at counts_at end_at view_of records_in records_of is_range is_name_in has_no_side every depth_stays depth_after depth_holds is_model is_fork_step is_step record_kinds methods_of are_sound are_zeros is_sound step_at_place count_kind is_depth kinds_before is_place next_of walk_over walk_on walk_from walk_answer
+unfolding provided◌then◌else◌ both either within joined layout parts_of chopped parts_in are_within bases_at counts_at end_at view_of records_in records_of is_range is_name_in has_no_side every depth_stays depth_after depth_holds is_model is_fork_step is_step record_kinds methods_of are_sound are_zeros is_sound step_at_place count_kind is_depth kinds_before is_place next_of walk_over walk_on walk_from walk_answer
 tried = (refl, refl, refl, refl, refl, refl, refl, refl)

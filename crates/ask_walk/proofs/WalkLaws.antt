@@ -12,7 +12,7 @@ use lib.Dec.{eqb}
 use borrow.Author.Tests.{eq-eqb, le-leb, lt-ltb}
 use Rattle.table_record.specs.Records.{Records, records_of, no_model}
 use Rattle.table_layout.specs.Codes.{fork_kind, endfork_kind}
-use Rattle.base.specs.If.{if◌then◌else◌, both}
+use Rattle.base.specs.If.{provided◌then◌else◌, both}
 use Rattle.base.specs.Refusal as refusal
 use Rattle.base.proofs.IfLaws.{by_test, both_true}
 use Rattle.ask_sound.specs.Sound.{depth_after, is_sound}
@@ -54,15 +54,15 @@ module _ (t table : List ℕ) (sound : is_sound t table ≡ true) (p : Place) (i
   its_kinds = path_kinds r p
 
   module _ (more : p.step < (model_at_place r p).steps) where
-    counted : (kind : ℕ) → count_kind kind (take (p.step + 1) its_kinds) ≡ (if eqb (step_at_place r p).kind kind then count_kind kind (take p.step its_kinds) + 1 else count_kind kind (take p.step its_kinds))
+    counted : (kind : ℕ) → count_kind kind (take (p.step + 1) its_kinds) ≡ (provided eqb (step_at_place r p).kind kind then count_kind kind (take p.step its_kinds) + 1 else count_kind kind (take p.step its_kinds))
     counted kind = rw (add-one p.step) (rw (step_kind t table sound p in_range_lem more) at (count_next kind its_kinds p.step (has_step t table sound p in_range_lem more)))
 
     next_depth :
         depth_after p.depth (step_at_place r p).kind + count_kind endfork_kind (take (p.step + 1) its_kinds) ≡ count_kind fork_kind (take (p.step + 1) its_kinds)
     next_depth =
         let now : p.depth + count_kind endfork_kind (take p.step its_kinds) ≡ count_kind fork_kind (take p.step its_kinds) = its_depth t table sound p in_range_lem in
-        let c : count_kind endfork_kind (take (p.step + 1) its_kinds) ≡ (if eqb (step_at_place r p).kind endfork_kind then count_kind endfork_kind (take p.step its_kinds) + 1 else count_kind endfork_kind (take p.step its_kinds)) = counted endfork_kind in
-        let o : count_kind fork_kind (take (p.step + 1) its_kinds) ≡ (if eqb (step_at_place r p).kind fork_kind then count_kind fork_kind (take p.step its_kinds) + 1 else count_kind fork_kind (take p.step its_kinds)) = counted fork_kind in
+        let c : count_kind endfork_kind (take (p.step + 1) its_kinds) ≡ (provided eqb (step_at_place r p).kind endfork_kind then count_kind endfork_kind (take p.step its_kinds) + 1 else count_kind endfork_kind (take p.step its_kinds)) = counted endfork_kind in
+        let o : count_kind fork_kind (take (p.step + 1) its_kinds) ≡ (provided eqb (step_at_place r p).kind fork_kind then count_kind fork_kind (take p.step its_kinds) + 1 else count_kind fork_kind (take p.step its_kinds)) = counted fork_kind in
         let m : Moves p.depth (step_at_place r p).kind (count_kind fork_kind (take p.step its_kinds)) (count_kind endfork_kind (take p.step its_kinds)) =
         moves p.depth (step_at_place r p).kind (may_be_here t table sound p in_range_lem more) _ _ in
         omega arith
@@ -90,23 +90,23 @@ on_answers r p =
 module _ (on : WalkWords) (answers : (on.answered ≡ true) × (on.rule ≡ 0)) where
   two_numbers :
       (sound place : Bool) →
-      (if not sound then walk_refused refusal.table else if not place then walk_refused refusal.no_such else on).rule
-      ≡ (if not sound then refusal.table else if not place then refusal.no_such else 0)
-  unfolding if◌then◌else◌
+      (provided not sound then walk_refused refusal.table else provided not place then walk_refused refusal.no_such else on).rule
+      ≡ (provided not sound then refusal.table else provided not place then refusal.no_such else 0)
+  unfolding provided◌then◌else◌
   two_numbers true true = answers.1
   two_numbers true false = refl
   two_numbers false place = refl
 
   two_refuse :
-      (sound place : Bool) → (if not sound then walk_refused refusal.table else if not place then walk_refused refusal.no_such else on).answered ≡ both sound place
-  unfolding if◌then◌else◌ both
+      (sound place : Bool) → (provided not sound then walk_refused refusal.table else provided not place then walk_refused refusal.no_such else on).answered ≡ both sound place
+  unfolding provided◌then◌else◌ both
   two_refuse true true = answers.0
   two_refuse true false = refl
   two_refuse false place = refl
 
 module _ (t table : List ℕ) (p : Place) where
   -- "Questions: 30, 31"
-  pub refused_by_lem : (walk_answer t table p).rule ≡ (if not (is_sound t table) then refusal.table else if not (is_place (records_of table) p) then refusal.no_such else 0)
+  pub refused_by_lem : (walk_answer t table p).rule ≡ (provided not (is_sound t table) then refusal.table else provided not (is_place (records_of table) p) then refusal.no_such else 0)
   unfolding walk_answer walk_from
   refused_by_lem = two_numbers (walk_on (records_of table) p) (on_answers (records_of table) p) (is_sound t table) (is_place (records_of table) p)
 

@@ -6,7 +6,7 @@ use Rattle.table_record.specs.Records.{Records, records_of, range, no_model, no_
 use Rattle.table_record.specs.declared.StepRecord.{StepRecord}
 use Rattle.table_record.specs.declared.ModelRecord.{ModelRecord}
 use Rattle.table_layout.specs.Codes.{fork_kind, endfork_kind}
-use Rattle.base.specs.If.{if◌then◌else◌, both}
+use Rattle.base.specs.If.{provided◌then◌else◌, both}
 use Rattle.base.specs.Refusal as refusal
 use Rattle.ask_sound.specs.Sound.{depth_after, record_kinds, is_sound}
 use Rattle.ask_walk.specs.declared.Place.{Place}
@@ -56,7 +56,7 @@ step_at_place r p = get_or r.steps ((model_at_place r p).first + p.step) no_step
 -- how many steps are of a kind
 unfoldable pub count_kind : ℕ → List ℕ → ℕ
 count_kind kind [] = 0
-count_kind kind (k ∷ ks) = if eqb k kind then count_kind kind ks + 1 else count_kind kind ks
+count_kind kind (k ∷ ks) = provided eqb k kind then count_kind kind ks + 1 else count_kind kind ks
 
 -- "the depth is opens less closes" along steps of these kinds
 unfoldable pub is_depth : ℕ → List ℕ → Bool
@@ -86,12 +86,12 @@ walk_over s p = stepped s (next_of p s.kind)
 
 -- "At step equal to steps it says done"; for a place in range
 unfoldable pub walk_on : Records → Place → WalkWords
-walk_on r p = if eqb p.step (model_at_place r p).steps then done_at p else walk_over (step_at_place r p) p
+walk_on r p = provided eqb p.step (model_at_place r p).steps then done_at p else walk_over (step_at_place r p) p
 
 -- for a sound table
 unfoldable pub walk_from : Records → Place → WalkWords
-walk_from r p = if not (is_place r p) then walk_refused refusal.no_such else walk_on r p
+walk_from r p = provided not (is_place r p) then walk_refused refusal.no_such else walk_on r p
 
 -- "Questions: 30, 31"
 unfoldable pub walk_answer : List ℕ → List ℕ → Place → WalkWords
-walk_answer t table p = if not (is_sound t table) then walk_refused refusal.table else walk_from (records_of table) p
+walk_answer t table p = provided not (is_sound t table) then walk_refused refusal.table else walk_from (records_of table) p

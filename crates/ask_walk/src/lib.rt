@@ -2,7 +2,7 @@
 #![tactic(auto)]
 
 ghost use Rattle.std.specs.Prelude.{◌≡◌, true, ◌+◌, ◌*◌, ◌^◌, ◌≤◌, ◌<◌, length, eqb};
-ghost use Rattle.base.specs.If.{if◌then◌else◌};
+ghost use Rattle.base.specs.If.{provided◌then◌else◌};
 ghost use Rattle.table_layout.specs.Layout.{step_width};
 ghost use Rattle.table_layout.specs.Bounds.{deepest, most_steps};
 ghost use Rattle.table_record.specs.Records.{records_of};
@@ -58,7 +58,7 @@ fn walk_over(step: StepRecord, place: Place) -> Walked
 // One more, if the two kinds are the same.
 fn counted(n: u64, kind: u64, other: u64) -> u64
     requires { n < 2 ^ 63 }
-    ensures { result ≡ (if eqb kind other then n + 1 else n) }
+    ensures { result ≡ (provided eqb kind other then n + 1 else n) }
 {
     if kind == other {
         return n + 1;

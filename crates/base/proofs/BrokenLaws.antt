@@ -8,7 +8,7 @@ use Prim.Native.Nat.{ℕ, zero, suc, ◌<◌}
 use native.Mathlib.Omega.{arith}
 use lib.ListN.{get_or}
 use borrow.Author.Tests.{le-leb, lt-leb, eq-eqb, ne_eqb, lt-ltb, le-ltb}
-use Rattle.base.specs.If.{if◌then◌else◌}
+use Rattle.base.specs.If.{provided◌then◌else◌}
 use Rattle.base.specs.Broken.{Rule, ◌when◌, first, first_broken}
 use Rattle.base.proofs.IfLaws.{if_true, if_false, by_cases, not_via, not_not_via, both_true, both_not_left, both_not_right, either_left, either_right, either_false, Yes, No, tests}
 
@@ -68,16 +68,16 @@ module _ (b : Bool) (n later : ℕ) where
 
 -- a choice between two lists
 module _ (b : Bool) (x y : List Rule) where
-  pub lists_yes : b ≡ true → first_broken (if b then x else y) ≡ first_broken x
+  pub lists_yes : b ≡ true → first_broken (provided b then x else y) ≡ first_broken x
   lists_yes e = ap first_broken (if_true x y e)
 
-  pub lists_no : b ≡ false → first_broken (if b then x else y) ≡ first_broken y
+  pub lists_no : b ≡ false → first_broken (provided b then x else y) ≡ first_broken y
   lists_no e = ap first_broken (if_false x y e)
 
-  pub list_chosen : (found : ℕ) → Yes b → found ≡ first_broken x → found ≡ first_broken (if b then x else y)
+  pub list_chosen : (found : ℕ) → Yes b → found ≡ first_broken x → found ≡ first_broken (provided b then x else y)
   list_chosen found h k = k ∙ sym (lists_yes h.holds)
 
-  pub list_passed : (found : ℕ) → No b → found ≡ first_broken y → found ≡ first_broken (if b then x else y)
+  pub list_passed : (found : ℕ) → No b → found ≡ first_broken y → found ≡ first_broken (provided b then x else y)
   list_passed found h k = k ∙ sym (lists_no h.fails)
 
 -- `search rule_list` proves every `return` of a function that makes the tests of a list in the list's order

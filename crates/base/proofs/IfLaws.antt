@@ -5,19 +5,19 @@ use mathlib.Core.Bool.{Bool, true, false, not, true≢false}
 use Prim.Native.Nat.{ℕ, ◌≤◌, ◌<◌}
 use lib.Dec.{leb, ltb, eqb}
 use borrow.Author.Tests.{le-leb, lt-leb, eq-eqb, ne_eqb, lt-ltb, le-ltb, not-true, not-false}
-use Rattle.base.specs.If.{if◌then◌else◌, both, either}
+use Rattle.base.specs.If.{provided◌then◌else◌, both, either}
 
-pub if_true : {A : Type 0} {b : Bool} (x y : A) → b ≡ true → (if b then x else y) ≡ x
-unfolding if◌then◌else◌
+pub if_true : {A : Type 0} {b : Bool} (x y : A) → b ≡ true → (provided b then x else y) ≡ x
+unfolding provided◌then◌else◌
 if_true x y e = rw e
 
-pub if_false : {A : Type 0} {b : Bool} (x y : A) → b ≡ false → (if b then x else y) ≡ y
-unfolding if◌then◌else◌
+pub if_false : {A : Type 0} {b : Bool} (x y : A) → b ≡ false → (provided b then x else y) ≡ y
+unfolding provided◌then◌else◌
 if_false x y e = rw e
 
 -- a case split on the test of a conditional
-pub by_test : {A : Type 0} (P : A → Type 0) (b : Bool) (x y : A) → (b ≡ true → P x) → (b ≡ false → P y) → P (if b then x else y)
-unfolding if◌then◌else◌
+pub by_test : {A : Type 0} (P : A → Type 0) (b : Bool) (x y : A) → (b ≡ true → P x) → (b ≡ false → P y) → P (provided b then x else y)
+unfolding provided◌then◌else◌
 by_test P true x y h k = h refl
 by_test P false x y h k = k refl
 
@@ -193,10 +193,10 @@ module _ (a b : Bool) where
   refused_yes answer h k = k ∙ sym (both_rest a b h.holds)
 
 module _ {A : Type 0} (b : Bool) (x y answer : A) where
-  pub chosen_yes : Yes b → answer ≡ x → answer ≡ (if b then x else y)
+  pub chosen_yes : Yes b → answer ≡ x → answer ≡ (provided b then x else y)
   chosen_yes h k = k ∙ sym (if_true x y h.holds)
 
-  pub chosen_no : No b → answer ≡ y → answer ≡ (if b then x else y)
+  pub chosen_no : No b → answer ≡ y → answer ≡ (provided b then x else y)
   chosen_no h k = k ∙ sym (if_false x y h.fails)
 
 -- for a last test that is itself the answer

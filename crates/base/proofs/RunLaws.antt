@@ -13,12 +13,12 @@ use lib.ListN.{length, take, drop, get_or, drop_of_length-le, length-drop, get_o
 use lib.Seq.{drop-cons, drop-drop, get_or-drop, length-take-le}
 use lib.Dec.{eqb}
 use borrow.Author.Tests.{eqb-true, eq-eqb, ne_eqb, not-true, not-false}
-use Rattle.base.specs.If.{if◌then◌else◌, both}
+use Rattle.base.specs.If.{provided◌then◌else◌, both}
 use Rattle.base.specs.Runs.{run, all, same}
 use Rattle.base.specs.Way.Class.{run_end}
 use Rattle.base.proofs.IfLaws.{if_true, if_false, by_test, by_cases, both_true, both_not_left, both_not_right, both_rest, both_first, both_second, both_assoc}
 
-pub run_cons : (p : ℕ → Bool) (b : ℕ) (s : List ℕ) → run p (b ∷ s) ≡ (if p b then suc (run p s) else zero)
+pub run_cons : (p : ℕ → Bool) (b : ℕ) (s : List ℕ) → run p (b ∷ s) ≡ (provided p b then suc (run p s) else zero)
 unfolding run
 run_cons p b s = refl
 

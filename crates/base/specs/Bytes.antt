@@ -3,7 +3,7 @@
 use Rattle.std.specs.Prelude.{ℕ, ◌+◌, Bool, not, List, [], ◌∷◌, leb, eqb}
 use Prim.Native.Char.{code}
 use Prim.Native.String.{String}
-use Rattle.base.specs.If.{if◌then◌else◌, both, either}
+use Rattle.base.specs.If.{provided◌then◌else◌, both, either}
 
 -- the bytes of a quoted text
 abbrev pub bytes : String → List ℕ
@@ -47,7 +47,7 @@ is_letter b = either (is_capital b) (is_small b)
 
 -- a capital letter as its small letter, any other byte unchanged: what is compared where "case does not count"
 unfoldable pub small : ℕ → ℕ
-small b = if is_capital b then b + 32 else b
+small b = provided is_capital b then b + 32 else b
 
 -- any byte but a blank: the bytes of a word
 unfoldable pub is_filled : ℕ → Bool

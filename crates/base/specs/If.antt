@@ -3,10 +3,10 @@
 -- Assumes nothing.
 use Rattle.std.specs.Prelude.{Bool, true, false}
 
-infix 1 if◌then◌else◌
-unfoldable pub if◌then◌else◌ : {A : Type 0} → Bool → A → A → A
-if true then x else y = x
-if false then x else y = y
+infix 1 provided◌then◌else◌
+unfoldable pub provided◌then◌else◌ : {A : Type 0} → Bool → A → A → A
+provided true then x else y = x
+provided false then x else y = y
 
 -- both tests hold; at least one test holds
 unfoldable pub both : Bool → Bool → Bool

@@ -12,7 +12,7 @@ use lib.Seq.{get_or-set_same, get_or-set_other}
 use lib.Dec.{leb, eqb}
 use borrow.Author.Tests.{lt-ltb, le-ltb, eqb-true, eqb-false, leb-true, leb-false, not-true, not-false}
 use Rattle.cross_rules.specs.Way.Findings.{list_name_rule, list_findings}
-use Rattle.base.specs.If.{if◌then◌else◌, both, either}
+use Rattle.base.specs.If.{provided◌then◌else◌, both, either}
 use Rattle.base.proofs.IfLaws.{if_true, if_false, by_cases, either_left, either_rest, not_via, not_not_via}
 use Rattle.base.proofs.BrokenLaws.{first_broken_lem, first_kept}
 use Rattle.lex_keyword.specs.Names.{begin_icm_model}
@@ -335,9 +335,9 @@ module _ (t : List ℕ) (listed : List Bool) (c : Cursor) (left : ListLeft t lis
       abbrev name : Named
       name = record { name = first_word (words_of l); line = l.line }
 
-      listed_is : listed_at l ls ≡ (if both (eqb p place.list) (eqb line.key plain) then name ∷ [] else [])
+      listed_is : listed_at l ls ≡ (provided both (eqb p place.list) (eqb line.key plain) then name ∷ [] else [])
       unfolding listed_at stands_in key_of
-      listed_is = ap (λ (k : ℕ). if both (eqb p place.list) (eqb k plain) then name ∷ [] else []) (sym found.key_is)
+      listed_is = ap (λ (k : ℕ). provided both (eqb p place.list) (eqb k plain) then name ∷ [] else []) (sym found.key_is)
 
       module _ (table : List ℕ) (filled : HoldsText t table) (v : View) (is_view : v ≡ view_of table) where
         abbrev count : ℕ

@@ -10,7 +10,7 @@ use lib.ListN.{length, take, drop, get_or, length-drop}
 use lib.Seq.{length-take-le}
 use lib.Dec.{ltb, eqb, leb-suc-suc}
 use borrow.Author.Tests.{le-leb, lt-leb, lt-ltb, eq-eqb, ne_eqb}
-use Rattle.base.specs.If.{if◌then◌else◌, either}
+use Rattle.base.specs.If.{provided◌then◌else◌, either}
 use Rattle.base.specs.Runs.{same}
 use Rattle.base.proofs.IfLaws.{if_true, if_false, by_cases, either_left, either_rest, either_false}
 use Rattle.base.proofs.RunLaws.{same_refl, same_equal}
@@ -121,7 +121,7 @@ module _ {A B : Type 0} (test : B → Bool) (f : A → B) where
   index_map : (xs : List A) → index_of (λ (x : A). test (f x)) xs ≡ index_of test (map f xs)
   unfolding index_of
   index_map [] = refl
-  index_map (x ∷ xs) = λ i. if test (f x) then zero else suc (index_map xs i)
+  index_map (x ∷ xs) = λ i. provided test (f x) then zero else suc (index_map xs i)
 
 module _ (t table : List ℕ) (filled : HoldsText t table) (v : View) (is_view : v ≡ view_of table) where
   abbrev d : Document

@@ -10,7 +10,7 @@ use lib.ListN.{length, get_or, set, drop, replicate, length-set, get_or-replicat
 use lib.Seq.{get_or-set_same, get_or-set_other, drop-cons}
 use lib.Dec.{leb, eqb}
 use borrow.Author.Tests.{ne_eqb, eqb-true, eqb-false, leb-true, leb-false}
-use Rattle.base.specs.If.{if◌then◌else◌, either}
+use Rattle.base.specs.If.{provided◌then◌else◌, either}
 use Rattle.base.proofs.IfLaws.{if_true, if_false, by_test, by_cases, both_rest, both_not_left, either_left, either_rest, either_comes}
 use Rattle.table_layout.specs.Codes.{section_kind}
 use Rattle.table_layout.specs.Layout.{steps}
@@ -22,7 +22,7 @@ use Rattle.table_record.proofs.RecordLaws.{steps_long}
 use Rattle.cross_rules.specs.Rules.{any}
 use Rattle.cross_names.specs.Way.Used.{points_at, used_in, no_slot, Flags, slot_of}
 
-far : (i target : ℕ) → i < no_slot → eqb target i ≡ eqb (if leb no_slot target then no_slot else target) i
+far : (i target : ℕ) → i < no_slot → eqb target i ≡ eqb (provided leb no_slot target then no_slot else target) i
 far i target h =
     by_cases _ (leb no_slot target)
     (λ (e : leb no_slot target ≡ true).
@@ -38,15 +38,15 @@ module _ (s : StepRecord) where
       by_cases _ (eqb s.kind section_kind)
       (λ (k : eqb s.kind section_kind ≡ true).
       both_rest _ _ k ∙ far i s.target h
-      ∙ ap (λ (x : ℕ). eqb x i) (sym (if_false {A = ℕ} no_slot (if leb no_slot s.target then no_slot else s.target) (ap not k))))
+      ∙ ap (λ (x : ℕ). eqb x i) (sym (if_false {A = ℕ} no_slot (provided leb no_slot s.target then no_slot else s.target) (ap not k))))
       (λ (k : eqb s.kind section_kind ≡ false).
       both_not_left _ _ k ∙ sym (ne_eqb no_slot i (λ (z : no_slot ≡ i). omega arith))
-      ∙ ap (λ (x : ℕ). eqb x i) (sym (if_true {A = ℕ} no_slot (if leb no_slot s.target then no_slot else s.target) (ap not k))))
+      ∙ ap (λ (x : ℕ). eqb x i) (sym (if_true {A = ℕ} no_slot (provided leb no_slot s.target then no_slot else s.target) (ap not k))))
 
   slot_small : slot_of s ≤ no_slot
   unfolding slot_of
   slot_small =
-      by_test (λ (x : ℕ). x ≤ no_slot) (not (eqb s.kind section_kind)) no_slot (if leb no_slot s.target then no_slot else s.target) (λ e. omega arith)
+      by_test (λ (x : ℕ). x ≤ no_slot) (not (eqb s.kind section_kind)) no_slot (provided leb no_slot s.target then no_slot else s.target) (λ e. omega arith)
       (λ e.
       by_test (λ (x : ℕ). x ≤ no_slot) (leb no_slot s.target) no_slot s.target (λ f. omega arith)
       (λ (f : leb no_slot s.target ≡ false). omega (arith, leb-false no_slot s.target f)))

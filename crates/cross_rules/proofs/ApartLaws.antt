@@ -6,7 +6,7 @@ use mathlib.Core.List.{List, [], ◌∷◌, ◌++◌, map}
 use Prim.Native.Nat.{ℕ, ◌+◌}
 use lib.Dec.{eqb}
 use borrow.Author.Tests.{eqb-true, eqb-false}
-use Rattle.base.specs.If.{if◌then◌else◌}
+use Rattle.base.specs.If.{provided◌then◌else◌}
 use Rattle.base.proofs.IfLaws.{by_test, by_cases, both_first, both_second, if_true, if_false}
 use Rattle.lex_keyword.specs.Names.{icm_pin_map, begin_icm_model, begin_icm_section}
 use Rattle.line_place.specs.Place as place
@@ -64,24 +64,24 @@ data Part : Type 0 where
 -- the part of a line without a keyword, and of one with the keyword k
 unfoldable plain_part : ℕ → Part
 plain_part p =
-    if eqb p place.list then list else
-    if eqb p place.head then sgrs else
-    if eqb p place.path then models else
-    if eqb p place.pin_list then maps else other
+    provided eqb p place.list then list else
+    provided eqb p place.head then sgrs else
+    provided eqb p place.path then models else
+    provided eqb p place.pin_list then maps else other
 
 unfoldable keyed_part : ℕ → Part
-keyed_part k = if eqb k begin_icm_model then models else if eqb k icm_pin_map then maps else if eqb k begin_icm_section then sections else other
+keyed_part k = provided eqb k begin_icm_model then models else provided eqb k icm_pin_map then maps else provided eqb k begin_icm_section then sections else other
 
 unfoldable part_of : Line → Part
-part_of l = if eqb (key_of l) plain then plain_part l.place else keyed_part (key_of l)
+part_of l = provided eqb (key_of l) plain then plain_part l.place else keyed_part (key_of l)
 
 module _ (l : Line) where
   plain_part_lem : (p : ℕ) → stands_in p l ≡ true → part_of l ≡ plain_part p
-  unfolding stands_in part_of if◌then◌else◌
+  unfolding stands_in part_of provided◌then◌else◌
   plain_part_lem p h = rw (both_second (eqb l.place p) _ h, eqb-true l.place p (both_first _ _ h))
 
   keyed_part_lem : (k : ℕ) → eqb k plain ≡ false → key_of l ≡ k → part_of l ≡ keyed_part k
-  unfolding part_of if◌then◌else◌
+  unfolding part_of provided◌then◌else◌
   keyed_part_lem k n e = rw (e, n)
 
 -- some line of the list is in the part, and its number is n
@@ -133,21 +133,21 @@ module _ (ls : List Line) where
     keyed_comes k n e = comes l (keyed_part k) m (keyed_part_lem l k n e)
 
     listed_comes : Each (λ (n : Named). Comes ls list n.line) (listed_at l after)
-    unfolding listed_at plain_part if◌then◌else◌
+    unfolding listed_at plain_part provided◌then◌else◌
     listed_comes = each_if (stands_in place.list l) _ (plain_comes place.list)
 
     pin_comes : Each (λ (n : Named). Comes ls maps n.line) (pin_at l after)
-    unfolding pin_at plain_part if◌then◌else◌
+    unfolding pin_at plain_part provided◌then◌else◌
     pin_comes = each_if (stands_in place.pin_list l) _ (plain_comes place.pin_list)
 
     section_comes : Each (λ (s : Section). Comes ls sections s.line) (section_at l after)
-    unfolding section_at section_of opens_section keyed_part if◌then◌else◌
+    unfolding section_at section_of opens_section keyed_part provided◌then◌else◌
     section_comes =
         each_if (opens_section l) _
         (λ (e : opens_section l ≡ true). keyed_comes begin_icm_section refl (eqb-true _ _ (both_second _ _ e)))
 
     path_comes : stands_in place.path l ≡ true → Comes ls models l.line
-    unfolding plain_part if◌then◌else◌
+    unfolding plain_part provided◌then◌else◌
     path_comes e = plain_comes place.path e
 
     step_comes : Each (λ (s : Step). Comes ls models s.line) (step_of l after)
@@ -160,15 +160,15 @@ module _ (ls : List Line) where
 
   -- the last line that says SGR, if any does
   sgr_comes : (n : ℕ) → ((n ≡ 0 → ⊥) → Comes ls sgrs n) → {body : List Line} → Each In body → (sgr_in n body ≡ 0 → ⊥) → Comes ls sgrs (sgr_in n body)
-  unfolding sgr_in says_sgr plain_part if◌then◌else◌
+  unfolding sgr_in says_sgr plain_part provided◌then◌else◌
   sgr_comes n h none = h
   sgr_comes n h (more {x = l} {xs = after} m ms) =
-      sgr_comes (if says_sgr l then l.line else n)
+      sgr_comes (provided says_sgr l then l.line else n)
       (by_test (λ (k : ℕ). (k ≡ 0 → ⊥) → Comes ls sgrs k) (says_sgr l) l.line n
       (λ (e : says_sgr l ≡ true) (z : l.line ≡ 0 → ⊥). plain_comes l after m ms place.head (both_first _ _ e)) (λ (e : says_sgr l ≡ false). h)) ms
 
   model_comes : (l : Line) (after : List Line) → In l → Each In after → Each (ModelComes ls) (model_at l after)
-  unfolding model_at model_of steps_in opens_model keyed_part if◌then◌else◌
+  unfolding model_at model_of steps_in opens_model keyed_part provided◌then◌else◌
   model_comes l after m ms =
       each_if (opens_model l) _
       (λ (e : opens_model l ≡ true).
@@ -179,7 +179,7 @@ module _ (ls : List Line) where
       })
 
   map_comes : (l : Line) (after : List Line) → In l → Each In after → Each (MapComes ls) (map_at l after)
-  unfolding map_at map_of opens_map keyed_part if◌then◌else◌
+  unfolding map_at map_of opens_map keyed_part provided◌then◌else◌
   map_comes l after m ms =
       each_if (opens_map l) _
       (λ (e : opens_map l ≡ true).

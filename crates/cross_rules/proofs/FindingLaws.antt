@@ -6,7 +6,7 @@ use mathlib.Core.List.{List, [], ◌∷◌, ◌++◌, map, map-append}
 use Prim.Native.Nat.{ℕ, ◌+◌}
 use lib.Dec.{eqb}
 use Rattle.table_layout.specs.Codes.{end_kind, section_kind}
-use Rattle.base.specs.If.{if◌then◌else◌}
+use Rattle.base.specs.If.{provided◌then◌else◌}
 use Rattle.base.proofs.IfLaws.{if_true, if_false, by_cases}
 use Rattle.base.specs.Broken.{Rule, first_broken}
 use Rattle.doc.specs.Document.{Named, Step, Model, Map, Section, Document}
@@ -50,8 +50,8 @@ use Rattle.cross_rules.specs.declared.Finding.{Finding}
 
 -- ---- the rule of a step
 
-chosen : (b : Bool) (x y : List Rule) (n : ℕ) → n ≡ first_broken y → (if b then first_broken x else n) ≡ first_broken (if b then x else y)
-unfolding if◌then◌else◌
+chosen : (b : Bool) (x y : List Rule) (n : ℕ) → n ≡ first_broken y → (provided b then first_broken x else n) ≡ first_broken (provided b then x else y)
+unfolding provided◌then◌else◌
 chosen true x y n e = refl
 chosen false x y n e = e
 

@@ -11,7 +11,7 @@ use lib.ListN.{get_or, set}
 use lib.Seq.{get_or-set_other}
 use lib.Dec.{eqb}
 use borrow.Author.Tests.{ne_eqb, eqb-true, eqb-false, not-false}
-use Rattle.base.specs.If.{if◌then◌else◌, either}
+use Rattle.base.specs.If.{provided◌then◌else◌, either}
 use Rattle.base.specs.Runs.{same}
 use Rattle.base.specs.Bytes.{bytes}
 use Rattle.base.proofs.IfLaws.{
@@ -124,7 +124,7 @@ module _ (k : ℕ) (other : k ≡ icm_model_list → ⊥) where
   abbrev Off : ℕ → Type 0
   Off q = eqb q place.list ≡ false
 
-  choose : (b : Bool) (x y : ℕ) → Off x → Off y → Off (if b then x else y)
+  choose : (b : Bool) (x y : ℕ) → Off x → Off y → Off (provided b then x else y)
   choose b x y h e = by_test Off b x y (λ (t : b ≡ true). h) (λ (t : b ≡ false). e)
 
   section_off : Off (leads_in_section k)
@@ -276,7 +276,7 @@ module _ (k : ℕ) (argument : List ℕ) (s : State) (kept : keyword_rule k argu
   not_lacking = either_none_first _ _ (either_none_second _ _ (either_none_second _ _ (either_none_second _ _ (keyword_placed k argument s kept))))
 
   model_read : k ≡ begin_icm_model → ListRead s
-  unfolding is_lacking if◌then◌else◌
+  unfolding is_lacking provided◌then◌else◌
   model_read e = not-false _ (rw e at not_lacking)
 
 model_closes : {l : Line} {s s' : State} → l.place ≡ s.place → Moves l s s' → opens_model l ≡ true → Closed s'
@@ -315,7 +315,7 @@ late_map matrix e = omega (arith, e)
 late_map done e = omega (arith, e)
 late_map dead e = omega (arith, e)
 
-one_of : (b : Bool) (x y : ℕ) → Late x → Late y → Late (if b then x else y)
+one_of : (b : Bool) (x y : ℕ) → Late x → Late y → Late (provided b then x else y)
 one_of b x y h k = by_test Late b x y (λ (e : b ≡ true). h) (λ (e : b ≡ false). k)
 
 module _ (k : ℕ) where
@@ -331,11 +331,11 @@ module _ (k : ℕ) where
   unfolding leads_after_family
   late_family = one_of (eqb k begin_icm_section) _ _ head (one_of (eqb k the_end) _ _ done dead)
 
-  late_head : Late (if eqb k derivation_method then place.section else place.dead)
+  late_head : Late (provided eqb k derivation_method then place.section else place.dead)
   late_head = one_of (eqb k derivation_method) _ _ section dead
 
   late_moved : {p : ℕ} → Late p → Late (moved p k)
-  unfolding moved is_in_model is_in_family is_in_header either if◌then◌else◌
+  unfolding moved is_in_model is_in_family is_in_header either provided◌then◌else◌
   late_moved after = late_family
   late_moved head = late_head
   late_moved section = late_section

@@ -8,7 +8,7 @@ use native.Mathlib.Omega.{arith}
 use lib.ListN.{length, get_or}
 use lib.Dec.{eqb}
 use borrow.Author.Tests.{not-true, not-false, eq-eqb, ne_eqb}
-use Rattle.base.specs.If.{if◌then◌else◌, both}
+use Rattle.base.specs.If.{provided◌then◌else◌, both}
 use Rattle.base.proofs.IfLaws.{if_true, if_false, by_cases, both_first, both_second, both_rest}
 use Rattle.line_place.specs.Place as place
 use Rattle.table_layout.specs.Layout.{models, maps, pins, sections}
@@ -34,7 +34,7 @@ module _ (part i : ℕ) (l : Line) (ls : List Line) where
   unfolding nth_line
   nth_found h = if_true _ _ (both_first _ _ h) ∙ if_true _ _ (both_second _ _ h)
 
-  nth_on : both (writes_part part l) (eqb i 0) ≡ false → nth_line part i (l ∷ ls) ≡ nth_line part (if writes_part part l then i - 1 else i) ls
+  nth_on : both (writes_part part l) (eqb i 0) ≡ false → nth_line part i (l ∷ ls) ≡ nth_line part (provided writes_part part l then i - 1 else i) ls
   unfolding nth_line
   nth_on h =
       by_cases _ (writes_part part l)
@@ -69,11 +69,11 @@ module _ (t : List ℕ) (part index left : ℕ) (c : Cursor) (inv : CountLeft t 
           let b : both (writes_part part (line_in t line p)) (eqb left 0) ≡ true = ap (λ (w : Bool). both w (eqb left 0)) writes_here ∙ sym is_last ∙ h in
           sym (nth_found part left (line_in t line p) (lines_behind t line p) b) ∙ ap (nth_line part left) (sym here) ∙ inv.same
 
-      pub count_on : last ≡ false → (less : ℕ) → less ≡ (if writes then left - 1 else left) → (next : Cursor) → next ≡ cursor_past t c line → CountLeft t part index less next
+      pub count_on : last ≡ false → (less : ℕ) → less ≡ (provided writes then left - 1 else left) → (next : Cursor) → next ≡ cursor_past t c line → CountLeft t part index less next
       unfolding cursor_past
       count_on h less is_less next is_next =
           let b : both (writes_part part (line_in t line p)) (eqb left 0) ≡ false = ap (λ (w : Bool). both w (eqb left 0)) writes_here ∙ sym is_last ∙ h in
-          let m : less ≡ (if writes_part part (line_in t line p) then left - 1 else left) = is_less ∙ ap (λ (w : Bool). if w then left - 1 else left) (sym writes_here) in
+          let m : less ≡ (provided writes_part part (line_in t line p) then left - 1 else left) = is_less ∙ ap (λ (w : Bool). provided w then left - 1 else left) (sym writes_here) in
           let k : line.line ≤ line.at + 1 = found.counted in
           let f : line.at < line.next = found.further in
           rw is_next
@@ -93,15 +93,15 @@ module _ (t : List ℕ) (part index left : ℕ) (c : Cursor) (inv : CountLeft t 
 
 -- ---- the lines of the document's records
 
-number_of : (l : Line) (ls : List ℕ) (i : ℕ) (later : ℕ → ℕ) → ((j : ℕ) → later j ≡ get_or ls j 0) → (if eqb i 0 then l.line else later (i - 1)) ≡ get_or (l.line ∷ ls) i 0
+number_of : (l : Line) (ls : List ℕ) (i : ℕ) (later : ℕ → ℕ) → ((j : ℕ) → later j ≡ get_or ls j 0) → (provided eqb i 0 then l.line else later (i - 1)) ≡ get_or (l.line ∷ ls) i 0
 number_of l ls zero later e = if_true _ _ (eq-eqb 0 0 refl)
 number_of l ls (suc i) later e =
     let k : suc i - 1 ≡ i = omega arith in
     if_false _ _ (ne_eqb (suc i) 0 (λ (h : suc i ≡ 0). omega arith)) ∙ ap later k ∙ e i
 
 -- for a part of which each line writes at most one record, with that line's number
-module _ {A : Type 0} (part : ℕ) (here : Line → List Line → List A) (line_of : A → ℕ) (one : (l : Line) (ls : List Line) → map line_of (here l ls) ≡ (if writes_part part l then l.line ∷ [] else [])) where
-  lines_here : (l : Line) (ls : List Line) → map line_of (gather here (l ∷ ls)) ≡ (if writes_part part l then l.line ∷ [] else []) ++ map line_of (gather here ls)
+module _ {A : Type 0} (part : ℕ) (here : Line → List Line → List A) (line_of : A → ℕ) (one : (l : Line) (ls : List Line) → map line_of (here l ls) ≡ (provided writes_part part l then l.line ∷ [] else [])) where
+  lines_here : (l : Line) (ls : List Line) → map line_of (gather here (l ∷ ls)) ≡ (provided writes_part part l then l.line ∷ [] else []) ++ map line_of (gather here ls)
   unfolding gather
   lines_here l ls = map-append line_of (here l ls) (gather here ls) ∙ ap (λ (ns : List ℕ). ns ++ map line_of (gather here ls)) (one l ls)
 
@@ -118,25 +118,25 @@ module _ {A : Type 0} (part : ℕ) (here : Line → List Line → List A) (line_
       if_false _ _ w ∙ nth_is ls i ∙ ap (λ (ns : List ℕ). get_or ns i 0) (sym e))
 
 -- a line that gives one record or none
-one_or_none : {A : Type 0} (line_of : A → ℕ) (n : ℕ) (b : Bool) (x : A) → line_of x ≡ n → map line_of (if b then x ∷ [] else []) ≡ (if b then n ∷ [] else [])
-unfolding if◌then◌else◌
+one_or_none : {A : Type 0} (line_of : A → ℕ) (n : ℕ) (b : Bool) (x : A) → line_of x ≡ n → map line_of (provided b then x ∷ [] else []) ≡ (provided b then n ∷ [] else [])
+unfolding provided◌then◌else◌
 one_or_none line_of n true x e = ap (λ (k : ℕ). k ∷ []) e
 one_or_none line_of n false x e = refl
 
-model_one : (l : Line) (ls : List Line) → map (λ (m : Model). m.line) (model_at l ls) ≡ (if writes_part models l then l.line ∷ [] else [])
-unfolding model_at model_of opens_model writes_part writes_at if◌then◌else◌
+model_one : (l : Line) (ls : List Line) → map (λ (m : Model). m.line) (model_at l ls) ≡ (provided writes_part models l then l.line ∷ [] else [])
+unfolding model_at model_of opens_model writes_part writes_at provided◌then◌else◌
 model_one l ls = one_or_none (λ (m : Model). m.line) l.line (opens_model l) (model_of l (up_to in_model ls)) refl
 
-map_one : (l : Line) (ls : List Line) → map (λ (m : Map). m.line) (map_at l ls) ≡ (if writes_part maps l then l.line ∷ [] else [])
-unfolding map_at map_of opens_map writes_part writes_at if◌then◌else◌
+map_one : (l : Line) (ls : List Line) → map (λ (m : Map). m.line) (map_at l ls) ≡ (provided writes_part maps l then l.line ∷ [] else [])
+unfolding map_at map_of opens_map writes_part writes_at provided◌then◌else◌
 map_one l ls = one_or_none (λ (m : Map). m.line) l.line (opens_map l) (map_of l (up_to in_map ls)) refl
 
-section_one : (l : Line) (ls : List Line) → map (λ (s : Section). s.line) (section_at l ls) ≡ (if writes_part sections l then l.line ∷ [] else [])
-unfolding section_at section_of opens_section writes_part writes_at if◌then◌else◌
+section_one : (l : Line) (ls : List Line) → map (λ (s : Section). s.line) (section_at l ls) ≡ (provided writes_part sections l then l.line ∷ [] else [])
+unfolding section_at section_of opens_section writes_part writes_at provided◌then◌else◌
 section_one l ls = one_or_none (λ (s : Section). s.line) l.line (opens_section l) (section_of l (up_to in_section ls)) refl
 
-pin_one : (l : Line) (ls : List Line) → map (λ (p : Named). p.line) (pin_at l ls) ≡ (if writes_part pins l then l.line ∷ [] else [])
-unfolding pin_at stands_in writes_part writes_at if◌then◌else◌
+pin_one : (l : Line) (ls : List Line) → map (λ (p : Named). p.line) (pin_at l ls) ≡ (provided writes_part pins l then l.line ∷ [] else [])
+unfolding pin_at stands_in writes_part writes_at provided◌then◌else◌
 pin_one l ls = one_or_none (λ (p : Named). p.line) l.line (stands_in place.pin_list l) (record { name = first_word (words_of l); line = l.line }) refl
 
 module _ (t : List ℕ) (i : ℕ) where

@@ -7,7 +7,7 @@ use mathlib.Core.List.{List, [], ◌∷◌, ◌++◌, map, map-append, append-ni
 use Prim.Native.Nat.{ℕ, ◌+◌, ◌≤◌, ◌<◌}
 use native.Mathlib.Omega.{arith}
 use lib.Dec.{eqb}
-use Rattle.base.specs.If.{if◌then◌else◌}
+use Rattle.base.specs.If.{provided◌then◌else◌}
 use borrow.Author.Tests.{eqb-false}
 use Rattle.base.proofs.IfLaws.{by_test, by_cases, if_true, if_false}
 use Rattle.line_place.specs.Place as place
@@ -76,7 +76,7 @@ finding_lines fs = map (λ (f : Finding). f.line) fs
 
 -- a line, 0 for none; that of a model's SGR; the line of a model and that of its SGR
 unfoldable pub line_or_none : ℕ → List ℕ
-line_or_none n = if eqb n 0 then [] else n ∷ []
+line_or_none n = provided eqb n 0 then [] else n ∷ []
 
 abbrev pub sgr_line : Model → List ℕ
 sgr_line m = line_or_none m.sgr
@@ -96,7 +96,7 @@ map_lines m = m.line ∷ name_lines m.pins
 module _ (l : Line) (after : List Line) where
   one_or_none :
       {A : Type 0} (line : A → ℕ) (b : Bool) (x : A) → line x ≡ l.line →
-      Gives l.line [] (map line (if b then x ∷ [] else []))
+      Gives l.line [] (map line (provided b then x ∷ [] else []))
   one_or_none line b x e =
       by_test (λ (xs : List _). Gives l.line [] (map line xs)) b (x ∷ []) [] (λ (h : b ≡ true). rw e itself)
       (λ (h : b ≡ false). nothing)
@@ -137,7 +137,7 @@ module _ (l : Line) (after : List Line) where
   -- a line that opens a block gives the whole block
   block_whole :
       {B : Type 0} (lines : B → List ℕ) (rest : List ℕ) (b : Bool) (x : B) → lines x ≡ l.line ∷ rest →
-      Gives l.line rest (joined lines (if b then x ∷ [] else []))
+      Gives l.line rest (joined lines (provided b then x ∷ [] else []))
   unfolding joined
   block_whole lines rest b x e =
       by_test (λ (xs : List _). Gives l.line rest (joined lines xs)) b (x ∷ []) []
@@ -234,7 +234,7 @@ sgr_rising {low} {least} n (l ∷ ls) (rise least_here rest) k h =
     by_cases _ (in_model l)
     (λ (e : in_model l ≡ true).
     rw (up_in in_model l ls e, gather_more model_at l ls, model_shut l ls e)
-    (sgr_rising {least = l.line + 1} (if says_sgr l then l.line else n) ls rest (omega arith)
+    (sgr_rising {least = l.line + 1} (provided says_sgr l then l.line else n) ls rest (omega arith)
     (by_test (λ (m : ℕ). (m ≡ 0 → ⊥) → (low ≤ m) × (m < l.line + 1)) (says_sgr l) l.line n
     (λ s z. (omega arith, omega arith))
     (λ s z. let between : (low ≤ n) × (n < least) = h z in let below : n < least = between.1 in (between.0, omega arith)))))

@@ -8,7 +8,7 @@ use lib.ListN.{length, take, drop}
 use lib.Seq.{drop-drop}
 use lib.Dec.{ltb, leb-suc-suc}
 use borrow.Author.Tests.{le-leb, lt-ltb}
-use Rattle.base.specs.If.{if◌then◌else◌}
+use Rattle.base.specs.If.{provided◌then◌else◌}
 use Rattle.base.specs.Runs.{same}
 use Rattle.base.proofs.IfLaws.{if_true, if_false, by_cases, both_rest, either_left, either_rest}
 use Rattle.table_layout.specs.Layout.{chopped}
@@ -46,7 +46,7 @@ module _ (t table name : List ℕ) (width : ℕ) (wide : name_width ≤ width) w
   found_places (suc n) base =
       let rest : index_of (is_named t name 0) (chopped width n (drop width (drop base table))) ≡ index_of (λ (at : ℕ). same name (own_name t table at)) (places width (base + width) n) =
       rw (drop-drop width base table) (found_places n (base + width)) in
-      λ i. if named_here base i then zero else suc (rest i)
+      λ i. provided named_here base i then zero else suc (rest i)
 
 pub twice_told :
     (t table : List ℕ) (base width index : ℕ) → name_width ≤ width → (own : NameRecord) → own ≡ name_record_at table (base + width * index) →

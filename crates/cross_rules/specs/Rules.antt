@@ -3,7 +3,7 @@
 -- Assumes nothing.
 use Rattle.std.specs.Prelude.{ℕ, zero, suc, ◌+◌, Bool, false, not, List, [], ◌∷◌, ◌++◌, map, length, ltb, eqb}
 use Rattle.table_layout.specs.Codes.{diagonal, end_kind, section_kind, lumped, distributed, slm_general, mlm}
-use Rattle.base.specs.If.{if◌then◌else◌, both, either}
+use Rattle.base.specs.If.{provided◌then◌else◌, both, either}
 use Rattle.base.specs.Runs.{same}
 use Rattle.base.specs.Broken.{Rule, ◌when◌, first_broken}
 use Rattle.base.specs.Refusal as refusal
@@ -139,7 +139,7 @@ is_clashing d m s = both (has_map d s) (any (clashes d s) m.steps)
 -- "the path's first map": the map of its first end, here as a list of at most one step
 abbrev pub first_end : List Step → List Step
 first_end [] = []
-first_end (s ∷ ss) = if eqb s.kind end_kind then s ∷ [] else first_end ss
+first_end (s ∷ ss) = provided eqb s.kind end_kind then s ∷ [] else first_end ss
 
 -- "26 COUNT: step whose pins or conductors differ from the pins of the path's first map": `many` is the count at the
 -- step. If the path's first map is not found, nothing differs.
@@ -156,7 +156,7 @@ end_step_rules d m s =
 
 -- "24 METHOD: Mult with Distributed, Len with Lumped"
 unfoldable pub is_wrong_method : Document → Step → Bool
-is_wrong_method d s = if s.mult then eqb (method_at d.sections (section_index d s)) distributed else eqb (method_at d.sections (section_index d s)) lumped
+is_wrong_method d s = provided s.mult then eqb (method_at d.sections (section_index d s)) distributed else eqb (method_at d.sections (section_index d s)) lumped
 
 -- SLM_general or SLM_quiescent: their numbers come before that of MLM
 unfoldable pub is_single_line : Model → Bool
@@ -173,8 +173,8 @@ section_step_rules d m s =
 -- a Fork or an Endfork line is checked for no rule
 abbrev pub step_rules : Document → Model → Step → List Rule
 step_rules d m s =
-    if eqb s.kind end_kind then end_step_rules d m s else
-    if eqb s.kind section_kind then section_step_rules d m s else []
+    provided eqb s.kind end_kind then end_step_rules d m s else
+    provided eqb s.kind section_kind then section_step_rules d m s else []
 
 -- ---- all lines with their rules, in this order: the model list, models with their steps, the SGR lines of models, maps
 -- with their pins, sections
@@ -194,7 +194,7 @@ module _ (d : Document) where
   unfoldable pub sgr_rules_at_lines : List Model → List RulesAtLine
   sgr_rules_at_lines [] = []
   sgr_rules_at_lines (m ∷ ms) =
-      if eqb m.sgr 0 then sgr_rules_at_lines ms else record { line = m.sgr; rules = sgr_rules m } ∷ sgr_rules_at_lines ms
+      provided eqb m.sgr 0 then sgr_rules_at_lines ms else record { line = m.sgr; rules = sgr_rules m } ∷ sgr_rules_at_lines ms
 
   unfoldable pub pin_rules_at_lines : Map → List RulesAtLine
   pin_rules_at_lines m = map (λ (p : Named). record { line = p.line; rules = pin_name_rules m p }) m.pins
@@ -221,7 +221,7 @@ finding_of look = record { rule = first_broken look.rules; line = look.line }
 
 -- "In each group the earliest line counts": the finding on the earlier line. A finding of rule 0 never counts.
 unfoldable pub earlier : Finding → Finding → Finding
-earlier a b = if eqb a.rule 0 then b else if eqb b.rule 0 then a else if ltb b.line a.line then b else a
+earlier a b = provided eqb a.rule 0 then b else provided eqb b.rule 0 then a else provided ltb b.line a.line then b else a
 
 unfoldable pub no_finding : Finding
 no_finding = record { rule = 0; line = 0 }

@@ -2,7 +2,7 @@
 #![tactic(auto)]
 
 ghost use Rattle.std.specs.Prelude.{◌≡◌, eqb, length, ◌-◌, ◌+◌, ◌*◌, ◌≤◌};
-ghost use Rattle.base.specs.If.{if◌then◌else◌, both};
+ghost use Rattle.base.specs.If.{provided◌then◌else◌, both};
 ghost use Rattle.table_record.specs.Way.Standing.{name_width};
 ghost use Rattle.doc.specs.Lines.{significant};
 ghost use Rattle.cross_rules.specs.Way.Nth.{writes_at, nth_line};
@@ -55,7 +55,7 @@ fn is_last(writes: bool, left: u64) -> bool
 
 // How many records are left to skip after a line: one fewer if the line writes one, but never below 0.
 fn less_if(writes: bool, left: u64) -> u64
-    ensures { result ≡ (if writes then left - 1 else left) }
+    ensures { result ≡ (provided writes then left - 1 else left) }
 {
     if !writes {
         return left;

@@ -11,7 +11,7 @@ use lib.ListN.{length, get_or, take, length-append, length-map}
 use lib.Seq.{get_or-append_seam, take-take, take_at}
 use lib.Dec.{ltb, eqb}
 use borrow.Author.Tests.{eq-eqb, ne_eqb, eqb-true, le-ltb, ltb-true, ltb-false}
-use Rattle.base.specs.If.{if◌then◌else◌, both, either}
+use Rattle.base.specs.If.{provided◌then◌else◌, both, either}
 use Rattle.base.specs.Runs.{same}
 use Rattle.base.specs.Broken.{◌when◌, first_broken}
 use Rattle.base.specs.Refusal as refusal
@@ -206,15 +206,15 @@ module _ (d : Document) where
       by_cases _ (eqb x.kind end_kind)
       (λ (e : eqb x.kind end_kind ≡ true).
       let k : eqb (record_of x).kind end_kind ≡ true = rw (kind_of_lem x) e in
-      let f : (if eqb (record_of x).kind end_kind then (record_of x).target else first_target (length r.maps) (map record_of steps)) ≡ map_index d x =
+      let f : (provided eqb (record_of x).kind end_kind then (record_of x).target else first_target (length r.maps) (map record_of steps)) ≡ map_index d x =
       if_true _ _ k ∙ end_target x (eqb-true _ _ e) in
-      let g : (if eqb x.kind end_kind then x ∷ [] else first_end steps) ≡ x ∷ [] = if_true _ _ e in
+      let g : (provided eqb x.kind end_kind then x ∷ [] else first_end steps) ≡ x ∷ [] = if_true _ _ e in
       rw (f, g) (λ i. both (has_is x i) (not (eqb many (pins_is (map_index d x) i)))))
       (λ (e : eqb x.kind end_kind ≡ false).
       let k : eqb (record_of x).kind end_kind ≡ false = rw (kind_of_lem x) e in
-      let f : (if eqb (record_of x).kind end_kind then (record_of x).target else first_target (length r.maps) (map record_of steps))
+      let f : (provided eqb (record_of x).kind end_kind then (record_of x).target else first_target (length r.maps) (map record_of steps))
       ≡ first_target (length r.maps) (map record_of steps) = if_false _ _ k in
-      let g : (if eqb x.kind end_kind then x ∷ [] else first_end steps) ≡ first_end steps = if_false _ _ e in
+      let g : (provided eqb x.kind end_kind then x ∷ [] else first_end steps) ≡ first_end steps = if_false _ _ e in
       rw (f, g) (differs_is many steps))
 
 -- ---- what the code requires of the table
@@ -318,7 +318,7 @@ module _ (t : List ℕ) (d : Document) (right : Each RightSection d.sections) (o
     wrong_is =
         let e : (section_of (flatten d) own.target).method ≡ method_at d.sections (section_index d s) =
         ap (λ (n : ℕ). (section_of (flatten d) n).method) (section_target d s kind) ∙ method_is d (section_index d s) in
-        with_section _ _ (λ i. if is_mult_lem i then eqb (e i) distributed else eqb (e i) lumped)
+        with_section _ _ (λ i. provided is_mult_lem i then eqb (e i) distributed else eqb (e i) lumped)
 
     kind_is :
         both (ltb own.target (length (flatten d).sections)) (kind_broken (flatten d) o.kind own.target)
@@ -356,8 +356,8 @@ module _ (t : List ℕ) (d : Document) (right : Each RightSection d.sections) (o
   step_is mult told =
       ap
       (λ (k : ℕ).
-      if eqb k end_kind then end_rule_at t (flatten d) o own (length above) else
-      if eqb k section_kind then section_rule_at (flatten d) o own mult else 0)
+      provided eqb k end_kind then end_rule_at t (flatten d) o own (length above) else
+      provided eqb k section_kind then section_rule_at (flatten d) o own mult else 0)
       (kind_of_lem d s)
       ∙ by_cases _ (eqb s.kind end_kind)
       (λ (e : eqb s.kind end_kind ≡ true). if_true _ _ e ∙ end_is (eqb-true _ _ e) ∙ sym (if_true _ _ e))

@@ -4,7 +4,7 @@ use mathlib.Core.Path.{◌≡◌, refl, sym, ◌∙◌, ap}
 use mathlib.Core.Bool.{Bool, true, false}
 use mathlib.Core.List.{List, [], ◌∷◌, ◌++◌, append_assoc}
 use Prim.Native.Nat.{ℕ, ◌+◌}
-use Rattle.base.specs.If.{if◌then◌else◌}
+use Rattle.base.specs.If.{provided◌then◌else◌}
 use Rattle.base.proofs.IfLaws.{if_true, if_false, by_cases}
 use Rattle.lex_line.specs.Lines.{Said, is_blank_line, contents}
 use Rattle.line_place.specs.Place as place
@@ -58,7 +58,7 @@ pub record Blocks {A : Type 0} (opens inside : Line → Bool) (here : Line → L
 
 -- what the block holds that a line opens
 unfoldable pub of_block : {A : Type 0} → (Line → Bool) → (Line → Bool) → (Line → List Line → List A) → Line → List Line → List A
-of_block opens inside here l after = if opens l then gather here (up_to inside after) else []
+of_block opens inside here l after = provided opens l then gather here (up_to inside after) else []
 
 -- the first of the lines is in no block
 abbrev pub Outside : (Line → Bool) → List Line → Type 0

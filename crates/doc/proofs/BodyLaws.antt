@@ -9,7 +9,7 @@ use native.Mathlib.Omega.{arith}
 use lib.ListN.{get_or}
 use lib.Dec.{eqb}
 use borrow.Author.Tests.{eq-eqb, ne_eqb, eqb-true, eqb-false, leb-true, ltb-false, not-false}
-use Rattle.base.specs.If.{if◌then◌else◌, both, either}
+use Rattle.base.specs.If.{provided◌then◌else◌, both, either}
 use Rattle.base.specs.Bytes.{within}
 use Rattle.base.specs.Broken.{Rule, ◌when◌}
 use Rattle.base.proofs.IfLaws.{
@@ -55,7 +55,7 @@ module _ (content : List ℕ) (s : State) (p : s.place ≡ place.matrix) where
   data_rule_lem = rule_matrix content s p
 
   data_place : (line_next content s).place ≡ place.matrix
-  unfolding line_next moved_by_line if◌then◌else◌
+  unfolding line_next moved_by_line provided◌then◌else◌
   data_place = rw p
 
   data_conductors : (line_next content s).section.conductors ≡ s.section.conductors
@@ -141,11 +141,11 @@ module _ (argument : List ℕ) (s : State) (kept : keyword_rule row argument s �
   row_formed = not-false _ (keyword_integer row argument s kept)
 
   row_within : within 1 most_conductors (whole_of argument).value ≡ true
-  unfolding is_out_of_bounds if◌then◌else◌
+  unfolding is_out_of_bounds provided◌then◌else◌
   row_within = sym (whole_within 1 most_conductors (whole_of argument) row_formed) ∙ not-false _ (keyword_bounds row argument s kept)
 
   row_right : is_wrong_row (whole_of argument).value s.matrix ≡ false
-  unfolding is_wrong_in_matrix is_row_or_bandwidth either if◌then◌else◌
+  unfolding is_wrong_in_matrix is_row_or_bandwidth either provided◌then◌else◌
   row_right = sym (both_rest _ _ row_formed) ∙ inside_kept row argument s kept p refl
 
   pub row_follows : Follows s.matrix (whole_of argument).value
@@ -157,11 +157,11 @@ module _ (argument : List ℕ) (s : State) (kept : keyword_rule row argument s �
 -- [Bandwidth]
 module _ (argument : List ℕ) (s : State) (kept : keyword_rule bandwidth argument s ≡ 0) (p : s.place ≡ place.matrix) where
   width_most : (whole_of argument).value ≤ most_bandwidth
-  unfolding is_out_of_bounds if◌then◌else◌
+  unfolding is_out_of_bounds provided◌then◌else◌
   width_most = ltb-false _ _ (keyword_bounds bandwidth argument s kept)
 
   width_right : is_wrong_bandwidth s.matrix ≡ false
-  unfolding is_wrong_in_matrix is_row_or_bandwidth either if◌then◌else◌
+  unfolding is_wrong_in_matrix is_row_or_bandwidth either provided◌then◌else◌
   width_right = inside_kept bandwidth argument s kept p refl
 
   pub width_widens : Widens s.matrix (whole_of argument).value
@@ -196,14 +196,14 @@ pub row_onward :
     (argument : List ℕ) (s : State) → s.place ≡ place.matrix →
     Onward (keyword_next row argument s) s.section.conductors (with_row (whole_of argument).value s.matrix s.counts.values)
     s.counts.values
-unfolding keyword_next moved leads_in_matrix section_after conductors_after matrix_after counts_after is_row_or_bandwidth opens_matrix either if◌then◌else◌
+unfolding keyword_next moved leads_in_matrix section_after conductors_after matrix_after counts_after is_row_or_bandwidth opens_matrix either provided◌then◌else◌
 row_onward argument s p = record { place = rw p; conductors = rw p; matrix = refl; values = refl }
 
 pub width_onward :
     (argument : List ℕ) (s : State) → s.place ≡ place.matrix →
     Onward (keyword_next bandwidth argument s) s.section.conductors (with_bandwidth (whole_of argument).value s.matrix)
     s.counts.values
-unfolding keyword_next moved leads_in_matrix section_after conductors_after matrix_after counts_after is_row_or_bandwidth opens_matrix either if◌then◌else◌
+unfolding keyword_next moved leads_in_matrix section_after conductors_after matrix_after counts_after is_row_or_bandwidth opens_matrix either provided◌then◌else◌
 width_onward argument s p = record { place = rw p; conductors = rw p; matrix = refl; values = refl }
 
 -- a keyword that opens a matrix is none of the others
@@ -254,7 +254,7 @@ module _ (k : ℕ) (opens : opens_matrix k ≡ true) where
 
     module _ (p : s.place ≡ place.section) where
       first_place : (keyword_next k argument s).place ≡ place.matrix
-      unfolding keyword_next moved is_in_model is_in_family is_in_header either if◌then◌else◌
+      unfolding keyword_next moved is_in_model is_in_family is_in_header either provided◌then◌else◌
       first_place = rw p open_leads
 
       first_conductors : conductors_after k s ≡ s.section.conductors
@@ -325,10 +325,10 @@ matrix_leads k argument s kept p e = keyword_leads k argument s kept (if_true _ 
 
 pub section_leads :
     (k : ℕ) (argument : List ℕ) (s : State) → keyword_rule k argument s ≡ 0 → s.place ≡ place.section → leads_in_section k ≡ dead → ⊥
-unfolding moved is_in_model is_in_family is_in_header either if◌then◌else◌
+unfolding moved is_in_model is_in_family is_in_header either provided◌then◌else◌
 section_leads k argument s kept p e = keyword_leads k argument s kept (rw p e)
 
 -- [End ICM Section] leads out of the section
 pub end_leads : (argument : List ℕ) (s : State) → s.place ≡ place.matrix → (keyword_next end_icm_section argument s).place ≡ place.after
-unfolding keyword_next moved leads_in_matrix leads_in_section is_row_or_bandwidth opens_matrix either if◌then◌else◌
+unfolding keyword_next moved leads_in_matrix leads_in_section is_row_or_bandwidth opens_matrix either provided◌then◌else◌
 end_leads argument s p = rw p

@@ -9,7 +9,7 @@ use lib.ListN.{length, length-append, length-map, get_or}
 use lib.Dec.{eqb}
 use borrow.Author.Tests.{eq-eqb, eqb-true, eqb-false}
 use Rattle.table_record.specs.Records.{parts_of}
-use Rattle.base.specs.If.{if◌then◌else◌, both, either}
+use Rattle.base.specs.If.{provided◌then◌else◌, both, either}
 use Rattle.base.proofs.IfLaws.{if_false, by_cases, both_true, both_rest, both_not_left, both_not_right, either_none_first}
 use Rattle.lex_keyword.specs.Names.{icm_pin_map, begin_header, begin_icm_model, begin_icm_section}
 use Rattle.line_place.specs.Place.{is_in_header, is_in_family, is_in_model, opens_matrix, moved}
@@ -169,15 +169,15 @@ module _ {A : Type 0} (count : State → ℕ) (here : Line → List Line → Lis
 -- ---- a line that gives one or none
 
 module _ {A : Type 0} (n : ℕ) (x : A) where
-  one_added : (b d : Bool) → b ≡ d → one_more_if b n ≡ n + length (if d then x ∷ [] else [])
-  unfolding one_more_if if◌then◌else◌
+  one_added : (b d : Bool) → b ≡ d → one_more_if b n ≡ n + length (provided d then x ∷ [] else [])
+  unfolding one_more_if provided◌then◌else◌
   one_added true true e = refl
   one_added true false e = absurd (true≢false e)
   one_added false true e = absurd (true≢false (sym e))
   one_added false false e = omega arith
 
-  none_added : (d : Bool) → d ≡ false → n ≡ n + length (if d then x ∷ [] else [])
-  unfolding if◌then◌else◌
+  none_added : (d : Bool) → d ≡ false → n ≡ n + length (provided d then x ∷ [] else [])
+  unfolding provided◌then◌else◌
   none_added true e = absurd (true≢false e)
   none_added false e = omega arith
 
@@ -198,7 +198,7 @@ module _ {A : Type 0} (count : State → ℕ) (stands : ℕ → Bool) (opens : �
       ((content : List ℕ) (s : State) → count (line_next content s) ≡ count s) →
       ((k : ℕ) (argument : List ℕ) (s : State) → count (keyword_next k argument s) ≡ one_more_if (opens k) (count s)) →
       ((p k : ℕ) → Placed p k → opens k ≡ true → stands p ≡ true) →
-      Counted count (λ (l : Line) (after : List Line). if both (stands l.place) (opens (key_of l)) then block l after ∷ [] else [])
+      Counted count (λ (l : Line) (after : List Line). provided both (stands l.place) (opens (key_of l)) then block l after ∷ [] else [])
   block_counted done before other lines keywords there =
       record {
         idly = λ l s e i after.

@@ -9,7 +9,7 @@ use native.Mathlib.Omega.{arith}
 use lib.Dec.{eqb}
 use borrow.Author.Tests.{eq-eqb, eqb-true, eqb-false, lt-ltb}
 use Rattle.table_layout.specs.Bounds.{deepest}
-use Rattle.base.specs.If.{if◌then◌else◌, either}
+use Rattle.base.specs.If.{provided◌then◌else◌, either}
 use Rattle.base.proofs.IfLaws.{
   if_true,
   if_false,
@@ -66,7 +66,7 @@ module _ (l : Line) (after : List Line) (d d' : ℕ) (rest : List Step) where
       (saying_at l ≡ path.says_fork → (d < deepest) × (d' ≡ d + 1)) → (saying_at l ≡ path.says_endfork → d' + 1 ≡ d) →
       ((saying_at l ≡ path.says_fork → ⊥) → (saying_at l ≡ path.says_endfork → ⊥) → d' ≡ d) → depth_of_steps d' rest ≡ true →
       depth_of_steps d (step_of l after ++ rest) ≡ true
-  unfolding step_of depth_of_steps if◌then◌else◌
+  unfolding step_of depth_of_steps provided◌then◌else◌
   said_deep forks endforks others h =
       by_test (λ (xs : List Step). depth_of_steps d (xs ++ rest) ≡ true) (eqb (saying_at l) path.says_end) _ _
       (λ (a : eqb (saying_at l) path.says_end ≡ true).

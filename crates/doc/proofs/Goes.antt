@@ -8,7 +8,7 @@ use Prim.Native.Nat.{ℕ, ◌+◌, ◌<◌}
 use native.Mathlib.Omega.{arith}
 use lib.Dec.{eqb}
 use borrow.Author.Tests.{eq-eqb, ne_eqb, eqb-true, eqb-false}
-use Rattle.base.specs.If.{if◌then◌else◌, either}
+use Rattle.base.specs.If.{provided◌then◌else◌, either}
 use Rattle.base.proofs.IfLaws.{if_true, if_false, by_cases}
 use Rattle.lex_line.specs.Lines.{Said, is_blank_line, contents}
 use Rattle.lex_keyword.specs.Names.{begin_header}
@@ -168,11 +168,11 @@ module _ (l : Line) (s : State) where
 -- ---- places
 
 done_stays : (content : List ℕ) → place_after done content ≡ done
-unfolding place_after moved_by_line moved if◌then◌else◌ is_in_model is_in_family is_in_header either
+unfolding place_after moved_by_line moved provided◌then◌else◌ is_in_model is_in_family is_in_header either
 done_stays content = by_cases (place_after done content ≡ done) (eqb (key_at content) plain) (λ (e : eqb (key_at content) plain ≡ true). rw e) (λ (e : eqb (key_at content) plain ≡ false). rw e)
 
 before_stays : (content : List ℕ) → eqb (key_at content) begin_header ≡ false → place_after before content ≡ before
-unfolding place_after moved_by_line moved if◌then◌else◌ is_in_model is_in_family is_in_header either
+unfolding place_after moved_by_line moved provided◌then◌else◌ is_in_model is_in_family is_in_header either
 before_stays content h =
     by_cases (place_after before content ≡ before) (eqb (key_at content) plain)
     (λ (e : eqb (key_at content) plain ≡ true). rw e)

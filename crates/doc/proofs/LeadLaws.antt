@@ -7,7 +7,7 @@ use mathlib.Core.List.{List}
 use Prim.Native.Nat.{ℕ}
 use lib.Dec.{eqb}
 use borrow.Author.Tests.{eq-eqb, ne_eqb, eqb-true}
-use Rattle.base.specs.If.{if◌then◌else◌, both, either}
+use Rattle.base.specs.If.{provided◌then◌else◌, both, either}
 use Rattle.base.specs.Runs.{same}
 use Rattle.base.specs.Bytes.{bytes}
 use Rattle.base.proofs.IfLaws.{
@@ -89,10 +89,10 @@ module _ (P : ℕ → Type 0) (p k : ℕ) where
     pub header : is_in_header p ≡ true → P (leads_in_header k)
     pub section : p ≡ place.section → P (leads_in_section k)
     pub after : p ≡ place.after → P (leads_after_family k)
-    pub opened : p ≡ place.opened → P (if eqb k icm_ver then place.header else place.dead)
-    pub between : p ≡ place.between → P (if eqb k begin_icm_family then place.family else place.dead)
-    pub section_head : p ≡ place.section_head → P (if eqb k derivation_method then place.section else place.dead)
-    pub before : p ≡ place.before → P (if eqb k begin_header then place.opened else place.before)
+    pub opened : p ≡ place.opened → P (provided eqb k icm_ver then place.header else place.dead)
+    pub between : p ≡ place.between → P (provided eqb k begin_icm_family then place.family else place.dead)
+    pub section_head : p ≡ place.section_head → P (provided eqb k derivation_method then place.section else place.dead)
+    pub before : p ≡ place.before → P (provided eqb k begin_header then place.opened else place.before)
     pub elsewhere : Elsewhere p → P p
 
   pub by_place : ByPlace → P (moved p k)
@@ -135,7 +135,7 @@ module _ (P : ℕ → Type 0) (p k : ℕ) where
 -- ---- by where it leads
 
 -- whichever of two a test chooses
-either_way : (P : ℕ → Type 0) (b : Bool) (x y : ℕ) → P x → P y → P (if b then x else y)
+either_way : (P : ℕ → Type 0) (b : Bool) (x y : ℕ) → P x → P y → P (provided b then x else y)
 either_way P b x y h k = by_test P b x y (λ (e : b ≡ true). h) (λ (e : b ≡ false). k)
 
 module _ (P : ℕ → Type 0) (p k : ℕ) where
@@ -478,12 +478,12 @@ record Strange (k : ℕ) : Type 0 where
   family : leads_in_family k ≡ place.dead
   header : leads_in_header k ≡ place.dead
   after : leads_after_family k ≡ place.dead
-  opened : (if eqb k icm_ver then place.header else place.dead) ≡ place.dead
-  between : (if eqb k begin_icm_family then place.family else place.dead) ≡ place.dead
-  section_head : (if eqb k derivation_method then place.section else place.dead) ≡ place.dead
+  opened : (provided eqb k icm_ver then place.header else place.dead) ≡ place.dead
+  between : (provided eqb k begin_icm_family then place.family else place.dead) ≡ place.dead
+  section_head : (provided eqb k derivation_method then place.section else place.dead) ≡ place.dead
 
 strange : (k : ℕ) → opens_matrix k ≡ true → Strange k
-unfolding opens_matrix leads_in_model leads_in_family leads_in_header leads_after_family stands_in_header opens_header_text either if◌then◌else◌
+unfolding opens_matrix leads_in_model leads_in_family leads_in_header leads_after_family stands_in_header opens_header_text either provided◌then◌else◌
 strange k h =
     by_cases (Strange k) (eqb k resistance_matrix)
     (λ (e : eqb k resistance_matrix ≡ true).
@@ -506,7 +506,7 @@ strange k h =
 
 module _ (p : ℕ) (looked : Looked p) where
   pub model_stands : (moved p begin_icm_model ≡ place.dead → ⊥) → is_in_family p ≡ true
-  unfolding leads_in_matrix leads_in_section leads_in_model leads_in_family leads_in_header leads_after_family is_row_or_bandwidth opens_matrix stands_in_header opens_header_text either if◌then◌else◌
+  unfolding leads_in_matrix leads_in_section leads_in_model leads_in_family leads_in_header leads_after_family is_row_or_bandwidth opens_matrix stands_in_header opens_header_text either provided◌then◌else◌
   model_stands =
       by_place (λ (q : ℕ). (q ≡ place.dead → ⊥) → is_in_family p ≡ true) p begin_icm_model
       (record {
@@ -524,7 +524,7 @@ module _ (p : ℕ) (looked : Looked p) where
       })
 
   pub map_stands : (moved p icm_pin_map ≡ place.dead → ⊥) → is_in_family p ≡ true
-  unfolding leads_in_matrix leads_in_section leads_in_model leads_in_family leads_in_header leads_after_family is_row_or_bandwidth opens_matrix stands_in_header opens_header_text either if◌then◌else◌
+  unfolding leads_in_matrix leads_in_section leads_in_model leads_in_family leads_in_header leads_after_family is_row_or_bandwidth opens_matrix stands_in_header opens_header_text either provided◌then◌else◌
   map_stands =
       by_place (λ (q : ℕ). (q ≡ place.dead → ⊥) → is_in_family p ≡ true) p icm_pin_map
       (record {
@@ -542,7 +542,7 @@ module _ (p : ℕ) (looked : Looked p) where
       })
 
   pub section_stands : (moved p begin_icm_section ≡ place.dead → ⊥) → p ≡ place.after
-  unfolding leads_in_matrix leads_in_section leads_in_model leads_in_family leads_in_header leads_after_family is_row_or_bandwidth opens_matrix stands_in_header opens_header_text either if◌then◌else◌
+  unfolding leads_in_matrix leads_in_section leads_in_model leads_in_family leads_in_header leads_after_family is_row_or_bandwidth opens_matrix stands_in_header opens_header_text either provided◌then◌else◌
   section_stands =
       by_place (λ (q : ℕ). (q ≡ place.dead → ⊥) → p ≡ place.after) p begin_icm_section
       (record {

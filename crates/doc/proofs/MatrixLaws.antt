@@ -11,7 +11,7 @@ use lib.Dec.{eqb}
 use borrow.Author.Tests.{eq-eqb, eqb-true, eqb-false}
 use Rattle.table_record.specs.declared.Value.{Value}
 use Rattle.table_layout.specs.Codes.{diagonal, banded, sparse, full}
-use Rattle.base.specs.If.{if◌then◌else◌}
+use Rattle.base.specs.If.{provided◌then◌else◌}
 use Rattle.base.proofs.IfLaws.{if_true, by_test, by_cases}
 use Rattle.lex_number.specs.ValueWord.{is_value_word}
 use Rattle.lex_keyword.specs.Names.{row, bandwidth}
@@ -113,11 +113,11 @@ module _ (known n w v : ℕ) (body : List Line) where
   new_sparse b = sparse_rises known n w b refl refl
 
   new_banded : Body known n w (new_matrix banded v) v body → Rowed n (bandwidth_in body + 1) (values_from banded 1 1 body)
-  unfolding new_matrix if◌then◌else◌
+  unfolding new_matrix provided◌then◌else◌
   new_banded b = banded_lengths known n w b refl refl refl
 
   new_full : Body known n w (new_matrix full v) v body → Rowed n most_conductors (values_from full 1 1 body)
-  unfolding new_matrix if◌then◌else◌
+  unfolding new_matrix provided◌then◌else◌
   new_full b =
       rows_lengths known n w b (λ (e : full ≡ diagonal). omega arith) (λ (e : full ≡ sparse). omega arith)
       (λ (e : most_conductors ≡ 0). omega arith) refl

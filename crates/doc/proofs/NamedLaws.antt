@@ -12,7 +12,7 @@ use lib.Dec.{ltb, leb, eqb}
 use borrow.Author.Tests.{eqb-true, eqb-false, eq-eqb, ltb-true, ltb-false, leb-true, leb-false, not-false}
 use Rattle.table_layout.specs.Codes.{end_kind, section_kind, fork_kind, endfork_kind}
 use Rattle.table_layout.specs.Bounds.{most_steps}
-use Rattle.base.specs.If.{if◌then◌else◌, both, either}
+use Rattle.base.specs.If.{provided◌then◌else◌, both, either}
 use Rattle.base.specs.Bytes.{is_blank, carriage_return, is_before, is_content, is_printed}
 use Rattle.base.specs.Runs.{run, all}
 use Rattle.base.specs.Broken.{◌when◌, first, first_broken}
@@ -237,7 +237,7 @@ words_there a (b ∷ s) h =
 -- the argument of a keyword that takes a name is a name
 module _ (k : ℕ) (argument : List ℕ) where
   bad_name : takes_name k ≡ true → is_bad_argument k argument ≡ not (is_name argument)
-  unfolding is_bad_argument is_row_or_bandwidth opens_matrix takes_nothing takes_name either if◌then◌else◌
+  unfolding is_bad_argument is_row_or_bandwidth opens_matrix takes_nothing takes_name either provided◌then◌else◌
   bad_name h =
       by_cases (is_bad_argument k argument ≡ not (is_name argument)) (eqb k begin_icm_model)
       (λ (e : eqb k begin_icm_model ≡ true). rw (eqb-true k begin_icm_model e))
@@ -438,11 +438,11 @@ module _ (l : Line) (h : Kept l) where
   names_two e = eqb-true _ _ (both_first _ _ e)
 
   end_two : eqb (saying_at l) path.says_end ≡ true → length (words l.content) ≡ 2
-  unfolding line_saying plain_line if◌then◌else◌ either
+  unfolding line_saying plain_line provided◌then◌else◌ either
   end_two e = names_two (said_right path.says_end (says_in l path.says_end (omega arith) e))
 
   side_two : eqb (saying_at l) path.says_side ≡ true → length (words l.content) ≡ 2
-  unfolding line_saying plain_line if◌then◌else◌ either
+  unfolding line_saying plain_line provided◌then◌else◌ either
   side_two e = names_two (said_right path.says_side (says_in l path.says_side (omega arith) e))
 
 module _ (t : List ℕ) (l : Line) (h : Written t l) where
@@ -462,7 +462,7 @@ module _ (t : List ℕ) (l : Line) (h : Written t l) where
       absurd (true≢false (sym z)))
 
   section_named : eqb (saying_at l) path.says_section ≡ true → IsName t (second_word (right_words_of l))
-  unfolding line_saying if◌then◌else◌
+  unfolding line_saying provided◌then◌else◌
   section_named e = right_named t l h (section_right (said_right l h.kept path.says_section (says_in l path.says_section (omega arith) e)))
 
 -- ---- the names of the document

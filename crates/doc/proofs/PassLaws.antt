@@ -10,7 +10,7 @@ use borrow.Author.Tests.{eq-eqb, ne_eqb, eqb-true, eqb-false}
 use Rattle.table_record.specs.declared.Value.{Value}
 use Rattle.table_record.specs.declared.PinRecord.{PinRecord}
 use Rattle.table_record.specs.declared.StepRecord.{StepRecord}
-use Rattle.base.specs.If.{if◌then◌else◌, both, either}
+use Rattle.base.specs.If.{provided◌then◌else◌, both, either}
 use Rattle.base.proofs.IfLaws.{
   if_false,
   by_cases,
@@ -193,8 +193,8 @@ section_blocks =
 
 gives_one :
     {A B : Type 0} (parts : B → List A) (b : Bool) (x : B) (xs : List A) → parts x ≡ xs →
-    joined parts (if b then x ∷ [] else []) ≡ (if b then xs else [])
-unfolding joined if◌then◌else◌
+    joined parts (provided b then x ∷ [] else []) ≡ (provided b then xs else [])
+unfolding joined provided◌then◌else◌
 gives_one parts true x xs e = append-nil (parts x) ∙ e
 gives_one parts false x xs e = refl
 

@@ -11,7 +11,7 @@ use lib.Dec.{eqb}
 use borrow.Author.Tests.{eq-eqb, ne_eqb, le-leb, lt-ltb}
 use Rattle.table_record.specs.declared.Value.{Value}
 use Rattle.table_layout.specs.Codes.{diagonal, sparse}
-use Rattle.base.specs.If.{if◌then◌else◌}
+use Rattle.base.specs.If.{provided◌then◌else◌}
 use Rattle.base.proofs.IfLaws.{if_true, if_false, both_true, either_left, either_right}
 use Rattle.lex_line.specs.Words.{words}
 use Rattle.lex_number.specs.Number.{number_of, word_in}
@@ -135,7 +135,7 @@ values_none form r c = refl
 
 -- the row of the number after a line of `count` numbers, the first of which is in row r
 abbrev pub row_after : ℕ → ℕ → ℕ → ℕ
-row_after form r count = if eqb form diagonal then r + count else r
+row_after form r count = provided eqb form diagonal then r + count else r
 
 module _ (form r c : ℕ) (l : Line) (ls : List Line) where
   pub values_row : key_of l ≡ row → values_from form r c (l ∷ ls) ≡ values_from form (given_by l) (given_by l) ls
@@ -149,7 +149,7 @@ module _ (form r c : ℕ) (l : Line) (ls : List Line) where
   module _ (k : key_of l ≡ plain) where
     values_plain :
         values_from form r c (l ∷ ls)
-        ≡ (if eqb form sparse then sparse_at r (words l.content) ∷ values_from form r c ls else
+        ≡ (provided eqb form sparse then sparse_at r (words l.content) ∷ values_from form r c ls else
         numbers_at form r c (words l.content) ++
         values_from form (row_after form r (length (words l.content))) (c + length (words l.content)) ls)
     unfolding values_from

@@ -12,7 +12,7 @@ use lib.Dec.{eqb}
 use borrow.Author.Tests.{eq-eqb, ne_eqb, eqb-true, eqb-false, le-ltb}
 use Rattle.table_record.specs.declared.Value.{Value}
 use Rattle.table_layout.specs.Codes.{diagonal, banded, sparse}
-use Rattle.base.specs.If.{if◌then◌else◌, both, either}
+use Rattle.base.specs.If.{provided◌then◌else◌, both, either}
 use Rattle.base.proofs.IfLaws.{if_true, if_false, by_cases, both_first, both_second, either_rest}
 use Rattle.lex_line.specs.Words.{words}
 use Rattle.lex_keyword.specs.Names.{row}
@@ -42,7 +42,7 @@ use Rattle.doc.proofs.FormLaws.{width_here}
 
 unfoldable pub in_row : ℕ → List Value → ℕ
 in_row i [] = 0
-in_row i (v ∷ vs) = if eqb v.row i then suc (in_row i vs) else in_row i vs
+in_row i (v ∷ vs) = provided eqb v.row i then suc (in_row i vs) else in_row i vs
 
 row_none : (i : ℕ) → in_row i [] ≡ 0
 unfolding in_row

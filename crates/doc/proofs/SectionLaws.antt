@@ -11,7 +11,7 @@ use lib.ListN.{length, get_or, set}
 use lib.Seq.{get_or-set_other}
 use lib.Dec.{eqb}
 use borrow.Author.Tests.{eq-eqb, eqb-true, eqb-false}
-use Rattle.base.specs.If.{if◌then◌else◌, either}
+use Rattle.base.specs.If.{provided◌then◌else◌, either}
 use Rattle.base.specs.Broken.{first}
 use Rattle.base.proofs.IfLaws.{
   if_true,
@@ -348,15 +348,15 @@ still_not seen k j apart h = get_or-set_other seen k j true false (eqb-false j k
 
 module _ (argument : List ℕ) (s : State) where
   begin_kinds : NoKind (keyword_next begin_icm_section argument s).seen
-  unfolding keyword_next seen_after is_row_or_bandwidth either if◌then◌else◌
+  unfolding keyword_next seen_after is_row_or_bandwidth either provided◌then◌else◌
   begin_kinds = kinds_forgotten s.seen
 
   begin_leads : s.place ≡ place.after → (keyword_next begin_icm_section argument s).place ≡ place.section_head
-  unfolding keyword_next moved leads_after_family is_in_model is_in_family is_in_header either if◌then◌else◌
+  unfolding keyword_next moved leads_after_family is_in_model is_in_family is_in_header either provided◌then◌else◌
   begin_leads p = rw p
 
   method_kinds : NoKind s.seen → NoKind (keyword_next derivation_method argument s).seen
-  unfolding keyword_next seen_after is_row_or_bandwidth either if◌then◌else◌
+  unfolding keyword_next seen_after is_row_or_bandwidth either provided◌then◌else◌
   method_kinds h =
       record {
         resistance = still_not s.seen derivation_method resistance_matrix refl h.resistance;
@@ -366,18 +366,18 @@ module _ (argument : List ℕ) (s : State) where
       }
 
   method_leads : s.place ≡ place.section_head → (keyword_next derivation_method argument s).place ≡ place.section
-  unfolding keyword_next moved is_in_model is_in_family is_in_header either if◌then◌else◌
+  unfolding keyword_next moved is_in_model is_in_family is_in_header either provided◌then◌else◌
   method_leads p = rw p
 
   -- "at least one matrix"
   end_lacks : keyword_rule end_icm_section argument s ≡ 0 → has_no_kind s ≡ false
-  unfolding is_misplaced is_lacking kinds_lack if◌then◌else◌
+  unfolding is_misplaced is_lacking kinds_lack provided◌then◌else◌
   end_lacks kept =
       either_none_first _ _
       (either_none_first _ _ (either_none_second _ _ (either_none_second _ _ (either_none_second _ _ (keyword_misplaced end_icm_section argument s kept)))))
 
 head_key : (k : ℕ) (argument : List ℕ) (s : State) → keyword_rule k argument s ≡ 0 → s.place ≡ place.section_head → k ≡ derivation_method
-unfolding moved is_in_model is_in_family is_in_header either if◌then◌else◌
+unfolding moved is_in_model is_in_family is_in_header either provided◌then◌else◌
 head_key k argument s kept p =
     by_cases (k ≡ derivation_method) (eqb k derivation_method) (λ (e : eqb k derivation_method ≡ true). eqb-true _ _ e)
     (λ (e : eqb k derivation_method ≡ false). absurd (keyword_leads k argument s kept (rw (p, e))))
@@ -385,13 +385,13 @@ head_key k argument s kept p =
 -- neither place takes a line without a keyword
 module _ (content : List ℕ) (s : State) (kept : line_rule content s ≡ 0) where
   section_refuses : s.place ≡ place.section → ⊥
-  unfolding line_rule first is_text either if◌then◌else◌
+  unfolding line_rule first is_text either provided◌then◌else◌
   section_refuses p =
       let z : ◌≡◌ {A = ℕ} 12 0 = rw p at kept in
       omega arith
 
   head_refuses : s.place ≡ place.section_head → ⊥
-  unfolding line_rule first is_text either if◌then◌else◌
+  unfolding line_rule first is_text either provided◌then◌else◌
   head_refuses p =
       let z : ◌≡◌ {A = ℕ} 12 0 = rw p at kept in
       omega arith
@@ -469,7 +469,7 @@ method_most argument =
     (λ e. by_test (λ (n : ℕ). n ≤ 2) _ _ _ (λ e. omega arith) (λ e. omega arith))
 
 method_told : (argument : List ℕ) → is_bad_argument derivation_method argument ≡ false → method_of argument ≤ 1
-unfolding is_bad_argument is_row_or_bandwidth opens_matrix takes_nothing takes_name takes_free_text is_bad_form either if◌then◌else◌
+unfolding is_bad_argument is_row_or_bandwidth opens_matrix takes_nothing takes_name takes_free_text is_bad_form either provided◌then◌else◌
 method_told argument h =
     let e : method_of argument ≡ section_methods → ⊥ = eqb-false _ _ h in
     let g : method_of argument ≤ section_methods = method_most argument in

@@ -11,7 +11,7 @@ use lib.ListN.{length, take, drop, take-append-drop, length-take, length-drop}
 use lib.Seq.{length-take-le, take-append_seam, take-append-le, drop-append-le, drop-drop}
 use lib.Dec.{ltb, leb, eqb}
 use borrow.Author.Tests.{ltb-true, ltb-false, leb-true, leb-false}
-use Rattle.base.specs.If.{if◌then◌else◌}
+use Rattle.base.specs.If.{provided◌then◌else◌}
 use Rattle.base.specs.Bytes.{line_feed, is_before, is_content}
 use Rattle.base.specs.Runs.{run}
 use Rattle.base.specs.Way.Class.{run_end}
@@ -100,7 +100,7 @@ module _ {A : Type 0} {P : A → Type 0} where
   each_gather Q here gives (more {x = l} {xs = ls} h hs) = each_append (gives l ls h hs) (each_gather Q here gives hs)
 
   -- one element if the test holds, none if it does not
-  pub each_if : (b : Bool) (x : A) → (b ≡ true → P x) → Each P (if b then x ∷ [] else [])
+  pub each_if : (b : Bool) (x : A) → (b ≡ true → P x) → Each P (provided b then x ∷ [] else [])
   each_if b x h = by_test (Each P) b (x ∷ []) [] (λ (e : b ≡ true). more (h e) none) (λ (e : b ≡ false). none)
 
 pub each_up : {P : Line → Type 0} (inside : Line → Bool) {ls : List Line} → Each P ls → Each P (up_to inside ls)

@@ -10,7 +10,7 @@ use lib.ListN.{length}
 use lib.Dec.{eqb, leb}
 use borrow.Author.Tests.{eq-eqb, ne_eqb, eqb-true, eqb-false}
 use Rattle.table_layout.specs.Bounds.{most_steps}
-use Rattle.base.specs.If.{if◌then◌else◌, both, either}
+use Rattle.base.specs.If.{provided◌then◌else◌, both, either}
 use Rattle.base.specs.Broken.{Rule, ◌when◌}
 use Rattle.base.specs.Bytes.{bytes}
 use Rattle.base.specs.Runs.{same}
@@ -141,7 +141,7 @@ module _ (l : PathLine) (p : Path) (steps : ℕ) where
 -- ---- the steps that it gives
 
 pub silent_step : (l : Line) (after : List Line) → saying_at l ≡ path.says_nothing → step_of l after ≡ []
-unfolding step_of if◌then◌else◌
+unfolding step_of provided◌then◌else◌
 silent_step l after e = rw e
 
 module _ (n v : ℕ) where

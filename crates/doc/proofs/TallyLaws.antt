@@ -11,7 +11,7 @@ use lib.Dec.{eqb}
 use borrow.Author.Tests.{eq-eqb, ne_eqb, eqb-true, not-false, not-true}
 use Rattle.table_record.specs.declared.Value.{Value}
 use Rattle.table_layout.specs.Codes.{diagonal, sparse}
-use Rattle.base.specs.If.{if◌then◌else◌, either}
+use Rattle.base.specs.If.{provided◌then◌else◌, either}
 use Rattle.base.specs.Broken.{Rule, ◌when◌}
 use Rattle.base.proofs.IfLaws.{
   if_true,
@@ -54,10 +54,10 @@ use Rattle.doc.proofs.ShapeLaws.{numbers_count}
 -- ---- the numbers of a matrix, by its lines
 
 numbers_by : ℕ → List ℕ → ℕ
-numbers_by form content = if eqb form sparse then 1 else length (words content)
+numbers_by form content = provided eqb form sparse then 1 else length (words content)
 
 numbers_on : ℕ → Line → ℕ
-numbers_on form l = if eqb (key_of l) plain then numbers_by form l.content else 0
+numbers_on form l = provided eqb (key_of l) plain then numbers_by form l.content else 0
 
 numbers_in : ℕ → List Line → ℕ
 numbers_in form [] = 0
@@ -102,7 +102,7 @@ values_long form r c (l ∷ ls) =
     let z : numbers_on form l ≡ length (words l.content) = number_words form l (not-false _ f) g in
     let a : length (numbers_at form r c (words l.content)) ≡ length (words l.content) = numbers_length form r c (words l.content) in
     along (numbers_at form r c (words l.content)) _
-    (values_long form (if eqb form diagonal then r + length (words l.content) else r) (c + length (words l.content)) ls)
+    (values_long form (provided eqb form diagonal then r + length (words l.content) else r) (c + length (words l.content)) ls)
     (a ∙ sym z))))
   where
     along :

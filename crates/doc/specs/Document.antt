@@ -4,7 +4,7 @@
 use Rattle.std.specs.Prelude.{ℕ, ◌+◌, ◌-◌, max, Bool, false, not, List, [], ◌∷◌, ◌++◌, length, eqb}
 use Rattle.table_record.specs.declared.Value.{Value}
 use Rattle.table_layout.specs.Codes.{diagonal, sparse, end_kind, section_kind, fork_kind, endfork_kind, resistance_kind, inductance_kind, conductance_kind, capacitance_kind}
-use Rattle.base.specs.If.{if◌then◌else◌, both, either}
+use Rattle.base.specs.If.{provided◌then◌else◌, both, either}
 use Rattle.lex_line.specs.Words.{Word, words, first_of, second_of}
 use Rattle.lex_number.specs.Number.{number_of, word_in}
 use Rattle.lex_number.specs.Integer.{whole_of}
@@ -100,22 +100,22 @@ pub record Document : Type 0 where
 
 -- what a line of a path says; a line that is in no path says nothing
 unfoldable pub saying_at : Line → ℕ
-saying_at l = if stands_in place.path l then saying_of (first_of (words l.content)) else path.says_nothing
+saying_at l = provided stands_in place.path l then saying_of (first_of (words l.content)) else path.says_nothing
 
 -- "perhaps with `Side name` as the next line read"
 abbrev pub side_in : List Line → Word
 side_in [] = no_word
-side_in (l ∷ ls) = if eqb (saying_at l) path.says_side then second_word (words_of l) else no_word
+side_in (l ∷ ls) = provided eqb (saying_at l) path.says_side then second_word (words_of l) else no_word
 
 unfoldable pub step_of : Line → List Line → List Step
 step_of l after =
-    if eqb (saying_at l) path.says_end
+    provided eqb (saying_at l) path.says_end
     then record { kind = end_kind; name = second_word (words_of l); mult = false; amount = 0; side = side_in after; line = l.line } ∷ [] else
-    if eqb (saying_at l) path.says_section
+    provided eqb (saying_at l) path.says_section
     then record { kind = section_kind; name = second_word (right_words_of l); mult = is_mult l.content; amount = amount_of l.content; side = no_word; line = l.line } ∷ [] else
-    if eqb (saying_at l) path.says_fork
+    provided eqb (saying_at l) path.says_fork
     then record { kind = fork_kind; name = no_word; mult = false; amount = 0; side = no_word; line = l.line } ∷ [] else
-    if eqb (saying_at l) path.says_endfork
+    provided eqb (saying_at l) path.says_endfork
     then record { kind = endfork_kind; name = no_word; mult = false; amount = 0; side = no_word; line = l.line } ∷ [] else []
 
 unfoldable pub steps_in : List Line → List Step
@@ -126,7 +126,7 @@ steps_in body = gather step_of body
 -- what the lines of a model's head give; `kind` is the table's type plus 1
 unfoldable pub head_in : Head → List Line → Head
 head_in h [] = h
-head_in h (l ∷ ls) = head_in (if stands_in place.head l then head_next (head_line_of l.content) h else h) ls
+head_in h (l ∷ ls) = head_in (provided stands_in place.head l then head_next (head_line_of l.content) h else h) ls
 
 -- a line `SGR n:1` of a model's head
 unfoldable pub says_sgr : Line → Bool
@@ -135,7 +135,7 @@ says_sgr l = both (stands_in place.head l) (eqb (head_line_of l.content).says sa
 -- the line of a model's SGR, of which a second one is 12; n if none of these lines says it
 unfoldable pub sgr_in : ℕ → List Line → ℕ
 sgr_in n [] = n
-sgr_in n (l ∷ ls) = sgr_in (if says_sgr l then l.line else n) ls
+sgr_in n (l ∷ ls) = sgr_in (provided says_sgr l then l.line else n) ls
 
 unfoldable pub opens_model : Line → Bool
 opens_model l = both (is_in_family l.place) (eqb (key_of l) begin_icm_model)
@@ -155,13 +155,13 @@ model_of l body =
     }
 
 unfoldable pub model_at : Line → List Line → List Model
-model_at l after = if opens_model l then model_of l (up_to in_model after) ∷ [] else []
+model_at l after = provided opens_model l then model_of l (up_to in_model after) ∷ [] else []
 
 -- ---- the list
 
 -- "one model per line, first word the name"
 unfoldable pub listed_at : Line → List Line → List Named
-listed_at l after = if stands_in place.list l then record { name = first_word (words_of l); line = l.line } ∷ [] else []
+listed_at l after = provided stands_in place.list l then record { name = first_word (words_of l); line = l.line } ∷ [] else []
 
 -- ---- pin maps
 
@@ -175,11 +175,11 @@ in_map l = either (stands_in place.map_head l) (stands_in place.pin_list l)
 -- what the lines above its Pin_list give; `order` is the table's order plus 1
 unfoldable pub grid_in : pin_map.Map → List Line → pin_map.Map
 grid_in m [] = m
-grid_in m (l ∷ ls) = grid_in (if stands_in place.map_head l then map_next (map_line_of l.content) m else m) ls
+grid_in m (l ∷ ls) = grid_in (provided stands_in place.map_head l then map_next (map_line_of l.content) m else m) ls
 
 -- "one a line"
 unfoldable pub pin_at : Line → List Line → List Named
-pin_at l after = if stands_in place.pin_list l then record { name = first_word (words_of l); line = l.line } ∷ [] else []
+pin_at l after = provided stands_in place.pin_list l then record { name = first_word (words_of l); line = l.line } ∷ [] else []
 
 unfoldable pub map_of : Line → List Line → Map
 map_of l body =
@@ -193,16 +193,16 @@ map_of l body =
     }
 
 unfoldable pub map_at : Line → List Line → List Map
-map_at l after = if opens_map l then map_of l (up_to in_map after) ∷ [] else []
+map_at l after = provided opens_map l then map_of l (up_to in_map after) ∷ [] else []
 
 -- ---- matrices
 
 -- "R L G C"
 unfoldable pub kind_of : ℕ → ℕ
 kind_of key =
-    if eqb key resistance_matrix then resistance_kind else
-    if eqb key inductance_matrix then inductance_kind else
-    if eqb key conductance_matrix then conductance_kind else capacitance_kind
+    provided eqb key resistance_matrix then resistance_kind else
+    provided eqb key inductance_matrix then inductance_kind else
+    provided eqb key conductance_matrix then conductance_kind else capacitance_kind
 
 unfoldable pub opens_matrix_at : Line → Bool
 opens_matrix_at l = both (either (eqb l.place place.section) (eqb l.place place.matrix)) (opens_matrix (key_of l))
@@ -217,11 +217,11 @@ given_by l = (whole_of (argument_of l).text).value
 
 unfoldable pub bandwidth_in : List Line → ℕ
 bandwidth_in [] = 0
-bandwidth_in (l ∷ ls) = if eqb (key_of l) bandwidth then given_by l else bandwidth_in ls
+bandwidth_in (l ∷ ls) = provided eqb (key_of l) bandwidth then given_by l else bandwidth_in ls
 
 -- the row of the next number: down the diagonal, else the same row
 unfoldable pub next_row : ℕ → ℕ → ℕ
-next_row form r = if eqb form diagonal then r + 1 else r
+next_row form r = provided eqb form diagonal then r + 1 else r
 
 -- "Diagonal_matrix: N numbers"; "row i has .. numbers, diagonal first": the numbers of a line, the first of them at (r, c)
 unfoldable pub numbers_at : ℕ → ℕ → ℕ → List (List ℕ) → List Value
@@ -236,17 +236,17 @@ sparse_at r ws = record { row = r; column = (whole_of (first_of ws)).value; word
 unfoldable pub values_from : ℕ → ℕ → ℕ → List Line → List Value
 values_from form r c [] = []
 values_from form r c (l ∷ ls) =
-    if eqb (key_of l) row then values_from form (given_by l) (given_by l) ls else
-    if not (eqb (key_of l) plain) then values_from form r c ls else
-    if eqb form sparse then sparse_at r (words l.content) ∷ values_from form r c ls else
+    provided eqb (key_of l) row then values_from form (given_by l) (given_by l) ls else
+    provided not (eqb (key_of l) plain) then values_from form r c ls else
+    provided eqb form sparse then sparse_at r (words l.content) ∷ values_from form r c ls else
     numbers_at form r c (words l.content) ++
-    values_from form (if eqb form diagonal then r + length (words l.content) else r) (c + length (words l.content)) ls
+    values_from form (provided eqb form diagonal then r + length (words l.content) else r) (c + length (words l.content)) ls
 
 -- the row that a line names, or the column of a Sparse_matrix
 unfoldable pub named_by : ℕ → Line → ℕ
 named_by form l =
-    if eqb (key_of l) row then given_by l else
-    if both (eqb form sparse) (eqb (key_of l) plain) then (whole_of (first_of (words l.content))).value else 0
+    provided eqb (key_of l) row then given_by l else
+    provided both (eqb form sparse) (eqb (key_of l) plain) then (whole_of (first_of (words l.content))).value else 0
 
 unfoldable pub greatest_in : ℕ → List Line → ℕ
 greatest_in form [] = 0
@@ -254,7 +254,7 @@ greatest_in form (l ∷ ls) = max (named_by form l) (greatest_in form ls)
 
 -- "N is the conductor count": N numbers of a Diagonal_matrix, "[Row] 1 to N", "the greatest row or column named" of a Sparse_matrix
 unfoldable pub conductors_in : ℕ → List Line → ℕ
-conductors_in form body = if eqb form diagonal then length (values_from form 1 1 body) else greatest_in form body
+conductors_in form body = provided eqb form diagonal then length (values_from form 1 1 body) else greatest_in form body
 
 unfoldable pub matrix_of : Line → ℕ → List Line → Matrix
 matrix_of l form body =
@@ -268,7 +268,7 @@ matrix_of l form body =
     }
 
 unfoldable pub matrix_at : Line → List Line → List Matrix
-matrix_at l after = if opens_matrix_at l then matrix_of l (form_of (argument_of l).text) (up_to in_matrix after) ∷ [] else []
+matrix_at l after = provided opens_matrix_at l then matrix_of l (form_of (argument_of l).text) (up_to in_matrix after) ∷ [] else []
 
 -- ---- sections
 
@@ -280,13 +280,13 @@ in_section l = either (eqb l.place place.section_head) (either (eqb l.place plac
 
 unfoldable pub method_in : List Line → ℕ
 method_in [] = 0
-method_in (l ∷ ls) = if eqb (key_of l) derivation_method then method_of (argument_of l).text else method_in ls
+method_in (l ∷ ls) = provided eqb (key_of l) derivation_method then method_of (argument_of l).text else method_in ls
 
 unfoldable pub section_of : Line → List Line → Section
 section_of l body = record { name = argument_of l; line = l.line; method = method_in body; matrices = gather matrix_at body }
 
 unfoldable pub section_at : Line → List Line → List Section
-section_at l after = if opens_section l then section_of l (up_to in_section after) ∷ [] else []
+section_at l after = provided opens_section l then section_of l (up_to in_section after) ∷ [] else []
 
 -- "N is the conductor count, the same for a section's matrices"
 abbrev pub conductors_of : List Matrix → ℕ

@@ -2,7 +2,7 @@
 -- kept with its number, the offset where it starts, and the place in which it is read.
 -- Assumes nothing.
 use Rattle.std.specs.Prelude.{ℕ, ◌+◌, Bool, List, [], ◌∷◌, ◌++◌, drop, eqb}
-use Rattle.base.specs.If.{if◌then◌else◌, both}
+use Rattle.base.specs.If.{provided◌then◌else◌, both}
 use Rattle.lex_line.specs.Lines.{Said, is_blank_line, contents}
 use Rattle.lex_line.specs.Words.{Word, words_from, words, first_of, to_equals}
 use Rattle.lex_keyword.specs.Names.{unknown}
@@ -46,13 +46,13 @@ key_at content = key_in (bracket_of content)
 -- the place after a line, by its words alone
 unfoldable pub place_after : ℕ → List ℕ → ℕ
 place_after p content =
-    if eqb (key_at content) plain then moved_by_line p (first_of (words content)) else moved p (key_at content)
+    provided eqb (key_at content) plain then moved_by_line p (first_of (words content)) else moved p (key_at content)
 
 -- the significant lines; the first raw line is line n, starts at offset `at` and is read in place p
 unfoldable pub lines_from : ℕ → ℕ → ℕ → List Said → List Line
 lines_from n at p [] = []
 lines_from n at p (r ∷ rs) =
-    if is_blank_line r.content
+    provided is_blank_line r.content
     then lines_from (n + 1) (at + r.size + 1) p rs
     else
     record { line = n; at = at; place = p; content = r.content }
@@ -110,4 +110,4 @@ gather here (l ∷ ls) = here l ls ++ gather here ls
 -- the lines before the first that does not pass the test
 unfoldable pub up_to : (Line → Bool) → List Line → List Line
 up_to inside [] = []
-up_to inside (l ∷ ls) = if inside l then l ∷ up_to inside ls else []
+up_to inside (l ∷ ls) = provided inside l then l ∷ up_to inside ls else []

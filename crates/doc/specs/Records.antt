@@ -3,7 +3,7 @@
 use Rattle.std.specs.Prelude.{ℕ, zero, suc, ◌+◌, Bool, List, [], ◌∷◌, ◌++◌, map, length, ltb, eqb}
 use Rattle.table_record.specs.declared.Value.{Value}
 use Rattle.table_layout.specs.Codes.{end_kind, section_kind, resistance_kind, inductance_kind, conductance_kind, capacitance_kind}
-use Rattle.base.specs.If.{if◌then◌else◌, both}
+use Rattle.base.specs.If.{provided◌then◌else◌, both}
 use Rattle.base.specs.Runs.{same}
 use Rattle.table_layout.specs.Layout.{layout}
 use Rattle.table_record.specs.declared.ModelRecord.{ModelRecord}
@@ -18,7 +18,7 @@ use Rattle.doc.specs.Document.{Named, Step, Model, Map, Matrix, Section, Documen
 -- the index of the first element that passes the test; the length of the list if none does
 unfoldable pub index_of : {A : Type 0} → (A → Bool) → List A → ℕ
 index_of test [] = zero
-index_of test (x ∷ xs) = if test x then zero else suc (index_of test xs)
+index_of test (x ∷ xs) = provided test x then zero else suc (index_of test xs)
 
 -- "no pin map of that name on a later line": the map of an end is the first map of its name on a later line
 unfoldable pub is_map_of : Step → Map → Bool
@@ -30,8 +30,8 @@ is_section_of s x = same s.name.text x.name.text
 -- "target or 0"
 unfoldable pub target_of : List Map → List Section → Step → ℕ
 target_of maps sections s =
-    if eqb s.kind end_kind then index_of (is_map_of s) maps else
-    if eqb s.kind section_kind then index_of (is_section_of s) sections else 0
+    provided eqb s.kind end_kind then index_of (is_map_of s) maps else
+    provided eqb s.kind section_kind then index_of (is_section_of s) sections else 0
 
 unfoldable pub step_record : List Map → List Section → Step → StepRecord
 step_record maps sections s =
@@ -84,7 +84,7 @@ map_records first (m ∷ ms) = map_record first m ∷ map_records (first + lengt
 -- "each matrix index plus 1 or 0": for a kind; `first` is the index of the first matrix
 unfoldable pub index_of_kind : ℕ → ℕ → List Matrix → ℕ
 index_of_kind kind first [] = 0
-index_of_kind kind first (m ∷ ms) = if eqb m.kind kind then first + 1 else index_of_kind kind (first + 1) ms
+index_of_kind kind first (m ∷ ms) = provided eqb m.kind kind then first + 1 else index_of_kind kind (first + 1) ms
 
 -- `first` is the index of its first matrix
 unfoldable pub section_record : ℕ → Section → SectionRecord

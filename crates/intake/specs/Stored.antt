@@ -2,7 +2,7 @@
 -- that breaks none of rules 1 to 4. What the table then holds is defined elsewhere (Verdict.antt).
 -- Assumes nothing.
 use Rattle.std.specs.Prelude.{ℕ, List, [], ◌∷◌, length, ltb, eqb}
-use Rattle.base.specs.If.{if◌then◌else◌}
+use Rattle.base.specs.If.{provided◌then◌else◌}
 use Rattle.base.specs.Broken.{Rule, ◌when◌, first_broken}
 use Rattle.base.specs.Refusal as refusal
 use Rattle.read_line.specs.Reading.{reading_of}
@@ -18,7 +18,7 @@ room_rules t size = refusal.room when ltb size (length (table_of t)) ∷ []
 
 abbrev pub after_reading : List ℕ → ℕ → Reading → StoreAnswer
 after_reading t size (reading.Read c) =
-    if eqb (first_broken (room_rules t size)) 0 then Stored (length (table_of t)) else Refused (first_broken (room_rules t size)) 0
+    provided eqb (first_broken (room_rules t size)) 0 then Stored (length (table_of t)) else Refused (first_broken (room_rules t size)) 0
 after_reading t size (reading.Refused rule line) = Refused rule line
 
 -- for a table of `size` words

@@ -3,7 +3,7 @@
 -- order there is 19 to 27, 28 if present, 29."
 -- Assumes nothing.
 use Rattle.std.specs.Prelude.{ℕ, ◌-◌, ◌≡◌, Bool, true, false, List, ◌++◌, length, replicate, eqb}
-use Rattle.base.specs.If.{if◌then◌else◌}
+use Rattle.base.specs.If.{provided◌then◌else◌}
 use Rattle.lex_line.specs.ByteRules.{byte_rules}
 use Rattle.lex_line.specs.declared.Checked.{Checked}
 use Rattle.lex_line.specs.declared.Checked.TheVariants as bytes
@@ -37,7 +37,7 @@ answer_words (Refused rule line) = refused_by rule line
 
 -- rules 19 to 29: the text is stored in `words` words, and `finding` is what it breaks first, if anything
 abbrev pub crossed : ℕ → Finding → Outcome
-crossed words finding = if eqb finding.rule 0 then accepted_with words else refused_by finding.rule finding.line
+crossed words finding = provided eqb finding.rule 0 then accepted_with words else refused_by finding.rule finding.line
 
 -- the outcome, given the result of rules 5 to 18
 abbrev pub after_storing : List ℕ → StoreAnswer → Outcome
@@ -56,7 +56,7 @@ verdict_of t size = after_bytes t size (byte_rules t)
 -- "A refused intake zeroes the table, an accepted one the words past those used": the layout of the document and then zeros
 unfoldable pub table_for : List ℕ → ℕ → Outcome → List ℕ
 table_for t size outcome =
-    if outcome.accepted then table_of t ++ replicate (size - length (table_of t)) 0 else replicate size 0
+    provided outcome.accepted then table_of t ++ replicate (size - length (table_of t)) 0 else replicate size 0
 
 -- what the intake promises of its answer and of the lent table, before and after
 pub record Conforms (t before : List ℕ) (answer : Answer) (after : List ℕ) : Type 0 where

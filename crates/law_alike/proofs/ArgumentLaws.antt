@@ -12,7 +12,7 @@ use lib.ListN.{length, take, drop, get_or, length-append, length-drop}
 use lib.Seq.{drop-drop, get_or-take, get_or-drop, length-take-le}
 use lib.Dec.{leb, ltb, eqb}
 use borrow.Author.Tests.{ne_eqb, eqb-true, eqb-false, le-leb, lt-leb, lt-ltb, ltb-false, not-true, not-false}
-use Rattle.base.specs.If.{if◌then◌else◌, both, either}
+use Rattle.base.specs.If.{provided◌then◌else◌, both, either}
 use Rattle.base.specs.Bytes.{bytes, is_blank, is_filled, within, is_digit, is_small, space, tab}
 use Rattle.base.specs.Runs.{run, all, same}
 use Rattle.base.proofs.IfLaws.{if_true, if_false, by_test, by_cases, both_true, both_first, both_second, either_left, either_right, either_rest, either_false}
@@ -544,10 +544,10 @@ closed_parted name x inside =
 
 -- the keyword of a line that opens with a bracket
 abbrev key_by : Bool → List ℕ → ℕ
-key_by parted name = if not (both parted (is_good_name name)) then unknown else if eqb (keyword_of name) unknown then unknown else if is_later (keyword_of name) then unknown else keyword_of name
+key_by parted name = provided not (both parted (is_good_name name)) then unknown else provided eqb (keyword_of name) unknown then unknown else provided is_later (keyword_of name) then unknown else keyword_of name
 
-key_choice : (t : Bool) (x y : Bracket) (m n : ℕ) → key_in x ≡ m → key_in y ≡ n → key_in (if t then x else y) ≡ (if t then m else n)
-unfolding if◌then◌else◌
+key_choice : (t : Bool) (x y : Bracket) (m n : ℕ) → key_in x ≡ m → key_in y ≡ n → key_in (provided t then x else y) ≡ (provided t then m else n)
+unfolding provided◌then◌else◌
 key_choice true x y m n e f = e
 key_choice false x y m n e f = f
 
@@ -560,16 +560,16 @@ bracket_key name x inside =
     ∙ key_choice (not (is_good_bracket (bracketed name x))) Bad (named_as (keyword_of (name_of (bracketed name x))) (argument_at (bracketed name x))) unknown _ refl
     (key_choice (eqb (keyword_of (name_of (bracketed name x))) unknown) Unknown _ unknown _ refl (key_choice (is_later (keyword_of (name_of (bracketed name x)))) Later _ unknown _ refl refl))
     ∙ (λ i.
-    if not (both (closed_parted name x inside i) (is_good_name (bracket_name name x inside i))) then unknown else
-    if eqb (keyword_of (bracket_name name x inside i)) unknown then unknown else
-    if is_later (keyword_of (bracket_name name x inside i)) then unknown else keyword_of (bracket_name name x inside i))
+    provided not (both (closed_parted name x inside i) (is_good_name (bracket_name name x inside i))) then unknown else
+    provided eqb (keyword_of (bracket_name name x inside i)) unknown then unknown else
+    provided is_later (keyword_of (bracket_name name x inside i)) then unknown else keyword_of (bracket_name name x inside i))
 
 -- it does not depend on what stands behind the byte that follows the bracket
 pub bracket_key_same : (name x y : List ℕ) → all is_not_closing name ≡ true → is_parted x ≡ is_parted y → key_at (bracketed name x) ≡ key_at (bracketed name y)
 bracket_key_same name x y inside e = bracket_key name x inside ∙ ap (λ (t : Bool). key_by t name) e ∙ sym (bracket_key name y inside)
 
-key_low : (t : Bool) (m n k : ℕ) → m ≤ k → n ≤ k → (if t then m else n) ≤ k
-unfolding if◌then◌else◌
+key_low : (t : Bool) (m n k : ℕ) → m ≤ k → n ≤ k → (provided t then m else n) ≤ k
+unfolding provided◌then◌else◌
 key_low true m n k h j = h
 key_low false m n k h j = j
 

@@ -9,7 +9,7 @@ use Prim.Native.Char.{code}
 use lib.ListN.{take, get_or}
 use lib.Dec.{eqb}
 use borrow.Author.Tests.{eqb-true}
-use Rattle.base.specs.If.{if◌then◌else◌, both, either}
+use Rattle.base.specs.If.{provided◌then◌else◌, both, either}
 use Rattle.base.specs.Bytes.{space, tab, is_blank, is_before, is_content, line_feed, carriage_return}
 use Rattle.base.specs.Runs.{all}
 use Rattle.base.proofs.IfLaws.{if_true, if_false, by_cases, both_true, both_first, both_second, both_not_left, either_rest}
@@ -45,7 +45,7 @@ pub data EachSays : ℕ → List (List ℕ) → List (List ℕ) → Type 0 where
   none : {p : ℕ} → EachSays p [] []
   more :
       {p : ℕ} {a b : List ℕ} {ls ms : List (List ℕ)} → SaysIn p (content a) (content b) →
-      EachSays (if is_blank_line (content a) then p else place_after p (content a)) ls ms → EachSays p (a ∷ ls) (b ∷ ms)
+      EachSays (provided is_blank_line (content a) then p else place_after p (content a)) ls ms → EachSays p (a ∷ ls) (b ∷ ms)
 
 each_contents : {p : ℕ} {ls ms : List (List ℕ)} → EachSays p ls ms → SameContents p (map said_of ls) (map said_of ms)
 each_contents none = ended
@@ -64,7 +64,7 @@ pub data Everywhere (a b : List ℕ) : Type 0 where
 
 everywhere_each : {ls ms : List (List ℕ)} → All2 Everywhere ls ms → (p : ℕ) → EachSays p ls ms
 everywhere_each All2.none p = none
-everywhere_each (All2.more {x = a} (everywhere h) s) p = more (h p) (everywhere_each s (if is_blank_line (content a) then p else place_after p (content a)))
+everywhere_each (All2.more {x = a} (everywhere h) s) p = more (h p) (everywhere_each s (provided is_blank_line (content a) then p else place_after p (content a)))
 
 pub everywhere_alike : (ls ms : List (List ℕ)) → Each Whole ls → Each Whole ms → All2 Everywhere ls ms → Alike (text_of ls) (text_of ms)
 everywhere_alike ls ms v w s = each_alike ls ms v w (everywhere_each s before)

@@ -8,7 +8,7 @@ use native.Mathlib.Omega.{arith}
 use lib.ListN.{drop}
 use lib.Dec.{eqb}
 use borrow.Author.Tests.{ne_eqb, eqb-true, eqb-false}
-use Rattle.base.specs.If.{if◌then◌else◌, either}
+use Rattle.base.specs.If.{provided◌then◌else◌, either}
 use Rattle.base.proofs.IfLaws.{if_true, if_false, by_cases, both_first, both_second, both_not_left, either_false}
 use Rattle.lex_line.specs.Words.{Word, words_from, words, first_of, second_of, to_equals, right_of}
 use Rattle.lex_keyword.specs.Names.{begin_icm_model, icm_pin_map}
@@ -158,12 +158,12 @@ side_alike (line {l = l} {m = m} s a) =
     ap (λ (w : Word). w.text) (if_false _ _ e) ∙ ap (λ (w : Word). w.text) (sym (if_false _ _ (ap (λ (k : ℕ). eqb k path.says_side) (sym (saying_same l m s)) ∙ e))))
 side_alike (matrix {l = l} {m = m} bs cs n p q a) = ap (λ (w : Word). w.text) (no_side l (opening_deep l n.opens) ∙ sym (no_side m (opening_deep m (other_opens l bs m cs n))))
   where
-    no_side : (x : Line) → is_deep x ≡ true → (if eqb (saying_at x) path.says_side then second_word (words_of x) else no_word) ≡ no_word
+    no_side : (x : Line) → is_deep x ≡ true → (provided eqb (saying_at x) path.says_side then second_word (words_of x) else no_word) ≡ no_word
     no_side x e = if_false _ _ (ap (λ (k : ℕ). eqb k path.says_side) (deep_silent x e))
 
 -- both sides make the same choice
-pub all2_choice : {A : Type 0} {Rel : A → A → Type 0} (b c : Bool) → b ≡ c → (x y u v : List A) → (b ≡ true → All2 Rel x u) → (b ≡ false → All2 Rel y v) → All2 Rel (if b then x else y) (if c then u else v)
-unfolding if◌then◌else◌
+pub all2_choice : {A : Type 0} {Rel : A → A → Type 0} (b c : Bool) → b ≡ c → (x y u v : List A) → (b ≡ true → All2 Rel x u) → (b ≡ false → All2 Rel y v) → All2 Rel (provided b then x else y) (provided c then u else v)
+unfolding provided◌then◌else◌
 all2_choice true true e x y u v h k = h refl
 all2_choice true false e x y u v h k = absurd (true≢false e)
 all2_choice false true e x y u v h k = absurd (true≢false (sym e))
@@ -210,7 +210,7 @@ steps_alike a = gather_alike step_of step_silent SameStep step_same a
 
 -- the lines of a matrix do not change a head or a grid
 module _ {A : Type 0} (test : Line → Bool) (next : A → Line → A) (fold : A → List Line → A)
-    (folds : (h : A) (l : Line) (ls : List Line) → fold h (l ∷ ls) ≡ fold (if test l then next h l else h) ls)
+    (folds : (h : A) (l : Line) (ls : List Line) → fold h (l ∷ ls) ≡ fold (provided test l then next h l else h) ls)
     (deep : (l : Line) → is_deep l ≡ true → test l ≡ false)
     (same : (l m : Line) → SameLine l m → test l ≡ test m) (nexts : (h : A) (l m : Line) → SameLine l m → test l ≡ true → next h l ≡ next h m) where
   fold_deep : (h : A) (l : Line) (ls : List Line) → is_deep l ≡ true → fold h (l ∷ ls) ≡ fold h ls
@@ -223,13 +223,13 @@ module _ {A : Type 0} (test : Line → Bool) (next : A → Line → A) (fold : A
   pub fold_alike : {ls ms : List Line} → AlikeLines ls ms → (h : A) → fold h ls ≡ fold h ms
   fold_alike none h = refl
   fold_alike (line {l = l} {m = m} {ls = ls} {ms = ms} s a) h =
-      let e : (if test l then next h l else h) ≡ (if test m then next h m else h) = by_cases _ (test l) (λ (t : test l ≡ true). if_true _ _ t ∙ nexts h l m s t ∙ sym (if_true _ _ (sym (same l m s) ∙ t))) (λ (t : test l ≡ false). if_false _ _ t ∙ sym (if_false _ _ (sym (same l m s) ∙ t))) in
-      folds h l ls ∙ ap (λ (x : A). fold x ls) e ∙ fold_alike a (if test m then next h m else h) ∙ sym (folds h m ms)
+      let e : (provided test l then next h l else h) ≡ (provided test m then next h m else h) = by_cases _ (test l) (λ (t : test l ≡ true). if_true _ _ t ∙ nexts h l m s t ∙ sym (if_true _ _ (sym (same l m s) ∙ t))) (λ (t : test l ≡ false). if_false _ _ t ∙ sym (if_false _ _ (sym (same l m s) ∙ t))) in
+      folds h l ls ∙ ap (λ (x : A). fold x ls) e ∙ fold_alike a (provided test m then next h m else h) ∙ sym (folds h m ms)
   fold_alike (matrix {l = l} {m = m} {ls = ls} {ms = ms} bs cs n p q a) h =
       fold_deep h l (bs ++ ls) (opening_deep l n.opens) ∙ fold_body h bs ls (block_inside bs ls p) ∙ fold_alike a h
       ∙ sym (fold_deep h m (cs ++ ms) (opening_deep m (other_opens l bs m cs n)) ∙ fold_body h cs ms (block_inside cs ms q))
 
-head_folds : (h : Head) (l : Line) (ls : List Line) → head_in h (l ∷ ls) ≡ head_in (if stands_in place.head l then head_next (head_line_of l.content) h else h) ls
+head_folds : (h : Head) (l : Line) (ls : List Line) → head_in h (l ∷ ls) ≡ head_in (provided stands_in place.head l then head_next (head_line_of l.content) h else h) ls
 unfolding head_in
 head_folds h l ls = refl
 
@@ -241,7 +241,7 @@ head_alike a h =
     (λ (x : Head) (l m : Line) (s : SameLine l m) (e : stands_in place.head l ≡ true). ap (λ (r : HeadLine). head_next r x) (head_same l.place l.content m.content (same_plain l m s place.head refl refl e) (stands_place place.head l e)))
     a h
 
-grid_folds : (g : pin_map.Map) (l : Line) (ls : List Line) → grid_in g (l ∷ ls) ≡ grid_in (if stands_in place.map_head l then map_next (map_line_of l.content) g else g) ls
+grid_folds : (g : pin_map.Map) (l : Line) (ls : List Line) → grid_in g (l ∷ ls) ≡ grid_in (provided stands_in place.map_head l then map_next (map_line_of l.content) g else g) ls
 unfolding grid_in
 grid_folds g l ls = refl
 
@@ -317,7 +317,7 @@ module _ (p : ℕ) (begun : eqb place.before p ≡ false) (unended : eqb place.d
       let q : l.place ≡ p = stands_place p l e in
       first_said l ∙ ap first_of (words_same l.place l.content m.content (same_plain l m s p begun unended e) (λ (h : l.place ≡ place.head). head (sym q ∙ h)) (λ (h : l.place ≡ place.path). path_not (sym q ∙ h)) (λ (h : l.place ≡ place.map_head). map_not (sym q ∙ h))) ∙ sym (first_said m)
 
-  named_alike : All2 SameNamed (if stands_in p l then record { name = first_word (words_of l); line = l.line } ∷ [] else []) (if stands_in p m then record { name = first_word (words_of m); line = m.line } ∷ [] else [])
+  named_alike : All2 SameNamed (provided stands_in p l then record { name = first_word (words_of l); line = l.line } ∷ [] else []) (provided stands_in p m then record { name = first_word (words_of m); line = m.line } ∷ [] else [])
   named_alike = all2_choice (stands_in p l) (stands_in p m) (stands_same l m s p begun unended) _ _ _ _ (λ (e : stands_in p l ≡ true). all2_more (record { name = name_same e }) all2_none) (λ e. all2_none)
 
 listed_same : (l m : Line) (ls ms : List Line) → SameLine l m → AlikeLines ls ms → All2 SameNamed (listed_at l ls) (listed_at m ms)

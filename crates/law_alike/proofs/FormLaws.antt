@@ -11,7 +11,7 @@ use lib.ListN.{length, get_or, length-append, length-map}
 use lib.Dec.{ltb, eqb}
 use borrow.Author.Tests.{eq-eqb, ne_eqb, eqb-true, eqb-false, ltb-true, ltb-false}
 use Rattle.table_layout.specs.Codes.{diagonal, banded, sparse, full}
-use Rattle.base.specs.If.{if◌then◌else◌}
+use Rattle.base.specs.If.{provided◌then◌else◌}
 use Rattle.base.proofs.IfLaws.{if_true, if_false, by_test, by_cases, both_true, both_not_left}
 use Rattle.lex_line.specs.Words.{words, first_of, second_of}
 use Rattle.lex_number.specs.Integer.{whole_of}
@@ -113,7 +113,7 @@ plains_greatest form s (Each.more {x = l} {xs = ls} k ks) rest =
     greatest_more form l (ls ++ rest) ∙ (λ i. max (e i) (g i)) ∙ m
 
 -- from row 1 on: n, also where there is no row
-first_row : (n : ℕ) → (if eqb 1 (suc n) then 0 else n) ≡ n
+first_row : (n : ℕ) → (provided eqb 1 (suc n) then 0 else n) ≡ n
 first_row n = by_test (λ (x : ℕ). x ≡ n) (eqb 1 (suc n)) _ _ (λ (e : eqb 1 (suc n) ≡ true). let q : 1 ≡ suc n = eqb-true 1 (suc n) e in omega arith) (λ (e : eqb 1 (suc n) ≡ false). refl)
 
 pair_here : (j : ℕ) (l : Line) (ls : List Line) → (whole_of (first_of (words l.content))).value ≡ j → sparse_word j (l ∷ ls) ≡ value_of (second_of (words l.content))
@@ -141,12 +141,12 @@ module _ (v : ℕ → ℕ → ℕ) (n : ℕ) (size : ℕ → ℕ) where
       ap (λ (xs : List Line). word_of k (numbers_of xs)) (lines_other x l (ls ++ rest) (λ (y : given_by l ≡ x). q (sym g ∙ y)) ∙ plains_past x s.plainly rest)
       ∙ rows_written r x k (omega arith) high)
 
-  rows_greatest : (form : ℕ) → (form ≡ sparse → ⊥) → {i : ℕ} {body : List Line} → Rows v n size i body → greatest_in form body ≡ (if eqb i (suc n) then 0 else n)
+  rows_greatest : (form : ℕ) → (form ≡ sparse → ⊥) → {i : ℕ} {body : List Line} → Rows v n size i body → greatest_in form body ≡ (provided eqb i (suc n) then 0 else n)
   rows_greatest form s (Rows.ended e) = greatest_none form ∙ sym (if_true _ _ (eq-eqb _ _ e))
   rows_greatest form s (Rows.next {i = i} {l = l} {ls = ls} {rest = rest} h key g said r) =
       let a : named_by form l ≡ i = named_row form l key ∙ g in
       let b : greatest_in form (ls ++ rest) ≡ greatest_in form rest = plains_greatest form s said.plainly rest in
-      let c : greatest_in form rest ≡ (if eqb (suc i) (suc n) then 0 else n) = rows_greatest form s r in
+      let c : greatest_in form rest ≡ (provided eqb (suc i) (suc n) then 0 else n) = rows_greatest form s r in
       greatest_more form l (ls ++ rest) ∙ (λ k. max (a k) ((b ∙ c) k))
       ∙ by_cases _ (eqb (suc i) (suc n))
       (λ (e : eqb (suc i) (suc n) ≡ true). ap (max i) (if_true _ _ e) ∙ last_row (eqb-true _ _ e))

@@ -8,7 +8,7 @@ use Prim.Native.Nat.{ℕ}
 use native.Mathlib.Omega.{arith}
 use lib.Dec.{eqb}
 use borrow.Author.Tests.{ne_eqb}
-use Rattle.base.specs.If.{if◌then◌else◌, both, either}
+use Rattle.base.specs.If.{provided◌then◌else◌, both, either}
 use Rattle.base.specs.Bytes.{bytes, is_before}
 use Rattle.base.specs.Runs.{same}
 use Rattle.base.proofs.IfLaws.{if_true, if_false, by_cases, both_first, both_second, both_not_left, either_false, either_rest}
@@ -131,19 +131,19 @@ module _ (p : ℕ) (content : List ℕ) (e : takes_equals p content ≡ true) wh
 
 -- the words of a model's head and of a map's head contain no `=`
 type_plain : has_sign (bytes "ICM_model_type") ≡ false
-unfolding has_sign is_before if◌then◌else◌
+unfolding has_sign is_before provided◌then◌else◌
 type_plain = refl
 
 ratio_plain : has_sign (bytes "SGR") ≡ false
-unfolding has_sign is_before if◌then◌else◌
+unfolding has_sign is_before provided◌then◌else◌
 ratio_plain = refl
 
 order_plain : has_sign (bytes "Pin_order") ≡ false
-unfolding has_sign is_before if◌then◌else◌
+unfolding has_sign is_before provided◌then◌else◌
 order_plain = refl
 
 list_plain : has_sign (bytes "Pin_list") ≡ false
-unfolding has_sign is_before if◌then◌else◌
+unfolding has_sign is_before provided◌then◌else◌
 list_plain = refl
 
 pub some_bytes : {b : ℕ} {w : List ℕ} → (b ∷ w) ≡ [] → ⊥
@@ -180,8 +180,8 @@ size_same says a b s = rw (s.signs, s.left, s.right)
 -- which of the two sizes the words before `=` name
 unfoldable sizes_of : List ℕ → List ℕ → MapLine
 sizes_of first a =
-    if same first (bytes "Num_of_columns") then size_line pin_map.says_columns a else
-    if same first (bytes "Num_of_rows") then size_line pin_map.says_rows a else record { says = pin_map.says_nothing; right = true; formed = true; bounded = true; value = 0 }
+    provided same first (bytes "Num_of_columns") then size_line pin_map.says_columns a else
+    provided same first (bytes "Num_of_rows") then size_line pin_map.says_rows a else record { says = pin_map.says_nothing; right = true; formed = true; bounded = true; value = 0 }
 
 sizes_same : (a b : List ℕ) → SameSides a b → sizes_of (first_of (left_of a)) a ≡ sizes_of (first_of (left_of b)) b
 unfolding sizes_of

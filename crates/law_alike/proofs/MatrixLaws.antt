@@ -10,7 +10,7 @@ use lib.Dec.{eqb}
 use borrow.Author.Tests.{eq-eqb, ne_eqb, eqb-true, eqb-false}
 use Rattle.table_record.specs.declared.Value.{Value}
 use Rattle.table_layout.specs.Codes.{diagonal, sparse}
-use Rattle.base.specs.If.{if◌then◌else◌, both, either}
+use Rattle.base.specs.If.{provided◌then◌else◌, both, either}
 use Rattle.base.proofs.IfLaws.{if_true, if_false, by_test, by_cases, both_first, both_second, both_not_left, both_not_right, either_right, either_false}
 use Rattle.lex_line.specs.Words.{words, first_of, second_of}
 use Rattle.lex_number.specs.Number.{number_of, word_in}
@@ -72,15 +72,15 @@ module _ (form : ℕ) where
   -- the numbers of one line, and those of the lines after it
   unfoldable plain_values : ℕ → ℕ → List (List ℕ) → (ℕ → ℕ → List Value) → List Value
   plain_values r c ws rest =
-      if eqb form sparse then sparse_at r ws ∷ rest r c else
-      numbers_at form r c ws ++ rest (if eqb form diagonal then r + length ws else r) (c + length ws)
+      provided eqb form sparse then sparse_at r ws ∷ rest r c else
+      numbers_at form r c ws ++ rest (provided eqb form diagonal then r + length ws else r) (c + length ws)
 
   rest_same : (r c : ℕ) (ws : List (List ℕ)) (f g : ℕ → ℕ → List Value) → ((i j : ℕ) → f i j ≡ g i j) → plain_values r c ws f ≡ plain_values r c ws g
   unfolding plain_values
   rest_same r c ws f g e =
       by_cases _ (eqb form sparse)
       (λ (h : eqb form sparse ≡ true). if_true _ _ h ∙ ap (λ (vs : List Value). sparse_at r ws ∷ vs) (e r c) ∙ sym (if_true _ _ h))
-      (λ (h : eqb form sparse ≡ false). if_false _ _ h ∙ ap (λ (vs : List Value). numbers_at form r c ws ++ vs) (e (if eqb form diagonal then r + length ws else r) (c + length ws)) ∙ sym (if_false _ _ h))
+      (λ (h : eqb form sparse ≡ false). if_false _ _ h ∙ ap (λ (vs : List Value). numbers_at form r c ws ++ vs) (e (provided eqb form diagonal then r + length ws else r) (c + length ws)) ∙ sym (if_false _ _ h))
 
   module _ (r c : ℕ) (l : Line) (ls : List Line) where
     values_row : key_of l ≡ row → values_from form r c (l ∷ ls) ≡ values_from form (given_by l) (given_by l) ls
@@ -122,12 +122,12 @@ module _ (form : ℕ) where
       (λ (e : key_of l ≡ row → ⊥) (f : key_of l ≡ plain → ⊥). neither l e f ∙ sym (neither m (λ (q : key_of m ≡ row). e (s.key ∙ q)) (λ (q : key_of m ≡ plain). f (s.key ∙ q))))
     where
       name_by : ℕ → ℕ → List (List ℕ) → ℕ
-      name_by k given ws = if eqb k row then given else if both (eqb form sparse) (eqb k plain) then (whole_of (first_of ws)).value else 0
+      name_by k given ws = provided eqb k row then given else provided both (eqb form sparse) (eqb k plain) then (whole_of (first_of ws)).value else 0
 
       row_less : (a b : ℕ) → key_of l ≡ plain → name_by (key_of l) a (words m.content) ≡ name_by (key_of l) b (words m.content)
       row_less a b e = if_false _ _ (ap (λ (k : ℕ). eqb k row) e) ∙ sym (if_false _ _ (ap (λ (k : ℕ). eqb k row) e))
 
-      neither : (x : Line) → (key_of x ≡ row → ⊥) → (key_of x ≡ plain → ⊥) → (if eqb (key_of x) row then given_by x else if both (eqb form sparse) (eqb (key_of x) plain) then (whole_of (first_of (words x.content))).value else 0) ≡ 0
+      neither : (x : Line) → (key_of x ≡ row → ⊥) → (key_of x ≡ plain → ⊥) → (provided eqb (key_of x) row then given_by x else provided both (eqb form sparse) (eqb (key_of x) plain) then (whole_of (first_of (words x.content))).value else 0) ≡ 0
       neither x e f = if_false _ _ (ne_eqb _ _ e) ∙ if_false _ _ (both_not_right _ _ (ne_eqb _ _ f))
 
   greatest_same : {bs cs : List Line} → All2 SameBody bs cs → greatest_in form bs ≡ greatest_in form cs
@@ -137,7 +137,7 @@ module _ (form : ℕ) where
 
   pub conductors_same : {bs cs : List Line} → All2 SameBody bs cs → conductors_in form bs ≡ conductors_in form cs
   unfolding conductors_in
-  conductors_same a = λ i. if eqb form diagonal then length (values_same 1 1 a i) else greatest_same a i
+  conductors_same a = λ i. provided eqb form diagonal then length (values_same 1 1 a i) else greatest_same a i
 
   -- ---- the numbers by the form
 
@@ -164,7 +164,7 @@ module _ (form : ℕ) where
   rows_same i (all2_more {x = l} {y = m} {xs = bs} {ys = cs} s a) =
       all2_choice (both (eqb (key_of l) row) (eqb (given_by l) i)) (both (eqb (key_of m) row) (eqb (given_by m) i)) (opens_row l m s i) _ _ _ _ (λ e. plain_up a) (λ e. rows_same i a)
 
-  said_same : (l m : Line) → SameBody l m → (if is_plain l then words l.content else []) ≡ (if is_plain m then words m.content else [])
+  said_same : (l m : Line) → SameBody l m → (provided is_plain l then words l.content else []) ≡ (provided is_plain m then words m.content else [])
   unfolding is_plain
   said_same l m s =
       by_cases _ (eqb (key_of l) plain)
@@ -189,8 +189,8 @@ module _ (form : ℕ) where
   unfolding sparse_word
   sparse_same j all2_none Each_none = refl
   sparse_same j (all2_more {x = l} {y = m} {xs = bs} {ys = cs} s a) (each_more p ps) =
-      ap (λ (ws : List (List ℕ)). if eqb (whole_of (first_of ws)).value j then word_in (number_of (second_of ws)) else sparse_word j bs) (s.said (is_plain_lem l p))
-      ∙ ap (λ (n : ℕ). if eqb (whole_of (first_of (words m.content))).value j then word_in (number_of (second_of (words m.content))) else n) (sparse_same j a ps)
+      ap (λ (ws : List (List ℕ)). provided eqb (whole_of (first_of ws)).value j then word_in (number_of (second_of ws)) else sparse_word j bs) (s.said (is_plain_lem l p))
+      ∙ ap (λ (n : ℕ). provided eqb (whole_of (first_of (words m.content))).value j then word_in (number_of (second_of (words m.content))) else n) (sparse_same j a ps)
 
   pub written_same : (i j : ℕ) {bs cs : List Line} → All2 SameBody bs cs → written_at form bs i j ≡ written_at form cs i j
   unfolding written_at
@@ -198,7 +198,7 @@ module _ (form : ℕ) where
       let d : numbers_of bs ≡ numbers_of cs = numbers_same a in
       let p : sparse_word j (row_lines i bs) ≡ sparse_word j (row_lines i cs) = sparse_same j (rows_same i a) (rows_plain i bs) in
       let r : numbers_of (row_lines i bs) ≡ numbers_of (row_lines i cs) = numbers_same (rows_same i a) in
-      λ k. if eqb form diagonal then (if eqb i j then word_of (i - 1) (d k) else zero_word) else if eqb form sparse then p k else word_of (j - i) (r k)
+      λ k. provided eqb form diagonal then (provided eqb i j then word_of (i - 1) (d k) else zero_word) else provided eqb form sparse then p k else word_of (j - i) (r k)
 
 -- ---- matrices
 

@@ -10,7 +10,7 @@ use native.Mathlib.Omega.{arith}
 use lib.ListN.{get_or}
 use lib.Dec.{ltb, eqb}
 use borrow.Author.Tests.{eq-eqb, ne_eqb, eqb-true, eqb-false, ltb-false, not-false}
-use Rattle.base.specs.If.{if◌then◌else◌, both}
+use Rattle.base.specs.If.{provided◌then◌else◌, both}
 use Rattle.base.specs.Bytes.{line_feed, is_blank, is_before, is_content}
 use Rattle.base.specs.Runs.{run, all}
 use Rattle.base.proofs.IfLaws.{if_true, if_false, by_cases, both_true, both_first, both_second, both_not_left, both_rest, either_left, either_right, not_via}
@@ -305,7 +305,7 @@ unfolding goes
 blank_goes c s e = ap (λ (y : LineResult). y.state) (result_steps c s ∙ if_true _ _ e)
 
 -- the place after a line that is read
-place_next : (c : List ℕ) (n : ℕ) (s : State) → (line_result c s).rule ≡ 0 → (line_result c s).state.place ≡ (if is_blank_line c then s.place else place_after s.place c)
+place_next : (c : List ℕ) (n : ℕ) (s : State) → (line_result c s).rule ≡ 0 → (line_result c s).state.place ≡ (provided is_blank_line c then s.place else place_after s.place c)
 place_next c n s kept =
     by_cases _ (is_blank_line c) (λ (e : is_blank_line c ≡ true). ap (λ (x : State). x.place) (blank_goes c s e) ∙ sym (if_true _ _ e))
     (λ (e : is_blank_line c ≡ false).

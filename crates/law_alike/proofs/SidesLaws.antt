@@ -9,7 +9,7 @@ use native.Mathlib.Omega.{arith}
 use lib.ListN.{length, take, drop}
 use lib.Dec.{ltb, eqb}
 use borrow.Author.Tests.{lt-ltb, le-ltb, ltb-true, ltb-false, eqb-true}
-use Rattle.base.specs.If.{if◌then◌else◌, either}
+use Rattle.base.specs.If.{provided◌then◌else◌, either}
 use Rattle.base.specs.Bytes.{is_blank, space, tab, is_before, is_filled}
 use Rattle.base.specs.Runs.{run, same}
 use Rattle.base.proofs.IfLaws.{if_true, if_false, by_cases}
@@ -24,15 +24,15 @@ grow b (w ∷ ws) = (b ∷ w) ∷ ws
 
 unfoldable pub bare : List ℕ → List (List ℕ)
 bare [] = []
-bare (b ∷ s) = if is_blank b then bare s else if word_goes_on s then grow b (bare s) else (b ∷ []) ∷ bare s
+bare (b ∷ s) = provided is_blank b then bare s else provided word_goes_on s then grow b (bare s) else (b ∷ []) ∷ bare s
 
 grown_texts : (at b : ℕ) (ws : List Word) → map (λ (w : Word). w.text) (grown at b ws) ≡ grow b (map (λ (w : Word). w.text) ws)
 unfolding grown grow
 grown_texts at b [] = refl
 grown_texts at b (w ∷ ws) = refl
 
-map_if : (b : Bool) (x y : List Word) (p q : List (List ℕ)) → map (λ (w : Word). w.text) x ≡ p → map (λ (w : Word). w.text) y ≡ q → map (λ (w : Word). w.text) (if b then x else y) ≡ (if b then p else q)
-unfolding if◌then◌else◌
+map_if : (b : Bool) (x y : List Word) (p q : List (List ℕ)) → map (λ (w : Word). w.text) x ≡ p → map (λ (w : Word). w.text) y ≡ q → map (λ (w : Word). w.text) (provided b then x else y) ≡ (provided b then p else q)
+unfolding provided◌then◌else◌
 map_if true x y p q e f = e
 map_if false x y p q e f = f
 
@@ -81,15 +81,15 @@ is_other = is_before (code "=")
 
 unfoldable pub has_sign : List ℕ → Bool
 has_sign [] = false
-has_sign (b ∷ s) = if is_other b then has_sign s else true
+has_sign (b ∷ s) = provided is_other b then has_sign s else true
 
 unfoldable pub before_sign : List ℕ → List ℕ
 before_sign [] = []
-before_sign (b ∷ s) = if is_other b then b ∷ before_sign s else []
+before_sign (b ∷ s) = provided is_other b then b ∷ before_sign s else []
 
 unfoldable pub behind_sign : List ℕ → List ℕ
 behind_sign [] = []
-behind_sign (b ∷ s) = if is_other b then behind_sign s else s
+behind_sign (b ∷ s) = provided is_other b then behind_sign s else s
 
 take_sign : (s : List ℕ) → take (to_equals s) s ≡ before_sign s
 unfolding before_sign
@@ -134,15 +134,15 @@ filled (b ∷ w) ws = (b ∷ w) ∷ ws
 
 unfoldable pub any_sign : List (List ℕ) → Bool
 any_sign [] = false
-any_sign (w ∷ ws) = if has_sign w then true else any_sign ws
+any_sign (w ∷ ws) = provided has_sign w then true else any_sign ws
 
 unfoldable pub cut_left : List (List ℕ) → List (List ℕ)
 cut_left [] = []
-cut_left (w ∷ ws) = if has_sign w then filled (before_sign w) [] else w ∷ cut_left ws
+cut_left (w ∷ ws) = provided has_sign w then filled (before_sign w) [] else w ∷ cut_left ws
 
 unfoldable pub cut_right : List (List ℕ) → List (List ℕ)
 cut_right [] = []
-cut_right (w ∷ ws) = if has_sign w then filled (behind_sign w) ws else cut_right ws
+cut_right (w ∷ ws) = provided has_sign w then filled (behind_sign w) ws else cut_right ws
 
 pub blank_is_other : (b : ℕ) → is_blank b ≡ true → is_other b ≡ true
 unfolding is_blank is_before either
@@ -210,11 +210,11 @@ module _ (w : List ℕ) (ws : List (List ℕ)) where
 module _ (b c : ℕ) (w : List ℕ) (ws : List (List ℕ)) (o : is_other b ≡ true) where
   any_grown : any_sign ((b ∷ c ∷ w) ∷ ws) ≡ any_sign ((c ∷ w) ∷ ws)
   unfolding any_sign
-  any_grown = ap (λ (h : Bool). if h then true else any_sign ws) (has_more b (c ∷ w) o)
+  any_grown = ap (λ (h : Bool). provided h then true else any_sign ws) (has_more b (c ∷ w) o)
 
   right_grown : cut_right ((b ∷ c ∷ w) ∷ ws) ≡ cut_right ((c ∷ w) ∷ ws)
   unfolding cut_right
-  right_grown = λ i. if has_more b (c ∷ w) o i then filled (behind_more b (c ∷ w) o i) ws else cut_right ws
+  right_grown = λ i. provided has_more b (c ∷ w) o i then filled (behind_more b (c ∷ w) o i) ws else cut_right ws
 
   left_grown : is_other c ≡ true → cut_left ((b ∷ c ∷ w) ∷ ws) ≡ grow b (cut_left ((c ∷ w) ∷ ws))
   unfolding grow filled

@@ -8,7 +8,7 @@ use Prim.Native.Nat.{ℕ}
 use lib.ListN.{get_or}
 use lib.Dec.{eqb}
 use borrow.Author.Tests.{eqb-true}
-use Rattle.base.specs.If.{if◌then◌else◌, both, either}
+use Rattle.base.specs.If.{provided◌then◌else◌, both, either}
 use Rattle.base.specs.Bytes.{is_blank, space, tab, is_filled}
 use Rattle.base.specs.Runs.{run, all}
 use Rattle.base.proofs.IfLaws.{if_true, if_false, by_cases, both_rest}
@@ -151,7 +151,7 @@ record Same (a b : List ℕ) : Type 0 where
 
 same_byte : (d : ℕ) (a b : List ℕ) → Same a b → Same (d ∷ a) (d ∷ b)
 unfolding squeezed_after
-same_byte d a b h = record { after = λ (word : Bool). λ i. if is_blank d then (if word then spaced (h.after false i) else h.after false i) else d ∷ h.after true i }
+same_byte d a b h = record { after = λ (word : Bool). λ i. provided is_blank d then (provided word then spaced (h.after false i) else h.after false i) else d ∷ h.after true i }
 
 same_front : (x a b : List ℕ) → Same a b → Same (x ++ a) (x ++ b)
 same_front [] a b h = h

@@ -10,7 +10,7 @@ use native.Mathlib.Omega.{arith}
 use lib.ListN.{length, take, drop, length-append}
 use lib.Dec.{ltb, eqb}
 use borrow.Author.Tests.{eq-eqb, ne_eqb, eqb-true, eqb-false, lt-ltb, not-true}
-use Rattle.base.specs.If.{if◌then◌else◌, both, either}
+use Rattle.base.specs.If.{provided◌then◌else◌, both, either}
 use Rattle.base.specs.Bytes.{bytes, is_blank, line_feed, is_before, is_filled, is_content}
 use Rattle.base.specs.Runs.{run, all}
 use Rattle.base.proofs.IfLaws.{if_true, if_false, by_test, by_cases, both_first, both_second, either_rest}
@@ -57,12 +57,12 @@ stays p a e =
 
 -- nor does a line that is not read
 keyword_ended : (k : ℕ) → moved place.done k ≡ place.done
-unfolding moved is_in_model is_in_family is_in_header either if◌then◌else◌
+unfolding moved is_in_model is_in_family is_in_header either provided◌then◌else◌
 keyword_ended k = refl
 
 keyword_before : (k : ℕ) → eqb k begin_header ≡ false → moved before k ≡ before
-unfolding moved is_in_model is_in_family is_in_header either if◌then◌else◌
-keyword_before k e = ap (λ (h : Bool). if h then place.opened else before) e
+unfolding moved is_in_model is_in_family is_in_header either provided◌then◌else◌
+keyword_before k e = ap (λ (h : Bool). provided h then place.opened else before) e
 
 either_stays : (p : ℕ) (a : List ℕ) → eqb p place.map_head ≡ false → moved p (key_at a) ≡ p → place_after p a ≡ p
 unfolding place_after moved_by_line
@@ -89,7 +89,7 @@ place_same p a b (same_unread u v) = stays_unread p a u ∙ sym (stays_unread p 
 -- the place after some lines that are read from place p
 unfoldable pub place_behind : ℕ → List Said → ℕ
 place_behind p [] = p
-place_behind p (r ∷ rs) = place_behind (if is_blank_line r.content then p else place_after p r.content) rs
+place_behind p (r ∷ rs) = place_behind (provided is_blank_line r.content then p else place_after p r.content) rs
 
 abbrev pub line_as : ℕ → ℕ → ℕ → Said → Line
 line_as n at p r = record { line = n; at = at; place = p; content = r.content }
@@ -300,7 +300,7 @@ goes_first (d ∷ x) y z b = refl
 
 pub bare_choice : (d : ℕ) (s t : List ℕ) → word_goes_on s ≡ word_goes_on t → bare s ≡ bare t → bare (d ∷ s) ≡ bare (d ∷ t)
 unfolding bare
-bare_choice d s t g e = λ i. if is_blank d then e i else if g i then grow d (e i) else (d ∷ []) ∷ e i
+bare_choice d s t g e = λ i. provided is_blank d then e i else provided g i then grow d (e i) else (d ∷ []) ∷ e i
 
 bare_doubled : (x y : List ℕ) (b c : ℕ) → is_blank b ≡ true → is_blank c ≡ true → bare (x ++ (b ∷ c ∷ y)) ≡ bare (x ++ (b ∷ y))
 bare_doubled [] y b c e f = bare_blank b (c ∷ y) e ∙ bare_blank c y f ∙ sym (bare_blank b y e)

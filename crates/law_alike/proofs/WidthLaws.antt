@@ -9,7 +9,7 @@ use Prim.Native.Char.{code}
 use native.Mathlib.Omega.{arith}
 use lib.ListN.{get_or}
 use borrow.Author.Tests.{ne_eqb}
-use Rattle.base.specs.If.{if◌then◌else◌, both, either}
+use Rattle.base.specs.If.{provided◌then◌else◌, both, either}
 use Rattle.base.specs.Bytes.{bytes, is_blank, is_before, is_filled, within, small, is_digit, is_capital, is_small, is_letter}
 use Rattle.base.specs.Runs.{run, all, same}
 use Rattle.base.proofs.IfLaws.{if_true, by_cases, both_true, either_left, either_right, not_via}
@@ -52,7 +52,7 @@ pub record Unread : Type 0 where
   pub ended : SameSaying place.done (bytes "[Begin Header] x") (bytes "free text")
 
 pub unread : Unread
-unfolding is_unread key_at bracket_of is_open is_not_closing is_separator is_plain_byte push parted is_hyphen_word is_good_word are_good_words is_good_name name_length name_of is_closed is_good_bracket argument_at named_as folded same_name name_index keyword_of is_later run all same if◌then◌else◌ both either is_blank within small is_digit is_capital is_small is_letter
+unfolding is_unread key_at bracket_of is_open is_not_closing is_separator is_plain_byte push parted is_hyphen_word is_good_word are_good_words is_good_name name_length name_of is_closed is_good_bracket argument_at named_as folded same_name name_index keyword_of is_later run all same provided◌then◌else◌ both either is_blank within small is_digit is_capital is_small is_letter
 unread =
     record {
       other_bracket = same_unread refl refl;
@@ -129,23 +129,23 @@ two_left (u ∷ ws) v w vs e =
 
 -- the words before the sign of each form
 impedance_word : first_of (words (bytes "Ref_impedance")) ≡ bytes "Ref_impedance"
-unfolding words_from grown word_goes_on is_filled is_blank either if◌then◌else◌
+unfolding words_from grown word_goes_on is_filled is_blank either provided◌then◌else◌
 impedance_word = refl
 
 rows_word : first_of (words (bytes "Num_of_rows")) ≡ bytes "Num_of_rows"
-unfolding words_from grown word_goes_on is_filled is_blank either if◌then◌else◌
+unfolding words_from grown word_goes_on is_filled is_blank either provided◌then◌else◌
 rows_word = refl
 
 columns_word : first_of (words (bytes "Num_of_columns")) ≡ bytes "Num_of_columns"
-unfolding words_from grown word_goes_on is_filled is_blank either if◌then◌else◌
+unfolding words_from grown word_goes_on is_filled is_blank either provided◌then◌else◌
 columns_word = refl
 
 mult_words : words (bytes "Section Mult") ≡ bytes "Section" ∷ bytes "Mult" ∷ []
-unfolding words_from grown word_goes_on is_filled is_blank either if◌then◌else◌
+unfolding words_from grown word_goes_on is_filled is_blank either provided◌then◌else◌
 mult_words = refl
 
 len_words : words (bytes "Section Len") ≡ bytes "Section" ∷ bytes "Len" ∷ []
-unfolding words_from grown word_goes_on is_filled is_blank either if◌then◌else◌
+unfolding words_from grown word_goes_on is_filled is_blank either provided◌then◌else◌
 len_words = refl
 
 is_word_lem : (w v : List ℕ) → w ≡ v → same w v ≡ true

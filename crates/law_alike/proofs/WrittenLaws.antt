@@ -11,7 +11,7 @@ use lib.Dec.{eqb}
 use borrow.Author.Tests.{eq-eqb, ne_eqb, eqb-true, eqb-false}
 use Rattle.table_record.specs.declared.Value.{Value}
 use Rattle.table_layout.specs.Codes.{diagonal, banded, sparse}
-use Rattle.base.specs.If.{if◌then◌else◌, either}
+use Rattle.base.specs.If.{provided◌then◌else◌, either}
 use Rattle.base.proofs.IfLaws.{if_true, if_false, by_test, by_cases, both_true, both_first, both_not_left, both_not_right, either_rest}
 use Rattle.lex_line.specs.Words.{words}
 use Rattle.lex_number.specs.Number.{number_of, word_in}
@@ -153,7 +153,7 @@ module _ (i : ℕ) (l : Line) (ls : List Line) where
 
 -- what the lines of a row write for column j; the next number is k columns before it
 abbrev in_lines : ℕ → ℕ → ℕ → List Line → ℕ
-in_lines form k j ls = if eqb form sparse then sparse_word j ls else word_of k (numbers_of ls)
+in_lines form k j ls = provided eqb form sparse then sparse_word j ls else word_of k (numbers_of ls)
 
 lines_nothing : (form k j : ℕ) → in_lines form k j [] ≡ zero_word
 unfolding sparse_word

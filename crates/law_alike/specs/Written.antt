@@ -3,7 +3,7 @@
 -- Assumes nothing.
 use Rattle.std.specs.Prelude.{ℕ, ◌-◌, Bool, List, [], ◌∷◌, ◌++◌, map, get_or, eqb}
 use Rattle.table_layout.specs.Codes.{diagonal, sparse}
-use Rattle.base.specs.If.{if◌then◌else◌, both}
+use Rattle.base.specs.If.{provided◌then◌else◌, both}
 use Rattle.lex_line.specs.Words.{words, first_of, second_of}
 use Rattle.lex_number.specs.Number.{number_of, word_in}
 use Rattle.lex_number.specs.Integer.{whole_of}
@@ -18,12 +18,12 @@ is_plain l = eqb (key_of l) plain
 -- "[Row] i": the lines below it, up to the next keyword
 unfoldable pub row_lines : ℕ → List Line → List Line
 row_lines i [] = []
-row_lines i (l ∷ ls) = if both (eqb (key_of l) row) (eqb (given_by l) i) then up_to is_plain ls else row_lines i ls
+row_lines i (l ∷ ls) = provided both (eqb (key_of l) row) (eqb (given_by l) i) then up_to is_plain ls else row_lines i ls
 
 -- "Numbers may run over lines": the words of the lines, one after another
 unfoldable pub numbers_of : List Line → List (List ℕ)
 numbers_of [] = []
-numbers_of (l ∷ ls) = (if is_plain l then words l.content else []) ++ numbers_of ls
+numbers_of (l ∷ ls) = (provided is_plain l then words l.content else []) ++ numbers_of ls
 
 -- the value word of number i, counted from 0; zero if there are fewer
 unfoldable pub word_of : ℕ → List (List ℕ) → ℕ
@@ -33,11 +33,11 @@ word_of i ws = get_or (map (λ (w : List ℕ). word_in (number_of w)) ws) i zero
 unfoldable pub sparse_word : ℕ → List Line → ℕ
 sparse_word j [] = zero_word
 sparse_word j (l ∷ ls) =
-    if eqb (whole_of (first_of (words l.content))).value j then word_in (number_of (second_of (words l.content))) else sparse_word j ls
+    provided eqb (whole_of (first_of (words l.content))).value j then word_in (number_of (second_of (words l.content))) else sparse_word j ls
 
 -- The number at row i and column j, where i is at most j. In a Diagonal_matrix it is the i-th of N numbers, and zero off the
 -- diagonal. In a Sparse_matrix it is found by its column. Otherwise it is number j - i of row i, counted from 0: "diagonal first".
 unfoldable pub written_at : ℕ → List Line → ℕ → ℕ → ℕ
 written_at form body i j =
-    if eqb form diagonal then (if eqb i j then word_of (i - 1) (numbers_of body) else zero_word) else
-    if eqb form sparse then sparse_word j (row_lines i body) else word_of (j - i) (numbers_of (row_lines i body))
+    provided eqb form diagonal then (provided eqb i j then word_of (i - 1) (numbers_of body) else zero_word) else
+    provided eqb form sparse then sparse_word j (row_lines i body) else word_of (j - i) (numbers_of (row_lines i body))

@@ -8,7 +8,7 @@ use Prim.Native.Nat.{ℕ, ◌≤◌, ◌<◌}
 use native.Mathlib.Omega.{arith}
 use lib.Dec.{eqb}
 use borrow.Author.Tests.{eq-eqb, ne_eqb, eqb-true, eqb-false}
-use Rattle.base.specs.If.{if◌then◌else◌}
+use Rattle.base.specs.If.{provided◌then◌else◌}
 use Rattle.base.specs.Broken.{Rule, ◌when◌, first_broken}
 use Rattle.base.proofs.IfLaws.{if_true, if_false, by_cases}
 use Rattle.base.proofs.BrokenLaws.{Numbered}
@@ -34,7 +34,7 @@ pub record Given : Type 0 where
 
 unfoldable pub given_by : List RulesAtLine → Given
 given_by [] = record { rule = 0; line = 0 }
-given_by (x ∷ xs) = if eqb (first_broken x.rules) 0 then given_by xs else record { rule = first_broken x.rules; line = x.line }
+given_by (x ∷ xs) = provided eqb (first_broken x.rules) 0 then given_by xs else record { rule = first_broken x.rules; line = x.line }
 
 module _ (x : RulesAtLine) (xs : List RulesAtLine) where
   pub given_later : first_broken x.rules ≡ 0 → given_by (x ∷ xs) ≡ given_by xs

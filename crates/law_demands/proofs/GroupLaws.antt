@@ -7,7 +7,7 @@ use Prim.Native.Nat.{ℕ, ◌+◌, ◌<◌, zero-le}
 use native.Mathlib.Omega.{arith}
 use lib.Dec.{eqb}
 use borrow.Author.Tests.{eq-eqb, eqb-true, eqb-false}
-use Rattle.base.specs.If.{if◌then◌else◌, both}
+use Rattle.base.specs.If.{provided◌then◌else◌, both}
 use Rattle.base.specs.Broken.{Rule, ◌when◌, first_broken}
 use Rattle.base.specs.Refusal as refusal
 use Rattle.base.proofs.IfLaws.{if_true, if_false, by_cases, by_test}
@@ -65,49 +65,49 @@ step_number content s = judged_number (first_broken (rules_on content s)) _ s
 -- ---- every list is in the order of refusal
 
 pub size_ranked : (t : List ℕ) → Ranked 1 (size_rules t)
-unfolding rank if◌then◌else◌ both
+unfolding rank provided◌then◌else◌ both
 size_ranked t = record { numbered = (omega arith, tt); ascends = (omega arith, tt) }
 
 character_ranked : (l : Raw) → Ranked 2 (character_rules l)
-unfolding rank if◌then◌else◌ both
+unfolding rank provided◌then◌else◌ both
 character_ranked l = record { numbered = (omega arith, (omega arith, (omega arith, tt))); ascends = (omega arith, (omega arith, (omega arith, tt))) }
 
 pub room_ranked : (t : List ℕ) (size : ℕ) → Ranked 4 (room_rules t size)
-unfolding rank if◌then◌else◌ both
+unfolding rank provided◌then◌else◌ both
 room_ranked t size = record { numbered = (omega arith, tt); ascends = (omega arith, tt) }
 
 none_ranked : (g : ℕ) → Ranked g []
 none_ranked g = record { numbered = tt; ascends = tt }
 
 line_refused_ranked : (b : Bool) → Ranked forward (refusal.line when b ∷ [])
-unfolding rank if◌then◌else◌ both
+unfolding rank provided◌then◌else◌ both
 line_refused_ranked b = record { numbered = (omega arith, tt); ascends = (omega arith, tt) }
 
 argument_ranked : (b : Bool) → Ranked forward (refusal.argument when b ∷ [])
-unfolding rank if◌then◌else◌ both
+unfolding rank provided◌then◌else◌ both
 argument_ranked b = record { numbered = (omega arith, tt); ascends = (omega arith, tt) }
 
 bracket_ranked : (k : ℕ) → 0 < k → (b : Bool) → Ranked forward (k when b ∷ [])
 bracket_ranked k h b = record { numbered = (h, tt); ascends = (zero-le, tt) }
 
 head_ranked : (l : HeadLine) (h : Head) → Ranked forward (head_rules l h)
-unfolding rank if◌then◌else◌ both
+unfolding rank provided◌then◌else◌ both
 head_ranked l h = record { numbered = (omega arith, (omega arith, (omega arith, (omega arith, tt)))); ascends = (omega arith, (omega arith, (omega arith, (omega arith, tt)))) }
 
 map_ranked : (l : MapLine) (m : Map) → Ranked forward (map_rules l m)
-unfolding rank if◌then◌else◌ both
+unfolding rank provided◌then◌else◌ both
 map_ranked l m = record { numbered = (omega arith, (omega arith, (omega arith, (omega arith, tt)))); ascends = (omega arith, (omega arith, (omega arith, (omega arith, tt)))) }
 
 pin_ranked : (content : List ℕ) (m : Map) (total : ℕ) → Ranked forward (pin_rules content m total)
-unfolding rank if◌then◌else◌ both
+unfolding rank provided◌then◌else◌ both
 pin_ranked content m total = record { numbered = (omega arith, (omega arith, tt)); ascends = (omega arith, (omega arith, tt)) }
 
 data_ranked : (l : DataLine) (m : Matrix) (values : ℕ) → Ranked forward (data_rules l m values)
-unfolding rank if◌then◌else◌ both
+unfolding rank provided◌then◌else◌ both
 data_ranked l m values = record { numbered = (omega arith, (omega arith, (omega arith, (omega arith, tt)))); ascends = (omega arith, (omega arith, (omega arith, (omega arith, tt)))) }
 
 open_ranked : (l : PathLine) (p : Path) (steps : ℕ) → Ranked forward (open_rules l p steps)
-unfolding rank if◌then◌else◌ both
+unfolding rank provided◌then◌else◌ both
 open_ranked l p steps =
     record {
       numbered = (omega arith, (omega arith, (omega arith, (omega arith, (omega arith, (omega arith, tt))))));
@@ -115,7 +115,7 @@ open_ranked l p steps =
     }
 
 keyword_ranked : (k : ℕ) (argument : List ℕ) (s : State) → Ranked forward (keyword_rules k argument s)
-unfolding rank if◌then◌else◌ both
+unfolding rank provided◌then◌else◌ both
 keyword_ranked k argument s =
     record {
       numbered = (omega arith, (omega arith, (omega arith, (omega arith, (omega arith, (omega arith, (omega arith, tt)))))));
@@ -123,11 +123,11 @@ keyword_ranked k argument s =
     }
 
 end_ranked : (s : State) → Ranked forward (end_of_text_rules s)
-unfolding rank if◌then◌else◌ both
+unfolding rank provided◌then◌else◌ both
 end_ranked s = record { numbered = (omega arith, (omega arith, tt)); ascends = (omega arith, (omega arith, tt)) }
 
 -- for a choice between two lists
-either_ranked : (b : Bool) (x y : List Rule) → Ranked forward x → Ranked forward y → Ranked forward (if b then x else y)
+either_ranked : (b : Bool) (x y : List Rule) → Ranked forward x → Ranked forward y → Ranked forward (provided b then x else y)
 either_ranked b x y h k = by_test (Ranked forward) b _ _ (λ e. h) (λ e. k)
 
 path_ranked : (l : PathLine) (p : Path) (steps : ℕ) → Ranked forward (path_rules l p steps)
@@ -176,7 +176,7 @@ rules_ranked content s =
 
 -- the result of the byte rules, from what the looks give
 abbrev pub checked_by : Given → Checked
-checked_by given = if eqb given.rule 0 then bytes.Fine else bytes.Refused given.rule given.line
+checked_by given = provided eqb given.rule 0 then bytes.Fine else bytes.Refused given.rule given.line
 
 pub characters_given : (n : ℕ) (ls : List Raw) → lines_rule n ls ≡ checked_by (given_by (character_rules_at_lines n ls))
 unfolding lines_rule refused_or raw_line_rule character_rules_at_lines given_by
@@ -216,7 +216,7 @@ module _ (s : State) where
   abbrev end_look : RulesAtLine
   end_look = record { line = 0; rules = end_of_text_rules s }
 
-  alone : given_by (end_look ∷ []) ≡ (if eqb (first_broken (end_of_text_rules s)) 0 then record { rule = 0; line = 0 } else record { rule = first_broken (end_of_text_rules s); line = 0 })
+  alone : given_by (end_look ∷ []) ≡ (provided eqb (first_broken (end_of_text_rules s)) 0 then record { rule = 0; line = 0 } else record { rule = first_broken (end_of_text_rules s); line = 0 })
   unfolding given_by
   alone = refl
 
@@ -248,7 +248,7 @@ forward_told n (l ∷ ls) s =
     rw (on_kept (line_result l.content s) n (read_from (n + 1) ls) kept, if_true {A = List RulesAtLine} (forward_rules_at_lines (n + 1) ls (line_result l.content s).state) [] e, given_later (record { line = n; rules = rules_on l.content s }) (forward_rules_at_lines (n + 1) ls (line_result l.content s).state) (eqb-true _ _ e)) (forward_told (n + 1) ls (line_result l.content s).state))
     (λ (e : eqb (first_broken (rules_on l.content s)) 0 ≡ false).
     let broken : eqb (line_result l.content s).rule 0 ≡ false = ap (λ (m : ℕ). eqb m 0) (step_number l.content s) ∙ e in
-    rw (on_broken (line_result l.content s) n (read_from (n + 1) ls) broken, given_here (record { line = n; rules = rules_on l.content s }) (if eqb (first_broken (rules_on l.content s)) 0 then forward_rules_at_lines (n + 1) ls (line_result l.content s).state else []) (eqb-false _ _ e), sym (step_number l.content s)) (refused_at (line_result l.content s).rule n (eqb-false _ _ broken)))
+    rw (on_broken (line_result l.content s) n (read_from (n + 1) ls) broken, given_here (record { line = n; rules = rules_on l.content s }) (provided eqb (first_broken (rules_on l.content s)) 0 then forward_rules_at_lines (n + 1) ls (line_result l.content s).state else []) (eqb-false _ _ e), sym (step_number l.content s)) (refused_at (line_result l.content s).rule n (eqb-false _ _ broken)))
 
 pub forward_ranked : (n : ℕ) (ls : List Said) (s : State) → AllRanked forward (forward_rules_at_lines n ls s)
 unfolding forward_rules_at_lines

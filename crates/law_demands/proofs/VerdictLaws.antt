@@ -9,7 +9,7 @@ use native.Mathlib.Omega.{arith}
 use lib.ListN.{length}
 use lib.Dec.{ltb, eqb}
 use borrow.Author.Tests.{ne_eqb, eqb-true, eqb-false, ltb-true, ltb-false}
-use Rattle.base.specs.If.{if◌then◌else◌, both}
+use Rattle.base.specs.If.{provided◌then◌else◌, both}
 use Rattle.base.specs.Broken.{◌when◌, first_broken}
 use Rattle.base.specs.Refusal as refusal
 use Rattle.base.proofs.BrokenLaws.{first_broken_lem, first_kept}
@@ -84,27 +84,27 @@ module _ (t : List ℕ) (size : ℕ) where
   room_look = record { line = 0; rules = room_rules t size }
 
   size_group : group t size 1 ≡ size_look ∷ []
-  unfolding group if◌then◌else◌
+  unfolding group provided◌then◌else◌
   size_group = refl
 
   character_group : group t size 2 ≡ character_rules_at_lines 1 (lines t)
-  unfolding group if◌then◌else◌
+  unfolding group provided◌then◌else◌
   character_group = refl
 
   forward_group : group t size 3 ≡ forward_rules_at_lines 1 (contents t) start_state
-  unfolding group if◌then◌else◌
+  unfolding group provided◌then◌else◌
   forward_group = refl
 
   room_group : group t size 4 ≡ room_look ∷ []
-  unfolding group if◌then◌else◌
+  unfolding group provided◌then◌else◌
   room_group = refl
 
   cross_group : group t size 5 ≡ all_rules_at_lines (document_of t)
-  unfolding group if◌then◌else◌
+  unfolding group provided◌then◌else◌
   cross_group = refl
 
   no_group : group t size 0 ≡ []
-  unfolding group if◌then◌else◌
+  unfolding group provided◌then◌else◌
   no_group = refl
 
   past_group : (g : ℕ) → 5 < g → group t size g ≡ []

@@ -6,7 +6,7 @@
 -- `cross_rules`.
 -- Assumes nothing.
 use Rattle.std.specs.Prelude.{ℕ, ◌+◌, ◌*◌, ◌≤◌, ◌<◌, List, [], ◌∷◌, eqb}
-use Rattle.base.specs.If.{if◌then◌else◌, both}
+use Rattle.base.specs.If.{provided◌then◌else◌, both}
 use Rattle.base.specs.Broken.{Rule, first_broken}
 use Rattle.base.specs.Refusal as refusal
 use Rattle.lex_line.specs.Lines.{Raw, lines, Said, contents}
@@ -36,7 +36,7 @@ unfoldable pub forward_rules_at_lines : ℕ → List Said → State → List Rul
 forward_rules_at_lines n [] s = record { line = 0; rules = end_of_text_rules s } ∷ []
 forward_rules_at_lines n (l ∷ ls) s =
     record { line = n; rules = rules_on l.content s }
-    ∷ (if eqb (first_broken (rules_on l.content s)) 0
+    ∷ (provided eqb (first_broken (rules_on l.content s)) 0
     then forward_rules_at_lines (n + 1) ls (line_result l.content s).state
     else [])
 
@@ -47,11 +47,11 @@ forward = 3
 
 unfoldable pub group : List ℕ → ℕ → ℕ → List RulesAtLine
 group t size g =
-    if eqb g 1 then record { line = 0; rules = size_rules t } ∷ [] else
-    if eqb g 2 then character_rules_at_lines 1 (lines t) else
-    if eqb g forward then forward_rules_at_lines 1 (contents t) start_state else
-    if eqb g 4 then record { line = 0; rules = room_rules t size } ∷ [] else
-    if eqb g 5 then all_rules_at_lines (document_of t) else []
+    provided eqb g 1 then record { line = 0; rules = size_rules t } ∷ [] else
+    provided eqb g 2 then character_rules_at_lines 1 (lines t) else
+    provided eqb g forward then forward_rules_at_lines 1 (contents t) start_state else
+    provided eqb g 4 then record { line = 0; rules = room_rules t size } ∷ [] else
+    provided eqb g 5 then all_rules_at_lines (document_of t) else []
 
 -- a rule of group g is broken on a line
 abbrev pub Broken : List ℕ → ℕ → ℕ → ℕ → ℕ → Type 0
@@ -61,7 +61,7 @@ Broken t size g number line = BrokenIn (group t size g) number line
 
 -- "15 FORK .. goes before 9, 11 and 12": the rank of a rule among those of one line. In the forward group 15 comes between 8 and 9.
 unfoldable pub rank : ℕ → ℕ → ℕ
-rank g number = if both (eqb g forward) (eqb number refusal.fork) then 17 else 2 * number
+rank g number = provided both (eqb g forward) (eqb number refusal.fork) then 17 else 2 * number
 
 -- the rule is broken on the line; no rule of an earlier group is broken; "In each group the earliest line counts, line
 -- 0 last; on one line the lowest number"

@@ -10,7 +10,7 @@ use lib.ListN.{take, drop}
 use lib.Dec.{eqb}
 use borrow.Author.Tests.{ne_eqb}
 use Rattle.table_layout.specs.Codes.{diagonal, banded, sparse, full}
-use Rattle.base.specs.If.{if◌then◌else◌, both}
+use Rattle.base.specs.If.{provided◌then◌else◌, both}
 use Rattle.base.specs.Bytes.{bytes}
 use Rattle.base.proofs.IfLaws.{if_true, not_via}
 use Rattle.lex_number.specs.ValueWord.{zero_word}
@@ -47,11 +47,11 @@ lines_of cs = lines_from 1 0 place.matrix (map said_of cs)
 --     5
 unfoldable pub entry : ℕ → ℕ → ℕ
 entry i j =
-    if both (eqb i 1) (eqb j 1) then value_of (bytes "1") else
-    if both (eqb i 1) (eqb j 2) then value_of (bytes "2") else
-    if both (eqb i 2) (eqb j 2) then value_of (bytes "3") else
-    if both (eqb i 2) (eqb j 3) then value_of (bytes "4") else
-    if both (eqb i 3) (eqb j 3) then value_of (bytes "5") else zero_word
+    provided both (eqb i 1) (eqb j 1) then value_of (bytes "1") else
+    provided both (eqb i 1) (eqb j 2) then value_of (bytes "2") else
+    provided both (eqb i 2) (eqb j 2) then value_of (bytes "3") else
+    provided both (eqb i 2) (eqb j 3) then value_of (bytes "4") else
+    provided both (eqb i 3) (eqb j 3) then value_of (bytes "5") else zero_word
 
 abbrev full_lines : List Line
 full_lines = lines_of (bytes "[Row] 1" ∷ bytes "1 2" ∷ bytes "  0e9" ∷ bytes "[Row] 2" ∷ bytes "3   4 | a comment" ∷ bytes "| a line of comment" ∷ bytes "[Row] 3" ∷ bytes "5" ∷ [])
@@ -75,7 +75,7 @@ next_sparse :
 next_sparse v n i k r l body e low high key given zero pairs rest = subst (SparseRows v n i) (sym e) (SparseRows.next r low high key given zero pairs rest)
 
 full_rows : Rows entry 3 (λ (i : ℕ). 3 - i + 1) 1 full_lines
-unfolding lines_of entry along down d1.within d1.is_blank d1.is_digit d1.is_capital d1.is_small d1.is_letter d1.small d1.is_filled d1.is_before d1.is_content d3.if◌then◌else◌ d3.both d3.either d4.run d4.all d4.same d6.said d6.content_of d6.is_blank_line d7.word_goes_on d7.grown d7.words_from d7.back_run d7.last_end d9.value_of d9.is_integer d9.whole_of d10.is_sign d10.is_minus d10.is_point d10.is_e d10.past_sign d10.no_digits d10.digits_go_on d10.with_point d10.with_digit d10.with_byte d10.scan d10.no_exponent d10.exponent_at d10.exponent_of d10.power_in d10.scale_by d10.scale_of d10.raised d10.lowered d10.in_range d10.value_as d10.well_formed d10.number_from d10.digits_of d10.exponent_from d10.number_of d11.value_word d12.is_open d12.is_not_closing d12.is_separator d12.is_plain_byte d12.push d12.parted d12.is_hyphen_word d12.is_good_word d12.are_good_words d12.is_good_name d12.name_length d12.name_of d12.is_closed d12.is_good_bracket d12.argument_at d12.named_as d12.bracket_of d14.folded d14.same_name d14.name_index d14.keyword_of d14.is_later place.is_row_or_bandwidth place.leads_in_matrix place.moved place.moved_by_line d25.argument_from d31.given_by d31.named_by d34.key_at d34.place_after d34.lines_from d34.key_of d34.argument_of d41.is_plain d41.numbers_of
+unfolding lines_of entry along down d1.within d1.is_blank d1.is_digit d1.is_capital d1.is_small d1.is_letter d1.small d1.is_filled d1.is_before d1.is_content d3.provided◌then◌else◌ d3.both d3.either d4.run d4.all d4.same d6.said d6.content_of d6.is_blank_line d7.word_goes_on d7.grown d7.words_from d7.back_run d7.last_end d9.value_of d9.is_integer d9.whole_of d10.is_sign d10.is_minus d10.is_point d10.is_e d10.past_sign d10.no_digits d10.digits_go_on d10.with_point d10.with_digit d10.with_byte d10.scan d10.no_exponent d10.exponent_at d10.exponent_of d10.power_in d10.scale_by d10.scale_of d10.raised d10.lowered d10.in_range d10.value_as d10.well_formed d10.number_from d10.digits_of d10.exponent_from d10.number_of d11.value_word d12.is_open d12.is_not_closing d12.is_separator d12.is_plain_byte d12.push d12.parted d12.is_hyphen_word d12.is_good_word d12.are_good_words d12.is_good_name d12.name_length d12.name_of d12.is_closed d12.is_good_bracket d12.argument_at d12.named_as d12.bracket_of d14.folded d14.same_name d14.name_index d14.keyword_of d14.is_later place.is_row_or_bandwidth place.leads_in_matrix place.moved place.moved_by_line d25.argument_from d31.given_by d31.named_by d34.key_at d34.place_after d34.lines_from d34.key_of d34.argument_of d41.is_plain d41.numbers_of
 full_rows =
     next_row_lem entry 3 (λ (i : ℕ). 3 - i + 1) 1 2 _ full_lines refl (omega arith) refl refl (record { plainly = Each.more refl (Each.more refl Each.none); said = refl })
     (next_row_lem entry 3 (λ (i : ℕ). 3 - i + 1) 2 1 _ _ refl (omega arith) refl refl (record { plainly = Each.more refl Each.none; said = refl })
@@ -85,7 +85,7 @@ pub full_carried : Carries entry 3 full full_lines
 full_carried = fully full_rows
 
 banded_rows : Rows entry 3 (λ (i : ℕ). 1 + min 1 (3 - i)) 1 (drop 1 banded_lines)
-unfolding lines_of entry along down d1.within d1.is_blank d1.is_digit d1.is_capital d1.is_small d1.is_letter d1.small d1.is_filled d1.is_before d1.is_content d3.if◌then◌else◌ d3.both d3.either d4.run d4.all d4.same d6.said d6.content_of d6.is_blank_line d7.word_goes_on d7.grown d7.words_from d7.back_run d7.last_end d9.value_of d9.is_integer d9.whole_of d10.is_sign d10.is_minus d10.is_point d10.is_e d10.past_sign d10.no_digits d10.digits_go_on d10.with_point d10.with_digit d10.with_byte d10.scan d10.no_exponent d10.exponent_at d10.exponent_of d10.power_in d10.scale_by d10.scale_of d10.raised d10.lowered d10.in_range d10.value_as d10.well_formed d10.number_from d10.digits_of d10.exponent_from d10.number_of d11.value_word d12.is_open d12.is_not_closing d12.is_separator d12.is_plain_byte d12.push d12.parted d12.is_hyphen_word d12.is_good_word d12.are_good_words d12.is_good_name d12.name_length d12.name_of d12.is_closed d12.is_good_bracket d12.argument_at d12.named_as d12.bracket_of d14.folded d14.same_name d14.name_index d14.keyword_of d14.is_later place.is_row_or_bandwidth place.leads_in_matrix place.moved place.moved_by_line d25.argument_from d31.given_by d31.named_by d34.key_at d34.place_after d34.lines_from d34.key_of d34.argument_of d41.is_plain d41.numbers_of
+unfolding lines_of entry along down d1.within d1.is_blank d1.is_digit d1.is_capital d1.is_small d1.is_letter d1.small d1.is_filled d1.is_before d1.is_content d3.provided◌then◌else◌ d3.both d3.either d4.run d4.all d4.same d6.said d6.content_of d6.is_blank_line d7.word_goes_on d7.grown d7.words_from d7.back_run d7.last_end d9.value_of d9.is_integer d9.whole_of d10.is_sign d10.is_minus d10.is_point d10.is_e d10.past_sign d10.no_digits d10.digits_go_on d10.with_point d10.with_digit d10.with_byte d10.scan d10.no_exponent d10.exponent_at d10.exponent_of d10.power_in d10.scale_by d10.scale_of d10.raised d10.lowered d10.in_range d10.value_as d10.well_formed d10.number_from d10.digits_of d10.exponent_from d10.number_of d11.value_word d12.is_open d12.is_not_closing d12.is_separator d12.is_plain_byte d12.push d12.parted d12.is_hyphen_word d12.is_good_word d12.are_good_words d12.is_good_name d12.name_length d12.name_of d12.is_closed d12.is_good_bracket d12.argument_at d12.named_as d12.bracket_of d14.folded d14.same_name d14.name_index d14.keyword_of d14.is_later place.is_row_or_bandwidth place.leads_in_matrix place.moved place.moved_by_line d25.argument_from d31.given_by d31.named_by d34.key_at d34.place_after d34.lines_from d34.key_of d34.argument_of d41.is_plain d41.numbers_of
 banded_rows =
     next_row_lem entry 3 (λ (i : ℕ). 1 + min 1 (3 - i)) 1 2 _ (drop 1 banded_lines) refl (omega arith) refl refl (record { plainly = Each.more refl (Each.more refl Each.none); said = refl })
     (next_row_lem entry 3 (λ (i : ℕ). 1 + min 1 (3 - i)) 2 1 _ _ refl (omega arith) refl refl (record { plainly = Each.more refl Each.none; said = refl })
@@ -93,15 +93,15 @@ banded_rows =
 
 -- the corner is zero
 corner : (i j : ℕ) → i ≡ 1 → j ≡ 3 → entry i j ≡ zero_word
-unfolding entry d3.if◌then◌else◌ d3.both
+unfolding entry d3.provided◌then◌else◌ d3.both
 corner i j e f = (λ k. entry (e k) (f k)) ∙ refl
 
 pub banded_carried : Carries entry 3 banded banded_lines
-unfolding lines_of entry along down d1.within d1.is_blank d1.is_digit d1.is_capital d1.is_small d1.is_letter d1.small d1.is_filled d1.is_before d1.is_content d3.if◌then◌else◌ d3.both d3.either d4.run d4.all d4.same d6.said d6.content_of d6.is_blank_line d7.word_goes_on d7.grown d7.words_from d7.back_run d7.last_end d9.value_of d9.is_integer d9.whole_of d10.is_sign d10.is_minus d10.is_point d10.is_e d10.past_sign d10.no_digits d10.digits_go_on d10.with_point d10.with_digit d10.with_byte d10.scan d10.no_exponent d10.exponent_at d10.exponent_of d10.power_in d10.scale_by d10.scale_of d10.raised d10.lowered d10.in_range d10.value_as d10.well_formed d10.number_from d10.digits_of d10.exponent_from d10.number_of d11.value_word d12.is_open d12.is_not_closing d12.is_separator d12.is_plain_byte d12.push d12.parted d12.is_hyphen_word d12.is_good_word d12.are_good_words d12.is_good_name d12.name_length d12.name_of d12.is_closed d12.is_good_bracket d12.argument_at d12.named_as d12.bracket_of d14.folded d14.same_name d14.name_index d14.keyword_of d14.is_later place.is_row_or_bandwidth place.leads_in_matrix place.moved place.moved_by_line d25.argument_from d31.given_by d31.named_by d34.key_at d34.place_after d34.lines_from d34.key_of d34.argument_of d41.is_plain d41.numbers_of
+unfolding lines_of entry along down d1.within d1.is_blank d1.is_digit d1.is_capital d1.is_small d1.is_letter d1.small d1.is_filled d1.is_before d1.is_content d3.provided◌then◌else◌ d3.both d3.either d4.run d4.all d4.same d6.said d6.content_of d6.is_blank_line d7.word_goes_on d7.grown d7.words_from d7.back_run d7.last_end d9.value_of d9.is_integer d9.whole_of d10.is_sign d10.is_minus d10.is_point d10.is_e d10.past_sign d10.no_digits d10.digits_go_on d10.with_point d10.with_digit d10.with_byte d10.scan d10.no_exponent d10.exponent_at d10.exponent_of d10.power_in d10.scale_by d10.scale_of d10.raised d10.lowered d10.in_range d10.value_as d10.well_formed d10.number_from d10.digits_of d10.exponent_from d10.number_of d11.value_word d12.is_open d12.is_not_closing d12.is_separator d12.is_plain_byte d12.push d12.parted d12.is_hyphen_word d12.is_good_word d12.are_good_words d12.is_good_name d12.name_length d12.name_of d12.is_closed d12.is_good_bracket d12.argument_at d12.named_as d12.bracket_of d14.folded d14.same_name d14.name_index d14.keyword_of d14.is_later place.is_row_or_bandwidth place.leads_in_matrix place.moved place.moved_by_line d25.argument_from d31.given_by d31.named_by d34.key_at d34.place_after d34.lines_from d34.key_of d34.argument_of d41.is_plain d41.numbers_of
 banded_carried = in_a_band 1 refl refl banded_rows (λ (i j : ℕ) (low : 1 ≤ i) (far : i + 1 < j) (high : j ≤ 3). corner i j (omega arith) (omega arith))
 
 sparse_rows_lem : SparseRows entry 3 1 sparse_lines
-unfolding lines_of entry along down d1.within d1.is_blank d1.is_digit d1.is_capital d1.is_small d1.is_letter d1.small d1.is_filled d1.is_before d1.is_content d3.if◌then◌else◌ d3.both d3.either d4.run d4.all d4.same d6.said d6.content_of d6.is_blank_line d7.word_goes_on d7.grown d7.words_from d7.back_run d7.last_end d9.value_of d9.is_integer d9.whole_of d10.is_sign d10.is_minus d10.is_point d10.is_e d10.past_sign d10.no_digits d10.digits_go_on d10.with_point d10.with_digit d10.with_byte d10.scan d10.no_exponent d10.exponent_at d10.exponent_of d10.power_in d10.scale_by d10.scale_of d10.raised d10.lowered d10.in_range d10.value_as d10.well_formed d10.number_from d10.digits_of d10.exponent_from d10.number_of d11.value_word d12.is_open d12.is_not_closing d12.is_separator d12.is_plain_byte d12.push d12.parted d12.is_hyphen_word d12.is_good_word d12.are_good_words d12.is_good_name d12.name_length d12.name_of d12.is_closed d12.is_good_bracket d12.argument_at d12.named_as d12.bracket_of d14.folded d14.same_name d14.name_index d14.keyword_of d14.is_later place.is_row_or_bandwidth place.leads_in_matrix place.moved place.moved_by_line d25.argument_from d31.given_by d31.named_by d34.key_at d34.place_after d34.lines_from d34.key_of d34.argument_of d41.is_plain d41.numbers_of
+unfolding lines_of entry along down d1.within d1.is_blank d1.is_digit d1.is_capital d1.is_small d1.is_letter d1.small d1.is_filled d1.is_before d1.is_content d3.provided◌then◌else◌ d3.both d3.either d4.run d4.all d4.same d6.said d6.content_of d6.is_blank_line d7.word_goes_on d7.grown d7.words_from d7.back_run d7.last_end d9.value_of d9.is_integer d9.whole_of d10.is_sign d10.is_minus d10.is_point d10.is_e d10.past_sign d10.no_digits d10.digits_go_on d10.with_point d10.with_digit d10.with_byte d10.scan d10.no_exponent d10.exponent_at d10.exponent_of d10.power_in d10.scale_by d10.scale_of d10.raised d10.lowered d10.in_range d10.value_as d10.well_formed d10.number_from d10.digits_of d10.exponent_from d10.number_of d11.value_word d12.is_open d12.is_not_closing d12.is_separator d12.is_plain_byte d12.push d12.parted d12.is_hyphen_word d12.is_good_word d12.are_good_words d12.is_good_name d12.name_length d12.name_of d12.is_closed d12.is_good_bracket d12.argument_at d12.named_as d12.bracket_of d14.folded d14.same_name d14.name_index d14.keyword_of d14.is_later place.is_row_or_bandwidth place.leads_in_matrix place.moved place.moved_by_line d25.argument_from d31.given_by d31.named_by d34.key_at d34.place_after d34.lines_from d34.key_of d34.argument_of d41.is_plain d41.numbers_of
 sparse_rows_lem =
     next_sparse entry 3 1 2 1 _ sparse_lines refl (omega arith) (omega arith) refl refl (λ (a b : ℕ) (low : 1 ≤ a) (less : a < 1) (mid : a ≤ b) (high : b ≤ 3). absurd (omega arith))
     (Pairs.pair 1 (omega arith) (omega arith) refl refl refl (λ (k : ℕ) (low : 1 ≤ k) (less : k < 1). absurd (omega arith))
@@ -117,7 +117,7 @@ sparse_rows_lem =
     (SparseRows.ended (λ (a b : ℕ) (low : 4 ≤ a) (mid : a ≤ b) (high : b ≤ 3). absurd (omega arith)))))
 
 pub sparse_carried : Carries entry 3 sparse sparse_lines
-unfolding lines_of entry along down d1.within d1.is_blank d1.is_digit d1.is_capital d1.is_small d1.is_letter d1.small d1.is_filled d1.is_before d1.is_content d3.if◌then◌else◌ d3.both d3.either d4.run d4.all d4.same d6.said d6.content_of d6.is_blank_line d7.word_goes_on d7.grown d7.words_from d7.back_run d7.last_end d9.value_of d9.is_integer d9.whole_of d10.is_sign d10.is_minus d10.is_point d10.is_e d10.past_sign d10.no_digits d10.digits_go_on d10.with_point d10.with_digit d10.with_byte d10.scan d10.no_exponent d10.exponent_at d10.exponent_of d10.power_in d10.scale_by d10.scale_of d10.raised d10.lowered d10.in_range d10.value_as d10.well_formed d10.number_from d10.digits_of d10.exponent_from d10.number_of d11.value_word d12.is_open d12.is_not_closing d12.is_separator d12.is_plain_byte d12.push d12.parted d12.is_hyphen_word d12.is_good_word d12.are_good_words d12.is_good_name d12.name_length d12.name_of d12.is_closed d12.is_good_bracket d12.argument_at d12.named_as d12.bracket_of d14.folded d14.same_name d14.name_index d14.keyword_of d14.is_later place.is_row_or_bandwidth place.leads_in_matrix place.moved place.moved_by_line d25.argument_from d31.given_by d31.named_by d34.key_at d34.place_after d34.lines_from d34.key_of d34.argument_of d41.is_plain d41.numbers_of
+unfolding lines_of entry along down d1.within d1.is_blank d1.is_digit d1.is_capital d1.is_small d1.is_letter d1.small d1.is_filled d1.is_before d1.is_content d3.provided◌then◌else◌ d3.both d3.either d4.run d4.all d4.same d6.said d6.content_of d6.is_blank_line d7.word_goes_on d7.grown d7.words_from d7.back_run d7.last_end d9.value_of d9.is_integer d9.whole_of d10.is_sign d10.is_minus d10.is_point d10.is_e d10.past_sign d10.no_digits d10.digits_go_on d10.with_point d10.with_digit d10.with_byte d10.scan d10.no_exponent d10.exponent_at d10.exponent_of d10.power_in d10.scale_by d10.scale_of d10.raised d10.lowered d10.in_range d10.value_as d10.well_formed d10.number_from d10.digits_of d10.exponent_from d10.number_of d11.value_word d12.is_open d12.is_not_closing d12.is_separator d12.is_plain_byte d12.push d12.parted d12.is_hyphen_word d12.is_good_word d12.are_good_words d12.is_good_name d12.name_length d12.name_of d12.is_closed d12.is_good_bracket d12.argument_at d12.named_as d12.bracket_of d14.folded d14.same_name d14.name_index d14.keyword_of d14.is_later place.is_row_or_bandwidth place.leads_in_matrix place.moved place.moved_by_line d25.argument_from d31.given_by d31.named_by d34.key_at d34.place_after d34.lines_from d34.key_of d34.argument_of d41.is_plain d41.numbers_of
 sparse_carried = sparsely sparse_rows_lem (Names.later (Names.later (Names.later (Names.later (Names.later (Names.here refl))))))
 
 -- so each of the three forms writes the other two's numbers
@@ -129,8 +129,8 @@ written_alike i j low mid high =
 -- 6, 7, 8 down the diagonal
 unfoldable pub diagonal_entry : ℕ → ℕ → ℕ
 diagonal_entry i j =
-    if not (eqb i j) then zero_word else
-    if eqb i 1 then value_of (bytes "6") else if eqb i 2 then value_of (bytes "7") else if eqb i 3 then value_of (bytes "8") else zero_word
+    provided not (eqb i j) then zero_word else
+    provided eqb i 1 then value_of (bytes "6") else provided eqb i 2 then value_of (bytes "7") else provided eqb i 3 then value_of (bytes "8") else zero_word
 
 abbrev diagonal_lines : List Line
 diagonal_lines = lines_of (bytes "6 7.0" ∷ [] ∷ bytes " 8 | the last" ∷ [])
@@ -140,6 +140,6 @@ unfolding diagonal_entry
 off_diagonal i j h = if_true _ _ (not_via (ne_eqb i j (λ (e : i ≡ j). omega arith)))
 
 pub diagonal_carried : Carries diagonal_entry 3 diagonal diagonal_lines
-unfolding lines_of entry diagonal_entry along down d1.within d1.is_blank d1.is_digit d1.is_capital d1.is_small d1.is_letter d1.small d1.is_filled d1.is_before d1.is_content d3.if◌then◌else◌ d3.both d3.either d4.run d4.all d4.same d6.said d6.content_of d6.is_blank_line d7.word_goes_on d7.grown d7.words_from d7.back_run d7.last_end d9.value_of d9.is_integer d9.whole_of d10.is_sign d10.is_minus d10.is_point d10.is_e d10.past_sign d10.no_digits d10.digits_go_on d10.with_point d10.with_digit d10.with_byte d10.scan d10.no_exponent d10.exponent_at d10.exponent_of d10.power_in d10.scale_by d10.scale_of d10.raised d10.lowered d10.in_range d10.value_as d10.well_formed d10.number_from d10.digits_of d10.exponent_from d10.number_of d11.value_word d12.is_open d12.is_not_closing d12.is_separator d12.is_plain_byte d12.push d12.parted d12.is_hyphen_word d12.is_good_word d12.are_good_words d12.is_good_name d12.name_length d12.name_of d12.is_closed d12.is_good_bracket d12.argument_at d12.named_as d12.bracket_of d14.folded d14.same_name d14.name_index d14.keyword_of d14.is_later place.is_row_or_bandwidth place.leads_in_matrix place.moved place.moved_by_line d25.argument_from d31.given_by d31.named_by d34.key_at d34.place_after d34.lines_from d34.key_of d34.argument_of d41.is_plain d41.numbers_of
+unfolding lines_of entry diagonal_entry along down d1.within d1.is_blank d1.is_digit d1.is_capital d1.is_small d1.is_letter d1.small d1.is_filled d1.is_before d1.is_content d3.provided◌then◌else◌ d3.both d3.either d4.run d4.all d4.same d6.said d6.content_of d6.is_blank_line d7.word_goes_on d7.grown d7.words_from d7.back_run d7.last_end d9.value_of d9.is_integer d9.whole_of d10.is_sign d10.is_minus d10.is_point d10.is_e d10.past_sign d10.no_digits d10.digits_go_on d10.with_point d10.with_digit d10.with_byte d10.scan d10.no_exponent d10.exponent_at d10.exponent_of d10.power_in d10.scale_by d10.scale_of d10.raised d10.lowered d10.in_range d10.value_as d10.well_formed d10.number_from d10.digits_of d10.exponent_from d10.number_of d11.value_word d12.is_open d12.is_not_closing d12.is_separator d12.is_plain_byte d12.push d12.parted d12.is_hyphen_word d12.is_good_word d12.are_good_words d12.is_good_name d12.name_length d12.name_of d12.is_closed d12.is_good_bracket d12.argument_at d12.named_as d12.bracket_of d14.folded d14.same_name d14.name_index d14.keyword_of d14.is_later place.is_row_or_bandwidth place.leads_in_matrix place.moved place.moved_by_line d25.argument_from d31.given_by d31.named_by d34.key_at d34.place_after d34.lines_from d34.key_of d34.argument_of d41.is_plain d41.numbers_of
 diagonal_carried =
     diagonally (record { plainly = Each.more refl (Each.more refl Each.none); said = refl }) (λ (i j : ℕ) (low : 1 ≤ i) (far : i < j) (high : j ≤ 3). off_diagonal i j far)

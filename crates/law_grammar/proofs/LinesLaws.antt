@@ -12,7 +12,7 @@ use lib.ListN.{length}
 use lib.Dec.{eqb}
 use borrow.Author.Tests.{eq-eqb, ne_eqb, eqb-true, le-leb, not-false}
 use Rattle.table_layout.specs.Codes.{diagonal, banded, sparse, full}
-use Rattle.base.specs.If.{if◌then◌else◌, either}
+use Rattle.base.specs.If.{provided◌then◌else◌, either}
 use Rattle.base.specs.Broken.{first_broken}
 use Rattle.base.proofs.IfLaws.{if_true, if_false, by_cases, both_rest, either_left, either_none_first, either_none_second, not_via}
 use Rattle.base.proofs.BrokenLaws.{all_kept}
@@ -273,7 +273,7 @@ data BandedRead (last : Matrix) (end v : ℕ) (entries : List Entry) : Type 0 wh
   given : SetRead last end v (banded_set (width_of entries) (rows_of entries)) → BandedRead last end v entries
 
 no_band : (i v : ℕ) → is_wrong_row i (new_matrix banded v) ≡ true
-unfolding is_wrong_row new_matrix if◌then◌else◌ either
+unfolding is_wrong_row new_matrix provided◌then◌else◌ either
 no_band i v = refl
 
 banded_set_lem : {last : Matrix} {end : ℕ} (entries : List Entry) (v : ℕ) → Leads last end (new_matrix banded v) v entries → BandedRead last end v entries
@@ -339,7 +339,7 @@ module _ (last : Matrix) (end v : ℕ) (entries : List Entry) where
 pub lines_judged :
     {form : ℕ} (last : Matrix) (end v : ℕ) (entries : List Entry) → IsForm form → Leads last end (new_matrix form v) v entries → (known : ℕ) →
     FailsWith (is_wrong_shape last known end) (IsWhole known (set_of form entries))
-unfolding set_of if◌then◌else◌
+unfolding set_of provided◌then◌else◌
 lines_judged last end v entries IsForm.is_diagonal r known = set_judged last end v _ (diagonal_set_lem last end v entries r) known
 lines_judged last end v entries IsForm.is_banded r known = banded_judged last end v entries known (banded_set_lem entries v r)
 lines_judged last end v entries IsForm.is_sparse r known = set_judged last end v _ (sparse_set_lem last end v entries r) known
@@ -349,7 +349,7 @@ lines_judged last end v entries IsForm.is_full_lem r known = set_judged last end
 pub lines_conductors :
     {form n : ℕ} (last : Matrix) (end v : ℕ) (entries : List Entry) → IsForm form → Leads last end (new_matrix form v) v entries →
     HasShape n (set_of form entries) → shape_conductors last end ≡ n
-unfolding set_of if◌then◌else◌
+unfolding set_of provided◌then◌else◌
 lines_conductors last end v entries IsForm.is_diagonal r h = set_conductors last end v _ (diagonal_set_lem last end v entries r) h
 lines_conductors last end v entries IsForm.is_banded r h = banded_conductors last end v entries (banded_set_lem entries v r) h
 lines_conductors last end v entries IsForm.is_sparse r h = set_conductors last end v _ (sparse_set_lem last end v entries r) h

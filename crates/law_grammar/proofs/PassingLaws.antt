@@ -11,7 +11,7 @@ use lib.ListN.{get_or}
 use lib.Dec.{eqb}
 use borrow.Author.Tests.{eq-eqb, not-false}
 use Rattle.table_layout.specs.Bounds.{most_conductors}
-use Rattle.base.specs.If.{if◌then◌else◌, both, either}
+use Rattle.base.specs.If.{provided◌then◌else◌, both, either}
 use Rattle.base.specs.Broken.{first_broken}
 use Rattle.base.proofs.IfLaws.{if_true, if_false, both_rest, not_not_via}
 use Rattle.base.proofs.BrokenLaws.{sound, all_kept}
@@ -57,7 +57,7 @@ module _ (content : List ℕ) (s : State) (at : s.place ≡ place.path) where
       if_false _ _ (ap is_text at) ∙ if_false _ _ (ap (λ (p : ℕ). eqb p place.matrix) at) ∙ if_true _ _ (eq-eqb _ _ at)
 
   path_place : (line_next content s).place ≡ place.path
-  unfolding line_next moved_by_line if◌then◌else◌
+  unfolding line_next moved_by_line provided◌then◌else◌
   path_place = ap (λ (p : ℕ). moved_by_line p (first_of (words content))) at
 
   path_path : (line_next content s).path ≡ path_next (path_line_of content) s.path
@@ -66,7 +66,7 @@ module _ (content : List ℕ) (s : State) (at : s.place ≡ place.path) where
 
   path_steps : (line_next content s).counts.steps ≡ steps_after (path_line_of content) s.counts.steps
   unfolding line_next counts_after_line one_more_if steps_after
-  path_steps = ap (λ (b : Bool). if b then s.counts.steps + 1 else s.counts.steps) (both_rest _ _ (eq-eqb _ _ at))
+  path_steps = ap (λ (b : Bool). provided b then s.counts.steps + 1 else s.counts.steps) (both_rest _ _ (eq-eqb _ _ at))
 
 module _ (s : State) (at : s.place ≡ place.path) where
   fork_told : is_fork_open s ≡ path_open s.path
@@ -97,7 +97,7 @@ accepts_passes (content ∷ contents) s at (Accepts.reads kept a) =
 
 -- what [Tree Path Description] leaves
 pub opens_path : (argument : List ℕ) (s : State) → (keyword_next tree_path_description argument s).path ≡ new_path
-unfolding keyword_next path_after if◌then◌else◌
+unfolding keyword_next path_after provided◌then◌else◌
 opens_path argument s = refl
 
 -- from such a state on the lines pass exactly when they are a path
@@ -125,7 +125,7 @@ module _ (content : List ℕ) (s : State) (at : s.place ≡ place.matrix) where
   data_rules_lem = if_false _ _ (ap is_text at) ∙ if_true _ _ (eq-eqb _ _ at)
 
   data_stays : Stays s (line_next content s)
-  unfolding line_next moved_by_line if◌then◌else◌
+  unfolding line_next moved_by_line provided◌then◌else◌
   data_stays = record { place_is = ap (λ (p : ℕ). moved_by_line p (first_of (words content))) at; same_conductors = refl }
 
   data_matrix : (line_next content s).matrix ≡ data_next (data_line_of s.matrix.form content) s.matrix
@@ -142,15 +142,15 @@ module _ (argument : List ℕ) (s : State) (at : s.place ≡ place.matrix) where
   inside_conductors k e = if_false _ _ (not_not_via (eq-eqb _ _ at)) ∙ if_true _ _ e
 
   row_stays : Stays s (keyword_next row argument s)
-  unfolding keyword_next moved leads_in_matrix is_row_or_bandwidth section_after if◌then◌else◌ either
+  unfolding keyword_next moved leads_in_matrix is_row_or_bandwidth section_after provided◌then◌else◌ either
   row_stays = record { place_is = ap (λ (p : ℕ). moved p row) at; same_conductors = inside_conductors row refl }
 
   width_stays : Stays s (keyword_next bandwidth argument s)
-  unfolding keyword_next moved leads_in_matrix is_row_or_bandwidth section_after if◌then◌else◌ either
+  unfolding keyword_next moved leads_in_matrix is_row_or_bandwidth section_after provided◌then◌else◌ either
   width_stays = record { place_is = ap (λ (p : ℕ). moved p bandwidth) at; same_conductors = inside_conductors bandwidth refl }
 
   row_matrix : (keyword_next row argument s).matrix ≡ with_row (whole_of argument).value s.matrix s.counts.values
-  unfolding keyword_next matrix_after opens_matrix if◌then◌else◌ either
+  unfolding keyword_next matrix_after opens_matrix provided◌then◌else◌ either
   row_matrix = refl
 
   row_values : (keyword_next row argument s).counts.values ≡ s.counts.values
@@ -158,7 +158,7 @@ module _ (argument : List ℕ) (s : State) (at : s.place ≡ place.matrix) where
   row_values = refl
 
   width_matrix : (keyword_next bandwidth argument s).matrix ≡ with_bandwidth (whole_of argument).value s.matrix
-  unfolding keyword_next matrix_after opens_matrix if◌then◌else◌ either
+  unfolding keyword_next matrix_after opens_matrix provided◌then◌else◌ either
   width_matrix = refl
 
   width_values : (keyword_next bandwidth argument s).counts.values ≡ s.counts.values
@@ -176,11 +176,11 @@ module _ (argument : List ℕ) (s : State) (at : s.place ≡ place.matrix) where
     row_formed = not-false _ (row_kept 3)
 
     row_high : (whole_of argument).value ≤ most_conductors
-    unfolding is_out_of_bounds if◌then◌else◌
+    unfolding is_out_of_bounds provided◌then◌else◌
     row_high = whole_most 1 most_conductors argument (not-false _ (row_kept 4))
 
     row_judged : is_shape_broken row argument s ≡ both (whole_of argument).formed (is_wrong_row (whole_of argument).value s.matrix)
-    unfolding is_shape_broken is_matrix_broken is_wrong_in_matrix is_row_or_bandwidth if◌then◌else◌ either
+    unfolding is_shape_broken is_matrix_broken is_wrong_in_matrix is_row_or_bandwidth provided◌then◌else◌ either
     row_judged = if_true _ _ (eq-eqb _ _ at)
 
     row_ordered_lem : is_wrong_row (whole_of argument).value s.matrix ≡ false
@@ -193,7 +193,7 @@ module _ (argument : List ℕ) (s : State) (at : s.place ≡ place.matrix) where
         (omega arith, (omega arith, (omega arith, (omega arith, (omega arith, (omega arith, (omega arith, tt))))))) kept i
 
     width_judged : is_shape_broken bandwidth argument s ≡ is_wrong_bandwidth s.matrix
-    unfolding is_shape_broken is_matrix_broken is_wrong_in_matrix is_row_or_bandwidth if◌then◌else◌ either
+    unfolding is_shape_broken is_matrix_broken is_wrong_in_matrix is_row_or_bandwidth provided◌then◌else◌ either
     width_judged = if_true _ _ (eq-eqb _ _ at)
 
     width_ordered : is_wrong_bandwidth s.matrix ≡ false

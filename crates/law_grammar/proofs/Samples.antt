@@ -9,7 +9,7 @@ use native.Mathlib.Omega.{arith}
 use lib.ListN.{length}
 use Rattle.table_layout.specs.Codes.{banded, full}
 use Rattle.table_layout.specs.Bounds.{deepest, most_conductors}
-use Rattle.base.specs.If.{if◌then◌else◌, both, either}
+use Rattle.base.specs.If.{provided◌then◌else◌, both, either}
 use Rattle.line_path.specs.Path.{says_end, says_side, says_section, says_fork, says_endfork}
 use Rattle.line_matrix.specs.declared.Matrix.{Matrix}
 use Rattle.line_matrix.specs.Matrix.{new_matrix, is_wrong_bandwidth, with_bandwidth, in_row, stands_above, still_fits, with_row, is_shaped, is_wrong_shape, shape_conductors}
@@ -147,28 +147,28 @@ module _ (counts : List ℕ) (h : length counts ≤ most_conductors) where
   full_ordered = InOrder.full_order (rows_ordered counts 1 (new_matrix full 0) 0 (full_fixed 0 []) refl (omega arith))
 
   banded_ordered : (b : ℕ) → InOrder 0 (banded_set b (rows_from 1 counts))
-  unfolding new_matrix with_bandwidth is_wrong_bandwidth if◌then◌else◌ either
+  unfolding new_matrix with_bandwidth is_wrong_bandwidth provided◌then◌else◌ either
   banded_ordered b =
       InOrder.banded_order refl (rows_ordered counts 1 (with_bandwidth b (new_matrix banded 0)) 0 (banded_fixed 0 b []) refl (omega arith))
 
 -- the inductance matrix of the paper's example has rows of two numbers and of one: N is 2
 pub example_shape : HasShape 2 (full_set (rows_from 1 (2 ∷ 1 ∷ [])))
-unfolding closing numbers_in after_rows rows_count new_matrix with_row in_row stands_above still_fits is_shaped is_wrong_shape shape_conductors if◌then◌else◌ both either
+unfolding closing numbers_in after_rows rows_count new_matrix with_row in_row stands_above still_fits is_shaped is_wrong_shape shape_conductors provided◌then◌else◌ both either
 example_shape = (shape_alone (full_set (rows_from 1 (2 ∷ 1 ∷ []))) 0 (full_ordered (2 ∷ 1 ∷ []) (omega arith))).right refl
 
 -- "row i has N-i+1 numbers": a row that is one short has no shape
 pub no_short_row : IsWhole 0 (full_set (rows_from 1 (1 ∷ 1 ∷ []))) → ⊥
-unfolding closing numbers_in after_rows rows_count new_matrix with_row in_row stands_above still_fits is_shaped is_wrong_shape shape_conductors if◌then◌else◌ both either
+unfolding closing numbers_in after_rows rows_count new_matrix with_row in_row stands_above still_fits is_shaped is_wrong_shape shape_conductors provided◌then◌else◌ both either
 no_short_row = (shape_judged (full_set (rows_from 1 (1 ∷ 1 ∷ []))) 0 (full_ordered (1 ∷ 1 ∷ []) (omega arith)) 0).wrong refl
 
 -- "row i has 1+min(B, N-i)": for B 1 and N 3 two, two and one
 pub band_shape : HasShape 3 (banded_set 1 (rows_from 1 (2 ∷ 2 ∷ 1 ∷ [])))
-unfolding closing numbers_in after_rows rows_count new_matrix with_bandwidth with_row in_row stands_above still_fits is_shaped is_wrong_shape shape_conductors if◌then◌else◌ both either
+unfolding closing numbers_in after_rows rows_count new_matrix with_bandwidth with_row in_row stands_above still_fits is_shaped is_wrong_shape shape_conductors provided◌then◌else◌ both either
 band_shape = (shape_alone (banded_set 1 (rows_from 1 (2 ∷ 2 ∷ 1 ∷ []))) 0 (banded_ordered (2 ∷ 2 ∷ 1 ∷ []) (omega arith) 1)).right refl
 
 -- a wrong reading of the paper's list: "bandwidth as row width"
 pub no_row_width : IsWhole 0 (banded_set 1 (rows_from 1 (1 ∷ 1 ∷ 1 ∷ []))) → ⊥
-unfolding closing numbers_in after_rows rows_count new_matrix with_bandwidth with_row in_row stands_above still_fits is_shaped is_wrong_shape shape_conductors if◌then◌else◌ both either
+unfolding closing numbers_in after_rows rows_count new_matrix with_bandwidth with_row in_row stands_above still_fits is_shaped is_wrong_shape shape_conductors provided◌then◌else◌ both either
 no_row_width = (shape_judged (banded_set 1 (rows_from 1 (1 ∷ 1 ∷ 1 ∷ []))) 0 (banded_ordered (1 ∷ 1 ∷ 1 ∷ []) (omega arith) 1) 0).wrong refl
 
 -- "columns rising and not below the row. N is the greatest row or column named.": N is 3

@@ -13,7 +13,7 @@ use lib.Dec.{eqb}
 use borrow.Author.Tests.{eq-eqb, eqb-true, eqb-false, lt-leb, leb-false, not-false}
 use Rattle.table_layout.specs.Codes.{diagonal, banded, sparse, full}
 use Rattle.table_layout.specs.Bounds.{most_conductors}
-use Rattle.base.specs.If.{if◌then◌else◌, both, either}
+use Rattle.base.specs.If.{provided◌then◌else◌, both, either}
 use Rattle.base.proofs.IfLaws.{
   by_cases,
   both_true,
@@ -101,7 +101,7 @@ record Right (n : ℕ) (m : Matrix) (v : ℕ) : Type 0 where
 -- Diagonal_matrix
 module _ (v count : ℕ) where
   diagonal_conductors : shape_conductors (new_matrix diagonal v) (v + count) ≡ count
-  unfolding shape_conductors new_matrix if◌then◌else◌
+  unfolding shape_conductors new_matrix provided◌then◌else◌
   diagonal_conductors = omega arith
 
   diagonal_told : (new_matrix diagonal v).first < v + count → HasShape count (diagonal_set count)
@@ -111,13 +111,13 @@ module _ (v count : ℕ) where
       HasShape.diagonal_shape some
 
   diagonal_right : 1 ≤ count → Right count (new_matrix diagonal v) (v + count)
-  unfolding new_matrix is_shaped if◌then◌else◌
+  unfolding new_matrix is_shaped provided◌then◌else◌
   diagonal_right h = record { some = omega arith; shaped = refl; conductors = diagonal_conductors }
 
 -- Full_matrix
 module _ (v : ℕ) (rs : List Row) where
   pub full_fixed : Fixed (new_matrix full v)
-  unfolding new_matrix if◌then◌else◌
+  unfolding new_matrix provided◌then◌else◌
   full_fixed = record { not_down = λ (e : full ≡ diagonal). omega arith; not_sparse = λ (e : full ≡ sparse). omega arith; some = omega arith }
 
   full_unread : Unread (new_matrix full v) v
@@ -130,7 +130,7 @@ module _ (v : ℕ) (rs : List Row) where
 
   module _ (most : length rs ≤ most_conductors) where
     full_agree : (i : ℕ) → 1 ≤ i → i ≤ length rs → full_length (length rs) i ≡ min (new_matrix full v).band (length rs - i + 1)
-    unfolding full_length new_matrix if◌then◌else◌
+    unfolding full_length new_matrix provided◌then◌else◌
     full_agree i a b = omega arith
 
 -- Banded_matrix
@@ -287,7 +287,7 @@ module _ (s : LineSet) (v : ℕ) (o : InOrder v s) where
 
 -- a set that has a shape breaks no order
 pub shape_order : {n : ℕ} (s : LineSet) (v : ℕ) → HasShape n s → n ≤ most_conductors → InOrder v s
-unfolding is_wrong_bandwidth new_matrix both either if◌then◌else◌
+unfolding is_wrong_bandwidth new_matrix both either provided◌then◌else◌
 shape_order (diagonal_set count) v h most = InOrder.diagonal_order
 shape_order {n} (full_set rows) v (HasShape.full_shape h) most =
     InOrder.full_order (rows_order (new_matrix full v) v (full_fixed v rows) (full_unread v rows) rows full_length n h most)

@@ -10,7 +10,7 @@ use lib.ListN.{get_or}
 use lib.Dec.{leb, eqb, eqb-suc-zero}
 use borrow.Author.Tests.{eq-eqb, ne_eqb, eqb-true, leb-false, lt-leb, not-false}
 use Rattle.table_layout.specs.Bounds.{deepest, most_steps}
-use Rattle.base.specs.If.{if◌then◌else◌, both, either}
+use Rattle.base.specs.If.{provided◌then◌else◌, both, either}
 use Rattle.base.specs.Broken.{◌when◌, first, first_broken}
 use Rattle.base.specs.Refusal as refusal
 use Rattle.base.proofs.IfLaws.{if_false, by_cases, both_true, both_rest, both_not_left, both_not_right, both_first, both_second, either_false, either_none_first, not_not_via}
@@ -87,7 +87,7 @@ among_same e = ap (λ (depth : ℕ). path_at (among depth)) e
 
 module _ (r f b : Bool) where
   end_led : (s : Stand) → is_path_out_of_order (line_with says_end r f b) (path_at s) ≡ false → eqb (path_at s).stage closed ≡ false → Led s (line_with says_end r f b)
-  unfolding is_path_out_of_order path_next with_end if◌then◌else◌ both either
+  unfolding is_path_out_of_order path_next with_end provided◌then◌else◌ both either
   end_led fresh o c = record { to = begun true; moves = Moves.first_end_lem; next = refl }
   end_led (begun side) o c = absurd (true≢false o)
   end_led (among zero) o c = record { to = done true; moves = Moves.last_end; next = refl }
@@ -96,7 +96,7 @@ module _ (r f b : Bool) where
   end_led (done side) o c = absurd (true≢false c)
 
   side_led : (s : Stand) → is_path_out_of_order (line_with says_side r f b) (path_at s) ≡ false → Led s (line_with says_side r f b)
-  unfolding is_path_out_of_order path_next with_end if◌then◌else◌ both either
+  unfolding is_path_out_of_order path_next with_end provided◌then◌else◌ both either
   side_led fresh o = absurd (true≢false o)
   side_led (begun true) o = record { to = begun false; moves = Moves.first_side; next = refl }
   side_led (begun false) o = absurd (true≢false o)
@@ -107,7 +107,7 @@ module _ (r f b : Bool) where
   side_led (done false) o = absurd (true≢false o)
 
   section_led : (s : Stand) → is_path_out_of_order (line_with says_section r f b) (path_at s) ≡ false → eqb (path_at s).stage closed ≡ false → Led s (line_with says_section r f b)
-  unfolding is_path_out_of_order path_next with_end if◌then◌else◌ both either
+  unfolding is_path_out_of_order path_next with_end provided◌then◌else◌ both either
   section_led fresh o c = absurd (true≢false o)
   section_led (begun side) o c = record { to = among 0; moves = Moves.first_section; next = refl }
   section_led (among depth) o c = record { to = among depth; moves = Moves.section; next = refl }
@@ -115,7 +115,7 @@ module _ (r f b : Bool) where
   section_led (done side) o c = absurd (true≢false c)
 
   fork_led : (s : Stand) → is_bad_fork (line_with says_fork r f b) (path_at s) ≡ false → is_path_out_of_order (line_with says_fork r f b) (path_at s) ≡ false → eqb (path_at s).stage closed ≡ false → Led s (line_with says_fork r f b)
-  unfolding is_bad_fork is_path_out_of_order path_next with_end if◌then◌else◌ both either
+  unfolding is_bad_fork is_path_out_of_order path_next with_end provided◌then◌else◌ both either
   fork_led fresh k o c = absurd (true≢false o)
   fork_led (begun side) k o c = absurd (true≢false o)
   fork_led (among depth) k o c =
@@ -124,7 +124,7 @@ module _ (r f b : Bool) where
   fork_led (done side) k o c = absurd (true≢false c)
 
   endfork_led : (s : Stand) → is_bad_fork (line_with says_endfork r f b) (path_at s) ≡ false → eqb (path_at s).stage closed ≡ false → Led s (line_with says_endfork r f b)
-  unfolding is_bad_fork is_path_out_of_order path_next with_end if◌then◌else◌ both either
+  unfolding is_bad_fork is_path_out_of_order path_next with_end provided◌then◌else◌ both either
   endfork_led fresh k c = absurd (true≢false k)
   endfork_led (begun side) k c = absurd (true≢false k)
   endfork_led (among zero) k c = absurd (true≢false k)
@@ -147,7 +147,7 @@ module _ (r f b : Bool) where
       ∙ o))
 
   nothing_led : (s : Stand) → is_path_out_of_order (line_with zero r f b) (path_at s) ≡ false → Led s (line_with zero r f b)
-  unfolding is_path_out_of_order if◌then◌else◌
+  unfolding is_path_out_of_order provided◌then◌else◌
   nothing_led s o = absurd (true≢false o)
 
   led :
@@ -163,7 +163,7 @@ module _ (r f b : Bool) where
 
   -- a Side behind the last end
   closed_led : (says : ℕ) (side : Bool) → says ≡ says_side → side ≡ true → Led (done side) (line_with says r f b)
-  unfolding is_path_out_of_order if◌then◌else◌
+  unfolding is_path_out_of_order provided◌then◌else◌
   closed_led says side e t = rw (e, t) (side_led (done true) refl)
 
 -- a line that is taken: where it leads, that it is right in itself, and that there is room for its step. A Side behind the
@@ -233,7 +233,7 @@ record Ordered (s : Stand) (l : PathLine) : Type 0 where
 
 module _ (r f b : Bool) where
   ordered : {s t : Stand} {says : ℕ} → Moves s says t → Ordered s (line_with says r f b)
-  unfolding is_bad_fork is_path_out_of_order if◌then◌else◌ both either
+  unfolding is_bad_fork is_path_out_of_order provided◌then◌else◌ both either
   ordered Moves.first_end_lem = record { fork_fits = refl; in_order = refl }
   ordered Moves.first_side = record { fork_fits = refl; in_order = refl }
   ordered Moves.first_section = record { fork_fits = refl; in_order = refl }
@@ -247,7 +247,7 @@ module _ (r f b : Bool) where
   ordered Moves.last_side = record { fork_fits = refl; in_order = refl }
 
   next_stand : {s t : Stand} {says : ℕ} → Moves s says t → path_next (line_with says r f b) (path_at s) ≡ path_at t
-  unfolding path_next with_end if◌then◌else◌
+  unfolding path_next with_end provided◌then◌else◌
   next_stand Moves.first_end_lem = refl
   next_stand Moves.first_side = refl
   next_stand Moves.first_section = refl

@@ -9,7 +9,7 @@ use native.Mathlib.Omega.{arith}
 use lib.ListN.{get_or}
 use lib.Dec.{eqb}
 use borrow.Author.Tests.{eq-eqb, ne_eqb, eqb-true, eqb-false, not-false}
-use Rattle.base.specs.If.{if◌then◌else◌, both, either}
+use Rattle.base.specs.If.{provided◌then◌else◌, both, either}
 use Rattle.base.specs.Bytes.{bytes, within}
 use Rattle.base.specs.Runs.{same}
 use Rattle.base.specs.Broken.{Rule, ◌when◌}
@@ -133,15 +133,15 @@ ordered m h k = within_is 1 2 m.order h k
 
 module _ (l : MapLine) (m : Map) where
   order_taken : l.says ≡ says_order → map_next l m ≡ record { order = l.value; rows = m.rows; columns = m.columns; pins = m.pins }
-  unfolding map_next if◌then◌else◌
+  unfolding map_next provided◌then◌else◌
   order_taken e = rw e
 
   rows_taken : l.says ≡ says_rows → map_next l m ≡ record { order = m.order; rows = l.value; columns = m.columns; pins = m.pins }
-  unfolding map_next if◌then◌else◌
+  unfolding map_next provided◌then◌else◌
   rows_taken e = rw e
 
   columns_taken : l.says ≡ says_columns → map_next l m ≡ record { order = m.order; rows = m.rows; columns = l.value; pins = m.pins }
-  unfolding map_next if◌then◌else◌
+  unfolding map_next provided◌then◌else◌
   columns_taken e = rw e
 
   none_taken : eqb l.says says_order ≡ false → eqb l.says says_rows ≡ false → eqb l.says says_columns ≡ false → map_next l m ≡ m
@@ -171,25 +171,25 @@ module _ (l : MapLine) (m : Map) where
 
     -- "repeated or out of order 12"
     order_first : l.says ≡ says_order → m.order ≡ 0
-    unfolding is_map_out_of_order if◌then◌else◌
+    unfolding is_map_out_of_order provided◌then◌else◌
     order_first e =
         let z : not (eqb m.order 0) ≡ false = rw e at in_order in
         eqb-true _ _ (not-false _ z)
 
     rows_ordered : l.says ≡ says_rows → is_ordered m ≡ true
-    unfolding is_map_out_of_order if◌then◌else◌
+    unfolding is_map_out_of_order provided◌then◌else◌
     rows_ordered e =
         let z : either (not (is_ordered m)) (not (eqb m.rows 0)) ≡ false = rw e at in_order in
         not-false _ (either_none_first _ _ z)
 
     columns_ordered : l.says ≡ says_columns → is_ordered m ≡ true
-    unfolding is_map_out_of_order if◌then◌else◌
+    unfolding is_map_out_of_order provided◌then◌else◌
     columns_ordered e =
         let z : either (not (is_ordered m)) (not (eqb m.columns 0)) ≡ false = rw e at in_order in
         not-false _ (either_none_first _ _ z)
 
     list_ready : l.says ≡ says_pin_list → either (eqb m.order 0) (both (is_ordered m) (either (eqb m.rows 0) (eqb m.columns 0))) ≡ false
-    unfolding is_map_out_of_order if◌then◌else◌
+    unfolding is_map_out_of_order provided◌then◌else◌
     list_ready e = rw e at in_order
 
     module _ (told : Told l) (g : Growing m) where

@@ -9,7 +9,7 @@ use native.Mathlib.Omega.{arith}
 use lib.ListN.{length}
 use lib.Dec.{eqb}
 use borrow.Author.Tests.{eq-eqb, ne_eqb, eqb-true}
-use Rattle.base.specs.If.{if◌then◌else◌, both, either}
+use Rattle.base.specs.If.{provided◌then◌else◌, both, either}
 use Rattle.base.specs.Bytes.{bytes}
 use Rattle.base.specs.Runs.{same}
 use Rattle.base.proofs.IfLaws.{if_true, if_false, by_cases, both_true, both_first, both_second, both_not_left, both_not_right, either_left, either_right, either_false, either_rest, either_none_first, either_none_second}
@@ -96,11 +96,11 @@ module _ (content : List ℕ) (s : State) where
     pins_rule = rule_pins content s p
 
     pins_stay : (line_next content s).place ≡ place.pin_list
-    unfolding line_next moved_by_line if◌then◌else◌
+    unfolding line_next moved_by_line provided◌then◌else◌
     pins_stay = rw p
 
     pins_next : (line_next content s).map ≡ with_pin s.map
-    unfolding line_next if◌then◌else◌
+    unfolding line_next provided◌then◌else◌
     pins_next = rw p
 
   module _ (p : s.place ≡ place.map_head) where
@@ -108,15 +108,15 @@ module _ (content : List ℕ) (s : State) where
     head_rule_lem = rule_map content s p
 
     head_next_lem : (line_next content s).map ≡ map_next (map_line_of content) s.map
-    unfolding line_next if◌then◌else◌
+    unfolding line_next provided◌then◌else◌
     head_next_lem = rw p
 
     head_stays : same (first_of (words content)) (bytes "Pin_list") ≡ false → (line_next content s).place ≡ place.map_head
-    unfolding line_next moved_by_line if◌then◌else◌
+    unfolding line_next moved_by_line provided◌then◌else◌
     head_stays e = rw (p, e)
 
     head_leads : same (first_of (words content)) (bytes "Pin_list") ≡ true → (line_next content s).place ≡ place.pin_list
-    unfolding line_next moved_by_line if◌then◌else◌
+    unfolding line_next moved_by_line provided◌then◌else◌
     head_leads e = rw (p, e)
 
 -- a keyword that breaks no rule
@@ -127,14 +127,14 @@ module _ (k : ℕ) (argument : List ℕ) (s : State) (kept : keyword_rule k argu
 
   -- a map above its Pin_list is not closed by a keyword
   head_refuses : s.place ≡ place.map_head → ⊥
-  unfolding is_unclosed if◌then◌else◌
+  unfolding is_unclosed provided◌then◌else◌
   head_refuses p =
       let z : true ≡ false = rw p at closes_whole in
       true≢false z
 
   -- below it the map is closed with pins that fit
   pins_fit : s.place ≡ place.pin_list → Fits s.map
-  unfolding is_unclosed is_shape_broken both if◌then◌else◌
+  unfolding is_unclosed is_shape_broken both provided◌then◌else◌
   pins_fit p =
       let lack : pins_lack s.map ≡ false = rw p at closes_whole in
       let wrong : is_wrong_grid s.map ≡ false = rw p at (keyword_shaped k argument s kept) in
@@ -296,7 +296,7 @@ record Led : Type 0 where
   pins : moved place.pin_list icm_pin_map ≡ place.map_head
 
 led : Led
-unfolding moved leads_in_family is_in_model is_in_family either if◌then◌else◌
+unfolding moved leads_in_family is_in_model is_in_family either provided◌then◌else◌
 led = record { family = refl; family_text = refl; list = refl; map_head = refl; pins = refl }
 
 -- "pin maps anywhere outside models"

@@ -5,7 +5,7 @@ use mathlib.Core.Bool.{true, false}
 use mathlib.Core.List.{List, [], ◌∷◌}
 use Prim.Native.Nat.{ℕ, ◌≤◌, ◌<◌}
 use native.Mathlib.Omega.{arith}
-use Rattle.base.specs.If.{if◌then◌else◌}
+use Rattle.base.specs.If.{provided◌then◌else◌}
 use Rattle.base.proofs.IfLaws.{by_test}
 use Rattle.lex_line.specs.Words.{words, second_of}
 use Rattle.line_place.specs.Place as place
@@ -60,7 +60,7 @@ head_few : (h : Head) (ls : List Line) → h.kind ≤ 3 → (head_in h ls).kind 
 unfolding head_in
 head_few h [] k = k
 head_few h (l ∷ ls) k =
-    head_few (if stands_in place.head l then head_next (head_line_of l.content) h else h) ls
+    head_few (provided stands_in place.head l then head_next (head_line_of l.content) h else h) ls
     (by_test (λ (x : Head). x.kind ≤ 3) (stands_in place.head l) _ _
     (λ (e : stands_in place.head l ≡ true). next_few (head_line_of l.content) h (line_few l.content) k)
     (λ (e : stands_in place.head l ≡ false). k))

@@ -9,7 +9,7 @@ use lib.ListN.{length, get_or, set, length-set}
 use lib.Seq.{get_or-set_same}
 use lib.Dec.{eqb}
 use borrow.Author.Tests.{eqb-true, ne_eqb}
-use Rattle.base.specs.If.{if◌then◌else◌, either}
+use Rattle.base.specs.If.{provided◌then◌else◌, either}
 use Rattle.base.proofs.IfLaws.{if_true, if_false, by_test, by_cases, both_rest, either_left, either_right, either_rest, either_none_first, either_none_second}
 use Rattle.lex_keyword.specs.Names.{
   resistance_matrix,
@@ -94,12 +94,12 @@ by_kind P r l g c k e =
 -- the keyword of a kind
 unfoldable key_for : ℕ → ℕ
 key_for kind =
-    if eqb kind 0 then resistance_matrix else
-    if eqb kind 1 then inductance_matrix else
-    if eqb kind 2 then conductance_matrix else capacitance_matrix
+    provided eqb kind 0 then resistance_matrix else
+    provided eqb kind 1 then inductance_matrix else
+    provided eqb kind 2 then conductance_matrix else capacitance_matrix
 
 key_back : (k : ℕ) → opens_matrix k ≡ true → key_for (kind_of k) ≡ k
-unfolding key_for kind_of if◌then◌else◌
+unfolding key_for kind_of provided◌then◌else◌
 key_back k e = by_kind (λ (n : ℕ). key_for (kind_of n) ≡ n) refl refl refl refl k e
 
 key_known : (k : ℕ) → opens_matrix k ≡ true → k < 40
@@ -212,7 +212,7 @@ is_inside p = either (eqb p place.section_head) (either (eqb p place.section) (e
 
 -- no model and no section begins there
 none_begins : (p : ℕ) → is_inside p ≡ true → (moved p begin_icm_model ≡ dead) × (moved p begin_icm_section ≡ dead)
-unfolding moved is_in_model is_in_family is_in_header place.leads_in_matrix place.leads_in_section opens_matrix is_row_or_bandwidth either if◌then◌else◌
+unfolding moved is_in_model is_in_family is_in_header place.leads_in_matrix place.leads_in_section opens_matrix is_row_or_bandwidth either provided◌then◌else◌
 none_begins p h =
     by_cases ((moved p begin_icm_model ≡ dead) × (moved p begin_icm_section ≡ dead)) (eqb p place.section_head)
     (λ (a : eqb p place.section_head ≡ true). at place.section_head (eqb-true _ _ a) (refl, refl))

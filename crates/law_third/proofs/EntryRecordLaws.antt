@@ -13,7 +13,7 @@ use Rattle.table_record.specs.Records.{no_section, no_matrix, range}
 use Rattle.table_record.specs.declared.Value.{Value}
 use Rattle.table_record.specs.declared.MatrixRecord.{MatrixRecord}
 use Rattle.table_record.specs.declared.SectionRecord.{SectionRecord}
-use Rattle.base.specs.If.{if◌then◌else◌, both}
+use Rattle.base.specs.If.{provided◌then◌else◌, both}
 use Rattle.base.specs.Bytes.{within}
 use Rattle.base.proofs.IfLaws.{if_true, if_false, by_cases, both_true}
 use Rattle.lex_number.specs.ValueWord.{zero_word}
@@ -32,7 +32,7 @@ use Rattle.doc.proofs.CountLaws.{sections_long_lem}
 -- what the first matrix of a kind gives; zero if there is none
 unfoldable pub given_at : ℕ → ℕ → ℕ → List Matrix → ℕ
 given_at kind i j [] = zero_word
-given_at kind i j (m ∷ ms) = if eqb m.kind kind then found_at i j m.values else given_at kind i j ms
+given_at kind i j (m ∷ ms) = provided eqb m.kind kind then found_at i j m.values else given_at kind i j ms
 
 module _ (kind i j : ℕ) where
   pub given_none : given_at kind i j [] ≡ zero_word
@@ -65,7 +65,7 @@ word_found : (i j : ℕ) (vs : List Value) → word_at i j vs ≡ found_at i j v
 unfolding word_at found_at
 word_found i j [] = refl
 word_found i j (v ∷ vs) =
-    ap (λ (n : ℕ). if both (eqb v.row i) (eqb v.column j) then v.word else n) (word_found i j vs)
+    ap (λ (n : ℕ). provided both (eqb v.row i) (eqb v.column j) then v.word else n) (word_found i j vs)
 
 -- ---- records by their index
 

@@ -6,7 +6,7 @@ use mathlib.Core.Bool.{false, true≢false}
 use mathlib.Core.List.{List, [], ◌∷◌}
 use Prim.Native.Nat.{ℕ}
 use Rattle.table_layout.specs.Codes.{end_kind, section_kind}
-use Rattle.base.specs.If.{if◌then◌else◌, both}
+use Rattle.base.specs.If.{provided◌then◌else◌, both}
 use Rattle.base.specs.Bytes.{bytes, is_before}
 use Rattle.base.specs.Runs.{same}
 use Rattle.base.proofs.RunLaws.{same_refl}
@@ -32,19 +32,19 @@ first_left content w ws h e = ap first_of (left_by_words content ∙ ap cut_left
 
 module _ (content : List ℕ) where
   first_end_lem : {name : List ℕ} → words content ≡ bytes "Model_pinmap" ∷ name ∷ [] → first_of (left_of content) ≡ bytes "Model_pinmap"
-  unfolding has_sign is_before if◌then◌else◌
+  unfolding has_sign is_before provided◌then◌else◌
   first_end_lem {name} e = first_left content (bytes "Model_pinmap") (name ∷ []) refl e
 
   first_side : {name : List ℕ} → words content ≡ bytes "Side" ∷ name ∷ [] → first_of (left_of content) ≡ bytes "Side"
-  unfolding has_sign is_before if◌then◌else◌
+  unfolding has_sign is_before provided◌then◌else◌
   first_side {name} e = first_left content (bytes "Side") (name ∷ []) refl e
 
   first_fork : words content ≡ bytes "Fork" ∷ [] → first_of (left_of content) ≡ bytes "Fork"
-  unfolding has_sign is_before if◌then◌else◌
+  unfolding has_sign is_before provided◌then◌else◌
   first_fork e = first_left content (bytes "Fork") [] refl e
 
   first_endfork : words content ≡ bytes "Endfork" ∷ [] → first_of (left_of content) ≡ bytes "Endfork"
-  unfolding has_sign is_before if◌then◌else◌
+  unfolding has_sign is_before provided◌then◌else◌
   first_endfork e = first_left content (bytes "Endfork") [] refl e
 
 -- ---- the side

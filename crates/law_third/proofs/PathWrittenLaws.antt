@@ -10,7 +10,7 @@ use lib.ListN.{length, drop, get_or}
 use lib.Dec.{eqb}
 use borrow.Author.Tests.{eqb-true, eqb-false, not-false}
 use Rattle.table_layout.specs.Codes.{end_kind, section_kind, fork_kind, endfork_kind}
-use Rattle.base.specs.If.{if◌then◌else◌, both, either}
+use Rattle.base.specs.If.{provided◌then◌else◌, both, either}
 use Rattle.base.specs.Bytes.{bytes, is_before}
 use Rattle.base.specs.Runs.{same}
 use Rattle.base.specs.Broken.{◌when◌, first}
@@ -84,7 +84,7 @@ named_words l w n e = two_words (words l.content) w n e ∙ ap (λ (x : List ℕ
 
 -- Section is the first word before the `=` too
 section_signless : has_sign (bytes "Section") ≡ false
-unfolding has_sign is_before if◌then◌else◌
+unfolding has_sign is_before provided◌then◌else◌
 section_signless = refl
 
 left_section : (ws : List (List ℕ)) → first_of ws ≡ bytes "Section" → first_of (cut_left ws) ≡ bytes "Section"
@@ -130,7 +130,7 @@ side_word w k (is_side_lem e f) z = f
 side_word w k (is_nothing e) z = absurd (omega arith)
 
 side_says : saying_of (bytes "Side") ≡ path.says_side
-unfolding saying_of same both if◌then◌else◌
+unfolding saying_of same both provided◌then◌else◌
 side_says = refl
 
 -- ---- a line that breaks no rule of a path
@@ -206,23 +206,23 @@ module _ (content : List ℕ) (r : Ruled content) where
   right_said k e = ap (λ (n : ℕ). (line_saying n content).right) (sym e) ∙ line_right (path_line_of content) r.path r.steps r.kept
 
   end_two : says ≡ path.says_end → length (words content) ≡ 2
-  unfolding line_saying plain_line if◌then◌else◌ either names_one
+  unfolding line_saying plain_line provided◌then◌else◌ either names_one
   end_two e = eqb-true _ _ (both_first _ _ (right_said path.says_end e))
 
   side_two : says ≡ path.says_side → length (words content) ≡ 2
-  unfolding line_saying plain_line if◌then◌else◌ either names_one
+  unfolding line_saying plain_line provided◌then◌else◌ either names_one
   side_two e = eqb-true _ _ (both_first _ _ (right_said path.says_side e))
 
   fork_one : says ≡ path.says_fork → length (words content) ≡ 1
-  unfolding line_saying plain_line if◌then◌else◌ either
+  unfolding line_saying plain_line provided◌then◌else◌ either
   fork_one e = eqb-true _ _ (right_said path.says_fork e)
 
   endfork_one : says ≡ path.says_endfork → length (words content) ≡ 1
-  unfolding line_saying plain_line if◌then◌else◌ either
+  unfolding line_saying plain_line provided◌then◌else◌ either
   endfork_one e = eqb-true _ _ (right_said path.says_endfork e)
 
   section_line_lem : says ≡ path.says_section → path_line_of content ≡ section_line content
-  unfolding path_line_of line_saying if◌then◌else◌
+  unfolding path_line_of line_saying provided◌then◌else◌
   section_line_lem e = rw e
 
   section_two : says ≡ path.says_section → SectionKept content
@@ -309,23 +309,23 @@ fork_step kind l = record { kind = kind; name = no_word; mult = false; amount = 
 
 module _ (l : Line) (after : List Line) where
   end_step_lem : saying_at l ≡ path.says_end → step_of l after ≡ end_step l after ∷ []
-  unfolding step_of if◌then◌else◌
+  unfolding step_of provided◌then◌else◌
   end_step_lem e = rw e
 
   section_step_lem : saying_at l ≡ path.says_section → step_of l after ≡ section_step l ∷ []
-  unfolding step_of if◌then◌else◌
+  unfolding step_of provided◌then◌else◌
   section_step_lem e = rw e
 
   fork_step_lem : saying_at l ≡ path.says_fork → step_of l after ≡ fork_step fork_kind l ∷ []
-  unfolding step_of if◌then◌else◌
+  unfolding step_of provided◌then◌else◌
   fork_step_lem e = rw e
 
   endfork_step : saying_at l ≡ path.says_endfork → step_of l after ≡ fork_step endfork_kind l ∷ []
-  unfolding step_of if◌then◌else◌
+  unfolding step_of provided◌then◌else◌
   endfork_step e = rw e
 
   side_step : saying_at l ≡ path.says_side → step_of l after ≡ []
-  unfolding step_of if◌then◌else◌
+  unfolding step_of provided◌then◌else◌
   side_step e = rw e
 
 -- ---- the amount

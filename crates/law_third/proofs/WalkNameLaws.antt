@@ -11,7 +11,7 @@ use lib.Dec.{eqb}
 use borrow.Author.Tests.{eqb-true, eqb-false, eq-eqb, ne_eqb}
 use Rattle.table_record.specs.Records.{no_section, no_map}
 use Rattle.table_layout.specs.Codes.{end_kind, section_kind}
-use Rattle.base.specs.If.{if◌then◌else◌}
+use Rattle.base.specs.If.{provided◌then◌else◌}
 use Rattle.base.proofs.IfLaws.{if_true, if_false, by_test, by_cases, both_second}
 use Rattle.base.proofs.RunLaws.{same_equal}
 use Rattle.line_path.specs.Path as path
@@ -183,11 +183,11 @@ module _ (t : List ℕ) (m : Model) (s : Step) (kept : step_rule (document_of t)
   name_shown =
       by_test (λ (n : List ℕ). n ≡ s.name.text) (eqb s.kind end_kind) _ _
       (λ (e : eqb s.kind end_kind ≡ true).
-      rw (if_true (map_index d s) (if eqb s.kind section_kind then section_index d s else 0) e) (end_name (eqb-true _ _ e)))
+      rw (if_true (map_index d s) (provided eqb s.kind section_kind then section_index d s else 0) e) (end_name (eqb-true _ _ e)))
       (λ (e : eqb s.kind end_kind ≡ false).
       by_test (λ (n : List ℕ). n ≡ s.name.text) (eqb s.kind section_kind) _ _
       (λ (f : eqb s.kind section_kind ≡ true).
-      rw (if_false (map_index d s) (if eqb s.kind section_kind then section_index d s else 0) e, if_true (section_index d s) 0 f) (section_step_name (eqb-true _ _ f)))
+      rw (if_false (map_index d s) (provided eqb s.kind section_kind then section_index d s else 0) e, if_true (section_index d s) 0 f) (section_step_name (eqb-true _ _ f)))
       (λ (f : eqb s.kind section_kind ≡ false). sym (nameless (eqb-false _ _ e) (eqb-false _ _ f))))
 
   -- the section that a step passes

@@ -14,7 +14,7 @@ use Rattle.table_record.specs.Records.{Records, records_of, no_section, no_model
 use Rattle.table_record.specs.declared.StepRecord.{StepRecord}
 use Rattle.table_record.specs.declared.ModelRecord.{ModelRecord}
 use Rattle.table_layout.specs.Codes.{end_kind, section_kind}
-use Rattle.base.specs.If.{if◌then◌else◌, both}
+use Rattle.base.specs.If.{provided◌then◌else◌, both}
 use Rattle.base.specs.Runs.{same}
 use Rattle.base.proofs.IfLaws.{if_true, if_false, by_cases, both_true, both_first, both_second, either_none_first, either_none_second, not_not_via}
 use Rattle.base.proofs.RunLaws.{same_refl, same_equal}
@@ -62,7 +62,7 @@ module _ {A B : Type 0} {Rel : A → B → Type 0} where
   all2_index : (f : A → Bool) (g : B → Bool) → ((x : A) (y : B) → Rel x y → f x ≡ g y) → {xs : List A} {ys : List B} → All2 Rel xs ys → index_of f xs ≡ index_of g ys
   unfolding index_of
   all2_index f g e All2.none = refl
-  all2_index f g e (All2.more {x} {y} h hs) = λ j. if e x y h j then zero else suc (all2_index f g e hs j)
+  all2_index f g e (All2.more {x} {y} h hs) = λ j. provided e x y h j then zero else suc (all2_index f g e hs j)
 
 -- ---- the map of an end is the only one of its name
 
@@ -202,11 +202,11 @@ module _ (t u : List ℕ) (kept : (cross_rule (document_of t)).rule ≡ 0) (also
     same_target : target_of d.maps d.sections s ≡ target_of e.maps e.sections z
     unfolding target_of
     same_target =
-        (λ j. if eqb s.kind end_kind then map_index d s else if eqb (h.kind j) section_kind then section_target j else 0)
-        ∙ by_cases ((if eqb s.kind end_kind then map_index d s else if eqb z.kind section_kind then section_index e z else 0) ≡ (if eqb s.kind end_kind then map_index e z else if eqb z.kind section_kind then section_index e z else 0)) (eqb s.kind end_kind)
+        (λ j. provided eqb s.kind end_kind then map_index d s else provided eqb (h.kind j) section_kind then section_target j else 0)
+        ∙ by_cases ((provided eqb s.kind end_kind then map_index d s else provided eqb z.kind section_kind then section_index e z else 0) ≡ (provided eqb s.kind end_kind then map_index e z else provided eqb z.kind section_kind then section_index e z else 0)) (eqb s.kind end_kind)
         (λ (k : eqb s.kind end_kind ≡ true). if_true _ _ k ∙ end_target (eqb-true _ _ k) ∙ sym (if_true _ _ k))
         (λ (k : eqb s.kind end_kind ≡ false). if_false _ _ k ∙ sym (if_false _ _ k))
-        ∙ (λ j. if eqb (h.kind j) end_kind then map_index e z else if eqb z.kind section_kind then section_index e z else 0)
+        ∙ (λ j. provided eqb (h.kind j) end_kind then map_index e z else provided eqb z.kind section_kind then section_index e z else 0)
 
     same_step : StepStands t s → StepStands u z → SameStepRecord t u (step_record d.maps d.sections s) (step_record e.maps e.sections z)
     unfolding step_record name_at
@@ -265,8 +265,8 @@ module _ (t u : List ℕ) (kept : (cross_rule (document_of t)).rule ≡ 0) (also
   same_name : (v w : StepRecord) → v.kind ≡ w.kind → v.target ≡ w.target → name_through t (flatten d) v ≡ name_through u (flatten e) w
   unfolding name_through
   same_name v w k g =
-      (λ j. if eqb v.kind end_kind then map_names v.target j else if eqb v.kind section_kind then section_names v.target j else [])
-      ∙ (λ j. if eqb (k j) end_kind then name_at u (get_or (flatten e).maps (g j) no_map).start (get_or (flatten e).maps (g j) no_map).size else if eqb (k j) section_kind then name_at u (get_or (flatten e).sections (g j) no_section).start (get_or (flatten e).sections (g j) no_section).size else [])
+      (λ j. provided eqb v.kind end_kind then map_names v.target j else provided eqb v.kind section_kind then section_names v.target j else [])
+      ∙ (λ j. provided eqb (k j) end_kind then name_at u (get_or (flatten e).maps (g j) no_map).start (get_or (flatten e).maps (g j) no_map).size else provided eqb (k j) section_kind then name_at u (get_or (flatten e).sections (g j) no_section).start (get_or (flatten e).sections (g j) no_section).size else [])
 
   -- ---- places
 
@@ -301,9 +301,9 @@ module _ (t u : List ℕ) (kept : (cross_rule (document_of t)).rule ≡ 0) (also
 module _ {t table u other : List ℕ} where
   by_two :
       (b c : Bool) → b ≡ c → (v v' w w' : WalkWords) → SameAnswer t table u other v w → SameAnswer t table u other v' w' →
-      SameAnswer t table u other (if b then v else v') (if c then w else w')
+      SameAnswer t table u other (provided b then v else v') (provided c then w else w')
   by_two b c e v v' w w' h k =
-      by_cases (SameAnswer t table u other (if b then v else v') (if c then w else w')) b
+      by_cases (SameAnswer t table u other (provided b then v else v') (provided c then w else w')) b
       (λ (f : b ≡ true). rw (if_true v v' f, if_true w w' (sym e ∙ f)) h)
       (λ (f : b ≡ false). rw (if_false v v' f, if_false w w' (sym e ∙ f)) k)
 

@@ -7,7 +7,7 @@
 use Rattle.std.specs.Prelude.{ℕ, zero, suc, ◌+◌, ◌≤◌, ◌<◌, min, max, ◌≡◌, true, false, List, [], ◌∷◌, ◌++◌, map, length, get_or, eqb}
 use Rattle.table_record.specs.Records.{Records, records_of, no_section, no_map}
 use Rattle.table_layout.specs.Codes.{end_kind, section_kind, fork_kind, endfork_kind}
-use Rattle.base.specs.If.{if◌then◌else◌}
+use Rattle.base.specs.If.{provided◌then◌else◌}
 use Rattle.lex_number.specs.ValueWord.{zero_word}
 use Rattle.doc.specs.Lines.{Line, key_of, significant, up_to}
 use Rattle.doc.specs.Document.{Step, Model, Matrix, Section, document_of, conductors_of, kind_of, matrix_of, opens_matrix_at, in_matrix}
@@ -41,8 +41,8 @@ walked_to t table model (suc k) = (walk.walk_answer t table (walked_to t table m
 -- the bytes of the name that a step refers to by its target, a map or a section; forks have no name
 unfoldable pub name_through : List ℕ → Records → StepRecord → List ℕ
 name_through t r w =
-    if eqb w.kind end_kind then name_at t (get_or r.maps w.target no_map).start (get_or r.maps w.target no_map).size else
-    if eqb w.kind section_kind then name_at t (get_or r.sections w.target no_section).start (get_or r.sections w.target no_section).size else []
+    provided eqb w.kind end_kind then name_at t (get_or r.maps w.target no_map).start (get_or r.maps w.target no_map).size else
+    provided eqb w.kind section_kind then name_at t (get_or r.sections w.target no_section).start (get_or r.sections w.target no_section).size else []
 
 -- the bytes of the step's side
 unfoldable pub side_of : List ℕ → StepRecord → List ℕ

@@ -8,7 +8,7 @@ use native.Mathlib.Omega.{arith}
 use lib.ListN.{length, drop, length-drop}
 use lib.Dec.{eqb, ltb}
 use borrow.Author.Tests.{eqb-false, ltb-true, ltb-false, not-true, not-false}
-use Rattle.base.specs.If.{if◌then◌else◌, both}
+use Rattle.base.specs.If.{provided◌then◌else◌, both}
 use Rattle.base.specs.Bytes.{is_blank, small, is_capital, within}
 use Rattle.base.specs.Runs.{run, same}
 use Rattle.base.proofs.IfLaws.{if_true, by_test, both_first, not_via}
@@ -160,5 +160,5 @@ module _ (content : List ℕ) where
 
 -- the number of each of the forty names is its index: no two of them are the same
 pub each_name : map keyword_of names ≡ 0 ∷ 1 ∷ 2 ∷ 3 ∷ 4 ∷ 5 ∷ 6 ∷ 7 ∷ 8 ∷ 9 ∷ 10 ∷ 11 ∷ 12 ∷ 13 ∷ 14 ∷ 15 ∷ 16 ∷ 17 ∷ 18 ∷ 19 ∷ 20 ∷ 21 ∷ 22 ∷ 23 ∷ 24 ∷ 25 ∷ 26 ∷ 27 ∷ 28 ∷ 29 ∷ 30 ∷ 31 ∷ 32 ∷ 33 ∷ 34 ∷ 35 ∷ 36 ∷ 37 ∷ 38 ∷ 39 ∷ []
-unfolding keyword_of name_index same_name same folded if◌then◌else◌ both small is_capital within
+unfolding keyword_of name_index same_name same folded provided◌then◌else◌ both small is_capital within
 each_name = refl

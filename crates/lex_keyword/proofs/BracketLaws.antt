@@ -9,7 +9,7 @@ use native.Mathlib.Omega.{arith}
 use lib.ListN.{length, take, drop, get_or}
 use lib.Dec.{eqb}
 use borrow.Author.Tests.{eq-eqb, ne_eqb, lt-ltb, le-ltb, ltb-true, not-true, not-false}
-use Rattle.base.specs.If.{if◌then◌else◌}
+use Rattle.base.specs.If.{provided◌then◌else◌}
 use Rattle.base.specs.Bytes.{is_blank, is_letter, is_before}
 use Rattle.base.specs.Way.Class.{run_end}
 use Rattle.base.specs.Runs.{run}
@@ -92,7 +92,7 @@ module _ (content : List ℕ) (front first : ℕ) (told : front ≡ run_end is_b
 
     -- and the position of the first `]` after it
     module _ (column : front ≤ 0) (end : ℕ) (t : Bool) (ends : end ≡ run_end (is_before 93) content 1) (closed : t ≡ closes_at content end) where
-      reads_column : bracket_of content ≡ (if not (is_good_bracket content) then Bad else named_as (keyword_of (name_of content)) (argument_at content))
+      reads_column : bracket_of content ≡ (provided not (is_good_bracket content) then Bad else named_as (keyword_of (name_of content)) (argument_at content))
       unfolding bracket_of
       reads_column = if_false _ _ open_true ∙ if_false _ _ (le-ltb 0 (run is_blank content) (rw front_run at column))
 

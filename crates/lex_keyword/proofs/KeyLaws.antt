@@ -12,7 +12,7 @@ use lib.ListN.{length, drop, get_or, length-map}
 use lib.Seq.{drop-cons}
 use lib.Dec.{ltb, leb}
 use borrow.Author.Tests.{ltb-true, ltb-false, leb-true, lt-ltb}
-use Rattle.base.specs.If.{if◌then◌else◌, both}
+use Rattle.base.specs.If.{provided◌then◌else◌, both}
 use Rattle.base.specs.Runs.{same}
 use Rattle.base.proofs.IfLaws.{if_true, if_false, by_cases, both_first, both_second}
 use Rattle.base.proofs.RunLaws.{same_equal}
@@ -160,7 +160,7 @@ module _ (a : List ℕ) where
 
 -- no name is longer than 22 bytes
 pub too_long : (name : List ℕ) → 22 < length name → 40 ≡ keyword_of name
-unfolding keyword_of shorter if◌then◌else◌ name_index
+unfolding keyword_of shorter provided◌then◌else◌ name_index
 too_long name h = place_skips name 23 names h
 
 -- the state of the search: the names from `key` on give the result

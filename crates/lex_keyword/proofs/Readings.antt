@@ -5,7 +5,7 @@
 use mathlib.Core.Path.{◌≡◌, refl}
 use mathlib.Core.List.{List, [], ◌∷◌, ◌++◌, map}
 use Prim.Native.Nat.{ℕ}
-use Rattle.base.specs.If.{both, either, if◌then◌else◌}
+use Rattle.base.specs.If.{both, either, provided◌then◌else◌}
 use Rattle.base.specs.Bytes.{bytes, tab, small, is_capital, is_small, is_letter, is_digit, is_blank, within}
 use Rattle.base.specs.Runs.{run, all, same}
 use Rattle.lex_keyword.specs.Names.{folded, same_name, name_index, keyword_of, is_later, the_end, row, icm_ver, begin_header, end_header, manufacturer}
@@ -83,5 +83,5 @@ readings =
 
 pub each_reading : map (λ (r : Reading). bracket_of r.content) readings ≡ map (λ (r : Reading). r.says) readings
 unfolding
-    if◌then◌else◌ both either small is_capital is_small is_letter is_digit is_blank within run all same folded same_name name_index keyword_of is_later is_open is_not_closing is_separator is_plain_byte push parted is_hyphen_word is_good_word are_good_words is_good_name name_length name_of is_closed is_good_bracket argument_at named_as bracket_of
+    provided◌then◌else◌ both either small is_capital is_small is_letter is_digit is_blank within run all same folded same_name name_index keyword_of is_later is_open is_not_closing is_separator is_plain_byte push parted is_hyphen_word is_good_word are_good_words is_good_name name_length name_of is_closed is_good_bracket argument_at named_as bracket_of
 each_reading = refl

@@ -9,7 +9,7 @@ use native.Mathlib.Omega.{arith}
 use lib.ListN.{length, take, drop, get_or}
 use lib.Seq.{drop-cons}
 use borrow.Author.Tests.{eqb-true, le-ltb}
-use Rattle.base.specs.If.{both, either, if◌then◌else◌}
+use Rattle.base.specs.If.{both, either, provided◌then◌else◌}
 use Rattle.base.specs.Bytes.{is_blank, is_letter, is_capital, is_small, is_digit, within, small, is_before}
 use Rattle.base.specs.Way.Class.{run_end}
 use Rattle.base.specs.Runs.{run, all, same}
@@ -23,12 +23,12 @@ use Rattle.lex_keyword.proofs.BracketLaws.{closes_before, reads_name}
 -- the name `Row`, whatever its argument
 row_says : (argument : ℕ) → Keyword row argument ≡ says_name (82 ∷ 111 ∷ 119 ∷ []) argument
 unfolding
-    if◌then◌else◌ both either small is_capital is_small is_letter is_digit within all same folded same_name name_index keyword_of is_later is_separator is_plain_byte push parted is_hyphen_word is_good_word are_good_words is_good_name named_as says_name
+    provided◌then◌else◌ both either small is_capital is_small is_letter is_digit within all same folded same_name name_index keyword_of is_later is_separator is_plain_byte push parted is_hyphen_word is_good_word are_good_words is_good_name named_as says_name
 row_says argument = refl
 
 -- its first `]` comes after three bytes
 row_run : (rest : List ℕ) → run (is_before 93) (82 ∷ 111 ∷ 119 ∷ 93 ∷ rest) ≡ 3
-unfolding run is_before if◌then◌else◌
+unfolding run is_before provided◌then◌else◌
 row_run rest = refl
 
 -- fewer than five bytes are no `[Row]`

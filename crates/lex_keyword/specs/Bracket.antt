@@ -3,7 +3,7 @@
 -- Assumes nothing.
 use Rattle.std.specs.Prelude.{ℕ, ◌+◌, Bool, true, not, List, [], ◌∷◌, length, take, drop, get_or, leb, ltb, eqb}
 use Prim.Native.Char.{code}
-use Rattle.base.specs.If.{if◌then◌else◌, both, either}
+use Rattle.base.specs.If.{provided◌then◌else◌, both, either}
 use Rattle.base.specs.Bytes.{bytes, is_blank, is_digit, is_letter}
 use Rattle.base.specs.Runs.{run, all}
 use Rattle.lex_keyword.specs.Names.{same_name, keyword_of, is_later, unknown}
@@ -33,7 +33,7 @@ push b (w ∷ ws) = (b ∷ w) ∷ ws
 -- the words of a keyword: the bytes between its separators; a word may be empty
 unfoldable pub parted : List ℕ → List (List ℕ)
 parted [] = [] ∷ []
-parted (b ∷ s) = if is_separator b then [] ∷ parted s else push b (parted s)
+parted (b ∷ s) = provided is_separator b then [] ∷ parted s else push b (parted s)
 
 -- "in S-parameter the hyphen"
 unfoldable pub is_hyphen_word : List ℕ → Bool
@@ -72,13 +72,13 @@ argument_at content = name_length content + 2 + run is_blank (drop (name_length 
 
 -- 7 for a "keyword not of 000", 8 for a "later keyword above", else the keyword and where its argument starts
 unfoldable pub named_as : ℕ → ℕ → Bracket
-named_as key argument = if eqb key unknown then Unknown else if is_later key then Later else Keyword key argument
+named_as key argument = provided eqb key unknown then Unknown else provided is_later key then Later else Keyword key argument
 
 -- Plain if the first non-blank byte is no `[`; Indented for "A first non-blank `[` outside column 1 is 6, except in a
 -- text block"; Bad for a bad bracket, which is 6; else what the bracket names
 unfoldable pub bracket_of : List ℕ → Bracket
 bracket_of content =
-    if not (is_open (get_or content (run is_blank content) 0)) then Plain else
-    if ltb 0 (run is_blank content) then Indented else
-    if not (is_good_bracket content) then Bad else
+    provided not (is_open (get_or content (run is_blank content) 0)) then Plain else
+    provided ltb 0 (run is_blank content) then Indented else
+    provided not (is_good_bracket content) then Bad else
     named_as (keyword_of (name_of content)) (argument_at content)

@@ -3,13 +3,13 @@
 -- that 000 uses in passing (K9).
 -- Assumes nothing.
 use Rattle.std.specs.Prelude.{ℕ, zero, suc, Bool, List, [], ◌∷◌, map, eqb}
-use Rattle.base.specs.If.{if◌then◌else◌, either}
+use Rattle.base.specs.If.{provided◌then◌else◌, either}
 use Rattle.base.specs.Bytes.{bytes, small}
 use Rattle.base.specs.Runs.{same}
 
 -- a byte of a keyword as it is compared: "one space or underscore, which are equal; case does not count"
 unfoldable pub folded : ℕ → ℕ
-folded b = if eqb b 95 then 32 else small b
+folded b = provided eqb b 95 then 32 else small b
 
 unfoldable pub same_name : List ℕ → List ℕ → Bool
 same_name a b = same (map folded a) (map folded b)
@@ -61,7 +61,7 @@ names =
 -- the index of the first name that is the same; if none is, the length of the list
 unfoldable pub name_index : List ℕ → List (List ℕ) → ℕ
 name_index a [] = zero
-name_index a (n ∷ ns) = if same_name a n then zero else suc (name_index a ns)
+name_index a (n ∷ ns) = provided same_name a n then zero else suc (name_index a ns)
 
 -- the number of the keyword with this name; `unknown` for a "keyword not of 000"
 unfoldable pub keyword_of : List ℕ → ℕ

@@ -12,7 +12,7 @@ use lib.Seq.{get_or-drop, get_or-take, length-take-le, take-suc, get_or-append_s
 use lib.Dec.{ltb, eqb}
 use borrow.Author.Tests.{eqb-true, eqb-false, eq-eqb, ne_eqb, lt-ltb, le-ltb, ltb-true, ltb-false, not-false}
 use borrow.Author.Count.{below_more}
-use Rattle.base.specs.If.{if◌then◌else◌, both, either}
+use Rattle.base.specs.If.{provided◌then◌else◌, both, either}
 use Rattle.base.specs.Bytes.{line_feed, carriage_return, within, is_printed, is_before}
 use Rattle.base.specs.Runs.{run, all}
 use Rattle.base.specs.Way.Class.{run_end}
@@ -90,7 +90,7 @@ printed_before_feed b e = not_via (ne_eqb _ _ (printed_not b e line_feed feed_no
 
 -- ---- a line without its CR
 
-without_one : (b : ℕ) → without_return (b ∷ []) ≡ (if eqb b carriage_return then [] else b ∷ [])
+without_one : (b : ℕ) → without_return (b ∷ []) ≡ (provided eqb b carriage_return then [] else b ∷ [])
 unfolding without_return
 without_one b = refl
 
@@ -269,7 +269,7 @@ module _ (u : List ℕ) (h : stop_of u < length u) (e : get_or u (stop_of u) 0 �
 judged_number : (k n : ℕ) (x y : Checked) → (k ≡ 0 → x ≡ y) → refused_or k n x ≡ refused_or k n y
 unfolding refused_or
 judged_number k n x y h =
-    by_cases _ (eqb k 0) (λ (e : eqb k 0 ≡ true). ap (λ (z : Checked). if eqb k 0 then z else Refused k n) (h (eqb-true _ _ e)))
+    by_cases _ (eqb k 0) (λ (e : eqb k 0 ≡ true). ap (λ (z : Checked). provided eqb k 0 then z else Refused k n) (h (eqb-true _ _ e)))
     (λ (e : eqb k 0 ≡ false). if_false _ _ e ∙ sym (if_false _ _ e))
 
 rules_cons : (n : ℕ) (l : Raw) (ls : List Raw) → lines_rule n (l ∷ ls) ≡ refused_or (raw_line_rule l) n (lines_rule (n + 1) ls)
@@ -437,9 +437,9 @@ unfolding byte_rules
 size_gives t k e = ap (λ (j : ℕ). refused_or j 0 (lines_rule 1 (lines t))) (sym e)
 
 pub size_refused : (t : List ℕ) → most_bytes < length t → Refused refusal.size 0 ≡ byte_rules t
-unfolding refused_or if◌then◌else◌
+unfolding refused_or provided◌then◌else◌
 size_refused t h = size_gives t refusal.size (first_broken_lem _ _ _ (lt-ltb _ _ h))
 
 pub size_fine : (t : List ℕ) → length t ≤ most_bytes → lines_rule 1 (lines (drop 0 t)) ≡ byte_rules t
-unfolding refused_or if◌then◌else◌
+unfolding refused_or provided◌then◌else◌
 size_fine t h = size_gives t 0 (first_kept _ _ _ _ (le-ltb _ _ h) refl)

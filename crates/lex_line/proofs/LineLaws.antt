@@ -10,7 +10,7 @@ use lib.ListN.{length, take, drop, get_or, length-drop, drop_of_length-le, get_o
 use lib.Seq.{drop-drop, take-take, length-take-le}
 use lib.Dec.{ltb, eqb, leb-suc-suc}
 use borrow.Author.Tests.{not-true, ne_eqb, lt-ltb, le-ltb, ltb-true, ltb-false}
-use Rattle.base.specs.If.{if◌then◌else◌}
+use Rattle.base.specs.If.{provided◌then◌else◌}
 use Rattle.base.specs.Bytes.{line_feed, is_before, is_content}
 use Rattle.base.specs.Runs.{run}
 use Rattle.base.specs.Way.Class.{run_end}
@@ -124,7 +124,7 @@ first_of u = record { bytes = take (run (is_before line_feed) u) u; ended = ltb 
 abbrev rest_of : List ℕ → List ℕ
 rest_of u = drop (suc (run (is_before line_feed) u)) u
 
-lines_cons : (b : ℕ) (v : List ℕ) → lines (b ∷ v) ≡ (if eqb b line_feed then record { bytes = []; ended = true } ∷ lines v else pushed b (lines v))
+lines_cons : (b : ℕ) (v : List ℕ) → lines (b ∷ v) ≡ (provided eqb b line_feed then record { bytes = []; ended = true } ∷ lines v else pushed b (lines v))
 unfolding lines
 lines_cons b v = refl
 

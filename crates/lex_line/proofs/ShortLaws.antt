@@ -13,7 +13,7 @@ use lib.ListN.{length, take, drop, get_or, length-drop}
 use lib.Seq.{drop-cons, drop-drop, take-suc, get_or-drop, take_all}
 use lib.Dec.{eqb}
 use borrow.Author.Tests.{ne_eqb, eqb-true, eqb-false, not-false}
-use Rattle.base.specs.If.{if◌then◌else◌, both}
+use Rattle.base.specs.If.{provided◌then◌else◌, both}
 use Rattle.base.specs.Runs.{run, all}
 use Rattle.base.specs.Way.Class.{run_end}
 use Rattle.base.specs.Bytes.{is_printed, is_before}
@@ -261,16 +261,16 @@ module _ (u : List ℕ) (line : ℕ) where
           order = omega arith;
         })
 
-    pub running_on : (next : ℕ) → next ≡ (if eqb ends 0 then mark else (here + 16)) → Running (count + ends) next (here + 16)
+    pub running_on : (next : ℕ) → next ≡ (provided eqb ends 0 then mark else (here + 16)) → Running (count + ends) next (here + 16)
     running_on next is =
         by_cases _ (eqb ends 0)
         (λ (e : eqb ends 0 ≡ true). rw (is ∙ if_true _ _ e) (block_none (eqb-true _ _ e)))
         (λ (e : eqb ends 0 ≡ false). rw (is ∙ if_false _ _ e) (block_some (eqb-false _ _ e)))
 
-    pub running_order : (next : ℕ) → next ≡ (if eqb ends 0 then mark else (here + 16)) → next ≤ here + 16
+    pub running_order : (next : ℕ) → next ≡ (provided eqb ends 0 then mark else (here + 16)) → next ≤ here + 16
     running_order next is = (running_on next is).order
 
-    pub running_ends : (next : ℕ) → next ≡ (if eqb ends 0 then mark else (here + 16)) →
+    pub running_ends : (next : ℕ) → next ≡ (provided eqb ends 0 then mark else (here + 16)) →
         (next ≤ length u) × ResumesLines u 0 line (next - back_run (is_before 10) u next) (count + ends)
     running_ends next is = running_passes (count + ends) next (here + 16) (running_on next is)
 

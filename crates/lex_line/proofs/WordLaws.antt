@@ -11,7 +11,7 @@ use lib.ListN.{length, take, drop, get_or, length-drop, drop_of_length-le}
 use lib.Seq.{drop-drop, get_or-drop, take-suc, take-nil}
 use lib.Dec.{ltb}
 use borrow.Author.Tests.{not-true, not-false, ltb-true, ltb-false}
-use Rattle.base.specs.If.{if◌then◌else◌}
+use Rattle.base.specs.If.{provided◌then◌else◌}
 use Rattle.base.specs.Bytes.{is_blank, is_filled}
 use Rattle.base.specs.Runs.{run}
 use Rattle.base.specs.Way.Class.{run_end}
@@ -30,7 +30,7 @@ blank_not : (b : ℕ) → is_blank b ≡ false → is_filled b ≡ true
 unfolding is_filled
 blank_not b e = not_via e
 
-words_cons : (a b : ℕ) (s : List ℕ) → words_from a (b ∷ s) ≡ (if is_blank b then words_from (suc a) s else if word_goes_on s then grown a b (words_from (suc a) s) else record { start = a; text = b ∷ [] } ∷ words_from (suc a) s)
+words_cons : (a b : ℕ) (s : List ℕ) → words_from a (b ∷ s) ≡ (provided is_blank b then words_from (suc a) s else provided word_goes_on s then grown a b (words_from (suc a) s) else record { start = a; text = b ∷ [] } ∷ words_from (suc a) s)
 unfolding words_from
 words_cons a b s = refl
 

@@ -1,7 +1,7 @@
 -- Document 01, "Numbers of refusal": rules 1 to 4, judged over all lines of a text.
 -- Assumes nothing.
 use Rattle.std.specs.Prelude.{ℕ, ◌+◌, not, List, [], ◌∷◌, length, ltb, eqb}
-use Rattle.base.specs.If.{if◌then◌else◌}
+use Rattle.base.specs.If.{provided◌then◌else◌}
 use Rattle.base.specs.Bytes.{carriage_return, is_printed}
 use Rattle.base.specs.Runs.{all}
 use Rattle.base.specs.Broken.{Rule, ◌when◌, first_broken}
@@ -21,12 +21,12 @@ most_characters = 120
 -- the bytes without a CR at their end
 unfoldable pub without_return : List ℕ → List ℕ
 without_return [] = []
-without_return (b ∷ []) = if eqb b carriage_return then [] else b ∷ []
+without_return (b ∷ []) = provided eqb b carriage_return then [] else b ∷ []
 without_return (b ∷ c ∷ s) = b ∷ without_return (c ∷ s)
 
 -- the characters of a line: its bytes without the terminator, "LF, or CR right before LF"
 unfoldable pub characters : Raw → List ℕ
-characters l = if l.ended then without_return l.bytes else l.bytes
+characters l = provided l.ended then without_return l.bytes else l.bytes
 
 -- a byte that no line may contain, a long line, a last line without LF
 abbrev pub character_rules : Raw → List Rule
@@ -41,7 +41,7 @@ raw_line_rule l = first_broken (character_rules l)
 
 -- refused with rule k at line n; if k is 0, the result of the later lines
 unfoldable pub refused_or : ℕ → ℕ → Checked → Checked
-refused_or k n later = if eqb k 0 then later else Refused k n
+refused_or k n later = provided eqb k 0 then later else Refused k n
 
 -- "2 to 4 over all lines .. the earliest line counts; on one line the lowest number"
 unfoldable pub lines_rule : ℕ → List Raw → Checked

@@ -2,7 +2,7 @@
 -- Assumes nothing.
 use Rattle.std.specs.Prelude.{ℕ, Bool, true, false, List, [], ◌∷◌, map, length, take, eqb}
 use Prim.Native.Char.{code}
-use Rattle.base.specs.If.{if◌then◌else◌}
+use Rattle.base.specs.If.{provided◌then◌else◌}
 use Rattle.base.specs.Bytes.{line_feed, is_blank, is_content}
 use Rattle.base.specs.Runs.{run, all}
 
@@ -19,7 +19,7 @@ pushed b (l ∷ ls) = record { bytes = b ∷ l.bytes; ended = l.ended } ∷ ls
 -- the lines of a text, each up to its LF; the empty text has none
 unfoldable pub lines : List ℕ → List Raw
 lines [] = []
-lines (b ∷ t) = if eqb b line_feed then record { bytes = []; ended = true } ∷ lines t else pushed b (lines t)
+lines (b ∷ t) = provided eqb b line_feed then record { bytes = []; ended = true } ∷ lines t else pushed b (lines t)
 
 -- "From `|` on, a line is comment"
 abbrev pub comment_byte : ℕ

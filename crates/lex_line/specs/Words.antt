@@ -2,7 +2,7 @@
 -- Assumes nothing.
 use Rattle.std.specs.Prelude.{ℕ, suc, ◌+◌, ◌-◌, Bool, false, List, [], ◌∷◌, map, reverse, length, take, drop, ltb}
 use Prim.Native.Char.{code}
-use Rattle.base.specs.If.{if◌then◌else◌}
+use Rattle.base.specs.If.{provided◌then◌else◌}
 use Rattle.base.specs.Bytes.{is_blank, is_before, is_filled}
 use Rattle.base.specs.Runs.{run}
 
@@ -25,8 +25,8 @@ grown at b (w ∷ ws) = record { start = at; text = b ∷ w.text } ∷ ws
 unfoldable pub words_from : ℕ → List ℕ → List Word
 words_from at [] = []
 words_from at (b ∷ s) =
-    if is_blank b then words_from (suc at) s else
-    if word_goes_on s then grown at b (words_from (suc at) s) else record { start = at; text = b ∷ [] } ∷ words_from (suc at) s
+    provided is_blank b then words_from (suc at) s else
+    provided word_goes_on s then grown at b (words_from (suc at) s) else record { start = at; text = b ∷ [] } ∷ words_from (suc at) s
 
 -- how many bytes right before a position pass the test, counted backwards from there
 unfoldable pub back_run : (ℕ → Bool) → List ℕ → ℕ → ℕ

@@ -7,7 +7,7 @@ ghost use Rattle.base.specs.Bytes.{is_before, is_content};
 ghost use Rattle.lex_line.specs.Words.{back_run};
 ghost use Rattle.lex_line.specs.Way.LineFeeds.{line_feed_of, line_feeds, is_line_byte, ResumesLines};
 ghost use Rattle.lex_line.specs.Lines.{comment_byte};
-ghost use Rattle.base.specs.If.{if◌then◌else◌};
+ghost use Rattle.base.specs.If.{provided◌then◌else◌};
 
 use base::Class;
 
@@ -164,7 +164,7 @@ pub struct Past {
 
 // Where the last block with an LF ends: at `here` if the block just tested, which ends there, has one; else at `mark`.
 fn last_end(mark: usize, here: usize, ends: u8) -> usize
-    ensures { result ≡ (if eqb ends 0 then mark else here) }
+    ensures { result ≡ (provided eqb ends 0 then mark else here) }
 {
     if ends == 0 {
         return mark;

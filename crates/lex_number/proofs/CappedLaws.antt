@@ -7,7 +7,7 @@ use mathlib.Core.List.{List, [], ◌∷◌}
 use Prim.Native.Nat.{ℕ, ◌+◌, ◌-◌, ◌*◌, min}
 use native.Mathlib.Omega.{arith}
 use lib.Dec.{eqb}
-use Rattle.base.specs.If.{if◌then◌else◌}
+use Rattle.base.specs.If.{provided◌then◌else◌}
 use Rattle.base.proofs.IfLaws.{if_true, if_false, by_cases}
 use Rattle.lex_number.specs.declared.Digits.{Digits}
 use Rattle.lex_number.specs.Number.{is_point, digits_go_on, with_point, with_digit, with_byte, scan}
@@ -20,8 +20,8 @@ cut_step cap a v = omega arith
 pub cut_twice : (cap a : ℕ) → min (min a cap) cap ≡ min a cap
 cut_twice cap a = omega arith
 
-cut_either : (t : Bool) (cap a b c d : ℕ) → min a cap ≡ min c cap → min b cap ≡ min d cap → min (if t then a else b) cap ≡ min (if t then c else d) cap
-unfolding if◌then◌else◌
+cut_either : (t : Bool) (cap a b c d : ℕ) → min a cap ≡ min c cap → min b cap ≡ min d cap → min (provided t then a else b) cap ≡ min (provided t then c else d) cap
+unfolding provided◌then◌else◌
 cut_either true cap a b c d e f = e
 cut_either false cap a b c d e f = f
 

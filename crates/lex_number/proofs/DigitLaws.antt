@@ -10,7 +10,7 @@ use lib.ListN.{length, drop, get_or, drop_of_length-le}
 use lib.Seq.{drop-cons}
 use lib.Dec.{eqb}
 use borrow.Author.Tests.{eq-eqb, ne_eqb, leb-true, not-true, not-false}
-use Rattle.base.specs.If.{if◌then◌else◌}
+use Rattle.base.specs.If.{provided◌then◌else◌}
 use Rattle.base.specs.Bytes.{is_digit, within}
 use Rattle.base.proofs.IfLaws.{if_true, if_false, by_test, either_left, either_rest, both_rest, both_not_left, both_first, both_second, either_false, either_comes}
 use Rattle.lex_number.specs.declared.Digits.{Digits}
@@ -44,10 +44,10 @@ pub digits_same : (r e : Digits) → r.all ≡ e.all → r.size ≡ e.size → r
 digits_same r e a b c d f g h = λ i. record { all = a i; size = b i; zeros = c i; fraction = d i; some = f i; point = g i; end = h i }
 
 -- after a digit 0 the size stays as it is, after any other it is the whole number
-pub size_stays : (v size other : ℕ) → v ≡ 0 → size ≤ size_cap → size ≡ min (if eqb v 0 then size else other) size_cap
+pub size_stays : (v size other : ℕ) → v ≡ 0 → size ≤ size_cap → size ≡ min (provided eqb v 0 then size else other) size_cap
 size_stays v size other e h = rw (if_true size other (eq-eqb v 0 e)) (omega arith)
 
-pub size_grows : (v all size other : ℕ) → (v ≡ 0 → ⊥) → all ≡ min other size_cap → all ≡ min (if eqb v 0 then size else other) size_cap
+pub size_grows : (v all size other : ℕ) → (v ≡ 0 → ⊥) → all ≡ min other size_cap → all ≡ min (provided eqb v 0 then size else other) size_cap
 size_grows v all size other n e = rw (if_false size other (ne_eqb v 0 n)) e
 
 pub digit_from : (b : ℕ) → is_digit b ≡ true → 48 ≤ b

@@ -12,7 +12,7 @@ use lib.ListN.{length, take, drop, get_or, length-drop, get_or-eq_default}
 use lib.Seq.{length-take-le, get_or-take, get_or-drop, drop-drop, take-take}
 use lib.Dec.{eqb, ltb, leb}
 use borrow.Author.Tests.{eq-eqb, ne_eqb, lt-leb, ltb-true, ltb-false, leb-true, leb-false, not-false}
-use Rattle.base.specs.If.{if◌then◌else◌, both, either}
+use Rattle.base.specs.If.{provided◌then◌else◌, both, either}
 use Rattle.base.specs.Bytes.{is_digit, is_capital, is_small, is_letter, within}
 use Rattle.base.specs.Runs.{run, all}
 use Rattle.base.specs.Way.Class.{run_end}
@@ -91,7 +91,7 @@ unfolding is_e either
 blind_e = record { blind = none_e }
 
 blind_scale : Blind scale_of
-unfolding scale_of scale_by power_in if◌then◌else◌
+unfolding scale_of scale_by power_in provided◌then◌else◌
 blind_scale = record { blind = none_scaled }
 
 blind_digit : Blind is_digit
@@ -122,7 +122,7 @@ letter_no_digit b e =
 
 -- ---- the parts as they are read
 
-module _ (s : List ℕ) (first start : ℕ) (byte : first ≡ get_or s 0 0) (past : start ≡ (if is_sign first then 0 + 1 else 0)) where
+module _ (s : List ℕ) (first start : ℕ) (byte : first ≡ get_or s 0 0) (past : start ≡ (provided is_sign first then 0 + 1 else 0)) where
   start_is : start ≡ past_sign s 0
   unfolding past_sign
   start_is = rw byte at past
@@ -362,7 +362,7 @@ module _ (class : ℕ → Bool) (out : (b : ℕ) → class b ≡ false → is_sp
         over_byte
 
     over_scale : record { up = 0; down = 0 } ≡ scale_of (get_or s from 0)
-    unfolding scale_of scale_by power_in if◌then◌else◌
+    unfolding scale_of scale_by power_in provided◌then◌else◌
     over_scale =
         ⊎_elim
         (λ (h : length s ≤ from). ap scale_of (sym (get_or-eq_default s 0 h)))

@@ -11,7 +11,7 @@ use lib.ListN.{length, take, drop, get_or, length-drop, drop_of_length-le}
 use lib.Seq.{take_all}
 use lib.Dec.{eqb, ltb}
 use borrow.Author.Tests.{ne_eqb, lt-ltb, le-ltb, ltb-false, not-true, not-false}
-use Rattle.base.specs.If.{if◌then◌else◌, both, either}
+use Rattle.base.specs.If.{provided◌then◌else◌, both, either}
 use Rattle.base.specs.Bytes.{is_blank, is_digit, is_capital, is_small, is_letter, within, is_filled, is_before, is_content}
 use Rattle.base.specs.Runs.{run}
 use Rattle.base.specs.Way.Class.{run_end}
@@ -89,7 +89,7 @@ outside comment b none over =
 
 -- ---- after one letter
 
-module _ (s : List ℕ) (at near : ℕ) (there : at < length s) (past : near ≡ (if is_letter (get_or s at 0) then at + 1 else at)) where
+module _ (s : List ℕ) (at near : ℕ) (there : at < length s) (past : near ≡ (provided is_letter (get_or s at 0) then at + 1 else at)) where
   past_near : near ≤ at + 1
   past_near =
       by_cases _ (is_letter (get_or s at 0))
@@ -130,7 +130,7 @@ module _ (comment : ℕ) (s : List ℕ) (from : ℕ) (quiet : is_spelling commen
   number_plain t r told off n v =
       known r (from + p.exponent.end) (plain_here (is_word comment) (λ (b : ℕ) (e : is_word comment b ≡ false). outside comment b quiet e) s from (omega arith) p rest_read r (sym told ∙ off) n v)
 
-  module _ (b : Bool) (letter : b ≡ is_letter p.next) (on : not b ≡ false) (near : ℕ) (past : near ≡ (if is_letter (get_or s (from + p.exponent.end + 1) 0) then from + p.exponent.end + 1 + 1 else from + p.exponent.end + 1)) where
+  module _ (b : Bool) (letter : b ≡ is_letter p.next) (on : not b ≡ false) (near : ℕ) (past : near ≡ (provided is_letter (get_or s (from + p.exponent.end + 1) 0) then from + p.exponent.end + 1 + 1 else from + p.exponent.end + 1)) where
     behind : from + p.exponent.end + 1 < length s
     behind =
         let k : p.exponent.end ≤ 32 = read.parts_short in

@@ -6,7 +6,7 @@ use Prim.Native.Nat.{ℕ, ◌-◌, ◌≤◌}
 use native.Mathlib.Nat.{add-zero}
 use native.Mathlib.Omega.{arith}
 use lib.ListN.{length, take, drop, drop_of_length-le}
-use Rattle.base.specs.If.{both, either, if◌then◌else◌}
+use Rattle.base.specs.If.{both, either, provided◌then◌else◌}
 use Rattle.base.specs.Runs.{run}
 use Rattle.base.specs.Way.Class.{run_end}
 use Rattle.base.specs.Bytes.{is_filled}
@@ -16,7 +16,7 @@ use Rattle.lex_number.specs.Number.{is_sign, is_minus, is_point, is_e, past_sign
 use Rattle.lex_number.specs.Way.At.{word_from, number_at}
 
 pub number_nothing : Malformed ≡ number_of []
-unfolding if◌then◌else◌ both either is_sign is_minus is_point is_e past_sign no_digits digits_go_on scan no_exponent exponent_of well_formed number_from digits_of exponent_from number_of
+unfolding provided◌then◌else◌ both either is_sign is_minus is_point is_e past_sign no_digits digits_go_on scan no_exponent exponent_of well_formed number_from digits_of exponent_from number_of
 number_nothing = refl
 
 pub at_past : (s : List ℕ) (from : ℕ) → length s ≤ from → record { number = Malformed; end = from } ≡ number_at s from

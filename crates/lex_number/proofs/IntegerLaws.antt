@@ -10,7 +10,7 @@ use lib.ListN.{length, take}
 use lib.Seq.{take_all}
 use lib.Dec.{leb}
 use borrow.Author.Tests.{eq-eqb, ne_eqb, le-leb, leb-true}
-use Rattle.base.specs.If.{both, if◌then◌else◌}
+use Rattle.base.specs.If.{both, provided◌then◌else◌}
 use Rattle.base.specs.Bytes.{is_digit, within}
 use Rattle.base.specs.Runs.{run, all}
 use Rattle.base.proofs.IfLaws.{if_true, if_false, by_cases, both_true, both_not_left, both_not_right, both_first, both_second, by_test}
@@ -90,6 +90,6 @@ whole_within low high w e = if_true _ _ e
 pub whole_most : (low high : ℕ) (s : List ℕ) → is_whole_within low high (whole_of s) ≡ true → (whole_of s).value ≤ high
 unfolding is_whole_within whole_of within
 whole_most low high s =
-    by_test (λ (w : Whole). (if w.formed then both (leb low w.value) (leb w.value high) else true) ≡ true → w.value ≤ high) (is_integer s) _ _
+    by_test (λ (w : Whole). (provided w.formed then both (leb low w.value) (leb w.value high) else true) ≡ true → w.value ≤ high) (is_integer s) _ _
     (λ e h. leb-true _ _ (both_second _ _ (sym (if_true _ _ refl) ∙ h)))
     (λ e h. zero-le)

@@ -14,7 +14,7 @@ use lib.ListN.{length, drop, get_or, drop_of_length-le}
 use lib.Seq.{drop-cons, drop-drop}
 use lib.Dec.{eqb, ltb, leb}
 use borrow.Author.Tests.{eq-eqb, ne_eqb, le-leb, lt-leb, lt-ltb, le-ltb, leb-true, leb-false, ltb-true, ltb-false, not-true, not-false}
-use Rattle.base.specs.If.{if◌then◌else◌, both, either}
+use Rattle.base.specs.If.{provided◌then◌else◌, both, either}
 use Rattle.base.specs.Bytes.{is_digit, within}
 use Rattle.base.specs.Runs.{run}
 use Rattle.base.specs.Way.Class.{run_end}
@@ -244,7 +244,7 @@ both_not_right' a e = both_not_right a _ e
 -- the digits d with the run of digits at the front of s added
 unfoldable pub digits_run : List ℕ → Digits → Digits
 digits_run [] d = d
-digits_run (b ∷ s) d = if is_digit b then digits_run s (with_digit d (b - 48)) else d
+digits_run (b ∷ s) d = provided is_digit b then digits_run s (with_digit d (b - 48)) else d
 
 digit_no_point : (b : ℕ) → is_digit b ≡ true → is_point b ≡ false
 unfolding is_point
@@ -271,7 +271,7 @@ scan_run (b ∷ s) d = by_cases _ (is_digit b) (λ (e : is_digit b ≡ true). go
 -- how a run of digits changes the digits d before it
 record Ran (s : List ℕ) (d r : Digits) : Type 0 where
   all_ran : r.all ≡ size_on s d.all
-  fraction_ran : r.fraction ≡ (if d.point then d.fraction + run is_digit s else d.fraction)
+  fraction_ran : r.fraction ≡ (provided d.point then d.fraction + run is_digit s else d.fraction)
   some_ran : r.some ≡ either d.some (ltb 0 (run is_digit s))
   point_ran : r.point ≡ d.point
   end_ran : r.end ≡ d.end + run is_digit s
@@ -286,7 +286,7 @@ unfolding either
 either_all true = refl
 either_all false = refl
 
-same_either : (t : Bool) (n : ℕ) → n ≡ (if t then n + 0 else n)
+same_either : (t : Bool) (n : ℕ) → n ≡ (provided t then n + 0 else n)
 same_either t n = by_cases _ t (λ (e : t ≡ true). sym (if_true (n + 0) n e ∙ add-zero n)) (λ (e : t ≡ false). sym (if_false (n + 0) n e))
 
 ran_none : (s : List ℕ) (d : Digits) → run is_digit s ≡ 0 → size_on s d.all ≡ d.all → Ran s d d
@@ -299,8 +299,8 @@ ran_none s d n v =
       end_ran = rw n (sym (add-zero d.end));
     }
 
-counted_on : (t : Bool) (n k : ℕ) → (if t then (if t then n + 1 else n) + k else (if t then n + 1 else n)) ≡ (if t then n + suc k else n)
-unfolding if◌then◌else◌
+counted_on : (t : Bool) (n k : ℕ) → (provided t then (provided t then n + 1 else n) + k else (provided t then n + 1 else n)) ≡ (provided t then n + suc k else n)
+unfolding provided◌then◌else◌
 counted_on true n k = omega arith
 counted_on false n k = refl
 
@@ -532,7 +532,7 @@ module _ (s : List ℕ) (from b : ℕ) (t : Bool) (byte : b ≡ get_or s from 0)
   exponent_none r off e = none_told r (if_false _ _ (sym e_told ∙ not-true t off)) e
 
   module _ (on : not t ≡ false) where
-    module _ (sign digits : ℕ) (is : sign ≡ get_or s (from + 1) 0) (start : digits ≡ (if is_sign sign then from + 1 + 1 else from + 1)) where
+    module _ (sign digits : ℕ) (is : sign ≡ get_or s (from + 1) 0) (start : digits ≡ (provided is_sign sign then from + 1 + 1 else from + 1)) where
       start_is : digits ≡ past_sign s (from + 1)
       unfolding past_sign
       start_is = rw is at start

@@ -15,7 +15,7 @@ use mir.Syntax.{w8, w64}
 use mir.Val.{Fits, SFits, to_z, of_z}
 use mir.Facts.{Fits-nat_abs, to_z-of_z}
 use borrow.Author.Tests.{eq-eqb, ne_eqb, ltb-true}
-use Rattle.base.specs.If.{if◌then◌else◌, both}
+use Rattle.base.specs.If.{provided◌then◌else◌, both}
 use Rattle.base.specs.Bytes.{bytes}
 use Rattle.base.specs.Runs.{all}
 use Rattle.base.proofs.IfLaws.{if_true, if_false, by_test, both_first, both_second}
@@ -38,7 +38,7 @@ nothing = record { up = 0; down = 0 }
 pub nine_give :
     map scale_of (bytes "TGMkmunpf")
     ≡ up 12 ∷ up 9 ∷ up 6 ∷ up 3 ∷ down 3 ∷ down 6 ∷ down 9 ∷ down 12 ∷ down 15 ∷ []
-unfolding if◌then◌else◌ power_in scale_by scale_of
+unfolding provided◌then◌else◌ power_in scale_by scale_of
 nine_give = refl
 
 abbrev letters : List Scaling → List ℕ
@@ -111,7 +111,7 @@ abbrev past : Scaling
 past = (0, pos 0)
 
 -- the power by the entries from i on: that of entry i if it has the letter, else that by the later entries
-power_from : (l : List Scaling) (i b : ℕ) → i < length l → power_in (drop i l) b ≡ (if eqb b (get_or l i past).0 then (get_or l i past).1 else power_in (drop (suc i) l) b)
+power_from : (l : List Scaling) (i b : ℕ) → i < length l → power_in (drop i l) b ≡ (provided eqb b (get_or l i past).0 then (get_or l i past).1 else power_in (drop (suc i) l) b)
 unfolding power_in
 power_from l i b h = rw (drop-cons l i past h) refl
 

@@ -6,7 +6,7 @@ use mathlib.Core.Bool.{false}
 use mathlib.Core.List.{List, [], ◌∷◌, map}
 use Prim.Native.Nat.{ℕ, ◌+◌, ◌-◌}
 use Prim.Native.String.{String}
-use Rattle.base.specs.If.{both, either, if◌then◌else◌}
+use Rattle.base.specs.If.{both, either, provided◌then◌else◌}
 use Rattle.base.specs.Bytes.{bytes, within, is_digit, is_capital, is_small, is_letter}
 use Rattle.base.specs.Runs.{run, all}
 use Rattle.lex_number.specs.declared.Number.{Number}
@@ -48,5 +48,5 @@ starred =
     ∷ []
 
 pub starred_hold : map (λ (r : Reading). number_of r.word) starred ≡ map (λ (r : Reading). r.answer) starred
-unfolding if◌then◌else◌ both either within is_digit is_capital is_small is_letter run all value_of value_word is_sign is_minus is_point is_e past_sign no_digits digits_go_on with_point with_digit with_byte scan no_exponent exponent_at exponent_of power_in scale_by scale_of raised lowered in_range value_as well_formed number_from digits_of exponent_from number_of
+unfolding provided◌then◌else◌ both either within is_digit is_capital is_small is_letter run all value_of value_word is_sign is_minus is_point is_e past_sign no_digits digits_go_on with_point with_digit with_byte scan no_exponent exponent_at exponent_of power_in scale_by scale_of raised lowered in_range value_as well_formed number_from digits_of exponent_from number_of
 starred_hold = refl

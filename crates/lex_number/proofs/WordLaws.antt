@@ -7,7 +7,7 @@ use Prim.Native.Nat.{ℕ, ◌+◌, ◌*◌, ◌/◌, ◌%◌, ◌^◌, ◌≤◌
 use native.Mathlib.Omega.{arith}
 use lib.Dec.{eqb, leb}
 use borrow.Author.Tests.{ne_eqb, eq-eqb, eqb-true, eqb-false, leb-true, not-true}
-use Rattle.base.specs.If.{if◌then◌else◌, both}
+use Rattle.base.specs.If.{provided◌then◌else◌, both}
 use Rattle.base.specs.Bytes.{within}
 use Rattle.base.proofs.IfLaws.{ifs, by_test, by_cases, both_first, both_second, either_left, either_right, either_rest}
 use Rattle.lex_number.specs.declared.Decimal.{Decimal}
@@ -19,27 +19,27 @@ unfolding is_value_word
 word_tested w d t n e f = f ∙ ap is_decimal e ∙ sym (either_rest _ _ (ne_eqb w zero_word n))
 
 -- a word's sign is its lowest bit
-sign_read : (negative : Bool) (n : ℕ) → n % 2 ≡ (if negative then 1 else 0) → eqb (n % 2) 1 ≡ negative
-unfolding if◌then◌else◌
+sign_read : (negative : Bool) (n : ℕ) → n % 2 ≡ (provided negative then 1 else 0) → eqb (n % 2) 1 ≡ negative
+unfolding provided◌then◌else◌
 sign_read true n e = eq-eqb (n % 2) 1 e
 sign_read false n e = ne_eqb (n % 2) 1 (λ (h : n % 2 ≡ 1). omega arith)
 
-sign_small : (negative : Bool) → (if negative then 1 else 0) ≤ 1
+sign_small : (negative : Bool) → (provided negative then 1 else 0) ≤ 1
 sign_small negative = by_test (λ (n : ℕ). n ≤ 1) negative _ _ (λ e. omega arith) (λ e. omega arith)
 
 -- decoding a word that was built gives back what it was built of
 pub decode_build : (negative : Bool) (size shifted : ℕ) → shifted < 128 → decimal_of (value_word negative size shifted) ≡ record { negative = negative; size = size; shifted = shifted }
 unfolding decimal_of value_word
 decode_build negative size shifted h =
-    let b : (if negative then 1 else 0) ≤ 1 = sign_small negative in
-    let e : (256 * size + 2 * shifted + (if negative then 1 else 0)) % 2 ≡ (if negative then 1 else 0) = omega arith in
-    let f : (256 * size + 2 * shifted + (if negative then 1 else 0)) / 256 ≡ size = omega arith in
-    let q : (256 * size + 2 * shifted + (if negative then 1 else 0)) / 2 ≡ 128 * size + shifted = omega arith in
+    let b : (provided negative then 1 else 0) ≤ 1 = sign_small negative in
+    let e : (256 * size + 2 * shifted + (provided negative then 1 else 0)) % 2 ≡ (provided negative then 1 else 0) = omega arith in
+    let f : (256 * size + 2 * shifted + (provided negative then 1 else 0)) / 256 ≡ size = omega arith in
+    let q : (256 * size + 2 * shifted + (provided negative then 1 else 0)) / 2 ≡ 128 * size + shifted = omega arith in
     let r : (128 * size + shifted) % 128 ≡ shifted = omega arith in
-    let g : (256 * size + 2 * shifted + (if negative then 1 else 0)) / 2 % 128 ≡ shifted = rw q r in
-    λ i. record { negative = sign_read negative (256 * size + 2 * shifted + (if negative then 1 else 0)) e i; size = f i; shifted = g i }
+    let g : (256 * size + 2 * shifted + (provided negative then 1 else 0)) / 2 % 128 ≡ shifted = rw q r in
+    λ i. record { negative = sign_read negative (256 * size + 2 * shifted + (provided negative then 1 else 0)) e i; size = f i; shifted = g i }
 
-sign_build : (n : ℕ) → (if eqb (n % 2) 1 then 1 else 0) ≡ n % 2
+sign_build : (n : ℕ) → (provided eqb (n % 2) 1 then 1 else 0) ≡ n % 2
 sign_build n =
     by_test (λ (m : ℕ). m ≡ n % 2) (eqb (n % 2) 1) _ _
     (λ (e : eqb (n % 2) 1 ≡ true). let h : n % 2 ≡ 1 = eqb-true (n % 2) 1 e in omega arith)
@@ -49,7 +49,7 @@ sign_build n =
 pub build_decode : (w : ℕ) → value_word (decimal_of w).negative (decimal_of w).size (decimal_of w).shifted ≡ w
 unfolding decimal_of value_word
 build_decode w =
-    let b : (if eqb (w % 2) 1 then 1 else 0) ≡ w % 2 = sign_build w in
+    let b : (provided eqb (w % 2) 1 then 1 else 0) ≡ w % 2 = sign_build w in
     omega arith
 
 -- the word of a non-zero number: "at most 15 digits in m, k from -60 to 60", "m not ending in 0", with either sign
@@ -113,8 +113,8 @@ word_told w k = ⊎_elim (word_zero w) (word_written w) k
 written_below : (w : ℕ) → Written w → w < 2 ^ 58
 unfolding value_word
 written_below w k =
-    let b : (if k.negative then 1 else 0) ≤ 1 = sign_small k.negative in
-    let v : w ≡ 256 * k.size + 2 * k.shifted + (if k.negative then 1 else 0) = k.word in
+    let b : (provided k.negative then 1 else 0) ≤ 1 = sign_small k.negative in
+    let v : w ≡ 256 * k.size + 2 * k.shifted + (provided k.negative then 1 else 0) = k.word in
     omega (arith, k.few, k.high)
 
 -- so no value word uses the upper six bits

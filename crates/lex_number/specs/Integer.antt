@@ -1,7 +1,7 @@
 -- Document 01, "Numbers": "Integers: digits, 1 to 9 of them, else 13."
 -- Assumes nothing.
 use Rattle.std.specs.Prelude.{ℕ, ◌+◌, ◌-◌, ◌*◌, Bool, List, [], ◌∷◌, length}
-use Rattle.base.specs.If.{if◌then◌else◌, both}
+use Rattle.base.specs.If.{provided◌then◌else◌, both}
 use Rattle.base.specs.Bytes.{within, is_digit}
 use Rattle.base.specs.Runs.{all}
 use Rattle.lex_number.specs.declared.Whole.{Whole}
@@ -16,8 +16,8 @@ is_integer s = both (within 1 9 (length s)) (all is_digit s)
 
 -- whether a word is an integer, and its value, 0 if it is none
 unfoldable pub whole_of : List ℕ → Whole
-whole_of s = if is_integer s then record { formed = Bool.true; value = value_of 0 s } else record { formed = Bool.false; value = 0 }
+whole_of s = provided is_integer s then record { formed = Bool.true; value = value_of 0 s } else record { formed = Bool.false; value = 0 }
 
 -- an integer is within its bounds; if not, it breaks 14. A word that is no integer breaks 13, and no bounds
 unfoldable pub is_whole_within : ℕ → ℕ → Whole → Bool
-is_whole_within low high w = if w.formed then within low high w.value else Bool.true
+is_whole_within low high w = provided w.formed then within low high w.value else Bool.true

@@ -2,7 +2,7 @@
 -- Assumes nothing.
 use Rattle.std.specs.Prelude.{ℕ, ◌+◌, ◌-◌, ◌*◌, Bool, true, false, not, List, [], ◌∷◌, ℤ, pos, negsuc, neg_ℤ, take, drop, get_or, leb, ltb, eqb}
 use Prim.Native.Char.{code}
-use Rattle.base.specs.If.{if◌then◌else◌, both, either}
+use Rattle.base.specs.If.{provided◌then◌else◌, both, either}
 use Rattle.base.specs.Bytes.{is_digit, is_letter}
 use Rattle.base.specs.Runs.{run, all}
 use Rattle.lex_number.specs.Integer.{value_of}
@@ -30,7 +30,7 @@ is_e b = either (eqb b (code "e")) (eqb b (code "E"))
 
 -- the position after an optional sign at `from`
 unfoldable pub past_sign : List ℕ → ℕ → ℕ
-past_sign s from = if is_sign (get_or s from 0) then from + 1 else from
+past_sign s from = provided is_sign (get_or s from 0) then from + 1 else from
 
 -- no digit read yet; the next byte is at `from`
 unfoldable pub no_digits : ℕ → Digits
@@ -51,21 +51,21 @@ unfoldable pub with_digit : Digits → ℕ → Digits
 with_digit d v =
     record {
       all = 10 * d.all + v;
-      size = if eqb v 0 then d.size else 10 * d.all + v;
-      zeros = if eqb v 0 then d.zeros + 1 else 0;
-      fraction = if d.point then d.fraction + 1 else d.fraction;
+      size = provided eqb v 0 then d.size else 10 * d.all + v;
+      zeros = provided eqb v 0 then d.zeros + 1 else 0;
+      fraction = provided d.point then d.fraction + 1 else d.fraction;
       some = true;
       point = d.point;
       end = d.end + 1;
     }
 
 unfoldable pub with_byte : Digits → ℕ → Digits
-with_byte d b = if is_point b then with_point d else with_digit d (b - 48)
+with_byte d b = provided is_point b then with_point d else with_digit d (b - 48)
 
 -- the digits at the front of s, added to the digits d before them
 unfoldable pub scan : List ℕ → Digits → Digits
 scan [] d = d
-scan (b ∷ s) d = if digits_go_on d b then scan s (with_byte d b) else d
+scan (b ∷ s) d = provided digits_go_on d b then scan s (with_byte d b) else d
 
 -- no exponent: the letters start at `from`
 unfoldable pub no_exponent : ℕ → Exponent
@@ -74,13 +74,13 @@ no_exponent from = record { size = 0; negative = false; end = from }
 -- the exponent whose digits start at `digits`, if there is one
 unfoldable pub exponent_at : List ℕ → ℕ → ℕ → Exponent
 exponent_at s from digits =
-    if eqb (run is_digit (drop digits s)) 0
+    provided eqb (run is_digit (drop digits s)) 0
     then no_exponent from
     else record { size = value_of 0 (take (run is_digit (drop digits s)) (drop digits s)); negative = is_minus (get_or s (from + 1) 0); end = digits + run is_digit (drop digits s) }
 
 -- "e or E with optional sign and digits, if digits follow"
 unfoldable pub exponent_of : List ℕ → ℕ → Exponent
-exponent_of s from = if is_e (get_or s from 0) then exponent_at s from (past_sign s (from + 1)) else no_exponent from
+exponent_of s from = provided is_e (get_or s from 0) then exponent_at s from (past_sign s (from + 1)) else no_exponent from
 
 -- a letter that raises the power of ten by this power, and one that lowers it
 infix 80 ◌raises◌
@@ -108,7 +108,7 @@ scalings =
 -- the power of a letter, looked up in a list; "any other letter by nothing"
 unfoldable pub power_in : List Scaling → ℕ → ℤ
 power_in [] b = pos 0
-power_in (s ∷ others) b = if eqb b s.0 then s.1 else power_in others b
+power_in (s ∷ others) b = provided eqb b s.0 then s.1 else power_in others b
 
 -- by how much a number is above zero, or 0 if it is below
 abbrev pub above_zero : ℤ → ℕ
@@ -126,10 +126,10 @@ scale_of b = scale_by (power_in scalings b)
 -- k is `raised` minus `lowered`. The zeros after m, a positive exponent and the letter raise it; the digits after the
 -- point, a negative exponent and the letter lower it
 unfoldable pub raised : Digits → Exponent → Scale → ℕ
-raised d x c = d.zeros + (if x.negative then 0 else x.size) + c.up
+raised d x c = d.zeros + (provided x.negative then 0 else x.size) + c.up
 
 unfoldable pub lowered : Digits → Exponent → Scale → ℕ
-lowered d x c = d.fraction + (if x.negative then x.size else 0) + c.down
+lowered d x c = d.fraction + (provided x.negative then x.size else 0) + c.down
 
 -- "Non-zero: at most 15 digits in m, k from -60 to 60, else 14"
 unfoldable pub in_range : ℕ → ℕ → ℕ → Bool
@@ -138,8 +138,8 @@ in_range m up down = both (ltb m 1_000_000_000_000_000) (both (leb down (up + 60
 -- "zero is m 0, k 0 and has no sign"
 unfoldable pub value_as : Bool → ℕ → ℕ → ℕ → Number
 value_as negative m up down =
-    if eqb m 0 then Value zero_word else
-    if in_range m up down then Value (value_word negative m (up + 64 - down)) else Range
+    provided eqb m 0 then Value zero_word else
+    provided in_range m up down then Value (value_word negative m (up + 64 - down)) else Range
 
 -- "at least one digit", "then letters only"
 unfoldable pub well_formed : List ℕ → Digits → Exponent → Bool
@@ -147,7 +147,7 @@ well_formed s d x = both d.some (all is_letter (drop x.end s))
 
 unfoldable pub number_from : List ℕ → Digits → Exponent → Scale → Number
 number_from s d x c =
-    if well_formed s d x then value_as (is_minus (get_or s 0 0)) d.size (raised d x c) (lowered d x c) else Malformed
+    provided well_formed s d x then value_as (is_minus (get_or s 0 0)) d.size (raised d x c) (lowered d x c) else Malformed
 
 unfoldable pub digits_of : List ℕ → Digits
 digits_of s = scan (drop (past_sign s 0) s) (no_digits (past_sign s 0))

@@ -1,7 +1,7 @@
 -- Document 01, "The table": the value word, "256 times m's size, plus 2(k+64), plus 1 if negative". `shifted` is k + 64.
 -- Assumes nothing.
 use Rattle.std.specs.Prelude.{ℕ, ◌+◌, ◌*◌, ◌/◌, ◌%◌, Bool, not, eqb}
-use Rattle.base.specs.If.{if◌then◌else◌, both, either}
+use Rattle.base.specs.If.{provided◌then◌else◌, both, either}
 use Rattle.base.specs.Bytes.{within}
 use Rattle.lex_number.specs.declared.Decimal.{Decimal}
 
@@ -9,7 +9,7 @@ abbrev pub zero_word : ℕ
 zero_word = 128
 
 unfoldable pub value_word : Bool → ℕ → ℕ → ℕ
-value_word negative size shifted = 256 * size + 2 * shifted + (if negative then 1 else 0)
+value_word negative size shifted = 256 * size + 2 * shifted + (provided negative then 1 else 0)
 
 -- the three parts of a value word
 unfoldable pub decimal_of : ℕ → Decimal

@@ -1,7 +1,7 @@
 // The short way to a number: a short number at a place of the text is read in one pass, several digits at a time.
 // Where it does not know the number it says so, and the long way of lib.rt reads it.
 ghost use Rattle.std.specs.Prelude.{◌≡◌, true, false, ◌+◌, ◌-◌, ◌*◌, ◌/◌, ◌^◌, ◌<◌, ◌≤◌, length, take, drop, get_or};
-ghost use Rattle.base.specs.If.{if◌then◌else◌};
+ghost use Rattle.base.specs.If.{provided◌then◌else◌};
 ghost use Rattle.base.specs.Bytes.{is_digit, is_letter};
 ghost use Rattle.base.specs.Runs.{all};
 ghost use Rattle.lex_number.specs.Number.{is_sign};
@@ -239,7 +239,7 @@ fn plain_digits(s: &[u8], from: usize) -> Plain
 // The position after the byte b at `at` if b is a sign, else `at`.
 fn past(b: u8, at: usize) -> usize
     requires { at < count_cap }
-    ensures fact_1 { result ≡ (if is_sign b then at + 1 else at) }
+    ensures fact_1 { result ≡ (provided is_sign b then at + 1 else at) }
     ensures fact_2 { result ≤ at + 1 }
 {
     if crate::is_sign(b) {
@@ -355,7 +355,7 @@ fn not_short(from: usize) -> ShortNumber
 // The position after the byte at `at` if it is a letter, else `at`: skips a unit of two letters without a branch.
 fn past_letter(s: &[u8], at: usize) -> usize
     requires { at < length s.now }
-    ensures fact_1 { result ≡ (if is_letter (get_or s.now at 0) then at + 1 else at) }
+    ensures fact_1 { result ≡ (provided is_letter (get_or s.now at 0) then at + 1 else at) }
     ensures fact_2 { result ≤ at + 1 }
 {
     if base::is_letter(s[at]) {

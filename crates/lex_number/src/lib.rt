@@ -3,7 +3,7 @@
 #![tactic(auto)]
 
 ghost use Rattle.std.specs.Prelude.{◌≡◌, true, false, ◌+◌, ◌-◌, ◌*◌, ◌/◌, ◌<◌, ◌≤◌, min, length, drop, get_or, ltb};
-ghost use Rattle.base.specs.If.{if◌then◌else◌, both};
+ghost use Rattle.base.specs.If.{provided◌then◌else◌, both};
 ghost use Rattle.base.specs.Bytes.{within};
 ghost use Rattle.base.specs.Runs.{all};
 ghost use Rattle.base.specs.Way.Class.{run_end};
@@ -153,7 +153,7 @@ fn extended(number: u64, digit: u64, tenth: u64) -> u64
 // The count, plus 1 if `more` holds.
 fn counted(count: u64, more: bool) -> u64
     requires { count < count_cap }
-    ensures { result ≡ (if more then count + 1 else count) }
+    ensures { result ≡ (provided more then count + 1 else count) }
 {
     if more {
         return count + 1;

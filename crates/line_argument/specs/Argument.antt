@@ -3,7 +3,7 @@
 -- Assumes nothing.
 use Rattle.std.specs.Prelude.{ℕ, ◌+◌, Bool, false, not, List, length, drop, get_or, ltb, eqb}
 use Prim.Native.Char.{code}
-use Rattle.base.specs.If.{if◌then◌else◌, both, either}
+use Rattle.base.specs.If.{provided◌then◌else◌, both, either}
 use Rattle.base.specs.Bytes.{bytes, within, is_digit, is_small, is_filled}
 use Rattle.base.specs.Runs.{run, all, same}
 use Rattle.lex_number.specs.Integer.{whole_of, is_whole_within}
@@ -65,14 +65,14 @@ is_file_name s =
 -- another word
 unfoldable pub form_of : List ℕ → ℕ
 form_of s =
-    if same s (bytes "Diagonal_matrix") then diagonal else
-    if same s (bytes "Banded_matrix") then banded else
-    if same s (bytes "Sparse_matrix") then sparse else
-    if same s (bytes "Full_matrix") then full else matrix_forms
+    provided same s (bytes "Diagonal_matrix") then diagonal else
+    provided same s (bytes "Banded_matrix") then banded else
+    provided same s (bytes "Sparse_matrix") then sparse else
+    provided same s (bytes "Full_matrix") then full else matrix_forms
 
 -- "[Derivation Method] Lumped or Distributed", by their numbers in the table; `section_methods` for another word
 unfoldable pub method_of : List ℕ → ℕ
-method_of s = if same s (bytes "Lumped") then lumped else if same s (bytes "Distributed") then distributed else section_methods
+method_of s = provided same s (bytes "Lumped") then lumped else provided same s (bytes "Distributed") then distributed else section_methods
 
 -- the keywords that take no argument
 unfoldable pub takes_nothing : ℕ → Bool
@@ -93,19 +93,19 @@ takes_name k = either (eqb k begin_icm_model) (either (eqb k icm_pin_map) (eqb k
 -- 11 for the keywords that take a text of a form of their own
 unfoldable pub is_bad_form : ℕ → List ℕ → Bool
 is_bad_form k s =
-    if eqb k icm_ver then not (same s (bytes "1.1")) else
-    if eqb k file_name then not (is_file_name s) else
-    if eqb k date then not (within 1 40 (length s)) else
-    if eqb k derivation_method then eqb (method_of s) section_methods else false
+    provided eqb k icm_ver then not (same s (bytes "1.1")) else
+    provided eqb k file_name then not (is_file_name s) else
+    provided eqb k date then not (within 1 40 (length s)) else
+    provided eqb k derivation_method then eqb (method_of s) section_methods else false
 
 -- "11 ARGUMENT: argument missing, surplus or not allowed". A keyword that opens a text block takes any text, even none
 unfoldable pub is_bad_argument : ℕ → List ℕ → Bool
 is_bad_argument k s =
-    if is_row_or_bandwidth k then not (is_one_word s) else
-    if opens_matrix k then eqb (form_of s) matrix_forms else
-    if takes_nothing k then ltb 0 (length s) else
-    if takes_name k then not (is_name s) else
-    if takes_free_text k then eqb (length s) 0 else is_bad_form k s
+    provided is_row_or_bandwidth k then not (is_one_word s) else
+    provided opens_matrix k then eqb (form_of s) matrix_forms else
+    provided takes_nothing k then ltb 0 (length s) else
+    provided takes_name k then not (is_name s) else
+    provided takes_free_text k then eqb (length s) 0 else is_bad_form k s
 
 -- 13 for a keyword line: [Row] and [Bandwidth] take an integer
 unfoldable pub is_bad_integer : ℕ → List ℕ → Bool
@@ -114,5 +114,5 @@ is_bad_integer k s = both (is_row_or_bandwidth k) (not (whole_of s).formed)
 -- 14 for a keyword line: "[Row] .. 1 to 256; B 0 to 255"
 unfoldable pub is_out_of_bounds : ℕ → List ℕ → Bool
 is_out_of_bounds k s =
-    if eqb k row then not (is_whole_within 1 most_conductors (whole_of s)) else
-    if eqb k bandwidth then ltb most_bandwidth (whole_of s).value else false
+    provided eqb k row then not (is_whole_within 1 most_conductors (whole_of s)) else
+    provided eqb k bandwidth then ltb most_bandwidth (whole_of s).value else false

@@ -5,7 +5,7 @@ use mathlib.Core.Bool.{true, false}
 use native.Mathlib.Omega.{arith}
 use lib.Dec.{eqb}
 use borrow.Author.Tests.{eq-eqb, ne_eqb}
-use Rattle.base.specs.If.{if◌then◌else◌, either}
+use Rattle.base.specs.If.{provided◌then◌else◌, either}
 use Rattle.base.proofs.IfLaws.{if_true, if_false, either_left, either_rest}
 use Rattle.base.proofs.BrokenLaws.{all_kept}
 use Rattle.line_head.specs.Head.{says_model_type, says_ratio, says_impedance, is_head_out_of_order, head_rules, head_next}
@@ -17,13 +17,13 @@ module _ (l : HeadLine) (h : Head) where
   pub next_type : l.says ≡ says_model_type → record { kind = l.kind; sgr = h.sgr; impedance = h.impedance } ≡ head_next l h
   unfolding head_next
   next_type e =
-      let k : (if eqb l.says says_model_type then l.kind else h.kind) ≡ l.kind = if_true _ _ (eq-eqb _ _ e) in
+      let k : (provided eqb l.says says_model_type then l.kind else h.kind) ≡ l.kind = if_true _ _ (eq-eqb _ _ e) in
       let s : either (eqb l.says says_ratio) h.sgr ≡ h.sgr = either_rest _ _ (ne_eqb l.says says_ratio (λ (f : l.says ≡ says_ratio). omega arith)) in
       let m : either (eqb l.says says_impedance) h.impedance ≡ h.impedance = either_rest _ _ (ne_eqb l.says says_impedance (λ (f : l.says ≡ says_impedance). omega arith)) in
       λ i. record { kind = sym k i; sgr = sym s i; impedance = sym m i }
 
   module _ (n : l.says ≡ says_model_type → ⊥) where
-    same_kind : (if eqb l.says says_model_type then l.kind else h.kind) ≡ h.kind
+    same_kind : (provided eqb l.says says_model_type then l.kind else h.kind) ≡ h.kind
     same_kind = if_false _ _ (ne_eqb _ _ n)
 
     pub next_sgr : l.says ≡ says_ratio → record { kind = h.kind; sgr = true; impedance = h.impedance } ≡ head_next l h

@@ -7,7 +7,7 @@
 -- Assumes nothing.
 use Rattle.std.specs.Prelude.{ℕ, ◌+◌, Bool, true, false, not, List, [], ◌∷◌, length, take, drop, eqb}
 use Prim.Native.Char.{code}
-use Rattle.base.specs.If.{if◌then◌else◌, both, either}
+use Rattle.base.specs.If.{provided◌then◌else◌, both, either}
 use Rattle.base.specs.Bytes.{bytes, is_before}
 use Rattle.base.specs.Runs.{run, same}
 use Rattle.base.specs.Broken.{Rule, ◌when◌}
@@ -37,9 +37,9 @@ says_impedance = 3
 -- "SLM_general, SLM_quiescent, MLM": the number in the table plus 1; 0 for any other word
 unfoldable pub model_type_of : List ℕ → ℕ
 model_type_of w =
-    if same w (bytes "SLM_general") then slm_general + 1 else
-    if same w (bytes "SLM_quiescent") then slm_quiescent + 1 else
-    if same w (bytes "MLM") then mlm + 1 else 0
+    provided same w (bytes "SLM_general") then slm_general + 1 else
+    provided same w (bytes "SLM_quiescent") then slm_quiescent + 1 else
+    provided same w (bytes "MLM") then mlm + 1 else 0
 
 -- a line that is known by its first word but has a wrong rest
 unfoldable pub wrong_head_line : ℕ → HeadLine
@@ -48,7 +48,7 @@ wrong_head_line says = record { says = says; right = false; formed = true; bound
 -- "ICM_model_type (SLM_general, SLM_quiescent, MLM)"
 unfoldable pub type_line : List (List ℕ) → HeadLine
 type_line ws =
-    if both (eqb (length ws) 2) (not (eqb (model_type_of (second_of ws)) 0))
+    provided both (eqb (length ws) 2) (not (eqb (model_type_of (second_of ws)) 0))
     then record { says = says_model_type; right = true; formed = true; bounded = true; kind = model_type_of (second_of ws) }
     else wrong_head_line says_model_type
 
@@ -62,31 +62,31 @@ ratio_of w = whole_of (take (to_colon w) w)
 -- "`SGR n:1`, n 1 to 65,535"
 unfoldable pub sgr_line : List (List ℕ) → HeadLine
 sgr_line ws =
-    if both (eqb (length ws) 2) (same (drop (to_colon (second_of ws)) (second_of ws)) (bytes ":1"))
+    provided both (eqb (length ws) 2) (same (drop (to_colon (second_of ws)) (second_of ws)) (bytes ":1"))
     then record { says = says_ratio; right = true; formed = (ratio_of (second_of ws)).formed; bounded = is_whole_within 1 most_ratio (ratio_of (second_of ws)); kind = 0 }
     else wrong_head_line says_ratio
 
 -- "`Ref_impedance=` a number"
 unfoldable pub impedance_line : List ℕ → HeadLine
 impedance_line content =
-    if both (has_equals content) (both (eqb (length (left_of content)) 1) (eqb (length (right_of content)) 1))
+    provided both (has_equals content) (both (eqb (length (left_of content)) 1) (eqb (length (right_of content)) 1))
     then record { says = says_impedance; right = true; formed = is_formed (number_of (first_of (right_of content))); bounded = is_bounded (number_of (first_of (right_of content))); kind = 0 }
     else wrong_head_line says_impedance
 
 -- a line of the head is known by its first word; in the form with a `=`, the sign ends that word
 unfoldable pub head_line_of : List ℕ → HeadLine
 head_line_of content =
-    if same (first_of (words content)) (bytes "ICM_model_type") then type_line (words content) else
-    if same (first_of (words content)) (bytes "SGR") then sgr_line (words content) else
-    if same (first_of (left_of content)) (bytes "Ref_impedance") then impedance_line content else
+    provided same (first_of (words content)) (bytes "ICM_model_type") then type_line (words content) else
+    provided same (first_of (words content)) (bytes "SGR") then sgr_line (words content) else
+    provided same (first_of (left_of content)) (bytes "Ref_impedance") then impedance_line content else
     record { says = says_nothing; right = true; formed = true; bounded = true; kind = 0 }
 
 -- each of the three may appear once; the head takes no other line
 unfoldable pub is_head_out_of_order : HeadLine → Head → Bool
 is_head_out_of_order l h =
-    if eqb l.says says_model_type then not (eqb h.kind 0) else
-    if eqb l.says says_ratio then h.sgr else
-    if eqb l.says says_impedance then h.impedance else true
+    provided eqb l.says says_model_type then not (eqb h.kind 0) else
+    provided eqb l.says says_ratio then h.sgr else
+    provided eqb l.says says_impedance then h.impedance else true
 
 -- "A line its place takes with a wrong rest is 11, repeated or out of order 12"; any other line is 12
 abbrev pub head_rules : HeadLine → Head → List Rule
@@ -100,7 +100,7 @@ head_rules l h =
 unfoldable pub head_next : HeadLine → Head → Head
 head_next l h =
     record {
-      kind = if eqb l.says says_model_type then l.kind else h.kind;
+      kind = provided eqb l.says says_model_type then l.kind else h.kind;
       sgr = either (eqb l.says says_ratio) h.sgr;
       impedance = either (eqb l.says says_impedance) h.impedance;
     }

@@ -7,7 +7,7 @@ use mathlib.Core.List.{List}
 use Prim.Native.Nat.{ℕ}
 use lib.Dec.{eqb}
 use borrow.Author.Tests.{eqb-true, ne_eqb}
-use Rattle.base.specs.If.{both, either, if◌then◌else◌}
+use Rattle.base.specs.If.{both, either, provided◌then◌else◌}
 use Rattle.base.specs.Broken.{first}
 use Rattle.base.proofs.IfLaws.{by_cases, either_rest, either_false}
 use Rattle.lex_keyword.specs.Names.{row, bandwidth}
@@ -50,19 +50,19 @@ goes_on k argument s =
 
 module _ (argument : List ℕ) (s : State) (inside : s.place ≡ place.matrix) where
   row_rule : keyword_rule row argument s ≡ matrix_keyword_rule row argument s.matrix
-  unfolding keyword_rule matrix_keyword_rule first is_fork_open is_misplaced moved leads_in_matrix is_row_or_bandwidth is_unclosed is_repeated is_once stands_in_header opens_header_text opens_matrix is_lacking is_too_late is_shape_broken is_matrix_broken is_past_bound closes_too_wide is_full if◌then◌else◌ both either
+  unfolding keyword_rule matrix_keyword_rule first is_fork_open is_misplaced moved leads_in_matrix is_row_or_bandwidth is_unclosed is_repeated is_once stands_in_header opens_header_text opens_matrix is_lacking is_too_late is_shape_broken is_matrix_broken is_past_bound closes_too_wide is_full provided◌then◌else◌ both either
   row_rule = rw inside
 
   bandwidth_rule : keyword_rule bandwidth argument s ≡ matrix_keyword_rule bandwidth argument s.matrix
-  unfolding keyword_rule matrix_keyword_rule first is_fork_open is_misplaced moved leads_in_matrix is_row_or_bandwidth is_unclosed is_repeated is_once stands_in_header opens_header_text opens_matrix is_lacking is_too_late is_shape_broken is_matrix_broken is_past_bound closes_too_wide is_full if◌then◌else◌ both either
+  unfolding keyword_rule matrix_keyword_rule first is_fork_open is_misplaced moved leads_in_matrix is_row_or_bandwidth is_unclosed is_repeated is_once stands_in_header opens_header_text opens_matrix is_lacking is_too_late is_shape_broken is_matrix_broken is_past_bound closes_too_wide is_full provided◌then◌else◌ both either
   bandwidth_rule = rw inside
 
   row_next : keyword_next row argument s ≡ goes_on row argument s
-  unfolding keyword_next matrix_keyword_next moved leads_in_matrix is_row_or_bandwidth opens_matrix seen_after head_after path_after map_after section_after conductors_after matrix_after counts_after one_more_if if◌then◌else◌ either
+  unfolding keyword_next matrix_keyword_next moved leads_in_matrix is_row_or_bandwidth opens_matrix seen_after head_after path_after map_after section_after conductors_after matrix_after counts_after one_more_if provided◌then◌else◌ either
   row_next = rw inside
 
   bandwidth_next : keyword_next bandwidth argument s ≡ goes_on bandwidth argument s
-  unfolding keyword_next matrix_keyword_next moved leads_in_matrix is_row_or_bandwidth opens_matrix seen_after head_after path_after map_after section_after conductors_after matrix_after counts_after one_more_if if◌then◌else◌ either
+  unfolding keyword_next matrix_keyword_next moved leads_in_matrix is_row_or_bandwidth opens_matrix seen_after head_after path_after map_after section_after conductors_after matrix_after counts_after one_more_if provided◌then◌else◌ either
   bandwidth_next = rw inside
 
   module _ (k : ℕ) (keeps : is_row_or_bandwidth k ≡ true) where

@@ -3,7 +3,7 @@
 -- Assumes nothing.
 use Rattle.std.specs.Prelude.{ℕ, ◌+◌, Bool, true, false, not, List, [], ◌∷◌, get_or, set, leb, eqb}
 use Rattle.table_layout.specs.Bounds.{most_models, most_maps, most_sections}
-use Rattle.base.specs.If.{if◌then◌else◌, both, either}
+use Rattle.base.specs.If.{provided◌then◌else◌, both, either}
 use Rattle.base.specs.Broken.{Rule, ◌when◌}
 use Rattle.base.specs.Refusal as refusal
 use Rattle.lex_number.specs.Integer.{whole_of}
@@ -96,26 +96,26 @@ family_lacks s = either (not (is_seen manufacturer s)) (eqb s.counts.models 0)
 -- what must be there already: "the list stands before the first model", and what a block requires when it closes
 unfoldable pub is_lacking : ℕ → State → Bool
 is_lacking k s =
-    if eqb k end_header then header_lacks s else
-    if eqb k begin_icm_model then not (is_seen icm_model_list s) else
-    if eqb k end_icm_family then family_lacks s else
-    if eqb k end_icm_model then not (is_seen tree_path_description s) else
-    if eqb k end_icm_section then kinds_lack s else
-    if eqb k the_end then eqb s.counts.sections 0 else false
+    provided eqb k end_header then header_lacks s else
+    provided eqb k begin_icm_model then not (is_seen icm_model_list s) else
+    provided eqb k end_icm_family then family_lacks s else
+    provided eqb k end_icm_model then not (is_seen tree_path_description s) else
+    provided eqb k end_icm_section then kinds_lack s else
+    provided eqb k the_end then eqb s.counts.sections 0 else false
 
 -- [Manufacturer] and [ICM Family Description] come before the list (F1)
 unfoldable pub is_too_late : ℕ → State → Bool
 is_too_late k s =
-    if eqb k manufacturer then is_seen icm_model_list s else
-    if eqb k icm_family_description then is_seen icm_model_list s else false
+    provided eqb k manufacturer then is_seen icm_model_list s else
+    provided eqb k icm_family_description then is_seen icm_model_list s else false
 
 -- what the keyword closes is incomplete: the head of a model, a path or a pin map
 unfoldable pub is_unclosed : State → Bool
 is_unclosed s =
-    if eqb s.place place.head then head_lacks s.head else
-    if eqb s.place place.path then path_lacks s.path else
-    if eqb s.place place.map_head then true else
-    if eqb s.place place.pin_list then pins_lack s.map else false
+    provided eqb s.place place.head then head_lacks s.head else
+    provided eqb s.place place.path then path_lacks s.path else
+    provided eqb s.place place.map_head then true else
+    provided eqb s.place place.pin_list then pins_lack s.map else false
 
 -- a keyword that may appear once has been read already
 unfoldable pub is_repeated : ℕ → State → Bool
@@ -133,19 +133,19 @@ is_fork_open s = both (eqb s.place place.path) (path_open s.path)
 
 -- "[Row] or [Bandwidth] missing, surplus or out of order"; a [Row] that is no integer breaks 13, and no order
 unfoldable pub is_wrong_in_matrix : ℕ → Whole → Matrix → Bool
-is_wrong_in_matrix k given m = if eqb k row then both given.formed (is_wrong_row given.value m) else is_wrong_bandwidth m
+is_wrong_in_matrix k given m = provided eqb k row then both given.formed (is_wrong_row given.value m) else is_wrong_bandwidth m
 
 -- in a matrix, [Row] and [Bandwidth] are judged by their order, any other keyword by the matrix that it closes
 unfoldable pub is_matrix_broken : ℕ → List ℕ → State → Bool
 is_matrix_broken k argument s =
-    if is_row_or_bandwidth k
+    provided is_row_or_bandwidth k
     then is_wrong_in_matrix k (whole_of argument) s.matrix
     else is_wrong_shape s.matrix s.section.conductors s.counts.values
 
 -- "16 SHAPE: matrix or pin grid of the wrong shape"
 unfoldable pub is_shape_broken : ℕ → List ℕ → State → Bool
 is_shape_broken k argument s =
-    if eqb s.place place.matrix then is_matrix_broken k argument s else
+    provided eqb s.place place.matrix then is_matrix_broken k argument s else
     both (eqb s.place place.pin_list) (is_wrong_grid s.map)
 
 -- a diagonal over 256, at the keyword that closes it
@@ -156,9 +156,9 @@ closes_too_wide k s =
 -- the keyword opens a model, map or section when there are already as many as there may be
 unfoldable pub is_full : ℕ → Counts → Bool
 is_full k c =
-    if eqb k begin_icm_model then leb most_models c.models else
-    if eqb k icm_pin_map then leb most_maps c.maps else
-    if eqb k begin_icm_section then leb most_sections c.sections else false
+    provided eqb k begin_icm_model then leb most_models c.models else
+    provided eqb k icm_pin_map then leb most_maps c.maps else
+    provided eqb k begin_icm_section then leb most_sections c.sections else false
 
 -- "17 LIMIT: a count above its bound, at the line that passes it"
 unfoldable pub is_past_bound : ℕ → State → Bool
@@ -181,41 +181,41 @@ keyword_rules k argument s =
 -- one forgets the earlier ones. [Row] and [Bandwidth] may appear any number of times and are not remembered
 unfoldable pub seen_after : ℕ → List Bool → List Bool
 seen_after k seen =
-    if is_row_or_bandwidth k then seen else
-    if eqb k begin_icm_model then set (set seen tree_path_description false) icm_model_description false else
-    if eqb k begin_icm_section
+    provided is_row_or_bandwidth k then seen else
+    provided eqb k begin_icm_model then set (set seen tree_path_description false) icm_model_description false else
+    provided eqb k begin_icm_section
     then set (set (set (set seen resistance_matrix false) inductance_matrix false) conductance_matrix false) capacitance_matrix false
     else set seen k true
 
 unfoldable pub head_after : ℕ → Head → Head
-head_after k h = if eqb k begin_icm_model then new_head else h
+head_after k h = provided eqb k begin_icm_model then new_head else h
 
 unfoldable pub path_after : ℕ → Path → Path
-path_after k p = if eqb k tree_path_description then new_path else p
+path_after k p = provided eqb k tree_path_description then new_path else p
 
 unfoldable pub map_after : ℕ → Map → Map
-map_after k m = if eqb k icm_pin_map then new_map else m
+map_after k m = provided eqb k icm_pin_map then new_map else m
 
 -- the conductors of a section are those of the matrix that is closed; a later matrix has as many, else it breaks 16
 unfoldable pub conductors_after : ℕ → State → ℕ
 conductors_after k s =
-    if not (eqb s.place place.matrix) then s.section.conductors else
-    if is_row_or_bandwidth k then s.section.conductors else shape_conductors s.matrix s.counts.values
+    provided not (eqb s.place place.matrix) then s.section.conductors else
+    provided is_row_or_bandwidth k then s.section.conductors else shape_conductors s.matrix s.counts.values
 
 unfoldable pub section_after : ℕ → List ℕ → State → Section
 section_after k argument s =
-    if eqb k begin_icm_section then new_section else
-    if eqb k derivation_method then record { method = method_of argument; conductors = 0 } else
+    provided eqb k begin_icm_section then new_section else
+    provided eqb k derivation_method then record { method = method_of argument; conductors = 0 } else
     record { method = s.section.method; conductors = conductors_after k s }
 
 unfoldable pub matrix_after : ℕ → List ℕ → State → Matrix
 matrix_after k argument s =
-    if opens_matrix k then new_matrix (form_of argument) s.counts.values else
-    if eqb k row then with_row (whole_of argument).value s.matrix s.counts.values else
-    if eqb k bandwidth then with_bandwidth (whole_of argument).value s.matrix else s.matrix
+    provided opens_matrix k then new_matrix (form_of argument) s.counts.values else
+    provided eqb k row then with_row (whole_of argument).value s.matrix s.counts.values else
+    provided eqb k bandwidth then with_bandwidth (whole_of argument).value s.matrix else s.matrix
 
 unfoldable pub one_more_if : Bool → ℕ → ℕ
-one_more_if b n = if b then n + 1 else n
+one_more_if b n = provided b then n + 1 else n
 
 unfoldable pub counts_after : ℕ → Counts → Counts
 counts_after k c =

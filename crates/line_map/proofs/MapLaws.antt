@@ -10,7 +10,7 @@ use native.Mathlib.Omega.{arith}
 use lib.Dec.{eqb, leb}
 use borrow.Author.Tests.{not-false, leb-false}
 use Rattle.table_layout.specs.Bounds.{most_pins, most_map_pins}
-use Rattle.base.specs.If.{if◌then◌else◌, both, either}
+use Rattle.base.specs.If.{provided◌then◌else◌, both, either}
 use Rattle.base.specs.Bytes.{bytes}
 use Rattle.base.specs.Runs.{same}
 use Rattle.base.proofs.IfLaws.{by_test, either_rest, either_left, either_none_first, not_via, not_not_via}
@@ -39,7 +39,7 @@ module _ (l : MapLine) (m : Map) (t : Bool) (told : t ≡ is_map_out_of_order l 
   pub in_order : t ≡ false → is_map_out_of_order l m ≡ false
   in_order h = sym told ∙ h
 
-pub next_map : (l : MapLine) (m : Map) (o r k : ℕ) → o ≡ (if eqb l.says says_order then l.value else m.order) → r ≡ (if eqb l.says says_rows then l.value else m.rows) → k ≡ (if eqb l.says says_columns then l.value else m.columns) → record { order = o; rows = r; columns = k; pins = m.pins } ≡ map_next l m
+pub next_map : (l : MapLine) (m : Map) (o r k : ℕ) → o ≡ (provided eqb l.says says_order then l.value else m.order) → r ≡ (provided eqb l.says says_rows then l.value else m.rows) → k ≡ (provided eqb l.says says_columns then l.value else m.columns) → record { order = o; rows = r; columns = k; pins = m.pins } ≡ map_next l m
 unfolding map_next
 next_map l m o r k e f g = λ i. record { order = e i; rows = f i; columns = g i; pins = m.pins }
 

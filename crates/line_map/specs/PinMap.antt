@@ -7,7 +7,7 @@
 -- Assumes nothing.
 use Rattle.std.specs.Prelude.{ℕ, ◌+◌, ◌*◌, Bool, true, false, not, List, [], ◌∷◌, length, leb, ltb, eqb}
 use Rattle.table_layout.specs.Bounds.{most_pins, most_map_pins}
-use Rattle.base.specs.If.{if◌then◌else◌, both, either}
+use Rattle.base.specs.If.{provided◌then◌else◌, both, either}
 use Rattle.base.specs.Bytes.{bytes, within}
 use Rattle.base.specs.Runs.{same}
 use Rattle.base.specs.Broken.{Rule, ◌when◌}
@@ -37,27 +37,27 @@ says_pin_list = 4
 -- "Row_ordered, Column_ordered or Un_ordered": the number in the table plus 1; 0 for any other word
 unfoldable pub order_of : List ℕ → ℕ
 order_of w =
-    if same w (bytes "Row_ordered") then row_ordered + 1 else
-    if same w (bytes "Column_ordered") then column_ordered + 1 else
-    if same w (bytes "Un_ordered") then un_ordered + 1 else 0
+    provided same w (bytes "Row_ordered") then row_ordered + 1 else
+    provided same w (bytes "Column_ordered") then column_ordered + 1 else
+    provided same w (bytes "Un_ordered") then un_ordered + 1 else 0
 
 unfoldable pub wrong_map_line : ℕ → MapLine
 wrong_map_line says = record { says = says; right = false; formed = true; bounded = true; value = 0 }
 
 unfoldable pub order_line : List (List ℕ) → MapLine
 order_line ws =
-    if both (eqb (length ws) 2) (not (eqb (order_of (second_of ws)) 0))
+    provided both (eqb (length ws) 2) (not (eqb (order_of (second_of ws)) 0))
     then record { says = says_order; right = true; formed = true; bounded = true; value = order_of (second_of ws) }
     else wrong_map_line says_order
 
 unfoldable pub list_line : List (List ℕ) → MapLine
 list_line ws =
-    if eqb (length ws) 1 then record { says = says_pin_list; right = true; formed = true; bounded = true; value = 0 } else wrong_map_line says_pin_list
+    provided eqb (length ws) 1 then record { says = says_pin_list; right = true; formed = true; bounded = true; value = 0 } else wrong_map_line says_pin_list
 
 -- "`Num_of_columns = c` and `Num_of_rows = r`", "Num_of_rows, Num_of_columns .. 1 to 256"
 unfoldable pub size_line : ℕ → List ℕ → MapLine
 size_line says content =
-    if both (has_equals content) (both (eqb (length (left_of content)) 1) (eqb (length (right_of content)) 1))
+    provided both (has_equals content) (both (eqb (length (left_of content)) 1) (eqb (length (right_of content)) 1))
     then
     record {
       says = says;
@@ -70,10 +70,10 @@ size_line says content =
 
 unfoldable pub map_line_of : List ℕ → MapLine
 map_line_of content =
-    if same (first_of (words content)) (bytes "Pin_order") then order_line (words content) else
-    if same (first_of (words content)) (bytes "Pin_list") then list_line (words content) else
-    if same (first_of (left_of content)) (bytes "Num_of_columns") then size_line says_columns content else
-    if same (first_of (left_of content)) (bytes "Num_of_rows") then size_line says_rows content else
+    provided same (first_of (words content)) (bytes "Pin_order") then order_line (words content) else
+    provided same (first_of (words content)) (bytes "Pin_list") then list_line (words content) else
+    provided same (first_of (left_of content)) (bytes "Num_of_columns") then size_line says_columns content else
+    provided same (first_of (left_of content)) (bytes "Num_of_rows") then size_line says_rows content else
     record { says = says_nothing; right = true; formed = true; bounded = true; value = 0 }
 
 unfoldable pub new_map : Map
@@ -86,10 +86,10 @@ is_ordered m = within (row_ordered + 1) (column_ordered + 1) m.order
 -- "`Pin_order` ..; for the ordered two `Num_of_columns = c` and `Num_of_rows = r`, either first; then `Pin_list`"
 unfoldable pub is_map_out_of_order : MapLine → Map → Bool
 is_map_out_of_order l m =
-    if eqb l.says says_order then not (eqb m.order 0) else
-    if eqb l.says says_columns then either (not (is_ordered m)) (not (eqb m.columns 0)) else
-    if eqb l.says says_rows then either (not (is_ordered m)) (not (eqb m.rows 0)) else
-    if eqb l.says says_pin_list then either (eqb m.order 0) (both (is_ordered m) (either (eqb m.rows 0) (eqb m.columns 0))) else true
+    provided eqb l.says says_order then not (eqb m.order 0) else
+    provided eqb l.says says_columns then either (not (is_ordered m)) (not (eqb m.columns 0)) else
+    provided eqb l.says says_rows then either (not (is_ordered m)) (not (eqb m.rows 0)) else
+    provided eqb l.says says_pin_list then either (eqb m.order 0) (both (is_ordered m) (either (eqb m.rows 0) (eqb m.columns 0))) else true
 
 abbrev pub map_rules : MapLine → Map → List Rule
 map_rules l m =
@@ -102,9 +102,9 @@ map_rules l m =
 unfoldable pub map_next : MapLine → Map → Map
 map_next l m =
     record {
-      order = if eqb l.says says_order then l.value else m.order;
-      rows = if eqb l.says says_rows then l.value else m.rows;
-      columns = if eqb l.says says_columns then l.value else m.columns;
+      order = provided eqb l.says says_order then l.value else m.order;
+      rows = provided eqb l.says says_rows then l.value else m.rows;
+      columns = provided eqb l.says says_columns then l.value else m.columns;
       pins = m.pins;
     }
 

@@ -3,7 +3,7 @@
 #![tactic(auto)]
 
 ghost use Rattle.std.specs.Prelude.{◌≡◌, not, ◌<◌, eqb};
-ghost use Rattle.base.specs.If.{if◌then◌else◌, both, either};
+ghost use Rattle.base.specs.If.{provided◌then◌else◌, both, either};
 ghost use Rattle.lex_line.specs.Words.{words};
 ghost use Rattle.line_map.specs.PinMap.{order_of, wrong_map_line, order_line, list_line, size_line, map_line_of, new_map, is_ordered, is_map_out_of_order, map_next, with_pin, pins_lack, is_wrong_grid};
 ghost use Rattle.line_map.specs.Way.Bounded.{BoundedMap};
@@ -259,7 +259,7 @@ pub fn map_rule(l: MapLine, m: Map) -> u64
 
 // The value of the line if the line says `asked`, else the value that is there already.
 fn given(l: MapLine, asked: u64, there: u64) -> u64
-    ensures { result ≡ (if eqb l.says asked then l.value else there) }
+    ensures { result ≡ (provided eqb l.says asked then l.value else there) }
 {
     if l.says == asked {
         return l.value;

@@ -12,7 +12,7 @@
 use Rattle.std.specs.Prelude.{ℕ, ◌+◌, ◌-◌, min, max, Bool, true, false, not, List, [], ◌∷◌, length, leb, ltb, eqb}
 use Rattle.table_layout.specs.Codes.{diagonal, banded, sparse, full}
 use Rattle.table_layout.specs.Bounds.{most_values, most_conductors}
-use Rattle.base.specs.If.{if◌then◌else◌, both, either}
+use Rattle.base.specs.If.{provided◌then◌else◌, both, either}
 use Rattle.base.specs.Broken.{Rule, ◌when◌}
 use Rattle.base.specs.Refusal as refusal
 use Rattle.lex_line.specs.Words.{words, first_of, second_of}
@@ -29,7 +29,7 @@ unfoldable pub new_matrix : ℕ → ℕ → Matrix
 new_matrix form values =
     record {
       form = form;
-      band = if eqb form full then most_conductors else 0;
+      band = provided eqb form full then most_conductors else 0;
       first = values;
       rows = record { row = 0; above = 0; from = values; least = 0; greatest = 0; fits = true };
     }
@@ -43,8 +43,8 @@ is_wrong_bandwidth m = either (not (eqb m.form banded)) (either (not (eqb m.band
 -- "[Row] 1 to N in order"; "rising [Row]s"; a Diagonal_matrix has none
 unfoldable pub is_wrong_row : ℕ → Matrix → Bool
 is_wrong_row row m =
-    if eqb m.form diagonal then true else
-    if eqb m.form sparse then leb row m.rows.row else
+    provided eqb m.form diagonal then true else
+    provided eqb m.form sparse then leb row m.rows.row else
     either (eqb m.band 0) (not (eqb row (m.rows.row + 1)))
 
 unfoldable pub with_bandwidth : ℕ → Matrix → Matrix
@@ -114,12 +114,12 @@ pair_line column check =
 -- "lines `column value`": columns 1 to 256
 unfoldable pub sparse_line : List (List ℕ) → DataLine
 sparse_line ws =
-    if eqb (length ws) 2
+    provided eqb (length ws) 2
     then pair_line (whole_of (first_of ws)) (number_check (second_of ws))
     else record { numbers = 0; column = 0; right = false; formed = true; bounded = true }
 
 unfoldable pub data_line_of : ℕ → List ℕ → DataLine
-data_line_of form content = if eqb form sparse then sparse_line (words content) else numbers_line (words content)
+data_line_of form content = provided eqb form sparse then sparse_line (words content) else numbers_line (words content)
 
 -- "a data line above the first [Row] of a form with rows, or a sparse line not of two words, is 12"
 unfoldable pub is_data_out_of_order : DataLine → Matrix → Bool
@@ -156,21 +156,21 @@ with_column c m =
     }
 
 unfoldable pub data_next : DataLine → Matrix → Matrix
-data_next l m = if eqb m.form sparse then with_column l.column m else m
+data_next l m = provided eqb m.form sparse then with_column l.column m else m
 
 -- ---- the shape, at the keyword that closes the matrix
 
 -- "N is the conductor count"; in a Sparse_matrix it "is the greatest row or column named"
 unfoldable pub shape_conductors : Matrix → ℕ → ℕ
 shape_conductors m values =
-    if eqb m.form diagonal then values - m.first else
-    if eqb m.form sparse then m.rows.greatest else m.rows.row
+    provided eqb m.form diagonal then values - m.first else
+    provided eqb m.form sparse then m.rows.greatest else m.rows.row
 
 -- all rows have the right length, the last one a single number; in a Sparse_matrix the columns rise
 unfoldable pub is_shaped : Matrix → ℕ → Bool
 is_shaped m values =
-    if eqb m.form diagonal then true else
-    if eqb m.form sparse then m.rows.fits else
+    provided eqb m.form diagonal then true else
+    provided eqb m.form sparse then m.rows.fits else
     both m.rows.fits (both (stands_above m values) (eqb (in_row m values) 1))
 
 -- "Breaks of shape (a matrix with no number too)"; "N is .. the same for a section's matrices": `known` is the N of the

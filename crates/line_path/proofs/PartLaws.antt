@@ -10,7 +10,7 @@ use native.Mathlib.Omega.{arith}
 use lib.ListN.{length, drop}
 use lib.Dec.{eqb, ltb}
 use borrow.Author.Tests.{eqb-true, ltb-true, ltb-false, not-false}
-use Rattle.base.specs.If.{if◌then◌else◌, either}
+use Rattle.base.specs.If.{provided◌then◌else◌, either}
 use Rattle.base.proofs.BrokenLaws.{Numbered, all_kept}
 use Rattle.base.proofs.IfLaws.{if_true, if_false, by_cases, both_first, either_rest}
 use Rattle.lex_line.specs.Words.{words, first_of, right_of, to_equals}
@@ -104,15 +104,15 @@ module _ (content : List ℕ) where
       ap (λ (m : ℕ). said_parts m content) (sym s ∙ e)
 
   said_end : said_parts says_end content ≡ named_parts says_end content
-  unfolding said_parts either if◌then◌else◌
+  unfolding said_parts either provided◌then◌else◌
   said_end = refl
 
   said_side : said_parts says_side content ≡ named_parts says_side content
-  unfolding said_parts either if◌then◌else◌
+  unfolding said_parts either provided◌then◌else◌
   said_side = refl
 
   said_section : said_parts says_section content ≡ section_parts content
-  unfolding said_parts if◌then◌else◌
+  unfolding said_parts provided◌then◌else◌
   said_section = refl
 
   whole_span : (w : Span) → w ≡ span_from 0 w

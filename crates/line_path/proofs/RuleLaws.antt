@@ -7,7 +7,7 @@ use native.Mathlib.Omega.{arith}
 use lib.Dec.{leb, ltb, eqb}
 use borrow.Author.Tests.{eq-eqb, ne_eqb, le-leb, lt-leb, lt-ltb, le-ltb, not-true, not-false}
 use Rattle.table_layout.specs.Bounds.{deepest, most_steps}
-use Rattle.base.specs.If.{if◌then◌else◌, both, either}
+use Rattle.base.specs.If.{provided◌then◌else◌, both, either}
 use Rattle.base.specs.Broken.{first}
 use Rattle.base.specs.Refusal as refusal
 use Rattle.base.proofs.IfLaws.{if_true, if_false, both_true, both_rest, both_not_left, both_not_right, either_left, either_rest, either_comes, either_false, not_via, not_not_via}
@@ -44,8 +44,8 @@ module _ (stage : ℕ) (ended : Bool) where
   fork_late h = sym (either_rest _ _ (le-ltb stage items h))
 
 -- of the lines that are left, only an Endfork is not out of order
-pub no_endfork : (b : Bool) → not b ≡ (if b then false else true)
-unfolding if◌then◌else◌
+pub no_endfork : (b : Bool) → not b ≡ (provided b then false else true)
+unfolding provided◌then◌else◌
 no_endfork true = refl
 no_endfork false = refl
 

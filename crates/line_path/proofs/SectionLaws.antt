@@ -8,7 +8,7 @@ use native.Mathlib.Omega.{arith}
 use lib.ListN.{length, take, drop}
 use lib.Dec.{eqb}
 use borrow.Author.Tests.{eqb-true}
-use Rattle.base.specs.If.{if◌then◌else◌, both, either}
+use Rattle.base.specs.If.{provided◌then◌else◌, both, either}
 use Rattle.base.specs.Bytes.{bytes}
 use Rattle.base.specs.Runs.{same}
 use Rattle.base.proofs.IfLaws.{if_true, if_false, by_cases, by_test, both_true, both_not_left, both_not_right, both_first, both_second, either_rest, either_none_first, either_none_second, not_via, not_not_via}
@@ -37,9 +37,9 @@ pub amount_mult :
     ≡ amount_line mult amount name
 unfolding amount_line amount_formed amount_bounded amount_in
 amount_mult mult amount name times inside e k h =
-    let f : times.formed ≡ (if mult then (whole_of amount).formed else is_formed (number_of amount)) = ap (λ (w : Whole). w.formed) k ∙ sym (if_true _ _ e) in
-    let b : inside ≡ (if mult then is_whole_within 1 most_mult (whole_of amount) else is_length (number_of amount)) = h ∙ ap (λ (w : Whole). is_whole_within 1 most_mult w) k ∙ sym (if_true _ _ e) in
-    let v : times.value ≡ (if mult then (whole_of amount).value else word_in (number_of amount)) = ap (λ (w : Whole). w.value) k ∙ sym (if_true _ _ e) in
+    let f : times.formed ≡ (provided mult then (whole_of amount).formed else is_formed (number_of amount)) = ap (λ (w : Whole). w.formed) k ∙ sym (if_true _ _ e) in
+    let b : inside ≡ (provided mult then is_whole_within 1 most_mult (whole_of amount) else is_length (number_of amount)) = h ∙ ap (λ (w : Whole). is_whole_within 1 most_mult w) k ∙ sym (if_true _ _ e) in
+    let v : times.value ≡ (provided mult then (whole_of amount).value else word_in (number_of amount)) = ap (λ (w : Whole). w.value) k ∙ sym (if_true _ _ e) in
     λ i. record { line = record { says = says_section; right = true; formed = f i; bounded = b i }; name = name; amount = v i; mult = mult }
 
 pub amount_length :
@@ -49,9 +49,9 @@ pub amount_length :
     ≡ amount_line mult amount name
 unfolding amount_line amount_formed amount_bounded amount_in
 amount_length mult amount name n formed bounded word e k f b w =
-    let g : formed ≡ (if mult then (whole_of amount).formed else is_formed (number_of amount)) = f ∙ ap is_formed k ∙ sym (if_false _ _ e) in
-    let h : bounded ≡ (if mult then is_whole_within 1 most_mult (whole_of amount) else is_length (number_of amount)) = b ∙ ap is_length k ∙ sym (if_false _ _ e) in
-    let v : word ≡ (if mult then (whole_of amount).value else word_in (number_of amount)) = w ∙ ap word_in k ∙ sym (if_false _ _ e) in
+    let g : formed ≡ (provided mult then (whole_of amount).formed else is_formed (number_of amount)) = f ∙ ap is_formed k ∙ sym (if_false _ _ e) in
+    let h : bounded ≡ (provided mult then is_whole_within 1 most_mult (whole_of amount) else is_length (number_of amount)) = b ∙ ap is_length k ∙ sym (if_false _ _ e) in
+    let v : word ≡ (provided mult then (whole_of amount).value else word_in (number_of amount)) = w ∙ ap word_in k ∙ sym (if_false _ _ e) in
     λ i. record { line = record { says = says_section; right = true; formed = g i; bounded = h i }; name = name; amount = v i; mult = mult }
 
 -- ---- the words before the sign and after it
@@ -130,9 +130,9 @@ module _ (content : List ℕ) where
   section_two e = eqb-true _ _ (both_first _ _ (both_second _ _ (section_parted e)))
 
   -- the words before and after the sign are right; only the unit has to be decided
-  parted_line : parted ≡ true → section_parts content ≡ (if has_equals content then unit_line (second_of (left_of content)) (first_of (right_of content)) (name_right content) else wrong_section)
+  parted_line : parted ≡ true → section_parts content ≡ (provided has_equals content then unit_line (second_of (left_of content)) (first_of (right_of content)) (name_right content) else wrong_section)
   unfolding section_parts parts_line
-  parted_line p = ap (λ (r : PathParts). if has_equals content then r else wrong_section) (if_true _ _ p)
+  parted_line p = ap (λ (r : PathParts). provided has_equals content then r else wrong_section) (if_true _ _ p)
 
   unit_right : unit_known ≡ true → unit_line (second_of (left_of content)) (first_of (right_of content)) (name_right content) ≡ amount_line (is_mult content) (first_of (right_of content)) (name_right content)
   unfolding unit_line is_mult

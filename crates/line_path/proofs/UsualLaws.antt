@@ -10,7 +10,7 @@ use lib.ListN.{length, take, drop, get_or, length-drop, take-append-drop}
 use lib.Seq.{drop-drop, length-take-le, take_all}
 use lib.Dec.{eqb}
 use borrow.Author.Tests.{eqb-true, not-true, not-false, lt-ltb}
-use Rattle.base.specs.If.{if◌then◌else◌, both, either}
+use Rattle.base.specs.If.{provided◌then◌else◌, both, either}
 use Rattle.base.specs.Bytes.{bytes, is_blank, is_filled, is_before}
 use Rattle.base.specs.Runs.{run, all, same}
 use Rattle.base.specs.Way.Class.{run_end}
@@ -43,11 +43,11 @@ four_long : (s : List ℕ) (at : ℕ) → at + 4 ≤ length s → length (take 4
 four_long s at h = length-take-le 4 (drop at s) (rw (length-drop at s) (omega arith))
 
 section_bytes : all is_byte (bytes "Section ") ≡ true
-unfolding all is_byte both if◌then◌else◌
+unfolding all is_byte both provided◌then◌else◌
 section_bytes = refl
 
 mult_bytes : all is_byte (bytes "on Mult=") ≡ true
-unfolding all is_byte both if◌then◌else◌
+unfolding all is_byte both provided◌then◌else◌
 mult_bytes = refl
 
 section_joined : joined (bytes "Section ") ≡ 2_336_927_755_366_786_387
@@ -130,19 +130,19 @@ module _ (s : List ℕ) (r : ℕ) (p : Paired s r) where
 -- ---- a line that starts with `Section Mult=`
 
 front_says : (rest : List ℕ) → saying_of (first_of (words (mult_front ++ rest))) ≡ says_section
-unfolding saying_of same words_from is_blank word_goes_on is_filled grown both either if◌then◌else◌
+unfolding saying_of same words_from is_blank word_goes_on is_filled grown both either provided◌then◌else◌
 front_says rest = refl
 
 front_left : (rest : List ℕ) → left_of (mult_front ++ rest) ≡ bytes "Section" ∷ bytes "Mult" ∷ []
-unfolding left_of run is_before words_from is_blank word_goes_on is_filled grown both either if◌then◌else◌
+unfolding left_of run is_before words_from is_blank word_goes_on is_filled grown both either provided◌then◌else◌
 front_left rest = refl
 
 front_right : (rest : List ℕ) → right_of (mult_front ++ rest) ≡ words rest
-unfolding right_of run is_before if◌then◌else◌
+unfolding right_of run is_before provided◌then◌else◌
 front_right rest = refl
 
 front_equals : (rest : List ℕ) → to_equals (mult_front ++ rest) ≡ 12
-unfolding run is_before if◌then◌else◌
+unfolding run is_before provided◌then◌else◌
 front_equals rest = refl
 
 module _ (c : List ℕ) (o : OpensMult c) where
@@ -168,12 +168,12 @@ module _ (c : List ℕ) (o : OpensMult c) where
 -- ---- a Section line
 
 parts_reserved : (a n : List ℕ) (name : Span) → is_reserved n ≡ true → parts_line (bytes "Section" ∷ bytes "Mult" ∷ []) (a ∷ n ∷ []) name ≡ wrong_section
-unfolding parts_line is_parted both if◌then◌else◌
-parts_reserved a n name e = ap (λ (b : Bool). if not b then unit_line (bytes "Mult") a name else wrong_section) e
+unfolding parts_line is_parted both provided◌then◌else◌
+parts_reserved a n name e = ap (λ (b : Bool). provided not b then unit_line (bytes "Mult") a name else wrong_section) e
 
 parts_kept : (a n : List ℕ) (name : Span) → is_reserved n ≡ false → parts_line (bytes "Section" ∷ bytes "Mult" ∷ []) (a ∷ n ∷ []) name ≡ amount_line true a name
-unfolding parts_line is_parted unit_line same both if◌then◌else◌
-parts_kept a n name e = ap (λ (b : Bool). if not b then unit_line (bytes "Mult") a name else wrong_section) e
+unfolding parts_line is_parted unit_line same both provided◌then◌else◌
+parts_kept a n name e = ap (λ (b : Bool). provided not b then unit_line (bytes "Mult") a name else wrong_section) e
 
 module _ (c : List ℕ) (end : ℕ) (u : UsualSection c end) where
   -- the words after the sign: its amount and its name
@@ -208,7 +208,7 @@ module _ (c : List ℕ) (end : ℕ) (u : UsualSection c end) where
       ∙ span _ _ (end + 1) (length c) (omega arith) (omega arith)
 
   line_parts : parts_line (bytes "Section" ∷ bytes "Mult" ∷ []) (take (end - 13) (drop 13 c) ∷ take (length c - (end + 1)) (drop (end + 1) c) ∷ []) name_span ≡ parts_of c
-  unfolding parts_of said_parts section_parts if◌then◌else◌
+  unfolding parts_of said_parts section_parts provided◌then◌else◌
   line_parts =
       (λ i. parts_line (sym (opens_left c u.opens) i) (sym usual_right i) (sym usual_name i))
       ∙ sym (if_true _ _ (opens_has c u.opens))
@@ -231,7 +231,7 @@ usual_told c t e opens g pair some =
 -- ---- a line of one word
 
 fork_bytes : all is_byte (bytes "Fork") ≡ true
-unfolding all is_byte both if◌then◌else◌
+unfolding all is_byte both provided◌then◌else◌
 fork_bytes = refl
 
 fork_joined : joined (bytes "Fork") ≡ 1_802_661_702
@@ -239,7 +239,7 @@ unfolding joined
 fork_joined = refl
 
 endf_bytes : all is_byte (bytes "Endf") ≡ true
-unfolding all is_byte both if◌then◌else◌
+unfolding all is_byte both provided◌then◌else◌
 endf_bytes = refl
 
 endf_joined : joined (bytes "Endf") ≡ 1_717_857_861
@@ -247,7 +247,7 @@ unfolding joined
 endf_joined = refl
 
 small_bytes : all is_byte (bytes "fork") ≡ true
-unfolding all is_byte both if◌then◌else◌
+unfolding all is_byte both provided◌then◌else◌
 small_bytes = refl
 
 small_joined : joined (bytes "fork") ≡ 1_802_661_734
@@ -276,7 +276,7 @@ endfork_told c a b long one e two g =
     (known _ _ b (four_long c 3 (omega arith)) small_bytes two (g ∙ sym small_joined))) ends
 
 fork_line : (c : List ℕ) (says : ℕ) (r : PathParts) → UsualFork c says → r ≡ plain_parts says true → r ≡ parts_of c
-unfolding parts_of said_parts saying_of same words_from is_blank word_goes_on is_filled grown both either if◌then◌else◌
+unfolding parts_of said_parts saying_of same words_from is_blank word_goes_on is_filled grown both either provided◌then◌else◌
 fork_line c says r forks h = h
 fork_line c says r ends h = h
 

@@ -7,7 +7,7 @@
 -- Assumes nothing.
 use Rattle.std.specs.Prelude.{ℕ, ◌+◌, ◌-◌, ◌%◌, Bool, true, false, not, List, [], ◌∷◌, length, leb, ltb, eqb}
 use Rattle.table_layout.specs.Bounds.{deepest, most_steps, most_mult}
-use Rattle.base.specs.If.{if◌then◌else◌, both, either}
+use Rattle.base.specs.If.{provided◌then◌else◌, both, either}
 use Rattle.base.specs.Bytes.{bytes}
 use Rattle.base.specs.Runs.{same}
 use Rattle.base.specs.Broken.{Rule, ◌when◌}
@@ -44,11 +44,11 @@ says_endfork = 5
 
 unfoldable pub saying_of : List ℕ → ℕ
 saying_of w =
-    if same w (bytes "Section") then says_section else
-    if same w (bytes "Fork") then says_fork else
-    if same w (bytes "Endfork") then says_endfork else
-    if same w (bytes "Model_pinmap") then says_end else
-    if same w (bytes "Side") then says_side else says_nothing
+    provided same w (bytes "Section") then says_section else
+    provided same w (bytes "Fork") then says_fork else
+    provided same w (bytes "Endfork") then says_endfork else
+    provided same w (bytes "Model_pinmap") then says_end else
+    provided same w (bytes "Side") then says_side else says_nothing
 
 unfoldable pub plain_line : ℕ → Bool → PathLine
 plain_line says right = record { says = says; right = right; formed = true; bounded = true }
@@ -70,7 +70,7 @@ is_mult content = same (second_of (left_of content)) (bytes "Mult")
 -- "amount: Mult, the Len value word"
 unfoldable pub amount_of : List ℕ → ℕ
 amount_of content =
-    if is_mult content then (whole_of (first_of (right_of content))).value else word_in (number_of (first_of (right_of content)))
+    provided is_mult content then (whole_of (first_of (right_of content))).value else word_in (number_of (first_of (right_of content)))
 
 unfoldable pub is_section_line : List ℕ → Bool
 is_section_line content =
@@ -79,22 +79,22 @@ is_section_line content =
     (both (either (is_mult content) (same (second_of (left_of content)) (bytes "Len"))) (not (is_reserved (second_of (right_of content))))))
 
 unfoldable pub amount_formed : Bool → List ℕ → Bool
-amount_formed mult amount = if mult then (whole_of amount).formed else is_formed (number_of amount)
+amount_formed mult amount = provided mult then (whole_of amount).formed else is_formed (number_of amount)
 
 unfoldable pub amount_bounded : Bool → List ℕ → Bool
-amount_bounded mult amount = if mult then is_whole_within 1 most_mult (whole_of amount) else is_length (number_of amount)
+amount_bounded mult amount = provided mult then is_whole_within 1 most_mult (whole_of amount) else is_length (number_of amount)
 
 unfoldable pub section_line : List ℕ → PathLine
 section_line content =
-    if is_section_line content
+    provided is_section_line content
     then record { says = says_section; right = true; formed = amount_formed (is_mult content) (first_of (right_of content)); bounded = amount_bounded (is_mult content) (first_of (right_of content)) }
     else plain_line says_section false
 
 unfoldable pub line_saying : ℕ → List ℕ → PathLine
 line_saying says content =
-    if eqb says says_section then section_line content else
-    if either (eqb says says_fork) (eqb says says_endfork) then plain_line says (eqb (length (words content)) 1) else
-    if either (eqb says says_end) (eqb says says_side) then plain_line says (names_one (words content)) else plain_line says_nothing true
+    provided eqb says says_section then section_line content else
+    provided either (eqb says says_fork) (eqb says says_endfork) then plain_line says (eqb (length (words content)) 1) else
+    provided either (eqb says says_end) (eqb says says_side) then plain_line says (names_one (words content)) else plain_line says_nothing true
 
 unfoldable pub path_line_of : List ℕ → PathLine
 path_line_of content = line_saying (saying_of (first_of (words content))) content
@@ -123,11 +123,11 @@ is_bad_fork l p =
 -- "perhaps with `Side name` as the next line read"; "The first item is a Section"; "perhaps one end as last"
 unfoldable pub is_path_out_of_order : PathLine → Path → Bool
 is_path_out_of_order l p =
-    if eqb l.says says_side then not p.side else
-    if eqb l.says says_section then either (eqb p.stage starting) p.ended else
-    if eqb l.says says_fork then either (ltb p.stage items) p.ended else
-    if eqb l.says says_end then either (eqb p.stage started) p.ended else
-    if eqb l.says says_endfork then false else true
+    provided eqb l.says says_side then not p.side else
+    provided eqb l.says says_section then either (eqb p.stage starting) p.ended else
+    provided eqb l.says says_fork then either (ltb p.stage items) p.ended else
+    provided eqb l.says says_end then either (eqb p.stage started) p.ended else
+    provided eqb l.says says_endfork then false else true
 
 -- of the lines that a path takes, all but Side are steps
 unfoldable pub is_step_line : PathLine → Bool
@@ -147,26 +147,26 @@ open_rules l p steps =
 -- "The end at depth 0 closes the path": only its Side may follow
 abbrev pub closed_rules : PathLine → Path → List Rule
 closed_rules l p =
-    if both (eqb l.says says_side) p.side
+    provided both (eqb l.says says_side) p.side
     then refusal.argument when not l.right ∷ []
     else refusal.line when true ∷ []
 
 abbrev pub path_rules : PathLine → Path → ℕ → List Rule
-path_rules l p steps = if eqb p.stage closed then closed_rules l p else open_rules l p steps
+path_rules l p steps = provided eqb p.stage closed then closed_rules l p else open_rules l p steps
 
 -- the path after an end: its first end, its closing end, or the end of a fork block
 unfoldable pub with_end : Path → Path
 with_end p =
-    if eqb p.stage starting then record { stage = started; depth = p.depth; ended = false; side = true } else
-    if eqb p.depth 0 then record { stage = closed; depth = 0; ended = false; side = true } else
+    provided eqb p.stage starting then record { stage = started; depth = p.depth; ended = false; side = true } else
+    provided eqb p.depth 0 then record { stage = closed; depth = 0; ended = false; side = true } else
     record { stage = items; depth = p.depth; ended = true; side = true }
 
 unfoldable pub path_next : PathLine → Path → Path
 path_next l p =
-    if eqb l.says says_end then with_end p else
-    if eqb l.says says_section then record { stage = items; depth = p.depth; ended = false; side = false } else
-    if eqb l.says says_fork then record { stage = items; depth = p.depth + 1; ended = false; side = false } else
-    if eqb l.says says_endfork then record { stage = items; depth = p.depth - 1; ended = false; side = false } else
+    provided eqb l.says says_end then with_end p else
+    provided eqb l.says says_section then record { stage = items; depth = p.depth; ended = false; side = false } else
+    provided eqb l.says says_fork then record { stage = items; depth = p.depth + 1; ended = false; side = false } else
+    provided eqb l.says says_endfork then record { stage = items; depth = p.depth - 1; ended = false; side = false } else
     record { stage = p.stage; depth = p.depth; ended = p.ended; side = false }
 
 -- "closing with one open" is 15

@@ -2,7 +2,7 @@
 -- rules play no part here. A keyword that a place does not take leads to `dead`, which no line leaves.
 -- Assumes nothing.
 use Rattle.std.specs.Prelude.{ℕ, Bool, List, eqb}
-use Rattle.base.specs.If.{if◌then◌else◌, either}
+use Rattle.base.specs.If.{provided◌then◌else◌, either}
 use Rattle.base.specs.Runs.{same}
 use Rattle.base.specs.Bytes.{bytes}
 use Rattle.lex_keyword.specs.Names.{
@@ -130,26 +130,26 @@ stands_in_header k = either (eqb k file_name) (either (eqb k file_rev) (either (
 
 unfoldable pub leads_in_header : ℕ → ℕ
 leads_in_header k =
-    if stands_in_header k then header else
-    if opens_header_text k then header_text else
-    if eqb k end_header then between else dead
+    provided stands_in_header k then header else
+    provided opens_header_text k then header_text else
+    provided eqb k end_header then between else dead
 
 -- "Family: [Manufacturer] and [ICM Model List] .. pin maps anywhere outside models"
 unfoldable pub leads_in_family : ℕ → ℕ
 leads_in_family k =
-    if eqb k icm_pin_map then map_head else
-    if eqb k begin_icm_model then head else
-    if eqb k end_icm_family then after else
-    if eqb k manufacturer then family else
-    if eqb k icm_model_list then list else
-    if eqb k icm_family_description then family_text else dead
+    provided eqb k icm_pin_map then map_head else
+    provided eqb k begin_icm_model then head else
+    provided eqb k end_icm_family then after else
+    provided eqb k manufacturer then family else
+    provided eqb k icm_model_list then list else
+    provided eqb k icm_family_description then family_text else dead
 
 -- "Model: .. Then [Tree Path Description] once, [ICM Model Description] at most once"
 unfoldable pub leads_in_model : ℕ → ℕ
 leads_in_model k =
-    if eqb k tree_path_description then path else
-    if eqb k icm_model_description then model_text else
-    if eqb k end_icm_model then family else dead
+    provided eqb k tree_path_description then path else
+    provided eqb k icm_model_description then model_text else
+    provided eqb k end_icm_model then family else dead
 
 -- "sections with R, L, G, C matrices"
 unfoldable pub opens_matrix : ℕ → Bool
@@ -158,17 +158,17 @@ opens_matrix k =
     (either (eqb k inductance_matrix) (either (eqb k conductance_matrix) (eqb k capacitance_matrix)))
 
 unfoldable pub leads_in_section : ℕ → ℕ
-leads_in_section k = if opens_matrix k then matrix else if eqb k end_icm_section then after else dead
+leads_in_section k = provided opens_matrix k then matrix else provided eqb k end_icm_section then after else dead
 
 -- the keywords that do not end a matrix
 unfoldable pub is_row_or_bandwidth : ℕ → Bool
 is_row_or_bandwidth k = either (eqb k row) (eqb k bandwidth)
 
 unfoldable pub leads_in_matrix : ℕ → ℕ
-leads_in_matrix k = if is_row_or_bandwidth k then matrix else leads_in_section k
+leads_in_matrix k = provided is_row_or_bandwidth k then matrix else leads_in_section k
 
 unfoldable pub leads_after_family : ℕ → ℕ
-leads_after_family k = if eqb k begin_icm_section then section_head else if eqb k the_end then done else dead
+leads_after_family k = provided eqb k begin_icm_section then section_head else provided eqb k the_end then done else dead
 
 -- "A path, map or list closes at the next keyword", and so does a text block. So the keywords that may follow are those
 -- of the header, family or model around it
@@ -185,16 +185,16 @@ is_in_model p = either (eqb p head) (either (eqb p path) (eqb p model_text))
 -- where the keyword k leads from the place p
 unfoldable pub moved : ℕ → ℕ → ℕ
 moved p k =
-    if eqb p matrix then leads_in_matrix k else
-    if is_in_model p then leads_in_model k else
-    if is_in_family p then leads_in_family k else
-    if is_in_header p then leads_in_header k else
-    if eqb p section then leads_in_section k else
-    if eqb p after then leads_after_family k else
-    if eqb p opened then (if eqb k icm_ver then header else dead) else
-    if eqb p between then (if eqb k begin_icm_family then family else dead) else
-    if eqb p section_head then (if eqb k derivation_method then section else dead) else
-    if eqb p before then (if eqb k begin_header then opened else before) else p
+    provided eqb p matrix then leads_in_matrix k else
+    provided is_in_model p then leads_in_model k else
+    provided is_in_family p then leads_in_family k else
+    provided is_in_header p then leads_in_header k else
+    provided eqb p section then leads_in_section k else
+    provided eqb p after then leads_after_family k else
+    provided eqb p opened then (provided eqb k icm_ver then header else dead) else
+    provided eqb p between then (provided eqb k begin_icm_family then family else dead) else
+    provided eqb p section_head then (provided eqb k derivation_method then section else dead) else
+    provided eqb p before then (provided eqb k begin_header then opened else before) else p
 
 -- "A first non-blank `[` outside column 1 is 6, except in a text block"
 unfoldable pub is_text : ℕ → Bool
@@ -202,4 +202,4 @@ is_text p = either (eqb p header_text) (either (eqb p family_text) (eqb p model_
 
 -- where a line without a keyword leads, by its first word: Pin_list opens the pins
 unfoldable pub moved_by_line : ℕ → List ℕ → ℕ
-moved_by_line p first = if eqb p map_head then (if same first (bytes "Pin_list") then pin_list else map_head) else p
+moved_by_line p first = provided eqb p map_head then (provided same first (bytes "Pin_list") then pin_list else map_head) else p

@@ -16,7 +16,7 @@ use lib.Ieee.Exact.{HasValue}
 use lib.Ieee.Positive.{num, den, den_pos, own_value, value_pos}
 use lib.Ieee.Scale.{finite, round_same}
 use borrow.Author.Tests.{le-leb, lt-leb, ltb-true, ltb-false}
-use Rattle.base.specs.If.{if◌then◌else◌, both, either}
+use Rattle.base.specs.If.{provided◌then◌else◌, both, either}
 use Rattle.base.specs.Bytes.{within}
 use Rattle.base.proofs.IfLaws.{if_true, if_false, by_cases, both_true, both_not_left, both_not_right, both_first}
 use Rattle.lex_number.specs.ValueWord.{zero_word, decimal_of, is_value_word}
@@ -152,7 +152,7 @@ abbrev Rounded : ℕ → Type 0
 Rounded w = double (decimal_of w) ≡ round binary64 (decimal_of w).negative (numerator w) (denominator w)
 
 zero_rounded : Rounded zero_word
-unfolding decimal_of double scaled signed as_double if◌then◌else◌ of_int mul round
+unfolding decimal_of double scaled signed as_double provided◌then◌else◌ of_int mul round
 zero_rounded = refl
 
 written_rounded : (w : ℕ) → is_drawn w ≡ true → Written w → Rounded w
@@ -172,7 +172,7 @@ rounded_once w x e = let d = drew w x e in d.value ∙ rounded_is w d.told
 
 -- "zero is plus zero"
 pub zero_plus : drawn_of zero_word ≡ Value (fin false 0 (pos 0))
-unfolding drawn_of is_drawn is_value_word decimal_of within double scaled signed as_double both either if◌then◌else◌ of_int mul
+unfolding drawn_of is_drawn is_value_word decimal_of within double scaled signed as_double both either provided◌then◌else◌ of_int mul
 zero_plus = refl
 
 -- a finite number other than zero, with this sign

@@ -4,7 +4,7 @@ use mathlib.Core.Path.{◌≡◌, refl}
 use mathlib.Core.List.{List, [], ◌∷◌, map}
 use Prim.Native.Nat.{ℕ}
 use lib.Ieee.{binary64, round, of_int, to_bits, mul, div, neg}
-use Rattle.base.specs.If.{both, either, if◌then◌else◌}
+use Rattle.base.specs.If.{both, either, provided◌then◌else◌}
 use Rattle.base.specs.Bytes.{within}
 use Rattle.lex_number.specs.ValueWord.{decimal_of, is_decimal, is_value_word}
 use Rattle.out_double.specs.Double.{as_double, scaled, signed, double, is_drawn, drawn_of}
@@ -30,12 +30,12 @@ drawn :
     ∷ (0x4331c37937e08000 ∷ [])
     ∷ (0x433ff973cafa8000 ∷ [])
     ∷ []
-unfolding drawn_of is_drawn is_value_word is_decimal decimal_of within double scaled signed as_double both either if◌then◌else◌ of_int to_bits mul div neg round
+unfolding drawn_of is_drawn is_value_word is_decimal decimal_of within double scaled signed as_double both either provided◌then◌else◌ of_int to_bits mul div neg round
 drawn = refl
 
 -- 1e23 and 1e-23, a zero with a sign, zeros and a one with k -64, 10e0, an m of 16 digits, the greatest word
 outside :
     map drawn_of (430 ∷ 338 ∷ 129 ∷ 0 ∷ 1 ∷ 256 ∷ 2688 ∷ 2305843009213694080 ∷ 18446744073709551615 ∷ [])
     ≡ Outside ∷ Outside ∷ Outside ∷ Outside ∷ Outside ∷ Outside ∷ Outside ∷ Outside ∷ Outside ∷ []
-unfolding drawn_of is_drawn is_value_word is_decimal decimal_of within both either if◌then◌else◌
+unfolding drawn_of is_drawn is_value_word is_decimal decimal_of within both either provided◌then◌else◌
 outside = refl

@@ -8,7 +8,7 @@ use lib.Ieee.{Float, nan, inf, fin, Format, binary64, prec, emax, low, odd, unit
 use lib.Ieee.Exact.{HasValue}
 use lib.Ieee.Fits.{neg-fits, round_is}
 use Rattle.out_double.specs.Double.{signed}
-use Rattle.base.specs.If.{if◌then◌else◌}
+use Rattle.base.specs.If.{provided◌then◌else◌}
 
 neg_odd : (d q k l : ℕ) → neg (odd d false q k l) ≡ odd d true q k l
 unfolding neg odd
@@ -34,16 +34,16 @@ neg_value (fin s m e) a c h = (ap not h.0, h.1)
 
 -- a negative number is rounded as its absolute value is
 pub signed_round : (s : Bool) (a c : ℕ) → signed s (round binary64 false a c) ≡ round binary64 s a c
-unfolding signed if◌then◌else◌
+unfolding signed provided◌then◌else◌
 signed_round true a c = neg_round binary64 a c
 signed_round false a c = refl
 
 pub signed_value : (s : Bool) (x : Float) (a c : ℕ) → HasValue x false a c → HasValue (signed s x) s a c
-unfolding signed if◌then◌else◌
+unfolding signed provided◌then◌else◌
 signed_value true x a c h = neg_value x a c h
 signed_value false x a c h = h
 
 pub signed_fits : (s : Bool) (x : Float) → T (fits binary64 x) → T (fits binary64 (signed s x))
-unfolding signed if◌then◌else◌
+unfolding signed provided◌then◌else◌
 signed_fits true x h = neg-fits binary64 x h
 signed_fits false x h = h

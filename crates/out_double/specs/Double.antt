@@ -3,7 +3,7 @@
 use Rattle.std.specs.Prelude.{ℕ, ◌+◌, ◌-◌, ◌^◌, Bool, ltb, pos, Float}
 use Rattle.std.specs.Float.{binary64}
 use Rattle.std.specs.Float.Ieee.{of_int, mul, div, neg}
-use Rattle.base.specs.If.{if◌then◌else◌, both}
+use Rattle.base.specs.If.{provided◌then◌else◌, both}
 use Rattle.base.specs.Bytes.{within}
 use Rattle.lex_number.specs.ValueWord.{decimal_of, is_value_word}
 use Rattle.lex_number.specs.declared.Decimal.{Decimal}
@@ -25,12 +25,12 @@ as_double n = of_int binary64 (pos n)
 -- without its sign, `shifted` is k + 64
 unfoldable pub scaled : ℕ → ℕ → Float
 scaled size shifted =
-    if ltb shifted 64
+    provided ltb shifted 64
     then div binary64 (as_double size) (as_double (10 ^ (64 - shifted)))
     else mul binary64 (as_double size) (as_double (10 ^ (shifted - 64)))
 
 unfoldable pub signed : Bool → Float → Float
-signed negative x = if negative then neg x else x
+signed negative x = provided negative then neg x else x
 
 -- "A sign survives; zero is plus zero": zero has one value word, and that has no sign
 unfoldable pub double : Decimal → Float
@@ -43,7 +43,7 @@ is_drawn word = both (is_value_word word) (within (64 - span) (64 + span) (decim
 
 -- "either a drawn value or "outside""
 unfoldable pub drawn_of : ℕ → Drawn
-drawn_of word = if is_drawn word then Value (double (decimal_of word)) else Outside
+drawn_of word = provided is_drawn word then Value (double (decimal_of word)) else Outside
 
 -- "drawing a pair of a frequency and a value answers outside if either is"
 unfoldable pub paired : Drawn → Drawn → DrawnPair

@@ -6,7 +6,7 @@ use mathlib.Core.List.{List, [], ◌∷◌, ◌++◌}
 use Prim.Native.Nat.{ℕ}
 use lib.ListN.{length, get_or}
 use borrow.Author.Tests.{eq-eqb, ne_eqb}
-use Rattle.base.specs.If.{if◌then◌else◌}
+use Rattle.base.specs.If.{provided◌then◌else◌}
 use Rattle.base.specs.Bytes.{bytes, space, line_feed}
 use Rattle.base.proofs.IfLaws.{if_true, if_false, Yes, No}
 use Rattle.table_layout.specs.Layout.{models, steps, maps, sections}
@@ -26,16 +26,16 @@ use Rattle.out_listing.specs.Listing.{listed_from, listed_model, listed_end, lis
 -- ---- what is chosen by a test
 
 module _ (a b : List ℕ) (at next : ℕ) (test : Bool) (x y : List ℕ) where
-  pub line_yes : Yes test → Written a b at next x → Written a b at next (if test then x else y)
+  pub line_yes : Yes test → Written a b at next x → Written a b at next (provided test then x else y)
   line_yes h w = written_is (sym (if_true x y h.holds)) w
 
-  pub line_no : No test → Written a b at next y → Written a b at next (if test then x else y)
+  pub line_no : No test → Written a b at next y → Written a b at next (provided test then x else y)
   line_no h w = written_is (sym (if_false x y h.fails)) w
 
-  pub text_yes : (after : ℕ) → Yes test → Written a b at next (x ++ (after ∷ [])) → Written a b at next ((if test then x else y) ++ (after ∷ []))
+  pub text_yes : (after : ℕ) → Yes test → Written a b at next (x ++ (after ∷ [])) → Written a b at next ((provided test then x else y) ++ (after ∷ []))
   text_yes after h w = written_is (ap (λ (l : List ℕ). l ++ (after ∷ [])) (sym (if_true x y h.holds))) w
 
-  pub text_no : (after : ℕ) → No test → Written a b at next (y ++ (after ∷ [])) → Written a b at next ((if test then x else y) ++ (after ∷ []))
+  pub text_no : (after : ℕ) → No test → Written a b at next (y ++ (after ∷ [])) → Written a b at next ((provided test then x else y) ++ (after ∷ []))
   text_no after h w = written_is (ap (λ (l : List ℕ). l ++ (after ∷ [])) (sym (if_false x y h.fails))) w
 
 pub name_told : (t a b : List ℕ) (at next after start size : ℕ) (name : List ℕ) → Written a b at next (name ++ (after ∷ [])) → name ≡ name_at t start size →

@@ -3,7 +3,7 @@
 -- section, method, N; section, kind, row, column, value."
 -- Assumes nothing.
 use Rattle.std.specs.Prelude.{ℕ, zero, suc, ◌+◌, List, [], ◌∷◌, ◌++◌, length, get_or, eqb}
-use Rattle.base.specs.If.{if◌then◌else◌}
+use Rattle.base.specs.If.{provided◌then◌else◌}
 use Rattle.base.specs.Bytes.{bytes}
 use Rattle.table_layout.specs.Layout.{models, steps, maps, sections}
 use Rattle.table_layout.specs.Codes.{
@@ -34,19 +34,19 @@ use Rattle.out_listing.specs.Shown.{shown, kind_in, owner_of, values_in}
 
 unfoldable pub type_text : ℕ → List ℕ
 type_text type =
-    if eqb type slm_general then bytes "SLM_general" else
-    if eqb type slm_quiescent then bytes "SLM_quiescent" else
-    if eqb type mlm then bytes "MLM" else []
+    provided eqb type slm_general then bytes "SLM_general" else
+    provided eqb type slm_quiescent then bytes "SLM_quiescent" else
+    provided eqb type mlm then bytes "MLM" else []
 
 unfoldable pub method_text : ℕ → List ℕ
-method_text method = if eqb method lumped then bytes "Lumped" else if eqb method distributed then bytes "Distributed" else []
+method_text method = provided eqb method lumped then bytes "Lumped" else provided eqb method distributed then bytes "Distributed" else []
 
 unfoldable pub kind_text : ℕ → List ℕ
 kind_text kind =
-    if eqb kind resistance_kind then bytes "R" else
-    if eqb kind inductance_kind then bytes "L" else
-    if eqb kind conductance_kind then bytes "G" else
-    if eqb kind capacitance_kind then bytes "C" else []
+    provided eqb kind resistance_kind then bytes "R" else
+    provided eqb kind inductance_kind then bytes "L" else
+    provided eqb kind conductance_kind then bytes "G" else
+    provided eqb kind capacitance_kind then bytes "C" else []
 
 -- the lines of `many` records from record i on
 unfoldable pub listed_from : (ℕ → List ℕ) → ℕ → ℕ → List ℕ
@@ -56,7 +56,7 @@ listed_from line (suc many) i = line i ++ listed_from line many (i + 1)
 -- A step over a Lumped section has a Mult, printed as an integer; one over a Distributed section has a Len, printed as
 -- a value (G3 of docs/READINGS.md).
 unfoldable pub amount_text : ℕ → ℕ → List ℕ
-amount_text method amount = if eqb method lumped then decimal amount else value_text amount
+amount_text method amount = provided eqb method lumped then decimal amount else value_text amount
 
 -- ---- a line for each record; t is the text, r the records that the table shows
 
@@ -85,7 +85,7 @@ module _ (t : List ℕ) (r : Records) where
   -- "then amount .. or Side": the last field, if there is one (G3 of docs/READINGS.md)
   unfoldable pub listed_end : StepRecord → List ℕ
   listed_end s =
-      if eqb s.side_size 0
+      provided eqb s.side_size 0
       then line_of (bytes "end" ∷ decimal s.line ∷ name_at t (target_map s).start (target_map s).size ∷ [])
       else
       line_of
@@ -106,18 +106,18 @@ module _ (t : List ℕ) (r : Records) where
 
   unfoldable pub listed_step : StepRecord → List ℕ
   listed_step s =
-      if eqb s.kind end_kind then listed_end s else
-      if eqb s.kind section_kind then listed_section_step s else
-      if eqb s.kind fork_kind then line_of (bytes "fork" ∷ decimal s.line ∷ []) else
+      provided eqb s.kind end_kind then listed_end s else
+      provided eqb s.kind section_kind then listed_section_step s else
+      provided eqb s.kind fork_kind then line_of (bytes "fork" ∷ decimal s.line ∷ []) else
       line_of (bytes "endfork" ∷ decimal s.line ∷ [])
 
   -- ---- all of them
 
   unfoldable pub listed_record : ℕ → ℕ → List ℕ
   listed_record part i =
-      if eqb part models then listed_model t (get_or r.models i no_model) else
-      if eqb part steps then listed_step (get_or r.steps i no_step) else
-      if eqb part maps then listed_map t (get_or r.maps i no_map) else listed_section t (get_or r.sections i no_section)
+      provided eqb part models then listed_model t (get_or r.models i no_model) else
+      provided eqb part steps then listed_step (get_or r.steps i no_step) else
+      provided eqb part maps then listed_map t (get_or r.maps i no_map) else listed_section t (get_or r.sections i no_section)
 
   -- a part: its name and how many records it has, then their lines
   unfoldable pub part_text : List ℕ → ℕ → ℕ → List ℕ

@@ -9,7 +9,7 @@ use native.Mathlib.Omega.{arith}
 use lib.ListN.{length, length-append, drop}
 use lib.Dec.{eqb}
 use borrow.Author.Tests.{eq-eqb, ne_eqb}
-use Rattle.base.specs.If.{if◌then◌else◌}
+use Rattle.base.specs.If.{provided◌then◌else◌}
 use Rattle.base.proofs.IfLaws.{if_true, if_false, by_cases, both_true, both_not_left}
 use Rattle.lex_line.specs.Lines.{contents}
 use Rattle.line_place.specs.Place.{is_in_model}
@@ -113,7 +113,7 @@ module _ (p : ℕ) (l : Line) (is_plain : IsPlain p l) where
 
 -- ---- the head of a model
 
-pub head_more : (h : Head) (l : Line) (ls : List Line) → head_in h (l ∷ ls) ≡ head_in (if stands_in place.head l then head_next (head_line_of l.content) h else h) ls
+pub head_more : (h : Head) (l : Line) (ls : List Line) → head_in h (l ∷ ls) ≡ head_in (provided stands_in place.head l then head_next (head_line_of l.content) h else h) ls
 unfolding head_in
 head_more h l ls = refl
 
@@ -131,7 +131,7 @@ head_front p away h (more {x = l} {xs = ls} k ks) rest =
 
 -- ---- the SGR of a model
 
-pub sgr_more : (n : ℕ) (l : Line) (ls : List Line) → sgr_in n (l ∷ ls) ≡ sgr_in (if says_sgr l then l.line else n) ls
+pub sgr_more : (n : ℕ) (l : Line) (ls : List Line) → sgr_in n (l ∷ ls) ≡ sgr_in (provided says_sgr l then l.line else n) ls
 unfolding sgr_in
 sgr_more n l ls = refl
 
@@ -150,7 +150,7 @@ sgr_front p away n (more {x = l} {xs = ls} k ks) rest =
 
 -- ---- the grid of a map
 
-pub grid_more : (m : Map) (l : Line) (ls : List Line) → grid_in m (l ∷ ls) ≡ grid_in (if stands_in place.map_head l then map_next (map_line_of l.content) m else m) ls
+pub grid_more : (m : Map) (l : Line) (ls : List Line) → grid_in m (l ∷ ls) ≡ grid_in (provided stands_in place.map_head l then map_next (map_line_of l.content) m else m) ls
 unfolding grid_in
 grid_more m l ls = refl
 
@@ -169,13 +169,13 @@ grid_next : (x : MapLine) {m n : Map} → SameGrid m n → SameGrid (map_next x 
 unfolding map_next
 grid_next x g =
     record {
-      order = ap (λ (v : ℕ). if eqb x.says says_order then x.value else v) g.order;
-      rows = ap (λ (v : ℕ). if eqb x.says says_rows then x.value else v) g.rows;
-      columns = ap (λ (v : ℕ). if eqb x.says says_columns then x.value else v) g.columns;
+      order = ap (λ (v : ℕ). provided eqb x.says says_order then x.value else v) g.order;
+      rows = ap (λ (v : ℕ). provided eqb x.says says_rows then x.value else v) g.rows;
+      columns = ap (λ (v : ℕ). provided eqb x.says says_columns then x.value else v) g.columns;
     }
 
-grid_either : (b : Bool) (x : MapLine) {m n : Map} → SameGrid m n → SameGrid (if b then map_next x m else m) (if b then map_next x n else n)
-unfolding if◌then◌else◌
+grid_either : (b : Bool) (x : MapLine) {m n : Map} → SameGrid m n → SameGrid (provided b then map_next x m else m) (provided b then map_next x n else n)
+unfolding provided◌then◌else◌
 grid_either true x g = grid_next x g
 grid_either false x g = g
 
@@ -185,4 +185,4 @@ grid_lines {m} {n} g (l ∷ ls) =
     let inside : Bool = stands_in place.map_head l in
     let said : MapLine = map_line_of l.content in
     rw (grid_more m l ls, grid_more n l ls)
-    (grid_lines {m = if inside then map_next said m else m} {n = if inside then map_next said n else n} (grid_either inside said g) ls)
+    (grid_lines {m = provided inside then map_next said m else m} {n = provided inside then map_next said n else n} (grid_either inside said g) ls)

@@ -9,7 +9,7 @@ use native.Mathlib.Omega.{arith}
 use lib.ListN.{drop}
 use lib.Dec.{eqb}
 use borrow.Author.Tests.{ne_eqb}
-use Rattle.base.specs.If.{if◌then◌else◌}
+use Rattle.base.specs.If.{provided◌then◌else◌}
 use Rattle.base.proofs.IfLaws.{if_false, by_cases, both_not_left, either_false}
 use Rattle.lex_line.specs.Lines.{Said, is_blank_line, contents}
 use Rattle.line_place.specs.Place.{moved, moved_by_line, leads_in_matrix, leads_in_section, leads_after_family, is_in_model, is_in_family, is_in_header}
@@ -40,8 +40,8 @@ module _ (p : ℕ) (late : place.after ≤ p) where
   not_header = either_false _ _ (no_place place.header (omega arith)) (no_place place.header_text (omega arith))
 
 -- a choice between late places is late
-late_if : (b : Bool) (x y : ℕ) → place.after ≤ x → place.after ≤ y → place.after ≤ (if b then x else y)
-unfolding if◌then◌else◌
+late_if : (b : Bool) (x y : ℕ) → place.after ≤ x → place.after ≤ y → place.after ≤ (provided b then x else y)
+unfolding provided◌then◌else◌
 late_if true x y h k = h
 late_if false x y h k = k
 
@@ -63,9 +63,9 @@ late_moved p k h =
     late_if _ _ _ (late_matrix k)
     (rw (if_false {A = ℕ} (place.leads_in_model k) _ (not_model p h), if_false {A = ℕ} (place.leads_in_family k) _ (not_family p h), if_false {A = ℕ} (place.leads_in_header k) _ (not_header p h))
     (late_if _ _ _ (late_section k) (late_if _ _ _ (late_after k)
-    (rw (if_false {A = ℕ} (if eqb k icm_ver then place.header else place.dead) _ (no_place p h place.opened (omega arith)), if_false {A = ℕ} (if eqb k begin_icm_family then place.family else place.dead) _ (no_place p h place.between (omega arith)))
+    (rw (if_false {A = ℕ} (provided eqb k icm_ver then place.header else place.dead) _ (no_place p h place.opened (omega arith)), if_false {A = ℕ} (provided eqb k begin_icm_family then place.family else place.dead) _ (no_place p h place.between (omega arith)))
     (late_if _ _ _ (late_if _ _ _ (omega arith) (omega arith))
-    (rw (if_false {A = ℕ} (if eqb k begin_header then place.opened else place.before) p (no_place p h place.before (omega arith))) h))))))
+    (rw (if_false {A = ℕ} (provided eqb k begin_header then place.opened else place.before) p (no_place p h place.before (omega arith))) h))))))
 
 late_line : (p : ℕ) (first : List ℕ) → place.after ≤ p → place.after ≤ moved_by_line p first
 unfolding moved_by_line

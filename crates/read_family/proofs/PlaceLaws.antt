@@ -7,7 +7,7 @@ use Prim.Native.Nat.{ℕ, zero, suc, ◌≤◌, ◌<◌}
 use native.Mathlib.Omega.{arith}
 use lib.Dec.{eqb}
 use borrow.Author.Tests.{eq-eqb, ne_eqb, eqb-true, eqb-false}
-use Rattle.base.specs.If.{if◌then◌else◌, both, either}
+use Rattle.base.specs.If.{provided◌then◌else◌, both, either}
 use Rattle.base.proofs.IfLaws.{
   if_false,
   by_test,
@@ -60,7 +60,7 @@ early_known (suc (suc (suc (suc (suc (suc (suc (suc (suc (suc (suc (suc (suc zer
 early_known (suc (suc (suc (suc (suc (suc (suc (suc (suc (suc (suc (suc (suc (suc p)))))))))))))) h = absurd (omega arith)
 
 -- whichever of two a test chooses
-whichever : (P : ℕ → Type 0) (b : Bool) (x y : ℕ) → P x → P y → P (if b then x else y)
+whichever : (P : ℕ → Type 0) (b : Bool) (x y : ℕ) → P x → P y → P (provided b then x else y)
 whichever P b x y h k = by_test P b x y (λ (e : b ≡ true). h) (λ (e : b ≡ false). k)
 
 -- unless it is misplaced, a keyword leads no further than behind the family
@@ -147,7 +147,7 @@ record Leads (p : ℕ) : Type 0 where
   no_model_lem : is_in_model p ≡ false
 
 leads : (p : ℕ) → is_in_family p ≡ true → Leads p
-unfolding moved leads_in_family is_in_family is_in_model if◌then◌else◌ either
+unfolding moved leads_in_family is_in_family is_in_model provided◌then◌else◌ either
 leads =
     by_family Leads (record { model = refl; map = refl; no_head = refl; no_model_lem = refl })
     (record { model = refl; map = refl; no_head = refl; no_model_lem = refl })

@@ -8,7 +8,7 @@ use Prim.Native.Nat.{ℕ, ◌≤◌, ◌<◌}
 use native.Mathlib.Omega.{arith}
 use lib.Dec.{eqb}
 use borrow.Author.Tests.{eq-eqb, ne_eqb, eqb-true, eqb-false}
-use Rattle.base.specs.If.{if◌then◌else◌, both, either}
+use Rattle.base.specs.If.{provided◌then◌else◌, both, either}
 use Rattle.base.specs.Refusal as refusal
 use Rattle.base.proofs.IfLaws.{if_true, if_false, by_cases, both_first, both_second, both_rest, both_not_left, both_not_right, either_false, either_none_first, either_none_second}
 use Rattle.lex_line.specs.Lines.{is_blank_line}
@@ -42,10 +42,10 @@ use Rattle.read_family.proofs.PlaceLaws.{early_known, early_after}
 
 -- the head of a model and the grid of a map after a line
 abbrev pub head_taken : Line → Head → Head
-head_taken l h = if stands_in place.head l then head_next (head_line_of l.content) h else h
+head_taken l h = provided stands_in place.head l then head_next (head_line_of l.content) h else h
 
 abbrev pub grid_taken : Line → Map → Map
-grid_taken l m = if stands_in place.map_head l then map_next (map_line_of l.content) m else m
+grid_taken l m = provided stands_in place.map_head l then map_next (map_line_of l.content) m else m
 
 pub record Takes (l : Line) (s s' : State) : Type 0 where
   pub here : l.place ≡ s.place
@@ -59,9 +59,9 @@ pub record Takes (l : Line) (s s' : State) : Type 0 where
   pub none_yet : NoneYet s.counts → NoneYet s'.counts
   pub models : s'.counts.models ≡ one_more_if (opens_model l) s.counts.models
   pub maps : s'.counts.maps ≡ one_more_if (opens_map l) s.counts.maps
-  pub head : s'.head ≡ (if opens_model l then new_head else head_taken l s.head)
+  pub head : s'.head ≡ (provided opens_model l then new_head else head_taken l s.head)
   pub sgr : says_sgr l ≡ true → s.head.sgr ≡ false
-  pub map : s'.map ≡ (if opens_map l then new_map else grid_taken l s.map)
+  pub map : s'.map ≡ (provided opens_map l then new_map else grid_taken l s.map)
 
 -- ---- a line of a path or a pin list that is read alone has a keyword
 
@@ -201,11 +201,11 @@ module _ (l : Line) (s : State) (here : l.place ≡ s.place) (early : s.place < 
               };
           models = sym (if_false _ _ plain_model);
           maps = sym (if_false _ _ plain_map);
-          head = ap (λ (b : Bool). if b then head_next (head_line_of l.content) s.head else s.head) (sym (stands_told place.head)) ∙ sym (if_false _ _ plain_model);
+          head = ap (λ (b : Bool). provided b then head_next (head_line_of l.content) s.head else s.head) (sym (stands_told place.head)) ∙ sym (if_false _ _ plain_model);
           sgr = first_sgr_lem kept;
           map =
               (λ i.
-              if sym (stands_told place.map_head) i
+              provided sym (stands_told place.map_head) i
               then map_next (map_line_of l.content) s.map
               else if_false (with_pin s.map) s.map (ne_eqb _ _ no_list) i)
               ∙ sym (if_false _ _ plain_map);
@@ -284,10 +284,10 @@ module _ (l : Line) (s : State) (here : l.place ≡ s.place) (early : s.place < 
           models = ap (λ (b : Bool). one_more_if b s.counts.models) (sym model_told);
           maps = ap (λ (b : Bool). one_more_if b s.counts.maps) (sym map_told);
           head =
-              (λ i. if sym model_told i then new_head else sym (if_false (head_next (head_line_of l.content) s.head) s.head (keyed_apart place.head)) i);
+              (λ i. provided sym model_told i then new_head else sym (if_false (head_next (head_line_of l.content) s.head) s.head (keyed_apart place.head)) i);
           sgr = unsaid (keyed_apart place.head);
           map =
-              (λ i. if sym map_told i then new_map else sym (if_false (map_next (map_line_of l.content) s.map) s.map (keyed_apart place.map_head)) i);
+              (λ i. provided sym map_told i then new_map else sym (if_false (map_next (map_line_of l.content) s.map) s.map (keyed_apart place.map_head)) i);
         }
 
 -- ---- a line that breaks no rule

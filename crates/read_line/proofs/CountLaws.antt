@@ -10,7 +10,7 @@ use lib.ListN.{length, get_or, set, length-set}
 use lib.Seq.{get_or-set_same, get_or-set_other}
 use lib.Dec.{eqb, ltb}
 use borrow.Author.Tests.{ne_eqb, eqb-true, eqb-false, ltb-true, ltb-false}
-use Rattle.base.specs.If.{if◌then◌else◌, either}
+use Rattle.base.specs.If.{provided◌then◌else◌, either}
 use Rattle.base.specs.Runs.{same}
 use Rattle.base.specs.Bytes.{bytes}
 use Rattle.base.proofs.IfLaws.{
@@ -115,7 +115,7 @@ read_within t c e = rw (reads_counts t c e) (kept_within _ _ (read_kept t c e))
 
 -- 1 for a keyword that has been read, else 0
 unfoldable flag : List Bool → ℕ → ℕ
-flag seen k = if get_or seen k false then 1 else 0
+flag seen k = provided get_or seen k false then 1 else 0
 
 unfoldable kinds : List Bool → ℕ
 kinds seen = flag seen resistance_matrix + flag seen inductance_matrix + flag seen conductance_matrix + flag seen capacitance_matrix
@@ -134,7 +134,7 @@ flag_same seen k h = if_true _ _ (get_or-set_same seen k true false h)
 
 flag_other : (seen : List Bool) (k j : ℕ) (a : Bool) → (j ≡ k → ⊥) → flag (set seen k a) j ≡ flag seen j
 unfolding flag
-flag_other seen k j a h = ap (λ (b : Bool). if b then 1 else 0) (get_or-set_other seen k j a false h)
+flag_other seen k j a h = ap (λ (b : Bool). provided b then 1 else 0) (get_or-set_other seen k j a false h)
 
 kinds_most : (seen : List Bool) → kinds seen ≤ 4
 unfolding kinds
@@ -312,8 +312,8 @@ away_low p h a b = omega arith
 away_high : (p : ℕ) → done ≤ p → Away p
 away_high p h a b = omega arith
 
-away_if : (b : Bool) (x y : ℕ) → Away x → Away y → Away (if b then x else y)
-unfolding if◌then◌else◌
+away_if : (b : Bool) (x y : ℕ) → Away x → Away y → Away (provided b then x else y)
+unfolding provided◌then◌else◌
 away_if true x y h k = h
 away_if false x y h k = k
 
@@ -378,7 +378,7 @@ record Strange (k : ℕ) : Type 0 where
   section_other : eqb k begin_icm_section ≡ false
 
 strange : (k : ℕ) → opens_matrix k ≡ true → Strange k
-unfolding leads_in_model leads_in_family leads_in_header leads_after_family stands_in_header opens_header_text either if◌then◌else◌
+unfolding leads_in_model leads_in_family leads_in_header leads_after_family stands_in_header opens_header_text either provided◌then◌else◌
 strange =
     by_kind Strange
     (record { model = refl; family = refl; header = refl; after = refl; opened = refl; between = refl; other = λ (e : resistance_matrix ≡ begin_header). omega arith; model_other = refl; section_other = refl })
@@ -481,7 +481,7 @@ past_moved p k out on started s =
 
 -- no keyword leads back from there
 stays_past : (p k : ℕ) → done < p → moved p k ≡ p
-unfolding moved is_in_model is_in_family is_in_header either if◌then◌else◌
+unfolding moved is_in_model is_in_family is_in_header either provided◌then◌else◌
 stays_past p k h =
     rw (
       far place.matrix (omega arith),

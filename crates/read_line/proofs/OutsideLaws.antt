@@ -9,7 +9,7 @@ use native.Mathlib.Omega.{arith}
 use lib.ListN.{length}
 use lib.Dec.{eqb}
 use borrow.Author.Tests.{ne_eqb, eqb-true, eqb-false, ltb-false}
-use Rattle.base.specs.If.{if◌then◌else◌}
+use Rattle.base.specs.If.{provided◌then◌else◌}
 use Rattle.base.specs.Refusal as refusal
 use Rattle.base.proofs.IfLaws.{if_true, if_false, by_test, by_cases, both_rest}
 use Rattle.base.proofs.BrokenLaws.{Numbered, all_kept}
@@ -63,8 +63,8 @@ module _ (P : State → Type 0) where
       (λ (e : eqb k 0 ≡ false). rw (if_false {b = eqb k 0} (goes next) (breaks k s) e) (λ (z : k ≡ 0). absurd (eqb-false k 0 e z)))
 
   -- whichever of two results a test chooses
-  holds_if : (b : Bool) (x y : LineResult) → Holds x → Holds y → Holds (if b then x else y)
-  unfolding if◌then◌else◌
+  holds_if : (b : Bool) (x y : LineResult) → Holds x → Holds y → Holds (provided b then x else y)
+  unfolding provided◌then◌else◌
   holds_if true x y h k = h
   holds_if false x y h k = k
 

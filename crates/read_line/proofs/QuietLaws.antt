@@ -10,7 +10,7 @@ use native.Mathlib.Omega.{arith}
 use lib.ListN.{length, get_or}
 use lib.Dec.{ltb, eqb}
 use borrow.Author.Tests.{eq-eqb, ne_eqb, not-true}
-use Rattle.base.specs.If.{if◌then◌else◌}
+use Rattle.base.specs.If.{provided◌then◌else◌}
 use Rattle.base.specs.Bytes.{is_blank}
 use Rattle.base.specs.Runs.{run}
 use Rattle.base.specs.Way.Class.{run_end}
@@ -64,7 +64,7 @@ opened_other : (content : List ℕ) → is_open (get_or content (run is_blank co
 unfolding bracket_of
 opened_other content opens plain = true≢false (sym (ap is_plain plain) ∙ ap is_plain (if_false _ _ (ap not opens)) ∙ other)
   where
-    other : is_plain (if ltb 0 (run is_blank content) then Indented else if not (is_good_bracket content) then Bad else named_as (keyword_of (name_of content)) (argument_at content)) ≡ false
+    other : is_plain (provided ltb 0 (run is_blank content) then Indented else provided not (is_good_bracket content) then Bad else named_as (keyword_of (name_of content)) (argument_at content)) ≡ false
     other =
         by_test (λ (b : Bracket). is_plain b ≡ false) (ltb 0 (run is_blank content)) _ _
         (λ e. refl)

@@ -8,7 +8,7 @@ use Prim.Native.Nat.{ℕ}
 use native.Mathlib.Omega.{arith}
 use lib.Dec.{eqb}
 use borrow.Author.Tests.{eq-eqb, ne_eqb, eqb-true, not-false}
-use Rattle.base.specs.If.{if◌then◌else◌, either}
+use Rattle.base.specs.If.{provided◌then◌else◌, either}
 use Rattle.base.specs.Broken.{first, first_broken}
 use Rattle.base.specs.Refusal as refusal
 use Rattle.base.proofs.IfLaws.{if_true, if_false, by_cases, not_via, not_not_via}
@@ -40,27 +40,27 @@ use Rattle.read_line.specs.declared.Reading.TheVariants.{Read, Refused}
 
 module _ (content : List ℕ) (s : State) where
   pub rule_matrix : s.place ≡ place.matrix → line_rule content s ≡ data_rule (data_line_of s.matrix.form content) s.matrix s.counts.values
-  unfolding line_rule data_rule is_text either if◌then◌else◌
+  unfolding line_rule data_rule is_text either provided◌then◌else◌
   rule_matrix e = rw e
 
   pub rule_path : s.place ≡ place.path → line_rule content s ≡ path_rule (path_line_of content) s.path s.counts.steps
-  unfolding line_rule path_rule is_text either if◌then◌else◌
+  unfolding line_rule path_rule is_text either provided◌then◌else◌
   rule_path e = rw e
 
   pub rule_pins : s.place ≡ place.pin_list → line_rule content s ≡ pin_rule content s.map s.counts.pins
-  unfolding line_rule pin_rule is_text either if◌then◌else◌
+  unfolding line_rule pin_rule is_text either provided◌then◌else◌
   rule_pins e = rw e
 
   pub rule_map : s.place ≡ place.map_head → line_rule content s ≡ map_rule (map_line_of content) s.map
-  unfolding line_rule map_rule is_text either if◌then◌else◌
+  unfolding line_rule map_rule is_text either provided◌then◌else◌
   rule_map e = rw e
 
   pub rule_head : s.place ≡ place.head → line_rule content s ≡ head_rule (head_line_of content) s.head
-  unfolding line_rule head_rule is_text either if◌then◌else◌
+  unfolding line_rule head_rule is_text either provided◌then◌else◌
   rule_head e = rw e
 
   pub rule_list : s.place ≡ place.list → line_rule content s ≡ first_broken (list_rules content)
-  unfolding line_rule is_text either if◌then◌else◌
+  unfolding line_rule is_text either provided◌then◌else◌
   rule_list e = rw e
 
 -- ---- the result by the kind of the line
@@ -82,8 +82,8 @@ unfolding keyword_step keyword_rule
 keyword_steps k argument s = refl
 
 -- a choice between lines is a choice between their results
-result_chosen : (b : Bool) (x y : RulesAndNext) (s : State) (p q : LineResult) → result_of x s ≡ p → result_of y s ≡ q → result_of (if b then x else y) s ≡ (if b then p else q)
-unfolding if◌then◌else◌
+result_chosen : (b : Bool) (x y : RulesAndNext) (s : State) (p q : LineResult) → result_of x s ≡ p → result_of y s ≡ q → result_of (provided b then x else y) s ≡ (provided b then p else q)
+unfolding provided◌then◌else◌
 result_chosen true x y s p q e f = e
 result_chosen false x y s p q e f = f
 

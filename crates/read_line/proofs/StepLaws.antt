@@ -8,7 +8,7 @@ use native.Mathlib.Omega.{arith}
 use lib.Dec.{eqb}
 use borrow.Author.Tests.{eq-eqb, ne_eqb, eqb-true, eqb-false}
 use Rattle.table_layout.specs.Bounds.{most_pins, most_values, most_steps, most_map_pins}
-use Rattle.base.specs.If.{if◌then◌else◌, both, either}
+use Rattle.base.specs.If.{provided◌then◌else◌, both, either}
 use Rattle.base.specs.Broken.{◌when◌, first, first_broken}
 use Rattle.base.specs.Refusal as refusal
 use Rattle.base.proofs.IfLaws.{if_true, if_false, by_cases, either_rest}
@@ -91,23 +91,23 @@ with_map s p m = record { place = p; seen = s.seen; head = s.head; path = s.path
 
 module _ (content : List ℕ) (s : State) where
   next_head : s.place ≡ place.head → with_head s (head_next (head_line_of content) s.head) ≡ line_next content s
-  unfolding line_next counts_after_line moved_by_line one_more_if both if◌then◌else◌
+  unfolding line_next counts_after_line moved_by_line one_more_if both provided◌then◌else◌
   next_head e = rw e
 
   next_path : s.place ≡ place.path → with_path (path_next (path_line_of content) s.path) (one_more_if (is_step_line (path_line_of content)) s.counts.steps) s ≡ line_next content s
-  unfolding line_next counts_after_line moved_by_line one_more_if both if◌then◌else◌
+  unfolding line_next counts_after_line moved_by_line one_more_if both provided◌then◌else◌
   next_path e = rw e
 
   next_map : s.place ≡ place.map_head → with_map s (moved_by_line s.place (first_of (words content))) (map_next (map_line_of content) s.map) ≡ line_next content s
-  unfolding line_next counts_after_line one_more_if both if◌then◌else◌
+  unfolding line_next counts_after_line one_more_if both provided◌then◌else◌
   next_map e = rw e
 
   next_pin : s.place ≡ place.pin_list → with_pinned (with_pin s.map) (s.counts.pins + 1) s ≡ line_next content s
-  unfolding line_next counts_after_line moved_by_line one_more_if both if◌then◌else◌
+  unfolding line_next counts_after_line moved_by_line one_more_if both provided◌then◌else◌
   next_pin e = rw e
 
   next_data : s.place ≡ place.matrix → with_matrix (data_next (data_line_of s.matrix.form content) s.matrix) (s.counts.values + (data_line_of s.matrix.form content).numbers) s ≡ line_next content s
-  unfolding line_next counts_after_line moved_by_line one_more_if both if◌then◌else◌
+  unfolding line_next counts_after_line moved_by_line one_more_if both provided◌then◌else◌
   next_data e = rw e
 
   -- in a place that takes a line and leaves the state unchanged
@@ -115,19 +115,19 @@ module _ (content : List ℕ) (s : State) where
   next_same p e h = (λ i. with_place s (e i)) ∙ h
 
   next_list : s.place ≡ place.list → with_place s place.list ≡ line_next content s
-  unfolding line_next counts_after_line moved_by_line one_more_if both if◌then◌else◌
+  unfolding line_next counts_after_line moved_by_line one_more_if both provided◌then◌else◌
   next_list e = rw e
 
   next_header : s.place ≡ place.header_text → with_place s place.header_text ≡ line_next content s
-  unfolding line_next counts_after_line moved_by_line one_more_if both if◌then◌else◌
+  unfolding line_next counts_after_line moved_by_line one_more_if both provided◌then◌else◌
   next_header e = rw e
 
   next_family : s.place ≡ place.family_text → with_place s place.family_text ≡ line_next content s
-  unfolding line_next counts_after_line moved_by_line one_more_if both if◌then◌else◌
+  unfolding line_next counts_after_line moved_by_line one_more_if both provided◌then◌else◌
   next_family e = rw e
 
   next_model : s.place ≡ place.model_text → with_place s place.model_text ≡ line_next content s
-  unfolding line_next counts_after_line moved_by_line one_more_if both if◌then◌else◌
+  unfolding line_next counts_after_line moved_by_line one_more_if both provided◌then◌else◌
   next_model e = rw e
 
   next_text : is_text s.place ≡ true → s ≡ line_next content s
@@ -192,15 +192,15 @@ module _ (content : List ℕ) (s : State) (r : LineResult) where
 
 -- a text block is none of the places whose lines are read together
 text_matrix : is_text place.matrix ≡ false
-unfolding is_text either if◌then◌else◌
+unfolding is_text either provided◌then◌else◌
 text_matrix = refl
 
 text_path : is_text place.path ≡ false
-unfolding is_text either if◌then◌else◌
+unfolding is_text either provided◌then◌else◌
 text_path = refl
 
 text_pins : is_text place.pin_list ≡ false
-unfolding is_text either if◌then◌else◌
+unfolding is_text either provided◌then◌else◌
 text_pins = refl
 
 pub text_elsewhere : (p : ℕ) (b : Bool) → b ≡ is_text p → b ≡ true → ReadLineByLine p

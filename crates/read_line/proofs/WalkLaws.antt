@@ -9,7 +9,7 @@ use lib.ListN.{length, take, drop, length-drop}
 use lib.Dec.{eqb}
 use borrow.Author.Tests.{eq-eqb, ne_eqb, eqb-true, eqb-false}
 use Rattle.base.specs.Runs.{run as run'}
-use Rattle.base.specs.If.{if◌then◌else◌}
+use Rattle.base.specs.If.{provided◌then◌else◌}
 use Rattle.base.specs.Refusal as refusal
 use Rattle.base.specs.Bytes.{is_content}
 use Rattle.base.proofs.IfLaws.{if_true, if_false, by_cases}
@@ -67,8 +67,8 @@ unfolding keyword_step
 keeps_keyword n k argument s kept = keeps_judged n (keyword_rule k argument s) (keyword_next k argument s) s (keyword_kept n k argument s kept)
 
 -- whichever of two results a test chooses
-keeps_if : (n : ℕ) (b : Bool) (x y : LineResult) → Keeps n x → Keeps n y → Keeps n (if b then x else y)
-unfolding if◌then◌else◌
+keeps_if : (n : ℕ) (b : Bool) (x y : LineResult) → Keeps n x → Keeps n y → Keeps n (provided b then x else y)
+unfolding provided◌then◌else◌
 keeps_if n true x y h k = h
 keeps_if n false x y h k = k
 

@@ -1,7 +1,7 @@
 -- The forward reading: which rule each line breaks in its place, the state after it, and the result of the whole text.
 -- Assumes nothing.
 use Rattle.std.specs.Prelude.{ℕ, ◌+◌, ◌-◌, true, not, List, [], ◌∷◌, take, drop, eqb}
-use Rattle.base.specs.If.{if◌then◌else◌, both}
+use Rattle.base.specs.If.{provided◌then◌else◌, both}
 use Rattle.base.specs.Broken.{Rule, ◌when◌, first_broken}
 use Rattle.base.specs.Refusal as refusal
 use Rattle.lex_line.specs.Lines.{Said, is_blank_line, contents}
@@ -34,13 +34,13 @@ list_rules content = refusal.argument when is_reserved (first_of (words content)
 -- "12 LINE: other line that its place does not take"; a text block takes any line
 abbrev pub line_rules : List ℕ → State → List Rule
 line_rules content s =
-    if is_text s.place then [] else
-    if eqb s.place place.matrix then data_rules (data_line_of s.matrix.form content) s.matrix s.counts.values else
-    if eqb s.place place.path then path_rules (path_line_of content) s.path s.counts.steps else
-    if eqb s.place place.pin_list then pin_rules content s.map s.counts.pins else
-    if eqb s.place place.map_head then map_rules (map_line_of content) s.map else
-    if eqb s.place place.head then head_rules (head_line_of content) s.head else
-    if eqb s.place place.list then list_rules content else refusal.line when true ∷ []
+    provided is_text s.place then [] else
+    provided eqb s.place place.matrix then data_rules (data_line_of s.matrix.form content) s.matrix s.counts.values else
+    provided eqb s.place place.path then path_rules (path_line_of content) s.path s.counts.steps else
+    provided eqb s.place place.pin_list then pin_rules content s.map s.counts.pins else
+    provided eqb s.place place.map_head then map_rules (map_line_of content) s.map else
+    provided eqb s.place place.head then head_rules (head_line_of content) s.head else
+    provided eqb s.place place.list then list_rules content else refusal.line when true ∷ []
 
 -- the counts after a line without a keyword
 unfoldable pub counts_after_line : List ℕ → State → Counts
@@ -52,7 +52,7 @@ counts_after_line content s =
       pins = one_more_if (eqb s.place place.pin_list) s.counts.pins;
       sections = s.counts.sections;
       matrices = s.counts.matrices;
-      values = if eqb s.place place.matrix then s.counts.values + (data_line_of s.matrix.form content).numbers else s.counts.values;
+      values = provided eqb s.place place.matrix then s.counts.values + (data_line_of s.matrix.form content).numbers else s.counts.values;
     }
 
 -- the state after a line without a keyword
@@ -61,13 +61,13 @@ line_next content s =
     record {
       place = moved_by_line s.place (first_of (words content));
       seen = s.seen;
-      head = if eqb s.place place.head then head_next (head_line_of content) s.head else s.head;
-      path = if eqb s.place place.path then path_next (path_line_of content) s.path else s.path;
+      head = provided eqb s.place place.head then head_next (head_line_of content) s.head else s.head;
+      path = provided eqb s.place place.path then path_next (path_line_of content) s.path else s.path;
       map =
-          if eqb s.place place.map_head then map_next (map_line_of content) s.map else
-          if eqb s.place place.pin_list then with_pin s.map else s.map;
+          provided eqb s.place place.map_head then map_next (map_line_of content) s.map else
+          provided eqb s.place place.pin_list then with_pin s.map else s.map;
       section = s.section;
-      matrix = if eqb s.place place.matrix then data_next (data_line_of s.matrix.form content) s.matrix else s.matrix;
+      matrix = provided eqb s.place place.matrix then data_next (data_line_of s.matrix.form content) s.matrix else s.matrix;
       counts = counts_after_line content s;
     }
 
@@ -99,7 +99,7 @@ keyword_rules_and_next k argument s = record { rules = keyword_rules k argument 
 -- a bad bracket is 6, a keyword not of 000 is 7, a later keyword is 8; these come before every other rule of the line
 abbrev pub bracket_rules_and_next : Bracket → List ℕ → State → RulesAndNext
 bracket_rules_and_next Plain content s = plain_rules_and_next content s
-bracket_rules_and_next Indented content s = if is_text s.place then plain_rules_and_next content s else always_breaks refusal.keyword s
+bracket_rules_and_next Indented content s = provided is_text s.place then plain_rules_and_next content s else always_breaks refusal.keyword s
 bracket_rules_and_next Bad content s = always_breaks refusal.keyword s
 bracket_rules_and_next Unknown content s = always_breaks refusal.unknown s
 bracket_rules_and_next Later content s = always_breaks refusal.later s
@@ -112,14 +112,14 @@ before_rules_and_next Indented content s = passed_over s
 before_rules_and_next Bad content s = passed_over s
 before_rules_and_next Unknown content s = passed_over s
 before_rules_and_next Later content s = passed_over s
-before_rules_and_next (Keyword k start) content s = if eqb k begin_header then keyword_rules_and_next k (argument_from content start) s else passed_over s
+before_rules_and_next (Keyword k start) content s = provided eqb k begin_header then keyword_rules_and_next k (argument_from content start) s else passed_over s
 
 -- "lines left blank are skipped"; a line after [End] breaks none of these rules
 unfoldable pub rules_and_next : List ℕ → State → RulesAndNext
 rules_and_next content s =
-    if is_blank_line content then passed_over s else
-    if eqb s.place done then passed_over s else
-    if eqb s.place before then before_rules_and_next (bracket_of content) content s else bracket_rules_and_next (bracket_of content) content s
+    provided is_blank_line content then passed_over s else
+    provided eqb s.place done then passed_over s else
+    provided eqb s.place before then before_rules_and_next (bracket_of content) content s else bracket_rules_and_next (bracket_of content) content s
 
 -- the line breaks no rule; s is the state after it
 unfoldable pub goes : State → LineResult
@@ -131,7 +131,7 @@ breaks k s = record { rule = k; state = s }
 
 -- the result of a line that breaks rule k, 0 for none
 unfoldable pub judged : ℕ → State → State → LineResult
-judged k next s = if eqb k 0 then goes next else breaks k s
+judged k next s = provided eqb k 0 then goes next else breaks k s
 
 unfoldable pub line_result : List ℕ → State → LineResult
 line_result content s = judged (first_broken (rules_and_next content s).rules) (rules_and_next content s).next s
@@ -143,11 +143,11 @@ abbrev pub end_of_text_rules : State → List Rule
 end_of_text_rules s = refusal.header when eqb s.place before ∷ refusal.end when not (eqb s.place done) ∷ []
 
 unfoldable pub at_end : State → Reading
-at_end s = if eqb (first_broken (end_of_text_rules s)) 0 then Read s.counts else Refused (first_broken (end_of_text_rules s)) 0
+at_end s = provided eqb (first_broken (end_of_text_rules s)) 0 then Read s.counts else Refused (first_broken (end_of_text_rules s)) 0
 
 -- "5 to 17 reading forward .. the earliest line counts"
 unfoldable pub onward : LineResult → ℕ → (State → Reading) → Reading
-onward step n more = if eqb step.rule 0 then more step.state else Refused step.rule n
+onward step n more = provided eqb step.rule 0 then more step.state else Refused step.rule n
 
 -- the result of the lines from line n on, read in state s
 unfoldable pub read_from : ℕ → List Said → State → Reading

@@ -10,7 +10,7 @@ use lib.ListN.{length, take, drop, get_or, length-drop}
 use lib.Seq.{drop-drop, get_or-drop, get_or-take, length-take-le, take-take}
 use lib.Dec.{ltb, eqb}
 use borrow.Author.Tests.{ltb-true, ltb-false, lt-ltb, eqb-true}
-use Rattle.base.specs.If.{if◌then◌else◌, both}
+use Rattle.base.specs.If.{provided◌then◌else◌, both}
 use Rattle.base.specs.Bytes.{is_blank, is_before, is_filled, is_content}
 use Rattle.base.specs.Runs.{run}
 use Rattle.base.specs.Way.Class.{run_end}
@@ -80,8 +80,8 @@ drop_part (suc j) (suc n) (x ∷ s) =
 abbrev texts : List Word → List (List ℕ)
 texts ws = map (λ (w : Word). w.text) ws
 
-texts_if : (b : Bool) (x y p q : List Word) → texts x ≡ texts p → texts y ≡ texts q → texts (if b then x else y) ≡ texts (if b then p else q)
-unfolding if◌then◌else◌
+texts_if : (b : Bool) (x y p q : List Word) → texts x ≡ texts p → texts y ≡ texts q → texts (provided b then x else y) ≡ texts (provided b then p else q)
+unfolding provided◌then◌else◌
 texts_if true x y p q e f = e
 texts_if false x y p q e f = f
 

@@ -8,7 +8,7 @@ use native.Mathlib.Omega.{arith}
 use lib.ListN.{length, take, drop}
 use lib.Dec.{eqb}
 use borrow.Author.Tests.{eq-eqb, ne_eqb}
-use Rattle.base.specs.If.{if◌then◌else◌}
+use Rattle.base.specs.If.{provided◌then◌else◌}
 use Rattle.base.proofs.IfLaws.{if_true, if_false, by_cases, not_via, not_not_via}
 use Rattle.table_record.specs.Way.Stage.{put_at, staged_step_width, staged_step_words, Held}
 use Rattle.table_record.specs.declared.stage.StagedStep.{StagedStep}
@@ -167,7 +167,7 @@ module _ (t : List ℕ) (n at : ℕ) (ends : text.Line) (worded : Worded t n at 
         side_count = sym (if_false _ _ (not_not_via (eq-eqb _ _ is)))
 
         side_none : step_of (line_here t n at) (lines_following t n at) ≡ []
-        unfolding step_of if◌then◌else◌
+        unfolding step_of provided◌then◌else◌
         side_none = rw (says_here ∙ is)
 
         pub line_side : (stage : List ℕ) → TakesStep t at n p steps stage (record { taken = true; rule = 0; path = next; steps = steps }) stage

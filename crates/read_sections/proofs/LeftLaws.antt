@@ -10,7 +10,7 @@ use native.Mathlib.Omega.{arith}
 use lib.ListN.{length, get_or, replicate, length-append}
 use lib.Dec.{eqb}
 use borrow.Author.Tests.{eq-eqb, ne_eqb, eqb-true}
-use Rattle.base.specs.If.{if◌then◌else◌, either}
+use Rattle.base.specs.If.{provided◌then◌else◌, either}
 use Rattle.base.proofs.IfLaws.{if_true, if_false, by_cases, both_true, both_first, both_second, both_not_left, both_not_right, either_right, either_rest, either_none_second}
 use Rattle.lex_keyword.specs.Names.{row, bandwidth, begin_icm_section, derivation_method, end_icm_section}
 use Rattle.line_place.specs.Place.{opens_matrix, is_row_or_bandwidth}
@@ -540,14 +540,14 @@ module _ (o : OpenSection) (m f c k v n : ℕ) (ls rest : List Line) (all : ls �
           ap (matrix_records v) (matrices_here o w ls refl)
           ∙ (λ i. record_is i ∷ matrix_records ((ap (λ (x : List Value). v + length x) open_values ∙ sym counted) i) (matrices_through i))
 
-      conductors_are : (if eqb f diagonal then v' - v else g) ≡ (open_matrix o w ls).conductors
+      conductors_are : (provided eqb f diagonal then v' - v else g) ≡ (open_matrix o w ls).conductors
       unfolding open_matrix conductors_in
       conductors_are =
           let e : v' ≡ v + length vs = counted in
           let d : v' - v ≡ length vs = omega arith in
-          λ i. if eqb f diagonal then d i else greatest_is i
+          λ i. provided eqb f diagonal then d i else greatest_is i
 
-      module _ (kind : o.kind < matrix_kinds) (o' : OpenSection) (section_is : o' ≡ section_with (if eqb f diagonal then v' - v else g) k o) where
+      module _ (kind : o.kind < matrix_kinds) (o' : OpenSection) (section_is : o' ≡ section_with (provided eqb f diagonal then v' - v else g) k o) where
         start_same : o.start ≡ o'.start
         unfolding section_with
         start_same = sym (ap (λ (x : OpenSection). x.start) section_is)
@@ -618,7 +618,7 @@ module _ (ss : List Section) (o : OpenSection) (p m f c k v n n' : ℕ) (away : 
   unfolding sections_left open_records open_record closed_matrices method_left
   blank_left =
       λ i.
-      (if is_in_section p
+      (provided is_in_section p
       then record_with o (method_left (on n) ls) (told_or o.conductors (conductors_of (blank_own i))) (λ (j : ℕ). kept_or (get_or o.kinds j 0) (index_of_kind j (closed_matrices (on n)) (blank_own i))) ∷ []
       else [])
       ++ section_records (closed_matrices (on n) + length (blank_own i)) (gather section_at ls)

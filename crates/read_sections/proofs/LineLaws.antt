@@ -9,7 +9,7 @@ use native.Mathlib.Omega.{arith}
 use lib.ListN.{length}
 use lib.Dec.{eqb}
 use borrow.Author.Tests.{eq-eqb, ne_eqb, eqb-true, eqb-false}
-use Rattle.base.specs.If.{if◌then◌else◌, either}
+use Rattle.base.specs.If.{provided◌then◌else◌, either}
 use Rattle.base.specs.Broken.{first}
 use Rattle.base.specs.Refusal as refusal
 use Rattle.base.proofs.IfLaws.{if_true, if_false, by_test, by_cases, both_not_left, both_not_right, both_true, either_left, either_right, either_rest, either_comes, not_via, not_not_via}
@@ -60,7 +60,7 @@ reached_is s p m f c k v n a b d e g h =
 -- outside matrices no line behind the family is without a keyword
 module _ (content : List ℕ) (s : State) (late : Late s.place) (away : s.place ≡ place.matrix → ⊥) where
   rule_always : (p : ℕ) → s.place ≡ p → place.after ≤ p → p ≤ place.done → (p ≡ place.matrix → ⊥) → line_rule content s ≡ refusal.line
-  unfolding line_rule first is_text either if◌then◌else◌
+  unfolding line_rule first is_text either provided◌then◌else◌
   rule_always p e h k n =
       rw e
       (rw (
@@ -119,7 +119,7 @@ data AfterKey (k : ℕ) : Type 0 where
 
 module _ (k : ℕ) (argument : List ℕ) (s : State) (kept : keyword_rule k argument s ≡ 0) where
   after_key : s.place ≡ place.after → AfterKey k
-  unfolding moved leads_after_family is_in_model is_in_family is_in_header either if◌then◌else◌
+  unfolding moved leads_after_family is_in_model is_in_family is_in_header either provided◌then◌else◌
   after_key p =
       by_cases (AfterKey k) (eqb k begin_icm_section) (λ (e : eqb k begin_icm_section ≡ true). begins (eqb-true _ _ e))
       (λ (e : eqb k begin_icm_section ≡ false).
@@ -127,7 +127,7 @@ module _ (k : ℕ) (argument : List ℕ) (s : State) (kept : keyword_rule k argu
       (λ (f : eqb k the_end ≡ false). absurd (keyword_leads k argument s kept (rw (p, e, f)))))
 
   head_key : s.place ≡ place.section_head → k ≡ derivation_method
-  unfolding moved is_in_model is_in_family is_in_header either if◌then◌else◌
+  unfolding moved is_in_model is_in_family is_in_header either provided◌then◌else◌
   head_key p =
       by_cases (k ≡ derivation_method) (eqb k derivation_method) (λ (e : eqb k derivation_method ≡ true). eqb-true _ _ e)
       (λ (e : eqb k derivation_method ≡ false). absurd (keyword_leads k argument s kept (rw (p, e))))
@@ -147,15 +147,15 @@ module _ (argument : List ℕ) (s : State) where
   -- [Begin ICM Section]
   module _ (p : s.place ≡ place.after) where
     begun_place : (keyword_next begin_icm_section argument s).place ≡ place.section_head
-    unfolding keyword_next moved leads_after_family is_in_model is_in_family is_in_header either if◌then◌else◌
+    unfolding keyword_next moved leads_after_family is_in_model is_in_family is_in_header either provided◌then◌else◌
     begun_place = rw p
 
     begun_sections : (keyword_next begin_icm_section argument s).counts.sections ≡ s.counts.sections + 1
-    unfolding keyword_next counts_after one_more_if if◌then◌else◌
+    unfolding keyword_next counts_after one_more_if provided◌then◌else◌
     begun_sections = refl
 
     begun_matrices : (keyword_next begin_icm_section argument s).counts.matrices ≡ s.counts.matrices
-    unfolding keyword_next counts_after one_more_if opens_matrix either if◌then◌else◌
+    unfolding keyword_next counts_after one_more_if opens_matrix either provided◌then◌else◌
     begun_matrices = refl
 
     begun_values : (keyword_next begin_icm_section argument s).counts.values ≡ s.counts.values
@@ -165,23 +165,23 @@ module _ (argument : List ℕ) (s : State) where
   -- [End]
   module _ (p : s.place ≡ place.after) where
     ended_place : (keyword_next the_end argument s).place ≡ place.done
-    unfolding keyword_next moved leads_after_family is_in_model is_in_family is_in_header either if◌then◌else◌
+    unfolding keyword_next moved leads_after_family is_in_model is_in_family is_in_header either provided◌then◌else◌
     ended_place = rw p
 
     ended_method : (keyword_next the_end argument s).section.method ≡ s.section.method
-    unfolding keyword_next section_after if◌then◌else◌
+    unfolding keyword_next section_after provided◌then◌else◌
     ended_method = refl
 
     ended_form : (keyword_next the_end argument s).matrix.form ≡ s.matrix.form
-    unfolding keyword_next matrix_after opens_matrix either if◌then◌else◌
+    unfolding keyword_next matrix_after opens_matrix either provided◌then◌else◌
     ended_form = refl
 
     ended_sections : (keyword_next the_end argument s).counts.sections ≡ s.counts.sections
-    unfolding keyword_next counts_after one_more_if if◌then◌else◌
+    unfolding keyword_next counts_after one_more_if provided◌then◌else◌
     ended_sections = refl
 
     ended_matrices : (keyword_next the_end argument s).counts.matrices ≡ s.counts.matrices
-    unfolding keyword_next counts_after one_more_if opens_matrix either if◌then◌else◌
+    unfolding keyword_next counts_after one_more_if opens_matrix either provided◌then◌else◌
     ended_matrices = refl
 
     ended_values : (keyword_next the_end argument s).counts.values ≡ s.counts.values
@@ -191,19 +191,19 @@ module _ (argument : List ℕ) (s : State) where
   -- [Derivation Method]
   module _ (p : s.place ≡ place.section_head) where
     method_place : (keyword_next derivation_method argument s).place ≡ place.section
-    unfolding keyword_next moved is_in_model is_in_family is_in_header either if◌then◌else◌
+    unfolding keyword_next moved is_in_model is_in_family is_in_header either provided◌then◌else◌
     method_place = rw p
 
     method_told : (keyword_next derivation_method argument s).section.method ≡ method_of argument
-    unfolding keyword_next section_after if◌then◌else◌
+    unfolding keyword_next section_after provided◌then◌else◌
     method_told = refl
 
     method_sections : (keyword_next derivation_method argument s).counts.sections ≡ s.counts.sections
-    unfolding keyword_next counts_after one_more_if if◌then◌else◌
+    unfolding keyword_next counts_after one_more_if provided◌then◌else◌
     method_sections = refl
 
     method_matrices : (keyword_next derivation_method argument s).counts.matrices ≡ s.counts.matrices
-    unfolding keyword_next counts_after one_more_if opens_matrix either if◌then◌else◌
+    unfolding keyword_next counts_after one_more_if opens_matrix either provided◌then◌else◌
     method_matrices = refl
 
     method_values : (keyword_next derivation_method argument s).counts.values ≡ s.counts.values
@@ -213,22 +213,22 @@ module _ (argument : List ℕ) (s : State) where
   -- [End ICM Section]
   module _ (inside : either (eqb s.place place.section) (eqb s.place place.matrix) ≡ true) where
     left_place : (keyword_next end_icm_section argument s).place ≡ place.after
-    unfolding keyword_next moved leads_in_matrix leads_in_section is_row_or_bandwidth opens_matrix is_in_model is_in_family is_in_header either if◌then◌else◌
+    unfolding keyword_next moved leads_in_matrix leads_in_section is_row_or_bandwidth opens_matrix is_in_model is_in_family is_in_header either provided◌then◌else◌
     left_place =
         by_cases _ (eqb s.place place.section)
         (λ (e : eqb s.place place.section ≡ true). rw (eqb-true s.place place.section e))
         (λ (e : eqb s.place place.section ≡ false). rw (eqb-true s.place place.matrix (sym (either_rest _ _ e) ∙ inside)))
 
     left_method : (keyword_next end_icm_section argument s).section.method ≡ s.section.method
-    unfolding keyword_next section_after if◌then◌else◌
+    unfolding keyword_next section_after provided◌then◌else◌
     left_method = refl
 
     left_sections : (keyword_next end_icm_section argument s).counts.sections ≡ s.counts.sections
-    unfolding keyword_next counts_after one_more_if if◌then◌else◌
+    unfolding keyword_next counts_after one_more_if provided◌then◌else◌
     left_sections = refl
 
     left_matrices : (keyword_next end_icm_section argument s).counts.matrices ≡ s.counts.matrices
-    unfolding keyword_next counts_after one_more_if opens_matrix either if◌then◌else◌
+    unfolding keyword_next counts_after one_more_if opens_matrix either provided◌then◌else◌
     left_matrices = refl
 
     left_values : (keyword_next end_icm_section argument s).counts.values ≡ s.counts.values
@@ -249,7 +249,7 @@ module _ (argument : List ℕ) (s : State) where
     other_method = other derivation_method refl
 
     opened_place : (keyword_next k argument s).place ≡ place.matrix
-    unfolding keyword_next moved leads_in_matrix leads_in_section is_in_model is_in_family is_in_header either if◌then◌else◌
+    unfolding keyword_next moved leads_in_matrix leads_in_section is_in_model is_in_family is_in_header either provided◌then◌else◌
     opened_place =
         by_cases _ (eqb s.place place.section)
         (λ (e : eqb s.place place.section ≡ true). rw (eqb-true s.place place.section e, opens))
@@ -293,11 +293,11 @@ module _ (at : ℕ) (content : List ℕ) (o : OpenSection) where
       (λ (e : eqb after place.section_head ≡ false). refl)
 
   open_begun : open_after at content place.after place.section_head o ≡ beginning at content
-  unfolding open_after if◌then◌else◌
+  unfolding open_after provided◌then◌else◌
   open_begun = refl
 
   open_keyed : (before : ℕ) → open_after at content before place.matrix o ≡ with_kind (kind_of (key_at content)) o
-  unfolding open_after if◌then◌else◌
+  unfolding open_after provided◌then◌else◌
   open_keyed before = refl
 
 module _ (o : OpenSection) (s : State) (sections : List ℕ) where

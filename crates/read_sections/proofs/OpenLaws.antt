@@ -11,7 +11,7 @@ use native.Mathlib.Omega.{arith}
 use lib.ListN.{length, get_or, replicate}
 use lib.Dec.{eqb}
 use borrow.Author.Tests.{eq-eqb, ne_eqb}
-use Rattle.base.specs.If.{if◌then◌else◌}
+use Rattle.base.specs.If.{provided◌then◌else◌}
 use Rattle.base.proofs.IfLaws.{if_true, if_false, both_true, both_not_left, both_not_right, not_via, not_not_via}
 use Rattle.lex_keyword.specs.Bracket.{bracket_of}
 use Rattle.lex_keyword.specs.declared.Bracket.{Bracket}
@@ -132,7 +132,7 @@ matrix_stored form first values line matrices bandwidth stage stage' count b bef
     ∙ (λ i. put_at (matrix_width * is_index i) (matrix_words (record { form = form; bandwidth = is_b i; first = first; values = is_count i; line = is_before_lem i })) stage)
 
 pub matrix_known :
-    (form count values first greatest conductors index : ℕ) (o r : OpenSection) → count ≡ values - first → conductors ≡ (if eqb form diagonal then count else greatest) →
-    r ≡ section_with conductors index o → r ≡ section_with (if eqb form diagonal then values - first else greatest) index o
+    (form count values first greatest conductors index : ℕ) (o r : OpenSection) → count ≡ values - first → conductors ≡ (provided eqb form diagonal then count else greatest) →
+    r ≡ section_with conductors index o → r ≡ section_with (provided eqb form diagonal then values - first else greatest) index o
 matrix_known form count values first greatest conductors index o r is_count is_conductors is =
-    is ∙ ap (λ (x : ℕ). section_with x index o) (is_conductors ∙ ap (λ (x : ℕ). if eqb form diagonal then x else greatest) is_count)
+    is ∙ ap (λ (x : ℕ). section_with x index o) (is_conductors ∙ ap (λ (x : ℕ). provided eqb form diagonal then x else greatest) is_count)

@@ -11,7 +11,7 @@ use lib.ListN.{length, take, drop, length-drop}
 use lib.Seq.{length-take-le}
 use lib.Dec.{eqb, ltb}
 use borrow.Author.Tests.{eq-eqb, ne_eqb, eqb-true, ltb-true, ltb-false}
-use Rattle.base.specs.If.{if◌then◌else◌}
+use Rattle.base.specs.If.{provided◌then◌else◌}
 use Rattle.base.specs.Broken.{first}
 use Rattle.base.specs.Refusal as refusal
 use Rattle.base.proofs.IfLaws.{if_true, if_false, by_test, by_cases, both_not_right, either_false}
@@ -336,7 +336,7 @@ module _ (t : List ℕ) (at line : ℕ) (s : State) (on : Onward t at line s) (h
     run_on = sym (if_true _ _ (eq-eqb _ _ z)) ∙ passed.crossed.same s holds
 
     ends_matrix : at_end (with_matrix w.part.matrix w.part.values s) ≡ Refused refusal.end 0
-    unfolding at_end first if◌then◌else◌
+    unfolding at_end first provided◌then◌else◌
     ends_matrix = rw here
 
     -- "10 END: text stops before [End] (line 0)"
@@ -364,7 +364,7 @@ module _ (t : List ℕ) (at line : ℕ) (s : State) (on : Onward t at line s) (h
           (stored : matrices' ≡ put_at (matrix_width * (s.counts.matrices - 1))
           (matrix_words (matrix_closed s.matrix.form (told_or w.part.staging.bandwidth 0) s.counts.values w.part.values line)) matrices)
           (o' : OpenSection)
-          (closed : o' ≡ section_with (if eqb s.matrix.form diagonal then w.part.values - s.counts.values else w.part.staging.greatest) s.counts.matrices o) where
+          (closed : o' ≡ section_with (provided eqb s.matrix.form diagonal then w.part.values - s.counts.values else w.part.staging.greatest) s.counts.matrices o) where
         module _ (r : SectionWalk) (sections' : List ℕ)
             (alone : (table matrices : List ℕ) → Continues t w.at w.line (outside_matrix s.place) (with_matrix w.part.matrix w.part.values s) o' table sections matrices r table sections' matrices)
             (last : r.rule ≡ 0 → s.place ≡ place.matrix → EndsKeyed (content_at t w.at)) where
@@ -404,7 +404,7 @@ module _ (t : List ℕ) (at line : ℕ) (s : State) (on : Onward t at line s) (h
 
             data_stands : (ss : List Section) → StandsAt ss t at line s.place s o table sections matrices →
                 StandsAt ss t w.at w.line (outside_matrix s.place) (with_matrix w.part.matrix w.part.values s) o' table' sections matrices'
-            unfolding outside_matrix if◌then◌else◌
+            unfolding outside_matrix provided◌then◌else◌
             data_stands ss g =
                 rw here
                 (stands_closed o s.section.method s.matrix.form s.counts.sections s.counts.matrices s.counts.values line (lines_at t line at place.matrix)

@@ -2,7 +2,7 @@
 #![tactic(auto)]
 
 ghost use Rattle.std.specs.Prelude.{◌≡◌, List, ℕ, ◌+◌, ◌-◌, ◌*◌, ◌≤◌, ◌<◌, length, drop, eqb};
-ghost use Rattle.base.specs.If.{if◌then◌else◌};
+ghost use Rattle.base.specs.If.{provided◌then◌else◌};
 ghost use Rattle.lex_line.specs.Lines.{contents};
 ghost use Rattle.lex_line.specs.Way.LineEnds.{content_at};
 ghost use Rattle.lex_keyword.specs.Bracket.{bracket_of};
@@ -87,7 +87,7 @@ fn with_kind(kinds: [u64; KINDS], kind: usize, index: u64) -> [u64; KINDS]
 
 // N of a matrix: the count of its numbers if it is diagonal, else the greatest row or column that it names.
 fn conductors_in(form: u64, values: u64, greatest: u64) -> u64
-    ensures { result ≡ (if eqb form diagonal then values else greatest) }
+    ensures { result ≡ (provided eqb form diagonal then values else greatest) }
 {
     if form == table_layout::code::DIAGONAL {
         return values;
@@ -254,7 +254,7 @@ fn close_matrix(
     requires { block.kind < matrix_kinds }
     ensures { (matrices.new ≡ put_at (matrix_width * (s.counts.matrices - 1))
         (matrix_words (matrix_closed s.matrix.form (told_or walk.part.staging.bandwidth 0) s.counts.values walk.part.values line)) matrices.old)
-        × (result ≡ section_with (if eqb s.matrix.form diagonal then walk.part.values - s.counts.values else walk.part.staging.greatest) s.counts.matrices block) }
+        × (result ≡ section_with (provided eqb s.matrix.form diagonal then walk.part.values - s.counts.values else walk.part.staging.greatest) s.counts.matrices block) }
 {
     let matrix = s.matrix;
     let counts = s.counts;

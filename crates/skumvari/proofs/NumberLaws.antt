@@ -7,7 +7,7 @@ use Prim.Native.Nat.{ℕ, ◌+◌}
 use lib.Dec.{eqb}
 use borrow.Author.Tests.{eqb-false}
 use Rattle.base.specs.Refusal as refusal
-use Rattle.base.specs.If.{if◌then◌else◌}
+use Rattle.base.specs.If.{provided◌then◌else◌}
 use Rattle.base.specs.Broken.{Rule, first, first_broken}
 use Rattle.base.proofs.IfLaws.{by_test}
 use Rattle.lex_line.specs.Lines.{Said, is_blank_line, contents, Raw, lines}
@@ -59,10 +59,10 @@ by_broken false n later h k = k
 rule : (n : ℕ) → eqb n refusal.room ≡ false → (b : Bool) (later : ℕ) → Other later → Other (first b n later)
 rule n e b later h = by_broken b n later (other n e) h
 
-one_of : (b : Bool) (m n : ℕ) → Other m → Other n → Other (if b then m else n)
+one_of : (b : Bool) (m n : ℕ) → Other m → Other n → Other (provided b then m else n)
 one_of b m n h k = by_test Other b m n (λ e. h) (λ e. k)
 
-one_list : (b : Bool) (x y : List Rule) → Other (first_broken x) → Other (first_broken y) → Other (first_broken (if b then x else y))
+one_list : (b : Bool) (x y : List Rule) → Other (first_broken x) → Other (first_broken y) → Other (first_broken (provided b then x else y))
 one_list b x y h k = by_test (λ (rs : List Rule). Other (first_broken rs)) b x y (λ e. h) (λ e. k)
 
 -- ---- 1 to 4

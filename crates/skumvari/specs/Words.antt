@@ -5,7 +5,7 @@ use Rattle.std.specs.Prelude.{ℕ, Bool, List, [], ◌∷◌, length, replicate,
 use Rattle.std.proofs.lemmas.List.Edits.{sets}
 use Rattle.std.specs.Float.{binary64}
 use Rattle.std.specs.Float.Ieee.{to_bits}
-use Rattle.base.specs.If.{if◌then◌else◌}
+use Rattle.base.specs.If.{provided◌then◌else◌}
 use Rattle.intake.specs.Verdict.{Outcome}
 use Rattle.ask_entry.specs.Entry.{EntryWords}
 use Rattle.ask_walk.specs.Walk.{WalkWords}
@@ -18,7 +18,7 @@ use Rattle.out_double.specs.declared.DrawnPair.{DrawnPair}
 use Rattle.out_double.specs.declared.DrawnPair.TheVariants as pair
 
 unfoldable pub flag : Bool → ℕ
-flag truth = if truth then 1 else 0
+flag truth = provided truth then 1 else 0
 
 -- intake: accepted, rule, line, words used
 unfoldable pub intake_layout : Outcome → List ℕ
@@ -57,13 +57,13 @@ is_room many lent = leb many (length lent)
 
 -- the lent words after the answer: its words from the start on, and the rest unchanged; all unchanged if they are too few
 unfoldable pub answered : List ℕ → List ℕ → List ℕ
-answered words lent = if is_room (length words) lent then sets lent 0 words else lent
+answered words lent = provided is_room (length words) lent then sets lent 0 words else lent
 
 -- the lent table after the intake. If there are too few words for an answer, the intake counts as refused: "A
 -- refused intake zeroes the table"
 unfoldable pub table_after : List ℕ → List ℕ → List ℕ → List ℕ
-table_after answer taken table = if is_room 4 answer then taken else replicate (length table) 0
+table_after answer taken table = provided is_room 4 answer then taken else replicate (length table) 0
 
 -- the lent values after a whole matrix; unchanged if there are too few words for an answer
 unfoldable pub values_after : List ℕ → List ℕ → List ℕ → List ℕ
-values_after answer filled values = if is_room 4 answer then filled else values
+values_after answer filled values = provided is_room 4 answer then filled else values

@@ -2,7 +2,7 @@
 -- records of each part begin in a table, and how many there are, by the counts that the table itself gives.
 -- Assumes nothing.
 use Rattle.std.specs.Prelude.{ℕ, ◌+◌, ◌*◌, Bool, true, false, List, [], ◌∷◌, length, get_or, replicate, leb}
-use Rattle.base.specs.If.{if◌then◌else◌, both}
+use Rattle.base.specs.If.{provided◌then◌else◌, both}
 use Rattle.table_layout.specs.Layout.{part_count, widths}
 use Rattle.table_layout.specs.Bounds.{bounds}
 use Rattle.table_layout.specs.declared.View.{View}
@@ -33,6 +33,6 @@ no_view = record { fits = false; bases = replicate part_count 0; counts = replic
 
 unfoldable pub view_of : List ℕ → View
 view_of t =
-    if are_within widths bounds t 0
+    provided are_within widths bounds t 0
     then record { fits = true; bases = bases_at widths t 0; counts = counts_at widths t 0; end = end_at widths t 0 }
     else no_view

@@ -9,7 +9,7 @@ use lib.ListN.{length, get_or}
 use lib.Dec.{leb, ltb}
 use borrow.Author.Tests.{le-leb}
 use Rattle.table_record.specs.Records.{map_words, section_words, Records, parts_of}
-use Rattle.base.specs.If.{if◌then◌else◌, both}
+use Rattle.base.specs.If.{provided◌then◌else◌, both}
 use Rattle.base.specs.Runs.{same}
 use Rattle.base.proofs.IfLaws.{both_rest}
 use Rattle.lex_line.specs.Words.{Word}
@@ -51,14 +51,14 @@ module _ (t : List ℕ) (s : Step) where
   unfolding index_of map_records
   find_map after first [] none = refl
   find_map after first (m ∷ ms) (more h hs) =
-      λ i. if map_named after first m h i then 0 else suc (find_map after (first + length m.pins) ms hs i)
+      λ i. provided map_named after first m h i then 0 else suc (find_map after (first + length m.pins) ms hs i)
 
   pub find_section : (first : ℕ) (xs : List Section) → Each (λ (x : Section). Stands t x.name) xs →
       index_of (is_named t s.name.text 0) (map section_words (section_records first xs)) ≡ index_of (is_section_of s) xs
   unfolding index_of section_records
   find_section first [] none = refl
   find_section first (x ∷ xs) (more h hs) =
-      λ i. if section_named first x h i then 0 else suc (find_section (first + length x.matrices) xs hs i)
+      λ i. provided section_named first x h i then 0 else suc (find_section (first + length x.matrices) xs hs i)
 
 -- ---- records in a table
 

@@ -1,7 +1,7 @@
 -- The tests of the records of a table, by the words where they begin.
 -- Assumes nothing.
 use Rattle.std.specs.Prelude.{ℕ, zero, suc, ◌+◌, ◌-◌, ◌*◌, ◌/◌, ◌<◌, ◌≡◌, Bool, true, List, [], ◌∷◌, length, get_or, eqb}
-use Rattle.base.specs.If.{if◌then◌else◌, both}
+use Rattle.base.specs.If.{provided◌then◌else◌, both}
 use Rattle.table_layout.specs.Layout.{models, steps, maps, pins, sections, matrices, values, value_width}
 use Rattle.table_layout.specs.Bounds.{most_conductors, most_values}
 use Rattle.table_layout.specs.declared.View.{View}
@@ -19,8 +19,8 @@ goes_on n (v ∷ w ∷ vs) = both (is_in_upper_half n v) (comes_before v w)
 -- how many values rise, counted from the front
 unfoldable pub reach : ℕ → List Value → ℕ
 reach n [] = 0
-reach n (v ∷ []) = if is_in_upper_half n v then 1 else 0
-reach n (v ∷ w ∷ vs) = if is_in_upper_half n v then if comes_before v w then suc (reach n (w ∷ vs)) else 1 else 0
+reach n (v ∷ []) = provided is_in_upper_half n v then 1 else 0
+reach n (v ∷ w ∷ vs) = provided is_in_upper_half n v then provided comes_before v w then suc (reach n (w ∷ vs)) else 1 else 0
 
 -- of `count` values, the first of which begins at word `from`: how many rise from value i on
 unfoldable pub reach_at : List ℕ → ℕ → ℕ → ℕ → ℕ
@@ -44,13 +44,13 @@ ValueReaches table v blocks = Reaches table (base_of v values) (count_of v value
 -- the record of a part that begins at word `at` is sound
 unfoldable pub is_record : ℕ → List ℕ → View → ℕ → ℕ → Bool
 is_record bytes table v part at =
-    if eqb part models then is_model bytes (kinds_at table v) (model_at table at) else
-    if eqb part steps then is_step bytes (count_of v maps) (methods_at table v) (step_at table at) else
-    if eqb part maps then is_map bytes (count_of v pins) (map_at table at) else
-    if eqb part pins then is_pin bytes (pin_at table at) else
-    if eqb part sections then is_section bytes (count_of v matrices) (section_at table at) else
-    if eqb part matrices then is_matrix (values_at table v) (matrix_at table at) else
-    if eqb part values then is_value (value_at table at) else true
+    provided eqb part models then is_model bytes (kinds_at table v) (model_at table at) else
+    provided eqb part steps then is_step bytes (count_of v maps) (methods_at table v) (step_at table at) else
+    provided eqb part maps then is_map bytes (count_of v pins) (map_at table at) else
+    provided eqb part pins then is_pin bytes (pin_at table at) else
+    provided eqb part sections then is_section bytes (count_of v matrices) (section_at table at) else
+    provided eqb part matrices then is_matrix (values_at table v) (matrix_at table at) else
+    provided eqb part values then is_value (value_at table at) else true
 
 unfoldable pub are_records : ℕ → List ℕ → View → ℕ → Bool
 are_records bytes table v part = every (is_record bytes table v part) (places_of v part)

@@ -2,7 +2,7 @@
 -- Assumes nothing.
 use Rattle.std.specs.Prelude.{ℕ, ◌+◌, ◌*◌, ◌≤◌, ◌<◌, ◌≡◌, Bool, false, not, List, [], ◌∷◌, ◌++◌, length, drop, get_or, eqb}
 use Rattle.cross_rules.specs.Way.Findings.{step_findings, model_findings}
-use Rattle.base.specs.If.{if◌then◌else◌, both}
+use Rattle.base.specs.If.{provided◌then◌else◌, both}
 use Rattle.base.specs.Broken.{◌when◌, first_broken}
 use Rattle.base.specs.Refusal as refusal
 use Rattle.table_layout.specs.Codes.{slm_general}
@@ -61,7 +61,7 @@ is_wrong_sgr m = both (not (eqb m.sgr 0)) (not (eqb m.model.kind slm_general))
 -- the first SGR line that a model has and should not have
 unfoldable pub first_sgr : List StagedModel → Finding
 first_sgr [] = no_finding
-first_sgr (m ∷ ms) = if is_wrong_sgr m then record { rule = refusal.sgr; line = m.sgr } else first_sgr ms
+first_sgr (m ∷ ms) = provided is_wrong_sgr m then record { rule = refusal.sgr; line = m.sgr } else first_sgr ms
 
 -- ---- by the document
 

@@ -1,7 +1,7 @@
 -- The rule that a list line breaks, by the model that its name finds in the table and the flags that earlier lines have set.
 -- Assumes nothing.
 use Rattle.std.specs.Prelude.{ℕ, Bool, false, List, get_or, leb, eqb}
-use Rattle.base.specs.If.{if◌then◌else◌, both}
+use Rattle.base.specs.If.{provided◌then◌else◌, both}
 use Rattle.base.specs.Refusal as refusal
 use Rattle.line_place.specs.Place as place
 use Rattle.table_layout.specs.Layout.{models, model_width}
@@ -26,8 +26,8 @@ no_slot = most_models
 -- a name finds model `index`; there are `count` models, and it finds none if `index` is not below `count`
 unfoldable pub judged_by : ℕ → ℕ → List Bool → Judged
 judged_by count index listed =
-    if leb count index then record { rule = refusal.list; slot = no_slot } else
-    if get_or listed index false then record { rule = refusal.twice; slot = index } else record { rule = 0; slot = index }
+    provided leb count index then record { rule = refusal.list; slot = no_slot } else
+    provided get_or listed index false then record { rule = refusal.twice; slot = index } else record { rule = 0; slot = index }
 
 unfoldable pub name_judged : List ℕ → List ℕ → View → Found → List Bool → Judged
 name_judged t table v line listed = judged_by (count_of v models) (model_found t table v line) listed
@@ -35,4 +35,4 @@ name_judged t table v line listed = judged_by (count_of v models) (model_found t
 -- a line outside the list breaks no rule and names no model
 unfoldable pub line_judged : List ℕ → List ℕ → View → ℕ → Found → List Bool → Judged
 line_judged t table v p line listed =
-    if both (eqb p place.list) (eqb line.key plain) then name_judged t table v line listed else record { rule = 0; slot = no_slot }
+    provided both (eqb p place.list) (eqb line.key plain) then name_judged t table v line listed else record { rule = 0; slot = no_slot }

@@ -1,7 +1,7 @@
 -- "27 UNUSED: section no step uses", by the records of the steps: the target of a Section step is the first section of its name.
 -- Assumes nothing.
 use Rattle.std.specs.Prelude.{ℕ, ◌+◌, ◌<◌, ◌≡◌, Bool, false, not, List, [], ◌∷◌, length, get_or, leb, eqb}
-use Rattle.base.specs.If.{if◌then◌else◌, both}
+use Rattle.base.specs.If.{provided◌then◌else◌, both}
 use Rattle.base.specs.Broken.{◌when◌, first_broken}
 use Rattle.base.specs.Refusal as refusal
 use Rattle.table_layout.specs.Bounds.{most_sections}
@@ -27,7 +27,7 @@ pub record Flags (used : List Bool) (steps : List StepRecord) : Type 0 where
 
 -- the flag that a step sets: that of its section, or the one that no section has
 unfoldable pub slot_of : StepRecord → ℕ
-slot_of s = if not (eqb s.kind section_kind) then no_slot else if leb no_slot s.target then no_slot else s.target
+slot_of s = provided not (eqb s.kind section_kind) then no_slot else provided leb no_slot s.target then no_slot else s.target
 
 -- "19" and "27" of a section: an earlier section has its name; no step uses it
 unfoldable pub rule_of : Bool → Bool → ℕ

@@ -3,7 +3,7 @@
 -- Assumes nothing.
 use Rattle.std.specs.Prelude.{ℕ, ◌+◌, List, [], ◌∷◌, ◌++◌, map, eqb}
 use Rattle.table_layout.specs.Codes.{end_kind, section_kind}
-use Rattle.base.specs.If.{if◌then◌else◌}
+use Rattle.base.specs.If.{provided◌then◌else◌}
 use Rattle.base.specs.Broken.{first_broken}
 use Rattle.doc.specs.Document.{Named, Step, Model, Map, Section, Document}
 use Rattle.cross_rules.specs.Rules.{list_name_rules, model_rules, sgr_rules, map_name_rules, pin_name_rules, section_rules, end_step_rules, section_step_rules}
@@ -37,8 +37,8 @@ section_step_rule d m s = first_broken (section_step_rules d m s)
 
 unfoldable pub step_rule : Document → Model → Step → ℕ
 step_rule d m s =
-    if eqb s.kind end_kind then end_rule d m s else
-    if eqb s.kind section_kind then section_step_rule d m s else 0
+    provided eqb s.kind end_kind then end_rule d m s else
+    provided eqb s.kind section_kind then section_step_rule d m s else 0
 
 -- ---- the findings
 
@@ -54,7 +54,7 @@ model_findings d (m ∷ ms) = record { rule = model_rule d m; line = m.line } �
 
 unfoldable pub sgr_findings : List Model → List Finding
 sgr_findings [] = []
-sgr_findings (m ∷ ms) = if eqb m.sgr 0 then sgr_findings ms else record { rule = sgr_rule m; line = m.sgr } ∷ sgr_findings ms
+sgr_findings (m ∷ ms) = provided eqb m.sgr 0 then sgr_findings ms else record { rule = sgr_rule m; line = m.sgr } ∷ sgr_findings ms
 
 unfoldable pub pin_findings : Map → List Finding
 pin_findings m = map (λ (p : Named). record { rule = pin_name_rule m p; line = p.line }) m.pins

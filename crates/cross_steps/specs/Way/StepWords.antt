@@ -2,7 +2,7 @@
 -- and those of the maps, sections and matrices that they refer to.
 -- Assumes nothing.
 use Rattle.std.specs.Prelude.{ℕ, ◌+◌, ◌-◌, ◌≤◌, ◌<◌, Bool, not, List, [], ◌∷◌, length, get_or, ltb, eqb}
-use Rattle.base.specs.If.{if◌then◌else◌, both, either}
+use Rattle.base.specs.If.{provided◌then◌else◌, both, either}
 use Rattle.base.specs.Runs.{same}
 use Rattle.base.specs.Broken.{◌when◌, first_broken}
 use Rattle.base.specs.Refusal as refusal
@@ -41,7 +41,7 @@ meets_above t own above = any (λ (other : StepRecord). meeting t other own) abo
 -- the target of the first end among the steps; `none` if there is no end
 unfoldable pub first_target : ℕ → List StepRecord → ℕ
 first_target none [] = none
-first_target none (s ∷ ss) = if eqb s.kind end_kind then s.target else first_target none ss
+first_target none (s ∷ ss) = provided eqb s.kind end_kind then s.target else first_target none ss
 
 abbrev pub map_of : Records → ℕ → MapRecord
 map_of r i = get_or r.maps i no_map
@@ -53,7 +53,7 @@ differs_from r first many = both (ltb first (length r.maps)) (not (eqb many (map
 
 -- the lesser of two numbers, where 0 says that none is given
 unfoldable pub lesser_given : ℕ → ℕ → ℕ
-lesser_given a b = if eqb a 0 then b else if eqb b 0 then a else if ltb b a then b else a
+lesser_given a b = provided eqb a 0 then b else provided eqb b 0 then a else provided ltb b a then b else a
 
 -- of "R L G C each matrix index plus 1 or 0"
 unfoldable pub least_of : SectionRecord → ℕ
@@ -64,7 +64,7 @@ section_of r i = get_or r.sections i no_section
 
 -- the index of the first matrix of section i; after the last section, the number of matrices
 unfoldable pub first_matrix : Records → ℕ → ℕ
-first_matrix r i = if ltb i (length r.sections) then least_of (section_of r i) - 1 else length r.matrices
+first_matrix r i = provided ltb i (length r.sections) then least_of (section_of r i) - 1 else length r.matrices
 
 -- one of the matrices is not a Diagonal_matrix
 unfoldable pub other_in : List MatrixRecord → Bool
@@ -80,7 +80,7 @@ kind_broken r kind i = both (ltb kind mlm) (other_form r i)
 -- ---- "24 METHOD"
 
 unfoldable pub wrong_method : Bool → ℕ → Bool
-wrong_method mult method = if mult then eqb method distributed else eqb method lumped
+wrong_method mult method = provided mult then eqb method distributed else eqb method lumped
 
 -- ---- all of them, of the step `own`, with `above` steps before it in its model
 
@@ -110,8 +110,8 @@ section_rule_at r o own mult =
 -- a Fork or an Endfork breaks no rule
 unfoldable pub step_rule_at : List ℕ → Records → Owner → StepRecord → ℕ → Bool → ℕ
 step_rule_at t r o own above mult =
-    if eqb own.kind end_kind then end_rule_at t r o own above else
-    if eqb own.kind section_kind then section_rule_at r o own mult else 0
+    provided eqb own.kind end_kind then end_rule_at t r o own above else
+    provided eqb own.kind section_kind then section_rule_at r o own mult else 0
 
 -- ---- what the code requires of the table
 

@@ -1,7 +1,7 @@
 -- What the functions that find lines and words promise, in terms of the definitions of lines.
 -- Assumes nothing.
 use Rattle.std.specs.Prelude.{ℕ, ◌+◌, ◌-◌, ◌≤◌, ◌<◌, ◌≡◌, true, false, List, [], ◌∷◌, ◌++◌, length, take, drop, leb}
-use Rattle.base.specs.If.{if◌then◌else◌}
+use Rattle.base.specs.If.{provided◌then◌else◌}
 use Rattle.lex_line.specs.Words.{Word}
 use Rattle.lex_line.specs.declared.Span.{Span}
 use Rattle.lex_keyword.specs.Bracket.{bracket_of}
@@ -19,7 +19,7 @@ extent_of w = record { start = w.start; size = length w.text }
 -- the offset and size of the word that a span marks, in a part of the text that starts at `offset`; no word is 0 0
 unfoldable pub extent_at : List ℕ → ℕ → Span → Extent
 extent_at s offset word =
-    if leb (length s) word.start
+    provided leb (length s) word.start
     then record { start = 0; size = 0 }
     else record { start = offset + word.start; size = word.end - word.start }
 

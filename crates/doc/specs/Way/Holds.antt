@@ -4,7 +4,7 @@
 use Rattle.std.specs.Prelude.{ℕ, ◌+◌, ◌-◌, ◌≤◌, ◌≡◌, Bool, List, [], ◌∷◌, length, take, drop, ltb, eqb}
 use Rattle.table_layout.specs.Codes.{fork_kind, endfork_kind}
 use Rattle.table_layout.specs.Bounds.{deepest, longest_name}
-use Rattle.base.specs.If.{if◌then◌else◌, both}
+use Rattle.base.specs.If.{provided◌then◌else◌, both}
 use Rattle.lex_line.specs.Words.{Word}
 use Rattle.line_keyword.specs.declared.Counts.{Counts}
 use Rattle.doc.specs.Document.{Step}
@@ -16,8 +16,8 @@ counts_of c = c.models ∷ c.steps ∷ c.maps ∷ c.pins ∷ c.sections ∷ c.ma
 unfoldable pub depth_of_steps : ℕ → List Step → Bool
 depth_of_steps d [] = eqb d 0
 depth_of_steps d (s ∷ ss) =
-    if eqb s.kind fork_kind then both (ltb d deepest) (depth_of_steps (d + 1) ss) else
-    if eqb s.kind endfork_kind then both (ltb 0 d) (depth_of_steps (d - 1) ss) else depth_of_steps d ss
+    provided eqb s.kind fork_kind then both (ltb d deepest) (depth_of_steps (d + 1) ss) else
+    provided eqb s.kind endfork_kind then both (ltb 0 d) (depth_of_steps (d - 1) ss) else depth_of_steps d ss
 
 -- the bytes of a word are those of the text at its offset
 pub record Stands (t : List ℕ) (w : Word) : Type 0 where

@@ -3,7 +3,7 @@
 -- Assumes nothing.
 use Rattle.std.specs.Prelude.{ℕ, suc, ◌+◌, ◌≤◌, ◌≡◌, true, false, List, [], ◌∷◌}
 use Rattle.table_layout.specs.Bounds.{most_steps}
-use Rattle.base.specs.If.{if◌then◌else◌}
+use Rattle.base.specs.If.{provided◌then◌else◌}
 use Rattle.base.specs.Broken.{first_broken}
 use Rattle.line_path.specs.Path.{path_line_of, path_rules, path_next, is_step_line, path_open, path_lacks}
 use Rattle.line_path.specs.declared.Path.{Path}
@@ -12,7 +12,7 @@ use Rattle.law_grammar.specs.Way.Grammar.{IsPath}
 
 -- a step more is counted, but for a Side
 unfoldable pub steps_after : PathLine → ℕ → ℕ
-steps_after l steps = if is_step_line l then steps + 1 else steps
+steps_after l steps = provided is_step_line l then steps + 1 else steps
 
 -- the lines are accepted from a path and a count of steps on. At the end "closing with one open" (15) and a missing part
 -- (9) are what the closing keyword could break
@@ -30,7 +30,7 @@ sayings (l ∷ ls) = l.says ∷ sayings ls
 -- how many of the lines are steps
 unfoldable pub steps_in : List PathLine → ℕ
 steps_in [] = 0
-steps_in (l ∷ ls) = if is_step_line l then suc (steps_in ls) else steps_in ls
+steps_in (l ∷ ls) = provided is_step_line l then suc (steps_in ls) else steps_in ls
 
 -- a line is right in itself: its rest is (11), its amount is a number (13), and the number is within its bounds (14)
 pub record IsRight (l : PathLine) : Type 0 where

@@ -4,7 +4,7 @@
 use Rattle.std.specs.Prelude.{ℕ, ◌+◌, ◌≤◌, ◌≡◌, false, List, [], ◌∷◌, length, eqb}
 use Rattle.table_layout.specs.Codes.{diagonal, banded, sparse, full}
 use Rattle.table_layout.specs.Bounds.{most_conductors}
-use Rattle.base.specs.If.{if◌then◌else◌}
+use Rattle.base.specs.If.{provided◌then◌else◌}
 use Rattle.base.specs.Broken.{first_broken}
 use Rattle.lex_line.specs.Words.{words, first_of}
 use Rattle.lex_number.specs.Integer.{whole_of}
@@ -57,9 +57,9 @@ sparse_rows_of (Entry.data_entry content ∷ entries) = sparse_rows_of entries
 
 unfoldable pub set_of : ℕ → List Entry → LineSet
 set_of form entries =
-    if eqb form diagonal then diagonal_set (numbers_above entries) else
-    if eqb form banded then banded_set (width_of entries) (rows_of entries) else
-    if eqb form sparse then sparse_set (sparse_rows_of entries) else full_set (rows_of entries)
+    provided eqb form diagonal then diagonal_set (numbers_above entries) else
+    provided eqb form banded then banded_set (width_of entries) (rows_of entries) else
+    provided eqb form sparse then sparse_set (sparse_rows_of entries) else full_set (rows_of entries)
 
 -- ---- the reading
 

@@ -1,7 +1,7 @@
 -- `lex_keyword::is_hyphen_word` meets its contract: the letters are those of the word, which the checker computes.
 -- Assumes nothing.
 use mathlib.Core.Path.{refl}
-use Rattle.base.specs.If.{both, if◌then◌else◌}
+use Rattle.base.specs.If.{both, provided◌then◌else◌}
 use Rattle.base.specs.Bytes.{small, is_capital, within}
 use Rattle.lex_keyword.specs.Names.{folded}
 use Rattle.lex_keyword.proofs.WordLaws.{not_hyphen, hyphen_stands}
@@ -11,5 +11,5 @@ pub returns-then-word-ne11 : goal.returns-then-word-ne11
 returns-then-word-ne11 c = search not_hyphen
 
 pub returns : goal.returns
-unfolding folded if◌then◌else◌ small is_capital within both
+unfolding folded provided◌then◌else◌ small is_capital within both
 returns c = search (hyphen_stands, refl)

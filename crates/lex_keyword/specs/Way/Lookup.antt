@@ -2,7 +2,7 @@
 -- name of each length. So a name is compared only with the names of its own length, at most four of the forty.
 -- Assumes nothing.
 use Rattle.std.specs.Prelude.{ℕ, zero, suc, Bool, true, false, List, [], ◌∷◌, ◌++◌, map, length, take, drop, ltb, eqb}
-use Rattle.base.specs.If.{if◌then◌else◌, both}
+use Rattle.base.specs.If.{provided◌then◌else◌, both}
 use Rattle.lex_keyword.specs.Names.{folded, names}
 
 -- names as they are compared, one after another
@@ -20,7 +20,7 @@ start_of key = length (joined_names (take key names))
 -- how many names at the front of the list are shorter than `size`
 unfoldable pub shorter : ℕ → List (List ℕ) → ℕ
 shorter size [] = zero
-shorter size (n ∷ ns) = if ltb (length n) size then suc (shorter size ns) else zero
+shorter size (n ∷ ns) = provided ltb (length n) size then suc (shorter size ns) else zero
 
 -- the first keyword of at least this length
 unfoldable pub first_of_size : ℕ → ℕ

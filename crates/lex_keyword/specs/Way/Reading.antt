@@ -2,7 +2,7 @@
 -- Assumes nothing.
 use Rattle.std.specs.Prelude.{ℕ, ◌+◌, Bool, not, List, length, get_or, leb, ltb, eqb}
 use Prim.Native.Char.{code}
-use Rattle.base.specs.If.{if◌then◌else◌, both, either}
+use Rattle.base.specs.If.{provided◌then◌else◌, both, either}
 use Rattle.base.specs.Bytes.{is_blank}
 use Rattle.base.specs.Runs.{run}
 use Rattle.lex_keyword.specs.Names.{keyword_of}
@@ -24,7 +24,7 @@ closes_at content end = both (ltb end (length content)) (either (leb (length con
 
 -- what a closed bracket with this name means
 unfoldable pub says_name : List ℕ → ℕ → Bracket
-says_name name argument = if not (is_good_name name) then Bad else named_as (keyword_of name) argument
+says_name name argument = provided not (is_good_name name) then Bad else named_as (keyword_of name) argument
 
 -- `Row]` follows the first byte, and then a blank or the end
 unfoldable pub is_row : List ℕ → Bool

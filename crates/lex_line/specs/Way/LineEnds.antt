@@ -1,7 +1,7 @@
 -- Where a line ends, as code finds it: the end of its content, its terminator, and the start of the next line.
 -- Assumes nothing.
 use Rattle.std.specs.Prelude.{ℕ, ◌+◌, ◌-◌, List, length, take, drop, get_or, ltb, eqb}
-use Rattle.base.specs.If.{if◌then◌else◌, both}
+use Rattle.base.specs.If.{provided◌then◌else◌, both}
 use Rattle.base.specs.Bytes.{line_feed, carriage_return, is_before, is_content}
 use Rattle.base.specs.Runs.{run}
 use Rattle.base.specs.Way.Class.{run_end}
@@ -10,7 +10,7 @@ use Rattle.lex_line.specs.declared.Line.{Line}
 
 -- the position after the LF at `end`, or `end` itself if the text ends there
 unfoldable pub past_feed : List ℕ → ℕ → ℕ
-past_feed t end = if ltb end (length t) then end + 1 else end
+past_feed t end = provided ltb end (length t) then end + 1 else end
 
 -- for the line that starts at `at`: where its content ends, and where the next line starts
 unfoldable pub line_at : ℕ → List ℕ → ℕ → Line
@@ -26,5 +26,5 @@ said_at t at = record { size = run (is_before line_feed) (drop at t); content = 
 -- the length of the terminator at position i: 1 for LF, 2 for CR right before LF, 0 for none
 unfoldable pub terminator_at : List ℕ → ℕ → ℕ
 terminator_at t i =
-    if eqb (get_or t i 0) line_feed then 1 else
-    if both (eqb (get_or t i 0) carriage_return) (eqb (get_or t (i + 1) 0) line_feed) then 2 else 0
+    provided eqb (get_or t i 0) line_feed then 1 else
+    provided both (eqb (get_or t i 0) carriage_return) (eqb (get_or t (i + 1) 0) line_feed) then 2 else 0

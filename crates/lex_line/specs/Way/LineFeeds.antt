@@ -1,14 +1,14 @@
 -- Many lines checked at once: how many LFs some bytes have, and skipping lines that break none of the rules 2 to 4.
 -- Assumes nothing.
 use Rattle.std.specs.Prelude.{ℕ, ◌+◌, ◌≤◌, ◌≡◌, Bool, List, [], ◌∷◌, length, drop, eqb}
-use Rattle.base.specs.If.{if◌then◌else◌, either}
+use Rattle.base.specs.If.{provided◌then◌else◌, either}
 use Rattle.base.specs.Bytes.{line_feed, is_printed}
 use Rattle.lex_line.specs.Lines.{lines}
 use Rattle.lex_line.specs.ByteRules.{lines_rule}
 
 -- 1 for an LF, 0 for any other byte; and how many LFs a list of bytes has
 unfoldable pub line_feed_of : ℕ → ℕ
-line_feed_of b = if eqb b line_feed then 1 else 0
+line_feed_of b = provided eqb b line_feed then 1 else 0
 
 unfoldable pub line_feeds : List ℕ → ℕ
 line_feeds [] = 0

@@ -2,7 +2,7 @@
 -- word of 64 bits. `proofs/CappedLaws` and `proofs/ReadLaws` show that this changes no answer.
 -- Assumes nothing.
 use Rattle.std.specs.Prelude.{ℕ, ◌+◌, ◌≤◌, ◌<◌, min, Bool, List, take, drop}
-use Rattle.base.specs.If.{if◌then◌else◌}
+use Rattle.base.specs.If.{provided◌then◌else◌}
 use Rattle.base.specs.Bytes.{is_digit}
 use Rattle.base.specs.Runs.{run}
 use Rattle.lex_number.specs.Integer.{value_of}
@@ -48,10 +48,10 @@ size_at s digits negative =
 
 -- what the exponent adds to the power of ten, and what it subtracts
 unfoldable pub raising : Exponent → ℕ
-raising x = if x.negative then 0 else x.size
+raising x = provided x.negative then 0 else x.size
 
 unfoldable pub lowering : Exponent → ℕ
-lowering x = if x.negative then x.size else 0
+lowering x = provided x.negative then x.size else 0
 
 -- digits whose numbers are capped, and whose counts are at most the position where they end
 pub record CutDigits (d : Digits) : Type 0 where

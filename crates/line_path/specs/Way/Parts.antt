@@ -2,7 +2,7 @@
 -- Mult. They are told only of a line whose rest is right.
 -- Assumes nothing.
 use Rattle.std.specs.Prelude.{ℕ, ◌+◌, ◌<◌, ◌≡◌, true, false, List, length, drop, eqb}
-use Rattle.base.specs.If.{if◌then◌else◌, either}
+use Rattle.base.specs.If.{provided◌then◌else◌, either}
 use Rattle.lex_line.specs.Words.{words, first_of, to_equals}
 use Rattle.lex_line.specs.Way.Spans.{first_two_of}
 use Rattle.lex_line.specs.declared.Span.{Span}
@@ -30,9 +30,9 @@ named_parts says content =
 
 unfoldable pub said_parts : ℕ → List ℕ → PathParts
 said_parts says content =
-    if eqb says says_section then section_parts content else
-    if either (eqb says says_fork) (eqb says says_endfork) then plain_parts says (eqb (length (words content)) 1) else
-    if either (eqb says says_end) (eqb says says_side) then named_parts says content else plain_parts says_nothing true
+    provided eqb says says_section then section_parts content else
+    provided either (eqb says says_fork) (eqb says says_endfork) then plain_parts says (eqb (length (words content)) 1) else
+    provided either (eqb says says_end) (eqb says says_side) then named_parts says content else plain_parts says_nothing true
 
 unfoldable pub parts_of : List ℕ → PathParts
 parts_of content = said_parts (saying_of (first_of (words content))) content

@@ -2,7 +2,7 @@
 -- amount. `SectionLaws` shows that this is the line that `Path` defines.
 -- Assumes nothing.
 use Rattle.std.specs.Prelude.{ℕ, ◌+◌, Bool, true, false, not, List, length, drop, eqb}
-use Rattle.base.specs.If.{if◌then◌else◌, both}
+use Rattle.base.specs.If.{provided◌then◌else◌, both}
 use Rattle.base.specs.Bytes.{bytes}
 use Rattle.base.specs.Runs.{same}
 use Rattle.lex_line.specs.Words.{first_of, second_of, left_of, right_of, has_equals, to_equals}
@@ -30,7 +30,7 @@ abbrev pub wrong_section : PathParts
 wrong_section = plain_parts says_section false
 
 unfoldable pub amount_in : Bool → List ℕ → ℕ
-amount_in mult amount = if mult then (whole_of amount).value else word_in (number_of amount)
+amount_in mult amount = provided mult then (whole_of amount).value else word_in (number_of amount)
 
 -- a line whose rest is right, by its amount, a Mult or a Len
 unfoldable pub amount_line : Bool → List ℕ → Span → PathParts
@@ -44,8 +44,8 @@ amount_line mult amount name =
 
 unfoldable pub unit_line : List ℕ → List ℕ → Span → PathParts
 unit_line unit amount name =
-    if same unit (bytes "Mult") then amount_line true amount name else
-    if same unit (bytes "Len") then amount_line false amount name else wrong_section
+    provided same unit (bytes "Mult") then amount_line true amount name else
+    provided same unit (bytes "Len") then amount_line false amount name else wrong_section
 
 -- two words before the sign, and a number and a name after it
 unfoldable pub is_parted : List (List ℕ) → List (List ℕ) → Bool
@@ -54,7 +54,7 @@ is_parted left right =
 
 unfoldable pub parts_line : List (List ℕ) → List (List ℕ) → Span → PathParts
 parts_line left right name =
-    if is_parted left right then unit_line (second_of left) (first_of right) name else wrong_section
+    provided is_parted left right then unit_line (second_of left) (first_of right) name else wrong_section
 
 -- the second word after the sign
 abbrev pub name_right : List ℕ → Span
@@ -63,4 +63,4 @@ name_right content =
 
 unfoldable pub section_parts : List ℕ → PathParts
 section_parts content =
-    if has_equals content then parts_line (left_of content) (right_of content) (name_right content) else wrong_section
+    provided has_equals content then parts_line (left_of content) (right_of content) (name_right content) else wrong_section

@@ -2,7 +2,7 @@
 -- lines that are left. What is staged and what is left is the whole.
 -- Assumes nothing.
 use Rattle.std.specs.Prelude.{ℕ, ◌+◌, ◌-◌, ◌*◌, ◌≤◌, ◌≡◌, Bool, true, false, not, List, ◌∷◌, length, eqb}
-use Rattle.base.specs.If.{if◌then◌else◌, both, either}
+use Rattle.base.specs.If.{provided◌then◌else◌, both, either}
 use Rattle.lex_keyword.specs.Bracket.{bracket_of}
 use Rattle.line_place.specs.Place.{is_in_model}
 use Rattle.line_place.specs.Place as place
@@ -135,12 +135,12 @@ model_closed o s =
 -- the staged maps after a line that is read alone: below a Pin_list it has a keyword, which closes the map
 unfoldable pub maps_after : Open → State → List ℕ → List ℕ
 maps_after o s maps =
-    if eqb s.place place.pin_list then put_at (map_width * (s.counts.maps - 1)) (map_words (map_closed o s)) maps else maps
+    provided eqb s.place place.pin_list then put_at (map_width * (s.counts.maps - 1)) (map_words (map_closed o s)) maps else maps
 
 -- the staged models after a line that leads to the place p
 unfoldable pub models_after : Open → State → ℕ → List ℕ → List ℕ
 models_after o s p models =
-    if both (is_in_model s.place) (not (is_in_model p))
+    provided both (is_in_model s.place) (not (is_in_model p))
     then put_at (staged_model_width * (s.counts.models - 1)) (staged_model_words (model_closed o s)) models
     else models
 
@@ -164,14 +164,14 @@ with_sgr line o = record { start = o.start; size = o.size; first = o.first; sgr 
 
 -- the head tells of a line that breaks no rule whether it says SGR: it has one after the line, and had none before it
 unfoldable pub sgr_after : ℕ → Head → Head → Open → Open
-sgr_after line before after o = if both after.sgr (not before.sgr) then with_sgr line o else o
+sgr_after line before after o = provided both after.sgr (not before.sgr) then with_sgr line o else o
 
 -- the open block after a line that leads to the place p and to the head h
 unfoldable pub open_after : ℕ → ℕ → List ℕ → State → ℕ → Head → Open → Open
 open_after line at content s p h o =
-    if enters place.head s.place p then opening at content s.counts.steps else
-    if enters place.map_head s.place p then opening at content s.counts.pins else sgr_after line s.head h o
+    provided enters place.head s.place p then opening at content s.counts.steps else
+    provided enters place.map_head s.place p then opening at content s.counts.pins else sgr_after line s.head h o
 
 -- the open block after a line of the document that opens none
 abbrev pub sgr_taken : Line → Open → Open
-sgr_taken l o = with_sgr (if says_sgr l then l.line else o.sgr) o
+sgr_taken l o = with_sgr (provided says_sgr l then l.line else o.sgr) o

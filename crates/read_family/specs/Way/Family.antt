@@ -2,7 +2,7 @@
 -- are staged.
 -- Assumes nothing.
 use Rattle.std.specs.Prelude.{ℕ, ◌≤◌, ◌<◌, ◌≡◌, List, ◌++◌, length, eqb}
-use Rattle.base.specs.If.{if◌then◌else◌}
+use Rattle.base.specs.If.{provided◌then◌else◌}
 use Rattle.lex_line.specs.Way.LineEnds.{content_at}
 use Rattle.line_place.specs.Place.{list, pin_list, after}
 use Rattle.line_keyword.specs.Way.Bounded.{NoneYet}
@@ -63,7 +63,7 @@ after_pins s o w =
 
 -- a cursor that goes along with the reading, and stays where it reaches the model list
 unfoldable pub followed : Cursor → Cursor → Cursor
-followed c here = if eqb c.place list then c else here
+followed c here = provided eqb c.place list then c else here
 
 pub record Follows (t : List ℕ) (c here : Cursor) : Type 0 where
   pub lists : ListsFrom t c

@@ -1,7 +1,7 @@
 -- The result of a line by its kind, as the code comes to it: without a keyword, with one, by what its bracket says.
 -- Assumes nothing.
 use Rattle.std.specs.Prelude.{ℕ, List, eqb}
-use Rattle.base.specs.If.{if◌then◌else◌}
+use Rattle.base.specs.If.{provided◌then◌else◌}
 use Rattle.base.specs.Broken.{first_broken}
 use Rattle.base.specs.Refusal as refusal
 use Rattle.lex_line.specs.Lines.{is_blank_line}
@@ -32,7 +32,7 @@ keyword_step k argument s = judged (keyword_rule k argument s) (keyword_next k a
 
 abbrev pub bracket_step : Bracket → List ℕ → State → LineResult
 bracket_step Plain content s = line_step content s
-bracket_step Indented content s = if is_text s.place then line_step content s else breaks refusal.keyword s
+bracket_step Indented content s = provided is_text s.place then line_step content s else breaks refusal.keyword s
 bracket_step Bad content s = breaks refusal.keyword s
 bracket_step Unknown content s = breaks refusal.unknown s
 bracket_step Later content s = breaks refusal.later s
@@ -44,10 +44,10 @@ before_step Indented content s = goes s
 before_step Bad content s = goes s
 before_step Unknown content s = goes s
 before_step Later content s = goes s
-before_step (Keyword k start) content s = if eqb k begin_header then keyword_step k (argument_from content start) s else goes s
+before_step (Keyword k start) content s = provided eqb k begin_header then keyword_step k (argument_from content start) s else goes s
 
 abbrev pub step_of : List ℕ → State → LineResult
 step_of content s =
-    if is_blank_line content then goes s else
-    if eqb s.place done then goes s else
-    if eqb s.place before then before_step (bracket_of content) content s else bracket_step (bracket_of content) content s
+    provided is_blank_line content then goes s else
+    provided eqb s.place done then goes s else
+    provided eqb s.place before then before_step (bracket_of content) content s else bracket_step (bracket_of content) content s

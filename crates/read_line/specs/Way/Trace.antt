@@ -2,7 +2,7 @@
 -- breaks a rule. The laws of the reading are stated over these.
 -- Assumes nothing.
 use Rattle.std.specs.Prelude.{ℕ, ◌+◌, ◌≡◌, List, [], ◌∷◌, eqb}
-use Rattle.base.specs.If.{if◌then◌else◌}
+use Rattle.base.specs.If.{provided◌then◌else◌}
 use Rattle.lex_line.specs.Lines.{Said}
 use Rattle.line_keyword.specs.declared.State.{State}
 use Rattle.read_line.specs.Reading.{line_result}
@@ -28,7 +28,7 @@ meeting_of n l s = record { line = n; content = l.content; state = s }
 unfoldable pub meetings : ℕ → List Said → State → List Meeting
 meetings n [] s = []
 meetings n (l ∷ ls) s =
-    meeting_of n l s ∷ (if eqb (broken_at (meeting_of n l s)) 0 then meetings (n + 1) ls (afterwards (meeting_of n l s)) else [])
+    meeting_of n l s ∷ (provided eqb (broken_at (meeting_of n l s)) 0 then meetings (n + 1) ls (afterwards (meeting_of n l s)) else [])
 
 -- the state after all lines of the list
 unfoldable pub state_after : ℕ → List Said → State → State

@@ -3,7 +3,7 @@
 -- Assumes nothing.
 use Rattle.std.specs.Prelude.{ℕ, ◌+◌, ◌-◌, ◌≤◌, ◌<◌, ◌≡◌, true, false, List, length, drop, eqb}
 use Rattle.table_layout.specs.Bounds.{deepest, most_steps}
-use Rattle.base.specs.If.{if◌then◌else◌}
+use Rattle.base.specs.If.{provided◌then◌else◌}
 use Rattle.lex_line.specs.Lines.{is_blank_line, comment_byte, contents}
 use Rattle.lex_line.specs.Way.LineEnds.{line_at, content_at}
 use Rattle.lex_keyword.specs.Bracket.{bracket_of}
@@ -26,7 +26,7 @@ use Rattle.read_line.specs.declared.Reading.TheVariants.{Refused}
 
 -- the result of reading on from where a walk ends
 unfoldable pub resume : List ℕ → Walk → Reading
-resume t w = if eqb w.rule 0 then read_from w.line (contents (drop w.at t)) w.state else Refused w.rule w.line
+resume t w = provided eqb w.rule 0 then read_from w.line (contents (drop w.at t)) w.state else Refused w.rule w.line
 
 -- where a walk that broke no rule goes on: the offset lies within the text, and the state is within its bounds
 pub record Onward (t : List ℕ) (at line : ℕ) (s : State) : Type 0 where

@@ -2,7 +2,7 @@
 -- the state, as elsewhere in the reading, and what it adds to the staging.
 -- Assumes nothing.
 use Rattle.std.specs.Prelude.{ℕ, ◌≤◌, ◌<◌, max, ◌≡◌, true, false, List, ◌++◌, length, eqb}
-use Rattle.base.specs.If.{if◌then◌else◌}
+use Rattle.base.specs.If.{provided◌then◌else◌}
 use Rattle.lex_line.specs.Lines.{is_blank_line}
 use Rattle.lex_line.specs.Way.LineEnds.{content_at}
 use Rattle.lex_number.specs.Integer.{whole_of}
@@ -38,7 +38,7 @@ new_staging = record { row = 1; column = 1; bandwidth = untold; greatest = 0 }
 -- [Row] i: the next number belongs at (i, i); of several [Bandwidth] the first counts
 unfoldable pub keyword_staging : ℕ → ℕ → Staging → Staging
 keyword_staging key value a =
-    if eqb key row
+    provided eqb key row
     then record { row = value; column = value; bandwidth = a.bandwidth; greatest = max a.greatest value }
     else record { row = a.row; column = a.column; bandwidth = first_told a.bandwidth value; greatest = a.greatest }
 

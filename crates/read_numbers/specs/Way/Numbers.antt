@@ -1,7 +1,7 @@
 -- What the functions promise that stage one number: it is stored behind the values before it, if there is room.
 -- Assumes nothing.
 use Rattle.std.specs.Prelude.{ℕ, ◌+◌, ◌*◌, ◌≤◌, ◌<◌, ◌≡◌, List, length, eqb}
-use Rattle.base.specs.If.{if◌then◌else◌}
+use Rattle.base.specs.If.{provided◌then◌else◌}
 use Rattle.lex_number.specs.Number.{word_in}
 use Rattle.lex_number.specs.declared.Number.{Number}
 use Rattle.table_layout.specs.Codes.{diagonal}
@@ -22,7 +22,7 @@ value_of row column number = record { row = row; column = column; word = word_in
 
 -- the row after n numbers
 abbrev pub row_after : ℕ → ℕ → ℕ → ℕ
-row_after form r n = if eqb form diagonal then r + n else r
+row_after form r n = provided eqb form diagonal then r + n else r
 
 -- where value n goes in a table of this size; where there is no room, the place is that of the last value that had some
 pub record Points (size n place : ℕ) : Type 0 where

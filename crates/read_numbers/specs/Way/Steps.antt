@@ -1,7 +1,7 @@
 -- What the functions that stage one line promise to each other.
 -- Assumes nothing.
 use Rattle.std.specs.Prelude.{ℕ, ◌+◌, ◌≤◌, ◌≡◌, Bool, true, false, List, ◌++◌, length, eqb}
-use Rattle.base.specs.If.{if◌then◌else◌, both}
+use Rattle.base.specs.If.{provided◌then◌else◌, both}
 use Rattle.table_record.specs.declared.Value.{Value}
 use Rattle.lex_line.specs.Way.LineEnds.{line_at, content_at}
 use Rattle.lex_line.specs.Words.{words}
@@ -38,6 +38,6 @@ pub record Stores (form : ℕ) (t : List ℕ) (from : ℕ) (table : List ℕ) (v
 -- a column and the numbers after it: staged if there is exactly one number
 unfoldable pub pair_of : ℕ → Numbers → Pair
 pair_of column n =
-    if both n.staged (eqb n.count 1)
+    provided both n.staged (eqb n.count 1)
     then record { staged = true; column = column; end = n.end }
     else record { staged = false; column = 0; end = n.end }

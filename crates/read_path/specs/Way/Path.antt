@@ -2,7 +2,7 @@
 -- that are staged already.
 -- Assumes nothing.
 use Rattle.std.specs.Prelude.{ℕ, ◌+◌, ◌-◌, ◌≤◌, ◌<◌, ◌≡◌, true, false, List, length, eqb}
-use Rattle.base.specs.If.{if◌then◌else◌}
+use Rattle.base.specs.If.{provided◌then◌else◌}
 use Rattle.table_layout.specs.Codes.{end_kind, section_kind, fork_kind, endfork_kind}
 use Rattle.table_record.specs.Way.Stage.{staged_step_width, Held}
 use Rattle.table_record.specs.declared.stage.StagedStep.{StagedStep}
@@ -69,9 +69,9 @@ fork_step kind n = record { kind = kind; name = no_word; mult = false; amount = 
 -- the step by what its line says
 unfoldable pub step_said : List ℕ → ℕ → ℕ → ℕ → Step
 step_said t n at says =
-    if eqb says says_end then end_step t n at else
-    if eqb says says_section then section_step t n at else
-    if eqb says says_fork then fork_step fork_kind n else fork_step endfork_kind n
+    provided eqb says says_end then end_step t n at else
+    provided eqb says says_section then section_step t n at else
+    provided eqb says says_fork then fork_step fork_kind n else fork_step endfork_kind n
 
 -- what is staged of an end or a section, by the parts of its line and its Side
 abbrev pub named_step : ℕ → ℕ → ℕ → PathParts → Extent → StagedStep
@@ -109,14 +109,14 @@ pub record Worded (t : List ℕ) (n at : ℕ) (ends : text.Line) : Type 0 where
 
 -- the number of the first rule that a line without a bracket breaks in a path, 0 for none; a blank line breaks none
 unfoldable pub rule_of_line : List ℕ → Path → ℕ → ℕ
-rule_of_line content p steps = if is_blank_line content then 0 else path_rule (path_line_of content) p steps
+rule_of_line content p steps = provided is_blank_line content then 0 else path_rule (path_line_of content) p steps
 
 -- the path and the count of steps after a line that breaks no rule; a blank line leaves them as they are
 unfoldable pub path_after_line : List ℕ → Path → Path
-path_after_line content p = if is_blank_line content then p else path_next (path_line_of content) p
+path_after_line content p = provided is_blank_line content then p else path_next (path_line_of content) p
 
 unfoldable pub steps_after_line : List ℕ → ℕ → ℕ
-steps_after_line content steps = if is_blank_line content then steps else one_more_if (is_step_line (path_line_of content)) steps
+steps_after_line content steps = provided is_blank_line content then steps else one_more_if (is_step_line (path_line_of content)) steps
 
 -- a line that is taken has no bracket; its rule, and the path and the count of steps after it, are those of the definitions
 pub record JudgesLine (content : List ℕ) (p : Path) (steps : ℕ) (r : Stepped) : Type 0 where

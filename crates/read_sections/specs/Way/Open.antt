@@ -2,7 +2,7 @@
 -- come, and the lines that are left. What is staged, and that, is the whole.
 -- Assumes nothing.
 use Rattle.std.specs.Prelude.{ℕ, ◌+◌, ◌-◌, ◌*◌, ◌≤◌, ◌≡◌, Bool, true, not, List, [], ◌∷◌, ◌++◌, length, get_or, set, replicate, eqb}
-use Rattle.base.specs.If.{if◌then◌else◌, both, either}
+use Rattle.base.specs.If.{provided◌then◌else◌, both, either}
 use Rattle.lex_keyword.specs.Bracket.{bracket_of}
 use Rattle.line_place.specs.Place as place
 use Rattle.line_keyword.specs.declared.State.{State}
@@ -24,11 +24,11 @@ use Rattle.read_sections.specs.declared.OpenSection.{OpenSection}
 
 -- of each kind the first matrix counts
 unfoldable pub kinds_with : List ℕ → ℕ → ℕ → List ℕ
-kinds_with kinds kind index = if eqb (get_or kinds kind 0) 0 then set kinds kind index else kinds
+kinds_with kinds kind index = provided eqb (get_or kinds kind 0) 0 then set kinds kind index else kinds
 
 -- the matrix that counts so far, if there is one, else the one that the rest gives
 unfoldable pub kept_or : ℕ → ℕ → ℕ
-kept_or kept rest = if eqb kept 0 then rest else kept
+kept_or kept rest = provided eqb kept 0 then rest else kept
 
 -- ---- how far the walk has come
 
@@ -60,10 +60,10 @@ is_in_section p = either (eqb p place.section_head) (either (eqb p place.section
 
 -- how many are closed, and so staged
 unfoldable pub closed_sections : Reached → ℕ
-closed_sections w = if is_in_section w.place then w.sections - 1 else w.sections
+closed_sections w = provided is_in_section w.place then w.sections - 1 else w.sections
 
 unfoldable pub closed_matrices : Reached → ℕ
-closed_matrices w = if eqb w.place place.matrix then w.matrices - 1 else w.matrices
+closed_matrices w = provided eqb w.place place.matrix then w.matrices - 1 else w.matrices
 
 -- ---- what is left
 
@@ -80,7 +80,7 @@ open_matrix o w ls =
     }
 
 unfoldable pub open_matrices : OpenSection → Reached → List Line → List Matrix
-open_matrices o w ls = if eqb w.place place.matrix then open_matrix o w ls ∷ [] else []
+open_matrices o w ls = provided eqb w.place place.matrix then open_matrix o w ls ∷ [] else []
 
 -- the matrices of the open section that are left
 unfoldable pub own_matrices : OpenSection → Reached → List Line → List Matrix
@@ -90,7 +90,7 @@ unfoldable pub matrices_left : OpenSection → Reached → List Line → List Ma
 matrices_left o w ls = open_matrices o w ls ++ gather matrix_at ls
 
 unfoldable pub method_left : Reached → List Line → ℕ
-method_left w ls = if eqb w.place place.section_head then method_in (up_to in_section ls) else w.method
+method_left w ls = provided eqb w.place place.section_head then method_in (up_to in_section ls) else w.method
 
 -- the record that the open section will have
 abbrev pub record_with : OpenSection → ℕ → ℕ → (ℕ → ℕ) → SectionRecord
@@ -112,7 +112,7 @@ open_record o w ls =
     (λ (k : ℕ). kept_or (get_or o.kinds k 0) (index_of_kind k (closed_matrices w) (own_matrices o w ls)))
 
 unfoldable pub open_records : OpenSection → Reached → List Line → List SectionRecord
-open_records o w ls = if is_in_section w.place then open_record o w ls ∷ [] else []
+open_records o w ls = provided is_in_section w.place then open_record o w ls ∷ [] else []
 
 unfoldable pub sections_left : OpenSection → Reached → List Line → List SectionRecord
 sections_left o w ls = open_records o w ls ++ section_records (closed_matrices w + length (own_matrices o w ls)) (gather section_at ls)
@@ -147,8 +147,8 @@ with_kind kind o = record { start = o.start; size = o.size; conductors = o.condu
 
 unfoldable pub open_after : ℕ → List ℕ → ℕ → ℕ → OpenSection → OpenSection
 open_after at content before after o =
-    if eqb after place.matrix then with_kind (kind_of (key_at content)) o else
-    if eqb after place.section_head then (if eqb before place.section_head then o else beginning at content) else o
+    provided eqb after place.matrix then with_kind (kind_of (key_at content)) o else
+    provided eqb after place.section_head then (provided eqb before place.section_head then o else beginning at content) else o
 
 -- a section closes: its record is staged
 abbrev pub closed_record : OpenSection → State → SectionRecord
@@ -156,7 +156,7 @@ closed_record o s = record_with o s.section.method (told_or o.conductors 0) (λ 
 
 unfoldable pub sections_after : OpenSection → State → ℕ → ℕ → List ℕ → List ℕ
 sections_after o s before after sections =
-    if both (eqb after place.after) (not (eqb before place.after))
+    provided both (eqb after place.after) (not (eqb before place.after))
     then put_at (section_width * (s.counts.sections - 1)) (section_words (closed_record o s)) sections
     else sections
 

@@ -2,7 +2,7 @@
 -- matrices and values of these lines are staged.
 -- Assumes nothing.
 use Rattle.std.specs.Prelude.{ℕ, ◌≤◌, ◌<◌, ◌≡◌, false, List, length, drop, eqb}
-use Rattle.base.specs.If.{if◌then◌else◌}
+use Rattle.base.specs.If.{provided◌then◌else◌}
 use Rattle.lex_line.specs.Lines.{contents}
 use Rattle.line_place.specs.Place.{is_row_or_bandwidth}
 use Rattle.line_place.specs.Place as place
@@ -44,7 +44,7 @@ pub record EndsKeyed (content : List ℕ) : Type 0 where
 
 -- where a line is read that is not part of a matrix, no matrix is open
 unfoldable pub outside_matrix : ℕ → ℕ
-outside_matrix p = if eqb p place.matrix then place.section else p
+outside_matrix p = provided eqb p place.matrix then place.section else p
 
 -- p is the place by which it is told what is open
 abbrev pub StandsAt : List Section → List ℕ → ℕ → ℕ → ℕ → State → OpenSection → List ℕ → List ℕ → List ℕ → Type 0

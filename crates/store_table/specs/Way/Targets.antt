@@ -1,7 +1,7 @@
 -- The record of a staged step: what its name means is found among the staged maps and sections.
 -- Assumes nothing.
 use Rattle.std.specs.Prelude.{ℕ, ◌*◌, ◌≤◌, List, length, eqb}
-use Rattle.base.specs.If.{if◌then◌else◌}
+use Rattle.base.specs.If.{provided◌then◌else◌}
 use Rattle.table_layout.specs.Codes.{end_kind, section_kind}
 use Rattle.table_layout.specs.Bounds.{most_models, most_steps, most_maps, most_pins, most_sections, most_matrices}
 use Rattle.table_layout.specs.Layout.{map_width, pin_width, section_width, matrix_width}
@@ -26,9 +26,9 @@ pub record Inside (x : Targets) : Type 0 where
 -- an end means the first map of its name behind it, a section the first section of its name
 unfoldable pub target_found : List ℕ → Targets → StagedStep → ℕ
 target_found t x s =
-    if eqb s.kind end_kind
+    provided eqb s.kind end_kind
     then find_in t x.maps 0 map_width x.map_count (name_at t s.name s.name_size) s.name else
-    if eqb s.kind section_kind
+    provided eqb s.kind section_kind
     then find_in t x.sections 0 section_width x.section_count (name_at t s.name s.name_size) 0 else 0
 
 unfoldable pub record_found : List ℕ → Targets → StagedStep → StepRecord

@@ -3,7 +3,7 @@
 -- Assumes nothing.
 use Rattle.std.specs.Prelude.{ℕ, zero, suc, ◌+◌, ◌*◌, ◌≤◌, ◌≡◌, List, [], ◌∷◌, ◌++◌, map, length, take, get_or, leb}
 use Rattle.std.proofs.lemmas.List.Edits.{sets}
-use Rattle.base.specs.If.{if◌then◌else◌}
+use Rattle.base.specs.If.{provided◌then◌else◌}
 use Rattle.table_layout.specs.Layout.{model_width, joined}
 use Rattle.table_record.specs.Records.{model_words}
 use Rattle.table_record.specs.Way.Standing.{model_at}
@@ -16,7 +16,7 @@ words_of words xs = joined (map words xs)
 
 -- words are stored where they fit, else nothing is
 unfoldable pub put_at : ℕ → List ℕ → List ℕ → List ℕ
-put_at at words stage = if leb (at + length words) (length stage) then sets stage at words else stage
+put_at at words stage = provided leb (at + length words) (length stage) then sets stage at words else stage
 
 -- the first k records are staged, and with those that are left they are the whole, if the whole fits
 pub record Held {A : Type 0} (words : A → List ℕ) (width : ℕ) (whole : List A) (stage : List ℕ) (k : ℕ) (left : List A) : Type 0 where
