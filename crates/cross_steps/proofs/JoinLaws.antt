@@ -17,7 +17,7 @@ use Rattle.base.specs.Broken.{◌when◌, first_broken}
 use Rattle.base.specs.Refusal as refusal
 use Rattle.base.proofs.IfLaws.{if_true, if_false, by_cases, both_rest, both_not_left, both_not_right}
 use Rattle.table_layout.specs.Codes.{end_kind, section_kind, mlm, lumped, distributed}
-use Rattle.table_layout.specs.Layout.{sections, matrices}
+use Rattle.table_layout.specs.Layout.{sections}
 use Rattle.table_layout.specs.View.{view_of}
 use Rattle.table_layout.specs.declared.View.{View}
 use Rattle.table_record.specs.Records.{Records, range, no_step}

@@ -20,7 +20,7 @@ use Rattle.line_keyword.specs.declared.State.{State}
 use Rattle.read_line.specs.Reading.{goes, line_result}
 use Rattle.read_line.proofs.QuietLaws.{quiet_blank, quiet_listed, quiet_decides}
 use Rattle.read_line.proofs.CrossLaws.{crossed_none, crossed_on}
-use Rattle.doc.specs.Lines.{Line, plain, key_in, key_at, key_of, lines_at}
+use Rattle.doc.specs.Lines.{plain, key_in, key_at, key_of, lines_at}
 use Rattle.doc.specs.Way.Found.{Plainly}
 use Rattle.doc.proofs.FoundLaws.{pass_over, stop_here}
 use Rattle.doc.proofs.PlainLaws.{plain_stays, plainly_none, plainly_one, plainly_same, plainly_join}

@@ -14,7 +14,6 @@ use Rattle.table_layout.specs.Codes.{diagonal, banded, sparse, full}
 use Rattle.base.specs.If.{provided◌then◌else◌}
 use Rattle.base.proofs.IfLaws.{if_true, by_test, by_cases}
 use Rattle.lex_number.specs.ValueWord.{is_value_word}
-use Rattle.lex_keyword.specs.Names.{row, bandwidth}
 use Rattle.line_matrix.specs.Matrix.{new_matrix}
 use Rattle.doc.specs.Lines.{Line, key_of}
 use Rattle.doc.specs.Document.{Matrix, kind_of, bandwidth_in, values_from, greatest_in, conductors_in, matrix_of}

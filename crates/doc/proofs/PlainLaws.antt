@@ -3,13 +3,11 @@
 use mathlib.Core.Path.{◌≡◌, refl, sym, ◌∙◌, ap}
 use mathlib.Core.Bool.{false}
 use mathlib.Core.List.{List, [], ◌∷◌, ◌++◌, append_assoc}
-use Prim.Native.Nat.{ℕ, ◌+◌, ◌-◌}
+use Prim.Native.Nat.{ℕ}
 use native.Mathlib.Omega.{arith}
 use lib.Dec.{eqb}
 use borrow.Author.Tests.{eq-eqb, ne_eqb}
-use Rattle.base.specs.Runs.{all}
 use Rattle.base.proofs.IfLaws.{if_true, if_false, both_not_right}
-use Rattle.lex_line.specs.declared.Line as text
 use Rattle.line_place.specs.Place.{moved_by_line, map_head}
 use Rattle.lex_keyword.specs.Names.{icm_pin_map, begin_icm_model, begin_icm_section}
 use Rattle.doc.specs.Lines.{Line, plain, place_after, key_at, key_of, gather}

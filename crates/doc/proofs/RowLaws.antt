@@ -15,7 +15,6 @@ use Rattle.table_layout.specs.Codes.{diagonal, banded, sparse}
 use Rattle.base.specs.If.{provided◌then◌else◌, both, either}
 use Rattle.base.proofs.IfLaws.{if_true, if_false, by_cases, both_first, both_second, either_rest}
 use Rattle.lex_line.specs.Words.{words}
-use Rattle.lex_keyword.specs.Names.{row}
 use Rattle.line_matrix.specs.declared.Matrix.{Matrix}
 use Rattle.line_matrix.specs.Matrix.{with_bandwidth, stands_above, still_fits, with_row}
 use Rattle.line_matrix.specs.Matrix as matrix

@@ -11,7 +11,6 @@ use Rattle.lex_keyword.specs.Names.{row, bandwidth, end_icm_section, derivation_
 use Rattle.line_place.specs.Place.{opens_matrix, is_row_or_bandwidth}
 use Rattle.line_place.specs.Place as place
 use Rattle.line_argument.specs.Argument.{form_of}
-use Rattle.line_matrix.specs.Matrix as matrix
 use Rattle.doc.specs.Lines.{Line, plain, key_of, argument_of, gather, up_to}
 use Rattle.doc.specs.Document.{Matrix, matrix_of, matrix_at, opens_matrix_at, in_matrix, in_section}
 use Rattle.doc.proofs.GatherLaws.{up_in, up_up, gather_more}

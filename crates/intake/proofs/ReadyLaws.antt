@@ -15,7 +15,6 @@ use Rattle.table_record.specs.Way.Stage.{Whole, staged_model_width, staged_model
 use Rattle.table_layout.specs.Way.Bases.{BoundedCounts}
 use Rattle.table_layout.proofs.StoreLaws.{bounds_small}
 use Rattle.line_keyword.specs.declared.Counts.{Counts}
-use Rattle.line_place.specs.Place as place
 use Rattle.read_line.specs.Reading.{reading_of}
 use Rattle.read_line.specs.declared.Reading.{Reading}
 use Rattle.read_line.specs.declared.Reading.TheVariants as reading

@@ -23,7 +23,7 @@ use Rattle.line_map.specs.PinMap.{map_line_of, map_next, new_map}
 use Rattle.line_map.specs.declared.Map as pin_map
 use Rattle.line_map.specs.declared.MapLine.{MapLine}
 use Rattle.doc.specs.Lines.{Line, plain, key_at, key_of, argument_of, words_of, right_words_of, no_word, first_word, second_word, stands_in, gather, up_to}
-use Rattle.doc.specs.Document.{Map, saying_at, side_in, step_of, steps_in, head_in, opens_model, in_model, model_of, model_at, listed_at, opens_map, in_map, grid_in, pin_at, map_of, map_at, in_matrix}
+use Rattle.doc.specs.Document.{saying_at, side_in, step_of, steps_in, head_in, opens_model, in_model, model_of, model_at, listed_at, opens_map, in_map, grid_in, pin_at, map_of, map_at, in_matrix}
 use Rattle.doc.specs.Holds.{Each}
 use Rattle.doc.specs.Holds.Each.{none as Each_none, more as each_more}
 use Rattle.law_alike.specs.Alike.{takes_text, SameLine, AlikeLines}

@@ -16,7 +16,6 @@ use Rattle.base.proofs.RunLaws.{same_equal}
 use Rattle.lex_line.specs.Words.{words, first_of, has_equals, left_of, right_of}
 use Rattle.line_place.specs.Place as place
 use Rattle.line_head.specs.Head.{impedance_line, head_line_of}
-use Rattle.line_head.specs.Head as head
 use Rattle.line_path.specs.Path.{saying_of, is_mult, amount_of}
 use Rattle.line_path.specs.Path as path
 use Rattle.line_map.specs.PinMap.{size_line, map_line_of}

@@ -15,7 +15,7 @@ use Rattle.base.specs.Bytes.{line_feed, is_blank, is_before, is_content}
 use Rattle.base.specs.Runs.{run, all}
 use Rattle.base.proofs.IfLaws.{if_true, if_false, by_cases, both_true, both_first, both_second, both_not_left, both_rest, either_left, either_right, not_via}
 use Rattle.base.proofs.RunLaws.{run_stops, all_nil, all_cons}
-use Rattle.lex_line.specs.Lines.{comment_byte, Said, is_blank_line, contents}
+use Rattle.lex_line.specs.Lines.{comment_byte, Said, is_blank_line}
 use Rattle.lex_keyword.specs.Names.{begin_header}
 use Rattle.lex_keyword.specs.Bracket.{bracket_of, is_open, is_not_closing, argument_at}
 use Rattle.lex_keyword.specs.declared.Bracket.{Bracket}

@@ -11,7 +11,7 @@ use lib.ListN.{length, take, drop, length-append}
 use lib.Dec.{ltb, eqb}
 use borrow.Author.Tests.{eq-eqb, ne_eqb, eqb-true, eqb-false, lt-ltb, not-true}
 use Rattle.base.specs.If.{provided◌then◌else◌, both, either}
-use Rattle.base.specs.Bytes.{bytes, is_blank, line_feed, is_before, is_filled, is_content}
+use Rattle.base.specs.Bytes.{is_blank, line_feed, is_before, is_filled, is_content}
 use Rattle.base.specs.Runs.{run, all}
 use Rattle.base.proofs.IfLaws.{if_true, if_false, by_test, by_cases, both_first, both_second, either_rest}
 use Rattle.lex_line.specs.Lines.{Raw, pushed, lines, content_of, comment_byte, Said, said, contents, is_blank_line}

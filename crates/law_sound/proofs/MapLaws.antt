@@ -32,7 +32,7 @@ use Rattle.read_line.specs.declared.Reading.TheVariants.{Read}
 use Rattle.read_line.proofs.ResultLaws.{rule_pins, rule_map}
 use Rattle.read_line.specs.Way.Steps.{line_rule}
 use Rattle.doc.specs.Lines.{Line, plain, significant, key_of, argument_of, stands_in, gather, up_to}
-use Rattle.doc.specs.Document.{Named, Map, opens_map, in_map, grid_in, pin_at, map_of, map_at, document_in, document_of}
+use Rattle.doc.specs.Document.{Named, opens_map, in_map, grid_in, pin_at, map_of, map_at, document_in, document_of}
 use Rattle.doc.specs.Holds.{Each}
 use Rattle.doc.proofs.Goes.{Idle, Moves, Goes, Ends, idle_outside, text_ends}
 use Rattle.doc.proofs.Goes.Idle.{ended, waits}

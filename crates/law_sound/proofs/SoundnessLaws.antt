@@ -4,7 +4,6 @@ use mathlib.Core.Path.{◌≡◌}
 use mathlib.Core.Bool.{true}
 use mathlib.Core.List.{List}
 use Prim.Native.Nat.{ℕ}
-use Rattle.base.specs.Refusal as refusal
 use Rattle.lex_line.specs.ByteRules.{byte_rules}
 use Rattle.lex_line.specs.declared.Checked.TheVariants.{Fine}
 use Rattle.line_keyword.specs.declared.Counts.{Counts}

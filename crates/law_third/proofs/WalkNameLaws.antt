@@ -26,7 +26,6 @@ use Rattle.table_name.specs.Name.{name_at}
 use Rattle.cross_rules.specs.Rules.{map_index, section_index}
 use Rattle.cross_rules.specs.Way.Findings.{step_rule}
 use Rattle.law_sound.proofs.CrossLaws.{end_found, section_found}
-use Rattle.ask_entry.specs.Entry as entry
 use Rattle.law_third.specs.Third.{name_through, PassesSection}
 
 -- ---- the first that passes a test

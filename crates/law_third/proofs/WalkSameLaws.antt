@@ -35,7 +35,6 @@ use Rattle.ask_walk.specs.Walk as walk
 use Rattle.ask_walk.specs.Walk.{WalkWords, stepped, done_at, walk_refused, model_at_place, step_at_place, is_depth, kinds_before, is_place, next_of, walk_over, walk_on, walk_from}
 use Rattle.ask_walk.specs.declared.Place.{Place}
 use Rattle.table_record.specs.declared.StepRecord.{StepRecord}
-use Rattle.ask_entry.specs.Entry as entry
 use Rattle.law_alike.specs.Way.Same.{All2, SameStep, SameModel, SameMap, SameSection, SameDocument}
 use Rattle.law_alike.proofs.GatherLaws.{all2_append}
 use Rattle.law_third.specs.Third.{AcceptedTable, name_through, side_of, SameAnswer}

@@ -13,7 +13,6 @@ use lib.Seq.{drop-cons}
 use lib.Dec.{ltb, leb}
 use borrow.Author.Tests.{ltb-true, ltb-false, leb-true, lt-ltb}
 use Rattle.base.specs.If.{provided◌then◌else◌, both}
-use Rattle.base.specs.Runs.{same}
 use Rattle.base.proofs.IfLaws.{if_true, if_false, by_cases, both_first, both_second}
 use Rattle.base.proofs.RunLaws.{same_equal}
 use Rattle.lex_keyword.specs.Names.{folded, same_name, names, name_index, keyword_of}

@@ -29,7 +29,6 @@ use Rattle.lex_keyword.specs.Bracket.{bracket_of}
 use Rattle.lex_keyword.specs.declared.Bracket.{Bracket}
 use Rattle.lex_keyword.specs.declared.Bracket.TheVariants.{Plain, Indented, Bad, Unknown, Later, Keyword}
 use Rattle.line_place.specs.Place.{is_text, before, done}
-use Rattle.line_place.specs.Place as place
 use Rattle.read_line.specs.Reading.{goes, breaks, judged, line_next, argument_from, line_result, onward, read_from, reading_of}
 use Rattle.read_line.specs.Way.Steps.{line_step, keyword_step, bracket_step, before_step, line_rule}
 use Rattle.read_line.specs.Way.Walk.{resume, Onward, ResumesText, ReadsLine}

@@ -34,7 +34,7 @@ use Rattle.read_line.specs.declared.Front.{Front}
 use Rattle.read_line.specs.declared.Front.TheVariants.{Blanks, Words, Opening}
 use Rattle.read_line.proofs.StepLaws.{path_stops, path_goes, stepping_on}
 use Rattle.read_line.proofs.QuietLaws.{blanks_front, words_front, opening_opens, blanks_decide, words_decide}
-use Rattle.doc.specs.Lines.{Line, plain, key_in, key_at, key_of, lines_at, gather}
+use Rattle.doc.specs.Lines.{plain, key_in, key_at, key_of, lines_at, gather}
 use Rattle.doc.specs.Document.{Step, saying_at, step_of}
 use Rattle.doc.specs.Way.Found.{Plainly}
 use Rattle.doc.specs.Way.Staged.{staged_step, step_staged}

@@ -18,7 +18,6 @@ use Rattle.base.proofs.IfLaws.{if_true, if_false, by_test, by_cases, both_not_ri
 use Rattle.lex_line.specs.Lines.{is_blank_line, comment_byte, contents}
 use Rattle.lex_line.specs.Way.LineEnds.{line_at, content_at}
 use Rattle.lex_line.proofs.LineLaws.{contents_none}
-use Rattle.lex_line.specs.declared.Line as text
 use Rattle.lex_keyword.specs.Bracket.{bracket_of}
 use Rattle.line_place.specs.Place as place
 use Rattle.line_keyword.specs.Way.Bounded.{NoneYet, most_lines}

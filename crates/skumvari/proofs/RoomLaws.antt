@@ -22,7 +22,7 @@ use Rattle.doc.specs.Document.{document_of}
 use Rattle.doc.specs.Records.{table_of}
 use Rattle.doc.specs.Way.Holds.{counts_of}
 use Rattle.intake.specs.Stored.{after_reading, store_answer}
-use Rattle.intake.specs.declared.store.StoreAnswer.TheVariants.{Stored, Refused}
+use Rattle.intake.specs.declared.store.StoreAnswer.TheVariants.{Stored}
 use Rattle.intake.proofs.RoomLaws.{room_there}
 use Rattle.intake.proofs.ReadyLaws.{needed_is}
 use Rattle.cross_rules.specs.Rules.{cross_rule}

@@ -2,8 +2,6 @@
 -- Assumes nothing.
 use mathlib.Core.Path.{refl}
 use Rattle.lex_line.proofs.LineLaws.{feed_ended, feed_here, feed_next}
-use Rattle.base.proofs.byte_at.Reads as byte_at_reads
-use Rattle.base.proofs.fast.skip_far.Reads as skip_far_reads
 use Rattle.lex_line.proofs.feed_from.Goals as goal
 
 pub returns-then-text-from : goal.returns-then-text-from

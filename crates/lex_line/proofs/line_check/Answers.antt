@@ -4,8 +4,6 @@ use Prim.Native.Nat.{◌≤◌}
 use native.Mathlib.Omega.{arith}
 use lib.ListN.{length}
 use Rattle.lex_line.proofs.ByteLaws.{line_empty, line_bad_byte, last_long, last_unended, line_long, line_fine, stop_fits, terminator_at_most}
-use Rattle.base.proofs.fast.skip_printed.Reads as skip_printed_reads
-use Rattle.lex_line.proofs.terminator_at.Reads as terminator_at_reads
 use Rattle.lex_line.proofs.line_check.Goals as goal
 
 pub returns-then-text-at-eq-LINE_FEED : goal.returns-then-text-at-eq-LINE_FEED

@@ -2,9 +2,6 @@
 -- Assumes nothing.
 use Rattle.base.proofs.IfLaws.{chain}
 use Rattle.line_keyword.specs.Keywords.{is_matrix_broken}
-use Rattle.line_keyword.proofs.is_wrong_by.Reads as is_wrong_by_reads
-use Rattle.line_matrix.proofs.is_wrong_shape.Reads as is_wrong_shape_reads
-use Rattle.line_place.proofs.is_row_or_bandwidth.Reads as is_row_or_bandwidth_reads
 use Rattle.line_keyword.proofs.is_matrix_broken.Goals as goal
 
 pub returns-then-is_row_or_bandwidth : goal.returns-then-is_row_or_bandwidth

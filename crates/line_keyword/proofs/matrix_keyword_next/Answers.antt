@@ -1,9 +1,6 @@
 -- `line_keyword::matrix_keyword_next` meets its contract: by the keyword.
 -- Assumes nothing.
 use Rattle.line_keyword.proofs.BlockLaws.{kept_row, kept_bandwidth, kept_small}
-use Rattle.line_matrix.proofs.with_bandwidth.Reads as with_bandwidth_reads
-use Rattle.line_matrix.proofs.with_row.Reads as with_row_reads
-use Rattle.lex_number.proofs.read_integer.Reads as read_integer_reads
 use Rattle.line_keyword.proofs.matrix_keyword_next.Goals as goal
 
 pub returns-then-key-eq-ROW : goal.returns-then-key-eq-ROW

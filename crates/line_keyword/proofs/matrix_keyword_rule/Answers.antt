@@ -2,10 +2,6 @@
 -- Assumes nothing.
 use Rattle.base.proofs.BrokenLaws.{rule_list}
 use Rattle.line_keyword.specs.Way.Row.{matrix_keyword_rule}
-use Rattle.line_argument.proofs.is_bad_argument.Reads as is_bad_argument_reads
-use Rattle.line_argument.proofs.is_bad_integer.Reads as is_bad_integer_reads
-use Rattle.line_argument.proofs.is_out_of_bounds.Reads as is_out_of_bounds_reads
-use Rattle.line_keyword.proofs.is_wrong_by.Reads as is_wrong_by_reads
 use Rattle.line_keyword.proofs.matrix_keyword_rule.Goals as goal
 
 pub returns-then-is_bad_argument : goal.returns-then-is_bad_argument

@@ -4,7 +4,6 @@ use Rattle.base.proofs.IfLaws.{chain}
 use Rattle.line_keyword.specs.Keywords.{seen_after}
 use Rattle.line_keyword.proofs.BlockLaws.{seen_past}
 use borrow.Author.Rules.{rules}
-use Rattle.line_place.proofs.is_row_or_bandwidth.Reads as is_row_or_bandwidth_reads
 use Rattle.line_keyword.proofs.seen_after.Goals as goal
 
 pub returns-then-is_row_or_bandwidth : goal.returns-then-is_row_or_bandwidth

@@ -1,7 +1,7 @@
 -- What a walk over the lines promises: reading on from where the walk ends gives the same result as reading from where
 -- it started. So a walk may read any number of lines at once, a whole fork block too.
 -- Assumes nothing.
-use Rattle.std.specs.Prelude.{ℕ, ◌+◌, ◌-◌, ◌≤◌, ◌<◌, ◌≡◌, true, false, List, length, drop, eqb}
+use Rattle.std.specs.Prelude.{ℕ, ◌+◌, ◌≤◌, ◌<◌, ◌≡◌, true, false, List, length, drop, eqb}
 use Rattle.table_layout.specs.Bounds.{deepest, most_steps}
 use Rattle.base.specs.If.{provided◌then◌else◌}
 use Rattle.lex_line.specs.Lines.{is_blank_line, comment_byte, contents}

@@ -1,5 +1,4 @@
 use borrow.Author.Rules.{rules}
-use Rattle.base.specs.Way.Class.{in_class}
 use Rattle.base.proofs.RunLaws.{block_start, block_goes, block_done}
 use Rattle.base.proofs.fast.is_block.Goals as goal
 

@@ -1,7 +1,5 @@
-use Rattle.lex_line.specs.Way.LineFeeds.{is_line_byte}
 use Rattle.base.proofs.RunLaws.{block_start, block_goes, block_done}
 use borrow.Author.Rules.{rules}
-use Rattle.base.proofs.and.Reads as and_reads
 use Rattle.lex_line.proofs.fast.are_line_bytes.Goals as goal
 
 pub loop-i-init : goal.loop-i-init

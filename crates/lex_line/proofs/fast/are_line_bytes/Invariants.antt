@@ -6,7 +6,6 @@ use lib.ListN.{take, drop}
 use Rattle.base.specs.If.{both}
 use Rattle.base.specs.Runs.{all}
 use Rattle.lex_line.specs.Way.LineFeeds.{is_line_byte}
-use Rattle.base.proofs.and.Reads as and_reads
 use Rattle.lex_line.proofs.fast.are_line_bytes.Given as goal
 
 abbrev pub invariant-loop-i : goal.invariant-loop-i

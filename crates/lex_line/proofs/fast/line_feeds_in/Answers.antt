@@ -1,7 +1,6 @@
 use native.Mathlib.Omega.{arith}
 use Rattle.lex_line.proofs.FeedLaws.{feeds_start, feeds_on, feeds_done, feed_told}
 use borrow.Author.Rules.{rules}
-use Rattle.lex_line.proofs.fast.line_feed_of.Reads as line_feed_of_reads
 use Rattle.lex_line.proofs.fast.line_feeds_in.Goals as goal
 
 pub loop-i-init : goal.loop-i-init

@@ -4,7 +4,6 @@ use mathlib.Core.Path.{◌≡◌}
 use Prim.Native.Nat.{◌+◌, ◌-◌, ◌≤◌}
 use lib.ListN.{take, drop}
 use Rattle.lex_line.specs.Way.LineFeeds.{line_feeds}
-use Rattle.lex_line.proofs.fast.line_feed_of.Reads as line_feed_of_reads
 use Rattle.lex_line.proofs.fast.line_feeds_in.Given as goal
 
 abbrev pub invariant-loop-i : goal.invariant-loop-i
