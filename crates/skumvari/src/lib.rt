@@ -1,5 +1,6 @@
-// The library for hosts in other languages, as declared in include/skumvari.h. Each function writes its answer into
-// lent words, in the layout of specs/Words.antt. If there are too few words it returns false and writes no answer.
+// What hosts in other languages call. The crate `skumvari_c` exports each function under the same name, as declared in
+// include/skumvari.h. Each writes its answer into lent words, in the layout of specs/Words.antt. If there are too few words
+// it returns false and writes no answer.
 #![tactic(auto)]
 
 ghost use Rattle.std.specs.Prelude.{◌≡◌, true, [], ◌∷◌, length};
@@ -123,16 +124,14 @@ fn say_matrix(answer: &mut [u64], said: WholeAnswer) -> bool
 // ---- what hosts call
 
 // How many words a table needs to be long enough for every text.
-#[unsafe(no_mangle)]
-pub extern "C" fn skumvari_table_words() -> usize
+pub fn skumvari_table_words() -> usize
     ensures { result ≡ most_words }
 {
     table_layout::most_words()
 }
 
 // The intake of a text into a lent table. If there are too few words for the answer, the table is zeroed, as for a refusal.
-#[unsafe(no_mangle)]
-pub extern "C" fn skumvari_intake(text: &[u8], table: &mut [u64], answer: &mut [u64]) -> bool
+pub fn skumvari_intake(text: &[u8], table: &mut [u64], answer: &mut [u64]) -> bool
     ensures value { result ≡ is_room 4 answer.old }
     ensures answer_after { answer.new ≡ answered (intake_layout (verdict_of text.now (length table.old))) answer.old }
     ensures table_after { table.new ≡ table_after answer.old (table_for text.now (length table.old) (verdict_of text.now (length table.old))) table.old }
@@ -148,16 +147,14 @@ pub extern "C" fn skumvari_intake(text: &[u8], table: &mut [u64], answer: &mut [
 }
 
 // Whether the table is sound for the text.
-#[unsafe(no_mangle)]
-pub extern "C" fn skumvari_sound(text: &[u8], table: &[u64]) -> bool
+pub fn skumvari_sound(text: &[u8], table: &[u64]) -> bool
     ensures { result ≡ is_sound text.now table.now }
 {
     ask_sound::is_sound(text, table)
 }
 
 // One entry of a section's matrix.
-#[unsafe(no_mangle)]
-pub extern "C" fn skumvari_entry(
+pub fn skumvari_entry(
     text: &[u8],
     table: &[u64],
     section: u64,
@@ -174,8 +171,7 @@ pub extern "C" fn skumvari_entry(
 }
 
 // One step of a walk, from the place model, step, depth.
-#[unsafe(no_mangle)]
-pub extern "C" fn skumvari_walk(
+pub fn skumvari_walk(
     text: &[u8],
     table: &[u64],
     model: u64,
@@ -193,8 +189,7 @@ pub extern "C" fn skumvari_walk(
 
 // Every entry of a section's matrix, row by row, into lent values of N times N words. If there are fewer, they are left
 // unchanged and the answer gives N.
-#[unsafe(no_mangle)]
-pub extern "C" fn skumvari_matrix(
+pub fn skumvari_matrix(
     text: &[u8],
     table: &[u64],
     section: u64,
@@ -214,8 +209,7 @@ pub extern "C" fn skumvari_matrix(
 }
 
 // The double of a value word, as its 64 bits.
-#[unsafe(no_mangle)]
-pub extern "C" fn skumvari_double(word: u64, answer: &mut [u64]) -> bool
+pub fn skumvari_double(word: u64, answer: &mut [u64]) -> bool
     ensures value { result ≡ is_room 4 answer.old }
     ensures answer_after { answer.new ≡ answered (double_layout (drawn_of word)) answer.old }
 {
@@ -226,8 +220,7 @@ pub extern "C" fn skumvari_double(word: u64, answer: &mut [u64]) -> bool
 }
 
 // The doubles of a frequency and a value, as their 64 bits each.
-#[unsafe(no_mangle)]
-pub extern "C" fn skumvari_pair(frequency: u64, value: u64, answer: &mut [u64]) -> bool
+pub fn skumvari_pair(frequency: u64, value: u64, answer: &mut [u64]) -> bool
     ensures value { result ≡ is_room 5 answer.old }
     ensures answer_after { answer.new ≡ answered (pair_layout (paired (drawn_of frequency) (drawn_of value))) answer.old }
 {
@@ -239,8 +232,7 @@ pub extern "C" fn skumvari_pair(frequency: u64, value: u64, answer: &mut [u64]) 
 
 // The listing of an accepted text: `words` is the words used that the intake answered with. As much as there is room
 // for is written; the answer is how many bytes that are.
-#[unsafe(no_mangle)]
-pub extern "C" fn skumvari_list(text: &[u8], table: &[u64], words: usize, out: &mut [u8]) -> usize
+pub fn skumvari_list(text: &[u8], table: &[u64], words: usize, out: &mut [u8]) -> usize
     ensures { Written out.old out.new 0 result (listing text.now table.now words) }
 {
     out_listing::write_listing(text, table, words, out)
@@ -251,8 +243,7 @@ pub extern "C" fn skumvari_list(text: &[u8], table: &[u64], words: usize, out: &
 // its text nothing is promised of these functions, not even that only lent words are read.
 
 // One entry of a section's matrix, in a table that is sound for the text.
-#[unsafe(no_mangle)]
-pub extern "C" fn skumvari_entry_unjudged(
+pub fn skumvari_entry_unjudged(
     text: &[u8],
     table: &[u64],
     section: u64,
@@ -271,8 +262,7 @@ pub extern "C" fn skumvari_entry_unjudged(
 
 // One step of a walk, in a table that is sound for the text and from a place in range: the start of a model, or a place
 // that a step has answered with. It takes the same time at every step.
-#[unsafe(no_mangle)]
-pub extern "C" fn skumvari_walk_unjudged(
+pub fn skumvari_walk_unjudged(
     text: &[u8],
     table: &[u64],
     model: u64,
@@ -290,8 +280,7 @@ pub extern "C" fn skumvari_walk_unjudged(
 }
 
 // Every entry of a section's matrix, in a table that is sound for the text.
-#[unsafe(no_mangle)]
-pub extern "C" fn skumvari_matrix_unjudged(
+pub fn skumvari_matrix_unjudged(
     text: &[u8],
     table: &[u64],
     section: u64,
