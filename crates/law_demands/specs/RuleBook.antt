@@ -67,6 +67,6 @@ rank g number = provided both (eqb g forward) (eqb number refusal.fork) then 17 
 -- 0 last; on one line the lowest number"
 pub record First (t : List ℕ) (size g number line : ℕ) : Type 0 where
   pub found : Broken t size g number line
-  pub earlier_groups : (group_there number_there line_there_lem : ℕ) → Broken t size group_there number_there line_there_lem → g ≤ group_there
-  pub earliest_line : (number_there line_there_lem : ℕ) → Broken t size g number_there line_there_lem → 0 < line_there_lem → (0 < line) × (line ≤ line_there_lem)
+  pub earlier_groups : (group_there number_there line_there : ℕ) → Broken t size group_there number_there line_there → g ≤ group_there
+  pub earliest_line : (number_there line_there : ℕ) → Broken t size g number_there line_there → 0 < line_there → (0 < line) × (line ≤ line_there)
   pub lowest_number : (number_there : ℕ) → Broken t size g number_there line → rank g number ≤ rank g number_there
