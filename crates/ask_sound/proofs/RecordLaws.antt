@@ -93,7 +93,7 @@ module _ (table : List ℕ) (v : View) (s : StepRecord) where
 
 -- ---- matrices
 
-module _ (table : List ℕ) (v : View) (m : MatrixRecord) (formed : m.form < matrix_forms) (wide : Bool) (is_is_wide : wide ≡ is_bandwidth m.form m.bandwidth) (fitting : not wide ≡ false)
+module _ (table : List ℕ) (v : View) (m : MatrixRecord) (formed : m.form < matrix_forms) (wide : Bool) (wide_is : wide ≡ is_bandwidth m.form m.bandwidth) (fitting : not wide ≡ false)
     (inside : Bool) (is_inside_lem : inside ≡ is_range m.first m.values (count_of v values)) where
   abbrev first_value : ℕ
   first_value = m.first
@@ -103,7 +103,7 @@ module _ (table : List ℕ) (v : View) (m : MatrixRecord) (formed : m.form < mat
 
   matrix_rest : is_matrix (values_at table v) m ≡ both (is_range first_value its_values (length (values_at table v))) (rises most_conductors (range first_value its_values (values_at table v)))
   unfolding is_matrix
-  matrix_rest = both_rest _ _ (lt-ltb _ _ formed) ∙ both_rest _ _ (sym is_is_wide ∙ not-false wide fitting)
+  matrix_rest = both_rest _ _ (lt-ltb _ _ formed) ∙ both_rest _ _ (sym wide_is ∙ not-false wide fitting)
 
   values_are : inside ≡ is_range first_value its_values (length (values_at table v))
   values_are = is_inside_lem ∙ ap (is_range first_value its_values) (sym (values_long table v))

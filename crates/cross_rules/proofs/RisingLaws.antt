@@ -32,7 +32,7 @@ module _ {A : Type 0} where
   pub each_one : {P : A → Type 0} {x : A} {xs : List A} → Each P xs → Among x xs → P x
   each_one (more h hs) front = h
   each_one (more h hs) (further m) = each_one hs m
-  each_one {P = P} none x4 = elim x4 [ ]
+  each_one {P = P} none m = elim m [ ]
 
   pub each_among : (xs : List A) → Each (λ (x : A). Among x xs) xs
   each_among [] = none

@@ -35,7 +35,7 @@ use Rattle.line_path.specs.declared.PathLine.{PathLine}
 use Rattle.law_grammar.specs.Way.Grammar.{IsEnd, MayBeEnd, AreItems, IsPath}
 use Rattle.law_grammar.specs.Way.Accepted.{steps_after, Accepts, sayings, steps_in, IsRight, AreRight, lines_of, ArePath}
 use Rattle.law_grammar.proofs.StandLaws.{Stand, path_at, Moves, Taken, taken, next_at_lem, holds, new_stand, done_closes, IsDone, closes_done}
-use Rattle.law_grammar.proofs.StandLaws.Stand.{fresh, among, done}
+use Rattle.law_grammar.proofs.StandLaws.Stand.{fresh, begun, among, ended, done}
 
 -- the sayings lead from a stand to behind the last end
 pub data Reads : Stand → List ℕ → Type 0 where
@@ -267,7 +267,7 @@ reads_steps (l ∷ ls) (on m r) =
     let b : is_step_line l ≡ true = ap (λ (says : ℕ). not (eqb says says_side)) e in
     let more : steps_in (l ∷ ls) ≡ suc (steps_in ls) = steps_more l ls b in
     omega arith
-reads_steps [] x' = elim x' [ ]
+reads_steps [] r = elim r [ ]
 
 -- ---- and back
 
@@ -279,10 +279,10 @@ reads_accepts (l ∷ ls) s steps (on {t} m r) (AreRight.more here later) room =
     let a : Accepts (path_at t) (steps_after l steps) ls = reads_accepts ls t (steps_after l steps) r later (omega arith) in
     let b : Accepts (path_next l (path_at s)) (steps_after l steps) ls = rw (next_at_lem l m) a in
     Accepts.reads (holds l steps here (step_room l ls steps room) s m) b
-reads_accepts [] fresh steps x6 right room = elim x6 [ ]
-reads_accepts [] (Rattle.law_grammar.proofs.StandLaws.begun _) steps x8 right room = elim x8 [ ]
-reads_accepts [] (among _) steps x9 right room = elim x9 [ ]
-reads_accepts [] (Rattle.law_grammar.proofs.StandLaws.ended _ _) steps x11 right room = elim x11 [ ]
+reads_accepts [] fresh steps r right room = elim r [ ]
+reads_accepts [] (begun _) steps r right room = elim r [ ]
+reads_accepts [] (among _) steps r right room = elim r [ ]
+reads_accepts [] (ended _ _) steps r right room = elim r [ ]
 
 -- ---- the law
 

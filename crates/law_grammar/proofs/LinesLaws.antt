@@ -343,7 +343,7 @@ unfolding set_of provided◌then◌else◌
 lines_judged last end v entries IsForm.is_diagonal r known = set_judged last end v _ (diagonal_set_lem last end v entries r) known
 lines_judged last end v entries IsForm.is_banded r known = banded_judged last end v entries known (banded_set_lem entries v r)
 lines_judged last end v entries IsForm.is_sparse r known = set_judged last end v _ (sparse_set_lem last end v entries r) known
-lines_judged last end v entries IsForm.is_full_lem r known = set_judged last end v _ (full_set_lem last end v entries r) known
+lines_judged last end v entries IsForm.is_full r known = set_judged last end v _ (full_set_lem last end v entries r) known
 
 -- and the reading's N is the N of that shape
 pub lines_conductors :
@@ -353,7 +353,7 @@ unfolding set_of provided◌then◌else◌
 lines_conductors last end v entries IsForm.is_diagonal r h = set_conductors last end v _ (diagonal_set_lem last end v entries r) h
 lines_conductors last end v entries IsForm.is_banded r h = banded_conductors last end v entries (banded_set_lem entries v r) h
 lines_conductors last end v entries IsForm.is_sparse r h = set_conductors last end v _ (sparse_set_lem last end v entries r) h
-lines_conductors last end v entries IsForm.is_full_lem r h = set_conductors last end v _ (full_set_lem last end v entries r) h
+lines_conductors last end v entries IsForm.is_full r h = set_conductors last end v _ (full_set_lem last end v entries r) h
 
 -- lines of a form with rows of fixed lengths that get 16, where N is not another than is known: a row has a wrong length
 module _ (last : Matrix) (end v known : ℕ) (entries : List Entry) (some : 1 ≤ length (rows_of entries)) where

@@ -105,14 +105,14 @@ module _ (n from stop before value : ℕ) (inside : from + n ≤ stop) (few : va
       let w : run_from s (from + n) (10 ^ n * before + value) ≡ run_from s from before = rw v (run_later n s from before (omega arith) digits) in
       let a : weight r.value r.end stop ≤ weight (10 ^ n * before + value) (from + n) stop = read.run_light in
       let b : weight (10 ^ n * before + value) (from + n) stop ≤ weight before from stop = block_light in
-      let c : from + n ≤ r.end = read.run_from_lem in
+      let c : from + n ≤ r.end = read.run_forward in
       let d : r.end - (from + n) ≤ stop - (from + n) = read.run_short in
       record {
         run_next = read.run_next;
         run_whole = λ (e : is_digit r.next ≡ false). read.run_whole e ∙ w;
         run_full = read.run_full;
         run_light = omega arith;
-        run_from_lem = omega arith;
+        run_forward = omega arith;
         run_short = omega arith;
       }
 

@@ -187,7 +187,7 @@ module _ (s : List ℕ) (from stop before i value : ℕ) (start : from ≤ i) (s
         run_whole = λ (t : is_digit next ≡ false). rw (← e) at (runs_none s i value (run_from s from before) inv (rw e at t));
         run_full = full;
         run_light = light;
-        run_from_lem = start;
+        run_forward = start;
         run_short = short;
       }
 
@@ -464,7 +464,7 @@ module _ (s : List ℕ) (from : ℕ) (whole : Run) (read : RunRead s from (from 
   pub whole_short : whole.end ≤ from + 19
   whole_short =
       let a : whole.end - from ≤ from + 19 - from = read.run_short in
-      let b : from ≤ whole.end = read.run_from_lem in
+      let b : from ≤ whole.end = read.run_forward in
       omega arith
 
   pub digits_one : (whole.next ≡ 46 → ⊥) → DigitsRead s from (record { all = whole.value; fraction = 0; some = ltb from whole.end; end = whole.end; next = whole.next })
@@ -487,8 +487,8 @@ module _ (s : List ℕ) (from : ℕ) (whole : Run) (read : RunRead s from (from 
   unfolding is_digit within both
   digits_two part dot more =
       let a : part.end - (whole.end + 1) ≤ from + 19 - (whole.end + 1) = more.run_short in
-      let b : from ≤ whole.end = read.run_from_lem in
-      let c : whole.end + 1 ≤ part.end = more.run_from_lem in
+      let b : from ≤ whole.end = read.run_forward in
+      let c : whole.end + 1 ≤ part.end = more.run_forward in
       let d : whole.end ≤ from + 19 = whole_short in
       record {
         digits_next = more.run_next;
@@ -592,7 +592,7 @@ module _ (s : List ℕ) (from b : ℕ) (t : Bool) (byte : b ≡ get_or s from 0)
         value_near : x.end ≤ from + 11
         value_near =
             let a : x.end - digits ≤ digits + 9 - digits = read.run_short in
-            let b : digits ≤ x.end = read.run_from_lem in
+            let b : digits ≤ x.end = read.run_forward in
             omega (arith, start_near)
 
         pub exponent_told : (x.end ≡ digits → ⊥) → ExponentRead s from b (record { exponent = record { size = x.value; negative = eqb sign 45; end = x.end }; next = x.next })

@@ -127,12 +127,12 @@ module _ (place : ℕ) (table : List ℕ) (h : place + value_width ≤ length ta
 
 -- ---- one number
 
-module _ (form : ℕ) (number : Number) (table : List ℕ) (c : Cursor) (word : ℕ) (is_is_word : word ≡ word_in number) where
+module _ (form : ℕ) (number : Number) (table : List ℕ) (c : Cursor) (word : ℕ) (word_is : word ≡ word_in number) where
   pub number_put : c.place + value_width ≤ length table → (table' : List ℕ) →
       table' ≡ sets table c.place (value_words (record { row = c.row; column = c.column; word = word })) → (row : ℕ) → row ≡ next_row form c.row →
       PutsNumber form number table c (record { row = row; column = c.column + 1; count = c.count + 1; place = c.place + value_width }) table'
   number_put room table' stored row is_row =
-      record { row_is = is_row; column_is = refl; count_is = refl; puts = rw is_is_word at (value_some c.place table room _ table' stored) }
+      record { row_is = is_row; column_is = refl; count_is = refl; puts = rw word_is at (value_some c.place table room _ table' stored) }
 
 step_left : (form row column : ℕ) (w : List ℕ) (ws : List (List ℕ)) (rest : List Value) (number : Number) → number ≡ number_of w →
     numbers_at form row column (w ∷ ws) ++ rest ≡ value_of row column number ∷ (numbers_at form (next_row form row) (column + 1) ws ++ rest)

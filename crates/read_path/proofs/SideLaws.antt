@@ -39,14 +39,14 @@ module _ (t : List ℕ) (line : Found) (located : Located t line) where
       no_side says_nothing (saying_keyed (line_in t line place.path) (ne_eqb _ _ (λ (e : ◌≡◌ {A = ℕ} _ plain). k (located.key_is ∙ e))))
       (λ (e : says_nothing ≡ says_side). omega arith)
 
-  module _ (k : (line.key ≡ plain → ⊥) → ⊥) (word : List ℕ) (is_is_word : word ≡ first_of (words (content_in t line))) (says : ℕ)
+  module _ (k : (line.key ≡ plain → ⊥) → ⊥) (word : List ℕ) (word_is : word ≡ first_of (words (content_in t line))) (says : ℕ)
       (told : says ≡ saying_of word) where
     key_here : key_of (line_in t line place.path) ≡ plain
     unfolding key_of
     key_here = sym located.key_is ∙ eq_of_not_not line.key plain k
 
     says_here : saying_at (line_in t line place.path) ≡ says
-    says_here = saying_there (line_in t line place.path) refl key_here ∙ says_said (content_in t line) ∙ sym (told ∙ ap saying_of is_is_word)
+    says_here = saying_there (line_in t line place.path) refl key_here ∙ says_said (content_in t line) ∙ sym (told ∙ ap saying_of word_is)
 
     pub side_other : (says ≡ says_side → ⊥) → record { start = 0; size = 0 } ≡ extent_of (side_in (line_in t line place.path ∷ []))
     side_other h = no_side says says_here h

@@ -114,7 +114,7 @@ module _ (t : List ℕ) (at line : ℕ) (s : State) (h : at < length t) (late : 
           kind = λ (z : r.rule ≡ 0). absurd (broken z);
           stands = λ (z : r.rule ≡ 0). absurd (broken z);
           table_long = refl;
-          sections_long_lem = refl;
+          sections_long = refl;
           matrices_long = refl;
         }
 
@@ -238,7 +238,7 @@ module _ (t : List ℕ) (at line : ℕ) (s : State) (h : at < length t) (late : 
                 (by_cases _ (is_blank_line (content_at t at)) (λ (b : is_blank_line (content_at t at) ≡ true). blank_stands b ss o table sections matrices g)
                 (λ (b : is_blank_line (content_at t at) ≡ false). filled_stands b ss o table sections matrices g));
             table_long = refl;
-            sections_long_lem = ap length stored ∙ sections_kept o s s.place r.state.place sections;
+            sections_long = ap length stored ∙ sections_kept o s s.place r.state.place sections;
             matrices_long = refl;
           }
 
@@ -275,7 +275,7 @@ module _ (t : List ℕ) (at line : ℕ) (s : State) (on : Onward t at line s) (l
             stands_blank ss o s.place s.section.method s.matrix.form s.counts.sections s.counts.matrices s.counts.values line r.line (ne_eqb _ _ away) _
             table sections matrices (rw (skips.blank off_list) at g);
         table_long = refl;
-        sections_long_lem = refl;
+        sections_long = refl;
         matrices_long = refl;
       }
 
@@ -325,7 +325,7 @@ module _ (t : List ℕ) (at line : ℕ) (s : State) (on : Onward t at line s) (h
         kind = λ (z : w.part.rule ≡ 0). absurd (broken z);
         stands = λ (z : w.part.rule ≡ 0). absurd (broken z);
         table_long = passed.long;
-        sections_long_lem = refl;
+        sections_long = refl;
         matrices_long = refl;
       }
 
@@ -354,7 +354,7 @@ module _ (t : List ℕ) (at line : ℕ) (s : State) (on : Onward t at line s) (h
           kind = λ (e : refusal.end ≡ 0). absurd (omega arith);
           stands = λ (e : refusal.end ≡ 0). absurd (omega arith);
           table_long = passed.long;
-          sections_long_lem = refl;
+          sections_long = refl;
           matrices_long = refl;
         }
 
@@ -423,7 +423,7 @@ module _ (t : List ℕ) (at line : ℕ) (s : State) (on : Onward t at line s) (h
                 kind = after.kind;
                 stands = λ (e : r.rule ≡ 0) (ss : List Section) (g : StandsAt ss t at line s.place s o table sections matrices). after.stands e ss (data_stands e ss g);
                 table_long = passed.long;
-                sections_long_lem = after.sections_long_lem;
+                sections_long = after.sections_long;
                 matrices_long = ap length stored ∙ put_long _ _ matrices;
               }
 
@@ -438,7 +438,7 @@ pub record Going (t : List ℕ) (at₀ line₀ : ℕ) (answer : Reading) (table�
   pub late : at₀ < length t → Late s.place
   pub stands : at₀ < length t → StandsAt (sections_behind t line₀ at₀) t at line s.place s o table sections matrices
   pub table_long : length table ≡ length table₀
-  pub sections_long_lem : length sections ≡ length sections₀
+  pub sections_long : length sections ≡ length sections₀
   pub matrices_long : length matrices ≡ length matrices₀
 
 pub going_start :
@@ -457,7 +457,7 @@ going_start t at line s table sections matrices on behind none o new =
           (stands_start (lines_at t line at place.after) (text_follow t line at place.after) no_section s.section.method s.matrix.form s.counts.sections s.counts.matrices
           s.counts.values line table sections matrices none.sections none.matrices none.values refl);
       table_long = refl;
-      sections_long_lem = refl;
+      sections_long = refl;
       matrices_long = refl;
     })
 
@@ -480,7 +480,7 @@ module _ (t : List ℕ) (at₀ line₀ : ℕ) (answer : Reading) (table₀ secti
     going_table = more.table_long ∙ going.table_long
 
     pub going_sections : length sections' ≡ length sections₀
-    going_sections = more.sections_long_lem ∙ going.sections_long_lem
+    going_sections = more.sections_long ∙ going.sections_long
 
     pub going_matrices : length matrices' ≡ length matrices₀
     going_matrices = more.matrices_long ∙ going.matrices_long
@@ -505,7 +505,7 @@ module _ (t : List ℕ) (at₀ line₀ : ℕ) (answer : Reading) (table₀ secti
             late = λ (k : at₀ < length t). more.late z;
             stands = λ (k : at₀ < length t). more.stands z (sections_behind t line₀ at₀) (going.stands k);
             table_long = going_table;
-            sections_long_lem = going_sections;
+            sections_long = going_sections;
             matrices_long = going_matrices;
           }
 

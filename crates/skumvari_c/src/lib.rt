@@ -119,6 +119,9 @@ pub extern "C" fn skumvari_list(text: &[u8], table: &[u64], words: usize, out: &
     skumvari::skumvari_list(text, table, words, out)
 }
 
+// ---- the questions without judging: no entry points. `skumvari` says which hosts may ask them; from others nothing is
+// promised, not even that only lent words are read.
+
 // One entry of a section's matrix, in a table that is sound for the text.
 #[unsafe(no_mangle)]
 pub extern "C" fn skumvari_entry_unjudged(

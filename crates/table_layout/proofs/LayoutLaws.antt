@@ -31,8 +31,8 @@ length_layout (w ∷ ws) (records ∷ parts) (Wide.more h wide) =
     let k : length (layout parts) ≡ needed ws (map length parts) = length_layout ws parts wide in
     let j : length (joined records) ≡ w * length records = length_joined h in
     rw (length-append (joined records) (layout parts)) (omega arith)
-length_layout [] (records ∷ parts) x'' = elim x'' [ ]
-length_layout (w ∷ ws) [] x3 = elim x3 [ ]
+length_layout [] (records ∷ parts) wide = elim wide [ ]
+length_layout (w ∷ ws) [] wide = elim wide [ ]
 
 -- ---- taken apart
 
@@ -63,8 +63,8 @@ apart (w ∷ ws) (records ∷ parts) rest (Wide.more h wide) =
       chopped_joined h (layout parts ++ rest),
       apart ws parts rest wide,
     )
-apart [] (records ∷ parts) rest x'' = elim x'' [ ]
-apart (w ∷ ws) [] rest x3 = elim x3 [ ]
+apart [] (records ∷ parts) rest wide = elim wide [ ]
+apart (w ∷ ws) [] rest wide = elim wide [ ]
 
 pub taken_apart : (ws : List ℕ) (parts : List (List (List ℕ))) (z : ℕ) → Wide ws parts → parts_in ws (layout parts ++ replicate z 0) ≡ parts
 taken_apart ws parts z wide = apart ws parts (replicate z 0) wide
@@ -116,8 +116,8 @@ begins_from (w ∷ ws) (records ∷ parts) rest at (suc p) (Wide.more long wide)
     let e : next + begins_in ws (layout parts ++ rest) p ≡ get_or (bases_from next ws (map length parts)) p 0 =
     begins_from ws parts rest next p wide (le_of_suc-le-suc h) in
     rw (← e, begins_later w ws (layout (records ∷ parts) ++ rest) p, behind_first long parts rest) (omega arith)
-begins_from [] (records ∷ parts) rest at p x4 h = elim x4 [ ]
-begins_from (w ∷ ws) [] rest at p x4 h = elim x4 [ ]
+begins_from [] (records ∷ parts) rest at p wide h = elim wide [ ]
+begins_from (w ∷ ws) [] rest at p wide h = elim wide [ ]
 
 pub begins_laid : (ws : List ℕ) (parts : List (List (List ℕ))) (rest : List ℕ) (p : ℕ) → Wide ws parts → p < length ws →
     begins_in ws (layout parts ++ rest) p ≡ get_or (bases_from 0 ws (map length parts)) p 0

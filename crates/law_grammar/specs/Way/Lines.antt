@@ -84,4 +84,4 @@ pub data IsForm : ℕ → Type 0 where
   is_diagonal : IsForm diagonal
   is_banded : IsForm banded
   is_sparse : IsForm sparse
-  is_full_lem : IsForm full
+  is_full : IsForm full

@@ -67,7 +67,7 @@ pub record RunRead (s : List ℕ) (from stop before : ℕ) (r : Run) : Type 0 wh
   pub run_whole : is_digit r.next ≡ false → r ≡ run_from s from before
   pub run_full : is_digit r.next ≡ true → stop ≤ r.end
   pub run_light : weight r.value r.end stop ≤ weight before from stop
-  pub run_from_lem : from ≤ r.end
+  pub run_forward : from ≤ r.end
   pub run_short : r.end - from ≤ stop - from
 
 pub record DigitsRead (s : List ℕ) (from : ℕ) (d : Plain) : Type 0 where

@@ -29,6 +29,6 @@ returns c = let going = c.loop-at.invariant in
     record {
       fact_1 = going_ends _ _ _ _ _ _ _ _ _ _ _ _ _ _ going c.loop-at-test.false _ c.at_end.ensures;
       fact_2 = going.table_long;
-      fact_3 = going.sections_long_lem;
+      fact_3 = going.sections_long;
       fact_4 = going.matrices_long;
     }

@@ -60,5 +60,5 @@ pub record Continues (t : List ℕ) (at line p : ℕ) (s : State) (o : OpenSecti
   pub stands : r.rule ≡ 0 → (ss : List Section) → StandsAt ss t at line p s o table sections matrices →
       StandsAt ss t r.at r.line r.state.place r.state r.block table' sections' matrices'
   pub table_long : length table' ≡ length table
-  pub sections_long_lem : length sections' ≡ length sections
+  pub sections_long : length sections' ≡ length sections
   pub matrices_long : length matrices' ≡ length matrices
